@@ -1,0 +1,157 @@
+-- The fronts of a source: which widths they have, and what they leave.
+use Rattle.std.proofs.Common.{◌≡◌, ℕ, zero, suc, ◌+◌, ◌-◌, ◌≤◌, ◌==◌, Bool, true, false, ◌&&◌, cond, List, [], ◌∷◌, ◌++◌, length, take, drop, refl, ap, sym, ◌∙◌, arith, subst, Option, Some, None, add-one, leb-true, inl, inr, length-drop, take_all}
+use Rattle.std.specs.Prelude.{nat_le, option_map, is_some, unwrap_or}
+use Rattle.std.proofs.lemmas.Bool.{and_parts}
+use Rattle.std.proofs.lemmas.Bool.Decides.{nat_tests, eqb_tells}
+use Rattle.std.proofs.lemmas.List.{append-nil, drop_all, drop-drop}
+use Rattle.winnow_stream.specs.Source.{width, HasWidths, IsEndOf}
+use Rattle.winnow_stream.specs.Front.{HasFront, front_count, is_offset, count_to, front, back}
+
+offset-parts : (b c : Bool) (o : Option ℕ) → is_some (cond b (Some 0) (cond c (option_map (λ k. k + 1) o) None)) ≡ cond b true (c && is_some o)
+offset-parts true c o = refl
+offset-parts false true None = refl
+offset-parts false true (Some k) = refl
+offset-parts false false o = refl
+
+count-parts : (b c : Bool) (o : Option ℕ) → is_some (cond b (Some 0) (cond c (option_map (λ k. k + 1) o) None)) ≡ true → unwrap_or (cond b (Some 0) (cond c (option_map (λ k. k + 1) o) None)) 0 ≡ cond b 0 (unwrap_or o 0 + 1)
+count-parts true c o h = refl
+count-parts false true None h = absurd (cc)
+count-parts false true (Some k) h = refl
+count-parts false false o h = absurd (cc)
+
+count-bound : (b c : Bool) (o : Option ℕ) (m : ℕ) → unwrap_or o 0 ≤ m → unwrap_or (cond b (Some 0) (cond c (option_map (λ k. k + 1) o) None)) 0 ≤ suc m
+count-bound true c o m h = omega arith
+count-bound false true None m h = omega arith
+count-bound false true (Some k) m h = omega (arith, h)
+count-bound false false o m h = omega arith
+
+none-parts : (o : Option ℕ) → is_some o ≡ false → o ≡ None
+none-parts None h = refl
+none-parts (Some k) h = absurd (cc)
+
+some-parts : (o : Option ℕ) → is_some o ≡ true → o ≡ Some (unwrap_or o 0)
+some-parts None h = absurd (cc)
+some-parts (Some k) h = refl
+
+module _ {A : Type 0} where
+  pub is_offset-cons : (x : A × ℕ) (xs : List (A × ℕ)) (n : ℕ) → is_offset (x ∷ xs) n ≡ cond (n == 0) true (nat_le x.1 n && is_offset xs (n - x.1))
+  is_offset-cons x xs n = offset-parts (n == 0) (nat_le x.1 n) (front_count xs (n - x.1))
+
+  pub count_to-cons : (x : A × ℕ) (xs : List (A × ℕ)) (n : ℕ) → is_offset (x ∷ xs) n ≡ true → count_to (x ∷ xs) n ≡ cond (n == 0) 0 (count_to xs (n - x.1) + 1)
+  count_to-cons x xs n h = count-parts (n == 0) (nat_le x.1 n) (front_count xs (n - x.1)) h
+
+  pub front_count-found : (r : List (A × ℕ)) (n : ℕ) → is_offset r n ≡ true → front_count r n ≡ Some (count_to r n)
+  front_count-found r n h = some-parts (front_count r n) h
+
+  pub front_count-missing : (r : List (A × ℕ)) (n : ℕ) → is_offset r n ≡ false → front_count r n ≡ None
+  front_count-missing r n h = none-parts (front_count r n) h
+
+  -- the width of some tokens at the front
+  pub front_count-seam : (xs ys : List (A × ℕ)) → HasWidths xs → front_count (xs ++ ys) (width xs) ≡ Some (length xs)
+  front_count-seam [] [] h = refl
+  front_count-seam [] (y ∷ ys) h = refl
+  front_count-seam (x ∷ xs) ys h =
+      let w : ℕ = width xs in
+      let a : (x.1 + w == 0) ≡ false = grind (arith, nat_tests, h.0) in
+      let b : (x.1 + w) - x.1 ≡ w = omega arith in
+      let d : nat_le x.1 (x.1 + w) ≡ true = grind (arith, nat_tests) in
+      rw a (rw d (rw b (rw (front_count-seam xs ys h.1) (ap Some (omega arith)))))
+
+  pub is_offset-seam : (xs ys : List (A × ℕ)) → HasWidths xs → is_offset (xs ++ ys) (width xs) ≡ true
+  is_offset-seam xs ys h = ap is_some (front_count-seam xs ys h)
+
+  pub count_to-seam : (xs ys : List (A × ℕ)) → HasWidths xs → count_to (xs ++ ys) (width xs) ≡ length xs
+  count_to-seam xs ys h = ap (λ o. unwrap_or o 0) (front_count-seam xs ys h)
+
+  -- the width of the first i tokens
+  pub front_count-place : (r : List (A × ℕ)) (i : ℕ) → HasWidths r → i ≤ length r → front_count r (width (take i r)) ≡ Some i
+  front_count-place [] zero h l = refl
+  front_count-place [] (suc i) h l = absurd (omega arith)
+  front_count-place (x ∷ xs) zero h l = refl
+  front_count-place (x ∷ xs) (suc i) h l =
+      let w : ℕ = width (take i xs) in
+      let a : (x.1 + w == 0) ≡ false = grind (arith, nat_tests, h.0) in
+      let b : (x.1 + w) - x.1 ≡ w = omega arith in
+      let d : nat_le x.1 (x.1 + w) ≡ true = grind (arith, nat_tests) in
+      rw a (rw d (rw b (rw (front_count-place xs i h.1 (omega arith)) (ap Some (omega arith)))))
+
+  pub count_to-place : (r : List (A × ℕ)) (i : ℕ) → HasWidths r → i ≤ length r → count_to r (width (take i r)) ≡ i
+  count_to-place r i h l = ap (λ o. unwrap_or o 0) (front_count-place r i h l)
+
+  pub count_to-le : (r : List (A × ℕ)) (n : ℕ) → count_to r n ≤ length r
+  count_to-le [] n = elim (eqb_tells n 0) [ inl p ↦ rw p.0 (omega arith) | inr p ↦ rw p.0 (omega arith) ]
+  count_to-le (x ∷ xs) n = count-bound (n == 0) (nat_le x.1 n) (front_count xs (n - x.1)) (length xs) (count_to-le xs (n - x.1))
+
+  -- a front has its width
+  pub width-front : (r : List (A × ℕ)) (n : ℕ) → is_offset r n ≡ true → width (front r n) ≡ n
+  width-front [] n h =
+      elim (eqb_tells n 0) [
+        | inl p ↦ rw p.0 (sym p.1)
+        | inr p ↦ let f : is_some (cond (n == 0) (Some 0) None) ≡ true = h in absurd (let g = rw p.0 at f in cc)
+      ]
+  width-front (x ∷ xs) n h =
+      elim (eqb_tells n 0) [
+        | inl p ↦ rw p.0 (sym p.1)
+        | inr p ↦
+            let c : (nat_le x.1 n && is_offset xs (n - x.1)) ≡ true = sym (ap (λ b. cond b true (nat_le x.1 n && is_offset xs (n - x.1))) p.0) ∙ sym (is_offset-cons x xs n) ∙ h in
+            let parts = and_parts (nat_le x.1 n) (is_offset xs (n - x.1)) c in
+            let e = width-front xs (n - x.1) parts.1 in
+            let l : x.1 ≤ n = leb-true _ _ parts.0 in
+            let k : count_to (x ∷ xs) n ≡ count_to xs (n - x.1) + 1 = count_to-cons x xs n h ∙ ap (λ b. cond b 0 (count_to xs (n - x.1) + 1)) p.0 in
+            ap (λ m. width (take m (x ∷ xs))) (k ∙ add-one _) ∙ omega (arith, e, l)
+      ]
+
+  pub width-take_drop : (r : List (A × ℕ)) (i : ℕ) → width (take i r) + width (drop i r) ≡ width r
+  width-take_drop r zero = omega arith
+  width-take_drop [] (suc i) = refl
+  width-take_drop (x ∷ xs) (suc i) = let e = width-take_drop xs i in omega (arith, e)
+
+  pub width-back : (r : List (A × ℕ)) (n : ℕ) → is_offset r n ≡ true → n + width (back r n) ≡ width r
+  width-back r n h = omega (arith, width-front r n h, width-take_drop r (count_to r n))
+
+  pub width-front_le : (r : List (A × ℕ)) (n : ℕ) → width (front r n) ≤ width r
+  width-front_le r n = omega (arith, width-take_drop r (count_to r n))
+
+  pub width-drop_le : (r : List (A × ℕ)) (k : ℕ) → width (drop k r) ≤ width r
+  width-drop_le r k = omega (arith, width-take_drop r k)
+
+  -- an end is no wider
+  pub width-end : (r whole : List (A × ℕ)) → IsEndOf r whole → width r ≤ width whole
+  width-end r whole e = omega (arith, ap width e.1, width-drop_le whole e.0)
+
+  -- the whole is the front of its width
+  pub is_offset-whole : (r : List (A × ℕ)) → HasWidths r → is_offset r (width r) ≡ true
+  is_offset-whole r h = subst (λ xs. is_offset xs (width r) ≡ true) (append-nil r) (is_offset-seam r [] h)
+
+  pub back-whole : (r : List (A × ℕ)) → HasWidths r → back r (width r) ≡ []
+  back-whole r h =
+      let e : count_to r (width r) ≡ length r = subst (λ xs. count_to xs (width r) ≡ length r) (append-nil r) (count_to-seam r [] h) in
+      ap (λ n. drop n r) e ∙ drop_all (length r) r (omega arith)
+
+  -- where a cursor stands on a source
+  pub back-place : (r : List (A × ℕ)) (i : ℕ) → HasWidths r → i ≤ length r → back r (width (take i r)) ≡ drop i r
+  back-place r i h l = ap (λ n. drop n r) (count_to-place r i h l)
+
+  pub back-drop : (r : List (A × ℕ)) (i n : ℕ) → back (drop i r) n ≡ drop (i + count_to (drop i r) n) r
+  back-drop r i n = drop-drop (count_to (drop i r) n) i r
+
+  pub within-back : (r : List (A × ℕ)) (i n : ℕ) → i ≤ length r → i + count_to (drop i r) n ≤ length r
+  within-back r i n h = omega (arith, count_to-le (drop i r) n, length-drop i r)
+
+  -- the whole is its own front
+  pub front-whole : (r : List (A × ℕ)) → HasWidths r → front r (width r) ≡ r
+  front-whole r h =
+      let e : count_to r (width r) ≡ length r = subst (λ xs. count_to xs (width r) ≡ length r) (append-nil r) (count_to-seam r [] h) in
+      ap (λ n. take n r) e ∙ take_all (length r) r (omega arith)
+
+  -- an offset is the width of some front, and of the front
+  pub HasFront-is_offset : (r : List (A × ℕ)) (n : ℕ) → is_offset r n ≡ true → HasFront r n
+  HasFront-is_offset r n h = (count_to r n, (count_to-le r n, width-front r n h))
+
+  pub is_offset-HasFront : (r : List (A × ℕ)) (n : ℕ) → HasWidths r → HasFront r n → is_offset r n ≡ true
+  is_offset-HasFront r n w f = subst (λ m. is_offset r m ≡ true) f.1.1 (ap is_some (front_count-place r f.0 w f.1.0))
+
+  pub HasWidths-drop : (k : ℕ) (r : List (A × ℕ)) → HasWidths r → HasWidths (drop k r)
+  HasWidths-drop zero r h = h
+  HasWidths-drop (suc k) [] h = h
+  HasWidths-drop (suc k) (x ∷ xs) h = HasWidths-drop k xs h.1

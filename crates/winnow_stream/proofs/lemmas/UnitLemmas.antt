@@ -1,0 +1,56 @@
+-- Tokens of width 1: an offset is a number of them.
+use Rattle.std.proofs.Common.{◌≡◌, ℕ, ◌-◌, ◌≤◌, ◌==◌, leb, Bool, true, false, List, [], ◌∷◌, length, take, drop, refl, ap, sym, ◌∙◌, arith, IsTrue, take_all, length-take}
+use Rattle.std.proofs.lemmas.Bool.Decides.{nat_tests}
+use Rattle.std.proofs.lemmas.List.{take-map, drop-map, length-map}
+use Rattle.std.specs.Prelude.{Ok, Err, Some, None, cond, is_some}
+use Rattle.std.specs.Int.NonZero.{non_zero_usize_get}
+use Rattle.std.specs.declared.num.NonZeroUsize.{NonZeroUsize}
+use Rattle.winnow_stream.specs.declared.needed.Needed.TheVariants.{Size}
+use Rattle.winnow_stream.specs.Source.{units, width}
+use Rattle.winnow_stream.specs.Front.{is_offset, count_to, front, back}
+use Rattle.winnow_stream.specs.Shortage.{offset_at}
+use Rattle.winnow_stream.specs.Units.{width-units}
+use Rattle.winnow_stream.proofs.lemmas.FrontLemmas.{is_offset-cons, count_to-cons}
+use Rattle.winnow_stream.proofs.lemmas.ShortageLemmas.{offset_at-short, offset_at-fits}
+
+pub length-units : {A : Type 0} (xs : List A) → length (units xs) ≡ length xs
+length-units xs = length-map xs (λ x. (x, 1))
+
+at-end : (b : Bool) → is_some {T = ℕ} (cond b (Some 0) None) ≡ b
+at-end true = refl
+at-end false = refl
+
+pub is_offset-units : {A : Type 0} (xs : List A) (n : ℕ) → is_offset (units xs) n ≡ leb n (length xs)
+is_offset-units [] n = at-end (n == 0) ∙ grind (arith, nat_tests)
+is_offset-units (x ∷ xs) n = let e = is_offset-units xs (n - 1) in is_offset-cons (x, 1) (units xs) n ∙ rw e (grind (arith, nat_tests))
+
+pub count_to-units : {A : Type 0} (xs : List A) (n : ℕ) → n ≤ length xs → count_to (units xs) n ≡ n
+count_to-units [] n h = let e : n ≡ 0 = omega arith in rw e refl
+count_to-units (x ∷ xs) n h =
+    let b : is_offset (units (x ∷ xs)) n ≡ true = is_offset-units (x ∷ xs) n ∙ grind (arith, nat_tests) in
+    count_to-cons (x, 1) (units xs) n b ∙ grind (arith, nat_tests, count_to-units xs (n - 1))
+
+pub le-from_is_offset : {A : Type 0} (xs : List A) (n : ℕ) → IsTrue (is_offset (units xs) n) → n ≤ length xs
+le-from_is_offset xs n h = grind (arith, nat_tests, is_offset-units xs n)
+
+pub units-take : {A : Type 0} (xs : List A) (n : ℕ) → n ≤ length xs → units (take n xs) ≡ front (units xs) n
+units-take xs n h = rw (count_to-units xs n h) (sym (take-map (λ x. (x, 1)) n xs))
+
+pub units-drop : {A : Type 0} (xs : List A) (n : ℕ) → n ≤ length xs → units (drop n xs) ≡ back (units xs) n
+units-drop xs n h = rw (count_to-units xs n h) (sym (drop-map (λ x. (x, 1)) n xs))
+
+pub front-units : {A : Type 0} (xs : List A) → units xs ≡ front (units xs) (width (units xs))
+front-units xs =
+    rw (width-units xs) (rw (count_to-units xs (length xs) (omega arith)) (sym (take_all (length xs) (units xs) (omega (arith, length-units xs)))))
+
+pub width-take_units : {A : Type 0} (xs : List A) (n : ℕ) → n ≤ length xs → n ≡ width (take n (units xs))
+width-take_units {A} xs n h =
+    rw (take-map {Y = A × ℕ} (λ x. (x, 1)) n xs) (omega (arith, width-units (take n xs), length-take n xs))
+
+pub offset_at-units_short : {A : Type 0} (xs : List A) (n : ℕ) (m : NonZeroUsize) → non_zero_usize_get m ≡ n - length xs → Err (Size m) ≡ offset_at true (units xs) n
+offset_at-units_short xs n m e = offset_at-short (units xs) n m (e ∙ ap (λ k. n - k) (sym (length-units xs)))
+
+pub offset_at-units_fits : {A : Type 0} (xs : List A) (n : ℕ) → n - length xs ≡ 0 → Ok n ≡ offset_at true (units xs) n
+offset_at-units_fits xs n h = offset_at-fits (units xs) n true n (omega (arith, length-units xs)) (width-take_units xs n (omega arith))
+
+pub ruleset units_steps = (length-units, width-units, is_offset-units, le-from_is_offset, units-take, units-drop, front-units, width-take_units, offset_at-units_short, offset_at-units_fits)

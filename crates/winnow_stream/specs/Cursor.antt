@@ -1,0 +1,37 @@
+-- A cursor on one list, and scripts of steps of any kind over it.
+use Rattle.std.specs.Prelude.{ℕ, ◌+◌, List, [], ◌∷◌, take, drop}
+use Rattle.std.specs.declared.ops.Range.{Range}
+use Rattle.winnow_stream.specs.Source.{Source, width}
+
+-- how many tokens stand before the cursor, and before each mark in the order in which they were made
+pub record Cursor : Type 0 where
+  pub index : ℕ
+  pub marks : List ℕ
+
+-- at the first token, with no mark
+abbrev pub start : Cursor
+start = record { index = 0; marks = [] }
+
+-- what remains at the cursor
+abbrev pub rest : {T : Type 0} → Source T → Cursor → Source T
+rest all at = drop at.index all
+
+-- the place of the token of that index: the width of the tokens before it
+abbrev pub place : {T : Type 0} → Source T → ℕ → ℕ
+place all i = width (take i all)
+
+-- the part of width n from place a on
+abbrev pub places : ℕ → ℕ → Range ℕ
+places a n = record { start = a; end = a + n }
+
+-- a script answers step by step: each step answers at the cursor, and moves it
+module _ {S A : Type 0} (tells : S → Cursor → A) (moves : S → Cursor → Cursor) where
+  abbrev pub answers_from : List S → Cursor → List A
+  answers_from [] at = []
+  answers_from (s ∷ ss) at = tells s at ∷ answers_from ss (moves s at)
+
+-- where a script leaves the cursor
+module _ {S : Type 0} (moves : S → Cursor → Cursor) where
+  abbrev pub cursor_after : List S → Cursor → Cursor
+  cursor_after [] at = at
+  cursor_after (s ∷ ss) at = cursor_after ss (moves s at)

@@ -1,0 +1,9 @@
+pub mod Source
+pub mod Front
+pub mod Shortage
+pub mod Units
+pub mod Text
+pub mod Checkpoint
+pub mod Cursor
+pub mod Script
+pub mod Standing

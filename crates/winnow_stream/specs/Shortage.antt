@@ -1,0 +1,35 @@
+-- The offset behind a number of tokens, or the shortage.
+use Rattle.std.specs.Prelude.{◌≡◌, ℕ, zero, suc, ◌-◌, ◌<◌, nat_le, Bool, true, false, cond, length, take, Result, Ok, Err}
+use Rattle.std.proofs.Common.{arith}
+use Rattle.std.specs.declared.num.NonZeroUsize.{NonZeroUsize}
+use Rattle.winnow_stream.specs.declared.needed.Needed.{Needed}
+use Rattle.winnow_stream.specs.declared.needed.Needed.TheVariants.{Unknown, Size}
+use Rattle.winnow_stream.specs.Source.{Source, width}
+
+-- a successor is a size
+pub positive : (k : ℕ) → 0 < suc k
+positive k = omega arith
+
+-- k more: the size k, and `Unknown` for 0
+abbrev pub needed : ℕ → Needed
+needed zero = Unknown
+needed (suc k) = Size (record { value = suc k; ok = positive k })
+
+-- the answer is a size
+abbrev pub is_known : Needed → Bool
+is_known Unknown = false
+is_known (Size n) = true
+
+-- `to` is what mapping a size by a closure makes of `from`
+abbrev pub IsMapped : (NonZeroUsize → ℕ → Type 0) → Needed → Needed → Type 0
+IsMapped gives Unknown to = to ≡ Unknown
+IsMapped gives (Size n) to = (k : ℕ) × (gives n k × (to ≡ needed k))
+
+-- the shortage where k tokens are missing, by a stream that counts them, or by a silent one
+abbrev pub shortage : Bool → ℕ → Needed
+shortage true k = needed k
+shortage false k = Unknown
+
+-- the width of the first n tokens, or the shortage
+abbrev pub offset_at : {T : Type 0} → Bool → Source T → ℕ → Result ℕ Needed
+offset_at counts_missing r n = cond (nat_le n (length r)) (Ok (width (take n r))) (Err (shortage counts_missing (n - length r)))

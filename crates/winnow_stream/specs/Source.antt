@@ -1,0 +1,49 @@
+-- A source: a list of tokens, each with its width. What remains of a stream is one.
+use Rattle.std.specs.Prelude.{◌≡◌, ℕ, ◌+◌, ◌≤◌, Bool, cond, List, [], ◌∷◌, map, drop, Option, Some, None, ⊤}
+
+abbrev pub Source : Type 0 → Type 0
+Source T = List (T × ℕ)
+
+-- the elements of a list as tokens, each of width 1
+abbrev pub units : {T : Type 0} → List T → Source T
+units xs = map (λ x. (x, 1)) xs
+
+-- the sum of the widths
+abbrev pub width : {T : Type 0} → Source T → ℕ
+width [] = 0
+width (x ∷ xs) = x.1 + width xs
+
+-- each width is at least 1
+abbrev pub HasWidths : {T : Type 0} → Source T → Type 0
+HasWidths [] = ⊤
+HasWidths (x ∷ xs) = (1 ≤ x.1) × HasWidths xs
+
+-- r is what is left of the whole behind some of its tokens
+abbrev pub IsEndOf : {T : Type 0} → Source T → Source T → Type 0
+IsEndOf r whole = (k : ℕ) × (r ≡ drop k whole)
+
+-- the first token
+abbrev pub first_token : {T : Type 0} → Source T → Option T
+first_token [] = None
+first_token (x ∷ xs) = Some x.0
+
+-- each token, with n and the width before it
+abbrev pub offsets_from : {T : Type 0} → ℕ → Source T → List (ℕ × T)
+offsets_from n [] = []
+offsets_from n (x ∷ xs) = (n, x.0) ∷ offsets_from (n + x.1) xs
+
+-- each token, with the width before it
+abbrev pub offsets : {T : Type 0} → Source T → List (ℕ × T)
+offsets r = offsets_from 0 r
+
+-- the offset of the first token that a set holds
+abbrev pub first_held : {T : Type 0} → (T → Bool) → List (ℕ × T) → Option ℕ
+first_held holds [] = None
+first_held holds (x ∷ xs) = cond (holds x.1) (Some x.0) (first_held holds xs)
+
+abbrev pub first_offset : {T : Type 0} → (T → Bool) → Source T → Option ℕ
+first_offset holds r = first_held holds (offsets r)
+
+-- whatever a closure or a set answers of a token, it is what `holds` says
+abbrev pub Computes : {T : Type 0} → (T → Bool → Type 0) → (T → Bool) → Type 0
+Computes {T} answers holds = (x : T) (b : Bool) → answers x b → b ≡ holds x

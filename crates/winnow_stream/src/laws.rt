@@ -1,0 +1,39 @@
+ghost use Rattle.std.specs.Prelude.{◌≡◌, ℕ, ◌++◌, ◌↔◌, Bool, IfOk, IsTrue};
+ghost use Rattle.winnow_stream.specs.Source.{Source, width, HasWidths};
+ghost use Rattle.winnow_stream.specs.Front.{HasFront, is_offset, front, back};
+ghost use Rattle.winnow_stream.specs.Script.{AreAnswers, AreReady};
+
+use crate::{Answer, ScriptSet, Step, Stream, run};
+use std::alloc::{AllocError, Global};
+
+/// The law of fronts: an offset is valid exactly where some front has that width, what is taken has that width, and what is
+/// taken followed by what remains is what was there. It does nothing when called: its contract is the law.
+pub fn front_law<T>()
+    ensures offset { (r : Source T) (n : ℕ) → HasWidths r → (IsTrue (is_offset r n) ↔ HasFront r n) }
+    ensures width { (r : Source T) (n : ℕ) → IsTrue (is_offset r n) → width (front r n) ≡ n }
+    ensures whole { (r : Source T) (n : ℕ) → front r n ++ back r n ≡ r }
+{}
+
+/// Runs a script and goes back: whatever the calls were, `reset` to a checkpoint from before gives back what remained then.
+///
+/// So a parser looks ahead: the answers are those of [`run`], and the stream stands where it stood.
+pub fn run_and_reset<S: Stream, C: ScriptSet<S::Token>>(
+    alloc: Global,
+    s: &mut S,
+    script: &[Step<C>],
+) -> Result<Vec<Answer<S::Token, S::Slice, Vec<(usize, S::Token)>>>, AllocError>
+where
+    S::Token: Drop,
+    S::Slice: Drop,
+    requires valid { S.valid s.old }
+    requires ready { AreReady C.can_hold script.now }
+    ensures answers { IfOk result (λ out. AreAnswers C.tells S.is_slice S.counts_missing (S.remaining s.old) script.now out.items) }
+    ensures remains { S.remaining s.new ≡ S.remaining s.old }
+    ensures valid { S.valid s.new }
+    ensures kept { S.keeps s.old s.new }
+{
+    let start = s.checkpoint();
+    let answers = run(alloc, s, script);
+    s.reset(&start);
+    answers
+}

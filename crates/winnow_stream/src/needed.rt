@@ -1,0 +1,45 @@
+ghost use Rattle.std.specs.Prelude.{◌≡◌};
+ghost use Rattle.winnow_stream.specs.Shortage.{needed, is_known, IsMapped};
+
+use std::num::NonZeroUsize;
+
+/// How much more input a call wanted.
+#[derive(Clone, Copy, Debug, PartialEq, Eq)]
+pub enum Needed {
+    /// More, and the stream cannot say how much: a text counts in characters, which have several widths.
+    Unknown,
+    /// So many tokens more.
+    Size(NonZeroUsize),
+}
+
+impl Needed {
+    /// `size` tokens more; `Unknown` for 0.
+    pub fn new(size: usize) -> Self
+        ensures { result ≡ needed size }
+    {
+        match NonZeroUsize::new(size) {
+            Some(size) => Needed::Size(size),
+            None => Needed::Unknown,
+        }
+    }
+
+    /// Whether the number of tokens is known.
+    pub fn is_known(&self) -> bool
+        ensures { result ≡ is_known self.now }
+    {
+        *self != Needed::Unknown
+    }
+
+    /// The size that `f` makes of a known one. Where it makes 0 the answer is `Unknown`.
+    pub fn map<F: Fn(NonZeroUsize) -> usize>(self, f: F) -> Self
+    where
+        F: Drop,
+        requires { F.IsAlwaysCallable f }
+        ensures { IsMapped (F.post f) self result }
+    {
+        match self {
+            Needed::Unknown => Needed::Unknown,
+            Needed::Size(size) => Needed::new(f(size)),
+        }
+    }
+}
