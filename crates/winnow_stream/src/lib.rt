@@ -5,18 +5,32 @@
 //! that the answers are those of a cursor on one list.
 #![tactic(auto)]
 
+mod as_bytes;
 mod checkpoint;
+mod is_partial;
 mod laws;
+mod location;
 mod needed;
+mod offset;
 mod running;
 mod script;
+mod slice_len;
 mod slices;
 mod stream;
+mod texts;
+mod update_slice;
 
+pub use as_bytes::{AsBStr, AsBytes};
 pub use checkpoint::Checkpoint;
+pub use is_partial::StreamIsPartial;
 pub use laws::{front_law, run_and_reset};
+pub use location::Location;
 pub use needed::Needed;
+pub use offset::Offset;
 pub use running::{RunMark, answer_step, run};
 pub use script::{Answer, NoSet, ScriptSet, Step};
+pub use slice_len::SliceLen;
 pub use slices::SliceOffsets;
 pub use stream::{Rest, Stream};
+pub use texts::Str;
+pub use update_slice::UpdateSlice;

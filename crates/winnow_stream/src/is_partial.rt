@@ -1,0 +1,93 @@
+ghost use Rattle.std.specs.Prelude.{◌≡◌, Bool, false};
+
+use crate::Rest;
+
+/// Whether more input may follow what remains. Only `Partial` has a mark for it; every other stream answers for the one
+/// inside, and a plain one has no mark.
+pub trait StreamIsPartial: Rest + Sized {
+    /// What `complete` hands out, for `restore_partial` to set again.
+    type PartialState;
+
+    // Whether the type has a mark.
+    ghost supports_partial: { Bool };
+
+    // The mark, and whether it says that more may follow.
+    ghost partial_state: { Self → Self.PartialState };
+
+    ghost expects_more: { Self → Bool };
+
+    // Two values agree in all but the mark.
+    ghost same_but_mark: { Self → Self → Type 0 };
+
+    /// Marks that nothing follows, and answers the mark before.
+    fn complete(&mut self) -> Self::PartialState
+        ensures old { result ≡ partial_state self.old }
+        ensures complete { expects_more self.new ≡ false }
+        ensures same { same_but_mark self.old self.new }
+        ensures rest { Self.same_rest self.old self.new };
+
+    /// Sets the mark to what `complete` answered.
+    fn restore_partial(&mut self, state: Self::PartialState)
+        ensures set { partial_state self.new ≡ state }
+        ensures same { same_but_mark self.old self.new }
+        ensures rest { Self.same_rest self.old self.new };
+
+    /// Whether the type has a mark.
+    fn is_partial_supported() -> bool
+        ensures { result ≡ supports_partial };
+
+    /// Whether more may follow.
+    fn is_partial(&self) -> bool
+        ensures { result ≡ expects_more self.now };
+}
+
+impl<T> StreamIsPartial for &[T] {
+    type PartialState = ();
+
+    ghost supports_partial = { false };
+
+    ghost partial_state = { λ _. tt };
+
+    ghost expects_more = { λ _. false };
+
+    ghost same_but_mark = { λ s t. s ≡ t };
+
+    fn complete(&mut self) {}
+
+    fn restore_partial(&mut self, _state: ()) {}
+
+    fn is_partial_supported() -> bool {
+        false
+    }
+
+    fn is_partial(&self) -> bool {
+        false
+    }
+}
+
+impl StreamIsPartial for &str {
+    type PartialState = ();
+
+    ghost supports_partial = { false };
+
+    ghost partial_state = { λ _. tt };
+
+    ghost expects_more = { λ _. false };
+
+    ghost same_but_mark = { λ s t. s ≡ t };
+
+    fn complete(&mut self) {}
+
+    fn restore_partial(&mut self, _state: ()) {}
+
+    // A function without `self` of an impl at a lifetime does not inherit the trait's clause.
+    fn is_partial_supported() -> bool
+        ensures { result ≡ false }
+    {
+        false
+    }
+
+    fn is_partial(&self) -> bool {
+        false
+    }
+}

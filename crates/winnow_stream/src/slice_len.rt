@@ -1,0 +1,63 @@
+ghost use Rattle.std.specs.Prelude.{◌≡◌, ℕ, length, ⊤};
+ghost use Rattle.std.specs.Char.{len_utf8};
+
+/// The width of a slice, an array or a token.
+pub trait SliceLen {
+    // The values whose width is a number.
+    ghost has_width: { Self → Type 0 } = { λ _. ⊤ };
+
+    ghost width_of: { Self → ℕ };
+
+    /// The width, in the offsets of the stream that the slice is from.
+    fn slice_len(&self) -> usize
+        requires { has_width self.now }
+        ensures { result ≡ width_of self.now };
+}
+
+impl<T> SliceLen for &[T] {
+    ghost width_of = { λ s. length s.now };
+
+    fn slice_len(&self) -> usize {
+        self.len()
+    }
+}
+
+impl<T, const LEN: usize> SliceLen for [T; LEN] {
+    ghost width_of = { λ s. LEN };
+
+    fn slice_len(&self) -> usize {
+        LEN
+    }
+}
+
+impl<T, const LEN: usize> SliceLen for &[T; LEN] {
+    ghost width_of = { λ s. LEN };
+
+    fn slice_len(&self) -> usize {
+        LEN
+    }
+}
+
+impl SliceLen for &str {
+    ghost width_of = { λ s. length s.now };
+
+    fn slice_len(&self) -> usize {
+        self.len()
+    }
+}
+
+impl SliceLen for u8 {
+    ghost width_of = { λ _. 1 };
+
+    fn slice_len(&self) -> usize {
+        1
+    }
+}
+
+impl SliceLen for char {
+    ghost width_of = { λ c. len_utf8 c };
+
+    fn slice_len(&self) -> usize {
+        self.len_utf8()
+    }
+}
