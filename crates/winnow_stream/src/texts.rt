@@ -14,7 +14,7 @@ use std::str::CharIndices;
 pub type Str<'i> = &'i str;
 
 // The width of a text: its length in bytes.
-fn width_of(text: &str) -> usize
+pub(crate) fn width_of(text: &str) -> usize
     ensures { result ≡ width (text_source text.now) }
 {
     text.len()
