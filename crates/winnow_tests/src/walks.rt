@@ -1,0 +1,53 @@
+ghost use Rattle.std.specs.Prelude.{◌≡◌, ◌+◌, IsTrue, MatchOption};
+ghost use Rattle.winnow_stream.specs.Source.{width};
+ghost use Rattle.winnow_stream.specs.Front.{is_offset};
+
+use std::alloc::{AllocError, Global};
+use winnow_stream::{NoSet, Step, Stream, run};
+
+/// The slice of width `offset` and the width that it took, with the stream back where it stood; `None` where no front has
+/// that width.
+pub fn take_back<S: Stream>(s: &mut S, offset: usize) -> Option<(S::Slice, usize)>
+    requires { S.valid s.old }
+    ensures slice { MatchOption result (¬ (IsTrue (is_offset (S.remaining s.old) offset))) (λ p. S.is_slice p.0 (S.remaining s.old) offset × (p.1 ≡ offset)) }
+    ensures remains { S.remaining s.new ≡ S.remaining s.old }
+    ensures valid { S.valid s.new }
+    ensures kept { S.keeps s.old s.new }
+{
+    if !s.is_offset(offset) {
+        return None;
+    }
+    let start = s.checkpoint();
+    let slice = s.next_slice(offset);
+    let taken = s.offset_since(&start);
+    s.reset(&start);
+    Some((slice, taken))
+}
+
+/// The width of two tokens, by taking them and looking back.
+pub fn look_back<S: Stream>(s: &mut S) -> usize
+where
+    S::Token: Drop,
+    requires { S.valid s.old }
+    ensures width { result + width (S.remaining s.new) ≡ width (S.remaining s.old) }
+{
+    let start = s.checkpoint();
+    let _ = s.next_token();
+    let _ = s.next_token();
+    s.offset_since(&start)
+}
+
+/// The answers of a script, as their debug text.
+pub fn told<S: Stream + Drop>(
+    alloc: Global,
+    mut s: S,
+    script: &[Step<NoSet>],
+) -> Result<String, AllocError>
+where
+    S::Token: Drop,
+    S::Slice: Drop,
+    requires { S.valid s }
+{
+    let answers = run(alloc, &mut s, script)?;
+    format!(in alloc; "{answers:?}")
+}
