@@ -1,5 +1,6 @@
-ghost use Rattle.std.specs.Prelude.{◌≡◌, ℕ, ◌+◌, ◌-◌, ◌≤◌, ◌<◌, ◌^◌, true, List, length, drop, take, ⊤};
-ghost use Rattle.std.specs.Iterator.{at_most, YieldsFirst};
+ghost use Rattle.std.specs.Prelude.{◌≡◌, ℕ, ◌+◌, ◌-◌, ◌≤◌, ◌<◌, ◌^◌, true, List, length, drop, take, IfSome, ⊤};
+ghost use Rattle.std.specs.Iterator.{at_most, UpTo, YieldsFirst};
+ghost use Rattle.std.specs.Iterator.SizeHint.{IsWithinCount};
 ghost use Rattle.std.proofs.Common.{sym, ap};
 ghost use Rattle.winnow_stream.specs.Checkpoint.{checkpoint_inner};
 ghost use Rattle.winnow_stream.specs.Source.{units, offsets_from};
@@ -34,7 +35,11 @@ impl<'i, T: Copy> Iterator for SliceOffsets<'i, T> {
         Some((offset, *first))
     }
 
-    fn size_hint(&self) -> (usize, Option<usize>) {
+    fn size_hint(&self) -> (usize, Option<usize>)
+        ensures lower { IsWithinCount result.0 (at_most (length self.now.rest.now)) }
+        ensures upper { IfSome result.1 (UpTo (at_most (length self.now.rest.now))) }
+        ensures exact { result ≡ (length self.now.rest.now, Some (length self.now.rest.now)) }
+    {
         (self.rest.len(), Some(self.rest.len()))
     }
 }
