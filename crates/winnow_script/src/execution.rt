@@ -17,6 +17,7 @@ pub fn execute(alloc: Global, input: &[u8]) -> Result<Vec<u8>, ScriptFault>
     let script = read_script(alloc, input)?;
     let answers = match &script.input {
         Input::Bytes(bytes) => run_script(alloc, bytes.as_slice(), &script.steps)?,
+        Input::Text(text) => run_script(alloc, text.as_str(), &script.steps)?,
     };
     Ok(answers.into_bytes())
 }

@@ -12,13 +12,17 @@ pub fn literal(alloc: Global, word: &[u8]) -> Result<Option<Vec<u8>>, AllocError
     ensures dash { word.now ≡ codes "-" → IfOk result (λ found. IfSome found (λ bytes. bytes.items ≡ [])) }
     ensures digits { IsHexWord word.now → IfOk result (λ found. IfSome found (λ bytes. decode_of word.now ≡ Ok bytes.items)) }
 {
-    match word {
-        b"-" => Ok(Some(Vec::new(alloc))),
-        [] => Ok(None),
-        digits => match hex::decode(alloc, digits) {
-            Ok(bytes) => Ok(Some(bytes)),
-            Err(FromHexError::OutOfMemory) => Err(AllocError),
-            Err(_) => Ok(None),
+    if word.is_empty() {
+        return Ok(None);
+    }
+    if word == b"-".as_slice() {
+        return Ok(Some(Vec::new(alloc)));
+    }
+    match hex::decode(alloc, word) {
+        Ok(bytes) => Ok(Some(bytes)),
+        Err(error) => match error {
+            FromHexError::OutOfMemory => Err(AllocError),
+            _ => Ok(None),
         },
     }
 }

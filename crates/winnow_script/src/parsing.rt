@@ -1,4 +1,6 @@
-ghost use Rattle.std.specs.Prelude.{◌+◌, ◌<◌, ◌≤◌, IfErr, OnSome, length};
+ghost use Rattle.std.specs.Prelude.{◌+◌, ◌^◌, ◌<◌, ◌≤◌, IfErr, OnSome, length};
+ghost use Rattle.std.specs.Option.{SomeIff};
+ghost use Rattle.std.specs.Str.Parse.{IsNumeral, digits_value};
 ghost use Rattle.winnow_script.specs.Fault.{IsWithin};
 ghost use Rattle.winnow_script.specs.Lines.{reach};
 
@@ -19,11 +21,13 @@ pub struct Script {
 #[derive(Drop)]
 pub enum Input {
     Bytes(Vec<u8>),
+    Text(String),
 }
 
 #[derive(Clone, Copy)]
 enum Kind {
     Bytes,
+    Text,
 }
 
 /// Reads a whole script: the line of its kind, its step lines, the line of its input, and nothing after it. The first
@@ -48,6 +52,7 @@ fn read_kind(lines: &mut Lines) -> Result<Kind, ScriptFault>
     let fault = lines.fault();
     match lines.next_line() {
         Some("bytes") => Ok(Kind::Bytes),
+        Some("text") => Ok(Kind::Text),
         _ => Err(fault),
     }
 }
@@ -78,6 +83,10 @@ fn read_input(alloc: Global, lines: &mut Lines, kind: Kind) -> Result<Input, Scr
     };
     match kind {
         Kind::Bytes => Ok(Input::Bytes(bytes)),
+        Kind::Text => match String::from_utf8(bytes) {
+            Ok(text) => Ok(Input::Text(text)),
+            Err(_) => Err(fault),
+        },
     }
 }
 
@@ -118,9 +127,12 @@ fn numbered_step(name: &str, number: usize) -> Option<Step<NoSet>> {
     }
 }
 
-// The value of a word of decimal digits, if it fits.
-fn read_number(word: &str) -> Option<usize> {
-    if !word.bytes().all(|byte| byte.is_ascii_digit()) {
+// The number that decimal digits write, if it fits.
+fn read_number(word: &str) -> Option<usize>
+    ensures { SomeIff result (IsNumeral 10 word.now × (digits_value 10 word.now < 2 ^ 64)) (digits_value 10 word.now) }
+{
+    // `parse` would take a sign.
+    if word.starts_with('+') {
         return None;
     }
     word.parse().ok()

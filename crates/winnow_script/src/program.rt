@@ -1,8 +1,10 @@
+ghost use Rattle.std.specs.Prelude.{◌≡◌, ◌≤◌, IfOk, IfSome, vec_len};
+ghost use Rattle.winnow_script.specs.Failure.{status_of};
+
 use crate::{ScriptFault, execute};
 use std::alloc::Global;
 use std::fmt;
 use std::io::{self, ErrorKind, Read};
-use std::rt::Runtime;
 
 /// The most bytes that a script may have.
 const MAX_INPUT: u64 = 1_048_576;
@@ -16,7 +18,9 @@ pub enum Failure {
 
 impl Failure {
     /// The status that tells of this failure.
-    pub fn status(&self) -> u8 {
+    pub fn status(&self) -> u8
+        ensures { result ≡ status_of self.now }
+    {
         match self {
             Failure::Script(ScriptFault::Line(_)) => 2,
             Failure::Script(ScriptFault::OutOfMemory) => 3,
@@ -58,7 +62,10 @@ pub fn answer(rt: &(impl Input + Print + AllocGlobal)) -> Result<(), Failure> {
 }
 
 /// The bytes of a reader to its end, if they are not too many.
-pub fn read_input<R: Read + Drop>(alloc: Global, reader: R) -> Result<Vec<u8>, Failure> {
+pub fn read_input<R: Read + Drop>(alloc: Global, reader: R) -> Result<Vec<u8>, Failure>
+    ensures within { IfOk result (λ input. vec_len input ≤ MAX_INPUT) }
+    ensures whole { IfOk result (λ input. IfSome (R.remaining reader) (λ bytes. input.items ≡ bytes)) }
+{
     let mut input = Vec::new(alloc);
     // One byte past the limit shows that there are too many.
     let length = reader.take(MAX_INPUT + 1).read_to_end(&mut input)?;
