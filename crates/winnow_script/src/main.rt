@@ -26,7 +26,6 @@ mod tests;
 pub use execution::execute;
 pub use fault::ScriptFault;
 pub use literals::literal;
-
 use std::process::ExitCode;
 
 fn main(rt: HostRuntime) -> ExitCode {
