@@ -1,0 +1,18 @@
+use Rattle.std.proofs.Common.{◌≡◌, ℕ, ◌<◌, ◌≤◌, ◌++◌, List, length, take, min, Option, Some, None, sym, ap, ◌∙◌, arith}
+use Rattle.std.specs.Prelude.{IfSome, option_map}
+use Rattle.std.proofs.lemmas.List.{take_all, length-take}
+use Rattle.std.specs.Io.Take.{take_remaining}
+use Rattle.winnow_script.proofs.program.read_input.Goals as goal
+
+-- what was read below the limit is all that there was
+whole_below : (known : Option (List ℕ)) (limit : ℕ) (read : List ℕ) → IfSome (option_map (take limit) known) (λ xs. read ≡ xs)
+    → length read < limit → IfSome known (λ bytes. read ≡ bytes)
+whole_below None limit read e below = tt
+whole_below (Some bytes) limit read e below =
+    let short : length bytes ≤ limit = omega (arith, length-take limit bytes, ap length e) in
+    e ∙ take_all limit bytes short
+
+pub returns-clause-whole : goal.returns-clause-whole
+returns-clause-whole g c =
+    let read = rw (c.new-input.ensures.items, c.take.ensures.inner, c.take.ensures.limit) at c.in_ok-length.ensures.bytes in
+    whole_below _ 1048577 _ read (omega (arith, c.in_ok-length.ensures.ok, c.new-input.ensures.len))

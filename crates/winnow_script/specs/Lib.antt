@@ -1,0 +1,4 @@
+pub mod Literal
+pub mod Fault
+pub mod Lines
+pub mod Failure

@@ -1,0 +1,41 @@
+//! Runs a script of stream calls, given as lines on standard input, and prints the answers as lines.
+//!
+//! The first line names the kind of the input, the last one holds the input, and each line between is a step:
+//!
+//! ```text
+//! bytes
+//! next
+//! at 5
+//! input 616263
+//! ```
+//!
+//! prints `token 97` and `at needs 3`. The whole script is read and run before anything is printed. The status is 0, or
+//! 2 where a line is faulty, 3 where memory ran out, and 4 where reading or writing failed.
+#![tactic(auto)]
+
+mod execution;
+mod fault;
+mod lines;
+mod literals;
+mod parsing;
+mod printing;
+mod program;
+#[cfg(test)]
+mod tests;
+
+pub use execution::execute;
+pub use fault::ScriptFault;
+pub use literals::literal;
+use std::process::ExitCode;
+
+fn main(rt: HostRuntime) -> ExitCode {
+    match program::answer(&rt) {
+        Ok(()) => ExitCode::SUCCESS,
+        Err(failure) => {
+            let status = failure.status();
+            // Where standard error cannot be written either, the status alone tells.
+            let _ = rt.eprintln(failure);
+            ExitCode::from(status)
+        }
+    }
+}

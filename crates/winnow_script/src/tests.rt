@@ -1,0 +1,5 @@
+mod answers;
+mod faults;
+mod inputs;
+mod refusals;
+mod words;

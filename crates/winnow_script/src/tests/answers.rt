@@ -1,0 +1,129 @@
+use crate::execute;
+use std::alloc::Global;
+use std::test::Fail;
+
+// The answers of a script, as text.
+fn answers_of(alloc: Global, script: &str) -> Result<String, Fail> {
+    Ok(String::from_utf8(execute(alloc, script.as_bytes())?)?)
+}
+
+#[test]
+fn steps_on_bytes(rt: HostRuntime) -> Result<(), Fail> {
+    for (name, script, answers) in [
+        (
+            "tokens",
+            "bytes\npeek\nnext\nnext\npeek\nnext\ninput 6162\n",
+            "token 97\ntoken 97\ntoken 98\ntoken none\ntoken none\n",
+        ),
+        (
+            "slices",
+            "bytes\nlook 2\ntake 1\ntake 0\ntake 3\nlook 3\ntake 2\nlook 0\ninput 61ff0a\n",
+            "slice 61ff\nslice 61\nslice -\nbad offset\nbad offset\nslice ff0a\nslice -\n",
+        ),
+        (
+            "to the end",
+            "bytes\neof\npeek-finish\neof\nfinish\neof\nfinish\npeek-finish\ninput 6162\n",
+            "offset 2\nslice 6162\noffset 2\nslice 6162\noffset 0\nslice -\nslice -\n",
+        ),
+        (
+            "offsets",
+            "bytes\nat 0\nat 3\nat 5\nis 0\nis 3\nis 4\ninput 616263\n",
+            "at 0\nat 3\nat needs 2\nis true\nis true\nis false\n",
+        ),
+        (
+            "items",
+            "bytes\neach\nnext\neach\nfinish\neach\ninput 6100ff\n",
+            "items 0:97 1:0 2:255\ntoken 97\nitems 0:0 1:255\nslice 00ff\nitems\n",
+        ),
+        (
+            "marks",
+            "bytes\nmark\nnext\nmark\nreset 0\nsince 1\nreset 1\nsince 0\nreset 7\nsince 7\ninput 6162\n",
+            "mark 0\ntoken 97\nmark 1\ndone\nlater mark\ndone\noffset 1\nno mark\nno mark\n",
+        ),
+        (
+            "greatest numbers",
+            "bytes\nat 18446744073709551615\ntake 18446744073709551615\nis 18446744073709551615\nreset 18446744073709551615\ninput 616263\n",
+            "at needs 18446744073709551612\nbad offset\nis false\nno mark\n",
+        ),
+    ] {
+        let output = answers_of(rt.alloc(), script)?;
+        assert_eq!(rt; output.as_str(), answers, "{name}");
+    }
+    Ok(())
+}
+
+#[test]
+fn steps_on_text(rt: HostRuntime) -> Result<(), Fail> {
+    for (name, script, answers) in [
+        (
+            "inside a character",
+            "text\nat 1\ntake 1\ninput c3a931\n",
+            "at 2\nbad offset\n",
+        ),
+        (
+            "tokens",
+            "text\npeek\nnext\nnext\nnext\nnext\ninput c3a931f09f9880\n",
+            "token 233\ntoken 233\ntoken 49\ntoken 128512\ntoken none\n",
+        ),
+        (
+            "slices",
+            "text\nlook 2\ntake 0\ntake 3\nfinish\nlook 0\ninput c3a931e282ac\n",
+            "slice c3a9\nslice -\nslice c3a931\nslice e282ac\nslice -\n",
+        ),
+        (
+            "offsets",
+            "text\neof\nat 0\nat 2\nat 3\nis 1\nis 2\ninput c3a931\n",
+            "offset 3\nat 0\nat 3\nat needs more\nis false\nis true\n",
+        ),
+        (
+            "items",
+            "text\neach\nnext\neach\ninput c3a931c39f\n",
+            "items 0:233 2:49 3:223\ntoken 233\nitems 0:49 1:223\n",
+        ),
+        (
+            "marks",
+            "text\nmark\nnext\nsince 0\nmark\nreset 0\nsince 1\npeek\ninput c3a931\n",
+            "mark 0\ntoken 233\noffset 2\nmark 1\ndone\nlater mark\ntoken 233\n",
+        ),
+        (
+            "no input",
+            "text\nnext\neach\ninput -\n",
+            "token none\nitems\n",
+        ),
+    ] {
+        let output = answers_of(rt.alloc(), script)?;
+        assert_eq!(rt; output.as_str(), answers, "{name}");
+    }
+    Ok(())
+}
+
+#[test]
+fn forms_of_lines(rt: HostRuntime) -> Result<(), Fail> {
+    for (name, script, answers) in [
+        ("no step", "bytes\ninput 61\n", ""),
+        (
+            "no input",
+            "bytes\neof\nnext\ninput -\n",
+            "offset 0\ntoken none\n",
+        ),
+        (
+            "no newline at the end",
+            "bytes\nnext\ninput 61",
+            "token 97\n",
+        ),
+        (
+            "both cases of digits",
+            "bytes\nfinish\ninput aBfF0E\n",
+            "slice abff0e\n",
+        ),
+        (
+            "leading zeros",
+            "bytes\nat 0003\ntake 00\ninput 616263\n",
+            "at 3\nslice -\n",
+        ),
+    ] {
+        let output = answers_of(rt.alloc(), script)?;
+        assert_eq!(rt; output.as_str(), answers, "{name}");
+    }
+    Ok(())
+}
