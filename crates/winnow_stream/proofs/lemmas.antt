@@ -1,5 +1,6 @@
 pub mod FrontLemmas
 pub mod IndexLemmas
+pub mod OffsetLemmas
 pub mod PairLemmas
 pub mod PlaceLemmas
 pub mod ScriptLemmas

@@ -1,6 +1,7 @@
-ghost use Rattle.std.specs.Prelude.{◌≡◌, ℕ, ◌++◌, ◌↔◌, Bool, IfOk, IsTrue};
-ghost use Rattle.winnow_stream.specs.Source.{Source, width, HasWidths};
+ghost use Rattle.std.specs.Prelude.{◌≡◌, ℕ, ◌++◌, ◌↔◌, Bool, Ok, Some, IfOk, IsTrue};
+ghost use Rattle.winnow_stream.specs.Source.{Source, width, HasWidths, first_offset};
 ghost use Rattle.winnow_stream.specs.Front.{HasFront, is_offset, front, back};
+ghost use Rattle.winnow_stream.specs.Shortage.{offset_at};
 ghost use Rattle.winnow_stream.specs.Script.{AreAnswers, AreReady};
 
 use crate::{Answer, ScriptSet, Step, Stream, run};
@@ -12,6 +13,14 @@ pub fn front_law<T>()
     ensures offset { (r : Source T) (n : ℕ) → HasWidths r → (IsTrue (is_offset r n) ↔ HasFront r n) }
     ensures width { (r : Source T) (n : ℕ) → IsTrue (is_offset r n) → width (front r n) ≡ n }
     ensures whole { (r : Source T) (n : ℕ) → front r n ++ back r n ≡ r }
+{}
+
+/// The law of offsets: what `offset_at`, `offset_for` and `eof_offset` answer is a valid offset. It does nothing when called: its
+/// contract is the law.
+pub fn offset_law<T>()
+    ensures at { (counts_missing : Bool) (r : Source T) (n w : ℕ) → HasWidths r → offset_at counts_missing r n ≡ Ok w → IsTrue (is_offset r w) }
+    ensures first { (holds : T → Bool) (r : Source T) (w : ℕ) → HasWidths r → first_offset holds r ≡ Some w → IsTrue (is_offset r w) }
+    ensures end { (r : Source T) → HasWidths r → IsTrue (is_offset r (width r)) }
 {}
 
 /// Runs a script and goes back: whatever the calls were, `reset` to a checkpoint from before gives back what remained then.

@@ -2,10 +2,12 @@
 //! crates. Nothing here is part of the library.
 #![tactic(auto)]
 
+mod fields;
 mod listed;
 mod pairs;
 mod walks;
 
+pub use fields::field;
 pub use listed::Listed;
 pub use pairs::{PairOffsets, Pairs};
 pub use walks::{look_back, take_back, told};

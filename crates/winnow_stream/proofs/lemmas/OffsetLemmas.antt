@@ -1,0 +1,48 @@
+-- What is a valid offset: behind a number of tokens, and at the first token that a set holds.
+use Rattle.std.proofs.Common.{◌≡◌, ℕ, suc, ◌+◌, ◌≤◌, Bool, true, false, List, [], ◌∷◌, length, take, Some, Result, Ok, Err, refl, ap, sym, ◌∙◌, subst, inl, inr, arith, add-zero, zero-add}
+use Rattle.std.specs.Prelude.{◌⊎◌, is_some}
+use Rattle.std.proofs.lemmas.Bool.Decides.{leb_tells}
+use Rattle.winnow_stream.specs.declared.needed.Needed.{Needed}
+use Rattle.winnow_stream.specs.Source.{width, HasWidths, first_held, first_offset, offsets_from}
+use Rattle.winnow_stream.specs.Front.{is_offset}
+use Rattle.winnow_stream.specs.Shortage.{offset_at}
+use Rattle.winnow_stream.proofs.lemmas.FrontLemmas.{front_count-place}
+
+ok-parts : {a b : ℕ} → ◌≡◌ {A = Result ℕ Needed} (Ok a) (Ok b) → a ≡ b
+ok-parts e = cc
+
+err-parts : {n : Needed} {b : ℕ} → ◌≡◌ {A = Result ℕ Needed} (Err n) (Ok b) → ⊥
+err-parts e = cc
+
+some-same : {a b : ℕ} → Some a ≡ Some b → a ≡ b
+some-same e = cc
+
+bool_cases : (b : Bool) → (b ≡ true) ⊎ (b ≡ false)
+bool_cases true = inl refl
+bool_cases false = inr refl
+
+module _ {A : Type 0} where
+  pub is_offset-offset_at : (counts_missing : Bool) (r : List (A × ℕ)) (n w : ℕ) → HasWidths r → offset_at counts_missing r n ≡ Ok w → is_offset r w ≡ true
+  is_offset-offset_at counts_missing r n w h e =
+      elim (leb_tells n (length r)) [
+        | inl fits ↦
+            let same : width (take n r) ≡ w = ok-parts (rw fits.0 at e) in
+            subst (λ m. is_offset r m ≡ true) same (ap is_some (front_count-place r n h fits.1))
+        | inr short ↦ absurd (err-parts (rw short.0 at e))
+      ]
+
+  pub place-first_held : (holds : A → Bool) (r : List (A × ℕ)) (k w : ℕ) → first_held holds (offsets_from k r) ≡ Some w → (i : ℕ) × ((i ≤ length r) × (k + width (take i r) ≡ w))
+  place-first_held holds [] k w e = absurd (cc)
+  place-first_held holds (x ∷ xs) k w e =
+      elim (bool_cases (holds x.0)) [
+        | inl held ↦ let f = rw held at e in (0, (omega arith, add-zero k ∙ some-same f))
+        | inr other ↦
+            let f = rw other at e in
+            let later = place-first_held holds xs (k + x.1) w f in
+            (suc later.0, (omega (arith, later.1.0), omega (arith, later.1.1)))
+      ]
+
+  pub is_offset-first_offset : (holds : A → Bool) (r : List (A × ℕ)) (w : ℕ) → HasWidths r → first_offset holds r ≡ Some w → is_offset r w ≡ true
+  is_offset-first_offset holds r w h e =
+      let at = place-first_held holds r 0 w e in
+      subst (λ m. is_offset r m ≡ true) (sym (zero-add _) ∙ at.1.1) (ap is_some (front_count-place r at.0 h at.1.0))
