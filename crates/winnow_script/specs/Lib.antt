@@ -1,4 +1,5 @@
 pub mod Literal
 pub mod Fault
+pub mod Newline
 pub mod Lines
 pub mod Failure

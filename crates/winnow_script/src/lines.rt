@@ -1,4 +1,6 @@
-ghost use Rattle.std.specs.Prelude.{◌≡◌, ◌+◌, ◌^◌, ◌<◌, ◌≤◌, length, OnSome};
+ghost use Rattle.std.specs.Prelude.{◌≡◌, ◌↔◌, ◌+◌, ◌^◌, ◌<◌, ◌≤◌, ◌==◌, if◌then◌else◌, length, IsTrue, IsSome, IfSome, position};
+ghost use Rattle.std.specs.Str.{IsUtf8};
+ghost use Rattle.winnow_script.specs.Newline.{is_newline, first_line, rest_lines};
 
 use crate::ScriptFault;
 
@@ -14,8 +16,6 @@ pub struct Lines<'i> {
 }
 
 impl<'i> Lines<'i> {
-    ghost use Rattle.winnow_script.specs.Lines.{reach};
-
     /// All lines of an input.
     pub fn new(input: &'i [u8]) -> Self
         ensures rest { result.rest.now ≡ input.now }
@@ -28,7 +28,9 @@ impl<'i> Lines<'i> {
     }
 
     /// Whether no line is left.
-    pub fn is_empty(&self) -> bool {
+    pub fn is_empty(&self) -> bool
+        ensures { IsTrue result ↔ (length self.now.rest.now ≡ 0) }
+    {
         self.rest.is_empty()
     }
 
@@ -41,8 +43,10 @@ impl<'i> Lines<'i> {
 
     /// The next line without its newline; `None` where there is none, or it is not UTF-8.
     pub fn next_line(&mut self) -> Option<&'i str>
-        ensures shorter { OnSome result (length self.new.rest.now < length self.old.rest.now) }
-        ensures reach { reach self.new ≤ reach self.old }
+        ensures found { IsSome result ↔ ((0 < length self.old.rest.now) × IsUtf8 (first_line self.old.rest.now)) }
+        ensures line { IfSome result (λ line. line.now ≡ first_line self.old.rest.now) }
+        ensures rest { self.new.rest.now ≡ rest_lines self.old.rest.now }
+        ensures number { self.new.number ≡ self.old.number + (if length self.old.rest.now == 0 then 0 else 1) }
     {
         if self.rest.is_empty() {
             return None;
@@ -58,10 +62,17 @@ impl<'i> Lines<'i> {
 
 // The first line without its newline, and what follows the newline.
 fn split_line(text: &[u8]) -> (&[u8], &[u8])
-    ensures shorter { 0 < length text.now → length result.1.now < length text.now }
+    ensures line { result.0.now ≡ first_line text.now }
+    ensures rest { result.1.now ≡ rest_lines text.now }
 {
-    match text.iter().position(|byte| *byte == b'\n') {
+    match newline_index(text) {
         Some(end) => (&text[..end], &text[end + 1..]),
         None => (text, &[]),
     }
+}
+
+fn newline_index(text: &[u8]) -> Option<usize>
+    ensures { result ≡ position is_newline text.now }
+{
+    text.iter().position(|byte| *byte == b'\n')
 }

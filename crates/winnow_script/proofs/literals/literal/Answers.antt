@@ -1,11 +1,9 @@
-use Rattle.std.proofs.Common.{◌≡◌, ◌⊎◌, inl, inr, sym, ap, ◌∙◌, refl, arith, false, length, List, ℕ, eqb, ◌≤◌}
+use Rattle.std.proofs.Common.{Decides, ◌≡◌, inl, inr, sym, ◌∙◌, refl, arith, false, length, eqb}
 use Rattle.std.proofs.lemmas.Result.{IfOk-at_ok}
 use Rattle.std.proofs.lemmas.Bool.{eqb-false}
 use Rattle.std.proofs.lemmas.Slice.Eq.{slice_eq-Decides}
 use Rattle.std.proofs.lemmas.Bool.Decides.{Decides-eqb}
-use Rattle.hex.specs.Hex.{decode_of}
 use Rattle.hex.proofs.HexLemmas.{decode_of-ok, decode_of-digits}
-use Rattle.winnow_script.specs.Literal.{IsHexWord}
 use Rattle.winnow_script.proofs.literals.literal.Goals as goal
 
 pub returns-in-Ok-clause-found : goal.returns-in-Ok-clause-found
@@ -17,7 +15,7 @@ returns-in-Ok-clause-found c =
 -- neither `-` nor digits: the first was tested, and digits decode
 pub returns-in_default : goal.returns-in_default
 returns-in_default c =
-    let is_dash = slice_eq-Decides Decides-eqb _ _ _ c.eq.ensures in
+    let is_dash : Decides c.eq.result (c.args.word.now ≡ c.as_slice.result.now) = slice_eq-Decides Decides-eqb _ _ _ c.eq.ensures in
     record {
       found = (
         λ h. cc h,

@@ -1,7 +1,6 @@
-use Rattle.std.proofs.Common.{◌≡◌, ℕ, ◌<◌, ◌≤◌, ◌++◌, List, length, take, min, Option, Some, None, sym, ap, ◌∙◌, arith}
+use Rattle.std.proofs.Common.{◌≡◌, ℕ, ◌<◌, ◌≤◌, List, length, take, Option, Some, None, ap, ◌∙◌, arith}
 use Rattle.std.specs.Prelude.{IfSome, option_map}
 use Rattle.std.proofs.lemmas.List.{take_all, length-take}
-use Rattle.std.specs.Io.Take.{take_remaining}
 use Rattle.winnow_script.proofs.program.read_input.Goals as goal
 
 -- what was read below the limit is all that there was
@@ -14,5 +13,5 @@ whole_below (Some bytes) limit read e below =
 
 pub returns-clause-whole : goal.returns-clause-whole
 returns-clause-whole g c =
-    let read = rw (c.new-input.ensures.items, c.take.ensures.inner, c.take.ensures.limit) at c.in_ok-length.ensures.bytes in
-    whole_below _ 1048577 _ read (omega (arith, c.in_ok-length.ensures.ok, c.new-input.ensures.len))
+    let read = rw (c.new-input.ensures.items, c.take.ensures.inner) at c.in_ok-length.ensures.bytes in
+    whole_below _ c.take.result.limit _ read (omega (arith, c.in_ok-length.ensures.ok, c.new-input.ensures.len, c.take.ensures.limit))
