@@ -1,5 +1,5 @@
--- Which fault a script may have.
-use Rattle.std.specs.Prelude.{ℕ, ◌≤◌, ⊤}
+-- Which fault a script may have, and what is said of it.
+use Rattle.std.specs.Prelude.{ℕ, ◌≤◌, List, ◌++◌, codes, decimal, ⊤}
 use Rattle.winnow_script.specs.declared.fault.ScriptFault.{ScriptFault}
 use Rattle.winnow_script.specs.declared.fault.ScriptFault.TheVariants.{Line, OutOfMemory}
 
@@ -7,3 +7,7 @@ use Rattle.winnow_script.specs.declared.fault.ScriptFault.TheVariants.{Line, Out
 abbrev pub IsWithin : ℕ → ScriptFault → Type 0
 IsWithin n (Line k) = (1 ≤ k) × (k ≤ n)
 IsWithin n OutOfMemory = ⊤
+
+abbrev pub fault_text : ScriptFault → List ℕ
+fault_text (Line k) = codes "line " ++ decimal k ++ codes ": faulty"
+fault_text OutOfMemory = codes "out of memory"

@@ -1,4 +1,5 @@
-ghost use Rattle.std.specs.Prelude.{◌≡◌};
+ghost use Rattle.std.specs.Prelude.{◌≡◌, Some};
+ghost use Rattle.winnow_script.specs.Fault.{fault_text};
 ghost use Rattle.winnow_script.specs.declared.fault.ScriptFault.TheVariants.{OutOfMemory};
 
 use std::alloc::{AllocError, AllocFailed};
@@ -15,6 +16,8 @@ pub enum ScriptFault {
 }
 
 impl fmt::Display for ScriptFault {
+    ghost output = { λ fault. Some (fault_text fault) };
+
     fn fmt<W: fmt::Write>(&self, f: &mut fmt::Formatter<W>) -> fmt::Result {
         match self {
             ScriptFault::Line(number) => write!(f, "line {number}: faulty"),

@@ -1,5 +1,7 @@
-ghost use Rattle.std.specs.Prelude.{◌≡◌, ◌≤◌, IfOk, IfSome, vec_len};
-ghost use Rattle.winnow_script.specs.Failure.{status_of};
+ghost use Rattle.std.specs.Prelude.{◌≡◌, ◌≤◌, IfOk, IfSome, Some, vec_len};
+ghost use Rattle.std.specs.IoError.{error_kind};
+ghost use Rattle.winnow_script.specs.Failure.{status_of, failure_text, failure_of};
+ghost use Rattle.winnow_script.specs.declared.program.Failure.TheVariants.{Script};
 
 use crate::{ScriptFault, execute};
 use std::alloc::Global;
@@ -30,6 +32,8 @@ impl Failure {
 }
 
 impl fmt::Display for Failure {
+    ghost output = { λ failure. Some (failure_text failure) };
+
     fn fmt<W: fmt::Write>(&self, f: &mut fmt::Formatter<W>) -> fmt::Result {
         match self {
             Failure::Script(fault) => write!(f, "{fault}"),
@@ -39,12 +43,16 @@ impl fmt::Display for Failure {
 }
 
 impl From<ScriptFault> for Failure {
+    ghost from_gives = { λ fault failure. failure ≡ Script fault };
+
     fn from(fault: ScriptFault) -> Failure {
         Failure::Script(fault)
     }
 }
 
 impl From<io::Error> for Failure {
+    ghost from_gives = { λ error failure. failure ≡ failure_of (error_kind error) };
+
     fn from(error: io::Error) -> Failure {
         match error.kind() {
             ErrorKind::OutOfMemory => Failure::Script(ScriptFault::OutOfMemory),
