@@ -3,3 +3,4 @@ pub mod Fault
 pub mod Newline
 pub mod Lines
 pub mod Failure
+pub mod Steps

@@ -1,8 +1,9 @@
-ghost use Rattle.std.specs.Prelude.{◌+◌, ◌^◌, ◌<◌, ◌≤◌, IfErr, OnSome, length};
+ghost use Rattle.std.specs.Prelude.{◌≡◌, ◌+◌, ◌^◌, ◌<◌, ◌≤◌, IfErr, OnSome, length};
 ghost use Rattle.std.specs.Option.{SomeIff};
 ghost use Rattle.std.specs.Str.Parse.{IsNumeral, digits_value};
 ghost use Rattle.winnow_script.specs.Fault.{IsWithin};
 ghost use Rattle.winnow_script.specs.Lines.{reach};
+ghost use Rattle.winnow_script.specs.Steps.{entry, plain_steps, numbered_steps};
 
 use crate::ScriptFault;
 use crate::lines::Lines;
@@ -102,7 +103,9 @@ fn next_step(lines: &mut Lines) -> Option<Step<NoSet>>
     }
 }
 
-fn plain_step(name: &str) -> Option<Step<NoSet>> {
+fn plain_step(name: &str) -> Option<Step<NoSet>>
+    ensures { result ≡ entry plain_steps name.now }
+{
     match name {
         "next" => Some(Step::Next),
         "peek" => Some(Step::Peek),
@@ -115,7 +118,9 @@ fn plain_step(name: &str) -> Option<Step<NoSet>> {
     }
 }
 
-fn numbered_step(name: &str, number: usize) -> Option<Step<NoSet>> {
+fn numbered_step(name: &str, number: usize) -> Option<Step<NoSet>>
+    ensures { result ≡ entry (numbered_steps number) name.now }
+{
     match name {
         "take" => Some(Step::Take(number)),
         "look" => Some(Step::Look(number)),
