@@ -1,13 +1,13 @@
-// A library with one function.
+//! Literals at the front of a stream, and the first place of a needle in it.
+//!
+//! [`Compare`] says how a stream begins, [`FindSlice`] where one of up to three needles first stands. Both are stated over the
+//! bytes that remain, a character in its UTF-8 form, and neither takes memory.
 #![tactic(auto)]
 
-ghost use Rattle.std.specs.Prelude.{◌≡◌};
-ghost use Rattle.winnow_match.specs.Echo.{echo_of};
+mod compare;
+mod compare_bytes;
+mod compare_text;
+mod needles;
 
-// The `ensures` clause is the contract: what `echo` returns is `echo_of` of its argument, a definition
-// in `specs/Echo.antt`, which a caller's clause can cite too.
-pub fn echo(x: usize) -> usize
-    ensures { result ≡ echo_of x }
-{
-    x
-}
+pub use compare::{Compare, CompareResult};
+pub use needles::Needles;
