@@ -1,3 +1,4 @@
 pub mod ByteLemmas
 pub mod ComparisonLemmas
 pub mod FrontLemmas
+pub mod SearchLemmas

@@ -1,6 +1,7 @@
 -- The first place of some bytes at which a needle stands.
-use Rattle.std.specs.Prelude.{ℕ, ◌+◌, ◌==◌, Bool, true, false, ◌&&◌, if◌then◌else◌, List, [], ◌∷◌, length, Option, None, Some}
+use Rattle.std.specs.Prelude.{ℕ, ◌+◌, ◌==◌, IsTrue, is_some, drop, Bool, true, false, ◌&&◌, if◌then◌else◌, List, [], ◌∷◌, length, Option, None, Some}
 use Rattle.std.specs.List.{list_any}
+use Rattle.std.specs.Borrow.{Bor}
 use Rattle.std.specs.declared.ops.Range.{Range}
 use Rattle.winnow_stream.specs.Cursor.{places}
 use Rattle.winnow_match.specs.Comparison.{is_front}
@@ -15,6 +16,10 @@ is_empty (x ∷ xs) = false
 abbrev pub needle_at : List (List ℕ) → List ℕ → Option ℕ
 needle_at [] bytes = None
 needle_at (needle ∷ needles) bytes = if is_front needle bytes then Some (length needle) else needle_at needles bytes
+
+-- some needle stands in the bytes from place k on
+abbrev pub Stands : List (List ℕ) → List ℕ → ℕ → Type 0
+Stands needles bytes k = IsTrue (is_some (needle_at needles (drop k bytes)))
 
 -- a needle of that length stands here, or else the hit is a later one
 abbrev pub hit_or : ℕ → Option ℕ → Option (Range ℕ) → Option (Range ℕ)
@@ -35,6 +40,10 @@ abbrev pub needle_list : {L : Type 0} → (L → List ℕ) → Needles L → Lis
 needle_list bytes (One a) = bytes a ∷ []
 needle_list bytes (Two a b) = bytes a ∷ bytes b ∷ []
 needle_list bytes (Three a b c) = bytes a ∷ bytes b ∷ bytes c ∷ []
+
+-- needles that are slices of bytes or texts
+abbrev pub bytes_of_needles : Needles (Bor (List ℕ)) → List (List ℕ)
+bytes_of_needles needles = needle_list (λ needle. needle.now) needles
 
 -- each needle has that length
 abbrev pub have_length : ℕ → List (List ℕ) → Bool

@@ -7,7 +7,10 @@
 mod compare;
 mod compare_bytes;
 mod compare_text;
+mod find_slice;
+mod finding;
 mod needles;
 
 pub use compare::{Compare, CompareResult};
+pub use find_slice::FindSlice;
 pub use needles::Needles;

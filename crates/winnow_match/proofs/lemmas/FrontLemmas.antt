@@ -1,5 +1,5 @@
 -- Fronts of bytes: how long they are, and that `starts_with` tests for one.
-use Rattle.std.proofs.Common.{◌≡◌, ℕ, ◌≤◌, ◌<◌, ◌==◌, Bool, true, false, ◌&&◌, List, [], ◌∷◌, ◌++◌, length, take, refl, ap, sym, ◌∙◌, arith}
+use Rattle.std.proofs.Common.{◌≡◌, ℕ, ◌≤◌, ◌<◌, ◌==◌, Bool, true, false, ◌&&◌, List, [], ◌∷◌, ◌++◌, length, take, drop, refl, ap, sym, ◌∙◌, arith}
 use Rattle.std.specs.Prelude.{nat_eq}
 use Rattle.std.specs.List.{starts_with}
 use Rattle.std.proofs.lemmas.Bool.{and_parts, false≢true, false_from_ne_true}
@@ -31,3 +31,18 @@ is_front-whole (x ∷ p) (y ∷ xs) h l =
     let e = is_front-whole p xs parts.1 (omega (arith, l)) in
     let s : (y == x) ≡ true = grind (arith, nat_tests, parts.0) in
     rw (s, e) refl
+
+pub is_front-append : (p rest : List ℕ) → is_front p (p ++ rest) ≡ true
+is_front-append [] rest = refl
+is_front-append (x ∷ p) rest =
+    let same : (x == x) ≡ true = grind (arith, nat_tests) in
+    rw (same, is_front-append p rest) refl
+
+-- what follows a front
+pub front_rest : (p xs : List ℕ) → is_front p xs ≡ true → xs ≡ p ++ drop (length p) xs
+front_rest [] xs h = refl
+front_rest (x ∷ p) [] h = absurd (false≢true h)
+front_rest (x ∷ p) (y ∷ xs) h =
+    let parts = and_parts (x == y) (is_front p xs) h in
+    let e : y ≡ x = grind (arith, nat_tests, parts.0) in
+    ap (λ z. z ∷ xs) e ∙ ap (λ zs. x ∷ zs) (front_rest p xs parts.1)
