@@ -21,6 +21,9 @@ impl<'i> Compare<char> for &'i str {
 
     fn compare(&self, literal: char) -> CompareResult {
         let mut buffer = [0; 4];
-        compare_front((*self).as_bytes(), literal.encode_utf8(&mut buffer).as_bytes())
+        compare_front(
+            (*self).as_bytes(),
+            literal.encode_utf8(&mut buffer).as_bytes(),
+        )
     }
 }

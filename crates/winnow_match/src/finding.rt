@@ -13,6 +13,33 @@ const NEAR_TRIES: usize = 4;
 // How many places the first window of a search for several needles has.
 const FIRST_WINDOW: usize = 256;
 
+/// The first place of the byte.
+#[tactic(auto, using(crate::proofs::lemmas::SearchLemmas::single_bytes))]
+pub(crate) fn find_byte(input: &[u8], byte: u8) -> Option<Range<usize>>
+    ensures { result ≡ hit ((byte ∷ []) ∷ []) input.now }
+{
+    let at = memchr(byte, input)?;
+    Some(at..at + 1)
+}
+
+/// The first place of one of two bytes.
+#[tactic(auto, using(crate::proofs::lemmas::SearchLemmas::single_bytes))]
+pub(crate) fn find_two_bytes(input: &[u8], a: u8, b: u8) -> Option<Range<usize>>
+    ensures { result ≡ hit ((a ∷ []) ∷ (b ∷ []) ∷ []) input.now }
+{
+    let at = memchr2(a, b, input)?;
+    Some(at..at + 1)
+}
+
+/// The first place of one of three bytes.
+#[tactic(auto, using(crate::proofs::lemmas::SearchLemmas::single_bytes))]
+pub(crate) fn find_three_bytes(input: &[u8], a: u8, b: u8, c: u8) -> Option<Range<usize>>
+    ensures { result ≡ hit ((a ∷ []) ∷ (b ∷ []) ∷ (c ∷ []) ∷ []) input.now }
+{
+    let at = memchr3(a, b, c, input)?;
+    Some(at..at + 1)
+}
+
 /// The first hit of the needles.
 ///
 /// A near hit is found by the first byte, and a far one by a search of the whole needle. Several needles are sought in
@@ -103,12 +130,7 @@ fn place_below(input: &[u8], needle: &[u8], limit: usize) -> Option<usize>
 }
 
 // The first place below `limit` at which a needle stands: that of the needles before, or of this one if it stands sooner.
-fn sooner(
-    found: Option<usize>,
-    input: &[u8],
-    needle: &[u8],
-    limit: usize,
-) -> Option<usize>
+fn sooner(found: Option<usize>, input: &[u8], needle: &[u8], limit: usize) -> Option<usize>
     requires { is_empty needle.now ≡ false }
     ensures { (listed : List (List ℕ)) → IsFirst (Stands listed input.now) 0 limit found → IsFirst (Stands (listed ++ needle.now ∷ []) input.now) 0 limit result }
 {

@@ -7,7 +7,9 @@
 mod compare;
 mod compare_bytes;
 mod compare_text;
+mod find_bytes;
 mod find_slice;
+mod find_text;
 mod finding;
 mod needles;
 

@@ -4,7 +4,7 @@ use Rattle.std.specs.Prelude.{is_some, unwrap_or, slice_index, MatchOption, ⊤,
 use Rattle.std.specs.List.{list_any, starts_with}
 use Rattle.std.proofs.lemmas.Bool.{and_parts, or_cases, or_parts, or_left, or_right, false≢true, cases_lt, cases_Bool}
 use Rattle.std.proofs.lemmas.Bool.Decides.{nat_tests}
-use Rattle.std.proofs.lemmas.List.{drop-drop, drop_all, get_or-take, get_or-drop}
+use Rattle.std.proofs.lemmas.List.{drop-drop, drop_all, drop_more, get_or-take, get_or-drop}
 use Rattle.std.proofs.lemmas.List.Prefix.{at_from_reads, at_reads}
 use Rattle.memchr.specs.Find.{IsFirst, IsFirstByte, Passes, is_byte, is_byte2, is_byte3, Nowhere, NoneBefore, OccursAt, FindsNeedle}
 use Rattle.winnow_stream.specs.Cursor.{places}
@@ -90,7 +90,7 @@ module _ (bytes n : List ℕ) (k : ℕ) where
         let e : drop k bytes ≡ n ++ drop (length n) (drop k bytes) = front_rest n (drop k bytes) (sym (needle_at-one n (drop k bytes)) ∙ s) in
         record {
           fits = omega (arith, fits, short, length-take reach bytes);
-          reads = λ i l. get_or-take reach bytes (k + i) 0 (omega (arith, l, fits)) ∙ at_reads 0 bytes n k (drop (length n) (drop k bytes)) e i l
+          reads = λ i l. get_or-take reach bytes (k + i) 0 (omega (arith, l, fits)) ∙ at_reads 0 bytes n k (drop (length n) (drop k bytes)) e i l;
         }
 
 -- the search goes as far as a needle reaches that begins below the limit
@@ -99,8 +99,8 @@ place-below bytes n limit reach None some e f =
     let l = nonempty-length n some in
     let short : reach ≤ length bytes = omega (arith, e) in
     λ k low high s.
-      let fits = Stands-fits bytes n k some s in
-      f k low (omega (arith, e, l, fits, high, length-take reach bytes)) (occurs-Stands bytes n k reach short (omega (arith, e, l, fits, high)) s)
+    let fits = Stands-fits bytes n k some s in
+    f k low (omega (arith, e, l, fits, high, length-take reach bytes)) (occurs-Stands bytes n k reach short (omega (arith, e, l, fits, high)) s)
 place-below bytes n limit reach (Some at) some e f =
     let l = nonempty-length n some in
     let short : reach ≤ length bytes = omega (arith, e) in
@@ -265,3 +265,55 @@ module _ (ls : List (List ℕ)) (bytes : List ℕ) (p : ℕ) (some : list_any is
             let here : is_some (needle_at ls (drop i bytes)) ≡ false = ap (λ q. is_some (needle_at ls (drop q bytes))) at ∙ ap is_some (sym e) in
             false≢true (sym here ∙ s)
       ]
+
+-- ---- needles of one byte
+
+-- the test says where a needle of one byte stands
+abbrev TestsFor : (ℕ → Bool) → List (List ℕ) → Type 0
+TestsFor test ls = (y : ℕ) (ys : List ℕ) → needle_at ls (y ∷ ys) ≡ cond (test y) (Some 1) None
+
+module _ (test : ℕ → Bool) (ls : List (List ℕ)) (bytes : List ℕ) (tests : TestsFor test ls) where
+  needle_at-byte : (k : ℕ) → k < length bytes → needle_at ls (drop k bytes) ≡ cond (test (get_or bytes k 0)) (Some 1) None
+  needle_at-byte k l = ap (needle_at ls) (drop_more bytes k 0 l) ∙ tests (get_or bytes k 0) (drop (k + 1) bytes)
+
+  passes-from_Stands : (k : ℕ) → k < length bytes → Stands ls bytes k → Passes test bytes k
+  passes-from_Stands k l s = sym (some-cond (test (get_or bytes k 0)) 1) ∙ sym (ap is_some (needle_at-byte k l)) ∙ s
+
+  byte-hit : (at : ℕ) → list_any is_empty ls ≡ false → IsFirstByte test bytes (Some at) → Some (places at 1) ≡ hit ls bytes
+  byte-hit at some f =
+      let none : Nowhere (Stands ls bytes) 0 at = λ k low high s. f.0.before k low high (passes-from_Stands k (omega (arith, high, f.0.high)) s) in
+      hit-some ls bytes at 1 some none (needle_at-byte at f.0.high ∙ ap (λ b. cond b (Some 1) None) f.1)
+
+  byte-none : list_any is_empty ls ≡ false → IsFirstByte test bytes None → None ≡ hit ls bytes
+  byte-none some f = hit-none ls bytes some (λ k low high s. f k low high (passes-from_Stands k high s))
+
+one-tests : (a : ℕ) → TestsFor (is_byte a) ((a ∷ []) ∷ [])
+one-tests a y ys = grind (arith, nat_tests)
+
+two-tests : (a b : ℕ) → TestsFor (is_byte2 a b) ((a ∷ []) ∷ (b ∷ []) ∷ [])
+two-tests a b y ys = grind (arith, nat_tests)
+
+three-tests : (a b c : ℕ) → TestsFor (is_byte3 a b c) ((a ∷ []) ∷ (b ∷ []) ∷ (c ∷ []) ∷ [])
+three-tests a b c y ys = grind (arith, nat_tests)
+
+module _ (bytes : List ℕ) (at a : ℕ) where
+  pub byte-some_one : IsFirstByte (is_byte a) bytes (Some at) → Some (places at 1) ≡ hit ((a ∷ []) ∷ []) bytes
+  byte-some_one f = byte-hit (is_byte a) ((a ∷ []) ∷ []) bytes (one-tests a) at refl f
+
+  pub byte-some_two : (b : ℕ) → IsFirstByte (is_byte2 a b) bytes (Some at) → Some (places at 1) ≡ hit ((a ∷ []) ∷ (b ∷ []) ∷ []) bytes
+  byte-some_two b f = byte-hit (is_byte2 a b) ((a ∷ []) ∷ (b ∷ []) ∷ []) bytes (two-tests a b) at refl f
+
+  pub byte-some_three : (b c : ℕ) → IsFirstByte (is_byte3 a b c) bytes (Some at) → Some (places at 1) ≡ hit ((a ∷ []) ∷ (b ∷ []) ∷ (c ∷ []) ∷ []) bytes
+  byte-some_three b c f = byte-hit (is_byte3 a b c) ((a ∷ []) ∷ (b ∷ []) ∷ (c ∷ []) ∷ []) bytes (three-tests a b c) at refl f
+
+module _ (bytes : List ℕ) (a : ℕ) where
+  pub byte-none_one : IsFirstByte (is_byte a) bytes None → None ≡ hit ((a ∷ []) ∷ []) bytes
+  byte-none_one f = byte-none (is_byte a) ((a ∷ []) ∷ []) bytes (one-tests a) refl f
+
+  pub byte-none_two : (b : ℕ) → IsFirstByte (is_byte2 a b) bytes None → None ≡ hit ((a ∷ []) ∷ (b ∷ []) ∷ []) bytes
+  byte-none_two b f = byte-none (is_byte2 a b) ((a ∷ []) ∷ (b ∷ []) ∷ []) bytes (two-tests a b) refl f
+
+  pub byte-none_three : (b c : ℕ) → IsFirstByte (is_byte3 a b c) bytes None → None ≡ hit ((a ∷ []) ∷ (b ∷ []) ∷ (c ∷ []) ∷ []) bytes
+  byte-none_three b c f = byte-none (is_byte3 a b c) ((a ∷ []) ∷ (b ∷ []) ∷ (c ∷ []) ∷ []) bytes (three-tests a b c) refl f
+
+pub ruleset single_bytes = (byte-some_one, byte-some_two, byte-some_three, byte-none_one, byte-none_two, byte-none_three)
