@@ -2,3 +2,5 @@ pub mod ByteLemmas
 pub mod ComparisonLemmas
 pub mod FrontLemmas
 pub mod SearchLemmas
+pub mod HitLemmas
+pub mod ShortageLemmas

@@ -1,10 +1,10 @@
 -- The first place of some bytes at which a needle stands.
-use Rattle.std.specs.Prelude.{ℕ, ◌+◌, ◌==◌, IsTrue, is_some, drop, Bool, true, false, ◌&&◌, if◌then◌else◌, List, [], ◌∷◌, length, Option, None, Some}
-use Rattle.std.specs.List.{list_any}
+use Rattle.std.specs.Prelude.{◌≡◌, ℕ, ◌+◌, ◌<◌, ◌==◌, IsTrue, is_some, drop, Bool, true, false, ◌&&◌, if◌then◌else◌, List, [], ◌∷◌, length, Option, None, Some}
+use Rattle.std.specs.List.{list_any, slice_index_or}
 use Rattle.std.specs.Borrow.{Bor}
 use Rattle.std.specs.declared.ops.Range.{Range}
 use Rattle.winnow_stream.specs.Cursor.{places}
-use Rattle.winnow_match.specs.Comparison.{is_front}
+use Rattle.winnow_match.specs.Comparison.{is_front, IsFrontOf}
 use Rattle.winnow_match.specs.declared.needles.Needles.{Needles}
 use Rattle.winnow_match.specs.declared.needles.Needles.TheVariants.{One, Two, Three}
 
@@ -18,8 +18,8 @@ needle_at [] bytes = None
 needle_at (needle ∷ needles) bytes = if is_front needle bytes then Some (length needle) else needle_at needles bytes
 
 -- some needle stands in the bytes from place k on
-abbrev pub Stands : List (List ℕ) → List ℕ → ℕ → Type 0
-Stands needles bytes k = IsTrue (is_some (needle_at needles (drop k bytes)))
+abbrev pub SomeStands : List (List ℕ) → List ℕ → ℕ → Type 0
+SomeStands needles bytes k = IsTrue (is_some (needle_at needles (drop k bytes)))
 
 -- a needle of that length stands here, or else the hit is a later one
 abbrev pub hit_or : ℕ → Option ℕ → Option (Range ℕ) → Option (Range ℕ)
@@ -44,6 +44,27 @@ needle_list bytes (Three a b c) = bytes a ∷ bytes b ∷ bytes c ∷ []
 -- needles that are slices of bytes or texts
 abbrev pub bytes_of_needles : Needles (Bor (List ℕ)) → List (List ℕ)
 bytes_of_needles needles = needle_list (λ needle. needle.now) needles
+
+-- this needle stands in the bytes from place k on
+abbrev pub Stands : List ℕ → List ℕ → ℕ → Type 0
+Stands needle bytes k = IsFrontOf needle (drop k bytes)
+
+-- the needle of that number, counted from 0
+abbrev pub needle_of : List (List ℕ) → ℕ → List ℕ
+needle_of needles i = slice_index_or needles i []
+
+-- a needle stands at these places, none listed before it stands there, and none at all at a lesser place
+pub record IsFirstHit (needles : List (List ℕ)) (bytes : List ℕ) (r : Range ℕ) : Type 0 where
+  pub index : ℕ
+  pub listed : index < length needles
+  pub stands : Stands (needle_of needles index) bytes r.start
+  pub whole : r.end ≡ r.start + length (needle_of needles index)
+  pub first_listed : (i : ℕ) → i < index → ¬ Stands (needle_of needles i) bytes r.start
+  pub first_place : (i k : ℕ) → i < length needles → k < r.start → ¬ Stands (needle_of needles i) bytes k
+
+-- no needle stands anywhere
+abbrev pub StandsNowhere : List (List ℕ) → List ℕ → Type 0
+StandsNowhere needles bytes = (i k : ℕ) → i < length needles → ¬ Stands (needle_of needles i) bytes k
 
 -- each needle has that length
 abbrev pub have_length : ℕ → List (List ℕ) → Bool

@@ -1,7 +1,7 @@
 ghost use Rattle.std.specs.Prelude.{◌≡◌, ℕ, ◌<◌, ◌≤◌, [], ◌∷◌, ◌++◌, List, false, length, slice_index, drop, IfSome, IsSome, MatchOption};
 ghost use Rattle.std.specs.List.{list_any};
 ghost use Rattle.memchr.specs.Find.{IsFirst, Nowhere, NoneBefore};
-ghost use Rattle.winnow_match.specs.Search.{hit, is_empty, needle_at, Stands, bytes_of_needles};
+ghost use Rattle.winnow_match.specs.Search.{hit, is_empty, needle_at, SomeStands, bytes_of_needles};
 
 use crate::Needles;
 use memchr::{memchr, memchr2, memchr3, memmem};
@@ -111,7 +111,7 @@ fn first_byte(needle: &[u8]) -> u8
 // A place before which no needle stands: the first one whose byte begins some needle.
 fn next_first_byte(input: &[u8], needles: &Needles<&[u8]>) -> Option<usize>
     requires { list_any is_empty (bytes_of_needles needles.now) ≡ false }
-    ensures { MatchOption result (Nowhere (Stands (bytes_of_needles needles.now) input.now) 0 (length input.now)) (λ at. NoneBefore (Stands (bytes_of_needles needles.now) input.now) 0 (length input.now) at) }
+    ensures { MatchOption result (Nowhere (SomeStands (bytes_of_needles needles.now) input.now) 0 (length input.now)) (λ at. NoneBefore (SomeStands (bytes_of_needles needles.now) input.now) 0 (length input.now) at) }
 {
     match needles {
         Needles::One(a) => memchr(first_byte(a), input),
@@ -123,7 +123,7 @@ fn next_first_byte(input: &[u8], needles: &Needles<&[u8]>) -> Option<usize>
 // The first place below `limit` at which the needle stands.
 fn place_below(input: &[u8], needle: &[u8], limit: usize) -> Option<usize>
     requires { is_empty needle.now ≡ false }
-    ensures { IsFirst (Stands (needle.now ∷ []) input.now) 0 limit result }
+    ensures { IsFirst (SomeStands (needle.now ∷ []) input.now) 0 limit result }
 {
     let reach = limit.saturating_add(needle.len() - 1);
     memmem::find(&input[..reach.min(input.len())], needle)
@@ -132,7 +132,7 @@ fn place_below(input: &[u8], needle: &[u8], limit: usize) -> Option<usize>
 // The first place below `limit` at which a needle stands: that of the needles before, or of this one if it stands sooner.
 fn sooner(found: Option<usize>, input: &[u8], needle: &[u8], limit: usize) -> Option<usize>
     requires { is_empty needle.now ≡ false }
-    ensures { (listed : List (List ℕ)) → IsFirst (Stands listed input.now) 0 limit found → IsFirst (Stands (listed ++ needle.now ∷ []) input.now) 0 limit result }
+    ensures { (listed : List (List ℕ)) → IsFirst (SomeStands listed input.now) 0 limit found → IsFirst (SomeStands (listed ++ needle.now ∷ []) input.now) 0 limit result }
 {
     match found {
         Some(at) => Some(place_below(input, needle, at).unwrap_or(at)),
@@ -143,7 +143,7 @@ fn sooner(found: Option<usize>, input: &[u8], needle: &[u8], limit: usize) -> Op
 // The first place below `limit` at which some needle stands.
 fn first_place_below(input: &[u8], needles: &Needles<&[u8]>, limit: usize) -> Option<usize>
     requires { list_any is_empty (bytes_of_needles needles.now) ≡ false }
-    ensures { IsFirst (Stands (bytes_of_needles needles.now) input.now) 0 limit result }
+    ensures { IsFirst (SomeStands (bytes_of_needles needles.now) input.now) 0 limit result }
 {
     match needles {
         Needles::One(a) => place_below(input, a, limit),
@@ -158,7 +158,7 @@ fn first_place_below(input: &[u8], needles: &Needles<&[u8]>, limit: usize) -> Op
 // The first place at which some needle stands, by windows that grow.
 fn place_by_windows(input: &[u8], needles: &Needles<&[u8]>) -> Option<usize>
     requires { list_any is_empty (bytes_of_needles needles.now) ≡ false }
-    ensures { IsFirst (Stands (bytes_of_needles needles.now) input.now) 0 (length input.now) result }
+    ensures { IsFirst (SomeStands (bytes_of_needles needles.now) input.now) 0 (length input.now) result }
 {
     let mut passed = 0;
     let mut width = FIRST_WINDOW;
@@ -175,7 +175,7 @@ fn place_by_windows(input: &[u8], needles: &Needles<&[u8]>) -> Option<usize>
 // The first place at which some needle stands, by searches that have to be set up.
 fn far_place(input: &[u8], needles: &Needles<&[u8]>) -> Option<usize>
     requires { list_any is_empty (bytes_of_needles needles.now) ≡ false }
-    ensures { IsFirst (Stands (bytes_of_needles needles.now) input.now) 0 (length input.now) result }
+    ensures { IsFirst (SomeStands (bytes_of_needles needles.now) input.now) 0 (length input.now) result }
 {
     match needles {
         Needles::One(a) => place_below(input, a, input.len()),

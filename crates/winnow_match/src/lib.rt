@@ -11,8 +11,10 @@ mod find_bytes;
 mod find_slice;
 mod find_text;
 mod finding;
+mod laws;
 mod needles;
 
 pub use compare::{Compare, CompareResult};
 pub use find_slice::FindSlice;
+pub use laws::{compare_law, compare_more_law, find_law, find_more_law, shortage_law};
 pub use needles::Needles;
