@@ -13,6 +13,8 @@ mod find_text;
 mod finding;
 mod laws;
 mod needles;
+#[cfg(test)]
+mod tests;
 
 pub use compare::{Compare, CompareResult};
 pub use find_slice::FindSlice;

@@ -58,22 +58,22 @@ module _ (literal bytes : List ℕ) where
   pub incomplete-says : comparison literal bytes ≡ compared.Incomplete ↔ (IsFrontOf bytes literal × (length bytes < length literal))
   incomplete-says = (
     λ h.
-      let parts = incomplete-parts (is_front literal bytes) (is_front bytes literal) (length literal) h in
-      let shorter : length bytes < length literal =
-      elim (cases_lt (length bytes) (length literal)) [
-        | inl l ↦ l
-        | inr l ↦ absurd (false≢true (sym parts.0 ∙ is_front-whole bytes literal parts.1 l))
-      ]
-      in
-      (IsFrontOf-is_front bytes literal parts.1, shorter),
+        let parts = incomplete-parts (is_front literal bytes) (is_front bytes literal) (length literal) h in
+        let shorter : length bytes < length literal =
+        elim (cases_lt (length bytes) (length literal)) [
+          | inl l ↦ l
+          | inr l ↦ absurd (false≢true (sym parts.0 ∙ is_front-whole bytes literal parts.1 l))
+        ]
+        in
+        (IsFrontOf-is_front bytes literal parts.1, shorter),
     λ f. sym (comparison-incomplete literal bytes f.1 (is_front-IsFrontOf bytes literal f.0)),
   )
 
   pub error-says : comparison literal bytes ≡ compared.Error ↔ ((¬ IsFrontOf literal bytes) × (¬ IsFrontOf bytes literal))
   error-says = (
     λ h.
-      let parts = fronts-from_error h in
-      (λ f. false≢true (sym parts.0 ∙ is_front-IsFrontOf literal bytes f), λ f. false≢true (sym parts.1 ∙ is_front-IsFrontOf bytes literal f)),
+        let parts = fronts-from_error h in
+        (λ f. false≢true (sym parts.0 ∙ is_front-IsFrontOf literal bytes f), λ f. false≢true (sym parts.1 ∙ is_front-IsFrontOf bytes literal f)),
     λ f. sym (comparison-error literal bytes (no_front literal bytes f.0) (no_front bytes literal f.1)),
   )
 
@@ -91,10 +91,10 @@ module _ (literal bytes : List ℕ) where
       let all = bytes ++ more in
       let first : is_front literal all ≡ false =
       false_from_ne_true (is_front literal all) (λ f.
-        elim (cases_lt (length bytes) (length literal)) [
-          | inl l ↦ false≢true (sym parts.1 ∙ is_front-both literal bytes all f (is_front-append bytes more) (omega (arith, l)))
-          | inr l ↦ false≢true (sym parts.0 ∙ sym (is_front-more literal bytes more l) ∙ f)
-        ])
+      elim (cases_lt (length bytes) (length literal)) [
+        | inl l ↦ false≢true (sym parts.1 ∙ is_front-both literal bytes all f (is_front-append bytes more) (omega (arith, l)))
+        | inr l ↦ false≢true (sym parts.0 ∙ sym (is_front-more literal bytes more l) ∙ f)
+      ])
       in
       let second : is_front all literal ≡ false = false_from_ne_true (is_front all literal) (λ f. false≢true (sym parts.1 ∙ is_front-shorter bytes more literal f)) in
       sym (comparison-error literal all first second)

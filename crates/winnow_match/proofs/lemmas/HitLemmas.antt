@@ -46,7 +46,7 @@ IsFirstListed-next n ls xs i f h =
     record {
       listed = omega (arith, h.listed);
       front = h.front;
-      before = below-suc (λ j. is_front (needle_of (n ∷ ls) j) xs ≡ false) i f h.before
+      before = below-suc (λ j. is_front (needle_of (n ∷ ls) j) xs ≡ false) i f h.before;
     }
 
 first-listed : (ls : List (List ℕ)) (xs : List ℕ) (m : ℕ) → needle_at ls xs ≡ Some m → (i : ℕ) × (IsFirstListed ls xs i) × (m ≡ length (needle_of ls i))
@@ -118,7 +118,7 @@ first_hit-hit ls (y ∷ bytes) base r h =
             len = later.len;
             is = later.is ∙ ap (λ k. places k later.len) (omega arith);
             here = later.here;
-            before = below-suc (λ k. needle_at ls (drop k (y ∷ bytes)) ≡ None) later.place e later.before
+            before = below-suc (λ k. needle_at ls (drop k (y ∷ bytes)) ≡ None) later.place e later.before;
           }
       | inr e ↦
           let g : hit_or base (needle_at ls (y ∷ bytes)) (first_hit ls (base + 1) bytes) ≡ Some r = h in
@@ -127,7 +127,7 @@ first_hit-hit ls (y ∷ bytes) base r h =
             len = e.0;
             is = sym (same_Some (places base e.0) r (rw e.1 at g)) ∙ ap (λ k. places k e.0) (omega arith);
             here = e.1;
-            before = λ k l. absurd (omega (arith, l))
+            before = λ k l. absurd (omega (arith, l));
           }
     ]
 
@@ -156,7 +156,7 @@ module _ (ls : List (List ℕ)) (bytes : List ℕ) (some : list_any is_empty ls 
         stands = IsFrontOf-is_front (needle_of ls f.0) (drop q bytes) f.1.front;
         whole = ap (λ m. q + m) f.2;
         first_listed = λ i l s. false≢true (sym (f.1.before i l) ∙ is_front-IsFrontOf (needle_of ls i) (drop q bytes) s);
-        first_place = λ i k l low s. false≢true (sym (no-needle ls (drop k bytes) (before k low) i l) ∙ is_front-IsFrontOf (needle_of ls i) (drop k bytes) s)
+        first_place = λ i k l low s. false≢true (sym (no-needle ls (drop k bytes) (before k low) i l) ∙ is_front-IsFrontOf (needle_of ls i) (drop k bytes) s);
       }
 
   hit-IsFirstHit : (r : Range ℕ) → hit ls bytes ≡ Some r → IsFirstHit ls bytes r
@@ -178,7 +178,7 @@ module _ (ls : List (List ℕ)) (bytes : List ℕ) (some : list_any is_empty ls 
       record {
         listed = h.listed;
         front = is_front-IsFrontOf (needle_of ls h.index) (drop r.start bytes) h.stands;
-        before = λ j l. no_front (needle_of ls j) (drop r.start bytes) (h.first_listed j l)
+        before = λ j l. no_front (needle_of ls j) (drop r.start bytes) (h.first_listed j l);
       }
       in
       let before : Nowhere (SomeStands ls bytes) 0 r.start = λ k low high. none-here k (λ i l. h.first_place i k l high) in
@@ -189,7 +189,7 @@ module _ (ls : List (List ℕ)) (bytes : List ℕ) (some : list_any is_empty ls 
   hit-StandsNowhere h i k l s =
       let none : needle_at ls (drop k bytes) ≡ None =
       none-parts (needle_at ls (drop k bytes)) (λ t.
-        false≢true (sym (ap is_some (first_hit-nowhere ls bytes 0 (hit-first_hit None h) k (SomeStands-within ls bytes k some t))) ∙ t))
+      false≢true (sym (ap is_some (first_hit-nowhere ls bytes 0 (hit-first_hit None h) k (SomeStands-within ls bytes k some t))) ∙ t))
       in
       false≢true (sym (no-needle ls (drop k bytes) none i l) ∙ is_front-IsFrontOf (needle_of ls i) (drop k bytes) s)
 
