@@ -1,0 +1,17 @@
+use Rattle.std.proofs.Common.{arith, ◌+◌}
+use Rattle.std.proofs.lemmas.List.{take_rest}
+use Rattle.winnow_match.specs.Search.{SomeStands, bytes_of_needles}
+use Rattle.winnow_match.proofs.lemmas.SearchLemmas.{first-behind, Nowhere-more, Nowhere-less}
+use Rattle.winnow_match.proofs.finding.place_by_windows.Goals as goal
+
+pub returns-in-Some : goal.returns-in-Some
+returns-in-Some c =
+    let here = rw (take_rest c.args.input.now c.loop-passed.passed) at c.in-Some.ensures in
+    first-behind (bytes_of_needles c.args.needles.now) c.args.input.now c.loop-passed.passed c.loop-passed.width c.in-Some.at c.requires c.loop-passed.invariant.1 here
+
+pub loop-passed-preserved : goal.loop-passed-preserved
+loop-passed-preserved c =
+    let ls = bytes_of_needles c.args.needles.now in
+    let none = rw (take_rest c.args.input.now c.loop-passed.passed) at c.in_default.ensures in
+    let past = Nowhere-more ls c.args.input.now c.loop-passed.passed c.loop-passed.width c.loop-passed.invariant.1 none in
+    (omega arith, Nowhere-less (SomeStands ls c.args.input.now) 0 (c.loop-passed.passed + c.loop-passed.width) c.saturating_add-passed.result (omega arith) past)

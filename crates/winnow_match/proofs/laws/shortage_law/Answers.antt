@@ -1,0 +1,8 @@
+use Rattle.winnow_match.proofs.lemmas.ShortageLemmas.{refused-more, answered-more}
+use Rattle.winnow_match.proofs.laws.shortage_law.Goals as goal
+
+pub returns-clause-refused : goal.returns-clause-refused
+returns-clause-refused g c = refused-more
+
+pub returns-clause-answered : goal.returns-clause-answered
+returns-clause-answered g c = answered-more

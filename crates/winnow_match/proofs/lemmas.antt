@@ -1,0 +1,6 @@
+pub mod ByteLemmas
+pub mod ComparisonLemmas
+pub mod FrontLemmas
+pub mod SearchLemmas
+pub mod HitLemmas
+pub mod ShortageLemmas

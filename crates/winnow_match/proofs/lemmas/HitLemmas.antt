@@ -1,0 +1,259 @@
+-- Searches as facts: which needle stands where, and what more input leaves as it was.
+use Rattle.std.proofs.Common.{◌≡◌, ℕ, zero, suc, ◌+◌, ◌≤◌, ◌<◌, ◌==◌, ◌⊎◌, ◌↔◌, Bool, true, false, cond, List, [], ◌∷◌, ◌++◌, length, drop, get_or, Option, Some, None, refl, ap, sym, ◌∙◌, arith, subst, inl, inr}
+use Rattle.std.specs.Prelude.{is_some, Contains}
+use Rattle.std.specs.List.{list_any}
+use Rattle.std.specs.declared.ops.Range.{Range}
+use Rattle.std.proofs.lemmas.Bool.{and_parts, or_cases, false≢true, false_from_ne_true, cases_Bool, eqb-true}
+use Rattle.std.proofs.lemmas.Bool.Decides.{nat_tests}
+use Rattle.std.proofs.lemmas.Option.{same_Some, none-some}
+use Rattle.memchr.specs.Find.{Nowhere}
+use Rattle.winnow_stream.specs.Cursor.{places}
+use Rattle.winnow_match.specs.Comparison.{is_front}
+use Rattle.winnow_match.specs.Search.{is_empty, needle_at, SomeStands, Stands, needle_of, IsFirstHit, StandsNowhere, hit_or, first_hit, hit, have_length, have_one_length}
+use Rattle.winnow_match.proofs.lemmas.FrontLemmas.{IsFrontOf-is_front, is_front-IsFrontOf, no_front, is_front-more, length-front}
+use Rattle.winnow_match.proofs.lemmas.SearchLemmas.{hit-some, hit-none, none-parts, SomeStands-within}
+
+-- ---- an empty needle
+
+nil-from_empty : (l : List ℕ) → is_empty l ≡ true → l ≡ []
+nil-from_empty [] h = refl
+nil-from_empty (x ∷ l) h = absurd (false≢true h)
+
+some-empty : (ls : List (List ℕ)) → list_any is_empty ls ≡ true → Contains ls []
+some-empty [] h = absurd (false≢true h)
+some-empty (n ∷ ls) h =
+    elim (or_cases (is_empty n) (list_any is_empty ls) h) [
+      | inl e ↦ (0, omega arith, nil-from_empty n e)
+      | inr e ↦ let later = some-empty ls e in (suc later.0, omega (arith, later.1), later.2)
+    ]
+
+none-empty : (ls : List (List ℕ)) → ¬ Contains ls [] → list_any is_empty ls ≡ false
+none-empty ls n = false_from_ne_true (list_any is_empty ls) (λ h. n (some-empty ls h))
+
+-- ---- the first listed needle that is a front
+
+record IsFirstListed (ls : List (List ℕ)) (xs : List ℕ) (i : ℕ) : Type 0 where
+  listed : i < length ls
+  front : is_front (needle_of ls i) xs ≡ true
+  before : (j : ℕ) → j < i → is_front (needle_of ls j) xs ≡ false
+
+below-suc : (P : ℕ → Type 0) (i : ℕ) → P zero → ((j : ℕ) → j < i → P (suc j)) → (j : ℕ) → j < suc i → P j
+below-suc P i here later zero l = here
+below-suc P i here later (suc j) l = later j (omega (arith, l))
+
+IsFirstListed-next : (n : List ℕ) (ls : List (List ℕ)) (xs : List ℕ) (i : ℕ) → is_front n xs ≡ false → IsFirstListed ls xs i → IsFirstListed (n ∷ ls) xs (suc i)
+IsFirstListed-next n ls xs i f h =
+    record {
+      listed = omega (arith, h.listed);
+      front = h.front;
+      before = below-suc (λ j. is_front (needle_of (n ∷ ls) j) xs ≡ false) i f h.before;
+    }
+
+first-listed : (ls : List (List ℕ)) (xs : List ℕ) (m : ℕ) → needle_at ls xs ≡ Some m → (i : ℕ) × (IsFirstListed ls xs i) × (m ≡ length (needle_of ls i))
+first-listed [] xs m h = absurd (none-some m h)
+first-listed (n ∷ ls) xs m h =
+    elim (cases_Bool (is_front n xs)) [
+      | inl f ↦
+          let e : cond (is_front n xs) (Some (length n)) (needle_at ls xs) ≡ Some m = h in
+          (0, record { listed = omega arith; front = f; before = λ j l. absurd (omega (arith, l)) }, sym (same_Some (length n) m (rw f at e)))
+      | inr f ↦
+          let e : cond (is_front n xs) (Some (length n)) (needle_at ls xs) ≡ Some m = h in
+          let later = first-listed ls xs m (rw f at e) in
+          (suc later.0, IsFirstListed-next n ls xs later.0 f later.1, later.2)
+    ]
+
+needle_at-first : (ls : List (List ℕ)) (xs : List ℕ) (i : ℕ) → IsFirstListed ls xs i → needle_at ls xs ≡ Some (length (needle_of ls i))
+needle_at-first [] xs i h = absurd (omega (arith, h.listed))
+needle_at-first (n ∷ ls) xs zero h = let f : is_front n xs ≡ true = h.front in rw f refl
+needle_at-first (n ∷ ls) xs (suc i) h =
+    let f : is_front n xs ≡ false = h.before 0 (omega arith) in
+    let later : IsFirstListed ls xs i = record { listed = omega (arith, h.listed); front = h.front; before = λ j l. h.before (suc j) (omega (arith, l)) } in
+    rw f (needle_at-first ls xs i later)
+
+no-needle : (ls : List (List ℕ)) (xs : List ℕ) → needle_at ls xs ≡ None → (i : ℕ) → i < length ls → is_front (needle_of ls i) xs ≡ false
+no-needle [] xs h i l = absurd (omega (arith, l))
+no-needle (n ∷ ls) xs h i l =
+    elim (cases_Bool (is_front n xs)) [
+      | inl f ↦
+          let e : cond (is_front n xs) (Some (length n)) (needle_at ls xs) ≡ None = h in
+          absurd (none-some (length n) (sym (rw f at e)))
+      | inr f ↦
+          let e : cond (is_front n xs) (Some (length n)) (needle_at ls xs) ≡ None = h in
+          let later : needle_at ls xs ≡ None = rw f at e in
+          below-suc (λ j. is_front (needle_of (n ∷ ls) j) xs ≡ false) (length ls) f (λ j k. no-needle ls xs later j k) i l
+    ]
+
+needle_at-nowhere : (ls : List (List ℕ)) (xs : List ℕ) → ((i : ℕ) → i < length ls → is_front (needle_of ls i) xs ≡ false) → needle_at ls xs ≡ None
+needle_at-nowhere [] xs h = refl
+needle_at-nowhere (n ∷ ls) xs h =
+    let f : is_front n xs ≡ false = h 0 (omega arith) in
+    rw f (needle_at-nowhere ls xs (λ i l. h (suc i) (omega (arith, l))))
+
+-- ---- the first hit
+
+some-or-none : (o : Option ℕ) → (o ≡ None) ⊎ ((n : ℕ) × (o ≡ Some n))
+some-or-none None = inl refl
+some-or-none (Some n) = inr (n, refl)
+
+record IsHitAt (ls : List (List ℕ)) (bytes : List ℕ) (base : ℕ) (r : Range ℕ) : Type 0 where
+  place : ℕ
+  len : ℕ
+  is : r ≡ places (base + place) len
+  here : needle_at ls (drop place bytes) ≡ Some len
+  before : (k : ℕ) → k < place → needle_at ls (drop k bytes) ≡ None
+
+none-first_hit : (ls : List (List ℕ)) (y : ℕ) (bytes : List ℕ) (base : ℕ) (o : Option (Range ℕ)) → needle_at ls (y ∷ bytes) ≡ None → first_hit ls base (y ∷ bytes) ≡ o → first_hit ls (base + 1) bytes ≡ o
+none-first_hit ls y bytes base o e h =
+    let g : hit_or base (needle_at ls (y ∷ bytes)) (first_hit ls (base + 1) bytes) ≡ o = h in
+    rw e at g
+
+first_hit-hit : (ls : List (List ℕ)) (bytes : List ℕ) (base : ℕ) (r : Range ℕ) → first_hit ls base bytes ≡ Some r → IsHitAt ls bytes base r
+first_hit-hit ls [] base r h = absurd (none-some r h)
+first_hit-hit ls (y ∷ bytes) base r h =
+    elim (some-or-none (needle_at ls (y ∷ bytes))) [
+      | inl e ↦
+          let later = first_hit-hit ls bytes (base + 1) r (none-first_hit ls y bytes base (Some r) e h) in
+          record {
+            place = suc later.place;
+            len = later.len;
+            is = later.is ∙ ap (λ k. places k later.len) (omega arith);
+            here = later.here;
+            before = below-suc (λ k. needle_at ls (drop k (y ∷ bytes)) ≡ None) later.place e later.before;
+          }
+      | inr e ↦
+          let g : hit_or base (needle_at ls (y ∷ bytes)) (first_hit ls (base + 1) bytes) ≡ Some r = h in
+          record {
+            place = 0;
+            len = e.0;
+            is = sym (same_Some (places base e.0) r (rw e.1 at g)) ∙ ap (λ k. places k e.0) (omega arith);
+            here = e.1;
+            before = λ k l. absurd (omega (arith, l));
+          }
+    ]
+
+first_hit-nowhere : (ls : List (List ℕ)) (bytes : List ℕ) (base : ℕ) → first_hit ls base bytes ≡ None → (k : ℕ) → k < length bytes → needle_at ls (drop k bytes) ≡ None
+first_hit-nowhere ls [] base h k l = absurd (omega (arith, l))
+first_hit-nowhere ls (y ∷ bytes) base h k l =
+    elim (some-or-none (needle_at ls (y ∷ bytes))) [
+      | inl e ↦
+          let later = first_hit-nowhere ls bytes (base + 1) (none-first_hit ls y bytes base None e h) in
+          below-suc (λ j. needle_at ls (drop j (y ∷ bytes)) ≡ None) (length bytes) e later k l
+      | inr e ↦
+          let g : hit_or base (needle_at ls (y ∷ bytes)) (first_hit ls (base + 1) bytes) ≡ None = h in
+          absurd (none-some (places base e.0) (sym (rw e.1 at g)))
+    ]
+
+module _ (ls : List (List ℕ)) (bytes : List ℕ) (some : list_any is_empty ls ≡ false) where
+  hit-first_hit : (o : Option (Range ℕ)) → hit ls bytes ≡ o → first_hit ls 0 bytes ≡ o
+  hit-first_hit o h = let g : cond (list_any is_empty ls) (Some (places 0 0)) (first_hit ls 0 bytes) ≡ o = h in rw some at g
+
+  IsFirstHit-at : (q n : ℕ) → needle_at ls (drop q bytes) ≡ Some n → ((k : ℕ) → k < q → needle_at ls (drop k bytes) ≡ None) → IsFirstHit ls bytes (places q n)
+  IsFirstHit-at q n e before =
+      let f = first-listed ls (drop q bytes) n e in
+      record {
+        index = f.0;
+        listed = f.1.listed;
+        stands = IsFrontOf-is_front (needle_of ls f.0) (drop q bytes) f.1.front;
+        whole = ap (λ m. q + m) f.2;
+        first_listed = λ i l s. false≢true (sym (f.1.before i l) ∙ is_front-IsFrontOf (needle_of ls i) (drop q bytes) s);
+        first_place = λ i k l low s. false≢true (sym (no-needle ls (drop k bytes) (before k low) i l) ∙ is_front-IsFrontOf (needle_of ls i) (drop k bytes) s);
+      }
+
+  hit-IsFirstHit : (r : Range ℕ) → hit ls bytes ≡ Some r → IsFirstHit ls bytes r
+  hit-IsFirstHit r h =
+      let t = first_hit-hit ls bytes 0 r (hit-first_hit (Some r) h) in
+      let e : r ≡ places t.place t.len = t.is ∙ ap (λ k. places k t.len) (omega arith) in
+      subst (IsFirstHit ls bytes) (sym e) (IsFirstHit-at t.place t.len t.here t.before)
+
+  -- no needle is listed that stands at k
+  none-here : (k : ℕ) → ((i : ℕ) → i < length ls → ¬ Stands (needle_of ls i) bytes k) → ¬ SomeStands ls bytes k
+  none-here k none s =
+      let e = needle_at-nowhere ls (drop k bytes) (λ i l. no_front (needle_of ls i) (drop k bytes) (none i l)) in
+      false≢true (sym (ap is_some e) ∙ s)
+
+  IsFirstHit-hit : (r : Range ℕ) → IsFirstHit ls bytes r → hit ls bytes ≡ Some r
+  IsFirstHit-hit r h =
+      let n : ℕ = length (needle_of ls h.index) in
+      let first : IsFirstListed ls (drop r.start bytes) h.index =
+      record {
+        listed = h.listed;
+        front = is_front-IsFrontOf (needle_of ls h.index) (drop r.start bytes) h.stands;
+        before = λ j l. no_front (needle_of ls j) (drop r.start bytes) (h.first_listed j l);
+      }
+      in
+      let before : Nowhere (SomeStands ls bytes) 0 r.start = λ k low high. none-here k (λ i l. h.first_place i k l high) in
+      let e : r ≡ places r.start n = ap (λ m. let q : Range ℕ = record { start = r.start; end = m } in q) h.whole in
+      sym (hit-some ls bytes r.start n some before (needle_at-first ls (drop r.start bytes) h.index first)) ∙ ap Some (sym e)
+
+  hit-StandsNowhere : hit ls bytes ≡ None → StandsNowhere ls bytes
+  hit-StandsNowhere h i k l s =
+      let none : needle_at ls (drop k bytes) ≡ None =
+      none-parts (needle_at ls (drop k bytes)) (λ t.
+      false≢true (sym (ap is_some (first_hit-nowhere ls bytes 0 (hit-first_hit None h) k (SomeStands-within ls bytes k some t))) ∙ t))
+      in
+      false≢true (sym (no-needle ls (drop k bytes) none i l) ∙ is_front-IsFrontOf (needle_of ls i) (drop k bytes) s)
+
+  StandsNowhere-hit : StandsNowhere ls bytes → hit ls bytes ≡ None
+  StandsNowhere-hit h = sym (hit-none ls bytes some (λ k low high. none-here k (λ i l. h i k l)))
+
+module _ (ls : List (List ℕ)) (bytes : List ℕ) (some : ¬ Contains ls []) where
+  pub some-says : (r : Range ℕ) → hit ls bytes ≡ Some r ↔ IsFirstHit ls bytes r
+  some-says r = let none = none-empty ls some in (hit-IsFirstHit ls bytes none r, IsFirstHit-hit ls bytes none r)
+
+  pub none-says : hit ls bytes ≡ None ↔ StandsNowhere ls bytes
+  none-says = let none = none-empty ls some in (hit-StandsNowhere ls bytes none, StandsNowhere-hit ls bytes none)
+
+-- ---- more input
+
+module _ (m : ℕ) where
+  needle_at-long : (ls : List (List ℕ)) (xs : List ℕ) (n : ℕ) → have_length m ls ≡ true → needle_at ls xs ≡ Some n → m ≤ length xs
+  needle_at-long [] xs n w h = absurd (none-some n h)
+  needle_at-long (l ∷ ls) xs n w h =
+      let parts = and_parts (length l == m) (have_length m ls) w in
+      elim (cases_Bool (is_front l xs)) [
+        | inl f ↦ omega (arith, eqb-true (length l) m parts.0, length-front l xs f)
+        | inr f ↦
+            let e : cond (is_front l xs) (Some (length l)) (needle_at ls xs) ≡ Some n = h in
+            needle_at-long ls xs n parts.1 (rw f at e)
+      ]
+
+  needle_at-more : (ls : List (List ℕ)) (xs more : List ℕ) → have_length m ls ≡ true → m ≤ length xs → needle_at ls (xs ++ more) ≡ needle_at ls xs
+  needle_at-more [] xs more w h = refl
+  needle_at-more (l ∷ ls) xs more w h =
+      let parts = and_parts (length l == m) (have_length m ls) w in
+      let fits : length l ≤ length xs = omega (arith, eqb-true (length l) m parts.0, h) in
+      rw (is_front-more l xs more fits, needle_at-more ls xs more parts.1 h) refl
+
+  first_hit-long : (ls : List (List ℕ)) (bytes : List ℕ) (base : ℕ) (r : Range ℕ) → have_length m ls ≡ true → first_hit ls base bytes ≡ Some r → m ≤ length bytes
+  first_hit-long ls [] base r w h = absurd (none-some r h)
+  first_hit-long ls (y ∷ bytes) base r w h =
+      elim (some-or-none (needle_at ls (y ∷ bytes))) [
+        | inl e ↦ let l = first_hit-long ls bytes (base + 1) r w (none-first_hit ls y bytes base (Some r) e h) in omega (arith, l)
+        | inr e ↦ needle_at-long ls (y ∷ bytes) e.0 w e.1
+      ]
+
+  first_hit-more : (ls : List (List ℕ)) (bytes more : List ℕ) (base : ℕ) (r : Range ℕ) → have_length m ls ≡ true → first_hit ls base bytes ≡ Some r → first_hit ls base (bytes ++ more) ≡ Some r
+  first_hit-more ls [] more base r w h = absurd (none-some r h)
+  first_hit-more ls (y ∷ bytes) more base r w h =
+      let same : needle_at ls ((y ∷ bytes) ++ more) ≡ needle_at ls (y ∷ bytes) = needle_at-more ls (y ∷ bytes) more w (first_hit-long ls (y ∷ bytes) base r w h) in
+      elim (some-or-none (needle_at ls (y ∷ bytes))) [
+        | inl e ↦
+            let later = first_hit-more ls bytes more (base + 1) r w (none-first_hit ls y bytes base (Some r) e h) in
+            ap (λ o. hit_or base o (first_hit ls (base + 1) (bytes ++ more))) (same ∙ e) ∙ later
+        | inr e ↦
+            let g : hit_or base (needle_at ls (y ∷ bytes)) (first_hit ls (base + 1) bytes) ≡ Some r = h in
+            ap (λ o. hit_or base o (first_hit ls (base + 1) (bytes ++ more))) (same ∙ e.1) ∙ (rw e.1 at g)
+      ]
+
+same-length : (ls : List (List ℕ)) → have_one_length ls ≡ true → (m : ℕ) × (have_length m ls ≡ true)
+same-length [] h = (0, refl)
+same-length (n ∷ ls) h = let same : (length n == length n) ≡ true = grind (arith, nat_tests) in (length n, rw (same, h) refl)
+
+pub hit-more : (ls : List (List ℕ)) (bytes more : List ℕ) (r : Range ℕ) → have_one_length ls ≡ true → hit ls bytes ≡ Some r → hit ls (bytes ++ more) ≡ Some r
+hit-more ls bytes more r w h =
+    let g : cond (list_any is_empty ls) (Some (places 0 0)) (first_hit ls 0 bytes) ≡ Some r = h in
+    let one = same-length ls w in
+    elim (cases_Bool (list_any is_empty ls)) [
+      | inl e ↦ rw e (rw e at g)
+      | inr e ↦ rw e (first_hit-more one.0 ls bytes more 0 r one.1 (rw e at g))
+    ]

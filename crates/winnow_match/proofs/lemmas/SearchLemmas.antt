@@ -1,0 +1,319 @@
+-- Where needles stand: lists of needles, windows, and the hit from its place.
+use Rattle.std.proofs.Common.{◌≡◌, ℕ, zero, suc, ◌+◌, ◌-◌, ◌≤◌, ◌<◌, ◌==◌, min, Bool, true, false, cond, ◌||◌, ◌⊎◌, List, [], ◌∷◌, ◌++◌, length, take, drop, get_or, Option, Some, None, refl, ap, sym, ◌∙◌, arith, subst, inl, inr, length-drop, length-take}
+use Rattle.std.specs.Prelude.{is_some, unwrap_or, slice_index, MatchOption, ⊤, nat_eq}
+use Rattle.std.specs.List.{list_any, starts_with}
+use Rattle.std.proofs.lemmas.Bool.{and_parts, or_cases, or_parts, or_left, or_right, false≢true, cases_lt, cases_Bool}
+use Rattle.std.proofs.lemmas.Bool.Decides.{nat_tests}
+use Rattle.std.proofs.lemmas.List.{drop-drop, drop_all, drop_more, get_or-take, get_or-drop}
+use Rattle.std.proofs.lemmas.List.Prefix.{at_from_reads, at_reads}
+use Rattle.memchr.specs.Find.{IsFirst, IsFirstByte, Passes, is_byte, is_byte2, is_byte3, Nowhere, NoneBefore, OccursAt, FindsNeedle}
+use Rattle.winnow_stream.specs.Cursor.{places}
+use Rattle.winnow_match.specs.Comparison.{is_front}
+use Rattle.winnow_match.specs.Search.{is_empty, needle_at, SomeStands, first_hit, hit}
+use Rattle.winnow_match.proofs.lemmas.FrontLemmas.{length-front, is_front-append, front_rest, starts_with-is_front}
+
+pub nonempty-length : (xs : List ℕ) → is_empty xs ≡ false → 0 < length xs
+nonempty-length [] h = absurd (false≢true (sym h))
+nonempty-length (x ∷ xs) h = omega arith
+
+-- ---- lists of needles
+
+some-cond : (b : Bool) (m : ℕ) → is_some (cond b (Some m) None) ≡ b
+some-cond true m = refl
+some-cond false m = refl
+
+or-step : (b : Bool) (m : ℕ) (o p : Option ℕ) (f : Bool) → is_some p ≡ (is_some o || f) → is_some (cond b (Some m) p) ≡ (is_some (cond b (Some m) o) || f)
+or-step true m o p f h = refl
+or-step false m o p f h = h
+
+pub needle_at-one : (n xs : List ℕ) → is_some (needle_at (n ∷ []) xs) ≡ is_front n xs
+needle_at-one n xs = some-cond (is_front n xs) (length n)
+
+pub needle_at-append : (ls : List (List ℕ)) (n xs : List ℕ) → is_some (needle_at (ls ++ n ∷ []) xs) ≡ (is_some (needle_at ls xs) || is_front n xs)
+needle_at-append [] n xs = needle_at-one n xs
+needle_at-append (l ∷ ls) n xs = or-step (is_front l xs) (length l) (needle_at ls xs) (needle_at (ls ++ n ∷ []) xs) (is_front n xs) (needle_at-append ls n xs)
+
+module _ (ls : List (List ℕ)) (n bytes : List ℕ) (k : ℕ) where
+  pub SomeStands-split : SomeStands (ls ++ n ∷ []) bytes k → SomeStands ls bytes k ⊎ SomeStands (n ∷ []) bytes k
+  SomeStands-split s =
+      elim (or_cases (is_some (needle_at ls (drop k bytes))) (is_front n (drop k bytes)) (sym (needle_at-append ls n (drop k bytes)) ∙ s)) [
+        | inl h ↦ inl h
+        | inr h ↦ inr (needle_at-one n (drop k bytes) ∙ h)
+      ]
+
+  pub SomeStands-left : SomeStands ls bytes k → SomeStands (ls ++ n ∷ []) bytes k
+  SomeStands-left s = needle_at-append ls n (drop k bytes) ∙ or_left _ (is_front n (drop k bytes)) s
+
+  pub SomeStands-right : SomeStands (n ∷ []) bytes k → SomeStands (ls ++ n ∷ []) bytes k
+  SomeStands-right s =
+      needle_at-append ls n (drop k bytes) ∙ or_right (is_some (needle_at ls (drop k bytes))) _ (sym (needle_at-one n (drop k bytes)) ∙ s)
+
+Nowhere-append : (ls : List (List ℕ)) (n bytes : List ℕ) (j : ℕ) → Nowhere (SomeStands ls bytes) 0 j → Nowhere (SomeStands (n ∷ []) bytes) 0 j → Nowhere (SomeStands (ls ++ n ∷ []) bytes) 0 j
+Nowhere-append ls n bytes j f g k low high s = elim (SomeStands-split ls n bytes k s) [ inl h ↦ f k low high h | inr h ↦ g k low high h ]
+
+pub Nowhere-less : (P : ℕ → Type 0) (i j m : ℕ) → m ≤ j → Nowhere P i j → Nowhere P i m
+Nowhere-less P i j m l f k low high = f k low (omega arith)
+
+-- one more needle, sought up to the place that the others gave
+pub sooner-some : (ls : List (List ℕ)) (n bytes : List ℕ) (limit at : ℕ) (r : Option ℕ) → IsFirst (SomeStands ls bytes) 0 limit (Some at) → IsFirst (SomeStands (n ∷ []) bytes) 0 at r → IsFirst (SomeStands (ls ++ n ∷ []) bytes) 0 limit (Some (unwrap_or r at))
+sooner-some ls n bytes limit at None f g =
+    (record { low = f.0.low; high = f.0.high; before = Nowhere-append ls n bytes at f.0.before g }, SomeStands-left ls n bytes at f.1)
+sooner-some ls n bytes limit at (Some j) f g =
+    let first : Nowhere (SomeStands ls bytes) 0 j = Nowhere-less (SomeStands ls bytes) 0 at j (omega (arith, g.0.high)) f.0.before in
+    (record { low = g.0.low; high = omega (arith, g.0.high, f.0.high); before = Nowhere-append ls n bytes j first g.0.before }, SomeStands-right ls n bytes j g.1)
+
+pub sooner-none : (ls : List (List ℕ)) (n bytes : List ℕ) (limit : ℕ) (r : Option ℕ) → IsFirst (SomeStands ls bytes) 0 limit None → IsFirst (SomeStands (n ∷ []) bytes) 0 limit r → IsFirst (SomeStands (ls ++ n ∷ []) bytes) 0 limit r
+sooner-none ls n bytes limit None f g = Nowhere-append ls n bytes limit f g
+sooner-none ls n bytes limit (Some j) f g =
+    let first : Nowhere (SomeStands ls bytes) 0 j = Nowhere-less (SomeStands ls bytes) 0 limit j (omega (arith, g.0.high)) f in
+    (record { low = g.0.low; high = g.0.high; before = Nowhere-append ls n bytes j first g.0.before }, SomeStands-right ls n bytes j g.1)
+
+-- ---- one needle in a front of the bytes
+
+module _ (bytes n : List ℕ) (k : ℕ) where
+  SomeStands-fits : is_empty n ≡ false → SomeStands (n ∷ []) bytes k → k + length n ≤ length bytes
+  SomeStands-fits some s =
+      let f = length-front n (drop k bytes) (sym (needle_at-one n (drop k bytes)) ∙ s) in
+      let l = nonempty-length n some in
+      omega (arith, f, l, length-drop k bytes)
+
+  module _ (reach : ℕ) (short : reach ≤ length bytes) where
+    SomeStands-occurs : OccursAt (take reach bytes) n k → SomeStands (n ∷ []) bytes k
+    SomeStands-occurs o =
+        let fits : k + length n ≤ reach = omega (arith, o.fits, length-take reach bytes) in
+        let reads : (i : ℕ) → i < length n → get_or bytes (k + i) 0 ≡ get_or n i 0 = λ i l. sym (get_or-take reach bytes (k + i) 0 (omega (arith, l, fits))) ∙ o.reads i l in
+        let e : drop k bytes ≡ n ++ drop (k + length n) bytes = at_from_reads 0 bytes n k (omega (arith, fits, short)) reads in
+        needle_at-one n (drop k bytes) ∙ ap (is_front n) e ∙ is_front-append n (drop (k + length n) bytes)
+
+    occurs-SomeStands : k + length n ≤ reach → SomeStands (n ∷ []) bytes k → OccursAt (take reach bytes) n k
+    occurs-SomeStands fits s =
+        let e : drop k bytes ≡ n ++ drop (length n) (drop k bytes) = front_rest n (drop k bytes) (sym (needle_at-one n (drop k bytes)) ∙ s) in
+        record {
+          fits = omega (arith, fits, short, length-take reach bytes);
+          reads = λ i l. get_or-take reach bytes (k + i) 0 (omega (arith, l, fits)) ∙ at_reads 0 bytes n k (drop (length n) (drop k bytes)) e i l;
+        }
+
+-- the search goes as far as a needle reaches that begins below the limit
+pub place-below : (bytes n : List ℕ) (limit reach : ℕ) (r : Option ℕ) → is_empty n ≡ false → reach ≡ min (limit + (length n - 1)) (length bytes) → FindsNeedle (take reach bytes) n 0 r → IsFirst (SomeStands (n ∷ []) bytes) 0 limit r
+place-below bytes n limit reach None some e f =
+    let l = nonempty-length n some in
+    let short : reach ≤ length bytes = omega (arith, e) in
+    λ k low high s.
+    let fits = SomeStands-fits bytes n k some s in
+    f k low (omega (arith, e, l, fits, high, length-take reach bytes)) (occurs-SomeStands bytes n k reach short (omega (arith, e, l, fits, high)) s)
+place-below bytes n limit reach (Some at) some e f =
+    let l = nonempty-length n some in
+    let short : reach ≤ length bytes = omega (arith, e) in
+    let below : at < limit = omega (arith, e, l, f.1.fits, length-take reach bytes) in
+    let none : Nowhere (SomeStands (n ∷ []) bytes) 0 at =
+    λ k low high s. f.0.before k low high (occurs-SomeStands bytes n k reach short (omega (arith, e, l, SomeStands-fits bytes n k some s, high, below)) s)
+    in
+    (record { low = omega arith; high = below; before = none }, SomeStands-occurs bytes n at reach short f.1)
+
+-- ---- what remains behind some bytes
+
+module _ (ls : List (List ℕ)) (bytes : List ℕ) where
+  pub SomeStands-shift : (p k : ℕ) → SomeStands ls (drop p bytes) k → SomeStands ls bytes (p + k)
+  SomeStands-shift p k s = sym (ap (λ xs. is_some (needle_at ls xs)) (drop-drop k p bytes)) ∙ s
+
+  pub SomeStands-unshift : (p k : ℕ) → p ≤ k → SomeStands ls bytes k → SomeStands ls (drop p bytes) (k - p)
+  SomeStands-unshift p k l s =
+      let e : drop (k - p) (drop p bytes) ≡ drop k bytes = drop-drop (k - p) p bytes ∙ ap (λ m. drop m bytes) (omega (arith, l)) in
+      ap (λ xs. is_some (needle_at ls xs)) e ∙ s
+
+  -- no needle stands below p, nor in the next places
+  pub Nowhere-more : (p m : ℕ) → Nowhere (SomeStands ls bytes) 0 p → Nowhere (SomeStands ls (drop p bytes)) 0 m → Nowhere (SomeStands ls bytes) 0 (p + m)
+  Nowhere-more p m f g k low high s =
+      elim (cases_lt k p) [
+        | inl l ↦ f k low l s
+        | inr l ↦ g (k - p) (omega arith) (omega (arith, l, high)) (SomeStands-unshift p k l s)
+      ]
+
+pub needle_at-nil : (ls : List (List ℕ)) → list_any is_empty ls ≡ false → needle_at ls [] ≡ None
+needle_at-nil [] h = refl
+needle_at-nil ([] ∷ ls) h = absurd (false≢true (sym h))
+needle_at-nil ((x ∷ l) ∷ ls) h = needle_at-nil ls h
+
+pub SomeStands-within : (ls : List (List ℕ)) (bytes : List ℕ) (k : ℕ) → list_any is_empty ls ≡ false → SomeStands ls bytes k → k < length bytes
+SomeStands-within ls bytes k some s =
+    elim (cases_lt k (length bytes)) [
+      | inl l ↦ l
+      | inr l ↦ absurd (false≢true (sym (ap is_some (ap (needle_at ls) (drop_all k bytes l) ∙ needle_at-nil ls some)) ∙ s))
+    ]
+
+-- the first place behind those that were passed
+pub first-behind : (ls : List (List ℕ)) (bytes : List ℕ) (p m : ℕ) (at : ℕ) → list_any is_empty ls ≡ false → Nowhere (SomeStands ls bytes) 0 p → IsFirst (SomeStands ls (drop p bytes)) 0 m (Some at) → IsFirst (SomeStands ls bytes) 0 (length bytes) (Some (p + at))
+first-behind ls bytes p m at some f g =
+    let s : SomeStands ls bytes (p + at) = SomeStands-shift ls bytes p at g.1 in
+    (record { low = omega arith; high = SomeStands-within ls bytes (p + at) some s; before = Nowhere-more ls bytes p at f g.0.before }, s)
+
+-- ---- the hit
+
+pub none-parts : (o : Option ℕ) → ¬ (is_some o ≡ true) → o ≡ None
+none-parts None h = refl
+none-parts (Some n) h = absurd (h refl)
+
+pub first_hit-some : (ls : List (List ℕ)) (bytes : List ℕ) (base q n : ℕ) → Nowhere (SomeStands ls bytes) 0 q → q < length bytes → needle_at ls (drop q bytes) ≡ Some n → first_hit ls base bytes ≡ Some (places (base + q) n)
+first_hit-some ls [] base q n none l e = absurd (omega (arith, l))
+first_hit-some ls (y ∷ bytes) base zero n none l e = rw e (ap (λ k. Some (places k n)) (omega arith))
+first_hit-some ls (y ∷ bytes) base (suc q) n none l e =
+    let here : needle_at ls (y ∷ bytes) ≡ None = none-parts (needle_at ls (y ∷ bytes)) (none 0 (omega arith) (omega arith)) in
+    let later : Nowhere (SomeStands ls bytes) 0 q = λ k low high s. none (suc k) (omega arith) (omega (arith, high)) s in
+    rw here (first_hit-some ls bytes (base + 1) q n later (omega (arith, l)) e ∙ ap (λ k. Some (places k n)) (omega arith))
+
+pub first_hit-none : (ls : List (List ℕ)) (bytes : List ℕ) (base : ℕ) → Nowhere (SomeStands ls bytes) 0 (length bytes) → first_hit ls base bytes ≡ None
+first_hit-none ls [] base none = refl
+first_hit-none ls (y ∷ bytes) base none =
+    let here : needle_at ls (y ∷ bytes) ≡ None = none-parts (needle_at ls (y ∷ bytes)) (none 0 (omega arith) (omega arith)) in
+    let later : Nowhere (SomeStands ls bytes) 0 (length bytes) = λ k low high s. none (suc k) (omega arith) (omega (arith, high)) s in
+    rw here (first_hit-none ls bytes (base + 1) later)
+
+module _ (ls : List (List ℕ)) (bytes : List ℕ) where
+  pub hit-empty : list_any is_empty ls ≡ true → Some (places 0 0) ≡ hit ls bytes
+  hit-empty e = rw e refl
+
+  pub hit-some : (q n : ℕ) → list_any is_empty ls ≡ false → Nowhere (SomeStands ls bytes) 0 q → needle_at ls (drop q bytes) ≡ Some n → Some (places q n) ≡ hit ls bytes
+  hit-some q n some none e =
+      let l = SomeStands-within ls bytes q some (ap is_some e) in
+      rw some (sym (first_hit-some ls bytes 0 q n none l e ∙ ap (λ k. Some (places k n)) (omega arith)))
+
+  pub hit-none : list_any is_empty ls ≡ false → Nowhere (SomeStands ls bytes) 0 (length bytes) → None ≡ hit ls bytes
+  hit-none some none = rw some (sym (first_hit-none ls bytes 0 none))
+
+-- ---- first bytes
+
+-- each needle has a first byte, which passes the test
+abbrev pub BeginWith : (ℕ → Bool) → List (List ℕ) → Type 0
+BeginWith test [] = ⊤
+BeginWith test (n ∷ ls) = ((is_empty n ≡ false) × (test (slice_index n 0) ≡ true)) × BeginWith test ls
+
+first-byte : (n xs : List ℕ) → is_empty n ≡ false → is_front n xs ≡ true → slice_index n 0 ≡ slice_index xs 0
+first-byte [] xs some h = absurd (false≢true (sym some))
+first-byte (x ∷ n) [] some h = absurd (false≢true h)
+first-byte (x ∷ n) (y ∷ xs) some h = grind (arith, nat_tests, and_parts (x == y) (is_front n xs) h)
+
+first-passes : (test : ℕ → Bool) (ls : List (List ℕ)) (xs : List ℕ) → BeginWith test ls → is_some (needle_at ls xs) ≡ true → test (slice_index xs 0) ≡ true
+first-passes test [] xs w h = absurd (false≢true h)
+first-passes test (n ∷ ls) xs w h =
+    elim (cases_Bool (is_front n xs)) [
+      | inl f ↦ ap test (sym (first-byte n xs w.0.0 f)) ∙ w.0.1
+      | inr f ↦ first-passes test ls xs w.1 (let g : is_some (cond (is_front n xs) (Some (length n)) (needle_at ls xs)) ≡ true = h in rw f at g)
+    ]
+
+pub Passes-SomeStands : (test : ℕ → Bool) (ls : List (List ℕ)) (bytes : List ℕ) (k : ℕ) → BeginWith test ls → SomeStands ls bytes k → Passes test bytes k
+Passes-SomeStands test ls bytes k w s =
+    let e : get_or (drop k bytes) 0 0 ≡ get_or bytes k 0 = get_or-drop k bytes 0 0 ∙ ap (λ m. get_or bytes m 0) (omega arith) in
+    sym (ap test e) ∙ first-passes test ls (drop k bytes) w s
+
+-- no needle stands before the first byte that passes
+pub next-first : (test : ℕ → Bool) (ls : List (List ℕ)) (bytes : List ℕ) (r : Option ℕ) → BeginWith test ls → IsFirstByte test bytes r → MatchOption r (Nowhere (SomeStands ls bytes) 0 (length bytes)) (λ at. NoneBefore (SomeStands ls bytes) 0 (length bytes) at)
+next-first test ls bytes None w f = λ k low high s. f k low high (Passes-SomeStands test ls bytes k w s)
+next-first test ls bytes (Some at) w f =
+    record { low = f.0.low; high = f.0.high; before = λ k low high s. f.0.before k low high (Passes-SomeStands test ls bytes k w s) }
+
+-- what `starts_with` answered of one needle
+pub needle-found : (n xs : List ℕ) → starts_with nat_eq xs n ≡ true → Some (length n) ≡ needle_at (n ∷ []) xs
+needle-found n xs h = let f : is_front n xs ≡ true = sym (starts_with-is_front n xs) ∙ h in rw f refl
+
+pub needle-missed : (n xs : List ℕ) → starts_with nat_eq xs n ≡ false → None ≡ needle_at (n ∷ []) xs
+needle-missed n xs h = let f : is_front n xs ≡ false = sym (starts_with-is_front n xs) ∙ h in rw f refl
+
+pub ruleset one_needle = (needle-found, needle-missed)
+
+-- the first bytes of one, two and three needles
+module _ (ls : List (List ℕ)) (some : list_any is_empty ls ≡ false) where
+  pub begin-one : (a : List ℕ) (x : ℕ) → ls ≡ a ∷ [] → x ≡ slice_index a 0 → BeginWith (is_byte x) ls
+  begin-one a x e p =
+      let none : list_any is_empty (a ∷ []) ≡ false = sym (ap (list_any is_empty) e) ∙ some in
+      let P : List (List ℕ) → Type 0 = BeginWith (is_byte x) in
+      subst P (sym e) (((or_parts _ false none).0, grind (arith, nat_tests)), tt)
+
+  pub begin-two : (a b : List ℕ) (x y : ℕ) → ls ≡ a ∷ b ∷ [] → x ≡ slice_index a 0 → y ≡ slice_index b 0 → BeginWith (is_byte2 x y) ls
+  begin-two a b x y e p q =
+      let none : list_any is_empty (a ∷ b ∷ []) ≡ false = sym (ap (list_any is_empty) e) ∙ some in
+      let first = or_parts (is_empty a) (is_empty b || false) none in
+      let second = or_parts (is_empty b) false first.1 in
+      let P : List (List ℕ) → Type 0 = BeginWith (is_byte2 x y) in
+      subst P (sym e) ((first.0, grind (arith, nat_tests)), ((second.0, grind (arith, nat_tests)), tt))
+
+  pub begin-three : (a b c : List ℕ) (x y z : ℕ) → ls ≡ a ∷ b ∷ c ∷ [] → x ≡ slice_index a 0 → y ≡ slice_index b 0 → z ≡ slice_index c 0 → BeginWith (is_byte3 x y z) ls
+  begin-three a b c x y z e p q t =
+      let none : list_any is_empty (a ∷ b ∷ c ∷ []) ≡ false = sym (ap (list_any is_empty) e) ∙ some in
+      let first = or_parts (is_empty a) (is_empty b || (is_empty c || false)) none in
+      let second = or_parts (is_empty b) (is_empty c || false) first.1 in
+      let third = or_parts (is_empty c) false second.1 in
+      let P : List (List ℕ) → Type 0 = BeginWith (is_byte3 x y z) in
+      subst P (sym e) ((first.0, grind (arith, nat_tests)), ((second.0, grind (arith, nat_tests)), ((third.0, grind (arith, nat_tests)), tt)))
+
+-- ---- the hit of a search that has passed p places
+
+module _ (ls : List (List ℕ)) (bytes : List ℕ) (p : ℕ) (some : list_any is_empty ls ≡ false) (passed : Nowhere (SomeStands ls bytes) 0 p) where
+  pub hit-nowhere : p ≤ length bytes → Nowhere (SomeStands ls (drop p bytes)) 0 (length (drop p bytes)) → None ≡ hit ls bytes
+  hit-nowhere l none =
+      let m : ℕ = length (drop p bytes) in
+      hit-none ls bytes some (Nowhere-less (SomeStands ls bytes) 0 (p + m) (length bytes) (omega (arith, l, length-drop p bytes)) (Nowhere-more ls bytes p m passed none))
+
+  pub hit-behind : (k m n : ℕ) → NoneBefore (SomeStands ls (drop p bytes)) 0 m k → Some n ≡ needle_at ls (drop (p + k) bytes) → Some (places (p + k) n) ≡ hit ls bytes
+  hit-behind k m n none e = hit-some ls bytes (p + k) n some (Nowhere-more ls bytes p k passed none.before) (sym e)
+
+  pub pass-one : (k m : ℕ) → NoneBefore (SomeStands ls (drop p bytes)) 0 m k → None ≡ needle_at ls (drop (p + k) bytes) → Nowhere (SomeStands ls bytes) 0 (p + k + 1)
+  pass-one k m none e i low high s =
+      elim (cases_lt i (p + k)) [
+        | inl l ↦ Nowhere-more ls bytes p k passed none.before i low l s
+        | inr l ↦
+            let at : i ≡ p + k = omega (arith, l, high) in
+            let here : is_some (needle_at ls (drop i bytes)) ≡ false = ap (λ q. is_some (needle_at ls (drop q bytes))) at ∙ ap is_some (sym e) in
+            false≢true (sym here ∙ s)
+      ]
+
+-- ---- needles of one byte
+
+-- the test says where a needle of one byte stands
+abbrev TestsFor : (ℕ → Bool) → List (List ℕ) → Type 0
+TestsFor test ls = (y : ℕ) (ys : List ℕ) → needle_at ls (y ∷ ys) ≡ cond (test y) (Some 1) None
+
+module _ (test : ℕ → Bool) (ls : List (List ℕ)) (bytes : List ℕ) (tests : TestsFor test ls) where
+  needle_at-byte : (k : ℕ) → k < length bytes → needle_at ls (drop k bytes) ≡ cond (test (get_or bytes k 0)) (Some 1) None
+  needle_at-byte k l = ap (needle_at ls) (drop_more bytes k 0 l) ∙ tests (get_or bytes k 0) (drop (k + 1) bytes)
+
+  passes-from_Stands : (k : ℕ) → k < length bytes → SomeStands ls bytes k → Passes test bytes k
+  passes-from_Stands k l s = sym (some-cond (test (get_or bytes k 0)) 1) ∙ sym (ap is_some (needle_at-byte k l)) ∙ s
+
+  byte-hit : (at : ℕ) → list_any is_empty ls ≡ false → IsFirstByte test bytes (Some at) → Some (places at 1) ≡ hit ls bytes
+  byte-hit at some f =
+      let none : Nowhere (SomeStands ls bytes) 0 at = λ k low high s. f.0.before k low high (passes-from_Stands k (omega (arith, high, f.0.high)) s) in
+      hit-some ls bytes at 1 some none (needle_at-byte at f.0.high ∙ ap (λ b. cond b (Some 1) None) f.1)
+
+  byte-none : list_any is_empty ls ≡ false → IsFirstByte test bytes None → None ≡ hit ls bytes
+  byte-none some f = hit-none ls bytes some (λ k low high s. f k low high (passes-from_Stands k high s))
+
+one-tests : (a : ℕ) → TestsFor (is_byte a) ((a ∷ []) ∷ [])
+one-tests a y ys = grind (arith, nat_tests)
+
+two-tests : (a b : ℕ) → TestsFor (is_byte2 a b) ((a ∷ []) ∷ (b ∷ []) ∷ [])
+two-tests a b y ys = grind (arith, nat_tests)
+
+three-tests : (a b c : ℕ) → TestsFor (is_byte3 a b c) ((a ∷ []) ∷ (b ∷ []) ∷ (c ∷ []) ∷ [])
+three-tests a b c y ys = grind (arith, nat_tests)
+
+module _ (bytes : List ℕ) (at a : ℕ) where
+  pub byte-some_one : IsFirstByte (is_byte a) bytes (Some at) → Some (places at 1) ≡ hit ((a ∷ []) ∷ []) bytes
+  byte-some_one f = byte-hit (is_byte a) ((a ∷ []) ∷ []) bytes (one-tests a) at refl f
+
+  pub byte-some_two : (b : ℕ) → IsFirstByte (is_byte2 a b) bytes (Some at) → Some (places at 1) ≡ hit ((a ∷ []) ∷ (b ∷ []) ∷ []) bytes
+  byte-some_two b f = byte-hit (is_byte2 a b) ((a ∷ []) ∷ (b ∷ []) ∷ []) bytes (two-tests a b) at refl f
+
+  pub byte-some_three : (b c : ℕ) → IsFirstByte (is_byte3 a b c) bytes (Some at) → Some (places at 1) ≡ hit ((a ∷ []) ∷ (b ∷ []) ∷ (c ∷ []) ∷ []) bytes
+  byte-some_three b c f = byte-hit (is_byte3 a b c) ((a ∷ []) ∷ (b ∷ []) ∷ (c ∷ []) ∷ []) bytes (three-tests a b c) at refl f
+
+module _ (bytes : List ℕ) (a : ℕ) where
+  pub byte-none_one : IsFirstByte (is_byte a) bytes None → None ≡ hit ((a ∷ []) ∷ []) bytes
+  byte-none_one f = byte-none (is_byte a) ((a ∷ []) ∷ []) bytes (one-tests a) refl f
+
+  pub byte-none_two : (b : ℕ) → IsFirstByte (is_byte2 a b) bytes None → None ≡ hit ((a ∷ []) ∷ (b ∷ []) ∷ []) bytes
+  byte-none_two b f = byte-none (is_byte2 a b) ((a ∷ []) ∷ (b ∷ []) ∷ []) bytes (two-tests a b) refl f
+
+  pub byte-none_three : (b c : ℕ) → IsFirstByte (is_byte3 a b c) bytes None → None ≡ hit ((a ∷ []) ∷ (b ∷ []) ∷ (c ∷ []) ∷ []) bytes
+  byte-none_three b c f = byte-none (is_byte3 a b c) ((a ∷ []) ∷ (b ∷ []) ∷ (c ∷ []) ∷ []) bytes (three-tests a b c) refl f
+
+pub ruleset single_bytes = (byte-some_one, byte-some_two, byte-some_three, byte-none_one, byte-none_two, byte-none_three)

@@ -1,0 +1,20 @@
+-- How a literal compares with the front of some bytes.
+use Rattle.std.specs.Prelude.{◌≡◌, ℕ, ◌==◌, Bool, true, false, ◌&&◌, if◌then◌else◌, List, [], ◌∷◌, ◌++◌, length}
+use Rattle.winnow_match.specs.declared.compare.CompareResult.{CompareResult}
+use Rattle.winnow_match.specs.declared.compare.CompareResult.TheVariants as compared
+
+-- p is a front of xs
+abbrev pub is_front : List ℕ → List ℕ → Bool
+is_front [] xs = true
+is_front (x ∷ p) [] = false
+is_front (x ∷ p) (y ∷ xs) = x == y && is_front p xs
+
+-- the same as a fact: xs is p followed by something
+abbrev pub IsFrontOf : List ℕ → List ℕ → Type 0
+IsFrontOf p xs = (rest : List ℕ) × (xs ≡ p ++ rest)
+
+-- the literal is a front of the bytes, or they are a shorter front of it, or they differ at some place
+abbrev pub comparison : List ℕ → List ℕ → CompareResult
+comparison literal bytes =
+    if is_front literal bytes then compared.Ok (length literal)
+    else (if is_front bytes literal then compared.Incomplete else compared.Error)

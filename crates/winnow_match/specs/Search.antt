@@ -1,0 +1,77 @@
+-- The first place of some bytes at which a needle stands.
+use Rattle.std.specs.Prelude.{◌≡◌, ℕ, ◌+◌, ◌<◌, ◌==◌, IsTrue, is_some, drop, Bool, true, false, ◌&&◌, if◌then◌else◌, List, [], ◌∷◌, length, Option, None, Some}
+use Rattle.std.specs.List.{list_any, slice_index_or}
+use Rattle.std.specs.Borrow.{Bor}
+use Rattle.std.specs.declared.ops.Range.{Range}
+use Rattle.winnow_stream.specs.Cursor.{places}
+use Rattle.winnow_match.specs.Comparison.{is_front, IsFrontOf}
+use Rattle.winnow_match.specs.declared.needles.Needles.{Needles}
+use Rattle.winnow_match.specs.declared.needles.Needles.TheVariants.{One, Two, Three}
+
+abbrev pub is_empty : List ℕ → Bool
+is_empty [] = true
+is_empty (x ∷ xs) = false
+
+-- the length of the first listed needle that is a front of the bytes
+abbrev pub needle_at : List (List ℕ) → List ℕ → Option ℕ
+needle_at [] bytes = None
+needle_at (needle ∷ needles) bytes = if is_front needle bytes then Some (length needle) else needle_at needles bytes
+
+-- some needle stands in the bytes from place k on
+abbrev pub SomeStands : List (List ℕ) → List ℕ → ℕ → Type 0
+SomeStands needles bytes k = IsTrue (is_some (needle_at needles (drop k bytes)))
+
+-- a needle of that length stands here, or else the hit is a later one
+abbrev pub hit_or : ℕ → Option ℕ → Option (Range ℕ) → Option (Range ℕ)
+hit_or at (Some n) later = Some (places at n)
+hit_or at None later = later
+
+-- the least place at which a needle stands, counted from `at`, to the end of the first listed that stands there
+abbrev pub first_hit : List (List ℕ) → ℕ → List ℕ → Option (Range ℕ)
+first_hit needles at [] = None
+first_hit needles at (y ∷ bytes) = hit_or at (needle_at needles (y ∷ bytes)) (first_hit needles (at + 1) bytes)
+
+-- what a search finds: an empty needle stands at once
+abbrev pub hit : List (List ℕ) → List ℕ → Option (Range ℕ)
+hit needles bytes = if list_any is_empty needles then Some (places 0 0) else first_hit needles 0 bytes
+
+-- needles as data, as a list of their bytes
+abbrev pub needle_list : {L : Type 0} → (L → List ℕ) → Needles L → List (List ℕ)
+needle_list bytes (One a) = bytes a ∷ []
+needle_list bytes (Two a b) = bytes a ∷ bytes b ∷ []
+needle_list bytes (Three a b c) = bytes a ∷ bytes b ∷ bytes c ∷ []
+
+-- needles that are slices of bytes or texts
+abbrev pub bytes_of_needles : Needles (Bor (List ℕ)) → List (List ℕ)
+bytes_of_needles needles = needle_list (λ needle. needle.now) needles
+
+-- this needle stands in the bytes from place k on
+abbrev pub Stands : List ℕ → List ℕ → ℕ → Type 0
+Stands needle bytes k = IsFrontOf needle (drop k bytes)
+
+-- the needle of that number, counted from 0
+abbrev pub needle_of : List (List ℕ) → ℕ → List ℕ
+needle_of needles i = slice_index_or needles i []
+
+-- a needle stands at these places, none listed before it stands there, and none at all at a lesser place
+pub record IsFirstHit (needles : List (List ℕ)) (bytes : List ℕ) (r : Range ℕ) : Type 0 where
+  pub index : ℕ
+  pub listed : index < length needles
+  pub stands : Stands (needle_of needles index) bytes r.start
+  pub whole : r.end ≡ r.start + length (needle_of needles index)
+  pub first_listed : (i : ℕ) → i < index → ¬ Stands (needle_of needles i) bytes r.start
+  pub first_place : (i k : ℕ) → i < length needles → k < r.start → ¬ Stands (needle_of needles i) bytes k
+
+-- no needle stands anywhere
+abbrev pub StandsNowhere : List (List ℕ) → List ℕ → Type 0
+StandsNowhere needles bytes = (i k : ℕ) → i < length needles → ¬ Stands (needle_of needles i) bytes k
+
+-- each needle has that length
+abbrev pub have_length : ℕ → List (List ℕ) → Bool
+have_length n [] = true
+have_length n (needle ∷ needles) = (length needle == n) && have_length n needles
+
+-- all needles have one length
+abbrev pub have_one_length : List (List ℕ) → Bool
+have_one_length [] = true
+have_one_length (needle ∷ needles) = have_length (length needle) needles

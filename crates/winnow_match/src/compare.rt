@@ -1,0 +1,27 @@
+ghost use Rattle.std.specs.Prelude.{◌≡◌};
+ghost use Rattle.winnow_stream.specs.Source.{Source};
+ghost use Rattle.winnow_match.specs.declared.compare.CompareResult.{CompareResult};
+
+use winnow_stream::Stream;
+
+/// How a literal compares with the front of a stream.
+#[derive(Debug, Drop, PartialEq, Eq)]
+pub enum CompareResult {
+    /// The stream begins with the literal, which has this width
+    Ok(usize),
+    /// What remains is a front of the literal, and shorter: with more input it may be there
+    Incomplete,
+    /// The stream does not begin with the literal, whatever follows
+    Error,
+}
+
+/// A stream whose front is compared with a literal `T`.
+pub trait Compare<T>: Stream {
+    // What the comparison answers of a literal and of what remains.
+    ghost compared: { T → Source Self.Token → CompareResult };
+
+    /// How the literal compares with the front of the stream, which stays where it is.
+    fn compare(&self, t: T) -> CompareResult
+        requires { Self.valid self.now }
+        ensures { result ≡ compared t (Self.remaining self.now) };
+}

@@ -1,0 +1,80 @@
+ghost use Rattle.std.specs.Prelude.{◌≡◌, [], ◌∷◌};
+ghost use Rattle.std.specs.Char.{encode_utf8};
+ghost use Rattle.winnow_match.specs.Bytes.{bytes_of};
+ghost use Rattle.winnow_match.specs.Comparison.{comparison};
+
+use crate::{Compare, CompareResult};
+
+// How the literal compares with the front of the input, in one pass.
+#[tactic(auto, using(crate::proofs::lemmas::ComparisonLemmas::comparisons))]
+pub(crate) fn compare_front(input: &[u8], literal: &[u8]) -> CompareResult
+    ensures { result ≡ comparison literal.now input.now }
+{
+    if literal.len() <= input.len() {
+        if input.starts_with(literal) {
+            CompareResult::Ok(literal.len())
+        } else {
+            CompareResult::Error
+        }
+    } else if literal.starts_with(input) {
+        CompareResult::Incomplete
+    } else {
+        CompareResult::Error
+    }
+}
+
+#[tactic(auto, using(crate::proofs::lemmas::ByteLemmas::source_bytes))]
+impl<'i, 'l> Compare<&'l [u8]> for &'i [u8] {
+    ghost compared = { λ literal r. comparison literal.now (bytes_of r) };
+
+    fn compare(&self, literal: &'l [u8]) -> CompareResult {
+        compare_front(self, literal)
+    }
+}
+
+#[tactic(auto, using(crate::proofs::lemmas::ByteLemmas::source_bytes))]
+impl<'i, const LEN: usize> Compare<[u8; LEN]> for &'i [u8] {
+    ghost compared = { λ literal r. comparison literal (bytes_of r) };
+
+    fn compare(&self, literal: [u8; LEN]) -> CompareResult {
+        compare_front(self, &literal)
+    }
+}
+
+#[tactic(auto, using(crate::proofs::lemmas::ByteLemmas::source_bytes))]
+impl<'i, 'l, const LEN: usize> Compare<&'l [u8; LEN]> for &'i [u8] {
+    ghost compared = { λ literal r. comparison literal.now (bytes_of r) };
+
+    fn compare(&self, literal: &'l [u8; LEN]) -> CompareResult {
+        compare_front(self, literal)
+    }
+}
+
+#[tactic(auto, using(crate::proofs::lemmas::ByteLemmas::source_bytes))]
+impl<'i, 'l> Compare<&'l str> for &'i [u8] {
+    ghost compared = { λ literal r. comparison literal.now (bytes_of r) };
+
+    fn compare(&self, literal: &'l str) -> CompareResult {
+        compare_front(self, literal.as_bytes())
+    }
+}
+
+#[tactic(auto, using(crate::proofs::lemmas::ByteLemmas::source_bytes))]
+impl<'i> Compare<u8> for &'i [u8] {
+    ghost compared = { λ literal r. comparison (literal ∷ []) (bytes_of r) };
+
+    fn compare(&self, literal: u8) -> CompareResult {
+        compare_front(self, &[literal])
+    }
+}
+
+/// The character in its UTF-8 form.
+#[tactic(auto, using(crate::proofs::lemmas::ByteLemmas::source_bytes))]
+impl<'i> Compare<char> for &'i [u8] {
+    ghost compared = { λ literal r. comparison (encode_utf8 literal) (bytes_of r) };
+
+    fn compare(&self, literal: char) -> CompareResult {
+        let mut buffer = [0; 4];
+        compare_front(self, literal.encode_utf8(&mut buffer).as_bytes())
+    }
+}

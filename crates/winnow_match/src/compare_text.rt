@@ -1,0 +1,29 @@
+ghost use Rattle.std.specs.Prelude.{◌≡◌};
+ghost use Rattle.std.specs.Char.{encode_utf8};
+ghost use Rattle.winnow_match.specs.Bytes.{utf8_of};
+ghost use Rattle.winnow_match.specs.Comparison.{comparison};
+
+use crate::compare_bytes::compare_front;
+use crate::{Compare, CompareResult};
+
+#[tactic(auto, using(crate::proofs::lemmas::ByteLemmas::source_bytes))]
+impl<'i, 'l> Compare<&'l str> for &'i str {
+    ghost compared = { λ literal r. comparison literal.now (utf8_of r) };
+
+    fn compare(&self, literal: &'l str) -> CompareResult {
+        compare_front((*self).as_bytes(), literal.as_bytes())
+    }
+}
+
+#[tactic(auto, using(crate::proofs::lemmas::ByteLemmas::source_bytes))]
+impl<'i> Compare<char> for &'i str {
+    ghost compared = { λ literal r. comparison (encode_utf8 literal) (utf8_of r) };
+
+    fn compare(&self, literal: char) -> CompareResult {
+        let mut buffer = [0; 4];
+        compare_front(
+            (*self).as_bytes(),
+            literal.encode_utf8(&mut buffer).as_bytes(),
+        )
+    }
+}

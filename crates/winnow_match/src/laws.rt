@@ -1,0 +1,45 @@
+ghost use Rattle.std.specs.Prelude.{◌≡◌, ℕ, ◌-◌, ◌<◌, ◌≤◌, ◌↔◌, true, [], ◌++◌, List, length, Contains, IsOk, IsTrue};
+ghost use Rattle.std.specs.declared.ops.Range as range_declared;
+ghost use Rattle.winnow_stream.specs.Cursor.{places};
+ghost use Rattle.winnow_stream.specs.Shortage.{needed, offset_at};
+ghost use Rattle.winnow_stream.specs.Source.{Source};
+ghost use Rattle.winnow_match.specs.Comparison.{comparison, IsFrontOf};
+ghost use Rattle.winnow_match.specs.Search.{hit, have_one_length, IsFirstHit, StandsNowhere};
+ghost use Rattle.winnow_match.specs.declared.compare.CompareResult.{CompareResult};
+
+/// The law of comparison: it answers `Ok` where the bytes are the literal followed by something, `Incomplete` where they are
+/// a shorter front of it, and `Error` where neither goes on as the other. It does nothing when called: its contract is the
+/// law.
+pub fn compare_law()
+    ensures ok { (literal bytes : List ℕ) (n : ℕ) → ((comparison literal bytes ≡ CompareResult.Ok n) ↔ (IsFrontOf literal bytes × (n ≡ length literal))) }
+    ensures incomplete { (literal bytes : List ℕ) → ((comparison literal bytes ≡ CompareResult.Incomplete) ↔ (IsFrontOf bytes literal × (length bytes < length literal))) }
+    ensures error { (literal bytes : List ℕ) → ((comparison literal bytes ≡ CompareResult.Error) ↔ ((¬ IsFrontOf literal bytes) × (¬ IsFrontOf bytes literal))) }
+{}
+
+/// What a comparison decided stays under more input. It does nothing when called: its contract is the law.
+pub fn compare_more_law()
+    ensures ok { (literal bytes more : List ℕ) (n : ℕ) → comparison literal bytes ≡ CompareResult.Ok n → comparison literal (bytes ++ more) ≡ CompareResult.Ok n }
+    ensures error { (literal bytes more : List ℕ) → comparison literal bytes ≡ CompareResult.Error → comparison literal (bytes ++ more) ≡ CompareResult.Error }
+{}
+
+/// The law of search: an empty needle stands at once; else the answer is the least place at which some needle stands, to the
+/// end of the first listed that stands there, and `None` where none stands anywhere. It does nothing when called: its
+/// contract is the law.
+pub fn find_law()
+    ensures empty { (needles : List (List ℕ)) (bytes : List ℕ) → Contains needles [] → hit needles bytes ≡ Some (places 0 0) }
+    ensures some { (needles : List (List ℕ)) (bytes : List ℕ) (r : range_declared.Range ℕ) → ¬ Contains needles [] → ((hit needles bytes ≡ Some r) ↔ IsFirstHit needles bytes r) }
+    ensures none { (needles : List (List ℕ)) (bytes : List ℕ) → ¬ Contains needles [] → ((hit needles bytes ≡ None) ↔ StandsNowhere needles bytes) }
+{}
+
+/// Needles of one length, once found, are found at the same place under more input. It does nothing when called: its contract
+/// is the law.
+pub fn find_more_law()
+    ensures { (needles : List (List ℕ)) (bytes more : List ℕ) (r : range_declared.Range ℕ) → IsTrue (have_one_length needles) → hit needles bytes ≡ Some r → hit needles (bytes ++ more) ≡ Some r }
+{}
+
+/// The law of a counted shortage: a stream that refuses for k tokens still refuses with fewer than k more, for those that
+/// are missing then, and answers with k or more. It does nothing when called: its contract is the law.
+pub fn shortage_law<T>()
+    ensures refused { (r more : Source T) (n k : ℕ) → offset_at true r n ≡ Err (needed k) → length more < k → offset_at true (r ++ more) n ≡ Err (needed (k - length more)) }
+    ensures answered { (r more : Source T) (n k : ℕ) → offset_at true r n ≡ Err (needed k) → k ≤ length more → IsOk (offset_at true (r ++ more) n) }
+{}

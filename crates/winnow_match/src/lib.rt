@@ -1,0 +1,22 @@
+//! Literals at the front of a stream, and the first place of a needle in it.
+//!
+//! [`Compare`] says how a stream begins, [`FindSlice`] where one of up to three needles first stands. Both are stated over the
+//! bytes that remain, a character in its UTF-8 form, and neither takes memory.
+#![tactic(auto)]
+
+mod compare;
+mod compare_bytes;
+mod compare_text;
+mod find_bytes;
+mod find_slice;
+mod find_text;
+mod finding;
+mod laws;
+mod needles;
+#[cfg(test)]
+mod tests;
+
+pub use compare::{Compare, CompareResult};
+pub use find_slice::FindSlice;
+pub use laws::{compare_law, compare_more_law, find_law, find_more_law, shortage_law};
+pub use needles::Needles;

@@ -1,0 +1,70 @@
+ghost use Rattle.std.specs.Prelude.{◌≡◌, ◌==◌, Bool, false, ⊤};
+
+use crate::AsChar;
+
+/// A set of tokens.
+///
+/// A byte in a set stands for the character of its number, and so does a byte that is asked for.
+pub trait ContainsToken<T> {
+    // Whether the set may be asked.
+    ghost can_hold: { Self → Type 0 } = { λ _. ⊤ };
+
+    // What it may answer of a token.
+    ghost tells: { Self → T → Bool → Type 0 };
+
+    /// Whether the token is in the set.
+    fn contains_token(&self, token: T) -> bool
+        requires { can_hold self.now }
+        ensures { tells self.now token result };
+}
+
+/// The one byte.
+impl ContainsToken<u8> for u8 {
+    ghost tells = { λ byte token b. b ≡ (byte == token) };
+
+    fn contains_token(&self, token: u8) -> bool {
+        *self == token
+    }
+}
+
+impl ContainsToken<&u8> for u8 {
+    ghost tells = { λ byte token b. b ≡ (byte == token.now) };
+
+    fn contains_token(&self, token: &u8) -> bool {
+        *self == *token
+    }
+}
+
+impl ContainsToken<char> for u8 {
+    ghost tells = { λ byte token b. b ≡ (byte == token) };
+
+    fn contains_token(&self, token: char) -> bool {
+        self.as_char() == token
+    }
+}
+
+impl ContainsToken<&char> for u8 {
+    ghost tells = { λ byte token b. b ≡ (byte == token.now) };
+
+    fn contains_token(&self, token: &char) -> bool {
+        self.as_char() == *token
+    }
+}
+
+/// The one character.
+impl<T: AsChar> ContainsToken<T> for char {
+    ghost tells = { λ c token b. b ≡ (c == T.code token) };
+
+    fn contains_token(&self, token: T) -> bool {
+        *self == token.as_char()
+    }
+}
+
+/// No token.
+impl<T: Drop> ContainsToken<T> for () {
+    ghost tells = { λ _ _ b. b ≡ false };
+
+    fn contains_token(&self, _token: T) -> bool {
+        false
+    }
+}
