@@ -24,6 +24,14 @@ fn report(rt: &impl Print, name: &str, outcome: &str) -> io::Result<()> {
 
 fn main(rt: HostRuntime) -> io::Result<()> {
     let alloc: Global = rt.alloc();
-    report(&rt, "run", outcome(scripts::run_script(alloc), scripts::run_script(alloc)))?;
-    report(&rt, "run_and_reset", outcome(scripts::look_ahead(alloc), scripts::look_ahead(alloc)))
+    report(
+        &rt,
+        "run",
+        outcome(scripts::run_script(alloc), scripts::run_script(alloc)),
+    )?;
+    report(
+        &rt,
+        "run_and_reset",
+        outcome(scripts::look_ahead(alloc), scripts::look_ahead(alloc)),
+    )
 }

@@ -1,5 +1,5 @@
 -- A list of code units as a source: each is a token of width 2.
-use Rattle.std.proofs.Common.{◌≡◌, ℕ, ◌+◌, ◌*◌, ◌≤◌, List, [], ◌∷◌, length, map, refl, arith}
+use Rattle.std.proofs.Common.{◌≡◌, ◌*◌, List, [], ◌∷◌, length, map, refl, arith}
 use Rattle.winnow_stream.specs.Source.{Source, width, HasWidths}
 
 abbrev pub pair_source : {T : Type 0} → List T → Source T

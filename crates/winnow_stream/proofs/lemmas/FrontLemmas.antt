@@ -109,9 +109,6 @@ module _ {A : Type 0} where
   pub width-back : (r : List (A × ℕ)) (n : ℕ) → is_offset r n ≡ true → n + width (back r n) ≡ width r
   width-back r n h = omega (arith, width-front r n h, width-take_drop r (count_to r n))
 
-  pub width-front_le : (r : List (A × ℕ)) (n : ℕ) → width (front r n) ≤ width r
-  width-front_le r n = omega (arith, width-take_drop r (count_to r n))
-
   pub width-drop_le : (r : List (A × ℕ)) (k : ℕ) → width (drop k r) ≤ width r
   width-drop_le r k = omega (arith, width-take_drop r k)
 

@@ -1,13 +1,13 @@
 -- Tokens of width 2: an offset is twice a number of them. All of it follows from the lemmas on fronts of any widths.
-use Rattle.std.proofs.Common.{◌≡◌, ℕ, ◌+◌, ◌-◌, ◌*◌, ◌/◌, ◌%◌, ◌≤◌, ◌<◌, ◌≢◌, inl, inr, leb, Bool, true, false, ◌&&◌, List, map, length, take, drop, refl, ap, sym, ◌∙◌, arith, IsTrue, length-take, Ok, Err, subst}
-use Rattle.std.specs.Prelude.{nat_le, is_some}
+use Rattle.std.proofs.Common.{◌≡◌, ℕ, ◌*◌, ◌/◌, ◌%◌, ◌≤◌, ◌<◌, ◌≢◌, inl, inr, leb, Bool, true, false, List, length, take, drop, refl, ap, sym, ◌∙◌, arith, length-take, Ok, Err, subst}
+use Rattle.std.specs.Prelude.{is_some}
 use Rattle.std.proofs.lemmas.Bool.Decides.{leb_tells}
 use Rattle.std.proofs.lemmas.List.{take-map, drop-map, length-map}
 use Rattle.winnow_stream.specs.declared.needed.Needed.TheVariants.{Unknown}
 use Rattle.winnow_stream.specs.Source.{width}
 use Rattle.winnow_stream.specs.Front.{is_offset, count_to, front, back}
 use Rattle.winnow_stream.specs.Shortage.{offset_at}
-use Rattle.winnow_stream.proofs.lemmas.FrontLemmas.{front_count-place, count_to-place, count_to-le, width-front, front-whole}
+use Rattle.winnow_stream.proofs.lemmas.FrontLemmas.{front_count-place, count_to-le, width-front, front-whole}
 use Rattle.winnow_stream.proofs.lemmas.ShortageLemmas.{offset_at-fits, offset_at-silent}
 use Rattle.winnow_tests.specs.PairSource.{pair_source, width-pair_source, HasWidths-pair_source}
 
@@ -26,10 +26,6 @@ module _ {T : Type 0} (xs : List T) where
   pub is_offset-double : (k : ℕ) → k ≤ length xs → is_offset (pair_source xs) (2 * k) ≡ true
   is_offset-double k h =
       subst (λ n. is_offset (pair_source xs) n ≡ true) (width-take_pairs k h) (ap is_some (front_count-place (pair_source xs) k (HasWidths-pair_source xs) (omega (arith, length-pair_source))))
-
-  pub count_to-double : (k : ℕ) → k ≤ length xs → count_to (pair_source xs) (2 * k) ≡ k
-  count_to-double k h =
-      subst (λ n. count_to (pair_source xs) n ≡ k) (width-take_pairs k h) (count_to-place (pair_source xs) k (HasWidths-pair_source xs) (omega (arith, length-pair_source)))
 
   -- an offset is twice a number of tokens
   pub double-from_is_offset : (n : ℕ) → is_offset (pair_source xs) n ≡ true → (2 * count_to (pair_source xs) n ≡ n) × (count_to (pair_source xs) n ≤ length xs)
