@@ -1,0 +1,7 @@
+pub mod Mode
+pub mod ModeLemmas
+pub mod ModeText
+pub mod Or
+pub mod Pick
+pub mod Explanation
+pub mod Value
