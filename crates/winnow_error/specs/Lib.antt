@@ -4,4 +4,5 @@ pub mod ModeText
 pub mod Or
 pub mod Pick
 pub mod Explanation
-pub mod Value
+pub mod ContextText
+pub mod Line

@@ -23,6 +23,12 @@ impl<'a, C> ContextItems<'a, C> {
     {
         ContextItems { rest: contexts }
     }
+
+    pub(crate) fn as_slice(&self) -> &'a [C]
+        ensures { result.now ≡ self.now }
+    {
+        self.rest
+    }
 }
 
 impl<'a, C> Iterator for ContextItems<'a, C> {

@@ -6,6 +6,7 @@ mod associative_or;
 mod combining;
 mod context;
 mod context_items;
+mod context_text;
 mod empty;
 mod error_convert;
 mod from_external;

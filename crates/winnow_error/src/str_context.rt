@@ -1,5 +1,5 @@
 ghost use Rattle.std.specs.Prelude.{◌≡◌, ◌++◌, Some, codes};
-ghost use Rattle.winnow_error.specs.Value.{value_text, context_text, char_text, escape};
+ghost use Rattle.winnow_error.specs.ContextText.{value_text, context_text, char_text, escape};
 ghost use Rattle.winnow_error.specs.declared.str_context.StrContextValue.TheVariants.{CharLiteral, StringLiteral};
 
 use std::fmt;
