@@ -43,4 +43,8 @@ impl<'a, C> Iterator for ContextItems<'a, C> {
         self.rest = rest;
         Some(first)
     }
+
+    fn size_hint(&self) -> (usize, Option<usize>) {
+        (self.rest.len(), Some(self.rest.len()))
+    }
 }

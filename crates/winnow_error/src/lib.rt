@@ -16,6 +16,7 @@ mod laws;
 mod modal_error;
 mod mode;
 mod parser_error;
+mod result;
 mod str_context;
 mod unit;
 
@@ -33,5 +34,6 @@ pub use laws::{bracket_law, mode_law, or_law};
 pub use modal_error::ModalError;
 pub use mode::ErrMode;
 pub use parser_error::ParserError;
+pub use result::{ModalResult, Result};
 pub use str_context::{StrContext, StrContextValue};
 pub use winnow_stream::Needed;

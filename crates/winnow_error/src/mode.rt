@@ -1,4 +1,4 @@
-ghost use Rattle.std.specs.Prelude.{◌≡◌, is_some, IfOk, OnErr};
+ghost use Rattle.std.specs.Prelude.{◌≡◌, is_some, IfOk, OnErr, IsNone, IsTrue};
 ghost use Rattle.winnow_error.specs.Mode.{mode_needs, mode_backtracks, mode_inner, mode_cut, mode_backtrack, mode_map, mode_joined, IsBacktrackOf, IsCutOf, IfInner, ModeMaps, ModeAppends, ModeOr};
 ghost use Rattle.winnow_error.specs.ModeText.{mode_text};
 ghost use Rattle.winnow_error.specs.declared.mode.ErrMode.TheVariants.{Incomplete};
@@ -70,7 +70,7 @@ impl<E> ErrMode<E> {
     where
         E: ErrorConvert<E2>,
         ensures ok { IfOk result (ModeMaps E.convert_gives self) }
-        ensures err { OnErr result E.convert_refusable }
+        ensures err { OnErr result (IsNone (mode_needs self) × E.convert_refusable) }
     {
         match self {
             ErrMode::Incomplete(needed) => Ok(ErrMode::Incomplete(needed)),
@@ -162,7 +162,10 @@ impl<I: Stream, E: ParserError<I>> ParserError<I> for ErrMode<E> {
         }
     }
 
-    fn or(self, alloc: Global, other: Self) -> Result<Self, AllocError> {
+    fn or(self, alloc: Global, other: Self) -> Result<Self, AllocError>
+        ensures ok { IfOk result (ModeOr E.or_gives self other) }
+        ensures err { OnErr result (IsTrue (mode_backtracks self) × IsTrue (mode_backtracks other) × E.or_refusable) }
+    {
         match self {
             ErrMode::Incomplete(needed) => Ok(ErrMode::Incomplete(needed)),
             ErrMode::Cut(first) => match other {
@@ -235,7 +238,12 @@ impl<I: Stream, C: Drop, E: AddContext<I, C>> AddContext<I, C> for ErrMode<E> {
         input: &I,
         token_start: &I::Checkpoint,
         context: C,
-    ) -> Result<Self, AllocError> {
+    ) -> Result<Self, AllocError>
+        requires valid { I.valid input.now }
+        requires valid_checkpoint { I.valid_checkpoint token_start.now }
+        ensures ok { IfOk result (ModeMaps (λ a. E.add_context_gives a input.now token_start.now context) self) }
+        ensures err { OnErr result (IsNone (mode_needs self) × E.add_context_refusable) }
+    {
         match self {
             ErrMode::Incomplete(needed) => Ok(ErrMode::Incomplete(needed)),
             ErrMode::Backtrack(error) => {
@@ -287,7 +295,10 @@ impl<E: ErrorConvert<E2>, E2> ErrorConvert<ErrMode<E2>> for ErrMode<E> {
 
     ghost convert_refusable = { E.convert_refusable };
 
-    fn convert(self, alloc: Global) -> Result<ErrMode<E2>, AllocError> {
+    fn convert(self, alloc: Global) -> Result<ErrMode<E2>, AllocError>
+        ensures ok { IfOk result (ModeMaps E.convert_gives self) }
+        ensures err { OnErr result (IsNone (mode_needs self) × E.convert_refusable) }
+    {
         self.convert(alloc)
     }
 }
