@@ -13,10 +13,13 @@ use std::fmt;
 use winnow_stream::{Needed, Stream};
 
 /// An error, and how a parser that tries alternatives is to take it.
+///
+/// It is written `ErrMode<E>`: the second parameter is always [`Needed`], and a parameter only so that a mode of an error that
+/// borrows its input can be passed about.
 #[derive(Clone, Copy, Debug, PartialEq, Eq, Drop)]
-pub enum ErrMode<E> {
+pub enum ErrMode<E, N = Needed> {
     /// More input is needed to tell.
-    Incomplete(Needed),
+    Incomplete(N),
     /// The parser failed, and another alternative may be tried.
     Backtrack(E),
     /// The parser was the right one and failed: no other alternative is tried.

@@ -3,21 +3,20 @@ use Rattle.std.proofs.Common.{◌≡◌, Option, Some, None, List, [], ◌∷◌
 use Rattle.std.specs.Prelude.{IsSome, unwrap_or}
 use Rattle.std.specs.Option.{option_or}
 use Rattle.winnow_stream.specs.declared.needed.Needed.{Needed}
-use Rattle.winnow_error.specs.declared.mode.ErrMode.{ErrMode}
 use Rattle.winnow_error.specs.declared.mode.ErrMode.TheVariants.{Incomplete, Backtrack, Cut}
 use Rattle.winnow_error.specs.declared.combining.OrTree.{OrTree, One, Both'}
-use Rattle.winnow_error.specs.Mode.{ModeOr, mode_joined}
+use Rattle.winnow_error.specs.Mode.{Mode, ModeOr, mode_joined}
 use Rattle.winnow_error.specs.ModeLemmas.{ModeOr-joined, mode_joined-associative}
 use Rattle.winnow_error.specs.Or.{GivesOnly, IsAssociative}
 use Rattle.winnow_error.specs.Pick.{leaves, Bracketed, first_needed, first_cut, backtracked, join_all, first_of, pick, HasHard, CombineAlike}
 
 -- what stands for two lists, of what stands for each
-abbrev option_joined : {E : Type 0} → (E → E → E) → Option (ErrMode E) → Option (ErrMode E) → Option (ErrMode E)
+abbrev option_joined : {E : Type 0} → (E → E → E) → Option (Mode E) → Option (Mode E) → Option (Mode E)
 option_joined join None y = y
 option_joined join (Some a) None = Some a
 option_joined join (Some a) (Some b) = Some (mode_joined join a b)
 
-option_joined-associative : {E : Type 0} (join : E → E → E) → IsAssociative join → (x y z : Option (ErrMode E)) → option_joined join (option_joined join x y) z ≡ option_joined join x (option_joined join y z)
+option_joined-associative : {E : Type 0} (join : E → E → E) → IsAssociative join → (x y z : Option (Mode E)) → option_joined join (option_joined join x y) z ≡ option_joined join x (option_joined join y z)
 option_joined-associative join h None y z = refl
 option_joined-associative join h (Some a) None z = refl
 option_joined-associative join h (Some a) (Some b) None = refl
@@ -27,7 +26,7 @@ fold-joined : {E : Type 0} (join : E → E → E) → IsAssociative join → (a 
 fold-joined join h a b [] = refl
 fold-joined join h a b (e ∷ es) = ap (λ x. fold join x es) (h a b e) ∙ fold-joined join h a (join b e) es
 
-first_of-incomplete : {E : Type 0} (join : E → E → E) (n : Needed) (y : Option (ErrMode E)) → Some (Incomplete n) ≡ option_joined join (Some (Incomplete n)) y
+first_of-incomplete : {E : Type 0} (join : E → E → E) (n : Needed) (y : Option (Mode E)) → Some (Incomplete n) ≡ option_joined join (Some (Incomplete n)) y
 first_of-incomplete join n None = refl
 first_of-incomplete join n (Some b) = refl
 
@@ -43,38 +42,38 @@ first_of-backtrack join h e None (Some d) es = refl
 first_of-backtrack join h e None None [] = refl
 first_of-backtrack join h e None None (x ∷ es) = ap (λ v. Some (Backtrack v)) (fold-joined join h e x es)
 
-pick-cons : {E : Type 0} (join : E → E → E) → IsAssociative join → (e : ErrMode E) (es : List (ErrMode E)) → pick join (e ∷ es) ≡ option_joined join (Some e) (pick join es)
+pick-cons : {E : Type 0} (join : E → E → E) → IsAssociative join → (e : Mode E) (es : List (Mode E)) → pick join (e ∷ es) ≡ option_joined join (Some e) (pick join es)
 pick-cons join h (Incomplete n) es = first_of-incomplete join n (pick join es)
 pick-cons join h (Cut e) es = first_of-cut join e (first_needed es) (first_cut es) (join_all join (backtracked es)) _
 pick-cons join h (Backtrack e) es = first_of-backtrack join h e (first_needed es) (first_cut es) (backtracked es)
 
-pick-append : {E : Type 0} (join : E → E → E) → IsAssociative join → (xs ys : List (ErrMode E)) → pick join (xs ++ ys) ≡ option_joined join (pick join xs) (pick join ys)
+pick-append : {E : Type 0} (join : E → E → E) → IsAssociative join → (xs ys : List (Mode E)) → pick join (xs ++ ys) ≡ option_joined join (pick join xs) (pick join ys)
 pick-append join h [] ys = refl
 pick-append join h (x ∷ xs) ys =
     pick-cons join h x (xs ++ ys) ∙ ap (option_joined join (Some x)) (pick-append join h xs ys) ∙ sym (option_joined-associative join h (Some x) (pick join xs) (pick join ys)) ∙ ap (λ o. option_joined join o (pick join ys)) (sym (pick-cons join h x xs))
 
-pick-one : {E : Type 0} (join : E → E → E) (e : ErrMode E) → pick join (e ∷ []) ≡ Some e
+pick-one : {E : Type 0} (join : E → E → E) (e : Mode E) → pick join (e ∷ []) ≡ Some e
 pick-one join (Incomplete n) = refl
 pick-one join (Cut e) = refl
 pick-one join (Backtrack e) = refl
 
 -- where the inner `or` is an associative function, the tree's error is the pick of its leaves
-pub pick-leaves : {E : Type 0} (gives : E → E → E → Type 0) (join : E → E → E) → GivesOnly gives join → IsAssociative join → (t : OrTree (ErrMode E)) (r : ErrMode E) → Bracketed (ModeOr gives) t r → pick join (leaves t) ≡ Some r
+pub pick-leaves : {E : Type 0} (gives : E → E → E → Type 0) (join : E → E → E) → GivesOnly gives join → IsAssociative join → (t : OrTree (Mode E)) (r : Mode E) → Bracketed (ModeOr gives) t r → pick join (leaves t) ≡ Some r
 pick-leaves gives join only h (One e) r w = pick-one join e ∙ ap Some (sym w)
 pick-leaves gives join only h (Both' p left q right) r w =
     pick-append join h (leaves left) (leaves right) ∙ ap (λ o. option_joined join o (pick join (leaves right))) (pick-leaves gives join only h left w.0 w.1.1.0) ∙ ap (option_joined join (Some w.0)) (pick-leaves gives join only h right w.1.0 w.1.1.1) ∙ ap Some (sym (ModeOr-joined gives join only w.0 w.1.0 r w.1.1.2))
 
 -- the error, if it is no `Backtrack`
-abbrev hard_of : {E : Type 0} → ErrMode E → Option (ErrMode E)
+abbrev hard_of : {E : Type 0} → Mode E → Option (Mode E)
 hard_of (Incomplete n) = Some (Incomplete n)
 hard_of (Cut e) = Some (Cut e)
 hard_of (Backtrack e) = None
 
 -- the first `Incomplete`, else the first `Cut`
-abbrev first_hard : {E : Type 0} → List (ErrMode E) → Option (ErrMode E)
+abbrev first_hard : {E : Type 0} → List (Mode E) → Option (Mode E)
 first_hard es = first_of (first_needed es) (first_cut es) None
 
-abbrev hard_joined : {E : Type 0} → Option (ErrMode E) → Option (ErrMode E) → Option (ErrMode E)
+abbrev hard_joined : {E : Type 0} → Option (Mode E) → Option (Mode E) → Option (Mode E)
 hard_joined None y = y
 hard_joined (Some (Incomplete n)) y = Some (Incomplete n)
 hard_joined (Some (Cut e)) (Some (Incomplete n)) = Some (Incomplete n)
@@ -90,28 +89,28 @@ first_of-hard None None (Some e) (Some d) = refl
 first_of-hard None None (Some e) None = refl
 first_of-hard None i' None c' = refl
 
-first_needed-append : {E : Type 0} (xs ys : List (ErrMode E)) → first_needed (xs ++ ys) ≡ option_or (first_needed xs) (first_needed ys)
+first_needed-append : {E : Type 0} (xs ys : List (Mode E)) → first_needed (xs ++ ys) ≡ option_or (first_needed xs) (first_needed ys)
 first_needed-append [] ys = refl
 first_needed-append (Incomplete n ∷ xs) ys = refl
 first_needed-append (Backtrack e ∷ xs) ys = first_needed-append xs ys
 first_needed-append (Cut e ∷ xs) ys = first_needed-append xs ys
 
-first_cut-append : {E : Type 0} (xs ys : List (ErrMode E)) → first_cut (xs ++ ys) ≡ option_or (first_cut xs) (first_cut ys)
+first_cut-append : {E : Type 0} (xs ys : List (Mode E)) → first_cut (xs ++ ys) ≡ option_or (first_cut xs) (first_cut ys)
 first_cut-append [] ys = refl
 first_cut-append (Incomplete n ∷ xs) ys = first_cut-append xs ys
 first_cut-append (Backtrack e ∷ xs) ys = first_cut-append xs ys
 first_cut-append (Cut e ∷ xs) ys = refl
 
-first_hard-append : {E : Type 0} (xs ys : List (ErrMode E)) → first_hard (xs ++ ys) ≡ hard_joined (first_hard xs) (first_hard ys)
+first_hard-append : {E : Type 0} (xs ys : List (Mode E)) → first_hard (xs ++ ys) ≡ hard_joined (first_hard xs) (first_hard ys)
 first_hard-append xs ys =
     ap (λ i. first_of i (first_cut (xs ++ ys)) None) (first_needed-append xs ys) ∙ ap (λ c. first_of (option_or (first_needed xs) (first_needed ys)) c None) (first_cut-append xs ys) ∙ sym (first_of-hard (first_needed xs) (first_needed ys) (first_cut xs) (first_cut ys))
 
-first_hard-one : {E : Type 0} (e : ErrMode E) → first_hard (e ∷ []) ≡ hard_of e
+first_hard-one : {E : Type 0} (e : Mode E) → first_hard (e ∷ []) ≡ hard_of e
 first_hard-one (Incomplete n) = refl
 first_hard-one (Cut e) = refl
 first_hard-one (Backtrack e) = refl
 
-hard_of-joined : {E : Type 0} (gives : E → E → E → Type 0) (a b r : ErrMode E) → ModeOr gives a b r → hard_of r ≡ hard_joined (hard_of a) (hard_of b)
+hard_of-joined : {E : Type 0} (gives : E → E → E → Type 0) (a b r : Mode E) → ModeOr gives a b r → hard_of r ≡ hard_joined (hard_of a) (hard_of b)
 hard_of-joined gives (Backtrack a) (Backtrack b) (Backtrack r) w = refl
 hard_of-joined gives (Backtrack a) (Backtrack b) (Incomplete n) w = absurd w
 hard_of-joined gives (Backtrack a) (Backtrack b) (Cut r) w = absurd w
@@ -122,12 +121,12 @@ hard_of-joined gives (Cut a) (Incomplete n) r w = ap hard_of w
 hard_of-joined gives (Cut a) (Backtrack b) r w = ap hard_of w
 hard_of-joined gives (Cut a) (Cut b) r w = ap hard_of w
 
-first_hard-leaves : {E : Type 0} (gives : E → E → E → Type 0) (t : OrTree (ErrMode E)) (r : ErrMode E) → Bracketed (ModeOr gives) t r → first_hard (leaves t) ≡ hard_of r
+first_hard-leaves : {E : Type 0} (gives : E → E → E → Type 0) (t : OrTree (Mode E)) (r : Mode E) → Bracketed (ModeOr gives) t r → first_hard (leaves t) ≡ hard_of r
 first_hard-leaves gives (One e) r w = first_hard-one e ∙ ap hard_of (sym w)
 first_hard-leaves gives (Both' p left q right) r w =
     first_hard-append (leaves left) (leaves right) ∙ ap (λ o. hard_joined o (first_hard (leaves right))) (first_hard-leaves gives left w.0 w.1.1.0) ∙ ap (hard_joined (hard_of w.0)) (first_hard-leaves gives right w.1.0 w.1.1.1) ∙ sym (hard_of-joined gives w.0 w.1.0 r w.1.1.2)
 
-HasHard-first_hard : {E : Type 0} (es : List (ErrMode E)) → HasHard es → IsSome (first_hard es)
+HasHard-first_hard : {E : Type 0} (es : List (Mode E)) → HasHard es → IsSome (first_hard es)
 HasHard-first_hard [] h = absurd h
 HasHard-first_hard (Incomplete n ∷ es) h = refl
 HasHard-first_hard (Backtrack e ∷ es) h = HasHard-first_hard es h
@@ -143,29 +142,29 @@ first_of-some (Some n) c b h = refl
 first_of-some None (Some e) b h = refl
 first_of-some None None b h = cc
 
-hard_of-some : {E : Type 0} (r : ErrMode E) → IsSome (hard_of r) → hard_of r ≡ Some r
+hard_of-some : {E : Type 0} (r : Mode E) → IsSome (hard_of r) → hard_of r ≡ Some r
 hard_of-some (Incomplete n) h = refl
 hard_of-some (Cut e) h = refl
 hard_of-some (Backtrack e) h = cc
 
 -- where some leaf is no `Backtrack`, the tree's error is the pick of its leaves, whatever the inner `or`
-pub pick-hard : {E : Type 0} (gives : E → E → E → Type 0) (join : E → E → E) (t : OrTree (ErrMode E)) (r : ErrMode E) → HasHard (leaves t) → Bracketed (ModeOr gives) t r → pick join (leaves t) ≡ Some r
+pub pick-hard : {E : Type 0} (gives : E → E → E → Type 0) (join : E → E → E) (t : OrTree (Mode E)) (r : Mode E) → HasHard (leaves t) → Bracketed (ModeOr gives) t r → pick join (leaves t) ≡ Some r
 pick-hard gives join t r h w =
     let some = HasHard-first_hard (leaves t) h in
     let is_hard = first_hard-leaves gives t r w in
     first_of-some (first_needed (leaves t)) (first_cut (leaves t)) (join_all join (backtracked (leaves t))) some ∙ is_hard ∙ hard_of-some r (subst IsSome is_hard some)
 
 -- two errors that are picked of the same list are one
-pick-same : {E : Type 0} (join : E → E → E) (xs ys : List (ErrMode E)) (a b : ErrMode E) → xs ≡ ys → pick join xs ≡ Some a → pick join ys ≡ Some b → a ≡ b
+pick-same : {E : Type 0} (join : E → E → E) (xs ys : List (Mode E)) (a b : Mode E) → xs ≡ ys → pick join xs ≡ Some a → pick join ys ≡ Some b → a ≡ b
 pick-same join xs ys a b e p q = some_inj (sym p ∙ ap (pick join) e ∙ q)
   where
     some_inj : {A : Type 0} {x y : A} → Some x ≡ Some y → x ≡ y
     some_inj {A} {x} {y} h = ap (λ o. unwrap_or o x) h
 
 -- trees of the same leaves have one error, where the inner `or` is an associative function
-pub leaves-alike : {E : Type 0} (gives : E → E → E → Type 0) (join : E → E → E) (s t : OrTree (ErrMode E)) → GivesOnly gives join → IsAssociative join → leaves s ≡ leaves t → CombineAlike (ModeOr gives) s t
+pub leaves-alike : {E : Type 0} (gives : E → E → E → Type 0) (join : E → E → E) (s t : OrTree (Mode E)) → GivesOnly gives join → IsAssociative join → leaves s ≡ leaves t → CombineAlike (ModeOr gives) s t
 leaves-alike gives join s t only h e a b v w = pick-same join (leaves s) (leaves t) a b e (pick-leaves gives join only h s a v) (pick-leaves gives join only h t b w)
 
 -- and whatever the inner `or`, where some leaf is no `Backtrack`
-pub hard_leaves-alike : {E : Type 0} (gives : E → E → E → Type 0) (s t : OrTree (ErrMode E)) → HasHard (leaves s) → leaves s ≡ leaves t → CombineAlike (ModeOr gives) s t
+pub hard_leaves-alike : {E : Type 0} (gives : E → E → E → Type 0) (s t : OrTree (Mode E)) → HasHard (leaves s) → leaves s ≡ leaves t → CombineAlike (ModeOr gives) s t
 hard_leaves-alike gives s t h e a b v w = pick-same (λ x _. x) (leaves s) (leaves t) a b e (pick-hard gives (λ x _. x) s a h v) (pick-hard gives (λ x _. x) t b (subst HasHard e h) w)
