@@ -154,14 +154,18 @@ impl<I: Stream, E: ParserError<I>> ParserError<I> for ErrMode<E> {
         alloc: Global,
         input: &I,
         token_start: &I::Checkpoint,
-    ) -> Result<Self, AllocError> {
+    ) -> Result<Self, AllocError>
+        requires valid { I.valid input.now }
+        requires valid_checkpoint { I.valid_checkpoint token_start.now }
+        ensures ok { IfOk result (ModeAppends (λ a. E.append_gives a input.now token_start.now) self) }
+        ensures err { OnErr result (IsTrue (mode_backtracks self) × E.append_refusable) }
+    {
         match self {
-            ErrMode::Backtrack(error) => Ok(ErrMode::Backtrack(error.append(
-                alloc,
-                input,
-                token_start,
-            )?)),
-            hard => Ok(hard),
+            ErrMode::Backtrack(error) => {
+                let appended = error.append(alloc, input, token_start)?;
+                Ok(ErrMode::Backtrack(appended))
+            }
+            other => Ok(other),
         }
     }
 
@@ -170,9 +174,9 @@ impl<I: Stream, E: ParserError<I>> ParserError<I> for ErrMode<E> {
         ensures err { OnErr result (IsTrue (mode_backtracks self) × IsTrue (mode_backtracks other) × E.or_refusable) }
     {
         match self {
-            ErrMode::Incomplete(needed) => Ok(ErrMode::Incomplete(needed)),
+            ErrMode::Incomplete(first) => Ok(ErrMode::Incomplete(first)),
             ErrMode::Cut(first) => match other {
-                ErrMode::Incomplete(needed) => Ok(ErrMode::Incomplete(needed)),
+                ErrMode::Incomplete(second) => Ok(ErrMode::Incomplete(second)),
                 _ => Ok(ErrMode::Cut(first)),
             },
             ErrMode::Backtrack(first) => match other {
@@ -250,12 +254,12 @@ impl<I: Stream, C: Drop, E: AddContext<I, C>> AddContext<I, C> for ErrMode<E> {
         match self {
             ErrMode::Incomplete(needed) => Ok(ErrMode::Incomplete(needed)),
             ErrMode::Backtrack(error) => {
-                let told = error.add_context(alloc, input, token_start, context)?;
-                Ok(ErrMode::Backtrack(told))
+                let backtrack = error.add_context(alloc, input, token_start, context)?;
+                Ok(ErrMode::Backtrack(backtrack))
             }
             ErrMode::Cut(error) => {
-                let told = error.add_context(alloc, input, token_start, context)?;
-                Ok(ErrMode::Cut(told))
+                let cut = error.add_context(alloc, input, token_start, context)?;
+                Ok(ErrMode::Cut(cut))
             }
         }
     }

@@ -4,6 +4,7 @@
 //! the same lines: a call that is refused answers so, leaves what its contract says, and answers rightly when made again.
 #![tactic(auto)]
 
+mod errors;
 mod scripts;
 
 use std::alloc::{AllocError, Global};
@@ -24,6 +25,44 @@ fn report(rt: &impl Print, name: &str, outcome: &str) -> io::Result<()> {
 
 fn main(rt: HostRuntime) -> io::Result<()> {
     let alloc: Global = rt.alloc();
-    report(&rt, "run", outcome(scripts::run_script(alloc), scripts::run_script(alloc)))?;
-    report(&rt, "run_and_reset", outcome(scripts::look_ahead(alloc), scripts::look_ahead(alloc)))
+    report(
+        &rt,
+        "run",
+        outcome(scripts::run_script(alloc), scripts::run_script(alloc)),
+    )?;
+    report(
+        &rt,
+        "run_and_reset",
+        outcome(scripts::look_ahead(alloc), scripts::look_ahead(alloc)),
+    )?;
+    report(
+        &rt,
+        "push",
+        outcome(errors::push(alloc), errors::push(alloc)),
+    )?;
+    report(
+        &rt,
+        "extend",
+        outcome(errors::extend(alloc), errors::extend(alloc)),
+    )?;
+    report(
+        &rt,
+        "clone",
+        outcome(errors::clone(alloc), errors::clone(alloc)),
+    )?;
+    report(
+        &rt,
+        "add_context",
+        outcome(errors::add_context(alloc), errors::add_context(alloc)),
+    )?;
+    report(
+        &rt,
+        "into_owned",
+        outcome(errors::into_owned(alloc), errors::into_owned(alloc)),
+    )?;
+    report(
+        &rt,
+        "convert",
+        outcome(errors::convert(alloc), errors::convert(alloc)),
+    )
 }

@@ -1,11 +1,11 @@
 use std::alloc::{AllocError, Global};
-use winnow_stream::{NoSet, Step, run, run_and_reset};
-
 use winnow_stream::Step::{Each, Finish, Mark, Next, Reset};
+use winnow_stream::{NoSet, Step, run, run_and_reset};
 
 const SCRIPT: [Step<NoSet>; 6] = [Next, Mark, Each, Reset(0), Mark, Finish];
 
-const ANSWERS: &str = "[Token(Some(97)), Marked(0), Items([(0, 98), (1, 99)]), Done, Marked(1), Slice([98, 99])]";
+const ANSWERS: &str =
+    "[Token(Some(97)), Marked(0), Items([(0, 98), (1, 99)]), Done, Marked(1), Slice([98, 99])]";
 
 /// A script that grows the answers, the marks and a list of items. Refused, the stream stands where it stood.
 pub fn run_script(alloc: Global) -> Result<bool, AllocError> {
@@ -13,7 +13,11 @@ pub fn run_script(alloc: Global) -> Result<bool, AllocError> {
     let answers = match run(alloc, &mut input, &SCRIPT) {
         Ok(answers) => answers,
         Err(refused) => {
-            return if input == b"abc".as_slice() { Err(refused) } else { Ok(false) };
+            return if input == b"abc".as_slice() {
+                Err(refused)
+            } else {
+                Ok(false)
+            };
         }
     };
     Ok(input.is_empty() && format!(in alloc; "{answers:?}")?.as_str() == ANSWERS)

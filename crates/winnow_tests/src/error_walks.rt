@@ -36,8 +36,15 @@ where
     }
 }
 
-/// The error of three alternatives. It is always answered, and is the same as from the right.
-pub fn join_three<I: Stream, E: AssociativeOr<I>>(
+/// The error of three alternatives, from the left: it is the same as from the right.
+pub fn join_three<I: Stream, E: AssociativeOr<I>>(alloc: Global, a: E, b: E, c: E) -> E
+    ensures { result ≡ E.joined a (E.joined b c) }
+{
+    a.join(alloc, b).join(alloc, c)
+}
+
+/// The same by `or`, which is always answered.
+pub fn or_three<I: Stream, E: AssociativeOr<I>>(
     alloc: Global,
     a: E,
     b: E,

@@ -10,7 +10,8 @@ mod pairs;
 mod walks;
 
 pub use error_walks::{
-    blame, convert_to, cut_and_back, fail_twice, in_context, join_three, kinds, recover_at,
+    blame, convert_to, cut_and_back, fail_twice, in_context, join_three, kinds, or_three,
+    recover_at,
 };
 pub use fields::field;
 pub use listed::Listed;

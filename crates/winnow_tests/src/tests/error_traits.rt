@@ -1,6 +1,6 @@
 use crate::{
     Furthest, Labelled, Listed, blame, convert_to, cut_and_back, fail_twice, in_context,
-    join_three, kinds, recover_at,
+    join_three, kinds, or_three, recover_at,
 };
 use std::test::Fail;
 use winnow_error::ErrMode::{Backtrack, Cut, Incomplete};
@@ -64,11 +64,11 @@ fn an_associative_or_joins_three(rt: HostRuntime) -> Result<(), Fail> {
         InputError::at("b"),
         InputError::at("c"),
     );
-    assert_eq!(rt; join_three::<Text, _>(alloc, a, b, c)?, c);
+    assert_eq!(rt; join_three::<Text, _>(alloc, a, b, c), c);
     let (one, four, two) = (Furthest(1), Furthest(4), Furthest(2));
-    assert_eq!(rt; join_three::<Bytes, _>(alloc, one, four, two)?, four);
+    assert_eq!(rt; or_three::<Bytes, _>(alloc, one, four, two)?, four);
     assert_eq!(rt;
-        join_three::<Bytes, _>(alloc, Backtrack(one), Cut(two), Cut(four))?,
+        join_three::<Bytes, _>(alloc, Backtrack(one), Cut(two), Cut(four)),
         Cut(two)
     );
     assert_eq!(rt; cut_and_back(Cut(four)), Backtrack(four));
