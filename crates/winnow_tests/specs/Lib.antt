@@ -1,1 +1,2 @@
 pub mod PairSource
+pub mod Furthest

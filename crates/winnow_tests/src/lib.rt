@@ -2,13 +2,20 @@
 //! crates. Nothing here is part of the library.
 #![tactic(auto)]
 
+mod error_walks;
 mod fields;
 mod listed;
+mod own_errors;
 mod pairs;
 mod walks;
 
+pub use error_walks::{
+    blame, convert_to, cut_and_back, fail_twice, in_context, join_three, kinds, or_three,
+    recover_at,
+};
 pub use fields::field;
 pub use listed::Listed;
+pub use own_errors::{Apart, Furthest, Labelled};
 pub use pairs::{PairOffsets, Pairs};
 pub use walks::{look_back, take_back, told};
 

@@ -1,5 +1,9 @@
 //! One file a subject. Each case of a table carries its name into the failure message.
+mod alternatives;
+mod contexts;
+mod error_traits;
 mod fields;
+mod modes;
 mod own_streams;
 mod scripts;
 mod texts;

@@ -1,0 +1,3 @@
+pub mod ContextTextLemmas
+pub mod LineLemmas
+pub mod PickLemmas

@@ -1,0 +1,26 @@
+ghost use Rattle.std.specs.Prelude.{IfOk, OnErr};
+
+use std::alloc::{AllocError, Global};
+use winnow_stream::Stream;
+
+/// An error that can be told what was being read when it came.
+pub trait AddContext<I: Stream, C>: Sized {
+    // What `add_context` makes of an error, by the input, the place where the parser began and what it read.
+    ghost add_context_gives: { Self → I → I.Checkpoint → C → Self → Type 0 };
+
+    // Whether `add_context` may be refused for want of memory.
+    ghost add_context_refusable: { Type 0 };
+
+    /// The error, told that a parser that began at `token_start` was reading `context`.
+    fn add_context(
+        self,
+        alloc: Global,
+        input: &I,
+        token_start: &I::Checkpoint,
+        context: C,
+    ) -> Result<Self, AllocError>
+        requires valid { I.valid input.now }
+        requires valid_checkpoint { I.valid_checkpoint token_start.now }
+        ensures ok { IfOk result (add_context_gives self input.now token_start.now context) }
+        ensures err { OnErr result add_context_refusable };
+}

@@ -1,0 +1,49 @@
+ghost use Rattle.std.specs.Prelude.{◌≡◌, Some, IfOk, OnErr};
+ghost use Rattle.winnow_error.specs.Mode.{ModeOr};
+ghost use Rattle.winnow_error.specs.Or.{GivesOnly, IsAssociative};
+ghost use Rattle.winnow_error.specs.Pick.{Bracketed, leaves, pick, HasHard};
+
+use crate::{ErrMode, ParserError};
+use std::alloc::{AllocError, Global};
+use winnow_stream::Stream;
+
+/// Errors of alternatives, bracketed.
+#[derive(Debug, Drop)]
+pub enum OrTree<E> {
+    /// One alternative's error
+    One(E),
+    /// Those of two groups of alternatives, in order
+    Both(Box<OrTree<E>>, Box<OrTree<E>>),
+}
+
+/// Joins the errors of alternatives by `or`, as they are bracketed.
+///
+/// The brackets matter only to an inner `or` that is not associative, and not even there if one error is no `Backtrack`.
+pub fn combine<I: Stream, E: ParserError<I>>(
+    alloc: Global,
+    tree: OrTree<ErrMode<E>>,
+) -> Result<ErrMode<E>, AllocError>
+    ensures bracketed { IfOk result (Bracketed (ModeOr E.or_gives) tree) }
+    ensures hard { (join : E → E → E) → HasHard (leaves tree) → IfOk result (λ r. pick join (leaves tree) ≡ Some r) }
+    ensures associative { (join : E → E → E) → GivesOnly E.or_gives join → IsAssociative join → IfOk result (λ r. pick join (leaves tree) ≡ Some r) }
+    ensures err { OnErr result E.or_refusable }
+{
+    join_tree::<I, E>(alloc, tree)
+}
+
+fn join_tree<I: Stream, E: ParserError<I>>(
+    alloc: Global,
+    tree: OrTree<ErrMode<E>>,
+) -> Result<ErrMode<E>, AllocError>
+    ensures bracketed { IfOk result (Bracketed (ModeOr E.or_gives) tree) }
+    ensures err { OnErr result E.or_refusable }
+{
+    match tree {
+        OrTree::One(error) => Ok(error),
+        OrTree::Both(left, right) => {
+            let first = join_tree::<I, E>(alloc, Box::into_inner(left))?;
+            let second = join_tree::<I, E>(alloc, Box::into_inner(right))?;
+            <ErrMode<E> as ParserError<I>>::or(first, alloc, second)
+        }
+    }
+}

@@ -1,0 +1,39 @@
+//! Errors of parsers: what a parser answers in place of a value, and how the errors of alternatives are joined.
+#![tactic(auto)]
+
+mod add_context;
+mod associative_or;
+mod combining;
+mod context;
+mod context_items;
+mod context_text;
+mod empty;
+mod error_convert;
+mod from_external;
+mod from_recoverable;
+mod input;
+mod laws;
+mod modal_error;
+mod mode;
+mod parser_error;
+mod result;
+mod str_context;
+mod unit;
+
+pub use add_context::AddContext;
+pub use associative_or::AssociativeOr;
+pub use combining::{OrTree, combine};
+pub use context::ContextError;
+pub use context_items::ContextItems;
+pub use empty::EmptyError;
+pub use error_convert::ErrorConvert;
+pub use from_external::FromExternalError;
+pub use from_recoverable::FromRecoverableError;
+pub use input::InputError;
+pub use laws::{bracket_law, mode_law, or_law};
+pub use modal_error::ModalError;
+pub use mode::ErrMode;
+pub use parser_error::ParserError;
+pub use result::{ModalResult, Result};
+pub use str_context::{StrContext, StrContextValue};
+pub use winnow_stream::Needed;

@@ -1,0 +1,127 @@
+//! `()` as an error: it tells nothing, as [`crate::EmptyError`] does, and has no text.
+
+ghost use Rattle.std.specs.Prelude.{◌≡◌, true, None, Ok, refl, ⊤};
+
+use crate::{
+    AddContext, AssociativeOr, ErrorConvert, FromExternalError, FromRecoverableError, ParserError,
+};
+use std::alloc::{AllocError, Global};
+use winnow_stream::{Needed, Stream};
+
+impl<I: Stream> ParserError<I> for () {
+    type Inner = Self;
+
+    ghost from_input_gives = { λ _ _. ⊤ };
+
+    ghost assert_gives = { λ _ _. ⊤ };
+
+    ghost incomplete_gives = { λ _ _ _. ⊤ };
+
+    ghost append_gives = { λ e _ _ r. r ≡ e };
+
+    ghost append_refusable = { ⊥ };
+
+    ghost or_gives = { λ _ b r. r ≡ b };
+
+    ghost or_refusable = { ⊥ };
+
+    ghost backtracks = { λ _. true };
+
+    ghost inner = { Ok };
+
+    ghost needs = { λ _. None };
+
+    fn from_input(_alloc: Global, _input: &I) -> Self {
+        ()
+    }
+
+    fn assert(_alloc: Global, _input: &I, _message: &'static str) -> Self {
+        ()
+    }
+
+    fn incomplete(_alloc: Global, _input: &I, _needed: Needed) -> Self {
+        ()
+    }
+
+    fn append(
+        self,
+        _alloc: Global,
+        _input: &I,
+        _token_start: &I::Checkpoint,
+    ) -> Result<Self, AllocError> {
+        Ok(self)
+    }
+
+    fn or(self, _alloc: Global, other: Self) -> Result<Self, AllocError> {
+        Ok(other)
+    }
+
+    fn is_backtrack(&self) -> bool {
+        true
+    }
+
+    fn into_inner(self) -> Result<Self, Self> {
+        Ok(self)
+    }
+
+    fn needed(&self) -> Option<Needed> {
+        None
+    }
+}
+
+impl<I: Stream> AssociativeOr<I> for () {
+    ghost joined = { λ _ b. b };
+
+    ghost or_gives_joined = { λ _ _ _ e. e };
+
+    ghost or_never_refused = { λ never. never };
+
+    ghost joined_associative = { λ _ _ _. refl };
+}
+
+impl<I: Stream, C: Drop> AddContext<I, C> for () {
+    ghost add_context_gives = { λ e _ _ _ r. r ≡ e };
+
+    ghost add_context_refusable = { ⊥ };
+
+    fn add_context(
+        self,
+        _alloc: Global,
+        _input: &I,
+        _token_start: &I::Checkpoint,
+        _context: C,
+    ) -> Result<Self, AllocError> {
+        Ok(self)
+    }
+}
+
+impl<I: Stream> FromRecoverableError<I, Self> for () {
+    ghost recovered = { λ _ _ _ e. e };
+
+    fn from_recoverable_error(
+        _token_start: &I::Checkpoint,
+        _err_start: &I::Checkpoint,
+        _input: &I,
+        e: Self,
+    ) -> Self {
+        e
+    }
+}
+
+impl<I, E: Drop> FromExternalError<I, E> for () {
+    ghost from_external_gives = { λ _ _ _. ⊤ };
+
+    fn from_external_error(_alloc: Global, _input: &I, _e: E) -> Self {
+        ()
+    }
+}
+
+impl ErrorConvert<Self> for () {
+    ghost convert_gives = { λ e r. r ≡ e };
+
+    ghost convert_refusable = { ⊥ };
+
+    fn convert(self, _alloc: Global) -> Result<Self, AllocError> {
+        Ok(self)
+    }
+}

@@ -1,0 +1,103 @@
+ghost use Rattle.std.specs.Prelude.{◌≡◌, IfOk, IsOk, OnErr, IfErr};
+
+use std::alloc::{AllocError, Global};
+use winnow_error::{
+    AddContext, AssociativeOr, ErrorConvert, FromExternalError, FromRecoverableError, ModalError,
+    ParserError,
+};
+use winnow_stream::{Needed, Stream};
+
+/// Of an error made in each of three ways, whether another alternative may be tried, and whether more input was wanted.
+pub fn kinds<I: Stream, E: ParserError<I>>(alloc: Global, input: &I) -> [(bool, bool); 3] {
+    let failed = E::from_input(alloc, input);
+    let misused = E::assert(alloc, input, "misused");
+    let cut_short = E::incomplete(alloc, input, Needed::Unknown);
+    [
+        (failed.is_backtrack(), failed.is_incomplete()),
+        (misused.is_backtrack(), misused.is_incomplete()),
+        (cut_short.is_backtrack(), cut_short.needed().is_some()),
+    ]
+}
+
+/// The inner error of two alternatives that failed where the input stands, told so.
+pub fn fail_twice<I: Stream, E: ParserError<I>>(
+    alloc: Global,
+    input: &I,
+) -> Result<Option<E::Inner>, AllocError>
+where
+    requires { I.valid input.now }
+{
+    let start = input.checkpoint();
+    let first = E::from_input(alloc, input);
+    let both = first.or(alloc, E::from_input(alloc, input))?;
+    match both.append(alloc, input, &start)?.into_inner() {
+        Ok(inner) => Ok(Some(inner)),
+        Err(_) => Ok(None),
+    }
+}
+
+/// The error of three alternatives, from the left: it is the same as from the right.
+pub fn join_three<I: Stream, E: AssociativeOr<I>>(alloc: Global, a: E, b: E, c: E) -> E
+    ensures { result ≡ E.joined a (E.joined b c) }
+{
+    a.join(alloc, b).join(alloc, c)
+}
+
+/// The same by `or`, which is always answered.
+pub fn or_three<I: Stream, E: AssociativeOr<I>>(
+    alloc: Global,
+    a: E,
+    b: E,
+    c: E,
+) -> Result<E, AllocError>
+    ensures answered { IsOk result }
+    ensures joined { IfOk result (λ r. r ≡ E.joined a (E.joined b c)) }
+{
+    a.or(alloc, b)?.or(alloc, c)
+}
+
+/// An error that is cut again and again, and then may be tried again.
+pub fn cut_and_back<E: ModalError>(e: E) -> E
+    ensures { result ≡ E.backtrack_of (E.cut_of e) }
+{
+    e.cut().cut().backtrack().backtrack()
+}
+
+/// The error, told of a context where the input stands.
+pub fn in_context<I: Stream, C, E: AddContext<I, C>>(
+    alloc: Global,
+    e: E,
+    input: &I,
+    context: C,
+) -> Result<E, AllocError>
+where
+    requires { I.valid input.now }
+    ensures err { OnErr result E.add_context_refusable }
+{
+    let start = input.checkpoint();
+    e.add_context(alloc, input, &start, context)
+}
+
+/// What is recorded of an error from which a parser recovers where it began.
+pub fn recover_at<I: Stream, E, R: FromRecoverableError<I, E>>(input: &I, e: E) -> R
+where
+    requires { I.valid input.now }
+{
+    let start = input.checkpoint();
+    R::from_recoverable_error(&start, &start, input, e)
+}
+
+/// An error of another's.
+pub fn blame<I, X, E: FromExternalError<I, X>>(alloc: Global, input: &I, cause: X) -> E
+    ensures { E.from_external_gives input.now cause result }
+{
+    E::from_external_error(alloc, input, cause)
+}
+
+/// The same error as another type.
+pub fn convert_to<F, E: ErrorConvert<F>>(alloc: Global, e: E) -> Result<F, AllocError>
+    ensures ok { IfOk result (E.convert_gives e) }
+    ensures err { OnErr result E.convert_refusable }
+{
+    e.convert(alloc)
+}
