@@ -8,27 +8,27 @@ use crate::tokens::{drain, look_ahead, peek_and_take, sum_offsets};
 use std::alloc::Global;
 
 #[unsafe(no_mangle)]
-pub extern "C" fn winnow_bench_drain_bytes(input: &[u8], _number: u64) -> u64 {
+pub extern "C" fn winnow_bench_drain_bytes(input: &[u8], number: u64) -> u64 {
     let mut s = input;
-    drain(&mut s)
+    drain(&mut s, number)
 }
 
 #[unsafe(no_mangle)]
-pub extern "C" fn winnow_bench_peek_and_take_bytes(input: &[u8], _number: u64) -> u64 {
+pub extern "C" fn winnow_bench_peek_and_take_bytes(input: &[u8], number: u64) -> u64 {
     let mut s = input;
-    peek_and_take(&mut s)
+    peek_and_take(&mut s, number)
 }
 
 #[unsafe(no_mangle)]
-pub extern "C" fn winnow_bench_sum_offsets_bytes(input: &[u8], _number: u64) -> u64 {
+pub extern "C" fn winnow_bench_sum_offsets_bytes(input: &[u8], number: u64) -> u64 {
     let s = input;
-    sum_offsets(&s)
+    sum_offsets(&s, number)
 }
 
 #[unsafe(no_mangle)]
-pub extern "C" fn winnow_bench_look_ahead_bytes(input: &[u8], _number: u64) -> u64 {
+pub extern "C" fn winnow_bench_look_ahead_bytes(input: &[u8], number: u64) -> u64 {
     let mut s = input;
-    look_ahead(&mut s)
+    look_ahead(&mut s, number)
 }
 
 #[unsafe(no_mangle)]

@@ -15,35 +15,35 @@ fn text(input: &[u8]) -> &str
 }
 
 #[unsafe(no_mangle)]
-pub extern "C" fn winnow_bench_drain_text(input: &[u8], _number: u64) -> u64
+pub extern "C" fn winnow_bench_drain_text(input: &[u8], number: u64) -> u64
     requires { IsUtf8 input.now }
 {
     let mut s = text(input);
-    drain(&mut s)
+    drain(&mut s, number)
 }
 
 #[unsafe(no_mangle)]
-pub extern "C" fn winnow_bench_peek_and_take_text(input: &[u8], _number: u64) -> u64
+pub extern "C" fn winnow_bench_peek_and_take_text(input: &[u8], number: u64) -> u64
     requires { IsUtf8 input.now }
 {
     let mut s = text(input);
-    peek_and_take(&mut s)
+    peek_and_take(&mut s, number)
 }
 
 #[unsafe(no_mangle)]
-pub extern "C" fn winnow_bench_sum_offsets_text(input: &[u8], _number: u64) -> u64
+pub extern "C" fn winnow_bench_sum_offsets_text(input: &[u8], number: u64) -> u64
     requires { IsUtf8 input.now }
 {
     let s = text(input);
-    sum_offsets(&s)
+    sum_offsets(&s, number)
 }
 
 #[unsafe(no_mangle)]
-pub extern "C" fn winnow_bench_look_ahead_text(input: &[u8], _number: u64) -> u64
+pub extern "C" fn winnow_bench_look_ahead_text(input: &[u8], number: u64) -> u64
     requires { IsUtf8 input.now }
 {
     let mut s = text(input);
-    look_ahead(&mut s)
+    look_ahead(&mut s, number)
 }
 
 #[unsafe(no_mangle)]

@@ -28,14 +28,14 @@ impl Number for char {
 
 /// A slice as a number, of which it must be read.
 pub trait Weigh {
-    /// Its length, mixed with its first byte.
+    /// Its length and its first byte.
     fn weigh(&self) -> u64;
 }
 
 impl Weigh for &[u8] {
     fn weigh(&self) -> u64 {
         match self.first() {
-            Some(first) => mix(self.len() as u64, u64::from(*first)),
+            Some(first) => self.len() as u64 ^ u64::from(*first),
             None => 0,
         }
     }
@@ -47,7 +47,7 @@ impl Weigh for &str {
     }
 }
 
-/// The sum so far with one more number: cheap, and each sum needs the one before.
+/// The sum so far with one more number: one instruction, and the order counts.
 pub fn mix(sum: u64, number: u64) -> u64 {
-    sum.rotate_left(5) ^ number
+    number.wrapping_sub(sum)
 }
