@@ -1,7 +1,7 @@
 //! The workloads over the Rust crate, word for word those of `crates/winnow_bench`.
 
 use crate::script::{Answer, RawStep, Step, Told};
-use winnow::stream::Stream;
+use winnow::stream::{AsBStr, Needed, Offset, SliceLen, Stream, StreamIsPartial, UpdateSlice};
 
 /// A token as a number.
 pub trait Number {
@@ -275,4 +275,44 @@ fn tell_answer<T: Number, S: Weigh>(answer: Answer<T, S>) -> Told {
         Answer::NoMark => Answer::NoMark,
         Answer::LaterMark => Answer::LaterMark,
     }
+}
+
+/// What the calls that no step names answer, as our library tells it: nothing where no front has that width.
+pub fn others<S>(start: S, width: usize) -> Vec<u64>
+where
+    S: Stream<Checkpoint: Offset + PartialOrd> + Offset + UpdateSlice + SliceLen + StreamIsPartial + AsBStr + Copy,
+{
+    // The valid offsets, as the crate documents them.
+    if width != start.eof_offset() && start.iter_offsets().all(|(offset, _)| offset != width) {
+        return Vec::new();
+    }
+    let mut here = start;
+    let _front = here.next_slice(width);
+    let mut told = vec![here.offset_from(&start) as u64, here.offset_from(&start.checkpoint()) as u64];
+    told.extend([here.checkpoint().offset_from(&start.checkpoint()) as u64, here.slice_len() as u64]);
+    told.push(u64::from(here.checkpoint() == start.checkpoint()));
+    told.push(u64::from(here.checkpoint() < start.checkpoint()));
+    told.extend([S::is_partial_supported(), here.is_partial()].map(u64::from));
+    let state = here.complete();
+    told.push(u64::from(here.is_partial()));
+    here.restore_partial(state);
+    told.push(u64::from(here.is_partial()));
+    tell_bytes(&mut told, here.as_bstr());
+    tell_bytes(&mut told, start.update_slice(start.peek_slice(width)).as_bstr());
+    told
+}
+
+/// What a shortage of so many tokens answers.
+pub fn needed(size: usize) -> Vec<u64> {
+    let needed = Needed::new(size);
+    let half = needed.map(|size| size.get() / 2);
+    let none = needed.map(|_| 0);
+    let mut told = vec![u64::from(needed.is_known()), u64::from(half.is_known())];
+    tell_bytes(&mut told, format!("{needed:?} {half:?} {none:?}").as_bytes());
+    told
+}
+
+fn tell_bytes(told: &mut Vec<u64>, bytes: &[u8]) {
+    told.push(bytes.len() as u64);
+    told.extend(bytes.iter().copied().map(u64::from));
 }

@@ -1,6 +1,7 @@
 //! The exports over `&[u8]`.
 
 use crate::fronts::{find_token, offset_behind, take_all, take_parts};
+use crate::others::tell_bytes;
 use crate::runs::run_rounds;
 use crate::steps::{RawStep, steps_of};
 use crate::tell::{hand_out, tell_run};
@@ -81,4 +82,14 @@ pub extern "C" fn winnow_bench_answers_bytes(
     };
     let mut s = input;
     hand_out(tell_run(alloc, &mut s, &steps), out)
+}
+
+#[unsafe(no_mangle)]
+pub extern "C" fn winnow_bench_others_bytes(
+    alloc: Global,
+    input: &[u8],
+    width: u64,
+    out: &mut [u64],
+) -> u64 {
+    hand_out(tell_bytes(alloc, input, width as usize), out)
 }

@@ -7,6 +7,7 @@
 
 mod bytes;
 mod fronts;
+mod others;
 mod runs;
 mod steps;
 mod tell;

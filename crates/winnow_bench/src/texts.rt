@@ -2,6 +2,7 @@
 ghost use Rattle.std.specs.Str.{IsUtf8};
 
 use crate::fronts::{find_token, offset_behind, take_all, take_parts};
+use crate::others::tell_text;
 use crate::runs::run_rounds;
 use crate::steps::{RawStep, steps_of};
 use crate::tell::{hand_out, tell_run};
@@ -108,4 +109,16 @@ pub extern "C" fn winnow_bench_answers_text(
     };
     let mut s = text(input);
     hand_out(tell_run(alloc, &mut s, &steps), out)
+}
+
+#[unsafe(no_mangle)]
+pub extern "C" fn winnow_bench_others_text(
+    alloc: Global,
+    input: &[u8],
+    width: u64,
+    out: &mut [u64],
+) -> u64
+    requires { IsUtf8 input.now }
+{
+    hand_out(tell_text(alloc, text(input), width as usize), out)
 }
