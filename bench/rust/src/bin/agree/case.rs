@@ -1,0 +1,63 @@
+//! Calls on an input, and what both sides answer.
+
+use std::fmt::Write;
+use winnow_bench::ours::Room;
+use winnow_bench::script::{RawStep, Step, Told};
+use winnow_bench::theirs;
+
+#[derive(Clone)]
+pub enum Input {
+    Bytes(Vec<u8>),
+    Text(String),
+}
+
+/// A script on an input, and a width at which the calls are made that no step names.
+#[derive(Clone)]
+pub struct Case {
+    pub input: Input,
+    pub script: Vec<Step>,
+    pub width: usize,
+}
+
+impl Case {
+    pub fn differs(&self, room: &mut Room) -> bool {
+        let (ours, theirs) = self.answers(room);
+        let (our_others, their_others) = self.others(room);
+        ours != Some(theirs) || our_others != Some(their_others)
+    }
+
+    fn answers(&self, room: &mut Room) -> (Option<Vec<Told>>, Vec<Told>) {
+        let script: Vec<RawStep> = self.script.iter().copied().map(RawStep::from).collect();
+        match &self.input {
+            Input::Bytes(bytes) => (room.answers_bytes(bytes, &script), theirs::tell_run(bytes.as_slice(), &self.script)),
+            Input::Text(text) => (room.answers_text(text, &script), theirs::tell_run(text.as_str(), &self.script)),
+        }
+    }
+
+    fn others(&self, room: &mut Room) -> (Option<Vec<u64>>, Vec<u64>) {
+        match &self.input {
+            Input::Bytes(bytes) => (room.others_bytes(bytes, self.width), theirs::others(bytes.as_slice(), self.width)),
+            Input::Text(text) => (room.others_text(text, self.width), theirs::others(text.as_str(), self.width)),
+        }
+    }
+
+    /// The case with what both sides answer, an answer a line.
+    pub fn told(&self, room: &mut Room) -> String {
+        let mut text = match &self.input {
+            Input::Bytes(bytes) => format!("bytes {bytes:02x?}\n"),
+            Input::Text(text) => format!("text {text:?}, bytes {:02x?}\n", text.as_bytes()),
+        };
+        let (ours, theirs) = self.answers(room);
+        for (number, step) in self.script.iter().enumerate() {
+            let ours = ours.as_ref().and_then(|ours| ours.get(number));
+            let theirs = theirs.get(number);
+            let mark = if ours == theirs { "" } else { "    differs" };
+            writeln!(text, "{step:?}: ours {ours:?}, Rust {theirs:?}{mark}").expect("a string takes it");
+        }
+        let (ours, theirs) = self.others(room);
+        if ours.as_ref() != Some(&theirs) {
+            writeln!(text, "other calls behind width {}: ours {ours:?}, Rust {theirs:?}    differs", self.width).expect("a string takes it");
+        }
+        text
+    }
+}

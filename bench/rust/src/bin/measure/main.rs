@@ -1,0 +1,78 @@
+//! Times each workload over both sides, answers compared first, and prints a table.
+//!
+//! `--short` takes smaller inputs and fewer turns, `--only WORD` the rows with that word in their names, and `--instructions` counts
+//! instructions by valgrind in place of times.
+
+mod allocations;
+mod instructions;
+mod rows;
+mod timing;
+
+use rows::{Inputs, Row, Sizes, rows};
+use std::env;
+use std::process::ExitCode;
+use timing::Times;
+
+fn main() -> ExitCode {
+    let words: Vec<String> = env::args().skip(1).collect();
+    let has = |word: &str| words.iter().any(|other| other == word);
+    let after = |word: &str| words.iter().skip_while(|other| *other != word).nth(1);
+    let (sizes, turns) = match (has("--instructions") || has("--once"), has("--short")) {
+        (true, _) => (Sizes::COUNTED, 0),
+        (_, true) => (Sizes::SHORT, 5),
+        _ => (Sizes::WHOLE, 15),
+    };
+    let inputs = Inputs::new(&sizes);
+    let mut rows = rows(&inputs);
+    rows.retain(|row| after("--only").is_none_or(|word| row.name.contains(word)));
+    if let Some(name) = after("--once") {
+        once(&rows, name, has("ours"));
+    } else if has("--instructions") {
+        count(&rows);
+    } else if rows.iter().any(|row| !row.agrees()) {
+        rows.iter().filter(|row| !row.agrees()).for_each(|row| println!("answers differ: {}", row.name));
+        return ExitCode::FAILURE;
+    } else if has("--times") {
+        timing::race(&rows, turns).iter().for_each(|times| println!("{times}"));
+    } else {
+        let shifted = timing::when_shifted(&words);
+        let times = timing::race(&rows, turns).into_iter().zip(shifted).map(|(times, shifted)| times.least(shifted));
+        print(&rows, times);
+    }
+    ExitCode::SUCCESS
+}
+
+fn print(rows: &[Row], times: impl Iterator<Item = Times>) {
+    println!("| Workload | ours, ms | Rust, ms | ours / Rust | ours, million a second | allocations, ours and Rust |");
+    println!("|---|--:|--:|--:|--:|--:|");
+    for (row, Times { ours, theirs }) in rows.iter().zip(times) {
+        println!(
+            "| {} | {:.2} | {:.2} | {:.2} | {:.0} | {} and {} |",
+            row.name,
+            ours * 1e3,
+            theirs * 1e3,
+            ours / theirs,
+            (row.units * row.calls) as f64 / ours / 1e6,
+            allocations::during(|| row.call_ours()),
+            allocations::during(|| row.call_theirs()),
+        );
+    }
+}
+
+fn count(rows: &[Row]) {
+    println!("| Workload | ours, instructions | Rust, instructions | ours / Rust |");
+    println!("|---|--:|--:|--:|");
+    let start = instructions::of("no workload", "ours");
+    for row in rows {
+        let ours = instructions::of(&row.name, "ours") - start;
+        let theirs = instructions::of(&row.name, "theirs") - start;
+        println!("| {} | {ours} | {theirs} | {:.2} |", row.name, ours as f64 / theirs as f64);
+    }
+}
+
+// One call of one side, for `instructions`.
+fn once(rows: &[Row], name: &str, is_ours: bool) {
+    for row in rows.iter().filter(|row| row.name == name) {
+        if is_ours { row.call_ours() } else { row.call_theirs() }
+    }
+}

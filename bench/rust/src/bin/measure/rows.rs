@@ -1,0 +1,169 @@
+//! The table of workloads. A new one is a line here, a generic function in `theirs`, and in `crates/winnow_bench` a generic function
+//! and an export for each kind of stream, whose name `ours` lists.
+
+use std::hint::black_box;
+use winnow_bench::inputs::{ABSENT, ascii_text, bytes, mixed_text, script};
+use winnow_bench::script::RawStep;
+use winnow_bench::{ours, theirs};
+
+/// How long the inputs are, and how many calls over the small ones are timed as one.
+pub struct Sizes {
+    bytes_in_memory: usize,
+    text_in_memory: usize,
+    in_cache: usize,
+    calls: usize,
+}
+
+impl Sizes {
+    pub const WHOLE: Sizes = Sizes { bytes_in_memory: 64 << 20, text_in_memory: 16 << 20, in_cache: 256 << 10, calls: 32 };
+    pub const SHORT: Sizes = Sizes { bytes_in_memory: 8 << 20, text_in_memory: 4 << 20, in_cache: 256 << 10, calls: 8 };
+    pub const COUNTED: Sizes = Sizes { bytes_in_memory: 0, text_in_memory: 0, in_cache: 256 << 10, calls: 1 };
+}
+
+pub struct Inputs {
+    bytes: Vec<u8>,
+    ascii: String,
+    mixed: String,
+    short_bytes: Vec<u8>,
+    short_ascii: String,
+    short_mixed: String,
+    script: Vec<RawStep>,
+    calls: usize,
+}
+
+impl Inputs {
+    pub fn new(sizes: &Sizes) -> Self {
+        Inputs {
+            bytes: bytes(sizes.bytes_in_memory),
+            ascii: ascii_text(sizes.text_in_memory),
+            mixed: mixed_text(sizes.text_in_memory),
+            short_bytes: bytes(sizes.in_cache),
+            short_ascii: ascii_text(sizes.in_cache),
+            short_mixed: mixed_text(sizes.in_cache),
+            script: script(10_000),
+            calls: sizes.calls,
+        }
+    }
+}
+
+/// A workload on an input, over both sides.
+pub struct Row<'i> {
+    pub name: String,
+    /// How many bytes, or steps, a call goes over.
+    pub units: usize,
+    /// How many calls are timed as one.
+    pub calls: usize,
+    ours: Box<dyn Fn() -> u64 + 'i>,
+    theirs: Box<dyn Fn() -> u64 + 'i>,
+}
+
+impl Row<'_> {
+    pub fn agrees(&self) -> bool {
+        (self.ours)() == (self.theirs)()
+    }
+
+    pub fn call_ours(&self) {
+        for _ in 0..self.calls {
+            black_box((self.ours)());
+        }
+    }
+
+    pub fn call_theirs(&self) {
+        for _ in 0..self.calls {
+            black_box((self.theirs)());
+        }
+    }
+}
+
+/// An input with its name.
+#[derive(Clone, Copy)]
+struct On<I> {
+    name: &'static str,
+    input: I,
+    units: usize,
+    calls: usize,
+}
+
+impl<I: Copy> On<I> {
+    // The workload over both sides. Neither compiler sees the input or the number.
+    fn row<'i>(self, name: &str, number: u64, ours: fn(I, u64) -> u64, theirs: fn(I, u64) -> u64) -> Row<'i>
+    where
+        I: 'i,
+    {
+        Row {
+            name: format!("{name}: {}", self.name),
+            units: self.units,
+            calls: self.calls,
+            ours: Box::new(move || black_box(ours)(black_box(self.input), black_box(number))),
+            theirs: Box::new(move || black_box(theirs)(black_box(self.input), black_box(number))),
+        }
+    }
+}
+
+/// Every workload on every input that is not empty.
+pub fn rows(inputs: &Inputs) -> Vec<Row<'_>> {
+    let mut rows = Vec::new();
+    for (name, input, calls) in [("bytes in memory", &inputs.bytes, 1), ("bytes in cache", &inputs.short_bytes, inputs.calls)] {
+        let units = input.len();
+        if units > 0 {
+            rows.extend(byte_rows(On { name, input: input.as_slice(), units, calls }));
+        }
+    }
+    for (name, input, calls) in [
+        ("ASCII text in memory", &inputs.ascii, 1),
+        ("mixed text in memory", &inputs.mixed, 1),
+        ("ASCII text in cache", &inputs.short_ascii, inputs.calls),
+        ("mixed text in cache", &inputs.short_mixed, inputs.calls),
+    ] {
+        let units = input.len();
+        if units > 0 {
+            rows.extend(text_rows(On { name, input: input.as_str(), units, calls }));
+        }
+    }
+    rows.extend(run_rows(inputs));
+    rows
+}
+
+fn byte_rows(on: On<&[u8]>) -> Vec<Row<'_>> {
+    use ours::bytes as ours;
+    vec![
+        on.row("next_token", ABSENT, ours::drain, theirs::drain),
+        on.row("peek_token, next_token", ABSENT, ours::peek_and_take, theirs::peek_and_take),
+        on.row("iter_offsets", ABSENT, ours::sum_offsets, theirs::sum_offsets),
+        on.row("checkpoint, two tokens, reset", ABSENT, ours::look_ahead, theirs::look_ahead),
+        on.row("offset_at and next_slice of 1", 1, ours::take_all, theirs::take_all),
+        on.row("offset_at and next_slice of 16", 16, ours::take_all, theirs::take_all),
+        on.row("offset_at and next_slice of 256", 256, ours::take_all, theirs::take_all),
+        on.row("offset_for, near", u64::from(b'\n'), ours::take_parts, theirs::take_parts),
+        on.row("offset_for, far", ABSENT, ours::find_token, theirs::find_token),
+    ]
+}
+
+fn text_rows(on: On<&str>) -> Vec<Row<'_>> {
+    use ours::text as ours;
+    vec![
+        on.row("next_token", ABSENT, ours::drain, theirs::drain),
+        on.row("peek_token, next_token", ABSENT, ours::peek_and_take, theirs::peek_and_take),
+        on.row("iter_offsets", ABSENT, ours::sum_offsets, theirs::sum_offsets),
+        on.row("checkpoint, two tokens, reset", ABSENT, ours::look_ahead, theirs::look_ahead),
+        on.row("offset_at and next_slice of 1", 1, ours::take_all, theirs::take_all),
+        on.row("offset_at and next_slice of 16", 16, ours::take_all, theirs::take_all),
+        on.row("offset_at and next_slice of 256", 256, ours::take_all, theirs::take_all),
+        on.row("offset_at, far", u64::MAX, ours::offset_behind, theirs::offset_behind),
+        on.row("offset_for, near", u64::from(b'\n'), ours::take_parts, theirs::take_parts),
+        on.row("offset_for, far", ABSENT, ours::find_token, theirs::find_token),
+    ]
+}
+
+// Rounds of one script of 10,000 steps.
+fn run_rows(inputs: &Inputs) -> Vec<Row<'_>> {
+    const ROUNDS: u64 = 20;
+    let script = inputs.script.as_slice();
+    let units = script.len() * ROUNDS as usize;
+    let bytes = On { name: "bytes", input: (inputs.short_bytes.as_slice(), script), units, calls: 1 };
+    let text = On { name: "mixed text", input: (inputs.short_mixed.as_str(), script), units, calls: 1 };
+    vec![
+        bytes.row("run 10,000 steps", ROUNDS, ours::run_bytes, theirs::run_rounds),
+        text.row("run 10,000 steps", ROUNDS, ours::run_text, theirs::run_rounds),
+    ]
+}

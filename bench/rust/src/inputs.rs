@@ -1,0 +1,100 @@
+//! Inputs, the same at each run.
+
+use crate::script::{RawStep, Step};
+
+/// Numbers that look random (SplitMix64).
+pub struct Random(u64);
+
+impl Random {
+    pub fn new(seed: u64) -> Self {
+        Random(seed)
+    }
+
+    pub fn next(&mut self) -> u64 {
+        self.0 = self.0.wrapping_add(0x9e37_79b9_7f4a_7c15);
+        let mut mixed = self.0;
+        mixed = (mixed ^ (mixed >> 30)).wrapping_mul(0xbf58_476d_1ce4_e5b9);
+        mixed = (mixed ^ (mixed >> 27)).wrapping_mul(0x94d0_49bb_1331_11eb);
+        mixed ^ (mixed >> 31)
+    }
+
+    pub fn below(&mut self, bound: u64) -> u64 {
+        self.next() % bound
+    }
+
+    pub fn pick<T: Copy>(&mut self, from: &[T]) -> T {
+        from[self.below(from.len() as u64) as usize]
+    }
+}
+
+/// A byte, and the number of a character, that stands in no input.
+pub const ABSENT: u64 = 0;
+
+/// About how many tokens a line has.
+const LINE: u64 = 40;
+
+/// Bytes of any value but 0, in lines.
+pub fn bytes(length: usize) -> Vec<u8> {
+    let mut random = Random::new(1);
+    (0..length)
+        .map(|_| match random.below(LINE) {
+            0 => b'\n',
+            _ => random.below(255) as u8 + 1,
+        })
+        .collect()
+}
+
+/// Words of ASCII letters, and about as many of other scripts, in lines.
+pub fn mixed_text(length: usize) -> String {
+    text(length, &[('a', 26), ('a', 26), ('à', 24), ('α', 25), ('а', 32), ('一', 20000), ('😀', 60)])
+}
+
+/// Words of ASCII letters, in lines.
+pub fn ascii_text(length: usize) -> String {
+    text(length, &[('a', 26)])
+}
+
+// Words, each of characters from one of the ranges, which are given by their first character and their size.
+fn text(length: usize, scripts: &[(char, u32)]) -> String {
+    let mut random = Random::new(2);
+    let mut text = String::with_capacity(length + 64);
+    while text.len() < length {
+        let (first, size) = random.pick(scripts);
+        for _ in 0..1 + random.below(9) {
+            let number = u32::from(first) + random.below(u64::from(size)) as u32;
+            text.push(char::from_u32(number).expect("the ranges hold characters alone"));
+        }
+        text.push(if random.below(LINE / 6) == 0 { '\n' } else { ' ' });
+    }
+    text
+}
+
+/// A script that wanders through an input: calls of every kind but those that go over all of it.
+pub fn script(length: usize) -> Vec<RawStep> {
+    let mut random = Random::new(3);
+    let mut marks = 0;
+    (0..length)
+        .map(|_| {
+            let few = random.below(8) as usize;
+            // One of the marks that were made last.
+            let mark = marks - marks.min(1 + few);
+            let step = match random.below(14) {
+                0..3 => Step::Next,
+                3 => Step::Peek,
+                4..6 => Step::Take(few),
+                6 => Step::Look(few),
+                7 => Step::Eof,
+                8 => Step::At(few),
+                9 => Step::IsOffset(few),
+                10 => Step::First(u64::from(b'\n'), u64::from(b'\n')),
+                11 => Step::Since(mark),
+                12 if few == 0 => Step::Reset(mark),
+                _ => Step::Mark,
+            };
+            if let Step::Mark = step {
+                marks += 1;
+            }
+            RawStep::from(step)
+        })
+        .collect()
+}

@@ -1,0 +1,109 @@
+//! Our library's calls. Each export of `crates/winnow_bench` is declared here by hand, with a safe function over it. A text crosses
+//! as its bytes, which are UTF-8, as the export asks, since they come from a `&str`.
+
+use crate::script::{RawStep, Told, read_answers};
+
+// The exports of a workload take the input and a number.
+macro_rules! workloads {
+    ($($name:ident)*) => {
+        /// Workloads over bytes.
+        pub mod bytes {
+            mod exports {
+                unsafe extern "C" {
+                    $(#[link_name = concat!("winnow_bench_", stringify!($name), "_bytes")]
+                    pub fn $name(input: *const u8, length: usize, number: u64) -> u64;)*
+                }
+            }
+
+            $(pub fn $name(input: &[u8], number: u64) -> u64 {
+                unsafe { exports::$name(input.as_ptr(), input.len(), number) }
+            })*
+        }
+
+        /// Workloads over text.
+        pub mod text {
+            mod exports {
+                unsafe extern "C" {
+                    $(#[link_name = concat!("winnow_bench_", stringify!($name), "_text")]
+                    pub fn $name(input: *const u8, length: usize, number: u64) -> u64;)*
+                }
+            }
+
+            $(pub fn $name(input: &str, number: u64) -> u64 {
+                unsafe { exports::$name(input.as_ptr(), input.len(), number) }
+            })*
+        }
+    };
+}
+
+workloads!(drain peek_and_take sum_offsets look_ahead take_all take_parts find_token offset_behind);
+
+unsafe extern "C" {
+    fn winnow_bench_run_bytes(input: *const u8, length: usize, script: *const RawStep, steps: usize, rounds: u64) -> u64;
+    fn winnow_bench_run_text(input: *const u8, length: usize, script: *const RawStep, steps: usize, rounds: u64) -> u64;
+    fn winnow_bench_answers_bytes(input: *const u8, length: usize, script: *const RawStep, steps: usize, out: *mut u64, room: usize) -> u64;
+    fn winnow_bench_answers_text(input: *const u8, length: usize, script: *const RawStep, steps: usize, out: *mut u64, room: usize) -> u64;
+    fn winnow_bench_others_bytes(input: *const u8, length: usize, width: u64, out: *mut u64, room: usize) -> u64;
+    fn winnow_bench_others_text(input: *const u8, length: usize, width: u64, out: *mut u64, room: usize) -> u64;
+    fn winnow_bench_needed(size: u64, out: *mut u64, room: usize) -> u64;
+}
+
+pub fn run_bytes((input, script): (&[u8], &[RawStep]), rounds: u64) -> u64 {
+    unsafe { winnow_bench_run_bytes(input.as_ptr(), input.len(), script.as_ptr(), script.len(), rounds) }
+}
+
+pub fn run_text((input, script): (&str, &[RawStep]), rounds: u64) -> u64 {
+    unsafe { winnow_bench_run_text(input.as_ptr(), input.len(), script.as_ptr(), script.len(), rounds) }
+}
+
+/// Room for the numbers in which our library tells its answers.
+pub struct Room(Vec<u64>);
+
+impl Room {
+    pub fn new() -> Self {
+        Room(vec![0; 1 << 14])
+    }
+
+    // What a call wrote; `None` where it had no memory, or there was no room.
+    fn told(&mut self, call: impl FnOnce(*mut u64, usize) -> u64) -> Option<&[u64]> {
+        let count = call(self.0.as_mut_ptr(), self.0.len());
+        self.0.get(..count as usize)
+    }
+
+    /// The answers of a script on bytes.
+    pub fn answers_bytes(&mut self, input: &[u8], script: &[RawStep]) -> Option<Vec<Told>> {
+        read_answers(self.told(|out, room| unsafe {
+            winnow_bench_answers_bytes(input.as_ptr(), input.len(), script.as_ptr(), script.len(), out, room)
+        })?)
+    }
+
+    /// The answers of a script on a text.
+    pub fn answers_text(&mut self, input: &str, script: &[RawStep]) -> Option<Vec<Told>> {
+        read_answers(self.told(|out, room| unsafe {
+            winnow_bench_answers_text(input.as_ptr(), input.len(), script.as_ptr(), script.len(), out, room)
+        })?)
+    }
+
+    /// What the calls that no step names answer of bytes.
+    pub fn others_bytes(&mut self, input: &[u8], width: usize) -> Option<Vec<u64>> {
+        let told = self.told(|out, room| unsafe { winnow_bench_others_bytes(input.as_ptr(), input.len(), width as u64, out, room) });
+        told.map(<[u64]>::to_vec)
+    }
+
+    /// What the calls that no step names answer of a text.
+    pub fn others_text(&mut self, input: &str, width: usize) -> Option<Vec<u64>> {
+        let told = self.told(|out, room| unsafe { winnow_bench_others_text(input.as_ptr(), input.len(), width as u64, out, room) });
+        told.map(<[u64]>::to_vec)
+    }
+
+    /// What a shortage of so many tokens answers.
+    pub fn needed(&mut self, size: usize) -> Option<Vec<u64>> {
+        self.told(|out, room| unsafe { winnow_bench_needed(size as u64, out, room) }).map(<[u64]>::to_vec)
+    }
+}
+
+impl Default for Room {
+    fn default() -> Self {
+        Room::new()
+    }
+}

@@ -1,0 +1,95 @@
+//! The exports over `&[u8]`.
+
+use crate::fronts::{find_token, offset_behind, take_all, take_parts};
+use crate::others::tell_bytes;
+use crate::runs::run_rounds;
+use crate::steps::{RawStep, steps_of};
+use crate::tell::{hand_out, tell_run};
+use crate::tokens::{drain, look_ahead, peek_and_take, sum_offsets};
+use std::alloc::Global;
+
+#[unsafe(no_mangle)]
+pub extern "C" fn winnow_bench_drain_bytes(input: &[u8], number: u64) -> u64 {
+    let mut s = input;
+    drain(&mut s, number)
+}
+
+#[unsafe(no_mangle)]
+pub extern "C" fn winnow_bench_peek_and_take_bytes(input: &[u8], number: u64) -> u64 {
+    let mut s = input;
+    peek_and_take(&mut s, number)
+}
+
+#[unsafe(no_mangle)]
+pub extern "C" fn winnow_bench_sum_offsets_bytes(input: &[u8], number: u64) -> u64 {
+    let s = input;
+    sum_offsets(&s, number)
+}
+
+#[unsafe(no_mangle)]
+pub extern "C" fn winnow_bench_look_ahead_bytes(input: &[u8], number: u64) -> u64 {
+    let mut s = input;
+    look_ahead(&mut s, number)
+}
+
+#[unsafe(no_mangle)]
+pub extern "C" fn winnow_bench_take_all_bytes(input: &[u8], number: u64) -> u64 {
+    let mut s = input;
+    take_all(&mut s, number as usize)
+}
+
+#[unsafe(no_mangle)]
+pub extern "C" fn winnow_bench_take_parts_bytes(input: &[u8], number: u64) -> u64 {
+    let mut s = input;
+    take_parts(&mut s, number)
+}
+
+#[unsafe(no_mangle)]
+pub extern "C" fn winnow_bench_find_token_bytes(input: &[u8], number: u64) -> u64 {
+    let s = input;
+    find_token(&s, number).unwrap_or(usize::MAX) as u64
+}
+
+#[unsafe(no_mangle)]
+pub extern "C" fn winnow_bench_offset_behind_bytes(input: &[u8], number: u64) -> u64 {
+    let s = input;
+    offset_behind(&s, number as usize)
+}
+
+#[unsafe(no_mangle)]
+pub extern "C" fn winnow_bench_run_bytes(
+    alloc: Global,
+    input: &[u8],
+    script: &[RawStep],
+    rounds: u64,
+) -> u64 {
+    let Ok(steps) = steps_of(alloc, script) else {
+        return u64::MAX;
+    };
+    let mut s = input;
+    run_rounds(alloc, &mut s, &steps, rounds).unwrap_or(u64::MAX)
+}
+
+#[unsafe(no_mangle)]
+pub extern "C" fn winnow_bench_answers_bytes(
+    alloc: Global,
+    input: &[u8],
+    script: &[RawStep],
+    out: &mut [u64],
+) -> u64 {
+    let Ok(steps) = steps_of(alloc, script) else {
+        return u64::MAX;
+    };
+    let mut s = input;
+    hand_out(tell_run(alloc, &mut s, &steps), out)
+}
+
+#[unsafe(no_mangle)]
+pub extern "C" fn winnow_bench_others_bytes(
+    alloc: Global,
+    input: &[u8],
+    width: u64,
+    out: &mut [u64],
+) -> u64 {
+    hand_out(tell_bytes(alloc, input, width as usize), out)
+}

@@ -1,0 +1,18 @@
+//! The calls of `winnow_stream` as C functions over bytes and numbers, for `bench/` alone: there a program calls these and the
+//! Rust crate in turn, compares what they answer, and times them.
+//!
+//! A workload is one generic function over [`Stream`](winnow_stream::Stream), and `bench/rust` has the same one over the Rust
+//! crate's trait. An export is one line that calls it at a type.
+#![tactic(auto)]
+
+mod bytes;
+mod fronts;
+mod others;
+mod runs;
+mod steps;
+mod tell;
+mod texts;
+mod tokens;
+mod weigh;
+
+pub use steps::RawStep;

@@ -1,0 +1,81 @@
+//! Scripts as they cross the border.
+ghost use Rattle.std.specs.Prelude.{◌≡◌, nat_le, ◌&&◌};
+
+use std::alloc::{AllocError, Global};
+use winnow_stream::{ScriptSet, Step};
+
+/// The tokens whose numbers lie between two, both held.
+#[derive(Clone, Copy, Debug)]
+pub struct Numbers {
+    first: u64,
+    last: u64,
+}
+
+impl Numbers {
+    fn has(&self, number: u64) -> bool
+        ensures { result ≡ (nat_le self.now.first number && nat_le number self.now.last) }
+    {
+        self.first <= number && number <= self.last
+    }
+}
+
+impl ScriptSet<u8> for Numbers {
+    ghost tells = { λ s t b. b ≡ (nat_le s.first t && nat_le t s.last) };
+
+    fn holds(&self, token: u8) -> bool {
+        self.has(u64::from(token))
+    }
+}
+
+impl ScriptSet<char> for Numbers {
+    ghost tells = { λ s t b. b ≡ (nat_le s.first t && nat_le t s.last) };
+
+    fn holds(&self, token: char) -> bool {
+        self.has(u64::from(u32::from(token)))
+    }
+}
+
+/// A step as it crosses the border: its number in the order of `Step`, and its numbers.
+#[derive(Clone, Copy, Debug)]
+#[repr(C)]
+pub struct RawStep {
+    pub kind: u64,
+    pub first: u64,
+    pub second: u64,
+}
+
+/// The step, or `None` where the number is of none.
+pub fn step_of(raw: &RawStep) -> Option<Step<Numbers>> {
+    let number = raw.first as usize;
+    match raw.kind {
+        0 => Some(Step::Next),
+        1 => Some(Step::Peek),
+        2 => Some(Step::Take(number)),
+        3 => Some(Step::Look(number)),
+        4 => Some(Step::Finish),
+        5 => Some(Step::PeekFinish),
+        6 => Some(Step::Eof),
+        7 => Some(Step::At(number)),
+        8 => Some(Step::IsOffset(number)),
+        9 => Some(Step::First(Numbers {
+            first: raw.first,
+            last: raw.second,
+        })),
+        10 => Some(Step::Each),
+        11 => Some(Step::Mark),
+        12 => Some(Step::Reset(number)),
+        13 => Some(Step::Since(number)),
+        _ => None,
+    }
+}
+
+/// The steps of a script, without those that are none.
+pub fn steps_of(alloc: Global, raw: &[RawStep]) -> Result<Vec<Step<Numbers>>, AllocError> {
+    let mut steps = Vec::with_capacity(alloc, raw.len())?;
+    for line in raw {
+        if let Some(step) = step_of(line) {
+            steps.push(step)?;
+        }
+    }
+    Ok(steps)
+}

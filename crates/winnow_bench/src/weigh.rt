@@ -1,0 +1,53 @@
+//! What a workload sums up, so that no part of its work can be left out.
+ghost use Rattle.std.specs.Prelude.{◌≡◌, ℕ};
+
+/// A token as a number.
+pub trait Number {
+    ghost number: { Self → ℕ };
+
+    /// Its byte, or its character's number.
+    fn number(&self) -> u64
+        ensures { result ≡ number self.now };
+}
+
+impl Number for u8 {
+    ghost number = { λ byte. byte };
+
+    fn number(&self) -> u64 {
+        u64::from(*self)
+    }
+}
+
+impl Number for char {
+    ghost number = { λ c. c };
+
+    fn number(&self) -> u64 {
+        u64::from(u32::from(*self))
+    }
+}
+
+/// A slice as a number, of which it must be read.
+pub trait Weigh {
+    /// Its length and its first byte.
+    fn weigh(&self) -> u64;
+}
+
+impl Weigh for &[u8] {
+    fn weigh(&self) -> u64 {
+        match self.first() {
+            Some(first) => self.len() as u64 ^ u64::from(*first),
+            None => 0,
+        }
+    }
+}
+
+impl Weigh for &str {
+    fn weigh(&self) -> u64 {
+        self.as_bytes().weigh()
+    }
+}
+
+/// The sum so far with one more number: one instruction, and the order counts.
+pub fn mix(sum: u64, number: u64) -> u64 {
+    number.wrapping_sub(sum)
+}
