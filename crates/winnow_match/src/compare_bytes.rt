@@ -1,22 +1,27 @@
-ghost use Rattle.std.specs.Prelude.{◌≡◌, [], ◌∷◌};
+ghost use Rattle.std.specs.Prelude.{◌≡◌, ◌≤◌, [], ◌∷◌, length, IsTrue};
 ghost use Rattle.std.specs.Char.{encode_utf8};
 ghost use Rattle.winnow_match.specs.Bytes.{bytes_of};
-ghost use Rattle.winnow_match.specs.Comparison.{comparison};
+ghost use Rattle.winnow_match.specs.Comparison.{is_front, comparison};
 
 use crate::{Compare, CompareResult};
+
+// Whether the prefix is a front of the input. `==` is quicker on short slices than `starts_with`.
+#[tactic(auto, using(crate::proofs::lemmas::FrontLemmas::front_tests))]
+pub(crate) fn begins_with(input: &[u8], prefix: &[u8]) -> bool
+    ensures value { result ≡ is_front prefix.now input.now }
+    ensures fits { IsTrue result → length prefix.now ≤ length input.now }
+{
+    prefix.len() <= input.len() && prefix == &input[..prefix.len()]
+}
 
 // How the literal compares with the front of the input, in one pass.
 #[tactic(auto, using(crate::proofs::lemmas::ComparisonLemmas::comparisons))]
 pub(crate) fn compare_front(input: &[u8], literal: &[u8]) -> CompareResult
     ensures { result ≡ comparison literal.now input.now }
 {
-    if literal.len() <= input.len() {
-        if input.starts_with(literal) {
-            CompareResult::Ok(literal.len())
-        } else {
-            CompareResult::Error
-        }
-    } else if literal.starts_with(input) {
+    if begins_with(input, literal) {
+        CompareResult::Ok(literal.len())
+    } else if input.len() < literal.len() && begins_with(literal, input) {
         CompareResult::Incomplete
     } else {
         CompareResult::Error

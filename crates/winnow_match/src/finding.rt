@@ -4,6 +4,7 @@ ghost use Rattle.memchr.specs.Find.{IsFirst, Nowhere, NoneBefore};
 ghost use Rattle.winnow_match.specs.Search.{hit, is_empty, needle_at, SomeStands, bytes_of_needles};
 
 use crate::Needles;
+use crate::compare_bytes::begins_with;
 use memchr::{memchr, memchr2, memchr3, memmem};
 use std::ops::Range;
 
@@ -43,7 +44,9 @@ pub(crate) fn find_three_bytes(input: &[u8], a: u8, b: u8, c: u8) -> Option<Rang
 /// The first hit of the needles.
 ///
 /// A near hit is found by the first byte, and a far one by a search of the whole needle. Several needles are sought in
-/// windows that grow, so that none is sought far past the first hit.
+/// windows that grow, so that none is sought far past the first hit. It is inlined with the functions that match on the
+/// needles, so that each caller has the code for its number of them alone.
+#[inline(always)]
 pub(crate) fn find_needles(input: &[u8], needles: &Needles<&[u8]>) -> Option<Range<usize>>
     ensures { result ≡ hit (bytes_of_needles needles.now) input.now }
 {
@@ -64,6 +67,7 @@ pub(crate) fn find_needles(input: &[u8], needles: &Needles<&[u8]>) -> Option<Ran
 }
 
 // Whether some needle is empty.
+#[inline(always)]
 fn has_empty(needles: &Needles<&[u8]>) -> bool
     ensures { result ≡ list_any is_empty (bytes_of_needles needles.now) }
 {
@@ -75,12 +79,12 @@ fn has_empty(needles: &Needles<&[u8]>) -> bool
 }
 
 // The length of the needle if the input begins with it.
-#[tactic(auto, using(crate::proofs::lemmas::SearchLemmas::one_needle))]
+#[inline(always)]
 fn front_length(input: &[u8], needle: &[u8]) -> Option<usize>
     ensures value { result ≡ needle_at (needle.now ∷ []) input.now }
     ensures fits { IfSome result (λ n. n ≤ length input.now) }
 {
-    if input.starts_with(needle) {
+    if begins_with(input, needle) {
         Some(needle.len())
     } else {
         None
@@ -88,6 +92,7 @@ fn front_length(input: &[u8], needle: &[u8]) -> Option<usize>
 }
 
 // The length of the first listed needle with which the input begins.
+#[inline(always)]
 fn front_needle(input: &[u8], needles: &Needles<&[u8]>) -> Option<usize>
     ensures value { result ≡ needle_at (bytes_of_needles needles.now) input.now }
     ensures fits { IfSome result (λ n. n ≤ length input.now) }
@@ -101,6 +106,8 @@ fn front_needle(input: &[u8], needles: &Needles<&[u8]>) -> Option<usize>
     }
 }
 
+// The first byte of a needle.
+#[inline(always)]
 fn first_byte(needle: &[u8]) -> u8
     requires { is_empty needle.now ≡ false }
     ensures { result ≡ slice_index needle.now 0 }
@@ -109,6 +116,7 @@ fn first_byte(needle: &[u8]) -> u8
 }
 
 // A place before which no needle stands: the first one whose byte begins some needle.
+#[inline(always)]
 fn next_first_byte(input: &[u8], needles: &Needles<&[u8]>) -> Option<usize>
     requires { list_any is_empty (bytes_of_needles needles.now) ≡ false }
     ensures { MatchOption result (Nowhere (SomeStands (bytes_of_needles needles.now) input.now) 0 (length input.now)) (λ at. NoneBefore (SomeStands (bytes_of_needles needles.now) input.now) 0 (length input.now) at) }
@@ -173,6 +181,7 @@ fn place_by_windows(input: &[u8], needles: &Needles<&[u8]>) -> Option<usize>
 }
 
 // The first place at which some needle stands, by searches that have to be set up.
+#[inline(always)]
 fn far_place(input: &[u8], needles: &Needles<&[u8]>) -> Option<usize>
     requires { list_any is_empty (bytes_of_needles needles.now) ≡ false }
     ensures { IsFirst (SomeStands (bytes_of_needles needles.now) input.now) 0 (length input.now) result }

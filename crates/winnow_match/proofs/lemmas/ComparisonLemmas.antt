@@ -3,7 +3,7 @@ use Rattle.std.proofs.Common.{◌≡◌, ◌↔◌, ℕ, ◌≤◌, ◌<◌, Boo
 use Rattle.std.proofs.lemmas.Bool.{cases_lt, false_from_ne_true, false≢true}
 use Rattle.winnow_match.specs.declared.compare.CompareResult.TheVariants as compared
 use Rattle.winnow_match.specs.Comparison.{is_front, IsFrontOf, comparison}
-use Rattle.winnow_match.proofs.lemmas.FrontLemmas.{starts_with-is_front, is_front-long, is_front-whole, is_front-append, is_front-more, is_front-shorter, is_front-both, length-front, no_front, IsFrontOf-is_front, is_front-IsFrontOf}
+use Rattle.winnow_match.proofs.lemmas.FrontLemmas.{is_front-long, is_front-whole, is_front-append, is_front-more, is_front-shorter, is_front-both, length-front, no_front, IsFrontOf-is_front, is_front-IsFrontOf}
 
 module _ (literal bytes : List ℕ) where
   pub comparison-ok : is_front literal bytes ≡ true → compared.Ok (length literal) ≡ comparison literal bytes
@@ -20,10 +20,7 @@ module _ (literal bytes : List ℕ) where
   comparison-differs l h =
       comparison-error h (false_from_ne_true (is_front bytes literal) (λ g. false≢true (sym h ∙ is_front-whole bytes literal g l)))
 
-  pub comparison-differs_short : length bytes < length literal → is_front bytes literal ≡ false → compared.Error ≡ comparison literal bytes
-  comparison-differs_short l h = comparison-error (is_front-long literal bytes l) h
-
-pub ruleset comparisons = (starts_with-is_front, comparison-ok, comparison-incomplete, comparison-differs, comparison-differs_short)
+pub ruleset comparisons = (comparison-ok, comparison-incomplete, comparison-differs, comparison-error)
 
 -- ---- what each answer says
 

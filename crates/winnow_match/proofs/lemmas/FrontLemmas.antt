@@ -1,16 +1,16 @@
--- Fronts of bytes: how long they are, and that `starts_with` tests for one.
-use Rattle.std.proofs.Common.{◌≡◌, ℕ, ◌≤◌, ◌<◌, ◌==◌, Bool, true, false, ◌&&◌, List, [], ◌∷◌, ◌++◌, length, take, drop, refl, ap, sym, ◌∙◌, arith}
+-- Fronts of bytes: how long they are, what they leave, and how the code tests for one.
+use Rattle.std.proofs.Common.{◌≡◌, ℕ, ◌≤◌, ◌<◌, ◌==◌, true, false, ◌&&◌, List, [], ◌∷◌, ◌++◌, length, take, drop, refl, ap, ◌∙◌, arith}
 use Rattle.std.specs.Prelude.{nat_eq}
-use Rattle.std.specs.List.{starts_with}
+use Rattle.std.specs.Cmp.Lexicographic.{pointwise}
 use Rattle.std.proofs.lemmas.Bool.{and_parts, false≢true, false_from_ne_true}
 use Rattle.std.proofs.lemmas.Bool.Decides.{nat_tests}
 use Rattle.winnow_match.specs.Comparison.{is_front, IsFrontOf}
 
--- `xs.starts_with(p)`
-pub starts_with-is_front : (p xs : List ℕ) → starts_with nat_eq xs p ≡ is_front p xs
-starts_with-is_front [] xs = refl
-starts_with-is_front (x ∷ p) [] = refl
-starts_with-is_front (x ∷ p) (y ∷ xs) = ap (λ b. (x == y) && b) (starts_with-is_front p xs)
+-- `p == &xs[..p.len()]`
+pub front-test : (p xs : List ℕ) → pointwise nat_eq p (take (length p) xs) ≡ is_front p xs
+front-test [] xs = refl
+front-test (x ∷ p) [] = refl
+front-test (x ∷ p) (y ∷ xs) = ap (λ b. (x == y) && b) (front-test p xs)
 
 pub length-front : (p xs : List ℕ) → is_front p xs ≡ true → length p ≤ length xs
 length-front [] xs h = omega arith
@@ -81,3 +81,5 @@ is_front-both (x ∷ p) (z ∷ q) (y ∷ xs) h g l =
     let second = and_parts (z == y) (is_front q xs) g in
     let same : (z == x) ≡ true = grind (arith, nat_tests, first.0, second.0) in
     rw (same, is_front-both p q xs first.1 second.1 (omega (arith, l))) refl
+
+pub ruleset front_tests = (front-test, is_front-long)

@@ -1,7 +1,7 @@
 -- Where needles stand: lists of needles, windows, and the hit from its place.
 use Rattle.std.proofs.Common.{◌≡◌, ℕ, zero, suc, ◌+◌, ◌-◌, ◌≤◌, ◌<◌, ◌==◌, min, Bool, true, false, cond, ◌||◌, ◌⊎◌, List, [], ◌∷◌, ◌++◌, length, take, drop, get_or, Option, Some, None, refl, ap, sym, ◌∙◌, arith, subst, inl, inr, length-drop, length-take}
-use Rattle.std.specs.Prelude.{is_some, unwrap_or, slice_index, MatchOption, ⊤, nat_eq}
-use Rattle.std.specs.List.{list_any, starts_with}
+use Rattle.std.specs.Prelude.{is_some, unwrap_or, slice_index, MatchOption, ⊤}
+use Rattle.std.specs.List.{list_any}
 use Rattle.std.proofs.lemmas.Bool.{and_parts, or_cases, or_parts, or_left, or_right, false≢true, cases_lt, cases_Bool}
 use Rattle.std.proofs.lemmas.Bool.Decides.{nat_tests}
 use Rattle.std.proofs.lemmas.List.{drop-drop, drop_all, drop_more, get_or-take, get_or-drop}
@@ -10,7 +10,7 @@ use Rattle.memchr.specs.Find.{IsFirst, IsFirstByte, Passes, is_byte, is_byte2, i
 use Rattle.winnow_stream.specs.Cursor.{places}
 use Rattle.winnow_match.specs.Comparison.{is_front}
 use Rattle.winnow_match.specs.Search.{is_empty, needle_at, SomeStands, first_hit, hit}
-use Rattle.winnow_match.proofs.lemmas.FrontLemmas.{length-front, is_front-append, front_rest, starts_with-is_front}
+use Rattle.winnow_match.proofs.lemmas.FrontLemmas.{length-front, is_front-append, front_rest}
 
 pub nonempty-length : (xs : List ℕ) → is_empty xs ≡ false → 0 < length xs
 nonempty-length [] h = absurd (false≢true (sym h))
@@ -210,15 +210,6 @@ pub next-first : (test : ℕ → Bool) (ls : List (List ℕ)) (bytes : List ℕ)
 next-first test ls bytes None w f = λ k low high s. f k low high (Passes-SomeStands test ls bytes k w s)
 next-first test ls bytes (Some at) w f =
     record { low = f.0.low; high = f.0.high; before = λ k low high s. f.0.before k low high (Passes-SomeStands test ls bytes k w s) }
-
--- what `starts_with` answered of one needle
-pub needle-found : (n xs : List ℕ) → starts_with nat_eq xs n ≡ true → Some (length n) ≡ needle_at (n ∷ []) xs
-needle-found n xs h = let f : is_front n xs ≡ true = sym (starts_with-is_front n xs) ∙ h in rw f refl
-
-pub needle-missed : (n xs : List ℕ) → starts_with nat_eq xs n ≡ false → None ≡ needle_at (n ∷ []) xs
-needle-missed n xs h = let f : is_front n xs ≡ false = sym (starts_with-is_front n xs) ∙ h in rw f refl
-
-pub ruleset one_needle = (needle-found, needle-missed)
 
 -- the first bytes of one, two and three needles
 module _ (ls : List (List ℕ)) (some : list_any is_empty ls ≡ false) where

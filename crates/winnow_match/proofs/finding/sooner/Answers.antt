@@ -1,6 +1,3 @@
-use Rattle.std.proofs.Common.{ap, subst, Option, ℕ, sym}
-use Rattle.memchr.specs.Find.{IsFirst}
-use Rattle.winnow_match.specs.Search.{SomeStands}
 use Rattle.winnow_match.proofs.lemmas.SearchLemmas.{sooner-some, sooner-none}
 use Rattle.winnow_match.proofs.finding.sooner.Goals as goal
 
