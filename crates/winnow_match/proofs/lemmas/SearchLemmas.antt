@@ -169,9 +169,6 @@ first_hit-none ls (y ∷ bytes) base none =
     rw here (first_hit-none ls bytes (base + 1) later)
 
 module _ (ls : List (List ℕ)) (bytes : List ℕ) where
-  pub hit-empty : list_any is_empty ls ≡ true → Some (places 0 0) ≡ hit ls bytes
-  hit-empty e = rw e refl
-
   pub hit-some : (q n : ℕ) → list_any is_empty ls ≡ false → Nowhere (SomeStands ls bytes) 0 q → needle_at ls (drop q bytes) ≡ Some n → Some (places q n) ≡ hit ls bytes
   hit-some q n some none e =
       let l = SomeStands-within ls bytes q some (ap is_some e) in
