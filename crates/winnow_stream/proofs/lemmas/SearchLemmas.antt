@@ -1,21 +1,48 @@
--- A search for the first token that passes, item by item.
-use Rattle.std.proofs.Common.{◌≡◌, ℕ, ◌+◌, ◌<◌, ◌≤◌, Bool, true, false, cond, List, [], ◌∷◌, length, get_or, drop, refl, ap, sym, ◌∙◌, arith, Some, None, suc, zero, take}
-use Rattle.std.proofs.lemmas.List.{at_drop_more, at_drop_all}
+-- A search for the first token that passes, item by item: `next` was given, and `later` comes behind it.
+use Rattle.std.proofs.Common.{◌≡◌, ℕ, zero, suc, ◌+◌, ◌<◌, Bool, true, false, cond, List, [], ◌∷◌, length, get_or, take, refl, ap, sym, arith, Some, None}
+use Rattle.std.specs.Prelude.{Option, IfSome}
+use Rattle.std.specs.Iterator.{Count, IsFinite, size, MakesProgress, AlwaysYields}
 use Rattle.winnow_stream.specs.Source.{first_held, offsets_from, width}
 
-module _ {A : Type 0} (q : A → Bool) (all : List (ℕ × A)) (n : ℕ) where
-  held-turn : (x : ℕ × A) → (n < length all) × (x ≡ get_or all n x) → first_held q (drop n all) ≡ cond (q x.1) (Some x.0) (first_held q (drop (n + 1) all))
-  held-turn x h =
-      at_drop_more (first_held q) all n x h.0 ∙ ap (λ y. cond (q y.1) (Some y.0) (first_held q (drop (n + 1) all))) (sym h.1)
+-- all that is still to be looked at
+abbrev pub ahead : {B : Type 0} → Option B → List B → List B
+ahead None later = []
+ahead (Some x) later = x ∷ later
 
-  pub held-hit : (x : ℕ × A) → (n < length all) × (x ≡ get_or all n x) → first_held q all ≡ first_held q (drop n all) → true ≡ q x.1 → Some x.0 ≡ first_held q all
-  held-hit x h e p = let t = held-turn x h in let u = ap (λ b. cond b (Some x.0) (first_held q (drop (n + 1) all))) p in cc
+module _ {S B : Type 0} (steps : S → Option B → S → Type 0) (can : S → Type 0) (left : S → Count) where
+  -- an iterator may be called, ends, and yields these
+  abbrev pub Yields : List B → S → Type 0
+  Yields later s = AlwaysYields steps (λ x. x) s later × can s × IsFinite (left s)
 
-  pub held-miss : (x : ℕ × A) → (n < length all) × (x ≡ get_or all n x) → first_held q all ≡ first_held q (drop n all) → false ≡ q x.1 → first_held q all ≡ first_held q (drop (n + 1) all)
-  held-miss x h e p = let t = held-turn x h in let u = ap (λ b. cond b (Some x.0) (first_held q (drop (n + 1) all))) p in cc
+  -- it gave `next`, and then yields `later`
+  abbrev pub Gave : Option B → List B → S → Type 0
+  Gave next later s = IfSome next (λ _. Yields later s)
 
-  pub held-none : length all ≤ n → first_held q all ≡ first_held q (drop n all) → None ≡ first_held q all
-  held-none h e = sym (e ∙ at_drop_all (first_held q) all n h)
+  pub ahead-next : (ys : List B) (s t : S) (next : Option B) → Yields ys s → steps s next t → MakesProgress can left s next t → (later : List B) × ((ys ≡ ahead next later) × Gave next later t)
+  ahead-next [] s t None y p m = ([], (refl, tt))
+  ahead-next [] s t (Some x) y p m = absurd (y.0 x t p)
+  ahead-next (z ∷ zs) s t None y p m = absurd (y.0.0 t p)
+  ahead-next (z ∷ zs) s t (Some x) y p m =
+      let k = y.0.1 x t p in
+      let n = m.on y.2 in
+      (zs, (ap (λ w. w ∷ zs) (sym k.0), (k.1, n.0, n.1)))
+
+-- one more than what is left, as long as there is a next item
+abbrev pub left_with : {S B : Type 0} → (S → Count) → Option B → S → ℕ
+left_with left None s = 0
+left_with left (Some x) s = suc (size (left s))
+
+module _ {S B : Type 0} (can : S → Type 0) (left : S → Count) where
+  pub left_with-next : (s t : S) (next : Option B) → IsFinite (left s) → MakesProgress can left s next t → left_with left next t < suc (size (left s))
+  left_with-next s t None f m = omega arith
+  left_with-next s t (Some x) f m = let n = m.on f in omega (arith, n.2)
+
+module _ {A : Type 0} (q : A → Bool) (x : ℕ × A) (later : List (ℕ × A)) where
+  pub held-hit : true ≡ q x.1 → Some x.0 ≡ first_held q (x ∷ later)
+  held-hit p = ap (λ b. cond b (Some x.0) (first_held q later)) p
+
+  pub held-miss : false ≡ q x.1 → first_held q (x ∷ later) ≡ first_held q later
+  held-miss p = sym (ap (λ b. cond b (Some x.0) (first_held q later)) p)
 
 -- ---- the place of an item
 

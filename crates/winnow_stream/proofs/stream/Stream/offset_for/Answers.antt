@@ -1,30 +1,46 @@
-use Rattle.std.proofs.Common.{length, sym, ◌∙◌, arith, rules}
-use Rattle.std.proofs.lemmas.List.{length_push}
-use Rattle.std.proofs.lemmas.Iterator.{YieldsList}
-use Rattle.std.proofs.lemmas.Iterator.Consumers.{YieldsList-turn, YieldsList-end, YieldsList-at}
-use Rattle.winnow_stream.specs.Source.{offsets}
-use Rattle.winnow_stream.proofs.lemmas.SearchLemmas.{held-hit, held-miss, held-none}
+use Rattle.std.proofs.Common.{sym, ◌∙◌, ap}
+use Rattle.winnow_stream.specs.Source.{first_held}
+use Rattle.winnow_stream.proofs.lemmas.SearchLemmas.{ahead, ahead-next, left_with-next, held-hit, held-miss}
 use Rattle.winnow_stream.proofs.stream.Stream.offset_for.Goals as goal
+
+pub loop-next-init : goal.loop-next-init
+loop-next-init g c =
+    let all = c.iter_offsets-items.ensures in
+    let a = ahead-next g.Self.IterOffsets.Iterator.next_gives g.Self.IterOffsets.Iterator.can_next g.Self.IterOffsets.Iterator.remaining _ _ _ _ (all.items, all.can, all.ends) c.next-next.ensures.steps c.next-next.ensures.goes in
+    (a.0, (a.1.1, λ q h. ap (first_held q) a.1.0))
 
 pub returns-then-predicate : goal.returns-then-predicate
 returns-then-predicate g c = λ q h.
-    let road : YieldsList g.Self.IterOffsets.Iterator.next_gives (λ x. x) c.iter_offsets-offset-items.result (offsets (g.Self.Stream.remaining c.args.self.now)) = record { runs = c.iter_offsets-offset-items.ensures.items } in
-    let t = YieldsList-turn (YieldsList-at c.into_iter-offset-iterator.ensures.into_iter_gives road) c.loop-offset.yielded _ c.loop-offset.yielded_by _ _ (c.in-Some.offset, c.in-Some.token) c.in-Some.is c.next.ensures.steps in
-    held-hit q _ _ _ t (c.loop-offset.invariant.2 q h) (sym c.if-predicate.true ∙ h _ _ c.predicate.ensures)
+    let i = c.loop-next.invariant in
+    let later = i.0 in
+    held-hit q (c.in-Some.offset, c.in-Some.token) later (sym c.if-predicate.true ∙ h _ _ c.predicate.ensures)
+    ∙ ap (λ o. first_held q (ahead o later)) (sym c.in-Some.is) ∙ sym (i.1.1 q h)
 
-pub loop-offset-preserved : goal.loop-offset-preserved
-loop-offset-preserved g c =
-    let road : YieldsList g.Self.IterOffsets.Iterator.next_gives (λ x. x) c.iter_offsets-offset-items.result (offsets (g.Self.Stream.remaining c.args.self.now)) = record { runs = c.iter_offsets-offset-items.ensures.items } in
-    let t = YieldsList-turn (YieldsList-at c.into_iter-offset-iterator.ensures.into_iter_gives road) c.loop-offset.yielded _ c.loop-offset.yielded_by _ _ (c.in-Some.offset, c.in-Some.token) c.in-Some.is c.next.ensures.steps in (
-      search rules,
-      search rules,
-      λ q h.
-          rw (length_push c.loop-offset.yielded (c.in-Some.offset, c.in-Some.token))
-          (held-miss q _ _ _ t (c.loop-offset.invariant.2 q h) (sym c.if-predicate.false ∙ h _ _ c.predicate.ensures)),
+pub next-next-requires-in-Some : goal.next-next-requires-in-Some
+next-next-requires-in-Some g c =
+    let y = rw c.in-Some.is at c.loop-next.invariant.1.0 in y.1
+
+pub loop-next-smaller : goal.loop-next-smaller
+loop-next-smaller g c =
+    let y = rw c.in-Some.is at c.loop-next.invariant.1.0 in
+    rw c.in-Some.is (left_with-next g.Self.IterOffsets.Iterator.can_next g.Self.IterOffsets.Iterator.remaining _ _ _ y.2 c.next-next-in-Some.ensures.goes)
+
+pub loop-next-preserved : goal.loop-next-preserved
+loop-next-preserved g c =
+    let i = c.loop-next.invariant in
+    let later = i.0 in
+    let y = rw c.in-Some.is at i.1.0 in
+    let a = ahead-next g.Self.IterOffsets.Iterator.next_gives g.Self.IterOffsets.Iterator.can_next g.Self.IterOffsets.Iterator.remaining _ _ _ _ y c.next-next-in-Some.ensures.steps c.next-next-in-Some.ensures.goes in (
+      a.0,
+      (
+        a.1.1,
+        λ q h.
+            i.1.1 q h ∙ ap (λ o. first_held q (ahead o later)) c.in-Some.is
+            ∙ held-miss q (c.in-Some.offset, c.in-Some.token) later (sym c.if-predicate.false ∙ h _ _ c.predicate.ensures)
+            ∙ ap (first_held q) a.1.0,
+      ),
     )
 
 pub returns : goal.returns
 returns g c = λ q h.
-    let road : YieldsList g.Self.IterOffsets.Iterator.next_gives (λ x. x) c.iter_offsets-offset-items.result (offsets (g.Self.Stream.remaining c.args.self.now)) = record { runs = c.iter_offsets-offset-items.ensures.items } in
-    let t = YieldsList-end (YieldsList-at c.into_iter-offset-iterator.ensures.into_iter_gives road) c.loop-offset.yielded _ c.loop-offset.yielded_by _ _ c.in-None.is c.next.ensures.steps in
-    held-none q _ (length c.loop-offset.yielded) (omega (arith, t.1)) (c.loop-offset.invariant.2 q h)
+    sym (c.loop-next.invariant.1.1 q h ∙ ap (λ o. first_held q (ahead o c.loop-next.invariant.0)) c.in_default.is)
