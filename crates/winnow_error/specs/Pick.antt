@@ -53,11 +53,11 @@ abbrev pub pick : {E : Type 0} → (E → E → E) → List (Mode E) → Option 
 pick join es = first_of (first_needed es) (first_cut es) (join_all join (backtracked es))
 
 -- some error of a list is no `Backtrack`
-abbrev pub HasHard : {E : Type 0} → List (Mode E) → Type 0
-HasHard [] = ⊥
-HasHard (Backtrack e ∷ es) = HasHard es
-HasHard (Incomplete n ∷ es) = Unit {0}
-HasHard (Cut e ∷ es) = Unit {0}
+abbrev pub HasNonBacktrack : {E : Type 0} → List (Mode E) → Type 0
+HasNonBacktrack [] = ⊥
+HasNonBacktrack (Backtrack e ∷ es) = HasNonBacktrack es
+HasNonBacktrack (Incomplete n ∷ es) = Unit {0}
+HasNonBacktrack (Cut e ∷ es) = Unit {0}
 
 -- whatever errors two trees have, they are one
 abbrev pub CombineAlike : {E : Type 0} → (E → E → E → Type 0) → OrTree E → OrTree E → Type 0

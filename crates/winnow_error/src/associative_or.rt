@@ -7,7 +7,7 @@ use winnow_stream::Stream;
 /// An error whose `or` is always `Ok` of one definition over the two errors, and that definition is associative.
 ///
 /// So the error of many alternatives does not depend on how they are bracketed.
-pub trait AssociativeOr<I: Stream>: ParserError<I> + Sized {
+pub trait AssociativeOr<I: Stream>: ParserError<I> {
     // The error of two.
     ghost joined: { Self → Self → Self };
 

@@ -1,7 +1,7 @@
 ghost use Rattle.std.specs.Prelude.{◌≡◌, Some, IfOk, OnErr};
 ghost use Rattle.winnow_error.specs.Mode.{ModeOr};
 ghost use Rattle.winnow_error.specs.Or.{GivesOnly, IsAssociative};
-ghost use Rattle.winnow_error.specs.Pick.{Bracketed, leaves, pick, HasHard};
+ghost use Rattle.winnow_error.specs.Pick.{Bracketed, leaves, pick, HasNonBacktrack};
 
 use crate::{ErrMode, ParserError};
 use std::alloc::{AllocError, Global};
@@ -24,7 +24,7 @@ pub fn combine<I: Stream, E: ParserError<I>>(
     tree: OrTree<ErrMode<E>>,
 ) -> Result<ErrMode<E>, AllocError>
     ensures bracketed { IfOk result (Bracketed (ModeOr E.or_gives) tree) }
-    ensures hard { (join : E → E → E) → HasHard (leaves tree) → IfOk result (λ r. pick join (leaves tree) ≡ Some r) }
+    ensures non_backtrack { (join : E → E → E) → HasNonBacktrack (leaves tree) → IfOk result (λ r. pick join (leaves tree) ≡ Some r) }
     ensures associative { (join : E → E → E) → GivesOnly E.or_gives join → IsAssociative join → IfOk result (λ r. pick join (leaves tree) ≡ Some r) }
     ensures err { OnErr result E.or_refusable }
 {

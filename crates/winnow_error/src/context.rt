@@ -20,7 +20,7 @@ use winnow_stream::{Needed, Stream};
 /// Contracts see the list of contexts and the text of the cause, and nothing of the room that they take.
 #[derive(Debug, Drop)]
 pub struct ContextError<C> {
-    contexts: Vec<C>,
+    context: Vec<C>,
     cause: Option<String>,
 }
 
@@ -30,7 +30,7 @@ impl<C> Model for ContextError<C> {
 
     ghost Value = { Explanation C };
 
-    ghost view = { λ e. record { contexts = e.contexts.items; cause = option_map string_bytes e.cause } };
+    ghost view = { λ e. record { contexts = e.context.items; cause = option_map string_bytes e.cause } };
 }
 
 impl<C: Drop> ContextError<C> {
@@ -39,7 +39,7 @@ impl<C: Drop> ContextError<C> {
         ensures { result ≡ unexplained }
     {
         ContextError {
-            contexts: Vec::new(alloc),
+            context: Vec::new(alloc),
             cause: None,
         }
     }
@@ -49,7 +49,7 @@ impl<C: Drop> ContextError<C> {
         ensures { result ≡ caused_by (string_bytes cause) }
     {
         ContextError {
-            contexts: Vec::new(alloc),
+            context: Vec::new(alloc),
             cause: Some(cause),
         }
     }
@@ -59,7 +59,7 @@ impl<C: Drop> ContextError<C> {
         ensures ok { OnOk result (self.new ≡ pushed self.old context) }
         ensures err { OnErr result (self.new ≡ self.old) }
     {
-        self.contexts.push(context)?;
+        self.context.push(context)?;
         Ok(())
     }
 
@@ -68,14 +68,14 @@ impl<C: Drop> ContextError<C> {
         requires { (it : U.IntoIter) → U.into_iter_gives contexts it → U.IntoIter.can_next it × IsFinite (U.IntoIter.remaining it) }
         ensures { ExtendsWithItems U.into_iter_gives U.IntoIter.next_gives Extends contexts self.old self.new result }
     {
-        self.contexts.extend(contexts)
+        self.context.extend(contexts)
     }
 
     /// The contexts, in the order in which they were added.
     pub fn context(&self) -> ContextItems<'_, C>
         ensures { result ≡ self.now.contexts }
     {
-        ContextItems::new(self.contexts.as_slice())
+        ContextItems::new(self.context.as_slice())
     }
 
     /// The text of what caused the error, if it was another's error.
@@ -95,9 +95,9 @@ impl<C: Drop> ContextError<C> {
         requires { (a b : C) → C.is_clone a b → b ≡ a }
         ensures { IfOk result (λ copy. copy ≡ self.now) }
     {
-        let contexts = self.contexts.clone()?;
+        let context = self.context.clone()?;
         let cause = self.cause.clone()?;
-        Ok(ContextError { contexts, cause })
+        Ok(ContextError { context, cause })
     }
 }
 
@@ -226,6 +226,6 @@ impl<C: PartialEq> PartialEq for ContextError<C> {
     ghost laws = { Prim.search (comparing, rules) depth 9 };
 
     fn eq(&self, other: &Self) -> bool {
-        self.contexts == other.contexts && self.cause == other.cause
+        self.context == other.context && self.cause == other.cause
     }
 }

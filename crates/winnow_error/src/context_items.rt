@@ -1,5 +1,6 @@
-ghost use Rattle.std.specs.Prelude.{◌≡◌};
-ghost use Rattle.std.specs.Iterator.{YieldsFirstRef, item_count};
+ghost use Rattle.std.specs.Prelude.{◌≡◌, length, IfSome, Some};
+ghost use Rattle.std.specs.Iterator.{at_most, item_count, UpTo, YieldsFirstRef};
+ghost use Rattle.std.specs.Iterator.SizeHint.{IsWithinCount};
 
 use std::marker::Model;
 
@@ -44,7 +45,11 @@ impl<'a, C> Iterator for ContextItems<'a, C> {
         Some(first)
     }
 
-    fn size_hint(&self) -> (usize, Option<usize>) {
+    fn size_hint(&self) -> (usize, Option<usize>)
+        ensures lower { IsWithinCount result.0 (at_most (length self.now)) }
+        ensures upper { IfSome result.1 (UpTo (at_most (length self.now))) }
+        ensures exact { result ≡ (length self.now, Some (length self.now)) }
+    {
         (self.rest.len(), Some(self.rest.len()))
     }
 }

@@ -2,7 +2,7 @@ ghost use Rattle.std.specs.Prelude.{◌≡◌, IsSome};
 ghost use Rattle.winnow_error.specs.declared.combining.OrTree.{OrTree};
 ghost use Rattle.winnow_error.specs.Mode.{Mode, ModeOr, mode_cut, mode_backtrack, mode_joined, mode_needs};
 ghost use Rattle.winnow_error.specs.Or.{GivesOnly, IsAssociative};
-ghost use Rattle.winnow_error.specs.Pick.{leaves, HasHard, CombineAlike};
+ghost use Rattle.winnow_error.specs.Pick.{leaves, HasNonBacktrack, CombineAlike};
 
 use crate::{AssociativeOr, ParserError};
 use winnow_stream::Stream;
@@ -25,5 +25,5 @@ pub fn or_law<I: Stream, E: AssociativeOr<I>>()
 /// associative function, and whatever it is where some error is no `Backtrack`.
 pub fn bracket_law<I: Stream, E: ParserError<I>>()
     ensures associative { (join : E → E → E) (s t : OrTree (Mode E)) → GivesOnly E.or_gives join → IsAssociative join → leaves s ≡ leaves t → CombineAlike (ModeOr E.or_gives) s t }
-    ensures hard { (s t : OrTree (Mode E)) → HasHard (leaves s) → leaves s ≡ leaves t → CombineAlike (ModeOr E.or_gives) s t }
+    ensures non_backtrack { (s t : OrTree (Mode E)) → HasNonBacktrack (leaves s) → leaves s ≡ leaves t → CombineAlike (ModeOr E.or_gives) s t }
 {}

@@ -9,7 +9,7 @@ use winnow_stream::{Needed, Stream};
 /// Parsers make an error where they fail, add to it on its way out, and join the errors of alternatives. What each call gives is a
 /// ghost member, which generic code cites. A call that takes memory also says whether it may be refused for want of it; a
 /// refusal gives up the errors that the call took.
-pub trait ParserError<I: Stream>: Drop {
+pub trait ParserError<I: Stream>: Sized + Drop {
     /// What is left of the error without its mode: for `ErrMode<E>` that is `E`, and else the error itself.
     type Inner;
 

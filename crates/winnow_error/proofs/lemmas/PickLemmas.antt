@@ -8,7 +8,7 @@ use Rattle.winnow_error.specs.declared.combining.OrTree.{OrTree, One, Both'}
 use Rattle.winnow_error.specs.Mode.{Mode, ModeOr, mode_joined}
 use Rattle.winnow_error.specs.ModeLemmas.{ModeOr-joined, mode_joined-associative}
 use Rattle.winnow_error.specs.Or.{GivesOnly, IsAssociative}
-use Rattle.winnow_error.specs.Pick.{leaves, Bracketed, first_needed, first_cut, backtracked, join_all, first_of, pick, HasHard, CombineAlike}
+use Rattle.winnow_error.specs.Pick.{leaves, Bracketed, first_needed, first_cut, backtracked, join_all, first_of, pick, HasNonBacktrack, CombineAlike}
 
 -- what stands for two lists, of what stands for each
 abbrev option_joined : {E : Type 0} → (E → E → E) → Option (Mode E) → Option (Mode E) → Option (Mode E)
@@ -126,11 +126,11 @@ first_hard-leaves gives (One e) r w = first_hard-one e ∙ ap hard_of (sym w)
 first_hard-leaves gives (Both' p left q right) r w =
     first_hard-append (leaves left) (leaves right) ∙ ap (λ o. hard_joined o (first_hard (leaves right))) (first_hard-leaves gives left w.0 w.1.1.0) ∙ ap (hard_joined (hard_of w.0)) (first_hard-leaves gives right w.1.0 w.1.1.1) ∙ sym (hard_of-joined gives w.0 w.1.0 r w.1.1.2)
 
-HasHard-first_hard : {E : Type 0} (es : List (Mode E)) → HasHard es → IsSome (first_hard es)
-HasHard-first_hard [] h = absurd h
-HasHard-first_hard (Incomplete n ∷ es) h = refl
-HasHard-first_hard (Backtrack e ∷ es) h = HasHard-first_hard es h
-HasHard-first_hard (Cut e ∷ es) h = with_cut (first_needed es)
+HasNonBacktrack-first_hard : {E : Type 0} (es : List (Mode E)) → HasNonBacktrack es → IsSome (first_hard es)
+HasNonBacktrack-first_hard [] h = absurd h
+HasNonBacktrack-first_hard (Incomplete n ∷ es) h = refl
+HasNonBacktrack-first_hard (Backtrack e ∷ es) h = HasNonBacktrack-first_hard es h
+HasNonBacktrack-first_hard (Cut e ∷ es) h = with_cut (first_needed es)
   where
     with_cut : (i : Option Needed) → IsSome (first_of i (Some e) None)
     with_cut (Some n) = refl
@@ -148,9 +148,9 @@ hard_of-some (Cut e) h = refl
 hard_of-some (Backtrack e) h = cc
 
 -- where some leaf is no `Backtrack`, the tree's error is the pick of its leaves, whatever the inner `or`
-pub pick-hard : {E : Type 0} (gives : E → E → E → Type 0) (join : E → E → E) (t : OrTree (Mode E)) (r : Mode E) → HasHard (leaves t) → Bracketed (ModeOr gives) t r → pick join (leaves t) ≡ Some r
-pick-hard gives join t r h w =
-    let some = HasHard-first_hard (leaves t) h in
+pub pick-non_backtrack : {E : Type 0} (gives : E → E → E → Type 0) (join : E → E → E) (t : OrTree (Mode E)) (r : Mode E) → HasNonBacktrack (leaves t) → Bracketed (ModeOr gives) t r → pick join (leaves t) ≡ Some r
+pick-non_backtrack gives join t r h w =
+    let some = HasNonBacktrack-first_hard (leaves t) h in
     let is_hard = first_hard-leaves gives t r w in
     first_of-some (first_needed (leaves t)) (first_cut (leaves t)) (join_all join (backtracked (leaves t))) some ∙ is_hard ∙ hard_of-some r (subst IsSome is_hard some)
 
@@ -166,5 +166,5 @@ pub leaves-alike : {E : Type 0} (gives : E → E → E → Type 0) (join : E →
 leaves-alike gives join s t only h e a b v w = pick-same join (leaves s) (leaves t) a b e (pick-leaves gives join only h s a v) (pick-leaves gives join only h t b w)
 
 -- and whatever the inner `or`, where some leaf is no `Backtrack`
-pub hard_leaves-alike : {E : Type 0} (gives : E → E → E → Type 0) (s t : OrTree (Mode E)) → HasHard (leaves s) → leaves s ≡ leaves t → CombineAlike (ModeOr gives) s t
-hard_leaves-alike gives s t h e a b v w = pick-same (λ x _. x) (leaves s) (leaves t) a b e (pick-hard gives (λ x _. x) s a h v) (pick-hard gives (λ x _. x) t b (subst HasHard e h) w)
+pub non_backtrack-alike : {E : Type 0} (gives : E → E → E → Type 0) (s t : OrTree (Mode E)) → HasNonBacktrack (leaves s) → leaves s ≡ leaves t → CombineAlike (ModeOr gives) s t
+non_backtrack-alike gives s t h e a b v w = pick-same (λ x _. x) (leaves s) (leaves t) a b e (pick-non_backtrack gives (λ x _. x) s a h v) (pick-non_backtrack gives (λ x _. x) t b (subst HasNonBacktrack e h) w)

@@ -1,10 +1,10 @@
 use Rattle.std.proofs.lemmas.Result.{IfOk-weaker}
-use Rattle.winnow_error.proofs.lemmas.PickLemmas.{pick-leaves, pick-hard}
+use Rattle.winnow_error.proofs.lemmas.PickLemmas.{pick-leaves, pick-non_backtrack}
 use Rattle.winnow_error.proofs.combining.combine.Goals as goal
 
-pub returns-clause-hard : goal.returns-clause-hard
-returns-clause-hard g c = λ join hard.
-    IfOk-weaker _ _ _ (λ r w. pick-hard g.E.ParserError.or_gives join c.args.tree r hard w) c.join_tree.ensures.bracketed
+pub returns-clause-non_backtrack : goal.returns-clause-non_backtrack
+returns-clause-non_backtrack g c = λ join hard.
+    IfOk-weaker _ _ _ (λ r w. pick-non_backtrack g.E.ParserError.or_gives join c.args.tree r hard w) c.join_tree.ensures.bracketed
 
 pub returns-clause-associative : goal.returns-clause-associative
 returns-clause-associative g c = λ join only associative.
