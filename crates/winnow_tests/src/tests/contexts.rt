@@ -93,6 +93,10 @@ fn contexts_are_kept_in_order(rt: HostRuntime) -> Result<(), Fail> {
     assert!(rt; copy == error && copy != Told::new(rt.alloc()));
     error.push(Label("d"))?;
     assert!(rt; copy != error);
+    assert_eq!(rt;
+        format!(in rt.alloc(); "{copy:?}")?.as_str(),
+        "ContextError { context: [Label(\"a\"), Label(\"b\"), Expected(CharLiteral('c'))], cause: Some(\"bad\") }"
+    );
     assert_eq!(rt; Told::new(rt.alloc()).cause(), None);
     Ok(())
 }

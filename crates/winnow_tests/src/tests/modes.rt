@@ -76,10 +76,24 @@ fn texts(rt: HostRuntime) -> Result<(), Fail> {
         EmptyError.to_string(rt.alloc())?.as_str(),
         "failed to parse"
     );
-    let debug = Backtrack(InputError::at("x"));
+    let inner = Backtrack(InputError::at("x"));
     assert_eq!(rt;
-        debug.to_string(rt.alloc())?.as_str(),
+        inner.to_string(rt.alloc())?.as_str(),
         "Parsing Error: InputError { input: \"x\" }"
     );
+    Ok(())
+}
+
+#[test]
+fn debug_texts(rt: HostRuntime) -> Result<(), Fail> {
+    let cases: [(ErrMode<EmptyError>, &str); 4] = [
+        (Incomplete(Needed::new(3)), "Incomplete(Size(3))"),
+        (Incomplete(Needed::Unknown), "Incomplete(Unknown)"),
+        (Backtrack(EmptyError), "Backtrack(EmptyError)"),
+        (Cut(EmptyError), "Cut(EmptyError)"),
+    ];
+    for (error, text) in cases {
+        assert_eq!(rt; format!(in rt.alloc(); "{error:?}")?.as_str(), text);
+    }
     Ok(())
 }
