@@ -98,3 +98,18 @@ pub fn script(length: usize) -> Vec<RawStep> {
         })
         .collect()
 }
+
+/// A needle, which stands here and there in `seeded`, as do its parts. Text has no `:` and no `-`.
+pub const NEEDLE: &str = "key: a needle of thirty-two byte";
+
+/// Bytes with the needle here and there, about a line apart.
+pub fn seeded(length: usize) -> Vec<u8> {
+    let mut random = Random::new(4);
+    let mut seeded = bytes(length);
+    let mut at = 0;
+    while at + NEEDLE.len() <= length {
+        seeded[at..at + NEEDLE.len()].copy_from_slice(NEEDLE.as_bytes());
+        at += NEEDLE.len() + random.below(2 * LINE) as usize;
+    }
+    seeded
+}

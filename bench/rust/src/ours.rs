@@ -65,7 +65,7 @@ impl Room {
     }
 
     // What a call wrote; `None` where it had no memory, or there was no room.
-    fn told(&mut self, call: impl FnOnce(*mut u64, usize) -> u64) -> Option<&[u64]> {
+    pub(crate) fn told(&mut self, call: impl FnOnce(*mut u64, usize) -> u64) -> Option<&[u64]> {
         let count = call(self.0.as_mut_ptr(), self.0.len());
         self.0.get(..count as usize)
     }

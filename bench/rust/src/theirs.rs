@@ -66,7 +66,7 @@ impl IsOffset for &str {
     }
 }
 
-fn mix(sum: u64, number: u64) -> u64 {
+pub(crate) fn mix(sum: u64, number: u64) -> u64 {
     number.wrapping_sub(sum)
 }
 

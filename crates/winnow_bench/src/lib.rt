@@ -1,4 +1,4 @@
-//! The calls of `winnow_stream` as C functions over bytes and numbers, for `bench/` alone: there a program calls these and the
+//! The calls of the library's crates as C functions over bytes and numbers, for `bench/` alone: there a program calls these and the
 //! Rust crate in turn, compares what they answer, and times them.
 //!
 //! A workload is one generic function over [`Stream`](winnow_stream::Stream), and `bench/rust` has the same one over the Rust
@@ -6,11 +6,18 @@
 #![tactic(auto)]
 
 mod bytes;
+mod errors;
 mod fronts;
 mod others;
 mod runs;
+mod search_exports;
+mod searches;
+mod set_exports;
 mod steps;
 mod tell;
+mod tell_errors;
+mod tell_searches;
+mod tell_sets;
 mod texts;
 mod tokens;
 mod weigh;

@@ -9,7 +9,7 @@ use crate::tell::{hand_out, tell_run};
 use crate::tokens::{drain, look_ahead, peek_and_take, sum_offsets};
 use std::alloc::Global;
 
-fn text(input: &[u8]) -> &str
+pub fn text(input: &[u8]) -> &str
     requires { IsUtf8 input.now }
 {
     unsafe { std::str::from_utf8_unchecked(input) }

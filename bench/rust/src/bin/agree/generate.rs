@@ -5,10 +5,10 @@ use winnow_bench::inputs::Random;
 use winnow_bench::script::Step;
 
 /// Bytes that end and begin the ranges of UTF-8, leads and continuations, and some that never stand there.
-const BYTES: [u8; 11] = [0x00, b'\n', b'a', 0x7f, 0x80, 0xa9, 0xbf, 0xc3, 0xe2, 0xf0, 0xff];
+pub const BYTES: [u8; 11] = [0x00, b'\n', b'a', 0x7f, 0x80, 0xa9, 0xbf, 0xc3, 0xe2, 0xf0, 0xff];
 
 /// Characters of each width, the first and the last among them.
-const CHARS: [char; 12] =
+pub const CHARS: [char; 12] =
     ['\0', '\n', 'a', '\u{7f}', '\u{80}', 'é', '\u{7ff}', '\u{800}', '€', '\u{ffff}', '\u{10000}', '\u{10ffff}'];
 
 /// No input is as long.
@@ -26,7 +26,7 @@ pub fn short_cases() -> impl Iterator<Item = Case> {
 }
 
 // All words of up to three letters, the shortest first.
-fn words<L: Copy>(letters: &[L]) -> Vec<Vec<L>> {
+pub fn words<L: Copy>(letters: &[L]) -> Vec<Vec<L>> {
     let mut all = vec![Vec::new()];
     let mut last = all.clone();
     for _ in 0..3 {

@@ -5,7 +5,9 @@
 //! at no valid offset, or a distance from a later place: there both sides of a script answer `BadOffset` and `LaterMark` of themselves.
 
 mod case;
+mod error_cases;
 mod generate;
+mod search_cases;
 mod shrink;
 
 use case::Case;
@@ -23,6 +25,11 @@ fn main() -> ExitCode {
         println!("a shortage of {size}: ours {:?}, Rust {:?}", room.needed(size), theirs::needed(size));
         return ExitCode::FAILURE;
     }
+    let compared = more(&mut room);
+    let Ok([searches, sets, texts]) = compared else {
+        println!("{}", compared.unwrap_err());
+        return ExitCode::FAILURE;
+    };
     let mut count = 0;
     let mut differs = |case: &Case| {
         count += 1;
@@ -33,6 +40,14 @@ fn main() -> ExitCode {
         println!("{}", shrink::smallest(case, &mut room).told(&mut room));
         return ExitCode::FAILURE;
     }
-    println!("agree: {count} cases and no difference, in {:.1} s", start.elapsed().as_secs_f64());
+    println!("agree: {count} cases, {searches} searches, {sets} sets, {texts} texts and no difference, in {:.1} s", start.elapsed().as_secs_f64());
     ExitCode::SUCCESS
+}
+
+// How many searches, answers of sets, and texts of errors were compared, or the first difference.
+fn more(room: &mut Room) -> Result<[usize; 3], String> {
+    let searches = search_cases::compare_searches(room, RANDOM_CASES)?;
+    let sets = search_cases::compare_sets(room)?;
+    let texts = error_cases::compare_errors(room, RANDOM_CASES)?;
+    Ok([searches, sets, texts])
 }

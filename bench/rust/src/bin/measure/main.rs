@@ -4,8 +4,10 @@
 //! instructions by valgrind in place of times.
 
 mod allocations;
+mod error_rows;
 mod instructions;
 mod rows;
+mod search_rows;
 mod timing;
 
 use rows::{Inputs, Row, Sizes, rows};

@@ -1,8 +1,10 @@
 //! The table of workloads. A new one is a line here, a generic function in `theirs`, and in `crates/winnow_bench` a generic function
 //! and an export for each kind of stream, whose name `ours` lists.
 
+use crate::error_rows::error_rows;
+use crate::search_rows::search_rows;
 use std::hint::black_box;
-use winnow_bench::inputs::{ABSENT, ascii_text, bytes, mixed_text, script};
+use winnow_bench::inputs::{ABSENT, ascii_text, bytes, mixed_text, script, seeded};
 use winnow_bench::script::RawStep;
 use winnow_bench::{ours, theirs};
 
@@ -21,14 +23,16 @@ impl Sizes {
 }
 
 pub struct Inputs {
-    bytes: Vec<u8>,
-    ascii: String,
-    mixed: String,
-    short_bytes: Vec<u8>,
-    short_ascii: String,
-    short_mixed: String,
+    pub bytes: Vec<u8>,
+    pub ascii: String,
+    pub mixed: String,
+    pub short_bytes: Vec<u8>,
+    pub short_ascii: String,
+    pub short_mixed: String,
     script: Vec<RawStep>,
-    calls: usize,
+    pub seeded: Vec<u8>,
+    pub short_seeded: Vec<u8>,
+    pub calls: usize,
 }
 
 impl Inputs {
@@ -40,6 +44,8 @@ impl Inputs {
             short_bytes: bytes(sizes.in_cache),
             short_ascii: ascii_text(sizes.in_cache),
             short_mixed: mixed_text(sizes.in_cache),
+            seeded: seeded(sizes.bytes_in_memory),
+            short_seeded: seeded(sizes.in_cache),
             script: script(10_000),
             calls: sizes.calls,
         }
@@ -77,16 +83,16 @@ impl Row<'_> {
 
 /// An input with its name.
 #[derive(Clone, Copy)]
-struct On<I> {
-    name: &'static str,
-    input: I,
-    units: usize,
-    calls: usize,
+pub struct On<I> {
+    pub name: &'static str,
+    pub input: I,
+    pub units: usize,
+    pub calls: usize,
 }
 
 impl<I: Copy> On<I> {
     // The workload over both sides. Neither compiler sees the input or the number.
-    fn row<'i>(self, name: &str, number: u64, ours: fn(I, u64) -> u64, theirs: fn(I, u64) -> u64) -> Row<'i>
+    pub fn row<'i>(self, name: &str, number: u64, ours: fn(I, u64) -> u64, theirs: fn(I, u64) -> u64) -> Row<'i>
     where
         I: 'i,
     {
@@ -121,6 +127,8 @@ pub fn rows(inputs: &Inputs) -> Vec<Row<'_>> {
         }
     }
     rows.extend(run_rows(inputs));
+    rows.extend(search_rows(inputs));
+    rows.extend(error_rows(inputs));
     rows
 }
 

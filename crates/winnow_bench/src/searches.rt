@@ -1,0 +1,84 @@
+//! Workloads that search, compare, and ask sets.
+use crate::weigh::{Weigh, mix};
+use winnow_match::{Compare, CompareResult, FindSlice};
+use winnow_sets::ContainsToken;
+use winnow_stream::Stream;
+
+/// Takes the slices that a hit ends, each with it; of an empty needle it takes none.
+pub fn take_hits<S: FindSlice<N>, N: Copy>(s: &mut S, needle: N) -> u64
+where
+    S::Slice: Weigh + Drop,
+    requires { S.valid s.old }
+{
+    let mut sum = 0;
+    while let Some(hit) = s.find_slice(needle) {
+        if hit.end == 0 || !s.is_offset(hit.end) {
+            break;
+        }
+        sum = mix(sum, s.next_slice(hit.end).weigh());
+    }
+    sum
+}
+
+/// The end of the first hit, or the greatest number where there is none.
+pub fn find_hit<S: FindSlice<N>, N>(s: &S, needle: N) -> u64
+    requires { S.valid s.now }
+{
+    match s.find_slice(needle) {
+        Some(hit) => hit.end as u64,
+        None => u64::MAX,
+    }
+}
+
+/// Compares the literal with what stands at each place.
+pub fn compare_each<S: Compare<L>, L: Copy>(s: &mut S, literal: L) -> u64
+where
+    S::Token: Drop,
+    requires { S.valid s.old }
+{
+    let mut sum = 0;
+    loop {
+        sum = mix(sum, weigh_comparison(&s.compare(literal)));
+        if s.next_token().is_none() {
+            return sum;
+        }
+    }
+}
+
+fn weigh_comparison(comparison: &CompareResult) -> u64 {
+    match comparison {
+        CompareResult::Ok(width) => *width as u64,
+        CompareResult::Incomplete => 1,
+        CompareResult::Error => 2,
+    }
+}
+
+/// Takes the slices that a token of a set ends, each with its end.
+pub fn take_sets<S: Stream, C: ContainsToken<S::Token>>(s: &mut S, ends: &C) -> u64
+where
+    S::Token: Drop,
+    S::Slice: Weigh + Drop,
+    requires valid { S.valid s.old }
+    requires set { C.can_hold ends.now }
+{
+    let mut sum = 0;
+    while let Some(offset) = s.offset_for(|token| ends.contains_token(token)) {
+        if !s.is_offset(offset) {
+            break;
+        }
+        sum = mix(sum, s.next_slice(offset).weigh());
+        let Some(_end) = s.next_token() else {
+            break;
+        };
+    }
+    sum
+}
+
+/// The offset of the first token of a set, or the greatest number where there is none.
+pub fn find_set<S: Stream, C: ContainsToken<S::Token>>(s: &S, wanted: &C) -> u64
+    requires valid { S.valid s.now }
+    requires set { C.can_hold wanted.now }
+{
+    s.offset_for(|token| wanted.contains_token(token))
+        .unwrap_or(usize::MAX) as u64
+}

@@ -1,0 +1,211 @@
+//! What every form of a comparison and of a search answers: three numbers a form.
+ghost use Rattle.std.specs.Str.{IsUtf8};
+
+use crate::tell::{hand_out, tell_all};
+use crate::texts::text;
+use std::alloc::{AllocError, Global};
+use std::str::from_utf8;
+use winnow_match::{Compare, CompareResult, FindSlice, Needles};
+
+#[unsafe(no_mangle)]
+pub extern "C" fn winnow_bench_searches_bytes(
+    alloc: Global,
+    input: &[u8],
+    a: &[u8],
+    b: &[u8],
+    c: &[u8],
+    out: &mut [u64],
+) -> u64 {
+    hand_out(tell_byte_searches(alloc, input, (a, b, c)), out)
+}
+
+#[unsafe(no_mangle)]
+pub extern "C" fn winnow_bench_searches_text(
+    alloc: Global,
+    input: &[u8],
+    a: &[u8],
+    b: &[u8],
+    c: &[u8],
+    out: &mut [u64],
+) -> u64
+    requires { IsUtf8 input.now }
+{
+    hand_out(tell_text_searches(alloc, text(input), (a, b, c)), out)
+}
+
+// The forms of bytes, each with needles that are bytes, single bytes, texts and characters, where the needles are such.
+fn tell_byte_searches(
+    alloc: Global,
+    input: &[u8],
+    needles: (&[u8], &[u8], &[u8]),
+) -> Result<Vec<u64>, AllocError> {
+    let mut told = Vec::new(alloc);
+    tell_slices(&mut told, input, needles)?;
+    tell_arrays(&mut told, input, needles.0)?;
+    if let ([a, ..], [b, ..], [c, ..]) = needles {
+        tell_bytes(&mut told, input, (*a, *b, *c))?;
+    }
+    if let Some(texts) = texts_of(needles) {
+        tell_texts(&mut told, input, texts)?;
+        if let Some(chars) = chars_of(texts) {
+            tell_chars(&mut told, input, chars)?;
+        }
+    }
+    Ok(told)
+}
+
+// The forms of a text, with needles that are texts and characters, where the needles are such.
+fn tell_text_searches(
+    alloc: Global,
+    input: &str,
+    needles: (&[u8], &[u8], &[u8]),
+) -> Result<Vec<u64>, AllocError> {
+    let mut told = Vec::new(alloc);
+    if let Some(texts) = texts_of(needles) {
+        tell_texts_in_text(&mut told, input, texts)?;
+        if let Some(chars) = chars_of(texts) {
+            tell_chars_in_text(&mut told, input, chars)?;
+        }
+    }
+    Ok(told)
+}
+
+fn texts_of<'n>(needles: (&'n [u8], &'n [u8], &'n [u8])) -> Option<(&'n str, &'n str, &'n str)> {
+    let (Ok(a), Ok(b), Ok(c)) = (
+        from_utf8(needles.0),
+        from_utf8(needles.1),
+        from_utf8(needles.2),
+    ) else {
+        return None;
+    };
+    Some((a, b, c))
+}
+
+fn chars_of(texts: (&str, &str, &str)) -> Option<(char, char, char)> {
+    let a = texts.0.chars().next()?;
+    let b = texts.1.chars().next()?;
+    let c = texts.2.chars().next()?;
+    Some((a, b, c))
+}
+
+fn tell_slices(
+    told: &mut Vec<u64>,
+    s: &[u8],
+    (a, b, c): (&[u8], &[u8], &[u8]),
+) -> Result<(), AllocError> {
+    tell_comparison(told, &s, a)?;
+    tell_hit(told, &s, a)?;
+    tell_hit(told, &s, (a,))?;
+    tell_hit(told, &s, (a, b))?;
+    tell_hit(told, &s, (a, b, c))?;
+    tell_hit(told, &s, Needles::One(a))?;
+    tell_hit(told, &s, Needles::Two(a, b))?;
+    tell_hit(told, &s, Needles::Three(a, b, c))
+}
+
+// Literals that are arrays, of up to three bytes.
+fn tell_arrays(told: &mut Vec<u64>, s: &[u8], literal: &[u8]) -> Result<(), AllocError> {
+    match literal {
+        [] => {
+            let none: [u8; 0] = [];
+            tell_comparison(told, &s, none)?;
+            tell_comparison(told, &s, &none)
+        }
+        [a] => {
+            tell_comparison(told, &s, [*a])?;
+            tell_comparison(told, &s, &[*a])
+        }
+        [a, b] => {
+            tell_comparison(told, &s, [*a, *b])?;
+            tell_comparison(told, &s, &[*a, *b])
+        }
+        [a, b, c, ..] => {
+            tell_comparison(told, &s, [*a, *b, *c])?;
+            tell_comparison(told, &s, &[*a, *b, *c])
+        }
+    }
+}
+
+fn tell_bytes(told: &mut Vec<u64>, s: &[u8], (a, b, c): (u8, u8, u8)) -> Result<(), AllocError> {
+    tell_comparison(told, &s, a)?;
+    tell_hit(told, &s, a)?;
+    tell_hit(told, &s, (a,))?;
+    tell_hit(told, &s, (a, b))?;
+    tell_hit(told, &s, (a, b, c))
+}
+
+fn tell_texts(
+    told: &mut Vec<u64>,
+    s: &[u8],
+    (a, b, c): (&str, &str, &str),
+) -> Result<(), AllocError> {
+    tell_comparison(told, &s, a)?;
+    tell_hit(told, &s, a)?;
+    tell_hit(told, &s, (a,))?;
+    tell_hit(told, &s, (a, b))?;
+    tell_hit(told, &s, (a, b, c))
+}
+
+fn tell_chars(
+    told: &mut Vec<u64>,
+    s: &[u8],
+    (a, b, c): (char, char, char),
+) -> Result<(), AllocError> {
+    tell_comparison(told, &s, a)?;
+    tell_hit(told, &s, a)?;
+    tell_hit(told, &s, (a,))?;
+    tell_hit(told, &s, (a, b))?;
+    tell_hit(told, &s, (a, b, c))
+}
+
+fn tell_texts_in_text(
+    told: &mut Vec<u64>,
+    s: &str,
+    (a, b, c): (&str, &str, &str),
+) -> Result<(), AllocError> {
+    tell_comparison(told, &s, a)?;
+    tell_hit(told, &s, a)?;
+    tell_hit(told, &s, (a,))?;
+    tell_hit(told, &s, (a, b))?;
+    tell_hit(told, &s, (a, b, c))?;
+    tell_hit(told, &s, Needles::One(a))?;
+    tell_hit(told, &s, Needles::Two(a, b))?;
+    tell_hit(told, &s, Needles::Three(a, b, c))
+}
+
+fn tell_chars_in_text(
+    told: &mut Vec<u64>,
+    s: &str,
+    (a, b, c): (char, char, char),
+) -> Result<(), AllocError> {
+    tell_comparison(told, &s, a)?;
+    tell_hit(told, &s, a)?;
+    tell_hit(told, &s, (a,))?;
+    tell_hit(told, &s, (a, b))?;
+    tell_hit(told, &s, (a, b, c))
+}
+
+// 0 and the width, or 1, or 2.
+fn tell_comparison<S: Compare<L>, L>(
+    told: &mut Vec<u64>,
+    s: &S,
+    literal: L,
+) -> Result<(), AllocError>
+    requires { S.valid s.now }
+{
+    match s.compare(literal) {
+        CompareResult::Ok(width) => tell_all(told, &[0, width as u64, 0]),
+        CompareResult::Incomplete => tell_all(told, &[1, 0, 0]),
+        CompareResult::Error => tell_all(told, &[2, 0, 0]),
+    }
+}
+
+// 3 and the ends of the hit, or 4.
+fn tell_hit<S: FindSlice<N>, N>(told: &mut Vec<u64>, s: &S, needle: N) -> Result<(), AllocError>
+    requires { S.valid s.now }
+{
+    match s.find_slice(needle) {
+        Some(hit) => tell_all(told, &[3, hit.start as u64, hit.end as u64]),
+        None => tell_all(told, &[4, 0, 0]),
+    }
+}
