@@ -1,7 +1,7 @@
 -- An offset that a call found is valid, and fewer tokens remain behind it.
-use Rattle.std.proofs.Common.{◌≡◌, ℕ, zero, suc, ◌+◌, ◌-◌, ◌<◌, ◌≤◌, ◌⊎◌, inl, inr, Bool, true, false, cond, List, [], ◌∷◌, length, take, drop, Option, Some, None, Result, Ok, Err, refl, sym, ◌∙◌, ap, arith, leb-true, length-drop}
+use Rattle.std.proofs.Common.{◌≡◌, ℕ, suc, ◌+◌, ◌-◌, ◌<◌, ◌≤◌, ◌⊎◌, inl, inr, Bool, true, false, cond, [], ◌∷◌, length, take, drop, Option, Some, Ok, Err, refl, ◌∙◌, ap, arith, leb-true, length-drop}
 use Rattle.std.specs.Prelude.{nat_le, is_some}
-use Rattle.winnow_stream.specs.Source.{Source, width, HasWidths, IsEndOf, first_token, first_held, first_offset, offsets_from}
+use Rattle.winnow_stream.specs.Source.{Source, width, HasWidths, first_held, first_offset, offsets_from}
 use Rattle.winnow_stream.specs.Front.{is_offset, back}
 use Rattle.winnow_stream.specs.Shortage.{offset_at, shortage}
 use Rattle.winnow_stream.proofs.lemmas.FrontLemmas.{front_count-place, back-place}

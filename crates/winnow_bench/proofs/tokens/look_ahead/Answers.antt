@@ -1,5 +1,5 @@
 -- Two tokens on, what remains is an end of what remained at the start.
-use Rattle.std.proofs.Common.{◌≡◌, drop, sym, ap, ◌∙◌}
+use Rattle.std.proofs.Common.{drop, sym, ap, ◌∙◌}
 use Rattle.std.proofs.lemmas.List.{drop-drop}
 use Rattle.winnow_bench.proofs.tokens.look_ahead.Goals as goal
 
