@@ -7,6 +7,7 @@ use Rattle.winnow_stream.specs.Source.{Source, width, first_token, first_offset,
 use Rattle.winnow_stream.specs.Front.{front_count, is_offset, back, part}
 use Rattle.winnow_stream.specs.Shortage.{offset_at}
 use Rattle.winnow_stream.specs.Cursor.{Cursor, start, rest, place, places, answers_from, cursor_after}
+use Rattle.winnow_stream.specs.declared.needed.Needed.{Needed}
 use Rattle.winnow_stream.specs.declared.script.Step.{Step}
 use Rattle.winnow_stream.specs.declared.script.Step.TheVariants as step
 use Rattle.winnow_stream.specs.declared.script.Answer.{Answer}
@@ -14,7 +15,7 @@ use Rattle.winnow_stream.specs.declared.script.Answer.TheVariants as answer
 
 -- an answer whose slices and items are places in the list
 abbrev pub PlacedAnswer : Type 0 → Type 0
-PlacedAnswer T = Answer T (Range ℕ) (Range ℕ)
+PlacedAnswer T = Answer T (Range ℕ) (Range ℕ) Needed
 
 -- the slice of width n from place a on, if that is the width of a front
 abbrev pub slice_answer : {T : Type 0} → ℕ → ℕ → Option ℕ → PlacedAnswer T
@@ -69,7 +70,7 @@ rest_after all script = rest all (cursor_after (step_next all) script start)
 
 -- an answer that was given is the one that the definition tells of: a slice is the one of its place, and items list theirs
 module _ {T S : Type 0} (is_slice : S → Source T → ℕ → Type 0) (all : Source T) where
-  abbrev pub StandsFor : PlacedAnswer T → Answer T S (Vec (ℕ × T)) → Type 0
+  abbrev pub StandsFor : PlacedAnswer T → Answer T S (Vec (ℕ × T)) Needed → Type 0
   StandsFor (answer.Token t) given = given ≡ answer.Token t
   StandsFor (answer.Slice p) given = (s : S) × (given ≡ answer.Slice s) × is_slice s (back all p.start) (p.end - p.start)
   StandsFor (answer.Offset n) given = given ≡ answer.Offset n
@@ -88,7 +89,7 @@ abbrev pub SetsCompute : {C T : Type 0} → (C → T → Bool → Type 0) → (C
 SetsCompute {C} tells holds = (c : C) → Computes (tells c) (holds c)
 
 -- each answer that was given stands for the one that the script tells of on the list, whatever its sets hold
-abbrev pub AreAnswers : {C T S : Type 0} → (C → T → Bool → Type 0) → (S → Source T → ℕ → Type 0) → Bool → Source T → List (Step C) → List (Answer T S (Vec (ℕ × T))) → Type 0
+abbrev pub AreAnswers : {C T S : Type 0} → (C → T → Bool → Type 0) → (S → Source T → ℕ → Type 0) → Bool → Source T → List (Step C) → List (Answer T S (Vec (ℕ × T)) Needed) → Type 0
 AreAnswers {C} {T} tells is_slice counts_missing all script given =
     (holds : C → T → Bool) → SetsCompute tells holds → AllZip (StandsFor is_slice all) (answers holds counts_missing all script) given
 

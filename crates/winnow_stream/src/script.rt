@@ -36,8 +36,10 @@ pub enum Step<C> {
 }
 
 /// What a step answers: a token, a slice `S`, a number, or a list of offsets and tokens `L`.
+///
+/// `N` is what a shortage answers, and always `Needed`: write `Answer<T, S, L>`.
 #[derive(Debug, Drop, PartialEq, Eq)]
-pub enum Answer<T, S, L> {
+pub enum Answer<T, S, L, N = Needed> {
     /// The first token, or `None` at the end
     Token(Option<T>),
     /// The slice that was asked for
@@ -45,7 +47,7 @@ pub enum Answer<T, S, L> {
     /// A width, in the stream's offsets
     Offset(usize),
     /// The offset behind a number of tokens, or how many are missing
-    At(Result<usize, Needed>),
+    At(Result<usize, N>),
     /// Whether an offset is valid
     Flag(bool),
     /// The offset of the first token in the set, if there is one

@@ -1,4 +1,4 @@
-ghost use Rattle.std.specs.Prelude.{◌≡◌, ℕ, length, ⊤};
+ghost use Rattle.std.specs.Prelude.{◌≡◌, ℕ, ◌+◌, ◌-◌, ◌*◌, ◌^◌, ◌≤◌, ◌<◌, length, ⊤};
 ghost use Rattle.std.specs.Char.{len_utf8};
 
 /// The width of a slice, an array or a token.
@@ -59,5 +59,18 @@ impl SliceLen for char {
 
     fn slice_len(&self) -> usize {
         self.len_utf8()
+    }
+}
+
+/// The bits of a slice of bytes, from a place in its first byte, and those of a byte behind it that is not in the slice:
+/// what [`Stream::next_slice`](crate::Stream::next_slice) of a stream of bits answers.
+impl<S: SliceLen> SliceLen for (S, usize, usize) {
+    ghost has_width = { λ s. S.has_width s.0 × (s.1 ≤ 8 * S.width_of s.0 + s.2) × (8 * S.width_of s.0 + s.2 - s.1 < 2 ^ 64) };
+
+    ghost width_of = { λ s. 8 * S.width_of s.0 + s.2 - s.1 };
+
+    fn slice_len(&self) -> usize {
+        let (bytes, start, end) = self;
+        (8 * bytes.slice_len() as u128 + *end as u128 - *start as u128) as usize
     }
 }
