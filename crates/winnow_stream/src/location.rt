@@ -1,21 +1,16 @@
-ghost use Rattle.std.specs.Prelude.{◌≡◌, ℕ, ⊤};
+ghost use Rattle.std.specs.Prelude.{◌≡◌, ℕ};
 
 /// A place in the whole input, in its offsets: what spans and messages are made of.
 pub trait Location {
-    // The values that know their place.
-    ghost has_location: { Self → Type 0 } = { λ _. ⊤ };
-
     ghost token_end: { Self → ℕ };
 
     ghost token_start: { Self → ℕ };
 
     /// Where the last token that was taken ends.
     fn previous_token_end(&self) -> usize
-        requires { has_location self.now }
         ensures { result ≡ token_end self.now };
 
     /// Where the next token starts.
     fn current_token_start(&self) -> usize
-        requires { has_location self.now }
         ensures { result ≡ token_start self.now };
 }

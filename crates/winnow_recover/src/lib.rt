@@ -1,0 +1,15 @@
+//! Recovery: streams on which a parser records an error, and goes on.
+#![tactic(auto)]
+
+mod plain;
+mod record_error;
+mod recover;
+mod recoverable;
+mod recoverable_traits;
+
+pub use record_error::RecordError;
+pub use recover::Recover;
+pub use recoverable::Recoverable;
+
+#[cfg(test)]
+mod tests;

@@ -1,0 +1,19 @@
+//! Wrappers round streams: what a parser carries along with its input.
+//!
+//! [`LocatingSlice`] knows its place in the whole input, [`Stateful`] carries a state, [`Partial`] a mark that more input may
+//! follow. Each meets the whole of `Stream` from the stream inside alone, so they nest as one likes over any stream.
+#![tactic(auto)]
+
+mod locating;
+mod locating_stream;
+mod partial;
+mod stateful;
+
+
+
+pub use locating::{LocatingSlice, Placed};
+pub use partial::Partial;
+pub use stateful::Stateful;
+
+#[cfg(test)]
+mod tests;

@@ -1,0 +1,226 @@
+ghost use Rattle.std.specs.Prelude.{◌≡◌, ◌≤◌, ◌-◌, IsTrue};
+ghost use Rattle.winnow_stream.specs.Front.{is_offset, front};
+
+use crate::{LocatingSlice, Partial, Stateful};
+use std::alloc::{AllocError, Global};
+use std::fmt::Display;
+use std::ops::Range;
+use std::process::Abort;
+use std::test::Fail;
+use winnow_match::{Compare, CompareResult, FindSlice};
+use winnow_stream::{
+    AsBStr, AsBytes, Checkpoint, Location, NoSet, Offset, Rest, SliceLen, Step, Stream,
+    StreamIsPartial, UpdateSlice, run,
+};
+
+type Nest<'i> = Partial<Stateful<LocatingSlice<&'i str>, u32>>;
+
+// Three wrappers round a text.
+fn nest<'i>(input: &'i str) -> Nest<'i>
+    ensures rest { ⟦<Nest<'i> as Rest>⟧.rest_width result ≡ ⟦<&'i str as Rest>⟧.rest_width input.entry }
+    ensures valid { ⟦<Nest<'i> as Stream>⟧.valid result }
+{
+    Partial::new(Stateful {
+        input: LocatingSlice::new(input),
+        state: 7,
+    })
+}
+
+// The answers of a script, as their debug text, and the stream as the script leaves it.
+fn told<S: Stream>(alloc: Global, s: &mut S, script: &[Step<NoSet>]) -> Result<String, AllocError>
+where
+    S::Token: Drop,
+    S::Slice: Drop,
+    requires { S.valid s.old }
+    ensures valid { S.valid s.new }
+    ensures kept { S.keeps s.old s.new }
+{
+    let answers = run(alloc, s, script)?;
+    format!(in alloc; "{answers:?}")
+}
+
+// A comparison through its bound.
+fn compares<T, S: Compare<T>>(s: &S, literal: T) -> CompareResult
+    requires { S.valid s.now }
+    ensures { result ≡ S.compared literal (S.remaining s.now) }
+{
+    s.compare(literal)
+}
+
+// A search through its bound.
+fn finds<T, S: FindSlice<T>>(s: &S, needle: T) -> Option<Range<usize>>
+    requires { S.valid s.now }
+    ensures { result ≡ S.found needle (S.remaining s.now) }
+{
+    s.find_slice(needle)
+}
+
+// The width from a start, through its bound.
+fn width_from<T: Rest, S: Offset<T>>(s: &S, start: &T) -> usize
+    requires measured { S.can_measure s.now start.now }
+    requires no_wider { S.rest_width s.now ≤ T.rest_width start.now }
+    ensures { result ≡ T.rest_width start.now - S.rest_width s.now }
+{
+    s.offset_from(start)
+}
+
+// A checkpoint, and that the width of the rest there is that of the stream.
+fn checkpoint_of<S: Stream>(s: &S) -> S::Checkpoint
+    requires { S.valid s.now }
+    ensures valid { S.valid_checkpoint result }
+    ensures width { S.Checkpoint.rest_width result ≡ S.rest_width s.now }
+{
+    s.checkpoint()
+}
+
+// The window of the front of that width.
+fn window_of<S: UpdateSlice>(mut s: S, offset: usize) -> S
+    requires valid { S.valid s }
+    requires offset { IsTrue (is_offset (S.remaining s) offset) }
+    ensures valid { S.valid result }
+    ensures remains { S.remaining result ≡ front (S.remaining s) offset }
+{
+    let start = s.checkpoint();
+    let slice = s.next_slice(offset);
+    s.update_slice(slice, &start)
+}
+
+// What the calls that change nothing answer, as one text.
+fn seen<S>(alloc: Global, s: &S) -> Result<String, AllocError>
+where
+    S: SliceLen + AsBStr + Display,
+    requires { S.has_width s.now }
+{
+    let (width, bytes) = (s.slice_len(), s.as_bstr());
+    format!(in alloc; "{s} {width} {bytes:?}")
+}
+
+// The place, through its bound.
+fn place<S: Location>(s: &S) -> (usize, usize)
+    ensures { result ≡ (S.token_end s.now, S.token_start s.now) }
+{
+    (s.previous_token_end(), s.current_token_start())
+}
+
+#[test]
+fn the_place_in_a_window_is_that_in_the_whole(rt: HostRuntime) {
+    let mut located = LocatingSlice::new("abcdef");
+    let _ = located.next_token();
+    let _ = located.next_token();
+    let at = located.checkpoint();
+    assert!(rt; located.is_offset(3));
+    let slice = located.next_slice(3);
+    assert_eq!(rt; slice, "cde");
+    assert_eq!(rt; place(&located), (5, 5));
+    let mut window = located.update_slice(slice, &at);
+    assert_eq!(rt; place(&window), (2, 2));
+    assert_eq!(rt; window.next_token(), Some('c'));
+    assert_eq!(rt; place(&window), (3, 3));
+    window.reset_to_start();
+    assert_eq!(rt; *window.inner(), "abcdef");
+    assert_eq!(rt; place(&window), (0, 0));
+}
+
+#[test]
+fn the_mark_is_no_part_of_a_checkpoint(rt: HostRuntime) {
+    let mut partial = Partial::new("");
+    let start = partial.checkpoint();
+    assert!(rt; partial.is_partial());
+    assert!(rt; partial.complete());
+    assert!(rt; !partial.is_partial());
+    partial.reset(&start);
+    assert!(rt; !partial.is_partial());
+    partial.restore_partial(true);
+    assert!(rt; partial.is_partial());
+}
+
+#[test]
+fn a_script_runs_through_three_wrappers(rt: HostRuntime) -> Result<(), Fail> {
+    let mut s = nest("abcdef");
+    let script = [
+        Step::Next,
+        Step::Mark,
+        Step::Take(3),
+        Step::Since(0),
+        Step::Peek,
+        Step::Reset(0),
+        Step::Next,
+    ];
+    let answers = told(rt.alloc(), &mut s, &script)?;
+    assert_eq!(rt;
+        answers.as_str(),
+        "[Token(Some('a')), Marked(0), Slice(\"bcd\"), Offset(3), Token(Some('e')), Done, Token(Some('b'))]"
+    );
+    assert_eq!(rt; place(&s), (2, 2));
+    assert_eq!(rt; (s.state, s.is_partial(), ***s), (7, true, "cdef"));
+    Ok(())
+}
+
+#[test]
+fn each_call_is_passed_on_through_three_wrappers(rt: HostRuntime) -> Result<(), Fail> {
+    let s = nest("abc");
+    assert_eq!(rt; compares(&s, "abc"), CompareResult::Ok(3));
+    assert_eq!(rt; finds(&s, 'b'), Some(1..2));
+    assert_eq!(rt; seen(rt.alloc(), &s)?.as_str(), "abc 3 [97, 98, 99]");
+    let start = checkpoint_of(&s);
+    let rest = nest("c");
+    assert_eq!(rt; width_from(&rest, &s), 2);
+    assert_eq!(rt; width_from(&rest, &start), 2);
+    assert_eq!(rt; width_from(&checkpoint_of(&rest), &start), 2);
+    Ok(())
+}
+
+#[test]
+fn a_window_through_three_wrappers(rt: HostRuntime) {
+    let mut s = nest("abcdef");
+    let _ = s.next_token();
+    assert!(rt; s.is_offset(3));
+    let mut window = window_of(s, 3);
+    assert_eq!(rt; window.peek_finish(), "bcd");
+    assert_eq!(rt; place(&window), (1, 1));
+    assert_eq!(rt; window.finish(), "bcd");
+    assert_eq!(rt; place(&window), (4, 4));
+}
+
+#[test]
+fn bytes_through_three_wrappers(rt: HostRuntime) {
+    let bytes: &[u8] = b"ab";
+    let s = Partial::new(Stateful {
+        input: LocatingSlice::new(bytes),
+        state: 7,
+    });
+    assert_eq!(rt; s.as_bytes(), bytes);
+    assert_eq!(rt; s.peek_finish(), bytes);
+    assert_eq!(rt; *s.into_inner().input.inner(), bytes);
+}
+
+#[test]
+fn texts_of_wrappers(rt: HostRuntime) -> Result<(), Fail> {
+    let located = LocatingSlice::new("ab");
+    let start = located.checkpoint();
+    let s = nest("ab");
+    assert_eq!(rt;
+        format!(in rt.alloc(); "{located} {located:?} {start:?} {s:?}")?.as_str(),
+        "ab \"ab\" \"ab\" Partial { input: Stateful { input: \"ab\", state: 7 }, partial: true }"
+    );
+    Ok(())
+}
+
+#[test]
+fn wrappers_are_compared_by_what_they_hold(rt: HostRuntime) {
+    let (located, mut later) = (LocatingSlice::new("ab"), LocatingSlice::new("ab"));
+    let start = located.checkpoint();
+    assert!(rt; later == located && later.checkpoint() == start);
+    let _ = later.next_token();
+    assert!(rt; later > located && later.checkpoint() > start);
+    later.reset(&start);
+    assert!(rt; later == located);
+    let (set, mut clear) = (Partial::new("ab"), Partial::new("ab"));
+    let _ = clear.complete();
+    assert!(rt; clear < set && clear == clear);
+    let counted = Stateful {
+        input: "",
+        state: 0,
+    };
+    assert!(rt; counted == Stateful::default());
+}
