@@ -2,6 +2,7 @@ ghost use Rattle.std.specs.Prelude.{◌≡◌, ◌≤◌, [], ◌∷◌, length,
 ghost use Rattle.std.specs.Char.{encode_utf8};
 ghost use Rattle.winnow_match.specs.Bytes.{bytes_of};
 ghost use Rattle.winnow_match.specs.Comparison.{is_front, comparison};
+ghost use Rattle.winnow_match.specs.declared.compare.CompareResult.{CompareResult};
 
 use crate::{Compare, CompareResult};
 
@@ -14,12 +15,21 @@ pub(crate) fn begins_with(input: &[u8], prefix: &[u8]) -> bool
     prefix.len() <= input.len() && prefix == &input[..prefix.len()]
 }
 
+// Whether both have a first byte, and not the same. Most comparisons end here, and one of the whole is a call.
+fn first_bytes_differ(input: &[u8], literal: &[u8]) -> bool
+    ensures { IsTrue result → comparison literal.now input.now ≡ CompareResult.Error }
+{
+    !input.is_empty() && !literal.is_empty() && input[0] != literal[0]
+}
+
 // How the literal compares with the front of the input, in one pass.
 #[tactic(auto, using(crate::proofs::lemmas::ComparisonLemmas::comparisons))]
 pub(crate) fn compare_front(input: &[u8], literal: &[u8]) -> CompareResult
     ensures { result ≡ comparison literal.now input.now }
 {
-    if begins_with(input, literal) {
+    if first_bytes_differ(input, literal) {
+        CompareResult::Error
+    } else if begins_with(input, literal) {
         CompareResult::Ok(literal.len())
     } else if input.len() < literal.len() && begins_with(literal, input) {
         CompareResult::Incomplete
