@@ -15,21 +15,31 @@ pub(crate) fn begins_with(input: &[u8], prefix: &[u8]) -> bool
     prefix.len() <= input.len() && prefix == &input[..prefix.len()]
 }
 
-// Whether both have a first byte, and not the same. Most comparisons end here, and one of the whole is a call.
+// Whether both have a first byte, and not the same.
+#[inline(always)]
 fn first_bytes_differ(input: &[u8], literal: &[u8]) -> bool
     ensures { IsTrue result → comparison literal.now input.now ≡ CompareResult.Error }
 {
     !input.is_empty() && !literal.is_empty() && input[0] != literal[0]
 }
 
-// How the literal compares with the front of the input, in one pass.
-#[tactic(auto, using(crate::proofs::lemmas::ComparisonLemmas::comparisons))]
+// How the literal compares with the front of the input, in one pass. Most comparisons end at the first byte, before a call.
+#[inline(always)]
 pub(crate) fn compare_front(input: &[u8], literal: &[u8]) -> CompareResult
     ensures { result ≡ comparison literal.now input.now }
 {
     if first_bytes_differ(input, literal) {
-        CompareResult::Error
-    } else if begins_with(input, literal) {
+        return CompareResult::Error;
+    }
+    compare_whole(input, literal)
+}
+
+// The same, with no test of the first byte.
+#[tactic(auto, using(crate::proofs::lemmas::ComparisonLemmas::comparisons))]
+fn compare_whole(input: &[u8], literal: &[u8]) -> CompareResult
+    ensures { result ≡ comparison literal.now input.now }
+{
+    if begins_with(input, literal) {
         CompareResult::Ok(literal.len())
     } else if input.len() < literal.len() && begins_with(literal, input) {
         CompareResult::Incomplete
