@@ -5,6 +5,7 @@
 #![tactic(auto)]
 
 mod errors;
+mod recovery;
 mod scripts;
 
 use std::alloc::{AllocError, Global};
@@ -59,5 +60,11 @@ fn main(rt: HostRuntime) -> io::Result<()> {
         "convert",
         errors::convert(alloc),
         errors::convert(alloc),
+    )?;
+    report(
+        &rt,
+        "record_err",
+        recovery::record_err(alloc),
+        recovery::record_err(alloc),
     )
 }

@@ -17,7 +17,7 @@ pub use fields::field;
 pub use listed::Listed;
 pub use own_errors::{Apart, Furthest, Labelled};
 pub use pairs::{PairOffsets, Pairs};
-pub use walks::{look_back, take_back, told};
+pub use walks::{look_back, take_back, tell, told};
 
 #[cfg(test)]
 mod tests;

@@ -38,6 +38,23 @@ where
 }
 
 /// The answers of a script, as their debug text.
+pub fn tell<S: Stream>(
+    alloc: Global,
+    s: &mut S,
+    script: &[Step<NoSet>],
+) -> Result<String, AllocError>
+where
+    S::Token: Drop,
+    S::Slice: Drop,
+    requires { S.valid s.old }
+    ensures valid { S.valid s.new }
+    ensures kept { S.keeps s.old s.new }
+{
+    let answers = run(alloc, s, script)?;
+    format!(in alloc; "{answers:?}")
+}
+
+/// The same of a stream that is not needed any more.
 pub fn told<S: Stream + Drop>(
     alloc: Global,
     mut s: S,
@@ -48,6 +65,5 @@ where
     S::Slice: Drop,
     requires { S.valid s }
 {
-    let answers = run(alloc, &mut s, script)?;
-    format!(in alloc; "{answers:?}")
+    tell(alloc, &mut s, script)
 }
