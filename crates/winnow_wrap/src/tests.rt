@@ -1,4 +1,5 @@
 ghost use Rattle.std.specs.Prelude.{◌≡◌, ◌≤◌, ◌-◌, IsTrue};
+ghost use Rattle.winnow_stream.specs.Source.{first_token};
 ghost use Rattle.winnow_stream.specs.Front.{is_offset, front};
 
 use crate::{LocatingSlice, Partial, Stateful};
@@ -17,8 +18,7 @@ type Nest<'i> = Partial<Stateful<LocatingSlice<&'i str>, u32>>;
 
 // Three wrappers round a text.
 fn nest<'i>(input: &'i str) -> Nest<'i>
-    ensures rest { ⟦<Nest<'i> as Rest>⟧.rest_width result ≡ ⟦<&'i str as Rest>⟧.rest_width input.entry }
-    ensures valid { ⟦<Nest<'i> as Stream>⟧.valid result }
+    ensures { ⟦<Nest<'i> as Stream>⟧.valid result }
 {
     Partial::new(Stateful {
         input: LocatingSlice::new(input),
@@ -73,6 +73,19 @@ fn checkpoint_of<S: Stream>(s: &S) -> S::Checkpoint
     s.checkpoint()
 }
 
+// The first token with the mark cleared, which is set again: generic code may go on, since the rest stays the same.
+fn peek_complete<S: Stream + StreamIsPartial>(s: &mut S) -> (bool, Option<S::Token>)
+    requires { S.valid s.old }
+    ensures token { result.1 ≡ first_token (S.remaining s.old) }
+    ensures valid { S.valid s.new }
+{
+    let state = s.complete();
+    let is_partial = s.is_partial();
+    let token = s.peek_token();
+    s.restore_partial(state);
+    (is_partial, token)
+}
+
 // The window of the front of that width.
 fn window_of<S: UpdateSlice>(mut s: S, offset: usize) -> S
     requires valid { S.valid s }
@@ -93,6 +106,13 @@ where
 {
     let (width, bytes) = (s.slice_len(), s.as_bstr());
     format!(in alloc; "{s} {width} {bytes:?}")
+}
+
+// Whether the type has a mark.
+fn supports<S: StreamIsPartial>(_s: &S) -> bool
+    ensures { result ≡ S.supports_partial }
+{
+    S::is_partial_supported()
 }
 
 // The place, through its bound.
@@ -135,6 +155,23 @@ fn the_mark_is_no_part_of_a_checkpoint(rt: HostRuntime) {
 }
 
 #[test]
+fn a_mark_inside_two_wrappers(rt: HostRuntime) {
+    let mut s = Stateful {
+        input: LocatingSlice::new(Partial::new("ab")),
+        state: 7,
+    };
+    assert!(rt; s.is_partial());
+    assert_eq!(rt; peek_complete(&mut s), (false, Some('a')));
+    assert!(rt; s.is_partial());
+    assert_eq!(rt; place(&s), (0, 0));
+    assert_eq!(rt;
+        (supports(&s), supports(&s.input), supports(&nest(""))),
+        (true, true, true)
+    );
+    assert!(rt; !supports(&nest("").into_inner()));
+}
+
+#[test]
 fn a_script_runs_through_three_wrappers(rt: HostRuntime) -> Result<(), Fail> {
     let mut s = nest("abcdef");
     let script = [
@@ -162,11 +199,6 @@ fn each_call_is_passed_on_through_three_wrappers(rt: HostRuntime) -> Result<(), 
     assert_eq!(rt; compares(&s, "abc"), CompareResult::Ok(3));
     assert_eq!(rt; finds(&s, 'b'), Some(1..2));
     assert_eq!(rt; seen(rt.alloc(), &s)?.as_str(), "abc 3 [97, 98, 99]");
-    let start = checkpoint_of(&s);
-    let rest = nest("c");
-    assert_eq!(rt; width_from(&rest, &s), 2);
-    assert_eq!(rt; width_from(&rest, &start), 2);
-    assert_eq!(rt; width_from(&checkpoint_of(&rest), &start), 2);
     Ok(())
 }
 
@@ -183,13 +215,21 @@ fn a_window_through_three_wrappers(rt: HostRuntime) {
 }
 
 #[test]
-fn bytes_through_three_wrappers(rt: HostRuntime) {
-    let bytes: &[u8] = b"ab";
+fn bytes_and_widths_through_three_wrappers(rt: HostRuntime) {
+    let bytes: &[u8] = b"abc";
     let s = Partial::new(Stateful {
         input: LocatingSlice::new(bytes),
         state: 7,
     });
-    assert_eq!(rt; s.as_bytes(), bytes);
+    let rest = Partial::new(Stateful {
+        input: LocatingSlice::new(&bytes[2..]),
+        state: 8,
+    });
+    let start = checkpoint_of(&s);
+    assert_eq!(rt; width_from(&rest, &s), 2);
+    assert_eq!(rt; width_from(&rest, &start), 2);
+    assert_eq!(rt; width_from(&checkpoint_of(&rest), &start), 2);
+    assert_eq!(rt; rest.as_bytes(), &bytes[2..]);
     assert_eq!(rt; s.peek_finish(), bytes);
     assert_eq!(rt; *s.into_inner().input.inner(), bytes);
 }
