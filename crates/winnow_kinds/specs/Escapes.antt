@@ -1,0 +1,26 @@
+-- The debug text of bytes that are text by convention.
+use Rattle.std.specs.Prelude.{ℕ, Bool, false, ◌==◌, nat_lt, List, [], ◌∷◌, ◌++◌, Option, Some, None, if◌then◌else◌, codes}
+use Rattle.std.specs.Char.{is_ascii_control}
+use Rattle.std.specs.Fmt.{digits}
+use Rattle.std.specs.List.{flat_map, list_all}
+
+-- a byte of ASCII: \0, \t, \r and \n, a backslash before a quote of either kind and before a backslash, the code of any other
+-- control, and else the byte
+abbrev pub escape : ℕ → List ℕ
+escape c =
+    if c == 0 then codes "\\0" else
+    (if c == 9 then codes "\\t" else
+    (if c == 13 then codes "\\r" else
+    (if c == 10 then codes "\\n" else
+    (if c == 39 then codes "\\'" else
+    (if c == 34 then codes "\\\"" else
+    (if c == 92 then codes "\\\\" else
+    (if is_ascii_control c then codes "\\u{" ++ digits 16 false c ++ codes "}" else c ∷ [])))))))
+
+-- each byte is one of ASCII
+abbrev pub is_ascii : List ℕ → Bool
+is_ascii bytes = list_all (λ byte. nat_lt byte 128) bytes
+
+-- the escaped bytes in double quotes; nothing is said past ASCII
+abbrev pub debug_text : List ℕ → Option (List ℕ)
+debug_text bytes = if is_ascii bytes then Some (codes "\"" ++ (flat_map escape bytes ++ codes "\"")) else None

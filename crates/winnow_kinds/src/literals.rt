@@ -1,0 +1,70 @@
+ghost use Rattle.std.specs.Prelude.{◌≡◌, ℕ, [], ◌∷◌, List};
+ghost use Rattle.std.specs.Char.{encode_utf8};
+ghost use Rattle.winnow_match.specs.Comparison.{comparison};
+
+use winnow_match::{Compare, CompareResult};
+
+/// What `&[u8]` is compared with: so a stream around a slice of bytes is compared with it too.
+pub trait ByteLiteral {
+    // The bytes that it stands for.
+    ghost literal_bytes: { Self → List ℕ };
+
+    /// How it compares with the front of the bytes.
+    fn compare_with(self, bytes: &[u8]) -> CompareResult
+        ensures { result ≡ comparison (literal_bytes self) bytes.now };
+}
+
+#[tactic(auto, using(winnow_match::proofs::lemmas::ByteLemmas::source_bytes))]
+impl ByteLiteral for &[u8] {
+    ghost literal_bytes = { λ literal. literal.now };
+
+    fn compare_with(self, bytes: &[u8]) -> CompareResult {
+        bytes.compare(self)
+    }
+}
+
+#[tactic(auto, using(winnow_match::proofs::lemmas::ByteLemmas::source_bytes))]
+impl<const LEN: usize> ByteLiteral for [u8; LEN] {
+    ghost literal_bytes = { λ literal. literal };
+
+    fn compare_with(self, bytes: &[u8]) -> CompareResult {
+        bytes.compare(self)
+    }
+}
+
+#[tactic(auto, using(winnow_match::proofs::lemmas::ByteLemmas::source_bytes))]
+impl<const LEN: usize> ByteLiteral for &[u8; LEN] {
+    ghost literal_bytes = { λ literal. literal.now };
+
+    fn compare_with(self, bytes: &[u8]) -> CompareResult {
+        bytes.compare(self)
+    }
+}
+
+#[tactic(auto, using(winnow_match::proofs::lemmas::ByteLemmas::source_bytes))]
+impl ByteLiteral for &str {
+    ghost literal_bytes = { λ literal. literal.now };
+
+    fn compare_with(self, bytes: &[u8]) -> CompareResult {
+        bytes.compare(self)
+    }
+}
+
+#[tactic(auto, using(winnow_match::proofs::lemmas::ByteLemmas::source_bytes))]
+impl ByteLiteral for u8 {
+    ghost literal_bytes = { λ literal. literal ∷ [] };
+
+    fn compare_with(self, bytes: &[u8]) -> CompareResult {
+        bytes.compare(self)
+    }
+}
+
+/// The character in its UTF-8 form.
+#[tactic(auto, using(winnow_match::proofs::lemmas::ByteLemmas::source_bytes))]
+impl ByteLiteral for char {
+    ghost literal_bytes = { λ literal. encode_utf8 literal };
+
+    fn compare_with(self, bytes: &[u8]) -> CompareResult {
+        bytes.compare(self)
+    }
+}

@@ -1,0 +1,380 @@
+ghost use Rattle.std.specs.Prelude.{◌≡◌, ◌-◌, ◌≤◌};
+
+use crate::{BStr, Bytes};
+use std::alloc::{AllocError, Global};
+use std::cmp::Ordering;
+use std::hash::{DefaultHasher, Hash, Hasher};
+use std::ops::Range;
+use std::process::Abort;
+use std::test::Fail;
+use winnow_match::{Compare, CompareResult, FindSlice, Needles};
+use winnow_stream::Step::{At, Each, Finish, IsOffset, Look, Mark, Next, Peek, Reset, Since, Take};
+use winnow_stream::{
+    AsBStr, AsBytes, Checkpoint, NoSet, Offset, Rest, SliceLen, Step, Stream, StreamIsPartial,
+    UpdateSlice, run,
+};
+
+// Each of these makes its call through a bound.
+
+fn told<S: Stream + Copy>(alloc: Global, s: S) -> Result<String, AllocError>
+where
+    S::Token: Drop,
+    S::Slice: Drop,
+    requires { S.valid s }
+{
+    let script: [Step<NoSet>; 14] = [
+        Mark,
+        Next,
+        Take(1),
+        Since(0),
+        Each,
+        Finish,
+        Next,
+        Reset(0),
+        Peek,
+        At(3),
+        At(4),
+        IsOffset(4),
+        Look(2),
+        Take(4),
+    ];
+    let mut s = s;
+    let answers = run(alloc, &mut s, &script)?;
+    format!(in alloc; "{answers:?}")
+}
+
+fn compares<T, S: Compare<T> + Drop>(stream: S, literal: T) -> CompareResult
+    requires { S.valid stream }
+    ensures { result ≡ S.compared literal (S.remaining stream) }
+{
+    stream.compare(literal)
+}
+
+fn finds<T, S: FindSlice<T> + Drop>(stream: S, needles: T) -> Option<Range<usize>>
+    requires { S.valid stream }
+    ensures { result ≡ S.found needles (S.remaining stream) }
+{
+    stream.find_slice(needles)
+}
+
+fn taken<T: Rest, S: Offset<T>>(stream: &S, start: &T) -> usize
+    requires measured { S.can_measure stream.now start.now }
+    requires no_wider { S.rest_width stream.now ≤ T.rest_width start.now }
+    ensures { result ≡ T.rest_width start.now - S.rest_width stream.now }
+{
+    stream.offset_from(start)
+}
+
+fn length_of<S: SliceLen>(stream: &S) -> usize
+    requires { S.has_width stream.now }
+{
+    stream.slice_len()
+}
+
+fn first_of_window<S: UpdateSlice + Copy>(stream: S, width: usize) -> Option<S::Token>
+    requires { S.valid stream }
+{
+    if !stream.is_offset(width) {
+        return None;
+    }
+    let slice = stream.peek_slice(width);
+    let mut window = stream.update_slice(slice, &stream.checkpoint());
+    window.next_token()
+}
+
+fn may_grow<S: StreamIsPartial>(mut stream: S) -> (bool, bool)
+where
+    S: Drop,
+    S::PartialState: Drop,
+{
+    let state = stream.complete();
+    stream.restore_partial(state);
+    (S::is_partial_supported(), stream.is_partial())
+}
+
+fn hash_of<T: Hash>(value: &T) -> u64 {
+    let mut hasher = DefaultHasher::new();
+    value.hash(&mut hasher);
+    hasher.finish()
+}
+
+// By the first byte that differs, the shorter first where none does.
+fn orders_by_contents<S: From<&'static [u8]> + Ord + Copy>(rt: &impl Abort) {
+    let table: [(&[u8], &[u8], Ordering); 6] = [
+        (b"", b"", Ordering::Equal),
+        (b"", b"a", Ordering::Less),
+        (b"b", b"ab", Ordering::Greater),
+        (b"a", b"ab", Ordering::Less),
+        (b"ab", b"ab", Ordering::Equal),
+        (b"\xff", b"a", Ordering::Greater),
+    ];
+    for (a, b, order) in table {
+        let (s, t) = (S::from(a), S::from(b));
+        let answers = (s.cmp(&t), s.partial_cmp(&t), s == t);
+        let wanted = (order, Some(order), order == Ordering::Equal);
+        assert_eq!(rt; answers, wanted, "{a:?} and {b:?}");
+    }
+}
+
+fn made<T: Default>() -> T {
+    T::default()
+}
+
+fn as_bstr_of<S: AsBStr>(stream: &S) -> &[u8] {
+    stream.as_bstr()
+}
+
+fn as_bytes_of<S: AsBytes>(stream: &S) -> &[u8] {
+    stream.as_bytes()
+}
+
+#[test]
+fn scripts(rt: HostRuntime) -> Result<(), Fail> {
+    let wanted =
+        "[Marked(0), Token(Some(97)), Slice([98]), Offset(2), Items([(0, 99)]), Slice([99]), Token(None), Done, \
+        Token(Some(97)), At(Ok(3)), At(Err(Size(1))), Flag(false), Slice([97, 98]), BadOffset]";
+    assert_eq!(rt; told(rt.alloc(), BStr::new(b"abc"))?.as_str(), wanted);
+    assert_eq!(rt; told(rt.alloc(), Bytes::new(b"abc"))?.as_str(), wanted);
+    Ok(())
+}
+
+// Each literal once.
+#[test]
+fn comparisons(rt: HostRuntime) {
+    let s = BStr::new(b"\xc3\xa9abc");
+    let answers = [
+        compares(s, &b"\xc3\xa9a"[..]),
+        compares(s, *b"\xc3\xa9"),
+        compares(s, b"\xc3\xaa"),
+        compares(s, "éabcd"),
+        compares(s, 0xc3),
+        compares(s, 'é'),
+        compares(Bytes::new(b"ab"), "abc"),
+        compares(Bytes::new(b"ab"), b'a'),
+    ];
+    let wanted = [
+        CompareResult::Ok(3),
+        CompareResult::Ok(2),
+        CompareResult::Error,
+        CompareResult::Incomplete,
+        CompareResult::Ok(1),
+        CompareResult::Ok(2),
+        CompareResult::Incomplete,
+        CompareResult::Ok(1),
+    ];
+    assert_eq!(rt; answers, wanted);
+}
+
+// Each kind of needle once.
+#[test]
+fn searches(rt: HostRuntime) {
+    let s = BStr::new(b"abcb\xc3\xa9");
+    let a: &[u8] = b"bc";
+    let b: &[u8] = b"cb";
+    let of_bytes = [
+        finds(s, a),
+        finds(s, (b,)),
+        finds(s, (b, a)),
+        finds(s, (b, b, a)),
+        finds(s, Needles::Two(b, b)),
+        finds(s, b'c'),
+        finds(s, (b'x',)),
+        finds(s, (b'c', b'b')),
+        finds(s, (b'x', b'y', b'c')),
+        finds(Bytes::new(b"abc"), (a, b)),
+    ];
+    let wanted = [
+        Some(1..3),
+        Some(2..4),
+        Some(1..3),
+        Some(1..3),
+        Some(2..4),
+        Some(2..3),
+        None,
+        Some(1..2),
+        Some(2..3),
+        Some(1..3),
+    ];
+    assert_eq!(rt; of_bytes, wanted);
+}
+
+#[test]
+fn searches_for_text(rt: HostRuntime) {
+    let s = Bytes::new(b"abcb\xc3\xa9");
+    let of_text = [
+        finds(s, "é"),
+        finds(s, ("b",)),
+        finds(s, ("é", "cb")),
+        finds(s, ("x", "y", "")),
+        finds(s, 'é'),
+        finds(s, ('b',)),
+        finds(s, ('é', 'c')),
+        finds(s, ('x', 'y', 'é')),
+        finds(BStr::new(b"abc"), 'c'),
+    ];
+    let wanted = [
+        Some(4..6),
+        Some(1..2),
+        Some(2..4),
+        Some(0..0),
+        Some(4..6),
+        Some(1..2),
+        Some(2..3),
+        Some(4..6),
+        Some(2..3),
+    ];
+    assert_eq!(rt; of_text, wanted);
+}
+
+#[test]
+fn small_traits_of_text(rt: HostRuntime) {
+    let (whole, rest) = (BStr::new(b"abc"), BStr::new(b"bc"));
+    let (start, place) = (Checkpoint::new(whole), Checkpoint::new(rest));
+    let widths = [
+        taken(&rest, &whole),
+        taken(&rest, &start),
+        taken::<_, Checkpoint<BStr, BStr>>(&place, &start),
+        length_of(&rest),
+    ];
+    assert_eq!(rt; widths, [1, 1, 1, 2]);
+    let firsts = [first_of_window(rest, 1), first_of_window(rest, 3)];
+    assert_eq!(rt; firsts, [Some(b'b'), None]);
+    assert_eq!(rt;
+        (may_grow(rest), as_bstr_of(&rest)),
+        ((false, false), &b"bc"[..])
+    );
+}
+
+#[test]
+fn contents_of_text(rt: HostRuntime) -> Result<(), Fail> {
+    let s = BStr::from("abc");
+    let bytes = [
+        s.inner(),
+        <&[u8]>::from(BStr::from(&b"abc"[..])),
+        s.slice(1, 3).inner(),
+        made::<BStr>().inner(),
+    ];
+    let told = format!(in rt.alloc(); "{bytes:?} {:?} {}", s.to_vec(rt.alloc())?, s.at(2))?;
+    let wanted = "[[97, 98, 99], [97, 98, 99], [98, 99], []] [97, 98, 99] 99";
+    assert_eq!(rt; told.as_str(), wanted);
+    let tests = [
+        s.eq_bytes(b"abc"),
+        s.eq_bytes(b"abd"),
+        s.eq_str("abc"),
+        s.eq_str("ab"),
+    ];
+    assert_eq!(rt; tests, [true, false, true, false]);
+    let orders = [s.cmp_bytes(b"b"), s.cmp_str("abc"), s.cmp_str("ab")];
+    assert_eq!(rt;
+        orders,
+        [Ordering::Less, Ordering::Equal, Ordering::Greater]
+    );
+    assert_eq!(rt; hash_of(&s), hash_of(&s.inner()));
+    orders_by_contents::<BStr>(&rt);
+    Ok(())
+}
+
+#[test]
+fn small_traits_of_bytes(rt: HostRuntime) {
+    let (whole, rest) = (Bytes::new(b"abc"), Bytes::new(b"bc"));
+    let (start, place) = (Checkpoint::new(whole), Checkpoint::new(rest));
+    let widths = [
+        taken(&rest, &whole),
+        taken(&rest, &start),
+        taken::<_, Checkpoint<Bytes, Bytes>>(&place, &start),
+        length_of(&rest),
+    ];
+    assert_eq!(rt; widths, [1, 1, 1, 2]);
+    let firsts = [first_of_window(rest, 1), first_of_window(rest, 3)];
+    assert_eq!(rt; firsts, [Some(b'b'), None]);
+    assert_eq!(rt;
+        (may_grow(rest), as_bytes_of(&rest)),
+        ((false, false), &b"bc"[..])
+    );
+}
+
+#[test]
+fn contents_of_bytes(rt: HostRuntime) -> Result<(), Fail> {
+    let s = Bytes::from("abc");
+    let bytes = [
+        s.inner(),
+        <&[u8]>::from(Bytes::from(&b"abc"[..])),
+        s.slice(1, 3).inner(),
+        made::<Bytes>().inner(),
+    ];
+    let told = format!(in rt.alloc(); "{bytes:?} {:?} {}", s.to_vec(rt.alloc())?, s.at(2))?;
+    let wanted = "[[97, 98, 99], [97, 98, 99], [98, 99], []] [97, 98, 99] 99";
+    assert_eq!(rt; told.as_str(), wanted);
+    let tests = [
+        s.eq_bytes(b"abc"),
+        s.eq_bytes(b"abd"),
+        s.eq_str("abc"),
+        s.eq_str("ab"),
+    ];
+    assert_eq!(rt; tests, [true, false, true, false]);
+    let orders = [s.cmp_bytes(b"b"), s.cmp_str("abc"), s.cmp_str("ab")];
+    assert_eq!(rt;
+        orders,
+        [Ordering::Less, Ordering::Equal, Ordering::Greater]
+    );
+    assert_eq!(rt; hash_of(&s), hash_of(&s.inner()));
+    orders_by_contents::<Bytes>(&rt);
+    Ok(())
+}
+
+#[test]
+fn damaged_text(rt: HostRuntime) -> Result<(), Fail> {
+    let table: [(&[u8], &str); 9] = [
+        (b"", ""),
+        (b"abc", "abc"),
+        (b"\xc3\xa9\xe2\x82\xac\xf0\x9f\x98\x80", "é€😀"),
+        (b"\xf0\x28\x8c\xbc", "\u{FFFD}(\u{FFFD}\u{FFFD}"),
+        (b"a\xf0\x9f\x98", "a\u{FFFD}"),
+        (b"\xe2\x82a\xff", "\u{FFFD}a\u{FFFD}"),
+        (b"\xed\xa0\x80", "\u{FFFD}\u{FFFD}\u{FFFD}"),
+        (b"\xc0\x80z", "\u{FFFD}\u{FFFD}z"),
+        (b"\xf4\x90\xc3\xa9", "\u{FFFD}\u{FFFD}é"),
+    ];
+    for (bytes, text) in table {
+        let s = BStr::new(bytes);
+        assert_eq!(rt; format!(in rt.alloc(); "{s}")?.as_str(), text);
+    }
+    Ok(())
+}
+
+#[test]
+fn debug_texts_of_text(rt: HostRuntime) -> Result<(), Fail> {
+    let table: [(&[u8], &str); 8] = [
+        (b"", r#""""#),
+        (b"abc", r#""abc""#),
+        (b"\0\t\r\n", r#""\0\t\r\n""#),
+        (b"'\"\\", r#""\'\"\\""#),
+        (b"\x01\x0b\x1f\x7f", r#""\u{1}\u{b}\u{1f}\u{7f}""#),
+        (b" !AZaz09~", r#"" !AZaz09~""#),
+        // Past ASCII each byte is the character of its number.
+        (b"\xc3\xa9", r#""Ã©""#),
+        (b"\x80\xa0\xad\xff", r#""\u{80}\u{a0}\u{ad}ÿ""#),
+    ];
+    for (bytes, text) in table {
+        let s = BStr::new(bytes);
+        assert_eq!(rt; format!(in rt.alloc(); "{s:?}")?.as_str(), text);
+    }
+    let bare = format!(in rt.alloc(); "{:#?}", BStr::new(b"a\n"))?;
+    assert_eq!(rt; bare.as_str(), r"a\n");
+    Ok(())
+}
+
+#[test]
+fn hexadecimal_texts(rt: HostRuntime) -> Result<(), Fail> {
+    let table: [(&[u8], &str); 3] = [
+        (b"", "|||"),
+        (b"\xf0\x28\x8c\xbc", "F0288CBC|F0288CBC|F0288CBC|f0288cbc"),
+        (b"\x00\x09\x0a\xff", "00090AFF|00090AFF|00090AFF|00090aff"),
+    ];
+    for (bytes, wanted) in table {
+        let s = Bytes::new(bytes);
+        let told = format!(in rt.alloc(); "{s}|{s:?}|{}|{}", s.upper(), s.lower())?;
+        assert_eq!(rt; told.as_str(), wanted);
+    }
+    Ok(())
+}

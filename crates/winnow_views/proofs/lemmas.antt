@@ -1,0 +1,3 @@
+pub mod TokenLemmas
+pub mod BitLemmas
+pub mod BitOffsetLemmas

@@ -1,0 +1,204 @@
+-- The bits of bytes: what each call of a stream of bits answers and leaves.
+use Rattle.std.proofs.Common.{◌≡◌, ℕ, zero, suc, ◌+◌, ◌-◌, ◌*◌, ◌/◌, ◌%◌, ◌^◌, ◌≤◌, ◌<◌, leb, true, Bool, List, [], ◌∷◌, ◌++◌, length, map, take, drop, Some, Ok, Err, refl, sym, ap, ◌∙◌, subst, arith, IsTrue, zero-add}
+use Rattle.std.proofs.lemmas.Bool.Decides.{nat_tests}
+use Rattle.std.proofs.lemmas.List.{length-drop, length-map, drop-drop, drop-take}
+use Rattle.std.specs.Int.NonZero.{non_zero_usize_get}
+use Rattle.std.specs.declared.num.NonZeroUsize.{NonZeroUsize}
+use Rattle.winnow_stream.specs.declared.needed.Needed.TheVariants.{Size}
+use Rattle.winnow_stream.specs.Source.{Source, units, width, first_token}
+use Rattle.winnow_stream.specs.Front.{is_offset, count_to, front, back}
+use Rattle.winnow_stream.specs.Shortage.{offset_at}
+use Rattle.winnow_stream.specs.Units.{width-units}
+use Rattle.winnow_stream.proofs.lemmas.FrontLemmas.{width-front}
+use Rattle.winnow_stream.proofs.lemmas.UnitLemmas.{length-units, is_offset-units, count_to-units, le-from_is_offset, units-take, units-drop, offset_at-units_short, offset_at-units_fits}
+use Rattle.winnow_views.specs.BitSource.{HasUnits, bit_of, byte_bits, bits_of, bits_from, IsBitSource, IsBitSlice}
+use Rattle.winnow_views.specs.BitWidth.{SlicesHaveWidths}
+use Rattle.winnow_views.specs.BitLaws.{units-HasUnits, width-HasUnits, length-bits_past, width-bits_from}
+
+-- ---- how many bits there are
+
+pub width-bits : (bytes : List (ℕ × ℕ)) (place : ℕ) → HasUnits bytes → width (bits_from bytes place) ≡ 8 * width bytes - place
+width-bits bytes place h = omega (arith, width-bits_from bytes place, width-HasUnits bytes h)
+
+pub place-le : (bytes : List (ℕ × ℕ)) (place : ℕ) → IsBitSource bytes place → place ≤ 8 * width bytes
+place-le [] place h = omega (arith, h.at_end refl)
+place-le (x ∷ xs) place h = omega (arith, h.below, h.units.0)
+
+pub is_offset-bits : (bytes : List (ℕ × ℕ)) (place n : ℕ) → is_offset (bits_from bytes place) n ≡ leb n (width (bits_from bytes place))
+is_offset-bits bytes place n =
+    is_offset-units (drop place (bits_of bytes)) n ∙ ap (leb n) (sym (width-units (drop place (bits_of bytes))))
+
+pub offset_at-bits_short : (bytes : List (ℕ × ℕ)) (place n : ℕ) (m : NonZeroUsize) → non_zero_usize_get m ≡ n - width (bits_from bytes place) → Err (Size m) ≡ offset_at true (bits_from bytes place) n
+offset_at-bits_short bytes place n m e =
+    offset_at-units_short (drop place (bits_of bytes)) n m (e ∙ ap (λ k. n - k) (width-units (drop place (bits_of bytes))))
+
+pub offset_at-bits_fits : (bytes : List (ℕ × ℕ)) (place n : ℕ) → n - width (bits_from bytes place) ≡ 0 → Ok n ≡ offset_at true (bits_from bytes place) n
+offset_at-bits_fits bytes place n e =
+    offset_at-units_fits (drop place (bits_of bytes)) n (ap (λ k. n - k) (sym (width-units (drop place (bits_of bytes)))) ∙ e)
+
+-- ---- one bit
+
+-- the bit at a place in a byte, before those behind it
+pub byte_bits-at : (b place : ℕ) (bits : List Bool) → place < 8 → drop place (byte_bits b ++ bits) ≡ bit_of b place ∷ drop (place + 1) (byte_bits b ++ bits)
+byte_bits-at b zero bits h = refl
+byte_bits-at b (suc zero) bits h = refl
+byte_bits-at b (suc (suc zero)) bits h = refl
+byte_bits-at b (suc (suc (suc zero))) bits h = refl
+byte_bits-at b (suc (suc (suc (suc zero)))) bits h = refl
+byte_bits-at b (suc (suc (suc (suc (suc zero))))) bits h = refl
+byte_bits-at b (suc (suc (suc (suc (suc (suc zero)))))) bits h = refl
+byte_bits-at b (suc (suc (suc (suc (suc (suc (suc zero))))))) bits h = refl
+byte_bits-at b (suc (suc (suc (suc (suc (suc (suc (suc place)))))))) bits h = absurd (omega (arith, h))
+
+pub first-bit : (bytes : List (ℕ × ℕ)) (place b : ℕ) → place < 8 → Some b ≡ first_token bytes → Some (bit_of b place) ≡ first_token (bits_from bytes place)
+first-bit [] place b h e = absurd (cc)
+first-bit (x ∷ xs) place b h e =
+    let k : b ≡ x.0 = cc in
+    ap (λ v. Some (bit_of v place)) k ∙ sym (ap (λ bits. first_token (units bits)) (byte_bits-at x.0 place (bits_of xs) h))
+
+units-drop_one : (bits : List Bool) → units (drop 1 bits) ≡ drop 1 (units bits)
+units-drop_one [] = refl
+units-drop_one (x ∷ xs) = refl
+
+pub next-bit : (bytes : List (ℕ × ℕ)) (place : ℕ) → bits_from bytes (place + 1) ≡ drop 1 (bits_from bytes place)
+next-bit bytes place = ap units (sym (drop-drop 1 place (bits_of bytes))) ∙ units-drop_one (drop place (bits_of bytes))
+
+-- ---- slices
+
+pub drop-none : (n : ℕ) → drop {A = Bool} n [] ≡ []
+drop-none zero = refl
+drop-none (suc n) = refl
+
+-- behind whole bytes stand the bits of the others
+drop-bits_of : (k e : ℕ) (bytes : List (ℕ × ℕ)) → drop (8 * k + e) (bits_of bytes) ≡ drop e (bits_of (drop k bytes))
+drop-bits_of zero e bytes = ap (λ m. drop m (bits_of bytes)) (zero-add e)
+drop-bits_of (suc k) e [] = let m : 8 * suc k + e ≡ suc (7 + 8 * k + e) = omega arith in rw m (sym (drop-none e))
+drop-bits_of (suc k) e (x ∷ xs) =
+    let m : 8 * suc k + e ≡ suc (suc (suc (suc (suc (suc (suc (suc (8 * k + e)))))))) = omega arith in
+    ap (λ n. drop n (bits_of (x ∷ xs))) m ∙ drop-bits_of k e xs
+
+le-offset : (bytes : List (ℕ × ℕ)) (place n : ℕ) → IsTrue (is_offset (bits_from bytes place) n) → n ≤ 8 * length bytes - place
+le-offset bytes place n o = omega (arith, le-from_is_offset (drop place (bits_of bytes)) n o, length-bits_past bytes place)
+
+place_at_end : (bytes : List (ℕ × ℕ)) (place : ℕ) → IsBitSource bytes place → length bytes ≡ 0 → place ≡ 0
+place_at_end [] place h e = h.at_end refl
+place_at_end (x ∷ xs) place h e = absurd (omega (arith, e))
+
+whole-le : (bytes : List (ℕ × ℕ)) (place n : ℕ) → IsBitSource bytes place → IsTrue (is_offset (bits_from bytes place) n) → (n + place) / 8 ≤ length bytes
+whole-le bytes place n h o =
+    let a : n ≤ 8 * length bytes - place = le-offset bytes place n o in
+    let b : length bytes ≡ 0 → place ≡ 0 = place_at_end bytes place h in
+    let l : place < 8 = h.below in
+    omega (arith, a, b, l)
+
+module _ {T : Type 0} where
+  HasUnits-drop : (n : ℕ) (r : List (T × ℕ)) → HasUnits r → HasUnits (drop n r)
+  HasUnits-drop zero r h = h
+  HasUnits-drop (suc n) [] h = tt
+  HasUnits-drop (suc n) (x ∷ xs) h = HasUnits-drop n xs h.1
+
+  is_offset-HasUnits : (r : List (T × ℕ)) (n : ℕ) → HasUnits r → n ≤ length r → is_offset r n ≡ true
+  is_offset-HasUnits r n h l =
+      ap (λ s. is_offset s n) (units-HasUnits r h) ∙ is_offset-units (map (λ x. x.0) r) n ∙ grind (arith, nat_tests, l, length-map r (λ x. x.0))
+
+  back-HasUnits : (r : List (T × ℕ)) (n : ℕ) → HasUnits r → n ≤ length r → back r n ≡ drop n r
+  back-HasUnits r n h l =
+      ap (λ k. drop k r) (ap (λ s. count_to s n) (units-HasUnits r h) ∙ count_to-units (map (λ x. x.0) r) n (omega (arith, l, length-map r (λ x. x.0))))
+
+-- the whole bytes of n bits are a front of the bytes
+pub is_offset-whole : (bytes : List (ℕ × ℕ)) (place n whole : ℕ) → IsBitSource bytes place → IsTrue (is_offset (bits_from bytes place) n) → whole ≡ (n + place) / 8 → is_offset bytes whole ≡ true
+is_offset-whole bytes place n whole h o e = is_offset-HasUnits bytes whole h.units (omega (arith, e, whole-le bytes place n h o))
+
+-- where a slice takes all bytes, it takes no bit behind them
+rest-at_end : (bytes : List (ℕ × ℕ)) (place n : ℕ) → IsBitSource bytes place → n ≤ 8 * length bytes - place → length bytes ≤ (n + place) / 8 → (n + place) % 8 ≡ 0
+rest-at_end [] place n h a l = let p : place ≡ 0 = h.at_end refl in omega (arith, a, p)
+rest-at_end (x ∷ xs) place n h a l = let p : place < 8 = h.below in omega (arith, a, p, l)
+
+-- what remains of bytes and bits behind a slice
+module _ (bytes left : List (ℕ × ℕ)) (place n whole rest : ℕ) (h : IsBitSource bytes place) (o : IsTrue (is_offset (bits_from bytes place) n)) (w : whole ≡ (n + place) / 8) (r : rest ≡ (n + place) % 8) (b : left ≡ back bytes whole) where
+  left-drop : left ≡ drop whole bytes
+  left-drop = b ∙ back-HasUnits bytes whole h.units (omega (arith, w, whole-le bytes place n h o))
+
+  pub back-bits : bits_from left rest ≡ back (bits_from bytes place) n
+  back-bits =
+      ap (λ l. bits_from l rest) left-drop
+      ∙ ap units (sym (drop-bits_of whole rest bytes)
+      ∙ ap (λ m. drop m (bits_of bytes)) (let m : 8 * whole + rest ≡ place + n = omega (arith, w, r) in m)
+      ∙ sym (drop-drop n place (bits_of bytes)))
+      ∙ units-drop (drop place (bits_of bytes)) n (le-from_is_offset (drop place (bits_of bytes)) n o)
+
+  pub IsBitSource-left : IsBitSource left rest
+  IsBitSource-left =
+      let k : whole ≤ length bytes = omega (arith, w, whole-le bytes place n h o) in
+      let a : n ≤ 8 * length bytes - place = le-offset bytes place n o in
+      let f : 8 * length bytes - place < 2 ^ 64 = omega (arith, h.fits, width-bits_from bytes place) in
+      let l : length left ≡ length bytes - whole = ap length left-drop ∙ length-drop whole bytes in
+      record {
+        units = subst HasUnits (sym left-drop) (HasUnits-drop whole bytes h.units);
+        below = omega (arith, r);
+        at_end = λ e. r ∙ rest-at_end bytes place n h a (omega (arith, ap length e, l, w));
+        fits = omega (arith, width-bits_from left rest, l, k, a, f, w, r);
+      }
+
+-- ---- laws
+
+HasUnits-units : {T : Type 0} (xs : List T) → HasUnits (units xs)
+HasUnits-units [] = tt
+HasUnits-units (x ∷ xs) = (refl, HasUnits-units xs)
+
+pub IsBitSource-units : (bytes : List ℕ) (place : ℕ) → place < 8 → (length bytes ≡ 0 → place ≡ 0) → 8 * length bytes - place < 2 ^ 64 → IsBitSource (units bytes) place
+IsBitSource-units bytes place below at_end fits = record {
+  units = HasUnits-units bytes;
+  below = below;
+  at_end = λ e. at_end (sym (length-units bytes) ∙ ap length e);
+  fits = omega (arith, fits, width-bits_from (units bytes) place, length-units bytes);
+}
+
+pub length-front_units : (xs : List ℕ) (r : Source ℕ) (n : ℕ) → IsTrue (is_offset r n) → units xs ≡ front r n → length xs ≡ n
+length-front_units xs r n o e = sym (width-units xs) ∙ ap width e ∙ width-front r n o
+
+-- a slice of bits is as long as the offset that it was taken at, where a slice of bytes is
+module _ {S : Type 0} (is_slice : S → Source ℕ → ℕ → Type 0) (has_width : S → Type 0) (width_of : S → ℕ) (known : SlicesHaveWidths is_slice has_width width_of) where
+  pub bits-have-widths : (s : S × ℕ × ℕ) (r : Source Bool) (n : ℕ) → IsTrue (is_offset r n) → IsBitSlice is_slice s r n
+      → (has_width s.0 × (s.1 ≤ 8 * width_of s.0 + s.2) × (8 * width_of s.0 + s.2 - s.1 < 2 ^ 64)) × (8 * width_of s.0 + s.2 - s.1 ≡ n)
+  bits-have-widths s r n o h =
+      let bytes : Source ℕ = h.0 in
+      let source : IsBitSource bytes s.1 = h.1 in
+      let offset : IsTrue (is_offset (bits_from bytes s.1) n) = subst (λ bits. IsTrue (is_offset bits n)) h.2 o in
+      let inner = known s.0 bytes ((n + s.1) / 8) (is_offset-whole bytes s.1 n ((n + s.1) / 8) source offset refl) h.3.0 in
+      let rest : s.2 ≡ (n + s.1) % 8 = h.3.2 in
+      let short : n < 2 ^ 64 = omega (arith, le-offset bytes s.1 n offset, source.fits, width-bits_from bytes s.1) in
+      let same : 8 * width_of s.0 + s.2 - s.1 ≡ n = omega (arith, inner.1, rest) in
+      ((inner.0, omega (arith, inner.1, rest), omega (arith, same, short)), same)
+
+-- where a list of bits has a first bit, it tells the place
+pub place-of_width : (bytes : List (ℕ × ℕ)) (place : ℕ) → IsBitSource bytes place → (width (bits_from bytes place) + place) % 8 ≡ 0
+place-of_width bytes place h =
+    let e : width (bits_from bytes place) ≡ 8 * width bytes - place = width-bits bytes place h.units in
+    let l : place ≤ 8 * width bytes = place-le bytes place h in
+    omega (arith, e, l)
+
+bits_of-take : (k : ℕ) (bytes : List (ℕ × ℕ)) → bits_of (take k bytes) ≡ take (8 * k) (bits_of bytes)
+bits_of-take zero bytes = refl
+bits_of-take (suc k) [] = let m : 8 * suc k ≡ suc (7 + 8 * k) = omega arith in rw m refl
+bits_of-take (suc k) (x ∷ xs) =
+    let m : 8 * suc k ≡ suc (suc (suc (suc (suc (suc (suc (suc (8 * k)))))))) = omega arith in
+    rw m (ap (λ bits. byte_bits x.0 ++ bits) (bits_of-take k xs))
+
+front-HasUnits : {T : Type 0} (r : List (T × ℕ)) (n : ℕ) → HasUnits r → n ≤ length r → front r n ≡ take n r
+front-HasUnits r n h l =
+    ap (λ k. take k r) (ap (λ s. count_to s n) (units-HasUnits r h) ∙ count_to-units (map (λ x. x.0) r) n (omega (arith, l, length-map r (λ x. x.0))))
+
+drop-take_within : (p n : ℕ) (bits : List Bool) → p ≤ n → drop p (take n bits) ≡ take (n - p) (drop p bits)
+drop-take_within p n bits h = let e : n ≡ p + (n - p) = omega (arith, h) in ap (λ m. drop p (take m bits)) e ∙ drop-take p (n - p) bits
+
+-- the bits of a front of the bytes are a front of the bits
+pub bits_from-front : (bytes : List (ℕ × ℕ)) (place count : ℕ) → IsBitSource bytes place → count ≤ length bytes → bits_from (front bytes count) place ≡ front (bits_from bytes place) (8 * count - place)
+bits_from-front bytes place zero h l = ap (λ b. bits_from b place) (front-HasUnits bytes 0 h.units l) ∙ ap units (drop-none place) ∙ let z : 8 * 0 - place ≡ 0 = omega arith in rw z (units-take (drop place (bits_of bytes)) 0 (omega arith))
+bits_from-front bytes place (suc k) h l =
+    ap (λ b. bits_from b place) (front-HasUnits bytes (suc k) h.units l)
+    ∙ ap (λ bits. units (drop place bits)) (bits_of-take (suc k) bytes)
+    ∙ ap units (drop-take_within place (8 * suc k) (bits_of bytes) (omega (arith, h.below)))
+    ∙ units-take (drop place (bits_of bytes)) (8 * suc k - place) (omega (arith, l, length-bits_past bytes place))
+
+pub ruleset bit_steps = (width-bits, place-le, is_offset-bits, offset_at-bits_short, offset_at-bits_fits, first-bit, next-bit)

@@ -1,0 +1,87 @@
+-- A slice of tokens as a source: the lemmas on units, for references to the elements.
+use Rattle.std.proofs.Common.{◌≡◌, ℕ, zero, suc, ◌+◌, ◌*◌, ◌-◌, ◌≤◌, leb, true, List, [], ◌∷◌, length, take, drop, refl, ap, sym, ◌∙◌, arith, IsTrue, take_all, length-drop, length-take}
+use Rattle.std.specs.Prelude.{Ok, Err}
+use Rattle.std.specs.Borrow.{Bor, RattleType}
+use Rattle.std.specs.Mem.{type_size}
+use Rattle.std.specs.Int.NonZero.{non_zero_usize_get}
+use Rattle.std.specs.declared.num.NonZeroUsize.{NonZeroUsize}
+use Rattle.winnow_stream.specs.declared.needed.Needed.TheVariants.{Size}
+use Rattle.winnow_stream.specs.Source.{units, width, IsEndOf}
+use Rattle.winnow_stream.specs.Front.{is_offset, count_to, front, back}
+use Rattle.winnow_stream.specs.Shortage.{offset_at}
+use Rattle.winnow_stream.specs.Units.{width-units}
+use Rattle.winnow_stream.proofs.lemmas.FrontLemmas.{width-end}
+use Rattle.winnow_stream.proofs.lemmas.UnitLemmas.{length-units, is_offset-units, le-from_is_offset, units-take, units-drop, count_to-units, front-units, offset_at-units_short, offset_at-units_fits}
+use Rattle.std.proofs.lemmas.List.{take-map, drop-map, drop_all}
+use Rattle.winnow_views.specs.TokenSources.{references, tokens_of, length-references, width-tokens_of}
+
+pub references-take : {T : Type 0} (size : ℕ) (at : ℕ × ℕ) (n : ℕ) (xs : List T) → references size at (take n xs) ≡ take n (references size at xs)
+references-take size at zero xs = refl
+references-take size at (suc n) [] = refl
+references-take size at (suc n) (x ∷ xs) = ap (λ r. record { ref_ptr = at; now = x } ∷ r) (references-take size (at.0, size + at.1) n xs)
+
+pub references-drop : {T : Type 0} (size : ℕ) (at : ℕ × ℕ) (n : ℕ) (xs : List T) → references size (at.0, n * size + at.1) (drop n xs) ≡ drop n (references size at xs)
+references-drop size at zero xs = ap (λ o. references size (at.0, o) xs) (omega arith)
+references-drop size at (suc n) [] = refl
+references-drop size at (suc n) (x ∷ xs) =
+    ap (λ o. references size (at.0, o) (drop n xs)) (omega arith) ∙ references-drop size (at.0, size + at.1) n xs
+
+pub tokens_of-drop : {T : Type 0} (size : ℕ) (at : ℕ × ℕ) (n : ℕ) (xs : List T) → units (references size (at.0, n * size + at.1) (drop n xs)) ≡ drop n (units (references size at xs))
+tokens_of-drop size at n xs = ap units (references-drop size at n xs) ∙ sym (drop-map (λ x. (x, 1)) n (references size at xs))
+
+pub tokens_of-take : {T : Type 0} (size : ℕ) (at : ℕ × ℕ) (n : ℕ) (xs : List T) → units (references size at (take n xs)) ≡ take n (units (references size at xs))
+tokens_of-take size at n xs = ap units (references-take size at n xs) ∙ sym (take-map (λ x. (x, 1)) n (references size at xs))
+
+module _ {T : Type 0} (size : ℕ) (at : ℕ × ℕ) (xs : List T) where
+  pub length-tokens_of : length (units (references size at xs)) ≡ length xs
+  length-tokens_of = length-units (references size at xs) ∙ length-references size at xs
+
+  pub width-references : width (units (references size at xs)) ≡ length xs
+  width-references = width-units (references size at xs) ∙ length-references size at xs
+
+  pub is_offset-tokens_of : (n : ℕ) → is_offset (units (references size at xs)) n ≡ leb n (length xs)
+  is_offset-tokens_of n = is_offset-units (references size at xs) n ∙ ap (leb n) (length-references size at xs)
+
+  pub le-from_offset : (n : ℕ) → IsTrue (is_offset (units (references size at xs)) n) → n ≤ length xs
+  le-from_offset n h = let l = le-from_is_offset (references size at xs) n h in omega (arith, l, length-references size at xs)
+
+  pub back-tokens_of : (n : ℕ) → n ≤ length xs → units (references size (at.0, n * size + at.1) (drop n xs)) ≡ back (units (references size at xs)) n
+  back-tokens_of n h = ap units (references-drop size at n xs) ∙ units-drop (references size at xs) n (omega (arith, h, length-references size at xs))
+
+  pub front-tokens_of : (n : ℕ) → n ≤ length xs → units (references size at (take n xs)) ≡ front (units (references size at xs)) n
+  front-tokens_of n h = ap units (references-take size at n xs) ∙ units-take (references size at xs) n (omega (arith, h, length-references size at xs))
+
+  pub offset_at-short : (n : ℕ) (m : NonZeroUsize) → non_zero_usize_get m ≡ n - length xs → Err (Size m) ≡ offset_at true (units (references size at xs)) n
+  offset_at-short n m e = offset_at-units_short (references size at xs) n m (e ∙ ap (λ k. n - k) (sym (length-references size at xs)))
+
+  pub offset_at-fits : (n : ℕ) → n - length xs ≡ 0 → Ok n ≡ offset_at true (units (references size at xs)) n
+  offset_at-fits n h = offset_at-units_fits (references size at xs) n (omega (arith, h, length-references size at xs))
+
+  -- a part of the slice, from element n on
+  pub part-tokens_of : (n : ℕ) → n ≤ length xs → units (references size (at.0, n * size + at.1) (take (length xs - n) (drop n xs))) ≡ drop n (units (references size at xs))
+  part-tokens_of n h =
+      ap (λ ys. units (references size (at.0, n * size + at.1) ys)) (take_all (length xs - n) (drop n xs) (omega (arith, length-drop n xs))) ∙ tokens_of-drop size at n xs
+
+  pub front_all-tokens_of : units (references size at xs) ≡ front (units (references size at xs)) (width (units (references size at xs)))
+  front_all-tokens_of = front-units (references size at xs)
+
+  pub drop_all-tokens_of : drop (length xs) (units (references size at xs)) ≡ []
+  drop_all-tokens_of = drop_all (length xs) (units (references size at xs)) (omega (arith, length-tokens_of))
+
+  pub back-units : (n : ℕ) → IsTrue (is_offset (units (references size at xs)) n) → drop n (units (references size at xs)) ≡ back (units (references size at xs)) n
+  back-units n h = ap (λ k. drop k (units (references size at xs))) (sym (count_to-units (references size at xs) n (le-from_is_offset (references size at xs) n h)))
+
+module _ (R : RattleType) where
+  -- an end of a slice is no longer
+  pub le-from_end : (s whole : Bor (List R.Denot)) → IsEndOf (tokens_of R s) (tokens_of R whole) → length s.now ≤ length whole.now
+  le-from_end s whole h = let w = width-end (tokens_of R s) (tokens_of R whole) h in omega (arith, w, width-tokens_of R s, width-tokens_of R whole)
+
+  -- what is a front of a slice is no longer
+  pub le-from_front : (s whole : Bor (List R.Denot)) (n : ℕ) → tokens_of R s ≡ front (tokens_of R whole) n → length s.now ≤ length whole.now
+  le-from_front s whole n e =
+      let l = length-take (count_to (tokens_of R whole) n) (tokens_of R whole) in
+      let a = length-tokens_of (type_size R) s.ref_ptr s.now in
+      let b = length-tokens_of (type_size R) whole.ref_ptr whole.now in
+      omega (arith, l, ap length e, a, b)
+
+pub ruleset token_steps = (tokens_of-drop, length-tokens_of, width-references, is_offset-tokens_of, le-from_offset, back-tokens_of, front-tokens_of, offset_at-short, offset_at-fits, part-tokens_of, front_all-tokens_of, drop_all-tokens_of, back-units)

@@ -1,0 +1,41 @@
+-- The bits of bytes: what a stream of bits owes to the laws of `Stream`.
+use Rattle.std.specs.Prelude.{◌≡◌, ℕ, ◌-◌, ◌*◌, List, [], ◌∷◌, length, map, drop, refl}
+use Rattle.std.proofs.Common.{arith, ap, ap₂, sym, ◌∙◌}
+use Rattle.std.proofs.lemmas.List.{length-drop, length-map}
+use Rattle.winnow_stream.specs.Source.{Source, units, width, HasWidths}
+use Rattle.winnow_stream.specs.Units.{width-units, HasWidths-units}
+use Rattle.winnow_views.specs.declared.bits.Bits.{Bits}
+use Rattle.winnow_views.specs.BitSource.{HasUnits, bits_of, bits_from, IsBitSource}
+use Rattle.winnow_views.specs.BitStream.{bits_remaining, IsValidBits}
+
+pub length-bits_of : (bytes : List (ℕ × ℕ)) → length (bits_of bytes) ≡ 8 * length bytes
+length-bits_of [] = refl
+length-bits_of (x ∷ xs) = omega (arith, length-bits_of xs)
+
+module _ {T : Type 0} where
+  pub units-HasUnits : (r : List (T × ℕ)) → HasUnits r → r ≡ units (map (λ x. x.0) r)
+  units-HasUnits [] h = refl
+  units-HasUnits (x ∷ xs) h = ap (λ w. (x.0, w) ∷ xs) h.0 ∙ ap (λ ys. (x.0, 1) ∷ ys) (units-HasUnits xs h.1)
+
+  pub width-HasUnits : (r : List (T × ℕ)) → HasUnits r → width r ≡ length r
+  width-HasUnits r h = ap width (units-HasUnits r h) ∙ width-units (map (λ x. x.0) r) ∙ length-map r (λ x. x.0)
+
+pub length-bits_past : (bytes : List (ℕ × ℕ)) (place : ℕ) → length (drop place (bits_of bytes)) ≡ 8 * length bytes - place
+length-bits_past bytes place = omega (arith, length-drop place (bits_of bytes), length-bits_of bytes)
+
+pub width-bits_from : (bytes : List (ℕ × ℕ)) (place : ℕ) → width (bits_from bytes place) ≡ 8 * length bytes - place
+width-bits_from bytes place = width-units (drop place (bits_of bytes)) ∙ length-bits_past bytes place
+
+pub HasWidths-bits_from : (bytes : List (ℕ × ℕ)) (place : ℕ) → HasWidths (bits_from bytes place)
+HasWidths-bits_from bytes place = HasWidths-units (drop place (bits_of bytes))
+
+pub rest_width-bits_from : (bytes : List (ℕ × ℕ)) (place rest_width : ℕ) → HasUnits bytes → rest_width ≡ width bytes → 8 * rest_width - place ≡ width (bits_from bytes place)
+rest_width-bits_from bytes place rest_width h e = omega (arith, e, width-HasUnits bytes h, width-bits_from bytes place)
+
+module _ {I : Type 0} (remaining : I → Source ℕ) (s t : Bits I) where
+  pub bits_remaining-same : remaining t.input ≡ remaining s.input → s.place ≡ t.place → bits_remaining remaining t ≡ bits_remaining remaining s
+  bits_remaining-same e p = ap₂ bits_from e (sym p)
+
+module _ {I : Type 0} (valid : I → Type 0) (remaining : I → Source ℕ) (s t : Bits I) where
+  pub IsValidBits-same : remaining t.input ≡ remaining s.input → (valid s.input → valid t.input) → s.place ≡ t.place → IsValidBits valid remaining s → IsValidBits valid remaining t
+  IsValidBits-same e v p h = (v h.0, rw (e, sym p) h.1)

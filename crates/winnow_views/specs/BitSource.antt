@@ -1,0 +1,43 @@
+-- The bits of a source of bytes, from a place in its first byte on.
+use Rattle.std.specs.Prelude.{◌≡◌, ℕ, ◌+◌, ◌/◌, ◌%◌, ◌^◌, ◌<◌, ◌==◌, Bool, List, [], ◌∷◌, ◌++◌, drop, ⊤}
+use Rattle.winnow_stream.specs.Source.{Source, units, width}
+
+-- each width is 1
+abbrev pub HasUnits : {T : Type 0} → Source T → Type 0
+HasUnits [] = ⊤
+HasUnits (x ∷ xs) = (x.1 ≡ 1) × HasUnits xs
+
+-- bit j of the byte b
+abbrev pub bit_of : ℕ → ℕ → Bool
+bit_of b j = (b / 2 ^ j) % 2 == 1
+
+-- the bits of a byte, the lowest first
+abbrev pub byte_bits : ℕ → List Bool
+byte_bits b = bit_of b 0 ∷ bit_of b 1 ∷ bit_of b 2 ∷ bit_of b 3 ∷ bit_of b 4 ∷ bit_of b 5 ∷ bit_of b 6 ∷ bit_of b 7 ∷ []
+
+-- the bits of bytes, byte after byte
+abbrev pub bits_of : Source ℕ → List Bool
+bits_of [] = []
+bits_of (x ∷ xs) = byte_bits x.0 ++ bits_of xs
+
+-- the bits of bytes from a place on, as tokens of width 1
+abbrev pub bits_from : Source ℕ → ℕ → Source Bool
+bits_from bytes place = units (drop place (bits_of bytes))
+
+-- the bits of these bytes from this place on may be streamed: each byte has width 1, the place is in the first byte, and 0
+-- where there is none, and the number of bits is a `usize`
+pub record IsBitSource (bytes : Source ℕ) (place : ℕ) : Type 0 where
+  pub units : HasUnits bytes
+  pub below : place < 8
+  pub at_end : bytes ≡ [] → place ≡ 0
+  pub fits : width (bits_from bytes place) < 2 ^ 64
+
+module _ {S : Type 0} (is_slice : S → Source ℕ → ℕ → Type 0) where
+  -- s is the slice of n bits from a place in these bytes: the slice of the whole bytes, the place where the bits begin in the
+  -- first of them, and how many bits of the byte behind them are taken too
+  abbrev pub IsBitSliceAt : S × ℕ × ℕ → Source ℕ → ℕ → ℕ → Type 0
+  IsBitSliceAt s bytes place n = is_slice s.0 bytes ((n + place) / 8) × (s.1 ≡ place) × (s.2 ≡ (n + place) % 8)
+
+  -- s is the slice of width n of a list of bits: it is so of some bytes of which the list has the bits
+  abbrev pub IsBitSlice : S × ℕ × ℕ → Source Bool → ℕ → Type 0
+  IsBitSlice s r n = (bytes : Source ℕ) × IsBitSource bytes s.1 × (r ≡ bits_from bytes s.1) × IsBitSliceAt s bytes s.1 n

@@ -1,0 +1,30 @@
+-- What a stream of bits means, by what the stream of bytes inside means.
+use Rattle.std.specs.Prelude.{◌≡◌, ℕ, Bool}
+use Rattle.winnow_stream.specs.Source.{Source, width}
+use Rattle.winnow_views.specs.declared.bits.Bits.{Bits}
+use Rattle.winnow_views.specs.declared.bits.BitPlace.{BitPlace}
+use Rattle.winnow_views.specs.BitSource.{bits_from, IsBitSource}
+
+module _ {I : Type 0} where
+  -- the stream of bytes, and the place in its first byte
+  abbrev pub bits_input : Bits I → I
+  bits_input s = s.input
+
+  abbrev pub bits_place : Bits I → ℕ
+  bits_place s = s.place
+
+  -- the bits of the bytes that remain, from the place on
+  abbrev pub bits_remaining : (I → Source ℕ) → Bits I → Source Bool
+  bits_remaining remaining s = bits_from (remaining s.input) s.place
+
+  -- the stream of bytes is valid, and its bits from the place on may be streamed
+  abbrev pub IsValidBits : (I → Type 0) → (I → Source ℕ) → Bits I → Type 0
+  IsValidBits valid remaining s = valid s.input × IsBitSource (remaining s.input) s.place
+
+-- the same of a checkpoint, which also has the number of bits
+module _ {C : Type 0} where
+  abbrev pub bits_remained : (C → Source ℕ) → BitPlace C → Source Bool
+  bits_remained remained c = bits_from (remained c.bytes) c.place
+
+  abbrev pub IsValidPlace : (C → Type 0) → (C → Source ℕ) → BitPlace C → Type 0
+  IsValidPlace valid remained c = valid c.bytes × IsBitSource (remained c.bytes) c.place × (c.count ≡ width (bits_remained remained c))

@@ -1,0 +1,9 @@
+pub mod TokenSources
+pub mod TokenPlaces
+pub mod TokenPrevious
+pub mod TokenAnswers
+pub mod BitSource
+pub mod BitStream
+pub mod BitSteps
+pub mod BitWidth
+pub mod BitLaws

@@ -1,0 +1,36 @@
+ghost use Rattle.std.specs.Prelude.{◌≡◌, ℕ, ◌+◌, ◌-◌, ◌*◌, ◌%◌, ◌^◌, ◌<◌, ◌≤◌, List, length};
+ghost use Rattle.winnow_stream.specs.Source.{Source, units, width};
+ghost use Rattle.winnow_stream.specs.Front.{front};
+ghost use Rattle.winnow_views.specs.BitSource.{bits_from, IsBitSource, IsBitSlice};
+ghost use Rattle.winnow_views.specs.BitWidth.{SlicesHaveWidths};
+
+use winnow_stream::{SliceLen, Stream};
+
+/// The law of bytes as bits: the bits of a slice of bytes may be streamed where their number is a `usize`, and from a place on where
+/// there is a first byte that has it. It does nothing when called: its contract is the law.
+pub fn bit_source_law()
+    ensures start { (bytes : List ℕ) → 8 * length bytes < 2 ^ 64 → IsBitSource (units bytes) 0 }
+    ensures inside { (bytes : List ℕ) (place : ℕ) → place < 8 → 0 < length bytes → 8 * length bytes - place < 2 ^ 64 → IsBitSource (units bytes) place }
+{}
+
+/// The law of places: the number of bits tells the place, and the bits of some whole bytes, from the place on, are a front of the
+/// bits. So the list that a slice of bits was taken from tells the two numbers of its triple, and the bits of its bytes from the place on
+/// are the first that were taken. It does nothing when called: its contract is the law.
+pub fn bit_place_law()
+    ensures place { (bytes : Source ℕ) (place : ℕ) → IsBitSource bytes place → (width (bits_from bytes place) + place) % 8 ≡ 0 }
+    ensures front { (bytes : Source ℕ) (place count : ℕ) → IsBitSource bytes place → count ≤ length bytes → bits_from (front bytes count) place ≡ front (bits_from bytes place) (8 * count - place) }
+{}
+
+/// The law of slices of bits: where the length of each slice of the stream of bytes is the offset that it was taken at, so is that of
+/// each slice of its bits. It does nothing when called: its contract is the law.
+pub fn bit_slice_law<I: Stream<Token = u8>>()
+where
+    I::Slice: SliceLen,
+    ensures { SlicesHaveWidths I.is_slice I.Slice.has_width I.Slice.width_of → SlicesHaveWidths (IsBitSlice I.is_slice) ⟦<(I::Slice, usize, usize) as SliceLen>⟧.has_width ⟦<(I::Slice, usize, usize) as SliceLen>⟧.width_of }
+{}
+
+/// The law of slices of bytes, which [`bit_slice_law`] asks for: their length is the offset that they were taken at. It does nothing
+/// when called: its contract is the law.
+pub fn byte_slice_law()
+    ensures { SlicesHaveWidths ⟦<&'static [u8] as Stream>⟧.is_slice ⟦<&'static [u8] as SliceLen>⟧.has_width ⟦<&'static [u8] as SliceLen>⟧.width_of }
+{}

@@ -1,0 +1,222 @@
+ghost use Rattle.std.specs.Prelude.{◌≤◌};
+
+use crate::TokenSlice;
+use std::alloc::{AllocError, Global};
+use std::test::Fail;
+use winnow_match::{Compare, CompareResult};
+use winnow_stream::Step::{At, Each, Finish, Mark, Next, Peek, Reset, Since, Take};
+use winnow_stream::{
+    Location, NoSet, Offset, Rest, SliceLen, Step, Stream, StreamIsPartial, UpdateSlice, run,
+};
+
+// A token that is not `Copy`, with its place in the input of the lexer.
+#[derive(Debug, Drop, PartialEq, Eq)]
+struct Lexed {
+    start: usize,
+    end: usize,
+}
+
+impl Location for Lexed {
+    ghost token_end = { λ t. t.end };
+
+    ghost token_start = { λ t. t.start };
+
+    fn previous_token_end(&self) -> usize {
+        self.end
+    }
+
+    fn current_token_start(&self) -> usize {
+        self.start
+    }
+}
+
+const LEXED: [Lexed; 3] = [
+    Lexed { start: 1, end: 9 },
+    Lexed { start: 11, end: 19 },
+    Lexed { start: 21, end: 29 },
+];
+
+// What remains, and the tokens before the place, the last first.
+fn shown(alloc: Global, tokens: &TokenSlice<'_, u8>) -> Result<String, AllocError> {
+    let previous: Vec<&u8> = tokens.previous_tokens().collect(alloc)?;
+    format!(in alloc; "{tokens:?} after {previous:?}")
+}
+
+// The answers of a script on any stream, as their debug text.
+fn told<S: Stream + Drop>(
+    alloc: Global,
+    mut s: S,
+    script: &[Step<NoSet>],
+) -> Result<String, AllocError>
+where
+    S::Token: Drop,
+    S::Slice: Drop,
+    requires { S.valid s }
+{
+    let answers = run(alloc, &mut s, script)?;
+    format!(in alloc; "{answers:?}")
+}
+
+// The stream narrowed to its front of that width.
+fn window<S: UpdateSlice + Drop>(mut s: S, offset: usize) -> Option<S>
+    requires { S.valid s }
+{
+    if !s.is_offset(offset) {
+        return None;
+    }
+    let start = s.checkpoint();
+    let inner = s.next_slice(offset);
+    Some(s.update_slice(inner, &start))
+}
+
+// Both locations, through the bound.
+fn located<S: Location>(s: &S) -> (usize, usize)
+{
+    (s.previous_token_end(), s.current_token_start())
+}
+
+// A comparison, through the bound.
+fn compares<T, S: Compare<T> + Drop>(s: S, literal: T) -> CompareResult
+    requires { S.valid s }
+{
+    s.compare(literal)
+}
+
+// The width since a place, through the bound.
+fn gone<C: Rest, S: Offset<C>>(s: &S, start: &C) -> usize
+    requires measured { S.can_measure s.now start.now }
+    requires no_wider { S.rest_width s.now ≤ C.rest_width start.now }
+{
+    s.offset_from(start)
+}
+
+// The width, and whether more may follow, through the bounds.
+fn width_and_mark<S: SliceLen + StreamIsPartial>(s: &mut S) -> (usize, bool, bool)
+    requires { (t : S) → S.has_width t }
+{
+    let state = s.complete();
+    s.restore_partial(state);
+    (s.slice_len(), S::is_partial_supported(), s.is_partial())
+}
+
+#[test]
+fn a_window_has_the_place_where_it_begins(rt: HostRuntime) -> Result<(), Fail> {
+    let mut tokens = TokenSlice::new(&[5, 6, 7, 8]);
+    assert_eq!(rt;
+        shown(rt.alloc(), &tokens)?.as_str(),
+        "[5, 6, 7, 8] after []"
+    );
+    let _ = tokens.next_token();
+    let mut tokens = window(tokens, 2).ok_or("two tokens remain")?;
+    assert_eq!(rt; shown(rt.alloc(), &tokens)?.as_str(), "[6, 7] after [5]");
+    assert_eq!(rt; tokens.next_token(), Some(&6));
+    assert_eq!(rt; shown(rt.alloc(), &tokens)?.as_str(), "[7] after [6, 5]");
+    tokens.reset_to_start();
+    assert_eq!(rt;
+        shown(rt.alloc(), &tokens)?.as_str(),
+        "[5, 6, 7, 8] after []"
+    );
+    Ok(())
+}
+
+#[test]
+fn scripts_run_over_tokens(rt: HostRuntime) -> Result<(), Fail> {
+    let script = [
+        Mark,
+        Next,
+        At(3),
+        Take(2),
+        Since(0),
+        Each,
+        Finish,
+        Next,
+        Reset(0),
+        Peek,
+    ];
+    for (answers, want) in [
+        (
+            told(rt.alloc(), TokenSlice::new(b"abcd"), &script)?,
+            "[Marked(0), Token(Some(97)), At(Ok(3)), Slice([98, 99]), Offset(3), Items([(0, 100)]), Slice([100]), Token(None), Done, Token(Some(97))]",
+        ),
+        (
+            told(rt.alloc(), TokenSlice::new(&["a", "b", "c"]), &script)?,
+            "[Marked(0), Token(Some(\"a\")), At(Err(Size(1))), Slice([\"b\", \"c\"]), Offset(3), Items([]), Slice([]), Token(None), Done, Token(Some(\"a\"))]",
+        ),
+        (
+            told(rt.alloc(), TokenSlice::new(&LEXED), &[At(3), Take(2), Each])?,
+            "[At(Ok(3)), Slice([Lexed { start: 1, end: 9 }, Lexed { start: 11, end: 19 }]), Items([(0, Lexed { start: 21, end: 29 })])]",
+        ),
+    ] {
+        assert_eq!(rt; answers.as_str(), want);
+    }
+    Ok(())
+}
+
+#[test]
+fn a_checkpoint_of_a_longer_list_is_taken(rt: HostRuntime) -> Result<(), Fail> {
+    let mut longer = TokenSlice::new(&[1, 2, 3, 4, 5]);
+    let _ = window(longer, 4);
+    for _ in 0..4 {
+        let _ = longer.next_token();
+    }
+    let mut tokens = TokenSlice::new(&[7, 8]);
+    let _ = tokens.next_token();
+    tokens.reset(&longer.checkpoint());
+    assert_eq!(rt; shown(rt.alloc(), &tokens)?.as_str(), "[5] after [8, 7]");
+    let _ = tokens.next_token();
+    assert_eq!(rt; shown(rt.alloc(), &tokens)?.as_str(), "[] after [8, 7]");
+    tokens.reset_to_start();
+    assert_eq!(rt; shown(rt.alloc(), &tokens)?.as_str(), "[7, 8] after []");
+    Ok(())
+}
+
+#[test]
+fn locations_are_those_of_the_neighbours(rt: HostRuntime) {
+    let mut tokens = TokenSlice::new(&LEXED);
+    for place in [(1, 1), (9, 11), (19, 21), (29, 29)] {
+        assert_eq!(rt; located(&tokens), place);
+        let _ = tokens.next_token();
+    }
+    assert_eq!(rt; located(&TokenSlice::<Lexed>::default()), (0, 0));
+}
+
+#[test]
+fn the_first_token_is_compared(rt: HostRuntime) {
+    let tokens = TokenSlice::new(&[5, 6]);
+    for (answer, want) in [
+        (compares(tokens, 5), CompareResult::Ok(1)),
+        (compares(tokens, 6), CompareResult::Error),
+        (compares(TokenSlice::new(&[]), 5), CompareResult::Incomplete),
+    ] {
+        assert_eq!(rt; answer, want);
+    }
+    assert_eq!(rt;
+        compares(TokenSlice::new(&LEXED), Lexed { start: 1, end: 9 }),
+        CompareResult::Ok(1)
+    );
+}
+
+#[test]
+fn widths_are_numbers_of_tokens(rt: HostRuntime) {
+    let start = TokenSlice::new(b"abc");
+    let mut tokens = start;
+    let _ = tokens.next_token();
+    assert_eq!(rt; gone(&tokens, &start), 1);
+    assert_eq!(rt; gone(&tokens, &start.checkpoint()), 1);
+    assert_eq!(rt; gone(&tokens.checkpoint(), &start.checkpoint()), 1);
+    assert_eq!(rt; width_and_mark(&mut tokens), (2, false, false));
+    assert_eq!(rt; tokens.as_slice(), b"bc".as_slice());
+}
+
+#[test]
+fn equality_is_that_of_the_tokens(rt: HostRuntime) {
+    let start = TokenSlice::new(&[7, 7]);
+    let mut tokens = start;
+    let _ = tokens.next_token();
+    let other = TokenSlice::new(&[7]);
+    assert_eq!(rt; start == TokenSlice::new(&[7, 7]), true);
+    assert_eq!(rt; start == tokens, false);
+    assert_eq!(rt; other == tokens, false);
+    assert_eq!(rt; other.checkpoint() == tokens.checkpoint(), true);
+    assert_eq!(rt; start.checkpoint() > tokens.checkpoint(), true);
+}
