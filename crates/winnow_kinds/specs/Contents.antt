@@ -1,10 +1,18 @@
--- What a `BStr` and `Bytes` stand for: the bytes that remain. Contracts name these, and never a field.
+-- What the types around a slice of bytes stand for: the bytes that remain. Contracts name these, and never a field.
 use Rattle.std.specs.Prelude.{ℕ, List}
 use Rattle.winnow_kinds.specs.declared.bstr.BStr.{BStr}
 use Rattle.winnow_kinds.specs.declared.bytes.Bytes.{Bytes}
+use Rattle.winnow_kinds.specs.declared.hex.UpperBytes.{UpperBytes}
+use Rattle.winnow_kinds.specs.declared.hex.LowerBytes.{LowerBytes}
 
 abbrev pub bstr_contents : BStr → List ℕ
 bstr_contents s = s.bytes.now
 
 abbrev pub bytes_contents : Bytes → List ℕ
 bytes_contents s = s.bytes.now
+
+abbrev pub upper_contents : UpperBytes → List ℕ
+upper_contents s = s.bytes.now
+
+abbrev pub lower_contents : LowerBytes → List ℕ
+lower_contents s = s.bytes.now

@@ -12,8 +12,8 @@ ghost use Rattle.winnow_stream.specs.Units.{HasWidths-units, width-units};
 ghost use Rattle.winnow_match.specs.Bytes.{bytes_of};
 ghost use Rattle.winnow_match.specs.Comparison.{comparison};
 ghost use Rattle.winnow_match.specs.Search.{hit};
-ghost use Rattle.winnow_kinds.specs.Contents.{bytes_contents};
-ghost use Rattle.winnow_kinds.specs.Hex.{hex_text, upper_contents, lower_contents};
+ghost use Rattle.winnow_kinds.specs.Contents.{bytes_contents, upper_contents, lower_contents};
+ghost use Rattle.winnow_kinds.specs.Hex.{hex_text};
 
 use crate::{ByteLiteral, ByteNeedles, LowerBytes, UpperBytes};
 use std::alloc::{AllocError, Global};

@@ -1,5 +1,6 @@
 ghost use Rattle.std.specs.Prelude.{◌≡◌, true, false, Some};
-ghost use Rattle.winnow_kinds.specs.Hex.{hex_text, upper_contents, lower_contents};
+ghost use Rattle.winnow_kinds.specs.Contents.{upper_contents, lower_contents};
+ghost use Rattle.winnow_kinds.specs.Hex.{hex_text};
 
 use std::fmt;
 

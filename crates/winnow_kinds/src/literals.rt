@@ -1,10 +1,13 @@
+#![tactic(auto, using(winnow_match::proofs::lemmas::ByteLemmas::source_bytes))]
+
 ghost use Rattle.std.specs.Prelude.{◌≡◌, ℕ, [], ◌∷◌, List};
 ghost use Rattle.std.specs.Char.{encode_utf8};
 ghost use Rattle.winnow_match.specs.Comparison.{comparison};
 
 use winnow_match::{Compare, CompareResult};
 
-/// What `&[u8]` is compared with: so a stream around a slice of bytes is compared with it too.
+/// A literal that bytes are compared with. Whatever `&[u8]` is compared with is one, so that a stream around a slice of bytes is
+/// compared with the same.
 pub trait ByteLiteral {
     // The bytes that it stands for.
     ghost literal_bytes: { Self → List ℕ };
@@ -14,7 +17,6 @@ pub trait ByteLiteral {
         ensures { result ≡ comparison (literal_bytes self) bytes.now };
 }
 
-#[tactic(auto, using(winnow_match::proofs::lemmas::ByteLemmas::source_bytes))]
 impl ByteLiteral for &[u8] {
     ghost literal_bytes = { λ literal. literal.now };
 
@@ -23,7 +25,6 @@ impl ByteLiteral for &[u8] {
     }
 }
 
-#[tactic(auto, using(winnow_match::proofs::lemmas::ByteLemmas::source_bytes))]
 impl<const LEN: usize> ByteLiteral for [u8; LEN] {
     ghost literal_bytes = { λ literal. literal };
 
@@ -32,7 +33,6 @@ impl<const LEN: usize> ByteLiteral for [u8; LEN] {
     }
 }
 
-#[tactic(auto, using(winnow_match::proofs::lemmas::ByteLemmas::source_bytes))]
 impl<const LEN: usize> ByteLiteral for &[u8; LEN] {
     ghost literal_bytes = { λ literal. literal.now };
 
@@ -41,7 +41,6 @@ impl<const LEN: usize> ByteLiteral for &[u8; LEN] {
     }
 }
 
-#[tactic(auto, using(winnow_match::proofs::lemmas::ByteLemmas::source_bytes))]
 impl ByteLiteral for &str {
     ghost literal_bytes = { λ literal. literal.now };
 
@@ -50,7 +49,6 @@ impl ByteLiteral for &str {
     }
 }
 
-#[tactic(auto, using(winnow_match::proofs::lemmas::ByteLemmas::source_bytes))]
 impl ByteLiteral for u8 {
     ghost literal_bytes = { λ literal. literal ∷ [] };
 
@@ -60,7 +58,6 @@ impl ByteLiteral for u8 {
 }
 
 /// The character in its UTF-8 form.
-#[tactic(auto, using(winnow_match::proofs::lemmas::ByteLemmas::source_bytes))]
 impl ByteLiteral for char {
     ghost literal_bytes = { λ literal. encode_utf8 literal };
 

@@ -1,3 +1,5 @@
+#![tactic(auto, using(winnow_match::proofs::lemmas::ByteLemmas::source_bytes))]
+
 ghost use Rattle.std.specs.Prelude.{◌≡◌, ℕ, [], ◌∷◌, List, Option};
 ghost use Rattle.std.specs.Char.{encode_utf8};
 ghost use Rattle.std.specs.declared.ops.Range as range_declared;
@@ -6,7 +8,8 @@ ghost use Rattle.winnow_match.specs.Search.{hit, bytes_of_needles};
 use std::ops::Range;
 use winnow_match::{FindSlice, Needles};
 
-/// What is searched for in `&[u8]`: so it is searched for in a stream around a slice of bytes too.
+/// What is searched for in bytes: a needle, or one of several. Whatever is searched for in `&[u8]` is one, so that the same is searched
+/// for in a stream around a slice of bytes.
 pub trait ByteNeedles {
     // The bytes of each needle, in the order in which they are preferred at one place.
     ghost needle_bytes: { Self → List (List ℕ) };
@@ -16,7 +19,6 @@ pub trait ByteNeedles {
         ensures { result ≡ hit (needle_bytes self) bytes.now };
 }
 
-#[tactic(auto, using(winnow_match::proofs::lemmas::ByteLemmas::source_bytes))]
 impl ByteNeedles for &[u8] {
     ghost needle_bytes = { λ needle. needle.now ∷ [] };
 
@@ -25,7 +27,6 @@ impl ByteNeedles for &[u8] {
     }
 }
 
-#[tactic(auto, using(winnow_match::proofs::lemmas::ByteLemmas::source_bytes))]
 impl ByteNeedles for (&[u8],) {
     ghost needle_bytes = { λ needles. needles.0.now ∷ [] };
 
@@ -34,7 +35,6 @@ impl ByteNeedles for (&[u8],) {
     }
 }
 
-#[tactic(auto, using(winnow_match::proofs::lemmas::ByteLemmas::source_bytes))]
 impl<'n> ByteNeedles for (&'n [u8], &'n [u8]) {
     ghost needle_bytes = { λ needles. needles.0.now ∷ needles.1.now ∷ [] };
 
@@ -43,7 +43,6 @@ impl<'n> ByteNeedles for (&'n [u8], &'n [u8]) {
     }
 }
 
-#[tactic(auto, using(winnow_match::proofs::lemmas::ByteLemmas::source_bytes))]
 impl<'n> ByteNeedles for (&'n [u8], &'n [u8], &'n [u8]) {
     ghost needle_bytes = { λ needles. needles.0.now ∷ needles.1.now ∷ needles.2.now ∷ [] };
 
@@ -52,7 +51,6 @@ impl<'n> ByteNeedles for (&'n [u8], &'n [u8], &'n [u8]) {
     }
 }
 
-#[tactic(auto, using(winnow_match::proofs::lemmas::ByteLemmas::source_bytes))]
 impl ByteNeedles for Needles<&[u8]> {
     ghost needle_bytes = { λ needles. bytes_of_needles needles };
 
@@ -61,7 +59,6 @@ impl ByteNeedles for Needles<&[u8]> {
     }
 }
 
-#[tactic(auto, using(winnow_match::proofs::lemmas::ByteLemmas::source_bytes))]
 impl ByteNeedles for &str {
     ghost needle_bytes = { λ needle. needle.now ∷ [] };
 
@@ -70,7 +67,6 @@ impl ByteNeedles for &str {
     }
 }
 
-#[tactic(auto, using(winnow_match::proofs::lemmas::ByteLemmas::source_bytes))]
 impl ByteNeedles for (&str,) {
     ghost needle_bytes = { λ needles. needles.0.now ∷ [] };
 
@@ -79,7 +75,6 @@ impl ByteNeedles for (&str,) {
     }
 }
 
-#[tactic(auto, using(winnow_match::proofs::lemmas::ByteLemmas::source_bytes))]
 impl<'n> ByteNeedles for (&'n str, &'n str) {
     ghost needle_bytes = { λ needles. needles.0.now ∷ needles.1.now ∷ [] };
 
@@ -88,7 +83,6 @@ impl<'n> ByteNeedles for (&'n str, &'n str) {
     }
 }
 
-#[tactic(auto, using(winnow_match::proofs::lemmas::ByteLemmas::source_bytes))]
 impl<'n> ByteNeedles for (&'n str, &'n str, &'n str) {
     ghost needle_bytes = { λ needles. needles.0.now ∷ needles.1.now ∷ needles.2.now ∷ [] };
 
@@ -97,7 +91,6 @@ impl<'n> ByteNeedles for (&'n str, &'n str, &'n str) {
     }
 }
 
-#[tactic(auto, using(winnow_match::proofs::lemmas::ByteLemmas::source_bytes))]
 impl ByteNeedles for u8 {
     ghost needle_bytes = { λ byte. (byte ∷ []) ∷ [] };
 
@@ -106,7 +99,6 @@ impl ByteNeedles for u8 {
     }
 }
 
-#[tactic(auto, using(winnow_match::proofs::lemmas::ByteLemmas::source_bytes))]
 impl ByteNeedles for (u8,) {
     ghost needle_bytes = { λ bytes. (bytes.0 ∷ []) ∷ [] };
 
@@ -115,7 +107,6 @@ impl ByteNeedles for (u8,) {
     }
 }
 
-#[tactic(auto, using(winnow_match::proofs::lemmas::ByteLemmas::source_bytes))]
 impl ByteNeedles for (u8, u8) {
     ghost needle_bytes = { λ bytes. (bytes.0 ∷ []) ∷ (bytes.1 ∷ []) ∷ [] };
 
@@ -124,7 +115,6 @@ impl ByteNeedles for (u8, u8) {
     }
 }
 
-#[tactic(auto, using(winnow_match::proofs::lemmas::ByteLemmas::source_bytes))]
 impl ByteNeedles for (u8, u8, u8) {
     ghost needle_bytes = { λ bytes. (bytes.0 ∷ []) ∷ (bytes.1 ∷ []) ∷ (bytes.2 ∷ []) ∷ [] };
 
@@ -134,7 +124,6 @@ impl ByteNeedles for (u8, u8, u8) {
 }
 
 /// The character in its UTF-8 form.
-#[tactic(auto, using(winnow_match::proofs::lemmas::ByteLemmas::source_bytes))]
 impl ByteNeedles for char {
     ghost needle_bytes = { λ c. encode_utf8 c ∷ [] };
 
@@ -144,7 +133,6 @@ impl ByteNeedles for char {
 }
 
 /// The character in its UTF-8 form.
-#[tactic(auto, using(winnow_match::proofs::lemmas::ByteLemmas::source_bytes))]
 impl ByteNeedles for (char,) {
     ghost needle_bytes = { λ cs. encode_utf8 cs.0 ∷ [] };
 
@@ -154,7 +142,6 @@ impl ByteNeedles for (char,) {
 }
 
 /// The characters in their UTF-8 form.
-#[tactic(auto, using(winnow_match::proofs::lemmas::ByteLemmas::source_bytes))]
 impl ByteNeedles for (char, char) {
     ghost needle_bytes = { λ cs. encode_utf8 cs.0 ∷ encode_utf8 cs.1 ∷ [] };
 
@@ -164,7 +151,6 @@ impl ByteNeedles for (char, char) {
 }
 
 /// The characters in their UTF-8 form.
-#[tactic(auto, using(winnow_match::proofs::lemmas::ByteLemmas::source_bytes))]
 impl ByteNeedles for (char, char, char) {
     ghost needle_bytes = { λ cs. encode_utf8 cs.0 ∷ encode_utf8 cs.1 ∷ encode_utf8 cs.2 ∷ [] };
 

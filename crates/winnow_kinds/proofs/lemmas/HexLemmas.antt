@@ -1,5 +1,5 @@
 -- Hexadecimal digits, one byte after the other.
-use Rattle.std.proofs.Common.{◌≡◌, ℕ, ◌+◌, ◌-◌, ◌^◌, ◌<◌, Bool, false, List, [], ◌++◌, length, get_or, take, Option, Some, ap, sym, ◌∙◌}
+use Rattle.std.proofs.Common.{◌≡◌, ℕ, ◌+◌, ◌<◌, Bool, false, List, [], ◌++◌, length, get_or, take, Some, ap, sym, ◌∙◌}
 use Rattle.std.specs.Prelude.{option_map}
 use Rattle.std.specs.Fmt.{digits, digits_output, styled_digits_output, padded_integral, shown_prefix, radix_prefix, format_spec}
 use Rattle.std.proofs.lemmas.Fmt.{hex_byte}
