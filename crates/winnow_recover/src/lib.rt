@@ -6,6 +6,7 @@ mod record_error;
 mod recover;
 mod recoverable;
 mod recoverable_traits;
+mod wrappers;
 
 pub use record_error::RecordError;
 pub use recover::Recover;

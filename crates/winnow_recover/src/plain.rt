@@ -1,8 +1,11 @@
-ghost use Rattle.std.specs.Prelude.{true, false, refl};
+//! Streams that record nothing, and refuse each error.
+ghost use Rattle.std.specs.Prelude.{◌≡◌, true, false, refl};
 
 use crate::{RecordError, Recover};
 use std::fmt::Debug;
+use winnow_kinds::{BStr, Bytes};
 use winnow_stream::Checkpoint;
+use winnow_views::{TokenSlice, TokenView};
 
 impl<'i, T: Copy + Debug, E> Recover<E> for &'i [T] {
     ghost refuses = { λ _ _. true };
@@ -28,8 +31,6 @@ impl<'i, T: Copy + Debug, E> Recover<E> for &'i [T] {
 }
 
 impl<'i, E> Recover<E> for &'i str {
-    ghost use Rattle.std.specs.Prelude.{◌≡◌};
-
     ghost refuses = { λ _ _. true };
 
     ghost records = { λ _ _ _ _ _. ⊥ };
@@ -51,6 +52,81 @@ impl<'i, E> Recover<E> for &'i str {
     fn is_recovery_supported() -> bool
         ensures { result ≡ false }
     {
+        false
+    }
+}
+
+impl<'i, E> Recover<E> for BStr<'i> {
+    ghost refuses = { λ _ _. true };
+
+    ghost records = { λ _ _ _ _ _. ⊥ };
+
+    ghost supports_recovery = { false };
+
+    ghost refuses_unsupported = { λ _ _ _. refl };
+
+    fn record_err(
+        &mut self,
+        _token_start: &Checkpoint<BStr<'i>, BStr<'i>>,
+        _err_start: &Checkpoint<BStr<'i>, BStr<'i>>,
+        err: E,
+    ) -> Result<(), RecordError<E>> {
+        Err(RecordError::Refused(err))
+    }
+
+    // A function without `self` of an impl at a lifetime does not inherit the trait's clause.
+    fn is_recovery_supported() -> bool
+        ensures { result ≡ false }
+    {
+        false
+    }
+}
+
+impl<'i, E> Recover<E> for Bytes<'i> {
+    ghost refuses = { λ _ _. true };
+
+    ghost records = { λ _ _ _ _ _. ⊥ };
+
+    ghost supports_recovery = { false };
+
+    ghost refuses_unsupported = { λ _ _ _. refl };
+
+    fn record_err(
+        &mut self,
+        _token_start: &Checkpoint<Bytes<'i>, Bytes<'i>>,
+        _err_start: &Checkpoint<Bytes<'i>, Bytes<'i>>,
+        err: E,
+    ) -> Result<(), RecordError<E>> {
+        Err(RecordError::Refused(err))
+    }
+
+    // A function without `self` of an impl at a lifetime does not inherit the trait's clause.
+    fn is_recovery_supported() -> bool
+        ensures { result ≡ false }
+    {
+        false
+    }
+}
+
+impl<'t, T: Debug, E> Recover<E> for TokenSlice<'t, T> {
+    ghost refuses = { λ _ _. true };
+
+    ghost records = { λ _ _ _ _ _. ⊥ };
+
+    ghost supports_recovery = { false };
+
+    ghost refuses_unsupported = { λ _ _ _. refl };
+
+    fn record_err(
+        &mut self,
+        _token_start: &Checkpoint<TokenView<'t, T>, TokenSlice<'t, T>>,
+        _err_start: &Checkpoint<TokenView<'t, T>, TokenSlice<'t, T>>,
+        err: E,
+    ) -> Result<(), RecordError<E>> {
+        Err(RecordError::Refused(err))
+    }
+
+    fn is_recovery_supported() -> bool {
         false
     }
 }

@@ -1,0 +1,104 @@
+//! Wrappers that record nothing, also round a stream that does: only the outermost `Recoverable` is asked.
+ghost use Rattle.std.specs.Prelude.{◌≡◌, true, false, refl};
+
+use crate::{RecordError, Recover};
+use std::fmt::Debug;
+use winnow_stream::{Checkpoint, Rest, Stream};
+use winnow_views::{BitPlace, Bits};
+use winnow_wrap::{LocatingSlice, Partial, Placed, Stateful};
+
+impl<I: Recover<E> + Stream<Token = u8>, E> Recover<E> for Bits<I> {
+    ghost refuses = { λ _ _. true };
+
+    ghost records = { λ _ _ _ _ _. ⊥ };
+
+    ghost supports_recovery = { false };
+
+    ghost refuses_unsupported = { λ _ _ _. refl };
+
+    fn record_err(
+        &mut self,
+        _token_start: &Checkpoint<BitPlace<I::Checkpoint>, Bits<I>>,
+        _err_start: &Checkpoint<BitPlace<I::Checkpoint>, Bits<I>>,
+        err: E,
+    ) -> Result<(), RecordError<E>> {
+        Err(RecordError::Refused(err))
+    }
+
+    fn is_recovery_supported() -> bool {
+        false
+    }
+}
+
+impl<I, C, E> Recover<E> for LocatingSlice<I, C>
+where
+    I: Recover<E> + Stream<Checkpoint = C>,
+    C: Rest + Copy + Debug,
+{
+    ghost refuses = { λ _ _. true };
+
+    ghost records = { λ _ _ _ _ _. ⊥ };
+
+    ghost supports_recovery = { false };
+
+    ghost refuses_unsupported = { λ _ _ _. refl };
+
+    fn record_err(
+        &mut self,
+        _token_start: &Checkpoint<Placed<C>, LocatingSlice<I, C>>,
+        _err_start: &Checkpoint<Placed<C>, LocatingSlice<I, C>>,
+        err: E,
+    ) -> Result<(), RecordError<E>> {
+        Err(RecordError::Refused(err))
+    }
+
+    fn is_recovery_supported() -> bool {
+        false
+    }
+}
+
+impl<I: Recover<E>, S: Debug, E> Recover<E> for Stateful<I, S> {
+    ghost refuses = { λ _ _. true };
+
+    ghost records = { λ _ _ _ _ _. ⊥ };
+
+    ghost supports_recovery = { false };
+
+    ghost refuses_unsupported = { λ _ _ _. refl };
+
+    fn record_err(
+        &mut self,
+        _token_start: &Checkpoint<I::Checkpoint, Stateful<I, S>>,
+        _err_start: &Checkpoint<I::Checkpoint, Stateful<I, S>>,
+        err: E,
+    ) -> Result<(), RecordError<E>> {
+        Err(RecordError::Refused(err))
+    }
+
+    fn is_recovery_supported() -> bool {
+        false
+    }
+}
+
+impl<I: Recover<E>, E> Recover<E> for Partial<I> {
+    ghost refuses = { λ _ _. true };
+
+    ghost records = { λ _ _ _ _ _. ⊥ };
+
+    ghost supports_recovery = { false };
+
+    ghost refuses_unsupported = { λ _ _ _. refl };
+
+    fn record_err(
+        &mut self,
+        _token_start: &Checkpoint<I::Checkpoint, Partial<I>>,
+        _err_start: &Checkpoint<I::Checkpoint, Partial<I>>,
+        err: E,
+    ) -> Result<(), RecordError<E>> {
+        Err(RecordError::Refused(err))
+    }
+
+    fn is_recovery_supported() -> bool {
+        false
+    }
+}
