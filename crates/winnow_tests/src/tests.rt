@@ -4,6 +4,7 @@ mod contexts;
 mod error_traits;
 mod fields;
 mod modes;
+mod nests;
 mod own_streams;
 mod scripts;
 mod texts;

@@ -5,7 +5,7 @@ use Rattle.std.proofs.lemmas.List.{length-drop, length-map}
 use Rattle.winnow_stream.specs.Source.{Source, units, width, HasWidths}
 use Rattle.winnow_stream.specs.Units.{width-units, HasWidths-units}
 use Rattle.winnow_views.specs.declared.bits.Bits.{Bits}
-use Rattle.winnow_views.specs.BitSource.{HasUnits, bits_of, bits_from, IsBitSource}
+use Rattle.winnow_views.specs.BitSource.{HasUnits, bits_of, bits_from}
 use Rattle.winnow_views.specs.BitStream.{bits_remaining, IsValidBits}
 
 pub length-bits_of : (bytes : List (ℕ × ℕ)) → length (bits_of bytes) ≡ 8 * length bytes

@@ -1,5 +1,5 @@
 -- The steps of `BitOffsets`, by the steps of the iterator of bytes.
-use Rattle.std.specs.Prelude.{◌≡◌, ℕ, ◌+◌, ◌-◌, ◌*◌, ◌<◌, ◌≤◌, Bool, Option, Some, None}
+use Rattle.std.specs.Prelude.{◌≡◌, ℕ, ◌+◌, ◌-◌, ◌*◌, ◌<◌, Bool, Option, Some, None}
 use Rattle.winnow_views.specs.declared.bit_offsets.BitOffsets.{BitOffsets}
 use Rattle.winnow_views.specs.BitSource.{bit_of}
 

@@ -11,10 +11,11 @@ use Rattle.winnow_stream.specs.Front.{is_offset, count_to, front, back}
 use Rattle.winnow_stream.specs.Shortage.{offset_at}
 use Rattle.winnow_stream.specs.Units.{width-units}
 use Rattle.winnow_stream.proofs.lemmas.FrontLemmas.{width-end}
-use Rattle.winnow_stream.proofs.lemmas.UnitLemmas.{length-units, is_offset-units, le-from_is_offset, units-take, units-drop, count_to-units, front-units, offset_at-units_short, offset_at-units_fits}
-use Rattle.std.proofs.lemmas.List.{take-map, drop-map, drop_all}
+use Rattle.winnow_stream.proofs.lemmas.UnitLemmas.{length-units, is_offset-units, le-from_is_offset, units-take, count_to-units, front-units, offset_at-units_short, offset_at-units_fits}
+use Rattle.std.proofs.lemmas.List.{drop-map, drop_all}
 use Rattle.winnow_views.specs.TokenSources.{references, tokens_of, length-references, width-tokens_of}
 
+-- references to a part of the list: those of the whole at its places
 pub references-take : {T : Type 0} (size : ℕ) (at : ℕ × ℕ) (n : ℕ) (xs : List T) → references size at (take n xs) ≡ take n (references size at xs)
 references-take size at zero xs = refl
 references-take size at (suc n) [] = refl
@@ -29,9 +30,6 @@ references-drop size at (suc n) (x ∷ xs) =
 pub tokens_of-drop : {T : Type 0} (size : ℕ) (at : ℕ × ℕ) (n : ℕ) (xs : List T) → units (references size (at.0, n * size + at.1) (drop n xs)) ≡ drop n (units (references size at xs))
 tokens_of-drop size at n xs = ap units (references-drop size at n xs) ∙ sym (drop-map (λ x. (x, 1)) n (references size at xs))
 
-pub tokens_of-take : {T : Type 0} (size : ℕ) (at : ℕ × ℕ) (n : ℕ) (xs : List T) → units (references size at (take n xs)) ≡ take n (units (references size at xs))
-tokens_of-take size at n xs = ap units (references-take size at n xs) ∙ sym (take-map (λ x. (x, 1)) n (references size at xs))
-
 module _ {T : Type 0} (size : ℕ) (at : ℕ × ℕ) (xs : List T) where
   pub length-tokens_of : length (units (references size at xs)) ≡ length xs
   length-tokens_of = length-units (references size at xs) ∙ length-references size at xs
@@ -44,9 +42,6 @@ module _ {T : Type 0} (size : ℕ) (at : ℕ × ℕ) (xs : List T) where
 
   pub le-from_offset : (n : ℕ) → IsTrue (is_offset (units (references size at xs)) n) → n ≤ length xs
   le-from_offset n h = let l = le-from_is_offset (references size at xs) n h in omega (arith, l, length-references size at xs)
-
-  pub back-tokens_of : (n : ℕ) → n ≤ length xs → units (references size (at.0, n * size + at.1) (drop n xs)) ≡ back (units (references size at xs)) n
-  back-tokens_of n h = ap units (references-drop size at n xs) ∙ units-drop (references size at xs) n (omega (arith, h, length-references size at xs))
 
   pub front-tokens_of : (n : ℕ) → n ≤ length xs → units (references size at (take n xs)) ≡ front (units (references size at xs)) n
   front-tokens_of n h = ap units (references-take size at n xs) ∙ units-take (references size at xs) n (omega (arith, h, length-references size at xs))
@@ -62,12 +57,14 @@ module _ {T : Type 0} (size : ℕ) (at : ℕ × ℕ) (xs : List T) where
   part-tokens_of n h =
       ap (λ ys. units (references size (at.0, n * size + at.1) ys)) (take_all (length xs - n) (drop n xs) (omega (arith, length-drop n xs))) ∙ tokens_of-drop size at n xs
 
+  -- the whole is its own front, and nothing follows it
   pub front_all-tokens_of : units (references size at xs) ≡ front (units (references size at xs)) (width (units (references size at xs)))
   front_all-tokens_of = front-units (references size at xs)
 
   pub drop_all-tokens_of : drop (length xs) (units (references size at xs)) ≡ []
   drop_all-tokens_of = drop_all (length xs) (units (references size at xs)) (omega (arith, length-tokens_of))
 
+  -- what follows a front, by its width
   pub back-units : (n : ℕ) → IsTrue (is_offset (units (references size at xs)) n) → drop n (units (references size at xs)) ≡ back (units (references size at xs)) n
   back-units n h = ap (λ k. drop k (units (references size at xs))) (sym (count_to-units (references size at xs) n (le-from_is_offset (references size at xs) n h)))
 
@@ -84,4 +81,4 @@ module _ (R : RattleType) where
       let b = length-tokens_of (type_size R) whole.ref_ptr whole.now in
       omega (arith, l, ap length e, a, b)
 
-pub ruleset token_steps = (tokens_of-drop, length-tokens_of, width-references, is_offset-tokens_of, le-from_offset, back-tokens_of, front-tokens_of, offset_at-short, offset_at-fits, part-tokens_of, front_all-tokens_of, drop_all-tokens_of, back-units)
+pub ruleset token_steps = (tokens_of-drop, length-tokens_of, width-references, is_offset-tokens_of, le-from_offset, front-tokens_of, offset_at-short, offset_at-fits, part-tokens_of, front_all-tokens_of, drop_all-tokens_of, back-units)
