@@ -5,6 +5,7 @@
 //! crate's trait. An export is one line that calls it at a type.
 #![tactic(auto)]
 
+mod bit_exports;
 mod bytes;
 mod errors;
 mod fronts;

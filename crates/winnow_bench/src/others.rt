@@ -1,10 +1,14 @@
 //! The calls that no step of a script names, as rows of numbers.
 ghost use Rattle.std.specs.Prelude.{◌≤◌, IsTrue};
+ghost use Rattle.winnow_stream.specs.Source.{units};
 ghost use Rattle.winnow_stream.specs.Front.{is_offset};
+ghost use Rattle.winnow_views.specs.BitSource.{IsBitSource};
+ghost use Rattle.winnow_views.specs.BitStream.{bits_input, bits_place};
 
 use crate::tell::{Tell, hand_out, tell_all};
 use std::alloc::{AllocError, Global};
 use winnow_stream::{AsBStr, Needed, Offset, SliceLen, Stream, StreamIsPartial, UpdateSlice};
+use winnow_views::{Bits, bit_slice_law, byte_slice_law};
 
 /// What the small traits answer of bytes, and of what remains behind its front of that width; nothing where there is no such front.
 pub fn tell_bytes(alloc: Global, start: &[u8], width: usize) -> Result<Vec<u64>, AllocError> {
@@ -62,13 +66,40 @@ pub fn tell_text(alloc: Global, start: &str, width: usize) -> Result<Vec<u64>, A
     Ok(told)
 }
 
+/// What the small traits answer of bits, and of what remains behind their front of that width; nothing where there is no such front.
+pub fn tell_bits(alloc: Global, start: Bits<&[u8]>, width: usize) -> Result<Vec<u64>, AllocError>
+    requires { IsBitSource (units (bits_input start).now) (bits_place start) }
+{
+    let mut told = Vec::new(alloc);
+    if !start.is_offset(width) {
+        return Ok(told);
+    }
+    let mut here = start;
+    pass(&mut here, width);
+    bit_slice_law::<&[u8]>();
+    byte_slice_law();
+    let length = start.peek_slice(width).slice_len();
+    tell_distances(&mut told, here.offset_from(&start), length)?;
+    let (bytes, place) = here.into_parts();
+    bytes.tell(&mut told)?;
+    tell_distances(&mut told, width, place)?;
+    tell_flags(
+        &mut told,
+        here.checkpoint() == start.checkpoint(),
+        here == start,
+    )?;
+    tell_mark(&mut told, &mut here)?;
+    Ok(told)
+}
+
 // Moves past the front of that width.
 fn pass<S: Stream>(s: &mut S, width: usize)
 where
     S::Slice: Drop,
     requires valid { S.valid s.old }
     requires width { IsTrue (is_offset (S.remaining s.old) width) }
-    ensures { S.rest_width s.new ≤ S.rest_width s.old }
+    ensures no_wider { S.rest_width s.new ≤ S.rest_width s.old }
+    ensures valid { S.valid s.new }
 {
     let _front = s.next_slice(width);
 }
@@ -81,17 +112,22 @@ fn tell_flags(told: &mut Vec<u64>, first: bool, second: bool) -> Result<(), Allo
     tell_all(told, &[u64::from(first), u64::from(second)])
 }
 
-// The bytes that remain, and the mark before and after it is cleared and set again.
+// The mark, before and after it is cleared and set again.
+fn tell_mark<S: StreamIsPartial>(told: &mut Vec<u64>, s: &mut S) -> Result<(), AllocError> {
+    tell_flags(told, S::is_partial_supported(), s.is_partial())?;
+    let state = s.complete();
+    let is_partial = s.is_partial();
+    s.restore_partial(state);
+    tell_flags(told, is_partial, s.is_partial())
+}
+
+// The mark, and the bytes that remain.
 fn tell_partial<S: StreamIsPartial + AsBStr + Drop>(
     told: &mut Vec<u64>,
     s: S,
 ) -> Result<(), AllocError> {
     let mut s = s;
-    tell_flags(told, S::is_partial_supported(), s.is_partial())?;
-    let state = s.complete();
-    let is_partial = s.is_partial();
-    s.restore_partial(state);
-    tell_flags(told, is_partial, s.is_partial())?;
+    tell_mark(told, &mut s)?;
     s.as_bstr().tell(told)
 }
 

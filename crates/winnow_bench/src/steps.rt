@@ -1,5 +1,5 @@
 //! Scripts as they cross the border.
-ghost use Rattle.std.specs.Prelude.{◌≡◌, nat_le, ◌&&◌};
+ghost use Rattle.std.specs.Prelude.{◌≡◌, nat_le, ◌&&◌, if◌then◌else◌};
 
 use std::alloc::{AllocError, Global};
 use winnow_stream::{ScriptSet, Step};
@@ -32,6 +32,14 @@ impl ScriptSet<char> for Numbers {
 
     fn holds(&self, token: char) -> bool {
         self.has(u64::from(u32::from(token)))
+    }
+}
+
+impl ScriptSet<bool> for Numbers {
+    ghost tells = { λ s t b. b ≡ (nat_le s.first (if t then 1 else 0) && nat_le (if t then 1 else 0) s.last) };
+
+    fn holds(&self, token: bool) -> bool {
+        self.has(u64::from(token))
     }
 }
 

@@ -22,6 +22,12 @@ impl Tell for char {
     }
 }
 
+impl Tell for bool {
+    fn tell(&self, told: &mut Vec<u64>) -> Result<(), AllocError> {
+        tell_all(told, &[u64::from(*self)])
+    }
+}
+
 /// The length, and each byte.
 impl Tell for &[u8] {
     fn tell(&self, told: &mut Vec<u64>) -> Result<(), AllocError> {
@@ -36,6 +42,18 @@ impl Tell for &[u8] {
 impl Tell for &str {
     fn tell(&self, told: &mut Vec<u64>) -> Result<(), AllocError> {
         self.as_bytes().tell(told)
+    }
+}
+
+/// Of a slice of bits as of bytes: its bytes, and then its two numbers, each below 8.
+impl Tell for (&[u8], usize, usize) {
+    fn tell(&self, told: &mut Vec<u64>) -> Result<(), AllocError> {
+        let (bytes, start, end) = self;
+        tell_all(told, &[(bytes.len() as u64).wrapping_add(2)])?;
+        for byte in *bytes {
+            byte.tell(told)?;
+        }
+        tell_all(told, &[*start as u64, *end as u64])
     }
 }
 

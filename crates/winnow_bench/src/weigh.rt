@@ -1,5 +1,5 @@
 //! What a workload sums up, so that no part of its work can be left out.
-ghost use Rattle.std.specs.Prelude.{◌≡◌, ℕ};
+ghost use Rattle.std.specs.Prelude.{◌≡◌, ℕ, if◌then◌else◌};
 
 /// A token as a number.
 pub trait Number {
@@ -26,6 +26,14 @@ impl Number for char {
     }
 }
 
+impl Number for bool {
+    ghost number = { λ bit. if bit then 1 else 0 };
+
+    fn number(&self) -> u64 {
+        u64::from(*self)
+    }
+}
+
 /// A slice as a number, of which it must be read.
 pub trait Weigh {
     /// Its length and its first byte.
@@ -44,6 +52,14 @@ impl Weigh for &[u8] {
 impl Weigh for &str {
     fn weigh(&self) -> u64 {
         self.as_bytes().weigh()
+    }
+}
+
+/// The bytes of a slice of bits, and its two numbers.
+impl<S: Weigh> Weigh for (S, usize, usize) {
+    fn weigh(&self) -> u64 {
+        let (bytes, start, end) = self;
+        mix(mix(bytes.weigh(), *start as u64), *end as u64)
     }
 }
 

@@ -36,8 +36,8 @@ pub fn words<L: Copy>(letters: &[L]) -> Vec<Vec<L>> {
     all
 }
 
-// A mark, a step or two that move, and then each call that moves nothing, with each argument that a short input tells apart.
-fn short_scripts() -> Vec<Vec<Step>> {
+/// A mark, a step or two that move, and then each call that moves nothing, with each argument that a short input tells apart.
+pub fn short_scripts() -> Vec<Vec<Step>> {
     let offsets = || (0..14).chain(HUGE);
     let mut moves = vec![vec![], vec![Step::Next], vec![Step::Finish]];
     moves.extend(offsets().map(|offset| vec![Step::Take(offset)]));

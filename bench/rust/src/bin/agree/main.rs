@@ -4,6 +4,7 @@
 //! Nothing here is asked that the two are meant to answer in two ways. The crate panics, or answers anything, where a slice is asked for
 //! at no valid offset, or a distance from a later place: there both sides of a script answer `BadOffset` and `LaterMark` of themselves.
 
+mod bit_cases;
 mod case;
 mod error_cases;
 mod generate;
@@ -26,7 +27,7 @@ fn main() -> ExitCode {
         return ExitCode::FAILURE;
     }
     let compared = more(&mut room);
-    let Ok([searches, sets, texts]) = compared else {
+    let Ok([bits, searches, sets, texts]) = compared else {
         println!("{}", compared.unwrap_err());
         return ExitCode::FAILURE;
     };
@@ -40,14 +41,15 @@ fn main() -> ExitCode {
         println!("{}", shrink::smallest(case, &mut room).told(&mut room));
         return ExitCode::FAILURE;
     }
-    println!("agree: {count} cases, {searches} searches, {sets} sets, {texts} texts and no difference, in {:.1} s", start.elapsed().as_secs_f64());
+    println!("agree: {count} cases, {bits} of bits, {searches} searches, {sets} sets, {texts} texts and no difference, in {:.1} s", start.elapsed().as_secs_f64());
     ExitCode::SUCCESS
 }
 
-// How many searches, answers of sets, and texts of errors were compared, or the first difference.
-fn more(room: &mut Room) -> Result<[usize; 3], String> {
+// How many cases of bits, searches, answers of sets, and texts of errors were compared, or the first difference.
+fn more(room: &mut Room) -> Result<[usize; 4], String> {
+    let bits = bit_cases::compare_bits(room, RANDOM_CASES)?;
     let searches = search_cases::compare_searches(room, RANDOM_CASES)?;
     let sets = search_cases::compare_sets(room)?;
     let texts = error_cases::compare_errors(room, RANDOM_CASES)?;
-    Ok([searches, sets, texts])
+    Ok([bits, searches, sets, texts])
 }

@@ -4,6 +4,7 @@
 //! instructions by valgrind in place of times.
 
 mod allocations;
+mod bit_rows;
 mod error_rows;
 mod instructions;
 mod rows;

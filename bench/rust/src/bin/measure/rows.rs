@@ -1,6 +1,7 @@
 //! The table of workloads. A new one is a line here, a generic function in `theirs`, and in `crates/winnow_bench` a generic function
 //! and an export for each kind of stream, whose name `ours` lists.
 
+use crate::bit_rows::bit_rows;
 use crate::error_rows::error_rows;
 use crate::search_rows::search_rows;
 use std::hint::black_box;
@@ -127,6 +128,7 @@ pub fn rows(inputs: &Inputs) -> Vec<Row<'_>> {
         }
     }
     rows.extend(run_rows(inputs));
+    rows.extend(bit_rows(inputs));
     rows.extend(search_rows(inputs));
     rows.extend(error_rows(inputs));
     rows

@@ -1,0 +1,51 @@
+//! Our library's calls over bits, declared as in `ours`.
+
+use crate::ours::Room;
+use crate::script::{RawStep, Told, read_answers};
+
+// The exports of a workload take the bytes and a number.
+macro_rules! workloads {
+    ($($name:ident)*) => {
+        mod exports {
+            unsafe extern "C" {
+                $(#[link_name = concat!("winnow_bench_", stringify!($name), "_bits")]
+                pub fn $name(input: *const u8, length: usize, number: u64) -> u64;)*
+            }
+        }
+
+        $(pub fn $name(input: &[u8], number: u64) -> u64 {
+            unsafe { exports::$name(input.as_ptr(), input.len(), number) }
+        })*
+    };
+}
+
+workloads!(drain sum_offsets take_all);
+
+unsafe extern "C" {
+    fn winnow_bench_answers_bits(
+        input: *const u8,
+        length: usize,
+        place: u64,
+        script: *const RawStep,
+        steps: usize,
+        out: *mut u64,
+        room: usize,
+    ) -> u64;
+    fn winnow_bench_others_bits(input: *const u8, length: usize, place: u64, width: u64, out: *mut u64, room: usize) -> u64;
+}
+
+impl Room {
+    /// The answers of a script on the bits of bytes from a place on.
+    pub fn answers_bits(&mut self, input: &[u8], place: usize, script: &[RawStep]) -> Option<Vec<Told>> {
+        read_answers(self.told(|out, room| unsafe {
+            winnow_bench_answers_bits(input.as_ptr(), input.len(), place as u64, script.as_ptr(), script.len(), out, room)
+        })?)
+    }
+
+    /// What the calls that no step names answer of them.
+    pub fn others_bits(&mut self, input: &[u8], place: usize, width: usize) -> Option<Vec<u64>> {
+        let told =
+            self.told(|out, room| unsafe { winnow_bench_others_bits(input.as_ptr(), input.len(), place as u64, width as u64, out, room) });
+        told.map(<[u64]>::to_vec)
+    }
+}
