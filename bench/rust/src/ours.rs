@@ -45,6 +45,9 @@ unsafe extern "C" {
     fn winnow_bench_answers_text(input: *const u8, length: usize, script: *const RawStep, steps: usize, out: *mut u64, room: usize) -> u64;
     fn winnow_bench_others_bytes(input: *const u8, length: usize, width: u64, out: *mut u64, room: usize) -> u64;
     fn winnow_bench_others_text(input: *const u8, length: usize, width: u64, out: *mut u64, room: usize) -> u64;
+    fn winnow_bench_drain_tokens(input: *const u8, length: usize, number: u64) -> u64;
+    fn winnow_bench_answers_tokens(input: *const u8, length: usize, script: *const RawStep, steps: usize, out: *mut u64, room: usize) -> u64;
+    fn winnow_bench_views_tokens(input: *const u8, length: usize, width: u64, out: *mut u64, room: usize) -> u64;
     fn winnow_bench_needed(size: u64, out: *mut u64, room: usize) -> u64;
 }
 
@@ -54,6 +57,11 @@ pub fn run_bytes((input, script): (&[u8], &[RawStep]), rounds: u64) -> u64 {
 
 pub fn run_text((input, script): (&str, &[RawStep]), rounds: u64) -> u64 {
     unsafe { winnow_bench_run_text(input.as_ptr(), input.len(), script.as_ptr(), script.len(), rounds) }
+}
+
+/// Takes tokens of a slice of tokens.
+pub fn drain_tokens(input: &[u8], number: u64) -> u64 {
+    unsafe { winnow_bench_drain_tokens(input.as_ptr(), input.len(), number) }
 }
 
 /// Room for the numbers in which our library tells its answers.
@@ -82,6 +90,19 @@ impl Room {
         read_answers(self.told(|out, room| unsafe {
             winnow_bench_answers_text(input.as_ptr(), input.len(), script.as_ptr(), script.len(), out, room)
         })?)
+    }
+
+    /// The answers of a script on a slice of tokens.
+    pub fn answers_tokens(&mut self, input: &[u8], script: &[RawStep]) -> Option<Vec<Told>> {
+        read_answers(self.told(|out, room| unsafe {
+            winnow_bench_answers_tokens(input.as_ptr(), input.len(), script.as_ptr(), script.len(), out, room)
+        })?)
+    }
+
+    /// What a slice of tokens shows behind fronts, in windows and back at the start.
+    pub fn views_tokens(&mut self, input: &[u8], width: usize) -> Option<Vec<u64>> {
+        let told = self.told(|out, room| unsafe { winnow_bench_views_tokens(input.as_ptr(), input.len(), width as u64, out, room) });
+        told.map(<[u64]>::to_vec)
     }
 
     /// What the calls that no step names answer of bytes.

@@ -1,7 +1,7 @@
 //! The workloads over the Rust crate, word for word those of `crates/winnow_bench`.
 
 use crate::script::{Answer, RawStep, Step, Told};
-use winnow::stream::{AsBStr, Needed, Offset, SliceLen, Stream, StreamIsPartial, UpdateSlice};
+use winnow::stream::{AsBStr, Compare, CompareResult, Needed, Offset, SliceLen, Stream, StreamIsPartial, TokenSlice, UpdateSlice};
 
 /// A token as a number.
 pub trait Number {
@@ -11,6 +11,12 @@ pub trait Number {
 impl Number for u8 {
     fn number(&self) -> u64 {
         u64::from(*self)
+    }
+}
+
+impl Number for &u8 {
+    fn number(&self) -> u64 {
+        u64::from(**self)
     }
 }
 
@@ -63,6 +69,12 @@ impl IsOffset for &[u8] {
 impl IsOffset for &str {
     fn is_offset(&self, offset: usize) -> bool {
         self.is_char_boundary(offset)
+    }
+}
+
+impl IsOffset for TokenSlice<'_, u8> {
+    fn is_offset(&self, offset: usize) -> bool {
+        offset <= self.len()
     }
 }
 
@@ -300,6 +312,48 @@ where
     tell_bytes(&mut told, here.as_bstr());
     tell_bytes(&mut told, start.update_slice(start.peek_slice(width)).as_bstr());
     told
+}
+
+/// Takes tokens of a slice of tokens.
+pub fn drain_tokens(input: &[u8], stop: u64) -> u64 {
+    drain(TokenSlice::new(input), stop)
+}
+
+/// What a slice of tokens shows behind its first token, behind a front of that width, back again, in a window on it, and back at
+/// the start, as our library tells it; nothing where there is no such front.
+pub fn views(input: &[u8], width: usize) -> Vec<u64> {
+    let mut told = Vec::new();
+    let start = TokenSlice::new(input);
+    let mut tokens = start;
+    let _first = tokens.next_token();
+    tell_view(&mut told, &tokens);
+    if !tokens.is_offset(width) {
+        return told;
+    }
+    let at = tokens.checkpoint();
+    let slice = tokens.next_slice(width);
+    tell_view(&mut told, &tokens);
+    told.push(tokens.offset_from(&at) as u64);
+    told.extend([tokens == start, tokens.checkpoint() == at, tokens.checkpoint() < at].map(u64::from));
+    tokens.reset(&at);
+    tell_view(&mut told, &tokens);
+    tokens = tokens.update_slice(slice);
+    let _first = tokens.next_token();
+    tell_view(&mut told, &tokens);
+    tokens.reset_to_start();
+    tell_view(&mut told, &tokens);
+    told
+}
+
+fn tell_view(told: &mut Vec<u64>, tokens: &TokenSlice<u8>) {
+    tell_bytes(told, tokens);
+    told.push(tokens.slice_len() as u64);
+    told.extend(tokens.previous_tokens().copied().map(u64::from));
+    told.extend(b"a\n\0".map(|literal| match tokens.compare(literal) {
+        CompareResult::Ok(width) => width as u64,
+        CompareResult::Incomplete => 2,
+        CompareResult::Error => 3,
+    }));
 }
 
 /// What a shortage of so many tokens answers.

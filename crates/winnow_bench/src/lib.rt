@@ -20,6 +20,7 @@ mod tell_errors;
 mod tell_searches;
 mod tell_sets;
 mod texts;
+mod token_slices;
 mod tokens;
 mod weigh;
 

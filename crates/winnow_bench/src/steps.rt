@@ -27,6 +27,14 @@ impl ScriptSet<u8> for Numbers {
     }
 }
 
+impl ScriptSet<&u8> for Numbers {
+    ghost tells = { λ s t b. b ≡ (nat_le s.first t.now && nat_le t.now s.last) };
+
+    fn holds(&self, token: &u8) -> bool {
+        self.has(u64::from(*token))
+    }
+}
+
 impl ScriptSet<char> for Numbers {
     ghost tells = { λ s t b. b ≡ (nat_le s.first t && nat_le t s.last) };
 

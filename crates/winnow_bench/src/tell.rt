@@ -16,6 +16,12 @@ impl Tell for u8 {
     }
 }
 
+impl Tell for &u8 {
+    fn tell(&self, told: &mut Vec<u64>) -> Result<(), AllocError> {
+        tell_all(told, &[u64::from(**self)])
+    }
+}
+
 impl Tell for char {
     fn tell(&self, told: &mut Vec<u64>) -> Result<(), AllocError> {
         tell_all(told, &[u64::from(u32::from(*self))])

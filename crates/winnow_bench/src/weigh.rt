@@ -18,6 +18,15 @@ impl Number for u8 {
     }
 }
 
+/// A byte that is lent.
+impl Number for &u8 {
+    ghost number = { λ byte. byte.now };
+
+    fn number(&self) -> u64 {
+        u64::from(**self)
+    }
+}
+
 impl Number for char {
     ghost number = { λ c. c };
 

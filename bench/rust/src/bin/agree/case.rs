@@ -1,6 +1,7 @@
 //! Calls on an input, and what both sides answer.
 
 use std::fmt::Write;
+use winnow::stream::TokenSlice;
 use winnow_bench::ours::Room;
 use winnow_bench::script::{RawStep, Step, Told};
 use winnow_bench::theirs;
@@ -10,6 +11,9 @@ pub enum Input {
     Bytes(Vec<u8>),
     Text(String),
 }
+
+// The answers of a script, and what the views show.
+type TokenAnswers = (Vec<Told>, Vec<u64>);
 
 /// A script on an input, and a width at which the calls are made that no step names.
 #[derive(Clone)]
@@ -23,7 +27,8 @@ impl Case {
     pub fn differs(&self, room: &mut Room) -> bool {
         let (ours, theirs) = self.answers(room);
         let (our_others, their_others) = self.others(room);
-        ours != Some(theirs) || our_others != Some(their_others)
+        let (our_tokens, their_tokens) = self.tokens(room);
+        ours != Some(theirs) || our_others != Some(their_others) || our_tokens != their_tokens
     }
 
     fn answers(&self, room: &mut Room) -> (Option<Vec<Told>>, Vec<Told>) {
@@ -39,6 +44,17 @@ impl Case {
             Input::Bytes(bytes) => (room.others_bytes(bytes, self.width), theirs::others(bytes.as_slice(), self.width)),
             Input::Text(text) => (room.others_text(text, self.width), theirs::others(text.as_str(), self.width)),
         }
+    }
+
+    // Bytes as a slice of tokens, which is another stream: the script, and what is seen behind the width. Nothing on a text.
+    fn tokens(&self, room: &mut Room) -> (Option<TokenAnswers>, Option<TokenAnswers>) {
+        let Input::Bytes(bytes) = &self.input else {
+            return (None, None);
+        };
+        let script: Vec<RawStep> = self.script.iter().copied().map(RawStep::from).collect();
+        let ours = room.answers_tokens(bytes, &script).zip(room.views_tokens(bytes, self.width));
+        let theirs = (theirs::tell_run(TokenSlice::new(bytes), &self.script), theirs::views(bytes, self.width));
+        (ours, Some(theirs))
     }
 
     /// The case with what both sides answer, an answer a line.
@@ -57,6 +73,10 @@ impl Case {
         let (ours, theirs) = self.others(room);
         if ours.as_ref() != Some(&theirs) {
             writeln!(text, "other calls behind width {}: ours {ours:?}, Rust {theirs:?}    differs", self.width).expect("a string takes it");
+        }
+        let (ours, theirs) = self.tokens(room);
+        if ours != theirs {
+            writeln!(text, "as tokens, width {}: ours {ours:?}, Rust {theirs:?}    differs", self.width).expect("a string takes it");
         }
         text
     }

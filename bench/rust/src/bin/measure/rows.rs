@@ -146,6 +146,7 @@ fn byte_rows(on: On<&[u8]>) -> Vec<Row<'_>> {
         on.row("offset_at and next_slice of 256", 256, ours::take_all, theirs::take_all),
         on.row("offset_for, near", u64::from(b'\n'), ours::take_parts, theirs::take_parts),
         on.row("offset_for, far", ABSENT, ours::find_token, theirs::find_token),
+        on.row("next_token of TokenSlice", ABSENT, winnow_bench::ours::drain_tokens, theirs::drain_tokens),
     ]
 }
 
