@@ -1,12 +1,28 @@
 -- What a stream that records errors is.
-use Rattle.std.specs.Prelude.{List, [], ◌∷◌, ◌++◌, Bool}
+use Rattle.std.specs.Prelude.{◌≡◌, List, [], ◌∷◌, ◌++◌, Bool}
+use Rattle.winnow_recover.specs.declared.recoverable.Recoverable.{Recoverable}
 
--- the stream inside, the errors recorded so far in their order, and whether it records any
-pub record Recovering (I E : Type 0) : Type 0 where
-  pub input : I
-  pub errors : List E
-  pub is_recoverable : Bool
+module _ {I E : Type 0} where
+  -- the stream inside
+  abbrev pub recovering_input : Recoverable I E → I
+  recovering_input s = s.input
 
--- with one more error
-abbrev pub recorded : {I E : Type 0} → Recovering I E → E → Recovering I E
-recorded s e = record s { errors = s.errors ++ e ∷ [] }
+  -- the errors recorded so far, in their order
+  abbrev pub recorded_errors : Recoverable I E → List E
+  recorded_errors s = s.errors.items
+
+  -- whether any error is recorded
+  abbrev pub records_errors : Recoverable I E → Bool
+  records_errors s = s.is_recoverable
+
+  -- t is s but for the room that the errors take
+  abbrev pub IsSame : Recoverable I E → Recoverable I E → Type 0
+  IsSame s t = (t.input ≡ s.input) × (t.errors.items ≡ s.errors.items) × (t.is_recoverable ≡ s.is_recoverable)
+
+  -- t is s with one error more at the end
+  abbrev pub HasOneMore : E → Recoverable I E → Recoverable I E → Type 0
+  HasOneMore e s t = (t.input ≡ s.input) × (t.errors.items ≡ s.errors.items ++ e ∷ []) × (t.is_recoverable ≡ s.is_recoverable)
+
+  -- t is s with what `recovered` makes of an error, where it is told of s, whatever its room
+  abbrev pub Records : {C F : Type 0} → (C → C → Recoverable I E → F → E) → Recoverable I E → C → C → F → Recoverable I E → Type 0
+  Records recovered s token_start err_start e t = (u : Recoverable I E) × IsSame s u × HasOneMore (recovered token_start err_start u e) s t

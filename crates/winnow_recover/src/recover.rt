@@ -13,6 +13,9 @@ pub trait Recover<E>: Stream {
     // The streams that recording an error makes, by where the parser began and where the error came.
     ghost records: { Self → Self.Checkpoint → Self.Checkpoint → E → Self → Type 0 };
 
+    // The streams that are the same, but for room in memory.
+    ghost unchanged: { Self → Self → Type 0 } = { λ s t. t ≡ s };
+
     // Whether the type records errors at all.
     ghost supports_recovery: { Bool };
 
@@ -27,7 +30,7 @@ pub trait Recover<E>: Stream {
     ) -> Result<(), RecordError<E>>
         ensures answer { IsRecording (refuses self.old err) err result }
         ensures ok { OnOk result (records self.old token_start.now err_start.now err self.new) }
-        ensures err { OnErr result (self.new ≡ self.old) }
+        ensures err { OnErr result (unchanged self.old self.new) }
         ensures remains { Self.remaining self.new ≡ Self.remaining self.old }
         ensures valid { Self.valid self.old → Self.valid self.new };
 

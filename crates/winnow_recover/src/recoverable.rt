@@ -1,21 +1,20 @@
-ghost use Rattle.std.specs.Prelude.{◌≡◌, true, false, not, ◌||◌, is_some, [], refl};
+ghost use Rattle.std.specs.Prelude.{◌≡◌, false, not, ◌||◌, is_some, [], refl, true, IsTrue};
 ghost use Rattle.std.proofs.Common.{◌∙◌};
 ghost use Rattle.winnow_stream.specs.Checkpoint.{checkpoint_inner};
-ghost use Rattle.winnow_recover.specs.Recovering.{recorded};
+ghost use Rattle.winnow_recover.specs.Recovering.{recovering_input, recorded_errors, records_errors, IsSame, Records};
 
 use crate::{RecordError, Recover};
 use std::alloc::Global;
 use std::fmt;
 use std::fmt::Debug;
-use std::marker::Model;
 use std::ops::Deref;
 use winnow_error::{FromRecoverableError, ParserError};
 use winnow_stream::{Checkpoint, Needed, Rest, Stream};
 
 /// A stream with a list of the errors from which a parser recovered. No call of `Stream` changes the list.
 ///
-/// Contracts see the stream inside, the errors in their order and whether it records any, and nothing of the room that the
-/// list takes.
+/// Contracts speak of the stream inside, the errors in their order and whether it records any, and not of the room that the list
+/// takes.
 #[derive(Debug, Drop)]
 pub struct Recoverable<I, E> {
     pub(crate) input: I,
@@ -23,18 +22,12 @@ pub struct Recoverable<I, E> {
     pub(crate) is_recoverable: bool,
 }
 
-impl<I, E> Model for Recoverable<I, E> {
-    ghost use Rattle.winnow_recover.specs.Recovering.{Recovering};
-
-    ghost Value = { Recovering I E };
-
-    ghost view = { λ s. record { input = s.input; errors = s.errors.items; is_recoverable = s.is_recoverable } };
-}
-
 impl<I, E> Recoverable<I, E> {
     /// The stream, with no error yet, which records each error that is not incomplete.
     pub fn new(alloc: Global, input: I) -> Self
-        ensures { result ≡ record { input = input; errors = []; is_recoverable = true } }
+        ensures input { recovering_input result ≡ input }
+        ensures errors { recorded_errors result ≡ [] }
+        ensures records { IsTrue (records_errors result) }
     {
         Recoverable {
             input,
@@ -45,7 +38,9 @@ impl<I, E> Recoverable<I, E> {
 
     /// The stream, which records no error.
     pub fn unrecoverable(alloc: Global, input: I) -> Self
-        ensures { result ≡ record { input = input; errors = []; is_recoverable = false } }
+        ensures input { recovering_input result ≡ input }
+        ensures errors { recorded_errors result ≡ [] }
+        ensures refuses { records_errors result ≡ false }
     {
         Recoverable {
             input,
@@ -56,15 +51,15 @@ impl<I, E> Recoverable<I, E> {
 
     /// The stream inside.
     pub fn inner(&self) -> &I
-        ensures { result.now ≡ self.now.input }
+        ensures { result.now ≡ recovering_input self.now }
     {
         &self.input
     }
 
     /// The stream inside, and the errors in the order in which they were recorded.
     pub fn into_parts(self) -> (I, Vec<E>)
-        ensures input { result.0 ≡ self.input }
-        ensures errors { result.1.items ≡ self.errors }
+        ensures input { result.0 ≡ recovering_input self }
+        ensures errors { result.1.items ≡ recorded_errors self }
     {
         let Recoverable {
             input,
@@ -112,7 +107,7 @@ impl<I: Stream, E: Debug> Stream for Recoverable<I, E> {
 
     ghost counts_missing = { I.counts_missing };
 
-    ghost keeps = { λ s t. (s.errors ≡ t.errors) × (s.is_recoverable ≡ t.is_recoverable) × I.keeps s.input t.input };
+    ghost keeps = { λ s t. (recorded_errors s ≡ recorded_errors t) × (records_errors s ≡ records_errors t) × I.keeps s.input t.input };
 
     ghost has_widths = { λ s. I.has_widths s.input };
 
@@ -191,9 +186,11 @@ where
     E: ParserError<Recoverable<I, R>>,
     R: FromRecoverableError<Recoverable<I, R>, E> + Debug,
 {
-    ghost refuses = { λ s e. not s.is_recoverable || is_some (E.needs e) };
+    ghost refuses = { λ s e. not (records_errors s) || is_some (E.needs e) };
 
-    ghost records = { λ s token_start err_start e t. t ≡ recorded s (R.recovered token_start err_start s e) };
+    ghost records = { Records R.recovered };
+
+    ghost unchanged = { IsSame };
 
     ghost supports_recovery = { true };
 

@@ -1,5 +1,6 @@
 ghost use Rattle.std.specs.Prelude.{◌≡◌};
 ghost use Rattle.winnow_stream.specs.Checkpoint.{checkpoint_inner};
+ghost use Rattle.winnow_recover.specs.Recovering.{recorded_errors, records_errors};
 
 use crate::Recoverable;
 use std::fmt;
@@ -90,7 +91,7 @@ impl<I: StreamIsPartial, E> StreamIsPartial for Recoverable<I, E> {
 
     ghost expects_more = { λ s. I.expects_more s.input };
 
-    ghost same_but_mark = { λ s t. (s.errors ≡ t.errors) × (s.is_recoverable ≡ t.is_recoverable) × I.same_but_mark s.input t.input };
+    ghost same_but_mark = { λ s t. (recorded_errors s ≡ recorded_errors t) × (records_errors s ≡ records_errors t) × I.same_but_mark s.input t.input };
 
     fn complete(&mut self) -> I::PartialState {
         self.input.complete()

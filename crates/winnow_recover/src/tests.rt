@@ -1,11 +1,15 @@
+ghost use Rattle.std.specs.Prelude.{IfOk};
+
 use crate::{RecordError, Recover, Recoverable};
+use std::alloc::{AllocError, Global};
+use std::fmt::Display;
 use std::test::Fail;
 use winnow_error::ErrMode::{Backtrack, Incomplete};
 use winnow_error::{EmptyError, ErrMode};
 use winnow_match::{Compare, CompareResult, FindSlice};
 use winnow_stream::Step::{Each, Mark, Next, Peek, Reset, Since, Take};
 use winnow_stream::{
-    AsBStr, AsBytes, Needed, NoSet, Offset, SliceLen, Step, Stream, StreamIsPartial, UpdateSlice,
+    AsBStr, Needed, NoSet, Offset, SliceLen, Step, Stream, StreamIsPartial, UpdateSlice,
     run,
 };
 
@@ -67,24 +71,43 @@ fn a_script_runs_as_on_the_text_inside(rt: HostRuntime) -> Result<(), Fail> {
     Ok(())
 }
 
+// What the calls that change nothing answer, as one text.
+fn seen<S: SliceLen + AsBStr + Display>(alloc: Global, s: &S) -> Result<String, AllocError>
+    requires { S.has_width s.now }
+{
+    let (width, bytes) = (s.slice_len(), s.as_bstr());
+    format!(in alloc; "{s} {width} {bytes:?}")
+}
+
+// The window of the front of that width, and the width that was taken before it; `None` where there is none.
+fn window_of<S: UpdateSlice>(mut s: S, offset: usize) -> Result<(S, usize), S>
+    requires { S.valid s }
+    ensures { IfOk result (λ p. S.valid p.0) }
+{
+    if !s.is_offset(offset) {
+        return Err(s);
+    }
+    let start = s.checkpoint();
+    let slice = s.next_slice(offset);
+    let taken = s.offset_since(&start);
+    Ok((s.update_slice(slice, &start), taken))
+}
+
 #[test]
 fn every_call_is_passed_on(rt: HostRuntime) -> Result<(), Fail> {
     let mut s: Recoverable<&str, Mode> = Recoverable::new(rt.alloc(), "abcd");
-    let start = s.checkpoint();
     assert_eq!(rt; s.compare("abd"), CompareResult::Error);
     assert_eq!(rt; s.find_slice('c'), Some(2..3));
-    assert_eq!(rt; s.slice_len(), 4);
-    assert_eq!(rt; s.as_bstr(), b"abcd".as_slice());
-    assert!(rt; !s.is_partial());
+    assert_eq!(rt; seen(rt.alloc(), &s)?.as_str(), "abcd 4 [97, 98, 99, 100]");
+    let start = s.checkpoint();
+    assert_eq!(rt; s.offset_from(&start), 0);
     s.complete();
     s.restore_partial(());
-    assert_eq!(rt; s.next_slice(1), "a");
-    assert_eq!(rt; s.offset_from(&start), 1);
-    assert_eq!(rt; format!(in rt.alloc(); "{s} {}", s.inner())?.as_str(), "bcd bcd");
+    assert!(rt; !s.is_partial());
     let text: &str = &s;
-    assert_eq!(rt; text, "bcd");
-    let mut s = s.update_slice("a", &start);
-    assert_eq!(rt; s.finish(), "a");
-    assert_eq!(rt; s.peek_finish(), "");
+    assert_eq!(rt; (text, *s.inner()), ("abcd", "abcd"));
+    let (mut window, taken) = window_of(s, 2).ok().ok_or("no window")?;
+    assert_eq!(rt; (window.peek_finish(), taken), ("ab", 2));
+    assert_eq!(rt; window.finish(), "ab");
     Ok(())
 }
