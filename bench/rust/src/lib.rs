@@ -8,6 +8,8 @@ pub mod ours;
 pub mod script;
 pub mod their_bits;
 pub mod their_errors;
+pub mod their_kinds;
 pub mod their_searches;
 pub mod their_sets;
+pub mod their_wrappers;
 pub mod theirs;

@@ -36,7 +36,8 @@ macro_rules! workloads {
     };
 }
 
-workloads!(drain peek_and_take sum_offsets look_ahead take_all take_parts find_token offset_behind);
+workloads!(drain peek_and_take sum_offsets look_ahead take_all take_parts find_token offset_behind
+    drain_located drain_wrapped take_all_located take_all_wrapped);
 
 unsafe extern "C" {
     fn winnow_bench_run_bytes(input: *const u8, length: usize, script: *const RawStep, steps: usize, rounds: u64) -> u64;
@@ -48,6 +49,14 @@ unsafe extern "C" {
     fn winnow_bench_drain_tokens(input: *const u8, length: usize, number: u64) -> u64;
     fn winnow_bench_answers_tokens(input: *const u8, length: usize, script: *const RawStep, steps: usize, out: *mut u64, room: usize) -> u64;
     fn winnow_bench_views_tokens(input: *const u8, length: usize, width: u64, out: *mut u64, room: usize) -> u64;
+    fn winnow_bench_wrapped_bytes(input: *const u8, length: usize, width: u64, out: *mut u64, room: usize) -> u64;
+    fn winnow_bench_wrapped_text(input: *const u8, length: usize, width: u64, out: *mut u64, room: usize) -> u64;
+    fn winnow_bench_drain_bstr(input: *const u8, length: usize, number: u64) -> u64;
+    fn winnow_bench_drain_plain_bytes(input: *const u8, length: usize, number: u64) -> u64;
+    fn winnow_bench_display_bstr(input: *const u8, length: usize, number: u64) -> u64;
+    fn winnow_bench_answers_bstr(input: *const u8, length: usize, script: *const RawStep, steps: usize, out: *mut u64, room: usize) -> u64;
+    fn winnow_bench_answers_plain_bytes(input: *const u8, length: usize, script: *const RawStep, steps: usize, out: *mut u64, room: usize) -> u64;
+    fn winnow_bench_texts_kinds(input: *const u8, length: usize, width: u64, out: *mut u64, room: usize) -> u64;
     fn winnow_bench_needed(size: u64, out: *mut u64, room: usize) -> u64;
 }
 
@@ -62,6 +71,21 @@ pub fn run_text((input, script): (&str, &[RawStep]), rounds: u64) -> u64 {
 /// Takes tokens of a slice of tokens.
 pub fn drain_tokens(input: &[u8], number: u64) -> u64 {
     unsafe { winnow_bench_drain_tokens(input.as_ptr(), input.len(), number) }
+}
+
+/// Takes tokens of a `BStr`.
+pub fn drain_bstr(input: &[u8], number: u64) -> u64 {
+    unsafe { winnow_bench_drain_bstr(input.as_ptr(), input.len(), number) }
+}
+
+/// Takes tokens of `Bytes`.
+pub fn drain_plain_bytes(input: &[u8], number: u64) -> u64 {
+    unsafe { winnow_bench_drain_plain_bytes(input.as_ptr(), input.len(), number) }
+}
+
+/// The length of the text of a `BStr`.
+pub fn display_bstr(input: &[u8], number: u64) -> u64 {
+    unsafe { winnow_bench_display_bstr(input.as_ptr(), input.len(), number) }
 }
 
 /// Room for the numbers in which our library tells its answers.
@@ -99,6 +123,23 @@ impl Room {
         })?)
     }
 
+    /// The answers of a script on a `BStr`, and on `Bytes`.
+    pub fn answers_kinds(&mut self, input: &[u8], script: &[RawStep]) -> Option<[Vec<Told>; 2]> {
+        let bstr = read_answers(self.told(|out, room| unsafe {
+            winnow_bench_answers_bstr(input.as_ptr(), input.len(), script.as_ptr(), script.len(), out, room)
+        })?)?;
+        let bytes = read_answers(self.told(|out, room| unsafe {
+            winnow_bench_answers_plain_bytes(input.as_ptr(), input.len(), script.as_ptr(), script.len(), out, room)
+        })?)?;
+        Some([bstr, bytes])
+    }
+
+    /// The texts of both, and how their two parts compare.
+    pub fn texts_kinds(&mut self, input: &[u8], width: usize) -> Option<Vec<u64>> {
+        let told = self.told(|out, room| unsafe { winnow_bench_texts_kinds(input.as_ptr(), input.len(), width as u64, out, room) });
+        told.map(<[u64]>::to_vec)
+    }
+
     /// What a slice of tokens shows behind fronts, in windows and back at the start.
     pub fn views_tokens(&mut self, input: &[u8], width: usize) -> Option<Vec<u64>> {
         let told = self.told(|out, room| unsafe { winnow_bench_views_tokens(input.as_ptr(), input.len(), width as u64, out, room) });
@@ -114,6 +155,18 @@ impl Room {
     /// What the calls that no step names answer of a text.
     pub fn others_text(&mut self, input: &str, width: usize) -> Option<Vec<u64>> {
         let told = self.told(|out, room| unsafe { winnow_bench_others_text(input.as_ptr(), input.len(), width as u64, out, room) });
+        told.map(<[u64]>::to_vec)
+    }
+
+    /// What three wrappers round bytes tell.
+    pub fn wrapped_bytes(&mut self, input: &[u8], width: usize) -> Option<Vec<u64>> {
+        let told = self.told(|out, room| unsafe { winnow_bench_wrapped_bytes(input.as_ptr(), input.len(), width as u64, out, room) });
+        told.map(<[u64]>::to_vec)
+    }
+
+    /// What three wrappers round a text tell.
+    pub fn wrapped_text(&mut self, input: &str, width: usize) -> Option<Vec<u64>> {
+        let told = self.told(|out, room| unsafe { winnow_bench_wrapped_text(input.as_ptr(), input.len(), width as u64, out, room) });
         told.map(<[u64]>::to_vec)
     }
 

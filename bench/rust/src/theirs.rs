@@ -366,7 +366,7 @@ pub fn needed(size: usize) -> Vec<u64> {
     told
 }
 
-fn tell_bytes(told: &mut Vec<u64>, bytes: &[u8]) {
+pub(crate) fn tell_bytes(told: &mut Vec<u64>, bytes: &[u8]) {
     told.push(bytes.len() as u64);
     told.extend(bytes.iter().copied().map(u64::from));
 }

@@ -9,6 +9,7 @@ mod bit_exports;
 mod bytes;
 mod errors;
 mod fronts;
+mod kinds;
 mod others;
 mod runs;
 mod search_exports;
@@ -23,5 +24,6 @@ mod texts;
 mod token_slices;
 mod tokens;
 mod weigh;
+mod wrapped;
 
 pub use steps::RawStep;

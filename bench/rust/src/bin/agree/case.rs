@@ -4,6 +4,8 @@ use std::fmt::Write;
 use winnow::stream::TokenSlice;
 use winnow_bench::ours::Room;
 use winnow_bench::script::{RawStep, Step, Told};
+use winnow_bench::their_kinds;
+use winnow_bench::their_wrappers::{wrap, wrapped};
 use winnow_bench::theirs;
 
 #[derive(Clone)]
@@ -11,6 +13,9 @@ pub enum Input {
     Bytes(Vec<u8>),
     Text(String),
 }
+
+// The answers of a script on each kind, and their texts and orders.
+type KindAnswers = ([Vec<Told>; 2], Vec<u64>);
 
 // The answers of a script, and what the views show.
 type TokenAnswers = (Vec<Told>, Vec<u64>);
@@ -28,7 +33,13 @@ impl Case {
         let (ours, theirs) = self.answers(room);
         let (our_others, their_others) = self.others(room);
         let (our_tokens, their_tokens) = self.tokens(room);
-        ours != Some(theirs) || our_others != Some(their_others) || our_tokens != their_tokens
+        let (our_wrapped, their_wrapped) = self.wrapped(room);
+        let (our_kinds, their_kinds) = self.kinds(room);
+        ours != Some(theirs)
+            || our_others != Some(their_others)
+            || our_tokens != their_tokens
+            || our_wrapped != Some(their_wrapped)
+            || our_kinds != their_kinds
     }
 
     fn answers(&self, room: &mut Room) -> (Option<Vec<Told>>, Vec<Told>) {
@@ -57,6 +68,23 @@ impl Case {
         (ours, Some(theirs))
     }
 
+    // Bytes as bytes with a text of their own: the script on each kind, and the texts and orders. Nothing on a text.
+    fn kinds(&self, room: &mut Room) -> (Option<KindAnswers>, Option<KindAnswers>) {
+        let Input::Bytes(bytes) = &self.input else {
+            return (None, None);
+        };
+        let script: Vec<RawStep> = self.script.iter().copied().map(RawStep::from).collect();
+        let ours = room.answers_kinds(bytes, &script).zip(room.texts_kinds(bytes, self.width));
+        (ours, Some((their_kinds::answers(bytes, &self.script), their_kinds::texts(bytes, self.width))))
+    }
+
+    fn wrapped(&self, room: &mut Room) -> (Option<Vec<u64>>, Vec<u64>) {
+        match &self.input {
+            Input::Bytes(bytes) => (room.wrapped_bytes(bytes, self.width), wrapped(wrap(bytes.as_slice()), self.width)),
+            Input::Text(text) => (room.wrapped_text(text, self.width), wrapped(wrap(text.as_str()), self.width)),
+        }
+    }
+
     /// The case with what both sides answer, an answer a line.
     pub fn told(&self, room: &mut Room) -> String {
         let mut text = match &self.input {
@@ -77,6 +105,14 @@ impl Case {
         let (ours, theirs) = self.tokens(room);
         if ours != theirs {
             writeln!(text, "as tokens, width {}: ours {ours:?}, Rust {theirs:?}    differs", self.width).expect("a string takes it");
+        }
+        let (ours, theirs) = self.kinds(room);
+        if ours != theirs {
+            writeln!(text, "as kinds, width {}: ours {ours:?}, Rust {theirs:?}    differs", self.width).expect("a string takes it");
+        }
+        let (ours, theirs) = self.wrapped(room);
+        if ours.as_ref() != Some(&theirs) {
+            writeln!(text, "in three wrappers, behind width {}: ours {ours:?}, Rust {theirs:?}    differs", self.width).expect("a string takes it");
         }
         text
     }

@@ -7,7 +7,9 @@ use crate::search_rows::search_rows;
 use std::hint::black_box;
 use winnow_bench::inputs::{ABSENT, ascii_text, bytes, mixed_text, script, seeded};
 use winnow_bench::script::RawStep;
-use winnow_bench::{ours, theirs};
+use winnow::stream::LocatingSlice;
+use winnow_bench::their_wrappers::wrap;
+use winnow_bench::{ours, their_kinds, theirs};
 
 /// How long the inputs are, and how many calls over the small ones are timed as one.
 pub struct Sizes {
@@ -125,6 +127,8 @@ pub fn rows(inputs: &Inputs) -> Vec<Row<'_>> {
         let units = input.len();
         if units > 0 {
             rows.extend(text_rows(On { name, input: input.as_str(), units, calls }));
+            let on = On { name, input: input.as_bytes(), units, calls };
+            rows.push(on.row("Display of BStr", ABSENT, winnow_bench::ours::display_bstr, their_kinds::display_bstr));
         }
     }
     rows.extend(run_rows(inputs));
@@ -138,14 +142,20 @@ fn byte_rows(on: On<&[u8]>) -> Vec<Row<'_>> {
     use ours::bytes as ours;
     vec![
         on.row("next_token", ABSENT, ours::drain, theirs::drain),
+        on.row("next_token, one wrapper", ABSENT, ours::drain_located, |input, number| theirs::drain(LocatingSlice::new(input), number)),
+        on.row("next_token, three wrappers", ABSENT, ours::drain_wrapped, |input, number| theirs::drain(wrap(input), number)),
         on.row("peek_token, next_token", ABSENT, ours::peek_and_take, theirs::peek_and_take),
         on.row("iter_offsets", ABSENT, ours::sum_offsets, theirs::sum_offsets),
         on.row("checkpoint, two tokens, reset", ABSENT, ours::look_ahead, theirs::look_ahead),
         on.row("offset_at and next_slice of 1", 1, ours::take_all, theirs::take_all),
         on.row("offset_at and next_slice of 16", 16, ours::take_all, theirs::take_all),
+        on.row("offset_at and next_slice of 16, one wrapper", 16, ours::take_all_located, |input, number| theirs::take_all(LocatingSlice::new(input), number)),
+        on.row("offset_at and next_slice of 16, three wrappers", 16, ours::take_all_wrapped, |input, number| theirs::take_all(wrap(input), number)),
         on.row("offset_at and next_slice of 256", 256, ours::take_all, theirs::take_all),
         on.row("offset_for, near", u64::from(b'\n'), ours::take_parts, theirs::take_parts),
         on.row("offset_for, far", ABSENT, ours::find_token, theirs::find_token),
+        on.row("next_token of BStr", ABSENT, winnow_bench::ours::drain_bstr, their_kinds::drain_bstr),
+        on.row("next_token of Bytes", ABSENT, winnow_bench::ours::drain_plain_bytes, their_kinds::drain_plain_bytes),
         on.row("next_token of TokenSlice", ABSENT, winnow_bench::ours::drain_tokens, theirs::drain_tokens),
     ]
 }
@@ -154,11 +164,15 @@ fn text_rows(on: On<&str>) -> Vec<Row<'_>> {
     use ours::text as ours;
     vec![
         on.row("next_token", ABSENT, ours::drain, theirs::drain),
+        on.row("next_token, one wrapper", ABSENT, ours::drain_located, |input, number| theirs::drain(LocatingSlice::new(input), number)),
+        on.row("next_token, three wrappers", ABSENT, ours::drain_wrapped, |input, number| theirs::drain(wrap(input), number)),
         on.row("peek_token, next_token", ABSENT, ours::peek_and_take, theirs::peek_and_take),
         on.row("iter_offsets", ABSENT, ours::sum_offsets, theirs::sum_offsets),
         on.row("checkpoint, two tokens, reset", ABSENT, ours::look_ahead, theirs::look_ahead),
         on.row("offset_at and next_slice of 1", 1, ours::take_all, theirs::take_all),
         on.row("offset_at and next_slice of 16", 16, ours::take_all, theirs::take_all),
+        on.row("offset_at and next_slice of 16, one wrapper", 16, ours::take_all_located, |input, number| theirs::take_all(LocatingSlice::new(input), number)),
+        on.row("offset_at and next_slice of 16, three wrappers", 16, ours::take_all_wrapped, |input, number| theirs::take_all(wrap(input), number)),
         on.row("offset_at and next_slice of 256", 256, ours::take_all, theirs::take_all),
         on.row("offset_at, far", u64::MAX, ours::offset_behind, theirs::offset_behind),
         on.row("offset_for, near", u64::from(b'\n'), ours::take_parts, theirs::take_parts),
