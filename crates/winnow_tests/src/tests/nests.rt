@@ -16,7 +16,7 @@ const SCRIPT: [Step<NoSet>; 8] = [Next, Mark, Take(1), Since(0), Reset(0), At(9)
 #[test]
 fn bits_under_four_wrappers(rt: HostRuntime) -> Result<(), Fail> {
     bit_source_law();
-    let mut inside = Recoverable::new(rt.alloc(), Bits::new(b"\xAB".as_slice()));
+    let mut inside: Recoverable<_, Mode> = Recoverable::new(rt.alloc(), Bits::new(b"\xAB".as_slice()));
     let start = inside.checkpoint();
     assert_eq!(rt; inside.record_err(&start, &start, Backtrack(EmptyError)), Ok(()));
     let mut s = Partial::new(Stateful {
@@ -31,9 +31,9 @@ fn bits_under_four_wrappers(rt: HostRuntime) -> Result<(), Fail> {
     );
     assert!(rt; s.is_partial());
     assert_eq!(rt; (s.state, s.current_token_start()), (7, 1));
-    let recorded: &Recoverable<Bits<&[u8]>, Mode> = &***s;
+    let located = s.into_inner().input;
     assert_eq!(rt;
-        format!(in rt.alloc(); "{recorded:?}")?.as_str(),
+        format!(in rt.alloc(); "{located:?}")?.as_str(),
         "Recoverable { input: Bits { input: [171], place: 1 }, errors: [Backtrack(EmptyError)], is_recoverable: true }"
     );
     Ok(())
