@@ -156,8 +156,7 @@ where
 fn tell_stream<S: Location + StreamIsPartial + AsBStr>(
     told: &mut Vec<u64>,
     s: &S,
-) -> Result<(), AllocError>
-{
+) -> Result<(), AllocError> {
     let (end, start) = (s.previous_token_end(), s.current_token_start());
     tell_all(told, &[end as u64, start as u64, u64::from(s.is_partial())])?;
     s.as_bstr().tell(told)

@@ -9,8 +9,7 @@ use winnow_error::{EmptyError, ErrMode};
 use winnow_match::{Compare, CompareResult, FindSlice};
 use winnow_stream::Step::{Each, Mark, Next, Peek, Reset, Since, Take};
 use winnow_stream::{
-    AsBStr, Needed, NoSet, Offset, SliceLen, Step, Stream, StreamIsPartial, UpdateSlice,
-    run,
+    AsBStr, Needed, NoSet, Offset, SliceLen, Step, Stream, StreamIsPartial, UpdateSlice, run,
 };
 
 type Mode = ErrMode<EmptyError>;
@@ -31,7 +30,10 @@ fn reset_leaves_what_was_recorded(rt: HostRuntime) -> Result<(), Fail> {
     assert_eq!(rt; recover_here(&mut s, Backtrack(EmptyError)), Ok(()));
     s.reset(&before);
     let wanted: Mode = Incomplete(Needed::Unknown);
-    assert_eq!(rt; recover_here(&mut s, wanted), Err(RecordError::Refused(Incomplete(Needed::Unknown))));
+    assert_eq!(rt;
+        recover_here(&mut s, wanted),
+        Err(RecordError::Refused(Incomplete(Needed::Unknown)))
+    );
     assert_eq!(rt; s.peek_token(), Some('a'));
     let (input, errors): (&str, Vec<Mode>) = s.into_parts();
     assert_eq!(rt; input, "abc");
@@ -67,7 +69,10 @@ fn a_script_runs_as_on_the_text_inside(rt: HostRuntime) -> Result<(), Fail> {
     let expected = run(rt.alloc(), &mut plain, &script)?;
     let mut s: Recoverable<&str, Mode> = Recoverable::new(rt.alloc(), "aéb");
     let answers = run(rt.alloc(), &mut s, &script)?;
-    assert_eq!(rt; format!(in rt.alloc(); "{answers:?}")?, format!(in rt.alloc(); "{expected:?}")?);
+    assert_eq!(rt;
+        format!(in rt.alloc(); "{answers:?}")?,
+        format!(in rt.alloc(); "{expected:?}")?
+    );
     Ok(())
 }
 

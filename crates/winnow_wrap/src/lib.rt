@@ -9,8 +9,6 @@ mod locating_stream;
 mod partial;
 mod stateful;
 
-
-
 pub use locating::{LocatingSlice, Placed};
 pub use partial::Partial;
 pub use stateful::Stateful;

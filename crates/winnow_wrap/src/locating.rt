@@ -5,9 +5,7 @@ use std::fmt;
 use std::fmt::{Debug, Display};
 use std::ops::{Deref, Range};
 use winnow_match::{Compare, CompareResult, FindSlice};
-use winnow_stream::{
-    AsBStr, AsBytes, Offset, Rest, SliceLen, Stream, StreamIsPartial,
-};
+use winnow_stream::{AsBStr, AsBytes, Offset, Rest, SliceLen, Stream, StreamIsPartial};
 
 /// A stream that knows its place in the whole input: where a token starts and ends, for spans and messages.
 ///

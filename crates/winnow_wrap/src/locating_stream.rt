@@ -4,12 +4,10 @@ ghost use Rattle.winnow_stream.specs.Source.{width, first_token};
 ghost use Rattle.winnow_stream.specs.Front.{is_offset, front, back, IsSomeFront};
 ghost use Rattle.winnow_stream.specs.Checkpoint.{checkpoint_inner};
 
+use crate::{LocatingSlice, Placed};
 use std::fmt;
 use std::fmt::Debug;
-use crate::{LocatingSlice, Placed};
-use winnow_stream::{
-    Checkpoint, Location, Needed, Offset, Rest, Stream, UpdateSlice,
-};
+use winnow_stream::{Checkpoint, Location, Needed, Offset, Rest, Stream, UpdateSlice};
 
 impl<I: Stream<Checkpoint = C>, C: Rest + Copy + Debug> LocatingSlice<I, C> {
     /// The stream at place 0: what remains of it is the whole input.

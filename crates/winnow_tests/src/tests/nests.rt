@@ -16,9 +16,15 @@ const SCRIPT: [Step<NoSet>; 8] = [Next, Mark, Take(1), Since(0), Reset(0), At(9)
 #[test]
 fn bits_under_four_wrappers(rt: HostRuntime) -> Result<(), Fail> {
     bit_source_law();
-    let mut inside: Recoverable<_, Mode> = Recoverable::new(rt.alloc(), Bits::new(b"\xAB".as_slice()));
+    let mut inside: Recoverable<_, Mode> = Recoverable::new(
+        rt.alloc(),
+        Bits::new(b"\xAB".as_slice()),
+    );
     let start = inside.checkpoint();
-    assert_eq!(rt; inside.record_err(&start, &start, Backtrack(EmptyError)), Ok(()));
+    assert_eq!(rt;
+        inside.record_err(&start, &start, Backtrack(EmptyError)),
+        Ok(())
+    );
     let mut s = Partial::new(Stateful {
         input: LocatingSlice::new(inside),
         state: 7,
@@ -45,7 +51,10 @@ fn a_text_under_four_wrappers(rt: HostRuntime) -> Result<(), Fail> {
     let plain = told(rt.alloc(), "aéb", &SCRIPT)?;
     let nest: Recoverable<_, Mode> = Recoverable::new(
         rt.alloc(),
-        LocatingSlice::new(Partial::new(Stateful { input: "aéb", state: 7 })),
+        LocatingSlice::new(Partial::new(Stateful {
+            input: "aéb",
+            state: 7,
+        })),
     );
     assert_eq!(rt; told(rt.alloc(), nest, &SCRIPT)?.as_str(), plain.as_str());
     Ok(())
@@ -65,7 +74,10 @@ fn bytes_under_three_wrappers(rt: HostRuntime) -> Result<(), Fail> {
 #[test]
 fn tokens_under_four_wrappers(rt: HostRuntime) -> Result<(), Fail> {
     let plain = told(rt.alloc(), b"abc".as_slice(), &SCRIPT)?;
-    let inside: Recoverable<_, Mode> = Recoverable::unrecoverable(rt.alloc(), TokenSlice::new(b"abc"));
+    let inside: Recoverable<_, Mode> = Recoverable::unrecoverable(
+        rt.alloc(),
+        TokenSlice::new(b"abc"),
+    );
     let nest = Stateful {
         input: Partial::new(LocatingSlice::new(inside)),
         state: 7,
@@ -83,7 +95,10 @@ fn only_the_outermost_records(rt: HostRuntime) -> Result<(), Fail> {
     };
     let start = s.checkpoint();
     let mode: Mode = Cut(EmptyError);
-    assert_eq!(rt; s.record_err(&start, &start, mode), Err(RecordError::Refused(Cut(EmptyError))));
+    assert_eq!(rt;
+        s.record_err(&start, &start, mode),
+        Err(RecordError::Refused(Cut(EmptyError)))
+    );
     assert!(rt; !<Stateful<Recoverable<&str, Mode>, u8> as Recover<Mode>>::is_recovery_supported());
     assert_eq!(rt; s.input.into_parts().1.len(), 0);
     Ok(())

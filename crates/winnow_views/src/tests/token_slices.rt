@@ -70,8 +70,7 @@ fn window<S: UpdateSlice + Drop>(mut s: S, offset: usize) -> Option<S>
 }
 
 // Both locations, through the bound.
-fn located<S: Location>(s: &S) -> (usize, usize)
-{
+fn located<S: Location>(s: &S) -> (usize, usize) {
     (s.previous_token_end(), s.current_token_start())
 }
 
