@@ -3,7 +3,7 @@
 use crate::script::{Step, Told};
 use crate::theirs::{self, IsOffset};
 use std::cmp::Ordering;
-use winnow::{BStr, Bytes};
+use winnow::stream::{BStr, Bytes};
 
 impl IsOffset for &BStr {
     fn is_offset(&self, offset: usize) -> bool {
