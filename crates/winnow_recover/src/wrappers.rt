@@ -1,5 +1,5 @@
 //! Wrappers that record nothing, also round a stream that does: only the outermost `Recoverable` is asked.
-ghost use Rattle.std.specs.Prelude.{◌≡◌, true, false, refl};
+ghost use Rattle.std.specs.Prelude.{true, false, refl};
 
 use crate::{RecordError, Recover};
 use std::fmt::Debug;

@@ -1,5 +1,5 @@
-ghost use Rattle.std.specs.Prelude.{◌≡◌, ◌+◌, ◌<◌, ◌^◌, ℕ, [], take, drop, IsTrue, refl};
-ghost use Rattle.std.proofs.Common.{◌∙◌, ap, subst, arith};
+ghost use Rattle.std.specs.Prelude.{◌≡◌, ◌+◌, ℕ, [], take, drop, IsTrue, refl};
+ghost use Rattle.std.proofs.Common.{◌∙◌, subst};
 ghost use Rattle.winnow_stream.specs.Source.{width, first_token};
 ghost use Rattle.winnow_stream.specs.Front.{is_offset, front, back, IsSomeFront};
 ghost use Rattle.winnow_stream.specs.Checkpoint.{checkpoint_inner};

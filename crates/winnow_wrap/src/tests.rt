@@ -6,7 +6,6 @@ use crate::{LocatingSlice, Partial, Stateful};
 use std::alloc::{AllocError, Global};
 use std::fmt::Display;
 use std::ops::Range;
-use std::process::Abort;
 use std::test::Fail;
 use winnow_match::{Compare, CompareResult, FindSlice};
 use winnow_stream::{

@@ -1,11 +1,11 @@
 use crate::{tell, told};
 use std::test::Fail;
-use winnow_error::ErrMode::{Backtrack, Cut, Incomplete};
+use winnow_error::ErrMode::{Backtrack, Cut};
 use winnow_error::{EmptyError, ErrMode};
 use winnow_kinds::BStr;
 use winnow_recover::{RecordError, Recover, Recoverable};
 use winnow_stream::Step::{At, Each, Mark, Next, Peek, Reset, Since, Take};
-use winnow_stream::{Location, Needed, NoSet, Step, Stream, StreamIsPartial};
+use winnow_stream::{Location, NoSet, Step, Stream, StreamIsPartial};
 use winnow_views::{Bits, TokenSlice, bit_source_law};
 use winnow_wrap::{LocatingSlice, Partial, Stateful};
 

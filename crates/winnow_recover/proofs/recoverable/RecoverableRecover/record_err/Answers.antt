@@ -1,4 +1,4 @@
-use Rattle.std.proofs.Common.{◌≡◌, ◌∙◌, ap}
+use Rattle.std.proofs.Common.{◌∙◌, ap}
 use Rattle.std.specs.Prelude.{◌++◌, ◌∷◌, [], refl}
 use Rattle.winnow_recover.proofs.recoverable.RecoverableRecover.record_err.Goals as goal
 
