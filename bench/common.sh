@@ -4,6 +4,7 @@
 manifest=$PWD/rust/Cargo.toml
 programs=$PWD/rust/target/release
 flags=()
+wanted_level=
 
 # Whether Cargo finds the Rust crate: in the local copies that WINNOW_SOURCE and MEMCHR_SOURCE name, else where it finds crates itself.
 find_crate() {
@@ -24,9 +25,9 @@ find_crate() {
     command -v cargo >/dev/null && cargo fetch --quiet --manifest-path "$manifest" "${flags[@]}" 2>rust/fetch.log
 }
 
-# Proves and builds our static library, and says for which processor level.
+# Proves and builds our static library, for `wanted_level` where that is set, and says for which processor level.
 build_ours() {
-    if ! (cd ../crates/winnow_bench && rt lib) >rust/library.log 2>&1; then
+    if ! (cd ../crates/winnow_bench && rt lib $wanted_level) >rust/library.log 2>&1; then
         grep -E 'error|no proof|not proved' rust/library.log || tail rust/library.log
         echo 'bench: our library is not built'
         exit 1

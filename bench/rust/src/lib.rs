@@ -9,6 +9,7 @@ pub mod script;
 pub mod their_bits;
 pub mod their_errors;
 pub mod their_kinds;
+pub mod their_recovered;
 pub mod their_searches;
 pub mod their_sets;
 pub mod their_wrappers;

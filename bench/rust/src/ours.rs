@@ -37,7 +37,7 @@ macro_rules! workloads {
 }
 
 workloads!(drain peek_and_take sum_offsets look_ahead take_all take_parts find_token offset_behind
-    drain_located drain_wrapped take_all_located take_all_wrapped);
+    drain_located drain_wrapped drain_recoverable take_all_located take_all_wrapped);
 
 unsafe extern "C" {
     fn winnow_bench_run_bytes(input: *const u8, length: usize, script: *const RawStep, steps: usize, rounds: u64) -> u64;
@@ -51,6 +51,9 @@ unsafe extern "C" {
     fn winnow_bench_views_tokens(input: *const u8, length: usize, width: u64, out: *mut u64, room: usize) -> u64;
     fn winnow_bench_wrapped_bytes(input: *const u8, length: usize, width: u64, out: *mut u64, room: usize) -> u64;
     fn winnow_bench_wrapped_text(input: *const u8, length: usize, width: u64, out: *mut u64, room: usize) -> u64;
+    fn winnow_bench_answers_recoverable(input: *const u8, length: usize, script: *const RawStep, steps: usize, out: *mut u64, room: usize) -> u64;
+    fn winnow_bench_recovered_bytes(input: *const u8, length: usize, width: u64, out: *mut u64, room: usize) -> u64;
+    fn winnow_bench_recovered_text(input: *const u8, length: usize, width: u64, out: *mut u64, room: usize) -> u64;
     fn winnow_bench_drain_bstr(input: *const u8, length: usize, number: u64) -> u64;
     fn winnow_bench_drain_plain_bytes(input: *const u8, length: usize, number: u64) -> u64;
     fn winnow_bench_display_bstr(input: *const u8, length: usize, number: u64) -> u64;
@@ -167,6 +170,25 @@ impl Room {
     /// What three wrappers round a text tell.
     pub fn wrapped_text(&mut self, input: &str, width: usize) -> Option<Vec<u64>> {
         let told = self.told(|out, room| unsafe { winnow_bench_wrapped_text(input.as_ptr(), input.len(), width as u64, out, room) });
+        told.map(<[u64]>::to_vec)
+    }
+
+    /// The answers of a script on bytes in a stream that records errors.
+    pub fn answers_recoverable(&mut self, input: &[u8], script: &[RawStep]) -> Option<Vec<Told>> {
+        read_answers(self.told(|out, room| unsafe {
+            winnow_bench_answers_recoverable(input.as_ptr(), input.len(), script.as_ptr(), script.len(), out, room)
+        })?)
+    }
+
+    /// What bytes tell in streams that record errors, refuse them, and go back to their start.
+    pub fn recovered_bytes(&mut self, input: &[u8], width: usize) -> Option<Vec<u64>> {
+        let told = self.told(|out, room| unsafe { winnow_bench_recovered_bytes(input.as_ptr(), input.len(), width as u64, out, room) });
+        told.map(<[u64]>::to_vec)
+    }
+
+    /// What a text tells in them.
+    pub fn recovered_text(&mut self, input: &str, width: usize) -> Option<Vec<u64>> {
+        let told = self.told(|out, room| unsafe { winnow_bench_recovered_text(input.as_ptr(), input.len(), width as u64, out, room) });
         told.map(<[u64]>::to_vec)
     }
 

@@ -11,6 +11,7 @@ mod errors;
 mod fronts;
 mod kinds;
 mod others;
+mod recovered;
 mod runs;
 mod search_exports;
 mod searches;

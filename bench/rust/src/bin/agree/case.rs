@@ -5,6 +5,7 @@ use winnow::stream::TokenSlice;
 use winnow_bench::ours::Room;
 use winnow_bench::script::{RawStep, Step, Told};
 use winnow_bench::their_kinds;
+use winnow_bench::their_recovered::{record, recovered};
 use winnow_bench::their_wrappers::{wrap, wrapped};
 use winnow_bench::theirs;
 
@@ -35,11 +36,15 @@ impl Case {
         let (our_tokens, their_tokens) = self.tokens(room);
         let (our_wrapped, their_wrapped) = self.wrapped(room);
         let (our_kinds, their_kinds) = self.kinds(room);
+        let (our_recovered, their_recovered) = self.recovered(room);
+        let (our_script, their_script) = self.recoverable(room);
         ours != Some(theirs)
             || our_others != Some(their_others)
             || our_tokens != their_tokens
             || our_wrapped != Some(their_wrapped)
             || our_kinds != their_kinds
+            || our_recovered != Some(their_recovered)
+            || our_script != their_script
     }
 
     fn answers(&self, room: &mut Room) -> (Option<Vec<Told>>, Vec<Told>) {
@@ -85,6 +90,22 @@ impl Case {
         }
     }
 
+    fn recovered(&self, room: &mut Room) -> (Option<Vec<u64>>, Vec<u64>) {
+        match &self.input {
+            Input::Bytes(bytes) => (room.recovered_bytes(bytes, self.width), recovered(bytes.as_slice(), self.width)),
+            Input::Text(text) => (room.recovered_text(text, self.width), recovered(text.as_str(), self.width)),
+        }
+    }
+
+    // The script on bytes in a stream that records errors. Nothing on a text.
+    fn recoverable(&self, room: &mut Room) -> (Option<Vec<Told>>, Option<Vec<Told>>) {
+        let Input::Bytes(bytes) = &self.input else {
+            return (None, None);
+        };
+        let script: Vec<RawStep> = self.script.iter().copied().map(RawStep::from).collect();
+        (room.answers_recoverable(bytes, &script), Some(theirs::tell_run(record(bytes.as_slice()), &self.script)))
+    }
+
     /// The case with what both sides answer, an answer a line.
     pub fn told(&self, room: &mut Room) -> String {
         let mut text = match &self.input {
@@ -113,6 +134,14 @@ impl Case {
         let (ours, theirs) = self.wrapped(room);
         if ours.as_ref() != Some(&theirs) {
             writeln!(text, "in three wrappers, behind width {}: ours {ours:?}, Rust {theirs:?}    differs", self.width).expect("a string takes it");
+        }
+        let (ours, theirs) = self.recovered(room);
+        if ours.as_ref() != Some(&theirs) {
+            writeln!(text, "where errors are recorded, width {}: ours {ours:?}, Rust {theirs:?}    differs", self.width).expect("a string takes it");
+        }
+        let (ours, theirs) = self.recoverable(room);
+        if ours != theirs {
+            writeln!(text, "the script where errors are recorded: ours {ours:?}, Rust {theirs:?}    differs").expect("a string takes it");
         }
         text
     }

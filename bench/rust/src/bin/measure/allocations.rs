@@ -36,9 +36,9 @@ unsafe extern "C" fn __wrap_posix_memalign(block: *mut *mut c_void, align: usize
     unsafe { __real_posix_memalign(block, align, size) }
 }
 
-/// How many blocks were allocated, or allocated anew, by a call.
-pub fn during(call: impl FnOnce()) -> u64 {
+/// What a call answers, and how many blocks were allocated, or allocated anew, by it.
+pub fn during<T>(call: impl FnOnce() -> T) -> (T, u64) {
     let before = COUNT.load(Relaxed);
-    call();
-    COUNT.load(Relaxed) - before
+    let answer = call();
+    (answer, COUNT.load(Relaxed) - before)
 }

@@ -25,6 +25,8 @@ fn main() -> ExitCode {
         (_, true) => (Sizes::SHORT, 5),
         _ => (Sizes::WHOLE, 15),
     };
+    // Some of the turns are those of the same program at another place.
+    let turns = if has("--times") { turns / 2 } else { turns - turns / 2 };
     let inputs = Inputs::new(&sizes);
     let mut rows = rows(&inputs);
     rows.retain(|row| after("--only").is_none_or(|word| row.name.contains(word)));
@@ -32,34 +34,41 @@ fn main() -> ExitCode {
         once(&rows, name, has("ours"));
     } else if has("--instructions") {
         count(&rows);
-    } else if rows.iter().any(|row| !row.agrees()) {
-        rows.iter().filter(|row| !row.agrees()).for_each(|row| println!("answers differ: {}", row.name));
-        return ExitCode::FAILURE;
     } else if has("--times") {
         timing::race(&rows, turns).iter().for_each(|times| println!("{times}"));
     } else {
-        let shifted = timing::when_shifted(&words);
-        let times = timing::race(&rows, turns).into_iter().zip(shifted).map(|(times, shifted)| times.least(shifted));
-        print(&rows, times);
+        return compare_and_race(&rows, turns, &words);
     }
     ExitCode::SUCCESS
 }
 
-fn print(rows: &[Row], times: impl Iterator<Item = Times>) {
-    println!("| Workload | ours, ms | Rust, ms | ours / Rust | ours, million a second | allocations, ours and Rust |");
-    println!("|---|--:|--:|--:|--:|--:|");
-    for (row, Times { ours, theirs }) in rows.iter().zip(times) {
-        println!(
-            "| {} | {:.2} | {:.2} | {:.2} | {:.0} | {} and {} |",
-            row.name,
-            ours * 1e3,
-            theirs * 1e3,
-            ours / theirs,
-            (row.units * row.calls) as f64 / ours / 1e6,
-            allocations::during(|| row.call_ours()),
-            allocations::during(|| row.call_theirs()),
-        );
+fn compare_and_race(rows: &[Row], turns: usize, words: &[String]) -> ExitCode {
+    let compared: Vec<_> = rows.iter().map(Row::compare).collect();
+    let allocations: Vec<_> = compared.iter().flatten().collect();
+    if allocations.len() < rows.len() {
+        let differ = rows.iter().zip(&compared).filter(|(_, compared)| compared.is_none());
+        differ.for_each(|(row, _)| println!("answers differ: {}", row.name));
+        return ExitCode::FAILURE;
     }
+    let shifted = timing::when_shifted(words);
+    let times = timing::race(rows, turns).into_iter().zip(shifted).map(|(times, shifted)| times.least(shifted));
+    println!("| Workload | ours, ms | Rust, ms | ours / Rust | ours, million a second | allocations a call, ours and Rust |");
+    println!("|---|--:|--:|--:|--:|--:|");
+    for ((row, times), allocations) in rows.iter().zip(times).zip(allocations) {
+        print(row, times, allocations);
+    }
+    ExitCode::SUCCESS
+}
+
+fn print(row: &Row, Times { ours, theirs }: Times, [our_blocks, their_blocks]: &[u64; 2]) {
+    println!(
+        "| {} | {:.2} | {:.2} | {:.2} | {:.0} | {our_blocks} and {their_blocks} |",
+        row.name,
+        ours * 1e3,
+        theirs * 1e3,
+        ours / theirs,
+        (row.units * row.calls) as f64 / ours / 1e6,
+    );
 }
 
 fn count(rows: &[Row]) {

@@ -1,6 +1,7 @@
 //! The table of workloads. A new one is a line here, a generic function in `theirs`, and in `crates/winnow_bench` a generic function
 //! and an export for each kind of stream, whose name `ours` lists.
 
+use crate::allocations;
 use crate::bit_rows::bit_rows;
 use crate::error_rows::error_rows;
 use crate::search_rows::search_rows;
@@ -8,6 +9,7 @@ use std::hint::black_box;
 use winnow_bench::inputs::{ABSENT, ascii_text, bytes, mixed_text, script, seeded};
 use winnow_bench::script::RawStep;
 use winnow::stream::LocatingSlice;
+use winnow_bench::their_recovered::record;
 use winnow_bench::their_wrappers::wrap;
 use winnow_bench::{ours, their_kinds, theirs};
 
@@ -29,6 +31,8 @@ pub struct Inputs {
     pub bytes: Vec<u8>,
     pub ascii: String,
     pub mixed: String,
+    /// Bytes as long as the texts.
+    pub fewer_bytes: Vec<u8>,
     pub short_bytes: Vec<u8>,
     pub short_ascii: String,
     pub short_mixed: String,
@@ -44,6 +48,7 @@ impl Inputs {
             bytes: bytes(sizes.bytes_in_memory),
             ascii: ascii_text(sizes.text_in_memory),
             mixed: mixed_text(sizes.text_in_memory),
+            fewer_bytes: bytes(sizes.text_in_memory),
             short_bytes: bytes(sizes.in_cache),
             short_ascii: ascii_text(sizes.in_cache),
             short_mixed: mixed_text(sizes.in_cache),
@@ -67,8 +72,11 @@ pub struct Row<'i> {
 }
 
 impl Row<'_> {
-    pub fn agrees(&self) -> bool {
-        (self.ours)() == (self.theirs)()
+    /// How often one call of each side allocates, ours first, or `None` where their answers differ.
+    pub fn compare(&self) -> Option<[u64; 2]> {
+        let (our_answer, ours) = allocations::during(&self.ours);
+        let (their_answer, theirs) = allocations::during(&self.theirs);
+        (our_answer == their_answer).then_some([ours, theirs])
     }
 
     pub fn call_ours(&self) {
@@ -144,6 +152,7 @@ fn byte_rows(on: On<&[u8]>) -> Vec<Row<'_>> {
         on.row("next_token", ABSENT, ours::drain, theirs::drain),
         on.row("next_token, one wrapper", ABSENT, ours::drain_located, |input, number| theirs::drain(LocatingSlice::new(input), number)),
         on.row("next_token, three wrappers", ABSENT, ours::drain_wrapped, |input, number| theirs::drain(wrap(input), number)),
+        on.row("next_token, where errors are recorded", ABSENT, ours::drain_recoverable, |input, number| theirs::drain(record(input), number)),
         on.row("peek_token, next_token", ABSENT, ours::peek_and_take, theirs::peek_and_take),
         on.row("iter_offsets", ABSENT, ours::sum_offsets, theirs::sum_offsets),
         on.row("checkpoint, two tokens, reset", ABSENT, ours::look_ahead, theirs::look_ahead),
@@ -166,6 +175,7 @@ fn text_rows(on: On<&str>) -> Vec<Row<'_>> {
         on.row("next_token", ABSENT, ours::drain, theirs::drain),
         on.row("next_token, one wrapper", ABSENT, ours::drain_located, |input, number| theirs::drain(LocatingSlice::new(input), number)),
         on.row("next_token, three wrappers", ABSENT, ours::drain_wrapped, |input, number| theirs::drain(wrap(input), number)),
+        on.row("next_token, where errors are recorded", ABSENT, ours::drain_recoverable, |input, number| theirs::drain(record(input), number)),
         on.row("peek_token, next_token", ABSENT, ours::peek_and_take, theirs::peek_and_take),
         on.row("iter_offsets", ABSENT, ours::sum_offsets, theirs::sum_offsets),
         on.row("checkpoint, two tokens, reset", ABSENT, ours::look_ahead, theirs::look_ahead),
