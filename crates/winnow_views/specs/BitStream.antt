@@ -1,6 +1,8 @@
 -- What a stream of bits means, by what the stream of bytes inside means.
 use Rattle.std.specs.Prelude.{◌≡◌, ℕ, Bool}
 use Rattle.winnow_stream.specs.Source.{Source, width}
+use Rattle.winnow_stream.specs.Checkpoint.{checkpoint_inner}
+use Rattle.winnow_stream.specs.declared.checkpoint.Checkpoint.{Checkpoint}
 use Rattle.winnow_views.specs.declared.bits.Bits.{Bits}
 use Rattle.winnow_views.specs.declared.bits.BitPlace.{BitPlace}
 use Rattle.winnow_views.specs.BitSource.{bits_from, IsBitSource}
@@ -28,3 +30,11 @@ module _ {C : Type 0} where
 
   abbrev pub IsValidPlace : (C → Type 0) → (C → Source ℕ) → BitPlace C → Type 0
   IsValidPlace valid remained c = valid c.bytes × IsBitSource (remained c.bytes) c.place × (c.count ≡ width (bits_remained remained c))
+
+-- the checkpoint of the bytes, and the place, of a checkpoint
+module _ {I C : Type 0} where
+  abbrev pub bytes_at : Checkpoint (BitPlace C) (Bits I) → C
+  bytes_at c = (checkpoint_inner c).bytes
+
+  abbrev pub place_at : Checkpoint (BitPlace C) (Bits I) → ℕ
+  place_at c = (checkpoint_inner c).place

@@ -1,10 +1,15 @@
-ghost use Rattle.std.specs.Prelude.{◌≡◌, ℕ, ◌+◌, ◌-◌, ◌*◌, ◌%◌, ◌^◌, ◌<◌, ◌≤◌, List, length};
+ghost use Rattle.std.specs.Prelude.{◌≡◌, ℕ, ◌+◌, ◌-◌, ◌*◌, ◌%◌, ◌^◌, ◌<◌, ◌≤◌, ◌&&◌, nat_eq, List, length};
 ghost use Rattle.winnow_stream.specs.Source.{Source, units, width};
 ghost use Rattle.winnow_stream.specs.Front.{front};
+ghost use Rattle.winnow_stream.specs.declared.checkpoint.Checkpoint.{Checkpoint};
 ghost use Rattle.winnow_views.specs.BitSource.{bits_from, IsBitSource, IsBitSlice};
+ghost use Rattle.winnow_views.specs.BitStream.{bits_input, bits_place, bytes_at, place_at};
 ghost use Rattle.winnow_views.specs.BitWidth.{SlicesHaveWidths};
+ghost use Rattle.winnow_views.specs.declared.bits.Bits.{Bits};
+ghost use Rattle.winnow_views.specs.declared.bits.BitPlace.{BitPlace};
 
-use winnow_stream::{SliceLen, Stream};
+use crate::{BitPlace, Bits};
+use winnow_stream::{Checkpoint, SliceLen, Stream};
 
 /// The law of bytes as bits: the bits of a slice of bytes may be streamed where their number is a `usize`, and from a place on where
 /// there is a first byte that has it. It does nothing when called: its contract is the law.
@@ -33,4 +38,13 @@ where
 /// when called: its contract is the law.
 pub fn byte_slice_law()
     ensures { SlicesHaveWidths ⟦<&'static [u8] as Stream>⟧.is_slice ⟦<&'static [u8] as SliceLen>⟧.has_width ⟦<&'static [u8] as SliceLen>⟧.width_of }
+{}
+
+/// The law of equality: bits are compared by the stream of bytes and the place, and checkpoints by the checkpoint of the bytes and the
+/// place. It does nothing when called: its contract is the law.
+pub fn bit_equality_law<I: Stream<Token = u8> + PartialEq>()
+where
+    I::Checkpoint: PartialEq,
+    ensures bits { (s t : Bits I) → ⟦<Bits<I> as PartialEq>⟧.eq s t ≡ (I.eq (bits_input s) (bits_input t) && nat_eq (bits_place s) (bits_place t)) }
+    ensures places { (c d : Checkpoint (BitPlace I.Checkpoint) (Bits I)) → ⟦<Checkpoint<BitPlace<I::Checkpoint>, Bits<I>> as PartialEq>⟧.eq c d ≡ (I.Checkpoint.eq (bytes_at c) (bytes_at d) && nat_eq (place_at c) (place_at d)) }
 {}

@@ -1,5 +1,6 @@
-ghost use Rattle.std.specs.Prelude.{◌≡◌, ◌+◌, ◌-◌, ◌*◌, ◌/◌, ◌%◌, ◌<◌, true, IsTrue};
+ghost use Rattle.std.specs.Prelude.{◌≡◌, ◌+◌, ◌-◌, ◌*◌, ◌/◌, ◌%◌, ◌<◌, true, [], IsTrue};
 ghost use Rattle.winnow_stream.specs.Checkpoint.{checkpoint_inner};
+ghost use Rattle.winnow_stream.specs.Source.{width};
 ghost use Rattle.winnow_stream.specs.Front.{is_offset, back};
 ghost use Rattle.winnow_views.specs.BitSource.{IsBitSlice, IsBitSliceAt};
 ghost use Rattle.winnow_views.specs.BitStream.{bits_input, bits_place, bits_remaining, bits_remained, IsValidBits, IsValidPlace};
@@ -180,6 +181,27 @@ impl<I: Stream<Token = u8>> Stream for Bits<I> {
     {
         let (whole, rest) = whole_and_rest(offset, self.place);
         (self.input.peek_slice(whole), self.place, rest)
+    }
+
+    fn finish(&mut self) -> (I::Slice, usize, usize)
+        requires { IsValidBits I.valid I.remaining self.old }
+        ensures at { IsBitSliceAt I.is_slice result (I.remaining (bits_input self.old)) (bits_place self.old) (width (bits_remaining I.remaining self.old)) }
+        ensures place { bits_place self.new ≡ 0 }
+        ensures answer { IsBitSlice I.is_slice result (bits_remaining I.remaining self.old) (width (bits_remaining I.remaining self.old)) }
+        ensures remains { bits_remaining I.remaining self.new ≡ [] }
+        ensures valid { IsValidBits I.valid I.remaining self.new }
+        ensures kept { I.keeps (bits_input self.old) (bits_input self.new) }
+    {
+        let end = self.eof_offset();
+        self.next_slice(end)
+    }
+
+    fn peek_finish(&self) -> (I::Slice, usize, usize)
+        requires { IsValidBits I.valid I.remaining self.now }
+        ensures at { IsBitSliceAt I.is_slice result (I.remaining (bits_input self.now)) (bits_place self.now) (width (bits_remaining I.remaining self.now)) }
+        ensures answer { IsBitSlice I.is_slice result (bits_remaining I.remaining self.now) (width (bits_remaining I.remaining self.now)) }
+    {
+        self.peek_slice(self.eof_offset())
     }
 
     fn checkpoint(&self) -> Checkpoint<BitPlace<I::Checkpoint>, Bits<I>> {

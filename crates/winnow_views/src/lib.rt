@@ -6,14 +6,18 @@ mod bit_laws;
 mod bit_offsets;
 mod bits;
 mod previous_tokens;
+mod token_laws;
 mod token_slice;
 mod token_slice_traits;
 mod token_view;
 
-pub use bit_laws::{bit_place_law, bit_slice_law, bit_source_law, byte_slice_law};
+pub use bit_laws::{
+    bit_equality_law, bit_place_law, bit_slice_law, bit_source_law, byte_slice_law,
+};
 pub use bit_offsets::BitOffsets;
 pub use bits::{BitPlace, Bits};
 pub use previous_tokens::PreviousTokens;
+pub use token_laws::token_equality_law;
 pub use token_slice::TokenSlice;
 pub use token_view::{TokenOffsets, TokenView};
 

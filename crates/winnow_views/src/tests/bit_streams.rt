@@ -4,7 +4,7 @@ ghost use Rattle.winnow_views.specs.BitStream.{bits_input, bits_place, IsValidBi
 ghost use Rattle.winnow_views.specs.BitSource.{IsBitSource};
 ghost use Rattle.winnow_views.specs.BitWidth.{SlicesHaveWidths};
 
-use crate::{Bits, bit_slice_law, bit_source_law, byte_slice_law};
+use crate::{Bits, bit_place_law, bit_slice_law, bit_source_law, byte_slice_law};
 use std::alloc::{AllocError, Global};
 use std::test::Fail;
 use winnow_stream::Step::{At, Each, Eof, Finish, Look, Mark, Next, Peek, Reset, Since, Take};
@@ -27,18 +27,19 @@ fn bits_at(bytes: &[u8], place: usize) -> Option<Bits<&[u8]>>
     Some(Bits::at_place(bytes, place))
 }
 
-// The answers of a script, as their debug text: `run` knows nothing of bits.
-fn told<S: Stream + Drop>(
+// The answers of a script, as their debug text: `run` knows nothing of bits, and what the stream of bytes keeps is kept.
+fn told<I: Stream<Token = u8>>(
     alloc: Global,
-    mut s: S,
+    s: &mut Bits<I>,
     script: &[Step<NoSet>],
 ) -> Result<String, AllocError>
 where
-    S::Token: Drop,
-    S::Slice: Drop,
-    requires { S.valid s }
+    I::Slice: Drop,
+    requires { IsValidBits I.valid I.remaining s.old }
+    ensures valid { IsValidBits I.valid I.remaining s.new }
+    ensures kept { I.keeps (bits_input s.old) (bits_input s.new) }
 {
-    let answers = run(alloc, &mut s, script)?;
+    let answers = run(alloc, s, script)?;
     format!(in alloc; "{answers:?}")
 }
 
@@ -50,7 +51,7 @@ fn told_at<'i>(
     script: &[Step<NoSet>],
 ) -> Result<Option<String>, AllocError> {
     match bits_at(bytes, place) {
-        Some(s) => Ok(Some(told(alloc, s, script)?)),
+        Some(mut s) => Ok(Some(told(alloc, &mut s, script)?)),
         None => Ok(None),
     }
 }
@@ -154,6 +155,10 @@ fn slices_against_a_slow_reading(rt: HostRuntime) -> Result<(), Fail> {
         }
         let mut rest = bits_at(bytes, place).ok_or("no bits")?;
         assert_eq!(rt; take(&mut rest, 25 - place), None);
+        // One byte.
+        let one = bits_at(&bytes[..1], place).ok_or("no bits")?;
+        let left: Vec<bool> = one.iter_offsets().map(|(_, bit)| bit).collect(rt.alloc())?;
+        assert_eq!(rt; Some(left.as_slice()), slow.get(place..8), "{place}");
     }
     Ok(())
 }
@@ -178,6 +183,15 @@ fn width_since<S: Offset<S>>(end: &S, start: &S) -> usize
     end.offset_from(start)
 }
 
+// The place, from the number of bits alone.
+fn place_of<I: Stream<Token = u8>>(s: &Bits<I>) -> usize
+    requires { IsValidBits I.valid I.remaining s.now }
+    ensures { result ≡ bits_place s.now }
+{
+    bit_place_law();
+    (8 - s.eof_offset() % 8) % 8
+}
+
 // Whether there is a mark, and whether it is set before `complete`, after it, and when it is set again.
 fn marks<S: StreamIsPartial>(s: &mut S) -> (bool, bool, bool, bool) {
     let before = s.is_partial();
@@ -199,4 +213,9 @@ fn places_of_bits(rt: HostRuntime) {
     assert!(rt; start.checkpoint() == Bits::new(bytes).checkpoint());
     assert_eq!(rt; width_since(&Bits::at_place(bytes, 5), &start), 5);
     assert_eq!(rt; marks(&mut end), (false, false, false, false));
+    let mut rest = Bits::at_place(bytes, 5);
+    assert_eq!(rt; (place_of(&start), place_of(&rest)), (0, 5));
+    assert_eq!(rt; rest.peek_finish(), (bytes, 5, 0));
+    assert_eq!(rt; rest.finish(), (bytes, 5, 0));
+    assert_eq!(rt; rest.into_parts(), (b"".as_slice(), 0));
 }

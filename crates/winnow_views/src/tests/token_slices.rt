@@ -1,7 +1,9 @@
-ghost use Rattle.std.specs.Prelude.{◌≤◌};
+ghost use Rattle.std.specs.Prelude.{◌≡◌, ◌≤◌};
+ghost use Rattle.winnow_views.specs.TokenPlaces.{whole_of};
 
 use crate::TokenSlice;
 use std::alloc::{AllocError, Global};
+use std::fmt::Debug;
 use std::test::Fail;
 use winnow_match::{Compare, CompareResult};
 use winnow_stream::Step::{At, Each, Finish, Mark, Next, Peek, Reset, Since, Take};
@@ -55,6 +57,18 @@ where
 {
     let answers = run(alloc, &mut s, script)?;
     format!(in alloc; "{answers:?}")
+}
+
+// Runs a script, which knows nothing of tokens: the whole list stays.
+fn run_on<'t, T: Debug>(
+    alloc: Global,
+    s: &mut TokenSlice<'t, T>,
+    script: &[Step<NoSet>],
+) -> Result<usize, AllocError>
+    ensures { whole_of s.old ≡ whole_of s.new }
+{
+    let answers = run(alloc, s, script)?;
+    Ok(answers.len())
 }
 
 // The stream narrowed to its front of that width.
@@ -148,6 +162,12 @@ fn scripts_run_over_tokens(rt: HostRuntime) -> Result<(), Fail> {
     ] {
         assert_eq!(rt; answers.as_str(), want);
     }
+    let mut tokens = TokenSlice::new(b"abcd");
+    assert_eq!(rt; run_on(rt.alloc(), &mut tokens, &script[..4])?, 4);
+    assert_eq!(rt;
+        shown(rt.alloc(), &tokens)?.as_str(),
+        "[100] after [99, 98, 97]"
+    );
     Ok(())
 }
 
