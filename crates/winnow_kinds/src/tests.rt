@@ -1,4 +1,8 @@
-ghost use Rattle.std.specs.Prelude.{◌≡◌, ◌-◌, ◌≤◌};
+ghost use Rattle.std.specs.Prelude.{◌≡◌, ◌-◌, ◌≤◌, true, false, [], IfOk, IfSome, string_bytes};
+ghost use Rattle.std.specs.Str.Lossy.{utf8_lossy};
+ghost use Rattle.winnow_kinds.specs.Contents.{bstr_contents, bytes_contents};
+ghost use Rattle.winnow_kinds.specs.Escapes.{debug_text};
+ghost use Rattle.winnow_kinds.specs.Hex.{hex_text};
 
 use crate::{BStr, Bytes};
 use std::alloc::{AllocError, Global};
@@ -99,7 +103,11 @@ fn hash_of<T: Hash>(value: &T) -> u64 {
 }
 
 // By the first byte that differs, the shorter first where none does.
-fn orders_by_contents<S: From<&'static [u8]> + Ord + Copy>(rt: &impl Abort) {
+fn orders_by_contents<S>(rt: &impl Abort)
+where
+    S: From<&'static [u8]> + From<&'static str> + Default + Ord + Copy,
+{
+    assert!(rt; S::from("") == S::default());
     let table: [(&[u8], &[u8], Ordering); 6] = [
         (b"", b"", Ordering::Equal),
         (b"", b"a", Ordering::Less),
@@ -116,8 +124,61 @@ fn orders_by_contents<S: From<&'static [u8]> + Ord + Copy>(rt: &impl Abort) {
     }
 }
 
-fn made<T: Default>() -> T {
-    T::default()
+// What the conversions give and what is displayed, by their contracts alone.
+
+fn texts<'i>(text: &'i str, bytes: &'i [u8]) -> (BStr<'i>, &'i [u8], BStr<'i>)
+    ensures text { bstr_contents result.0 ≡ text.now }
+    ensures bytes { result.1.now ≡ bytes.now }
+    ensures default { bstr_contents result.2 ≡ [] }
+{
+    (
+        BStr::from(text),
+        <&[u8]>::from(BStr::from(bytes)),
+        BStr::default(),
+    )
+}
+
+fn text_shown(alloc: Global, s: &BStr) -> Result<String, AllocError>
+    ensures { IfOk result (λ t. string_bytes t ≡ utf8_lossy (bstr_contents s.now)) }
+{
+    format!(in alloc; "{s}")
+}
+
+fn text_debugged(alloc: Global, s: &BStr) -> Result<String, AllocError>
+    ensures { IfOk result (λ t. IfSome (debug_text (bstr_contents s.now)) (λ text. string_bytes t ≡ text)) }
+{
+    format!(in alloc; "{s:?}")
+}
+
+fn bytes<'i>(text: &'i str, bytes: &'i [u8]) -> (Bytes<'i>, &'i [u8], Bytes<'i>)
+    ensures text { bytes_contents result.0 ≡ text.now }
+    ensures bytes { result.1.now ≡ bytes.now }
+    ensures default { bytes_contents result.2 ≡ [] }
+{
+    (
+        Bytes::from(text),
+        <&[u8]>::from(Bytes::from(bytes)),
+        Bytes::default(),
+    )
+}
+
+fn bytes_shown(alloc: Global, s: &Bytes) -> Result<String, AllocError>
+    ensures { IfOk result (λ t. string_bytes t ≡ hex_text true (bytes_contents s.now)) }
+{
+    format!(in alloc; "{s}")
+}
+
+fn bytes_debugged(alloc: Global, s: &Bytes) -> Result<String, AllocError>
+    ensures { IfOk result (λ t. string_bytes t ≡ hex_text true (bytes_contents s.now)) }
+{
+    format!(in alloc; "{s:?}")
+}
+
+fn lower_shown(alloc: Global, s: &Bytes) -> Result<String, AllocError>
+    ensures { IfOk result (λ t. string_bytes t ≡ hex_text false (bytes_contents s.now)) }
+{
+    let lower = s.lower();
+    format!(in alloc; "{lower}")
 }
 
 fn as_bstr_of<S: AsBStr>(stream: &S) -> &[u8] {
@@ -247,13 +308,8 @@ fn small_traits_of_text(rt: HostRuntime) {
 
 #[test]
 fn contents_of_text(rt: HostRuntime) -> Result<(), Fail> {
-    let s = BStr::from("abc");
-    let bytes = [
-        s.inner(),
-        <&[u8]>::from(BStr::from(&b"abc"[..])),
-        s.slice(1, 3).inner(),
-        made::<BStr>().inner(),
-    ];
+    let (s, back, none) = texts("abc", b"abc");
+    let bytes = [s.inner(), back, s.slice(1, 3).inner(), none.inner()];
     let told = format!(in rt.alloc(); "{bytes:?} {:?} {}", s.to_vec(rt.alloc())?, s.at(2))?;
     let wanted = "[[97, 98, 99], [97, 98, 99], [98, 99], []] [97, 98, 99] 99";
     assert_eq!(rt; told.as_str(), wanted);
@@ -295,13 +351,8 @@ fn small_traits_of_bytes(rt: HostRuntime) {
 
 #[test]
 fn contents_of_bytes(rt: HostRuntime) -> Result<(), Fail> {
-    let s = Bytes::from("abc");
-    let bytes = [
-        s.inner(),
-        <&[u8]>::from(Bytes::from(&b"abc"[..])),
-        s.slice(1, 3).inner(),
-        made::<Bytes>().inner(),
-    ];
+    let (s, back, none) = bytes("abc", b"abc");
+    let bytes = [s.inner(), back, s.slice(1, 3).inner(), none.inner()];
     let told = format!(in rt.alloc(); "{bytes:?} {:?} {}", s.to_vec(rt.alloc())?, s.at(2))?;
     let wanted = "[[97, 98, 99], [97, 98, 99], [98, 99], []] [97, 98, 99] 99";
     assert_eq!(rt; told.as_str(), wanted);
@@ -337,7 +388,7 @@ fn damaged_text(rt: HostRuntime) -> Result<(), Fail> {
     ];
     for (bytes, text) in table {
         let s = BStr::new(bytes);
-        assert_eq!(rt; format!(in rt.alloc(); "{s}")?.as_str(), text);
+        assert_eq!(rt; text_shown(rt.alloc(), &s)?.as_str(), text);
     }
     Ok(())
 }
@@ -357,7 +408,7 @@ fn debug_texts_of_text(rt: HostRuntime) -> Result<(), Fail> {
     ];
     for (bytes, text) in table {
         let s = BStr::new(bytes);
-        assert_eq!(rt; format!(in rt.alloc(); "{s:?}")?.as_str(), text);
+        assert_eq!(rt; text_debugged(rt.alloc(), &s)?.as_str(), text);
     }
     let bare = format!(in rt.alloc(); "{:#?}", BStr::new(b"a\n"))?;
     assert_eq!(rt; bare.as_str(), r"a\n");
@@ -373,7 +424,10 @@ fn hexadecimal_texts(rt: HostRuntime) -> Result<(), Fail> {
     ];
     for (bytes, wanted) in table {
         let s = Bytes::new(bytes);
-        let told = format!(in rt.alloc(); "{s}|{s:?}|{}|{}", s.upper(), s.lower())?;
+        let shown = bytes_shown(rt.alloc(), &s)?;
+        let debugged = bytes_debugged(rt.alloc(), &s)?;
+        let lower = lower_shown(rt.alloc(), &s)?;
+        let told = format!(in rt.alloc(); "{shown}|{debugged}|{}|{lower}", s.upper())?;
         assert_eq!(rt; told.as_str(), wanted);
     }
     Ok(())
