@@ -5,7 +5,7 @@
 #![tactic(auto)]
 
 mod locating;
-mod locating_stream;
+mod locating_traits;
 mod partial;
 mod stateful;
 

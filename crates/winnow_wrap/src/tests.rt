@@ -1,10 +1,14 @@
-ghost use Rattle.std.specs.Prelude.{◌≡◌, ◌≤◌, ◌-◌, IsTrue};
+ghost use Rattle.std.specs.Prelude.{◌≡◌, ◌≤◌, ◌-◌, IsTrue, IsOk, IfOk, false, ◌&&◌};
+ghost use Rattle.std.specs.Ordering.{on, then_cmp};
 ghost use Rattle.winnow_stream.specs.Source.{first_token};
 ghost use Rattle.winnow_stream.specs.Front.{is_offset, front};
+ghost use Rattle.winnow_wrap.specs.Mark.{unmarked, mark};
 
 use crate::{LocatingSlice, Partial, Stateful};
 use std::alloc::{AllocError, Global};
-use std::fmt::Display;
+use std::cmp::Ordering;
+use std::fmt;
+use std::fmt::{Debug, Display};
 use std::ops::Range;
 use std::test::Fail;
 use winnow_match::{Compare, CompareResult, FindSlice};
@@ -36,6 +40,21 @@ where
 {
     let answers = run(alloc, s, script)?;
     format!(in alloc; "{answers:?}")
+}
+
+// A script leaves the mark, the state and the whole input as they were, whatever it takes.
+fn told_nest<'i>(
+    alloc: Global,
+    s: &mut Nest<'i>,
+    script: &[Step<NoSet>],
+) -> Result<String, AllocError>
+    requires { ⟦<Nest<'i> as Stream>⟧.valid s.old }
+    ensures valid { ⟦<Nest<'i> as Stream>⟧.valid s.new }
+    ensures mark { mark s.old ≡ mark s.new }
+    ensures state { (unmarked s.old).state ≡ (unmarked s.new).state }
+    ensures start { (unmarked s.old).input.start ≡ (unmarked s.new).input.start }
+{
+    told(alloc, s, script)
 }
 
 // A comparison through its bound.
@@ -107,6 +126,69 @@ where
     format!(in alloc; "{s} {width} {bytes:?}")
 }
 
+// Clearing a mark that is inside changes nothing else.
+fn complete_inside<I: Stream, S: Debug>(
+    s: &mut Stateful<LocatingSlice<Partial<I>>, S>,
+) -> (bool, bool)
+    ensures before { result.0 ≡ mark s.old.input.input }
+    ensures cleared { (mark s.new.input.input ≡ false) × (result.1 ≡ false) }
+    ensures input { unmarked s.new.input.input ≡ unmarked s.old.input.input }
+    ensures kept { (s.old.state ≡ s.new.state) × (s.old.input.start ≡ s.new.input.start) × (s.old.input.place ≡ s.new.input.place) }
+{
+    (s.complete(), s.is_partial())
+}
+
+// The stream inside three wrappers.
+fn inside<I: Stream, S>(s: &Partial<Stateful<LocatingSlice<I>, S>>) -> &I
+    ensures { result.now ≡ (unmarked s.now).input.input }
+{
+    &****s
+}
+
+// A clone is the same, and is never refused.
+fn cloned<T: Clone>(value: &T) -> Result<T, AllocError>
+    requires { T.is_infallible value.now }
+    ensures same { IfOk result (T.is_clone value.now) }
+    ensures ok { IsOk result }
+{
+    value.clone()
+}
+
+// The order of the starts, and then that of the streams inside.
+fn order_of<I: Stream + Ord>(s: &LocatingSlice<I>, t: &LocatingSlice<I>) -> Ordering
+where
+    I::Checkpoint: Ord,
+    ensures { result ≡ then_cmp (on (λ v. v.start) I.Checkpoint.cmp) (on (λ v. v.input) I.cmp) s.now t.now }
+{
+    s.cmp(t)
+}
+
+// Whether the starts and the streams inside are equal, wherever they stand.
+fn is_same<I: Stream + PartialEq>(s: &LocatingSlice<I>, t: &LocatingSlice<I>) -> bool
+where
+    I::Checkpoint: PartialEq,
+    ensures { result ≡ (I.Checkpoint.eq s.now.start t.now.start && I.eq s.now.input t.now.input) }
+{
+    s == t
+}
+
+// The order of the streams inside, and then that of the marks.
+fn marked_order<I: Ord>(s: &Partial<I>, t: &Partial<I>) -> Ordering
+    ensures { result ≡ then_cmp (on unmarked I.cmp) (on mark ⟦<bool as Ord>⟧.cmp) s.now t.now }
+{
+    s.cmp(t)
+}
+
+// A stream's trace, as its text.
+#[derive(Drop)]
+struct Traced<'a, S>(&'a S);
+
+impl<S: Stream> Display for Traced<'_, S> {
+    fn fmt<W: fmt::Write>(&self, f: &mut fmt::Formatter<W>) -> fmt::Result {
+        self.0.trace(f)
+    }
+}
+
 // Whether the type has a mark.
 fn supports<S: StreamIsPartial>(_s: &S) -> bool
     ensures { result ≡ S.supports_partial }
@@ -162,7 +244,8 @@ fn a_mark_inside_two_wrappers(rt: HostRuntime) {
     assert!(rt; s.is_partial());
     assert_eq!(rt; peek_complete(&mut s), (false, Some('a')));
     assert!(rt; s.is_partial());
-    assert_eq!(rt; place(&s), (0, 0));
+    assert_eq!(rt; complete_inside(&mut s), (true, false));
+    assert_eq!(rt; (s.state, place(&s)), (7, (0, 0)));
     assert_eq!(rt;
         (supports(&s), supports(&s.input), supports(&nest(""))),
         (true, true, true)
@@ -182,13 +265,14 @@ fn a_script_runs_through_three_wrappers(rt: HostRuntime) -> Result<(), Fail> {
         Step::Reset(0),
         Step::Next,
     ];
-    let answers = told(rt.alloc(), &mut s, &script)?;
+    let answers = told_nest(rt.alloc(), &mut s, &script)?;
     assert_eq!(rt;
         answers.as_str(),
         "[Token(Some('a')), Marked(0), Slice(\"bcd\"), Offset(3), Token(Some('e')), Done, Token(Some('b'))]"
     );
     assert_eq!(rt; place(&s), (2, 2));
-    assert_eq!(rt; (s.state, s.is_partial(), ***s), (7, true, "cdef"));
+    assert_eq!(rt; (s.state, s.is_partial(), *inside(&s)), (7, true, "cdef"));
+    assert_eq!(rt; *inside(&cloned(&s)?), "cdef");
     Ok(())
 }
 
@@ -242,6 +326,10 @@ fn texts_of_wrappers(rt: HostRuntime) -> Result<(), Fail> {
         format!(in rt.alloc(); "{located} {located:?} {start:?} {s:?}")?.as_str(),
         "ab \"ab\" \"ab\" Partial { input: Stateful { input: \"ab\", state: 7 }, partial: true }"
     );
+    assert_eq!(rt;
+        format!(in rt.alloc(); "{}", Traced(&s))?.as_str(),
+        "\"ab\""
+    );
     Ok(())
 }
 
@@ -254,9 +342,22 @@ fn wrappers_are_compared_by_what_they_hold(rt: HostRuntime) {
     assert!(rt; later > located && later.checkpoint() > start);
     later.reset(&start);
     assert!(rt; later == located);
+    // The start counts before what remains, and the place not at all.
+    let _ = later.next_token();
+    assert_eq!(rt; order_of(&later, &LocatingSlice::new("ac")), Ordering::Less);
+    let (first, mut second) = (LocatingSlice::new("abab"), LocatingSlice::new("abab"));
+    assert!(rt; second.is_offset(2));
+    let _ = second.next_slice(2);
+    assert!(rt; !is_same(&first, &second));
+    assert!(rt; first.is_offset(2));
+    assert!(rt; second.is_offset(2));
+    let (first, second) = (window_of(first, 2), window_of(second, 2));
+    assert_eq!(rt; (place(&first), place(&second)), ((0, 0), (2, 2)));
+    assert!(rt; is_same(&first, &second) && first.checkpoint() == second.checkpoint());
     let (set, mut clear) = (Partial::new("ab"), Partial::new("ab"));
     let _ = clear.complete();
-    assert!(rt; clear < set && clear == clear);
+    assert_eq!(rt; marked_order(&clear, &set), Ordering::Less);
+    assert_eq!(rt; marked_order(&Partial::new("a"), &clear), Ordering::Less);
     let counted = Stateful {
         input: "",
         state: 0,

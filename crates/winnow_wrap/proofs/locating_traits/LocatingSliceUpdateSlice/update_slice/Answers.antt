@@ -2,7 +2,7 @@ use Rattle.std.proofs.Common.{IsTrue, ap, sym, subst, arith}
 use Rattle.winnow_stream.specs.Source.{width}
 use Rattle.winnow_stream.specs.Front.{is_offset}
 use Rattle.winnow_stream.proofs.lemmas.FrontLemmas.{width-front, width-back}
-use Rattle.winnow_wrap.proofs.locating_stream.LocatingSliceUpdateSlice.update_slice.Goals as goal
+use Rattle.winnow_wrap.proofs.locating_traits.LocatingSliceUpdateSlice.update_slice.Goals as goal
 
 -- The window is no wider than what remained at its checkpoint.
 pub invariant_of-result : goal.invariant_of-result

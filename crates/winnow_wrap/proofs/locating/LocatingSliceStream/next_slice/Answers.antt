@@ -1,7 +1,7 @@
 use Rattle.std.proofs.Common.{ap, arith}
 use Rattle.winnow_stream.specs.Source.{width}
 use Rattle.winnow_stream.proofs.lemmas.FrontLemmas.{width-back}
-use Rattle.winnow_wrap.proofs.locating_stream.LocatingSliceStream.next_slice.Goals as goal
+use Rattle.winnow_wrap.proofs.locating.LocatingSliceStream.next_slice.Goals as goal
 
 -- The slice is no wider than what remained.
 pub overflow_add-self : goal.overflow_add-self
