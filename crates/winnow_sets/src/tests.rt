@@ -1,5 +1,9 @@
-use crate::{AsChar, CharSet, ContainsToken, Where};
-use winnow_stream::ScriptSet;
+ghost use Rattle.winnow_stream.specs.Script.{AreReady};
+
+use crate::{AsChar, CharSet, ContainsToken, Where, union_law};
+use std::alloc::{AllocError, Global};
+use std::test::Fail;
+use winnow_stream::{ScriptSet, Step, Stream, run};
 
 // A set asked through its bound.
 fn holds<T, S: ContainsToken<T> + Drop>(set: S, token: T) -> bool
@@ -15,6 +19,24 @@ fn script_holds<T, S: ScriptSet<T> + Drop>(set: S, token: T) -> bool
     ensures { S.tells set token result }
 {
     set.holds(token)
+}
+
+// The answers of a script that names sets, as their debug text: a proved `impl` does not show that it can be called so.
+fn told<S: Stream, C: ScriptSet<S::Token>>(
+    alloc: Global,
+    s: &mut S,
+    script: &[Step<C>],
+) -> Result<String, AllocError>
+where
+    S::Token: Drop,
+    S::Slice: Drop,
+    requires valid { S.valid s.old }
+    requires ready { AreReady C.can_hold script.now }
+    ensures valid { S.valid s.new }
+    ensures kept { S.keeps s.old s.new }
+{
+    let answers = run(alloc, s, script)?;
+    format!(in alloc; "{answers:?}")
 }
 
 // Each class of a token: letter, letter or digit, decimal, hexadecimal, octal digit, blank, line feed.
@@ -239,7 +261,42 @@ fn tuples_are_unions(rt: HostRuntime) {
 }
 
 #[test]
-fn debug_texts(rt: HostRuntime) -> Result<(), std::test::Fail> {
+fn scripts_name_sets(rt: HostRuntime) -> Result<(), Fail> {
+    let alloc = rt.alloc();
+    let ranges = [('a', 'z'), ('0', '9')];
+    let set = CharSet::new(&ranges);
+    let mut text = "é1A";
+    let answers = told(
+        alloc,
+        &mut text,
+        &[Step::First(set), Step::Take(2), Step::First(set)],
+    )?;
+    assert_eq!(rt;
+        answers.as_str(),
+        "[First(Some(2)), Slice(\"é\"), First(Some(0))]"
+    );
+    let low = b'b';
+    let small = Where(|token: u8| token < low);
+    let mut bytes: &[u8] = b"zya";
+    let answers = told(
+        alloc,
+        &mut bytes,
+        &[Step::First(small), Step::Finish, Step::First(small)],
+    )?;
+    assert_eq!(rt;
+        answers.as_str(),
+        "[First(Some(2)), Slice([122, 121, 97]), First(None)]"
+    );
+    Ok(())
+}
+
+#[test]
+fn the_law_can_be_called() {
+    union_law::<char, CharSet, (char, u8)>();
+}
+
+#[test]
+fn debug_texts(rt: HostRuntime) -> Result<(), Fail> {
     let set = format!(in rt.alloc(); "{:?}", CharSet::new(&[('a', 'b')]))?;
     assert_eq!(rt; set.as_str(), "CharSet { ranges: [('a', 'b')] }");
     let closure = format!(in rt.alloc(); "{:?}", Where(|token: u8| token < 3))?;
