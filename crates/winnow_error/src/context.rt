@@ -1,7 +1,7 @@
 ghost use Rattle.std.specs.Prelude.{◌≡◌, nat_eq, true, None, Some, Ok, refl, IfOk, OnOk, OnErr, option_map, string_bytes, ⊤};
 ghost use Rattle.std.specs.Cmp.Lexicographic.{pointwise};
 ghost use Rattle.std.specs.Cmp.Rules.{comparing};
-ghost use Rattle.std.specs.Iterator.{IsFinite, ExtendsWithItems};
+ghost use Rattle.std.specs.Iterator.{AlwaysYields, IsFinite, ExtendsWithItems};
 ghost use Rattle.std.specs.Option.{option_eq};
 ghost use Rattle.std.specs.Ordering.{on, eq_of_both};
 ghost use Rattle.std.proofs.Common.{rules};
@@ -72,8 +72,10 @@ impl<C: Drop> ContextError<C> {
     }
 
     /// The contexts, in the order in which they were added.
-    pub fn context(&self) -> ContextItems<'_, C>
-        ensures { result ≡ self.now.contexts }
+    pub fn context<'s>(&'s self) -> ContextItems<'s, C>
+        ensures left { result ≡ self.now.contexts }
+        ensures ends { IsFinite (⟦<ContextItems<'s, C> as Iterator>⟧.remaining result) }
+        ensures items { AlwaysYields ⟦<ContextItems<'s, C> as Iterator>⟧.next_gives (λ x. x.now) result self.now.contexts }
     {
         ContextItems::new(self.context.as_slice())
     }

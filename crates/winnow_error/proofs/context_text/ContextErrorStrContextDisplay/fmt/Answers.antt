@@ -8,7 +8,7 @@ use Rattle.winnow_error.proofs.context_text.ContextErrorStrContextDisplay.fmt.Go
 pub returns-clause-writes : goal.returns-clause-writes
 returns-clause-writes g c =
     let self = c.args.self.now in
-    let cs = c.as_slice-contexts.ensures ∙ c.context.ensures in
+    let cs = c.as_slice-contexts.ensures ∙ c.context.ensures.left in
     let later : c.if-is_labelled.cause ≡ (c.is_some-is_labelled.result || c.is_any_expected-is_expected.result) = elim c.if-is_labelled.branch [
       | then-is_labelled w ↦ w.cause-is ∙ w.if-is_labelled.true ∙ sym (ap (λ b. b || c.is_any_expected-is_expected.result) w.if-is_labelled.true)
       | else-is_labelled w ↦ w.cause-is ∙ ap (λ b. b || c.is_any_expected-is_expected.result) (sym w.if-is_labelled.false)
