@@ -4,7 +4,9 @@
 //! refused answers so, leaves what its contract says, and answers rightly when made again.
 #![tactic(auto)]
 
+mod alternatives;
 mod errors;
+mod kinds;
 mod recovery;
 mod scripts;
 
@@ -61,6 +63,13 @@ fn main(rt: HostRuntime) -> io::Result<()> {
         errors::convert(alloc),
         errors::convert(alloc),
     )?;
+    report(
+        &rt,
+        "append and combine",
+        alternatives::combine_three(alloc),
+        alternatives::combine_three(alloc),
+    )?;
+    report(&rt, "to_vec", kinds::to_vec(alloc), kinds::to_vec(alloc))?;
     report(
         &rt,
         "record_err",

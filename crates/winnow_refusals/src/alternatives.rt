@@ -1,0 +1,93 @@
+ghost use Rattle.std.specs.Prelude.{true, None, Ok, ⊤};
+
+use std::alloc::{AllocError, Global};
+use winnow_error::ErrMode::Backtrack;
+use winnow_error::{ErrMode, OrTree, ParserError, combine};
+use winnow_stream::{Needed, Stream};
+
+/// The widths that were left where each alternative failed: `append` and `or` grow them.
+#[derive(Debug, Drop)]
+struct Failures(Vec<usize>);
+
+impl<I: Stream> ParserError<I> for Failures {
+    type Inner = Self;
+
+    ghost from_input_gives = { λ _ _. ⊤ };
+
+    ghost assert_gives = { λ _ _. ⊤ };
+
+    ghost incomplete_gives = { λ _ _ _. ⊤ };
+
+    ghost append_gives = { λ _ _ _ _. ⊤ };
+
+    ghost append_refusable = { ⊤ };
+
+    ghost or_gives = { λ _ _ _. ⊤ };
+
+    ghost or_refusable = { ⊤ };
+
+    ghost backtracks = { λ _. true };
+
+    ghost inner = { Ok };
+
+    ghost needs = { λ _. None };
+
+    fn from_input(alloc: Global, _input: &I) -> Self {
+        Failures(Vec::new(alloc))
+    }
+
+    fn assert(alloc: Global, _input: &I, _message: &'static str) -> Self {
+        Failures(Vec::new(alloc))
+    }
+
+    fn incomplete(alloc: Global, _input: &I, _needed: Needed) -> Self {
+        Failures(Vec::new(alloc))
+    }
+
+    fn append(
+        mut self,
+        _alloc: Global,
+        input: &I,
+        _token_start: &I::Checkpoint,
+    ) -> Result<Self, AllocError> {
+        self.0.push(input.eof_offset())?;
+        Ok(self)
+    }
+
+    fn or(mut self, _alloc: Global, other: Self) -> Result<Self, AllocError> {
+        self.0.extend(other.0)?;
+        Ok(self)
+    }
+
+    fn is_backtrack(&self) -> bool {
+        true
+    }
+
+    fn into_inner(self) -> Result<Self, Self> {
+        Ok(self)
+    }
+
+    fn needed(&self) -> Option<Needed> {
+        None
+    }
+}
+
+// The error of a parser that failed at an input.
+fn failed(alloc: Global, input: &'static str) -> Result<ErrMode<Failures>, AllocError> {
+    let start = input.checkpoint();
+    let error: ErrMode<Failures> = ParserError::<&'static str>::from_input(alloc, &input);
+    error.append(alloc, &input, &start)
+}
+
+/// Errors appended to and combined, which a refusal gives up.
+pub fn combine_three(alloc: Global) -> Result<bool, AllocError> {
+    let first = OrTree::One(failed(alloc, "12x")?);
+    let second = OrTree::One(failed(alloc, "2x")?);
+    let third = OrTree::One(failed(alloc, "x")?);
+    let later = OrTree::Both(Box::new(alloc, second)?, Box::new(alloc, third)?);
+    let tree = OrTree::Both(Box::new(alloc, first)?, Box::new(alloc, later)?);
+    match combine::<&'static str, Failures>(alloc, tree)? {
+        Backtrack(error) => Ok(error.0.as_slice() == [3, 2, 1].as_slice()),
+        _ => Ok(false),
+    }
+}
