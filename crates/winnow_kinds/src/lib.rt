@@ -18,6 +18,6 @@ mod tests;
 pub use bstr::BStr;
 pub use bytes::Bytes;
 pub use hex::{LowerBytes, UpperBytes};
-pub use laws::{equality_law, order_law};
+pub use laws::{contents_equality_law, contents_order_law};
 pub use literals::ByteLiteral;
 pub use needles::ByteNeedles;

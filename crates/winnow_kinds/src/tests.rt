@@ -4,7 +4,7 @@ ghost use Rattle.winnow_kinds.specs.Contents.{bstr_contents, bytes_contents};
 ghost use Rattle.winnow_kinds.specs.Escapes.{debug_text};
 ghost use Rattle.winnow_kinds.specs.Hex.{hex_text};
 
-use crate::{BStr, Bytes};
+use crate::{BStr, Bytes, contents_equality_law, contents_order_law};
 use std::alloc::{AllocError, Global};
 use std::cmp::Ordering;
 use std::hash::{DefaultHasher, Hash, Hasher};
@@ -431,4 +431,11 @@ fn hexadecimal_texts(rt: HostRuntime) -> Result<(), Fail> {
         assert_eq!(rt; told.as_str(), wanted);
     }
     Ok(())
+}
+
+// They do nothing: that each is called shows that it can be.
+#[test]
+fn laws_of_contents(_rt: HostRuntime) {
+    contents_equality_law();
+    contents_order_law();
 }

@@ -4,7 +4,10 @@ ghost use Rattle.winnow_views.specs.BitStream.{bits_input, bits_place, IsValidBi
 ghost use Rattle.winnow_views.specs.BitSource.{IsBitSource};
 ghost use Rattle.winnow_views.specs.BitWidth.{SlicesHaveWidths};
 
-use crate::{Bits, bit_place_law, bit_slice_law, bit_source_law, byte_slice_law};
+use crate::{
+    Bits, bit_equality_law, bit_place_law, bit_slice_law, bit_source_law, byte_slice_law,
+    token_equality_law,
+};
 use std::alloc::{AllocError, Global};
 use std::test::Fail;
 use winnow_stream::Step::{At, Each, Eof, Finish, Look, Mark, Next, Peek, Reset, Since, Take};
@@ -218,4 +221,11 @@ fn places_of_bits(rt: HostRuntime) {
     assert_eq!(rt; rest.peek_finish(), (bytes, 5, 0));
     assert_eq!(rt; rest.finish(), (bytes, 5, 0));
     assert_eq!(rt; rest.into_parts(), (b"".as_slice(), 0));
+}
+
+// They do nothing: that each is called shows that it can be.
+#[test]
+fn laws_of_equality(_rt: HostRuntime) {
+    bit_equality_law::<&[u8]>();
+    token_equality_law::<u8>();
 }
