@@ -1,5 +1,6 @@
 //! One file a subject. Each case of a table carries its name into the failure message.
 mod alternatives;
+mod bits;
 mod contexts;
 mod error_traits;
 mod fields;
