@@ -18,7 +18,8 @@ pub struct Pairs<'a> {
 impl<'a> Pairs<'a> {
     /// Valid where its width in bytes is a `usize`.
     pub fn new(rest: &'a [u16]) -> Self
-        ensures { result.rest.now ≡ rest.now }
+        ensures rest { result.rest.now ≡ rest.now }
+        ensures valid { 2 * length rest.now < 2 ^ 64 → ⟦<Pairs<'a> as Stream>⟧.valid result }
     {
         Pairs { rest }
     }

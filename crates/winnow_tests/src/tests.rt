@@ -8,4 +8,5 @@ mod modes;
 mod nests;
 mod own_streams;
 mod scripts;
+mod small_parts;
 mod texts;

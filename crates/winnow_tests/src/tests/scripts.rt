@@ -1,7 +1,7 @@
 use crate::told;
 use std::test::Fail;
 use winnow_stream::Step::{
-    At, Each, Eof, Finish, IsOffset, Look, Mark, Next, Peek, PeekFinish, Reset, Since, Take,
+    At, Each, Eof, Finish, First, IsOffset, Look, Mark, Next, Peek, PeekFinish, Reset, Since, Take,
 };
 use winnow_stream::{NoSet, Step, run_and_reset};
 
@@ -23,6 +23,10 @@ fn bytes(rt: HostRuntime) -> Result<(), Fail> {
         (
             [IsOffset(3), IsOffset(4), Look(2), Each],
             "[Flag(true), Flag(false), Slice([97, 98]), Items([(0, 97), (1, 98), (2, 99)])]",
+        ),
+        (
+            [First(NoSet), Next, First(NoSet), Eof],
+            "[First(None), Token(Some(97)), First(None), Offset(2)]",
         ),
     ];
     for (script, answers) in cases {
