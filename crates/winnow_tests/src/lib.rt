@@ -2,6 +2,7 @@
 //! crates. Nothing here is part of the library.
 #![tactic(auto)]
 
+mod error_members;
 mod error_walks;
 mod fields;
 mod listed;
@@ -9,6 +10,10 @@ mod own_errors;
 mod pairs;
 mod walks;
 
+pub use error_members::{
+    context_error_law, empty_error_law, err_mode_cause_law, err_mode_context_law,
+    err_mode_convert_law, err_mode_law, error_text_law, input_error_law,
+};
 pub use error_walks::{
     blame, convert_to, cut_and_back, fail_twice, in_context, join_three, kinds, or_three,
     recover_at,

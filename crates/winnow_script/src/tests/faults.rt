@@ -108,5 +108,7 @@ fn texts_and_statuses(rt: HostRuntime) -> Result<(), Fail> {
         let told = format!(in rt.alloc(); "{failure}")?;
         assert_eq!(rt; told.as_str(), text);
     }
+    let told = format!(in rt.alloc(); "{:?}", ScriptFault::Line(12))?;
+    assert_eq!(rt; told.as_str(), "Line(12)");
     Ok(())
 }

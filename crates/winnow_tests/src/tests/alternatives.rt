@@ -36,6 +36,16 @@ fn both_ways<E: ParserError<Str<'static>> + Copy>(
     Ok(Some((left, combine::<Str<'static>, E>(alloc, right)?)))
 }
 
+#[test]
+fn a_tree_of_errors_as_debug_text(rt: HostRuntime) -> Result<(), Fail> {
+    let tree = pair(rt.alloc(), OrTree::One(1u8), OrTree::One(2))?;
+    assert_eq!(rt;
+        format!(in rt.alloc(); "{tree:?}")?.as_str(),
+        "Both(One(1), One(2))"
+    );
+    Ok(())
+}
+
 fn at(input: &'static str) -> Place {
     InputError { input }
 }

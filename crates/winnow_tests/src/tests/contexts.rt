@@ -97,6 +97,10 @@ fn contexts_are_kept_in_order(rt: HostRuntime) -> Result<(), Fail> {
         format!(in rt.alloc(); "{copy:?}")?.as_str(),
         "ContextError { context: [Label(\"a\"), Label(\"b\"), Expected(CharLiteral('c'))], cause: Some(\"bad\") }"
     );
+    assert_eq!(rt;
+        format!(in rt.alloc(); "{:?}", Told::new(rt.alloc()).context())?.as_str(),
+        "ContextItems { rest: [] }"
+    );
     assert_eq!(rt; Told::new(rt.alloc()).cause(), None);
     Ok(())
 }

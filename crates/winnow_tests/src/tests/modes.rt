@@ -46,6 +46,8 @@ fn an_error_at_an_input(rt: HostRuntime) -> Result<(), Fail> {
         answer.map_err(|e| e.map_input(|text| text.len())),
         Err(Cut(InputError { input: 3 }))
     );
+    let plain: winnow_error::Result<u8, EmptyError> = Err(EmptyError);
+    assert_eq!(rt; plain, Err(EmptyError));
     assert_eq!(rt;
         InputError::at("12x")
             .map_input(|text: &str| text.len())
