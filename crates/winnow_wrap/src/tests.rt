@@ -224,7 +224,8 @@ fn the_place_in_a_window_is_that_in_the_whole(rt: HostRuntime) {
 
 #[test]
 fn the_mark_is_no_part_of_a_checkpoint(rt: HostRuntime) {
-    let mut partial = Partial::new("");
+    let nothing: &[u8] = b"";
+    let mut partial = Partial::new(nothing);
     let start = partial.checkpoint();
     assert!(rt; partial.is_partial());
     assert!(rt; partial.complete());

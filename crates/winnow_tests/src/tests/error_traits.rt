@@ -134,7 +134,10 @@ fn errors_are_recorded_and_converted(rt: HostRuntime) -> Result<(), Fail> {
     );
     recover_at::<Text, _, ()>(&"12x", ());
     let at_text = InputError { input: "x" };
-    assert_eq!(rt; recover_at::<Text, _, InputError<Text>>(&"12x", at_text), at_text);
+    assert_eq!(rt;
+        recover_at::<Text, _, InputError<Text>>(&"12x", at_text),
+        at_text
+    );
     let told = recover_at::<Text, _, Told>(&"12x", Told::new(alloc));
     assert!(rt; convert_to::<Told, Told>(alloc, told)? == Told::new(alloc));
     convert_to::<(), ()>(alloc, ())?;

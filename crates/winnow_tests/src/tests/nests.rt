@@ -27,7 +27,7 @@ fn bits_under_four_wrappers(rt: HostRuntime) -> Result<(), Fail> {
     );
     let mut s = Partial::new(Stateful {
         input: LocatingSlice::new(inside),
-        state: 7,
+        state: 7u32,
     });
     let script = [Next, Mark, Take(3), Since(0), Reset(0), Peek];
     let answers = tell(rt.alloc(), &mut s, &script)?;
