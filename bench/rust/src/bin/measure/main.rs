@@ -25,8 +25,7 @@ fn main() -> ExitCode {
         (_, true) => (Sizes::SHORT, 5),
         _ => (Sizes::WHOLE, 15),
     };
-    // Some of the turns are those of the same program at another place.
-    let turns = if has("--times") { turns / 2 } else { turns - turns / 2 };
+    let [turns, elsewhere] = timing::split(turns);
     let inputs = Inputs::new(&sizes);
     let mut rows = rows(&inputs);
     rows.retain(|row| after("--only").is_none_or(|word| row.name.contains(word)));
@@ -35,7 +34,7 @@ fn main() -> ExitCode {
     } else if has("--instructions") {
         count(&rows);
     } else if has("--times") {
-        timing::race(&rows, turns).iter().for_each(|times| println!("{times}"));
+        timing::race(&rows, elsewhere).iter().for_each(|times| println!("{times}"));
     } else {
         return compare_and_race(&rows, turns, &words);
     }
@@ -50,8 +49,10 @@ fn compare_and_race(rows: &[Row], turns: usize, words: &[String]) -> ExitCode {
         differ.for_each(|(row, _)| println!("answers differ: {}", row.name));
         return ExitCode::FAILURE;
     }
-    let shifted = timing::when_shifted(words);
-    let times = timing::race(rows, turns).into_iter().zip(shifted).map(|(times, shifted)| times.least(shifted));
+    let mut times = timing::race(rows, turns);
+    for elsewhere in timing::elsewhere(words) {
+        times.iter_mut().zip(elsewhere).for_each(|(times, elsewhere)| *times = times.least(elsewhere));
+    }
     println!("| Workload | ours, ms | Rust, ms | ours / Rust | ours, million a second | allocations a call, ours and Rust |");
     println!("|---|--:|--:|--:|--:|--:|");
     for ((row, times), allocations) in rows.iter().zip(times).zip(allocations) {

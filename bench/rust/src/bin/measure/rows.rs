@@ -22,7 +22,7 @@ pub struct Sizes {
 }
 
 impl Sizes {
-    pub const WHOLE: Sizes = Sizes { bytes_in_memory: 64 << 20, text_in_memory: 16 << 20, in_cache: 256 << 10, calls: 32 };
+    pub const WHOLE: Sizes = Sizes { bytes_in_memory: 64 << 20, text_in_memory: 16 << 20, in_cache: 256 << 10, calls: 16 };
     pub const SHORT: Sizes = Sizes { bytes_in_memory: 8 << 20, text_in_memory: 4 << 20, in_cache: 256 << 10, calls: 8 };
     pub const COUNTED: Sizes = Sizes { bytes_in_memory: 0, text_in_memory: 0, in_cache: 256 << 10, calls: 1 };
 }

@@ -55,15 +55,26 @@ fn time(call: impl Fn()) -> f64 {
     start.elapsed().as_secs_f64()
 }
 
-/// The times that `measure-shifted` tells of the same rows, called with the same words.
+/// This program with all its code so many bytes further on.
+const OTHER_PLACES: [&str; 3] = ["measure-16", "measure-32", "measure-48"];
+
+/// How many of the turns are those of this program, and how many are those of it at each other place.
+pub fn split(turns: usize) -> [usize; 2] {
+    let elsewhere = turns / (1 + OTHER_PLACES.len());
+    [turns - elsewhere * OTHER_PLACES.len(), elsewhere]
+}
+
+/// The least times of the same rows at the other places, called with the same words.
 ///
-/// It is this program with all its code 16 bytes further on. Where a jump crosses a border of 32 bytes some processors take it slowly,
-/// so a short loop can take half as long again by its place alone. The table has the least time of both places.
-pub fn when_shifted(words: &[String]) -> Vec<Times> {
-    let program = env::current_exe().expect("the program has a path").with_file_name("measure-shifted");
-    let output = Command::new(program).args(words).arg("--times").output().expect("the program `measure-shifted` runs");
-    let told = String::from_utf8_lossy(&output.stdout);
-    told.lines().filter_map(read).collect()
+/// Where a jump crosses a border of 32 bytes some processors take it slowly, so a short loop can take half as long again by its place
+/// alone. The table has the least time of all places.
+pub fn elsewhere(words: &[String]) -> Vec<Vec<Times>> {
+    let program = env::current_exe().expect("the program has a path");
+    let times_at = |place| {
+        let output = Command::new(program.with_file_name(place)).args(words).arg("--times").output().expect("the program at another place runs");
+        String::from_utf8_lossy(&output.stdout).lines().filter_map(read).collect()
+    };
+    OTHER_PLACES.iter().map(times_at).collect()
 }
 
 fn read(line: &str) -> Option<Times> {
