@@ -98,7 +98,7 @@ fn checkpoints_are_compared_by_what_remained(rt: HostRuntime) -> Result<(), Fail
 }
 
 #[test]
-fn widths_between_places_of_bytes_and_texts(rt: HostRuntime) {
+fn widths_between_places_of_bytes(rt: HostRuntime) {
     let bytes: &[u8] = b"abcd";
     let rest = &bytes[3..];
     let (start, here) = (bytes.checkpoint(), rest.checkpoint());
@@ -109,16 +109,6 @@ fn widths_between_places_of_bytes_and_texts(rt: HostRuntime) {
             width_from(&here, &start)
         ],
         [3; 3]
-    );
-    let (text, end) = ("éa", "a");
-    let (start, here) = (text.checkpoint(), end.checkpoint());
-    assert_eq!(rt;
-        [
-            width_from(&end, &text),
-            width_from(&end, &start),
-            width_from(&here, &start)
-        ],
-        [2; 3]
     );
 }
 
