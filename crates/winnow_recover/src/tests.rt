@@ -1,16 +1,22 @@
-ghost use Rattle.std.specs.Prelude.{IfOk};
+ghost use Rattle.std.specs.Prelude.{◌≡◌, ◌≤◌, ◌-◌, IfOk, OnOk, OnErr, Err, false, [], ◌∷◌, ◌++◌};
+ghost use Rattle.winnow_recover.specs.declared.record_error.RecordError.TheVariants.{Refused};
+ghost use Rattle.winnow_recover.specs.Recovering.{recovering_input, recorded_errors, records_errors};
 
 use crate::{RecordError, Recover, Recoverable};
 use std::alloc::{AllocError, Global};
-use std::fmt::Display;
+use std::fmt::{Debug, Display};
 use std::test::Fail;
 use winnow_error::ErrMode::{Backtrack, Incomplete};
-use winnow_error::{EmptyError, ErrMode};
+use winnow_error::{EmptyError, ErrMode, FromRecoverableError, ParserError};
+use winnow_kinds::{BStr, Bytes};
 use winnow_match::{Compare, CompareResult, FindSlice};
 use winnow_stream::Step::{Each, Mark, Next, Peek, Reset, Since, Take};
 use winnow_stream::{
-    AsBStr, Needed, NoSet, Offset, SliceLen, Step, Stream, StreamIsPartial, UpdateSlice, run,
+    AsBStr, AsBytes, Location, Needed, NoSet, Offset, Rest, SliceLen, Step, Stream,
+    StreamIsPartial, UpdateSlice, run,
 };
+use winnow_views::{Bits, TokenSlice, bit_source_law};
+use winnow_wrap::{LocatingSlice, Partial, Stateful};
 
 type Mode = ErrMode<EmptyError>;
 
@@ -22,16 +28,44 @@ fn recover_here<S: Recover<E>, E>(s: &mut S, err: E) -> Result<(), RecordError<E
     s.record_err(&here, &here, err)
 }
 
+// A stream with no recovery gives the error back.
+fn refused_by<S: Recover<E>, E>(s: &mut S, err: E) -> (Result<(), RecordError<E>>, bool)
+    requires valid { S.valid s.old }
+    requires unsupported { S.supports_recovery ≡ false }
+    ensures refused { result.0 ≡ Err (Refused err) }
+    ensures unsupported { result.1 ≡ false }
+    ensures remains { S.remaining s.new ≡ S.remaining s.old }
+{
+    let here = s.checkpoint();
+    (s.record_err(&here, &here, err), S::is_recovery_supported())
+}
+
+// One error more at the end, or the errors as before: the stream inside stays in both cases.
+fn recorded<I, E, R>(s: &mut Recoverable<I, R>, err: E) -> Result<(), RecordError<E>>
+where
+    I: Stream,
+    E: ParserError<Recoverable<I, R>>,
+    R: FromRecoverableError<Recoverable<I, R>, E> + Debug,
+    requires { I.valid (recovering_input s.old) }
+    ensures ok { OnOk result ((e : R) × (recorded_errors s.new ≡ recorded_errors s.old ++ e ∷ [])) }
+    ensures err { OnErr result (recorded_errors s.new ≡ recorded_errors s.old) }
+    ensures input { recovering_input s.new ≡ recovering_input s.old }
+    ensures kind { records_errors s.new ≡ records_errors s.old }
+{
+    let here = s.checkpoint();
+    s.record_err(&here, &here, err)
+}
+
 #[test]
 fn reset_leaves_what_was_recorded(rt: HostRuntime) -> Result<(), Fail> {
     let mut s = Recoverable::new(rt.alloc(), "abc");
     let before = s.checkpoint();
     assert_eq!(rt; s.next_token(), Some('a'));
-    assert_eq!(rt; recover_here(&mut s, Backtrack(EmptyError)), Ok(()));
+    assert_eq!(rt; recorded(&mut s, Backtrack(EmptyError)), Ok(()));
     s.reset(&before);
     let wanted: Mode = Incomplete(Needed::Unknown);
     assert_eq!(rt;
-        recover_here(&mut s, wanted),
+        recorded(&mut s, wanted),
         Err(RecordError::Refused(Incomplete(Needed::Unknown)))
     );
     assert_eq!(rt; s.peek_token(), Some('a'));
@@ -54,12 +88,39 @@ fn unrecoverable_records_nothing(rt: HostRuntime) -> Result<(), Fail> {
 
 #[test]
 fn plain_streams_refuse(rt: HostRuntime) {
-    let mut bytes: &[u8] = b"ab";
-    assert_eq!(rt; recover_here(&mut bytes, 1), Err(RecordError::Refused(1)));
-    let mut text = "ab";
-    assert_eq!(rt; recover_here(&mut text, 2), Err(RecordError::Refused(2)));
-    assert!(rt; !<&[u8] as Recover<u8>>::is_recovery_supported());
-    assert!(rt; !<&str as Recover<u8>>::is_recovery_supported());
+    bit_source_law();
+    let bytes: &[u8] = b"ab";
+    let refused = (Err(RecordError::Refused(7)), false);
+    assert_eq!(rt; refused_by(&mut { bytes }, 7), refused, "bytes");
+    assert_eq!(rt; refused_by(&mut "ab", 7), refused, "a text");
+    assert_eq!(rt; refused_by(&mut BStr::new(bytes), 7), refused, "BStr");
+    assert_eq!(rt; refused_by(&mut Bytes::new(bytes), 7), refused, "Bytes");
+    assert_eq!(rt;
+        refused_by(&mut TokenSlice::new(bytes), 7),
+        refused,
+        "tokens"
+    );
+    assert_eq!(rt; refused_by(&mut Bits::new(bytes), 7), refused, "bits");
+}
+
+#[test]
+fn wrappers_refuse_also_round_one_that_records(rt: HostRuntime) {
+    bit_source_law();
+    let (mode, refused): (Mode, _) = (
+        Backtrack(EmptyError),
+        (Err(RecordError::Refused(Backtrack(EmptyError))), false),
+    );
+    let inside: Recoverable<&str, Mode> = Recoverable::new(rt.alloc(), "ab");
+    let mut s = Stateful {
+        input: LocatingSlice::new(inside),
+        state: 7,
+    };
+    assert_eq!(rt; refused_by(&mut s, mode), refused, "a state");
+    assert_eq!(rt; refused_by(&mut s.input, mode), refused, "a place");
+    let mut marked = Partial::new(s);
+    assert_eq!(rt; refused_by(&mut marked, mode), refused, "a mark");
+    let inside: Recoverable<&[u8], Mode> = Recoverable::new(rt.alloc(), b"ab");
+    assert_eq!(rt; refused_by(&mut Bits::new(inside), mode), refused, "bits");
 }
 
 #[test]
@@ -115,4 +176,34 @@ fn every_call_is_passed_on(rt: HostRuntime) -> Result<(), Fail> {
     assert_eq!(rt; (window.peek_finish(), taken), ("ab", 2));
     assert_eq!(rt; window.finish(), "ab");
     Ok(())
+}
+
+// The width from a start, through its bound.
+fn width_from<T: Rest, S: Offset<T>>(s: &S, start: &T) -> usize
+    requires measured { S.can_measure s.now start.now }
+    requires no_wider { S.rest_width s.now ≤ T.rest_width start.now }
+    ensures { result ≡ T.rest_width start.now - S.rest_width s.now }
+{
+    s.offset_from(start)
+}
+
+// The place and the bytes that remain, each through its bound.
+fn place_and_bytes<S: Location + AsBytes>(s: &S) -> ((usize, usize), &[u8])
+    ensures place { result.0 ≡ (S.token_end s.now, S.token_start s.now) }
+    ensures bytes { result.1.now ≡ S.bytes s.now }
+{
+    (
+        (s.previous_token_end(), s.current_token_start()),
+        s.as_bytes(),
+    )
+}
+
+#[test]
+fn places_and_widths_are_passed_on(rt: HostRuntime) {
+    let bytes: &[u8] = b"abc";
+    let mut s: Recoverable<_, Mode> = Recoverable::new(rt.alloc(), LocatingSlice::new(bytes));
+    let rest: Recoverable<_, Mode> = Recoverable::new(rt.alloc(), LocatingSlice::new(&bytes[2..]));
+    assert_eq!(rt; width_from(&rest, &s), 2);
+    assert_eq!(rt; s.next_token(), Some(b'a'));
+    assert_eq!(rt; place_and_bytes(&s), ((1, 1), &bytes[1..]));
 }
