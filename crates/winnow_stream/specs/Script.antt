@@ -84,14 +84,19 @@ module _ {T S : Type 0} (is_slice : S → Source T → ℕ → Type 0) (all : So
   StandsFor answer.NoMark given = given ≡ answer.NoMark
   StandsFor answer.LaterMark given = given ≡ answer.LaterMark
 
--- `holds` is what each set answers
-abbrev pub SetsCompute : {C T : Type 0} → (C → T → Bool → Type 0) → (C → T → Bool) → Type 0
-SetsCompute {C} tells holds = (c : C) → Computes (tells c) (holds c)
+-- `holds` is what the set that a step names, if any, answers
+abbrev pub SetComputes : {C T : Type 0} → (C → T → Bool → Type 0) → (C → T → Bool) → Step C → Type 0
+SetComputes tells holds (step.First c) = Computes (tells c) (holds c)
+SetComputes tells holds _ = ⊤
+
+-- `holds` is what each set answers that a script names
+abbrev pub SetsCompute : {C T : Type 0} → (C → T → Bool → Type 0) → (C → T → Bool) → List (Step C) → Type 0
+SetsCompute tells holds script = All (SetComputes tells holds) script
 
 -- each answer that was given stands for the one that the script tells of on the list, whatever its sets hold
 abbrev pub AreAnswers : {C T S : Type 0} → (C → T → Bool → Type 0) → (S → Source T → ℕ → Type 0) → Bool → Source T → List (Step C) → List (Answer T S (Vec (ℕ × T)) Needed) → Type 0
 AreAnswers {C} {T} tells is_slice counts_missing all script given =
-    (holds : C → T → Bool) → SetsCompute tells holds → AllZip (StandsFor is_slice all) (answers holds counts_missing all script) given
+    (holds : C → T → Bool) → SetsCompute tells holds script → AllZip (StandsFor is_slice all) (answers holds counts_missing all script) given
 
 -- the set that a step names, if any, may be asked
 abbrev pub IsReady : {C : Type 0} → (C → Type 0) → Step C → Type 0

@@ -1,7 +1,7 @@
 ghost use Rattle.std.specs.Prelude.{◌≡◌, Bool, IfOk, OnErr, OnOk};
 ghost use Rattle.winnow_stream.specs.Source.{Source};
 ghost use Rattle.winnow_stream.specs.Cursor.{Cursor};
-ghost use Rattle.winnow_stream.specs.Script.{step_answer, step_next, rest_after, StandsFor, AreAnswers, SetsCompute, IsReady, AreReady};
+ghost use Rattle.winnow_stream.specs.Script.{step_answer, step_next, rest_after, StandsFor, AreAnswers, SetComputes, IsReady, AreReady};
 ghost use Rattle.winnow_stream.specs.Standing.{StandsAt};
 
 use crate::{Answer, ScriptSet, Step, Stream};
@@ -83,7 +83,7 @@ where
     requires valid { S.valid s.old }
     requires ready { IsReady C.can_hold step.now }
     requires stands { (all : Source S.Token) × (at : Cursor) × StandsAt S.remained S.valid_checkpoint all at (S.remaining s.old) marks.old.items }
-    ensures answer { IfOk result (λ a. (holds : C → S.Token → Bool) (all : Source S.Token) (at : Cursor) → SetsCompute C.tells holds → StandsAt S.remained S.valid_checkpoint all at (S.remaining s.old) marks.old.items → StandsFor S.is_slice all (step_answer holds S.counts_missing all step.now at) a) }
+    ensures answer { IfOk result (λ a. (holds : C → S.Token → Bool) (all : Source S.Token) (at : Cursor) → SetComputes C.tells holds step.now → StandsAt S.remained S.valid_checkpoint all at (S.remaining s.old) marks.old.items → StandsFor S.is_slice all (step_answer holds S.counts_missing all step.now at) a) }
     ensures stands { OnOk result ((all : Source S.Token) (at : Cursor) → StandsAt S.remained S.valid_checkpoint all at (S.remaining s.old) marks.old.items → StandsAt S.remained S.valid_checkpoint all (step_next all step.now at) (S.remaining s.new) marks.new.items) }
     ensures valid { S.valid s.new }
     ensures kept { S.keeps s.old s.new }
