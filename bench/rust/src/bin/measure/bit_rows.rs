@@ -9,7 +9,7 @@ const NO_BIT: u64 = 2;
 /// Every one of them on every input that is not empty. A unit is a byte.
 pub fn bit_rows(inputs: &Inputs) -> Vec<Row<'_>> {
     let mut rows = Vec::new();
-    for (name, input, calls) in [("bits in memory", &inputs.fewer_bytes, 1), ("bits in cache", &inputs.short_bytes, inputs.calls)] {
+    for (name, input, calls) in [("bits in memory", &inputs.fewer_bytes, 1), ("bits in cache", &inputs.short_bytes, inputs.calls.div_ceil(4))] {
         let on = On { name, input: input.as_slice(), units: input.len(), calls };
         if on.units > 0 {
             rows.extend([

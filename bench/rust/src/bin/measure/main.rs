@@ -49,10 +49,8 @@ fn compare_and_race(rows: &[Row], turns: usize, words: &[String]) -> ExitCode {
         differ.for_each(|(row, _)| println!("answers differ: {}", row.name));
         return ExitCode::FAILURE;
     }
-    let mut times = timing::race(rows, turns);
-    for elsewhere in timing::elsewhere(words) {
-        times.iter_mut().zip(elsewhere).for_each(|(times, elsewhere)| *times = times.least(elsewhere));
-    }
+    let here = timing::race(rows, turns);
+    let times = here.into_iter().zip(timing::elsewhere(words)).map(|(here, elsewhere)| here.least(elsewhere));
     println!("| Workload | ours, ms | Rust, ms | ours / Rust | ours, million a second | allocations a call, ours and Rust |");
     println!("|---|--:|--:|--:|--:|--:|");
     for ((row, times), allocations) in rows.iter().zip(times).zip(allocations) {

@@ -8,7 +8,7 @@ use winnow_bench::{our_searches as ours, their_searches as theirs};
 pub fn search_rows(inputs: &Inputs) -> Vec<Row<'_>> {
     let mut rows = Vec::new();
     for (place, calls, seeded, bytes, ascii, mixed) in [
-        ("in memory", 1, &inputs.seeded, &inputs.bytes, &inputs.ascii, &inputs.mixed),
+        ("in memory", 1, &inputs.seeded, &inputs.fewer_bytes, &inputs.ascii, &inputs.mixed),
         ("in cache", inputs.calls, &inputs.short_seeded, &inputs.short_bytes, &inputs.short_ascii, &inputs.short_mixed),
     ] {
         if seeded.is_empty() {

@@ -55,26 +55,23 @@ fn time(call: impl Fn()) -> f64 {
     start.elapsed().as_secs_f64()
 }
 
-/// This program with all its code so many bytes further on.
-const OTHER_PLACES: [&str; 3] = ["measure-16", "measure-32", "measure-48"];
+/// This program with all its code 16 bytes further on.
+const ELSEWHERE: &str = "measure-elsewhere";
 
-/// How many of the turns are those of this program, and how many are those of it at each other place.
+/// How many of the turns are those of this program, and how many those of it elsewhere.
 pub fn split(turns: usize) -> [usize; 2] {
-    let elsewhere = turns / (1 + OTHER_PLACES.len());
-    [turns - elsewhere * OTHER_PLACES.len(), elsewhere]
+    [turns.div_ceil(2), turns / 2]
 }
 
-/// The least times of the same rows at the other places, called with the same words.
+/// The least times of the same rows elsewhere, called with the same words.
 ///
 /// Where a jump crosses a border of 32 bytes some processors take it slowly, so a short loop can take half as long again by its place
-/// alone. The table has the least time of all places.
-pub fn elsewhere(words: &[String]) -> Vec<Vec<Times>> {
-    let program = env::current_exe().expect("the program has a path");
-    let times_at = |place| {
-        let output = Command::new(program.with_file_name(place)).args(words).arg("--times").output().expect("the program at another place runs");
-        String::from_utf8_lossy(&output.stdout).lines().filter_map(read).collect()
-    };
-    OTHER_PLACES.iter().map(times_at).collect()
+/// alone. The table has the least time of both places.
+pub fn elsewhere(words: &[String]) -> Vec<Times> {
+    let program = env::current_exe().expect("the program has a path").with_file_name(ELSEWHERE);
+    let output = Command::new(program).args(words).arg("--times").output().expect("the program starts elsewhere");
+    assert!(output.status.success(), "the program ends elsewhere: {output:?}");
+    String::from_utf8_lossy(&output.stdout).lines().filter_map(read).collect()
 }
 
 fn read(line: &str) -> Option<Times> {
