@@ -237,6 +237,10 @@ impl StreamIsPartial for BStr<'_> {
 
     ghost same_but_mark = { λ s t. s ≡ t };
 
+    ghost mark_tells = { λ _ _ _. refl };
+
+    ghost no_mark = { λ _ _. refl };
+
     fn complete(&mut self) {}
 
     fn restore_partial(&mut self, _state: ()) {}

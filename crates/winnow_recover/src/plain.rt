@@ -1,5 +1,7 @@
 //! Streams that record nothing, and refuse each error.
 ghost use Rattle.std.specs.Prelude.{◌≡◌, true, false, refl};
+ghost use Rattle.std.proofs.Common.{sym, ap};
+ghost use Rattle.winnow_views.specs.TokenPlaces.{whole_of};
 
 use crate::{RecordError, Recover};
 use std::fmt::Debug;
@@ -15,6 +17,8 @@ impl<'i, T: Copy + Debug, E> Recover<E> for &'i [T] {
     ghost supports_recovery = { false };
 
     ghost refuses_unsupported = { λ _ _ _. refl };
+
+    ghost unchanged_keeps = { λ _ _ _. tt };
 
     fn record_err(
         &mut self,
@@ -38,6 +42,8 @@ impl<'i, E> Recover<E> for &'i str {
     ghost supports_recovery = { false };
 
     ghost refuses_unsupported = { λ _ _ _. refl };
+
+    ghost unchanged_keeps = { λ _ _ _. tt };
 
     fn record_err(
         &mut self,
@@ -65,6 +71,8 @@ impl<'i, E> Recover<E> for BStr<'i> {
 
     ghost refuses_unsupported = { λ _ _ _. refl };
 
+    ghost unchanged_keeps = { λ _ _ _. tt };
+
     fn record_err(
         &mut self,
         _token_start: &Checkpoint<BStr<'i>, BStr<'i>>,
@@ -91,6 +99,8 @@ impl<'i, E> Recover<E> for Bytes<'i> {
 
     ghost refuses_unsupported = { λ _ _ _. refl };
 
+    ghost unchanged_keeps = { λ _ _ _. tt };
+
     fn record_err(
         &mut self,
         _token_start: &Checkpoint<Bytes<'i>, Bytes<'i>>,
@@ -116,6 +126,8 @@ impl<'t, T: Debug, E> Recover<E> for TokenSlice<'t, T> {
     ghost supports_recovery = { false };
 
     ghost refuses_unsupported = { λ _ _ _. refl };
+
+    ghost unchanged_keeps = { λ s t same. ap whole_of (sym same) };
 
     fn record_err(
         &mut self,

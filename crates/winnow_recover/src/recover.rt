@@ -40,4 +40,7 @@ pub trait Recover<E>: Stream {
 
     // A type that records none refuses each.
     ghost refuses_unsupported: { (s : Self) (e : E) → supports_recovery ≡ false → refuses s e ≡ true };
+
+    // A stream that is the same is so to every call of `Stream`.
+    ghost unchanged_keeps: { (s t : Self) → unchanged s t → Self.keeps s t };
 }

@@ -1,5 +1,5 @@
 ghost use Rattle.std.specs.Prelude.{◌≡◌, false, not, ◌||◌, is_some, [], refl, true, IsTrue};
-ghost use Rattle.std.proofs.Common.{◌∙◌};
+ghost use Rattle.std.proofs.Common.{◌∙◌, sym, subst};
 ghost use Rattle.winnow_stream.specs.Checkpoint.{checkpoint_inner};
 ghost use Rattle.winnow_recover.specs.Recovering.{recovering_input, recorded_errors, records_errors, IsSame, Records};
 
@@ -197,6 +197,8 @@ where
     ghost use Rattle.std.proofs.Common.{rules};
 
     ghost refuses_unsupported = { λ s e never. Prim.search rules };
+
+    ghost unchanged_keeps = { λ s t same. (sym same.1, sym same.2, subst (I.keeps s.input) (sym same.0) (I.keeps_reflexive s.input)) };
 
     // Refused comes before want of memory, and the place is there before the error is converted.
     fn record_err(

@@ -93,6 +93,10 @@ impl<I: StreamIsPartial, E> StreamIsPartial for Recoverable<I, E> {
 
     ghost same_but_mark = { λ s t. (recorded_errors s ≡ recorded_errors t) × (records_errors s ≡ records_errors t) × I.same_but_mark s.input t.input };
 
+    ghost mark_tells = { λ s t. I.mark_tells s.input t.input };
+
+    ghost no_mark = { λ unsupported s. I.no_mark unsupported s.input };
+
     fn complete(&mut self) -> I::PartialState {
         self.input.complete()
     }

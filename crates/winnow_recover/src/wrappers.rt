@@ -1,5 +1,6 @@
 //! Wrappers that record nothing, also round a stream that does: only the outermost `Recoverable` is asked.
 ghost use Rattle.std.specs.Prelude.{true, false, refl};
+ghost use Rattle.std.proofs.Common.{sym, ap, subst};
 
 use crate::{RecordError, Recover};
 use std::fmt::Debug;
@@ -15,6 +16,8 @@ impl<I: Recover<E> + Stream<Token = u8>, E> Recover<E> for Bits<I> {
     ghost supports_recovery = { false };
 
     ghost refuses_unsupported = { λ _ _ _. refl };
+
+    ghost unchanged_keeps = { λ s t same. subst (λ u. I.keeps s.input u.input) (sym same) (I.keeps_reflexive s.input) };
 
     fn record_err(
         &mut self,
@@ -43,6 +46,8 @@ where
 
     ghost refuses_unsupported = { λ _ _ _. refl };
 
+    ghost unchanged_keeps = { λ s t same. (ap (λ u. u.start) (sym same), subst (λ u. I.keeps s.input u.input) (sym same) (I.keeps_reflexive s.input)) };
+
     fn record_err(
         &mut self,
         _token_start: &Checkpoint<Placed<C>, LocatingSlice<I, C>>,
@@ -66,6 +71,8 @@ impl<I: Recover<E>, S: Debug, E> Recover<E> for Stateful<I, S> {
 
     ghost refuses_unsupported = { λ _ _ _. refl };
 
+    ghost unchanged_keeps = { λ s t same. (ap (λ u. u.state) (sym same), subst (λ u. I.keeps s.input u.input) (sym same) (I.keeps_reflexive s.input)) };
+
     fn record_err(
         &mut self,
         _token_start: &Checkpoint<I::Checkpoint, Stateful<I, S>>,
@@ -88,6 +95,8 @@ impl<I: Recover<E>, E> Recover<E> for Partial<I> {
     ghost supports_recovery = { false };
 
     ghost refuses_unsupported = { λ _ _ _. refl };
+
+    ghost unchanged_keeps = { λ s t same. (ap (λ u. u.partial) (sym same), subst (λ u. I.keeps s.input u.input) (sym same) (I.keeps_reflexive s.input)) };
 
     fn record_err(
         &mut self,

@@ -1,4 +1,4 @@
-ghost use Rattle.std.specs.Prelude.{◌≡◌, Bool, false};
+ghost use Rattle.std.specs.Prelude.{◌≡◌, Bool, false, refl};
 
 use crate::Rest;
 
@@ -41,6 +41,12 @@ pub trait StreamIsPartial: Rest + Sized {
     /// Whether more may follow.
     fn is_partial(&self) -> bool
         ensures { result ≡ expects_more self.now };
+
+    // The mark alone says whether more may follow: what `restore_partial` sets again says it again.
+    ghost mark_tells: { (s t : Self) → partial_state s ≡ partial_state t → expects_more s ≡ expects_more t };
+
+    // Where the type has no mark, nothing more may follow.
+    ghost no_mark: { supports_partial ≡ false → (s : Self) → expects_more s ≡ false };
 }
 
 impl<T> StreamIsPartial for &[T] {
@@ -53,6 +59,10 @@ impl<T> StreamIsPartial for &[T] {
     ghost expects_more = { λ _. false };
 
     ghost same_but_mark = { λ s t. s ≡ t };
+
+    ghost mark_tells = { λ _ _ _. refl };
+
+    ghost no_mark = { λ _ _. refl };
 
     fn complete(&mut self) {}
 
@@ -77,6 +87,10 @@ impl StreamIsPartial for &str {
     ghost expects_more = { λ _. false };
 
     ghost same_but_mark = { λ s t. s ≡ t };
+
+    ghost mark_tells = { λ _ _ _. refl };
+
+    ghost no_mark = { λ _ _. refl };
 
     fn complete(&mut self) {}
 

@@ -1,10 +1,15 @@
-ghost use Rattle.std.specs.Prelude.{◌≡◌, ℕ, ◌++◌, ◌↔◌, Bool, Ok, Some, IfOk, IsTrue};
+ghost use Rattle.std.specs.Prelude.{◌≡◌, ℕ, ◌++◌, ◌↔◌, Bool, List, Ok, Some, IfOk, IsTrue};
+ghost use Rattle.std.specs.Borrow.{Bor};
+ghost use Rattle.std.specs.Cmp.Lexicographic.{pointwise, slice_cmp};
+ghost use Rattle.std.specs.Ordering.{nat_cmp};
+ghost use Rattle.winnow_stream.specs.Checkpoint.{checkpoint_inner};
+ghost use Rattle.winnow_stream.specs.declared.checkpoint.Checkpoint.{Checkpoint};
 ghost use Rattle.winnow_stream.specs.Source.{Source, width, HasWidths, first_offset};
 ghost use Rattle.winnow_stream.specs.Front.{HasFront, is_offset, front, back};
 ghost use Rattle.winnow_stream.specs.Shortage.{offset_at};
 ghost use Rattle.winnow_stream.specs.Script.{AreAnswers, AreReady};
 
-use crate::{Answer, ScriptSet, Step, Stream, run};
+use crate::{Answer, Checkpoint, ScriptSet, Step, Stream, run};
 use std::alloc::{AllocError, Global};
 
 /// The law of fronts: an offset is valid exactly where some front has that width, what is taken has that width, and what is
@@ -21,6 +26,16 @@ pub fn offset_law<T>()
     ensures at { (counts_missing : Bool) (r : Source T) (n w : ℕ) → HasWidths r → offset_at counts_missing r n ≡ Ok w → IsTrue (is_offset r w) }
     ensures first { (holds : T → Bool) (r : Source T) (w : ℕ) → HasWidths r → first_offset holds r ≡ Some w → IsTrue (is_offset r w) }
     ensures end { (r : Source T) → HasWidths r → IsTrue (is_offset r (width r)) }
+{}
+
+/// The law of equality and order: checkpoints of slices are compared by the elements that remained there, those of texts by their
+/// bytes, and of bytes and texts they are equal exactly where the same remained. It does nothing when called: its contract is the law.
+pub fn checkpoint_equality_law<'t, T: Ord + 't>()
+    ensures slices { (c d : Checkpoint (Bor (List T)) (Bor (List T))) → ⟦<Checkpoint<&'t [T], &'t [T]> as PartialEq>⟧.eq c d ≡ pointwise T.eq (checkpoint_inner c).now (checkpoint_inner d).now }
+    ensures order { (c d : Checkpoint (Bor (List T)) (Bor (List T))) → ⟦<Checkpoint<&'t [T], &'t [T]> as Ord>⟧.cmp c d ≡ slice_cmp T.cmp (checkpoint_inner c).now (checkpoint_inner d).now }
+    ensures bytes { (c d : Checkpoint (Bor (List ℕ)) (Bor (List ℕ))) → IsTrue (⟦<Checkpoint<&'static [u8], &'static [u8]> as PartialEq>⟧.eq c d) ↔ ((checkpoint_inner c).now ≡ (checkpoint_inner d).now) }
+    ensures texts { (c d : Checkpoint (Bor (List ℕ)) (Bor (List ℕ))) → IsTrue (⟦<Checkpoint<&'static str, &'static str> as PartialEq>⟧.eq c d) ↔ ((checkpoint_inner c).now ≡ (checkpoint_inner d).now) }
+    ensures text_order { (c d : Checkpoint (Bor (List ℕ)) (Bor (List ℕ))) → ⟦<Checkpoint<&'static str, &'static str> as Ord>⟧.cmp c d ≡ slice_cmp nat_cmp (checkpoint_inner c).now (checkpoint_inner d).now }
 {}
 
 /// Runs a script and goes back: whatever the calls were, `reset` to a checkpoint from before gives back what remained then.

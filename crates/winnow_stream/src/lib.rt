@@ -23,7 +23,7 @@ mod update_slice;
 pub use as_bytes::{AsBStr, AsBytes};
 pub use checkpoint::Checkpoint;
 pub use is_partial::StreamIsPartial;
-pub use laws::{front_law, offset_law, run_and_reset};
+pub use laws::{checkpoint_equality_law, front_law, offset_law, run_and_reset};
 pub use location::Location;
 pub use needed::Needed;
 pub use offset::Offset;

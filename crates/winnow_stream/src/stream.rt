@@ -1,4 +1,4 @@
-ghost use Rattle.std.specs.Prelude.{◌≡◌, ℕ, ◌-◌, ◌≤◌, Bool, List, [], IsTrue, drop};
+ghost use Rattle.std.specs.Prelude.{◌≡◌, ℕ, ◌-◌, ◌≤◌, Bool, [], IsTrue, drop};
 ghost use Rattle.std.specs.Iterator.{IsFinite, AlwaysYields, size};
 ghost use Rattle.winnow_stream.specs.Source.{Source, width, HasWidths, IsEndOf, Computes, first_token, first_offset, offsets};
 ghost use Rattle.winnow_stream.specs.Front.{is_offset, back};

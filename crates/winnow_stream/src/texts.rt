@@ -1,4 +1,4 @@
-ghost use Rattle.std.specs.Prelude.{◌≡◌, ℕ, false, List, [], ◌∷◌, ⊤, IsTrue, MatchOption, refl};
+ghost use Rattle.std.specs.Prelude.{◌≡◌, false, [], ◌∷◌, ⊤, IsTrue, MatchOption, refl};
 ghost use Rattle.std.specs.Str.{chars};
 ghost use Rattle.std.specs.Char.{len_utf8};
 ghost use Rattle.std.proofs.Common.{sym, ap};

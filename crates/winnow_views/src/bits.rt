@@ -251,6 +251,10 @@ impl<I: StreamIsPartial> StreamIsPartial for Bits<I> {
 
     ghost same_but_mark = { λ s t. I.same_but_mark s.input t.input × (s.place ≡ t.place) };
 
+    ghost mark_tells = { λ s t. I.mark_tells s.input t.input };
+
+    ghost no_mark = { λ unsupported s. I.no_mark unsupported s.input };
+
     fn complete(&mut self) -> I::PartialState {
         self.input.complete()
     }

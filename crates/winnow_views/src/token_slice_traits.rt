@@ -1,4 +1,4 @@
-ghost use Rattle.std.specs.Prelude.{◌≡◌, ℕ, false, [], length, IsTrue};
+ghost use Rattle.std.specs.Prelude.{◌≡◌, ℕ, false, [], length, IsTrue, refl};
 ghost use Rattle.winnow_stream.specs.Source.{first_token};
 ghost use Rattle.winnow_stream.specs.Front.{is_offset, front, IsSomeFront};
 ghost use Rattle.winnow_views.specs.TokenSources.{tokens_of};
@@ -93,6 +93,10 @@ impl<T> StreamIsPartial for TokenSlice<'_, T> {
     ghost expects_more = { λ _. false };
 
     ghost same_but_mark = { λ s t. s ≡ t };
+
+    ghost mark_tells = { λ _ _ _. refl };
+
+    ghost no_mark = { λ _ _. refl };
 
     fn complete(&mut self) {}
 

@@ -105,6 +105,10 @@ impl<I: StreamIsPartial, C: Rest> StreamIsPartial for LocatingSlice<I, C> {
 
     ghost same_but_mark = { λ s t. (s.start ≡ t.start) × (s.place ≡ t.place) × I.same_but_mark s.input t.input };
 
+    ghost mark_tells = { λ s t. I.mark_tells s.input t.input };
+
+    ghost no_mark = { λ unsupported s. I.no_mark unsupported s.input };
+
     fn complete(&mut self) -> I::PartialState {
         self.input.complete()
     }

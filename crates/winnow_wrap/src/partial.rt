@@ -1,5 +1,5 @@
 ghost use Rattle.std.specs.Prelude.{◌≡◌, true, false, refl};
-ghost use Rattle.std.proofs.Common.{◌∙◌, sym, ap, subst};
+ghost use Rattle.std.proofs.Common.{◌∙◌, sym, ap, subst, true≢false};
 ghost use Rattle.winnow_stream.specs.Checkpoint.{checkpoint_inner};
 ghost use Rattle.winnow_wrap.specs.Mark.{unmarked, mark};
 
@@ -233,6 +233,10 @@ impl<I: Rest> StreamIsPartial for Partial<I> {
     ghost expects_more = { λ s. s.partial };
 
     ghost same_but_mark = { λ s t. s.input ≡ t.input };
+
+    ghost mark_tells = { λ _ _ same. same };
+
+    ghost no_mark = { λ unsupported _. absurd (true≢false unsupported) };
 
     fn complete(&mut self) -> bool {
         let mark = self.partial;

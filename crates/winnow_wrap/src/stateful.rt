@@ -210,6 +210,10 @@ impl<I: StreamIsPartial, S> StreamIsPartial for Stateful<I, S> {
 
     ghost same_but_mark = { λ s t. (s.state ≡ t.state) × I.same_but_mark s.input t.input };
 
+    ghost mark_tells = { λ s t. I.mark_tells s.input t.input };
+
+    ghost no_mark = { λ unsupported s. I.no_mark unsupported s.input };
+
     fn complete(&mut self) -> I::PartialState {
         self.input.complete()
     }

@@ -94,8 +94,10 @@ fn checkpoint_of<S: Stream>(s: &S) -> S::Checkpoint
 // The first token with the mark cleared, which is set again: generic code may go on, since the rest stays the same.
 fn peek_complete<S: Stream + StreamIsPartial>(s: &mut S) -> (bool, Option<S::Token>)
     requires { S.valid s.old }
+    ensures cleared { result.0 ≡ false }
     ensures token { result.1 ≡ first_token (S.remaining s.old) }
     ensures valid { S.valid s.new }
+    ensures restored { S.expects_more s.new ≡ S.expects_more s.old }
 {
     let state = s.complete();
     let is_partial = s.is_partial();
@@ -196,6 +198,14 @@ fn supports<S: StreamIsPartial>(_s: &S) -> bool
     S::is_partial_supported()
 }
 
+// Where the type has no mark, nothing more may follow.
+fn awaits<S: StreamIsPartial>(s: &S) -> bool
+    requires { S.supports_partial ≡ false }
+    ensures { result ≡ false }
+{
+    s.is_partial()
+}
+
 // The place, through its bound.
 fn place<S: Location>(s: &S) -> (usize, usize)
     ensures { result ≡ (S.token_end s.now, S.token_start s.now) }
@@ -251,7 +261,8 @@ fn a_mark_inside_two_wrappers(rt: HostRuntime) {
         (supports(&s), supports(&s.input), supports(&nest(""))),
         (true, true, true)
     );
-    assert!(rt; !supports(&nest("").into_inner()));
+    let plain = nest("").into_inner();
+    assert_eq!(rt; (supports(&plain), awaits(&plain)), (false, false));
 }
 
 #[test]
