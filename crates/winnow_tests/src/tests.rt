@@ -4,6 +4,7 @@ mod bits;
 mod contexts;
 mod error_traits;
 mod fields;
+mod literals;
 mod modes;
 mod nests;
 mod own_streams;
