@@ -3,4 +3,5 @@ pub mod ComparisonLemmas
 pub mod FrontLemmas
 pub mod SearchLemmas
 pub mod HitLemmas
+pub mod OffsetLemmas
 pub mod ShortageLemmas

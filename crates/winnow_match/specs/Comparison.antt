@@ -1,5 +1,7 @@
 -- How a literal compares with the front of some bytes.
-use Rattle.std.specs.Prelude.{◌≡◌, ℕ, ◌==◌, Bool, true, false, ◌&&◌, if◌then◌else◌, List, [], ◌∷◌, ◌++◌, length}
+use Rattle.std.specs.Prelude.{◌≡◌, ℕ, ◌==◌, Bool, true, false, ◌&&◌, if◌then◌else◌, List, [], ◌∷◌, ◌++◌, length, IsTrue, ⊤}
+use Rattle.winnow_stream.specs.Source.{Source}
+use Rattle.winnow_stream.specs.Front.{is_offset}
 use Rattle.winnow_match.specs.declared.compare.CompareResult.{CompareResult}
 use Rattle.winnow_match.specs.declared.compare.CompareResult.TheVariants as compared
 
@@ -18,3 +20,9 @@ abbrev pub comparison : List ℕ → List ℕ → CompareResult
 comparison literal bytes =
     if is_front literal bytes then compared.Ok (length literal)
     else (if is_front bytes literal then compared.Incomplete else compared.Error)
+
+-- where a literal stands at the front of r, it ends at an offset of r
+abbrev pub EndsAtOffset : {T : Type 0} → CompareResult → Source T → Type 0
+EndsAtOffset (compared.Ok n) r = IsTrue (is_offset r n)
+EndsAtOffset compared.Incomplete r = ⊤
+EndsAtOffset compared.Error r = ⊤

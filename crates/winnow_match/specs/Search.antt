@@ -1,8 +1,11 @@
 -- The first place of some bytes at which a needle stands.
-use Rattle.std.specs.Prelude.{◌≡◌, ℕ, ◌+◌, ◌<◌, ◌==◌, IsTrue, is_some, drop, Bool, true, false, ◌&&◌, if◌then◌else◌, List, [], ◌∷◌, length, Option, None, Some}
+use Rattle.std.specs.Prelude.{◌≡◌, ℕ, ◌+◌, ◌<◌, ◌==◌, IsTrue, ⊤, is_some, drop, Bool, true, false, ◌&&◌, if◌then◌else◌, List, [], ◌∷◌, length, Option, None, Some}
 use Rattle.std.specs.List.{list_any, slice_index_or}
 use Rattle.std.specs.Borrow.{Bor}
+use Rattle.std.specs.Str.{IsUtf8}
 use Rattle.std.specs.declared.ops.Range.{Range}
+use Rattle.winnow_stream.specs.Source.{Source}
+use Rattle.winnow_stream.specs.Front.{is_offset}
 use Rattle.winnow_stream.specs.Cursor.{places}
 use Rattle.winnow_match.specs.Comparison.{is_front, IsFrontOf}
 use Rattle.winnow_match.specs.declared.needles.Needles.{Needles}
@@ -45,6 +48,11 @@ needle_list bytes (Three a b c) = bytes a ∷ bytes b ∷ bytes c ∷ []
 abbrev pub bytes_of_needles : Needles (Bor (List ℕ)) → List (List ℕ)
 bytes_of_needles needles = needle_list (λ needle. needle.now) needles
 
+-- needles that are texts
+abbrev pub AreTexts : List (List ℕ) → Type 0
+AreTexts [] = ⊤
+AreTexts (needle ∷ needles) = IsUtf8 needle × AreTexts needles
+
 -- this needle stands in the bytes from place k on
 abbrev pub Stands : List ℕ → List ℕ → ℕ → Type 0
 Stands needle bytes k = IsFrontOf needle (drop k bytes)
@@ -75,3 +83,7 @@ have_length n (needle ∷ needles) = (length needle == n) && have_length n needl
 abbrev pub have_one_length : List (List ℕ) → Bool
 have_one_length [] = true
 have_one_length (needle ∷ needles) = have_length (length needle) needles
+
+-- both ends of a hit are offsets of r
+abbrev pub AreOffsets : {T : Type 0} → Source T → Range ℕ → Type 0
+AreOffsets r places = IsTrue (is_offset r places.start) × IsTrue (is_offset r places.end)

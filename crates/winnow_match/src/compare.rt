@@ -1,5 +1,6 @@
 ghost use Rattle.std.specs.Prelude.{◌≡◌};
 ghost use Rattle.winnow_stream.specs.Source.{Source};
+ghost use Rattle.winnow_match.specs.Comparison.{EndsAtOffset};
 ghost use Rattle.winnow_match.specs.declared.compare.CompareResult.{CompareResult};
 
 use winnow_stream::Stream;
@@ -20,8 +21,10 @@ pub trait Compare<T>: Stream {
     // What the comparison answers of a literal and of what remains.
     ghost compared: { T → Source Self.Token → CompareResult };
 
-    /// How the literal compares with the front of the stream, which stays where it is.
+    /// How the literal compares with the front of the stream, which stays where it is. The width of an `Ok` is an offset, so
+    /// that a slice may be taken up to it.
     fn compare(&self, t: T) -> CompareResult
         requires { Self.valid self.now }
-        ensures { result ≡ compared t (Self.remaining self.now) };
+        ensures answer { result ≡ compared t (Self.remaining self.now) }
+        ensures offset { EndsAtOffset result (Self.remaining self.now) };
 }

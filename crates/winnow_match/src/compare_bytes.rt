@@ -48,7 +48,7 @@ fn compare_whole(input: &[u8], literal: &[u8]) -> CompareResult
     }
 }
 
-#[tactic(auto, using(crate::proofs::lemmas::ByteLemmas::source_bytes))]
+#[tactic(auto, using(crate::proofs::lemmas::OffsetLemmas::source_answers))]
 impl<'i, 'l> Compare<&'l [u8]> for &'i [u8] {
     ghost compared = { λ literal r. comparison literal.now (bytes_of r) };
 
@@ -57,7 +57,7 @@ impl<'i, 'l> Compare<&'l [u8]> for &'i [u8] {
     }
 }
 
-#[tactic(auto, using(crate::proofs::lemmas::ByteLemmas::source_bytes))]
+#[tactic(auto, using(crate::proofs::lemmas::OffsetLemmas::source_answers))]
 impl<'i, const LEN: usize> Compare<[u8; LEN]> for &'i [u8] {
     ghost compared = { λ literal r. comparison literal (bytes_of r) };
 
@@ -66,7 +66,7 @@ impl<'i, const LEN: usize> Compare<[u8; LEN]> for &'i [u8] {
     }
 }
 
-#[tactic(auto, using(crate::proofs::lemmas::ByteLemmas::source_bytes))]
+#[tactic(auto, using(crate::proofs::lemmas::OffsetLemmas::source_answers))]
 impl<'i, 'l, const LEN: usize> Compare<&'l [u8; LEN]> for &'i [u8] {
     ghost compared = { λ literal r. comparison literal.now (bytes_of r) };
 
@@ -75,7 +75,7 @@ impl<'i, 'l, const LEN: usize> Compare<&'l [u8; LEN]> for &'i [u8] {
     }
 }
 
-#[tactic(auto, using(crate::proofs::lemmas::ByteLemmas::source_bytes))]
+#[tactic(auto, using(crate::proofs::lemmas::OffsetLemmas::source_answers))]
 impl<'i, 'l> Compare<&'l str> for &'i [u8] {
     ghost compared = { λ literal r. comparison literal.now (bytes_of r) };
 
@@ -84,7 +84,7 @@ impl<'i, 'l> Compare<&'l str> for &'i [u8] {
     }
 }
 
-#[tactic(auto, using(crate::proofs::lemmas::ByteLemmas::source_bytes))]
+#[tactic(auto, using(crate::proofs::lemmas::OffsetLemmas::source_answers))]
 impl<'i> Compare<u8> for &'i [u8] {
     ghost compared = { λ literal r. comparison (literal ∷ []) (bytes_of r) };
 
@@ -94,7 +94,7 @@ impl<'i> Compare<u8> for &'i [u8] {
 }
 
 /// The character in its UTF-8 form.
-#[tactic(auto, using(crate::proofs::lemmas::ByteLemmas::source_bytes))]
+#[tactic(auto, using(crate::proofs::lemmas::OffsetLemmas::source_answers))]
 impl<'i> Compare<char> for &'i [u8] {
     ghost compared = { λ literal r. comparison (encode_utf8 literal) (bytes_of r) };
 

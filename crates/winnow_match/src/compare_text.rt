@@ -1,4 +1,3 @@
-ghost use Rattle.std.specs.Prelude.{◌≡◌};
 ghost use Rattle.std.specs.Char.{encode_utf8};
 ghost use Rattle.winnow_match.specs.Bytes.{utf8_of};
 ghost use Rattle.winnow_match.specs.Comparison.{comparison};
@@ -6,7 +5,7 @@ ghost use Rattle.winnow_match.specs.Comparison.{comparison};
 use crate::compare_bytes::compare_front;
 use crate::{Compare, CompareResult};
 
-#[tactic(auto, using(crate::proofs::lemmas::ByteLemmas::source_bytes))]
+#[tactic(auto, using(crate::proofs::lemmas::OffsetLemmas::source_answers))]
 impl<'i, 'l> Compare<&'l str> for &'i str {
     ghost compared = { λ literal r. comparison literal.now (utf8_of r) };
 
@@ -15,7 +14,7 @@ impl<'i, 'l> Compare<&'l str> for &'i str {
     }
 }
 
-#[tactic(auto, using(crate::proofs::lemmas::ByteLemmas::source_bytes))]
+#[tactic(auto, using(crate::proofs::lemmas::OffsetLemmas::source_answers))]
 impl<'i> Compare<char> for &'i str {
     ghost compared = { λ literal r. comparison (encode_utf8 literal) (utf8_of r) };
 

@@ -7,7 +7,7 @@ use crate::finding::{find_byte, find_needles, find_three_bytes, find_two_bytes};
 use crate::{FindSlice, Needles};
 use std::ops::Range;
 
-#[tactic(auto, using(crate::proofs::lemmas::ByteLemmas::source_bytes))]
+#[tactic(auto, using(crate::proofs::lemmas::OffsetLemmas::source_answers))]
 impl<'i, 'n> FindSlice<&'n [u8]> for &'i [u8] {
     ghost found = { λ needle r. hit (needle.now ∷ []) (bytes_of r) };
 
@@ -16,7 +16,7 @@ impl<'i, 'n> FindSlice<&'n [u8]> for &'i [u8] {
     }
 }
 
-#[tactic(auto, using(crate::proofs::lemmas::ByteLemmas::source_bytes))]
+#[tactic(auto, using(crate::proofs::lemmas::OffsetLemmas::source_answers))]
 impl<'i, 'n> FindSlice<(&'n [u8],)> for &'i [u8] {
     ghost found = { λ needles r. hit (needles.0.now ∷ []) (bytes_of r) };
 
@@ -25,7 +25,7 @@ impl<'i, 'n> FindSlice<(&'n [u8],)> for &'i [u8] {
     }
 }
 
-#[tactic(auto, using(crate::proofs::lemmas::ByteLemmas::source_bytes))]
+#[tactic(auto, using(crate::proofs::lemmas::OffsetLemmas::source_answers))]
 impl<'i, 'n> FindSlice<(&'n [u8], &'n [u8])> for &'i [u8] {
     ghost found = { λ needles r. hit (needles.0.now ∷ needles.1.now ∷ []) (bytes_of r) };
 
@@ -34,7 +34,7 @@ impl<'i, 'n> FindSlice<(&'n [u8], &'n [u8])> for &'i [u8] {
     }
 }
 
-#[tactic(auto, using(crate::proofs::lemmas::ByteLemmas::source_bytes))]
+#[tactic(auto, using(crate::proofs::lemmas::OffsetLemmas::source_answers))]
 impl<'i, 'n> FindSlice<(&'n [u8], &'n [u8], &'n [u8])> for &'i [u8] {
     ghost found = { λ needles r. hit (needles.0.now ∷ needles.1.now ∷ needles.2.now ∷ []) (bytes_of r) };
 
@@ -43,7 +43,7 @@ impl<'i, 'n> FindSlice<(&'n [u8], &'n [u8], &'n [u8])> for &'i [u8] {
     }
 }
 
-#[tactic(auto, using(crate::proofs::lemmas::ByteLemmas::source_bytes))]
+#[tactic(auto, using(crate::proofs::lemmas::OffsetLemmas::source_answers))]
 impl<'i, 'n> FindSlice<Needles<&'n [u8]>> for &'i [u8] {
     ghost found = { λ needles r. hit (bytes_of_needles needles) (bytes_of r) };
 
@@ -52,7 +52,7 @@ impl<'i, 'n> FindSlice<Needles<&'n [u8]>> for &'i [u8] {
     }
 }
 
-#[tactic(auto, using(crate::proofs::lemmas::ByteLemmas::source_bytes))]
+#[tactic(auto, using(crate::proofs::lemmas::OffsetLemmas::source_answers))]
 impl<'i, 'n> FindSlice<&'n str> for &'i [u8] {
     ghost found = { λ needle r. hit (needle.now ∷ []) (bytes_of r) };
 
@@ -61,7 +61,7 @@ impl<'i, 'n> FindSlice<&'n str> for &'i [u8] {
     }
 }
 
-#[tactic(auto, using(crate::proofs::lemmas::ByteLemmas::source_bytes))]
+#[tactic(auto, using(crate::proofs::lemmas::OffsetLemmas::source_answers))]
 impl<'i, 'n> FindSlice<(&'n str,)> for &'i [u8] {
     ghost found = { λ needles r. hit (needles.0.now ∷ []) (bytes_of r) };
 
@@ -70,7 +70,7 @@ impl<'i, 'n> FindSlice<(&'n str,)> for &'i [u8] {
     }
 }
 
-#[tactic(auto, using(crate::proofs::lemmas::ByteLemmas::source_bytes))]
+#[tactic(auto, using(crate::proofs::lemmas::OffsetLemmas::source_answers))]
 impl<'i, 'n> FindSlice<(&'n str, &'n str)> for &'i [u8] {
     ghost found = { λ needles r. hit (needles.0.now ∷ needles.1.now ∷ []) (bytes_of r) };
 
@@ -82,7 +82,7 @@ impl<'i, 'n> FindSlice<(&'n str, &'n str)> for &'i [u8] {
     }
 }
 
-#[tactic(auto, using(crate::proofs::lemmas::ByteLemmas::source_bytes))]
+#[tactic(auto, using(crate::proofs::lemmas::OffsetLemmas::source_answers))]
 impl<'i, 'n> FindSlice<(&'n str, &'n str, &'n str)> for &'i [u8] {
     ghost found = { λ needles r. hit (needles.0.now ∷ needles.1.now ∷ needles.2.now ∷ []) (bytes_of r) };
 
@@ -98,7 +98,7 @@ impl<'i, 'n> FindSlice<(&'n str, &'n str, &'n str)> for &'i [u8] {
     }
 }
 
-#[tactic(auto, using(crate::proofs::lemmas::ByteLemmas::source_bytes))]
+#[tactic(auto, using(crate::proofs::lemmas::OffsetLemmas::source_answers))]
 impl<'i> FindSlice<u8> for &'i [u8] {
     ghost found = { λ byte r. hit ((byte ∷ []) ∷ []) (bytes_of r) };
 
@@ -107,7 +107,7 @@ impl<'i> FindSlice<u8> for &'i [u8] {
     }
 }
 
-#[tactic(auto, using(crate::proofs::lemmas::ByteLemmas::source_bytes))]
+#[tactic(auto, using(crate::proofs::lemmas::OffsetLemmas::source_answers))]
 impl<'i> FindSlice<(u8,)> for &'i [u8] {
     ghost found = { λ bytes r. hit ((bytes.0 ∷ []) ∷ []) (bytes_of r) };
 
@@ -116,7 +116,7 @@ impl<'i> FindSlice<(u8,)> for &'i [u8] {
     }
 }
 
-#[tactic(auto, using(crate::proofs::lemmas::ByteLemmas::source_bytes))]
+#[tactic(auto, using(crate::proofs::lemmas::OffsetLemmas::source_answers))]
 impl<'i> FindSlice<(u8, u8)> for &'i [u8] {
     ghost found = { λ bytes r. hit ((bytes.0 ∷ []) ∷ (bytes.1 ∷ []) ∷ []) (bytes_of r) };
 
@@ -125,7 +125,7 @@ impl<'i> FindSlice<(u8, u8)> for &'i [u8] {
     }
 }
 
-#[tactic(auto, using(crate::proofs::lemmas::ByteLemmas::source_bytes))]
+#[tactic(auto, using(crate::proofs::lemmas::OffsetLemmas::source_answers))]
 impl<'i> FindSlice<(u8, u8, u8)> for &'i [u8] {
     ghost found = { λ bytes r. hit ((bytes.0 ∷ []) ∷ (bytes.1 ∷ []) ∷ (bytes.2 ∷ []) ∷ []) (bytes_of r) };
 
@@ -135,7 +135,7 @@ impl<'i> FindSlice<(u8, u8, u8)> for &'i [u8] {
 }
 
 /// The character in its UTF-8 form.
-#[tactic(auto, using(crate::proofs::lemmas::ByteLemmas::source_bytes))]
+#[tactic(auto, using(crate::proofs::lemmas::OffsetLemmas::source_answers))]
 impl<'i> FindSlice<char> for &'i [u8] {
     ghost found = { λ c r. hit (encode_utf8 c ∷ []) (bytes_of r) };
 
@@ -149,7 +149,7 @@ impl<'i> FindSlice<char> for &'i [u8] {
 }
 
 /// The character in its UTF-8 form.
-#[tactic(auto, using(crate::proofs::lemmas::ByteLemmas::source_bytes))]
+#[tactic(auto, using(crate::proofs::lemmas::OffsetLemmas::source_answers))]
 impl<'i> FindSlice<(char,)> for &'i [u8] {
     ghost found = { λ cs r. hit (encode_utf8 cs.0 ∷ []) (bytes_of r) };
 
@@ -161,7 +161,7 @@ impl<'i> FindSlice<(char,)> for &'i [u8] {
 }
 
 /// The characters in their UTF-8 form.
-#[tactic(auto, using(crate::proofs::lemmas::ByteLemmas::source_bytes))]
+#[tactic(auto, using(crate::proofs::lemmas::OffsetLemmas::source_answers))]
 impl<'i> FindSlice<(char, char)> for &'i [u8] {
     ghost found = { λ cs r. hit (encode_utf8 cs.0 ∷ encode_utf8 cs.1 ∷ []) (bytes_of r) };
 
@@ -175,7 +175,7 @@ impl<'i> FindSlice<(char, char)> for &'i [u8] {
 }
 
 /// The characters in their UTF-8 form.
-#[tactic(auto, using(crate::proofs::lemmas::ByteLemmas::source_bytes))]
+#[tactic(auto, using(crate::proofs::lemmas::OffsetLemmas::source_answers))]
 impl<'i> FindSlice<(char, char, char)> for &'i [u8] {
     ghost found = { λ cs r. hit (encode_utf8 cs.0 ∷ encode_utf8 cs.1 ∷ encode_utf8 cs.2 ∷ []) (bytes_of r) };
 

@@ -1,6 +1,7 @@
-ghost use Rattle.std.specs.Prelude.{◌≡◌, ℕ, Option};
+ghost use Rattle.std.specs.Prelude.{◌≡◌, ℕ, Option, IfSome};
 ghost use Rattle.std.specs.declared.ops.Range as range_declared;
 ghost use Rattle.winnow_stream.specs.Source.{Source};
+ghost use Rattle.winnow_match.specs.Search.{AreOffsets};
 
 use std::ops::Range;
 use winnow_stream::Stream;
@@ -11,8 +12,10 @@ pub trait FindSlice<T>: Stream {
     ghost found: { T → Source Self.Token → Option (range_declared.Range ℕ) };
 
     /// The least place at which a needle stands, up to the end of the first listed needle that stands there. Places are
-    /// counted from where the stream stands, and it stays there. An empty needle stands at once, at `0..0`.
+    /// counted from where the stream stands, and it stays there. An empty needle stands at once, at `0..0`. Both ends are
+    /// offsets, so that a slice may be taken up to them.
     fn find_slice(&self, substr: T) -> Option<Range<usize>>
         requires { Self.valid self.now }
-        ensures { result ≡ found substr (Self.remaining self.now) };
+        ensures answer { result ≡ found substr (Self.remaining self.now) }
+        ensures offsets { IfSome result (AreOffsets (Self.remaining self.now)) };
 }

@@ -6,6 +6,7 @@ mod error_members;
 mod error_walks;
 mod fields;
 mod listed;
+mod literals;
 mod own_errors;
 mod pairs;
 mod walks;
@@ -20,6 +21,7 @@ pub use error_walks::{
 };
 pub use fields::field;
 pub use listed::Listed;
+pub use literals::{literal, take_until};
 pub use own_errors::{Apart, Furthest, Labelled};
 pub use pairs::{PairOffsets, Pairs};
 pub use walks::{look_back, take_back, tell, told};

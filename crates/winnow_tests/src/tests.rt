@@ -5,6 +5,7 @@ mod contexts;
 mod error_traits;
 mod fields;
 mod implementations;
+mod literals;
 mod modes;
 mod nests;
 mod own_streams;

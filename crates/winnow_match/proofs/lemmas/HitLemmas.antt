@@ -159,7 +159,7 @@ module _ (ls : List (List ℕ)) (bytes : List ℕ) (some : list_any is_empty ls 
         first_place = λ i k l low s. false≢true (sym (no-needle ls (drop k bytes) (before k low) i l) ∙ is_front-IsFrontOf (needle_of ls i) (drop k bytes) s);
       }
 
-  hit-IsFirstHit : (r : Range ℕ) → hit ls bytes ≡ Some r → IsFirstHit ls bytes r
+  pub hit-IsFirstHit : (r : Range ℕ) → hit ls bytes ≡ Some r → IsFirstHit ls bytes r
   hit-IsFirstHit r h =
       let t = first_hit-hit ls bytes 0 r (hit-first_hit (Some r) h) in
       let e : r ≡ places t.place t.len = t.is ∙ ap (λ k. places k t.len) (omega arith) in

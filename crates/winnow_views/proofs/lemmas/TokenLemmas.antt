@@ -1,17 +1,18 @@
 -- A slice of tokens as a source: the lemmas on units, for references to the elements.
 use Rattle.std.proofs.Common.{◌≡◌, ℕ, zero, suc, ◌+◌, ◌*◌, ◌-◌, ◌≤◌, leb, true, List, [], ◌∷◌, length, take, drop, refl, ap, sym, ◌∙◌, arith, IsTrue, take_all, length-drop, length-take}
-use Rattle.std.specs.Prelude.{Ok, Err}
+use Rattle.std.specs.Prelude.{Ok, Err, Some}
 use Rattle.std.specs.Borrow.{Bor, RattleType}
 use Rattle.std.specs.Mem.{type_size}
 use Rattle.std.specs.Int.NonZero.{non_zero_usize_get}
 use Rattle.std.specs.declared.num.NonZeroUsize.{NonZeroUsize}
 use Rattle.winnow_stream.specs.declared.needed.Needed.TheVariants.{Size}
-use Rattle.winnow_stream.specs.Source.{units, width, IsEndOf}
+use Rattle.winnow_stream.specs.Source.{units, width, IsEndOf, first_token}
 use Rattle.winnow_stream.specs.Front.{is_offset, count_to, front, back}
 use Rattle.winnow_stream.specs.Shortage.{offset_at}
 use Rattle.winnow_stream.specs.Units.{width-units}
 use Rattle.winnow_stream.proofs.lemmas.FrontLemmas.{width-end}
 use Rattle.winnow_stream.proofs.lemmas.UnitLemmas.{length-units, is_offset-units, le-from_is_offset, units-take, count_to-units, front-units, offset_at-units_short, offset_at-units_fits}
+use Rattle.std.proofs.lemmas.Bool.Decides.{nat_tests}
 use Rattle.std.proofs.lemmas.List.{drop-map, drop_all}
 use Rattle.winnow_views.specs.TokenSources.{references, tokens_of, length-references, width-tokens_of}
 
@@ -67,6 +68,11 @@ module _ {T : Type 0} (size : ℕ) (at : ℕ × ℕ) (xs : List T) where
   -- what follows a front, by its width
   pub back-units : (n : ℕ) → IsTrue (is_offset (units (references size at xs)) n) → drop n (units (references size at xs)) ≡ back (units (references size at xs)) n
   back-units n h = ap (λ k. drop k (units (references size at xs))) (sym (count_to-units (references size at xs) n (le-from_is_offset (references size at xs) n h)))
+
+-- behind the first token is an offset
+pub is_offset-first : {T : Type 0} (size : ℕ) (at : ℕ × ℕ) (xs : List T) (x : Bor T) → Some x ≡ first_token (units (references size at xs)) → is_offset (units (references size at xs)) 1 ≡ true
+is_offset-first size at [] x h = absurd (cc)
+is_offset-first size at (y ∷ ys) x h = is_offset-tokens_of size at (y ∷ ys) 1 ∙ grind (arith, nat_tests)
 
 module _ (R : RattleType) where
   -- an end of a slice is no longer
