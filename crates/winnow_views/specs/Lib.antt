@@ -1,5 +1,6 @@
 pub mod TokenSources
 pub mod TokenPlaces
+pub mod TokenAhead
 pub mod TokenPrevious
 pub mod TokenAnswers
 pub mod BitSource

@@ -7,9 +7,11 @@ mod bit_offsets;
 mod bits;
 mod previous_tokens;
 mod token_laws;
+mod token_offsets;
 mod token_slice;
 mod token_slice_traits;
 mod token_view;
+mod token_view_rest;
 
 pub use bit_laws::{
     bit_equality_law, bit_place_law, bit_slice_law, bit_source_law, byte_slice_law,
@@ -18,8 +20,9 @@ pub use bit_offsets::BitOffsets;
 pub use bits::{BitPlace, Bits};
 pub use previous_tokens::PreviousTokens;
 pub use token_laws::token_equality_law;
+pub use token_offsets::TokenOffsets;
 pub use token_slice::TokenSlice;
-pub use token_view::{TokenOffsets, TokenView};
+pub use token_view::TokenView;
 
 #[cfg(test)]
 mod tests;

@@ -6,8 +6,8 @@ ghost use Rattle.winnow_stream.specs.Checkpoint.{checkpoint_inner};
 ghost use Rattle.winnow_stream.specs.Source.{first_token, width};
 ghost use Rattle.winnow_stream.specs.Front.{front, back, is_offset};
 ghost use Rattle.winnow_stream.specs.Units.{HasWidths-units};
-ghost use Rattle.winnow_views.specs.TokenSources.{tokens_of, width-tokens_of};
-ghost use Rattle.winnow_views.specs.TokenPlaces.{whole_of, rest_of, remaining_of, place_of, taken_of, remained_at, rest_at, place_at};
+ghost use Rattle.winnow_views.specs.TokenSources.{tokens_of};
+ghost use Rattle.winnow_views.specs.TokenPlaces.{whole_of, rest_of, remaining_of, place_of, taken_of, remained_at, rest_at, place_at, width-remaining_in};
 ghost use Rattle.winnow_views.specs.TokenAnswers.{last_of, next_of};
 ghost use Rattle.winnow_views.specs.TokenPrevious.{left_of};
 
@@ -124,9 +124,9 @@ impl<'t, T: Debug> Stream for TokenSlice<'t, T> {
 
     ghost has_widths = { λ s _. HasWidths-units _ };
 
-    ghost rest_width_remaining = { λ s _. sym (width-tokens_of T.row s.view.rest) };
+    ghost rest_width_remaining = { λ s _. sym (width-remaining_in T.row s.view) };
 
-    ghost rest_width_remained = { λ c _. sym (width-tokens_of T.row (checkpoint_inner c).rest) };
+    ghost rest_width_remained = { λ c _. sym (width-remaining_in T.row (checkpoint_inner c)) };
 
     ghost same_rest_remaining = { λ s t e. ap (λ v. remaining_of T.row v) (sym e) };
 

@@ -1,10 +1,11 @@
 ghost use Rattle.std.specs.Prelude.{◌≡◌, ◌≤◌, ◌-◌, IsTrue, IsOk, IfOk, false, ◌&&◌};
 ghost use Rattle.std.specs.Ordering.{on, then_cmp};
+ghost use Rattle.winnow_stream.specs.Checkpoint.{checkpoint_inner};
 ghost use Rattle.winnow_stream.specs.Source.{first_token};
 ghost use Rattle.winnow_stream.specs.Front.{is_offset, front};
 ghost use Rattle.winnow_wrap.specs.Mark.{unmarked, mark};
 
-use crate::{LocatingSlice, Partial, Stateful};
+use crate::{LocatingSlice, Partial, Placed, Stateful};
 use std::alloc::{AllocError, Global};
 use std::cmp::Ordering;
 use std::fmt;
@@ -140,6 +141,17 @@ fn complete_inside<I: Stream, S: Debug>(
     (s.complete(), s.is_partial())
 }
 
+// A plain stream has no mark: it stays as it is.
+fn complete_plain<'i>(bytes: &mut &'i [u8], text: &mut &'i str)
+    ensures bytes { bytes.old ≡ bytes.new }
+    ensures text { text.old ≡ text.new }
+{
+    bytes.complete();
+    bytes.restore_partial(());
+    text.complete();
+    text.restore_partial(());
+}
+
 // The stream inside three wrappers.
 fn inside<I: Stream, S>(s: &Partial<Stateful<LocatingSlice<I>, S>>) -> &I
     ensures { result.now ≡ (unmarked s.now).input.input }
@@ -170,6 +182,33 @@ fn is_same<I: Stream + PartialEq>(s: &LocatingSlice<I>, t: &LocatingSlice<I>) ->
 where
     I::Checkpoint: PartialEq,
     ensures { result ≡ (I.Checkpoint.eq s.now.start t.now.start && I.eq s.now.input t.now.input) }
+{
+    s == t
+}
+
+// Whether two places are equal, and their order: those of the checkpoints inside, wherever they are.
+fn order_of_places<I: Stream>(
+    s: &Checkpoint<Placed<I::Checkpoint>, LocatingSlice<I>>,
+    t: &Checkpoint<Placed<I::Checkpoint>, LocatingSlice<I>>,
+) -> (bool, Ordering)
+where
+    I::Checkpoint: Ord,
+    ensures equal { result.0 ≡ I.Checkpoint.eq (checkpoint_inner s.now).inner (checkpoint_inner t.now).inner }
+    ensures order { result.1 ≡ I.Checkpoint.cmp (checkpoint_inner s.now).inner (checkpoint_inner t.now).inner }
+{
+    (s == t, s.cmp(t))
+}
+
+// Whether the streams inside and the states are equal.
+fn is_same_state<I: PartialEq, S: PartialEq>(s: &Stateful<I, S>, t: &Stateful<I, S>) -> bool
+    ensures { result ≡ (I.eq s.now.input t.now.input && S.eq s.now.state t.now.state) }
+{
+    s == t
+}
+
+// Whether the streams inside and the marks are equal.
+fn is_same_marked<I: PartialEq>(s: &Partial<I>, t: &Partial<I>) -> bool
+    ensures { result ≡ (I.eq (unmarked s.now) (unmarked t.now) && ⟦<bool as PartialEq>⟧.eq (mark s.now) (mark t.now)) }
 {
     s == t
 }
@@ -263,6 +302,13 @@ fn a_mark_inside_two_wrappers(rt: HostRuntime) {
     );
     let plain = nest("").into_inner();
     assert_eq!(rt; (supports(&plain), awaits(&plain)), (false, false));
+}
+
+#[test]
+fn a_plain_stream_has_no_mark(rt: HostRuntime) {
+    let (mut bytes, mut text) = (b"ab".as_slice(), "cd");
+    complete_plain(&mut bytes, &mut text);
+    assert_eq!(rt; (bytes, text), (b"ab".as_slice(), "cd"));
 }
 
 #[test]
@@ -365,14 +411,19 @@ fn wrappers_are_compared_by_what_they_hold(rt: HostRuntime) {
     assert!(rt; second.is_offset(2));
     let (first, second) = (window_of(first, 2), window_of(second, 2));
     assert_eq!(rt; (place(&first), place(&second)), ((0, 0), (2, 2)));
-    assert!(rt; is_same(&first, &second) && first.checkpoint() == second.checkpoint());
+    assert!(rt; is_same(&first, &second));
+    assert_eq!(rt;
+        order_of_places::<&str>(&first.checkpoint(), &second.checkpoint()),
+        (true, Ordering::Equal)
+    );
     let (set, mut clear) = (Partial::new("ab"), Partial::new("ab"));
     let _ = clear.complete();
+    assert!(rt; is_same_marked(&set, &set) && !is_same_marked(&set, &clear));
     assert_eq!(rt; marked_order(&clear, &set), Ordering::Less);
     assert_eq!(rt; marked_order(&Partial::new("a"), &clear), Ordering::Less);
     let counted = Stateful {
         input: "",
         state: 0,
     };
-    assert!(rt; counted == Stateful::default());
+    assert!(rt; is_same_state(&counted, &Stateful::default()));
 }

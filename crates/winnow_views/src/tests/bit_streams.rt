@@ -4,6 +4,7 @@ ghost use Rattle.winnow_views.specs.BitStream.{bits_input, bits_place, IsValidBi
 ghost use Rattle.winnow_views.specs.BitSource.{IsBitSource};
 ghost use Rattle.winnow_views.specs.BitWidth.{SlicesHaveWidths};
 
+use super::told;
 use crate::{
     Bits, bit_equality_law, bit_place_law, bit_slice_law, bit_source_law, byte_slice_law,
     token_equality_law,
@@ -11,7 +12,7 @@ use crate::{
 use std::alloc::{AllocError, Global};
 use std::test::Fail;
 use winnow_stream::Step::{At, Each, Eof, Finish, Look, Mark, Next, Peek, Reset, Since, Take};
-use winnow_stream::{NoSet, Offset, SliceLen, Step, Stream, StreamIsPartial, run};
+use winnow_stream::{NoSet, Offset, SliceLen, Step, Stream, StreamIsPartial};
 
 // The bits of bytes from a place on; `None` where they may not be streamed.
 fn bits_at(bytes: &[u8], place: usize) -> Option<Bits<&[u8]>>
@@ -30,8 +31,8 @@ fn bits_at(bytes: &[u8], place: usize) -> Option<Bits<&[u8]>>
     Some(Bits::at_place(bytes, place))
 }
 
-// The answers of a script, as their debug text: `run` knows nothing of bits, and what the stream of bytes keeps is kept.
-fn told<I: Stream<Token = u8>>(
+// The answers of a script, which knows nothing of bits: what the stream of bytes keeps is kept.
+fn told_bits<I: Stream<Token = u8>>(
     alloc: Global,
     s: &mut Bits<I>,
     script: &[Step<NoSet>],
@@ -42,8 +43,7 @@ where
     ensures valid { IsValidBits I.valid I.remaining s.new }
     ensures kept { I.keeps (bits_input s.old) (bits_input s.new) }
 {
-    let answers = run(alloc, s, script)?;
-    format!(in alloc; "{answers:?}")
+    told(alloc, s, script)
 }
 
 // The same on the bits of bytes that someone lends; `None` where they may not be streamed.
@@ -54,7 +54,7 @@ fn told_at<'i>(
     script: &[Step<NoSet>],
 ) -> Result<Option<String>, AllocError> {
     match bits_at(bytes, place) {
-        Some(mut s) => Ok(Some(told(alloc, &mut s, script)?)),
+        Some(mut s) => Ok(Some(told_bits(alloc, &mut s, script)?)),
         None => Ok(None),
     }
 }

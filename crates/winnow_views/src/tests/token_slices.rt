@@ -1,6 +1,7 @@
 ghost use Rattle.std.specs.Prelude.{◌≡◌, ◌≤◌};
 ghost use Rattle.winnow_views.specs.TokenPlaces.{whole_of};
 
+use super::told;
 use crate::TokenSlice;
 use std::alloc::{AllocError, Global};
 use std::fmt::Debug;
@@ -42,21 +43,6 @@ const LEXED: [Lexed; 3] = [
 fn shown(alloc: Global, tokens: &TokenSlice<'_, u8>) -> Result<String, AllocError> {
     let previous: Vec<&u8> = tokens.previous_tokens().collect(alloc)?;
     format!(in alloc; "{tokens:?} after {previous:?}")
-}
-
-// The answers of a script on any stream, as their debug text.
-fn told<S: Stream + Drop>(
-    alloc: Global,
-    mut s: S,
-    script: &[Step<NoSet>],
-) -> Result<String, AllocError>
-where
-    S::Token: Drop,
-    S::Slice: Drop,
-    requires { S.valid s }
-{
-    let answers = run(alloc, &mut s, script)?;
-    format!(in alloc; "{answers:?}")
 }
 
 // Runs a script, which knows nothing of tokens: the whole list stays.
@@ -148,15 +134,19 @@ fn scripts_run_over_tokens(rt: HostRuntime) -> Result<(), Fail> {
     ];
     for (answers, want) in [
         (
-            told(rt.alloc(), TokenSlice::new(b"abcd"), &script)?,
+            told(rt.alloc(), &mut TokenSlice::new(b"abcd"), &script)?,
             "[Marked(0), Token(Some(97)), At(Ok(3)), Slice([98, 99]), Offset(3), Items([(0, 100)]), Slice([100]), Token(None), Done, Token(Some(97))]",
         ),
         (
-            told(rt.alloc(), TokenSlice::new(&["a", "b", "c"]), &script)?,
+            told(rt.alloc(), &mut TokenSlice::new(&["a", "b", "c"]), &script)?,
             "[Marked(0), Token(Some(\"a\")), At(Err(Size(1))), Slice([\"b\", \"c\"]), Offset(3), Items([]), Slice([]), Token(None), Done, Token(Some(\"a\"))]",
         ),
         (
-            told(rt.alloc(), TokenSlice::new(&LEXED), &[At(3), Take(2), Each])?,
+            told(
+                rt.alloc(),
+                &mut TokenSlice::new(&LEXED),
+                &[At(3), Take(2), Each],
+            )?,
             "[At(Ok(3)), Slice([Lexed { start: 1, end: 9 }, Lexed { start: 11, end: 19 }]), Items([(0, Lexed { start: 21, end: 29 })])]",
         ),
     ] {
