@@ -35,6 +35,7 @@ fn refused_by<S: Recover<E>, E>(s: &mut S, err: E) -> (Result<(), RecordError<E>
     ensures refused { result.0 ≡ Err (Refused err) }
     ensures unsupported { result.1 ≡ false }
     ensures remains { S.remaining s.new ≡ S.remaining s.old }
+    ensures kept { S.keeps s.old s.new }
 {
     let here = s.checkpoint();
     (s.record_err(&here, &here, err), S::is_recovery_supported())
