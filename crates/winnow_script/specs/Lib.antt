@@ -4,3 +4,4 @@ pub mod Newline
 pub mod Lines
 pub mod Failure
 pub mod Steps
+pub mod Kinds
