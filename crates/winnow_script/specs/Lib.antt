@@ -5,3 +5,4 @@ pub mod Lines
 pub mod Failure
 pub mod Steps
 pub mod Kinds
+pub mod Inputs

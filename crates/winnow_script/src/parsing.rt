@@ -2,6 +2,7 @@ ghost use Rattle.std.specs.Prelude.{◌≡◌, ◌+◌, ◌^◌, ◌<◌, ◌≤
 ghost use Rattle.std.specs.Option.{ForSome, SomeIff};
 ghost use Rattle.std.specs.Str.Parse.{IsNumeral, digits_value};
 ghost use Rattle.winnow_script.specs.Fault.{IsWithin};
+ghost use Rattle.winnow_script.specs.Inputs.{TellsInput};
 ghost use Rattle.winnow_script.specs.Kinds.{kind_word};
 ghost use Rattle.winnow_script.specs.Lines.{reach};
 ghost use Rattle.winnow_script.specs.Newline.{first_line};
@@ -75,6 +76,7 @@ fn read_steps(alloc: Global, lines: &mut Lines) -> Result<Vec<Step<NoSet>>, Allo
 }
 
 fn read_input(alloc: Global, lines: &mut Lines, kind: Kind) -> Result<Input, ScriptFault>
+    ensures input { IfOk result (TellsInput kind (first_line lines.old.rest.now)) }
     ensures reach { reach lines.new ≤ reach lines.old }
     ensures err { IfErr result (IsWithin (reach lines.old)) }
 {
