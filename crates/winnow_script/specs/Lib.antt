@@ -4,3 +4,5 @@ pub mod Newline
 pub mod Lines
 pub mod Failure
 pub mod Steps
+pub mod Kinds
+pub mod Inputs

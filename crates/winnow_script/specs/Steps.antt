@@ -1,6 +1,8 @@
 -- The words of step lines.
-use Rattle.std.specs.Prelude.{ℕ, cond, List, [], ◌∷◌, codes, Option, Some, None}
+use Rattle.std.specs.Prelude.{◌≡◌, ◌⊎◌, ◌==◌, Bool, ℕ, cond, List, [], ◌∷◌, codes, Option, Some, None}
+use Rattle.std.specs.List.{before_first, after_first}
 use Rattle.std.specs.Str.{bytes_eq}
+use Rattle.std.specs.Str.Parse.{IsNumeral, digits_value}
 use Rattle.winnow_stream.specs.declared.script.Step.{Step}
 use Rattle.winnow_stream.specs.declared.script.Step.TheVariants as step
 use Rattle.winnow_stream.specs.declared.script.NoSet.{NoSet}
@@ -22,3 +24,18 @@ abbrev pub numbered_steps : ℕ → List (List ℕ × Step NoSet)
 numbered_steps number =
     (codes "take", step.Take number) ∷ (codes "look", step.Look number) ∷ (codes "at", step.At number)
     ∷ (codes "is", step.IsOffset number) ∷ (codes "reset", step.Reset number) ∷ (codes "since", step.Since number) ∷ []
+
+abbrev pub is_space : ℕ → Bool
+is_space byte = byte == 32
+
+-- the first word of a line
+abbrev pub first_word : List ℕ → List ℕ
+first_word line = before_first is_space line
+
+-- what follows the first space
+abbrev pub second_word : List ℕ → List ℕ
+second_word line = after_first is_space line
+
+-- the step that a line tells: by the whole line, or by its first word and the number behind it
+abbrev pub TellsStep : List ℕ → Step NoSet → Type 0
+TellsStep line step = (entry plain_steps line ≡ Some step) ⊎ (IsNumeral 10 (second_word line) × (entry (numbered_steps (digits_value 10 (second_word line))) (first_word line) ≡ Some step))

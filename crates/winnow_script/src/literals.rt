@@ -1,6 +1,5 @@
-ghost use Rattle.std.specs.Prelude.{◌≡◌, ◌⊎◌, ◌↔◌, [], codes, IfOk, IsSome, IfSome};
-ghost use Rattle.hex.specs.Hex.{decode_of};
-ghost use Rattle.winnow_script.specs.Literal.{IsHexWord};
+ghost use Rattle.std.specs.Prelude.{◌≡◌, ◌⊎◌, ◌↔◌, codes, IfOk, IsSome, IfSome};
+ghost use Rattle.winnow_script.specs.Literal.{IsHexWord, TellsBytes};
 
 use hex::FromHexError;
 use std::alloc::{AllocError, Global};
@@ -9,8 +8,7 @@ use std::alloc::{AllocError, Global};
 /// two, in either case. `None` for any other word.
 pub fn literal(alloc: Global, word: &[u8]) -> Result<Option<Vec<u8>>, AllocError>
     ensures found { IfOk result (λ found. IsSome found ↔ ((word.now ≡ codes "-") ⊎ IsHexWord word.now)) }
-    ensures dash { word.now ≡ codes "-" → IfOk result (λ found. IfSome found (λ bytes. bytes.items ≡ [])) }
-    ensures digits { IsHexWord word.now → IfOk result (λ found. IfSome found (λ bytes. decode_of word.now ≡ Ok bytes.items)) }
+    ensures bytes { IfOk result (λ found. IfSome found (λ bytes. TellsBytes word.now bytes.items)) }
 {
     if word.is_empty() {
         return Ok(None);

@@ -1,9 +1,12 @@
-ghost use Rattle.std.specs.Prelude.{◌≡◌, ◌+◌, ◌^◌, ◌<◌, ◌≤◌, IfErr, OnSome, length};
-ghost use Rattle.std.specs.Option.{SomeIff};
+ghost use Rattle.std.specs.Prelude.{◌≡◌, ◌+◌, ◌^◌, ◌<◌, ◌≤◌, IfErr, IfOk, OnSome, length};
+ghost use Rattle.std.specs.Option.{ForSome, SomeIff};
 ghost use Rattle.std.specs.Str.Parse.{IsNumeral, digits_value};
 ghost use Rattle.winnow_script.specs.Fault.{IsWithin};
+ghost use Rattle.winnow_script.specs.Inputs.{TellsInput};
+ghost use Rattle.winnow_script.specs.Kinds.{kind_word};
 ghost use Rattle.winnow_script.specs.Lines.{reach};
-ghost use Rattle.winnow_script.specs.Steps.{entry, plain_steps, numbered_steps};
+ghost use Rattle.winnow_script.specs.Newline.{first_line};
+ghost use Rattle.winnow_script.specs.Steps.{entry, plain_steps, numbered_steps, TellsStep};
 
 use crate::ScriptFault;
 use crate::lines::Lines;
@@ -47,6 +50,7 @@ pub fn read_script(alloc: Global, input: &[u8]) -> Result<Script, ScriptFault>
 }
 
 fn read_kind(lines: &mut Lines) -> Result<Kind, ScriptFault>
+    ensures kind { IfOk result (λ kind. first_line lines.old.rest.now ≡ kind_word kind) }
     ensures reach { reach lines.new ≤ reach lines.old }
     ensures err { IfErr result (IsWithin (reach lines.old)) }
 {
@@ -72,6 +76,7 @@ fn read_steps(alloc: Global, lines: &mut Lines) -> Result<Vec<Step<NoSet>>, Allo
 }
 
 fn read_input(alloc: Global, lines: &mut Lines, kind: Kind) -> Result<Input, ScriptFault>
+    ensures input { IfOk result (TellsInput kind (first_line lines.old.rest.now)) }
     ensures reach { reach lines.new ≤ reach lines.old }
     ensures err { IfErr result (IsWithin (reach lines.old)) }
 {
@@ -93,6 +98,7 @@ fn read_input(alloc: Global, lines: &mut Lines, kind: Kind) -> Result<Input, Scr
 
 // The step of the next line, if it is a step line.
 fn next_step(lines: &mut Lines) -> Option<Step<NoSet>>
+    ensures step { ForSome result (TellsStep (first_line lines.old.rest.now)) }
     ensures shorter { OnSome result (length lines.new.rest.now < length lines.old.rest.now) }
     ensures reach { reach lines.new ≤ reach lines.old }
 {

@@ -12,6 +12,13 @@ returns-in-Ok-clause-found c =
     let filled : eqb (length c.args.word.now) 0 ≡ false = sym c.is_empty.ensures ∙ c.if-is_empty.false in
     (λ _. inr (omega (arith, eqb-false, filled), word.0, word.1), λ _. refl)
 
+pub returns-in-Ok-clause-bytes : goal.returns-in-Ok-clause-bytes
+returns-in-Ok-clause-bytes c =
+    let decoded = IfOk-at_ok _ c.in-Ok.is c.decode.ensures.ok in
+    let word = decode_of-ok c.args.word.now _ decoded in
+    let filled : eqb (length c.args.word.now) 0 ≡ false = sym c.is_empty.ensures ∙ c.if-is_empty.false in
+    inr ((omega (arith, eqb-false, filled), word.0, word.1), decoded)
+
 -- neither `-` nor digits: the first was tested, and digits decode
 pub returns-in_default : goal.returns-in_default
 returns-in_default c =
@@ -28,6 +35,5 @@ returns-in_default c =
               ]
         ],
       );
-      dash = λ _. tt;
-      digits = λ _. tt;
+      bytes = tt;
     }
