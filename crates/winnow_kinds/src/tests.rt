@@ -96,6 +96,17 @@ where
     (S::is_partial_supported(), stream.is_partial())
 }
 
+// Neither has a mark: they stay as they are.
+fn complete_both<'i>(text: &mut BStr<'i>, bytes: &mut Bytes<'i>)
+    ensures text { text.old ≡ text.new }
+    ensures bytes { bytes.old ≡ bytes.new }
+{
+    text.complete();
+    text.restore_partial(());
+    bytes.complete();
+    bytes.restore_partial(());
+}
+
 fn hash_of<T: Hash>(value: &T) -> u64 {
     let mut hasher = DefaultHasher::new();
     value.hash(&mut hasher);
@@ -328,6 +339,13 @@ fn contents_of_text(rt: HostRuntime) -> Result<(), Fail> {
     assert_eq!(rt; hash_of(&s), hash_of(&s.inner()));
     orders_by_contents::<BStr>(&rt);
     Ok(())
+}
+
+#[test]
+fn there_is_no_mark(rt: HostRuntime) {
+    let (mut text, mut bytes) = (BStr::new(b"ab"), Bytes::new(b"cd"));
+    complete_both(&mut text, &mut bytes);
+    assert!(rt; text.eq_bytes(b"ab") && bytes.eq_bytes(b"cd"));
 }
 
 #[test]

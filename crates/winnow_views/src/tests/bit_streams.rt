@@ -204,6 +204,15 @@ fn marks<S: StreamIsPartial>(s: &mut S) -> (bool, bool, bool, bool) {
     (S::is_partial_supported(), before, complete, s.is_partial())
 }
 
+// Clearing the mark of the stream of bytes changes nothing else.
+fn complete_bits<I: StreamIsPartial>(s: &mut Bits<I>) -> I::PartialState
+    ensures before { result ≡ I.partial_state (bits_input s.old) }
+    ensures bytes { I.same_but_mark (bits_input s.old) (bits_input s.new) }
+    ensures place { bits_place s.old ≡ bits_place s.new }
+{
+    s.complete()
+}
+
 #[test]
 fn places_of_bits(rt: HostRuntime) {
     let bytes = b"\xab\x31".as_slice();
@@ -216,6 +225,7 @@ fn places_of_bits(rt: HostRuntime) {
     assert!(rt; start.checkpoint() == Bits::new(bytes).checkpoint());
     assert_eq!(rt; width_since(&Bits::at_place(bytes, 5), &start), 5);
     assert_eq!(rt; marks(&mut end), (false, false, false, false));
+    complete_bits(&mut end);
     let mut rest = Bits::at_place(bytes, 5);
     assert_eq!(rt; (place_of(&start), place_of(&rest)), (0, 5));
     assert_eq!(rt; rest.peek_finish(), (bytes, 5, 0));

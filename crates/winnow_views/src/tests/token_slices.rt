@@ -89,6 +89,14 @@ fn gone<C: Rest, S: Offset<C>>(s: &S, start: &C) -> usize
     s.offset_from(start)
 }
 
+// There is no mark: they stay as they are.
+fn complete_tokens<'t, T>(s: &mut TokenSlice<'t, T>)
+    ensures { s.old ≡ s.new }
+{
+    s.complete();
+    s.restore_partial(());
+}
+
 // The width, and whether more may follow, through the bounds.
 fn width_and_mark<S: SliceLen + StreamIsPartial>(s: &mut S) -> (usize, bool, bool)
     requires { (t : S) → S.has_width t }
@@ -214,6 +222,7 @@ fn widths_are_numbers_of_tokens(rt: HostRuntime) {
     assert_eq!(rt; gone(&tokens, &start.checkpoint()), 1);
     assert_eq!(rt; gone(&tokens.checkpoint(), &start.checkpoint()), 1);
     assert_eq!(rt; width_and_mark(&mut tokens), (2, false, false));
+    complete_tokens(&mut tokens);
     assert_eq!(rt; tokens.as_slice(), b"bc".as_slice());
 }
 
