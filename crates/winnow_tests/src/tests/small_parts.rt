@@ -10,7 +10,7 @@ use winnow_kinds::{BStr, Bytes};
 use winnow_recover::Recoverable;
 use winnow_stream::{
     AsBStr, AsBytes, Needed, Offset, Rest, SliceLen, Stream, StreamIsPartial, UpdateSlice,
-    front_law, offset_law,
+    checkpoint_equality_law, front_law, offset_law,
 };
 use winnow_views::{Bits, TokenSlice};
 use winnow_wrap::{LocatingSlice, Partial, Stateful};
@@ -197,4 +197,5 @@ fn traces_print_what_remains(rt: HostRuntime) -> Result<(), Fail> {
 fn the_laws_can_be_called() {
     front_law::<u8>();
     offset_law::<char>();
+    checkpoint_equality_law::<u8>();
 }
