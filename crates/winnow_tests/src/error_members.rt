@@ -1,7 +1,9 @@
 //! What the ghost members of each error type say, spelled out. Generic code promises what they say and no more, so a member that says
 //! less is refused here.
-ghost use Rattle.std.specs.Prelude.{◌≡◌, ℕ, Some, codes, string_bytes};
+ghost use Rattle.std.specs.Prelude.{◌≡◌, ◌&&◌, ℕ, Some, codes, nat_eq, string_bytes};
+ghost use Rattle.std.specs.Cmp.Lexicographic.{pointwise};
 ghost use Rattle.std.specs.Fmt.{◌++?◌};
+ghost use Rattle.std.specs.Option.{option_eq};
 ghost use Rattle.winnow_error.specs.ContextText.{value_text, context_text, explanation_text};
 ghost use Rattle.winnow_error.specs.Explanation.{Explanation, unexplained, caused_by, pushed};
 ghost use Rattle.winnow_error.specs.Mode.{Mode, ModeAppends, ModeMaps, ModeOr, IsBacktrackOf, IsCutOf};
@@ -11,7 +13,7 @@ ghost use Rattle.winnow_error.specs.declared.mode.ErrMode.TheVariants.{Incomplet
 ghost use Rattle.winnow_error.specs.declared.empty.EmptyError.{EmptyError};
 ghost use Rattle.winnow_error.specs.declared.str_context.StrContext.{StrContext};
 ghost use Rattle.winnow_error.specs.declared.str_context.StrContextValue.{StrContextValue};
-ghost use Rattle.winnow_error.specs.declared.str_context.StrContextValue.TheVariants.{CharLiteral};
+ghost use Rattle.winnow_error.specs.declared.str_context.StrContextValue.TheVariants.{CharLiteral, StringLiteral};
 ghost use Rattle.winnow_stream.specs.declared.needed.Needed.{Needed};
 
 use std::fmt::{Debug, Display};
@@ -33,8 +35,8 @@ pub fn input_error_law<I: Stream + Copy, C: Drop>()
     ensures add_context_answers { ⟦<InputError<I> as AddContext<I, C>>⟧.add_context_refusable → ⊥ }
 {}
 
-/// A `ContextError` is made empty or of its cause, and is told contexts alone.
-pub fn context_error_law<I: Stream, C: Drop>()
+/// A `ContextError` is made empty or of its cause, is told contexts alone, and is equal to one with equal contexts and the same cause.
+pub fn context_error_law<I: Stream, C: Drop + PartialEq>()
     ensures made { (input : I) (e : Explanation C) → ⟦<ContextError<C> as ParserError<I>>⟧.from_input_gives input e → e ≡ unexplained }
     ensures misused { (input : I) (e : Explanation C) → ⟦<ContextError<C> as ParserError<I>>⟧.assert_gives input e → e ≡ unexplained }
     ensures cut_short { (input : I) (needed : Needed) (e : Explanation C) → ⟦<ContextError<C> as ParserError<I>>⟧.incomplete_gives input needed e → e ≡ unexplained }
@@ -44,6 +46,7 @@ pub fn context_error_law<I: Stream, C: Drop>()
     ensures converted { (e r : Explanation C) → ⟦<ContextError<C> as ErrorConvert<ContextError<C>>>⟧.convert_gives e r → r ≡ e }
     ensures append_answers { ⟦<ContextError<C> as ParserError<I>>⟧.append_refusable → ⊥ }
     ensures convert_answers { ⟦<ContextError<C> as ErrorConvert<ContextError<C>>>⟧.convert_refusable → ⊥ }
+    ensures equal { (e f : Explanation C) → ⟦<ContextError<C> as PartialEq>⟧.eq e f ≡ (pointwise C.eq e.contexts f.contexts && option_eq (pointwise nat_eq) e.cause f.cause) }
 {}
 
 /// The errors that tell nothing take no memory.
@@ -90,6 +93,7 @@ pub fn error_text_law<I: Display, E: Debug>()
     ensures input { (e : InputError I) → ⟦<InputError<I> as Display>⟧.output e ≡ (Some (codes "failed to parse starting at: ") ++? I.output e.input) }
     ensures empty { (e : EmptyError) → ⟦<EmptyError as Display>⟧.output e ≡ Some (codes "failed to parse") }
     ensures char { (c : ℕ) (v : StrContextValue) → ⟦<StrContextValue as From<char>>⟧.from_gives c v → v ≡ CharLiteral c }
+    ensures literal { (text : _) (v : StrContextValue) → ⟦<StrContextValue as From<&'static str>>⟧.from_gives text v → v ≡ StringLiteral text }
     ensures value { (v : StrContextValue) → ⟦<StrContextValue as Display>⟧.output v ≡ Some (value_text v) }
     ensures context { (c : StrContext) → ⟦<StrContext as Display>⟧.output c ≡ Some (context_text c) }
     ensures contexts { (e : Explanation StrContext) → ⟦<ContextError<StrContext> as Display>⟧.output e ≡ Some (explanation_text e) }
