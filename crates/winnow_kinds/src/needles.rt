@@ -1,8 +1,7 @@
 #![tactic(auto, using(winnow_match::proofs::lemmas::ByteLemmas::source_bytes))]
 
-ghost use Rattle.std.specs.Prelude.{◌≡◌, ℕ, [], ◌∷◌, List, Option};
+ghost use Rattle.std.specs.Prelude.{◌≡◌, ℕ, [], ◌∷◌, List};
 ghost use Rattle.std.specs.Char.{encode_utf8};
-ghost use Rattle.std.specs.declared.ops.Range as range_declared;
 ghost use Rattle.winnow_match.specs.Search.{hit, bytes_of_needles};
 
 use std::ops::Range;

@@ -3,6 +3,8 @@ ghost use Rattle.std.specs.Str.Lossy.{utf8_lossy};
 ghost use Rattle.winnow_kinds.specs.Contents.{bstr_contents, bytes_contents};
 ghost use Rattle.winnow_kinds.specs.Escapes.{debug_text};
 ghost use Rattle.winnow_kinds.specs.Hex.{hex_text};
+ghost use Rattle.winnow_kinds.specs.declared.bstr.BStr.{BStr};
+ghost use Rattle.winnow_kinds.specs.declared.bytes.Bytes.{Bytes};
 
 use crate::{BStr, ByteLiteral, ByteNeedles, Bytes, contents_equality_law, contents_order_law};
 use std::alloc::{AllocError, Global};
@@ -96,10 +98,12 @@ where
     (S::is_partial_supported(), stream.is_partial())
 }
 
-// Neither has a mark: they stay as they are.
+// Neither has a mark: they stay as they are, and what agrees in all but the mark is the same.
 fn complete_both<'i>(text: &mut BStr<'i>, bytes: &mut Bytes<'i>)
     ensures text { text.old ≡ text.new }
     ensures bytes { bytes.old ≡ bytes.new }
+    ensures same_text { (s t : BStr) → ⟦<BStr<'i> as StreamIsPartial>⟧.same_but_mark s t → s ≡ t }
+    ensures same_bytes { (s t : Bytes) → ⟦<Bytes<'i> as StreamIsPartial>⟧.same_but_mark s t → s ≡ t }
 {
     text.complete();
     text.restore_partial(());

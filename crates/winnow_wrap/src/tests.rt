@@ -1,4 +1,5 @@
-ghost use Rattle.std.specs.Prelude.{◌≡◌, ◌≤◌, ◌-◌, IsTrue, IsOk, IfOk, false, ◌&&◌};
+ghost use Rattle.std.specs.Prelude.{◌≡◌, ℕ, List, ◌≤◌, ◌-◌, IsTrue, IsOk, IfOk, false, ◌&&◌};
+ghost use Rattle.std.specs.Borrow.{Bor};
 ghost use Rattle.std.specs.Ordering.{on, then_cmp};
 ghost use Rattle.winnow_stream.specs.Checkpoint.{checkpoint_inner};
 ghost use Rattle.winnow_stream.specs.Source.{first_token};
@@ -141,10 +142,12 @@ fn complete_inside<I: Stream, S: Debug>(
     (s.complete(), s.is_partial())
 }
 
-// A plain stream has no mark: it stays as it is.
+// A plain stream has no mark: it stays as it is, and what agrees in all but the mark is the same.
 fn complete_plain<'i>(bytes: &mut &'i [u8], text: &mut &'i str)
     ensures bytes { bytes.old ≡ bytes.new }
     ensures text { text.old ≡ text.new }
+    ensures same_bytes { (s t : Bor (List ℕ)) → ⟦<&'i [u8] as StreamIsPartial>⟧.same_but_mark s t → s ≡ t }
+    ensures same_text { (s t : Bor (List ℕ)) → ⟦<&'i str as StreamIsPartial>⟧.same_but_mark s t → s ≡ t }
 {
     bytes.complete();
     bytes.restore_partial(());

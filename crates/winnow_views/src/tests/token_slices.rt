@@ -1,5 +1,6 @@
 ghost use Rattle.std.specs.Prelude.{◌≡◌, ◌≤◌};
 ghost use Rattle.winnow_views.specs.TokenPlaces.{whole_of};
+ghost use Rattle.winnow_views.specs.declared.token_slice.TokenSlice.{TokenSlice};
 
 use super::told;
 use crate::TokenSlice;
@@ -89,9 +90,10 @@ fn gone<C: Rest, S: Offset<C>>(s: &S, start: &C) -> usize
     s.offset_from(start)
 }
 
-// There is no mark: they stay as they are.
+// There is no mark: they stay as they are, and what agrees in all but the mark is the same.
 fn complete_tokens<'t, T>(s: &mut TokenSlice<'t, T>)
-    ensures { s.old ≡ s.new }
+    ensures kept { s.old ≡ s.new }
+    ensures same { (s t : TokenSlice T) → ⟦<TokenSlice<'t, T> as StreamIsPartial>⟧.same_but_mark s t → s ≡ t }
 {
     s.complete();
     s.restore_partial(());
