@@ -1,4 +1,4 @@
-ghost use Rattle.std.specs.Prelude.{◌≡◌, ◌++◌, Some, codes};
+ghost use Rattle.std.specs.Prelude.{◌≡◌, Some};
 ghost use Rattle.winnow_error.specs.ContextText.{value_text, context_text, char_text, escape};
 ghost use Rattle.winnow_error.specs.declared.str_context.StrContextValue.TheVariants.{CharLiteral, StringLiteral};
 
