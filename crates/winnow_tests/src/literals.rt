@@ -1,4 +1,4 @@
-ghost use Rattle.std.specs.Prelude.{◌≡◌, ℕ, Option, Some, None, IfSome, IfNone};
+ghost use Rattle.std.specs.Prelude.{◌≡◌, ℕ, Some, None, IfSome, IfNone};
 ghost use Rattle.std.specs.declared.ops.Range as range_declared;
 ghost use Rattle.winnow_stream.specs.Front.{back};
 ghost use Rattle.winnow_match.specs.declared.compare.CompareResult.TheVariants as compared;
