@@ -12,7 +12,7 @@ where
 {
     let mut sum = 0;
     while let Some(hit) = s.find_slice(needle) {
-        if hit.end == 0 || !s.is_offset(hit.end) {
+        if hit.end == 0 {
             break;
         }
         sum = mix(sum, s.next_slice(hit.end).weigh());
