@@ -1,4 +1,4 @@
-ghost use Rattle.std.specs.Prelude.{◌≡◌, ◌-◌, ◌≤◌, true, false, [], ◌∷◌, IfOk, IfSome, string_bytes};
+ghost use Rattle.std.specs.Prelude.{◌≡◌, ◌-◌, ◌≤◌, true, false, [], IfOk, IfSome, string_bytes};
 ghost use Rattle.std.specs.Str.Lossy.{utf8_lossy};
 ghost use Rattle.winnow_kinds.specs.Contents.{bstr_contents, bytes_contents};
 ghost use Rattle.winnow_kinds.specs.Escapes.{debug_text};
@@ -6,7 +6,7 @@ ghost use Rattle.winnow_kinds.specs.Hex.{hex_text};
 ghost use Rattle.winnow_kinds.specs.declared.bstr.BStr.{BStr};
 ghost use Rattle.winnow_kinds.specs.declared.bytes.Bytes.{Bytes};
 
-use crate::{BStr, ByteLiteral, ByteNeedles, Bytes, contents_equality_law, contents_order_law};
+use crate::{BStr, Bytes, contents_equality_law, contents_order_law};
 use std::alloc::{AllocError, Global};
 use std::cmp::Ordering;
 use std::hash::{DefaultHasher, Hash, Hasher};
@@ -19,6 +19,8 @@ use winnow_stream::{
     AsBStr, AsBytes, Checkpoint, NoSet, Offset, Rest, SliceLen, Step, Stream, StreamIsPartial,
     UpdateSlice, run,
 };
+
+mod own_literals;
 
 // Each of these makes its call through a bound.
 
@@ -460,47 +462,4 @@ fn hexadecimal_texts(rt: HostRuntime) -> Result<(), Fail> {
 fn laws_of_contents(_rt: HostRuntime) {
     contents_equality_law();
     contents_order_law();
-}
-
-// A literal and a needle of one's own: a byte, twice.
-#[derive(Drop)]
-struct Twice(u8);
-
-impl ByteLiteral for Twice {
-    ghost literal_bytes = { λ twice. twice.0 ∷ twice.0 ∷ [] };
-
-    fn compare_with(self, bytes: &[u8]) -> CompareResult {
-        [self.0, self.0].compare_with(bytes)
-    }
-}
-
-impl ByteNeedles for Twice {
-    ghost needle_bytes = { λ twice. (twice.0 ∷ twice.0 ∷ []) ∷ [] };
-
-    fn find_in(self, bytes: &[u8]) -> Option<Range<usize>> {
-        [self.0, self.0].as_slice().find_in(bytes)
-    }
-}
-
-#[test]
-fn a_literal_and_a_needle_of_ones_own(rt: HostRuntime) {
-    assert_eq!(rt;
-        [
-            compares(BStr::new(b"aab"), Twice(b'a')),
-            compares(Bytes::new(b"a"), Twice(b'a')),
-            compares(Bytes::new(b"ab"), Twice(b'a')),
-        ],
-        [
-            CompareResult::Ok(2),
-            CompareResult::Incomplete,
-            CompareResult::Error
-        ]
-    );
-    assert_eq!(rt;
-        [
-            finds(BStr::new(b"abaa"), Twice(b'a')),
-            finds(Bytes::new(b"aba"), Twice(b'a')),
-        ],
-        [Some(2..4), None]
-    );
 }
