@@ -1,5 +1,5 @@
 -- The first place of some bytes at which a needle stands.
-use Rattle.std.specs.Prelude.{◌≡◌, ℕ, ◌+◌, ◌<◌, ◌==◌, IsTrue, ⊤, is_some, drop, Bool, true, false, ◌&&◌, if◌then◌else◌, List, [], ◌∷◌, length, Option, None, Some}
+use Rattle.std.specs.Prelude.{◌≡◌, ℕ, ◌+◌, ◌<◌, ◌≤◌, ◌==◌, IsTrue, ⊤, is_some, drop, Bool, true, false, ◌&&◌, if◌then◌else◌, List, [], ◌∷◌, length, Option, None, Some}
 use Rattle.std.specs.List.{list_any, slice_index_or}
 use Rattle.std.specs.Borrow.{Bor}
 use Rattle.std.specs.Str.{IsUtf8}
@@ -84,6 +84,6 @@ abbrev pub have_one_length : List (List ℕ) → Bool
 have_one_length [] = true
 have_one_length (needle ∷ needles) = have_length (length needle) needles
 
--- both ends of a hit are offsets of r
+-- both ends of a hit are offsets of r, and the end is no nearer than the start
 abbrev pub AreOffsets : {T : Type 0} → Source T → Range ℕ → Type 0
-AreOffsets r places = IsTrue (is_offset r places.start) × IsTrue (is_offset r places.end)
+AreOffsets r places = (places.start ≤ places.end) × (IsTrue (is_offset r places.start) × IsTrue (is_offset r places.end))

@@ -1,4 +1,4 @@
-ghost use Rattle.std.specs.Prelude.{◌≡◌, ℕ, ◌++◌, ◌↔◌, Bool, List, Ok, Some, IfOk, IsTrue};
+ghost use Rattle.std.specs.Prelude.{◌≡◌, ℕ, ◌++◌, ◌-◌, ◌≤◌, ◌↔◌, Bool, List, Ok, Some, IfOk, IsTrue};
 ghost use Rattle.std.specs.Borrow.{Bor};
 ghost use Rattle.std.specs.Cmp.Lexicographic.{pointwise, slice_cmp};
 ghost use Rattle.std.specs.Ordering.{nat_cmp};
@@ -13,11 +13,14 @@ use crate::{Answer, Checkpoint, ScriptSet, Step, Stream, run};
 use std::alloc::{AllocError, Global};
 
 /// The law of fronts: an offset is valid exactly where some front has that width, what is taken has that width, and what is
-/// taken followed by what remains is what was there. It does nothing when called: its contract is the law.
+/// taken followed by what remains is what was there. Behind a front the offsets are those further on, less its width, and to go on
+/// from there leaves what going there at once would leave. It does nothing when called: its contract is the law.
 pub fn front_law<T>()
     ensures offset { (r : Source T) (n : ℕ) → HasWidths r → (IsTrue (is_offset r n) ↔ HasFront r n) }
     ensures width { (r : Source T) (n : ℕ) → IsTrue (is_offset r n) → width (front r n) ≡ n }
     ensures whole { (r : Source T) (n : ℕ) → front r n ++ back r n ≡ r }
+    ensures further { (r : Source T) (m n : ℕ) → IsTrue (is_offset r m) → m ≤ n → is_offset (back r m) (n - m) ≡ is_offset r n }
+    ensures on { (r : Source T) (m n : ℕ) → IsTrue (is_offset r m) → IsTrue (is_offset r n) → m ≤ n → back (back r m) (n - m) ≡ back r n }
 {}
 
 /// The law of offsets: what `offset_at`, `offset_for` and `eof_offset` answer is a valid offset. It does nothing when called: its

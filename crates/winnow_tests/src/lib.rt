@@ -21,7 +21,7 @@ pub use error_walks::{
 };
 pub use fields::field;
 pub use listed::Listed;
-pub use literals::{literal, take_until};
+pub use literals::{literal, take_through, take_until};
 pub use own_errors::{Apart, Furthest, Labelled};
 pub use pairs::{PairOffsets, Pairs};
 pub use walks::{look_back, take_back, tell, told};

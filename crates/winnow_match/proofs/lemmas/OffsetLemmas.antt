@@ -84,23 +84,23 @@ text-needle [] i h l = absurd (omega (arith, l))
 text-needle (n ∷ ls) zero h l = h.0
 text-needle (n ∷ ls) (suc i) h l = text-needle ls i h.1 (omega (arith, l))
 
--- what holds of 0, and where each needle begins and ends, holds where a hit begins and ends
+-- what holds of 0, and where each needle begins and ends, holds where a hit begins and ends; and it ends no nearer than it begins
 module _ (P : ℕ → Type 0) (ls : List (List ℕ)) (bytes : List ℕ) (start : P 0) (ends : (i k : ℕ) → i < length ls → is_empty (needle_of ls i) ≡ false → is_front (needle_of ls i) (drop k bytes) ≡ true → P k × P (k + length (needle_of ls i))) where
-  hit-ends : (r : Range ℕ) → hit ls bytes ≡ Some r → P r.start × P r.end
+  hit-ends : (r : Range ℕ) → hit ls bytes ≡ Some r → (r.start ≤ r.end) × (P r.start × P r.end)
   hit-ends r h =
       elim (cases_Bool (list_any is_empty ls)) [
         | inl e ↦
             let g : cond (list_any is_empty ls) (Some (places 0 0)) (first_hit ls 0 bytes) ≡ Some r = h in
             let same : places 0 0 ≡ r = same_Some (places 0 0) r (rw e at g) in
-            let Q : Range ℕ → Type 0 = λ q. P q.start × P q.end in
-            subst Q same (start, start)
+            let Q : Range ℕ → Type 0 = λ q. (q.start ≤ q.end) × (P q.start × P q.end) in
+            subst Q same (omega arith, (start, start))
         | inr e ↦
             let f = hit-IsFirstHit ls bytes e r h in
             let p = ends f.index r.start f.listed (nonempty-needle ls f.index e f.listed) (is_front-IsFrontOf (needle_of ls f.index) (drop r.start bytes) f.stands) in
-            (p.0, subst P (sym f.whole) p.1)
+            (omega (arith, f.whole), (p.0, subst P (sym f.whole) p.1))
       ]
 
-  hits-end : (o : Option (Range ℕ)) → o ≡ hit ls bytes → IfSome o (λ r. P r.start × P r.end)
+  hits-end : (o : Option (Range ℕ)) → o ≡ hit ls bytes → IfSome o (λ r. (r.start ≤ r.end) × (P r.start × P r.end))
   hits-end None is = tt
   hits-end (Some r) is = hit-ends r (sym is)
 

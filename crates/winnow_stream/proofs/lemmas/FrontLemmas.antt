@@ -33,6 +33,21 @@ some-parts : (o : Option ℕ) → is_some o ≡ true → o ≡ Some (unwrap_or o
 some-parts None h = absurd (cc)
 some-parts (Some k) h = refl
 
+minus-none : (n : ℕ) → n - 0 ≡ n
+minus-none n = omega arith
+
+more-none : (o : Option ℕ) → o ≡ option_map (λ k. 0 + k) o
+more-none None = refl
+more-none (Some k) = ap Some (omega arith)
+
+more-one : (n : ℕ) (o : Option ℕ) → option_map (λ k. k + 1) (option_map (λ k. n + k) o) ≡ option_map (λ k. suc n + k) o
+more-one n None = refl
+more-one n (Some k) = ap Some (omega arith)
+
+more-some : (n : ℕ) (o : Option ℕ) → is_some (option_map (λ k. n + k) o) ≡ is_some o
+more-some n None = refl
+more-some n (Some k) = refl
+
 module _ {A : Type 0} where
   pub is_offset-cons : (x : A × ℕ) (xs : List (A × ℕ)) (n : ℕ) → is_offset (x ∷ xs) n ≡ cond (n == 0) true (nat_le x.1 n && is_offset xs (n - x.1))
   is_offset-cons x xs n = offset-parts (n == 0) (nat_le x.1 n) (front_count xs (n - x.1))
@@ -152,3 +167,36 @@ module _ {A : Type 0} where
   HasWidths-drop zero r h = h
   HasWidths-drop (suc k) [] h = h
   HasWidths-drop (suc k) (x ∷ xs) h = HasWidths-drop k xs h.1
+
+  -- the tokens up to a further offset: those up to the nearer one, and then those from there on
+  pub front_count-on : (r : List (A × ℕ)) (a b : ℕ) → is_offset r a ≡ true → a ≤ b → front_count r b ≡ option_map (λ k. count_to r a + k) (front_count (back r a) (b - a))
+  front_count-on [] a b h l =
+      elim (eqb_tells a 0) [
+        | inl p ↦ rw p.1 (rw (minus-none b) (more-none (front_count {T = A} [] b)))
+        | inr p ↦ let f : is_some (cond (a == 0) (Some 0) None) ≡ true = h in absurd (let g = rw p.0 at f in cc)
+      ]
+  front_count-on (x ∷ xs) a b h l =
+      elim (eqb_tells a 0) [
+        | inl p ↦ rw p.1 (rw (minus-none b) (more-none (front_count (x ∷ xs) b)))
+        | inr p ↦
+            let c : (nat_le x.1 a && is_offset xs (a - x.1)) ≡ true = sym (ap (λ t. cond t true (nat_le x.1 a && is_offset xs (a - x.1))) p.0) ∙ sym (is_offset-cons x xs a) ∙ h in
+            let parts = and_parts (nat_le x.1 a) (is_offset xs (a - x.1)) c in
+            let w : x.1 ≤ a = leb-true _ _ parts.0 in
+            let k : count_to (x ∷ xs) a ≡ suc (count_to xs (a - x.1)) = count_to-cons x xs a h ∙ ap (λ t. cond t 0 (count_to xs (a - x.1) + 1)) p.0 ∙ add-one _ in
+            let e = front_count-on xs (a - x.1) (b - x.1) parts.1 (omega (arith, l, w)) in
+            let d : (b - x.1) - (a - x.1) ≡ b - a = omega (arith, w, l) in
+            let z : (b == 0) ≡ false = grind (arith, nat_tests, p.0, l) in
+            let m : nat_le x.1 b ≡ true = grind (arith, nat_tests, w, l) in
+            subst (λ n. cond (b == 0) (Some 0) (cond (nat_le x.1 b) (option_map (λ j. j + 1) (front_count xs (b - x.1))) None) ≡ option_map (λ j. n + j) (front_count (drop n (x ∷ xs)) (b - a))) (sym k)
+              (rw z (rw m (rw e (rw d (more-one (count_to xs (a - x.1)) (front_count (back xs (a - x.1)) (b - a)))))))
+      ]
+
+  -- offsets behind a front are the further offsets of the whole, and leave the same
+  pub is_offset-on : (r : List (A × ℕ)) (a b : ℕ) → is_offset r a ≡ true → a ≤ b → is_offset (back r a) (b - a) ≡ is_offset r b
+  is_offset-on r a b h l = sym (ap is_some (front_count-on r a b h l) ∙ more-some (count_to r a) (front_count (back r a) (b - a)))
+
+  pub back-on : (r : List (A × ℕ)) (a b : ℕ) → is_offset r a ≡ true → is_offset r b ≡ true → a ≤ b → back (back r a) (b - a) ≡ back r b
+  back-on r a b h g l =
+      let f : front_count (back r a) (b - a) ≡ Some (count_to (back r a) (b - a)) = front_count-found (back r a) (b - a) (is_offset-on r a b h l ∙ g) in
+      let e : count_to r b ≡ count_to r a + count_to (back r a) (b - a) = ap (λ o. unwrap_or o 0) (front_count-on r a b h l ∙ ap (option_map (λ k. count_to r a + k)) f) in
+      drop-drop (count_to (back r a) (b - a)) (count_to r a) r ∙ ap (λ n. drop n r) (sym e)
