@@ -1,10 +1,28 @@
-use Rattle.std.proofs.Common.{◌≡◌, take, arith, take_all, length, ◌<◌, subst, sym}
-use Rattle.std.proofs.lemmas.List.Elements.{All-get_or}
+use Rattle.std.proofs.Common.{◌≡◌, [], ◌∷◌, ◌++◌, refl, sym, ◌∙◌, ap, subst, arith}
+use Rattle.std.proofs.lemmas.List.{append_assoc, append-nil, nil_from_length}
+use Rattle.std.proofs.lemmas.List.Elements.{All-head, All-tail}
+use Rattle.std.specs.List.{All}
 use Rattle.winnow_stream.specs.Cursor.{start}
-use Rattle.winnow_stream.specs.Script.{step_answer, step_next, SetComputes, StandsFor}
+use Rattle.winnow_stream.specs.Script.{step_answer, step_next, IsReady, SetComputes, StandsFor}
 use Rattle.winnow_stream.proofs.lemmas.PairLemmas.{AllZip-more}
-use Rattle.winnow_stream.proofs.lemmas.ScriptLemmas.{cursor-more, answers-more}
+use Rattle.winnow_stream.proofs.lemmas.ScriptLemmas.{cursor-append, answers-append}
 use Rattle.winnow_stream.proofs.running.run_steps.Goals as goal
+
+pub loop-step-init : goal.loop-step-init
+loop-step-init g c = record {
+  valid = c.requires.valid;
+  kept = g.met.S.Stream.keeps_reflexive _;
+  ready = c.requires.ready;
+  sets = λ q p. p;
+  done = [];
+  split = refl;
+  stands = record { widths = g.met.S.Stream.has_widths _ c.requires.valid; rest = refl; within = omega arith; marks = rw c.new-marks.ensures.items tt };
+  answers = λ q p. rw c.in_ok-answers.ensures.items tt;
+}
+
+pub answer_step-requires-clause-ready : goal.answer_step-requires-clause-ready
+answer_step-requires-clause-ready g c =
+    All-head (IsReady g.C.ScriptSet.can_hold) c.in-Some.step.now c.in-Some.later.now (subst (All (IsReady g.C.ScriptSet.can_hold)) c.in-Some.ensures.cases.0 c.loop-step.invariant.ready)
 
 pub returns-in_err-answer-clause-kept : goal.returns-in_err-answer-clause-kept
 returns-in_err-answer-clause-kept g c = g.met.S.Stream.keeps_transitive _ _ _ c.loop-step.invariant.kept c.answer_step.ensures.kept
@@ -14,22 +32,32 @@ returns-in_err-push-clause-kept g c = g.met.S.Stream.keeps_transitive _ _ _ c.lo
 
 pub loop-step-preserved : goal.loop-step-preserved
 loop-step-preserved g c =
-    let l : c.loop-step.step-index < length c.args.script.now = omega arith in
     let all = g.S.Stream.remaining c.args.s.now in
+    let i = c.loop-step.invariant in
+    let e : c.loop-step.rest.now ≡ c.in-Some.step.now ∷ c.in-Some.later.now = c.in-Some.ensures.cases.0 in
     record {
       valid = c.answer_step.ensures.valid;
-      kept = g.met.S.Stream.keeps_transitive _ _ _ c.loop-step.invariant.kept c.answer_step.ensures.kept;
-      stands =
-          rw (cursor-more (step_next all) c.args.script.now c.loop-step.step-index c.step-item.result start l c.step-item.is)
-          (c.in_ok-answer.ensures.stands _ _ c.loop-step.invariant.stands);
+      kept = g.met.S.Stream.keeps_transitive _ _ _ i.kept c.answer_step.ensures.kept;
+      ready = All-tail (IsReady g.C.ScriptSet.can_hold) c.in-Some.step.now c.in-Some.later.now (subst (All (IsReady g.C.ScriptSet.can_hold)) e i.ready);
+      sets = λ q p. All-tail (SetComputes g.C.ScriptSet.tells q) c.in-Some.step.now c.in-Some.later.now (subst (All (SetComputes g.C.ScriptSet.tells q)) e (i.sets q p));
+      done = i.done ++ c.in-Some.step.now ∷ [];
+      split = i.split ∙ ap (λ xs. i.done ++ xs) e ∙ sym (append_assoc i.done (c.in-Some.step.now ∷ []) c.in-Some.later.now);
+      stands = rw (cursor-append (step_next all) i.done c.in-Some.step.now start) (c.in_ok-answer.ensures.stands _ _ i.stands);
       answers = λ q p.
-          let here = subst (SetComputes g.C.ScriptSet.tells q) (sym c.step-item.is) (All-get_or (SetComputes g.C.ScriptSet.tells q) c.args.script.now c.loop-step.step-index c.step-item.result l p) in
-          rw (answers-more (step_answer q g.S.Stream.counts_missing all) (step_next all) c.args.script.now c.loop-step.step-index c.step-item.result start l c.step-item.is)
+          let here = All-head (SetComputes g.C.ScriptSet.tells q) c.in-Some.step.now c.in-Some.later.now (subst (All (SetComputes g.C.ScriptSet.tells q)) e (i.sets q p)) in
+          rw (answers-append (step_answer q g.S.Stream.counts_missing all) (step_next all) i.done c.in-Some.step.now start)
           (rw c.in_ok-push.ensures.items
-          (AllZip-more (StandsFor g.S.Stream.is_slice all) _ _ _ _ (c.loop-step.invariant.answers q p) (c.in_ok-answer.ensures.answer q _ _ here c.loop-step.invariant.stands)));
+          (AllZip-more (StandsFor g.S.Stream.is_slice all) _ _ _ _ (i.answers q p) (c.in_ok-answer.ensures.answer q _ _ here i.stands)));
     }
 
 pub returns-clause-answers : goal.returns-clause-answers
 returns-clause-answers g c = λ q p.
-    let e : take c.loop-step.step-index c.args.script.now ≡ c.args.script.now = take_all _ _ (omega arith) in
-    rw e at (c.loop-step.invariant.answers q p)
+    let i = c.loop-step.invariant in
+    let e : c.args.script.now ≡ i.done = i.split ∙ ap (λ xs. i.done ++ xs) (nil_from_length _ c.in_default.ensures.cases) ∙ append-nil i.done in
+    rw e (i.answers q p)
+
+pub returns-clause-remains : goal.returns-clause-remains
+returns-clause-remains g c =
+    let i = c.loop-step.invariant in
+    let e : c.args.script.now ≡ i.done = i.split ∙ ap (λ xs. i.done ++ xs) (nil_from_length _ c.in_default.ensures.cases) ∙ append-nil i.done in
+    rw e i.stands.rest
