@@ -177,11 +177,13 @@ impl<I: Stream, E: ParserError<I>> ParserError<I> for ErrMode<E> {
             ErrMode::Incomplete(first) => Ok(ErrMode::Incomplete(first)),
             ErrMode::Cut(first) => match other {
                 ErrMode::Incomplete(second) => Ok(ErrMode::Incomplete(second)),
-                _ => Ok(ErrMode::Cut(first)),
+                ErrMode::Backtrack(_) => Ok(ErrMode::Cut(first)),
+                ErrMode::Cut(_) => Ok(ErrMode::Cut(first)),
             },
             ErrMode::Backtrack(first) => match other {
                 ErrMode::Backtrack(second) => Ok(ErrMode::Backtrack(first.or(alloc, second)?)),
-                hard => Ok(hard),
+                ErrMode::Incomplete(needed) => Ok(ErrMode::Incomplete(needed)),
+                ErrMode::Cut(hard) => Ok(ErrMode::Cut(hard)),
             },
         }
     }
