@@ -188,7 +188,7 @@ module _ {A : Type 0} where
             let z : (b == 0) ≡ false = grind (arith, nat_tests, p.0, l) in
             let m : nat_le x.1 b ≡ true = grind (arith, nat_tests, w, l) in
             subst (λ n. cond (b == 0) (Some 0) (cond (nat_le x.1 b) (option_map (λ j. j + 1) (front_count xs (b - x.1))) None) ≡ option_map (λ j. n + j) (front_count (drop n (x ∷ xs)) (b - a))) (sym k)
-              (rw z (rw m (rw e (rw d (more-one (count_to xs (a - x.1)) (front_count (back xs (a - x.1)) (b - a)))))))
+            (rw z (rw m (rw e (rw d (more-one (count_to xs (a - x.1)) (front_count (back xs (a - x.1)) (b - a)))))))
       ]
 
   -- offsets behind a front are the further offsets of the whole, and leave the same

@@ -9,7 +9,10 @@ fn bytes_are_taken_by_what_they_hold(rt: HostRuntime) {
     assert_eq!(rt; take_until(&mut input, b'e'), None);
     assert_eq!(rt; take_until(&mut input, b'd'), Some(b";c".as_slice()));
     assert_eq!(rt; take_through(&mut input, b';'), None);
-    assert_eq!(rt; take_through(&mut input, b""), Some((b"".as_slice(), b"".as_slice())));
+    assert_eq!(rt;
+        take_through(&mut input, b"".as_slice()),
+        Some((b"".as_slice(), b"".as_slice()))
+    );
     assert_eq!(rt; input, b"d".as_slice());
 }
 
