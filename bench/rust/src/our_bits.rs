@@ -44,8 +44,7 @@ impl Room {
 
     /// What the calls that no step names answer of them.
     pub fn others_bits(&mut self, input: &[u8], place: usize, width: usize) -> Option<Vec<u64>> {
-        let told =
-            self.told(|out, room| unsafe { winnow_bench_others_bits(input.as_ptr(), input.len(), place as u64, width as u64, out, room) });
+        let told = self.told(|out, room| unsafe { winnow_bench_others_bits(input.as_ptr(), input.len(), place as u64, width as u64, out, room) });
         told.map(<[u64]>::to_vec)
     }
 }

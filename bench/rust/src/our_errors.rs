@@ -19,7 +19,13 @@ unsafe extern "C" {
     fn winnow_bench_input_text(input: *const u8, length: usize, out: *mut u64, room: usize) -> u64;
     fn winnow_bench_context_text(number: u64, out: *mut u64, room: usize) -> u64;
     fn winnow_bench_explanation_text(
-        contexts: *const u64, count: usize, causes: u64, cause: *const u8, length: usize, out: *mut u64, room: usize,
+        contexts: *const u64,
+        count: usize,
+        causes: u64,
+        cause: *const u8,
+        length: usize,
+        out: *mut u64,
+        room: usize,
     ) -> u64;
 }
 

@@ -62,12 +62,28 @@ sets! {
 
 unsafe extern "C" {
     fn winnow_bench_searches_bytes(
-        input: *const u8, length: usize, a: *const u8, a_length: usize, b: *const u8, b_length: usize, c: *const u8, c_length: usize,
-        out: *mut u64, room: usize,
+        input: *const u8,
+        length: usize,
+        a: *const u8,
+        a_length: usize,
+        b: *const u8,
+        b_length: usize,
+        c: *const u8,
+        c_length: usize,
+        out: *mut u64,
+        room: usize,
     ) -> u64;
     fn winnow_bench_searches_text(
-        input: *const u8, length: usize, a: *const u8, a_length: usize, b: *const u8, b_length: usize, c: *const u8, c_length: usize,
-        out: *mut u64, room: usize,
+        input: *const u8,
+        length: usize,
+        a: *const u8,
+        a_length: usize,
+        b: *const u8,
+        b_length: usize,
+        c: *const u8,
+        c_length: usize,
+        out: *mut u64,
+        room: usize,
     ) -> u64;
     fn winnow_bench_sets(token: u64, low: u64, high: u64, out: *mut u64, room: usize) -> u64;
 }

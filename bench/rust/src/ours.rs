@@ -107,33 +107,34 @@ impl Room {
 
     /// The answers of a script on bytes.
     pub fn answers_bytes(&mut self, input: &[u8], script: &[RawStep]) -> Option<Vec<Told>> {
-        read_answers(self.told(|out, room| unsafe {
-            winnow_bench_answers_bytes(input.as_ptr(), input.len(), script.as_ptr(), script.len(), out, room)
-        })?)
+        read_answers(
+            self.told(|out, room| unsafe { winnow_bench_answers_bytes(input.as_ptr(), input.len(), script.as_ptr(), script.len(), out, room) })?,
+        )
     }
 
     /// The answers of a script on a text.
     pub fn answers_text(&mut self, input: &str, script: &[RawStep]) -> Option<Vec<Told>> {
-        read_answers(self.told(|out, room| unsafe {
-            winnow_bench_answers_text(input.as_ptr(), input.len(), script.as_ptr(), script.len(), out, room)
-        })?)
+        read_answers(
+            self.told(|out, room| unsafe { winnow_bench_answers_text(input.as_ptr(), input.len(), script.as_ptr(), script.len(), out, room) })?,
+        )
     }
 
     /// The answers of a script on a slice of tokens.
     pub fn answers_tokens(&mut self, input: &[u8], script: &[RawStep]) -> Option<Vec<Told>> {
-        read_answers(self.told(|out, room| unsafe {
-            winnow_bench_answers_tokens(input.as_ptr(), input.len(), script.as_ptr(), script.len(), out, room)
-        })?)
+        read_answers(
+            self.told(|out, room| unsafe { winnow_bench_answers_tokens(input.as_ptr(), input.len(), script.as_ptr(), script.len(), out, room) })?,
+        )
     }
 
     /// The answers of a script on a `BStr`, and on `Bytes`.
     pub fn answers_kinds(&mut self, input: &[u8], script: &[RawStep]) -> Option<[Vec<Told>; 2]> {
-        let bstr = read_answers(self.told(|out, room| unsafe {
-            winnow_bench_answers_bstr(input.as_ptr(), input.len(), script.as_ptr(), script.len(), out, room)
-        })?)?;
-        let bytes = read_answers(self.told(|out, room| unsafe {
-            winnow_bench_answers_plain_bytes(input.as_ptr(), input.len(), script.as_ptr(), script.len(), out, room)
-        })?)?;
+        let bstr = read_answers(
+            self.told(|out, room| unsafe { winnow_bench_answers_bstr(input.as_ptr(), input.len(), script.as_ptr(), script.len(), out, room) })?,
+        )?;
+        let bytes =
+            read_answers(self.told(|out, room| unsafe {
+                winnow_bench_answers_plain_bytes(input.as_ptr(), input.len(), script.as_ptr(), script.len(), out, room)
+            })?)?;
         Some([bstr, bytes])
     }
 
@@ -175,9 +176,11 @@ impl Room {
 
     /// The answers of a script on bytes in a stream that records errors.
     pub fn answers_recoverable(&mut self, input: &[u8], script: &[RawStep]) -> Option<Vec<Told>> {
-        read_answers(self.told(|out, room| unsafe {
-            winnow_bench_answers_recoverable(input.as_ptr(), input.len(), script.as_ptr(), script.len(), out, room)
-        })?)
+        read_answers(
+            self.told(|out, room| unsafe {
+                winnow_bench_answers_recoverable(input.as_ptr(), input.len(), script.as_ptr(), script.len(), out, room)
+            })?,
+        )
     }
 
     /// What bytes tell in streams that record errors, refuse them, and go back to their start.

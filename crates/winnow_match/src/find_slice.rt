@@ -13,7 +13,8 @@ pub trait FindSlice<T>: Stream {
 
     /// The least place at which a needle stands, up to the end of the first listed needle that stands there. Places are
     /// counted from where the stream stands, and it stays there. An empty needle stands at once, at `0..0`. Both ends are
-    /// offsets, the start the nearer, so that what stands before the needle may be taken, and then the needle.
+    /// offsets, and the end is no nearer than the start, so that what stands before the needle may be taken, and then the
+    /// needle.
     fn find_slice(&self, substr: T) -> Option<Range<usize>>
         requires { Self.valid self.now }
         ensures answer { result ≡ found substr (Self.remaining self.now) }

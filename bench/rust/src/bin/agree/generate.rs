@@ -8,8 +8,7 @@ use winnow_bench::script::Step;
 pub const BYTES: [u8; 11] = [0x00, b'\n', b'a', 0x7f, 0x80, 0xa9, 0xbf, 0xc3, 0xe2, 0xf0, 0xff];
 
 /// Characters of each width, the first and the last among them.
-pub const CHARS: [char; 12] =
-    ['\0', '\n', 'a', '\u{7f}', '\u{80}', 'é', '\u{7ff}', '\u{800}', '€', '\u{ffff}', '\u{10000}', '\u{10ffff}'];
+pub const CHARS: [char; 12] = ['\0', '\n', 'a', '\u{7f}', '\u{80}', 'é', '\u{7ff}', '\u{800}', '€', '\u{ffff}', '\u{10000}', '\u{10ffff}'];
 
 /// No input is as long.
 const HUGE: [usize; 3] = [1 << 32, usize::MAX - 1, usize::MAX];
@@ -47,7 +46,9 @@ pub fn short_scripts() -> Vec<Vec<Step>> {
     looks.extend((0..5).chain(HUGE).map(Step::At));
     looks.extend(offsets().flat_map(|offset| [Step::Look(offset), Step::IsOffset(offset)]));
     looks.extend([0, 1, 2, usize::MAX].map(Step::Since));
-    looks.extend([(0, u64::MAX), (1, 0), (0, 9), (10, 10), (0x7f, 0x80), (0x80, u64::MAX), (0xe2, 0xffff)].map(|(first, last)| Step::First(first, last)));
+    looks.extend(
+        [(0, u64::MAX), (1, 0), (0, 9), (10, 10), (0x7f, 0x80), (0x80, u64::MAX), (0xe2, 0xffff)].map(|(first, last)| Step::First(first, last)),
+    );
     moves.into_iter().map(|moves| [&[Step::Mark], moves.as_slice(), &looks].concat()).collect()
 }
 

@@ -41,7 +41,10 @@ fn main() -> ExitCode {
         println!("{}", shrink::smallest(case, &mut room).told(&mut room));
         return ExitCode::FAILURE;
     }
-    println!("agree: {count} cases, {bits} of bits, {searches} searches, {sets} sets, {texts} texts and no difference, in {:.1} s", start.elapsed().as_secs_f64());
+    println!(
+        "agree: {count} cases, {bits} of bits, {searches} searches, {sets} sets, {texts} texts and no difference, in {:.1} s",
+        start.elapsed().as_secs_f64()
+    );
     ExitCode::SUCCESS
 }
 

@@ -25,7 +25,7 @@ fn main() -> ExitCode {
         (_, true) => (Sizes::SHORT, 5),
         _ => (Sizes::WHOLE, 15),
     };
-    let [turns, elsewhere] = timing::split(turns);
+    let [turns, others] = timing::split(turns);
     let inputs = Inputs::new(&sizes);
     let mut rows = rows(&inputs);
     rows.retain(|row| after("--only").is_none_or(|word| row.name.contains(word)));
@@ -34,7 +34,7 @@ fn main() -> ExitCode {
     } else if has("--instructions") {
         count(&rows);
     } else if has("--times") {
-        timing::race(&rows, elsewhere).iter().for_each(|times| println!("{times}"));
+        timing::race(&rows, others).iter().for_each(|times| println!("{times}"));
     } else {
         return compare_and_race(&rows, turns, &words);
     }
@@ -50,7 +50,7 @@ fn compare_and_race(rows: &[Row], turns: usize, words: &[String]) -> ExitCode {
         return ExitCode::FAILURE;
     }
     let here = timing::race(rows, turns);
-    let times = here.into_iter().zip(timing::elsewhere(words)).map(|(here, elsewhere)| here.least(elsewhere));
+    let times = here.into_iter().zip(timing::others(words)).map(|(here, others)| here.least(others));
     println!("| Workload | ours, ms | Rust, ms | ours / Rust | ours, million a second | allocations a call, ours and Rust |");
     println!("|---|--:|--:|--:|--:|--:|");
     for ((row, times), allocations) in rows.iter().zip(times).zip(allocations) {

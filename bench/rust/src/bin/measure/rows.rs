@@ -6,9 +6,9 @@ use crate::bit_rows::bit_rows;
 use crate::error_rows::error_rows;
 use crate::search_rows::search_rows;
 use std::hint::black_box;
+use winnow::stream::LocatingSlice;
 use winnow_bench::inputs::{ABSENT, ascii_text, bytes, mixed_text, script, seeded};
 use winnow_bench::script::RawStep;
-use winnow::stream::LocatingSlice;
 use winnow_bench::their_recovered::record;
 use winnow_bench::their_wrappers::wrap;
 use winnow_bench::{ours, their_kinds, theirs};
@@ -158,7 +158,9 @@ fn byte_rows(on: On<&[u8]>) -> Vec<Row<'_>> {
         on.row("checkpoint, two tokens, reset", ABSENT, ours::look_ahead, theirs::look_ahead),
         on.row("offset_at and next_slice of 1", 1, ours::take_all, theirs::take_all),
         on.row("offset_at and next_slice of 16", 16, ours::take_all, theirs::take_all),
-        on.row("offset_at and next_slice of 16, one wrapper", 16, ours::take_all_located, |input, number| theirs::take_all(LocatingSlice::new(input), number)),
+        on.row("offset_at and next_slice of 16, one wrapper", 16, ours::take_all_located, |input, number| {
+            theirs::take_all(LocatingSlice::new(input), number)
+        }),
         on.row("offset_at and next_slice of 16, three wrappers", 16, ours::take_all_wrapped, |input, number| theirs::take_all(wrap(input), number)),
         on.row("offset_at and next_slice of 256", 256, ours::take_all, theirs::take_all),
         on.row("offset_for, near", u64::from(b'\n'), ours::take_parts, theirs::take_parts),
@@ -181,7 +183,9 @@ fn text_rows(on: On<&str>) -> Vec<Row<'_>> {
         on.row("checkpoint, two tokens, reset", ABSENT, ours::look_ahead, theirs::look_ahead),
         on.row("offset_at and next_slice of 1", 1, ours::take_all, theirs::take_all),
         on.row("offset_at and next_slice of 16", 16, ours::take_all, theirs::take_all),
-        on.row("offset_at and next_slice of 16, one wrapper", 16, ours::take_all_located, |input, number| theirs::take_all(LocatingSlice::new(input), number)),
+        on.row("offset_at and next_slice of 16, one wrapper", 16, ours::take_all_located, |input, number| {
+            theirs::take_all(LocatingSlice::new(input), number)
+        }),
         on.row("offset_at and next_slice of 16, three wrappers", 16, ours::take_all_wrapped, |input, number| theirs::take_all(wrap(input), number)),
         on.row("offset_at and next_slice of 256", 256, ours::take_all, theirs::take_all),
         on.row("offset_at, far", u64::MAX, ours::offset_behind, theirs::offset_behind),

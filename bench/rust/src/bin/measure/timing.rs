@@ -3,6 +3,7 @@
 use crate::rows::Row;
 use std::env;
 use std::fmt;
+use std::path::Path;
 use std::process::Command;
 use std::time::Instant;
 
@@ -58,19 +59,27 @@ fn time(call: impl Fn()) -> f64 {
 /// This program with all its code 16 bytes further on.
 const ELSEWHERE: &str = "measure-elsewhere";
 
-/// How many of the turns are those of this program, and how many those of it elsewhere.
+/// How many of the turns this process takes, and how many each of three others.
 pub fn split(turns: usize) -> [usize; 2] {
-    [turns.div_ceil(2), turns / 2]
+    let others = turns / 4;
+    [turns - 3 * others, others]
 }
 
-/// The least times of the same rows elsewhere, called with the same words.
+/// The least times of the same rows in three other processes, called with the same words: two of this program elsewhere, and one of itself.
 ///
 /// Where a jump crosses a border of 32 bytes some processors take it slowly, so a short loop can take half as long again by its place
-/// alone. The table has the least time of both places.
-pub fn elsewhere(words: &[String]) -> Vec<Times> {
-    let program = env::current_exe().expect("the program has a path").with_file_name(ELSEWHERE);
-    let output = Command::new(program).args(words).arg("--times").output().expect("the program starts elsewhere");
-    assert!(output.status.success(), "the program ends elsewhere: {output:?}");
+/// alone. Where a process lies in memory, and its inputs, can cost as much, and stays the same as long as it runs. The table has the
+/// least time of both places and all processes.
+pub fn others(words: &[String]) -> Vec<Times> {
+    let here = env::current_exe().expect("the program has a path");
+    let elsewhere = here.with_file_name(ELSEWHERE);
+    let [first, second, third] = [&elsewhere, &here, &elsewhere].map(|program| times_of(program, words));
+    first.into_iter().zip(second).zip(third).map(|((first, second), third)| first.least(second).least(third)).collect()
+}
+
+fn times_of(program: &Path, words: &[String]) -> Vec<Times> {
+    let output = Command::new(program).args(words).arg("--times").output().expect("the program starts again");
+    assert!(output.status.success(), "the program ends well: {output:?}");
     String::from_utf8_lossy(&output.stdout).lines().filter_map(read).collect()
 }
 
