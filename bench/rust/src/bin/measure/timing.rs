@@ -68,8 +68,8 @@ pub fn split(turns: usize) -> [usize; 2] {
 /// The least times of the same rows in three other processes, called with the same words: two of this program elsewhere, and one of itself.
 ///
 /// Where a jump crosses a border of 32 bytes some processors take it slowly, so a short loop can take half as long again by its place
-/// alone. Where a process lies in memory, and its inputs, can cost as much, and stays the same as long as it runs. The table has the
-/// least time of both places and all processes.
+/// alone. Single rows were also seen as slow in one whole run, and not in the next, with two processes. The table has the least time of
+/// both places and all processes.
 pub fn others(words: &[String]) -> Vec<Times> {
     let here = env::current_exe().expect("the program has a path");
     let elsewhere = here.with_file_name(ELSEWHERE);
