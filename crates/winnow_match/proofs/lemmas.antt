@@ -3,5 +3,9 @@ pub mod ComparisonLemmas
 pub mod FrontLemmas
 pub mod SearchLemmas
 pub mod HitLemmas
+pub mod StretchLemmas
+pub mod MoveLemmas
+pub mod TailLemmas
+pub mod RuleLemmas
 pub mod OffsetLemmas
 pub mod ShortageLemmas

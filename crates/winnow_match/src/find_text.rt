@@ -58,12 +58,7 @@ impl<'i, 'n> FindSlice<Needles<&'n str>> for &'i str {
     ghost found = { λ needles r. hit (bytes_of_needles needles) (utf8_of r) };
 
     fn find_slice(&self, substr: Needles<&'n str>) -> Option<Range<usize>> {
-        let needles = match substr {
-            Needles::One(a) => Needles::One(a.as_bytes()),
-            Needles::Two(a, b) => Needles::Two(a.as_bytes(), b.as_bytes()),
-            Needles::Three(a, b, c) => Needles::Three(a.as_bytes(), b.as_bytes(), c.as_bytes()),
-        };
-        find_needles((*self).as_bytes(), &needles)
+        find_needles((*self).as_bytes(), &substr.as_bytes())
     }
 }
 

@@ -68,7 +68,7 @@ pub(crate) fn find_needles(input: &[u8], needles: &Needles<&[u8]>) -> Option<Ran
 
 // Whether some needle is empty.
 #[inline(always)]
-fn has_empty(needles: &Needles<&[u8]>) -> bool
+pub(crate) fn has_empty(needles: &Needles<&[u8]>) -> bool
     ensures { result ≡ list_any is_empty (bytes_of_needles needles.now) }
 {
     match needles {

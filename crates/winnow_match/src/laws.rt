@@ -1,11 +1,13 @@
-ghost use Rattle.std.specs.Prelude.{◌≡◌, ℕ, ◌-◌, ◌<◌, ◌≤◌, ◌↔◌, true, [], ◌++◌, List, length, Contains, IsOk, IsTrue};
+ghost use Rattle.std.specs.Prelude.{◌≡◌, ℕ, ◌-◌, ◌<◌, ◌≤◌, ◌↔◌, true, [], ◌++◌, List, length, Contains, IsFalse, IsOk, IsTrue};
 ghost use Rattle.std.specs.declared.ops.Range as range_declared;
 ghost use Rattle.winnow_stream.specs.Cursor.{places};
 ghost use Rattle.winnow_stream.specs.Shortage.{needed, offset_at};
 ghost use Rattle.winnow_stream.specs.Source.{Source};
 ghost use Rattle.winnow_match.specs.Comparison.{comparison, IsFrontOf};
 ghost use Rattle.winnow_match.specs.Search.{hit, have_one_length, IsFirstHit, StandsNowhere};
+ghost use Rattle.winnow_match.specs.Stretch.{stretch_of, hit_is_definite, CanMove, IsStretch, NothingStretches};
 ghost use Rattle.winnow_match.specs.declared.compare.CompareResult.{CompareResult};
+ghost use Rattle.winnow_match.specs.declared.needles.Stretch as stretch_declared;
 
 /// The law of comparison: it answers `Ok` where the bytes are the literal followed by something, `Incomplete` where they are
 /// a shorter front of it, and `Error` where neither goes on as the other. It does nothing when called: its contract is the
@@ -35,6 +37,26 @@ pub fn find_law()
 /// is the law.
 pub fn find_more_law()
     ensures { (needles : List (List ℕ)) (bytes more : List ℕ) (r : range_declared.Range ℕ) → IsTrue (have_one_length needles) → hit needles bytes ≡ Some r → hit needles (bytes ++ more) ≡ Some r }
+{}
+
+/// The law of definite hits: `None` is never definite, with an empty needle every hit is, and else a hit is definite exactly
+/// where no needle stretches before it, and none that is listed before the one that stands there stretches at it. So every
+/// hit of needles of one length is definite. A definite hit is the same under more input, and definite there. It does nothing
+/// when called: its contract is the law.
+pub fn definite_hit_law()
+    ensures none { (needles : List (List ℕ)) (bytes : List ℕ) → hit needles bytes ≡ None → IsFalse (hit_is_definite needles bytes) }
+    ensures empty { (needles : List (List ℕ)) (bytes : List ℕ) → Contains needles [] → IsTrue (hit_is_definite needles bytes) }
+    ensures some { (needles : List (List ℕ)) (bytes : List ℕ) (r : range_declared.Range ℕ) → ¬ Contains needles [] → (first : IsFirstHit needles bytes r) → (IsTrue (hit_is_definite needles bytes) ↔ NothingStretches needles bytes r first) }
+    ensures one_length { (needles : List (List ℕ)) (bytes : List ℕ) (r : range_declared.Range ℕ) → IsTrue (have_one_length needles) → hit needles bytes ≡ Some r → IsTrue (hit_is_definite needles bytes) }
+    ensures same { (needles : List (List ℕ)) (bytes more : List ℕ) → IsTrue (hit_is_definite needles bytes) → hit needles (bytes ++ more) ≡ hit needles bytes }
+    ensures stays { (needles : List (List ℕ)) (bytes more : List ℕ) → IsTrue (hit_is_definite needles bytes) → IsTrue (hit_is_definite needles (bytes ++ more)) }
+{}
+
+/// The law of what stretches: nothing, where nothing can move the hit, and else the least place at which a needle can, with
+/// the first listed needle that can there. It does nothing when called: its contract is the law.
+pub fn stretch_law()
+    ensures none { (needles : List (List ℕ)) (bytes : List ℕ) (r : range_declared.Range ℕ) → ¬ Contains needles [] → hit needles bytes ≡ Some r → (stretch_of needles bytes ≡ None ↔ ((i q : ℕ) → ¬ CanMove needles bytes r i q)) }
+    ensures some { (needles : List (List ℕ)) (bytes : List ℕ) (r : range_declared.Range ℕ) (s : stretch_declared.Stretch) → ¬ Contains needles [] → hit needles bytes ≡ Some r → (stretch_of needles bytes ≡ Some s ↔ IsStretch needles bytes r s) }
 {}
 
 /// The law of a counted shortage: a stream that refuses for k tokens still refuses with fewer than k more, for those that

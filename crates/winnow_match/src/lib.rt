@@ -13,10 +13,13 @@ mod find_text;
 mod finding;
 mod laws;
 mod needles;
-#[cfg(test)]
-mod tests;
+mod stretching;
 
 pub use compare::{Compare, CompareResult};
 pub use find_slice::FindSlice;
-pub use laws::{compare_law, compare_more_law, find_law, find_more_law, shortage_law};
-pub use needles::Needles;
+pub use laws::{
+    compare_law, compare_more_law, definite_hit_law, find_law, find_more_law, shortage_law,
+    stretch_law,
+};
+pub use needles::{Needles, Stretch};
+pub use stretching::stretch;

@@ -1,6 +1,7 @@
 -- Sets of characters, as tests of a character's number, and what a union of sets answers.
-use Rattle.std.specs.Prelude.{◌≡◌, ℕ, ◌==◌, nat_le, nat_lt, Bool, true, false, ◌&&◌, ◌⊎◌, List}
-use Rattle.std.specs.List.{list_any}
+use Rattle.std.specs.Prelude.{◌≡◌, ℕ, ◌==◌, nat_le, nat_lt, Bool, true, false, ◌&&◌, ◌⊎◌, List, Option}
+use Rattle.std.specs.List.{find, list_any}
+use Rattle.std.specs.Option.{option_map}
 use Rattle.std.specs.Int.{is_in_range}
 use Rattle.winnow_sets.specs.declared.char_set.CharSet.{CharSet}
 
@@ -19,6 +20,14 @@ char_ranges set = set.ranges.now
 -- c is in one of these ranges, or is an end of one
 abbrev pub in_ranges : List (ℕ × ℕ) → ℕ → Bool
 in_ranges ranges c = list_any (λ r. is_in_range r.0 r.1 c) ranges
+
+-- the range holds a number up to the greatest: its lower bound
+abbrev pub holds_up_to : ℕ → ℕ × ℕ → Bool
+holds_up_to greatest range = nat_le range.0 range.1 && nat_le range.0 greatest
+
+-- the lower bound of the first range that holds a number up to the greatest
+abbrev pub least_of_first : ℕ → List (ℕ × ℕ) → Option ℕ
+least_of_first greatest ranges = option_map (λ range. range.0) (find (holds_up_to greatest) ranges)
 
 -- what a union of two sets may answer of a token, from what each may answer: it holds what one of them holds
 infixr 30 ◌∪◌

@@ -1,5 +1,5 @@
 ghost use Rattle.std.specs.Prelude.{◌≡◌};
-ghost use Rattle.winnow_sets.specs.Sets.{char_ranges, in_ranges};
+ghost use Rattle.winnow_sets.specs.Sets.{char_ranges, in_ranges, least_of_first};
 
 use crate::{AsChar, ContainsToken};
 use winnow_stream::ScriptSet;
@@ -11,7 +11,8 @@ pub struct CharSet<'k> {
 }
 
 impl<'k> CharSet<'k> {
-    ghost use Rattle.winnow_sets.specs.Sets.{char_ranges};
+    ghost use Rattle.std.specs.Prelude.{◌≡◌, ◌≤◌, ℕ, false, IfNone, IfSome, IsTrue};
+    ghost use Rattle.winnow_sets.specs.Sets.{char_ranges, in_ranges, least_of_first};
 
     /// The set of these ranges.
     pub fn new(ranges: &'k [(char, char)]) -> Self
@@ -19,6 +20,37 @@ impl<'k> CharSet<'k> {
     {
         CharSet { ranges }
     }
+
+    /// A byte that the set holds: the least of the first range that holds one. `None` exactly where the set holds no byte.
+    #[tactic(auto, using(crate::proofs::lemmas::RangeLemmas::least_held, crate::proofs::lemmas::RangeLemmas::least_within, crate::proofs::lemmas::RangeLemmas::none_held))]
+    pub fn any_byte(&self) -> Option<u8>
+        ensures value { result ≡ least_of_first 255 (char_ranges self.now) }
+        ensures held { IfSome result (λ b. IsTrue (in_ranges (char_ranges self.now) b)) }
+        ensures none { IfNone result ((b : ℕ) → b ≤ 255 → in_ranges (char_ranges self.now) b ≡ false) }
+    {
+        let least = least_of(self.ranges, '\u{ff}')?;
+        u8::try_from(least).ok()
+    }
+
+    /// A character that the set holds: the least of the first range that holds one. `None` exactly where the set holds no character.
+    #[tactic(auto, using(crate::proofs::lemmas::RangeLemmas::least_held, crate::proofs::lemmas::RangeLemmas::none_held))]
+    pub fn any_char(&self) -> Option<char>
+        ensures value { result ≡ least_of_first 1114111 (char_ranges self.now) }
+        ensures held { IfSome result (λ c. IsTrue (in_ranges (char_ranges self.now) c)) }
+        ensures none { IfNone result ((c : ℕ) → c ≤ 1114111 → in_ranges (char_ranges self.now) c ≡ false) }
+    {
+        least_of(self.ranges, char::MAX)
+    }
+}
+
+// The least of the first range that holds a character up to the greatest.
+fn least_of(ranges: &[(char, char)], greatest: char) -> Option<char>
+    ensures { result ≡ least_of_first greatest ranges.now }
+{
+    let range = ranges
+        .iter()
+        .find(|range| range.0 <= range.1 && range.0 <= greatest)?;
+    Some(range.0)
 }
 
 // Whether some range holds the character.

@@ -11,8 +11,6 @@ mod contains_token;
 mod laws;
 mod members;
 mod ranges;
-#[cfg(test)]
-mod tests;
 mod unions;
 
 pub use as_char::AsChar;

@@ -1,11 +1,7 @@
 pub mod FrontLemmas
 pub mod IndexLemmas
 pub mod OffsetLemmas
-pub mod PairLemmas
-pub mod PlaceLemmas
-pub mod ScriptLemmas
 pub mod SearchLemmas
 pub mod ShortageLemmas
 pub mod TextLemmas
-pub mod TurnLemmas
 pub mod UnitLemmas

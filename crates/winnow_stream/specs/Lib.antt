@@ -5,5 +5,3 @@ pub mod Units
 pub mod Text
 pub mod Checkpoint
 pub mod Cursor
-pub mod Script
-pub mod Standing

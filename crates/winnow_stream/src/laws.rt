@@ -7,10 +7,8 @@ ghost use Rattle.winnow_stream.specs.declared.checkpoint.Checkpoint.{Checkpoint}
 ghost use Rattle.winnow_stream.specs.Source.{Source, width, HasWidths, first_offset};
 ghost use Rattle.winnow_stream.specs.Front.{HasFront, is_offset, front, back};
 ghost use Rattle.winnow_stream.specs.Shortage.{offset_at};
-ghost use Rattle.winnow_stream.specs.Script.{AreAnswers, AreReady};
 
-use crate::{Answer, Checkpoint, ScriptSet, Step, Stream, run};
-use std::alloc::{AllocError, Global};
+use crate::Checkpoint;
 
 /// The law of fronts: an offset is valid exactly where some front has that width, what is taken has that width, and what is
 /// taken followed by what remains is what was there. Behind a front the offsets are those further on, less its width, and to go on
@@ -40,27 +38,3 @@ pub fn checkpoint_equality_law<'t, T: Ord + 't>()
     ensures texts { (c d : Checkpoint (Bor (List ℕ)) (Bor (List ℕ))) → IsTrue (⟦<Checkpoint<&'static str, &'static str> as PartialEq>⟧.eq c d) ↔ ((checkpoint_inner c).now ≡ (checkpoint_inner d).now) }
     ensures text_order { (c d : Checkpoint (Bor (List ℕ)) (Bor (List ℕ))) → ⟦<Checkpoint<&'static str, &'static str> as Ord>⟧.cmp c d ≡ slice_cmp nat_cmp (checkpoint_inner c).now (checkpoint_inner d).now }
 {}
-
-/// Runs a script and goes back: whatever the calls were, `reset` to a checkpoint from before gives back what remained then.
-///
-/// So a parser looks ahead: the answers are those of [`run`], and the stream stands where it stood.
-pub fn run_and_reset<S: Stream, C: ScriptSet<S::Token>>(
-    alloc: Global,
-    s: &mut S,
-    script: &[Step<C>],
-) -> Result<Vec<Answer<S::Token, S::Slice, Vec<(usize, S::Token)>>>, AllocError>
-where
-    S::Token: Drop,
-    S::Slice: Drop,
-    requires valid { S.valid s.old }
-    requires ready { AreReady C.can_hold script.now }
-    ensures answers { IfOk result (λ out. AreAnswers C.tells S.is_slice S.counts_missing (S.remaining s.old) script.now out.items) }
-    ensures remains { S.remaining s.new ≡ S.remaining s.old }
-    ensures valid { S.valid s.new }
-    ensures kept { S.keeps s.old s.new }
-{
-    let start = s.checkpoint();
-    let answers = run(alloc, s, script);
-    s.reset(&start);
-    answers
-}

@@ -1,8 +1,7 @@
 //! Streams of tokens: what a parser reads from.
 //!
 //! [`Stream`] is the trait that every stream meets: tokens with widths, of which calls take the front. Here are the trait with
-//! its laws, the plain streams `&[T]` and `&str`, and scripts of calls: [`run`] runs one on any stream, and its contract is
-//! that the answers are those of a cursor on one list.
+//! its laws, the plain streams `&[T]` and `&str`, the small traits beside it, and the sets that a script of calls can name.
 #![tactic(auto)]
 
 mod as_bytes;
@@ -12,8 +11,7 @@ mod laws;
 mod location;
 mod needed;
 mod offset;
-mod running;
-mod script;
+mod script_set;
 mod slice_len;
 mod slices;
 mod stream;
@@ -23,12 +21,11 @@ mod update_slice;
 pub use as_bytes::{AsBStr, AsBytes};
 pub use checkpoint::Checkpoint;
 pub use is_partial::StreamIsPartial;
-pub use laws::{checkpoint_equality_law, front_law, offset_law, run_and_reset};
+pub use laws::{checkpoint_equality_law, front_law, offset_law};
 pub use location::Location;
 pub use needed::Needed;
 pub use offset::Offset;
-pub use running::{RunMark, answer_step, run};
-pub use script::{Answer, NoSet, ScriptSet, Step};
+pub use script_set::{NoSet, ScriptSet};
 pub use slice_len::SliceLen;
 pub use slices::SliceOffsets;
 pub use stream::{Rest, Stream};

@@ -27,7 +27,7 @@ some-empty (n ∷ ls) h =
       | inr e ↦ let later = some-empty ls e in (suc later.0, omega (arith, later.1), later.2)
     ]
 
-none-empty : (ls : List (List ℕ)) → ¬ Contains ls [] → list_any is_empty ls ≡ false
+pub none-empty : (ls : List (List ℕ)) → ¬ Contains ls [] → list_any is_empty ls ≡ false
 none-empty ls n = false_from_ne_true (list_any is_empty ls) (λ h. n (some-empty ls h))
 
 -- ---- the first listed needle that is a front
@@ -37,7 +37,7 @@ record IsFirstListed (ls : List (List ℕ)) (xs : List ℕ) (i : ℕ) : Type 0 w
   front : is_front (needle_of ls i) xs ≡ true
   before : (j : ℕ) → j < i → is_front (needle_of ls j) xs ≡ false
 
-below-suc : (P : ℕ → Type 0) (i : ℕ) → P zero → ((j : ℕ) → j < i → P (suc j)) → (j : ℕ) → j < suc i → P j
+pub below-suc : (P : ℕ → Type 0) (i : ℕ) → P zero → ((j : ℕ) → j < i → P (suc j)) → (j : ℕ) → j < suc i → P j
 below-suc P i here later zero l = here
 below-suc P i here later (suc j) l = later j (omega (arith, l))
 
@@ -70,7 +70,7 @@ needle_at-first (n ∷ ls) xs (suc i) h =
     let later : IsFirstListed ls xs i = record { listed = omega (arith, h.listed); front = h.front; before = λ j l. h.before (suc j) (omega (arith, l)) } in
     rw f (needle_at-first ls xs i later)
 
-no-needle : (ls : List (List ℕ)) (xs : List ℕ) → needle_at ls xs ≡ None → (i : ℕ) → i < length ls → is_front (needle_of ls i) xs ≡ false
+pub no-needle : (ls : List (List ℕ)) (xs : List ℕ) → needle_at ls xs ≡ None → (i : ℕ) → i < length ls → is_front (needle_of ls i) xs ≡ false
 no-needle [] xs h i l = absurd (omega (arith, l))
 no-needle (n ∷ ls) xs h i l =
     elim (cases_Bool (is_front n xs)) [
@@ -83,7 +83,7 @@ no-needle (n ∷ ls) xs h i l =
           below-suc (λ j. is_front (needle_of (n ∷ ls) j) xs ≡ false) (length ls) f (λ j k. no-needle ls xs later j k) i l
     ]
 
-needle_at-nowhere : (ls : List (List ℕ)) (xs : List ℕ) → ((i : ℕ) → i < length ls → is_front (needle_of ls i) xs ≡ false) → needle_at ls xs ≡ None
+pub needle_at-nowhere : (ls : List (List ℕ)) (xs : List ℕ) → ((i : ℕ) → i < length ls → is_front (needle_of ls i) xs ≡ false) → needle_at ls xs ≡ None
 needle_at-nowhere [] xs h = refl
 needle_at-nowhere (n ∷ ls) xs h =
     let f : is_front n xs ≡ false = h 0 (omega arith) in
@@ -131,7 +131,7 @@ first_hit-hit ls (y ∷ bytes) base r h =
           }
     ]
 
-first_hit-nowhere : (ls : List (List ℕ)) (bytes : List ℕ) (base : ℕ) → first_hit ls base bytes ≡ None → (k : ℕ) → k < length bytes → needle_at ls (drop k bytes) ≡ None
+pub first_hit-nowhere : (ls : List (List ℕ)) (bytes : List ℕ) (base : ℕ) → first_hit ls base bytes ≡ None → (k : ℕ) → k < length bytes → needle_at ls (drop k bytes) ≡ None
 first_hit-nowhere ls [] base h k l = absurd (omega (arith, l))
 first_hit-nowhere ls (y ∷ bytes) base h k l =
     elim (some-or-none (needle_at ls (y ∷ bytes))) [
@@ -202,58 +202,3 @@ module _ (ls : List (List ℕ)) (bytes : List ℕ) (some : ¬ Contains ls []) wh
 
   pub none-says : hit ls bytes ≡ None ↔ StandsNowhere ls bytes
   none-says = let none = none-empty ls some in (hit-StandsNowhere ls bytes none, StandsNowhere-hit ls bytes none)
-
--- ---- more input
-
-module _ (m : ℕ) where
-  needle_at-long : (ls : List (List ℕ)) (xs : List ℕ) (n : ℕ) → have_length m ls ≡ true → needle_at ls xs ≡ Some n → m ≤ length xs
-  needle_at-long [] xs n w h = absurd (none-some n h)
-  needle_at-long (l ∷ ls) xs n w h =
-      let parts = and_parts (length l == m) (have_length m ls) w in
-      elim (cases_Bool (is_front l xs)) [
-        | inl f ↦ omega (arith, eqb-true (length l) m parts.0, length-front l xs f)
-        | inr f ↦
-            let e : cond (is_front l xs) (Some (length l)) (needle_at ls xs) ≡ Some n = h in
-            needle_at-long ls xs n parts.1 (rw f at e)
-      ]
-
-  needle_at-more : (ls : List (List ℕ)) (xs more : List ℕ) → have_length m ls ≡ true → m ≤ length xs → needle_at ls (xs ++ more) ≡ needle_at ls xs
-  needle_at-more [] xs more w h = refl
-  needle_at-more (l ∷ ls) xs more w h =
-      let parts = and_parts (length l == m) (have_length m ls) w in
-      let fits : length l ≤ length xs = omega (arith, eqb-true (length l) m parts.0, h) in
-      rw (is_front-more l xs more fits, needle_at-more ls xs more parts.1 h) refl
-
-  first_hit-long : (ls : List (List ℕ)) (bytes : List ℕ) (base : ℕ) (r : Range ℕ) → have_length m ls ≡ true → first_hit ls base bytes ≡ Some r → m ≤ length bytes
-  first_hit-long ls [] base r w h = absurd (none-some r h)
-  first_hit-long ls (y ∷ bytes) base r w h =
-      elim (some-or-none (needle_at ls (y ∷ bytes))) [
-        | inl e ↦ let l = first_hit-long ls bytes (base + 1) r w (none-first_hit ls y bytes base (Some r) e h) in omega (arith, l)
-        | inr e ↦ needle_at-long ls (y ∷ bytes) e.0 w e.1
-      ]
-
-  first_hit-more : (ls : List (List ℕ)) (bytes more : List ℕ) (base : ℕ) (r : Range ℕ) → have_length m ls ≡ true → first_hit ls base bytes ≡ Some r → first_hit ls base (bytes ++ more) ≡ Some r
-  first_hit-more ls [] more base r w h = absurd (none-some r h)
-  first_hit-more ls (y ∷ bytes) more base r w h =
-      let same : needle_at ls ((y ∷ bytes) ++ more) ≡ needle_at ls (y ∷ bytes) = needle_at-more ls (y ∷ bytes) more w (first_hit-long ls (y ∷ bytes) base r w h) in
-      elim (some-or-none (needle_at ls (y ∷ bytes))) [
-        | inl e ↦
-            let later = first_hit-more ls bytes more (base + 1) r w (none-first_hit ls y bytes base (Some r) e h) in
-            ap (λ o. hit_or base o (first_hit ls (base + 1) (bytes ++ more))) (same ∙ e) ∙ later
-        | inr e ↦
-            let g : hit_or base (needle_at ls (y ∷ bytes)) (first_hit ls (base + 1) bytes) ≡ Some r = h in
-            ap (λ o. hit_or base o (first_hit ls (base + 1) (bytes ++ more))) (same ∙ e.1) ∙ (rw e.1 at g)
-      ]
-
-same-length : (ls : List (List ℕ)) → have_one_length ls ≡ true → (m : ℕ) × (have_length m ls ≡ true)
-same-length [] h = (0, refl)
-same-length (n ∷ ls) h = let same : (length n == length n) ≡ true = grind (arith, nat_tests) in (length n, rw (same, h) refl)
-
-pub hit-more : (ls : List (List ℕ)) (bytes more : List ℕ) (r : Range ℕ) → have_one_length ls ≡ true → hit ls bytes ≡ Some r → hit ls (bytes ++ more) ≡ Some r
-hit-more ls bytes more r w h =
-    let g : cond (list_any is_empty ls) (Some (places 0 0)) (first_hit ls 0 bytes) ≡ Some r = h in
-    let one = same-length ls w in
-    elim (cases_Bool (list_any is_empty ls)) [
-      | inl e ↦ rw e (rw e at g)
-      | inr e ↦ rw e (first_hit-more one.0 ls bytes more 0 r one.1 (rw e at g))
-    ]

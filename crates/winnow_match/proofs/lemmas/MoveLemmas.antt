@@ -1,0 +1,253 @@
+-- What can move a hit, and a hit that nothing moves under more input.
+use Rattle.std.proofs.Common.{◌≡◌, ℕ, zero, suc, ◌+◌, ◌-◌, ◌≤◌, ◌<◌, ◌⊎◌, true, false, cond, not, List, [], ◌∷◌, ◌++◌, length, drop, Some, None, refl, ap, sym, ◌∙◌, arith, subst, inl, inr, length-drop}
+use Rattle.std.specs.Prelude.{is_some, Contains}
+use Rattle.std.specs.List.{list_any}
+use Rattle.std.specs.declared.ops.Range.{Range}
+use Rattle.std.proofs.lemmas.Bool.{and_parts, and_from, or_right, or_left, false≢true, false_from_ne_true, cases_Bool, cases_lt}
+use Rattle.std.proofs.lemmas.Option.{none-some}
+use Rattle.std.proofs.lemmas.List.{drop-append-le, length-append, append_assoc}
+use Rattle.winnow_stream.specs.Cursor.{places}
+use Rattle.winnow_match.specs.Comparison.{is_front}
+use Rattle.winnow_match.specs.Search.{is_empty, needle_at, needle_of, hit, Stands, IsFirstHit}
+use Rattle.winnow_match.proofs.lemmas.FrontLemmas.{IsFrontOf-is_front, is_front-IsFrontOf, no_front, is_front-more, length-front, is_front-append, is_front-both, is_front-long}
+use Rattle.winnow_match.proofs.lemmas.HitLemmas.{no-needle, needle_at-nowhere, some-says}
+use Rattle.winnow_match.specs.declared.needles.Stretch.{Stretch}
+use Rattle.winnow_match.specs.Stretch.{stretching, first_stretch, stretch_of, hit_is_definite, Stretches, CanMove, IsStretch}
+use Rattle.winnow_match.proofs.lemmas.StretchLemmas.{none-or-some, stretches-parts, stretches-from, stretching-some, stretching-none, first_stretch-some, first_stretch-none}
+
+-- ---- lists of needles
+
+pub empty-at : (ls : List (List ℕ)) (i : ℕ) → i < length ls → needle_of ls i ≡ [] → list_any is_empty ls ≡ true
+empty-at [] i l e = absurd (omega (arith, l))
+empty-at (n ∷ ls) zero l e = or_left (is_empty n) (list_any is_empty ls) (ap is_empty e)
+empty-at (n ∷ ls) (suc i) l e = or_right (is_empty n) (list_any is_empty ls) (empty-at ls i (omega (arith, l)) e)
+
+nonempty : (xs : List ℕ) → ¬ (xs ≡ []) → 0 < length xs
+nonempty [] h = absurd (h refl)
+nonempty (x ∷ xs) h = omega arith
+
+-- ---- one needle under more input
+
+module _ (n b m : List ℕ) (q : ℕ) where
+  stands-later : q ≤ length b → Stands n b q → Stands n (b ++ m) q
+  stands-later l s = (s.0 ++ m, drop-append-le q b m l ∙ ap (λ xs. xs ++ m) s.1 ∙ append_assoc n s.0 m)
+
+  -- a needle that stands under more input stood before, or the bytes ended inside it
+  pub stands-before : q ≤ length b → Stands n (b ++ m) q → Stands n b q ⊎ Stretches n b q
+  stands-before l s =
+      let xs : List ℕ = drop q b in
+      let f : is_front n (xs ++ m) ≡ true = ap (is_front n) (sym (drop-append-le q b m l)) ∙ is_front-IsFrontOf n (drop q (b ++ m)) s in
+      elim (cases_lt (length xs) (length n)) [
+        | inl k ↦ inr (IsFrontOf-is_front xs n (is_front-both n xs (xs ++ m) f (is_front-append xs m) (omega (arith, k))), k)
+        | inr k ↦ inl (IsFrontOf-is_front n xs (sym (is_front-more n xs m k) ∙ f))
+      ]
+
+  stretches-before : q ≤ length b → Stretches n (b ++ m) q → Stretches n b q
+  stretches-before l s =
+      let e : drop q (b ++ m) ≡ drop q b ++ m = drop-append-le q b m l in
+      let w : length (drop q (b ++ m)) ≡ length (drop q b) + length m = ap length e ∙ length-append (drop q b) m in
+      ((m ++ s.0.0, s.0.1 ∙ ap (λ xs. xs ++ s.0.0) e ∙ append_assoc (drop q b) m s.0.0), omega (arith, s.1, w))
+
+-- ---- what the first hit leaves out
+
+module _ (ls : List (List ℕ)) (bytes : List ℕ) (some : list_any is_empty ls ≡ false) where
+  pub none-contained : ¬ Contains ls []
+  none-contained c = false≢true (sym some ∙ empty-at ls c.0 c.1 c.2)
+
+  module _ (r : Range ℕ) (h : hit ls bytes ≡ Some r) where
+    pub first : IsFirstHit ls bytes r
+    first = (some-says ls bytes none-contained r).0 h
+
+    -- the needle that stands has a byte
+    pub has-byte : 0 < length (needle_of ls first.index)
+    has-byte = nonempty (needle_of ls first.index) (λ e. false≢true (sym some ∙ empty-at ls first.index first.listed e))
+
+    pub fits : length (needle_of ls first.index) ≤ length (drop r.start bytes)
+    fits = length-front (needle_of ls first.index) (drop r.start bytes) (is_front-IsFrontOf (needle_of ls first.index) (drop r.start bytes) first.stands)
+
+    pub inside : r.start < length bytes
+    inside = omega (arith, has-byte, fits, length-drop r.start bytes)
+
+    pub absent-before : (k : ℕ) → k < r.start → needle_at ls (drop k bytes) ≡ None
+    absent-before k l = needle_at-nowhere ls (drop k bytes) (λ i m. no_front (needle_of ls i) (drop k bytes) (first.first_place i k m l))
+
+    no-front : (i k : ℕ) → i < length ls → needle_at ls (drop k bytes) ≡ None → is_front (needle_of ls i) (drop k bytes) ≡ false
+    no-front i k l e = no-needle ls (drop k bytes) e i l
+
+    -- where nothing stretches that could move it
+    pub stretch-none : first_stretch ls 0 bytes ≡ None → (i q : ℕ) → ¬ CanMove ls bytes r i q
+    stretch-none e i q c =
+        let within : q ≤ r.start = elim c.first [ inl l ↦ omega (arith, l) | inr s ↦ omega (arith, s.0) ] in
+        let none : stretching ls (drop q bytes) ≡ None = first_stretch-none ls bytes 0 e q (omega (arith, within, inside)) (λ k l. absent-before k (omega (arith, l, within))) in
+        let absent : (j : ℕ) → j < suc i → is_front (needle_of ls j) (drop q bytes) ≡ false =
+        λ j l. elim c.first [
+          | inl s ↦ no_front (needle_of ls j) (drop q bytes) (first.first_place j q (omega (arith, l, c.listed)) s)
+          | inr s ↦ elim (cases_lt j i) [
+            | inl k ↦ no_front (needle_of ls j) (drop q bytes) (s.1 j k)
+            | inr k ↦
+                let e : i ≡ j = omega (arith, l, k) in
+                subst (λ t. is_front (needle_of ls t) (drop q bytes) ≡ false) e (is_front-long (needle_of ls i) (drop q bytes) c.stretches.1)
+          ]
+        ]
+        in
+        false≢true (sym (stretching-none ls (drop q bytes) none i c.listed absent) ∙ stretches-from (needle_of ls i) (drop q bytes) c.stretches)
+
+    pub stretch-some : (s : Stretch) → first_stretch ls 0 bytes ≡ Some s → IsStretch ls bytes r s
+    stretch-some s e =
+        let t = first_stretch-some ls bytes 0 s e in
+        let at : t.place ≡ s.place = omega (arith, t.is) in
+        let here : stretching ls (drop s.place bytes) ≡ Some s.needle = ap (λ q. stretching ls (drop q bytes)) (sym at) ∙ t.here in
+        let u = stretching-some ls (drop s.place bytes) s.needle here in
+        let within : s.place ≤ r.start =
+        elim (cases_lt r.start s.place) [
+          | inl l ↦
+              let none = no-front first.index r.start first.listed (t.absent r.start (omega (arith, l, at))) in
+              absurd (false≢true (sym none ∙ is_front-IsFrontOf (needle_of ls first.index) (drop r.start bytes) first.stands))
+          | inr l ↦ l
+        ]
+        in
+        record {
+          can_move =
+              record {
+                listed = u.listed;
+                stretches = stretches-parts (needle_of ls s.needle) (drop s.place bytes) u.stretched;
+                first =
+                    elim (cases_lt s.place r.start) [
+                      | inl l ↦ inl l
+                      | inr l ↦
+                          inr (omega (arith, l, within), λ j k st. false≢true (sym (u.absent j k) ∙ is_front-IsFrontOf (needle_of ls j) (drop s.place bytes) st))
+                    ];
+              };
+          least = λ i q c.
+              elim (cases_lt q s.place) [
+                | inl l ↦
+                    let none = t.absent q (omega (arith, l, at)) in
+                    let off =
+                    stretching-none ls (drop q bytes) (t.before q (omega (arith, l, at))) i c.listed (λ j k. no-front j q (omega (arith, k, c.listed)) none)
+                    in
+                    absurd (false≢true (sym off ∙ stretches-from (needle_of ls i) (drop q bytes) c.stretches))
+                | inr l ↦ l
+              ];
+          first_listed = λ i c.
+              elim (cases_lt i s.needle) [
+                | inl l ↦ absurd (false≢true (sym (u.before i l) ∙ stretches-from (needle_of ls i) (drop s.place bytes) c.stretches))
+                | inr l ↦ l
+              ];
+        }
+
+-- ---- the hit that is definite
+
+module _ (ls : List (List ℕ)) (b : List ℕ) where
+  pub hit-empty : list_any is_empty ls ≡ true → hit ls b ≡ Some (places 0 0)
+  hit-empty e = rw e refl
+
+  pub stretch-empty : list_any is_empty ls ≡ true → stretch_of ls b ≡ None
+  stretch-empty e = rw e refl
+
+  pub stretch-first : list_any is_empty ls ≡ false → stretch_of ls b ≡ first_stretch ls 0 b
+  stretch-first e = rw e refl
+
+  pub definite-parts : hit_is_definite ls b ≡ true → ((r : Range ℕ) × (hit ls b ≡ Some r)) × (stretch_of ls b ≡ None)
+  definite-parts h =
+      let p = and_parts (is_some (hit ls b)) (not (is_some (stretch_of ls b))) h in (
+        elim (none-or-some (hit ls b)) [ inl e ↦ absurd (false≢true (sym (ap is_some e) ∙ p.0)) | inr e ↦ e ],
+        elim (none-or-some (stretch_of ls b)) [ inl e ↦ e | inr e ↦ absurd (false≢true (sym (ap (λ o. not (is_some o)) e.1) ∙ p.1)) ],
+      )
+
+  pub definite-from : (r : Range ℕ) → hit ls b ≡ Some r → stretch_of ls b ≡ None → hit_is_definite ls b ≡ true
+  definite-from r h e = and_from (is_some (hit ls b)) (not (is_some (stretch_of ls b))) (ap is_some h) (ap (λ o. not (is_some o)) e)
+
+-- nothing moves the hit, so more input leaves it
+module _ (ls : List (List ℕ)) (b m : List ℕ) (some : list_any is_empty ls ≡ false) (r : Range ℕ) (h : hit ls b ≡ Some r) (still : (i q : ℕ) → ¬ CanMove ls b r i q) where
+  was : IsFirstHit ls b r
+  was = first ls b some r h
+
+  reach : r.start ≤ length b
+  reach = omega (arith, inside ls b some r h)
+
+  first-more : IsFirstHit ls (b ++ m) r
+  first-more =
+      record {
+        index = was.index;
+        listed = was.listed;
+        stands = stands-later (needle_of ls was.index) b m r.start reach was.stands;
+        whole = was.whole;
+        first_listed = λ i l s.
+            elim (stands-before (needle_of ls i) b m r.start reach s) [
+              | inl t ↦ was.first_listed i l t
+              | inr t ↦
+                  still i r.start
+                  (record { listed = omega (arith, l, was.listed); stretches = t; first = inr (refl, λ j k. was.first_listed j (omega (arith, k, l))) })
+            ];
+        first_place = λ i k l low s.
+            elim (stands-before (needle_of ls i) b m k (omega (arith, low, reach)) s) [
+              | inl t ↦ was.first_place i k l low t
+              | inr t ↦ still i k (record { listed = l; stretches = t; first = inl low })
+            ];
+      }
+
+  hit-still : hit ls (b ++ m) ≡ Some r
+  hit-still = (some-says ls (b ++ m) (none-contained ls b some) r).1 first-more
+
+  still-more : (i q : ℕ) → ¬ CanMove ls (b ++ m) r i q
+  still-more i q c =
+      let within : q ≤ length b = elim c.first [ inl l ↦ omega (arith, l, reach) | inr s ↦ omega (arith, s.0, reach) ] in
+      still i q
+      (record {
+        listed = c.listed;
+        stretches = stretches-before (needle_of ls i) b m q within c.stretches;
+        first = elim c.first [ inl l ↦ inl l | inr s ↦ inr (s.0, λ j k t. s.1 j k (stands-later (needle_of ls j) b m q within t)) ];
+      })
+
+pub find-stable : (ls : List (List ℕ)) (b m : List ℕ) → hit_is_definite ls b ≡ true → (hit ls (b ++ m) ≡ hit ls b) × (hit_is_definite ls (b ++ m) ≡ true)
+find-stable ls b m d =
+    let p = definite-parts ls b d in
+    elim (cases_Bool (list_any is_empty ls)) [
+      | inl e ↦ (hit-empty ls (b ++ m) e ∙ sym (hit-empty ls b e), definite-from ls (b ++ m) (places 0 0) (hit-empty ls (b ++ m) e) (stretch-empty ls (b ++ m) e))
+      | inr e ↦
+          let r = p.0.0 in
+          let still = stretch-none ls b e r p.0.1 (sym (stretch-first ls b e) ∙ p.1) in
+          let more = hit-still ls b m e r p.0.1 still in
+          let none : stretch_of ls (b ++ m) ≡ None =
+          elim (none-or-some (stretch_of ls (b ++ m))) [
+            | inl f ↦ f
+            | inr f ↦
+                let s = stretch-some ls (b ++ m) e r more f.0 (sym (stretch-first ls (b ++ m) e) ∙ f.1) in
+                absurd (still-more ls b m e r p.0.1 still f.0.needle f.0.place s.can_move)
+          ]
+          in
+          (more ∙ sym p.0.1, definite-from ls (b ++ m) r more none)
+    ]
+
+pub stands-some : (ls : List (List ℕ)) (b : List ℕ) (some : list_any is_empty ls ≡ false) (r : Range ℕ) (h : hit ls b ≡ Some r) → (n : ℕ) × (needle_at ls (drop r.start b) ≡ Some n)
+stands-some ls b some r h =
+    let f = first ls b some r h in
+    elim (none-or-some (needle_at ls (drop r.start b))) [
+      | inl e ↦ absurd (false≢true (sym (no-needle ls (drop r.start b) e f.index f.listed) ∙ is_front-IsFrontOf (needle_of ls f.index) (drop r.start b) f.stands))
+      | inr e ↦ e
+    ]
+
+-- before the place of a needle that could move the hit none stands, whatever follows
+module _ (ls : List (List ℕ)) (b : List ℕ) (r : Range ℕ) (s : Stretch) (h : hit ls b ≡ Some r) (e : stretch_of ls b ≡ Some s) where
+  some-byte : list_any is_empty ls ≡ false
+  some-byte = false_from_ne_true (list_any is_empty ls) (λ y. none-some s (sym (stretch-empty ls b y) ∙ e))
+
+  least-stretch : IsStretch ls b r s
+  least-stretch = stretch-some ls b some-byte r h s (sym (stretch-first ls b some-byte) ∙ e)
+
+  low : s.place ≤ r.start
+  low = elim least-stretch.can_move.first [ inl l ↦ omega (arith, l) | inr l ↦ omega (arith, l.0) ]
+
+  pub stretch-within : s.place ≤ length b
+  stretch-within = omega (arith, low, inside ls b some-byte r h)
+
+  pub none-before_stretch : (m : List ℕ) (i : ℕ) → i < s.place → needle_at ls (drop i (b ++ m)) ≡ None
+  none-before_stretch m i l =
+      let first = first ls b some-byte r h in
+      needle_at-nowhere ls (drop i (b ++ m)) (λ j k. no_front (needle_of ls j) (drop i (b ++ m)) (λ t.
+      elim (stands-before (needle_of ls j) b m i (omega (arith, l, stretch-within)) t) [
+        | inl u ↦ first.first_place j i k (omega (arith, l, low)) u
+        | inr u ↦
+            let least = least-stretch.least j i (record { listed = k; stretches = u; first = inl (omega (arith, l, low)) }) in
+            omega (arith, l, least)
+      ]))

@@ -1,0 +1,69 @@
+-- Which needle could still move a hit: one that the bytes end inside.
+use Rattle.std.specs.Prelude.{◌≡◌, ℕ, ◌+◌, ◌<◌, ◌≤◌, ◌⊎◌, nat_lt, max, Bool, ◌&&◌, not, if◌then◌else◌, List, [], ◌∷◌, length, drop, Option, None, Some, is_some, option_map}
+use Rattle.std.specs.List.{list_any}
+use Rattle.std.specs.declared.ops.Range.{Range}
+use Rattle.winnow_match.specs.Comparison.{is_front, IsFrontOf}
+use Rattle.winnow_match.specs.Search.{is_empty, needle_at, needle_of, hit, Stands, IsFirstHit}
+use Rattle.winnow_match.specs.declared.needles.Stretch.{Stretch}
+
+-- the bytes are a front of the needle, and shorter
+abbrev pub stretches : List ℕ → List ℕ → Bool
+stretches needle bytes = is_front bytes needle && nat_lt (length bytes) (length needle)
+
+-- no needle, where the first stands here; else its number 0, where it stretches here, and else the later one's
+abbrev pub stretching_or : Bool → Bool → Option ℕ → Option ℕ
+stretching_or stands stretches later = if stands then None else (if stretches then Some 0 else option_map (λ i. i + 1) later)
+
+-- the number of the first listed needle that stretches here, where none listed before it stands here
+abbrev pub stretching : List (List ℕ) → List ℕ → Option ℕ
+stretching [] bytes = None
+stretching (needle ∷ needles) bytes = stretching_or (is_front needle bytes) (stretches needle bytes) (stretching needles bytes)
+
+-- a needle stretches here, or one stands here and ends the search, or else a later place is the first
+abbrev pub stretch_or : ℕ → Option ℕ → Option ℕ → Option Stretch → Option Stretch
+stretch_or at (Some i) here later = Some (record { needle = i; place = at })
+stretch_or at None (Some n) later = None
+stretch_or at None None later = later
+
+-- the least place up to the first hit at which a needle stretches that would take the hit's place, counted from `at`
+abbrev pub first_stretch : List (List ℕ) → ℕ → List ℕ → Option Stretch
+first_stretch needles at [] = None
+first_stretch needles at (y ∷ bytes) = stretch_or at (stretching needles (y ∷ bytes)) (needle_at needles (y ∷ bytes)) (first_stretch needles (at + 1) bytes)
+
+-- what could still move the hit: nothing, where a needle is empty
+abbrev pub stretch_of : List (List ℕ) → List ℕ → Option Stretch
+stretch_of needles bytes = if list_any is_empty needles then None else first_stretch needles 0 bytes
+
+-- there is a hit, and no more input moves it
+abbrev pub hit_is_definite : List (List ℕ) → List ℕ → Bool
+hit_is_definite needles bytes = is_some (hit needles bytes) && not (is_some (stretch_of needles bytes))
+
+-- the same as facts: the bytes end inside the needle that begins at place q
+abbrev pub Stretches : List ℕ → List ℕ → ℕ → Type 0
+Stretches needle bytes q = IsFrontOf (drop q bytes) needle × (length (drop q bytes) < length needle)
+
+-- needle i stretches at place q, before the hit or at the hit and listed before each needle that stands there
+pub record CanMove (needles : List (List ℕ)) (bytes : List ℕ) (r : Range ℕ) (i q : ℕ) : Type 0 where
+  pub listed : i < length needles
+  pub stretches : Stretches (needle_of needles i) bytes q
+  pub first : (q < r.start) ⊎ ((q ≡ r.start) × ((j : ℕ) → j < i → ¬ Stands (needle_of needles j) bytes q))
+
+-- s is the least place at which a needle could move the hit, and the first listed there
+pub record IsStretch (needles : List (List ℕ)) (bytes : List ℕ) (r : Range ℕ) (s : Stretch) : Type 0 where
+  pub can_move : CanMove needles bytes r s.needle s.place
+  pub least : (i q : ℕ) → CanMove needles bytes r i q → s.place ≤ q
+  pub first_listed : (i : ℕ) → CanMove needles bytes r i s.place → s.needle ≤ i
+
+-- no needle stretches before the hit, and none at it that is listed before the one that stands there
+abbrev pub NothingStretches : (needles : List (List ℕ)) (bytes : List ℕ) (r : Range ℕ) → IsFirstHit needles bytes r → Type 0
+NothingStretches needles bytes r first =
+    (i q : ℕ) → i < length needles → (q < r.start) ⊎ ((q ≡ r.start) × (i < first.index)) → ¬ Stretches (needle_of needles i) bytes q
+
+-- the search answers this hit
+abbrev pub IsHit : List (List ℕ) → List ℕ → Range ℕ → Type 0
+IsHit needles bytes r = hit needles bytes ≡ Some r
+
+-- the length of the longest needle
+abbrev pub longest : List (List ℕ) → ℕ
+longest [] = 0
+longest (needle ∷ needles) = max (length needle) (longest needles)

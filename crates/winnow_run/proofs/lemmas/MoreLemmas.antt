@@ -1,0 +1,69 @@
+-- Stability, one lemma a word: what a word says definitely of r it says of r with more behind it.
+use Rattle.std.proofs.Common.{◌≡◌, ℕ, ◌+◌, ◌-◌, ◌≤◌, Bool, true, leb, List, [], ◌∷◌, ◌++◌, length, Option, None, Some, refl, sym, ap, ◌∙◌, arith, inl, inr}
+use Rattle.std.specs.Prelude.{is_some, is_ok}
+use Rattle.std.proofs.lemmas.Bool.{cases_Bool, false≢true, leb-true, le-leb}
+use Rattle.std.proofs.lemmas.Bool.Decides.{nat_tests}
+use Rattle.std.proofs.lemmas.List.{take-append-le, length-append, append_assoc}
+use Rattle.winnow_stream.specs.Source.{Source, width, first_token, first_held, first_offset, offsets_from}
+use Rattle.winnow_stream.specs.Front.{front_count}
+use Rattle.winnow_stream.specs.Shortage.{offset_at}
+use Rattle.winnow_match.specs.declared.compare.CompareResult.{CompareResult}
+use Rattle.winnow_match.specs.declared.compare.CompareResult.TheVariants as compared
+use Rattle.winnow_match.specs.Bytes.{written}
+use Rattle.winnow_match.specs.Comparison.{comparison}
+use Rattle.winnow_match.proofs.lemmas.ComparisonLemmas.{ok-more, error-more}
+use Rattle.winnow_run.specs.Definite.{is_decided}
+
+pub width-append : {T : Type 0} (r m : Source T) → width (r ++ m) ≡ width r + width m
+width-append [] m = omega arith
+width-append (x ∷ r) m = omega (arith, width-append r m)
+
+pub written-append : {T : Type 0} (write : T → List ℕ) (r m : Source T) → written write (r ++ m) ≡ written write r ++ written write m
+written-append write [] m = refl
+written-append write (x ∷ r) m = ap (λ xs. write x.0 ++ xs) (written-append write r m) ∙ sym (append_assoc (write x.0) (written write r) (written write m))
+
+-- ---- the words of calls
+
+pub first_token-more : {T : Type 0} (r m : Source T) → is_some (first_token r) ≡ true → first_token (r ++ m) ≡ first_token r
+first_token-more [] m h = absurd (cc)
+first_token-more (x ∷ r) m h = refl
+
+front_count-zero : {T : Type 0} (r : Source T) → front_count r 0 ≡ Some 0
+front_count-zero [] = refl
+front_count-zero (x ∷ r) = refl
+
+pub front_count-more : {T : Type 0} (r m : Source T) (n : ℕ) → n ≤ width r → front_count (r ++ m) n ≡ front_count r n
+front_count-more [] m n h = let e : n ≡ 0 = omega arith in rw e (front_count-zero m)
+front_count-more (x ∷ r) m n h = let ih = λ (g : n - x.1 ≤ width r). front_count-more r m (n - x.1) g in grind (arith, nat_tests)
+
+pub first_held-more : {T : Type 0} (holds : T → Bool) (n : ℕ) (r m : Source T) → is_some (first_held holds (offsets_from n r)) ≡ true → first_held holds (offsets_from n (r ++ m)) ≡ first_held holds (offsets_from n r)
+first_held-more holds n [] m h = absurd (cc)
+first_held-more holds n (x ∷ r) m h =
+    elim (cases_Bool (holds x.0)) [
+      | inl e ↦ rw e refl
+      | inr e ↦ rw e (first_held-more holds (n + x.1) r m (rw e at h))
+    ]
+
+pub first_offset-more : {T : Type 0} (holds : T → Bool) (r m : Source T) → is_some (first_offset holds r) ≡ true → first_offset holds (r ++ m) ≡ first_offset holds r
+first_offset-more holds r m h = first_held-more holds 0 r m h
+
+pub offset_at-more : {T : Type 0} (b : Bool) (r m : Source T) (n : ℕ) → is_ok (offset_at b r n) ≡ true → offset_at b (r ++ m) n ≡ offset_at b r n
+offset_at-more b r m n h =
+    elim (cases_Bool (leb n (length r))) [
+      | inl e ↦
+          let fits = leb-true n (length r) e in
+          let more : n ≤ length (r ++ m) = omega (arith, length-append r m) in
+          rw (e, le-leb n (length (r ++ m)) more, take-append-le n r m fits)
+      | inr e ↦ absurd (false≢true (rw e at h))
+    ]
+
+-- ---- the word of comparisons
+
+decided : (a : CompareResult) → is_decided a ≡ true → (b : CompareResult) → ((n : ℕ) → a ≡ compared.Ok n → b ≡ compared.Ok n) → (a ≡ compared.Error → b ≡ compared.Error) → b ≡ a
+decided (compared.Ok n) h b ok error = ok n refl
+decided compared.Incomplete h b ok error = absurd (cc)
+decided compared.Error h b ok error = error refl
+
+pub comparison-more : (literal bytes more : List ℕ) → is_decided (comparison literal bytes) ≡ true → comparison literal (bytes ++ more) ≡ comparison literal bytes
+comparison-more literal bytes more h =
+    decided (comparison literal bytes) h (comparison literal (bytes ++ more)) (ok-more literal bytes more) (error-more literal bytes more)

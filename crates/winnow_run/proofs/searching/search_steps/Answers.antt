@@ -1,0 +1,81 @@
+use Rattle.std.proofs.Common.{◌≡◌, [], ◌∷◌, ◌++◌, refl, sym, ◌∙◌, ap, subst, arith}
+use Rattle.std.proofs.lemmas.List.{append_assoc, append-nil, nil_from_length}
+use Rattle.std.proofs.lemmas.List.Elements.{All-head, All-tail}
+use Rattle.std.specs.List.{All}
+use Rattle.winnow_stream.specs.Source.{width}
+use Rattle.winnow_stream.specs.Cursor.{start}
+use Rattle.winnow_run.specs.Searching.{search_answer, search_next, stream_kind, IsSearchReady, SearchComputes, SearchStandsFor}
+use Rattle.winnow_run.proofs.lemmas.PairLemmas.{AllZip-more}
+use Rattle.winnow_run.proofs.lemmas.ScriptLemmas.{cursor-append, answers-append}
+use Rattle.winnow_run.proofs.searching.search_steps.Goals as goal
+
+pub loop-step-init : goal.loop-step-init
+loop-step-init g c =
+    let base : c.new-origin.result.place ≡ 0 = omega (arith, c.new-origin.ensures.place, c.eof_offset.ensures) in
+    let end : c.new-origin.result.end ≡ width (g.S.Stream.remaining c.args.s.now) = c.new-origin.ensures.end ∙ c.eof_offset.ensures in
+    record {
+      valid = c.requires.valid;
+      kept = g.met.S.Stream.keeps_reflexive _;
+      ready = c.requires.ready;
+      sets = λ q p. p;
+      done = [];
+      split = refl;
+      origin = c.new-origin.ensures.valid;
+      base = base;
+      stands = record {
+        widths = g.met.S.Stream.has_widths _ c.requires.valid;
+        rest = refl;
+        within = omega arith;
+        marks = rw c.new-marks.ensures tt;
+        end = end;
+        first = 0;
+        base = base;
+        origin = c.new-origin.ensures.means;
+        first_within = omega arith;
+      };
+      answers = λ q p. rw c.in_ok-answers.ensures.items tt;
+    }
+
+pub search_step-requires-clause-ready : goal.search_step-requires-clause-ready
+search_step-requires-clause-ready g c =
+    All-head (IsSearchReady g.C.ScriptSet.can_hold) c.in-Some.step.now c.in-Some.later.now (subst (All (IsSearchReady g.C.ScriptSet.can_hold)) c.in-Some.ensures.cases.0 c.loop-step.invariant.ready)
+
+pub returns-in_err-answer-clause-kept : goal.returns-in_err-answer-clause-kept
+returns-in_err-answer-clause-kept g c = g.met.S.Stream.keeps_transitive _ _ _ c.loop-step.invariant.kept c.search_step.ensures.kept
+
+pub returns-in_err-push-clause-kept : goal.returns-in_err-push-clause-kept
+returns-in_err-push-clause-kept g c = g.met.S.Stream.keeps_transitive _ _ _ c.loop-step.invariant.kept c.search_step.ensures.kept
+
+pub loop-step-preserved : goal.loop-step-preserved
+loop-step-preserved g c =
+    let all = g.S.Stream.remaining c.args.s.now in
+    let i = c.loop-step.invariant in
+    let e : c.loop-step.rest.now ≡ c.in-Some.step.now ∷ c.in-Some.later.now = c.in-Some.ensures.cases.0 in
+    record {
+      valid = c.search_step.ensures.valid;
+      origin = i.origin;
+      base = i.base;
+      kept = g.met.S.Stream.keeps_transitive _ _ _ i.kept c.search_step.ensures.kept;
+      ready = All-tail (IsSearchReady g.C.ScriptSet.can_hold) c.in-Some.step.now c.in-Some.later.now (subst (All (IsSearchReady g.C.ScriptSet.can_hold)) e i.ready);
+      sets = λ q p. All-tail (SearchComputes g.C.ScriptSet.tells q) c.in-Some.step.now c.in-Some.later.now (subst (All (SearchComputes g.C.ScriptSet.tells q)) e (i.sets q p));
+      done = i.done ++ c.in-Some.step.now ∷ [];
+      split = i.split ∙ ap (λ xs. i.done ++ xs) e ∙ sym (append_assoc i.done (c.in-Some.step.now ∷ []) c.in-Some.later.now);
+      stands = rw (cursor-append (search_next all) i.done c.in-Some.step.now start) (c.in_ok-answer.ensures.stands _ _ i.stands);
+      answers = λ q p.
+          let here = All-head (SearchComputes g.C.ScriptSet.tells q) c.in-Some.step.now c.in-Some.later.now (subst (All (SearchComputes g.C.ScriptSet.tells q)) e (i.sets q p)) in
+          rw (answers-append (search_answer (stream_kind q g.S.Stream.counts_missing g.S.Compare.compared g.S.FindSlice.found) all) (search_next all) i.done c.in-Some.step.now start)
+          (rw c.in_ok-push.ensures.items
+          (AllZip-more (SearchStandsFor g.S.Stream.is_slice all) _ _ _ _ (i.answers q p) (c.in_ok-answer.ensures.answer q _ _ here i.stands)));
+    }
+
+pub returns-clause-answers : goal.returns-clause-answers
+returns-clause-answers g c = λ q p.
+    let i = c.loop-step.invariant in
+    let e : c.args.script.now ≡ i.done = i.split ∙ ap (λ xs. i.done ++ xs) (nil_from_length _ c.in_default.ensures.cases) ∙ append-nil i.done in
+    rw e (i.answers q p)
+
+pub returns-clause-remains : goal.returns-clause-remains
+returns-clause-remains g c =
+    let i = c.loop-step.invariant in
+    let e : c.args.script.now ≡ i.done = i.split ∙ ap (λ xs. i.done ++ xs) (nil_from_length _ c.in_default.ensures.cases) ∙ append-nil i.done in
+    rw e i.stands.rest

@@ -1,0 +1,77 @@
+-- Which answers no further input can change, and which of a script's answers are out.
+use Rattle.std.specs.Prelude.{◌≡◌, ℕ, nat_le, Bool, true, false, List, ◌++◌, take, map, is_some, is_ok}
+use Rattle.std.specs.List.{All, take_while}
+use Rattle.winnow_stream.specs.Source.{Source, width, first_token, first_offset}
+use Rattle.winnow_stream.specs.Shortage.{offset_at}
+use Rattle.winnow_stream.specs.Cursor.{Cursor, start, rest, answers_from}
+use Rattle.winnow_run.specs.declared.script.Step.{Step}
+use Rattle.winnow_run.specs.declared.script.Step.TheVariants as call
+use Rattle.winnow_match.specs.declared.compare.CompareResult.{CompareResult}
+use Rattle.winnow_match.specs.declared.compare.CompareResult.TheVariants as compared
+use Rattle.winnow_match.specs.Bytes.{written}
+use Rattle.winnow_match.specs.Comparison.{comparison}
+use Rattle.winnow_match.specs.Search.{hit, needle_list}
+use Rattle.winnow_match.specs.Stretch.{hit_is_definite}
+use Rattle.winnow_run.specs.declared.search_script.SearchStep.{SearchStep}
+use Rattle.winnow_run.specs.declared.search_script.SearchStep.TheVariants as step
+use Rattle.winnow_run.specs.Searching.{Kind, PlacedSearchAnswer, search_answer, search_next}
+
+-- what a kind of pieces fixes: what a set holds, whether a shortage is counted, the bytes of a token and of a literal
+pub record PieceKind (T C L : Type 0) : Type 0 where
+  pub holds : C → T → Bool
+  pub counts_missing : Bool
+  pub write : T → List ℕ
+  pub literal : L → List ℕ
+
+-- comparisons and searches are those of the bytes
+abbrev pub kind_of : {T C L : Type 0} → PieceKind T C L → Kind T C L
+kind_of k = record {
+  holds = k.holds;
+  counts_missing = k.counts_missing;
+  compared = λ literal r. comparison (k.literal literal) (written k.write r);
+  found = λ needles r. hit (needle_list k.literal needles) (written k.write r);
+}
+
+abbrev pub is_decided : CompareResult → Bool
+is_decided (compared.Ok n) = true
+is_decided compared.Incomplete = false
+is_decided compared.Error = true
+
+-- whether no further input can change what a step answers where r remains
+module _ {T C : Type 0} (holds : C → T → Bool) (counts_missing : Bool) where
+  abbrev pub is_call_definite : Step C → Source T → Bool
+  is_call_definite call.Next r = is_some (first_token r)
+  is_call_definite call.Peek r = is_some (first_token r)
+  is_call_definite (call.Take n) r = nat_le n (width r)
+  is_call_definite (call.Look n) r = nat_le n (width r)
+  is_call_definite call.Finish r = false
+  is_call_definite call.PeekFinish r = false
+  is_call_definite call.Eof r = false
+  is_call_definite (call.At n) r = is_ok (offset_at counts_missing r n)
+  is_call_definite (call.IsOffset n) r = nat_le n (width r)
+  is_call_definite (call.First c) r = is_some (first_offset (holds c) r)
+  is_call_definite call.Each r = false
+  is_call_definite call.Mark r = true
+  is_call_definite (call.Reset i) r = true
+  is_call_definite (call.Since i) r = true
+
+module _ {T C L : Type 0} (k : PieceKind T C L) where
+  abbrev pub is_definite : SearchStep C L → Source T → Bool
+  is_definite (step.Call s) r = is_call_definite k.holds k.counts_missing s r
+  is_definite (step.Compare literal) r = is_decided (comparison (k.literal literal) (written k.write r))
+  is_definite (step.Find needles) r = hit_is_definite (needle_list k.literal needles) (written k.write r)
+
+  -- each answer, and whether it is definite
+  abbrev pub judged : Source T → SearchStep C L → Cursor → PlacedSearchAnswer T × Bool
+  judged all s at = (search_answer (kind_of k) all s at, is_definite s (rest all at))
+
+  abbrev pub judged_answers : Source T → List (SearchStep C L) → List (PlacedSearchAnswer T × Bool)
+  judged_answers all script = answers_from (judged all) (search_next all) script start
+
+  -- the longest front of the answers whose members are all definite
+  abbrev pub out : Source T → List (SearchStep C L) → List (PlacedSearchAnswer T)
+  out all script = map (λ a. a.0) (take_while (λ a. a.1) (judged_answers all script))
+
+-- what the first n answers are, all of them definite, they are with more input behind it, and definite there
+abbrev pub StableUnderMore : (T C L : Type 0) → Type 0
+StableUnderMore T C L = (k : PieceKind T C L) (script : List (SearchStep C L)) (all more : Source T) (n : ℕ) → All (λ a. a.1 ≡ true) (take n (judged_answers k all script)) → take n (judged_answers k (all ++ more) script) ≡ take n (judged_answers k all script)

@@ -1,0 +1,5 @@
+pub mod Marks
+pub mod Script
+pub mod Standing
+pub mod Searching
+pub mod Definite

@@ -1,0 +1,108 @@
+-- What each step of a script answers at a cursor, and where it leaves the cursor.
+use Rattle.std.specs.Prelude.{◌≡◌, ℕ, ◌+◌, ◌-◌, min, nat_le, Bool, cond, List, [], ◌∷◌, ◌++◌, length, drop, slice_get, Option, Some, None, unwrap_or, ⊤}
+use Rattle.std.specs.List.{All, AllZip}
+use Rattle.std.specs.Global.{Vec}
+use Rattle.std.specs.declared.ops.Range.{Range}
+use Rattle.winnow_stream.specs.Source.{Source, width, first_token, first_offset, offsets, Computes}
+use Rattle.winnow_stream.specs.Front.{front_count, is_offset, back, part}
+use Rattle.winnow_stream.specs.Shortage.{offset_at}
+use Rattle.winnow_stream.specs.Cursor.{Cursor, start, rest, place, places, answers_from, cursor_after}
+use Rattle.winnow_stream.specs.declared.needed.Needed.{Needed}
+use Rattle.winnow_run.specs.declared.script.Step.{Step}
+use Rattle.winnow_run.specs.declared.script.Step.TheVariants as step
+use Rattle.winnow_run.specs.declared.script.Answer.{Answer}
+use Rattle.winnow_run.specs.declared.script.Answer.TheVariants as answer
+
+-- an answer whose slices and items are places in the list
+abbrev pub PlacedAnswer : Type 0 → Type 0
+PlacedAnswer T = Answer T (Range ℕ) (Range ℕ) Needed
+
+-- the slice of width n from place a on, if that is the width of a front
+abbrev pub slice_answer : {T : Type 0} → ℕ → ℕ → Option ℕ → PlacedAnswer T
+slice_answer a n None = answer.BadOffset
+slice_answer a n (Some count) = answer.Slice (places a n)
+
+-- going back to a mark
+abbrev pub reset_answer : {T : Type 0} → Option ℕ → PlacedAnswer T
+reset_answer None = answer.NoMark
+reset_answer (Some mark) = answer.Done
+
+-- the width from a mark to the cursor at index i
+abbrev pub since_answer : {T : Type 0} → Source T → ℕ → Option ℕ → PlacedAnswer T
+since_answer all i None = answer.NoMark
+since_answer all i (Some mark) = cond (nat_le mark i) (answer.Offset (width (drop mark all) - width (drop i all))) answer.LaterMark
+
+-- what a step answers at the cursor. `holds` says what each set holds, `counts_missing` whether a shortage is counted
+module _ {C T : Type 0} (holds : C → T → Bool) (counts_missing : Bool) (all : Source T) where
+  abbrev pub step_answer : Step C → Cursor → PlacedAnswer T
+  step_answer step.Next at = answer.Token (first_token (rest all at))
+  step_answer step.Peek at = answer.Token (first_token (rest all at))
+  step_answer (step.Take n) at = slice_answer (place all at.index) n (front_count (rest all at) n)
+  step_answer (step.Look n) at = slice_answer (place all at.index) n (front_count (rest all at) n)
+  step_answer step.Finish at = answer.Slice (places (place all at.index) (width (rest all at)))
+  step_answer step.PeekFinish at = answer.Slice (places (place all at.index) (width (rest all at)))
+  step_answer step.Eof at = answer.Offset (width (rest all at))
+  step_answer (step.At n) at = answer.At (offset_at counts_missing (rest all at) n)
+  step_answer (step.IsOffset n) at = answer.Flag (is_offset (rest all at) n)
+  step_answer (step.First c) at = answer.First (first_offset (holds c) (rest all at))
+  step_answer step.Each at = answer.Items (places (place all at.index) (width (rest all at)))
+  step_answer step.Mark at = answer.Marked (length at.marks)
+  step_answer (step.Reset k) at = reset_answer (slice_get at.marks k)
+  step_answer (step.Since k) at = since_answer all at.index (slice_get at.marks k)
+
+-- where a step leaves the cursor: `Next`, `Take`, `Finish` and `Reset` move it, and `Mark` adds it to the marks
+module _ {C T : Type 0} (all : Source T) where
+  abbrev pub step_next : Step C → Cursor → Cursor
+  step_next step.Next at = record at { index = min (at.index + 1) (length all) }
+  step_next (step.Take n) at = record at { index = at.index + unwrap_or (front_count (rest all at) n) 0 }
+  step_next step.Finish at = record at { index = length all }
+  step_next step.Mark at = record at { marks = at.marks ++ at.index ∷ [] }
+  step_next (step.Reset k) at = record at { index = unwrap_or (slice_get at.marks k) at.index }
+  step_next _ at = at
+
+-- the answers of a script on a list
+abbrev pub answers : {C T : Type 0} → (C → T → Bool) → Bool → Source T → List (Step C) → List (PlacedAnswer T)
+answers holds counts_missing all script = answers_from (step_answer holds counts_missing all) (step_next all) script start
+
+-- what a script leaves of a list
+abbrev pub rest_after : {C T : Type 0} → Source T → List (Step C) → Source T
+rest_after all script = rest all (cursor_after (step_next all) script start)
+
+-- an answer that was given is the one that the definition tells of: a slice is the one of its place, and items list theirs
+module _ {T S : Type 0} (is_slice : S → Source T → ℕ → Type 0) (all : Source T) where
+  abbrev pub StandsFor : PlacedAnswer T → Answer T S (Vec (ℕ × T)) Needed → Type 0
+  StandsFor (answer.Token t) given = given ≡ answer.Token t
+  StandsFor (answer.Slice p) given = (s : S) × (given ≡ answer.Slice s) × is_slice s (back all p.start) (p.end - p.start)
+  StandsFor (answer.Offset n) given = given ≡ answer.Offset n
+  StandsFor (answer.At r) given = given ≡ answer.At r
+  StandsFor (answer.Flag b) given = given ≡ answer.Flag b
+  StandsFor (answer.First o) given = given ≡ answer.First o
+  StandsFor (answer.Items p) given = (v : Vec (ℕ × T)) × (given ≡ answer.Items v) × (v.items ≡ offsets (part all p))
+  StandsFor (answer.Marked k) given = given ≡ answer.Marked k
+  StandsFor answer.Done given = given ≡ answer.Done
+  StandsFor answer.BadOffset given = given ≡ answer.BadOffset
+  StandsFor answer.NoMark given = given ≡ answer.NoMark
+  StandsFor answer.LaterMark given = given ≡ answer.LaterMark
+
+-- `holds` is what the set that a step names, if any, answers
+abbrev pub SetComputes : {C T : Type 0} → (C → T → Bool → Type 0) → (C → T → Bool) → Step C → Type 0
+SetComputes tells holds (step.First c) = Computes (tells c) (holds c)
+SetComputes tells holds _ = ⊤
+
+-- `holds` is what each set answers that a script names
+abbrev pub SetsCompute : {C T : Type 0} → (C → T → Bool → Type 0) → (C → T → Bool) → List (Step C) → Type 0
+SetsCompute tells holds script = All (SetComputes tells holds) script
+
+-- each answer that was given stands for the one that the script tells of on the list, whatever its sets hold
+abbrev pub AreAnswers : {C T S : Type 0} → (C → T → Bool → Type 0) → (S → Source T → ℕ → Type 0) → Bool → Source T → List (Step C) → List (Answer T S (Vec (ℕ × T)) Needed) → Type 0
+AreAnswers {C} {T} tells is_slice counts_missing all script given =
+    (holds : C → T → Bool) → SetsCompute tells holds script → AllZip (StandsFor is_slice all) (answers holds counts_missing all script) given
+
+-- the set that a step names, if any, may be asked
+abbrev pub IsReady : {C : Type 0} → (C → Type 0) → Step C → Type 0
+IsReady can (step.First c) = can c
+IsReady can _ = ⊤
+
+-- every set that a script names may be asked
+abbrev pub AreReady : {C : Type 0} → (C → Type 0) → List (Step C) → Type 0
+AreReady can script = All (IsReady can) script

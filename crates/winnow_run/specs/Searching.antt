@@ -1,0 +1,101 @@
+-- Scripts that also compare and search: the two further steps, beside the calls.
+use Rattle.std.specs.Prelude.{◌≡◌, ℕ, Bool, List, Option, ⊤}
+use Rattle.std.specs.List.{All, AllZip}
+use Rattle.std.specs.Global.{Vec}
+use Rattle.winnow_run.specs.declared.script.Answer.{Answer}
+use Rattle.std.specs.declared.ops.Range.{Range}
+use Rattle.winnow_stream.specs.declared.needed.Needed.{Needed}
+use Rattle.winnow_stream.specs.Source.{Source}
+use Rattle.winnow_stream.specs.Cursor.{Cursor, start, rest, answers_from, cursor_after}
+use Rattle.winnow_run.specs.Script.{step_answer, step_next, StandsFor, SetComputes, IsReady}
+use Rattle.winnow_run.specs.Standing.{Stand, StandsAt, IsInReach}
+use Rattle.winnow_match.specs.declared.compare.CompareResult.{CompareResult}
+use Rattle.winnow_match.specs.declared.needles.Needles.{Needles}
+use Rattle.winnow_run.specs.declared.search_script.SearchStep.{SearchStep}
+use Rattle.winnow_run.specs.declared.search_script.SearchStep.TheVariants as step
+use Rattle.winnow_run.specs.declared.search_script.SearchAnswer.{SearchAnswer}
+use Rattle.winnow_run.specs.declared.search_script.SearchAnswer.TheVariants as answer
+
+-- what a kind of stream fixes: what a set holds, whether a shortage is counted, and what comparisons and searches answer
+pub record Kind (T C L : Type 0) : Type 0 where
+  pub holds : C → T → Bool
+  pub counts_missing : Bool
+  pub compared : L → Source T → CompareResult
+  pub found : Needles L → Source T → Option (Range ℕ)
+
+-- an answer whose slices and items are places in the list
+abbrev pub PlacedSearchAnswer : Type 0 → Type 0
+PlacedSearchAnswer T = SearchAnswer T (Range ℕ) (Range ℕ)
+
+-- where a step leaves the cursor: only a call moves it
+module _ {T C L : Type 0} (all : Source T) where
+  abbrev pub search_next : SearchStep C L → Cursor → Cursor
+  search_next (step.Call call) at = step_next all call at
+  search_next (step.Compare literal) at = at
+  search_next (step.Find needles) at = at
+
+-- what a step answers at the cursor
+module _ {T C L : Type 0} (kind : Kind T C L) (all : Source T) where
+  abbrev pub search_answer : SearchStep C L → Cursor → PlacedSearchAnswer T
+  search_answer (step.Call call) at = answer.Call (step_answer kind.holds kind.counts_missing all call at)
+  search_answer (step.Compare literal) at = answer.Compared (kind.compared literal (rest all at))
+  search_answer (step.Find needles) at = answer.Hit (kind.found needles (rest all at))
+
+  -- the answers of a script
+  abbrev pub search_answers : List (SearchStep C L) → List (PlacedSearchAnswer T)
+  search_answers script = answers_from search_answer (search_next all) script start
+
+-- where a script leaves the cursor
+abbrev pub search_cursor : {T C L : Type 0} → Source T → List (SearchStep C L) → Cursor
+search_cursor all script = cursor_after (search_next all) script start
+
+-- an answer that was given is the one that the definition tells of
+module _ {T S : Type 0} (is_slice : S → Source T → ℕ → Type 0) (all : Source T) where
+  abbrev pub SearchStandsFor : PlacedSearchAnswer T → SearchAnswer T S (Vec (ℕ × T)) → Type 0
+  SearchStandsFor (answer.Call a) given = (told : Answer T S (Vec (ℕ × T)) Needed) × (given ≡ answer.Call told) × StandsFor is_slice all a told
+  SearchStandsFor (answer.Compared c) given = given ≡ answer.Compared c
+  SearchStandsFor (answer.Hit o) given = given ≡ answer.Hit o
+
+-- `holds` is what the set that a step names, if any, answers
+abbrev pub SearchComputes : {C T L : Type 0} → (C → T → Bool → Type 0) → (C → T → Bool) → SearchStep C L → Type 0
+SearchComputes tells holds (step.Call call) = SetComputes tells holds call
+SearchComputes tells holds (step.Compare literal) = ⊤
+SearchComputes tells holds (step.Find needles) = ⊤
+
+-- the set that a step names, if any, may be asked
+abbrev pub IsSearchReady : {C L : Type 0} → (C → Type 0) → SearchStep C L → Type 0
+IsSearchReady can (step.Call call) = IsReady can call
+IsSearchReady can (step.Compare literal) = ⊤
+IsSearchReady can (step.Find needles) = ⊤
+
+-- every set that a script names may be asked
+abbrev pub AreSearchReady : {C L : Type 0} → (C → Type 0) → List (SearchStep C L) → Type 0
+AreSearchReady can script = All (IsSearchReady can) script
+
+-- the kind of a stream
+abbrev pub stream_kind : {T C L : Type 0} → (C → T → Bool) → Bool → (L → Source T → CompareResult) → (Needles L → Source T → Option (Range ℕ)) → Kind T C L
+stream_kind holds counts_missing compared found = record { holds = holds; counts_missing = counts_missing; compared = compared; found = found }
+
+-- each answer that was given stands for the one that the script tells of on the list, whatever its sets hold
+abbrev pub AreSearchAnswers : {C T S L : Type 0} → (C → T → Bool → Type 0) → (S → Source T → ℕ → Type 0) → Bool → (L → Source T → CompareResult) → (Needles L → Source T → Option (Range ℕ)) → Source T → List (SearchStep C L) → List (SearchAnswer T S (Vec (ℕ × T))) → Type 0
+AreSearchAnswers {C} {T} tells is_slice counts_missing compared found all script given =
+    (holds : C → T → Bool) → All (SearchComputes tells holds) script → AllZip (SearchStandsFor is_slice all) (search_answers (stream_kind holds counts_missing compared found) all script) given
+
+-- what a script leaves of a list
+abbrev pub rest_after_search : {C T L : Type 0} → Source T → List (SearchStep C L) → Source T
+rest_after_search all script = rest all (search_cursor all script)
+
+-- the mark that a step goes back to, if there is one, is not before the origin
+abbrev pub IsSearchInReach : {C T L : Type 0} → SearchStep C L → Stand T → Type 0
+IsSearchInReach (step.Call call) here = IsInReach call here
+IsSearchInReach (step.Compare literal) here = ⊤
+IsSearchInReach (step.Find needles) here = ⊤
+
+-- the answer is the step's, at whatever cursor the run stands
+abbrev pub AnswersSearchStep : {C T S L : Type 0} → (C → T → Bool → Type 0) → (S → Source T → ℕ → Type 0) → Bool → (L → Source T → CompareResult) → (Needles L → Source T → Option (Range ℕ)) → SearchStep C L → Stand T → SearchAnswer T S (Vec (ℕ × T)) → Type 0
+AnswersSearchStep {C} {T} tells is_slice counts_missing compared found step here given =
+    (holds : C → T → Bool) (all : Source T) (at : Cursor) → SearchComputes tells holds step → StandsAt here all at → SearchStandsFor is_slice all (search_answer (stream_kind holds counts_missing compared found) all step at) given
+
+-- after the step the run stands where the step leaves the cursor, whatever cursor it stood at
+abbrev pub StandsAfterSearchStep : {C T L : Type 0} → SearchStep C L → Stand T → Stand T → Type 0
+StandsAfterSearchStep {C} {T} step here there = (all : Source T) (at : Cursor) → StandsAt here all at → StandsAt there all (search_next all step at)

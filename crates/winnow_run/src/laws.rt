@@ -1,0 +1,39 @@
+ghost use Rattle.std.specs.Prelude.{◌≡◌, IfOk};
+ghost use Rattle.winnow_run.specs.Definite.{StableUnderMore};
+ghost use Rattle.winnow_run.specs.Script.{AreAnswers, AreReady};
+
+use crate::{Answer, Step, run};
+use std::alloc::{AllocError, Global};
+use winnow_stream::{ScriptSet, Stream};
+
+/// Runs a script and goes back: whatever the calls were, `reset` to a checkpoint from before gives back what remained then.
+///
+/// So a parser looks ahead: the answers are those of [`run`], and the stream stands where it stood.
+pub fn run_and_reset<S: Stream, C: ScriptSet<S::Token>>(
+    alloc: Global,
+    s: &mut S,
+    script: &[Step<C>],
+) -> Result<Vec<Answer<S::Token, S::Slice, Vec<(usize, S::Token)>>>, AllocError>
+where
+    S::Token: Drop,
+    S::Slice: Drop,
+    requires valid { S.valid s.old }
+    requires ready { AreReady C.can_hold script.now }
+    ensures answers { IfOk result (λ out.
+        AreAnswers C.tells S.is_slice S.counts_missing (S.remaining s.old) script.now out.items) }
+    ensures remains { S.remaining s.new ≡ S.remaining s.old }
+    ensures valid { S.valid s.new }
+    ensures kept { S.keeps s.old s.new }
+{
+    let start = s.checkpoint();
+    let answers = run(alloc, s, script);
+    s.reset(&start);
+    answers
+}
+
+/// The law of stability: if the first n answers of a script on a list are definite, they are the first n on that list followed by
+/// anything, and definite there. So whoever reads input as it comes may act on a definite answer at once. It does nothing when
+/// called: its contract is the law.
+pub fn definite_law<T, C, L>()
+    ensures { StableUnderMore T C L }
+{}

@@ -1,0 +1,66 @@
+ghost use Rattle.std.specs.Prelude.{◌≡◌, IfOk, OnErr, OnOk};
+ghost use Rattle.winnow_run.specs.Script.{rest_after, AreAnswers, AreReady};
+
+use crate::{Answer, Marks, Origin, Step, answer_step};
+use std::alloc::{AllocError, Global};
+use winnow_stream::{ScriptSet, Stream};
+
+/// Runs a script of calls on a stream, and gives their answers in order.
+///
+/// The answers are those of one cursor on the list that remained at the call, whatever the stream is made of. A step that
+/// cannot be carried out (an offset that is not valid, a mark that was not made) answers so, and moves nothing. Refused for
+/// memory, the stream stands where it stood.
+pub fn run<S: Stream, C: ScriptSet<S::Token>>(
+    alloc: Global,
+    s: &mut S,
+    script: &[Step<C>],
+) -> Result<Vec<Answer<S::Token, S::Slice, Vec<(usize, S::Token)>>>, AllocError>
+where
+    S::Token: Drop,
+    S::Slice: Drop,
+    requires valid { S.valid s.old }
+    requires ready { AreReady C.can_hold script.now }
+    ensures answers { IfOk result (λ out.
+        AreAnswers C.tells S.is_slice S.counts_missing (S.remaining s.old) script.now out.items) }
+    ensures remains { OnOk result (S.remaining s.new ≡ rest_after (S.remaining s.old) script.now) }
+    ensures refused { OnErr result (S.remaining s.new ≡ S.remaining s.old) }
+    ensures valid { S.valid s.new }
+    ensures kept { S.keeps s.old s.new }
+{
+    let start = s.checkpoint();
+    let answers = run_steps(alloc, s, script);
+    if answers.is_err() {
+        s.reset(&start);
+    }
+    answers
+}
+
+// The same, but refused for memory the stream stays where the last step left it.
+fn run_steps<S: Stream, C: ScriptSet<S::Token>>(
+    alloc: Global,
+    s: &mut S,
+    script: &[Step<C>],
+) -> Result<Vec<Answer<S::Token, S::Slice, Vec<(usize, S::Token)>>>, AllocError>
+where
+    S::Token: Drop,
+    S::Slice: Drop,
+    requires valid { S.valid s.old }
+    requires ready { AreReady C.can_hold script.now }
+    ensures answers { IfOk result (λ out.
+        AreAnswers C.tells S.is_slice S.counts_missing (S.remaining s.old) script.now out.items) }
+    ensures remains { OnOk result (S.remaining s.new ≡ rest_after (S.remaining s.old) script.now) }
+    ensures valid { S.valid s.new }
+    ensures kept { S.keeps s.old s.new }
+{
+    let origin = Origin::new(s, s.eof_offset());
+    let mut marks = Marks::new(alloc);
+    let mut answers = Vec::with_capacity(alloc, script.len())?;
+    // A slice that gets shorter stays in registers. The place that a `for` counts did not, and steps waited for it: an eighth of the time.
+    let mut rest = script;
+    while let Some((step, later)) = rest.split_first() {
+        let answer = answer_step(alloc, s, &origin, &mut marks, step)?;
+        answers.push(answer)?;
+        rest = later;
+    }
+    Ok(answers)
+}

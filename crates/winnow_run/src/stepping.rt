@@ -1,0 +1,93 @@
+ghost use Rattle.std.specs.Prelude.{◌≡◌, ◌≤◌, IfOk, IsOk, OnErr, OnOk};
+ghost use Rattle.winnow_run.specs.Marks.{room_of};
+ghost use Rattle.winnow_run.specs.Script.{IsReady};
+ghost use Rattle.winnow_run.specs.Standing.{stand, StandsSomewhere, IsInReach, TakesNoMemory, AnswersStep, StandsAfter};
+
+use crate::{Answer, Marks, Origin, Step};
+use std::alloc::{AllocError, Global};
+use winnow_stream::{ScriptSet, Stream};
+
+/// Answers one step of a run, which moves the stream and may add a mark.
+///
+/// It is for engines of scripts that have further steps, or that go on later over a stream made anew. Where the stream stands and
+/// where its origin does are places on one list; the step speaks of the list alone. Refused for memory, the stream and the marks
+/// stand where they stood; only [`Step::Each`], and a mark for which there is no room, can be refused.
+// Two loops call it: left as a call, its answers are copied twice, a tenth of a step's time.
+#[inline(always)]
+pub fn answer_step<S: Stream, C: ScriptSet<S::Token>>(
+    alloc: Global,
+    s: &mut S,
+    origin: &Origin<S::Checkpoint>,
+    marks: &mut Marks,
+    step: &Step<C>,
+) -> Result<Answer<S::Token, S::Slice, Vec<(usize, S::Token)>>, AllocError>
+where
+    S::Token: Drop,
+    S::Slice: Drop,
+    requires valid { S.valid s.old }
+    requires origin { S.valid_checkpoint origin.now.checkpoint }
+    requires ready { IsReady C.can_hold step.now }
+    requires stands { StandsSomewhere (stand S.remained origin.now (S.remaining s.old) marks.old) }
+    requires reach { IsInReach step.now (stand S.remained origin.now (S.remaining s.old) marks.old) }
+    ensures answer { IfOk result (AnswersStep C.tells S.is_slice S.counts_missing
+        step.now (stand S.remained origin.now (S.remaining s.old) marks.old)) }
+    ensures stands { OnOk result (StandsAfter step.now
+        (stand S.remained origin.now (S.remaining s.old) marks.old)
+        (stand S.remained origin.now (S.remaining s.new) marks.new)) }
+    ensures refused { OnErr result (stand S.remained origin.now (S.remaining s.new) marks.new
+        ≡ stand S.remained origin.now (S.remaining s.old) marks.old) }
+    ensures sure { TakesNoMemory step.now marks.old → IsOk result }
+    ensures room { room_of marks.old ≤ room_of marks.new }
+    ensures valid { S.valid s.new }
+    ensures kept { S.keeps s.old s.new }
+{
+    match step {
+        Step::Next => Ok(Answer::Token(s.next_token())),
+        Step::Peek => Ok(Answer::Token(s.peek_token())),
+        Step::Take(offset) => {
+            if s.is_offset(*offset) {
+                Ok(Answer::Slice(s.next_slice(*offset)))
+            } else {
+                Ok(Answer::BadOffset)
+            }
+        }
+        Step::Look(offset) => {
+            if s.is_offset(*offset) {
+                Ok(Answer::Slice(s.peek_slice(*offset)))
+            } else {
+                Ok(Answer::BadOffset)
+            }
+        }
+        Step::Finish => Ok(Answer::Slice(s.finish())),
+        Step::PeekFinish => Ok(Answer::Slice(s.peek_finish())),
+        Step::Eof => Ok(Answer::Offset(s.eof_offset())),
+        Step::At(tokens) => Ok(Answer::At(s.offset_at(*tokens))),
+        Step::IsOffset(offset) => Ok(Answer::Flag(s.is_offset(*offset))),
+        Step::First(set) => Ok(Answer::First(s.offset_for(|token| set.holds(token)))),
+        Step::Each => Ok(Answer::Items(s.iter_offsets().collect(alloc)?)),
+        Step::Mark => {
+            let number = marks.count();
+            marks.push(origin.end - s.eof_offset())?;
+            Ok(Answer::Marked(number))
+        }
+        Step::Reset(number) => match marks.place(*number) {
+            Some(place) => {
+                s.reset(&origin.checkpoint);
+                let _ = s.next_slice(place - origin.place);
+                Ok(Answer::Done)
+            }
+            None => Ok(Answer::NoMark),
+        },
+        Step::Since(number) => match marks.place(*number) {
+            Some(mark) => {
+                let place = origin.end - s.eof_offset();
+                if place < mark {
+                    Ok(Answer::LaterMark)
+                } else {
+                    Ok(Answer::Offset(place - mark))
+                }
+            }
+            None => Ok(Answer::NoMark),
+        },
+    }
+}

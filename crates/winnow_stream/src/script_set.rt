@@ -1,0 +1,27 @@
+ghost use Rattle.std.specs.Prelude.{◌≡◌, Bool, false, ⊤};
+
+/// A set of tokens that a script can name.
+pub trait ScriptSet<T> {
+    // Whether the set may be asked.
+    ghost can_hold: { Self → Type 0 } = { λ _. ⊤ };
+
+    // What it may answer of a token.
+    ghost tells: { Self → T → Bool → Type 0 };
+
+    /// Whether the token is in the set.
+    fn holds(&self, token: T) -> bool
+        requires { can_hold self.now }
+        ensures { tells self.now token result };
+}
+
+/// The set that holds no token, for scripts that name none.
+#[derive(Clone, Copy, Debug, Default, PartialEq, Eq)]
+pub struct NoSet;
+
+impl<T: Drop> ScriptSet<T> for NoSet {
+    ghost tells = { λ _ _ b. b ≡ false };
+
+    fn holds(&self, _token: T) -> bool {
+        false
+    }
+}
