@@ -1,0 +1,72 @@
+-- What std's `parse` answers of a text is what it reads as.
+use Rattle.std.proofs.Common.{◌≡◌, ◌≢◌, ℕ, ◌<◌, ◌^◌, inl, inr, Bool, true, false, List, [], ◌∷◌, drop, cond, Some, unwrap_or, Result, Ok, Err, ℤ, pos, neg_ℤ, FitsSigned, refl, sym, ap, ◌∙◌, subst, arith, rules}
+use Rattle.std.specs.Str.Parse.{IsNumeral, digits_value, without_leading_plus, starts_with_minus, signed_digits_value, ParsesUnsigned, ParsesSigned}
+use Rattle.std.specs.Result.{result_ok}
+use Rattle.std.proofs.lemmas.Str.Parse.{digit_from_value, without_leading_plus_none, without_leading_plus_plus}
+use Rattle.std.proofs.lemmas.Bool.Decides.{eqb_tells}
+use Rattle.winnow_count.specs.Reading.{Writes, WritesUpward, WritesSigned, ReadsUnsigned, ReadsSigned, IsSomeExactly}
+use mir.Syntax.{Width}
+
+-- a text that begins with a digit begins with no sign
+digit_is_no_sign : (c sign : ℕ) (cs : List ℕ) → IsNumeral 10 (c ∷ cs) → sign < 48 → c ≢ sign
+digit_is_no_sign c sign cs numeral below = λ same. let digit = digit_from_value c numeral.1.0 in omega arith
+
+from_upward : (text : List ℕ) (n : ℕ) → WritesUpward text n → Writes (without_leading_plus text) n
+from_upward [] n (inl w) = w
+from_upward (c ∷ cs) n (inl w) = subst (λ ds. Writes ds n) (sym (without_leading_plus_none (c ∷ cs) (digit_is_no_sign c 43 cs w.0 (omega arith)))) w
+from_upward text n (inr (ds, is, w)) = subst (λ t. Writes (without_leading_plus t) n) (sym is) w
+
+to_upward : (text : List ℕ) (n : ℕ) → Writes (without_leading_plus text) n → WritesUpward text n
+to_upward [] n w = inl w
+to_upward (c ∷ cs) n w = elim (eqb_tells c 43) [
+  | inl (_, is) ↦ inr (cs, ap (λ d. d ∷ cs) is, subst (λ ds. Writes ds n) (without_leading_plus_plus (c ∷ cs) is) w)
+  | inr (_, other) ↦ inl (subst (λ ds. Writes ds n) (without_leading_plus_none (c ∷ cs) other) w)
+]
+
+-- `parse` at an unsigned type
+pub unsigned_reading : {E : Type 0} (bits : ℕ) (text : List ℕ) (r : Result ℕ E) → ParsesUnsigned bits 10 text r → IsSomeExactly (ReadsUnsigned bits text) (result_ok r)
+unsigned_reading bits text (Ok x) h = λ v. (
+  λ e. (let is : digits_value 10 (without_leading_plus text) ≡ v = sym h.1 ∙ ap (λ o. unwrap_or o x) e in
+      (to_upward text v (h.0.0, is), subst (λ k. k < 2 ^ bits) is h.0.1)),
+  λ reads. ap Some (h.1 ∙ (from_upward text v reads.0).1),
+)
+unsigned_reading bits text (Err e) h = λ v. (
+  λ e. absurd (search rules),
+  λ reads. (let w = from_upward text v reads.0 in absurd (h (w.0, subst (λ k. k < 2 ^ bits) (sym w.1) reads.1))),
+)
+
+-- what std says of a text with a minus first or not
+abbrev SaysSigned : Bool → List ℕ → ℤ → Type 0
+SaysSigned minus text z = let ds = cond minus (drop 1 text) (without_leading_plus text) in IsNumeral 10 ds × (cond minus (neg_ℤ (pos (digits_value 10 ds))) (pos (digits_value 10 ds)) ≡ z)
+
+no_minus : (text : List ℕ) (n : ℕ) → WritesUpward text n → starts_with_minus text ≡ false
+no_minus [] n up = refl
+no_minus (c ∷ cs) n (inl w) = elim (eqb_tells c 45) [ inl (_, is) ↦ absurd (digit_is_no_sign c 45 cs w.0 (omega arith) is) | inr (other, _) ↦ other ]
+no_minus text n (inr (ds, is, w)) = subst (λ t. starts_with_minus t ≡ false) (sym is) refl
+
+from_signed : (text : List ℕ) (z : ℤ) → WritesSigned text z → SaysSigned (starts_with_minus text) text z
+from_signed text z (n, inl (up, is)) = let w = from_upward text n up in
+    subst (λ minus. SaysSigned minus text z) (sym (no_minus text n up)) (w.0, ap pos w.1 ∙ sym is)
+from_signed text z (n, inr ((ds, first, w), is)) =
+    subst (λ t. SaysSigned (starts_with_minus t) t z) (sym first) (w.0, ap (λ k. neg_ℤ (pos k)) w.1 ∙ sym is)
+
+to_signed : (text : List ℕ) (z : ℤ) → SaysSigned (starts_with_minus text) text z → WritesSigned text z
+to_signed [] z says = absurd (omega (arith, says.0.0))
+to_signed (c ∷ cs) z says = elim (eqb_tells c 45) [
+  | inl (test, is) ↦ (let w : SaysSigned true (c ∷ cs) z = subst (λ minus. SaysSigned minus (c ∷ cs) z) test says in
+      (digits_value 10 cs, inr ((cs, ap (λ d. d ∷ cs) is, (w.0, refl)), sym w.1)))
+  | inr (test, _) ↦ (let w : SaysSigned false (c ∷ cs) z = subst (λ minus. SaysSigned minus (c ∷ cs) z) test says in
+      (digits_value 10 (without_leading_plus (c ∷ cs)), inl (to_upward (c ∷ cs) _ (w.0, refl), sym w.1)))
+]
+
+-- `parse` at a signed type
+pub signed_reading : {E : Type 0} (width : Width) (text : List ℕ) (r : Result ℤ E) → ParsesSigned width 10 text r → IsSomeExactly (ReadsSigned width text) (result_ok r)
+signed_reading width text (Ok x) h = λ v. (
+  λ e. (let is : signed_digits_value 10 text ≡ v = sym h.1 ∙ ap (λ o. unwrap_or o x) e in
+      (to_signed text v (h.0.0, is), subst (FitsSigned width) is h.0.1)),
+  λ reads. ap Some (h.1 ∙ (from_signed text v reads.0).1),
+)
+signed_reading width text (Err e) h = λ v. (
+  λ e. absurd (search rules),
+  λ reads. (let w = from_signed text v reads.0 in absurd (h (w.0, subst (FitsSigned width) (sym w.1) reads.1))),
+)

@@ -1,0 +1,4 @@
+pub mod Accumulation
+pub mod AccumulationLaws
+pub mod CountRange
+pub mod Reading

@@ -1,0 +1,18 @@
+ghost use Rattle.std.specs.Prelude.{◌≡◌};
+ghost use Rattle.winnow_count.specs.Accumulation.{room_of};
+
+mod counts;
+mod cows;
+mod hashes;
+mod texts;
+mod trees;
+mod vectors;
+
+// How many items room is made for at most: a number that an input names is trusted no further.
+const MOST: usize = 1024;
+
+fn room(capacity: Option<usize>) -> usize
+    ensures { result ≡ room_of capacity }
+{
+    capacity.unwrap_or(0).min(MOST)
+}

@@ -1,0 +1,21 @@
+//! Counts, what a repeated parser gathers its items in, and values read from what was taken.
+//!
+//! [`Range`] says how often a parser may repeat, and [`Accumulate`] is what every accumulator meets: `()`, a count, vectors, queues,
+//! texts, maps and sets; of a list of items it holds what the list gives, which [`accumulate_all`] says. [`ToUsize`] gives the number
+//! that a length field holds, and [`ParseSlice`] reads a whole number, a `bool` or a `char` from what was taken.
+#![tactic(auto)]
+
+mod accumulate;
+mod accumulators;
+mod parse_slice;
+mod range;
+mod range_laws;
+mod readable;
+mod to_usize;
+
+pub use accumulate::{Accumulate, accumulate_all};
+pub use parse_slice::ParseSlice;
+pub use range::Range;
+pub use range_laws::range_law;
+pub use readable::Readable;
+pub use to_usize::ToUsize;

@@ -1,0 +1,86 @@
+ghost use Rattle.std.specs.Prelude.{◌≡◌, IfOk, string_bytes};
+ghost use Rattle.winnow_count.specs.CountRange.{range_text};
+
+use std::alloc::{AllocError, Global};
+use std::ops::RangeBounds;
+use std::test::Fail;
+use winnow_count::Range;
+
+fn display(alloc: Global, range: &Range) -> Result<String, AllocError>
+    ensures { IfOk result (λ text. string_bytes text ≡ range_text range.now) }
+{
+    format!(in alloc; "{range}")
+}
+
+fn debug(alloc: Global, range: &Range) -> Result<String, AllocError>
+    ensures { IfOk result (λ text. string_bytes text ≡ range_text range.now) }
+{
+    format!(in alloc; "{range:?}")
+}
+
+// Made through the bound.
+fn range_of<C: Into<Range>>(counts: C) -> Range
+    ensures { C.converts counts result }
+{
+    counts.into()
+}
+
+// Asked through the bound.
+fn contains<R: RangeBounds<usize>>(range: &R, count: usize) -> bool {
+    range.contains(&count)
+}
+
+#[test]
+fn a_range_prints_its_counts(rt: HostRuntime) -> Result<(), Fail> {
+    let table = [
+        (range_of(..0), "0"),
+        (range_of(0..0), "0"),
+        (range_of(5..8), "5..=7"),
+        (range_of(1..), "1.."),
+        (range_of(5..5), "5..=4"),
+        (range_of(7), "7"),
+        (range_of(..), "0.."),
+        (range_of(2..=2), "2"),
+        (range_of(..=3), "0..=3"),
+    ];
+    for (range, want) in table {
+        let alloc = rt.alloc();
+        assert_eq!(rt; display(alloc, &range)?.as_str(), want, "printed");
+        assert_eq!(rt;
+            debug(alloc, &range)?.as_str(),
+            want,
+            "printed for debugging"
+        );
+    }
+    Ok(())
+}
+
+#[test]
+fn a_range_holds_its_counts(rt: HostRuntime) {
+    let table = [
+        (range_of(5..5), 4, false),
+        (range_of(5..5), 5, false),
+        (range_of(0..0), 0, true),
+        (range_of(0..0), 1, false),
+        (range_of(5..8), 7, true),
+        (range_of(5..8), 8, false),
+        (range_of(1..), 0, false),
+        (range_of(1..), usize::MAX, true),
+    ];
+    for (range, count, want) in table {
+        assert_eq!(rt; contains(&range, count), want, "{count} of {range}");
+    }
+}
+
+#[test]
+fn ranges_are_compared_by_their_ends(rt: HostRuntime) {
+    assert!(rt;
+        range_of(5..8) == range_of(5..=7),
+        "two ways to write one range"
+    );
+    assert!(rt;
+        range_of(5..8) != range_of(5..),
+        "a greatest count and none"
+    );
+    assert!(rt; range_of(4..8) != range_of(5..8), "another least count");
+}
