@@ -1,0 +1,102 @@
+use Rattle.std.proofs.Common.{◌≤◌, ◌++◌, ap, ◌∙◌, length, sym, arith, refl}
+use Rattle.std.proofs.lemmas.List.{length-append}
+use Rattle.winnow_stream.specs.Front.{back}
+use Rattle.winnow_feed.specs.Inputs.{byte_input, joined}
+use Rattle.winnow_feed.specs.Feeding.{FeedState, bytes_fed}
+use Rattle.winnow_feed.proofs.lemmas.InputLemmas.{bytes-input}
+use Rattle.winnow_feed.proofs.lemmas.FeedLemmas.{grow, least-anywhere, taken, taken-room, skips, Fits-fed, Fits-skipped, came-out}
+use Rattle.winnow_stream.specs.Source.{units}
+use Rattle.winnow_stream.specs.Units.{width-units}
+use Rattle.winnow_feed.proofs.feeds.ByteFeed.feed.Goals as goal
+
+pub take_in-unneeded-requires-clause-room : goal.take_in-unneeded-requires-clause-room
+take_in-unneeded-requires-clause-room c =
+    let e = c.as_slice.ensures.value ∙ c.in_ok-extend_from_slice.ensures.items in
+    rw c.new.ensures.input (omega (arith, width-units c.as_slice.result.now, ap length e, length-append c.self.inside.kept.items c.args.piece.now, ap bytes_fed c.self.view_is, c.requires))
+
+pub take_in-unneeded-requires-clause-more : goal.take_in-unneeded-requires-clause-more
+take_in-unneeded-requires-clause-more c = c.new.ensures.mark
+
+pub take_in-unneeded-requires-clause-counted : goal.take_in-unneeded-requires-clause-counted
+take_in-unneeded-requires-clause-counted c = c.self.invariant.counted
+
+pub take_in-unneeded-requires-clause-stands : goal.take_in-unneeded-requires-clause-stands
+take_in-unneeded-requires-clause-stands c =
+    let i = c.self.invariant in
+    let old : FeedState = record { run = c.self.inside.run; kept = c.self.inside.kept.items } in
+    rw c.new.ensures.input (units (i.input ++ c.args.piece.now), grow byte_input bytes-input i.input c.args.piece.now c.as_slice.result.now old refl (c.as_slice.ensures.value ∙ c.in_ok-extend_from_slice.ensures.items) i.stands)
+
+pub take_in-unneeded-requires-clause-least : goal.take_in-unneeded-requires-clause-least
+take_in-unneeded-requires-clause-least c =
+    let old : FeedState = record { run = c.self.inside.run; kept = c.self.inside.kept.items } in
+    least-anywhere byte_input bytes-input old c.self.invariant.stands.least (omega (arith, c.if-self-before.false, c.len-before.ensures, c.self.inside.run.told.ok.0))
+
+pub forget_bytes-requires : goal.forget_bytes-requires
+forget_bytes-requires c = rw (← c.as_slice.ensures.value) (rw c.new.ensures.input at c.take_in-unneeded.ensures.offset)
+
+pub invariant_of-self-2 : goal.invariant_of-self-2
+invariant_of-self-2 c =
+    let i = c.self.invariant in
+    let old : FeedState = record { run = c.self.inside.run; kept = c.self.inside.kept.items } in
+    let new : FeedState = record { run = c.take_in-unneeded.new.progress; kept = c.forget_bytes.new.kept.items } in
+    let t = c.take_in-unneeded.ensures in
+    let is = c.new.ensures.input in
+    let left = c.forget_bytes.ensures.source ∙ ap (λ x. back (units x) c.take_in-unneeded.result) (sym c.as_slice.ensures.value) in
+    let script = ap (λ s. length s.now) t.script in
+    record {
+      input = i.input ++ c.args.piece.now;
+      stands = (taken byte_input bytes-input old new c.args.piece.now c.as_slice.result.now c.take_in-unneeded.result refl refl (c.as_slice.ensures.value ∙ c.in_ok-extend_from_slice.ensures.items) left (rw is at t.offset) t.base (rw is at t.least) (rw is at t.stands) i.input i.stands).0;
+      told_room = omega (arith, script, i.told_room, t.told_room);
+      mark_room = omega (arith, script, i.mark_room, t.mark_room);
+      marks = t.marks;
+      fits = omega (arith, taken-room byte_input bytes-input old new c.args.piece.now c.as_slice.result.now c.take_in-unneeded.result refl refl (c.as_slice.ensures.value ∙ c.in_ok-extend_from_slice.ensures.items) left (rw is at t.offset) t.base (rw is at t.least) (rw is at t.stands) i.input i.stands, ap bytes_fed c.self.view_is, c.requires);
+      counted = omega (arith, t.tried);
+    }
+
+pub returns-clause-fits : goal.returns-clause-fits
+returns-clause-fits c = λ pieces h.
+    let old : FeedState = record { run = c.self.inside.run; kept = c.self.inside.kept.items } in
+    let new : FeedState = record { run = c.take_in-unneeded.new.progress; kept = c.forget_bytes.new.kept.items } in
+    let before = rw (← c.self.view_is) at h in
+    let t = c.take_in-unneeded.ensures in
+    let is = c.new.ensures.input in
+    let left = c.forget_bytes.ensures.source ∙ ap (λ x. back (units x) c.take_in-unneeded.result) (sym c.as_slice.ensures.value) in
+    let after = taken byte_input bytes-input old new c.args.piece.now c.as_slice.result.now c.take_in-unneeded.result refl refl (c.as_slice.ensures.value ∙ c.in_ok-extend_from_slice.ensures.items) left (rw is at t.offset) t.base (rw is at t.least) (rw is at t.stands) (joined pieces) before.stands in
+    Fits-fed byte_input bytes-input old new pieces c.args.piece.now before refl t.script after.0 after.1 t.tells t.pieces t.tried
+
+pub returns-clause-came : goal.returns-clause-came
+returns-clause-came c = λ pieces h.
+    let old : FeedState = record { run = c.self.inside.run; kept = c.self.inside.kept.items } in
+    let new : FeedState = record { run = c.take_in-unneeded.new.progress; kept = c.forget_bytes.new.kept.items } in
+    let before = rw (← c.self.view_is) at h in
+    let t = c.take_in-unneeded.ensures in
+    let told = c.take_in-unneeded.new.progress.told.ok.0 in
+    rw (← c.self.view_is) (came-out byte_input bytes-input old new pieces c.args.piece.now _ before (returns-clause-fits c pieces h) t.script (omega (arith, c.len.ensures, c.len-before.ensures, t.told, c.self.inside.run.told.ok.0, told)))
+
+pub invariant_of-self : goal.invariant_of-self
+invariant_of-self c =
+    let i = c.self.invariant in
+    let old : FeedState = record { run = c.self.inside.run; kept = c.self.inside.kept.items } in
+    let done : length c.self.inside.run.script.now ≤ length c.self.inside.run.told.items = omega (arith, c.if-self-before.true, c.len-before.ensures, c.self.inside.run.told.ok.0) in
+    record {
+      input = i.input ++ c.args.piece.now;
+      stands = skips byte_input bytes-input old i.input c.args.piece.now _ refl i.stands done refl refl refl refl refl refl;
+      told_room = i.told_room;
+      mark_room = i.mark_room;
+      marks = i.marks;
+      fits = omega (arith, c.requires, ap bytes_fed c.self.view_is);
+      counted = i.counted;
+    }
+
+pub returns-then-self-before-clause-fits : goal.returns-then-self-before-clause-fits
+returns-then-self-before-clause-fits c = λ pieces h.
+    let old : FeedState = record { run = c.self.inside.run; kept = c.self.inside.kept.items } in
+    let done : length c.self.inside.run.script.now ≤ length c.self.inside.run.told.items = omega (arith, c.if-self-before.true, c.len-before.ensures, c.self.inside.run.told.ok.0) in
+    let before = rw (← c.self.view_is) at h in
+    Fits-skipped byte_input bytes-input old _ pieces c.args.piece.now before refl done refl refl (skips byte_input bytes-input old (joined pieces) c.args.piece.now _ refl before.stands done refl refl refl refl refl refl) c.saturating_add-self-inside.ensures refl
+
+pub returns-then-self-before-clause-came : goal.returns-then-self-before-clause-came
+returns-then-self-before-clause-came c = λ pieces h.
+    let old : FeedState = record { run = c.self.inside.run; kept = c.self.inside.kept.items } in
+    let before = rw (← c.self.view_is) at h in
+    rw (← c.self.view_is) (came-out byte_input bytes-input old _ pieces c.args.piece.now 0 before (returns-then-self-before-clause-fits c pieces h) refl (omega arith))

@@ -1,0 +1,26 @@
+use Rattle.std.proofs.Common.{ap, length, arith, refl, []}
+use Rattle.winnow_feed.specs.Inputs.{byte_input}
+use Rattle.winnow_feed.proofs.lemmas.InputLemmas.{bytes-input}
+use Rattle.winnow_feed.proofs.lemmas.FeedLemmas.{new-stands}
+use Rattle.winnow_feed.proofs.feeds.ByteFeed.new.Goals as goal
+
+pub invariant_of-result : goal.invariant_of-result
+invariant_of-result c = record {
+  input = [];
+  stands = new-stands byte_input bytes-input _ _ c.in_ok-told.ensures.items c.in_ok-marks.ensures.items c.new.ensures.items refl refl refl refl;
+  told_room = omega (arith, c.in_ok-told.ensures.capacity);
+  mark_room = omega (arith, c.in_ok-marks.ensures.capacity);
+  marks = omega (arith, c.in_ok-told.ensures.len, c.in_ok-marks.ensures.len);
+  fits = omega (arith, ap length c.new.ensures.items);
+  counted = omega arith;
+}
+
+pub returns-clause-fits : goal.returns-clause-fits
+returns-clause-fits c = record {
+  are_pieces = tt;
+  stands = new-stands byte_input bytes-input _ _ c.in_ok-told.ensures.items c.in_ok-marks.ensures.items c.new.ensures.items refl refl refl refl;
+  rests = λ l. absurd (omega arith);
+  told = c.in_ok-told.ensures.items;
+  count = refl;
+  tried = refl;
+}

@@ -1,0 +1,11 @@
+pub mod FeedLemmas
+pub mod InputLemmas
+pub mod KeepingLemmas
+pub mod LookLemmas
+pub mod PassedLemmas
+pub mod PieceLemmas
+pub mod ReachLemmas
+pub mod SettledLemmas
+pub mod StandingLemmas
+pub mod TellingLemmas
+pub mod ViewLemmas

@@ -1,0 +1,197 @@
+-- A feed, from what its run does.
+use Rattle.std.proofs.Common.{◌≡◌, ℕ, ◌+◌, ◌-◌, ◌≤◌, ◌<◌, cond, ltb, List, [], ◌∷◌, ◌++◌, length, take, drop, map, true, false, refl, sym, ap, ◌∙◌, arith, subst, None, Some, Bor, length-drop}
+use Rattle.std.proofs.lemmas.List.{map-append, append-nil, length-append, length-map, drop_at}
+use Rattle.std.proofs.lemmas.Bool.{le-ltb}
+use Rattle.std.proofs.lemmas.Option.{slice_get_within}
+use Rattle.std.specs.Prelude.{slice_get}
+use Rattle.winnow_stream.specs.Source.{Source, width}
+use Rattle.winnow_stream.specs.Front.{is_offset, back}
+use Rattle.winnow_stream.specs.Cursor.{start, place, rest, cursor_after}
+use Rattle.winnow_stream.proofs.lemmas.FrontLemmas.{width-back, width-take_drop}
+use Rattle.winnow_feed.specs.declared.progress.Progress.{Progress}
+use Rattle.winnow_feed.specs.declared.finished.Finished.{Finished}
+use Rattle.winnow_run.specs.Definite.{kind_of, out, is_definite}
+use Rattle.winnow_run.specs.Searching.{search_next, search_answers, search_cursor}
+use Rattle.winnow_feed.specs.Inputs.{InputKind, joined}
+use Rattle.winnow_feed.specs.Reach.{needed_place, needed_from}
+use Rattle.winnow_feed.specs.Standing.{Stands, IsAtRest, KeepsLeast, TakesIn, Tells, Tries, next_step, steps_left, answers_told}
+use Rattle.winnow_feed.specs.Telling.{capped, under, out_on, is_waiting, told_of, waits, tried_of, all_answers}
+use Rattle.winnow_feed.specs.Feeding.{FeedState, Fits, StandsFor, Finishes, held_after, script_of, bytes_fed}
+use Rattle.winnow_feed.proofs.lemmas.InputLemmas.{IsInput, joined-push}
+use Rattle.winnow_feed.proofs.lemmas.TellingLemmas.{AreInputs, answers_of, answers-under, told_of-push, waits-push}
+use Rattle.winnow_feed.proofs.lemmas.StandingLemmas.{rest-back, none-passed}
+use Rattle.winnow_feed.proofs.lemmas.KeepingLemmas.{Stands-more, Stands-skips, place-kept, fed-is, end-is, needed-none, needed-done, needed-same_end}
+use Rattle.winnow_feed.proofs.lemmas.ReachLemmas.{Reaches-out, Reaches-cursor, Reaches-all}
+
+abbrev Run : Type 0
+Run = Progress ℕ (Bor (List ℕ))
+
+no_length : (xs : List ℕ) → length xs ≡ 0 → xs ≡ []
+no_length [] e = refl
+no_length (x ∷ xs) e = absurd (omega arith)
+
+module _ (i : InputKind) (law : IsInput i) where
+  -- a piece behind what is kept
+  pub grow : (J piece xs : List ℕ) (f : FeedState) → i.valid piece ≡ true → xs ≡ f.kept ++ piece → StandsFor i f J → Stands true i.pieces (i.source (J ++ piece)) (i.source xs) f.run
+  grow J piece xs f v e h =
+      rw (law.split J piece h.is_input, e, law.split f.kept piece h.is_kept)
+      (Stands-more i.pieces (i.source J) (i.source f.kept) f.run h.stands (i.source piece) (law.widths piece))
+
+  -- where a step is left, the end of the input is no matter
+  pub least-anywhere : (f : FeedState) → KeepsLeast (bytes_fed f) f.run → length f.run.told.items < length f.run.script.now → (end : ℕ) → KeepsLeast end f.run
+  least-anywhere f least left end = least ∙ needed-same_end (bytes_fed f) end f.run.place f.run.marks.items (steps_left f.run) (omega (arith, left, length-drop (length f.run.told.items) f.run.script.now))
+
+  -- a piece that was taken in
+  module _ (old new : FeedState) (piece xs : List ℕ) (unneeded : ℕ) (u : i.valid piece ≡ true) (v : i.valid new.kept ≡ true) (joins : xs ≡ old.kept ++ piece) (left : i.source new.kept ≡ back (i.source xs) unneeded) (offset : is_offset (i.source xs) unneeded ≡ true) (base : new.run.base ≡ old.run.base + unneeded) (least : KeepsLeast (old.run.base + width (i.source xs)) new.run) (takes : TakesIn i.pieces (i.source xs) unneeded old.run new.run) where
+    whole : i.valid old.kept ≡ true → width (i.source xs) ≡ length old.kept + length piece
+    whole w = law.width_is xs (rw joins (law.joins old.kept piece w u)) ∙ ap length joins ∙ length-append old.kept piece
+
+    taken-fed : i.valid old.kept ≡ true → bytes_fed new ≡ old.run.base + width (i.source xs)
+    taken-fed w = omega (arith, base, width-back (i.source xs) unneeded offset, ap width left, law.width_is new.kept v)
+
+    pub taken : (J : List ℕ) → StandsFor i old J → StandsFor i new (J ++ piece) × IsAtRest i.pieces (i.source (J ++ piece)) new.run
+    taken J h =
+        let after = takes (i.source (J ++ piece)) (grow J piece xs old u joins h) in (
+          record {
+            is_input = law.joins J piece h.is_input u;
+            is_kept = v;
+            stands = rw left after.0;
+            least = rw (taken-fed h.is_kept) least;
+          },
+          after.1,
+        )
+
+    pub taken-room : (J : List ℕ) → StandsFor i old J → bytes_fed new ≡ bytes_fed old + length piece
+    taken-room J h = omega (arith, taken-fed h.is_kept, whole h.is_kept)
+
+  pub fed : (J : List ℕ) (f : FeedState) → StandsFor i f J → f.run.base + length f.kept ≡ length J
+  fed J f h = omega (arith, fed-is i.pieces (i.source J) (i.source f.kept) f.run h.stands, law.width_is J h.is_input, law.width_is f.kept h.is_kept)
+
+  pub new-stands : (run : Run) (kept : List ℕ) → run.told.items ≡ [] → run.marks.items ≡ [] → kept ≡ [] → run.place ≡ 0 → run.base ≡ 0 → run.passed.width ≡ 0 → run.passed.tokens ≡ 0 → StandsFor i (record { run = run; kept = kept }) []
+  new-stands run kept told marks none here base w t =
+      record {
+        is_input = law.empty;
+        is_kept = rw none law.empty;
+        least = rw (base, here, marks, none) (sym (needed-none run.script.now (steps_left run)));
+        stands = record {
+          widths = law.widths [];
+          at = start;
+          reaches = rw told refl;
+          here = here;
+          marked = marks;
+          first = 0;
+          reached = omega arith;
+          based = base;
+          is_kept = ap i.source none;
+          settled = λ s e. rw (w, t) (none-passed i.pieces s (rest (i.source []) start));
+        };
+      }
+
+  -- the answers that a run at rest has given are those that are out
+  pub out-is : (all kept : Source ℕ) (run : Run) → Stands true i.pieces all kept run → IsAtRest i.pieces all run → out i.pieces all run.script.now ≡ answers_told run
+  out-is all kept run h rests =
+      Reaches-out i.pieces all start h.at run.script.now (answers_told run) h.reaches (λ x e.
+      let next : next_step run ≡ Some x = ap (slice_get run.script.now) (sym (length-map run.told.items (λ t. t.answer))) ∙ e in
+      ap (is_definite i.pieces x) (sym (rest-back true i.pieces all kept run h x next)) ∙ rests x next)
+
+  -- and what is kept is what the steps left need
+  pub Fits-held : (f : FeedState) (pieces : List (List ℕ)) → Fits i f pieces → length f.kept ≡ held_after i (script_of f) pieces
+  Fits-held f [] h = omega (arith, fed [] f h.stands)
+  Fits-held f (p ∷ pieces) h =
+      let J = joined (p ∷ pieces) in
+      let all = i.source J in
+      let s = h.stands.stands in
+      let count : length (out i.pieces all f.run.script.now) ≡ length f.run.told.items = ap length (out-is all (i.source f.kept) f.run s (h.rests (omega arith))) ∙ length-map f.run.told.items (λ t. t.answer) in
+      let at : cursor_after (search_next all) (take (length f.run.told.items) f.run.script.now) start ≡ s.at =
+      ap (λ n. cursor_after (search_next all) (take n f.run.script.now) start) (sym (length-map f.run.told.items (λ t. t.answer))) ∙ Reaches-cursor true i.pieces all start s.at f.run.script.now (answers_told f.run) s.reaches
+      in
+      let needed = needed_from all (steps_left f.run) s.at in
+      let base : f.run.base ≡ place all needed = h.stands.least ∙ place-kept i.pieces all (i.source f.kept) f.run s (bytes_fed f) (omega (arith, law.width_is f.kept h.stands.is_kept)) in
+      let e : length f.kept ≡ width (drop needed all) = omega (arith, base, fed J f h.stands, law.width_is J h.stands.is_input, width-take_drop all needed) in
+      rw (count, at) e
+
+  -- a piece behind the last answer is not kept
+  pub skips : (f : FeedState) (J piece : List ℕ) (q : Run) → i.valid piece ≡ true → StandsFor i f J → length f.run.script.now ≤ length f.run.told.items → q.script ≡ f.run.script → q.told ≡ f.run.told → q.place ≡ f.run.place → q.marks ≡ f.run.marks → q.passed ≡ f.run.passed → q.base ≡ f.run.base + length piece → StandsFor i (record { run = q; kept = f.kept }) (J ++ piece)
+  skips f J piece q v h done script told here marks passed base =
+      let none : steps_left f.run ≡ [] = needed-done f.run done in
+      let gone : length f.kept ≡ 0 = omega (arith, h.least, ap (needed_place (bytes_fed f) f.run.place f.run.marks.items) none) in
+      let is_nil : f.kept ≡ [] = no_length f.kept gone in
+      let nothing : i.source f.kept ≡ [] = ap i.source is_nil ∙ law.nothing in
+      let over : steps_left q ≡ [] = rw (script, told) none in
+      let fed_is = end-is i.pieces (i.source J) (i.source f.kept) f.run h.stands in
+      let wide : f.run.base ≡ place (i.source J) (length (i.source J)) = omega (arith, fed_is, ap width nothing) in
+      record {
+        is_input = law.joins J piece h.is_input v;
+        is_kept = h.is_kept;
+        stands = rw (law.split J piece h.is_input) (Stands-skips i.pieces (i.source J) (i.source f.kept) f.run h.stands (i.source piece) (law.widths piece) none q (i.source f.kept) nothing script told here marks passed (base ∙ omega (arith, fed_is, ap width nothing, law.width_is piece v)));
+        least = omega (arith, base, gone, ap (needed_place (q.base + length f.kept) q.place q.marks.items) over);
+      }
+
+  AreInputs-push : (pieces : List (List ℕ)) (p : List ℕ) → AreInputs i.valid pieces → i.valid p ≡ true → AreInputs i.valid (pieces ++ p ∷ [])
+  AreInputs-push [] p us u = (u, tt)
+  AreInputs-push (q ∷ pieces) p us u = (us.0, AreInputs-push pieces p us.1 u)
+
+  -- one feed that came through, against the pieces
+  pub Fits-fed : (old new : FeedState) (pieces : List (List ℕ)) (p : List ℕ) → Fits i old pieces → i.valid p ≡ true → new.run.script ≡ old.run.script → StandsFor i new (joined pieces ++ p) → IsAtRest i.pieces (i.source (joined pieces ++ p)) new.run → Tells (Some new.run.pieces) old.run new.run → new.run.pieces ≡ capped (old.run.pieces + 1) → Tries old.run new.run → Fits i new (pieces ++ p ∷ [])
+  Fits-fed old new pieces p fits u script stands rests tells number tried =
+      let J = joined pieces ++ p in
+      let steps = script_of new in
+      let words : script_of new ≡ script_of old = ap (λ s. s.now) script in
+      let all : out_on i steps J ≡ answers_told new.run = out-is (i.source J) (i.source new.kept) new.run stands.stands rests in
+      let parts : answers_told new.run ≡ answers_told old.run ++ tells.more = ap answers_of tells.told ∙ map-append (λ t. t.answer) old.run.told.items (map (under (Some new.run.pieces)) tells.more) ∙ ap (λ x. answers_told old.run ++ x) (answers-under (Some new.run.pieces) tells.more) in
+      let old_told : old.run.told.items ≡ told_of i steps pieces = fits.told ∙ ap (λ s. told_of i s pieces) (sym words) in
+      let push = told_of-push i law steps pieces p tells.more fits.are_pieces (all ∙ parts ∙ ap (λ x. answers_of x ++ tells.more) old_told) in
+      let is_number : new.run.pieces ≡ capped (length pieces + 1) = number ∙ ap (λ n. capped (n + 1)) fits.count ∙ omega arith in
+      let told : new.run.told.items ≡ told_of i steps (pieces ++ p ∷ []) = tells.told ∙ ap (λ n. old.run.told.items ++ map (under (Some n)) tells.more) is_number ∙ ap (λ x. x ++ map (under (Some (capped (length pieces + 1)))) tells.more) old_told ∙ sym push in
+      let waiting : is_waiting i steps J ≡ ltb (length new.run.told.items) (length steps) = ap (λ x. ltb (length x) (length steps)) all ∙ ap (λ n. ltb n (length steps)) (length-map new.run.told.items (λ t. t.answer)) in
+      let w : waits i steps [] (pieces ++ p ∷ []) ≡ waits i steps [] pieces + cond (ltb (length new.run.told.items) (length steps)) 1 0 = waits-push i steps [] pieces p ∙ ap (λ b. waits i steps [] pieces + cond b 1 0) waiting in
+      let old_tried : old.run.tried ≡ capped (length (told_of i steps pieces) + waits i steps [] pieces) = fits.tried ∙ ap (λ s. tried_of i s pieces) (sym words) in
+      let lens : length new.run.told.items ≡ length old.run.told.items + length tells.more = ap length tells.told ∙ length-append old.run.told.items (map (under (Some new.run.pieces)) tells.more) ∙ ap (λ n. length old.run.told.items + n) (length-map tells.more (under (Some new.run.pieces))) in
+      record {
+        are_pieces = AreInputs-push pieces p fits.are_pieces u;
+        stands = rw (joined-push pieces p) stands;
+        rests = λ _. rw (joined-push pieces p) rests;
+        told = told;
+        count = is_number ∙ ap capped (sym (length-append pieces (p ∷ [])));
+        tried = omega (arith, tried, w, old_tried, ap length told, ap length old_told, lens);
+      }
+
+  -- and one behind the last answer
+  pub Fits-skipped : (old new : FeedState) (pieces : List (List ℕ)) (p : List ℕ) → Fits i old pieces → i.valid p ≡ true → length old.run.script.now ≤ length old.run.told.items → new.run.script ≡ old.run.script → new.run.told ≡ old.run.told → StandsFor i new (joined pieces ++ p) → new.run.pieces ≡ capped (old.run.pieces + 1) → new.run.tried ≡ old.run.tried → Fits i new (pieces ++ p ∷ [])
+  Fits-skipped old new pieces p fits u done script told stands number tried =
+      let over : length new.run.script.now ≤ length new.run.told.items = rw (script, told) done in
+      Fits-fed old new pieces p fits u script stands
+      (λ s e. absurd (omega (arith, slice_get_within new.run.script.now (length new.run.told.items) s e, over)))
+      (record { more = []; told = ap (λ t. t.items) told ∙ sym (append-nil old.run.told.items) }) number
+      (rw (le-ltb _ _ over) (omega (arith, tried, fits.tried, ap (λ t. length t.items) told)))
+
+  -- how many answers one piece let out
+  pub came-out : (old new : FeedState) (pieces : List (List ℕ)) (p : List ℕ) (n : ℕ) → Fits i old pieces → Fits i new (pieces ++ p ∷ []) → new.run.script ≡ old.run.script → length new.run.told.items ≡ length old.run.told.items + n → length (told_of i (script_of old) (pieces ++ p ∷ [])) ≡ length (told_of i (script_of old) pieces) + n
+  came-out old new pieces p n before after script e =
+      let now : length new.run.told.items ≡ length (told_of i (script_of old) (pieces ++ p ∷ [])) = ap length after.told ∙ ap (λ s. length (told_of i s.now (pieces ++ p ∷ []))) script in
+      omega (arith, e, now, ap length before.told)
+
+-- a run that has answered every step has all answers, and stands at the last place
+module _ (i : InputKind) (J : List ℕ) (kept : Source ℕ) (run : Run) (h : Stands false i.pieces (i.source J) kept run) (done : length run.script.now ≤ length run.told.items) where
+  ended : (answers_told run ≡ search_answers (kind_of i.pieces) (i.source J) run.script.now) × (h.at ≡ search_cursor (i.source J) run.script.now)
+  ended = Reaches-all false i.pieces (i.source J) start h.at run.script.now (answers_told run) h.reaches (omega (arith, done, length-map run.told.items (λ t. t.answer)))
+
+  pub end-answers : answers_told run ≡ search_answers (kind_of i.pieces) (i.source J) run.script.now
+  end-answers = ended.0
+
+  pub end-place : run.place ≡ place (i.source J) (search_cursor (i.source J) run.script.now).index
+  end-place = h.here ∙ ap (λ at. place (i.source J) at.index) ended.1
+
+module _ (i : InputKind) (old : FeedState) (pieces : List (List ℕ)) (kept : Source ℕ) (run : Run) (fits : Fits i old pieces) (h : Stands false i.pieces (i.source (joined pieces)) kept run) (tells : Tells None old.run run) (script : run.script ≡ old.run.script) (done : length run.script.now ≤ length run.told.items) where
+  pub finished : (all : Finished ℕ) → all.told ≡ run.told → all.place ≡ run.place → Finishes i (script_of old) pieces all
+  finished all is_told is_place =
+      let words : run.script.now ≡ script_of old = ap (λ s. s.now) script in
+      let told = told_of i (script_of old) pieces in
+      let len : length told ≡ length (answers_told old.run) = ap length (sym fits.told) ∙ sym (length-map old.run.told.items (λ t. t.answer)) in
+      let parts : answers_told run ≡ answers_told old.run ++ tells.more = ap answers_of tells.told ∙ map-append (λ t. t.answer) old.run.told.items (map (under None) tells.more) ∙ ap (λ x. answers_told old.run ++ x) (answers-under None tells.more) in
+      let whole : all_answers i (script_of old) pieces ≡ answers_told old.run ++ tells.more = ap (λ s. all_answers i s pieces) (sym words) ∙ sym (end-answers i (joined pieces) kept run h done) ∙ parts in
+      let rest_is : drop (length told) (all_answers i (script_of old) pieces) ≡ tells.more = ap (drop (length told)) whole ∙ drop_at (answers_told old.run) tells.more (length told) (sym len) in
+      record {
+        answers = ap (λ t. t.items) is_told ∙ tells.told ∙ ap (λ t. t ++ map (under None) tells.more) fits.told ∙ ap (λ x. told ++ map (under None) x) (sym rest_is);
+        cursor = is_place ∙ end-place i (joined pieces) kept run h done ∙ ap (λ s. place (i.source (joined pieces)) (search_cursor (i.source (joined pieces)) s).index) words;
+      }

@@ -1,0 +1,179 @@
+-- A run over pieces and the joined input: where the next step looks, and what one attempt leaves.
+use Rattle.std.proofs.Common.{◌≡◌, ℕ, zero, suc, ◌+◌, ◌-◌, ◌≤◌, ◌<◌, Bool, true, cond, List, [], ◌∷◌, ◌++◌, length, take, drop, map, Option, Some, refl, sym, ap, ◌∙◌, arith, subst, length-drop, get_or}
+use Rattle.std.specs.Prelude.{slice_get, is_some}
+use Rattle.std.proofs.lemmas.List.{drop-drop, length-map, length-append, map-append, append_assoc, append-nil}
+use Rattle.std.proofs.lemmas.Option.{same_Some, slice_get-get_or}
+use Rattle.winnow_stream.specs.Source.{Source, width, HasWidths}
+use Rattle.winnow_stream.specs.Front.{is_offset, back}
+use Rattle.winnow_stream.specs.Cursor.{start, rest, place}
+use Rattle.winnow_run.specs.declared.script.Step.TheVariants as call
+use Rattle.winnow_stream.proofs.lemmas.FrontLemmas.{front_count-place, back-place, HasWidths-drop, width-take_drop}
+use Rattle.winnow_sets.specs.declared.char_set.CharSet.{CharSet}
+use Rattle.winnow_match.specs.Bytes.{written}
+use Rattle.winnow_match.specs.Search.{needle_list}
+use Rattle.winnow_run.specs.declared.search_script.SearchStep.{SearchStep}
+use Rattle.winnow_run.specs.declared.search_script.SearchStep.TheVariants as step
+use Rattle.winnow_feed.specs.declared.looking.Look.{Look}
+use Rattle.winnow_feed.specs.declared.progress.Progress.{Progress}
+use Rattle.winnow_run.specs.Searching.{search_answer, search_next}
+use Rattle.winnow_run.specs.Definite.{PieceKind, kind_of, is_definite}
+use Rattle.winnow_feed.specs.Settled.{IsSettled}
+use Rattle.winnow_feed.specs.View.{look_of}
+use Rattle.winnow_feed.specs.Reach.{least_index, needed_from}
+use Rattle.winnow_feed.specs.Telling.{under}
+use Rattle.winnow_feed.specs.Standing.{Stands, Tells, next_step, steps_left, answers_told}
+use Rattle.winnow_run.proofs.lemmas.StepLemmas.{Inside, start-inside}
+use Rattle.winnow_feed.proofs.lemmas.SettledLemmas.{width-split, NoneHeld-none, NoneStands-none, AreCounted-none, AreSame-none}
+use Rattle.winnow_feed.proofs.lemmas.ViewLemmas.{view-answer, view-place, view-marks}
+use Rattle.winnow_feed.proofs.lemmas.ReachLemmas.{Reaches-inside, Reaches-push, least-at, never_back}
+
+drop-at : {X : Type 0} (xs : List X) (i : ℕ) (x : X) → slice_get xs i ≡ Some x → drop i xs ≡ x ∷ drop (suc i) xs
+drop-at [] i x h = absurd (cc)
+drop-at (y ∷ xs) zero x h = let e : y ≡ x = cc in rw e refl
+drop-at (y ∷ xs) (suc i) x h = drop-at xs i x h
+
+pub next-is : {T L : Type 0} (p : Progress T L) (i : ℕ) (x : SearchStep CharSet L) → i ≡ length p.told.items → i < length p.script.now → x ≡ get_or p.script.now i x → next_step p ≡ Some x
+next-is p i x e l is = ap (slice_get p.script.now) (sym e) ∙ slice_get-get_or p.script.now i x l ∙ ap Some (sym is)
+
+-- nothing is passed at first
+pub none-passed : {T C L : Type 0} (k : PieceKind T C L) (s : SearchStep C L) (r : Source T) → IsSettled k s r 0 0
+none-passed k (step.Call (call.First c)) r = NoneHeld-none (k.holds c) r
+none-passed k (step.Call (call.At asked)) r = AreCounted-none asked r
+none-passed k (step.Call call.Next) r = tt
+none-passed k (step.Call call.Peek) r = tt
+none-passed k (step.Call (call.Take n)) r = tt
+none-passed k (step.Call (call.Look n)) r = tt
+none-passed k (step.Call call.Finish) r = tt
+none-passed k (step.Call call.PeekFinish) r = tt
+none-passed k (step.Call call.Eof) r = tt
+none-passed k (step.Call (call.IsOffset n)) r = tt
+none-passed k (step.Call call.Each) r = tt
+none-passed k (step.Call call.Mark) r = tt
+none-passed k (step.Call (call.Reset n)) r = tt
+none-passed k (step.Call (call.Since n)) r = tt
+none-passed k (step.Compare l) r = AreSame-none (k.literal l) (written k.write r)
+none-passed k (step.Find ns) r = NoneStands-none (needle_list k.literal ns) (written k.write r)
+
+-- a run that differs in what it counts alone
+pub Stands-same : {T L : Type 0} (strict : Bool) (k : PieceKind T CharSet L) (all kept : Source T) (p : Progress T L) → Stands strict k all kept p → (q : Progress T L) → q.script ≡ p.script → q.told ≡ p.told → q.place ≡ p.place → q.marks ≡ p.marks → q.passed ≡ p.passed → q.base ≡ p.base → Stands strict k all kept q
+Stands-same strict k all kept p h q script told here marks passed base = record {
+  widths = h.widths;
+  at = h.at;
+  reaches = rw (script, told) h.reaches;
+  here = here ∙ h.here;
+  marked = ap (λ m. m.items) marks ∙ h.marked;
+  first = h.first;
+  reached = rw (script, told) h.reached;
+  based = base ∙ h.based;
+  is_kept = h.is_kept;
+  settled = λ s i. rw passed (h.settled s (rw (script, told) at i));
+}
+
+-- ---- what was told
+
+pub Tells-none : {T L : Type 0} (piece : Option ℕ) (p q : Progress T L) → q.told ≡ p.told → Tells piece p q
+Tells-none piece p q e = record { more = []; told = ap (λ t. t.items) e ∙ sym (append-nil p.told.items) }
+
+pub Tells-more : {T L : Type 0} (piece : Option ℕ) (p q r : Progress T L) → Tells piece p q → Tells piece q r → Tells piece p r
+Tells-more piece p q r h g = record {
+  more = h.more ++ g.more;
+  told = g.told ∙ ap (λ t. t ++ map (under piece) g.more) h.told ∙ append_assoc p.told.items (map (under piece) h.more) (map (under piece) g.more) ∙ ap (λ t. p.told.items ++ t) (sym (map-append (under piece) h.more g.more));
+}
+
+module _ {T L : Type 0} (strict : Bool) (k : PieceKind T CharSet L) (all kept : Source T) (p : Progress T L) (h : Stands strict k all kept p) (x : SearchStep CharSet L) (next : next_step p ≡ Some x) where
+  pub inside : Inside all h.at
+  inside = Reaches-inside k strict all start h.at p.script.now (answers_told p) (start-inside all) h.reaches
+
+  left : steps_left p ≡ x ∷ drop (suc (length p.told.items)) p.script.now
+  left = drop-at p.script.now (length p.told.items) x next
+
+  first-least : h.first ≤ least_index (x ∷ drop (suc (length p.told.items)) p.script.now) h.at
+  first-least = subst (λ ss. h.first ≤ needed_from all ss h.at) left h.reached
+
+  first-le : h.first ≤ h.at.index
+  first-le = omega (arith, first-least, least-at (x ∷ drop (suc (length p.told.items)) p.script.now) h.at)
+
+  sum : h.first + (h.at.index - h.first) ≡ h.at.index
+  sum = let l = first-le in omega arith
+
+  far : p.place ≡ p.base + width (take (h.at.index - h.first) (drop h.first all))
+  far = h.here ∙ ap (λ i. width (take i all)) (sym sum) ∙ width-split h.first (h.at.index - h.first) all ∙ ap (λ n. n + width (take (h.at.index - h.first) (drop h.first all))) (sym h.based)
+
+  pub base-le : p.base ≤ p.place
+  base-le = omega (arith, far)
+
+  away : p.place - p.base ≡ width (take (h.at.index - h.first) kept)
+  away = let f = far in let e : p.place - p.base ≡ width (take (h.at.index - h.first) (drop h.first all)) = omega arith in e ∙ ap (λ r. width (take (h.at.index - h.first) r)) (sym h.is_kept)
+
+  wide : HasWidths kept
+  wide = subst HasWidths (sym h.is_kept) (HasWidths-drop h.first all h.widths)
+
+  fits : h.at.index - h.first ≤ length kept
+  fits = let i = inside.index in omega (arith, ap length h.is_kept, length-drop h.first all)
+
+  pub kept-offset : is_offset kept (p.place - p.base) ≡ true
+  kept-offset = subst (λ n. is_offset kept n ≡ true) (sym away) (ap is_some (front_count-place kept (h.at.index - h.first) wide fits))
+
+  pub kept-rest : back kept (p.place - p.base) ≡ rest all h.at
+  kept-rest = ap (back kept) away ∙ back-place kept (h.at.index - h.first) wide fits ∙ ap (drop (h.at.index - h.first)) h.is_kept ∙ drop-drop (h.at.index - h.first) h.first all ∙ ap (λ i. drop i all) sum
+
+  pub kept-room : p.place + width (rest all h.at) ≡ p.base + width kept
+  kept-room = omega (arith, h.here, h.based, width-take_drop all h.at.index, width-take_drop all h.first, ap width h.is_kept)
+
+  pub rest-back : back all p.place ≡ rest all h.at
+  rest-back = ap (back all) h.here ∙ back-place all h.at.index h.widths inside.index
+
+  needed-on : (later : List (SearchStep CharSet L)) → h.first ≤ least_index (x ∷ later) h.at → h.first ≤ needed_from all later (search_next all x h.at)
+  needed-on [] l = let i = inside.index in omega (arith, first-le)
+  needed-on (y ∷ later) l = omega (arith, l, never_back all h.at inside x (y ∷ later))
+
+  -- ---- an attempt that waits
+
+  pub Stands-waits : (q : Progress T L) → q.script ≡ p.script → q.told ≡ p.told → q.place ≡ p.place → q.marks ≡ p.marks → q.base ≡ p.base → IsSettled k x (rest all h.at) q.passed.width q.passed.tokens → Stands strict k all kept q
+  Stands-waits q script told here marks base settled =
+      let same : next_step q ≡ Some x = rw (script, told) next in
+      record {
+        widths = h.widths;
+        at = h.at;
+        reaches = rw (script, told) h.reaches;
+        here = here ∙ h.here;
+        marked = ap (λ m. m.items) marks ∙ h.marked;
+        first = h.first;
+        reached = rw (script, told) h.reached;
+        based = base ∙ h.based;
+        is_kept = h.is_kept;
+        settled = λ s e. subst (λ y. IsSettled k y (rest all h.at) q.passed.width q.passed.tokens) (same_Some x s (sym same ∙ e)) settled;
+      }
+
+  -- ---- an attempt that came through
+
+  pub Stands-answered : (q : Progress T L) (piece : Option ℕ) (look : Look T) → (strict ≡ true → is_definite k x (rest all h.at) ≡ true) → look ≡ look_of k p.place p.marks.items (rest all h.at) x → q.script ≡ p.script → q.base ≡ p.base
+      → q.told.items ≡ p.told.items ++ record { piece = piece; answer = look.answer } ∷ [] → q.place ≡ look.place → q.marks.items ≡ cond look.marks (p.marks.items ++ p.place ∷ []) p.marks.items → q.passed.width ≡ 0 → q.passed.tokens ≡ 0 → Stands strict k all kept q
+  Stands-answered q piece look definite is script base told here marks width_none tokens_none =
+      let seen : look ≡ look_of k (place all h.at.index) (map (place all) h.at.marks) (rest all h.at) x = is ∙ ap (λ n. look_of k n p.marks.items (rest all h.at) x) h.here ∙ ap (λ ms. look_of k (place all h.at.index) ms (rest all h.at) x) h.marked in
+      let answer : look.answer ≡ search_answer (kind_of k) all x h.at = ap (λ l. l.answer) seen ∙ view-answer k all h.at h.widths inside x in
+      let place_is : look.place ≡ place all (search_next all x h.at).index = ap (λ l. l.place) seen ∙ view-place k all h.at h.widths inside x in
+      let marks_is : cond look.marks (map (place all) h.at.marks ++ place all h.at.index ∷ []) (map (place all) h.at.marks) ≡ map (place all) (search_next all x h.at).marks =
+      ap (λ l. cond l.marks (map (place all) h.at.marks ++ place all h.at.index ∷ []) (map (place all) h.at.marks)) seen ∙ view-marks k all h.at h.widths inside x
+      in
+      let len : length (answers_told p) ≡ length p.told.items = length-map p.told.items (λ t. t.answer) in
+      let next_at : slice_get p.script.now (length (answers_told p)) ≡ Some x = ap (slice_get p.script.now) len ∙ next in
+      let pushed = Reaches-push k strict all start h.at p.script.now (answers_told p) x h.reaches next_at definite in
+      let told_is : answers_told q ≡ answers_told p ++ search_answer (kind_of k) all x h.at ∷ [] =
+      ap (map (λ t. t.answer)) told ∙ map-append (λ t. t.answer) p.told.items (record { piece = piece; answer = look.answer } ∷ []) ∙ ap (λ a. answers_told p ++ a ∷ []) answer
+      in
+      let count : length q.told.items ≡ suc (length p.told.items) = ap length told ∙ length-append p.told.items (record { piece = piece; answer = look.answer } ∷ []) ∙ omega arith in
+      let later = drop (suc (length p.told.items)) p.script.now in
+      let needed : h.first ≤ needed_from all later (search_next all x h.at) = needed-on later first-least in
+      record {
+        widths = h.widths;
+        at = search_next all x h.at;
+        reaches = rw (script, told_is) pushed;
+        here = here ∙ place_is;
+        marked = marks ∙ ap (λ ms. cond look.marks (ms ++ p.place ∷ []) ms) h.marked ∙ ap (λ n. cond look.marks (map (place all) h.at.marks ++ n ∷ []) (map (place all) h.at.marks)) h.here ∙ marks_is;
+        first = h.first;
+        reached = rw (script, count) needed;
+        based = base ∙ h.based;
+        is_kept = h.is_kept;
+        settled = λ s e. rw (width_none, tokens_none) (none-passed k s (rest all (search_next all x h.at)));
+      }

@@ -1,0 +1,133 @@
+-- What one piece more tells: lists, fronts and what is out alone.
+use Rattle.std.proofs.Common.{◌≡◌, ℕ, suc, ◌+◌, ◌≤◌, ◌<◌, Bool, true, false, cond, List, [], ◌∷◌, ◌++◌, length, map, Option, Some, refl, sym, ap, ◌∙◌, arith, inl, inr}
+use Rattle.std.specs.List.{AllByRecursion, take_while}
+use Rattle.std.proofs.lemmas.Bool.{cases_Bool, false≢true, ltb-true, lt-ltb, le-ltb}
+use Rattle.std.proofs.lemmas.List.{length-append, append_assoc, append-nil, length-map}
+use Rattle.winnow_stream.specs.Source.{Source}
+use Rattle.winnow_stream.specs.Cursor.{Cursor, start, rest, answers_from}
+use Rattle.winnow_run.specs.declared.search_script.SearchStep.{SearchStep}
+use Rattle.winnow_run.specs.Searching.{PlacedSearchAnswer, search_next}
+use Rattle.winnow_run.specs.Definite.{PieceKind, is_definite, judged, out}
+use Rattle.winnow_run.proofs.lemmas.StepLemmas.{Inside, step-more, step-inside, start-inside}
+use Rattle.winnow_feed.specs.declared.told.Told.{Told}
+use Rattle.winnow_feed.specs.Inputs.{PieceStep, InputKind, joined}
+use Rattle.winnow_feed.specs.Telling.{capped, under, shortest_front, numbered, out_on, lets_out, is_waiting, piece_of, told_of, waits}
+use Rattle.winnow_feed.proofs.lemmas.InputLemmas.{IsInput, joined-push}
+use Rattle.winnow_feed.proofs.lemmas.ReachLemmas.{take_while-stop, take_while-go}
+
+module _ {T C L : Type 0} (k : PieceKind T C L) (all more : Source T) where
+  -- more input lets no fewer answers out
+  out_from-grows : (s : Cursor) (steps : List (SearchStep C L)) → Inside all s → length (take_while (λ a. a.1) (answers_from (judged k all) (search_next all) steps s)) ≤ length (take_while (λ a. a.1) (answers_from (judged k (all ++ more)) (search_next (all ++ more)) steps s))
+  out_from-grows s [] inside = omega arith
+  out_from-grows s (x ∷ steps) inside =
+      elim (cases_Bool (is_definite k x (rest all s))) [
+        | inl e ↦
+            let e2 = step-more k all more s inside x e in
+            let ih = out_from-grows (search_next all x s) steps (step-inside all s inside x) in
+            let here = take_while-go (λ a. a.1) (judged k all x s) (answers_from (judged k all) (search_next all) steps (search_next all x s)) e in
+            let there = take_while-go (λ a. a.1) (judged k (all ++ more) x s) (answers_from (judged k (all ++ more)) (search_next (all ++ more)) steps (search_next (all ++ more) x s)) e2.2 in
+            let next = ap (λ t. length (take_while (λ a. a.1) (answers_from (judged k (all ++ more)) (search_next (all ++ more)) steps t))) e2.1 in
+            let a = ap length here in let b = ap length there in omega arith
+        | inr e ↦ let here = ap length (take_while-stop (λ a. a.1) (judged k all x s) (answers_from (judged k all) (search_next all) steps (search_next all x s)) e) in omega arith
+      ]
+
+  pub out-grows : (script : List (SearchStep C L)) → length (out k all script) ≤ length (out k (all ++ more) script)
+  out-grows script =
+      let e = out_from-grows start script (start-inside all) in
+      omega (arith, e, length-map (take_while (λ a. a.1) (answers_from (judged k all) (search_next all) script start)) (λ a. a.0), length-map (take_while (λ a. a.1) (answers_from (judged k (all ++ more)) (search_next (all ++ more)) script start)) (λ a. a.0))
+
+-- ---- fronts
+
+abbrev pub AreInputs : (List ℕ → Bool) → List (List ℕ) → Type 0
+AreInputs valid pieces = AllByRecursion (λ piece. valid piece ≡ true) pieces
+
+module _ (valid : List ℕ → Bool) (joins : (xs ys : List ℕ) → valid xs ≡ true → valid ys ≡ true → valid (xs ++ ys) ≡ true) (test : List ℕ → Bool) (grows : (xs ys : List ℕ) → valid xs ≡ true → test xs ≡ true → test (xs ++ ys) ≡ true) where
+  -- what a front of the pieces passes is found there
+  found_before : (J : List ℕ) (q : List ℕ) (pieces : List (List ℕ)) (p : List ℕ) → test (J ++ joined (q ∷ pieces)) ≡ true → shortest_front test J ((q ∷ pieces) ++ p ∷ []) ≡ shortest_front test J (q ∷ pieces)
+  found_before J q [] p h = let e : test (J ++ q) ≡ true = rw append-nil at h in rw e
+  found_before J q (r ∷ pieces) p h =
+      elim (cases_Bool (test (J ++ q))) [
+        | inl e ↦ rw e
+        | inr e ↦ let ih = found_before (J ++ q) r pieces p (rw (append_assoc J q (joined (r ∷ pieces))) h) in rw e (ap (λ n. n + 1) ih)
+      ]
+
+  -- what none passes before the last piece is found there
+  found_last : (J : List ℕ) (pieces : List (List ℕ)) (p : List ℕ) → valid J ≡ true → AreInputs valid pieces → (0 < length pieces → test (J ++ joined pieces) ≡ false) → test ((J ++ joined pieces) ++ p) ≡ true → shortest_front test J (pieces ++ p ∷ []) ≡ length pieces + 1
+  found_last J [] p u us h g = let e : test (J ++ p) ≡ true = rw append-nil at g in rw e (omega arith)
+  found_last J (q ∷ pieces) p u us h g =
+      elim (cases_Bool (test (J ++ q))) [
+        | inl e ↦
+            let at_end : test ((J ++ q) ++ joined pieces) ≡ true = grows (J ++ q) (joined pieces) (joins J q u us.0) e in
+            let not : test (J ++ (q ++ joined pieces)) ≡ false = h (omega arith) in
+            absurd (false≢true (sym not ∙ ap test (sym (append_assoc J q (joined pieces))) ∙ at_end))
+        | inr e ↦
+            let ih = found_last (J ++ q) pieces p (joins J q u us.0) us.1 (λ _. ap test (append_assoc J q (joined pieces)) ∙ h (omega arith)) (rw (append_assoc J q (joined pieces)) g) in
+            rw e (omega (arith, ih))
+      ]
+
+-- ---- numbers
+
+numbered-append : (f : ℕ → ℕ) (k : ℕ) (xs ys : List (PlacedSearchAnswer ℕ)) → numbered f k (xs ++ ys) ≡ numbered f k xs ++ numbered f (k + length xs) ys
+numbered-append f k [] ys = ap (λ n. numbered f n ys) (omega arith)
+numbered-append f k (x ∷ xs) ys =
+    let e : k + 1 + length xs ≡ k + suc (length xs) = omega arith in
+    ap (λ r. under (Some (capped (f k))) x ∷ r) (numbered-append f (k + 1) xs ys ∙ ap (λ n. numbered f (k + 1) xs ++ numbered f n ys) e)
+
+numbered-same : (f g : ℕ → ℕ) (k : ℕ) (xs : List (PlacedSearchAnswer ℕ)) → ((i : ℕ) → k ≤ i → i < k + length xs → f i ≡ g i) → numbered f k xs ≡ numbered g k xs
+numbered-same f g k [] h = refl
+numbered-same f g k (x ∷ xs) h =
+    rw (h k (omega arith) (omega arith), numbered-same f g (k + 1) xs (λ i l u. h i (omega arith) (omega arith)))
+
+numbered-one : (f : ℕ → ℕ) (n k : ℕ) (xs : List (PlacedSearchAnswer ℕ)) → ((i : ℕ) → k ≤ i → i < k + length xs → f i ≡ n) → numbered f k xs ≡ map (under (Some (capped n))) xs
+numbered-one f n k [] h = refl
+numbered-one f n k (x ∷ xs) h =
+    rw (h k (omega arith) (omega arith), numbered-one f n (k + 1) xs (λ i l u. h i (omega arith) (omega arith)))
+
+abbrev pub answers_of : {T : Type 0} → List (Told T) → List (PlacedSearchAnswer T)
+answers_of told = map (λ t. t.answer) told
+
+answers-numbered : (f : ℕ → ℕ) (k : ℕ) (xs : List (PlacedSearchAnswer ℕ)) → answers_of (numbered f k xs) ≡ xs
+answers-numbered f k [] = refl
+answers-numbered f k (x ∷ xs) = ap (λ r. x ∷ r) (answers-numbered f (k + 1) xs)
+
+pub answers-under : {T : Type 0} (n : Option ℕ) (xs : List (PlacedSearchAnswer T)) → answers_of (map (under n) xs) ≡ xs
+answers-under n [] = refl
+answers-under n (x ∷ xs) = ap (λ r. x ∷ r) (answers-under n xs)
+
+-- what is told after some pieces are the answers that are out
+pub answers-told_of : (i : InputKind) (script : List PieceStep) (p : List ℕ) (pieces : List (List ℕ)) → answers_of (told_of i script (p ∷ pieces)) ≡ out_on i script (joined (p ∷ pieces))
+answers-told_of i script p pieces = answers-numbered (piece_of i script (p ∷ pieces)) 0 (out_on i script (joined (p ∷ pieces)))
+
+-- ---- one piece more
+
+pub waits-push : (i : InputKind) (script : List PieceStep) (J : List ℕ) (pieces : List (List ℕ)) (p : List ℕ) → waits i script J (pieces ++ p ∷ []) ≡ waits i script J pieces + cond (is_waiting i script ((J ++ joined pieces) ++ p)) 1 0
+waits-push i script J [] p = rw (append-nil J) (omega arith)
+waits-push i script J (q ∷ pieces) p = let ih = waits-push i script (J ++ q) pieces p in rw (← append_assoc J q (joined pieces)) (omega (arith, ih))
+
+module _ (i : InputKind) (law : IsInput i) (script : List PieceStep) where
+  lets_out-more : (k : ℕ) (J M : List ℕ) → i.valid J ≡ true → lets_out i script k J ≡ true → lets_out i script k (J ++ M) ≡ true
+  lets_out-more k J M u h =
+      let less = ltb-true k (length (out_on i script J)) h in
+      let grows = out-grows i.pieces (i.source J) (i.source M) script in
+      let same = ap (λ r. length (out i.pieces r script)) (law.split J M u) in
+      lt-ltb k (length (out_on i script (J ++ M))) (omega arith)
+
+  -- what is told after one piece more, where the answers that were out are a front of it
+  pub told_of-push : (pieces : List (List ℕ)) (p : List ℕ) (more : List (PlacedSearchAnswer ℕ)) → AreInputs i.valid pieces → out_on i script (joined pieces ++ p) ≡ answers_of (told_of i script pieces) ++ more → told_of i script (pieces ++ p ∷ []) ≡ told_of i script pieces ++ map (under (Some (capped (length pieces + 1)))) more
+  told_of-push [] p more us h =
+      let J : joined (p ∷ []) ≡ p = append-nil p in
+      let fits : (n : ℕ) → 0 ≤ n → n < 0 + length (out_on i script (joined (p ∷ []))) → piece_of i script (p ∷ []) n ≡ 1 = λ n l u.
+      found_last i.valid law.joins (lets_out i script n) (lets_out-more n) [] [] p law.empty tt (λ z. absurd (omega arith)) (lt-ltb n _ (omega (arith, ap (λ x. length (out_on i script x)) J))) in
+      numbered-one (piece_of i script (p ∷ [])) 1 0 (out_on i script (joined (p ∷ []))) fits ∙ ap (map (under (Some (capped 1)))) (ap (out_on i script) J ∙ h)
+  told_of-push (q ∷ pieces) p more us h =
+      let all = q ∷ pieces in
+      let gs = out_on i script (joined all) in
+      let before = answers-told_of i script q pieces in
+      let J = joined-push all p in
+      let split : out_on i script (joined (all ++ p ∷ [])) ≡ gs ++ more = ap (out_on i script) J ∙ h ∙ ap (λ x. x ++ more) before in
+      let early : (n : ℕ) → 0 ≤ n → n < 0 + length gs → piece_of i script (all ++ p ∷ []) n ≡ piece_of i script all n = λ n l u.
+      found_before i.valid law.joins (lets_out i script n) (lets_out-more n) [] q pieces p (lt-ltb n _ (omega arith)) in
+      let late : (n : ℕ) → 0 + length gs ≤ n → n < 0 + length gs + length more → piece_of i script (all ++ p ∷ []) n ≡ length all + 1 = λ n l u.
+      found_last i.valid law.joins (lets_out i script n) (lets_out-more n) [] all p law.empty us (λ _. le-ltb n _ (omega arith)) (lt-ltb n _ (omega (arith, ap length h, length-append (answers_of (told_of i script all)) more, ap length before))) in
+      ap (numbered (piece_of i script (all ++ p ∷ [])) 0) split ∙ numbered-append (piece_of i script (all ++ p ∷ [])) 0 gs more
+      ∙ rw (numbered-same (piece_of i script (all ++ p ∷ [])) (piece_of i script all) 0 gs early, numbered-one (piece_of i script (all ++ p ∷ [])) (length all + 1) (0 + length gs) more late) refl

@@ -1,0 +1,89 @@
+-- What a feed stores, and what it means for it to fit a list of pieces.
+use Rattle.std.specs.Prelude.{◌≡◌, ℕ, ◌+◌, ◌≤◌, ◌<◌, ◌^◌, true, List, [], ◌∷◌, ◌++◌, length, take, drop, vec_len, vec_capacity}
+use Rattle.std.specs.List.{AllByRecursion}
+use Rattle.std.specs.Borrow.{Bor}
+use Rattle.winnow_stream.specs.Source.{width}
+use Rattle.winnow_stream.specs.Cursor.{start, cursor_after}
+use Rattle.winnow_feed.specs.declared.told.Told.{Told}
+use Rattle.winnow_feed.specs.declared.finished.Finished.{Finished}
+use Rattle.winnow_feed.specs.declared.progress.Progress.{Progress}
+use Rattle.winnow_run.specs.Searching.{search_next}
+use Rattle.winnow_feed.specs.Inputs.{PieceStep, InputKind, joined}
+use Rattle.winnow_feed.specs.Reach.{needed_from}
+use Rattle.winnow_feed.specs.Standing.{Stands, IsAtRest, KeepsLeast}
+use Rattle.winnow_feed.specs.Telling.{capped, out_on, told_of, tried_of, told_to_end, last_place}
+
+-- what a feed stores: how far the script has come, and the bytes that are kept
+pub record FeedState : Type 0 where
+  pub run : Progress ℕ (Bor (List ℕ))
+  pub kept : List ℕ
+
+-- how many bytes were fed
+abbrev pub bytes_fed : FeedState → ℕ
+bytes_fed f = f.run.base + length f.kept
+
+abbrev pub script_of : FeedState → List PieceStep
+script_of f = f.run.script.now
+
+-- the answers that a script gave in all, and its final place
+abbrev pub answers_in : {T : Type 0} → Finished T → List (Told T)
+answers_in finished = finished.told.items
+
+abbrev pub place_in : {T : Type 0} → Finished T → ℕ
+place_in finished = finished.place
+
+module _ (i : InputKind) where
+  -- how many bytes are kept of a joined input: those from the first one on that the steps left need
+  abbrev pub held_of : List PieceStep → List ℕ → ℕ
+  held_of script input =
+      let n = length (out_on i script input) in
+      width (drop (needed_from (i.source input) (drop n script) (cursor_after (search_next (i.source input)) (take n script) start)) (i.source input))
+
+  -- how many bytes are kept after these pieces
+  abbrev pub held_after : List PieceStep → List (List ℕ) → ℕ
+  held_after script [] = 0
+  held_after script (p ∷ pieces) = held_of script (joined (p ∷ pieces))
+
+  -- the feed stores what this joined input left, and no more of it than the steps that are left need
+  pub record StandsFor (f : FeedState) (input : List ℕ) : Type 0 where
+    pub is_input : i.valid input ≡ true
+    pub is_kept : i.valid f.kept ≡ true
+    pub stands : Stands true i.pieces (i.source input) (i.source f.kept) f.run
+    pub least : KeepsLeast (bytes_fed f) f.run
+
+  -- there is room for every answer and mark, and the places fit
+  pub record IsSound (f : FeedState) : Type 0 where
+    pub input : List ℕ
+    pub stands : StandsFor f input
+    pub told_room : length f.run.script.now ≤ vec_capacity f.run.told
+    pub mark_room : length f.run.script.now ≤ vec_capacity f.run.marks
+    pub marks : vec_len f.run.marks ≤ vec_len f.run.told
+    pub fits : f.run.base + length f.kept < 2 ^ 64
+    pub counted : f.run.tried < 2 ^ 64
+
+  -- the feed fits these pieces: it stands for them joined, no step that is left is definite, and what was told and tried is theirs
+  pub record Fits (f : FeedState) (pieces : List (List ℕ)) : Type 0 where
+    pub are_pieces : AllByRecursion (λ piece. i.valid piece ≡ true) pieces
+    pub stands : StandsFor f (joined pieces)
+    pub rests : 0 < length pieces → IsAtRest i.pieces (i.source (joined pieces)) f.run
+    pub told : f.run.told.items ≡ told_of i (script_of f) pieces
+    pub count : f.run.pieces ≡ capped (length pieces)
+    pub tried : f.run.tried ≡ tried_of i (script_of f) pieces
+
+  -- whatever pieces a feed fitted, with one piece more the other fits them and that piece
+  abbrev pub FitsWith : FeedState → List ℕ → FeedState → Type 0
+  FitsWith old piece new = (pieces : List (List ℕ)) → Fits old pieces → Fits new (pieces ++ piece ∷ [])
+
+  -- a piece lets so many answers out
+  abbrev pub LetsOut : FeedState → List ℕ → ℕ → Type 0
+  LetsOut f piece n =
+      (pieces : List (List ℕ)) → Fits f pieces → length (told_of i (script_of f) (pieces ++ piece ∷ [])) ≡ length (told_of i (script_of f) pieces) + n
+
+  -- every step is answered
+  abbrev pub IsAnswered : FeedState → Type 0
+  IsAnswered f = (pieces : List (List ℕ)) × Fits f pieces × (length (script_of f) ≤ length (told_of i (script_of f) pieces))
+
+  -- these are all answers of a script on the pieces, and its final place
+  pub record Finishes (script : List PieceStep) (pieces : List (List ℕ)) (finished : Finished ℕ) : Type 0 where
+    pub answers : answers_in finished ≡ told_to_end i script pieces
+    pub cursor : place_in finished ≡ last_place i script pieces

@@ -1,0 +1,42 @@
+-- The two inputs that come in pieces: bytes, and text.
+use Rattle.std.specs.Prelude.{ℕ, Bool, true, false, List, [], ◌∷◌, ◌++◌, map}
+use Rattle.std.specs.Borrow.{Bor}
+use Rattle.std.specs.Char.{encode_utf8}
+use Rattle.std.specs.Str.{is_utf8}
+use Rattle.winnow_stream.specs.Source.{Source, units}
+use Rattle.winnow_stream.specs.Text.{text_source}
+use Rattle.winnow_sets.specs.declared.char_set.CharSet.{CharSet}
+use Rattle.winnow_run.specs.declared.search_script.SearchStep.{SearchStep}
+use Rattle.winnow_run.specs.Definite.{PieceKind}
+use Rattle.winnow_feed.specs.View.{piece_kind}
+
+-- a literal, of bytes or of text, is its bytes; a token is a byte or the number of a character
+abbrev pub PieceStep : Type 0
+PieceStep = SearchStep CharSet (Bor (List ℕ))
+
+abbrev pub byte_kind : PieceKind ℕ CharSet (Bor (List ℕ))
+byte_kind = piece_kind (λ byte. byte) true (λ byte. byte ∷ []) (λ literal. literal.now)
+
+abbrev pub text_kind : PieceKind ℕ CharSet (Bor (List ℕ))
+text_kind = piece_kind (λ c. c) false encode_utf8 (λ literal. literal.now)
+
+-- an input: which bytes it may be, and the tokens that they are
+pub record InputKind : Type 0 where
+  pub valid : List ℕ → Bool
+  pub source : List ℕ → Source ℕ
+  pub pieces : PieceKind ℕ CharSet (Bor (List ℕ))
+
+abbrev pub byte_input : InputKind
+byte_input = record { valid = λ _. true; source = units; pieces = byte_kind }
+
+abbrev pub text_input : InputKind
+text_input = record { valid = is_utf8; source = text_source; pieces = text_kind }
+
+-- the pieces one after the other
+abbrev pub joined : List (List ℕ) → List ℕ
+joined [] = []
+joined (p ∷ pieces) = p ++ joined pieces
+
+-- the pieces behind references
+abbrev pub pieces_in : List (Bor (List ℕ)) → List (List ℕ)
+pieces_in pieces = map (λ p. p.now) pieces

@@ -1,0 +1,7 @@
+pub mod Settled
+pub mod View
+pub mod Inputs
+pub mod Reach
+pub mod Telling
+pub mod Standing
+pub mod Feeding

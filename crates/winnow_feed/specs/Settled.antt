@@ -1,0 +1,65 @@
+-- What a waiting step has passed for good: one word a kind of step, over the step and what remains alone.
+use Rattle.std.specs.Prelude.{◌≡◌, ℕ, ◌+◌, ◌≤◌, ◌<◌, Bool, true, List, [], ◌∷◌, ◌++◌, length, take, drop, Option, None, Some, Result, Ok, Err, ⊤}
+use Rattle.std.specs.declared.ops.Range.{Range}
+use Rattle.winnow_stream.specs.declared.needed.Needed.{Needed}
+use Rattle.winnow_match.specs.declared.compare.CompareResult.{CompareResult}
+use Rattle.winnow_match.specs.declared.compare.CompareResult.TheVariants as compared
+use Rattle.winnow_stream.specs.Source.{Source, first_offset}
+use Rattle.winnow_stream.specs.Front.{is_offset, count_to, front}
+use Rattle.winnow_run.specs.declared.script.Step.{Step}
+use Rattle.winnow_run.specs.declared.script.Step.TheVariants as call
+use Rattle.winnow_match.specs.Bytes.{written}
+use Rattle.winnow_match.specs.Search.{needle_at, needle_list}
+use Rattle.winnow_run.specs.declared.search_script.SearchStep.{SearchStep}
+use Rattle.winnow_run.specs.declared.search_script.SearchStep.TheVariants as step
+use Rattle.winnow_run.specs.Definite.{PieceKind}
+
+-- `First`: an offset up to which the set holds no token
+pub record NoneHeld {T : Type 0} (holds : T → Bool) (r : Source T) (n : ℕ) : Type 0 where
+  pub offset : is_offset r n ≡ true
+  pub none : first_offset holds (front r n) ≡ None
+
+-- `Find`: a place before which no needle stands, whatever follows
+pub record NoneStands (needles : List (List ℕ)) (bytes : List ℕ) (n : ℕ) : Type 0 where
+  pub within : n ≤ length bytes
+  pub none : (m : List ℕ) (i : ℕ) → i < n → needle_at needles (drop i (bytes ++ m)) ≡ None
+
+-- `Compare`: a length up to which the bytes and the literal are the same
+pub record AreSame (literal bytes : List ℕ) (n : ℕ) : Type 0 where
+  pub within : n ≤ length bytes
+  pub fits : n ≤ length literal
+  pub same : take n bytes ≡ take n literal
+
+-- `At`: an offset behind as many tokens, no more than are asked for
+pub record AreCounted {T : Type 0} (asked : ℕ) (r : Source T) (n count : ℕ) : Type 0 where
+  pub offset : is_offset r n ≡ true
+  pub counted : count_to r n ≡ count
+  pub fits : count ≤ asked
+
+-- a waiting step has passed n bytes, and so many tokens if it counts them
+module _ {T C : Type 0} (holds : C → T → Bool) where
+  abbrev pub IsCallSettled : Step C → Source T → ℕ → ℕ → Type 0
+  IsCallSettled (call.First c) r n tokens = NoneHeld (holds c) r n
+  IsCallSettled (call.At asked) r n tokens = AreCounted asked r n tokens
+  IsCallSettled _ r n tokens = ⊤
+
+module _ {T C L : Type 0} (k : PieceKind T C L) where
+  abbrev pub IsSettled : SearchStep C L → Source T → ℕ → ℕ → Type 0
+  IsSettled (step.Call s) r n tokens = IsCallSettled k.holds s r n tokens
+  IsSettled (step.Compare literal) r n tokens = AreSame (k.literal literal) (written k.write r) n
+  IsSettled (step.Find needles) r n tokens = NoneStands (needle_list k.literal needles) (written k.write r) n
+
+-- ---- an answer that was found from n on, as the answer of the whole
+
+abbrev pub shifted : ℕ → Option (Range ℕ) → Option (Range ℕ)
+shifted n None = None
+shifted n (Some p) = Some (record { start = n + p.start; end = n + p.end })
+
+abbrev pub longer : ℕ → CompareResult → CompareResult
+longer n (compared.Ok k) = compared.Ok (n + k)
+longer n compared.Incomplete = compared.Incomplete
+longer n compared.Error = compared.Error
+
+abbrev pub further : ℕ → Result ℕ Needed → Result ℕ Needed
+further n (Ok w) = Ok (n + w)
+further n (Err e) = Err e

@@ -1,0 +1,106 @@
+ghost use Rattle.std.specs.Prelude.{◌≡◌, ℕ, ◌+◌, ◌≤◌, ◌<◌, ◌^◌, true, length, drop, vec_len};
+ghost use Rattle.std.specs.Prelude.{vec_capacity, IsTrue, Some};
+ghost use Rattle.winnow_stream.specs.Source.{width};
+ghost use Rattle.winnow_stream.specs.Front.{is_offset};
+ghost use Rattle.winnow_feed.specs.View.{piece_kind};
+ghost use Rattle.winnow_feed.specs.Reach.{named_place, least_place, needed_place};
+ghost use Rattle.winnow_feed.specs.Standing.{IsStanding, TakesIn, KeepsLeast, KeepsNeeded};
+ghost use Rattle.winnow_feed.specs.Standing.{Tells, Tries, steps_left};
+ghost use Rattle.winnow_feed.specs.Telling.{capped};
+
+use crate::kept::Kept;
+use crate::looking::mark_at;
+use crate::progress::{Progress, advance};
+use winnow_run::{SearchStep, Step};
+use winnow_sets::{AsChar, CharSet};
+use winnow_stream::{AsBStr, Stream, StreamIsPartial};
+
+// The place of the mark that a step names, or of the cursor.
+fn named_place<L>(step: &SearchStep<CharSet, L>, place: usize, marks: &[usize]) -> usize
+    ensures { result ≡ named_place place marks.now step.now }
+{
+    match step {
+        SearchStep::Call(Step::Reset(k)) => mark_at(marks, *k).unwrap_or(place),
+        SearchStep::Call(Step::Since(k)) => mark_at(marks, *k).unwrap_or(place),
+        _ => place,
+    }
+}
+
+// The least of the cursor's place and those that the steps name.
+#[tactic(auto, using(crate::proofs::lemmas::KeepingLemmas::least_steps))]
+fn least_place<L>(steps: &[SearchStep<CharSet, L>], place: usize, marks: &[usize]) -> usize
+    ensures { result ≡ least_place place marks.now place steps.now }
+{
+    let mut least = place;
+    for step in steps {
+        least = least.min(named_place(step, place, marks));
+    }
+    least
+}
+
+// The place from which on the steps that are left need the input, which ends at `end`. The steps
+// are not walked where no more is told than `before`.
+fn place_needed<T, L>(progress: &Progress<T, L>, before: usize, end: usize) -> usize
+    requires { KeepsNeeded before end progress.now }
+    ensures { result ≡ needed_place end progress.now.place progress.now.marks.items
+        (steps_left progress.now) }
+{
+    if progress.told.len() == before {
+        return progress.base;
+    }
+    if progress.told.len() < progress.script.len() {
+        least_place(
+            &progress.script[progress.told.len()..],
+            progress.place,
+            &progress.marks,
+        )
+    } else {
+        end
+    }
+}
+
+/// Takes in a piece at the end of what is kept: tells what no further input can change, and
+/// returns the width of the front that no step left can reach, which is then to be dropped.
+pub(crate) fn take_in<S: Kept, L: AsBStr>(progress: &mut Progress<S::Token, L>, kept: S) -> usize
+where
+    S::Token: AsChar + Drop,
+    S::Slice: Drop,
+    requires valid { S.valid kept }
+    requires more { IsTrue (S.expects_more kept) }
+    requires left { vec_len progress.old.told < length progress.old.script.now }
+    requires room { progress.old.base + width (S.remaining kept) < 2 ^ 64 }
+    requires told_room { length progress.old.script.now ≤ vec_capacity progress.old.told }
+    requires mark_room { length progress.old.script.now ≤ vec_capacity progress.old.marks }
+    requires marks { vec_len progress.old.marks ≤ vec_len progress.old.told }
+    requires counted { progress.old.tried < 2 ^ 64 }
+    requires stands { IsStanding true
+        (piece_kind S.Token.code S.counts_missing S.write L.text_bytes)
+        (S.remaining kept)
+        progress.old }
+    requires least { (end : ℕ) → KeepsLeast end progress.old }
+    ensures stands { TakesIn
+        (piece_kind S.Token.code S.counts_missing S.write L.text_bytes)
+        (S.remaining kept)
+        result progress.old progress.new }
+    ensures offset { IsTrue (is_offset (S.remaining kept) result) }
+    ensures base { progress.new.base ≡ progress.old.base + result }
+    ensures least { KeepsLeast (progress.old.base + width (S.remaining kept)) progress.new }
+    ensures script { progress.new.script ≡ progress.old.script }
+    ensures pieces { progress.new.pieces ≡ capped (progress.old.pieces + 1) }
+    ensures tells { Tells (Some progress.new.pieces) progress.old progress.new }
+    ensures tried { Tries progress.old progress.new }
+    ensures told { vec_len progress.old.told ≤ vec_len progress.new.told }
+    ensures told_room { vec_capacity progress.old.told ≤ vec_capacity progress.new.told }
+    ensures mark_room { vec_capacity progress.old.marks ≤ vec_capacity progress.new.marks }
+    ensures marks { vec_len progress.new.marks ≤ vec_len progress.new.told }
+{
+    let before = progress.told.len();
+    progress.pieces = progress.pieces.saturating_add(1);
+    let piece = Some(progress.pieces);
+    advance(progress, kept, piece);
+    let end = progress.base + kept.eof_offset();
+    let least = place_needed(progress, before, end);
+    let unneeded = least - progress.base;
+    progress.base = least;
+    unneeded
+}

@@ -1,0 +1,166 @@
+ghost use Rattle.std.specs.Prelude.{◌≡◌, ◌+◌, ◌≤◌, ◌<◌, ◌^◌, ◌∷◌, ◌++◌, [], false, length};
+ghost use Rattle.std.specs.Prelude.{IsTrue, vec_len, vec_capacity, if◌then◌else◌};
+ghost use Rattle.winnow_stream.specs.Source.{width};
+ghost use Rattle.winnow_feed.specs.View.{piece_kind};
+ghost use Rattle.winnow_feed.specs.Standing.{IsStanding, KeepsStanding, StandsAtRest};
+ghost use Rattle.winnow_feed.specs.Standing.{ComesToRest, Tells, Tries, StandsStill};
+ghost use Rattle.winnow_feed.specs.Telling.{capped, under};
+
+use crate::Told;
+use crate::attempts::{Attempt, attempt_step};
+use crate::kept::Kept;
+use crate::looking::Passed;
+use winnow_run::{PieceAnswer, SearchStep};
+use winnow_sets::{AsChar, CharSet};
+use winnow_stream::{AsBStr, Stream, StreamIsPartial};
+
+/// How far a script over pieces has come: its cursor, its marks and `base`, from which on the
+/// input is kept, are places in the joined input.
+#[derive(Drop)]
+pub(crate) struct Progress<'k, T, L> {
+    pub(crate) script: &'k [SearchStep<CharSet<'k>, L>],
+    pub(crate) told: Vec<Told<T>>,
+    pub(crate) place: usize,
+    pub(crate) marks: Vec<usize>,
+    pub(crate) passed: Passed,
+    pub(crate) base: usize,
+    pub(crate) pieces: u64,
+    pub(crate) tried: u64,
+}
+
+// Marks the place, where there is a mark to make and room for it.
+fn push_mark(marks: &mut Vec<usize>, at: usize, makes: bool)
+    requires { vec_len marks.old < vec_capacity marks.old }
+    ensures items { marks.new.items ≡ (if makes then marks.old.items ++ at ∷ [] else marks.old.items) }
+    ensures len { vec_len marks.new ≤ vec_len marks.old + 1 }
+    ensures capacity { vec_capacity marks.old ≤ vec_capacity marks.new }
+{
+    if makes {
+        match marks.push(at) {
+            Ok(()) => {}
+            Err(_) => unreachable!(),
+        }
+    }
+}
+
+// Puts an answer behind the others, where there is room.
+fn tell<T: Drop>(told: &mut Vec<Told<T>>, piece: Option<u64>, answer: PieceAnswer<T>)
+    requires { vec_len told.old < vec_capacity told.old }
+    ensures items { told.new.items ≡ told.old.items ++ under piece answer ∷ [] }
+    ensures len { vec_len told.new ≡ vec_len told.old + 1 }
+    ensures capacity { vec_capacity told.old ≤ vec_capacity told.new }
+{
+    let more = Told { piece, answer };
+    match told.push(more) {
+        Ok(()) => {}
+        Err(_) => unreachable!(),
+    }
+}
+
+/// Attempts the next step over what is kept, and returns whether it came through. Its answer is
+/// told under that piece.
+pub(crate) fn attempt_next<S: Kept, L: AsBStr>(
+    progress: &mut Progress<S::Token, L>,
+    kept: S,
+    piece: Option<u64>,
+) -> bool
+where
+    S::Token: AsChar + Drop,
+    S::Slice: Drop,
+    requires valid { S.valid kept }
+    requires left { vec_len progress.old.told < length progress.old.script.now }
+    requires room { progress.old.base + width (S.remaining kept) < 2 ^ 64 }
+    requires told_room { length progress.old.script.now ≤ vec_capacity progress.old.told }
+    requires mark_room { length progress.old.script.now ≤ vec_capacity progress.old.marks }
+    requires marks { vec_len progress.old.marks ≤ vec_len progress.old.told }
+    requires stands { IsStanding (S.expects_more kept)
+        (piece_kind S.Token.code S.counts_missing S.write L.text_bytes)
+        (S.remaining kept)
+        progress.old }
+    ensures stands { KeepsStanding (S.expects_more kept)
+        (piece_kind S.Token.code S.counts_missing S.write L.text_bytes)
+        (S.remaining kept)
+        progress.old progress.new }
+    ensures more { result ≡ false → IsTrue (S.expects_more kept) }
+    ensures waits { result ≡ false → ComesToRest (S.expects_more kept)
+        (piece_kind S.Token.code S.counts_missing S.write L.text_bytes)
+        (S.remaining kept)
+        progress.old progress.new }
+    ensures script { progress.new.script ≡ progress.old.script }
+    ensures base { progress.new.base ≡ progress.old.base }
+    ensures pieces { progress.new.pieces ≡ progress.old.pieces }
+    ensures tried { progress.new.tried ≡ capped (progress.old.tried + 1) }
+    ensures tells { Tells piece progress.old progress.new }
+    ensures came { IsTrue result → vec_len progress.new.told ≡ vec_len progress.old.told + 1 }
+    ensures same { result ≡ false → vec_len progress.new.told ≡ vec_len progress.old.told }
+    ensures still { StandsStill progress.old progress.new }
+    ensures told_room { vec_capacity progress.old.told ≤ vec_capacity progress.new.told }
+    ensures mark_room { vec_capacity progress.old.marks ≤ vec_capacity progress.new.marks }
+    ensures marks { vec_len progress.new.marks ≤ vec_len progress.new.told }
+{
+    let script = progress.script;
+    let step = &script[progress.told.len()];
+    let mut rest = kept;
+    rest.next_slice(progress.place - progress.base);
+    progress.tried = progress.tried.saturating_add(1);
+    match attempt_step(step, rest, progress.place, &progress.marks, progress.passed) {
+        Attempt::Waits(passed) => {
+            progress.passed = passed;
+            false
+        }
+        Attempt::Answered(looked) => {
+            push_mark(&mut progress.marks, progress.place, looked.marks);
+            tell(&mut progress.told, piece, looked.answer);
+            progress.place = looked.place;
+            progress.passed = Passed {
+                width: 0,
+                tokens: 0,
+            };
+            true
+        }
+    }
+}
+
+/// Attempts steps over what is kept, until one waits or none is left. Where no more may follow,
+/// none waits.
+pub(crate) fn advance<S: Kept, L: AsBStr>(
+    progress: &mut Progress<S::Token, L>,
+    kept: S,
+    piece: Option<u64>,
+)
+where
+    S::Token: AsChar + Drop,
+    S::Slice: Drop,
+    requires valid { S.valid kept }
+    requires room { progress.old.base + width (S.remaining kept) < 2 ^ 64 }
+    requires told_room { length progress.old.script.now ≤ vec_capacity progress.old.told }
+    requires mark_room { length progress.old.script.now ≤ vec_capacity progress.old.marks }
+    requires marks { vec_len progress.old.marks ≤ vec_len progress.old.told }
+    requires counted { progress.old.tried < 2 ^ 64 }
+    requires stands { IsStanding (S.expects_more kept)
+        (piece_kind S.Token.code S.counts_missing S.write L.text_bytes)
+        (S.remaining kept)
+        progress.old }
+    ensures stands { StandsAtRest (S.expects_more kept)
+        (piece_kind S.Token.code S.counts_missing S.write L.text_bytes)
+        (S.remaining kept)
+        progress.old progress.new }
+    ensures done { S.expects_more kept ≡ false
+        → length progress.new.script.now ≤ vec_len progress.new.told }
+    ensures script { progress.new.script ≡ progress.old.script }
+    ensures base { progress.new.base ≡ progress.old.base }
+    ensures pieces { progress.new.pieces ≡ progress.old.pieces }
+    ensures tells { Tells piece progress.old progress.new }
+    ensures tried { Tries progress.old progress.new }
+    ensures still { StandsStill progress.old progress.new }
+    ensures told { vec_len progress.old.told ≤ vec_len progress.new.told }
+    ensures told_room { vec_capacity progress.old.told ≤ vec_capacity progress.new.told }
+    ensures mark_room { vec_capacity progress.old.marks ≤ vec_capacity progress.new.marks }
+    ensures marks { vec_len progress.new.marks ≤ vec_len progress.new.told }
+{
+    while progress.told.len() < progress.script.len() {
+        if !attempt_next(progress, kept, piece) {
+            return;
+        }
+    }
+}

@@ -1,0 +1,141 @@
+use crate::buffers::forget_text;
+use crate::keeping::take_in;
+use crate::looking::Passed;
+use crate::progress::{Progress, advance};
+use crate::{Finished, Told};
+use std::alloc::{AllocError, Global};
+use std::marker::Model;
+use winnow_run::SearchStep;
+use winnow_sets::CharSet;
+use winnow_stream::StreamIsPartial;
+use winnow_wrap::Partial;
+
+/// A script over text that comes in pieces.
+///
+/// However the input is cut, the answers are those of the script on the pieces joined. After each
+/// piece those are out that no further input can change. Of the input only those bytes are kept
+/// that a step not yet answered can reach.
+#[derive(Drop)]
+pub struct TextFeed<'k> {
+    run: Progress<'k, char, &'k str>,
+    kept: String,
+}
+
+impl<'k> Model for TextFeed<'k> {
+    ghost use Rattle.std.specs.String.{string_bytes};
+    ghost use Rattle.winnow_feed.specs.Feeding.{FeedState, IsSound};
+    ghost use Rattle.winnow_feed.specs.Inputs.{text_input};
+
+    ghost Value = { FeedState };
+
+    ghost view = { λ f. record { run = f.run; kept = string_bytes f.kept } };
+
+    ghost invariant = { λ f. IsSound text_input (record { run = f.run; kept = string_bytes f.kept }) };
+}
+
+impl<'k> TextFeed<'k> {
+    ghost use Rattle.std.specs.Prelude.{◌≡◌, ℕ, ◌+◌, ◌<◌, ◌^◌, [], List, length};
+    ghost use Rattle.std.specs.Prelude.{IfOk, IsOk, OnOk, OnErr};
+    ghost use Rattle.winnow_feed.specs.Inputs.{text_input, joined};
+    ghost use Rattle.winnow_feed.specs.Telling.{told_of, tried_of};
+    ghost use Rattle.winnow_feed.specs.Feeding.{Fits, FitsWith, LetsOut, IsAnswered, Finishes};
+    ghost use Rattle.winnow_feed.specs.Feeding.{held_after, bytes_fed, script_of};
+
+    /// Returns a feed that was fed nothing. It has room for every answer and mark, so that
+    /// `feed` takes memory for bytes alone.
+    pub fn new(
+        alloc: Global,
+        script: &'k [SearchStep<CharSet<'k>, &'k str>],
+    ) -> Result<Self, AllocError>
+        ensures fits { IfOk result (λ feed. Fits text_input feed []) }
+        ensures script { IfOk result (λ feed. script_of feed ≡ script.entry.now) }
+    {
+        let told = Vec::with_capacity(alloc, script.len())?;
+        let marks = Vec::with_capacity(alloc, script.len())?;
+        Ok(TextFeed {
+            run: Progress {
+                script,
+                told,
+                place: 0,
+                marks,
+                passed: Passed {
+                    width: 0,
+                    tokens: 0,
+                },
+                base: 0,
+                pieces: 0,
+                tried: 0,
+            },
+            kept: String::new(alloc),
+        })
+    }
+
+    /// Returns the length of the joined input so far.
+    pub fn fed(&self) -> usize
+        ensures fed { (pieces : List (List ℕ)) → Fits text_input self.now pieces
+            → result ≡ length (joined pieces) }
+        ensures stored { result ≡ bytes_fed self.now }
+    {
+        self.run.base + self.kept.len()
+    }
+
+    /// Returns how many bytes are kept.
+    pub fn held(&self) -> usize
+        ensures { (pieces : List (List ℕ)) → Fits text_input self.now pieces
+            → result ≡ held_after text_input (script_of self.now) pieces }
+    {
+        self.kept.len()
+    }
+
+    /// Returns how many steps were attempted, up to the greatest `u64`.
+    pub fn tried(&self) -> u64
+        ensures { (pieces : List (List ℕ)) → Fits text_input self.now pieces
+            → result ≡ tried_of text_input (script_of self.now) pieces }
+    {
+        self.run.tried
+    }
+
+    /// Returns the answers that are out, each with the number of the piece that let it out.
+    pub fn answers(&self) -> &[Told<char>]
+        ensures { (pieces : List (List ℕ)) → Fits text_input self.now pieces
+            → result.now ≡ told_of text_input (script_of self.now) pieces }
+    {
+        &self.run.told
+    }
+
+    /// Takes a piece, and returns how many answers came out. When memory is refused, nothing
+    /// has changed, and the same piece may be fed again.
+    pub fn feed(&mut self, piece: &str) -> Result<usize, AllocError>
+        requires { bytes_fed self.old + length piece.now < 2 ^ 64 }
+        ensures fits { OnOk result (FitsWith text_input self.old piece.now self.new) }
+        ensures came { IfOk result (LetsOut text_input self.old piece.now) }
+        ensures script { script_of self.new ≡ script_of self.old }
+        ensures refused { OnErr result (self.new ≡ self.old) }
+        ensures empty { piece.now ≡ [] → IsOk result }
+        ensures answered { IsAnswered text_input self.old → IsOk result }
+    {
+        let before = self.run.told.len();
+        if self.run.script.len() <= before {
+            self.run.pieces = self.run.pieces.saturating_add(1);
+            self.run.base += piece.len();
+            return Ok(0);
+        }
+        self.kept.push_str(piece)?;
+        let unneeded = take_in(&mut self.run, Partial::new(self.kept.as_str()));
+        forget_text(&mut self.kept, unneeded);
+        Ok(self.run.told.len() - before)
+    }
+
+    /// Ends the input, and returns all answers. It takes no memory.
+    pub fn end(self) -> Finished<char>
+        ensures { (pieces : List (List ℕ)) → Fits text_input self.entry pieces
+            → Finishes text_input (script_of self.entry) pieces result }
+    {
+        let TextFeed { mut run, kept } = self;
+        let mut rest = Partial::new(kept.as_str());
+        rest.complete();
+        advance(&mut run, rest, None);
+        let Progress { told, place, .. } = run;
+        Finished { told, place }
+    }
+}

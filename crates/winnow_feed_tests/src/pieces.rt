@@ -1,0 +1,158 @@
+use std::alloc::{AllocError, Global};
+use std::test::Fail;
+use winnow_base::stream::Step::{At, Each, Eof, Finish, Next, Peek, Take};
+use winnow_base::stream::{
+    ByteFeed, CharSet, Finished, Needles, SearchStep, run_pieces, run_pieces_text,
+};
+
+type ByteStep<'k> = SearchStep<CharSet<'k>, &'k [u8]>;
+
+type TextStep<'k> = SearchStep<CharSet<'k>, &'k str>;
+
+// Each answer with the number of its piece, or 0 at the end, and then the final place.
+fn told_bytes(alloc: Global, finished: &Finished<u8>) -> Result<String, AllocError> {
+    let mut line = String::new(alloc);
+    for told in finished.answers() {
+        let piece = told.piece.unwrap_or(0);
+        let answer = &told.answer;
+        line = format!(in alloc; "{line}{piece} {answer:?}; ")?;
+    }
+    format!(in alloc; "{line}at {}", finished.cursor())
+}
+
+// The same, of a script that is fed each piece.
+fn fed_bytes(alloc: Global, script: &[ByteStep], pieces: &[&[u8]]) -> Result<String, AllocError> {
+    let mut feed = ByteFeed::new(alloc, script)?;
+    for piece in pieces {
+        // A place has to fit: no piece here is long.
+        if feed.fed() > 1_000_000 || piece.len() > 1_000_000 {
+            return Ok(String::new(alloc));
+        }
+        feed.feed(piece)?;
+    }
+    told_bytes(alloc, &feed.end())
+}
+
+fn told_text(alloc: Global, finished: &Finished<char>) -> Result<String, AllocError> {
+    let mut line = String::new(alloc);
+    for told in finished.answers() {
+        let piece = told.piece.unwrap_or(0);
+        let answer = &told.answer;
+        line = format!(in alloc; "{line}{piece} {answer:?}; ")?;
+    }
+    format!(in alloc; "{line}at {}", finished.cursor())
+}
+
+#[test]
+fn an_empty_piece_lets_nothing_out(rt: HostRuntime) -> Result<(), Fail> {
+    let script: [ByteStep; 3] = [
+        SearchStep::Call(Next),
+        SearchStep::Call(Next),
+        SearchStep::Call(Peek),
+    ];
+    let finished = run_pieces(rt.alloc(), &script, &[b"a", b"", b"b"])?;
+    assert_eq!(rt;
+        told_bytes(rt.alloc(), &finished)?.as_str(),
+        "1 Call(Token(Some(97))); 3 Call(Token(Some(98))); 0 Call(Token(None)); at 2"
+    );
+    Ok(())
+}
+
+#[test]
+fn a_hit_waits_while_a_needle_could_move_it(rt: HostRuntime) -> Result<(), Fail> {
+    let table: [(Needles<&[u8]>, [&[u8]; 2], &str); 8] = [
+        (
+            Needles::Two(b"abc", b"b"),
+            [b"ab", b"c"],
+            "2 Hit(Some(0..3)); at 0",
+        ),
+        (
+            Needles::Two(b"", b"abc"),
+            [b"x", b"abc"],
+            "1 Hit(Some(0..0)); at 0",
+        ),
+        (
+            Needles::Two(b"abc", b"b"),
+            [b"ab", b"x"],
+            "2 Hit(Some(1..2)); at 0",
+        ),
+        (
+            Needles::Two(b"b", b"abc"),
+            [b"ab", b"c"],
+            "2 Hit(Some(0..3)); at 0",
+        ),
+        (
+            Needles::Two(b"b", b"bc"),
+            [b"ab", b"c"],
+            "1 Hit(Some(1..2)); at 0",
+        ),
+        (
+            Needles::Two(b"bc", b"b"),
+            [b"ab", b"c"],
+            "2 Hit(Some(1..3)); at 0",
+        ),
+        (
+            Needles::Two(b"bc", b"b"),
+            [b"ab", b"d"],
+            "2 Hit(Some(1..2)); at 0",
+        ),
+        (
+            Needles::Two(b"bc", b"b"),
+            [b"a", b"b"],
+            "0 Hit(Some(1..2)); at 0",
+        ),
+    ];
+    for (needles, pieces, want) in table {
+        let script: [ByteStep; 1] = [SearchStep::Find(needles)];
+        let told = fed_bytes(rt.alloc(), &script, &pieces)?;
+        assert_eq!(rt; told.as_str(), want, "{needles:?}");
+    }
+    Ok(())
+}
+
+#[test]
+fn what_runs_to_the_end_waits_for_it(rt: HostRuntime) -> Result<(), Fail> {
+    let script: [ByteStep; 2] = [SearchStep::Call(Finish), SearchStep::Call(Eof)];
+    let finished = run_pieces(rt.alloc(), &script, &[b"ab", b"c"])?;
+    assert_eq!(rt;
+        told_bytes(rt.alloc(), &finished)?.as_str(),
+        "0 Call(Slice(0..3)); 0 Call(Offset(0)); at 3"
+    );
+    let none = run_pieces(rt.alloc(), &script, &[])?;
+    assert_eq!(rt;
+        told_bytes(rt.alloc(), &none)?.as_str(),
+        "0 Call(Slice(0..0)); 0 Call(Offset(0)); at 0"
+    );
+    Ok(())
+}
+
+#[test]
+fn slices_are_places_in_the_joined_input(rt: HostRuntime) -> Result<(), Fail> {
+    let script: [ByteStep; 4] = [
+        SearchStep::Call(Next),
+        SearchStep::Call(Take(2)),
+        SearchStep::Compare(b"cd"),
+        SearchStep::Call(Each),
+    ];
+    let finished = run_pieces(rt.alloc(), &script, &[b"ab", b"c", b"de"])?;
+    assert_eq!(rt;
+        told_bytes(rt.alloc(), &finished)?.as_str(),
+        "1 Call(Token(Some(97))); 2 Call(Slice(1..3)); 3 Compared(Error); 0 Call(Items(3..5)); at 3"
+    );
+    Ok(())
+}
+
+#[test]
+fn text_in_pieces(rt: HostRuntime) -> Result<(), Fail> {
+    let script: [TextStep; 3] = [
+        SearchStep::Call(At(2)),
+        SearchStep::Call(Take(1)),
+        SearchStep::Call(Eof),
+    ];
+    let finished = run_pieces_text(rt.alloc(), &script, &["é", "1"])?;
+    assert_eq!(rt;
+        told_text(rt.alloc(), &finished)?.as_str(),
+        "2 Call(At(Ok(3))); 2 Call(BadOffset); 0 Call(Offset(3)); at 0"
+    );
+    Ok(())
+}
