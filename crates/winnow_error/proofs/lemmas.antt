@@ -1,3 +1,1 @@
-pub mod ContextTextLemmas
-pub mod LineLemmas
 pub mod PickLemmas

@@ -3,10 +3,8 @@
 
 mod add_context;
 mod associative_or;
+mod bit_errors;
 mod combining;
-mod context;
-mod context_items;
-mod context_text;
 mod empty;
 mod error_convert;
 mod from_external;
@@ -17,14 +15,11 @@ mod modal_error;
 mod mode;
 mod parser_error;
 mod result;
-mod str_context;
 mod unit;
 
 pub use add_context::AddContext;
 pub use associative_or::AssociativeOr;
 pub use combining::{OrTree, combine};
-pub use context::ContextError;
-pub use context_items::ContextItems;
 pub use empty::EmptyError;
 pub use error_convert::ErrorConvert;
 pub use from_external::FromExternalError;
@@ -35,5 +30,4 @@ pub use modal_error::ModalError;
 pub use mode::ErrMode;
 pub use parser_error::ParserError;
 pub use result::{ModalResult, Result};
-pub use str_context::{StrContext, StrContextValue};
 pub use winnow_stream::Needed;

@@ -1,3 +1,2 @@
-pub mod Contents
+pub mod TextContents
 pub mod Escapes
-pub mod Hex

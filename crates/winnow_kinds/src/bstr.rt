@@ -13,7 +13,7 @@ ghost use Rattle.winnow_stream.specs.Units.{HasWidths-units, width-units};
 ghost use Rattle.winnow_match.specs.Bytes.{bytes_of};
 ghost use Rattle.winnow_match.specs.Comparison.{comparison};
 ghost use Rattle.winnow_match.specs.Search.{hit};
-ghost use Rattle.winnow_kinds.specs.Contents.{bstr_contents};
+ghost use Rattle.winnow_kinds.specs.TextContents.{bstr_contents};
 ghost use Rattle.winnow_kinds.specs.Escapes.{debug_text};
 
 use crate::escapes::write_escaped;

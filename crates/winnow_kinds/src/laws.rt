@@ -3,25 +3,21 @@ ghost use Rattle.std.specs.Cmp.Lexicographic.{slice_cmp};
 ghost use Rattle.std.specs.Ordering.{nat_cmp};
 ghost use Rattle.winnow_stream.specs.Checkpoint.{checkpoint_inner};
 ghost use Rattle.winnow_stream.specs.declared.checkpoint.Checkpoint.{Checkpoint};
-ghost use Rattle.winnow_kinds.specs.Contents.{bstr_contents, bytes_contents};
+ghost use Rattle.winnow_kinds.specs.TextContents.{bstr_contents};
 ghost use Rattle.winnow_kinds.specs.declared.bstr.BStr.{BStr};
-ghost use Rattle.winnow_kinds.specs.declared.bytes.Bytes.{Bytes};
 
-use crate::{BStr, Bytes};
+use crate::BStr;
 use winnow_stream::Checkpoint;
 
 /// The law of equality: two values are equal exactly where they have the same contents, and two checkpoints where the same contents
 /// remained. It does nothing when called: its contract is the law.
-pub fn contents_equality_law()
-    ensures texts { (s t : BStr) → IsTrue (⟦<BStr<'static> as PartialEq>⟧.eq s t) ↔ (bstr_contents s ≡ bstr_contents t) }
-    ensures text_places { (c d : Checkpoint BStr BStr) → IsTrue (⟦<Checkpoint<BStr<'static>, BStr<'static>> as PartialEq>⟧.eq c d) ↔ (bstr_contents (checkpoint_inner c) ≡ bstr_contents (checkpoint_inner d)) }
-    ensures bytes { (s t : Bytes) → IsTrue (⟦<Bytes<'static> as PartialEq>⟧.eq s t) ↔ (bytes_contents s ≡ bytes_contents t) }
-    ensures byte_places { (c d : Checkpoint Bytes Bytes) → IsTrue (⟦<Checkpoint<Bytes<'static>, Bytes<'static>> as PartialEq>⟧.eq c d) ↔ (bytes_contents (checkpoint_inner c) ≡ bytes_contents (checkpoint_inner d)) }
+pub fn text_equality_law()
+    ensures values { (s t : BStr) → IsTrue (⟦<BStr<'static> as PartialEq>⟧.eq s t) ↔ (bstr_contents s ≡ bstr_contents t) }
+    ensures places { (c d : Checkpoint BStr BStr) → IsTrue (⟦<Checkpoint<BStr<'static>, BStr<'static>> as PartialEq>⟧.eq c d) ↔ (bstr_contents (checkpoint_inner c) ≡ bstr_contents (checkpoint_inner d)) }
 {}
 
 /// The law of order: checkpoints stand to each other as the contents that remained there, by the first byte that differs. It does
 /// nothing when called: its contract is the law.
-pub fn contents_order_law()
-    ensures text_places { (c d : Checkpoint BStr BStr) → ⟦<Checkpoint<BStr<'static>, BStr<'static>> as Ord>⟧.cmp c d ≡ slice_cmp nat_cmp (bstr_contents (checkpoint_inner c)) (bstr_contents (checkpoint_inner d)) }
-    ensures byte_places { (c d : Checkpoint Bytes Bytes) → ⟦<Checkpoint<Bytes<'static>, Bytes<'static>> as Ord>⟧.cmp c d ≡ slice_cmp nat_cmp (bytes_contents (checkpoint_inner c)) (bytes_contents (checkpoint_inner d)) }
+pub fn text_order_law()
+    ensures { (c d : Checkpoint BStr BStr) → ⟦<Checkpoint<BStr<'static>, BStr<'static>> as Ord>⟧.cmp c d ≡ slice_cmp nat_cmp (bstr_contents (checkpoint_inner c)) (bstr_contents (checkpoint_inner d)) }
 {}

@@ -1,23 +1,16 @@
-//! Bytes as streams with a text of their own: [`BStr`] for bytes that are text by convention, [`Bytes`] for bytes that are not.
-//!
-//! Both stream as a slice of bytes does, call for call. They differ in what they print: a [`BStr`] its text, with U+FFFD for
-//! what is damaged, and [`Bytes`] two hexadecimal digits a byte.
+//! Bytes that are text by convention, as a stream: [`BStr`] streams as a slice of bytes does, call for call, and prints its text,
+//! with U+FFFD for what is damaged. What it is compared with and searched for, a [`ByteLiteral`] and [`ByteNeedles`], serves any
+//! stream around a slice of bytes.
 #![tactic(auto)]
 
 mod bstr;
-mod bytes;
 mod escapes;
-mod hex;
 mod laws;
 mod literals;
 mod lossy;
 mod needles;
-#[cfg(test)]
-mod tests;
 
 pub use bstr::BStr;
-pub use bytes::Bytes;
-pub use hex::{LowerBytes, UpperBytes};
-pub use laws::{contents_equality_law, contents_order_law};
+pub use laws::{text_equality_law, text_order_law};
 pub use literals::ByteLiteral;
 pub use needles::ByteNeedles;

@@ -11,6 +11,3 @@ mod wrappers;
 pub use record_error::RecordError;
 pub use recover::Recover;
 pub use recoverable::Recoverable;
-
-#[cfg(test)]
-mod tests;

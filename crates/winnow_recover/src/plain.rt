@@ -5,7 +5,8 @@ ghost use Rattle.winnow_views.specs.TokenPlaces.{whole_of};
 
 use crate::{RecordError, Recover};
 use std::fmt::Debug;
-use winnow_kinds::{BStr, Bytes};
+use winnow_bytes::Bytes;
+use winnow_kinds::BStr;
 use winnow_stream::Checkpoint;
 use winnow_views::{TokenSlice, TokenView};
 

@@ -23,6 +23,3 @@ pub use token_laws::token_equality_law;
 pub use token_offsets::TokenOffsets;
 pub use token_slice::TokenSlice;
 pub use token_view::TokenView;
-
-#[cfg(test)]
-mod tests;

@@ -12,6 +12,3 @@ mod stateful;
 pub use locating::{LocatingSlice, Placed};
 pub use partial::Partial;
 pub use stateful::Stateful;
-
-#[cfg(test)]
-mod tests;

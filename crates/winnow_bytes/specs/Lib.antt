@@ -1,0 +1,2 @@
+pub mod ByteContents
+pub mod Hex

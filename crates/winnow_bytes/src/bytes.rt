@@ -1,0 +1,390 @@
+ghost use Rattle.std.specs.Prelude.{◌≡◌, ◌↔◌, ◌<◌, ◌≤◌, true, false, [], Some, nat_eq, refl, length, slice_get, slice_range, IfOk, IsTrue, ⊤};
+ghost use Rattle.std.specs.Cmp.{partial_equiv_from_equiv, on_per, on_equiv, on_po, on_total};
+ghost use Rattle.std.specs.Cmp.Lexicographic.{pointwise, slice_cmp, nat_list_eq_equiv, nat_list_cmp_total, texts_ties, texts_po};
+ghost use Rattle.std.specs.Cmp.Rules.{hashing};
+ghost use Rattle.std.specs.Hash as fed;
+ghost use Rattle.std.specs.Ordering.{nat_cmp};
+ghost use Rattle.std.proofs.Common.{rules, sym, ap};
+ghost use Rattle.winnow_stream.specs.Checkpoint.{checkpoint_inner};
+ghost use Rattle.winnow_stream.specs.Source.{units};
+ghost use Rattle.winnow_stream.specs.Front.{front};
+ghost use Rattle.winnow_stream.specs.Units.{HasWidths-units, width-units};
+ghost use Rattle.winnow_match.specs.Bytes.{bytes_of};
+ghost use Rattle.winnow_match.specs.Comparison.{comparison};
+ghost use Rattle.winnow_match.specs.Search.{hit};
+ghost use Rattle.winnow_bytes.specs.ByteContents.{bytes_contents, upper_contents, lower_contents};
+ghost use Rattle.winnow_bytes.specs.Hex.{hex_text};
+
+use crate::{LowerBytes, UpperBytes};
+use std::alloc::{AllocError, Global};
+use std::cmp::Ordering;
+use std::fmt;
+use std::hash::{Hash, Hasher};
+use std::ops::Range;
+use winnow_kinds::{ByteLiteral, ByteNeedles};
+use winnow_match::{Compare, CompareResult, FindSlice};
+use winnow_stream::{
+    AsBytes, Checkpoint, Needed, Offset, Rest, SliceLen, SliceOffsets, Stream, StreamIsPartial,
+    UpdateSlice,
+};
+
+/// Bytes that are no text, as a stream: it streams as `&[u8]` does, and prints as hexadecimal digits.
+#[derive(Clone, Copy)]
+pub struct Bytes<'i> {
+    bytes: &'i [u8],
+}
+
+impl<'i> Bytes<'i> {
+    /// These bytes.
+    pub fn new(bytes: &'i [u8]) -> Self
+        ensures { bytes_contents result ≡ bytes.now }
+    {
+        Bytes { bytes }
+    }
+
+    /// The bytes that remain.
+    pub fn inner(&self) -> &'i [u8]
+        ensures { result.now ≡ bytes_contents self.now }
+    {
+        self.bytes
+    }
+
+    /// The byte at a place.
+    pub fn at(&self, i: usize) -> u8
+        requires { i < length (bytes_contents self.now) }
+        ensures { slice_get (bytes_contents self.now) i ≡ Some result }
+    {
+        self.bytes[i]
+    }
+
+    /// The bytes from place `a` up to place `b`.
+    pub fn slice(&self, a: usize, b: usize) -> Self
+        requires ordered { a ≤ b }
+        requires within { b ≤ length (bytes_contents self.now) }
+        ensures { bytes_contents result ≡ slice_range (bytes_contents self.now) a b }
+    {
+        Bytes::new(&self.bytes[a..b])
+    }
+
+    /// Whether these are the bytes.
+    pub fn eq_bytes(&self, bytes: &[u8]) -> bool
+        ensures { IsTrue result ↔ (bytes_contents self.now ≡ bytes.now) }
+    {
+        self.bytes == bytes
+    }
+
+    /// Whether these are the bytes of the text.
+    pub fn eq_str(&self, text: &str) -> bool
+        ensures { IsTrue result ↔ (bytes_contents self.now ≡ text.now) }
+    {
+        self.bytes == text.as_bytes()
+    }
+
+    /// How these stand to the bytes in the order of the first byte that differs.
+    pub fn cmp_bytes(&self, bytes: &[u8]) -> Ordering
+        ensures { result ≡ slice_cmp nat_cmp (bytes_contents self.now) bytes.now }
+    {
+        self.bytes.cmp(bytes)
+    }
+
+    /// How these stand to the bytes of the text in the order of the first byte that differs.
+    pub fn cmp_str(&self, text: &str) -> Ordering
+        ensures { result ≡ slice_cmp nat_cmp (bytes_contents self.now) text.now }
+    {
+        self.bytes.cmp(text.as_bytes())
+    }
+
+    /// A copy of the bytes.
+    pub fn to_vec(&self, alloc: Global) -> Result<Vec<u8>, AllocError>
+        ensures { IfOk result (λ v. v.items ≡ bytes_contents self.now) }
+    {
+        self.bytes.to_vec(alloc)
+    }
+
+    /// The same, to be printed in capital digits.
+    pub fn upper(&self) -> UpperBytes<'i>
+        ensures { upper_contents result ≡ bytes_contents self.now }
+    {
+        UpperBytes::new(self.bytes)
+    }
+
+    /// The same, to be printed in small digits.
+    pub fn lower(&self) -> LowerBytes<'i>
+        ensures { lower_contents result ≡ bytes_contents self.now }
+    {
+        LowerBytes::new(self.bytes)
+    }
+}
+
+impl<'i> Rest for Bytes<'i> {
+    ghost rest_width = { λ s. length (bytes_contents s) };
+}
+
+/// Each call is passed on to the bytes. Each byte has width 1.
+impl<'i> Stream for Bytes<'i> {
+    type Token = u8;
+
+    type Slice = &'i [u8];
+
+    type IterOffsets = SliceOffsets<'i, u8>;
+
+    type Checkpoint = Checkpoint<Bytes<'i>, Bytes<'i>>;
+
+    ghost remaining = { λ s. units (bytes_contents s) };
+
+    ghost valid = { λ _. ⊤ };
+
+    ghost remained = { λ c. units (bytes_contents (checkpoint_inner c)) };
+
+    ghost valid_checkpoint = { λ _. ⊤ };
+
+    ghost is_slice = { λ s r n. units s.now ≡ front r n };
+
+    ghost counts_missing = { true };
+
+    ghost keeps = { λ _ _. ⊤ };
+
+    ghost has_widths = { λ s _. HasWidths-units (bytes_contents s) };
+
+    ghost rest_width_remaining = { λ s _. sym (width-units (bytes_contents s)) };
+
+    ghost rest_width_remained = { λ c _. sym (width-units (bytes_contents (checkpoint_inner c))) };
+
+    ghost same_rest_remaining = { λ s t e. ap (λ v. units (bytes_contents v)) (sym e) };
+
+    ghost same_rest_valid = { λ _ _ _ _. tt };
+
+    ghost keeps_reflexive = { λ _. tt };
+
+    ghost keeps_transitive = { λ _ _ _ _ _. tt };
+
+    fn iter_offsets(&self) -> SliceOffsets<'i, u8> {
+        self.bytes.iter_offsets()
+    }
+
+    fn eof_offset(&self) -> usize {
+        self.bytes.eof_offset()
+    }
+
+    fn next_token(&mut self) -> Option<u8> {
+        self.bytes.next_token()
+    }
+
+    fn peek_token(&self) -> Option<u8> {
+        self.bytes.peek_token()
+    }
+
+    fn offset_at(&self, tokens: usize) -> Result<usize, Needed> {
+        self.bytes.offset_at(tokens)
+    }
+
+    fn is_offset(&self, offset: usize) -> bool {
+        self.bytes.is_offset(offset)
+    }
+
+    fn next_slice(&mut self, offset: usize) -> &'i [u8] {
+        self.bytes.next_slice(offset)
+    }
+
+    fn peek_slice(&self, offset: usize) -> &'i [u8] {
+        self.bytes.peek_slice(offset)
+    }
+
+    fn checkpoint(&self) -> Checkpoint<Bytes<'i>, Bytes<'i>> {
+        Checkpoint::new(*self)
+    }
+
+    fn reset(&mut self, checkpoint: &Checkpoint<Bytes<'i>, Bytes<'i>>) {
+        *self = *checkpoint.inner();
+    }
+
+    #[tactic(auto, using(winnow_stream::proofs::lemmas::UnitLemmas::units_steps))]
+    fn offset_since(&self, start: &Checkpoint<Bytes<'i>, Bytes<'i>>) -> usize {
+        start.inner().bytes.len() - self.bytes.len()
+    }
+}
+
+impl<'i> Offset<Bytes<'i>> for Bytes<'i> {
+    fn offset_from(&self, start: &Bytes<'i>) -> usize {
+        start.bytes.len() - self.bytes.len()
+    }
+}
+
+impl<'i> Offset<Checkpoint<Bytes<'i>, Bytes<'i>>> for Bytes<'i> {
+    fn offset_from(&self, start: &Checkpoint<Bytes<'i>, Bytes<'i>>) -> usize {
+        self.offset_from(start.inner())
+    }
+}
+
+impl SliceLen for Bytes<'_> {
+    ghost width_of = { λ s. length (bytes_contents s) };
+
+    fn slice_len(&self) -> usize {
+        self.bytes.len()
+    }
+}
+
+impl<'i> UpdateSlice for Bytes<'i> {
+    fn update_slice(self, inner: &'i [u8], _at: &Checkpoint<Bytes<'i>, Bytes<'i>>) -> Self {
+        Bytes::new(inner)
+    }
+}
+
+impl AsBytes for Bytes<'_> {
+    ghost bytes = { λ s. bytes_contents s };
+
+    fn as_bytes(&self) -> &[u8] {
+        self.bytes
+    }
+}
+
+impl StreamIsPartial for Bytes<'_> {
+    type PartialState = ();
+
+    ghost supports_partial = { false };
+
+    ghost partial_state = { λ _. tt };
+
+    ghost expects_more = { λ _. false };
+
+    ghost same_but_mark = { λ s t. s ≡ t };
+
+    ghost mark_tells = { λ _ _ _. refl };
+
+    ghost no_mark = { λ _ _. refl };
+
+    fn complete(&mut self) {}
+
+    fn restore_partial(&mut self, _state: ()) {}
+
+    // A function without `self` of an impl at a lifetime does not inherit the trait's clause.
+    fn is_partial_supported() -> bool
+        ensures { result ≡ false }
+    {
+        false
+    }
+
+    fn is_partial(&self) -> bool {
+        false
+    }
+}
+
+/// As the bytes are compared.
+#[tactic(auto, using(winnow_match::proofs::lemmas::OffsetLemmas::source_answers))]
+impl<T: ByteLiteral> Compare<T> for Bytes<'_> {
+    ghost compared = { λ literal r. comparison (T.literal_bytes literal) (bytes_of r) };
+
+    fn compare(&self, t: T) -> CompareResult {
+        t.compare_with(self.bytes)
+    }
+}
+
+/// As the bytes are searched.
+#[tactic(auto, using(winnow_match::proofs::lemmas::OffsetLemmas::source_answers))]
+impl<T: ByteNeedles> FindSlice<T> for Bytes<'_> {
+    ghost found = { λ needles r. hit (T.needle_bytes needles) (bytes_of r) };
+
+    fn find_slice(&self, substr: T) -> Option<Range<usize>> {
+        substr.find_in(self.bytes)
+    }
+}
+
+/// Two hexadecimal digits a byte, in capitals.
+impl fmt::Display for Bytes<'_> {
+    ghost output = { λ s. Some (hex_text true (bytes_contents s)) };
+
+    fn fmt<W: fmt::Write>(&self, f: &mut fmt::Formatter<W>) -> fmt::Result {
+        let upper = self.upper();
+        write!(f, "{upper}")
+    }
+}
+
+/// Two hexadecimal digits a byte, in capitals.
+impl fmt::Debug for Bytes<'_> {
+    ghost debug_output = { λ s. Some (hex_text true (bytes_contents s)) };
+
+    fn fmt<W: fmt::Write>(&self, f: &mut fmt::Formatter<W>) -> fmt::Result {
+        let upper = self.upper();
+        write!(f, "{upper}")
+    }
+}
+
+impl Default for Bytes<'_> {
+    ghost is_default = { λ s. bytes_contents s ≡ [] };
+
+    fn default() -> Self {
+        Bytes::new(b"")
+    }
+}
+
+impl<'i> From<&'i [u8]> for Bytes<'i> {
+    ghost from_gives = { λ bytes s. bytes_contents s ≡ bytes.now };
+
+    fn from(bytes: &'i [u8]) -> Self {
+        Bytes::new(bytes)
+    }
+}
+
+impl<'i> From<&'i str> for Bytes<'i> {
+    ghost from_gives = { λ text s. bytes_contents s ≡ text.now };
+
+    fn from(text: &'i str) -> Self {
+        Bytes::new(text.as_bytes())
+    }
+}
+
+impl<'i> From<Bytes<'i>> for &'i [u8] {
+    ghost from_gives = { λ s bytes. bytes.now ≡ bytes_contents s };
+
+    fn from(s: Bytes<'i>) -> Self {
+        s.bytes
+    }
+}
+
+impl PartialEq for Bytes<'_> {
+    ghost eq = { λ s t. pointwise nat_eq (bytes_contents s) (bytes_contents t) };
+
+    ghost laws = { on_per bytes_contents (partial_equiv_from_equiv nat_list_eq_equiv) };
+
+    fn eq(&self, other: &Self) -> bool {
+        self.bytes == other.bytes
+    }
+}
+
+impl Eq for Bytes<'_> {
+    ghost laws = { on_equiv bytes_contents nat_list_eq_equiv };
+}
+
+impl PartialOrd for Bytes<'_> {
+    ghost partial_cmp = { λ s t. Some (slice_cmp nat_cmp (bytes_contents s) (bytes_contents t)) };
+
+    ghost laws = { on_po bytes_contents texts_po };
+
+    fn partial_cmp(&self, other: &Self) -> Option<Ordering> {
+        Some(self.cmp(other))
+    }
+}
+
+impl Ord for Bytes<'_> {
+    ghost cmp = { λ s t. slice_cmp nat_cmp (bytes_contents s) (bytes_contents t) };
+
+    ghost total = { on_total bytes_contents nat_list_cmp_total };
+
+    ghost matches_partial_cmp = { λ s t. refl };
+
+    ghost matches_eq = { λ s t. texts_ties (bytes_contents s) (bytes_contents t) };
+
+    fn cmp(&self, other: &Self) -> Ordering {
+        self.bytes.cmp(other.bytes)
+    }
+}
+
+impl Hash for Bytes<'_> {
+    ghost hash_input = { λ s. fed.slice fed.u8 (bytes_contents s) };
+
+    ghost respects_eq = { Prim.search (hashing, rules) };
+
+    fn hash<H: Hasher>(&self, state: &mut H) {
+        self.bytes.hash(state);
+    }
+}

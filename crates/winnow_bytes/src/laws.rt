@@ -1,0 +1,23 @@
+ghost use Rattle.std.specs.Prelude.{◌≡◌, ◌↔◌, IsTrue};
+ghost use Rattle.std.specs.Cmp.Lexicographic.{slice_cmp};
+ghost use Rattle.std.specs.Ordering.{nat_cmp};
+ghost use Rattle.winnow_stream.specs.Checkpoint.{checkpoint_inner};
+ghost use Rattle.winnow_stream.specs.declared.checkpoint.Checkpoint.{Checkpoint};
+ghost use Rattle.winnow_bytes.specs.ByteContents.{bytes_contents};
+ghost use Rattle.winnow_bytes.specs.declared.bytes.Bytes.{Bytes};
+
+use crate::Bytes;
+use winnow_stream::Checkpoint;
+
+/// The law of equality: two values are equal exactly where they have the same contents, and two checkpoints where the same contents
+/// remained. It does nothing when called: its contract is the law.
+pub fn bytes_equality_law()
+    ensures values { (s t : Bytes) → IsTrue (⟦<Bytes<'static> as PartialEq>⟧.eq s t) ↔ (bytes_contents s ≡ bytes_contents t) }
+    ensures places { (c d : Checkpoint Bytes Bytes) → IsTrue (⟦<Checkpoint<Bytes<'static>, Bytes<'static>> as PartialEq>⟧.eq c d) ↔ (bytes_contents (checkpoint_inner c) ≡ bytes_contents (checkpoint_inner d)) }
+{}
+
+/// The law of order: checkpoints stand to each other as the contents that remained there, by the first byte that differs. It does
+/// nothing when called: its contract is the law.
+pub fn bytes_order_law()
+    ensures { (c d : Checkpoint Bytes Bytes) → ⟦<Checkpoint<Bytes<'static>, Bytes<'static>> as Ord>⟧.cmp c d ≡ slice_cmp nat_cmp (bytes_contents (checkpoint_inner c)) (bytes_contents (checkpoint_inner d)) }
+{}

@@ -1,0 +1,11 @@
+//! Bytes that are no text, as a stream: [`Bytes`] streams as a slice of bytes does, call for call, as `BStr` of the crate below,
+//! and prints two hexadecimal digits a byte.
+#![tactic(auto)]
+
+mod bytes;
+mod hex;
+mod laws;
+
+pub use bytes::Bytes;
+pub use hex::{LowerBytes, UpperBytes};
+pub use laws::{bytes_equality_law, bytes_order_law};

@@ -1,0 +1,2 @@
+pub mod ContextTextLemmas
+pub mod LineLemmas

@@ -1,0 +1,64 @@
+-- What a context prints, and an error that tells of several.
+use Rattle.std.specs.Prelude.{Bool, true, false, ℕ, List, [], ◌∷◌, ◌++◌, Option, Some, None, option_map, if◌then◌else◌, ◌==◌, codes, encode_utf8}
+use Rattle.std.specs.Char.{is_ascii_control}
+use Rattle.std.specs.Fmt.{digits}
+use Rattle.std.specs.List.{join_by}
+use Rattle.std.specs.Option.{option_to_list}
+use Rattle.winnow_context.specs.Explanation.{Explanation}
+use Rattle.winnow_context.specs.declared.str_context.StrContext.{StrContext}
+use Rattle.winnow_context.specs.declared.str_context.StrContext.TheVariants.{Label, Expected}
+use Rattle.winnow_context.specs.declared.str_context.StrContextValue.{StrContextValue}
+use Rattle.winnow_context.specs.declared.str_context.StrContextValue.TheVariants.{CharLiteral, StringLiteral, Description}
+
+-- a control character of ASCII, escaped
+abbrev pub escape : ℕ → List ℕ
+escape c = if c == 0 then codes "\\0" else (if c == 9 then codes "\\t" else (if c == 13 then codes "\\r" else (if c == 10 then codes "\\n" else codes "\\u{" ++ digits 16 false c ++ codes "}")))
+
+-- a character: a newline in words, a backtick between apostrophes, any other between backticks, a control escaped
+abbrev pub char_text : ℕ → List ℕ
+char_text c = if c == 10 then codes "newline" else (if c == 96 then codes "'`'" else (if is_ascii_control c then codes "`" ++ escape c ++ codes "`" else codes "`" ++ encode_utf8 c ++ codes "`"))
+
+-- what would have been taken: a literal between backticks, a description bare
+abbrev pub value_text : StrContextValue → List ℕ
+value_text (CharLiteral c) = char_text c
+value_text (StringLiteral s) = codes "`" ++ s.now ++ codes "`"
+value_text (Description s) = s.now
+
+-- a context on its own
+abbrev pub context_text : StrContext → List ℕ
+context_text (Label s) = codes "invalid " ++ s.now
+context_text (Expected v) = codes "expected " ++ value_text v
+
+-- the first label, if there is one
+abbrev pub first_label : List StrContext → Option (List ℕ)
+first_label [] = None
+first_label (Label s ∷ cs) = Some s.now
+first_label (Expected v ∷ cs) = first_label cs
+
+-- the values that were expected, in order
+abbrev pub expected : List StrContext → List StrContextValue
+expected [] = []
+expected (Label s ∷ cs) = expected cs
+expected (Expected v ∷ cs) = v ∷ expected cs
+
+-- there are some
+abbrev pub is_any : {A : Type 0} → List A → Bool
+is_any [] = false
+is_any (x ∷ xs) = true
+
+-- the values between commas
+abbrev pub values_text : List StrContextValue → List ℕ
+values_text vs = join_by value_text (codes ", ") vs
+
+-- the line of the expected values, if there are any
+abbrev pub expected_line : List StrContextValue → List (List ℕ)
+expected_line [] = []
+expected_line (v ∷ vs) = (codes "expected " ++ values_text (v ∷ vs)) ∷ []
+
+-- the lines: the first label, all expected values, and the cause, of these what there is
+abbrev pub explanation_lines : Option (List ℕ) → List StrContextValue → Option (List ℕ) → List (List ℕ)
+explanation_lines label vs cause = option_to_list (option_map (λ l. codes "invalid " ++ l) label) ++ expected_line vs ++ option_to_list cause
+
+-- the lines, with a newline between each two
+abbrev pub explanation_text : Explanation StrContext → List ℕ
+explanation_text e = join_by (λ line. line) (codes "\n") (explanation_lines (first_label e.contexts) (expected e.contexts) e.cause)

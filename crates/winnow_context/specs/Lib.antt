@@ -1,0 +1,3 @@
+pub mod Explanation
+pub mod ContextText
+pub mod Line

@@ -1,0 +1,110 @@
+ghost use Rattle.std.specs.Prelude.{◌≡◌, Some};
+ghost use Rattle.winnow_context.specs.ContextText.{value_text, context_text, char_text, escape};
+ghost use Rattle.winnow_context.specs.declared.str_context.StrContextValue.TheVariants.{CharLiteral, StringLiteral};
+
+use std::fmt;
+
+/// What a parser was reading, or what it would have taken.
+#[derive(Clone, Debug, PartialEq, Eq, Drop)]
+pub enum StrContext {
+    /// What was being read, as `number`
+    Label(&'static str),
+    /// What would have been taken
+    Expected(StrContextValue),
+}
+
+/// What a parser would have taken.
+#[derive(Clone, Debug, PartialEq, Eq, Drop)]
+pub enum StrContextValue {
+    /// A character
+    CharLiteral(char),
+    /// A literal text
+    StringLiteral(&'static str),
+    /// What else it is, in words, as `a digit`
+    Description(&'static str),
+}
+
+impl From<char> for StrContextValue {
+    ghost from_gives = { λ c v. v ≡ CharLiteral c };
+
+    fn from(c: char) -> Self {
+        StrContextValue::CharLiteral(c)
+    }
+}
+
+impl From<&'static str> for StrContextValue {
+    ghost from_gives = { λ text v. v ≡ StringLiteral text };
+
+    fn from(text: &'static str) -> Self {
+        StrContextValue::StringLiteral(text)
+    }
+}
+
+/// A control character of ASCII, escaped.
+#[derive(Drop)]
+struct Escaped(char);
+
+impl fmt::Display for Escaped {
+    ghost output = { λ c. Some (escape c.0) };
+
+    fn fmt<W: fmt::Write>(&self, f: &mut fmt::Formatter<W>) -> fmt::Result {
+        match self.0 {
+            '\0' => write!(f, "\\0"),
+            '\t' => write!(f, "\\t"),
+            '\r' => write!(f, "\\r"),
+            '\n' => write!(f, "\\n"),
+            other => {
+                let code = other as u32;
+                write!(f, "\\u{{{code:x}}}")
+            }
+        }
+    }
+}
+
+/// A character that would have been taken.
+#[derive(Drop)]
+struct Quoted(char);
+
+impl fmt::Display for Quoted {
+    ghost output = { λ c. Some (char_text c.0) };
+
+    fn fmt<W: fmt::Write>(&self, f: &mut fmt::Formatter<W>) -> fmt::Result {
+        let c = self.0;
+        if c == '\n' {
+            write!(f, "newline")
+        } else if c == '`' {
+            write!(f, "'`'")
+        } else if c.is_ascii_control() {
+            let escaped = Escaped(c);
+            write!(f, "`{escaped}`")
+        } else {
+            write!(f, "`{c}`")
+        }
+    }
+}
+
+impl fmt::Display for StrContextValue {
+    ghost output = { λ v. Some (value_text v) };
+
+    fn fmt<W: fmt::Write>(&self, f: &mut fmt::Formatter<W>) -> fmt::Result {
+        match self {
+            StrContextValue::CharLiteral(c) => {
+                let quoted = Quoted(*c);
+                write!(f, "{quoted}")
+            }
+            StrContextValue::StringLiteral(text) => write!(f, "`{text}`"),
+            StrContextValue::Description(text) => write!(f, "{text}"),
+        }
+    }
+}
+
+impl fmt::Display for StrContext {
+    ghost output = { λ c. Some (context_text c) };
+
+    fn fmt<W: fmt::Write>(&self, f: &mut fmt::Formatter<W>) -> fmt::Result {
+        match self {
+            StrContext::Label(label) => write!(f, "invalid {label}"),
+            StrContext::Expected(value) => write!(f, "expected {value}"),
+        }
+    }
+}

@@ -1,7 +1,0 @@
-use Rattle.std.proofs.Common.{◌≡◌, drop}
-use Rattle.winnow_error.specs.ContextText.{expected}
-use Rattle.winnow_error.proofs.context_text.is_any_expected.Given as goal
-
--- nothing that was expected has come so far
-abbrev pub invariant-loop-context : goal.invariant-loop-context
-invariant-loop-context l = expected (drop l.context-index l.contexts) ≡ expected l.contexts
