@@ -1,0 +1,4 @@
+pub mod Position
+pub mod CharSpan
+pub mod Failure
+pub mod ParseErrorText

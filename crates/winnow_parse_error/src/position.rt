@@ -1,0 +1,65 @@
+ghost use Rattle.std.specs.Prelude.{◌≡◌, ◌<◌, ◌≤◌, ℕ, suc, true, length, slice_index, count_by};
+ghost use Rattle.std.specs.Str.{chars};
+ghost use Rattle.winnow_parse_error.specs.Position.{is_newline, line_start, last_column, line_of, column_of};
+
+use memchr::{memchr_iter, memrchr};
+use std::str;
+
+/// Where the line begins that goes on behind the bytes.
+pub(crate) fn line_start(before: &[u8]) -> usize
+    ensures start { result ≡ line_start before.now }
+    ensures within { result ≤ length before.now }
+    ensures on_line { (k : ℕ) → result ≤ k → k < length before.now
+        → ¬ (is_newline (slice_index before.now k) ≡ true) }
+    ensures behind_newline { (k : ℕ) → result ≡ suc k
+        → is_newline (slice_index before.now k) ≡ true }
+{
+    match memrchr(b'\n', before) {
+        Some(newline) => newline + 1,
+        None => 0,
+    }
+}
+
+pub(crate) fn count_newlines(bytes: &[u8]) -> usize
+    ensures { result ≡ count_by is_newline bytes.now }
+{
+    memchr_iter(b'\n', bytes).count()
+}
+
+fn count_chars(text: &str) -> usize
+    ensures count { result ≡ length (chars text.now) }
+    ensures some { 0 < length text.now → 0 < result }
+    ensures within { result ≤ length text.now }
+{
+    text.chars().count()
+}
+
+/// The column of the last character of a part of a line, or of its last byte where it is no text.
+fn last_column(part: &[u8]) -> usize
+    requires { 0 < length part.now }
+    ensures column { result ≡ last_column part.now }
+    ensures within { result < length part.now }
+{
+    match str::from_utf8(part) {
+        Ok(text) => count_chars(text) - 1,
+        Err(_) => part.len() - 1,
+    }
+}
+
+/// Returns the line and the column of an offset, both counted from 0.
+///
+/// A column counts characters, but where the line up to the offset is no text, as inside a longer character, it counts bytes. An
+/// offset behind the last byte is told on that byte's line, also where that byte is a newline.
+pub fn translate_position(input: &[u8], index: usize) -> (usize, usize)
+    ensures line { result.0 ≡ line_of input.now index }
+    ensures column { result.1 ≡ column_of input.now index }
+{
+    if input.is_empty() {
+        return (0, index);
+    }
+    let place = index.min(input.len() - 1);
+    let before = &input[..place];
+    let line = count_newlines(before);
+    let column = last_column(&input[line_start(before)..place + 1]);
+    (line, column + (index - place))
+}

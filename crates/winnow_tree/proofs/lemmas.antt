@@ -1,0 +1,4 @@
+pub mod AbbreviationLemmas
+pub mod EntryLemmas
+pub mod MapLemmas
+pub mod TreeTextLemmas

@@ -1,0 +1,6 @@
+use Rattle.winnow_tree.proofs.lemmas.TreeTextLemmas.{frames_more}
+use Rattle.winnow_tree.proofs.text.write_frames.Goals as goal
+
+pub loop-level-preserved : goal.loop-level-preserved
+loop-level-preserved g c =
+    frames_more g.I.Display.output g.C.Display.output c.args.indent.now c.args.frames.now c.loop-level.level c.index-frames-level.result c.loop-level-test.true c.index-frames-level.is _ _ _ c.loop-level.invariant c.in_ok-write_frame_line.ensures

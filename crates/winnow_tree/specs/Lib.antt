@@ -1,0 +1,5 @@
+pub mod TreeContents
+pub mod Maps
+pub mod Entries
+pub mod Abbreviation
+pub mod TreeText

@@ -1,0 +1,52 @@
+-- What a tree of errors tells: its inputs, causes and contexts, and nothing of the room that they take.
+use Rattle.std.specs.Prelude.{◌≡◌, ℕ, List, [], ◌∷◌, ◌++◌, Option, map, option_map, string_bytes}
+use Rattle.winnow_tree.specs.declared.parts.TreeErrorFrame.{TreeErrorFrame}
+use Rattle.winnow_tree.specs.declared.parts.TreeErrorFrame.TheVariants.{Kind, Context}
+use Rattle.winnow_tree.specs.declared.tree.TreeError.{TreeError, fold-TreeError}
+use Rattle.winnow_tree.specs.declared.tree.TreeError.TheOpen.{TreeError-F, Base, Stack, Alt}
+
+-- a frame: an input with the text of a cause, or with a context
+pub data Frame (I : Type 0) (C : Type 0) : Type 0 where
+  kind : I → Option (List ℕ) → Frame I C
+  context : I → C → Frame I C
+
+-- a tree: an input with the text of a cause, an error under frames, or alternatives
+mutual
+  pub data Tree (I : Type 0) (C : Type 0) : Type 0 where
+    base : I → Option (List ℕ) → Tree I C
+    stack : Tree I C → List (Frame I C) → Tree I C
+    alt : Trees I C → Tree I C
+
+  pub data Trees (I : Type 0) (C : Type 0) : Type 0 where
+    none : Trees I C
+    more : Tree I C → Trees I C → Trees I C
+
+-- the trees of a list
+abbrev pub trees_of : {I C : Type 0} → List (Tree I C) → Trees I C
+trees_of [] = none
+trees_of (t ∷ ts) = more t (trees_of ts)
+
+-- what a frame tells
+abbrev pub frame_contents : {I C : Type 0} → TreeErrorFrame I C → Frame I C
+frame_contents (Kind b) = kind b.input (option_map string_bytes b.cause)
+frame_contents (Context c) = context c.input c.context
+
+-- what a layer tells, by what the errors in it tell
+abbrev pub layer_contents : {I C : Type 0} → TreeError-F I C (Tree I C) → Tree I C
+layer_contents (Base b) = base b.input (option_map string_bytes b.cause)
+layer_contents (Stack b s) = stack b.value (map frame_contents s.items)
+layer_contents (Alt v) = alt (trees_of v.items)
+
+-- what a tree tells
+abbrev pub tree_contents : {I C : Type 0} → TreeError I C → Tree I C
+tree_contents {I} {C} = fold-TreeError I C (Tree I C) layer_contents
+
+-- one more frame: behind those that an error has, or alone over an error that has none
+abbrev pub with_frame : {I C : Type 0} → Frame I C → Tree I C → Tree I C
+with_frame f (base i c) = stack (base i c) (f ∷ [])
+with_frame f (stack t fs) = stack t (fs ++ f ∷ [])
+with_frame f (alt ts) = stack (alt ts) (f ∷ [])
+
+-- r has one frame more than a tree, at the input as it stood where `there` remained
+abbrev pub PushedAt : {I C S : Type 0} → (I → S) → (I → Type 0) → (I → I → Type 0) → I → S → (I → Frame I C) → Tree I C → TreeError I C → Type 0
+PushedAt {I} remaining valid keeps input there frame t r = (at : I) × ((remaining at ≡ there) × valid at × keeps input at × (tree_contents r ≡ with_frame (frame at) t))

@@ -1,0 +1,4 @@
+mod other_inputs;
+mod parse_errors;
+mod parts;
+mod trees;

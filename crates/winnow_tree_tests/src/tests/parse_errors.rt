@@ -1,0 +1,96 @@
+use crate::failing::fail_at;
+use std::test::Fail;
+use winnow_error::{EmptyError, InputError};
+use winnow_parse_error::translate_position;
+
+#[test]
+fn texts_of_parse_errors(rt: HostRuntime) -> Result<(), Fail> {
+    let rows = [
+        (
+            "ab\ncd\n",
+            4,
+            "parse error at line 2, column 2\n  |\n2 | cd\n  |  ^\nfailed to parse",
+        ),
+        (
+            "ab\n",
+            3,
+            "parse error at line 1, column 4\n  |\n1 | ab\n  |    ^\nfailed to parse",
+        ),
+        (
+            "\n\n\n\n\n\n\n\n\nx",
+            9,
+            "parse error at line 10, column 1\n   |\n10 | x\n   | ^\nfailed to parse",
+        ),
+    ];
+    for (text, offset, wanted) in rows {
+        let error = fail_at::<&str, EmptyError>(rt.alloc(), text, offset);
+        assert_eq!(rt; format!(in rt.alloc(); "{error}")?.as_str(), wanted);
+    }
+    let error = fail_at::<&str, InputError<&str>>(rt.alloc(), "0xZ123", 2);
+    assert_eq!(rt;
+        format!(in rt.alloc(); "{error}")?.as_str(),
+        "0xZ123\n  ^\nfailed to parse starting at: Z123"
+    );
+    Ok(())
+}
+
+#[test]
+fn texts_over_damaged_bytes(rt: HostRuntime) -> Result<(), Fail> {
+    let rows: [(&[u8], usize, &str); 2] = [
+        (
+            b"\xff\n\xc3",
+            2,
+            "parse error at line 2, column 1\n  |\n2 | \u{FFFD}\n  | ^\nfailed to parse",
+        ),
+        (b"\xe2\x82", 1, "\u{FFFD}\n ^\nfailed to parse"),
+    ];
+    for (bytes, offset, wanted) in rows {
+        let error = fail_at::<&[u8], EmptyError>(rt.alloc(), bytes, offset);
+        assert_eq!(rt; format!(in rt.alloc(); "{error}")?.as_str(), wanted);
+    }
+    Ok(())
+}
+
+#[test]
+fn spans(rt: HostRuntime) {
+    let rows: [(&[u8], usize, usize, usize); 8] = [
+        ("βèƒôřè".as_bytes(), 0, 0, 2),
+        ("βèƒôřè".as_bytes(), 1, 0, 2),
+        ("βèƒôřè".as_bytes(), 2, 2, 4),
+        ("βèƒôřè".as_bytes(), 11, 10, 12),
+        ("βèƒôřè".as_bytes(), 12, 12, 12),
+        (b"\x80\x80a", 1, 0, 2),
+        (b"\x80\x80a", 2, 2, 3),
+        (b"\x80\x80a", 3, 3, 3),
+    ];
+    for (bytes, offset, start, end) in rows {
+        let error = fail_at::<&[u8], EmptyError>(rt.alloc(), bytes, offset);
+        let span = error.char_span();
+        assert_eq!(rt; (span.start, span.end), (start, end), "at {offset}");
+    }
+}
+
+#[test]
+fn positions(rt: HostRuntime) {
+    let rows: [(&[u8], usize, (usize, usize)); 6] = [
+        ("a\nééb".as_bytes(), 4, (1, 2)),
+        ("a\nééb".as_bytes(), 5, (1, 1)),
+        ("a\nééb".as_bytes(), 6, (1, 2)),
+        (b"", 0, (0, 0)),
+        (b"Hello", 5, (0, 5)),
+        (b"a\nb", usize::MAX, (1, usize::MAX - 2)),
+    ];
+    for (bytes, offset, wanted) in rows {
+        assert_eq!(rt; translate_position(bytes, offset), wanted, "at {offset}");
+    }
+}
+
+#[test]
+fn what_a_parse_error_holds(rt: HostRuntime) {
+    let error = fail_at::<&str, InputError<&str>>(rt.alloc(), "abc", 1);
+    assert_eq!(rt;
+        (*error.input(), error.offset(), error.inner().input),
+        ("abc", 1, "bc")
+    );
+    assert_eq!(rt; error.into_inner().input, "bc");
+}
