@@ -1,0 +1,3 @@
+//! What reads bytes as something else.
+
+pub mod bits;

@@ -1,0 +1,25 @@
+//! Streams, their wrappers, and what parsers do with them.
+
+pub use winnow_bytes::{Bytes, LowerBytes, UpperBytes, bytes_equality_law, bytes_order_law};
+pub use winnow_count::{
+    Accumulate, ParseSlice, Range, Readable, ToUsize, accumulate_all, range_law,
+};
+pub use winnow_feed::{ByteFeed, Finished, TextFeed, Told, run_pieces, run_pieces_text};
+pub use winnow_kinds::{BStr, ByteLiteral, ByteNeedles, text_equality_law, text_order_law};
+pub use winnow_match::{
+    Compare, CompareResult, FindSlice, Needles, Stretch, compare_law, compare_more_law,
+    definite_hit_law, find_law, find_more_law, shortage_law, stretch, stretch_law,
+};
+pub use winnow_recover::{RecordError, Recover, Recoverable};
+pub use winnow_run::{
+    Answer, PieceAnswer, SearchAnswer, SearchStep, Step, definite_law, run, run_and_reset,
+    run_search,
+};
+pub use winnow_sets::{AsChar, CharSet, ContainsToken, Where, union_law};
+pub use winnow_stream::{
+    AsBStr, AsBytes, Checkpoint, Location, Needed, NoSet, Offset, Rest, ScriptSet, SliceLen,
+    SliceOffsets, Str, Stream, StreamIsPartial, UpdateSlice, checkpoint_equality_law, front_law,
+    offset_law,
+};
+pub use winnow_views::{PreviousTokens, TokenOffsets, TokenSlice, TokenView, token_equality_law};
+pub use winnow_wrap::{LocatingSlice, Partial, Placed, Stateful};
