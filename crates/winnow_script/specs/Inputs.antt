@@ -1,22 +1,17 @@
--- The line of the input.
-use Rattle.std.specs.Prelude.{◌≡◌, ℕ, List, codes, string_bytes}
+-- The lines of the kind and of the input.
+use Rattle.std.specs.Prelude.{◌≡◌, ℕ, List, codes}
 use Rattle.winnow_script.specs.Literal.{TellsBytes}
-use Rattle.winnow_script.specs.Steps.{first_word, second_word}
-use Rattle.winnow_script.specs.declared.parsing.Input.{Input}
-use Rattle.winnow_script.specs.declared.parsing.Input.TheVariants as input
-use Rattle.winnow_script.specs.declared.parsing.Kind.{Kind}
-use Rattle.winnow_script.specs.declared.parsing.Kind.TheVariants as kind
+use Rattle.winnow_script.specs.Words.{first_word, later_words}
+use Rattle.winnow_script.specs.declared.inputs.Kind.{Kind}
+use Rattle.winnow_script.specs.declared.inputs.Kind.TheVariants.{Bytes, Text, BytePieces, TextPieces}
 
--- the kind of an input
-abbrev pub kind_of : Input → Kind
-kind_of (input.Bytes bytes) = kind.Bytes
-kind_of (input.Text text) = kind.Text
+-- the word for a kind of input
+abbrev pub kind_word : Kind → List ℕ
+kind_word Bytes = codes "bytes"
+kind_word Text = codes "text"
+kind_word BytePieces = codes "byte-pieces"
+kind_word TextPieces = codes "text-pieces"
 
--- its bytes
-abbrev pub bytes_of : Input → List ℕ
-bytes_of (input.Bytes bytes) = bytes.items
-bytes_of (input.Text text) = string_bytes text
-
--- the input of a kind that a line tells: the word `input`, a space, and the word of its bytes
-abbrev pub TellsInput : Kind → List ℕ → Input → Type 0
-TellsInput kind line input = (first_word line ≡ codes "input") × TellsBytes (second_word line) (bytes_of input) × (kind_of input ≡ kind)
+-- the bytes that a line of this name tells: the name, a space, and the word of the bytes
+abbrev pub TellsNamed : {L : Type 0} → (L → List ℕ) → List ℕ → List ℕ → L → Type 0
+TellsNamed bytes name line literal = (first_word line ≡ name) × TellsBytes (later_words line) (bytes literal)

@@ -2,7 +2,8 @@ pub mod Literal
 pub mod Fault
 pub mod Newline
 pub mod Lines
+pub mod Words
 pub mod Failure
 pub mod Steps
-pub mod Kinds
 pub mod Inputs
+pub mod Lending

@@ -1,41 +1,42 @@
 -- The words of step lines.
-use Rattle.std.specs.Prelude.{◌≡◌, ◌⊎◌, ◌==◌, Bool, ℕ, cond, List, [], ◌∷◌, codes, Option, Some, None}
-use Rattle.std.specs.List.{before_first, after_first}
+use Rattle.std.specs.Prelude.{◌≡◌, ◌⊎◌, ℕ, cond, List, [], ◌∷◌, codes, Option, Some, None}
 use Rattle.std.specs.Str.{bytes_eq}
-use Rattle.std.specs.Str.Parse.{IsNumeral, digits_value}
-use Rattle.winnow_stream.specs.declared.script.Step.{Step}
-use Rattle.winnow_stream.specs.declared.script.Step.TheVariants as step
-use Rattle.winnow_stream.specs.declared.script.NoSet.{NoSet}
+use Rattle.winnow_base.specs.Step.{Step}
+use Rattle.winnow_base.specs.Step.TheVariants as step
+use Rattle.winnow_base.specs.CharSet.{CharSet}
+use Rattle.winnow_script.specs.Literal.{TellsBytes}
+use Rattle.winnow_script.specs.Words.{first_word, later_words, TellsNumber, TellsRanges, TellsNeedles}
+use Rattle.winnow_script.specs.declared.steps.ScriptStep.{ScriptStep}
+use Rattle.winnow_script.specs.declared.steps.ScriptStep.TheVariants.{Call, First, Compare, Find}
 
 -- what stands beside a word in a table
 abbrev pub entry : {T : Type 0} → List (List ℕ × T) → List ℕ → Option T
 entry [] word = None
 entry (row ∷ rows) word = cond (bytes_eq word row.0) (Some row.1) (entry rows word)
 
--- the steps of one word
-abbrev pub plain_steps : List (List ℕ × Step NoSet)
-plain_steps =
+-- the calls of one word
+abbrev pub plain_calls : List (List ℕ × Step CharSet)
+plain_calls =
     (codes "next", step.Next) ∷ (codes "peek", step.Peek) ∷ (codes "finish", step.Finish)
     ∷ (codes "peek-finish", step.PeekFinish) ∷ (codes "eof", step.Eof) ∷ (codes "each", step.Each)
     ∷ (codes "mark", step.Mark) ∷ []
 
--- the steps of a word and a number
-abbrev pub numbered_steps : ℕ → List (List ℕ × Step NoSet)
-numbered_steps number =
+-- the calls of a word and a number
+abbrev pub numbered_calls : ℕ → List (List ℕ × Step CharSet)
+numbered_calls number =
     (codes "take", step.Take number) ∷ (codes "look", step.Look number) ∷ (codes "at", step.At number)
     ∷ (codes "is", step.IsOffset number) ∷ (codes "reset", step.Reset number) ∷ (codes "since", step.Since number) ∷ []
 
-abbrev pub is_space : ℕ → Bool
-is_space byte = byte == 32
+-- the call that a line tells: by the whole line, or by its first word and the number behind it
+abbrev pub TellsCall : List ℕ → Step CharSet → Type 0
+TellsCall line call =
+    (entry plain_calls line ≡ Some call)
+    ⊎ ((number : ℕ) × TellsNumber (later_words line) number × (entry (numbered_calls number) (first_word line) ≡ Some call))
 
--- the first word of a line
-abbrev pub first_word : List ℕ → List ℕ
-first_word line = before_first is_space line
-
--- what follows the first space
-abbrev pub second_word : List ℕ → List ℕ
-second_word line = after_first is_space line
-
--- the step that a line tells: by the whole line, or by its first word and the number behind it
-abbrev pub TellsStep : List ℕ → Step NoSet → Type 0
-TellsStep line step = (entry plain_steps line ≡ Some step) ⊎ (IsNumeral 10 (second_word line) × (entry (numbered_steps (digits_value 10 (second_word line))) (first_word line) ≡ Some step))
+-- the step that a line tells, whose literals have these bytes
+module _ {L : Type 0} (bytes : L → List ℕ) where
+  abbrev pub TellsStep : List ℕ → ScriptStep L → Type 0
+  TellsStep line (Call call) = TellsCall line call
+  TellsStep line (First ranges) = (first_word line ≡ codes "first") × TellsRanges (later_words line) ranges.items
+  TellsStep line (Compare literal) = (first_word line ≡ codes "compare") × TellsBytes (later_words line) (bytes literal)
+  TellsStep line (Find needles) = (first_word line ≡ codes "find") × TellsNeedles bytes (later_words line) needles

@@ -1,6 +1,7 @@
 //! Runs a script of stream calls, given as lines on standard input, and prints the answers as lines.
 //!
-//! The first line names the kind of the input, the last one holds the input, and each line between is a step:
+//! The first line names the kind of the input, and each line behind it is a step, up to the input: one line, or, of a
+//! kind of pieces, one for each piece.
 //!
 //! ```text
 //! bytes
@@ -9,19 +10,26 @@
 //! input 616263
 //! ```
 //!
-//! prints `token 97` and `at needs 3`. The whole script is read and run before anything is printed. The status is 0, or
+//! prints `token 97` and `at needs 3`. Over pieces, a line begins with the number of the piece that let the answer out,
+//! or with `end`.
+//!
+//! The whole script is read and run before anything is printed. The status is 0, or
 //! 2 where a line is faulty, 3 where memory ran out, and 4 where reading or writing failed.
 #![tactic(auto)]
 
+mod contents;
 mod execution;
 mod fault;
+mod inputs;
+mod lending;
 mod lines;
 mod literals;
-mod parsing;
 mod printing;
 mod program;
+mod steps;
 #[cfg(test)]
 mod tests;
+mod words;
 
 pub use execution::execute;
 pub use fault::ScriptFault;

@@ -1,21 +1,78 @@
-use std::alloc::{AllocError, Global};
-use std::convert::AsSlice;
-use winnow_stream::{Answer, Needed};
+use std::alloc::AllocError;
+use std::ops::Range;
+use winnow_base::stream::{Answer, AsChar, Bytes, CompareResult, Needed, SearchAnswer, Told};
 
-/// Adds the line of an answer to a text: tokens as numbers, slices as lower-case hexadecimal digits.
-pub fn push_answer<T: Into<u32> + Drop, S: AsSlice<u8> + Drop>(
-    alloc: Global,
+/// What stands behind the word of a slice or of items: a space before each word.
+pub trait PushWords {
+    fn push_words(&self, text: &mut String) -> Result<(), AllocError>;
+}
+
+impl PushWords for &[u8] {
+    fn push_words(&self, text: &mut String) -> Result<(), AllocError> {
+        if self.is_empty() {
+            return text.push_str(" -");
+        }
+        write!(text, " {}", Bytes::new(self).lower())
+    }
+}
+
+impl PushWords for &str {
+    fn push_words(&self, text: &mut String) -> Result<(), AllocError> {
+        self.as_bytes().push_words(text)
+    }
+}
+
+impl<T: AsChar + Copy> PushWords for Vec<(usize, T)> {
+    fn push_words(&self, text: &mut String) -> Result<(), AllocError> {
+        for (offset, token) in self {
+            let number = token.as_char() as u32;
+            write!(text, " {offset}:{number}")?;
+        }
+        Ok(())
+    }
+}
+
+impl PushWords for Range<usize> {
+    fn push_words(&self, text: &mut String) -> Result<(), AllocError> {
+        let start = self.start;
+        let end = self.end;
+        write!(text, " {start}..{end}")
+    }
+}
+
+/// Adds the line of an answer over pieces: the number of the piece that let it out, or `end`, and the answer.
+pub fn push_told<T: AsChar + Copy>(text: &mut String, told: &Told<T>) -> Result<(), AllocError> {
+    match told.piece {
+        Some(number) => write!(text, "{number} ")?,
+        None => text.push_str("end ")?,
+    }
+    push_answer(text, &told.answer)
+}
+
+/// Adds the line of an answer.
+pub fn push_answer<T: AsChar + Copy, S: PushWords, L: PushWords>(
     text: &mut String,
-    answer: Answer<T, S, Vec<(usize, T)>>,
+    answer: &SearchAnswer<T, S, L>,
 ) -> Result<(), AllocError> {
     match answer {
-        Answer::Token(token) => push_token(text, token),
-        Answer::Slice(slice) => push_slice(alloc, text, slice),
+        SearchAnswer::Call(answer) => push_call(text, answer),
+        SearchAnswer::Compared(compared) => push_compared(text, compared),
+        SearchAnswer::Hit(hit) => push_hit(text, hit),
+    }
+}
+
+fn push_call<T: AsChar + Copy, S: PushWords, L: PushWords>(
+    text: &mut String,
+    answer: &Answer<T, S, L>,
+) -> Result<(), AllocError> {
+    match answer {
+        Answer::Token(token) => push_token(text, *token),
+        Answer::Slice(slice) => push_words(text, "slice", slice),
         Answer::Offset(width) => writeln!(text, "offset {width}"),
-        Answer::At(offset) => push_at(text, offset),
+        Answer::At(offset) => push_at(text, *offset),
         Answer::Flag(flag) => writeln!(text, "is {flag}"),
-        Answer::First(offset) => push_first(text, offset),
-        Answer::Items(items) => push_items(text, items),
+        Answer::First(offset) => push_first(text, *offset),
+        Answer::Items(items) => push_words(text, "items", items),
         Answer::Marked(number) => writeln!(text, "mark {number}"),
         Answer::Done => writeln!(text, "done"),
         Answer::BadOffset => writeln!(text, "bad offset"),
@@ -24,26 +81,20 @@ pub fn push_answer<T: Into<u32> + Drop, S: AsSlice<u8> + Drop>(
     }
 }
 
-fn push_token<T: Into<u32>>(text: &mut String, token: Option<T>) -> Result<(), AllocError> {
+fn push_words<W: PushWords>(text: &mut String, name: &str, words: &W) -> Result<(), AllocError> {
+    text.push_str(name)?;
+    words.push_words(text)?;
+    text.push('\n')
+}
+
+fn push_token<T: AsChar>(text: &mut String, token: Option<T>) -> Result<(), AllocError> {
     match token {
         Some(token) => {
-            let number: u32 = token.into();
+            let number = token.as_char() as u32;
             writeln!(text, "token {number}")
         }
         None => writeln!(text, "token none"),
     }
-}
-
-fn push_slice<S: AsSlice<u8> + Drop>(
-    alloc: Global,
-    text: &mut String,
-    slice: S,
-) -> Result<(), AllocError> {
-    if slice.as_slice().is_empty() {
-        return writeln!(text, "slice -");
-    }
-    let digits = hex::encode(alloc, slice)?;
-    writeln!(text, "slice {digits}")
 }
 
 fn push_at(text: &mut String, offset: Result<usize, Needed>) -> Result<(), AllocError> {
@@ -61,14 +112,17 @@ fn push_first(text: &mut String, offset: Option<usize>) -> Result<(), AllocError
     }
 }
 
-fn push_items<T: Into<u32> + Drop>(
-    text: &mut String,
-    items: Vec<(usize, T)>,
-) -> Result<(), AllocError> {
-    text.push_str("items")?;
-    for (offset, token) in items {
-        let number: u32 = token.into();
-        write!(text, " {offset}:{number}")?;
+fn push_compared(text: &mut String, compared: &CompareResult) -> Result<(), AllocError> {
+    match compared {
+        CompareResult::Ok(width) => writeln!(text, "compare ok {width}"),
+        CompareResult::Incomplete => writeln!(text, "compare incomplete"),
+        CompareResult::Error => writeln!(text, "compare error"),
     }
-    text.push('\n')
+}
+
+fn push_hit(text: &mut String, hit: &Option<Range<usize>>) -> Result<(), AllocError> {
+    match hit {
+        Some(place) => push_words(text, "find", place),
+        None => writeln!(text, "find none"),
+    }
 }

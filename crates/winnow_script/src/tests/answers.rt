@@ -45,6 +45,16 @@ fn steps_on_bytes(rt: HostRuntime) -> Result<(), Fail> {
             "bytes\nat 18446744073709551615\ntake 18446744073709551615\nis 18446744073709551615\nreset 18446744073709551615\ninput 616263\n",
             "at needs 18446744073709551612\nbad offset\nis false\nno mark\n",
         ),
+        (
+            "sets",
+            "bytes\nfirst -\nfirst 98..97\nfirst 0..9,99..100\nfirst 233..1114111\ninput 616263e9\n",
+            "first none\nfirst none\nfirst 2\nfirst 3\n",
+        ),
+        (
+            "comparisons and searches",
+            "bytes\ncompare 61\ncompare 616263\ncompare 63\nfind 62\nfind 64 63\nfind 6162 62 61\nfind 64\ninput 6162\n",
+            "compare ok 1\ncompare incomplete\ncompare error\nfind 1..2\nfind none\nfind 0..2\nfind none\n",
+        ),
     ] {
         let output = answers_of(rt.alloc(), script)?;
         assert_eq!(rt; output.as_str(), answers, "{name}");
@@ -86,10 +96,56 @@ fn steps_on_text(rt: HostRuntime) -> Result<(), Fail> {
             "mark 0\ntoken 233\noffset 2\nmark 1\ndone\nlater mark\ntoken 233\n",
         ),
         (
+            "sets, comparisons and searches",
+            "text\nfirst 97..122,48..57\ncompare 4142\nfind 2d -\ninput 41422d7a39\n",
+            "first 3\ncompare ok 2\nfind 0..0\n",
+        ),
+        (
             "no input",
             "text\nnext\neach\ninput -\n",
             "token none\nitems\n",
         ),
+    ] {
+        let output = answers_of(rt.alloc(), script)?;
+        assert_eq!(rt; output.as_str(), answers, "{name}");
+    }
+    Ok(())
+}
+
+#[test]
+fn steps_on_pieces(rt: HostRuntime) -> Result<(), Fail> {
+    for (name, script, answers) in [
+        (
+            "an empty piece lets nothing out",
+            "byte-pieces\nnext\nnext\npeek\npiece 61\npiece -\npiece 62\n",
+            "1 token 97\n3 token 98\nend token none\n",
+        ),
+        (
+            "places in the joined bytes",
+            "byte-pieces\nnext\ntake 2\ncompare 6364\neach\npiece 6162\npiece 63\npiece 6465\n",
+            "1 token 97\n2 slice 1..3\n3 compare error\nend items 3..5\n",
+        ),
+        (
+            "places in the joined text",
+            "text-pieces\nat 2\ntake 1\neof\npiece c3a9\npiece 31\n",
+            "2 at 3\n2 bad offset\nend offset 3\n",
+        ),
+        (
+            "no piece",
+            "byte-pieces\nmark\nnext",
+            "end mark 0\nend token none\n",
+        ),
+        (
+            "only an empty piece",
+            "byte-pieces\nmark\nnext\npiece -\n",
+            "1 mark 0\nend token none\n",
+        ),
+        (
+            "a hit that more input moves",
+            "byte-pieces\nfind 616263 62\npiece 6162\npiece 63\n",
+            "2 find 0..3\n",
+        ),
+        ("no step", "text-pieces\npiece c3a9\n", ""),
     ] {
         let output = answers_of(rt.alloc(), script)?;
         assert_eq!(rt; output.as_str(), answers, "{name}");

@@ -19,16 +19,10 @@ fn first_faulty_line(rt: HostRuntime) -> Result<(), Fail> {
         ("no line of a kind", b"next\nbytes\ninput 61\n", 1),
         ("an unknown kind", b"words\ninput 61\n", 1),
         ("a kind in capitals", b"Bytes\ninput 61\n", 1),
-        ("bytes in pieces", b"byte-pieces\nnext\npiece 61\n", 1),
-        ("text in pieces", b"text-pieces\nnext\npiece 61\n", 1),
         ("no step and no input", b"bytes", 2),
         ("no input", b"bytes\nnext\n", 3),
         ("an unknown step", b"bytes\nnext\nfly\ninput 61\n", 3),
         ("a step in capitals", b"bytes\nNEXT\ninput 61\n", 2),
-        ("a search", b"bytes\nfirst -\ninput 61\n", 2),
-        ("a comparison", b"bytes\ncompare 61\ninput 61\n", 2),
-        ("needles", b"bytes\nfind 61\ninput 61\n", 2),
-        ("a piece", b"bytes\npiece 61\ninput 61\n", 2),
         ("the first of two", b"bytes\nfly\ninput 6\n", 2),
     ] {
         assert_eq!(rt; faulty_line(rt.alloc(), script)?, line, "{name}");
@@ -87,6 +81,112 @@ fn words_of_lines(rt: HostRuntime) -> Result<(), Fail> {
         ("two inputs", b"bytes\ninput 61\ninput 61\n", 3),
         ("a text that is not UTF-8", b"text\nnext\ninput ff\n", 3),
         ("a text that ends in a character", b"text\ninput 61c3\n", 2),
+    ] {
+        assert_eq!(rt; faulty_line(rt.alloc(), script)?, line, "{name}");
+    }
+    Ok(())
+}
+
+#[test]
+fn lines_of_pieces(rt: HostRuntime) -> Result<(), Fail> {
+    for (name, script, line) in [
+        (
+            "a piece in a whole kind",
+            b"bytes\nnext\npiece 61\n".as_slice(),
+            3,
+        ),
+        (
+            "an input in a kind of pieces",
+            b"byte-pieces\nnext\ninput 61\n",
+            3,
+        ),
+        (
+            "an input behind a piece",
+            b"byte-pieces\npiece 61\ninput 61\n",
+            3,
+        ),
+        ("a piece behind the input", b"text\ninput 61\npiece 61\n", 3),
+        (
+            "a step behind a piece",
+            b"byte-pieces\npiece 61\nnext\npiece 62\n",
+            3,
+        ),
+        ("no literal", b"byte-pieces\npiece 61\npiece\n", 3),
+        ("two literals", b"byte-pieces\npiece 61 62\n", 2),
+        ("an empty line at the end", b"text-pieces\npiece 61\n\n", 3),
+        (
+            "a character that two pieces make",
+            b"text-pieces\nnext\npiece 61\npiece c3\npiece a9\n",
+            4,
+        ),
+        ("waiting", b"byte-pieces\nnext\npiece 61\nwaits\n", 4),
+    ] {
+        assert_eq!(rt; faulty_line(rt.alloc(), script)?, line, "{name}");
+    }
+    Ok(())
+}
+
+#[test]
+fn words_of_sets(rt: HostRuntime) -> Result<(), Fail> {
+    for (name, script, line) in [
+        ("no set", b"bytes\nfirst\ninput 61\n".as_slice(), 2),
+        ("no range", b"bytes\nfirst \ninput 61\n", 2),
+        ("a surrogate", b"bytes\nnext\nfirst 0..55296\ninput 61\n", 3),
+        (
+            "past the characters",
+            b"bytes\nfirst 1114112..0\ninput 61\n",
+            2,
+        ),
+        ("a number", b"bytes\nfirst 97\ninput 61\n", 2),
+        ("one dot", b"bytes\nfirst 97.122\ninput 61\n", 2),
+        ("three ends", b"bytes\nfirst 1..2..3\ninput 61\n", 2),
+        ("no upper end", b"bytes\nfirst 97..\ninput 61\n", 2),
+        ("a comma at the end", b"bytes\nfirst 1..2,\ninput 61\n", 2),
+        (
+            "a space behind the comma",
+            b"bytes\nfirst 1..2, 3..4\ninput 61\n",
+            2,
+        ),
+        ("a dash among ranges", b"bytes\nfirst 1..2,-\ninput 61\n", 2),
+        ("a sign", b"bytes\nfirst +1..2\ninput 61\n", 2),
+    ] {
+        assert_eq!(rt; faulty_line(rt.alloc(), script)?, line, "{name}");
+    }
+    Ok(())
+}
+
+#[test]
+fn words_of_literals(rt: HostRuntime) -> Result<(), Fail> {
+    for (name, script, line) in [
+        (
+            "odd digits to compare",
+            b"bytes\nnext\ncompare 616\ninput 61\n".as_slice(),
+            3,
+        ),
+        (
+            "two literals to compare",
+            b"bytes\ncompare 61 62\ninput 61\n",
+            2,
+        ),
+        ("two spaces", b"bytes\nfind 61  62\ninput 61\n", 2),
+        ("a space at the end", b"bytes\nfind 61 \ninput 61\n", 2),
+        ("no needle", b"bytes\nfind\ninput 61\n", 2),
+        ("four needles", b"bytes\nfind 61 62 63 64\ninput 61\n", 2),
+        (
+            "a third needle of odd digits",
+            b"bytes\nfind 61 62 6\ninput 61\n",
+            2,
+        ),
+        (
+            "needles that are text only together",
+            b"text\nfind c3 a9\ninput c3a9\n",
+            2,
+        ),
+        (
+            "a literal that is no text",
+            b"text-pieces\nnext\ncompare ff\npiece 61\n",
+            3,
+        ),
     ] {
         assert_eq!(rt; faulty_line(rt.alloc(), script)?, line, "{name}");
     }
