@@ -1,0 +1,407 @@
+ghost use Rattle.std.specs.Prelude.{◌≡◌, true, false, [], IfOk, IfSome, string_bytes};
+ghost use Rattle.std.specs.Str.Lossy.{utf8_lossy};
+ghost use Rattle.winnow_kinds.specs.TextContents.{bstr_contents};
+ghost use Rattle.winnow_bytes.specs.ByteContents.{bytes_contents};
+ghost use Rattle.winnow_kinds.specs.Escapes.{debug_text};
+ghost use Rattle.winnow_bytes.specs.Hex.{hex_text};
+ghost use Rattle.winnow_kinds.specs.declared.bstr.BStr.{BStr};
+ghost use Rattle.winnow_bytes.specs.declared.bytes.Bytes.{Bytes};
+
+use std::alloc::{AllocError, Global};
+use std::cmp::Ordering;
+use std::hash::{DefaultHasher, Hash, Hasher};
+use std::process::Abort;
+use std::test::Fail;
+use winnow_bytes::{Bytes, bytes_equality_law, bytes_order_law};
+use winnow_kinds::{BStr, text_equality_law, text_order_law};
+use winnow_match::{Compare, CompareResult, Needles};
+use winnow_run::Step;
+use winnow_run::Step::{At, Each, Finish, IsOffset, Look, Mark, Next, Peek, Reset, Since, Take};
+use winnow_stream::{AsBStr, AsBytes, Checkpoint, NoSet, Stream, StreamIsPartial, UpdateSlice};
+use winnow_test_helpers::{Traced, compares, finds, hits, marks, told, width, width_from};
+
+// Each of these makes its call through a bound.
+
+fn first_of_window<S: UpdateSlice + Copy>(stream: S, width: usize) -> Option<S::Token>
+    requires { S.valid stream }
+{
+    if !stream.is_offset(width) {
+        return None;
+    }
+    let slice = stream.peek_slice(width);
+    let mut window = stream.update_slice(slice, &stream.checkpoint());
+    window.next_token()
+}
+
+// Neither has a mark: they stay as they are, and what agrees in all but the mark is the same.
+fn complete_both<'i>(text: &mut BStr<'i>, bytes: &mut Bytes<'i>)
+    ensures text { text.old ≡ text.new }
+    ensures bytes { bytes.old ≡ bytes.new }
+    ensures same_text { (s t : BStr) → ⟦<BStr<'i> as StreamIsPartial>⟧.same_but_mark s t → s ≡ t }
+    ensures same_bytes { (s t : Bytes) → ⟦<Bytes<'i> as StreamIsPartial>⟧.same_but_mark s t → s ≡ t }
+{
+    text.complete();
+    text.restore_partial(());
+    bytes.complete();
+    bytes.restore_partial(());
+}
+
+fn hash_of<T: Hash>(value: &T) -> u64 {
+    let mut hasher = DefaultHasher::new();
+    value.hash(&mut hasher);
+    hasher.finish()
+}
+
+// By the first byte that differs, the shorter first where none does.
+fn orders_by_contents<S>(rt: &impl Abort)
+where
+    S: From<&'static [u8]> + From<&'static str> + Default + Ord + Copy,
+{
+    assert!(rt; S::from("") == S::default());
+    let table: [(&[u8], &[u8], Ordering); 6] = [
+        (b"", b"", Ordering::Equal),
+        (b"", b"a", Ordering::Less),
+        (b"b", b"ab", Ordering::Greater),
+        (b"a", b"ab", Ordering::Less),
+        (b"ab", b"ab", Ordering::Equal),
+        (b"\xff", b"a", Ordering::Greater),
+    ];
+    for (a, b, order) in table {
+        let (s, t) = (S::from(a), S::from(b));
+        let answers = (s.cmp(&t), s.partial_cmp(&t), s == t);
+        let wanted = (order, Some(order), order == Ordering::Equal);
+        assert_eq!(rt; answers, wanted, "{a:?} and {b:?}");
+    }
+}
+
+// What the conversions give and what is displayed, by their contracts alone.
+
+fn texts<'i>(text: &'i str, bytes: &'i [u8]) -> (BStr<'i>, &'i [u8], BStr<'i>)
+    ensures text { bstr_contents result.0 ≡ text.now }
+    ensures bytes { result.1.now ≡ bytes.now }
+    ensures default { bstr_contents result.2 ≡ [] }
+{
+    (
+        BStr::from(text),
+        <&[u8]>::from(BStr::from(bytes)),
+        BStr::default(),
+    )
+}
+
+fn text_shown(alloc: Global, s: &BStr) -> Result<String, AllocError>
+    ensures { IfOk result (λ t. string_bytes t ≡ utf8_lossy (bstr_contents s.now)) }
+{
+    format!(in alloc; "{s}")
+}
+
+fn text_debugged(alloc: Global, s: &BStr) -> Result<String, AllocError>
+    ensures { IfOk result (λ t. IfSome (debug_text (bstr_contents s.now)) (λ text. string_bytes t ≡ text)) }
+{
+    format!(in alloc; "{s:?}")
+}
+
+fn bytes<'i>(text: &'i str, bytes: &'i [u8]) -> (Bytes<'i>, &'i [u8], Bytes<'i>)
+    ensures text { bytes_contents result.0 ≡ text.now }
+    ensures bytes { result.1.now ≡ bytes.now }
+    ensures default { bytes_contents result.2 ≡ [] }
+{
+    (
+        Bytes::from(text),
+        <&[u8]>::from(Bytes::from(bytes)),
+        Bytes::default(),
+    )
+}
+
+fn bytes_shown(alloc: Global, s: &Bytes) -> Result<String, AllocError>
+    ensures { IfOk result (λ t. string_bytes t ≡ hex_text true (bytes_contents s.now)) }
+{
+    format!(in alloc; "{s}")
+}
+
+fn bytes_debugged(alloc: Global, s: &Bytes) -> Result<String, AllocError>
+    ensures { IfOk result (λ t. string_bytes t ≡ hex_text true (bytes_contents s.now)) }
+{
+    format!(in alloc; "{s:?}")
+}
+
+fn lower_shown(alloc: Global, s: &Bytes) -> Result<String, AllocError>
+    ensures { IfOk result (λ t. string_bytes t ≡ hex_text false (bytes_contents s.now)) }
+{
+    let lower = s.lower();
+    format!(in alloc; "{lower}")
+}
+
+fn as_bstr_of<S: AsBStr>(stream: &S) -> &[u8] {
+    stream.as_bstr()
+}
+
+fn as_bytes_of<S: AsBytes>(stream: &S) -> &[u8] {
+    stream.as_bytes()
+}
+
+const SCRIPT: [Step<NoSet>; 14] = [
+    Mark,
+    Next,
+    Take(1),
+    Since(0),
+    Each,
+    Finish,
+    Next,
+    Reset(0),
+    Peek,
+    At(3),
+    At(4),
+    IsOffset(4),
+    Look(2),
+    Take(4),
+];
+
+#[test]
+fn scripts(rt: HostRuntime) -> Result<(), Fail> {
+    let wanted =
+        "[Marked(0), Token(Some(97)), Slice([98]), Offset(2), Items([(0, 99)]), Slice([99]), Token(None), Done, \
+        Token(Some(97)), At(Ok(3)), At(Err(Size(1))), Flag(false), Slice([97, 98]), BadOffset]";
+    let answers = told(rt.alloc(), BStr::new(b"abc"), &SCRIPT)?;
+    assert_eq!(rt; answers.as_str(), wanted);
+    let answers = told(rt.alloc(), Bytes::new(b"abc"), &SCRIPT)?;
+    assert_eq!(rt; answers.as_str(), wanted);
+    Ok(())
+}
+
+// Each literal once.
+fn comparisons_of<S>(s: S) -> [CompareResult; 6]
+where
+    S: Compare<&'static [u8]> + Compare<[u8; 2]> + Compare<&'static [u8; 2]>,
+    S: Compare<&'static str> + Compare<u8> + Compare<char> + Copy,
+    requires { S.valid s }
+{
+    [
+        compares(s, &b"\xc3\xa9a"[..]),
+        compares(s, *b"\xc3\xa9"),
+        compares(s, b"\xc3\xaa"),
+        compares(s, "éabcd"),
+        compares(s, 0xc3),
+        compares(s, 'é'),
+    ]
+}
+
+#[test]
+fn comparisons(rt: HostRuntime) {
+    let wanted = [
+        CompareResult::Ok(3),
+        CompareResult::Ok(2),
+        CompareResult::Error,
+        CompareResult::Incomplete,
+        CompareResult::Ok(1),
+        CompareResult::Ok(2),
+    ];
+    assert_eq!(rt; comparisons_of(BStr::new(b"\xc3\xa9abc")), wanted);
+    let bytes = Bytes::new(b"ab");
+    assert_eq!(rt;
+        [compares(bytes, "abc"), compares(bytes, b'a')],
+        [CompareResult::Incomplete, CompareResult::Ok(1)]
+    );
+}
+
+// Each kind of needle once.
+#[test]
+fn searches(rt: HostRuntime) {
+    let s = BStr::new(b"abcb\xc3\xa9");
+    let a: &[u8] = b"bc";
+    let b: &[u8] = b"cb";
+    assert_eq!(rt;
+        hits(s, a, (b,), (b, a), (b, b, a)),
+        [Some(1..3), Some(2..4), Some(1..3), Some(1..3)]
+    );
+    assert_eq!(rt;
+        hits(s, b'c', (b'x',), (b'c', b'b'), (b'x', b'y', b'c')),
+        [Some(2..3), None, Some(1..2), Some(2..3)]
+    );
+    assert_eq!(rt; finds(s, Needles::Two(b, b)), Some(2..4));
+    assert_eq!(rt; finds(s, 'b'), Some(1..2));
+}
+
+#[test]
+fn searches_for_text(rt: HostRuntime) {
+    let s = Bytes::new(b"abcb\xc3\xa9");
+    let (a, b): (&[u8], &[u8]) = (b"bc", b"cb");
+    assert_eq!(rt;
+        hits(s, "é", ("b",), ("é", "cb"), ("x", "y", "")),
+        [Some(4..6), Some(1..2), Some(2..4), Some(0..0)]
+    );
+    assert_eq!(rt;
+        hits(s, 'é', ('b',), ('é', 'c'), ('x', 'y', 'é')),
+        [Some(4..6), Some(1..2), Some(2..3), Some(4..6)]
+    );
+    assert_eq!(rt; finds(s, (b, a)), Some(1..3));
+}
+
+#[test]
+fn small_traits_of_text(rt: HostRuntime) {
+    let (whole, rest) = (BStr::new(b"abc"), BStr::new(b"bc"));
+    let (start, place) = (Checkpoint::new(whole), Checkpoint::new(rest));
+    let widths = [
+        width_from(&rest, &whole),
+        width_from(&rest, &start),
+        width_from::<_, Checkpoint<BStr, BStr>>(&place, &start),
+        width(&rest),
+    ];
+    assert_eq!(rt; widths, [1, 1, 1, 2]);
+    let firsts = [first_of_window(rest, 1), first_of_window(rest, 3)];
+    assert_eq!(rt; firsts, [Some(b'b'), None]);
+    assert_eq!(rt;
+        (marks(&mut { rest }), as_bstr_of(&rest)),
+        ([false; 4], &b"bc"[..])
+    );
+}
+
+#[test]
+fn contents_of_text(rt: HostRuntime) -> Result<(), Fail> {
+    let (s, back, none) = texts("abc", b"abc");
+    let bytes = [s.inner(), back, s.slice(1, 3).inner(), none.inner()];
+    let told = format!(in rt.alloc(); "{bytes:?} {:?} {}", s.to_vec(rt.alloc())?, s.at(2))?;
+    let wanted = "[[97, 98, 99], [97, 98, 99], [98, 99], []] [97, 98, 99] 99";
+    assert_eq!(rt; told.as_str(), wanted);
+    let tests = [
+        s.eq_bytes(b"abc"),
+        s.eq_bytes(b"abd"),
+        s.eq_str("abc"),
+        s.eq_str("ab"),
+    ];
+    assert_eq!(rt; tests, [true, false, true, false]);
+    let orders = [s.cmp_bytes(b"b"), s.cmp_str("abc"), s.cmp_str("ab")];
+    assert_eq!(rt;
+        orders,
+        [Ordering::Less, Ordering::Equal, Ordering::Greater]
+    );
+    assert_eq!(rt; hash_of(&s), hash_of(&s.inner()));
+    orders_by_contents::<BStr>(&rt);
+    Ok(())
+}
+
+#[test]
+fn there_is_no_mark(rt: HostRuntime) {
+    let (mut text, mut bytes) = (BStr::new(b"ab"), Bytes::new(b"cd"));
+    complete_both(&mut text, &mut bytes);
+    assert!(rt; text.eq_bytes(b"ab") && bytes.eq_bytes(b"cd"));
+}
+
+#[test]
+fn small_traits_of_bytes(rt: HostRuntime) {
+    let (whole, rest) = (Bytes::new(b"abc"), Bytes::new(b"bc"));
+    let (start, place) = (Checkpoint::new(whole), Checkpoint::new(rest));
+    let widths = [
+        width_from(&rest, &whole),
+        width_from(&rest, &start),
+        width_from::<_, Checkpoint<Bytes, Bytes>>(&place, &start),
+        width(&rest),
+    ];
+    assert_eq!(rt; widths, [1, 1, 1, 2]);
+    let firsts = [first_of_window(rest, 1), first_of_window(rest, 3)];
+    assert_eq!(rt; firsts, [Some(b'b'), None]);
+    assert_eq!(rt;
+        (marks(&mut { rest }), as_bytes_of(&rest)),
+        ([false; 4], &b"bc"[..])
+    );
+}
+
+#[test]
+fn contents_of_bytes(rt: HostRuntime) -> Result<(), Fail> {
+    let (s, back, none) = bytes("abc", b"abc");
+    let bytes = [s.inner(), back, s.slice(1, 3).inner(), none.inner()];
+    let told = format!(in rt.alloc(); "{bytes:?} {:?} {}", s.to_vec(rt.alloc())?, s.at(2))?;
+    let wanted = "[[97, 98, 99], [97, 98, 99], [98, 99], []] [97, 98, 99] 99";
+    assert_eq!(rt; told.as_str(), wanted);
+    let tests = [
+        s.eq_bytes(b"abc"),
+        s.eq_bytes(b"abd"),
+        s.eq_str("abc"),
+        s.eq_str("ab"),
+    ];
+    assert_eq!(rt; tests, [true, false, true, false]);
+    let orders = [s.cmp_bytes(b"b"), s.cmp_str("abc"), s.cmp_str("ab")];
+    assert_eq!(rt;
+        orders,
+        [Ordering::Less, Ordering::Equal, Ordering::Greater]
+    );
+    assert_eq!(rt; hash_of(&s), hash_of(&s.inner()));
+    orders_by_contents::<Bytes>(&rt);
+    Ok(())
+}
+
+#[test]
+fn damaged_text(rt: HostRuntime) -> Result<(), Fail> {
+    let table: [(&[u8], &str); 9] = [
+        (b"", ""),
+        (b"abc", "abc"),
+        (b"\xc3\xa9\xe2\x82\xac\xf0\x9f\x98\x80", "é€😀"),
+        (b"\xf0\x28\x8c\xbc", "\u{FFFD}(\u{FFFD}\u{FFFD}"),
+        (b"a\xf0\x9f\x98", "a\u{FFFD}"),
+        (b"\xe2\x82a\xff", "\u{FFFD}a\u{FFFD}"),
+        (b"\xed\xa0\x80", "\u{FFFD}\u{FFFD}\u{FFFD}"),
+        (b"\xc0\x80z", "\u{FFFD}\u{FFFD}z"),
+        (b"\xf4\x90\xc3\xa9", "\u{FFFD}\u{FFFD}é"),
+    ];
+    for (bytes, text) in table {
+        let s = BStr::new(bytes);
+        assert_eq!(rt; text_shown(rt.alloc(), &s)?.as_str(), text);
+    }
+    Ok(())
+}
+
+#[test]
+fn debug_texts_of_text(rt: HostRuntime) -> Result<(), Fail> {
+    let table: [(&[u8], &str); 8] = [
+        (b"", r#""""#),
+        (b"abc", r#""abc""#),
+        (b"\0\t\r\n", r#""\0\t\r\n""#),
+        (b"'\"\\", r#""\'\"\\""#),
+        (b"\x01\x0b\x1f\x7f", r#""\u{1}\u{b}\u{1f}\u{7f}""#),
+        (b" !AZaz09~", r#"" !AZaz09~""#),
+        // Past ASCII each byte is the character of its number.
+        (b"\xc3\xa9", r#""Ã©""#),
+        (b"\x80\xa0\xad\xff", r#""\u{80}\u{a0}\u{ad}ÿ""#),
+    ];
+    for (bytes, text) in table {
+        let s = BStr::new(bytes);
+        assert_eq!(rt; text_debugged(rt.alloc(), &s)?.as_str(), text);
+    }
+    let bare = format!(in rt.alloc(); "{:#?}", BStr::new(b"a\n"))?;
+    assert_eq!(rt; bare.as_str(), r"a\n");
+    Ok(())
+}
+
+#[test]
+fn hexadecimal_texts(rt: HostRuntime) -> Result<(), Fail> {
+    let table: [(&[u8], &str); 3] = [
+        (b"", "|||"),
+        (b"\xf0\x28\x8c\xbc", "F0288CBC|F0288CBC|F0288CBC|f0288cbc"),
+        (b"\x00\x09\x0a\xff", "00090AFF|00090AFF|00090AFF|00090aff"),
+    ];
+    for (bytes, wanted) in table {
+        let s = Bytes::new(bytes);
+        let shown = bytes_shown(rt.alloc(), &s)?;
+        let debugged = bytes_debugged(rt.alloc(), &s)?;
+        let lower = lower_shown(rt.alloc(), &s)?;
+        let told = format!(in rt.alloc(); "{shown}|{debugged}|{}|{lower}", s.upper())?;
+        assert_eq!(rt; told.as_str(), wanted);
+    }
+    Ok(())
+}
+
+#[test]
+fn traces_print_what_remains(rt: HostRuntime) -> Result<(), Fail> {
+    let (text, bytes) = (Traced(BStr::new(b"ab")), Traced(Bytes::new(b"ab")));
+    let traces = format!(in rt.alloc(); "{text} {bytes}")?;
+    assert_eq!(rt; traces.as_str(), "\"ab\" 6162");
+    Ok(())
+}
+
+// They do nothing: that each is called shows that it can be.
+#[test]
+fn laws_of_contents(_rt: HostRuntime) {
+    text_equality_law();
+    text_order_law();
+    bytes_equality_law();
+    bytes_order_law();
+}

@@ -1,0 +1,325 @@
+ghost use Rattle.winnow_base.specs.Script.{AreReady};
+
+use std::alloc::{AllocError, Global};
+use std::test::Fail;
+use winnow_base::stream::{
+    AsChar, CharSet, ContainsToken, ScriptSet, Step, Stream, Where, run, union_law,
+};
+use winnow_test_helpers::debugged;
+
+// A set asked through its bound.
+fn holds<T, S: ContainsToken<T> + Drop>(set: S, token: T) -> bool
+    requires { S.can_hold set }
+    ensures { S.tells set token result }
+{
+    set.contains_token(token)
+}
+
+// A set of a script asked through its bound.
+fn script_holds<T, S: ScriptSet<T> + Drop>(set: S, token: T) -> bool
+    requires { S.can_hold set }
+    ensures { S.tells set token result }
+{
+    set.holds(token)
+}
+
+// The answers of a script that names sets, as their debug text: a proved `impl` does not show that it can be called so.
+fn told<S: Stream, C: ScriptSet<S::Token>>(
+    alloc: Global,
+    s: &mut S,
+    script: &[Step<C>],
+) -> Result<String, AllocError>
+where
+    S::Token: Drop,
+    S::Slice: Drop,
+    requires valid { S.valid s.old }
+    requires ready { AreReady C.can_hold script.now }
+    ensures valid { S.valid s.new }
+    ensures kept { S.keeps s.old s.new }
+{
+    let answers = run(alloc, s, script)?;
+    format!(in alloc; "{answers:?}")
+}
+
+// Each class of a token: letter, letter or digit, decimal, hexadecimal, octal digit, blank, line feed.
+fn classes<T: AsChar + Copy>(token: T) -> [bool; 7] {
+    [
+        token.is_alpha(),
+        token.is_alphanum(),
+        token.is_dec_digit(),
+        token.is_hex_digit(),
+        token.is_oct_digit(),
+        token.is_space(),
+        token.is_newline(),
+    ]
+}
+
+fn width<T: AsChar>(token: T) -> usize {
+    token.len()
+}
+
+fn character<T: AsChar>(token: T) -> char {
+    token.as_char()
+}
+
+#[test]
+fn tokens_give_their_characters(rt: HostRuntime) {
+    let characters = [
+        character(0xe9u8),
+        character(&0xe9u8),
+        character('é'),
+        character(&'é'),
+    ];
+    assert_eq!(rt; characters, ['é'; 4]);
+    assert_eq!(rt;
+        [width(0xe9u8), width(&0xe9u8), width('é'), width(&'🦀')],
+        [1, 1, 2, 4]
+    );
+}
+
+#[test]
+fn classes_are_of_ascii(rt: HostRuntime) {
+    let table = [
+        (b'0', [false, true, true, true, true, false, false]),
+        (b'8', [false, true, true, true, false, false, false]),
+        (b'f', [true, true, false, true, false, false, false]),
+        (b'G', [true, true, false, false, false, false, false]),
+        (b'\t', [false, false, false, false, false, true, false]),
+        (b' ', [false, false, false, false, false, true, false]),
+        (b'\n', [false, false, false, false, false, false, true]),
+        (b'\r', [false, false, false, false, false, false, false]),
+        (0xe9, [false, false, false, false, false, false, false]),
+    ];
+    for (byte, want) in table {
+        let character = char::from(byte);
+        let answers = [
+            classes(byte),
+            classes(&byte),
+            classes(character),
+            classes(&character),
+        ];
+        assert_eq!(rt; answers, [want; 4], "of {byte}");
+    }
+    assert_eq!(rt; classes('٣'), [false; 7], "a digit outside ASCII");
+}
+
+#[test]
+fn single_tokens(rt: HostRuntime) {
+    let e_acute = [
+        holds('é', 0xe9u8),
+        holds('é', &0xe9u8),
+        holds('é', 'é'),
+        holds('é', &'é'),
+        holds(0xe9u8, 0xe9u8),
+        holds(0xe9u8, &0xe9u8),
+        holds(0xe9u8, 'é'),
+        holds(0xe9u8, &'é'),
+    ];
+    assert_eq!(rt; e_acute, [true; 8]);
+    let others = [
+        holds('é', 0xc3u8),
+        holds(0xe9u8, 'e'),
+        holds((), 'a'),
+        holds((), b"ab"),
+    ];
+    assert_eq!(rt; others, [false; 4]);
+}
+
+#[test]
+fn ranges_compare_characters(rt: HostRuntime) {
+    let table = [
+        ('`', [false, false, false, true, true, true]),
+        ('a', [true, true, true, true, true, true]),
+        ('b', [true, true, true, true, true, true]),
+        ('c', [false, true, true, false, true, true]),
+        ('d', [false, false, true, false, false, true]),
+    ];
+    for (c, want) in table {
+        let answers = [
+            holds('a'..'c', c),
+            holds('a'..='c', c),
+            holds('a'.., c),
+            holds(..'c', c),
+            holds(..='c', c),
+            holds(.., c),
+        ];
+        assert_eq!(rt; answers, want, "of {c}");
+        let reversed = [holds('c'..'a', c), holds('c'..='a', c), holds('b'..'b', c)];
+        assert_eq!(rt; reversed, [false; 3], "of {c}");
+    }
+}
+
+#[test]
+fn ranges_past_ascii(rt: HostRuntime) {
+    let answers = [
+        holds(0x80u8.., 0xffu8),
+        holds(0x80u8.., '\u{10ffff}'),
+        holds(0x80u8.., 0x7fu8),
+        holds('\u{e0}'..='\u{ff}', 0xe9u8),
+        holds('z'..='a', 'm'),
+    ];
+    assert_eq!(rt; answers, [true, true, false, true, false]);
+}
+
+#[test]
+fn an_iterated_range_keeps_its_bounds(rt: HostRuntime) {
+    let mut range = b'a'..=b'b';
+    assert_eq!(rt;
+        (range.next(), range.next(), range.next()),
+        (Some(b'a'), Some(b'b'), None)
+    );
+    assert!(rt; holds(range, b'b'));
+}
+
+#[test]
+fn slices_and_arrays_hold_their_members(rt: HostRuntime) {
+    let bytes: &[u8] = b"\xe9a";
+    let chars: &[char] = &['é', 'a'];
+    for (c, want) in [('é', true), ('a', true), ('b', false), ('Ā', false)] {
+        let answers = [
+            holds(bytes, c),
+            holds(chars, c),
+            holds([0xe9u8, b'a'], c),
+            holds(['é', 'a'], c),
+            holds(&[0xe9u8, b'a'], c),
+            holds(&['é', 'a'], c),
+        ];
+        assert_eq!(rt; answers, [want; 6], "of {c}");
+    }
+    let answers = [
+        holds(bytes, 0xe9u8),
+        holds(chars, 0xe9u8),
+        holds(&bytes[..0], b'a'),
+    ];
+    assert_eq!(rt; answers, [true, true, false]);
+}
+
+#[test]
+fn sets_of_ranges(rt: HostRuntime) {
+    let ranges = [('a', 'f'), ('9', '0'), ('\u{d7ff}', '\u{e000}'), ('é', 'é')];
+    let set = CharSet::new(&ranges);
+    let table = [
+        ('`', false),
+        ('a', true),
+        ('f', true),
+        ('g', false),
+        ('0', false),
+        ('5', false),
+        ('\u{d7ff}', true),
+        ('\u{e000}', true),
+        ('\u{d7fe}', false),
+        ('\u{e001}', false),
+        ('é', true),
+    ];
+    for (c, want) in table {
+        let answers = [holds(set, c), script_holds(set, c), script_holds(set, &c)];
+        assert_eq!(rt; answers, [want; 3], "of {c}");
+    }
+    let answers = [
+        holds(set, 0xe9u8),
+        script_holds(set, 0xe9u8),
+        holds(CharSet::new(&[]), 'a'),
+    ];
+    assert_eq!(rt; answers, [true, true, false]);
+}
+
+#[test]
+fn closures_are_sets(rt: HostRuntime) {
+    let low = 3u8;
+    let small = Where(|token: u8| token < low);
+    let answers = [
+        holds(small, 2),
+        holds(small, 3),
+        script_holds(small, 2),
+        holds((small, b'a'), b'a'),
+        holds((small, b'a'), b'b'),
+    ];
+    assert_eq!(rt; answers, [true, false, true, true, false]);
+}
+
+#[test]
+fn tuples_are_unions(rt: HostRuntime) {
+    for (number, c) in ('a'..='k').enumerate() {
+        let answers = [
+            holds(('a',), c),
+            holds(('a', 'b'), c),
+            holds(('a', 'b', 'c'), c),
+            holds(('a', 'b', 'c', 'd'), c),
+            holds(('a', 'b', 'c', 'd', 'e'), c),
+            holds(('a', 'b', 'c', 'd', 'e', 'f'), c),
+            holds(('a', 'b', 'c', 'd', 'e', 'f', 'g'), c),
+            holds(('a', 'b', 'c', 'd', 'e', 'f', 'g', 'h'), c),
+            holds(('a', 'b', 'c', 'd', 'e', 'f', 'g', 'h', 'i'), c),
+            holds(('a', 'b', 'c', 'd', 'e', 'f', 'g', 'h', 'i', 'j'), c),
+        ];
+        for (last, answer) in answers.into_iter().enumerate() {
+            assert_eq!(rt; answer, number <= last, "{c} in a tuple of {last} and one");
+        }
+    }
+    assert!(rt;
+        holds(('x', b'0'..=b'9', [b'-', b'+'], ()), b'+'),
+        "sets of several kinds"
+    );
+}
+
+#[test]
+fn scripts_name_sets(rt: HostRuntime) -> Result<(), Fail> {
+    let alloc = rt.alloc();
+    let ranges = [('a', 'z'), ('0', '9')];
+    let set = CharSet::new(&ranges);
+    let mut text = "é1A";
+    let answers = told(
+        alloc,
+        &mut text,
+        &[Step::First(set), Step::Take(2), Step::First(set)],
+    )?;
+    assert_eq!(rt;
+        answers.as_str(),
+        "[First(Some(2)), Slice(\"é\"), First(Some(0))]"
+    );
+    let low = b'b';
+    let small = Where(|token: u8| token < low);
+    let mut bytes: &[u8] = b"zya";
+    let answers = told(
+        alloc,
+        &mut bytes,
+        &[Step::First(small), Step::Finish, Step::First(small)],
+    )?;
+    assert_eq!(rt;
+        answers.as_str(),
+        "[First(Some(2)), Slice([122, 121, 97]), First(None)]"
+    );
+    Ok(())
+}
+
+// The byte and the character that a set is said to hold.
+fn named(ranges: &[(char, char)]) -> (Option<u8>, Option<char>) {
+    let set = CharSet::new(ranges);
+    (set.any_byte(), set.any_char())
+}
+
+#[test]
+fn a_set_names_what_it_holds(rt: HostRuntime) {
+    assert_eq!(rt; named(&[]), (None, None));
+    assert_eq!(rt; named(&[('b', 'a')]), (None, None));
+    assert_eq!(rt; named(&[('\u{100}', '\u{12c}')]), (None, Some('\u{100}')));
+    assert_eq!(rt;
+        named(&[('z', 'a'), ('\u{ff}', '\u{100}'), ('0', '9')]),
+        (Some(255), Some('\u{ff}'))
+    );
+    assert_eq!(rt; named(&[('é', 'é'), ('a', 'a')]), (Some(0xE9), Some('é')));
+}
+
+#[test]
+fn the_law_can_be_called() {
+    union_law::<char, CharSet, (char, u8)>();
+}
+
+#[test]
+fn debug_texts(rt: HostRuntime) -> Result<(), Fail> {
+    let set = debugged(rt.alloc(), &CharSet::new(&[('a', 'b')]))?;
+    assert_eq!(rt; set.as_str(), "CharSet { ranges: [('a', 'b')] }");
+    let closure = debugged(rt.alloc(), &Where(|token: u8| token < 3))?;
+    assert_eq!(rt; closure.as_str(), "Where(_)");
+    Ok(())
+}

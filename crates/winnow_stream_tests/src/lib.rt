@@ -1,0 +1,16 @@
+//! Streams as their users meet them: streams of one's own, generic code over any stream, and the tests of streams and of scripts.
+//! Nothing here is part of the library.
+#![tactic(auto)]
+
+#[cfg(test)]
+mod fields;
+#[cfg(test)]
+mod listed;
+#[cfg(test)]
+mod literals;
+#[cfg(test)]
+mod pairs;
+#[cfg(test)]
+mod tests;
+#[cfg(test)]
+mod walks;

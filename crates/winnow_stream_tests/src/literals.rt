@@ -1,0 +1,47 @@
+ghost use Rattle.std.specs.Prelude.{◌≡◌, ℕ, ◌-◌, Some, None, IfSome, IfNone};
+ghost use Rattle.std.specs.declared.ops.Range as range_declared;
+ghost use Rattle.winnow_base.specs.Front.{back};
+ghost use Rattle.winnow_match.specs.declared.compare.CompareResult.TheVariants as compared;
+
+use winnow_base::stream::{Compare, CompareResult, FindSlice, front_law};
+
+/// The literal, where the stream begins with it, and moves past it; else nothing moves.
+pub fn literal<S: Compare<T>, T>(input: &mut S, wanted: T) -> Option<S::Slice>
+    requires { S.valid input.old }
+    ensures taken { IfSome result (λ slice. (n : ℕ) × ((S.compared wanted (S.remaining input.old) ≡ compared.Ok n) × (S.is_slice slice (S.remaining input.old) n × (S.remaining input.new ≡ back (S.remaining input.old) n)))) }
+    ensures refused { IfNone result (((n : ℕ) → ¬ (S.compared wanted (S.remaining input.old) ≡ compared.Ok n)) × (S.remaining input.new ≡ S.remaining input.old)) }
+    ensures valid { S.valid input.new }
+    ensures kept { S.keeps input.old input.new }
+{
+    match input.compare(wanted) {
+        CompareResult::Ok(width) => Some(input.next_slice(width)),
+        CompareResult::Incomplete | CompareResult::Error => None,
+    }
+}
+
+/// What stands before the first needle, and moves up to the needle; where none stands, nothing moves.
+pub fn take_until<S: FindSlice<T>, T>(input: &mut S, needle: T) -> Option<S::Slice>
+    requires { S.valid input.old }
+    ensures taken { IfSome result (λ slice. (hit : range_declared.Range ℕ) × ((S.found needle (S.remaining input.old) ≡ Some hit) × (S.is_slice slice (S.remaining input.old) hit.start × (S.remaining input.new ≡ back (S.remaining input.old) hit.start)))) }
+    ensures refused { IfNone result ((S.found needle (S.remaining input.old) ≡ None) × (S.remaining input.new ≡ S.remaining input.old)) }
+    ensures valid { S.valid input.new }
+    ensures kept { S.keeps input.old input.new }
+{
+    let hit = input.find_slice(needle)?;
+    Some(input.next_slice(hit.start))
+}
+
+/// What stands before the first needle, and the needle, and moves past it; where none stands, nothing moves.
+pub fn take_through<S: FindSlice<T>, T>(input: &mut S, needle: T) -> Option<(S::Slice, S::Slice)>
+    requires { S.valid input.old }
+    ensures taken { IfSome result (λ taken. (hit : range_declared.Range ℕ) × ((S.found needle (S.remaining input.old) ≡ Some hit) × (S.is_slice taken.0 (S.remaining input.old) hit.start × (S.is_slice taken.1 (back (S.remaining input.old) hit.start) (hit.end - hit.start) × (S.remaining input.new ≡ back (S.remaining input.old) hit.end))))) }
+    ensures refused { IfNone result ((S.found needle (S.remaining input.old) ≡ None) × (S.remaining input.new ≡ S.remaining input.old)) }
+    ensures valid { S.valid input.new }
+    ensures kept { S.keeps input.old input.new }
+{
+    front_law::<S::Token>();
+    let hit = input.find_slice(needle)?;
+    let before = input.next_slice(hit.start);
+    let found = input.next_slice(hit.end - hit.start);
+    Some((before, found))
+}

@@ -1,0 +1,7 @@
+//! One file a subject. Each case of a table carries its name into the failure message.
+mod fields;
+mod literals;
+mod own_streams;
+mod scripts;
+mod small_parts;
+mod texts;

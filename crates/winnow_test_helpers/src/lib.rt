@@ -1,0 +1,13 @@
+//! What the test crates share: calls made through their bounds alone, as generic code makes them. Nothing here is part of the
+//! library.
+#![tactic(auto)]
+
+mod calls;
+mod texts;
+mod traced;
+mod widths;
+
+pub use calls::{compares, finds, hits, tell, told};
+pub use texts::{debugged, seen, shown};
+pub use traced::Traced;
+pub use widths::{marks, width, width_from, window_of};

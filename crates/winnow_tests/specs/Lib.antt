@@ -1,2 +1,0 @@
-pub mod PairSource
-pub mod Furthest

@@ -1,0 +1,264 @@
+use std::fmt::{Debug, Display};
+use std::hash::Hash;
+use winnow_bytes::Bytes;
+use winnow_context::{ContextError, StrContext, StrContextValue};
+use winnow_error::{
+    AddContext, AssociativeOr, EmptyError, ErrMode, ErrorConvert, FromExternalError,
+    FromRecoverableError, InputError, ModalError, ParserError,
+};
+use winnow_kinds::BStr;
+use winnow_match::{Compare, CompareResult, FindSlice, Needles};
+use winnow_recover::{RecordError, Recover, Recoverable};
+use winnow_run::{Answer, Step};
+use winnow_stream::{
+    AsBStr, AsBytes, Location, Needed, NoSet, Offset, SliceLen, Stream, StreamIsPartial,
+    UpdateSlice,
+};
+use winnow_views::{Bits, TokenSlice};
+use winnow_wrap::{LocatingSlice, Partial, Stateful};
+
+type Fault = ErrMode<EmptyError>;
+
+// Each function is a list of what a type implements: the calls below compile only where it does.
+
+fn is_stream<S>()
+where
+    S: Stream + StreamIsPartial + Offset<S> + Offset<S::Checkpoint> + Recover<Fault>,
+    S::Checkpoint: Eq,
+{}
+
+// Each wrapper round a stream is one, from what the stream inside is alone.
+fn wrappers_are_streams<I>()
+where
+    I: Stream + StreamIsPartial + Offset<I> + Offset<I::Checkpoint> + Recover<Fault>,
+    I::Checkpoint: Offset<I::Checkpoint> + Eq,
+{
+    is_stream::<LocatingSlice<I>>();
+    is_stream::<Stateful<I, u8>>();
+    is_stream::<Partial<I>>();
+    is_stream::<Recoverable<I, Fault>>();
+}
+
+fn is_windowed<S: UpdateSlice + SliceLen>()
+where
+    S::Checkpoint: Offset<S::Checkpoint> + Ord,
+{}
+
+// And so it is with windows.
+fn wrappers_are_windowed<I: UpdateSlice + SliceLen>()
+where
+    I::Checkpoint: Offset<I::Checkpoint> + Ord,
+{
+    is_windowed::<LocatingSlice<I>>();
+    is_windowed::<Stateful<I, u8>>();
+    is_windowed::<Partial<I>>();
+    is_windowed::<Recoverable<I, Fault>>();
+}
+
+fn has_width<S: SliceLen>() {}
+
+fn has_places<S: Location>() {}
+
+fn has_bytes<S: AsBytes>() {}
+
+fn has_text<S: AsBStr>() {}
+
+fn has_bytes_and_text<S: AsBytes + AsBStr>() {}
+
+fn searches_text<S>()
+where
+    S: Compare<&'static str> + Compare<char>,
+    S: FindSlice<&'static str> + FindSlice<(&'static str,)>,
+    S: FindSlice<(&'static str, &'static str)>,
+    S: FindSlice<(&'static str, &'static str, &'static str)>,
+    S: FindSlice<char> + FindSlice<(char,)> + FindSlice<(char, char)>,
+    S: FindSlice<(char, char, char)> + FindSlice<Needles<&'static str>>,
+{}
+
+fn searches_bytes<S>()
+where
+    S: Compare<&'static [u8]> + Compare<[u8; 2]> + Compare<&'static [u8; 2]>,
+    S: Compare<&'static str> + Compare<u8> + Compare<char>,
+    S: FindSlice<&'static [u8]> + FindSlice<(&'static [u8],)>,
+    S: FindSlice<(&'static [u8], &'static [u8])>,
+    S: FindSlice<(&'static [u8], &'static [u8], &'static [u8])>,
+    S: FindSlice<&'static str> + FindSlice<(&'static str,)>,
+    S: FindSlice<(&'static str, &'static str)>,
+    S: FindSlice<(&'static str, &'static str, &'static str)>,
+    S: FindSlice<u8> + FindSlice<(u8,)> + FindSlice<(u8, u8)> + FindSlice<(u8, u8, u8)>,
+    S: FindSlice<char> + FindSlice<(char,)> + FindSlice<(char, char)>,
+    S: FindSlice<(char, char, char)> + FindSlice<Needles<&'static [u8]>>,
+{}
+
+fn compares_with<S: Compare<T>, T>() {}
+
+fn is_searched_for<S: FindSlice<T>, T>() {}
+
+// Each wrapper round a stream is compared with every literal of the stream inside, from that alone.
+fn wrappers_compare_with<I: Compare<T>, T>() {
+    compares_with::<LocatingSlice<I>, T>();
+    compares_with::<Stateful<I, u8>, T>();
+    compares_with::<Partial<I>, T>();
+    compares_with::<Recoverable<I, Fault>, T>();
+}
+
+// And it is searched for every needle of the stream inside, from that alone.
+fn wrappers_are_searched_for<I: FindSlice<T>, T>() {
+    is_searched_for::<LocatingSlice<I>, T>();
+    is_searched_for::<Stateful<I, u8>, T>();
+    is_searched_for::<Partial<I>, T>();
+    is_searched_for::<Recoverable<I, Fault>, T>();
+}
+
+fn compares_a_token<S: Compare<u8>>() {}
+
+fn is_error<I: Stream, E>()
+where
+    E: ParserError<I> + AssociativeOr<I> + AddContext<I, StrContext>,
+    E: FromRecoverableError<I, E> + FromExternalError<I, String>,
+{}
+
+// A mode is an error, from what the error inside is alone.
+fn modes_are_errors<I: Stream, E>()
+where
+    E: ParserError<I> + AssociativeOr<I> + AddContext<I, StrContext>,
+    E: FromRecoverableError<I, E> + FromExternalError<I, String>,
+{
+    is_error::<I, ErrMode<E>>();
+}
+
+fn is_modal<E: ModalError>() {}
+
+fn is_converted<E: ErrorConvert<E>>() {}
+
+fn is_value<T: Copy + Clone + Debug + Eq>() {}
+
+fn is_compared<T: Debug + Eq>() {}
+
+fn is_copied<T: Copy + Clone + Debug>() {}
+
+fn is_ordered<T: Ord>() {}
+
+fn is_hashed<T: Hash>() {}
+
+fn has_default<T: Default>() {}
+
+fn is_printed<T: Display + Debug>() {}
+
+#[test]
+fn every_stream_has_the_traits_of_streams() {
+    is_stream::<&'static [u8]>();
+    is_stream::<&'static str>();
+    is_stream::<BStr<'static>>();
+    is_stream::<Bytes<'static>>();
+    is_stream::<TokenSlice<'static, u8>>();
+    is_stream::<Bits<&'static [u8]>>();
+    wrappers_are_streams::<&'static str>();
+}
+
+#[test]
+fn every_stream_but_bits_orders_its_checkpoints_and_has_windows() {
+    is_windowed::<&'static [u8]>();
+    is_windowed::<&'static str>();
+    is_windowed::<BStr<'static>>();
+    is_windowed::<Bytes<'static>>();
+    is_windowed::<TokenSlice<'static, u8>>();
+    wrappers_are_windowed::<&'static str>();
+}
+
+#[test]
+fn widths_places_and_bytes_are_where_they_are_listed() {
+    has_width::<[u16; 3]>();
+    has_width::<&'static [u16; 3]>();
+    has_width::<u8>();
+    has_width::<char>();
+    has_width::<(&'static [u8], usize, usize)>();
+    has_places::<LocatingSlice<&'static str>>();
+    has_places::<TokenSlice<'static, LocatingSlice<&'static str>>>();
+    has_places::<Stateful<LocatingSlice<&'static str>, u8>>();
+    has_places::<Partial<LocatingSlice<&'static str>>>();
+    has_places::<Recoverable<LocatingSlice<&'static str>, Fault>>();
+    has_bytes_and_text::<&'static [u8]>();
+    has_bytes_and_text::<LocatingSlice<&'static [u8]>>();
+    has_bytes_and_text::<Stateful<&'static [u8], u8>>();
+    has_bytes_and_text::<Partial<&'static [u8]>>();
+    has_bytes_and_text::<Recoverable<&'static [u8], Fault>>();
+    has_bytes::<Bytes<'static>>();
+    has_text::<BStr<'static>>();
+    has_text::<&'static str>();
+}
+
+#[test]
+fn literals_and_needles_are_those_of_the_bytes_or_the_text_inside() {
+    searches_bytes::<&'static [u8]>();
+    searches_bytes::<BStr<'static>>();
+    searches_bytes::<Bytes<'static>>();
+    searches_text::<&'static str>();
+    wrappers_compare_with::<&'static [u8], &'static [u8]>();
+    wrappers_compare_with::<&'static str, char>();
+    wrappers_are_searched_for::<&'static [u8], (u8, u8)>();
+    wrappers_are_searched_for::<&'static str, &'static str>();
+    compares_a_token::<TokenSlice<'static, u8>>();
+}
+
+#[test]
+fn every_error_has_the_traits_of_errors() {
+    is_error::<&'static str, InputError<&'static str>>();
+    is_error::<&'static str, EmptyError>();
+    is_error::<&'static str, ()>();
+    is_error::<&'static str, ContextError<StrContext>>();
+    modes_are_errors::<&'static str, ContextError<StrContext>>();
+    is_modal::<ErrMode<EmptyError>>();
+    is_converted::<EmptyError>();
+    is_converted::<()>();
+    is_converted::<ContextError<StrContext>>();
+    is_converted::<ErrMode<EmptyError>>();
+}
+
+#[test]
+fn values_derive_what_is_listed() {
+    is_value::<Needed>();
+    is_value::<EmptyError>();
+    is_value::<BStr<'static>>();
+    is_value::<Bytes<'static>>();
+    is_value::<TokenSlice<'static, u8>>();
+    is_value::<Bits<&'static [u8]>>();
+    is_value::<InputError<&'static str>>();
+    is_value::<Fault>();
+    is_value::<Stateful<&'static str, u8>>();
+    is_value::<LocatingSlice<&'static str>>();
+    is_value::<Partial<&'static str>>();
+    is_compared::<CompareResult>();
+    is_compared::<StrContext>();
+    is_compared::<StrContextValue>();
+    is_compared::<Answer<u8, &'static [u8], bool>>();
+    is_compared::<RecordError<EmptyError>>();
+    is_copied::<Step<NoSet>>();
+    is_copied::<Needles<&'static str>>();
+    is_ordered::<BStr<'static>>();
+    is_ordered::<Bytes<'static>>();
+    is_ordered::<LocatingSlice<&'static str>>();
+    is_ordered::<Partial<&'static str>>();
+    has_default::<BStr<'static>>();
+    has_default::<Bytes<'static>>();
+    has_default::<TokenSlice<'static, u8>>();
+    has_default::<Stateful<&'static str, u8>>();
+    is_hashed::<BStr<'static>>();
+    is_hashed::<Bytes<'static>>();
+}
+
+#[test]
+fn texts_are_printed_where_it_is_listed() {
+    is_printed::<BStr<'static>>();
+    is_printed::<Bytes<'static>>();
+    is_printed::<LocatingSlice<&'static str>>();
+    is_printed::<Stateful<&'static str, u8>>();
+    is_printed::<Partial<&'static str>>();
+    is_printed::<Recoverable<&'static str, Fault>>();
+    is_printed::<ErrMode<EmptyError>>();
+    is_printed::<InputError<&'static str>>();
+    is_printed::<EmptyError>();
+    is_printed::<ContextError<StrContext>>();
+    is_printed::<StrContext>();
+    is_printed::<StrContextValue>();
+}

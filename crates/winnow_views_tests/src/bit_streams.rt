@@ -1,0 +1,232 @@
+ghost use Rattle.std.specs.Prelude.{◌≡◌, IfSome};
+ghost use Rattle.winnow_stream.specs.Source.{units};
+ghost use Rattle.winnow_views.specs.BitStream.{bits_input, bits_place, IsValidBits};
+ghost use Rattle.winnow_views.specs.BitSource.{IsBitSource};
+ghost use Rattle.winnow_views.specs.BitWidth.{SlicesHaveWidths};
+
+use std::alloc::{AllocError, Global};
+use std::test::Fail;
+use winnow_run::Step;
+use winnow_run::Step::{At, Each, Eof, Finish, Look, Mark, Next, Peek, Reset, Since, Take};
+use winnow_stream::{NoSet, Offset, SliceLen, Stream, StreamIsPartial};
+use winnow_test_helpers::{Traced, marks, tell, width_from};
+use winnow_views::{
+    Bits, bit_equality_law, bit_place_law, bit_slice_law, bit_source_law, byte_slice_law,
+    token_equality_law,
+};
+
+// The bits of bytes from a place on; `None` where they may not be streamed.
+fn bits_at(bytes: &[u8], place: usize) -> Option<Bits<&[u8]>>
+    ensures { IfSome result (λ s. IsBitSource (units (bits_input s).now) (bits_place s)) }
+{
+    if bytes.len() > 100 || place > 7 {
+        return None;
+    }
+    bit_source_law();
+    if place == 0 {
+        return Some(Bits::new(bytes));
+    }
+    if bytes.is_empty() {
+        return None;
+    }
+    Some(Bits::at_place(bytes, place))
+}
+
+// The answers of a script, which knows nothing of bits: what the stream of bytes keeps is kept.
+fn told_bits<I: Stream<Token = u8>>(
+    alloc: Global,
+    s: &mut Bits<I>,
+    script: &[Step<NoSet>],
+) -> Result<String, AllocError>
+where
+    I::Slice: Drop,
+    requires { IsValidBits I.valid I.remaining s.old }
+    ensures valid { IsValidBits I.valid I.remaining s.new }
+    ensures kept { I.keeps (bits_input s.old) (bits_input s.new) }
+{
+    tell(alloc, s, script)
+}
+
+// The same on the bits of bytes that someone lends; `None` where they may not be streamed.
+fn told_at<'i>(
+    alloc: Global,
+    bytes: &'i [u8],
+    place: usize,
+    script: &[Step<NoSet>],
+) -> Result<Option<String>, AllocError> {
+    match bits_at(bytes, place) {
+        Some(mut s) => Ok(Some(told_bits(alloc, &mut s, script)?)),
+        None => Ok(None),
+    }
+}
+
+#[test]
+fn scripts_on_bits(rt: HostRuntime) -> Result<(), Fail> {
+    let cases: [(&[u8], usize, &[Step<NoSet>], &str); 6] = [
+        (
+            b"\xab",
+            0,
+            &[Take(4), Peek, Take(4), Next],
+            "[Slice(([], 0, 4)), Token(Some(false)), Slice(([171], 4, 0)), Token(None)]",
+        ),
+        (
+            b"\xab",
+            0,
+            &[Each],
+            "[Items([(0, true), (1, true), (2, false), (3, true), (4, false), (5, true), (6, false), (7, true)])]",
+        ),
+        (
+            b"\xab",
+            3,
+            &[At(6), At(5), Look(5), Look(6), Eof],
+            "[At(Err(Size(1))), At(Ok(5)), Slice(([171], 3, 0)), BadOffset, Offset(5)]",
+        ),
+        (
+            b"",
+            0,
+            &[Each, Next, Peek, At(0), At(9), Take(0), Finish],
+            "[Items([]), Token(None), Token(None), At(Ok(0)), At(Err(Size(9))), Slice(([], 0, 0)), Slice(([], 0, 0))]",
+        ),
+        (
+            b"\xab\x01",
+            6,
+            &[Mark, Next, Next, Next, Take(3), Since(0), Reset(0), Each],
+            "[Marked(0), Token(Some(false)), Token(Some(true)), Token(Some(true)), Slice(([], 1, 4)), Offset(6), Done, Items([(0, false), (1, true), (2, true), (3, false), (4, false), (5, false), (6, false), (7, false), (8, false), (9, false)])]",
+        ),
+        (
+            b"\xab\xcd\xef",
+            5,
+            &[Look(11), Take(12), Finish],
+            "[Slice(([171, 205], 5, 0)), Slice(([171, 205], 5, 1)), Slice(([239], 1, 0))]",
+        ),
+    ];
+    for (bytes, place, script, want) in cases {
+        let told = told_at(rt.alloc(), bytes, place, script)?.ok_or("no bits")?;
+        assert_eq!(rt; told.as_str(), want, "at {place}");
+    }
+    Ok(())
+}
+
+// Bit by bit, without a stream.
+fn slow_bits(alloc: Global, bytes: &[u8]) -> Result<Vec<bool>, AllocError> {
+    let mut bits = Vec::new(alloc);
+    for byte in bytes {
+        for place in 0..8u32 {
+            bits.push(byte >> place & 1 == 1)?;
+        }
+    }
+    Ok(bits)
+}
+
+// The slice of that many bits, and its length, which is their number; `None` where fewer remain.
+fn take<I: Stream<Token = u8>>(
+    bits: &mut Bits<I>,
+    count: usize,
+) -> Option<((I::Slice, usize, usize), usize)>
+where
+    I::Slice: SliceLen,
+    requires valid { IsValidBits I.valid I.remaining bits.old }
+    requires widths { SlicesHaveWidths I.is_slice I.Slice.has_width I.Slice.width_of }
+    ensures length { IfSome result (λ taken. taken.1 ≡ count) }
+    ensures valid { IsValidBits I.valid I.remaining bits.new }
+{
+    if !bits.is_offset(count) {
+        return None;
+    }
+    let slice = bits.next_slice(count);
+    bit_slice_law::<I>();
+    let length = slice.slice_len();
+    Some((slice, length))
+}
+
+#[test]
+fn slices_against_a_slow_reading(rt: HostRuntime) -> Result<(), Fail> {
+    let bytes = b"\xab\x31\xc0".as_slice();
+    let slow = slow_bits(rt.alloc(), bytes)?;
+    byte_slice_law();
+    for place in 0..8usize {
+        for count in 0..25 - place {
+            let mut rest = bits_at(bytes, place).ok_or("no bits")?;
+            let ((whole, start, end), length) = take(&mut rest, count).ok_or("too few")?;
+            assert_eq!(rt; (whole, start), (&bytes[..(place + count) / 8], place));
+            assert_eq!(rt; (end, length), ((place + count) % 8, count));
+            let left: Vec<bool> = rest.iter_offsets().map(|(_, bit)| bit).collect(rt.alloc())?;
+            assert_eq!(rt;
+                Some(left.as_slice()),
+                slow.get(place + count..),
+                "{place}, {count}"
+            );
+        }
+        let mut rest = bits_at(bytes, place).ok_or("no bits")?;
+        assert_eq!(rt; take(&mut rest, 25 - place), None);
+        // One byte.
+        let one = bits_at(&bytes[..1], place).ok_or("no bits")?;
+        let left: Vec<bool> = one.iter_offsets().map(|(_, bit)| bit).collect(rt.alloc())?;
+        assert_eq!(rt; Some(left.as_slice()), slow.get(place..8), "{place}");
+    }
+    Ok(())
+}
+
+// The width of a token, through the bounds.
+fn token_width<S: Stream + Offset<S::Checkpoint>>(s: &mut S) -> usize
+where
+    S::Token: Drop,
+    requires valid { S.valid s.old }
+    requires measured { (t : S) (c : S.Checkpoint) → S.valid t → S.valid_checkpoint c → S.can_measure t c }
+{
+    let start = s.checkpoint();
+    let _ = s.next_token();
+    s.offset_from(&start)
+}
+
+// The place, from the number of bits alone.
+fn place_of<I: Stream<Token = u8>>(s: &Bits<I>) -> usize
+    requires { IsValidBits I.valid I.remaining s.now }
+    ensures { result ≡ bits_place s.now }
+{
+    bit_place_law();
+    (8 - s.eof_offset() % 8) % 8
+}
+
+// Clearing the mark of the stream of bytes changes nothing else.
+fn complete_bits<I: StreamIsPartial>(s: &mut Bits<I>) -> I::PartialState
+    ensures before { result ≡ I.partial_state (bits_input s.old) }
+    ensures bytes { I.same_but_mark (bits_input s.old) (bits_input s.new) }
+    ensures place { bits_place s.old ≡ bits_place s.new }
+{
+    s.complete()
+}
+
+#[test]
+fn places_of_bits(rt: HostRuntime) {
+    let bytes = b"\xab\x31".as_slice();
+    let start = Bits::new(bytes);
+    let mut end = start;
+    assert_eq!(rt; token_width(&mut end), 1);
+    assert_eq!(rt; end.into_parts(), (bytes, 1));
+    assert!(rt; end == Bits::at_place(bytes, 1) && end != start);
+    assert!(rt; end.checkpoint() != start.checkpoint());
+    assert!(rt; start.checkpoint() == Bits::new(bytes).checkpoint());
+    assert_eq!(rt; width_from(&Bits::at_place(bytes, 5), &start), 5);
+    assert_eq!(rt; marks(&mut end), [false; 4]);
+    complete_bits(&mut end);
+    let mut rest = Bits::at_place(bytes, 5);
+    assert_eq!(rt; (place_of(&start), place_of(&rest)), (0, 5));
+    assert_eq!(rt; rest.peek_finish(), (bytes, 5, 0));
+    assert_eq!(rt; rest.finish(), (bytes, 5, 0));
+    assert_eq!(rt; rest.into_parts(), (b"".as_slice(), 0));
+}
+
+#[test]
+fn traces_print_what_remains(rt: HostRuntime) -> Result<(), Fail> {
+    let trace = format!(in rt.alloc(); "{}", Traced(Bits::new(b"ab".as_slice())))?;
+    assert_eq!(rt; trace.as_str(), "Bits { input: [97, 98], place: 0 }");
+    Ok(())
+}
+
+// They do nothing: that each is called shows that it can be.
+#[test]
+fn laws_of_equality(_rt: HostRuntime) {
+    bit_equality_law::<&[u8]>();
+    token_equality_law::<u8>();
+}

@@ -1,0 +1,220 @@
+ghost use Rattle.std.specs.Prelude.{◌≡◌};
+ghost use Rattle.winnow_views.specs.TokenPlaces.{whole_of};
+ghost use Rattle.winnow_views.specs.declared.token_slice.TokenSlice.{TokenSlice};
+
+use std::alloc::{AllocError, Global};
+use std::fmt::Debug;
+use std::test::Fail;
+use winnow_match::CompareResult;
+use winnow_run::Step::{At, Each, Finish, Mark, Next, Peek, Reset, Since, Take};
+use winnow_run::{Step, run};
+use winnow_stream::{Location, NoSet, Stream, StreamIsPartial, UpdateSlice};
+use winnow_test_helpers::{Traced, compares, marks, told, width, width_from};
+use winnow_views::TokenSlice;
+
+// A token that is not `Copy`, with its place in the input of the lexer.
+#[derive(Debug, Drop, PartialEq, Eq)]
+struct Lexed {
+    start: usize,
+    end: usize,
+}
+
+impl Location for Lexed {
+    ghost token_end = { λ t. t.end };
+
+    ghost token_start = { λ t. t.start };
+
+    fn previous_token_end(&self) -> usize {
+        self.end
+    }
+
+    fn current_token_start(&self) -> usize {
+        self.start
+    }
+}
+
+const LEXED: [Lexed; 3] = [
+    Lexed { start: 1, end: 9 },
+    Lexed { start: 11, end: 19 },
+    Lexed { start: 21, end: 29 },
+];
+
+// What remains, and the tokens before the place, the last first.
+fn shown(alloc: Global, tokens: &TokenSlice<'_, u8>) -> Result<String, AllocError> {
+    let previous: Vec<&u8> = tokens.previous_tokens().collect(alloc)?;
+    format!(in alloc; "{tokens:?} after {previous:?}")
+}
+
+// Runs a script, which knows nothing of tokens: the whole list stays.
+fn run_on<'t, T: Debug>(
+    alloc: Global,
+    s: &mut TokenSlice<'t, T>,
+    script: &[Step<NoSet>],
+) -> Result<usize, AllocError>
+    ensures { whole_of s.old ≡ whole_of s.new }
+{
+    let answers = run(alloc, s, script)?;
+    Ok(answers.len())
+}
+
+// The stream narrowed to its front of that width.
+fn window<S: UpdateSlice + Drop>(mut s: S, offset: usize) -> Option<S>
+    requires { S.valid s }
+{
+    if !s.is_offset(offset) {
+        return None;
+    }
+    let start = s.checkpoint();
+    let inner = s.next_slice(offset);
+    Some(s.update_slice(inner, &start))
+}
+
+// Both locations, through the bound.
+fn located<S: Location>(s: &S) -> (usize, usize) {
+    (s.previous_token_end(), s.current_token_start())
+}
+
+// There is no mark: they stay as they are, and what agrees in all but the mark is the same.
+fn complete_tokens<'t, T>(s: &mut TokenSlice<'t, T>)
+    ensures kept { s.old ≡ s.new }
+    ensures same { (s t : TokenSlice T) → ⟦<TokenSlice<'t, T> as StreamIsPartial>⟧.same_but_mark s t → s ≡ t }
+{
+    s.complete();
+    s.restore_partial(());
+}
+
+#[test]
+fn a_window_has_the_place_where_it_begins(rt: HostRuntime) -> Result<(), Fail> {
+    let mut tokens = TokenSlice::new(&[5, 6, 7, 8]);
+    assert_eq!(rt;
+        shown(rt.alloc(), &tokens)?.as_str(),
+        "[5, 6, 7, 8] after []"
+    );
+    let _ = tokens.next_token();
+    let mut tokens = window(tokens, 2).ok_or("two tokens remain")?;
+    assert_eq!(rt; shown(rt.alloc(), &tokens)?.as_str(), "[6, 7] after [5]");
+    assert_eq!(rt; tokens.next_token(), Some(&6));
+    assert_eq!(rt; shown(rt.alloc(), &tokens)?.as_str(), "[7] after [6, 5]");
+    tokens.reset_to_start();
+    assert_eq!(rt;
+        shown(rt.alloc(), &tokens)?.as_str(),
+        "[5, 6, 7, 8] after []"
+    );
+    Ok(())
+}
+
+#[test]
+fn scripts_run_over_tokens(rt: HostRuntime) -> Result<(), Fail> {
+    let script = [
+        Mark,
+        Next,
+        At(3),
+        Take(2),
+        Since(0),
+        Each,
+        Finish,
+        Next,
+        Reset(0),
+        Peek,
+    ];
+    for (answers, want) in [
+        (
+            told(rt.alloc(), TokenSlice::new(b"abcd"), &script)?,
+            "[Marked(0), Token(Some(97)), At(Ok(3)), Slice([98, 99]), Offset(3), Items([(0, 100)]), Slice([100]), Token(None), Done, Token(Some(97))]",
+        ),
+        (
+            told(rt.alloc(), TokenSlice::new(&["a", "b", "c"]), &script)?,
+            "[Marked(0), Token(Some(\"a\")), At(Err(Size(1))), Slice([\"b\", \"c\"]), Offset(3), Items([]), Slice([]), Token(None), Done, Token(Some(\"a\"))]",
+        ),
+        (
+            told(rt.alloc(), TokenSlice::new(&LEXED), &[At(3), Take(2), Each])?,
+            "[At(Ok(3)), Slice([Lexed { start: 1, end: 9 }, Lexed { start: 11, end: 19 }]), Items([(0, Lexed { start: 21, end: 29 })])]",
+        ),
+    ] {
+        assert_eq!(rt; answers.as_str(), want);
+    }
+    let mut tokens = TokenSlice::new(b"abcd");
+    assert_eq!(rt; run_on(rt.alloc(), &mut tokens, &script[..4])?, 4);
+    assert_eq!(rt;
+        shown(rt.alloc(), &tokens)?.as_str(),
+        "[100] after [99, 98, 97]"
+    );
+    Ok(())
+}
+
+#[test]
+fn a_checkpoint_of_a_longer_list_is_taken(rt: HostRuntime) -> Result<(), Fail> {
+    let mut longer = TokenSlice::new(&[1, 2, 3, 4, 5]);
+    let _ = window(longer, 4);
+    for _ in 0..4 {
+        let _ = longer.next_token();
+    }
+    let mut tokens = TokenSlice::new(&[7, 8]);
+    let _ = tokens.next_token();
+    tokens.reset(&longer.checkpoint());
+    assert_eq!(rt; shown(rt.alloc(), &tokens)?.as_str(), "[5] after [8, 7]");
+    let _ = tokens.next_token();
+    assert_eq!(rt; shown(rt.alloc(), &tokens)?.as_str(), "[] after [8, 7]");
+    tokens.reset_to_start();
+    assert_eq!(rt; shown(rt.alloc(), &tokens)?.as_str(), "[7, 8] after []");
+    Ok(())
+}
+
+#[test]
+fn locations_are_those_of_the_neighbours(rt: HostRuntime) {
+    let mut tokens = TokenSlice::new(&LEXED);
+    for place in [(1, 1), (9, 11), (19, 21), (29, 29)] {
+        assert_eq!(rt; located(&tokens), place);
+        let _ = tokens.next_token();
+    }
+    assert_eq!(rt; located(&TokenSlice::<Lexed>::default()), (0, 0));
+}
+
+#[test]
+fn the_first_token_is_compared(rt: HostRuntime) {
+    let tokens = TokenSlice::new(&[5, 6]);
+    for (answer, want) in [
+        (compares(tokens, 5), CompareResult::Ok(1)),
+        (compares(tokens, 6), CompareResult::Error),
+        (compares(TokenSlice::new(&[]), 5), CompareResult::Incomplete),
+    ] {
+        assert_eq!(rt; answer, want);
+    }
+    assert_eq!(rt;
+        compares(TokenSlice::new(&LEXED), Lexed { start: 1, end: 9 }),
+        CompareResult::Ok(1)
+    );
+}
+
+#[test]
+fn widths_are_numbers_of_tokens(rt: HostRuntime) {
+    let start = TokenSlice::new(b"abc");
+    let mut tokens = start;
+    let _ = tokens.next_token();
+    assert_eq!(rt; width_from(&tokens, &start), 1);
+    assert_eq!(rt; width_from(&tokens, &start.checkpoint()), 1);
+    assert_eq!(rt; width_from(&tokens.checkpoint(), &start.checkpoint()), 1);
+    assert_eq!(rt; (width(&tokens), marks(&mut tokens)), (2, [false; 4]));
+    complete_tokens(&mut tokens);
+    assert_eq!(rt; tokens.as_slice(), b"bc".as_slice());
+}
+
+#[test]
+fn equality_is_that_of_the_tokens(rt: HostRuntime) {
+    let start = TokenSlice::new(&[7, 7]);
+    let mut tokens = start;
+    let _ = tokens.next_token();
+    let other = TokenSlice::new(&[7]);
+    assert_eq!(rt; start == TokenSlice::new(&[7, 7]), true);
+    assert_eq!(rt; start == tokens, false);
+    assert_eq!(rt; other == tokens, false);
+    assert_eq!(rt; other.checkpoint() == tokens.checkpoint(), true);
+    assert_eq!(rt; start.checkpoint() > tokens.checkpoint(), true);
+}
+
+#[test]
+fn traces_print_what_remains(rt: HostRuntime) -> Result<(), Fail> {
+    let trace = format!(in rt.alloc(); "{}", Traced(TokenSlice::new(b"ab")))?;
+    assert_eq!(rt; trace.as_str(), "[97, 98]");
+    Ok(())
+}

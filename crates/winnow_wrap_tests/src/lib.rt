@@ -1,0 +1,7 @@
+//! The tests of wrappers, and of nests of them. Nothing here is part of the library.
+#![tactic(auto)]
+
+#[cfg(test)]
+mod nests;
+#[cfg(test)]
+mod wrappers;
