@@ -1,10 +1,11 @@
 ghost use Rattle.std.specs.Prelude.{◌≡◌, ⊤};
-ghost use Rattle.winnow_error.specs.Explanation.{pushed, unexplained};
-ghost use Rattle.winnow_error.specs.declared.str_context.StrContext.TheVariants.{Label};
+ghost use Rattle.winnow_context.specs.Explanation.{pushed, unexplained};
+ghost use Rattle.winnow_context.specs.declared.str_context.StrContext.TheVariants.{Label};
 
 use std::alloc::{AllocError, Global};
-use winnow_error::StrContext::Label;
-use winnow_error::{AddContext, ContextError, ErrMode, ErrorConvert, InputError, StrContext};
+use winnow_context::StrContext::Label;
+use winnow_context::{ContextError, StrContext};
+use winnow_error::{AddContext, ErrMode, ErrorConvert, InputError};
 use winnow_stream::Stream;
 
 type Told = ContextError<StrContext>;

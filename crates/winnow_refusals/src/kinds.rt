@@ -1,5 +1,6 @@
 use std::alloc::{AllocError, Global};
-use winnow_kinds::{BStr, Bytes};
+use winnow_bytes::Bytes;
+use winnow_kinds::BStr;
 
 /// The bytes of both kinds, copied.
 pub fn to_vec(alloc: Global) -> Result<bool, AllocError> {

@@ -1,0 +1,199 @@
+use std::alloc::{AllocError, Global};
+use std::borrow::CowStr;
+use std::collections::{BTreeMap, BTreeSet, HashMap, HashSet, VecDeque};
+use winnow_count::Accumulate;
+
+// More numbers than fit the room of a first growth, and the same in pieces.
+const NUMBERS: usize = 20;
+
+const PIECES: [&[usize]; 5] = [&[0, 1], &[2, 3], &[4, 5], &[6, 7], &[8, 9]];
+
+// A text, and the same in pieces.
+const TEXT: &str = "abcdefghijklmnopqr";
+
+const TEXTS: [&str; 6] = ["abc", "def", "ghi", "jkl", "mno", "pqr"];
+
+// Takes item after item, from an accumulator with room for one. Refused, it holds the items from before.
+fn gather<A: Accumulate<T> + Drop, T: Drop, F: Fn(&A, usize) -> bool + Drop>(
+    alloc: Global,
+    items: Vec<T>,
+    holds_first: F,
+) -> Result<bool, AllocError>
+    requires can { (a : A) → A.can_accumulate a }
+    requires callable { F.IsAlwaysCallable holds_first }
+{
+    let total = items.len();
+    let mut all = A::initial(alloc, Some(1))?;
+    for (count, item) in items.into_iter().enumerate() {
+        if let Err(refused) = all.accumulate(alloc, item) {
+            return if holds_first(&all, count) {
+                Err(refused)
+            } else {
+                Ok(false)
+            };
+        }
+    }
+    Ok(holds_first(&all, total))
+}
+
+fn numbers(alloc: Global) -> Result<Vec<usize>, AllocError> {
+    (0..NUMBERS).collect(alloc)
+}
+
+// Each number beside itself.
+fn pairs(alloc: Global) -> Result<Vec<(usize, usize)>, AllocError> {
+    (0..NUMBERS).map(|number| (number, number)).collect(alloc)
+}
+
+fn borrowed(alloc: Global) -> Result<Vec<&'static str>, AllocError> {
+    Vec::from_slice(alloc, &TEXTS)
+}
+
+fn owned(alloc: Global) -> Result<Vec<String>, AllocError> {
+    let mut texts = Vec::new(alloc);
+    for text in TEXTS {
+        texts.push(String::from_str(alloc, text)?)?;
+    }
+    Ok(texts)
+}
+
+fn cows(alloc: Global) -> Result<Vec<CowStr<'static, Global>>, AllocError> {
+    let mut texts = Vec::new(alloc);
+    for text in TEXTS {
+        texts.push(CowStr::Borrowed(text))?;
+    }
+    Ok(texts)
+}
+
+fn characters(alloc: Global) -> Result<Vec<char>, AllocError> {
+    TEXT.chars().collect(alloc)
+}
+
+// Whether it is the front of the text of so many bytes.
+fn is_front(text: &str, width: usize) -> bool {
+    TEXT.as_bytes().get(..width) == Some(text.as_bytes())
+}
+
+fn has_characters(text: &String, count: usize) -> bool {
+    is_front(text.as_str(), count)
+}
+
+fn has_texts(text: &String, count: usize) -> bool {
+    is_front(text.as_str(), count.saturating_mul(3))
+}
+
+fn has_characters_owned(text: &CowStr<'static, Global>, count: usize) -> bool {
+    matches!(text, CowStr::Owned(_)) == (count > 0) && is_front(text.as_str(), count)
+}
+
+// The first text stays borrowed.
+fn has_texts_borrowed(text: &CowStr<'static, Global>, count: usize) -> bool {
+    matches!(text, CowStr::Owned(_)) == (count > 1)
+        && is_front(text.as_str(), count.saturating_mul(3))
+}
+
+fn has_texts_owned(text: &CowStr<'static, Global>, count: usize) -> bool {
+    matches!(text, CowStr::Owned(_)) == (count > 0)
+        && is_front(text.as_str(), count.saturating_mul(3))
+}
+
+/// Each accumulator that takes memory, of each kind of item.
+pub fn all(alloc: Global) -> [(&'static str, Result<bool, AllocError>); 15] {
+    [
+        ("Vec of items", vector_of_items(alloc)),
+        ("Vec of slices", vector_of_slices(alloc)),
+        ("VecDeque of slices", queue_of_slices(alloc)),
+        ("String of characters", text_of_characters(alloc)),
+        ("String of texts", text_of_texts(alloc)),
+        ("String of cows", text_of_cows(alloc)),
+        ("String of strings", text_of_strings(alloc)),
+        ("CowStr of characters", cow_of_characters(alloc)),
+        ("CowStr of texts", cow_of_texts(alloc)),
+        ("CowStr of cows", cow_of_cows(alloc)),
+        ("CowStr of strings", cow_of_strings(alloc)),
+        ("BTreeMap", tree_map(alloc)),
+        ("HashMap", hash_map(alloc)),
+        ("BTreeSet", tree_set(alloc)),
+        ("HashSet", hash_set(alloc)),
+    ]
+}
+
+fn vector_of_items(alloc: Global) -> Result<bool, AllocError> {
+    gather(alloc, numbers(alloc)?, |all: &Vec<usize>, count| {
+        all.iter().copied().eq(0..count)
+    })
+}
+
+fn vector_of_slices(alloc: Global) -> Result<bool, AllocError> {
+    let pieces = Vec::from_slice(alloc, &PIECES)?;
+    gather(alloc, pieces, |all: &Vec<usize>, count| {
+        all.iter().copied().eq(0..count.saturating_mul(2))
+    })
+}
+
+fn queue_of_slices(alloc: Global) -> Result<bool, AllocError> {
+    let pieces = Vec::from_slice(alloc, &PIECES)?;
+    gather(alloc, pieces, |all: &VecDeque<usize>, count| {
+        all.iter().copied().eq(0..count.saturating_mul(2))
+    })
+}
+
+fn text_of_characters(alloc: Global) -> Result<bool, AllocError> {
+    gather(alloc, characters(alloc)?, has_characters)
+}
+
+fn text_of_texts(alloc: Global) -> Result<bool, AllocError> {
+    gather(alloc, borrowed(alloc)?, has_texts)
+}
+
+fn text_of_cows(alloc: Global) -> Result<bool, AllocError> {
+    gather(alloc, cows(alloc)?, has_texts)
+}
+
+fn text_of_strings(alloc: Global) -> Result<bool, AllocError> {
+    gather(alloc, owned(alloc)?, has_texts)
+}
+
+fn cow_of_characters(alloc: Global) -> Result<bool, AllocError> {
+    gather(alloc, characters(alloc)?, has_characters_owned)
+}
+
+fn cow_of_texts(alloc: Global) -> Result<bool, AllocError> {
+    gather(alloc, borrowed(alloc)?, has_texts_borrowed)
+}
+
+fn cow_of_cows(alloc: Global) -> Result<bool, AllocError> {
+    gather(alloc, cows(alloc)?, has_texts_borrowed)
+}
+
+fn cow_of_strings(alloc: Global) -> Result<bool, AllocError> {
+    gather(alloc, owned(alloc)?, has_texts_owned)
+}
+
+fn tree_map(alloc: Global) -> Result<bool, AllocError> {
+    gather(
+        alloc,
+        pairs(alloc)?,
+        |all: &BTreeMap<usize, usize>, count| {
+            all.len() == count && (0..count).all(|number| all.get(&number) == Some(&number))
+        },
+    )
+}
+
+fn hash_map(alloc: Global) -> Result<bool, AllocError> {
+    gather(alloc, pairs(alloc)?, |all: &HashMap<usize, usize>, count| {
+        all.len() == count && (0..count).all(|number| all.get(&number) == Some(&number))
+    })
+}
+
+fn tree_set(alloc: Global) -> Result<bool, AllocError> {
+    gather(alloc, numbers(alloc)?, |all: &BTreeSet<usize>, count| {
+        all.iter().copied().eq(0..count)
+    })
+}
+
+fn hash_set(alloc: Global) -> Result<bool, AllocError> {
+    gather(alloc, numbers(alloc)?, |all: &HashSet<usize>, count| {
+        all.len() == count && (0..count).all(|number| all.contains(&number))
+    })
+}

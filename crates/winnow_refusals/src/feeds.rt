@@ -1,0 +1,170 @@
+use std::alloc::{AllocError, Global};
+use std::ops::Range;
+use std::str;
+use winnow_feed::{ByteFeed, Finished, TextFeed, Told, run_pieces, run_pieces_text};
+use winnow_run::SearchStep::Call;
+use winnow_run::Step::{Finish, Next, Peek, Take};
+use winnow_run::{Answer, SearchAnswer, SearchStep};
+use winnow_sets::CharSet;
+
+type ByteStep<'k> = SearchStep<CharSet<'k>, &'k [u8]>;
+
+type TextStep<'k> = SearchStep<CharSet<'k>, &'k str>;
+
+const BYTES: [ByteStep<'static>; 4] = [Call(Next), Call(Next), Call(Peek), Call(Finish)];
+
+const TEXTS: [TextStep<'static>; 4] = [Call(Next), Call(Next), Call(Peek), Call(Finish)];
+
+// How long a piece is for which the buffer has to grow.
+const LONG: usize = 65_536;
+
+// No place comes near what a `usize` holds.
+const MOST: usize = 1_000_000;
+
+// The answers over an `a`, nothing, and that many times `b`.
+fn answers<T>(a: T, b: T, again: T) -> [Told<T>; 4] {
+    [
+        told(Some(1), Answer::Token(Some(a))),
+        told(Some(3), Answer::Token(Some(b))),
+        told(Some(3), Answer::Token(Some(again))),
+        told(None, Answer::Slice(2..LONG + 1)),
+    ]
+}
+
+fn told<T>(piece: Option<u64>, answer: Answer<T, Range<usize>, Range<usize>>) -> Told<T> {
+    Told {
+        piece,
+        answer: SearchAnswer::Call(answer),
+    }
+}
+
+// What a feed says of its bytes, its attempts and its answers.
+fn counts(feed: &ByteFeed) -> (usize, usize, u64, usize) {
+    let out = feed.answers().len();
+    (feed.fed(), feed.held(), feed.tried(), out)
+}
+
+fn text_counts(feed: &TextFeed) -> (usize, usize, u64, usize) {
+    let out = feed.answers().len();
+    (feed.fed(), feed.held(), feed.tried(), out)
+}
+
+// Whether these answers are the first of those.
+fn are_first<T: PartialEq>(out: &[Told<T>], all: &[Told<T>]) -> bool {
+    match all.get(..out.len()) {
+        Some(first) => first == out,
+        None => false,
+    }
+}
+
+// Feeds a piece, again where memory is refused; whether the feed was as it was then.
+fn feed_again(feed: &mut ByteFeed, piece: &[u8], all: &[Told<u8>]) -> Result<bool, AllocError> {
+    if feed.fed() > MOST || piece.len() > MOST {
+        return Ok(false);
+    }
+    let before = counts(feed);
+    if feed.feed(piece).is_ok() {
+        return Ok(true);
+    }
+    let kept = counts(feed) == before && are_first(feed.answers(), all);
+    feed.feed(piece)?;
+    Ok(kept)
+}
+
+fn feed_text_again(
+    feed: &mut TextFeed,
+    piece: &str,
+    all: &[Told<char>],
+) -> Result<bool, AllocError> {
+    if feed.fed() > MOST || piece.len() > MOST {
+        return Ok(false);
+    }
+    let before = text_counts(feed);
+    if feed.feed(piece).is_ok() {
+        return Ok(true);
+    }
+    let kept = text_counts(feed) == before && are_first(feed.answers(), all);
+    feed.feed(piece)?;
+    Ok(kept)
+}
+
+// Whether these are all answers, and the final place.
+fn is_finished<T: PartialEq>(finished: &Finished<T>, answers: &[Told<T>]) -> bool {
+    finished.answers() == answers && finished.cursor() == LONG + 1
+}
+
+/// A feed of bytes. Refused, it is as it was, and takes the same piece again.
+pub fn feed_bytes(alloc: Global) -> Result<bool, AllocError> {
+    let long = vec![in alloc; b'b'; LONG]?;
+    let wanted = answers(97, 98, 98);
+    let mut feed = ByteFeed::new(alloc, &BYTES)?;
+    let pieces: [&[u8]; 3] = [b"a", b"", long.as_slice()];
+    for piece in pieces {
+        if !feed_again(&mut feed, piece, &wanted)? {
+            return Ok(false);
+        }
+    }
+    if feed.answers().len() != 3 || feed.held() != LONG - 1 {
+        return Ok(false);
+    }
+    Ok(is_finished(&feed.end(), &wanted))
+}
+
+/// A feed of text. Refused, it is as it was, and takes the same piece again.
+pub fn feed_text(alloc: Global) -> Result<bool, AllocError> {
+    let long = vec![in alloc; b'b'; LONG]?;
+    let Ok(long) = str::from_utf8(long.as_slice()) else {
+        return Ok(false);
+    };
+    let wanted = answers('a', 'b', 'b');
+    let mut feed = TextFeed::new(alloc, &TEXTS)?;
+    for piece in ["a", "", long] {
+        if !feed_text_again(&mut feed, piece, &wanted)? {
+            return Ok(false);
+        }
+    }
+    if feed.answers().len() != 3 || feed.held() != LONG - 1 {
+        return Ok(false);
+    }
+    Ok(is_finished(&feed.end(), &wanted))
+}
+
+/// The same pieces of bytes at once.
+pub fn all_bytes(alloc: Global) -> Result<bool, AllocError> {
+    let long = vec![in alloc; b'b'; LONG]?;
+    let finished = run_pieces(alloc, &BYTES, &[b"a", b"", long.as_slice()])?;
+    Ok(is_finished(&finished, &answers(97, 98, 98)))
+}
+
+/// The same pieces of text at once.
+pub fn all_text(alloc: Global) -> Result<bool, AllocError> {
+    let long = vec![in alloc; b'b'; LONG]?;
+    let Ok(long) = str::from_utf8(long.as_slice()) else {
+        return Ok(false);
+    };
+    let finished = run_pieces_text(alloc, &TEXTS, &["a", "", long])?;
+    Ok(is_finished(&finished, &answers('a', 'b', 'b')))
+}
+
+// Feeds bytes in pieces of that length; whether the feed kept none of them.
+fn keeps_none(feed: &mut ByteFeed, bytes: &[u8], length: usize) -> Result<bool, AllocError> {
+    for piece in bytes.chunks(length.max(1)) {
+        if feed.fed() > MOST || piece.len() > MOST {
+            return Ok(false);
+        }
+        feed.feed(piece)?;
+        if feed.held() != 0 {
+            return Ok(false);
+        }
+    }
+    Ok(true)
+}
+
+/// Bytes in pieces of that length, which a script takes from the feed as they come.
+pub fn drain(alloc: Global, length: usize) -> Result<bool, AllocError> {
+    let script: [ByteStep; 256] = [Call(Take(1024)); 256];
+    let bytes = vec![in alloc; b'a'; 262_144]?;
+    let mut feed = ByteFeed::new(alloc, &script)?;
+    let kept_none = keeps_none(&mut feed, bytes.as_slice(), length)?;
+    Ok(kept_none && feed.answers().len() == 256)
+}

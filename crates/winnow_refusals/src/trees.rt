@@ -1,0 +1,94 @@
+use std::alloc::{AllocError, Global};
+use winnow_context::StrContext;
+use winnow_context::StrContext::Label;
+use winnow_error::ErrMode::Backtrack;
+use winnow_error::{AddContext, ErrorConvert, OrTree, ParserError};
+use winnow_stream::Stream;
+use winnow_tree::{TreeError, combine_trees};
+use winnow_views::Bits;
+
+type Tree<'i> = TreeError<&'i str, StrContext>;
+
+const INPUT: &str = "12x";
+
+fn at<'i>(alloc: Global) -> Tree<'i> {
+    TreeError::from_input(alloc, &INPUT)
+}
+
+// An error that a parser failed of, which was reading a number.
+fn stacked<'i>(alloc: Global) -> Result<Tree<'i>, AllocError> {
+    let start = INPUT.checkpoint();
+    let error = at(alloc).append(alloc, &INPUT, &start)?;
+    error.add_context(alloc, &INPUT, &start, Label("a"))
+}
+
+// Two alternatives, the second of which is stacked.
+fn alternatives<'i>(alloc: Global) -> Result<Tree<'i>, AllocError> {
+    let second = stacked(alloc)?;
+    ParserError::<&str>::or(at(alloc), alloc, second)
+}
+
+const ALTERNATIVES: &str =
+    "during one of:\n   at '12x'\n   at '12x'\n    0:  at '12x'\n    1: invalid a at '12x'\n";
+
+/// Frames on an error, which a refusal gives up.
+pub fn append(alloc: Global) -> Result<bool, AllocError> {
+    let text = stacked(alloc)?.text(alloc)?;
+    Ok(text.as_str() == " at '12x'\n  0:  at '12x'\n  1: invalid a at '12x'\n")
+}
+
+/// The error of two alternatives, which a refusal gives up.
+pub fn or(alloc: Global) -> Result<bool, AllocError> {
+    let text = alternatives(alloc)?.text(alloc)?;
+    Ok(text.as_str() == ALTERNATIVES)
+}
+
+/// The text of an error. Refused, the error is as it was.
+pub fn text(alloc: Global) -> Result<bool, AllocError> {
+    let error = alternatives(alloc)?;
+    match error.text(alloc) {
+        Ok(text) => Ok(text.as_str() == ALTERNATIVES),
+        Err(refused) => {
+            let again = error.text(alloc)?;
+            if again.as_str() == ALTERNATIVES {
+                Err(refused)
+            } else {
+                Ok(false)
+            }
+        }
+    }
+}
+
+/// An error with copies of its inputs, and then with their lengths.
+pub fn map_input(alloc: Global) -> Result<bool, AllocError> {
+    let owned = stacked(alloc)?.into_owned(alloc)?;
+    let lengths = owned.map_input(alloc, |text: String| text.len())?;
+    let text = lengths.text(alloc)?;
+    Ok(text.as_str() == " at '3'\n  0:  at '3'\n  1: invalid a at '3'\n")
+}
+
+/// An error at bytes told at their bits, and back.
+pub fn convert(alloc: Global) -> Result<bool, AllocError> {
+    let input: &[u8] = b"12x";
+    let start = input.checkpoint();
+    let error: TreeError<&[u8], StrContext> = TreeError::from_input(alloc, &input);
+    let error = ParserError::<&[u8]>::append(error, alloc, &input, &start)?;
+    let bits: TreeError<Bits<&[u8]>, StrContext> = error.convert(alloc)?;
+    let bytes: TreeError<&[u8], StrContext> = bits.convert(alloc)?;
+    let lengths = bytes.map_input(alloc, |bytes: &[u8]| bytes.len())?;
+    let text = lengths.text(alloc)?;
+    Ok(text.as_str() == " at '3'\n  0:  at '3'\n")
+}
+
+/// Two alternatives, bracketed.
+pub fn combine(alloc: Global) -> Result<bool, AllocError> {
+    let first = Box::new(alloc, OrTree::One(Backtrack(at(alloc))))?;
+    let second = Box::new(alloc, OrTree::One(Backtrack(stacked(alloc)?)))?;
+    match combine_trees(alloc, OrTree::Both(first, second))? {
+        Backtrack(error) => {
+            let text = error.text(alloc)?;
+            Ok(text.as_str() == ALTERNATIVES)
+        }
+        _ => Ok(false),
+    }
+}
