@@ -1,2 +1,1 @@
-pub mod ProgressLemmas
 pub mod SearchProgressLemmas

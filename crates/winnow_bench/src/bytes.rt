@@ -1,12 +1,10 @@
 //! The exports over `&[u8]`.
 
 use crate::fronts::{find_token, offset_behind, take_all, take_parts};
-use crate::others::tell_bytes;
 use crate::runs::run_rounds;
-use crate::steps::{RawStep, steps_of};
-use crate::tell::{hand_out, tell_run};
 use crate::tokens::{drain, look_ahead, peek_and_take, sum_offsets};
 use std::alloc::Global;
+use winnow_bench_common::{RawStep, steps_of};
 
 #[unsafe(no_mangle)]
 pub extern "C" fn winnow_bench_drain_bytes(input: &[u8], number: u64) -> u64 {
@@ -68,28 +66,4 @@ pub extern "C" fn winnow_bench_run_bytes(
     };
     let mut s = input;
     run_rounds(alloc, &mut s, &steps, rounds).unwrap_or(u64::MAX)
-}
-
-#[unsafe(no_mangle)]
-pub extern "C" fn winnow_bench_answers_bytes(
-    alloc: Global,
-    input: &[u8],
-    script: &[RawStep],
-    out: &mut [u64],
-) -> u64 {
-    let Ok(steps) = steps_of(alloc, script) else {
-        return u64::MAX;
-    };
-    let mut s = input;
-    hand_out(tell_run(alloc, &mut s, &steps), out)
-}
-
-#[unsafe(no_mangle)]
-pub extern "C" fn winnow_bench_others_bytes(
-    alloc: Global,
-    input: &[u8],
-    width: u64,
-    out: &mut [u64],
-) -> u64 {
-    hand_out(tell_bytes(alloc, input, width as usize), out)
 }

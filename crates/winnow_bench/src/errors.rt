@@ -1,10 +1,9 @@
 //! Workloads over errors.
 
-use crate::weigh::{Number, Weigh, mix};
 use std::alloc::{AllocError, Global};
-use winnow_error::{
-    ContextError, EmptyError, ErrMode, InputError, Needed, ParserError, StrContext, StrContextValue,
-};
+use winnow_bench_common::{Number, Weigh, mix};
+use winnow_context::{ContextError, StrContext, StrContextValue};
+use winnow_error::{EmptyError, ErrMode, InputError, Needed, ParserError};
 use winnow_stream::Stream;
 
 #[unsafe(no_mangle)]
@@ -55,23 +54,28 @@ fn mode_of<E: Drop>(number: u64, error: E) -> ErrMode<E> {
     }
 }
 
-impl Weigh for EmptyError {
-    fn weigh(&self) -> u64 {
+/// An error as a number.
+trait WeighError {
+    fn weigh_error(&self) -> u64;
+}
+
+impl WeighError for EmptyError {
+    fn weigh_error(&self) -> u64 {
         1
     }
 }
 
-impl Weigh for InputError<&[u8]> {
-    fn weigh(&self) -> u64 {
+impl WeighError for InputError<&[u8]> {
+    fn weigh_error(&self) -> u64 {
         self.input.weigh()
     }
 }
 
-fn weigh_mode<E: Weigh>(mode: &ErrMode<E>) -> u64 {
+fn weigh_mode<E: WeighError>(mode: &ErrMode<E>) -> u64 {
     match mode {
         ErrMode::Incomplete(_) => 2,
-        ErrMode::Backtrack(error) => mix(3, error.weigh()),
-        ErrMode::Cut(error) => mix(4, error.weigh()),
+        ErrMode::Backtrack(error) => mix(3, error.weigh_error()),
+        ErrMode::Cut(error) => mix(4, error.weigh_error()),
     }
 }
 

@@ -2,7 +2,7 @@
 ghost use Rattle.std.specs.Prelude.{◌≡◌, ◌==◌};
 ghost use Rattle.winnow_stream.specs.Source.{first_offset};
 
-use crate::weigh::{Number, Weigh, mix};
+use winnow_bench_common::{Number, Weigh, mix};
 use winnow_stream::Stream;
 
 /// Takes slices of so many tokens while there are enough; of 0 tokens it takes none.

@@ -1,9 +1,10 @@
 //! Scripts run on a stream.
-ghost use Rattle.winnow_stream.specs.Script.{AreReady};
+ghost use Rattle.winnow_run.specs.Script.{AreReady};
 
-use crate::weigh::{Number, Weigh, mix};
 use std::alloc::{AllocError, Global};
-use winnow_stream::{Answer, ScriptSet, Step, Stream, run_and_reset};
+use winnow_bench_common::{Number, Weigh, mix};
+use winnow_run::{Answer, Step, run_and_reset};
+use winnow_stream::{ScriptSet, Stream};
 
 /// Runs a script so many times from one place, and sums up its answers.
 pub fn run_rounds<S: Stream, C: ScriptSet<S::Token>>(
@@ -34,7 +35,8 @@ fn weigh_all<T: Number, S: Weigh, L>(answers: &[Answer<T, S, L>]) -> u64 {
     sum
 }
 
-fn weigh_answer<T: Number, S: Weigh, L>(answer: &Answer<T, S, L>) -> u64 {
+/// An answer as a number.
+pub fn weigh_answer<T: Number, S: Weigh, L>(answer: &Answer<T, S, L>) -> u64 {
     match answer {
         Answer::Token(Some(token)) => token.number(),
         Answer::Token(None) => 1,

@@ -2,7 +2,7 @@
 ghost use Rattle.std.specs.Str.{IsUtf8};
 
 use crate::searches::{compare_each, find_hit, take_hits};
-use crate::texts::text;
+use winnow_bench_common::text;
 
 #[unsafe(no_mangle)]
 pub extern "C" fn winnow_bench_take_byte_bytes(input: &[u8], needles: &[u8], first: u64) -> u64 {

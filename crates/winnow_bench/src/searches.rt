@@ -1,5 +1,5 @@
 //! Workloads that search, compare, and ask sets.
-use crate::weigh::{Weigh, mix};
+use winnow_bench_common::{Weigh, mix};
 use winnow_match::{Compare, CompareResult, FindSlice};
 use winnow_sets::ContainsToken;
 use winnow_stream::Stream;

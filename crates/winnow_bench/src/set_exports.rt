@@ -2,7 +2,7 @@
 ghost use Rattle.std.specs.Str.{IsUtf8};
 
 use crate::searches::{find_set, take_sets};
-use crate::texts::text;
+use winnow_bench_common::text;
 use winnow_sets::CharSet;
 
 // Characters that stand here and there in an input.

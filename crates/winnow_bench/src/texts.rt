@@ -1,19 +1,11 @@
-//! The exports over `&str`. A text crosses as its bytes, and the type that the caller has them from says that they are one.
+//! The exports over `&str`.
 ghost use Rattle.std.specs.Str.{IsUtf8};
 
 use crate::fronts::{find_token, offset_behind, take_all, take_parts};
-use crate::others::tell_text;
 use crate::runs::run_rounds;
-use crate::steps::{RawStep, steps_of};
-use crate::tell::{hand_out, tell_run};
 use crate::tokens::{drain, look_ahead, peek_and_take, sum_offsets};
 use std::alloc::Global;
-
-pub fn text(input: &[u8]) -> &str
-    requires { IsUtf8 input.now }
-{
-    unsafe { std::str::from_utf8_unchecked(input) }
-}
+use winnow_bench_common::{RawStep, steps_of, text};
 
 #[unsafe(no_mangle)]
 pub extern "C" fn winnow_bench_drain_text(input: &[u8], number: u64) -> u64
@@ -93,32 +85,4 @@ pub extern "C" fn winnow_bench_run_text(
     };
     let mut s = text(input);
     run_rounds(alloc, &mut s, &steps, rounds).unwrap_or(u64::MAX)
-}
-
-#[unsafe(no_mangle)]
-pub extern "C" fn winnow_bench_answers_text(
-    alloc: Global,
-    input: &[u8],
-    script: &[RawStep],
-    out: &mut [u64],
-) -> u64
-    requires { IsUtf8 input.now }
-{
-    let Ok(steps) = steps_of(alloc, script) else {
-        return u64::MAX;
-    };
-    let mut s = text(input);
-    hand_out(tell_run(alloc, &mut s, &steps), out)
-}
-
-#[unsafe(no_mangle)]
-pub extern "C" fn winnow_bench_others_text(
-    alloc: Global,
-    input: &[u8],
-    width: u64,
-    out: &mut [u64],
-) -> u64
-    requires { IsUtf8 input.now }
-{
-    hand_out(tell_text(alloc, text(input), width as usize), out)
 }

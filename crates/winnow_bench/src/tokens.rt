@@ -1,6 +1,6 @@
 //! Workloads that go token by token, up to one that stops them: a parser too tests each token, and no compiler takes many at once.
 
-use crate::weigh::{Number, mix};
+use winnow_bench_common::{Number, mix};
 use winnow_stream::Stream;
 
 /// Takes tokens.

@@ -1,5 +1,5 @@
 use Rattle.std.proofs.Common.{sym, ◌∙◌, arith}
-use Rattle.winnow_bench.proofs.lemmas.ProgressLemmas.{offset_at-valid, offset_at-fewer}
+use Rattle.winnow_bench_common.proofs.lemmas.ProgressLemmas.{offset_at-valid, offset_at-fewer}
 use Rattle.winnow_bench.proofs.fronts.take_all.Goals as goal
 
 pub next_slice-requires-clause-offset : goal.next_slice-requires-clause-offset

@@ -1,5 +1,5 @@
 use Rattle.std.proofs.Common.{sym, ◌∙◌}
-use Rattle.winnow_bench.proofs.lemmas.ProgressLemmas.{first_offset-valid, first_offset-fewer}
+use Rattle.winnow_bench_common.proofs.lemmas.ProgressLemmas.{first_offset-valid, first_offset-fewer}
 use Rattle.winnow_bench.proofs.fronts.take_parts.Goals as goal
 
 pub next_slice-requires-clause-offset : goal.next_slice-requires-clause-offset

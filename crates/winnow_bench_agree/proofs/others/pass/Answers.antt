@@ -2,7 +2,7 @@ use Rattle.std.proofs.Common.{ap, arith}
 use Rattle.winnow_stream.specs.Source.{width}
 use Rattle.winnow_stream.proofs.lemmas.FrontLemmas.{width-drop_le}
 use Rattle.winnow_stream.specs.Front.{count_to}
-use Rattle.winnow_bench.proofs.others.pass.Goals as goal
+use Rattle.winnow_bench_agree.proofs.others.pass.Goals as goal
 
 pub returns-clause-no_wider : goal.returns-clause-no_wider
 returns-clause-no_wider g c =

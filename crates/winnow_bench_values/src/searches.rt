@@ -1,10 +1,9 @@
 //! What every form of a comparison and of a search answers: three numbers a form.
 ghost use Rattle.std.specs.Str.{IsUtf8};
 
-use crate::tell::{hand_out, tell_all};
-use crate::texts::text;
 use std::alloc::{AllocError, Global};
 use std::str::from_utf8;
+use winnow_bench_common::{hand_out, tell_all, text};
 use winnow_match::{Compare, CompareResult, FindSlice, Needles};
 
 #[unsafe(no_mangle)]
@@ -40,15 +39,16 @@ fn tell_byte_searches(
     needles: (&[u8], &[u8], &[u8]),
 ) -> Result<Vec<u64>, AllocError> {
     let mut told = Vec::new(alloc);
-    tell_slices(&mut told, input, needles)?;
+    tell_forms(&mut told, &input, needles)?;
+    tell_needles(&mut told, &input, needles)?;
     tell_arrays(&mut told, input, needles.0)?;
     if let ([a, ..], [b, ..], [c, ..]) = needles {
-        tell_bytes(&mut told, input, (*a, *b, *c))?;
+        tell_forms(&mut told, &input, (*a, *b, *c))?;
     }
     if let Some(texts) = texts_of(needles) {
-        tell_texts(&mut told, input, texts)?;
+        tell_forms(&mut told, &input, texts)?;
         if let Some(chars) = chars_of(texts) {
-            tell_chars(&mut told, input, chars)?;
+            tell_forms(&mut told, &input, chars)?;
         }
     }
     Ok(told)
@@ -62,9 +62,10 @@ fn tell_text_searches(
 ) -> Result<Vec<u64>, AllocError> {
     let mut told = Vec::new(alloc);
     if let Some(texts) = texts_of(needles) {
-        tell_texts_in_text(&mut told, input, texts)?;
+        tell_forms(&mut told, &input, texts)?;
+        tell_needles(&mut told, &input, texts)?;
         if let Some(chars) = chars_of(texts) {
-            tell_chars_in_text(&mut told, input, chars)?;
+            tell_forms(&mut told, &input, chars)?;
         }
     }
     Ok(told)
@@ -88,19 +89,32 @@ fn chars_of(texts: (&str, &str, &str)) -> Option<(char, char, char)> {
     Some((a, b, c))
 }
 
-fn tell_slices(
+// One literal compared, and one, two and three needles of its kind searched.
+fn tell_forms<S, L: Copy>(told: &mut Vec<u64>, s: &S, needles: (L, L, L)) -> Result<(), AllocError>
+where
+    S: Compare<L> + FindSlice<L> + FindSlice<(L,)> + FindSlice<(L, L)> + FindSlice<(L, L, L)>,
+    requires { S.valid s.now }
+{
+    let (a, b, c) = needles;
+    tell_comparison(told, s, a)?;
+    tell_hit(told, s, a)?;
+    tell_hit(told, s, (a,))?;
+    tell_hit(told, s, (a, b))?;
+    tell_hit(told, s, (a, b, c))
+}
+
+// One, two and three needles as one type.
+fn tell_needles<S: FindSlice<Needles<L>>, L: Copy>(
     told: &mut Vec<u64>,
-    s: &[u8],
-    (a, b, c): (&[u8], &[u8], &[u8]),
-) -> Result<(), AllocError> {
-    tell_comparison(told, &s, a)?;
-    tell_hit(told, &s, a)?;
-    tell_hit(told, &s, (a,))?;
-    tell_hit(told, &s, (a, b))?;
-    tell_hit(told, &s, (a, b, c))?;
-    tell_hit(told, &s, Needles::One(a))?;
-    tell_hit(told, &s, Needles::Two(a, b))?;
-    tell_hit(told, &s, Needles::Three(a, b, c))
+    s: &S,
+    needles: (L, L, L),
+) -> Result<(), AllocError>
+    requires { S.valid s.now }
+{
+    let (a, b, c) = needles;
+    tell_hit(told, s, Needles::One(a))?;
+    tell_hit(told, s, Needles::Two(a, b))?;
+    tell_hit(told, s, Needles::Three(a, b, c))
 }
 
 // Literals that are arrays, of up to three bytes.
@@ -124,65 +138,6 @@ fn tell_arrays(told: &mut Vec<u64>, s: &[u8], literal: &[u8]) -> Result<(), Allo
             tell_comparison(told, &s, &[*a, *b, *c])
         }
     }
-}
-
-fn tell_bytes(told: &mut Vec<u64>, s: &[u8], (a, b, c): (u8, u8, u8)) -> Result<(), AllocError> {
-    tell_comparison(told, &s, a)?;
-    tell_hit(told, &s, a)?;
-    tell_hit(told, &s, (a,))?;
-    tell_hit(told, &s, (a, b))?;
-    tell_hit(told, &s, (a, b, c))
-}
-
-fn tell_texts(
-    told: &mut Vec<u64>,
-    s: &[u8],
-    (a, b, c): (&str, &str, &str),
-) -> Result<(), AllocError> {
-    tell_comparison(told, &s, a)?;
-    tell_hit(told, &s, a)?;
-    tell_hit(told, &s, (a,))?;
-    tell_hit(told, &s, (a, b))?;
-    tell_hit(told, &s, (a, b, c))
-}
-
-fn tell_chars(
-    told: &mut Vec<u64>,
-    s: &[u8],
-    (a, b, c): (char, char, char),
-) -> Result<(), AllocError> {
-    tell_comparison(told, &s, a)?;
-    tell_hit(told, &s, a)?;
-    tell_hit(told, &s, (a,))?;
-    tell_hit(told, &s, (a, b))?;
-    tell_hit(told, &s, (a, b, c))
-}
-
-fn tell_texts_in_text(
-    told: &mut Vec<u64>,
-    s: &str,
-    (a, b, c): (&str, &str, &str),
-) -> Result<(), AllocError> {
-    tell_comparison(told, &s, a)?;
-    tell_hit(told, &s, a)?;
-    tell_hit(told, &s, (a,))?;
-    tell_hit(told, &s, (a, b))?;
-    tell_hit(told, &s, (a, b, c))?;
-    tell_hit(told, &s, Needles::One(a))?;
-    tell_hit(told, &s, Needles::Two(a, b))?;
-    tell_hit(told, &s, Needles::Three(a, b, c))
-}
-
-fn tell_chars_in_text(
-    told: &mut Vec<u64>,
-    s: &str,
-    (a, b, c): (char, char, char),
-) -> Result<(), AllocError> {
-    tell_comparison(told, &s, a)?;
-    tell_hit(told, &s, a)?;
-    tell_hit(told, &s, (a,))?;
-    tell_hit(told, &s, (a, b))?;
-    tell_hit(told, &s, (a, b, c))
 }
 
 // 0 and the width, or 1, or 2.

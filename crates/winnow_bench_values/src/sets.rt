@@ -1,7 +1,7 @@
 //! What every form of a set answers of a token: one flag a form.
 
-use crate::tell::{hand_out, tell_all};
 use std::alloc::{AllocError, Global};
+use winnow_bench_common::{hand_out, tell_all};
 use winnow_sets::{AsChar, CharSet, ContainsToken, Where};
 
 /// Of a token, and of sets with two bounds, each given by its number.

@@ -1,8 +1,9 @@
 //! Answers as they cross the border: each is a row of numbers.
-ghost use Rattle.winnow_stream.specs.Script.{AreReady};
+ghost use Rattle.winnow_run.specs.Script.{AreReady};
 
 use std::alloc::{AllocError, Global};
-use winnow_stream::{Answer, Needed, ScriptSet, Step, Stream, run};
+use winnow_run::{Answer, Step, run};
+use winnow_stream::{Needed, ScriptSet, Stream};
 
 /// A token or a slice as numbers.
 pub trait Tell {

@@ -1,12 +1,10 @@
 //! The printed texts of errors, as rows of numbers.
 
-use crate::tell::{Tell, hand_out};
 use std::alloc::{AllocError, Global};
 use std::str::from_utf8;
-use winnow_error::{
-    ContextError, EmptyError, ErrMode, FromExternalError, InputError, Needed, ParserError,
-    StrContext, StrContextValue,
-};
+use winnow_bench_common::{Tell, hand_out};
+use winnow_context::{ContextError, StrContext, StrContextValue};
+use winnow_error::{EmptyError, ErrMode, FromExternalError, InputError, Needed, ParserError};
 
 /// Labels, literals and descriptions.
 const TEXTS: [&str; 5] = ["number", "", "a `b`", "\n", "é€😀"];

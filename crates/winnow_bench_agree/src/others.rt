@@ -5,8 +5,8 @@ ghost use Rattle.winnow_stream.specs.Front.{is_offset};
 ghost use Rattle.winnow_views.specs.BitSource.{IsBitSource};
 ghost use Rattle.winnow_views.specs.BitStream.{bits_input, bits_place};
 
-use crate::tell::{Tell, hand_out, tell_all};
 use std::alloc::{AllocError, Global};
+use winnow_bench_common::{Tell, hand_out, tell_all};
 use winnow_stream::{AsBStr, Needed, Offset, SliceLen, Stream, StreamIsPartial, UpdateSlice};
 use winnow_views::{Bits, bit_slice_law, byte_slice_law};
 

@@ -2,7 +2,8 @@
 ghost use Rattle.std.specs.Prelude.{◌≡◌, nat_le, ◌&&◌, if◌then◌else◌};
 
 use std::alloc::{AllocError, Global};
-use winnow_stream::{ScriptSet, Step};
+use winnow_run::Step;
+use winnow_stream::ScriptSet;
 
 /// The tokens whose numbers lie between two, both held.
 #[derive(Clone, Copy, Debug)]
@@ -60,8 +61,8 @@ pub struct RawStep {
     pub second: u64,
 }
 
-/// The step, or `None` where the number is of none.
-pub fn step_of(raw: &RawStep) -> Option<Step<Numbers>> {
+/// The step, or `None` where the number is of none. `First` looks for the set.
+pub fn step_of<C: Drop>(raw: &RawStep, set: C) -> Option<Step<C>> {
     let number = raw.first as usize;
     match raw.kind {
         0 => Some(Step::Next),
@@ -73,10 +74,7 @@ pub fn step_of(raw: &RawStep) -> Option<Step<Numbers>> {
         6 => Some(Step::Eof),
         7 => Some(Step::At(number)),
         8 => Some(Step::IsOffset(number)),
-        9 => Some(Step::First(Numbers {
-            first: raw.first,
-            last: raw.second,
-        })),
+        9 => Some(Step::First(set)),
         10 => Some(Step::Each),
         11 => Some(Step::Mark),
         12 => Some(Step::Reset(number)),
@@ -85,11 +83,19 @@ pub fn step_of(raw: &RawStep) -> Option<Step<Numbers>> {
     }
 }
 
+/// The tokens whose numbers lie between those of a step.
+pub fn numbers_of(raw: &RawStep) -> Numbers {
+    Numbers {
+        first: raw.first,
+        last: raw.second,
+    }
+}
+
 /// The steps of a script, without those that are none.
 pub fn steps_of(alloc: Global, raw: &[RawStep]) -> Result<Vec<Step<Numbers>>, AllocError> {
     let mut steps = Vec::with_capacity(alloc, raw.len())?;
     for line in raw {
-        if let Some(step) = step_of(line) {
+        if let Some(step) = step_of(line, numbers_of(line)) {
             steps.push(step)?;
         }
     }

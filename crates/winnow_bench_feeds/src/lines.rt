@@ -1,0 +1,76 @@
+//! A long input, made piece by piece, through one feed after the other.
+
+use crate::byte_pieces::feed_piece;
+use crate::piece_answers::weigh_answers;
+use crate::scripts::{PieceStep, ranges_of, steps_in};
+use std::alloc::{AllocError, Global};
+use winnow_bench_common::{RawStep, mix};
+use winnow_feed::ByteFeed;
+
+/// So many pieces of that length. They are parts of `made`, which is longer than a piece, and begins again behind its end.
+#[unsafe(no_mangle)]
+pub extern "C" fn winnow_bench_feed_lines(
+    alloc: Global,
+    made: &[u8],
+    literals: &[u8],
+    script: &[RawStep],
+    length: u64,
+    pieces: u64,
+) -> u64 {
+    weigh_lines(alloc, made, literals, script, (length as usize, pieces)).unwrap_or(u64::MAX)
+}
+
+fn weigh_lines(
+    alloc: Global,
+    made: &[u8],
+    literals: &[u8],
+    script: &[RawStep],
+    (length, pieces): (usize, u64),
+) -> Result<u64, AllocError> {
+    let ranges = ranges_of(alloc, script)?;
+    let steps = steps_in(alloc, script, &ranges, literals)?;
+    let mut feed = ByteFeed::new(alloc, &steps)?;
+    let mut sum = 0;
+    for number in 0..pieces {
+        let piece = piece_of(made, length, number);
+        sum = mix(sum, feed_on(alloc, &mut feed, &steps, piece)?);
+    }
+    Ok(mix(sum, weigh_answers(feed.end().answers())))
+}
+
+// The piece of that number; an empty one where `made` is too short.
+fn piece_of(made: &[u8], length: usize, number: u64) -> &[u8] {
+    let Some(period) = made.len().checked_sub(length) else {
+        return &[];
+    };
+    if period == 0 {
+        return &[];
+    }
+    let start = (number as usize).wrapping_mul(length) % period;
+    made.get(start..start.saturating_add(length)).unwrap_or(&[])
+}
+
+// Feeds a piece, and what a script leaves of it to the next feed: the sum of the answers of those that end.
+fn feed_on<'k>(
+    alloc: Global,
+    feed: &mut ByteFeed<'k>,
+    steps: &'k [PieceStep<'k, &'k [u8]>],
+    piece: &[u8],
+) -> Result<u64, AllocError> {
+    let mut rest = piece;
+    let mut sum = 0;
+    // A script goes past a byte at least, or is the last.
+    for _ in 0..piece.len() {
+        feed_piece(feed, rest)?;
+        if feed.answers().len() < steps.len() {
+            break;
+        }
+        let fed = feed.fed();
+        let next = ByteFeed::new(alloc, steps)?;
+        let finished = std::mem::replace(feed, next).end();
+        sum = mix(sum, weigh_answers(finished.answers()));
+        let left = fed.saturating_sub(finished.cursor());
+        rest = rest.get(rest.len().saturating_sub(left)..).unwrap_or(&[]);
+    }
+    Ok(sum)
+}

@@ -1,0 +1,42 @@
+//! Scripts as feeds take them: their sets are ranges of characters.
+
+use std::alloc::{AllocError, Global};
+use winnow_bench_common::{Cut, RawStep, search_step_of};
+use winnow_run::SearchStep;
+use winnow_sets::CharSet;
+
+/// A step of a script over pieces.
+pub type PieceStep<'k, L> = SearchStep<CharSet<'k>, L>;
+
+// The character of a number, or the last one where it is of none.
+fn char_of(number: u64) -> char {
+    match u32::try_from(number) {
+        Ok(code) => char::from_u32(code).unwrap_or(char::MAX),
+        Err(_) => char::MAX,
+    }
+}
+
+/// What each step looks for, if it looks for a set.
+pub fn ranges_of(alloc: Global, script: &[RawStep]) -> Result<Vec<[(char, char); 1]>, AllocError> {
+    let mut ranges = Vec::with_capacity(alloc, script.len())?;
+    for raw in script {
+        ranges.push([(char_of(raw.first), char_of(raw.second))])?;
+    }
+    Ok(ranges)
+}
+
+/// The steps of a script, without those that are none.
+pub fn steps_in<'k, L: Cut>(
+    alloc: Global,
+    script: &[RawStep],
+    ranges: &'k [[(char, char); 1]],
+    all: L,
+) -> Result<Vec<PieceStep<'k, L>>, AllocError> {
+    let mut steps = Vec::with_capacity(alloc, script.len())?;
+    for (raw, range) in script.iter().zip(ranges) {
+        if let Some(step) = search_step_of(raw, CharSet::new(range), all) {
+            steps.push(step)?;
+        }
+    }
+    Ok(steps)
+}
