@@ -1,6 +1,7 @@
-# What bench/run and bench/agree share: where the Rust crate comes from, our static library, and the build of bench/rust.
+# What bench/run and bench/agree share: where the Rust crate comes from, our static libraries, and the build of bench/rust.
 # Both set `offline` to what Cargo may do without a local copy: `--offline`, or nothing where it may ask its registry.
 
+libraries=(winnow_bench winnow_bench_agree winnow_bench_values winnow_bench_errors winnow_bench_feeds)
 manifest=$PWD/rust/Cargo.toml
 programs=$PWD/rust/target/release
 flags=()
@@ -20,25 +21,46 @@ find_crate() {
         flags+=(--config "patch.crates-io.$name.path=\"$(realpath "$source")\"")
         offline=--offline
     done
+    # A copy that hands out what the crate keeps private.
+    if grep -qs 'pub mod hooks' "${WINNOW_SOURCE:-.}/src/error.rs"; then
+        export WINNOW_HOOKS=1
+    fi
     flags+=($offline)
     rm -f rust/Cargo.lock
     command -v cargo >/dev/null && cargo fetch --quiet --manifest-path "$manifest" "${flags[@]}" 2>rust/fetch.log
 }
 
-# Proves and builds our static library, for `wanted_level` where that is set, and says for which processor level.
+# Proves and builds our static libraries, for `wanted_level` where that is set, and says for which processor level. One is left as it is
+# where it was built in the same way after the last change of a source.
 build_ours() {
-    if ! (cd ../crates/winnow_bench && rt lib $wanted_level) >rust/library.log 2>&1; then
-        grep -E 'error|no proof|not proved' rust/library.log || tail rust/library.log
-        echo 'bench: our library is not built'
-        exit 1
-    fi
-    level=$(sed -n 's/^logic=proved.* cpu=\([^ ]*\).*/\1/p' rust/library.log | tail -1)
+    local library built way
+    mkdir -p rust/target
+    way="$(rt version) ${wanted_level:-at the default level}"
+    for library in "${libraries[@]}"; do
+        built=rust/target/$library.built
+        if [[ -f $built && $(<"$built") == "$way" && ! ../crates/$library/out/lib$library.a -nt rust/$library.log ]] &&
+            [[ -f ../crates/$library/out/lib$library.a ]] &&
+            [[ -z $(find ../crates.txt ../crates/*/{src,specs,proofs} -newer "$built" -print -quit 2>/dev/null) ]]; then
+            continue
+        fi
+        rm -f "$built"
+        echo "$way" >"$built.new"
+        if ! (cd "../crates/$library" && rt lib $wanted_level) >"rust/$library.log" 2>&1; then
+            grep -E 'error|no proof|not proved' "rust/$library.log" || tail "rust/$library.log"
+            echo "bench: our library $library is not built"
+            exit 1
+        fi
+        # The library is older than its log, unless something else builds it anew.
+        touch "rust/$library.log"
+        mv "$built.new" "$built"
+    done
+    level=$(sed -n 's/^logic=proved.* cpu=\([^ ]*\).*/\1/p' "rust/${libraries[0]}.log" | tail -1)
     level=${level:-x86-64}
 }
 
 # Builds a program of bench/rust for the same processor level.
 build_rust() {
-    WINNOW_BENCH_FOLDER=$(realpath ../crates/winnow_bench/out) RATTLE_C_FOLDER=$(dirname "$(rt doc)")/c RUSTFLAGS="-C target-cpu=$level" \
+    WINNOW_BENCH_CRATES=$(realpath ../crates) WINNOW_BENCH_LIBRARIES="${libraries[*]}" RATTLE_C_FOLDER=$(dirname "$(rt doc)")/c RUSTFLAGS="-C target-cpu=$level" \
         cargo build --release --quiet --manifest-path "$manifest" --target-dir rust/target "${flags[@]}" --bin "$1" 2>rust/build.log && return
     tail -40 rust/build.log
     echo "bench: $1 is not built"

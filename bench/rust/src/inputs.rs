@@ -1,6 +1,7 @@
 //! Inputs, the same at each run.
 
-use crate::script::{RawStep, Step};
+use crate::script::{COMPARE, FIND, RawStep, Step};
+use std::ops::Range;
 
 /// Numbers that look random (SplitMix64).
 pub struct Random(u64);
@@ -69,6 +70,13 @@ fn text(length: usize, scripts: &[(char, u32)]) -> String {
     text
 }
 
+/// Words of many scripts, each a line.
+pub fn short_lines(length: usize) -> String {
+    let mut lines = mixed_text(length).replace(' ', "\n");
+    lines.push_str("the last line");
+    lines
+}
+
 /// A script that wanders through an input: calls of every kind but those that go over all of it.
 pub fn script(length: usize) -> Vec<RawStep> {
     let mut random = Random::new(3);
@@ -97,6 +105,71 @@ pub fn script(length: usize) -> Vec<RawStep> {
             RawStep::from(step)
         })
         .collect()
+}
+
+/// A script that wanders in the same way, and compares and searches as often as it calls. The literals are parts of `NEEDLE`.
+pub fn search_script(length: usize) -> Vec<RawStep> {
+    let mut random = Random::new(5);
+    script(length)
+        .into_iter()
+        .map(|call| {
+            let (start, few) = (random.below(8) as usize, 1 + random.below(4) as usize);
+            match random.below(4) {
+                0 => RawStep::search(COMPARE, start, 4 * few),
+                1 => RawStep::search(random.pick(&FIND), start, few),
+                _ => call,
+            }
+        })
+        .collect()
+}
+
+/// A script that goes through most of so many bytes, mostly by slices of many, and waits for no end: what it calls, compares and searches stands
+/// near. The literals are parts of `NEEDLE`.
+pub fn piece_script(steps: usize, length: usize) -> Vec<RawStep> {
+    let mut random = Random::new(9);
+    let most = (5 * length / steps) as u64;
+    let mut marks = 0;
+    (0..steps)
+        .map(|_| {
+            let (start, few) = (random.below(8) as usize, 1 + random.below(4) as usize);
+            let mark = marks - marks.min(few);
+            let step = match random.below(20) {
+                0..9 => Step::Take(random.below(most) as usize),
+                9..11 => Step::Next,
+                11 => Step::Peek,
+                12 => Step::At(few),
+                13 => Step::IsOffset(few),
+                14 => Step::First(u64::from(b'\n'), u64::from(b'\n')),
+                15 => return RawStep::search(COMPARE, start, 4 * few),
+                16..18 => return RawStep::search(FIND[0], start, few),
+                18 if few == 1 => Step::Reset(mark),
+                18 => Step::Since(mark),
+                _ => Step::Mark,
+            };
+            if let Step::Mark = step {
+                marks += 1;
+            }
+            RawStep::from(step)
+        })
+        .collect()
+}
+
+/// Lines of that width, their newlines among it.
+pub fn lines_of(width: usize, length: usize) -> Vec<u8> {
+    let mut random = Random::new(10);
+    (0..length).map(|place| if place % width == width - 1 { b'\n' } else { b'a' + random.below(26) as u8 }).collect()
+}
+
+/// Numbers that look random, some of them twice.
+pub fn keys(count: usize) -> Vec<u64> {
+    let mut random = Random::new(6);
+    (0..count).map(|_| random.below(1 << 20)).collect()
+}
+
+/// Numbers from one up to another, each written with so many characters.
+pub fn numbers(count: usize, width: usize, range: Range<i64>) -> String {
+    let mut random = Random::new(8);
+    (0..count).map(|_| format!("{:0width$}", range.start + random.below((range.end - range.start) as u64) as i64)).collect()
 }
 
 /// A needle, which stands here and there in `seeded`, as do its parts. Text has no `:` and no `-`.

@@ -1,6 +1,7 @@
 //! Our library's searches, comparisons and sets, declared as in `ours`.
 
 use crate::ours::Room;
+use crate::script::{RawStep, ToldSearch, read_search_answers};
 
 // The exports that search take the input, the needles in one row, and the length of the first of two.
 macro_rules! searches {
@@ -108,5 +109,60 @@ impl Room {
     /// What every form of a set with those bounds answers of a token.
     pub fn sets(&mut self, token: u64, low: u64, high: u64) -> Option<&[u64]> {
         self.told(|out, room| unsafe { winnow_bench_sets(token, low, high, out, room) })
+    }
+}
+
+unsafe extern "C" {
+    fn winnow_bench_run_search_bytes(
+        input: *const u8,
+        length: usize,
+        literals: *const u8,
+        literals_length: usize,
+        script: *const RawStep,
+        steps: usize,
+        rounds: u64,
+    ) -> u64;
+    fn winnow_bench_search_answers_bytes(
+        input: *const u8,
+        length: usize,
+        literals: *const u8,
+        literals_length: usize,
+        script: *const RawStep,
+        steps: usize,
+        out: *mut u64,
+        room: usize,
+    ) -> u64;
+    fn winnow_bench_search_answers_text(
+        input: *const u8,
+        length: usize,
+        literals: *const u8,
+        literals_length: usize,
+        script: *const RawStep,
+        steps: usize,
+        out: *mut u64,
+        room: usize,
+    ) -> u64;
+}
+
+/// Runs a script that also compares and searches so many times.
+pub fn run_search((input, literals, script): (&[u8], &[u8], &[RawStep]), rounds: u64) -> u64 {
+    unsafe { winnow_bench_run_search_bytes(input.as_ptr(), input.len(), literals.as_ptr(), literals.len(), script.as_ptr(), script.len(), rounds) }
+}
+
+impl Room {
+    /// The answers of such a script on bytes.
+    pub fn search_answers_bytes(&mut self, input: &[u8], literals: &[u8], script: &[RawStep]) -> Option<Vec<ToldSearch>> {
+        let (a, b) = (literals.as_ptr(), literals.len());
+        read_search_answers(self.told(|out, room| unsafe {
+            winnow_bench_search_answers_bytes(input.as_ptr(), input.len(), a, b, script.as_ptr(), script.len(), out, room)
+        })?)
+    }
+
+    /// The answers of such a script on a text.
+    pub fn search_answers_text(&mut self, input: &str, literals: &str, script: &[RawStep]) -> Option<Vec<ToldSearch>> {
+        let (a, b) = (literals.as_ptr(), literals.len());
+        read_search_answers(self.told(|out, room| unsafe {
+            winnow_bench_search_answers_text(input.as_ptr(), input.len(), a, b, script.as_ptr(), script.len(), out, room)
+        })?)
     }
 }

@@ -1,5 +1,5 @@
-//! Our library's calls. Each export of `crates/winnow_bench` is declared here by hand, with a safe function over it. A text crosses
-//! as its bytes, which are UTF-8, as the export asks, since they come from a `&str`.
+//! Our library's calls. Each export of `crates/winnow_bench` and of the crates beside it is declared by hand, here and in the other files
+//! of ours, with a safe function over it. A text crosses as its bytes, which are UTF-8, as the export asks, since they come from a `&str`.
 
 use crate::script::{RawStep, Told, read_answers};
 

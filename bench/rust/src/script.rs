@@ -1,6 +1,7 @@
 //! Scripts of calls and their answers, as both sides know them.
 
-use winnow::stream::Needed;
+use std::ops::Range;
+use winnow::stream::{CompareResult, Needed};
 
 /// A call. Offsets, counts and marks are numbers, and `First` names the tokens whose numbers lie between two.
 #[derive(Clone, Copy, Debug)]
@@ -53,6 +54,11 @@ impl From<Step> for RawStep {
 }
 
 impl RawStep {
+    /// Its number, and its numbers.
+    pub fn numbers(&self) -> (u64, u64, u64) {
+        (self.kind, self.first, self.second)
+    }
+
     /// The step, or `None` where the number is of none.
     pub fn step(&self) -> Option<Step> {
         let number = self.first as usize;
@@ -93,6 +99,104 @@ pub enum Answer<T, S> {
     LaterMark,
 }
 
+/// A step of a script that also compares and searches.
+#[derive(Clone, Copy, Debug)]
+pub enum SearchStep<L> {
+    Call(Step),
+    Compare(L),
+    One(L),
+    Two(L, L),
+    Three(L, L, L),
+}
+
+/// A part of a literal, by its bounds.
+pub trait Cut: Copy {
+    fn cut(self, start: usize, end: usize) -> Option<Self>;
+}
+
+impl Cut for &[u8] {
+    fn cut(self, start: usize, end: usize) -> Option<Self> {
+        self.get(start..end)
+    }
+}
+
+impl Cut for &str {
+    fn cut(self, start: usize, end: usize) -> Option<Self> {
+        self.get(start..end)
+    }
+}
+
+/// The numbers of the steps that compare and that search, behind those of `Step`.
+pub const COMPARE: u64 = 14;
+pub const FIND: [u64; 3] = [15, 16, 17];
+/// Those that search two and three needles of one length.
+pub const FIND_AS_LONG: [u64; 2] = [18, 19];
+
+impl RawStep {
+    /// A step by its number and its numbers.
+    pub fn new(kind: u64, first: u64, second: u64) -> RawStep {
+        RawStep { kind, first, second }
+    }
+
+    /// A step that compares or searches: its number, and where its first literal begins and how long it is.
+    pub fn search(kind: u64, start: usize, length: usize) -> RawStep {
+        RawStep { kind, first: start as u64, second: length as u64 }
+    }
+
+    /// The step, or `None` where the number is of none. A further needle stands behind the one before it, and is one longer, or as long.
+    pub fn search_step<L: Cut>(&self, all: L) -> Option<SearchStep<L>> {
+        if let Some(step) = self.step() {
+            return Some(SearchStep::Call(step));
+        }
+        let more = usize::from(!FIND_AS_LONG.contains(&self.kind));
+        let (start, length) = (self.first as usize, self.second as usize);
+        let first = all.cut(start, start + length);
+        let (start, length) = (start + length, length + more);
+        let second = all.cut(start, start + length);
+        let (start, length) = (start + length, length + more);
+        let third = all.cut(start, start + length);
+        Some(match self.kind {
+            COMPARE => SearchStep::Compare(first?),
+            15 => SearchStep::One(first?),
+            16 | 18 => SearchStep::Two(first?, second?),
+            17 | 19 => SearchStep::Three(first?, second?, third?),
+            _ => return None,
+        })
+    }
+}
+
+/// What a step answers, of a call or of a further step.
+#[derive(Debug, PartialEq, Eq)]
+pub enum SearchAnswer<T, S> {
+    Call(Answer<T, S>),
+    Compared(CompareResult),
+    Hit(Option<Range<usize>>),
+}
+
+/// The same, with tokens as numbers and slices copied.
+pub type ToldSearch = SearchAnswer<u64, Vec<u8>>;
+
+/// Reads the rows of numbers in which our library hands out the answers of such a script; `None` where a row is none.
+pub fn read_search_answers(told: &[u64]) -> Option<Vec<ToldSearch>> {
+    let mut numbers = told.iter().copied();
+    let mut answers = Vec::new();
+    while let Some(kind) = numbers.next() {
+        answers.push(match kind {
+            12 => SearchAnswer::Compared(match (numbers.next()?, numbers.next()?) {
+                (0, width) => CompareResult::Ok(width as usize),
+                (1, _) => CompareResult::Incomplete,
+                _ => CompareResult::Error,
+            }),
+            13 => SearchAnswer::Hit(match numbers.next()? {
+                0 => None,
+                _ => Some(numbers.next()? as usize..numbers.next()? as usize),
+            }),
+            _ => SearchAnswer::Call(read_answer(kind, &mut numbers)?),
+        });
+    }
+    Some(answers)
+}
+
 /// An answer whose tokens are numbers and whose slices are copied.
 pub type Told = Answer<u64, Vec<u8>>;
 
@@ -105,6 +209,9 @@ pub fn read_answers(told: &[u64]) -> Option<Vec<Told>> {
     }
     Some(answers)
 }
+
+/// An answer whose slices and items are places.
+pub type PlacedAnswer<T> = SearchAnswer<T, Range<usize>>;
 
 fn read_answer(kind: u64, numbers: &mut impl Iterator<Item = u64>) -> Option<Told> {
     Some(match kind {

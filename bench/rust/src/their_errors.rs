@@ -1,4 +1,4 @@
-//! The errors of the Rust crate, word for word as in `crates/winnow_bench`.
+//! The errors of the Rust crate, word for word as in `crates/winnow_bench` and `crates/winnow_bench_values`.
 
 use crate::theirs::{Number, Weigh, mix};
 use std::error::Error;
@@ -145,7 +145,7 @@ pub fn explanation_text(contexts: &[u64], cause: Option<&str>) -> String {
 
 /// Another's error, of which our library holds the text.
 #[derive(Debug)]
-struct Cause(String);
+pub struct Cause(pub String);
 
 impl fmt::Display for Cause {
     fn fmt(&self, f: &mut fmt::Formatter<'_>) -> fmt::Result {

@@ -1,4 +1,4 @@
-//! The Rust crate's bytes with a text of their own: word for word `crates/winnow_bench/src/kinds.rt`.
+//! The Rust crate's bytes with a text of their own: word for word the files `kinds.rt` of `crates/winnow_bench` and `crates/winnow_bench_agree`.
 
 use crate::script::{Step, Told};
 use crate::theirs::{self, IsOffset};

@@ -1,4 +1,4 @@
-//! The Rust crate's stream that records errors, and what it tells: word for word `crates/winnow_bench/src/recovered.rt`.
+//! The Rust crate's stream that records errors, and what it tells: word for word `crates/winnow_bench_agree/src/recovered.rt`.
 
 use crate::theirs::{IsOffset, tell_bytes};
 use winnow::error::{EmptyError, ErrMode, Needed};

@@ -1,4 +1,4 @@
-//! The searches, comparisons and sets over the Rust crate, word for word those of `crates/winnow_bench`.
+//! The searches, comparisons and sets over the Rust crate, word for word those of `crates/winnow_bench` and `crates/winnow_bench_values`.
 
 use crate::theirs::{Weigh, mix};
 use std::str::from_utf8;

@@ -1,4 +1,4 @@
-//! What every form of a set of the Rust crate answers of a token, word for word as `crates/winnow_bench` tells it.
+//! What every form of a set of the Rust crate answers of a token, word for word as `crates/winnow_bench_values` tells it.
 
 use winnow::stream::{AsChar, ContainsToken};
 

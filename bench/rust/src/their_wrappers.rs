@@ -1,4 +1,4 @@
-//! The Rust crate's wrappers, and what they tell: word for word `crates/winnow_bench/src/wrapped.rt`.
+//! The Rust crate's wrappers, and what they tell: word for word `crates/winnow_bench_agree/src/wrapped.rt`.
 
 use crate::theirs::{Number, tell_bytes};
 use winnow::stream::{AsBStr, LocatingSlice, Location, Offset, Partial, Stateful, Stream, StreamIsPartial, UpdateSlice};

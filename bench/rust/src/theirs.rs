@@ -1,4 +1,4 @@
-//! The workloads over the Rust crate, word for word those of `crates/winnow_bench`.
+//! The workloads over the Rust crate, word for word those of `crates/winnow_bench` and `crates/winnow_bench_agree`.
 
 use crate::script::{Answer, RawStep, Step, Told};
 use winnow::stream::{AsBStr, Compare, CompareResult, Needed, Offset, SliceLen, Stream, StreamIsPartial, TokenSlice, UpdateSlice};
@@ -188,7 +188,7 @@ where
 }
 
 // A mark is a checkpoint, and the width that remained there.
-fn answer<S>(s: &mut S, marks: &mut Vec<(S::Checkpoint, usize)>, step: &Step) -> Answer<S::Token, S::Slice>
+pub(crate) fn answer<S>(s: &mut S, marks: &mut Vec<(S::Checkpoint, usize)>, step: &Step) -> Answer<S::Token, S::Slice>
 where
     S: Stream<Token: Number> + Clone + IsOffset,
 {
@@ -246,7 +246,7 @@ fn weigh_all<T: Number, S: Weigh>(answers: &[Answer<T, S>]) -> u64 {
     answers.iter().fold(0, |sum, answer| mix(sum, weigh_answer(answer)))
 }
 
-fn weigh_answer<T: Number, S: Weigh>(answer: &Answer<T, S>) -> u64 {
+pub(crate) fn weigh_answer<T: Number, S: Weigh>(answer: &Answer<T, S>) -> u64 {
     match answer {
         Answer::Token(Some(token)) => token.number(),
         Answer::Token(None) => 1,
@@ -272,7 +272,7 @@ where
     run(&mut s, script).into_iter().map(tell_answer).collect()
 }
 
-fn tell_answer<T: Number, S: Weigh>(answer: Answer<T, S>) -> Told {
+pub(crate) fn tell_answer<T: Number, S: Weigh>(answer: Answer<T, S>) -> Told {
     match answer {
         Answer::Token(token) => Answer::Token(token.map(|token| token.number())),
         Answer::Slice(slice) => Answer::Slice(slice.to_bytes()),

@@ -6,10 +6,16 @@
 
 mod bit_cases;
 mod case;
+mod count_cases;
 mod error_cases;
 mod generate;
+mod piece_cases;
+#[cfg(winnow_hooks)]
+mod place_cases;
 mod search_cases;
+mod search_run_cases;
 mod shrink;
+mod tree_cases;
 
 use case::Case;
 use std::process::ExitCode;
@@ -26,10 +32,12 @@ fn main() -> ExitCode {
         println!("a shortage of {size}: ours {:?}, Rust {:?}", room.needed(size), theirs::needed(size));
         return ExitCode::FAILURE;
     }
-    let compared = more(&mut room);
-    let Ok([bits, searches, sets, texts]) = compared else {
-        println!("{}", compared.unwrap_err());
-        return ExitCode::FAILURE;
+    let compared = match more(&mut room) {
+        Ok(compared) => compared,
+        Err(difference) => {
+            println!("{difference}");
+            return ExitCode::FAILURE;
+        }
     };
     let mut count = 0;
     let mut differs = |case: &Case| {
@@ -41,18 +49,28 @@ fn main() -> ExitCode {
         println!("{}", shrink::smallest(case, &mut room).told(&mut room));
         return ExitCode::FAILURE;
     }
-    println!(
-        "agree: {count} cases, {bits} of bits, {searches} searches, {sets} sets, {texts} texts and no difference, in {:.1} s",
-        start.elapsed().as_secs_f64()
-    );
+    let others: Vec<String> = compared.iter().map(|(name, count)| format!("{count} {name}")).collect();
+    println!("agree: {count} cases, {}, and no difference, in {:.1} s", others.join(", "), start.elapsed().as_secs_f64());
+    if cfg!(not(winnow_hooks)) {
+        println!("agree: parse errors and positions are left out, since this copy of the crate hands them out to nobody (bench/README.md)");
+    }
     ExitCode::SUCCESS
 }
 
-// How many cases of bits, searches, answers of sets, and texts of errors were compared, or the first difference.
-fn more(room: &mut Room) -> Result<[usize; 4], String> {
-    let bits = bit_cases::compare_bits(room, RANDOM_CASES)?;
-    let searches = search_cases::compare_searches(room, RANDOM_CASES)?;
-    let sets = search_cases::compare_sets(room)?;
-    let texts = error_cases::compare_errors(room, RANDOM_CASES)?;
-    Ok([bits, searches, sets, texts])
+// How many cases of each further kind were compared, or the first difference.
+fn more(room: &mut Room) -> Result<Vec<(&'static str, usize)>, String> {
+    Ok(vec![
+        ("of bits", bit_cases::compare_bits(room, RANDOM_CASES)?),
+        ("searches", search_cases::compare_searches(room, RANDOM_CASES)?),
+        ("sets", search_cases::compare_sets(room)?),
+        ("texts", error_cases::compare_errors(room, RANDOM_CASES)?),
+        ("ranges", count_cases::compare_ranges(room)?),
+        ("readings", count_cases::compare_readings(room, RANDOM_CASES)?),
+        ("lists gathered", count_cases::compare_accumulators(room, RANDOM_CASES)?),
+        ("runs that search", search_run_cases::compare_search_runs(room, RANDOM_CASES)?),
+        ("scripts in pieces", piece_cases::compare_pieces(room, RANDOM_CASES)?),
+        ("trees", tree_cases::compare_trees(room, RANDOM_CASES)?),
+        #[cfg(winnow_hooks)]
+        ("places", place_cases::compare_places(room, RANDOM_CASES)?),
+    ])
 }

@@ -3,14 +3,18 @@
 //! `--short` takes smaller inputs and fewer turns, `--only WORD` the rows with that word in their names, and `--instructions` counts
 //! instructions by valgrind in place of times.
 
+mod accumulator_rows;
 mod allocations;
 mod bit_rows;
 mod error_rows;
 mod instructions;
+mod piece_rows;
 mod rows;
 mod search_rows;
 mod timing;
+mod tree_rows;
 
+use allocations::Used;
 use rows::{Inputs, Row, Sizes, rows};
 use std::env;
 use std::process::ExitCode;
@@ -43,30 +47,54 @@ fn main() -> ExitCode {
 
 fn compare_and_race(rows: &[Row], turns: usize, words: &[String]) -> ExitCode {
     let compared: Vec<_> = rows.iter().map(Row::compare).collect();
-    let allocations: Vec<_> = compared.iter().flatten().collect();
+    let allocations: Vec<_> = compared.iter().flatten().copied().collect();
     if allocations.len() < rows.len() {
         let differ = rows.iter().zip(&compared).filter(|(_, compared)| compared.is_none());
         differ.for_each(|(row, _)| println!("answers differ: {}", row.name));
         return ExitCode::FAILURE;
     }
     let here = timing::race(rows, turns);
-    let times = here.into_iter().zip(timing::others(words)).map(|(here, others)| here.least(others));
-    println!("| Workload | ours, ms | Rust, ms | ours / Rust | ours, million a second | allocations a call, ours and Rust |");
-    println!("|---|--:|--:|--:|--:|--:|");
-    for ((row, times), allocations) in rows.iter().zip(times).zip(allocations) {
-        print(row, times, allocations);
+    let times: Vec<_> = here.into_iter().zip(timing::others(words)).map(|(here, others)| here.least(others)).collect();
+    let told = || rows.iter().zip(&times).zip(&allocations);
+    if rows.iter().any(|row| !row.is_fed) {
+        println!("| Workload | ours, ms | Rust, ms | ours / Rust | ours, million a second | allocations a call, ours and Rust |");
+        println!("|---|--:|--:|--:|--:|--:|");
+        told().filter(|((row, _), _)| !row.is_fed).for_each(|((row, times), used)| print(row, times, used));
+    }
+    if rows.iter().any(|row| row.is_fed) {
+        println!();
+        println!("| Workload | ours, ns a byte | Rust, ns a byte | ours / Rust | allocations, ours and Rust | most KB at once, ours and Rust |");
+        println!("|---|--:|--:|--:|--:|--:|");
+        told().filter(|((row, _), _)| row.is_fed).for_each(|((row, times), used)| print_fed(row, times, used));
     }
     ExitCode::SUCCESS
 }
 
-fn print(row: &Row, Times { ours, theirs }: Times, [our_blocks, their_blocks]: &[u64; 2]) {
+fn print(row: &Row, Times { ours, theirs }: &Times, [our_use, their_use]: &[Used; 2]) {
     println!(
-        "| {} | {:.2} | {:.2} | {:.2} | {:.0} | {our_blocks} and {their_blocks} |",
+        "| {} | {:.2} | {:.2} | {:.2} | {:.0} | {} and {} |",
         row.name,
         ours * 1e3,
         theirs * 1e3,
         ours / theirs,
         (row.units * row.calls) as f64 / ours / 1e6,
+        our_use.blocks,
+        their_use.blocks,
+    );
+}
+
+fn print_fed(row: &Row, Times { ours, theirs }: &Times, [our_use, their_use]: &[Used; 2]) {
+    let bytes = (row.units * row.calls) as f64;
+    println!(
+        "| {} | {:.3} | {:.3} | {:.2} | {} and {} | {} and {} |",
+        row.name,
+        ours * 1e9 / bytes,
+        theirs * 1e9 / bytes,
+        ours / theirs,
+        our_use.blocks,
+        their_use.blocks,
+        our_use.bytes >> 10,
+        their_use.bytes >> 10,
     );
 }
 

@@ -1,17 +1,20 @@
 //! The table of workloads. A new one is a line here, a generic function in `theirs`, and in `crates/winnow_bench` a generic function
 //! and an export for each kind of stream, whose name `ours` lists.
 
-use crate::allocations;
+use crate::accumulator_rows::{Gathered, accumulator_rows, reading_rows};
+use crate::allocations::{self, Used};
 use crate::bit_rows::bit_rows;
 use crate::error_rows::error_rows;
+use crate::piece_rows::{Pieces, piece_rows};
 use crate::search_rows::search_rows;
+use crate::tree_rows::tree_rows;
 use std::hint::black_box;
 use winnow::stream::LocatingSlice;
-use winnow_bench::inputs::{ABSENT, ascii_text, bytes, mixed_text, script, seeded};
+use winnow_bench::inputs::{ABSENT, NEEDLE, ascii_text, bytes, mixed_text, script, search_script, seeded, short_lines};
 use winnow_bench::script::RawStep;
 use winnow_bench::their_recovered::record;
 use winnow_bench::their_wrappers::wrap;
-use winnow_bench::{ours, their_kinds, theirs};
+use winnow_bench::{our_searches, ours, their_kinds, their_search_runs, theirs};
 
 /// How long the inputs are, and how many calls over the small ones are timed as one.
 pub struct Sizes {
@@ -19,12 +22,42 @@ pub struct Sizes {
     text_in_memory: usize,
     in_cache: usize,
     calls: usize,
+    /// Items that are gathered.
+    items: usize,
+    /// Short lines, at whose end errors come.
+    lines: usize,
+    /// Bytes that come in pieces: of a script, of a step that waits at most, and of the long run.
+    fed: [usize; 3],
 }
 
 impl Sizes {
-    pub const WHOLE: Sizes = Sizes { bytes_in_memory: 64 << 20, text_in_memory: 16 << 20, in_cache: 256 << 10, calls: 16 };
-    pub const SHORT: Sizes = Sizes { bytes_in_memory: 8 << 20, text_in_memory: 4 << 20, in_cache: 256 << 10, calls: 8 };
-    pub const COUNTED: Sizes = Sizes { bytes_in_memory: 0, text_in_memory: 0, in_cache: 256 << 10, calls: 1 };
+    pub const WHOLE: Sizes = Sizes {
+        bytes_in_memory: 64 << 20,
+        text_in_memory: 16 << 20,
+        in_cache: 256 << 10,
+        calls: 16,
+        items: 1_000_000,
+        lines: 1 << 20,
+        fed: [16 << 20, 1 << 20, 1 << 30],
+    };
+    pub const SHORT: Sizes = Sizes {
+        bytes_in_memory: 8 << 20,
+        text_in_memory: 4 << 20,
+        in_cache: 256 << 10,
+        calls: 8,
+        items: 200_000,
+        lines: 1 << 18,
+        fed: [1 << 20, 1 << 18, 1 << 26],
+    };
+    pub const COUNTED: Sizes = Sizes {
+        bytes_in_memory: 0,
+        text_in_memory: 0,
+        in_cache: 256 << 10,
+        calls: 1,
+        items: 20_000,
+        lines: 1 << 16,
+        fed: [1 << 18, 1 << 16, 1 << 22],
+    };
 }
 
 pub struct Inputs {
@@ -37,8 +70,13 @@ pub struct Inputs {
     pub short_ascii: String,
     pub short_mixed: String,
     script: Vec<RawStep>,
+    search_script: Vec<RawStep>,
+    pub gathered: Gathered,
     pub seeded: Vec<u8>,
     pub short_seeded: Vec<u8>,
+    #[cfg_attr(not(winnow_hooks), expect(dead_code))]
+    pub lines: String,
+    pub pieces: Pieces,
     pub calls: usize,
 }
 
@@ -55,6 +93,10 @@ impl Inputs {
             seeded: seeded(sizes.bytes_in_memory),
             short_seeded: seeded(sizes.in_cache),
             script: script(10_000),
+            search_script: search_script(10_000),
+            gathered: Gathered::new(sizes.items),
+            lines: short_lines(sizes.lines),
+            pieces: Pieces::new(sizes.fed),
             calls: sizes.calls,
         }
     }
@@ -67,16 +109,23 @@ pub struct Row<'i> {
     pub units: usize,
     /// How many calls are timed as one.
     pub calls: usize,
+    /// Whether its units are bytes that come in pieces: a table of its own tells the time of each.
+    pub is_fed: bool,
     ours: Box<dyn Fn() -> u64 + 'i>,
     theirs: Box<dyn Fn() -> u64 + 'i>,
 }
 
-impl Row<'_> {
-    /// How often one call of each side allocates, ours first, or `None` where their answers differ.
-    pub fn compare(&self) -> Option<[u64; 2]> {
+impl<'i> Row<'i> {
+    /// What one call of each side takes, ours first, or `None` where their answers differ.
+    pub fn compare(&self) -> Option<[Used; 2]> {
         let (our_answer, ours) = allocations::during(&self.ours);
         let (their_answer, theirs) = allocations::during(&self.theirs);
         (our_answer == their_answer).then_some([ours, theirs])
+    }
+
+    /// The same row in the table of pieces.
+    pub fn fed(self) -> Self {
+        Row { is_fed: true, ..self }
     }
 
     pub fn call_ours(&self) {
@@ -111,6 +160,7 @@ impl<I: Copy> On<I> {
             name: format!("{name}: {}", self.name),
             units: self.units,
             calls: self.calls,
+            is_fed: false,
             ours: Box::new(move || black_box(ours)(black_box(self.input), black_box(number))),
             theirs: Box::new(move || black_box(theirs)(black_box(self.input), black_box(number))),
         }
@@ -143,6 +193,10 @@ pub fn rows(inputs: &Inputs) -> Vec<Row<'_>> {
     rows.extend(bit_rows(inputs));
     rows.extend(search_rows(inputs));
     rows.extend(error_rows(inputs));
+    rows.extend(tree_rows(inputs));
+    rows.extend(piece_rows(&inputs.pieces));
+    rows.extend(accumulator_rows(&inputs.gathered));
+    rows.extend(reading_rows(&inputs.gathered));
     rows
 }
 
@@ -201,8 +255,11 @@ fn run_rows(inputs: &Inputs) -> Vec<Row<'_>> {
     let units = script.len() * ROUNDS as usize;
     let bytes = On { name: "bytes", input: (inputs.short_bytes.as_slice(), script), units, calls: 1 };
     let text = On { name: "mixed text", input: (inputs.short_mixed.as_str(), script), units, calls: 1 };
+    let searched = (inputs.short_seeded.as_slice(), NEEDLE.as_bytes(), inputs.search_script.as_slice());
+    let searched = On { name: "bytes", input: searched, units, calls: 1 };
     vec![
         bytes.row("run 10,000 steps", ROUNDS, ours::run_bytes, theirs::run_rounds),
         text.row("run 10,000 steps", ROUNDS, ours::run_text, theirs::run_rounds),
+        searched.row("run_search 10,000 steps", ROUNDS, our_searches::run_search, their_search_runs::run_rounds),
     ]
 }

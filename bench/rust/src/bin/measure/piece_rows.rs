@@ -1,0 +1,145 @@
+//! The rows of input in pieces, by feeds and by the loop that a user of the Rust crate writes over `Partial`. That loop tries a step that
+//! waits again from the cursor at each piece, and so takes time by the square of what waits: the inputs are smaller where pieces are.
+
+use crate::rows::{On, Row};
+use winnow_bench::inputs::{NEEDLE, ascii_text, lines_of, mixed_text, piece_script, seeded};
+use winnow_bench::script::{COMPARE, FIND, FIND_AS_LONG, RawStep, Step};
+use winnow_bench::{our_feeds as ours, our_searches, their_feeds as theirs, their_search_runs};
+
+/// How long pieces are, and what part of the bytes that wait the Rust loop has time for.
+const CUTS: [(usize, &str, usize); 4] = [(64 << 10, "64 KB", 1), (1 << 10, "1 KB", 4), (16, "16 bytes", 32), (1, "1 byte", 128)];
+
+const STEPS: usize = 10_000;
+
+/// Needles that stand in no text, the last three of one length.
+const ABSENT: &str = "key:a-b:two-";
+
+/// How wide a line of the long run is, how many a script goes through, and how long a piece is.
+const LINE: usize = 61;
+const LINES: usize = 1000;
+const PIECE: usize = 64 << 10;
+
+pub struct Pieces {
+    /// The bytes of the script, and the script
+    seeded: Vec<u8>,
+    script: Vec<RawStep>,
+    ascii: String,
+    mixed: String,
+    /// The ASCII text and one character more, which a comparison waits for
+    literal: String,
+    /// Where pieces of the mixed text end, for each cut
+    cuts: Vec<Vec<u64>>,
+    /// Steps that wait to the end, by their names
+    waiting: Vec<(&'static str, RawStep)>,
+    at: [RawStep; 1],
+    compare: Vec<[RawStep; 1]>,
+    /// Lines that begin again behind their end, the script of a thousand of them, and how many pieces there are
+    lines: Vec<u8>,
+    line_script: Vec<RawStep>,
+    pieces: usize,
+}
+
+impl Pieces {
+    pub fn new([script, waiting, long]: [usize; 3]) -> Self {
+        let ascii = front(&ascii_text(waiting), waiting).to_owned();
+        let mixed = front(&mixed_text(waiting), waiting).to_owned();
+        let literal = format!("{ascii}:");
+        let period = LINE << 14;
+        let mut lines = lines_of(LINE, period);
+        lines.extend_from_within(..PIECE);
+        let first_needle = |kind| RawStep::search(kind, 0, 4);
+        Pieces {
+            seeded: seeded(script),
+            script: piece_script(STEPS, script),
+            cuts: CUTS.iter().map(|(piece, _, part)| cuts_of(front(&mixed, waiting / part), *piece)).collect(),
+            waiting: vec![
+                ("Find of one needle", first_needle(FIND[0])),
+                ("Find of three needles of one length", first_needle(FIND_AS_LONG[1])),
+                ("First", RawStep::from(Step::First(0, 0))),
+            ],
+            at: [RawStep::from(Step::At(usize::MAX))],
+            compare: CUTS.iter().map(|(_, _, part)| [RawStep::search(COMPARE, 0, waiting / part + 1)]).collect(),
+            ascii,
+            mixed,
+            literal,
+            lines,
+            line_script: (0..LINES).flat_map(line_steps).collect(),
+            pieces: long / PIECE,
+        }
+    }
+}
+
+// A line is searched, taken, and taken again.
+fn line_steps(line: usize) -> [RawStep; 5] {
+    let newline = RawStep::search(FIND[0], 0, 1);
+    let take = RawStep::from(Step::Take(LINE));
+    [RawStep::from(Step::Mark), newline, take, RawStep::from(Step::Reset(line)), take]
+}
+
+// At most so many bytes of a text.
+fn front(text: &str, length: usize) -> &str {
+    let end = (0..=length.min(text.len())).rev().find(|end| text.is_char_boundary(*end));
+    &text[..end.unwrap_or(0)]
+}
+
+// The first ends of characters that are so far apart, and the end.
+fn cuts_of(text: &str, piece: usize) -> Vec<u64> {
+    let mut cuts = Vec::new();
+    let mut end = 0;
+    while end < text.len() {
+        end = (end + piece..text.len()).find(|end| text.is_char_boundary(*end)).unwrap_or(text.len());
+        cuts.push(end as u64);
+    }
+    cuts
+}
+
+/// All of them.
+pub fn piece_rows(pieces: &Pieces) -> Vec<Row<'_>> {
+    let mut rows = script_rows(pieces);
+    for (number, (length, name, part)) in CUTS.iter().enumerate() {
+        let ascii = front(&pieces.ascii, pieces.ascii.len() / part);
+        for (step, raw) in &pieces.waiting {
+            let input = (ascii.as_bytes(), ABSENT.as_bytes(), std::slice::from_ref(raw));
+            let on = On { name: "bytes", input, units: ascii.len(), calls: 1 };
+            rows.push(on.row(&waits(step, ascii.len(), name), *length as u64, ours::feed_bytes, theirs::feed_bytes).fed());
+        }
+        let input = (ascii.as_bytes(), pieces.literal.as_bytes(), pieces.compare[number].as_slice());
+        let on = On { name: "bytes", input, units: ascii.len(), calls: 1 };
+        rows.push(on.row(&waits("Compare of a literal as long", ascii.len(), name), *length as u64, ours::feed_bytes, theirs::feed_bytes).fed());
+        let mixed = front(&pieces.mixed, pieces.mixed.len() / part);
+        let input = (mixed, "", pieces.at.as_slice(), pieces.cuts[number].as_slice());
+        let on = On { name: "mixed text", input, units: mixed.len(), calls: 1 };
+        rows.push(on.row(&waits("At", mixed.len(), name), 0, ours::feed_text, theirs::feed_text).fed());
+    }
+    let input = (pieces.lines.as_slice(), b"\n".as_slice(), pieces.line_script.as_slice(), PIECE as u64);
+    let on = On { name: "bytes", input, units: pieces.pieces * PIECE, calls: 1 };
+    let name = format!("lines, {} in pieces of 64 KB, scripts of 1,000", size(pieces.pieces * PIECE));
+    rows.push(on.row(&name, pieces.pieces as u64, ours::feed_lines, theirs::feed_lines).fed());
+    rows
+}
+
+// One script over the whole, and in pieces.
+fn script_rows(pieces: &Pieces) -> Vec<Row<'_>> {
+    let input = (pieces.seeded.as_slice(), NEEDLE.as_bytes(), pieces.script.as_slice());
+    let on = On { name: "bytes", input, units: pieces.seeded.len(), calls: 1 };
+    let length = size(pieces.seeded.len());
+    let whole = on.row(&format!("script of 10,000 steps, {length} whole"), 1, our_searches::run_search, their_search_runs::run_rounds);
+    let mut rows = vec![whole.fed()];
+    for (piece, name, _) in CUTS {
+        let name = format!("script of 10,000 steps, {length} in pieces of {name}");
+        rows.push(on.row(&name, piece as u64, ours::feed_bytes, theirs::feed_bytes).fed());
+    }
+    rows
+}
+
+fn waits(step: &str, length: usize, piece: &str) -> String {
+    format!("{step} that waits, {} in pieces of {piece}", size(length))
+}
+
+fn size(bytes: usize) -> String {
+    match bytes {
+        0..0x10_0000 => format!("{} KB", bytes.div_ceil(1 << 10)),
+        0x10_0000..0x4000_0000 => format!("{} MB", bytes >> 20),
+        _ => format!("{} GB", bytes >> 30),
+    }
+}
