@@ -8,4 +8,3 @@ pub mod MoveLemmas
 pub mod TailLemmas
 pub mod RuleLemmas
 pub mod OffsetLemmas
-pub mod ShortageLemmas

@@ -1,7 +1,6 @@
 ghost use Rattle.std.specs.Prelude.{◌≡◌, ℕ, ◌-◌, ◌<◌, ◌≤◌, ◌↔◌, true, [], ◌++◌, List, length, Contains, IsFalse, IsOk, IsTrue};
 ghost use Rattle.std.specs.declared.ops.Range as range_declared;
 ghost use Rattle.winnow_stream.specs.Cursor.{places};
-ghost use Rattle.winnow_stream.specs.Shortage.{needed, offset_at};
 ghost use Rattle.winnow_stream.specs.Source.{Source};
 ghost use Rattle.winnow_match.specs.Comparison.{comparison, IsFrontOf};
 ghost use Rattle.winnow_match.specs.Search.{hit, have_one_length, IsFirstHit, StandsNowhere};
@@ -57,11 +56,4 @@ pub fn definite_hit_law()
 pub fn stretch_law()
     ensures none { (needles : List (List ℕ)) (bytes : List ℕ) (r : range_declared.Range ℕ) → ¬ Contains needles [] → hit needles bytes ≡ Some r → (stretch_of needles bytes ≡ None ↔ ((i q : ℕ) → ¬ CanMove needles bytes r i q)) }
     ensures some { (needles : List (List ℕ)) (bytes : List ℕ) (r : range_declared.Range ℕ) (s : stretch_declared.Stretch) → ¬ Contains needles [] → hit needles bytes ≡ Some r → (stretch_of needles bytes ≡ Some s ↔ IsStretch needles bytes r s) }
-{}
-
-/// The law of a counted shortage: a stream that refuses for k tokens still refuses with fewer than k more, for those that
-/// are missing then, and answers with k or more. It does nothing when called: its contract is the law.
-pub fn shortage_law<T>()
-    ensures refused { (r more : Source T) (n k : ℕ) → offset_at true r n ≡ Err (needed k) → length more < k → offset_at true (r ++ more) n ≡ Err (needed (k - length more)) }
-    ensures answered { (r more : Source T) (n k : ℕ) → offset_at true r n ≡ Err (needed k) → k ≤ length more → IsOk (offset_at true (r ++ more) n) }
 {}

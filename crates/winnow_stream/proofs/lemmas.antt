@@ -1,5 +1,6 @@
 pub mod FrontLemmas
 pub mod IndexLemmas
+pub mod MissingLemmas
 pub mod OffsetLemmas
 pub mod SearchLemmas
 pub mod ShortageLemmas

@@ -1,5 +1,5 @@
 -- A source: a list of tokens, each with its width. What remains of a stream is one.
-use Rattle.std.specs.Prelude.{◌≡◌, ℕ, ◌+◌, ◌≤◌, Bool, cond, List, [], ◌∷◌, map, drop, Option, Some, None, ⊤}
+use Rattle.std.specs.Prelude.{◌≡◌, ℕ, ◌+◌, ◌≤◌, Bool, true, false, cond, List, [], ◌∷◌, map, take, drop, Option, Some, None, ⊤}
 
 abbrev pub Source : Type 0 → Type 0
 Source T = List (T × ℕ)
@@ -43,6 +43,21 @@ first_held holds (x ∷ xs) = cond (holds x.1) (Some x.0) (first_held holds xs)
 
 abbrev pub first_offset : {T : Type 0} → (T → Bool) → Source T → Option ℕ
 first_offset holds r = first_held holds (offsets r)
+
+-- a test, whose answers are a relation, answers false of each token
+abbrev pub RefusesAll : {T : Type 0} → (T → Bool → Type 0) → Source T → Type 0
+RefusesAll answers [] = ⊤
+RefusesAll answers (x ∷ xs) = answers x.0 false × RefusesAll answers xs
+
+-- it answers true of the token behind the width w, and false of each before it
+abbrev pub AcceptsFirst : {T : Type 0} → (T → Bool → Type 0) → Source T → ℕ → Type 0
+AcceptsFirst {T} answers r w = (k : ℕ) × ((w ≡ width (take k r)) × RefusesAll answers (take k r)
+    × ((x : T) × ((first_token (drop k r) ≡ Some x) × answers x true)))
+
+-- the offset of the first token that it answers true of, or `None` where it answers false of each
+abbrev pub FindsFirst : {T : Type 0} → (T → Bool → Type 0) → Source T → Option ℕ → Type 0
+FindsFirst answers r None = RefusesAll answers r
+FindsFirst answers r (Some w) = AcceptsFirst answers r w
 
 -- whatever a closure or a set answers of a token, it is what `holds` says
 abbrev pub Computes : {T : Type 0} → (T → Bool → Type 0) → (T → Bool) → Type 0

@@ -1,22 +1,26 @@
-ghost use Rattle.std.specs.Prelude.{◌≡◌, ℕ, ◌++◌, ◌-◌, ◌≤◌, ◌↔◌, Bool, List, Ok, Some, IfOk, IsTrue};
+ghost use Rattle.std.specs.Prelude.{◌≡◌, ℕ, ◌++◌, ◌+◌, ◌-◌, ◌≤◌, ◌<◌, ◌↔◌, Bool, true, List, []};
+ghost use Rattle.std.specs.Prelude.{Ok, Err, Some, None, IfOk, IsOk, IsTrue, length, take, drop};
 ghost use Rattle.std.specs.Borrow.{Bor};
 ghost use Rattle.std.specs.Cmp.Lexicographic.{pointwise, slice_cmp};
 ghost use Rattle.std.specs.Ordering.{nat_cmp};
 ghost use Rattle.winnow_stream.specs.Checkpoint.{checkpoint_inner};
 ghost use Rattle.winnow_stream.specs.declared.checkpoint.Checkpoint.{Checkpoint};
-ghost use Rattle.winnow_stream.specs.Source.{Source, width, HasWidths, first_offset};
+ghost use Rattle.winnow_stream.specs.Source.{Source, units, width, HasWidths, first_offset};
+ghost use Rattle.winnow_stream.specs.Source.{FindsFirst};
 ghost use Rattle.winnow_stream.specs.Front.{HasFront, is_offset, front, back};
-ghost use Rattle.winnow_stream.specs.Shortage.{offset_at};
+ghost use Rattle.winnow_stream.specs.Shortage.{needed, offset_at};
 
-use crate::Checkpoint;
+use crate::{Checkpoint, SliceLen, Stream};
 
 /// The law of fronts: an offset is valid exactly where some front has that width, what is taken has that width, and what is
-/// taken followed by what remains is what was there. Behind a front the offsets are those further on, less its width, and to go on
-/// from there leaves what going there at once would leave. It does nothing when called: its contract is the law.
+/// taken followed by what remains is what was there, so that the widths of both sum to the whole width. Behind a front the offsets
+/// are those further on, less its width, and going on from there leaves what going there at once would leave. It does nothing when
+/// called: its contract is the law.
 pub fn front_law<T>()
     ensures offset { (r : Source T) (n : ℕ) → HasWidths r → (IsTrue (is_offset r n) ↔ HasFront r n) }
     ensures width { (r : Source T) (n : ℕ) → IsTrue (is_offset r n) → width (front r n) ≡ n }
     ensures whole { (r : Source T) (n : ℕ) → front r n ++ back r n ≡ r }
+    ensures sum { (r : Source T) (n : ℕ) → IsTrue (is_offset r n) → n + width (back r n) ≡ width r }
     ensures further { (r : Source T) (m n : ℕ) → IsTrue (is_offset r m) → m ≤ n → is_offset (back r m) (n - m) ≡ is_offset r n }
     ensures on { (r : Source T) (m n : ℕ) → IsTrue (is_offset r m) → IsTrue (is_offset r n) → m ≤ n → back (back r m) (n - m) ≡ back r n }
 {}
@@ -27,6 +31,57 @@ pub fn offset_law<T>()
     ensures at { (counts_missing : Bool) (r : Source T) (n w : ℕ) → HasWidths r → offset_at counts_missing r n ≡ Ok w → IsTrue (is_offset r w) }
     ensures first { (holds : T → Bool) (r : Source T) (w : ℕ) → HasWidths r → first_offset holds r ≡ Some w → IsTrue (is_offset r w) }
     ensures end { (r : Source T) → HasWidths r → IsTrue (is_offset r (width r)) }
+{}
+
+/// The law of a counted shortage: a stream that refuses for k tokens still refuses with fewer than k more, for those that
+/// are missing then, and answers with k or more. It does nothing when called: its contract is the law.
+pub fn shortage_law<T>()
+    ensures refused { (r more : Source T) (n k : ℕ) → offset_at true r n ≡ Err (needed k)
+        → length more < k → offset_at true (r ++ more) n ≡ Err (needed (k - length more)) }
+    ensures answered { (r more : Source T) (n k : ℕ) → offset_at true r n ≡ Err (needed k)
+        → k ≤ length more → IsOk (offset_at true (r ++ more) n) }
+{}
+
+/// The law of tokens that are taken: the front of the width of the first k tokens is those k tokens, and what follows it is the
+/// rest; an offset that `offset_at` answers is such a width; and the front of the whole width is everything. So `offset_at(n)` and
+/// then `next_slice` takes n tokens, and `finish` takes all. It does nothing when called: its contract is the law.
+pub fn taken_law<T>()
+    ensures front { (r : Source T) (k : ℕ) → HasWidths r → k ≤ length r
+        → front r (width (take k r)) ≡ take k r }
+    ensures back { (r : Source T) (k : ℕ) → HasWidths r → k ≤ length r
+        → back r (width (take k r)) ≡ drop k r }
+    ensures fits { (counts_missing : Bool) (r : Source T) (n w : ℕ)
+        → offset_at counts_missing r n ≡ Ok w → n ≤ length r }
+    ensures at { (counts_missing : Bool) (r : Source T) (n w : ℕ)
+        → offset_at counts_missing r n ≡ Ok w → w ≡ width (take n r) }
+    ensures whole { (r : Source T) → HasWidths r → front r (width r) ≡ r }
+    ensures end { (r : Source T) → HasWidths r → back r (width r) ≡ [] }
+{}
+
+/// The law of the first token that is held: `first_offset` is the offset of a token that is held, before which none is, or `None`
+/// where none is held. It does nothing when called: its contract is the law.
+pub fn first_law<T>()
+    ensures { (holds : T → Bool) (r : Source T) → FindsFirst (λ x b. holds x ≡ b) r (first_offset holds r) }
+{}
+
+/// The law of plain slices: their tokens tell their elements, the valid offsets are those up to their length, and a front and what
+/// follows it are those of the slice. It does nothing when called: its contract is the law.
+pub fn slice_law<T>()
+    ensures same { (xs ys : List T) → units xs ≡ units ys → xs ≡ ys }
+    ensures width { (xs : List T) → width (units xs) ≡ length xs }
+    ensures offset { (xs : List T) (n : ℕ) → IsTrue (is_offset (units xs) n) ↔ (n ≤ length xs) }
+    ensures front { (xs : List T) (n : ℕ) → n ≤ length xs
+        → front (units xs) n ≡ units (take n xs) }
+    ensures back { (xs : List T) (n : ℕ) → n ≤ length xs
+        → back (units xs) n ≡ units (drop n xs) }
+{}
+
+/// The law of slices of a text: the length of one is the offset that it was taken at. It does nothing when called: its contract is
+/// the law.
+pub fn text_slice_law(slice: &str)
+    ensures { (r : Source ℕ) (n : ℕ) → IsTrue (is_offset r n)
+        → ⟦<&'static str as Stream>⟧.is_slice slice.entry r n
+        → ⟦<&'static str as SliceLen>⟧.width_of slice.entry ≡ n }
 {}
 
 /// The law of equality and order: checkpoints of slices are compared by the elements that remained there, those of texts by their

@@ -1,6 +1,6 @@
 ghost use Rattle.std.specs.Prelude.{◌≡◌, ℕ, ◌-◌, ◌≤◌, Bool, [], IsTrue, drop};
 ghost use Rattle.std.specs.Iterator.{IsFinite, AlwaysYields, size};
-ghost use Rattle.winnow_stream.specs.Source.{Source, width, HasWidths, IsEndOf, Computes, first_token, first_offset, offsets};
+ghost use Rattle.winnow_stream.specs.Source.{Source, width, HasWidths, IsEndOf, Computes, first_token, FindsFirst, first_offset, offsets};
 ghost use Rattle.winnow_stream.specs.Front.{is_offset, back};
 ghost use Rattle.winnow_stream.specs.Shortage.{offset_at};
 
@@ -84,11 +84,14 @@ pub trait Stream: Rest + Debug {
         requires { valid self.now }
         ensures { result ≡ first_token (remaining self.now) };
 
-    /// The offset of the first token that satisfies the predicate, which answers the same for the same token.
+    /// The offset of the first token that satisfies the predicate. Where the predicate computes, it is the first that `holds` says;
+    /// one that may answer otherwise for the same token has answered true of the token behind that offset, and false of each before.
     final fn offset_for<P: Fn(Self::Token) -> bool>(&self, predicate: P) -> Option<usize>
         requires valid { valid self.now }
         requires callable { P.IsAlwaysCallable predicate }
-        ensures { (holds : Self.Token → Bool) → Computes (P.post predicate) holds → result ≡ first_offset holds (remaining self.now) }
+        ensures computed { (holds : Self.Token → Bool) → Computes (P.post predicate) holds
+            → result ≡ first_offset holds (remaining self.now) }
+        ensures finds { FindsFirst (P.post predicate) (remaining self.now) result }
     {
         let mut items = self.iter_offsets();
         // Asked for at the end of a turn, an item costs a test less: a quarter of the time over bytes.

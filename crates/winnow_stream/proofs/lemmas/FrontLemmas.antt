@@ -144,6 +144,9 @@ module _ {A : Type 0} where
   pub back-place : (r : List (A × ℕ)) (i : ℕ) → HasWidths r → i ≤ length r → back r (width (take i r)) ≡ drop i r
   back-place r i h l = ap (λ n. drop n r) (count_to-place r i h l)
 
+  pub front-place : (r : List (A × ℕ)) (i : ℕ) → HasWidths r → i ≤ length r → front r (width (take i r)) ≡ take i r
+  front-place r i h l = ap (λ n. take n r) (count_to-place r i h l)
+
   pub back-drop : (r : List (A × ℕ)) (i n : ℕ) → back (drop i r) n ≡ drop (i + count_to (drop i r) n) r
   back-drop r i n = drop-drop (count_to (drop i r) n) i r
 

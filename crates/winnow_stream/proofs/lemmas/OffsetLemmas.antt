@@ -1,9 +1,9 @@
 -- What is a valid offset: behind a number of tokens, and at the first token that a set holds.
-use Rattle.std.proofs.Common.{◌≡◌, ℕ, suc, ◌+◌, ◌≤◌, Bool, true, false, List, [], ◌∷◌, length, take, Some, Result, Ok, Err, refl, ap, sym, ◌∙◌, subst, inl, inr, arith, add-zero, zero-add}
-use Rattle.std.specs.Prelude.{◌⊎◌, is_some}
+use Rattle.std.proofs.Common.{◌≡◌, ℕ, suc, ◌+◌, ◌≤◌, Bool, true, false, List, [], ◌∷◌, length, take, Some, None, Result, Ok, Err, refl, ap, sym, ◌∙◌, subst, inl, inr, arith, add-zero, zero-add}
+use Rattle.std.specs.Prelude.{◌⊎◌, Option, is_some}
 use Rattle.std.proofs.lemmas.Bool.Decides.{leb_tells}
 use Rattle.winnow_stream.specs.declared.needed.Needed.{Needed}
-use Rattle.winnow_stream.specs.Source.{width, HasWidths, first_held, first_offset, offsets_from}
+use Rattle.winnow_stream.specs.Source.{width, HasWidths, RefusesAll, AcceptsFirst, FindsFirst, first_held, first_offset, offsets_from}
 use Rattle.winnow_stream.specs.Front.{is_offset}
 use Rattle.winnow_stream.specs.Shortage.{offset_at}
 use Rattle.winnow_stream.proofs.lemmas.FrontLemmas.{front_count-place}
@@ -46,3 +46,47 @@ module _ {A : Type 0} where
   is_offset-first_offset holds r w h e =
       let at = place-first_held holds r 0 w e in
       subst (λ m. is_offset r m ≡ true) (sym (zero-add _) ∙ at.1.1) (ap is_some (front_count-place r at.0 h at.1.0))
+
+  offset_at-parts : (counts_missing : Bool) (r : List (A × ℕ)) (n w : ℕ) → offset_at counts_missing r n ≡ Ok w → (n ≤ length r) × (w ≡ width (take n r))
+  offset_at-parts counts_missing r n w e =
+      elim (leb_tells n (length r)) [
+        | inl fits ↦ (fits.1, sym (ok-parts (rw fits.0 at e)))
+        | inr short ↦ absurd (err-parts (rw short.0 at e))
+      ]
+
+  pub offset_at-within : (counts_missing : Bool) (r : List (A × ℕ)) (n w : ℕ) → offset_at counts_missing r n ≡ Ok w → n ≤ length r
+  offset_at-within counts_missing r n w e = (offset_at-parts counts_missing r n w e).0
+
+  pub offset_at-place : (counts_missing : Bool) (r : List (A × ℕ)) (n w : ℕ) → offset_at counts_missing r n ≡ Ok w → w ≡ width (take n r)
+  offset_at-place counts_missing r n w e = (offset_at-parts counts_missing r n w e).1
+
+  -- where a search from a width on ends
+  held-from : (holds : A → Bool) (r : List (A × ℕ)) (k w : ℕ) → first_held holds (offsets_from k r) ≡ Some w → (v : ℕ) × ((w ≡ k + v) × AcceptsFirst (λ x b. holds x ≡ b) r v)
+  held-from holds [] k w e = absurd (cc)
+  held-from holds (x ∷ xs) k w e =
+      elim (bool_cases (holds x.0)) [
+        | inl held ↦ let f = rw held at e in (0, (sym (add-zero k ∙ some-same f), (0, (refl, tt, (x.0, (refl, held))))))
+        | inr other ↦
+            let f = rw other at e in
+            let later = held-from holds xs (k + x.1) w f in
+            let i = later.1.1.0 in
+            let at = later.1.1.1 in
+            (x.1 + later.0, (omega (arith, later.1.0), (suc i, (ap (λ m. x.1 + m) at.0, (other, at.1), at.2))))
+      ]
+
+  none-held : (holds : A → Bool) (r : List (A × ℕ)) (k : ℕ) → first_held holds (offsets_from k r) ≡ None → RefusesAll (λ x b. holds x ≡ b) r
+  none-held holds [] k e = tt
+  none-held holds (x ∷ xs) k e =
+      elim (bool_cases (holds x.0)) [
+        | inl held ↦ absurd (let f = rw held at e in cc)
+        | inr other ↦ (other, none-held holds xs (k + x.1) (rw other at e))
+      ]
+
+  finds-held : (holds : A → Bool) (r : List (A × ℕ)) (found : Option ℕ) → first_offset holds r ≡ found → FindsFirst (λ x b. holds x ≡ b) r found
+  finds-held holds r None e = none-held holds r 0 e
+  finds-held holds r (Some w) e =
+      let at = held-from holds r 0 w e in
+      subst (λ v. AcceptsFirst (λ x b. holds x ≡ b) r v) (sym (at.1.0 ∙ zero-add _)) at.1.1
+
+  pub FindsFirst-first_offset : (holds : A → Bool) (r : List (A × ℕ)) → FindsFirst (λ x b. holds x ≡ b) r (first_offset holds r)
+  FindsFirst-first_offset holds r = finds-held holds r (first_offset holds r) refl

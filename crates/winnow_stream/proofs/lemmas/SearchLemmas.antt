@@ -1,8 +1,10 @@
 -- A search for the first token that passes, item by item: `next` was given, and `later` comes behind it.
-use Rattle.std.proofs.Common.{◌≡◌, ℕ, zero, suc, ◌+◌, ◌<◌, Bool, true, false, cond, List, [], ◌∷◌, length, get_or, take, refl, ap, sym, arith, Some, None}
+use Rattle.std.proofs.Common.{◌≡◌, ℕ, zero, suc, ◌+◌, ◌<◌, Bool, true, false, cond, List, [], ◌∷◌, length, get_or, take, drop, ◌++◌, refl, ap, sym, ◌∙◌, subst, arith, Some, None}
+use Rattle.std.proofs.Math.Seq.{take-append_seam, drop-append_seam}
+use Rattle.std.proofs.lemmas.List.{append-nil, append_assoc}
 use Rattle.std.specs.Prelude.{Option, IfSome}
 use Rattle.std.specs.Iterator.{Count, IsFinite, size, MakesProgress, AlwaysYields}
-use Rattle.winnow_stream.specs.Source.{first_held, offsets_from, width}
+use Rattle.winnow_stream.specs.Source.{first_held, first_token, offsets_from, width, RefusesAll, AcceptsFirst}
 
 -- all that is still to be looked at
 abbrev pub ahead : {B : Type 0} → Option B → List B → List B
@@ -54,3 +56,59 @@ pub offsets-at : {A : Type 0} (r : List (A × ℕ)) (n i : ℕ) (d : ℕ × A) �
 offsets-at [] n i d h = absurd (omega arith)
 offsets-at (x ∷ xs) n zero d h = omega arith
 offsets-at (x ∷ xs) n (suc i) d h = let e = offsets-at xs (n + x.1) i d (omega arith) in omega (arith, e)
+
+-- ---- what was looked at, and what comes
+
+later_same : {B : Type 0} {x y : B} {xs ys : List B} → x ∷ xs ≡ y ∷ ys → xs ≡ ys
+later_same e = cc
+
+module _ {A : Type 0} (answers : A → Bool → Type 0) where
+  -- the tokens that were looked at were refused, and the items ahead are those of the others
+  abbrev pub HasRefused : List (A × ℕ) → List (ℕ × A) → Type 0
+  HasRefused r items = (before after : List (A × ℕ)) × ((r ≡ before ++ after) × RefusesAll answers before × (items ≡ offsets_from (width before) after))
+
+  RefusesAll-append : (xs : List (A × ℕ)) (y : A × ℕ) → RefusesAll answers xs → answers y.0 false → RefusesAll answers (xs ++ y ∷ [])
+  RefusesAll-append [] y h a = (a, tt)
+  RefusesAll-append (x ∷ xs) y h a = (h.0, RefusesAll-append xs y h.1 a)
+
+  width-last : (xs : List (A × ℕ)) (y : A × ℕ) → width (xs ++ y ∷ []) ≡ width xs + y.1
+  width-last [] y = omega arith
+  width-last (x ∷ xs) y = let e = width-last xs y in omega (arith, e)
+
+  pub none_refused : (r : List (A × ℕ)) → HasRefused r (offsets_from 0 r)
+  none_refused r = ([], r, (refl, tt, refl))
+
+  pub refused_same : (r : List (A × ℕ)) (items others : List (ℕ × A)) → items ≡ others → HasRefused r items → HasRefused r others
+  refused_same r items others e h = subst (HasRefused r) e h
+
+  pub refused_all : (r : List (A × ℕ)) → HasRefused r [] → RefusesAll answers r
+  refused_all r (before, [], (e, h, i)) = subst (λ xs. RefusesAll answers xs) (sym (e ∙ append-nil before)) h
+  refused_all r (before, (y ∷ ys), (e, h, i)) = absurd (cc)
+
+  pub refused_more : (r : List (A × ℕ)) (x : ℕ × A) (later : List (ℕ × A)) → HasRefused r (x ∷ later) → answers x.1 false → HasRefused r later
+  refused_more r x later (before, [], (e, h, i)) a = absurd (cc)
+  refused_more r x later (before, (y ∷ ys), (e, h, i)) a =
+      let same : x.1 ≡ y.0 = cc in (
+        before ++ y ∷ [],
+        ys,
+        (
+          e ∙ sym (append_assoc before (y ∷ []) ys),
+          RefusesAll-append before y h (subst (λ t. answers t false) same a),
+          later_same i ∙ ap (λ n. offsets_from n ys) (sym (width-last before y)),
+        ),
+      )
+
+  pub accepted : (r : List (A × ℕ)) (x : ℕ × A) (later : List (ℕ × A)) → HasRefused r (x ∷ later) → answers x.1 true → AcceptsFirst answers r x.0
+  accepted r x later (before, [], (e, h, i)) a = absurd (cc)
+  accepted r x later (before, (y ∷ ys), (e, h, i)) a =
+      let same : x.1 ≡ y.0 = cc in
+      let at : x.0 ≡ width before = cc in
+      let t : take (length before) r ≡ before = ap (take (length before)) e ∙ take-append_seam before (y ∷ ys) in
+      let d : drop (length before) r ≡ y ∷ ys = ap (drop (length before)) e ∙ drop-append_seam before (y ∷ ys) in (
+        length before,
+        (
+          at ∙ sym (ap width t),
+          subst (λ xs. RefusesAll answers xs) (sym t) h,
+          (y.0, (ap first_token d, subst (λ u. answers u true) same a)),
+        ),
+      )

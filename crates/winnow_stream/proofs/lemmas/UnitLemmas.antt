@@ -33,6 +33,21 @@ count_to-units (x ∷ xs) n h =
 pub le-from_is_offset : {A : Type 0} (xs : List A) (n : ℕ) → IsTrue (is_offset (units xs) n) → n ≤ length xs
 le-from_is_offset xs n h = grind (arith, nat_tests, is_offset-units xs n)
 
+pub is_offset-from_le : {A : Type 0} (xs : List A) (n : ℕ) → n ≤ length xs → IsTrue (is_offset (units xs) n)
+is_offset-from_le xs n h = is_offset-units xs n ∙ grind (arith, nat_tests)
+
+-- the elements of tokens
+abbrev elements : {A : Type 0} → List (A × ℕ) → List A
+elements [] = []
+elements (x ∷ xs) = x.0 ∷ elements xs
+
+elements-units : {A : Type 0} (xs : List A) → elements (units xs) ≡ xs
+elements-units [] = refl
+elements-units (x ∷ xs) = ap (λ ys. x ∷ ys) (elements-units xs)
+
+pub units-same : {A : Type 0} (xs ys : List A) → units xs ≡ units ys → xs ≡ ys
+units-same xs ys e = sym (elements-units xs) ∙ ap elements e ∙ elements-units ys
+
 pub units-take : {A : Type 0} (xs : List A) (n : ℕ) → n ≤ length xs → units (take n xs) ≡ front (units xs) n
 units-take xs n h = rw (count_to-units xs n h) (sym (take-map (λ x. (x, 1)) n xs))
 

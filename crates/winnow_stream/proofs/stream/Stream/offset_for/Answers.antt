@@ -1,16 +1,22 @@
 use Rattle.std.proofs.Common.{sym, ◌∙◌, ap}
 use Rattle.winnow_stream.specs.Source.{first_held}
-use Rattle.winnow_stream.proofs.lemmas.SearchLemmas.{ahead, ahead-next, left_with-next, held-hit, held-miss}
+use Rattle.winnow_stream.proofs.lemmas.SearchLemmas.{ahead, ahead-next, left_with-next, held-hit, held-miss, refused_same, none_refused, refused_more, refused_all, accepted}
 use Rattle.winnow_stream.proofs.stream.Stream.offset_for.Goals as goal
+use Rattle.winnow_stream.proofs.stream.Stream.offset_for.Given as given
 
 pub loop-next-init : goal.loop-next-init
 loop-next-init g c =
     let all = c.iter_offsets-items.ensures in
     let a = ahead-next g.Self.IterOffsets.Iterator.next_gives g.Self.IterOffsets.Iterator.can_next g.Self.IterOffsets.Iterator.remaining _ _ _ _ (all.items, all.can, all.ends) c.next-next.ensures.steps c.next-next.ensures.goes in
-    (a.0, (a.1.1, λ q h. ap (first_held q) a.1.0))
+    (a.0, (a.1.1, (λ q h. ap (first_held q) a.1.0), refused_same (given.P-post g c.args.predicate) _ _ _ a.1.0 (none_refused (given.P-post g c.args.predicate) _)))
 
-pub returns-then-predicate : goal.returns-then-predicate
-returns-then-predicate g c = λ q h.
+pub returns-then-predicate-clause-finds : goal.returns-then-predicate-clause-finds
+returns-then-predicate-clause-finds g c =
+    let i = c.loop-next.invariant in
+    accepted (given.P-post g c.args.predicate) _ (c.in-Some.offset, c.in-Some.token) i.0 (rw c.in-Some.is at i.1.2) (rw (← sym c.if-predicate.true) at c.predicate.ensures)
+
+pub returns-then-predicate-clause-computed : goal.returns-then-predicate-clause-computed
+returns-then-predicate-clause-computed g c = λ q h.
     let i = c.loop-next.invariant in
     let later = i.0 in
     held-hit q (c.in-Some.offset, c.in-Some.token) later (sym c.if-predicate.true ∙ h _ _ c.predicate.ensures)
@@ -34,13 +40,19 @@ loop-next-preserved g c =
       a.0,
       (
         a.1.1,
-        λ q h.
+        (
+            λ q h.
             i.1.1 q h ∙ ap (λ o. first_held q (ahead o later)) c.in-Some.is
             ∙ held-miss q (c.in-Some.offset, c.in-Some.token) later (sym c.if-predicate.false ∙ h _ _ c.predicate.ensures)
-            ∙ ap (first_held q) a.1.0,
+            ∙ ap (first_held q) a.1.0
+            ),
+        refused_same (given.P-post g c.args.predicate) _ _ _ a.1.0 (refused_more (given.P-post g c.args.predicate) _ (c.in-Some.offset, c.in-Some.token) later (rw c.in-Some.is at i.1.2) (rw c.if-predicate.false at c.predicate.ensures)),
       ),
     )
 
-pub returns : goal.returns
-returns g c = λ q h.
+pub returns-clause-finds : goal.returns-clause-finds
+returns-clause-finds g c = refused_all (given.P-post g c.args.predicate) _ (rw c.in_default.is at c.loop-next.invariant.1.2)
+
+pub returns-clause-computed : goal.returns-clause-computed
+returns-clause-computed g c = λ q h.
     sym (c.loop-next.invariant.1.1 q h ∙ ap (λ o. first_held q (ahead o c.loop-next.invariant.0)) c.in_default.is)

@@ -1,5 +1,5 @@
-use Rattle.winnow_match.proofs.lemmas.ShortageLemmas.{refused-more, answered-more}
-use Rattle.winnow_match.proofs.laws.shortage_law.Goals as goal
+use Rattle.winnow_stream.proofs.lemmas.MissingLemmas.{refused-more, answered-more}
+use Rattle.winnow_stream.proofs.laws.shortage_law.Goals as goal
 
 pub returns-clause-refused : goal.returns-clause-refused
 returns-clause-refused g c = refused-more
