@@ -1,6 +1,6 @@
 -- What each step of a script answers at a cursor, and where it leaves the cursor.
 use Rattle.std.specs.Prelude.{◌≡◌, ℕ, ◌+◌, ◌-◌, min, nat_le, Bool, cond, List, [], ◌∷◌, ◌++◌, length, drop, slice_get, Option, Some, None, unwrap_or, ⊤}
-use Rattle.std.specs.List.{All, AllZip}
+use Rattle.std.specs.List.{All}
 use Rattle.std.specs.Global.{Vec}
 use Rattle.std.specs.declared.ops.Range.{Range}
 use Rattle.winnow_stream.specs.Source.{Source, width, first_token, first_offset, offsets, Computes}
@@ -93,10 +93,23 @@ SetComputes tells holds _ = ⊤
 abbrev pub SetsCompute : {C T : Type 0} → (C → T → Bool → Type 0) → (C → T → Bool) → List (Step C) → Type 0
 SetsCompute tells holds script = All (SetComputes tells holds) script
 
--- each answer that was given stands for the one that the script tells of on the list, whatever its sets hold
+-- each step was given an answer, in order, at the cursor that the steps before it left
+module _ {S G : Type 0} (IsGiven : S → Cursor → G → Type 0) (moves : S → Cursor → Cursor) where
+  abbrev pub AreGiven : List S → Cursor → List G → Type 0
+  AreGiven [] at [] = ⊤
+  AreGiven [] at (g ∷ gs) = ⊥
+  AreGiven (s ∷ ss) at [] = ⊥
+  AreGiven (s ∷ ss) at (g ∷ gs) = IsGiven s at g × AreGiven ss (moves s at) gs
+
+-- an answer that was given stands for the one that the step tells of, whatever the set holds that it names
+abbrev pub IsAnswer : {C T S : Type 0} → (C → T → Bool → Type 0) → (S → Source T → ℕ → Type 0) → Bool → Source T → Step C → Cursor → Answer T S (Vec (ℕ × T)) Needed → Type 0
+IsAnswer {C} {T} tells is_slice counts_missing all step at given =
+    (holds : C → T → Bool) → SetComputes tells holds step → StandsFor is_slice all (step_answer holds counts_missing all step at) given
+
+-- so does each answer of a script; one over a set that does not compute leaves the others as they are
 abbrev pub AreAnswers : {C T S : Type 0} → (C → T → Bool → Type 0) → (S → Source T → ℕ → Type 0) → Bool → Source T → List (Step C) → List (Answer T S (Vec (ℕ × T)) Needed) → Type 0
-AreAnswers {C} {T} tells is_slice counts_missing all script given =
-    (holds : C → T → Bool) → SetsCompute tells holds script → AllZip (StandsFor is_slice all) (answers holds counts_missing all script) given
+AreAnswers tells is_slice counts_missing all script given =
+    AreGiven (IsAnswer tells is_slice counts_missing all) (step_next all) script start given
 
 -- the set that a step names, if any, may be asked
 abbrev pub IsReady : {C : Type 0} → (C → Type 0) → Step C → Type 0

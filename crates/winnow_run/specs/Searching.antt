@@ -1,13 +1,13 @@
 -- Scripts that also compare and search: the two further steps, beside the calls.
 use Rattle.std.specs.Prelude.{◌≡◌, ℕ, Bool, List, Option, ⊤}
-use Rattle.std.specs.List.{All, AllZip}
+use Rattle.std.specs.List.{All}
 use Rattle.std.specs.Global.{Vec}
 use Rattle.winnow_run.specs.declared.script.Answer.{Answer}
 use Rattle.std.specs.declared.ops.Range.{Range}
 use Rattle.winnow_stream.specs.declared.needed.Needed.{Needed}
 use Rattle.winnow_stream.specs.Source.{Source}
 use Rattle.winnow_stream.specs.Cursor.{Cursor, start, rest, answers_from, cursor_after}
-use Rattle.winnow_run.specs.Script.{step_answer, step_next, StandsFor, SetComputes, IsReady}
+use Rattle.winnow_run.specs.Script.{step_answer, step_next, StandsFor, SetComputes, AreGiven, IsReady}
 use Rattle.winnow_run.specs.Standing.{Stand, StandsAt, IsInReach}
 use Rattle.winnow_match.specs.declared.compare.CompareResult.{CompareResult}
 use Rattle.winnow_match.specs.declared.needles.Needles.{Needles}
@@ -76,10 +76,15 @@ AreSearchReady can script = All (IsSearchReady can) script
 abbrev pub stream_kind : {T C L : Type 0} → (C → T → Bool) → Bool → (L → Source T → CompareResult) → (Needles L → Source T → Option (Range ℕ)) → Kind T C L
 stream_kind holds counts_missing compared found = record { holds = holds; counts_missing = counts_missing; compared = compared; found = found }
 
--- each answer that was given stands for the one that the script tells of on the list, whatever its sets hold
+-- an answer that was given stands for the one that the step tells of, whatever the set holds that it names
+abbrev pub IsSearchAnswer : {C T S L : Type 0} → (C → T → Bool → Type 0) → (S → Source T → ℕ → Type 0) → Bool → (L → Source T → CompareResult) → (Needles L → Source T → Option (Range ℕ)) → Source T → SearchStep C L → Cursor → SearchAnswer T S (Vec (ℕ × T)) → Type 0
+IsSearchAnswer {C} {T} tells is_slice counts_missing compared found all step at given =
+    (holds : C → T → Bool) → SearchComputes tells holds step → SearchStandsFor is_slice all (search_answer (stream_kind holds counts_missing compared found) all step at) given
+
+-- so does each answer of a script; one over a set that does not compute leaves the others as they are
 abbrev pub AreSearchAnswers : {C T S L : Type 0} → (C → T → Bool → Type 0) → (S → Source T → ℕ → Type 0) → Bool → (L → Source T → CompareResult) → (Needles L → Source T → Option (Range ℕ)) → Source T → List (SearchStep C L) → List (SearchAnswer T S (Vec (ℕ × T))) → Type 0
-AreSearchAnswers {C} {T} tells is_slice counts_missing compared found all script given =
-    (holds : C → T → Bool) → All (SearchComputes tells holds) script → AllZip (SearchStandsFor is_slice all) (search_answers (stream_kind holds counts_missing compared found) all script) given
+AreSearchAnswers tells is_slice counts_missing compared found all script given =
+    AreGiven (IsSearchAnswer tells is_slice counts_missing compared found all) (search_next all) script start given
 
 -- what a script leaves of a list
 abbrev pub rest_after_search : {C T L : Type 0} → Source T → List (SearchStep C L) → Source T
@@ -94,7 +99,7 @@ IsSearchInReach (step.Find needles) here = ⊤
 -- the answer is the step's, at whatever cursor the run stands
 abbrev pub AnswersSearchStep : {C T S L : Type 0} → (C → T → Bool → Type 0) → (S → Source T → ℕ → Type 0) → Bool → (L → Source T → CompareResult) → (Needles L → Source T → Option (Range ℕ)) → SearchStep C L → Stand T → SearchAnswer T S (Vec (ℕ × T)) → Type 0
 AnswersSearchStep {C} {T} tells is_slice counts_missing compared found step here given =
-    (holds : C → T → Bool) (all : Source T) (at : Cursor) → SearchComputes tells holds step → StandsAt here all at → SearchStandsFor is_slice all (search_answer (stream_kind holds counts_missing compared found) all step at) given
+    (all : Source T) (at : Cursor) → StandsAt here all at → IsSearchAnswer tells is_slice counts_missing compared found all step at given
 
 -- after the step the run stands where the step leaves the cursor, whatever cursor it stood at
 abbrev pub StandsAfterSearchStep : {C T L : Type 0} → SearchStep C L → Stand T → Stand T → Type 0

@@ -6,7 +6,7 @@ use Rattle.winnow_stream.specs.Source.{Source, width, HasWidths}
 use Rattle.winnow_stream.specs.Cursor.{Cursor, place}
 use Rattle.winnow_stream.specs.declared.needed.Needed.{Needed}
 use Rattle.winnow_run.specs.Marks.{places_of, HasRoom}
-use Rattle.winnow_run.specs.Script.{step_answer, step_next, StandsFor, SetComputes}
+use Rattle.winnow_run.specs.Script.{step_next, IsAnswer}
 use Rattle.winnow_run.specs.declared.marks.Marks.{Marks}
 use Rattle.winnow_run.specs.declared.marks.Origin.{Origin}
 use Rattle.winnow_run.specs.declared.script.Answer.{Answer}
@@ -66,7 +66,7 @@ IsInReach _ here = ⊤
 -- the answer is the step's, at whatever cursor the run stands
 abbrev pub AnswersStep : {C T S : Type 0} → (C → T → Bool → Type 0) → (S → Source T → ℕ → Type 0) → Bool → Step C → Stand T → Answer T S (Vec (ℕ × T)) Needed → Type 0
 AnswersStep {C} {T} tells is_slice counts_missing step here given =
-    (holds : C → T → Bool) (all : Source T) (at : Cursor) → SetComputes tells holds step → StandsAt here all at → StandsFor is_slice all (step_answer holds counts_missing all step at) given
+    (all : Source T) (at : Cursor) → StandsAt here all at → IsAnswer tells is_slice counts_missing all step at given
 
 -- after the step the run stands where the step leaves the cursor, whatever cursor it stood at
 abbrev pub StandsAfter : {C T : Type 0} → Step C → Stand T → Stand T → Type 0

@@ -1,6 +1,7 @@
 ghost use Rattle.std.specs.Prelude.{◌≡◌, IfOk};
+ghost use Rattle.std.specs.List.{AllZip};
 ghost use Rattle.winnow_run.specs.Definite.{StableUnderMore};
-ghost use Rattle.winnow_run.specs.Script.{AreAnswers, AreReady};
+ghost use Rattle.winnow_run.specs.Script.{AreAnswers, AreReady, SetsCompute, StandsFor, answers};
 
 use crate::{Answer, Step, run};
 use std::alloc::{AllocError, Global};
@@ -30,6 +31,14 @@ where
     s.reset(&start);
     answers
 }
+
+/// The law of a whole script: where every set that it names computes, the answers that [`run`] gives are, one by one, those of the
+/// script. It does nothing when called: its contract is the law.
+pub fn answers_law<S: Stream, C: ScriptSet<S::Token>>()
+    ensures { (holds : _) (all : _) (script : _) (out : _) → SetsCompute C.tells holds script
+        → AreAnswers C.tells S.is_slice S.counts_missing all script out
+        → AllZip (StandsFor S.is_slice all) (answers holds S.counts_missing all script) out }
+{}
 
 /// The law of stability: if the first n answers of a script on a list are definite, they are the first n on that list followed by
 /// anything, and definite there. So whoever reads input as it comes may act on a definite answer at once. It does nothing when

@@ -13,7 +13,7 @@ mod search_script;
 mod searching;
 mod stepping;
 
-pub use laws::{definite_law, run_and_reset};
+pub use laws::{answers_law, definite_law, run_and_reset};
 pub use marks::{Marks, Origin};
 pub use running::run;
 pub use script::{Answer, Step};

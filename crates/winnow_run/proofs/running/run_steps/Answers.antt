@@ -4,9 +4,8 @@ use Rattle.std.proofs.lemmas.List.Elements.{All-head, All-tail}
 use Rattle.std.specs.List.{All}
 use Rattle.winnow_stream.specs.Source.{width}
 use Rattle.winnow_stream.specs.Cursor.{start}
-use Rattle.winnow_run.specs.Script.{step_answer, step_next, IsReady, SetComputes, StandsFor}
-use Rattle.winnow_run.proofs.lemmas.PairLemmas.{AllZip-more}
-use Rattle.winnow_run.proofs.lemmas.ScriptLemmas.{cursor-append, answers-append}
+use Rattle.winnow_run.specs.Script.{step_next, IsReady, IsAnswer}
+use Rattle.winnow_run.proofs.lemmas.ScriptLemmas.{cursor-append, AreGiven-append}
 use Rattle.winnow_run.proofs.running.run_steps.Goals as goal
 
 pub loop-step-init : goal.loop-step-init
@@ -17,7 +16,6 @@ loop-step-init g c =
       valid = c.requires.valid;
       kept = g.met.S.Stream.keeps_reflexive _;
       ready = c.requires.ready;
-      sets = λ q p. p;
       done = [];
       split = refl;
       origin = c.new-origin.ensures.valid;
@@ -33,7 +31,7 @@ loop-step-init g c =
         origin = c.new-origin.ensures.means;
         first_within = omega arith;
       };
-      answers = λ q p. rw c.in_ok-answers.ensures.items tt;
+      answers = rw c.in_ok-answers.ensures.items tt;
     }
 
 pub answer_step-requires-clause-ready : goal.answer_step-requires-clause-ready
@@ -57,22 +55,19 @@ loop-step-preserved g c =
       base = i.base;
       kept = g.met.S.Stream.keeps_transitive _ _ _ i.kept c.answer_step.ensures.kept;
       ready = All-tail (IsReady g.C.ScriptSet.can_hold) c.in-Some.step.now c.in-Some.later.now (subst (All (IsReady g.C.ScriptSet.can_hold)) e i.ready);
-      sets = λ q p. All-tail (SetComputes g.C.ScriptSet.tells q) c.in-Some.step.now c.in-Some.later.now (subst (All (SetComputes g.C.ScriptSet.tells q)) e (i.sets q p));
       done = i.done ++ c.in-Some.step.now ∷ [];
       split = i.split ∙ ap (λ xs. i.done ++ xs) e ∙ sym (append_assoc i.done (c.in-Some.step.now ∷ []) c.in-Some.later.now);
       stands = rw (cursor-append (step_next all) i.done c.in-Some.step.now start) (c.in_ok-answer.ensures.stands _ _ i.stands);
-      answers = λ q p.
-          let here = All-head (SetComputes g.C.ScriptSet.tells q) c.in-Some.step.now c.in-Some.later.now (subst (All (SetComputes g.C.ScriptSet.tells q)) e (i.sets q p)) in
-          rw (answers-append (step_answer q g.S.Stream.counts_missing all) (step_next all) i.done c.in-Some.step.now start)
-          (rw c.in_ok-push.ensures.items
-          (AllZip-more (StandsFor g.S.Stream.is_slice all) _ _ _ _ (i.answers q p) (c.in_ok-answer.ensures.answer q _ _ here i.stands)));
+      answers =
+          rw c.in_ok-push.ensures.items
+          (AreGiven-append (IsAnswer g.C.ScriptSet.tells g.S.Stream.is_slice g.S.Stream.counts_missing all) (step_next all) i.done start _ c.in-Some.step.now _ i.answers (c.in_ok-answer.ensures.answer _ _ i.stands));
     }
 
 pub returns-clause-answers : goal.returns-clause-answers
-returns-clause-answers g c = λ q p.
+returns-clause-answers g c =
     let i = c.loop-step.invariant in
     let e : c.args.script.now ≡ i.done = i.split ∙ ap (λ xs. i.done ++ xs) (nil_from_length _ c.in_default.ensures.cases) ∙ append-nil i.done in
-    rw e (i.answers q p)
+    rw e i.answers
 
 pub returns-clause-remains : goal.returns-clause-remains
 returns-clause-remains g c =

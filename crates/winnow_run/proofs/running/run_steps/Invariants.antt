@@ -1,7 +1,6 @@
 use Rattle.std.proofs.Common.{◌≡◌, List, ◌++◌, length}
-use Rattle.std.specs.List.{AllZip}
 use Rattle.winnow_stream.specs.Cursor.{cursor_after, start}
-use Rattle.winnow_run.specs.Script.{answers, step_next, SetsCompute, AreReady, StandsFor}
+use Rattle.winnow_run.specs.Script.{step_next, AreReady, AreGiven, IsAnswer}
 use Rattle.winnow_run.specs.Standing.{stand, StandsAt}
 use Rattle.winnow_run.proofs.running.run_steps.Given as goal
 
@@ -10,13 +9,12 @@ invariant-loop-step g l = record {
   valid : g.S.Stream.valid l.s;
   kept : g.S.Stream.keeps l.fn.s l.s;
   ready : AreReady g.C.ScriptSet.can_hold l.rest;
-  sets : (holds : _) → SetsCompute g.C.ScriptSet.tells holds l.script → SetsCompute g.C.ScriptSet.tells holds l.rest;
   done : List _;
   split : l.script ≡ done ++ l.rest;
   origin : g.S.Stream.valid_checkpoint l.origin.checkpoint;
   base : l.origin.place ≡ 0;
   stands : StandsAt (stand g.S.Stream.remained l.origin (g.S.Stream.remaining l.s) l.marks) (g.S.Stream.remaining l.fn.s) (cursor_after (step_next (g.S.Stream.remaining l.fn.s)) done start);
-  answers : (holds : _) → SetsCompute g.C.ScriptSet.tells holds l.script → AllZip (StandsFor g.S.Stream.is_slice (g.S.Stream.remaining l.fn.s)) (answers holds g.S.Stream.counts_missing (g.S.Stream.remaining l.fn.s) done) l.answers.items;
+  answers : AreGiven (IsAnswer g.C.ScriptSet.tells g.S.Stream.is_slice g.S.Stream.counts_missing (g.S.Stream.remaining l.fn.s)) (step_next (g.S.Stream.remaining l.fn.s)) done start l.answers.items;
 }
 
 abbrev pub decreases-loop-step : goal.decreases-loop-step

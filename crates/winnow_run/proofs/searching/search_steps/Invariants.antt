@@ -1,7 +1,7 @@
 use Rattle.std.proofs.Common.{◌≡◌, List, ◌++◌, length}
-use Rattle.std.specs.List.{All, AllZip}
 use Rattle.winnow_stream.specs.Cursor.{cursor_after, start}
-use Rattle.winnow_run.specs.Searching.{search_answers, search_next, stream_kind, AreSearchReady, SearchComputes, SearchStandsFor}
+use Rattle.winnow_run.specs.Searching.{search_next, AreSearchReady, IsSearchAnswer}
+use Rattle.winnow_run.specs.Script.{AreGiven}
 use Rattle.winnow_run.specs.Standing.{stand, StandsAt}
 use Rattle.winnow_run.proofs.searching.search_steps.Given as goal
 
@@ -10,13 +10,12 @@ invariant-loop-step g l = record {
   valid : g.S.Stream.valid l.s;
   kept : g.S.Stream.keeps l.fn.s l.s;
   ready : AreSearchReady g.C.ScriptSet.can_hold l.rest;
-  sets : (holds : _) → All (SearchComputes g.C.ScriptSet.tells holds) l.script → All (SearchComputes g.C.ScriptSet.tells holds) l.rest;
   done : List _;
   split : l.script ≡ done ++ l.rest;
   origin : g.S.Stream.valid_checkpoint l.origin.checkpoint;
   base : l.origin.place ≡ 0;
   stands : StandsAt (stand g.S.Stream.remained l.origin (g.S.Stream.remaining l.s) l.marks) (g.S.Stream.remaining l.fn.s) (cursor_after (search_next (g.S.Stream.remaining l.fn.s)) done start);
-  answers : (holds : _) → All (SearchComputes g.C.ScriptSet.tells holds) l.script → AllZip (SearchStandsFor g.S.Stream.is_slice (g.S.Stream.remaining l.fn.s)) (search_answers (stream_kind holds g.S.Stream.counts_missing g.S.Compare.compared g.S.FindSlice.found) (g.S.Stream.remaining l.fn.s) done) l.answers.items;
+  answers : AreGiven (IsSearchAnswer g.C.ScriptSet.tells g.S.Stream.is_slice g.S.Stream.counts_missing g.S.Compare.compared g.S.FindSlice.found (g.S.Stream.remaining l.fn.s)) (search_next (g.S.Stream.remaining l.fn.s)) done start l.answers.items;
 }
 
 abbrev pub decreases-loop-step : goal.decreases-loop-step

@@ -34,7 +34,7 @@ returns-in-Next-clause-stands g c = λ all cur h.
     rw c.in-Next.is (stands-next _ all cur h _ c.next_token.ensures.remains)
 
 pub returns-then-is_offset-clause-answer : goal.returns-then-is_offset-clause-answer
-returns-then-is_offset-clause-answer g c = λ q all cur p h.
+returns-then-is_offset-clause-answer g c = λ all cur h q p.
     let b = taken _ all cur h c.in-Take.offset _ c.is_offset.ensures c.if-is_offset.true in
     rw c.in-Take.is (rw b (c.next_slice.result, refl, slice-front _ all cur h g.S.Stream.is_slice c.in-Take.offset _ c.next_slice.ensures.answer))
 
@@ -43,7 +43,7 @@ returns-then-is_offset-clause-stands g c = λ all cur h.
     rw c.in-Take.is (stands-take _ all cur h c.in-Take.offset _ c.next_slice.ensures.remains)
 
 pub returns-else-is_offset-clause-answer : goal.returns-else-is_offset-clause-answer
-returns-else-is_offset-clause-answer g c = λ q all cur p h.
+returns-else-is_offset-clause-answer g c = λ all cur h q p.
     rw c.in-Take.is (rw (not-taken _ all cur h c.in-Take.offset _ c.is_offset.ensures c.if-is_offset.false) refl)
 
 pub returns-else-is_offset-clause-stands : goal.returns-else-is_offset-clause-stands
@@ -51,30 +51,30 @@ returns-else-is_offset-clause-stands g c = λ all cur h.
     rw c.in-Take.is (stands-not_taken _ all cur h c.in-Take.offset (not-taken _ all cur h c.in-Take.offset _ c.is_offset.ensures c.if-is_offset.false))
 
 pub returns-then-is_offset-2-clause-answer : goal.returns-then-is_offset-2-clause-answer
-returns-then-is_offset-2-clause-answer g c = λ q all cur p h.
+returns-then-is_offset-2-clause-answer g c = λ all cur h q p.
     let b = taken _ all cur h c.in-Look.offset _ c.is_offset-in-Look.ensures c.if-is_offset-2.true in
     rw c.in-Look.is (rw b (c.peek_slice.result, refl, slice-front _ all cur h g.S.Stream.is_slice c.in-Look.offset _ c.peek_slice.ensures))
 
 pub returns-else-is_offset-2-clause-answer : goal.returns-else-is_offset-2-clause-answer
-returns-else-is_offset-2-clause-answer g c = λ q all cur p h.
+returns-else-is_offset-2-clause-answer g c = λ all cur h q p.
     rw c.in-Look.is (rw (not-taken _ all cur h c.in-Look.offset _ c.is_offset-in-Look.ensures c.if-is_offset-2.false) refl)
 
 pub returns-in-Finish-clause-answer : goal.returns-in-Finish-clause-answer
-returns-in-Finish-clause-answer g c = λ q all cur p h.
+returns-in-Finish-clause-answer g c = λ all cur h q p.
     rw c.in-Finish.is (c.finish.result, refl, slice-whole _ all cur h g.S.Stream.is_slice _ c.finish.ensures.answer)
 
 pub returns-in-PeekFinish-clause-answer : goal.returns-in-PeekFinish-clause-answer
-returns-in-PeekFinish-clause-answer g c = λ q all cur p h.
+returns-in-PeekFinish-clause-answer g c = λ all cur h q p.
     rw c.in-PeekFinish.is (c.peek_finish.result, refl, slice-whole _ all cur h g.S.Stream.is_slice _ c.peek_finish.ensures)
 
 pub returns-in_ok-collect-in-Each-clause-answer : goal.returns-in_ok-collect-in-Each-clause-answer
-returns-in_ok-collect-in-Each-clause-answer g c = λ q all cur p h.
+returns-in_ok-collect-in-Each-clause-answer g c = λ all cur h q p.
     let road : YieldsList g.S.IterOffsets.Iterator.next_gives (λ x. x) c.iter_offsets.result (offsets (g.S.Stream.remaining c.args.s.now)) = record { runs = c.iter_offsets.ensures.items } in
     let e = items_from_collect {E = AllocError} (Ok c.in_ok-collect-in-Each.field-0) c.in_ok-collect-in-Each.ensures.ran road in
     rw c.in-Each.is (c.in_ok-collect-in-Each.field-0, refl, items-place _ all cur h _ e)
 
 pub returns-in_ok-push-in-Mark-clause-answer : goal.returns-in_ok-push-in-Mark-clause-answer
-returns-in_ok-push-in-Mark-clause-answer g c = λ q all cur p h.
+returns-in_ok-push-in-Mark-clause-answer g c = λ all cur h q p.
     rw c.in-Mark.is (ap Marked (c.count-number.ensures ∙ count-marks _ all cur h))
 
 pub returns-in_ok-push-in-Mark-clause-stands : goal.returns-in_ok-push-in-Mark-clause-stands
@@ -83,7 +83,7 @@ returns-in_ok-push-in-Mark-clause-stands g c = λ all cur h.
     rw c.in-Mark.is (stands-mark _ all cur h (c.args.origin.now.end - c.eof_offset-in-Mark.result) _ p c.in_ok-push-in-Mark.ensures.ok)
 
 pub returns-in-Some-clause-answer : goal.returns-in-Some-clause-answer
-returns-in-Some-clause-answer g c = λ q all cur p h.
+returns-in-Some-clause-answer g c = λ all cur h q p.
     let i = mark-found _ all cur h c.in-Reset.number c.in-Some.place (sym c.place.ensures ∙ c.in-Some.is) in
     rw c.in-Reset.is (rw i.1.0 refl)
 
@@ -96,7 +96,7 @@ returns-in-Some-clause-stands g c = λ all cur h.
     rw c.in-Reset.is (stands-reset _ all cur h c.in-Reset.number c.in-Some.place _ f l e)
 
 pub returns-in-None-clause-answer : goal.returns-in-None-clause-answer
-returns-in-None-clause-answer g c = λ q all cur p h.
+returns-in-None-clause-answer g c = λ all cur h q p.
     rw c.in-Reset.is (rw (mark-missing _ all cur h c.in-Reset.number (sym c.place.ensures ∙ c.in-None.is)) refl)
 
 pub returns-in-None-clause-stands : goal.returns-in-None-clause-stands
@@ -104,19 +104,19 @@ returns-in-None-clause-stands g c = λ all cur h.
     rw c.in-Reset.is (stands-unmarked _ all cur h c.in-Reset.number (sym c.place.ensures ∙ c.in-None.is))
 
 pub returns-then-place-mark-clause-answer : goal.returns-then-place-mark-clause-answer
-returns-then-place-mark-clause-answer g c = λ q all cur p h.
+returns-then-place-mark-clause-answer g c = λ all cur h q p.
     let i = mark-found _ all cur h c.in-Since.number c.in-Some-place.mark (sym c.place-in-Since.ensures ∙ c.in-Some-place.is) in
     let e = ap (λ n. c.args.origin.now.end - n) c.eof_offset-in-Some-place.ensures ∙ place-here _ all cur h in
     let l = later-mark _ all cur h c.in-Some-place.mark i.0 i.1.1 (omega (arith, e)) in
     rw c.in-Since.is (rw i.1.0 (rw l refl))
 
 pub returns-else-place-mark-clause-answer : goal.returns-else-place-mark-clause-answer
-returns-else-place-mark-clause-answer g c = λ q all cur p h.
+returns-else-place-mark-clause-answer g c = λ all cur h q p.
     let i = mark-found _ all cur h c.in-Since.number c.in-Some-place.mark (sym c.place-in-Since.ensures ∙ c.in-Some-place.is) in
     let e = ap (λ n. c.args.origin.now.end - n) c.eof_offset-in-Some-place.ensures ∙ place-here _ all cur h in
     let l = earlier-mark _ all cur h c.in-Some-place.mark i.0 i.1.1 (omega (arith, e)) in
     rw c.in-Since.is (rw i.1.0 (rw l (ap Offset (ap (λ n. n - c.in-Some-place.mark) e ∙ mark-width _ all cur h c.in-Some-place.mark i.0 i.1.1))))
 
 pub returns-in-None-place-clause-answer : goal.returns-in-None-place-clause-answer
-returns-in-None-place-clause-answer g c = λ q all cur p h.
+returns-in-None-place-clause-answer g c = λ all cur h q p.
     rw c.in-Since.is (rw (mark-missing _ all cur h c.in-Since.number (sym c.place-in-Since.ensures ∙ c.in-None-place.is)) refl)
