@@ -4,7 +4,7 @@ pub use winnow_context::{ContextError, ContextItems, StrContext, StrContextValue
 pub use winnow_error::{
     AddContext, AssociativeOr, EmptyError, ErrMode, ErrorConvert, FromExternalError,
     FromRecoverableError, InputError, ModalError, ModalResult, OrTree, ParserError, Result,
-    bracket_law, combine, mode_law, or_law,
+    bracket_law, combine, join_all, mode_law, or_law,
 };
 pub use winnow_parse_error::{ParseError, char_span_law, translate_position};
 pub use winnow_stream::Needed;

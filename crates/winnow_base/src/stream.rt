@@ -8,18 +8,18 @@ pub use winnow_feed::{ByteFeed, Finished, TextFeed, Told, run_pieces, run_pieces
 pub use winnow_kinds::{BStr, ByteLiteral, ByteNeedles, text_equality_law, text_order_law};
 pub use winnow_match::{
     Compare, CompareResult, FindSlice, Needles, Stretch, compare_law, compare_more_law,
-    definite_hit_law, find_law, find_more_law, shortage_law, stretch, stretch_law,
+    definite_hit_law, find_law, find_more_law, stretch, stretch_law,
 };
 pub use winnow_recover::{RecordError, Recover, Recoverable};
 pub use winnow_run::{
-    Answer, PieceAnswer, SearchAnswer, SearchStep, Step, definite_law, run, run_and_reset,
+    Answer, PieceAnswer, SearchAnswer, SearchStep, Step, answers_law, definite_law, run, run_and_reset,
     run_search,
 };
 pub use winnow_sets::{AsChar, CharSet, ContainsToken, Where, union_law};
 pub use winnow_stream::{
     AsBStr, AsBytes, Checkpoint, Location, Needed, NoSet, Offset, Rest, ScriptSet, SliceLen,
-    SliceOffsets, Str, Stream, StreamIsPartial, UpdateSlice, checkpoint_equality_law, front_law,
-    offset_law,
+    SliceOffsets, Str, Stream, StreamIsPartial, UpdateSlice, checkpoint_equality_law, first_law,
+    front_law, offset_law, shortage_law, slice_law, taken_law, text_slice_law,
 };
 pub use winnow_views::{PreviousTokens, TokenOffsets, TokenSlice, TokenView, token_equality_law};
 pub use winnow_wrap::{LocatingSlice, Partial, Placed, Stateful};

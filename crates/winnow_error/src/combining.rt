@@ -3,7 +3,7 @@ ghost use Rattle.winnow_error.specs.Mode.{ModeOr};
 ghost use Rattle.winnow_error.specs.Or.{GivesOnly, IsAssociative};
 ghost use Rattle.winnow_error.specs.Pick.{Bracketed, leaves, pick, HasNonBacktrack};
 
-use crate::{ErrMode, ParserError};
+use crate::{AssociativeOr, ErrMode, ParserError};
 use std::alloc::{AllocError, Global};
 use winnow_stream::Stream;
 
@@ -29,6 +29,20 @@ pub fn combine<I: Stream, E: ParserError<I>>(
     ensures err { OnErr result E.or_refusable }
 {
     join_tree::<I, E>(alloc, tree)
+}
+
+/// Joins the errors of alternatives by an `or` that is associative and never refused memory, so that the brackets never matter:
+/// the answer is the first `Incomplete`, else the first `Cut`, else `Backtrack` of all errors joined in order.
+pub fn join_all<I: Stream, E: AssociativeOr<I>>(
+    alloc: Global,
+    tree: OrTree<ErrMode<E>>,
+) -> ErrMode<E>
+    ensures { pick E.joined (leaves tree) ≡ Some result }
+{
+    match combine::<I, E>(alloc, tree) {
+        Ok(error) => error,
+        Err(_) => unreachable!(),
+    }
 }
 
 fn join_tree<I: Stream, E: ParserError<I>>(

@@ -19,7 +19,7 @@ mod unit;
 
 pub use add_context::AddContext;
 pub use associative_or::AssociativeOr;
-pub use combining::{OrTree, combine};
+pub use combining::{OrTree, combine, join_all};
 pub use empty::EmptyError;
 pub use error_convert::ErrorConvert;
 pub use from_external::FromExternalError;

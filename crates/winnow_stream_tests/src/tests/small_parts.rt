@@ -1,7 +1,10 @@
 use crate::listed::Listed;
 use crate::pairs::Pairs;
 use std::test::Fail;
-use winnow_base::stream::{Needed, Stream, checkpoint_equality_law, front_law, offset_law};
+use winnow_base::stream::{
+    Needed, Stream, checkpoint_equality_law, first_law, front_law, offset_law, shortage_law,
+    slice_law, taken_law, text_slice_law,
+};
 use winnow_test_helpers::{Traced, debugged, marks, shown, width, width_from, window_of};
 
 #[test]
@@ -115,4 +118,9 @@ fn the_laws_can_be_called() {
     front_law::<u8>();
     offset_law::<char>();
     checkpoint_equality_law::<u8>();
+    taken_law::<u8>();
+    first_law::<char>();
+    shortage_law::<u8>();
+    slice_law::<u8>();
+    text_slice_law("é1");
 }
