@@ -1,5 +1,5 @@
 -- What a stream of bits means, by what the stream of bytes inside means.
-use Rattle.std.specs.Prelude.{◌≡◌, ℕ, Bool}
+use Rattle.std.specs.Prelude.{◌≡◌, ℕ, ◌*◌, ◌-◌, Bool}
 use Rattle.winnow_stream.specs.Source.{Source, width}
 use Rattle.winnow_stream.specs.Checkpoint.{checkpoint_inner}
 use Rattle.winnow_stream.specs.declared.checkpoint.Checkpoint.{Checkpoint}
@@ -30,6 +30,10 @@ module _ {C : Type 0} where
 
   abbrev pub IsValidPlace : (C → Type 0) → (C → Source ℕ) → BitPlace C → Type 0
   IsValidPlace valid remained c = valid c.bytes × IsBitSource (remained c.bytes) c.place × (c.count ≡ width (bits_remained remained c))
+
+  -- its number of bits is that of its bytes from its place on, as it is where it is valid
+  abbrev pub IsCounted : (C → ℕ) → BitPlace C → Type 0
+  IsCounted rest_width c = c.count ≡ 8 * rest_width c.bytes - c.place
 
 -- the checkpoint of the bytes, and the place, of a checkpoint
 module _ {I C : Type 0} where

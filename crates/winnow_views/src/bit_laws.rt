@@ -1,9 +1,10 @@
 ghost use Rattle.std.specs.Prelude.{◌≡◌, ℕ, ◌+◌, ◌-◌, ◌*◌, ◌%◌, ◌^◌, ◌<◌, ◌≤◌, ◌&&◌, nat_eq, List, length};
 ghost use Rattle.winnow_stream.specs.Source.{Source, units, width};
 ghost use Rattle.winnow_stream.specs.Front.{front};
+ghost use Rattle.winnow_stream.specs.Checkpoint.{checkpoint_inner};
 ghost use Rattle.winnow_stream.specs.declared.checkpoint.Checkpoint.{Checkpoint};
 ghost use Rattle.winnow_views.specs.BitSource.{bits_from, IsBitSource, IsBitSlice};
-ghost use Rattle.winnow_views.specs.BitStream.{bits_input, bits_place, bytes_at, place_at};
+ghost use Rattle.winnow_views.specs.BitStream.{bits_input, bits_place, bytes_at, place_at, IsCounted};
 ghost use Rattle.winnow_views.specs.BitWidth.{SlicesHaveWidths};
 ghost use Rattle.winnow_views.specs.declared.bits.Bits.{Bits};
 ghost use Rattle.winnow_views.specs.declared.bits.BitPlace.{BitPlace};
@@ -24,6 +25,14 @@ pub fn bit_source_law()
 pub fn bit_place_law()
     ensures place { (bytes : Source ℕ) (place : ℕ) → IsBitSource bytes place → (width (bits_from bytes place) + place) % 8 ≡ 0 }
     ensures front { (bytes : Source ℕ) (place count : ℕ) → IsBitSource bytes place → count ≤ length bytes → bits_from (front bytes count) place ≡ front (bits_from bytes place) (8 * count - place) }
+{}
+
+/// The law of checkpoints of bits: a valid one counts its bits, which is what measuring from one to another asks for. It does nothing
+/// when called: its contract is the law.
+pub fn bit_checkpoint_law<I: Stream<Token = u8>>()
+    ensures { (c : Checkpoint (BitPlace I.Checkpoint) (Bits I))
+        → ⟦<Bits<I> as Stream>⟧.valid_checkpoint c
+        → IsCounted I.Checkpoint.rest_width (checkpoint_inner c) }
 {}
 
 /// The law of slices of bits: where the length of each slice of the stream of bytes is the offset that it was taken at, so is that of

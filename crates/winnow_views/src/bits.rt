@@ -1,9 +1,10 @@
-ghost use Rattle.std.specs.Prelude.{◌≡◌, ◌+◌, ◌-◌, ◌*◌, ◌/◌, ◌%◌, ◌<◌, true, [], IsTrue};
+ghost use Rattle.std.specs.Prelude.{◌≡◌, ◌+◌, ◌-◌, ◌*◌, ◌/◌, ◌%◌, ◌<◌, true, [], drop, IsTrue, IfSome, IfNone};
 ghost use Rattle.winnow_stream.specs.Checkpoint.{checkpoint_inner};
-ghost use Rattle.winnow_stream.specs.Source.{width};
+ghost use Rattle.winnow_stream.specs.Source.{first_token, width};
 ghost use Rattle.winnow_stream.specs.Front.{is_offset, back};
 ghost use Rattle.winnow_views.specs.BitSource.{IsBitSlice, IsBitSliceAt};
 ghost use Rattle.winnow_views.specs.BitStream.{bits_input, bits_place, bits_remaining, bits_remained, IsValidBits, IsValidPlace};
+ghost use Rattle.winnow_views.specs.BitStream.{bytes_at, place_at, IsCounted};
 ghost use Rattle.winnow_views.specs.BitLaws.{HasWidths-bits_from, rest_width-bits_from, bits_remaining-same, IsValidBits-same};
 
 use crate::BitOffsets;
@@ -129,7 +130,17 @@ impl<I: Stream<Token = u8>> Stream for Bits<I> {
         (8 * self.input.eof_offset() as u128 - self.place as u128) as usize
     }
 
-    fn next_token(&mut self) -> Option<bool> {
+    fn next_token(&mut self) -> Option<bool>
+        requires { IsValidBits I.valid I.remaining self.old }
+        ensures bytes { IfSome result (λ _. I.remaining (bits_input self.new)
+            ≡ drop ((bits_place self.old + 1) / 8) (I.remaining (bits_input self.old))) }
+        ensures place { IfSome result (λ _. bits_place self.new ≡ (bits_place self.old + 1) % 8) }
+        ensures end { IfNone result (self.new ≡ self.old) }
+        ensures answer { result ≡ first_token (bits_remaining I.remaining self.old) }
+        ensures remains { bits_remaining I.remaining self.new ≡ drop 1 (bits_remaining I.remaining self.old) }
+        ensures valid { IsValidBits I.valid I.remaining self.new }
+        ensures kept { I.keeps (bits_input self.old) (bits_input self.new) }
+    {
         let bit = self.peek_token()?;
         if self.place < 7 {
             self.place += 1;
@@ -161,6 +172,8 @@ impl<I: Stream<Token = u8>> Stream for Bits<I> {
         requires offset { IsTrue (is_offset (bits_remaining I.remaining self.old) offset) }
         ensures at { IsBitSliceAt I.is_slice result (I.remaining (bits_input self.old)) (bits_place self.old) offset }
         ensures place { bits_place self.new ≡ (offset + bits_place self.old) % 8 }
+        ensures bytes { I.remaining (bits_input self.new)
+            ≡ back (I.remaining (bits_input self.old)) ((offset + bits_place self.old) / 8) }
         ensures answer { IsBitSlice I.is_slice result (bits_remaining I.remaining self.old) offset }
         ensures remains { bits_remaining I.remaining self.new ≡ back (bits_remaining I.remaining self.old) offset }
         ensures valid { IsValidBits I.valid I.remaining self.new }
@@ -187,6 +200,7 @@ impl<I: Stream<Token = u8>> Stream for Bits<I> {
         requires { IsValidBits I.valid I.remaining self.old }
         ensures at { IsBitSliceAt I.is_slice result (I.remaining (bits_input self.old)) (bits_place self.old) (width (bits_remaining I.remaining self.old)) }
         ensures place { bits_place self.new ≡ 0 }
+        ensures bytes { I.remaining (bits_input self.new) ≡ [] }
         ensures answer { IsBitSlice I.is_slice result (bits_remaining I.remaining self.old) (width (bits_remaining I.remaining self.old)) }
         ensures remains { bits_remaining I.remaining self.new ≡ [] }
         ensures valid { IsValidBits I.valid I.remaining self.new }
@@ -204,7 +218,13 @@ impl<I: Stream<Token = u8>> Stream for Bits<I> {
         self.peek_slice(self.eof_offset())
     }
 
-    fn checkpoint(&self) -> Checkpoint<BitPlace<I::Checkpoint>, Bits<I>> {
+    fn checkpoint(&self) -> Checkpoint<BitPlace<I::Checkpoint>, Bits<I>>
+        requires { IsValidBits I.valid I.remaining self.now }
+        ensures bytes { I.remained (bytes_at result) ≡ I.remaining (bits_input self.now) }
+        ensures place { place_at result ≡ bits_place self.now }
+        ensures means { bits_remained I.remained (checkpoint_inner result) ≡ bits_remaining I.remaining self.now }
+        ensures valid { IsValidPlace I.valid_checkpoint I.remained (checkpoint_inner result) }
+    {
         Checkpoint::new(BitPlace {
             bytes: self.input.checkpoint(),
             place: self.place,
@@ -212,7 +232,15 @@ impl<I: Stream<Token = u8>> Stream for Bits<I> {
         })
     }
 
-    fn reset(&mut self, checkpoint: &Checkpoint<BitPlace<I::Checkpoint>, Bits<I>>) {
+    fn reset(&mut self, checkpoint: &Checkpoint<BitPlace<I::Checkpoint>, Bits<I>>)
+        requires valid { IsValidBits I.valid I.remaining self.old }
+        requires valid_checkpoint { IsValidPlace I.valid_checkpoint I.remained (checkpoint_inner checkpoint.now) }
+        ensures bytes { I.remaining (bits_input self.new) ≡ I.remained (bytes_at checkpoint.now) }
+        ensures place { bits_place self.new ≡ place_at checkpoint.now }
+        ensures remains { bits_remaining I.remaining self.new ≡ bits_remained I.remained (checkpoint_inner checkpoint.now) }
+        ensures valid { IsValidBits I.valid I.remaining self.new }
+        ensures kept { I.keeps (bits_input self.old) (bits_input self.new) }
+    {
         let start = checkpoint.inner();
         self.input.reset(&start.bytes);
         self.place = start.place;
@@ -236,6 +264,15 @@ impl<I: Stream<Token = u8>> Offset<Checkpoint<BitPlace<I::Checkpoint>, Bits<I>>>
 
     fn offset_from(&self, start: &Checkpoint<BitPlace<I::Checkpoint>, Bits<I>>) -> usize {
         start.inner().count - self.eof_offset()
+    }
+}
+
+/// Between two places of one stream of bits, as a valid checkpoint holds them.
+impl<C: Rest> Offset<BitPlace<C>> for BitPlace<C> {
+    ghost can_measure = { λ c start. IsCounted C.rest_width c × IsCounted C.rest_width start };
+
+    fn offset_from(&self, start: &BitPlace<C>) -> usize {
+        start.count - self.count
     }
 }
 

@@ -178,6 +178,13 @@ place-of_width bytes place h =
     let l : place ≤ 8 * width bytes = place-le bytes place h in
     omega (arith, e, l)
 
+-- all bits from a place on reach to the end of the bytes
+pub width-bits_whole : (bytes : List (ℕ × ℕ)) (place : ℕ) → IsBitSource bytes place → (width (bits_from bytes place) + place) / 8 ≡ width bytes
+width-bits_whole bytes place h =
+    let e : width (bits_from bytes place) ≡ 8 * width bytes - place = width-bits bytes place h.units in
+    let l : place ≤ 8 * width bytes = place-le bytes place h in
+    omega (arith, e, l)
+
 bits_of-take : (k : ℕ) (bytes : List (ℕ × ℕ)) → bits_of (take k bytes) ≡ take (8 * k) (bits_of bytes)
 bits_of-take zero bytes = refl
 bits_of-take (suc k) [] = let m : 8 * suc k ≡ suc (7 + 8 * k) = omega arith in rw m refl
