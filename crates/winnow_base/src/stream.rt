@@ -7,15 +7,17 @@ pub use winnow_count::{
 pub use winnow_feed::{ByteFeed, Finished, TextFeed, Told, run_pieces, run_pieces_text};
 pub use winnow_kinds::{BStr, ByteLiteral, ByteNeedles, text_equality_law, text_order_law};
 pub use winnow_match::{
-    Compare, CompareResult, FindSlice, Needles, Stretch, compare_law, compare_more_law,
-    definite_hit_law, find_law, find_more_law, stretch, stretch_law,
+    Compare, CompareResult, FindSlice, Needles, Stretch, byte_hit_law, compare_law,
+    compare_more_law, definite_hit_law, find_law, find_more_law, stretch, stretch_law,
 };
 pub use winnow_recover::{RecordError, Recover, Recoverable};
 pub use winnow_run::{
-    Answer, PieceAnswer, SearchAnswer, SearchStep, Step, answers_law, definite_law, run, run_and_reset,
-    run_search,
+    Answer, PieceAnswer, SearchAnswer, SearchStep, Step, answers_law, definite_law, run,
+    run_and_reset, run_search,
 };
-pub use winnow_sets::{AsChar, CharSet, ContainsToken, Where, union_law};
+pub use winnow_sets::{
+    AsChar, CharSet, ContainsToken, Where, union_law, union_of_four_law, union_of_three_law,
+};
 pub use winnow_stream::{
     AsBStr, AsBytes, Checkpoint, Location, Needed, NoSet, Offset, Rest, ScriptSet, SliceLen,
     SliceOffsets, Str, Stream, StreamIsPartial, UpdateSlice, checkpoint_equality_law, first_law,

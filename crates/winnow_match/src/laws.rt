@@ -1,7 +1,9 @@
-ghost use Rattle.std.specs.Prelude.{◌≡◌, ℕ, ◌-◌, ◌<◌, ◌≤◌, ◌↔◌, true, [], ◌++◌, List, length, Contains, IsFalse, IsOk, IsTrue};
+ghost use Rattle.std.specs.Prelude.{◌≡◌, ℕ, ◌-◌, ◌<◌, ◌≤◌, ◌↔◌, true, [], ◌++◌, List, length, Contains, IsFalse, IsTrue};
+ghost use Rattle.std.specs.Prelude.{◌==◌, ◌∷◌};
+ghost use Rattle.std.specs.Option.{option_map};
 ghost use Rattle.std.specs.declared.ops.Range as range_declared;
 ghost use Rattle.winnow_stream.specs.Cursor.{places};
-ghost use Rattle.winnow_stream.specs.Source.{Source};
+ghost use Rattle.winnow_stream.specs.Source.{units, first_offset};
 ghost use Rattle.winnow_match.specs.Comparison.{comparison, IsFrontOf};
 ghost use Rattle.winnow_match.specs.Search.{hit, have_one_length, IsFirstHit, StandsNowhere};
 ghost use Rattle.winnow_match.specs.Stretch.{stretch_of, hit_is_definite, CanMove, IsStretch, NothingStretches};
@@ -30,6 +32,13 @@ pub fn find_law()
     ensures empty { (needles : List (List ℕ)) (bytes : List ℕ) → Contains needles [] → hit needles bytes ≡ Some (places 0 0) }
     ensures some { (needles : List (List ℕ)) (bytes : List ℕ) (r : range_declared.Range ℕ) → ¬ Contains needles [] → ((hit needles bytes ≡ Some r) ↔ IsFirstHit needles bytes r) }
     ensures none { (needles : List (List ℕ)) (bytes : List ℕ) → ¬ Contains needles [] → ((hit needles bytes ≡ None) ↔ StandsNowhere needles bytes) }
+{}
+
+/// The law of a byte that is searched for: it is found where the first token equal to it stands, one byte long. It does nothing when
+/// called: its contract is the law.
+pub fn byte_hit_law()
+    ensures { (byte : ℕ) (bytes : List ℕ) → hit ((byte ∷ []) ∷ []) bytes
+        ≡ option_map (λ n. places n 1) (first_offset (λ x. byte == x) (units bytes)) }
 {}
 
 /// Needles of one length, once found, are found at the same place under more input. It does nothing when called: its contract

@@ -18,7 +18,7 @@ mod stretching;
 pub use compare::{Compare, CompareResult};
 pub use find_slice::FindSlice;
 pub use laws::{
-    compare_law, compare_more_law, definite_hit_law, find_law, find_more_law,
+    byte_hit_law, compare_law, compare_more_law, definite_hit_law, find_law, find_more_law,
     stretch_law,
 };
 pub use needles::{Needles, Stretch};

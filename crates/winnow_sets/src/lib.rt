@@ -17,4 +17,4 @@ pub use as_char::AsChar;
 pub use char_set::CharSet;
 pub use closures::Where;
 pub use contains_token::ContainsToken;
-pub use laws::union_law;
+pub use laws::{union_law, union_of_four_law, union_of_three_law};

@@ -1,16 +1,17 @@
 -- Searches as facts: which needle stands where, and what more input leaves as it was.
-use Rattle.std.proofs.Common.{◌≡◌, ℕ, zero, suc, ◌+◌, ◌≤◌, ◌<◌, ◌==◌, ◌⊎◌, ◌↔◌, true, false, cond, List, [], ◌∷◌, ◌++◌, length, drop, Option, Some, None, refl, ap, sym, ◌∙◌, arith, subst, inl, inr}
-use Rattle.std.specs.Prelude.{is_some, Contains}
+use Rattle.std.proofs.Common.{◌≡◌, ℕ, zero, suc, ◌+◌, ◌<◌, ◌==◌, ◌⊎◌, ◌↔◌, true, false, cond, List, [], ◌∷◌, length, drop, Option, Some, None, refl, ap, sym, ◌∙◌, arith, subst, inl, inr}
+use Rattle.std.specs.Prelude.{is_some, Contains, Bool, ◌&&◌, if◌then◌else◌}
+use Rattle.std.specs.Option.{option_map}
 use Rattle.std.specs.List.{list_any}
 use Rattle.std.specs.declared.ops.Range.{Range}
-use Rattle.std.proofs.lemmas.Bool.{and_parts, or_cases, false≢true, false_from_ne_true, cases_Bool, eqb-true}
-use Rattle.std.proofs.lemmas.Bool.Decides.{nat_tests}
+use Rattle.std.proofs.lemmas.Bool.{or_cases, false≢true, false_from_ne_true, cases_Bool}
 use Rattle.std.proofs.lemmas.Option.{same_Some, none-some}
 use Rattle.memchr.specs.Find.{Nowhere}
+use Rattle.winnow_stream.specs.Source.{units, offsets_from, first_held, first_offset}
 use Rattle.winnow_stream.specs.Cursor.{places}
 use Rattle.winnow_match.specs.Comparison.{is_front}
-use Rattle.winnow_match.specs.Search.{is_empty, needle_at, SomeStands, Stands, needle_of, IsFirstHit, StandsNowhere, hit_or, first_hit, hit, have_length, have_one_length}
-use Rattle.winnow_match.proofs.lemmas.FrontLemmas.{IsFrontOf-is_front, is_front-IsFrontOf, no_front, is_front-more, length-front}
+use Rattle.winnow_match.specs.Search.{is_empty, needle_at, SomeStands, Stands, needle_of, IsFirstHit, StandsNowhere, hit_or, first_hit, hit}
+use Rattle.winnow_match.proofs.lemmas.FrontLemmas.{IsFrontOf-is_front, is_front-IsFrontOf, no_front}
 use Rattle.winnow_match.proofs.lemmas.SearchLemmas.{hit-some, hit-none, none-parts, SomeStands-within}
 
 -- ---- an empty needle
@@ -202,3 +203,18 @@ module _ (ls : List (List ℕ)) (bytes : List ℕ) (some : ¬ Contains ls []) wh
 
   pub none-says : hit ls bytes ≡ None ↔ StandsNowhere ls bytes
   none-says = let none = none-empty ls some in (hit-StandsNowhere ls bytes none, StandsNowhere-hit ls bytes none)
+
+-- ---- one byte
+
+byte-later : (base : ℕ) (b : Bool) (later : Option ℕ) → hit_or base (if b && true then Some 1 else None) (option_map (λ n. places n 1) later) ≡ option_map (λ n. places n 1) (cond b (Some base) later)
+byte-later base true later = refl
+byte-later base false later = refl
+
+first_hit-byte : (byte base : ℕ) (bytes : List ℕ) → first_hit ((byte ∷ []) ∷ []) base bytes ≡ option_map (λ n. places n 1) (first_held (λ x. byte == x) (offsets_from base (units bytes)))
+first_hit-byte byte base [] = refl
+first_hit-byte byte base (y ∷ bytes) =
+    ap (hit_or base (needle_at ((byte ∷ []) ∷ []) (y ∷ bytes))) (first_hit-byte byte (base + 1) bytes)
+    ∙ byte-later base (byte == y) (first_held (λ x. byte == x) (offsets_from (base + 1) (units bytes)))
+
+pub hit-byte : (byte : ℕ) (bytes : List ℕ) → hit ((byte ∷ []) ∷ []) bytes ≡ option_map (λ n. places n 1) (first_offset (λ x. byte == x) (units bytes))
+hit-byte byte bytes = first_hit-byte byte 0 bytes
