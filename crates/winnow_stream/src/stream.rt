@@ -1,4 +1,4 @@
-ghost use Rattle.std.specs.Prelude.{◌≡◌, ℕ, ◌-◌, ◌≤◌, Bool, [], IsTrue, drop};
+ghost use Rattle.std.specs.Prelude.{◌≡◌, ℕ, ◌-◌, ◌≤◌, Bool, [], IsTrue, IfSome, drop};
 ghost use Rattle.std.specs.Iterator.{IsFinite, AlwaysYields, size};
 ghost use Rattle.winnow_stream.specs.Source.{Source, width, HasWidths, IsEndOf, Computes, first_token, FindsFirst, first_offset, offsets};
 ghost use Rattle.winnow_stream.specs.Front.{is_offset, back};
@@ -92,6 +92,7 @@ pub trait Stream: Rest + Debug {
         ensures computed { (holds : Self.Token → Bool) → Computes (P.post predicate) holds
             → result ≡ first_offset holds (remaining self.now) }
         ensures finds { FindsFirst (P.post predicate) (remaining self.now) result }
+        ensures offset { IfSome result (λ n. IsTrue (is_offset (remaining self.now) n)) }
     {
         let mut items = self.iter_offsets();
         // Asked for at the end of a turn, an item costs a test less: a quarter of the time over bytes.

@@ -1,9 +1,9 @@
 -- What is a valid offset: behind a number of tokens, and at the first token that a set holds.
-use Rattle.std.proofs.Common.{◌≡◌, ℕ, suc, ◌+◌, ◌≤◌, Bool, true, false, List, [], ◌∷◌, length, take, Some, None, Result, Ok, Err, refl, ap, sym, ◌∙◌, subst, inl, inr, arith, add-zero, zero-add}
+use Rattle.std.proofs.Common.{◌≡◌, ℕ, zero, suc, ◌+◌, ◌≤◌, Bool, true, false, List, [], ◌∷◌, length, take, drop, Some, None, Result, Ok, Err, refl, ap, sym, ◌∙◌, subst, inl, inr, arith, add-zero, zero-add}
 use Rattle.std.specs.Prelude.{◌⊎◌, Option, is_some}
 use Rattle.std.proofs.lemmas.Bool.Decides.{leb_tells}
 use Rattle.winnow_stream.specs.declared.needed.Needed.{Needed}
-use Rattle.winnow_stream.specs.Source.{width, HasWidths, RefusesAll, AcceptsFirst, FindsFirst, first_held, first_offset, offsets_from}
+use Rattle.winnow_stream.specs.Source.{width, HasWidths, RefusesAll, AcceptsFirst, FindsFirst, first_held, first_offset, first_token, offsets_from}
 use Rattle.winnow_stream.specs.Front.{is_offset}
 use Rattle.winnow_stream.specs.Shortage.{offset_at}
 use Rattle.winnow_stream.proofs.lemmas.FrontLemmas.{front_count-place}
@@ -90,3 +90,13 @@ module _ {A : Type 0} where
 
   pub FindsFirst-first_offset : (holds : A → Bool) (r : List (A × ℕ)) → FindsFirst (λ x b. holds x ≡ b) r (first_offset holds r)
   FindsFirst-first_offset holds r = finds-held holds r (first_offset holds r) refl
+
+  within-first : (r : List (A × ℕ)) (k : ℕ) (x : A) → first_token (drop k r) ≡ Some x → k ≤ length r
+  within-first r zero x e = omega arith
+  within-first [] (suc k) x e = absurd (cc)
+  within-first (y ∷ ys) (suc k) x e = let l = within-first ys k x e in omega (arith, l)
+
+  -- a token that a test accepts stands at a valid offset
+  pub is_offset-accepted : (answers : A → Bool → Type 0) (r : List (A × ℕ)) (w : ℕ) → HasWidths r → AcceptsFirst answers r w → is_offset r w ≡ true
+  is_offset-accepted answers r w h (k, (at, refused, (x, (e, a)))) =
+      subst (λ m. is_offset r m ≡ true) (sym at) (ap is_some (front_count-place r k h (within-first r k x e)))

@@ -1,6 +1,7 @@
 use Rattle.std.proofs.Common.{sym, ◌∙◌, ap}
 use Rattle.winnow_stream.specs.Source.{first_held}
 use Rattle.winnow_stream.proofs.lemmas.SearchLemmas.{ahead, ahead-next, left_with-next, held-hit, held-miss, refused_same, none_refused, refused_more, refused_all, accepted}
+use Rattle.winnow_stream.proofs.lemmas.OffsetLemmas.{is_offset-accepted}
 use Rattle.winnow_stream.proofs.stream.Stream.offset_for.Goals as goal
 use Rattle.winnow_stream.proofs.stream.Stream.offset_for.Given as given
 
@@ -14,6 +15,12 @@ pub returns-then-predicate-clause-finds : goal.returns-then-predicate-clause-fin
 returns-then-predicate-clause-finds g c =
     let i = c.loop-next.invariant in
     accepted (given.P-post g c.args.predicate) _ (c.in-Some.offset, c.in-Some.token) i.0 (rw c.in-Some.is at i.1.2) (rw (← sym c.if-predicate.true) at c.predicate.ensures)
+
+pub returns-then-predicate-clause-offset : goal.returns-then-predicate-clause-offset
+returns-then-predicate-clause-offset g c =
+    let i = c.loop-next.invariant in
+    let first = accepted (given.P-post g c.args.predicate) _ (c.in-Some.offset, c.in-Some.token) i.0 (rw c.in-Some.is at i.1.2) (rw (← sym c.if-predicate.true) at c.predicate.ensures) in
+    is_offset-accepted (given.P-post g c.args.predicate) _ _ (g.met.Self.Stream.has_widths _ c.requires.valid) first
 
 pub returns-then-predicate-clause-computed : goal.returns-then-predicate-clause-computed
 returns-then-predicate-clause-computed g c = λ q h.
