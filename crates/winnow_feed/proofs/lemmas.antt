@@ -2,6 +2,7 @@ pub mod FeedLemmas
 pub mod InputLemmas
 pub mod KeepingLemmas
 pub mod LookLemmas
+pub mod NamingLemmas
 pub mod PassedLemmas
 pub mod PieceLemmas
 pub mod ReachLemmas

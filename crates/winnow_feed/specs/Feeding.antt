@@ -9,7 +9,7 @@ use Rattle.winnow_feed.specs.declared.finished.Finished.{Finished}
 use Rattle.winnow_feed.specs.declared.progress.Progress.{Progress}
 use Rattle.winnow_run.specs.Searching.{search_next}
 use Rattle.winnow_feed.specs.Inputs.{PieceStep, InputKind, joined}
-use Rattle.winnow_feed.specs.Reach.{needed_from}
+use Rattle.winnow_feed.specs.Reach.{needed_from, least_marks}
 use Rattle.winnow_feed.specs.Standing.{Stands, IsAtRest, KeepsLeast}
 use Rattle.winnow_feed.specs.Telling.{capped, out_on, told_of, tried_of, told_to_end, last_place}
 
@@ -51,8 +51,8 @@ module _ (i : InputKind) where
     pub stands : Stands true i.pieces (i.source input) (i.source f.kept) f.run
     pub least : KeepsLeast (bytes_fed f) f.run
 
-  -- there is room for every answer and mark, and the places fit
-  pub record IsSound (f : FeedState) : Type 0 where
+  -- there is room for every answer and mark, the places fit, and the marks that steps name are known
+  pub record IsSound (f : FeedState) (named : List ℕ) : Type 0 where
     pub input : List ℕ
     pub stands : StandsFor f input
     pub told_room : length f.run.script.now ≤ vec_capacity f.run.told
@@ -60,6 +60,7 @@ module _ (i : InputKind) where
     pub marks : vec_len f.run.marks ≤ vec_len f.run.told
     pub fits : f.run.base + length f.kept < 2 ^ 64
     pub counted : f.run.tried < 2 ^ 64
+    pub named_is : named ≡ least_marks f.run.script.now
 
   -- the feed fits these pieces: it stands for them joined, no step that is left is definite, and what was told and tried is theirs
   pub record Fits (f : FeedState) (pieces : List (List ℕ)) : Type 0 where

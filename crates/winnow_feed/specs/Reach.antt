@@ -48,3 +48,21 @@ least_place at marks least (s ∷ steps) = min (named_place at marks s) (least_p
 abbrev pub needed_place : {C L : Type 0} → ℕ → ℕ → List ℕ → List (SearchStep C L) → ℕ
 needed_place end at marks [] = end
 needed_place end at marks (s ∷ steps) = least_place at marks at (s ∷ steps)
+
+-- ---- which marks are still named
+
+-- the number of the mark that a step names, or the greatest number of all, which no mark has
+abbrev pub mark_named : {C L : Type 0} → SearchStep C L → ℕ
+mark_named (step.Call (call.Reset k)) = k
+mark_named (step.Call (call.Since k)) = k
+mark_named _ = 18446744073709551615
+
+-- the least number of a mark that the steps name
+abbrev pub least_mark : {C L : Type 0} → List (SearchStep C L) → ℕ
+least_mark [] = 18446744073709551615
+least_mark (s ∷ steps) = min (mark_named s) (least_mark steps)
+
+-- for each step, the least number of a mark that it or a later one names
+abbrev pub least_marks : {C L : Type 0} → List (SearchStep C L) → List ℕ
+least_marks [] = []
+least_marks (s ∷ steps) = least_mark (s ∷ steps) ∷ least_marks steps

@@ -1,6 +1,7 @@
 use crate::buffers::forget_bytes;
 use crate::keeping::take_in;
 use crate::looking::Passed;
+use crate::naming::marks_named;
 use crate::progress::{Progress, advance};
 use crate::{Finished, Told};
 use std::alloc::{AllocError, Global};
@@ -19,6 +20,8 @@ use winnow_wrap::Partial;
 pub struct ByteFeed<'k> {
     run: Progress<'k, u8, &'k [u8]>,
     kept: Vec<u8>,
+    // From each step on, the least number of a mark that is still named.
+    named: Vec<usize>,
 }
 
 impl<'k> Model for ByteFeed<'k> {
@@ -29,7 +32,8 @@ impl<'k> Model for ByteFeed<'k> {
 
     ghost view = { λ f. record { run = f.run; kept = f.kept.items } };
 
-    ghost invariant = { λ f. IsSound byte_input (record { run = f.run; kept = f.kept.items }) };
+    ghost invariant = { λ f. IsSound byte_input
+        (record { run = f.run; kept = f.kept.items }) f.named.items };
 }
 
 impl<'k> ByteFeed<'k> {
@@ -51,6 +55,7 @@ impl<'k> ByteFeed<'k> {
     {
         let told = Vec::with_capacity(alloc, script.len())?;
         let marks = Vec::with_capacity(alloc, script.len())?;
+        let named = marks_named(alloc, script)?;
         Ok(ByteFeed {
             run: Progress {
                 script,
@@ -66,6 +71,7 @@ impl<'k> ByteFeed<'k> {
                 tried: 0,
             },
             kept: Vec::new(alloc),
+            named,
         })
     }
 
@@ -120,7 +126,11 @@ impl<'k> ByteFeed<'k> {
             return Ok(0);
         }
         self.kept.extend_from_slice(piece)?;
-        let unneeded = take_in(&mut self.run, Partial::new(self.kept.as_slice()));
+        let unneeded = take_in(
+            &mut self.run,
+            &self.named,
+            Partial::new(self.kept.as_slice()),
+        );
         forget_bytes(&mut self.kept, unneeded);
         Ok(self.run.told.len() - before)
     }
@@ -130,7 +140,7 @@ impl<'k> ByteFeed<'k> {
         ensures { (pieces : List (List ℕ)) → Fits byte_input self.entry pieces
             → Finishes byte_input (script_of self.entry) pieces result }
     {
-        let ByteFeed { mut run, kept } = self;
+        let ByteFeed { mut run, kept, .. } = self;
         let mut rest = Partial::new(kept.as_slice());
         rest.complete();
         advance(&mut run, rest, None);

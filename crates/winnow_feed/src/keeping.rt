@@ -3,7 +3,7 @@ ghost use Rattle.std.specs.Prelude.{vec_capacity, IsTrue, Some};
 ghost use Rattle.winnow_stream.specs.Source.{width};
 ghost use Rattle.winnow_stream.specs.Front.{is_offset};
 ghost use Rattle.winnow_feed.specs.View.{piece_kind};
-ghost use Rattle.winnow_feed.specs.Reach.{named_place, least_place, needed_place};
+ghost use Rattle.winnow_feed.specs.Reach.{named_place, least_place, needed_place, least_marks};
 ghost use Rattle.winnow_feed.specs.Standing.{IsStanding, TakesIn, KeepsLeast, KeepsNeeded};
 ghost use Rattle.winnow_feed.specs.Standing.{Tells, Tries, steps_left};
 ghost use Rattle.winnow_feed.specs.Telling.{capped};
@@ -26,31 +26,50 @@ fn named_place<L>(step: &SearchStep<CharSet, L>, place: usize, marks: &[usize]) 
     }
 }
 
-// The least of the cursor's place and those that the steps name.
-#[tactic(auto, using(crate::proofs::lemmas::KeepingLemmas::least_steps))]
-fn least_place<L>(steps: &[SearchStep<CharSet, L>], place: usize, marks: &[usize]) -> usize
+// The least of the cursor's place and those that the steps name. No step is looked at from where on
+// none names a mark that is made.
+#[tactic(auto, using(crate::proofs::lemmas::NamingLemmas::named_steps))]
+fn least_place<L>(
+    steps: &[SearchStep<CharSet, L>],
+    named: &[usize],
+    place: usize,
+    marks: &[usize],
+) -> usize
+    requires { named.now ≡ least_marks steps.now }
     ensures { result ≡ least_place place marks.now place steps.now }
 {
     let mut least = place;
-    for step in steps {
-        least = least.min(named_place(step, place, marks));
+    for (i, first) in named.iter().enumerate() {
+        if marks.len() <= *first {
+            return least;
+        }
+        least = least.min(named_place(&steps[i], place, marks));
     }
     least
 }
 
 // The place from which on the steps that are left need the input, which ends at `end`. The steps
 // are not walked where no more is told than `before`.
-fn place_needed<T, L>(progress: &Progress<T, L>, before: usize, end: usize) -> usize
-    requires { KeepsNeeded before end progress.now }
+#[tactic(auto, using(crate::proofs::lemmas::NamingLemmas::named_steps))]
+fn place_needed<T, L>(
+    progress: &Progress<T, L>,
+    named: &[usize],
+    before: usize,
+    end: usize,
+) -> usize
+    requires least { KeepsNeeded before end progress.now }
+    requires named { named.now ≡ least_marks progress.now.script.now }
     ensures { result ≡ needed_place end progress.now.place progress.now.marks.items
         (steps_left progress.now) }
 {
-    if progress.told.len() == before {
+    let told = progress.told.len();
+    if told == before {
         return progress.base;
     }
-    if progress.told.len() < progress.script.len() {
+    if told < progress.script.len() {
         least_place(
-            &progress.script[progress.told.len()..],
+            &progress.script[told..],
+            &named[told..],
             progress.place,
             &progress.marks,
         )
@@ -61,7 +80,11 @@ fn place_needed<T, L>(progress: &Progress<T, L>, before: usize, end: usize) -> u
 
 /// Takes in a piece at the end of what is kept: tells what no further input can change, and
 /// returns the width of the front that no step left can reach, which is then to be dropped.
-pub(crate) fn take_in<S: Kept, L: AsBStr>(progress: &mut Progress<S::Token, L>, kept: S) -> usize
+pub(crate) fn take_in<S: Kept, L: AsBStr>(
+    progress: &mut Progress<S::Token, L>,
+    named: &[usize],
+    kept: S,
+) -> usize
 where
     S::Token: AsChar + Drop,
     S::Slice: Drop,
@@ -78,6 +101,7 @@ where
         (S.remaining kept)
         progress.old }
     requires least { (end : ℕ) → KeepsLeast end progress.old }
+    requires named { named.now ≡ least_marks progress.old.script.now }
     ensures stands { TakesIn
         (piece_kind S.Token.code S.counts_missing S.write L.text_bytes)
         (S.remaining kept)
@@ -99,7 +123,7 @@ where
     let piece = Some(progress.pieces);
     advance(progress, kept, piece);
     let end = progress.base + kept.eof_offset();
-    let least = place_needed(progress, before, end);
+    let least = place_needed(progress, named, before, end);
     let unneeded = least - progress.base;
     progress.base = least;
     unneeded

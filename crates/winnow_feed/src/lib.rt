@@ -9,7 +9,7 @@
 //! of them. What they share is in the private modules: `kept` is the stream over what is kept,
 //! whose mark says whether more may follow; `looking` and `literals` look at a step over it;
 //! `attempts` says whether the step waits and what it has passed for good; `progress` runs steps
-//! until one waits; `keeping` says what may be dropped then, and `buffers` drops it.
+//! until one waits; `naming` and `keeping` say what may be dropped then, and `buffers` drops it.
 #![tactic(auto)]
 
 mod attempts;
@@ -20,6 +20,7 @@ mod keeping;
 mod kept;
 mod literals;
 mod looking;
+mod naming;
 mod progress;
 mod runs;
 mod text_feeds;

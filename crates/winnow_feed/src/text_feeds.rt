@@ -1,6 +1,7 @@
 use crate::buffers::forget_text;
 use crate::keeping::take_in;
 use crate::looking::Passed;
+use crate::naming::marks_named;
 use crate::progress::{Progress, advance};
 use crate::{Finished, Told};
 use std::alloc::{AllocError, Global};
@@ -19,6 +20,8 @@ use winnow_wrap::Partial;
 pub struct TextFeed<'k> {
     run: Progress<'k, char, &'k str>,
     kept: String,
+    // From each step on, the least number of a mark that is still named.
+    named: Vec<usize>,
 }
 
 impl<'k> Model for TextFeed<'k> {
@@ -30,7 +33,8 @@ impl<'k> Model for TextFeed<'k> {
 
     ghost view = { λ f. record { run = f.run; kept = string_bytes f.kept } };
 
-    ghost invariant = { λ f. IsSound text_input (record { run = f.run; kept = string_bytes f.kept }) };
+    ghost invariant = { λ f. IsSound text_input
+        (record { run = f.run; kept = string_bytes f.kept }) f.named.items };
 }
 
 impl<'k> TextFeed<'k> {
@@ -52,6 +56,7 @@ impl<'k> TextFeed<'k> {
     {
         let told = Vec::with_capacity(alloc, script.len())?;
         let marks = Vec::with_capacity(alloc, script.len())?;
+        let named = marks_named(alloc, script)?;
         Ok(TextFeed {
             run: Progress {
                 script,
@@ -67,6 +72,7 @@ impl<'k> TextFeed<'k> {
                 tried: 0,
             },
             kept: String::new(alloc),
+            named,
         })
     }
 
@@ -121,7 +127,7 @@ impl<'k> TextFeed<'k> {
             return Ok(0);
         }
         self.kept.push_str(piece)?;
-        let unneeded = take_in(&mut self.run, Partial::new(self.kept.as_str()));
+        let unneeded = take_in(&mut self.run, &self.named, Partial::new(self.kept.as_str()));
         forget_text(&mut self.kept, unneeded);
         Ok(self.run.told.len() - before)
     }
@@ -131,7 +137,7 @@ impl<'k> TextFeed<'k> {
         ensures { (pieces : List (List ℕ)) → Fits text_input self.entry pieces
             → Finishes text_input (script_of self.entry) pieces result }
     {
-        let TextFeed { mut run, kept } = self;
+        let TextFeed { mut run, kept, .. } = self;
         let mut rest = Partial::new(kept.as_str());
         rest.complete();
         advance(&mut run, rest, None);

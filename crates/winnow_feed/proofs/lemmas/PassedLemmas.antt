@@ -1,9 +1,9 @@
 -- What a waiting step has passed, by cases of the code.
-use Rattle.std.proofs.Common.{◌≡◌, ℕ, ◌+◌, ◌-◌, ◌≤◌, ◌<◌, ◌==◌, Bool, true, false, cond, leb, List, [], ◌∷◌, ◌++◌, length, take, Option, None, Some, Ok, Err, refl, sym, ap, ◌∙◌, subst, arith, length-drop, take_all}
+use Rattle.std.proofs.Common.{◌≡◌, ℕ, ◌+◌, ◌-◌, ◌≤◌, ◌<◌, Bool, true, false, cond, leb, List, [], ◌∷◌, ◌++◌, length, take, Option, None, Some, Ok, Err, refl, sym, ap, ◌∙◌, subst, arith, length-drop, take_all}
 use Rattle.std.proofs.lemmas.List.{take_at}
-use Rattle.std.specs.Prelude.{is_some, is_ok, not, ◌&&◌}
+use Rattle.std.specs.Prelude.{is_some, is_ok}
 use Rattle.std.specs.declared.ops.Range.{Range}
-use Rattle.std.proofs.lemmas.Bool.{false≢true, le-leb, leb-false, and_parts, and_from, eqb-true}
+use Rattle.std.proofs.lemmas.Bool.{le-leb, leb-false, and_from}
 use Rattle.winnow_stream.specs.Source.{Source, width, HasWidths, first_token, first_offset}
 use Rattle.winnow_stream.specs.Front.{count_to, back}
 use Rattle.winnow_stream.specs.Shortage.{shortage, offset_at}

@@ -1,4 +1,4 @@
-use Rattle.std.proofs.Common.{◌+◌, ◌≤◌, ◌++◌, Some, map, ap, ◌∙◌, sym, arith, refl}
+use Rattle.std.proofs.Common.{◌+◌, ◌++◌, Some, map, ap, ◌∙◌, sym, arith, refl}
 use Rattle.winnow_feed.specs.Telling.{under}
 use Rattle.winnow_feed.proofs.lemmas.StandingLemmas.{Stands-same}
 use Rattle.winnow_feed.proofs.lemmas.KeepingLemmas.{least-from, unneeded-offset, Stands-needed, least-still}
@@ -9,8 +9,8 @@ advance-requires-clause-stands g c =
     let h = c.requires.stands.1 in
     (c.requires.stands.0, rw c.requires.more (Stands-same _ _ _ _ _ h _ refl refl refl refl refl refl))
 
-pub place_needed-least-requires : goal.place_needed-least-requires
-place_needed-least-requires g c = λ same.
+pub place_needed-least-requires-clause-least : goal.place_needed-least-requires-clause-least
+place_needed-least-requires-clause-least g c = λ same.
     let a = c.advance.ensures in
     let told = c.args.progress.now.told.ok.0 in
     least-still c.args.progress.now c.advance.new.progress _ (c.requires.least _) a.script a.base a.still (omega (arith, same, c.len-before.ensures, told))

@@ -1,4 +1,4 @@
-use Rattle.std.proofs.Common.{◌≡◌, ◌-◌, length, ap, ◌∙◌, sym, subst, arith}
+use Rattle.std.proofs.Common.{◌≡◌, ◌-◌, length, ◌∙◌, sym, subst, arith}
 use Rattle.winnow_match.specs.Search.{bytes_of_needles}
 use Rattle.winnow_feed.specs.Settled.{NoneStands}
 use Rattle.winnow_feed.proofs.lemmas.PassedLemmas.{searched-none, searched-hit}

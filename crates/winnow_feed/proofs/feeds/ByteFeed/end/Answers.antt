@@ -1,4 +1,4 @@
-use Rattle.std.proofs.Common.{◌≤◌, ap, ◌∙◌, sym, length, arith, false, refl}
+use Rattle.std.proofs.Common.{◌≤◌, ap, ◌∙◌, sym, length, arith, refl}
 use Rattle.winnow_stream.specs.Source.{units}
 use Rattle.winnow_stream.specs.Units.{width-units}
 use Rattle.winnow_feed.specs.Inputs.{byte_input, byte_kind, joined}

@@ -3,6 +3,7 @@ use Rattle.std.proofs.lemmas.List.{length-append}
 use Rattle.winnow_stream.specs.Front.{back}
 use Rattle.winnow_feed.specs.Inputs.{byte_input, joined}
 use Rattle.winnow_feed.specs.Feeding.{FeedState, bytes_fed}
+use Rattle.winnow_feed.specs.Reach.{least_marks}
 use Rattle.winnow_feed.proofs.lemmas.InputLemmas.{bytes-input}
 use Rattle.winnow_feed.proofs.lemmas.FeedLemmas.{grow, least-anywhere, taken, taken-room, skips, Fits-fed, Fits-skipped, came-out}
 use Rattle.winnow_stream.specs.Source.{units}
@@ -51,6 +52,7 @@ invariant_of-self-2 c =
       marks = t.marks;
       fits = omega (arith, taken-room byte_input bytes-input old new c.args.piece.now c.as_slice.result.now c.take_in-unneeded.result refl refl (c.as_slice.ensures.value ∙ c.in_ok-extend_from_slice.ensures.items) left (rw is at t.offset) t.base (rw is at t.least) (rw is at t.stands) i.input i.stands, ap bytes_fed c.self.view_is, c.requires);
       counted = omega (arith, t.tried);
+      named_is = i.named_is ∙ ap (λ s. least_marks s.now) (sym t.script);
     }
 
 pub returns-clause-fits : goal.returns-clause-fits
@@ -86,6 +88,7 @@ invariant_of-self c =
       marks = i.marks;
       fits = omega (arith, c.requires, ap bytes_fed c.self.view_is);
       counted = i.counted;
+      named_is = i.named_is;
     }
 
 pub returns-then-self-before-clause-fits : goal.returns-then-self-before-clause-fits

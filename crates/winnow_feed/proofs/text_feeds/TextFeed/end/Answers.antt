@@ -1,4 +1,4 @@
-use Rattle.std.proofs.Common.{◌≤◌, ap, ◌∙◌, sym, length, arith, false, refl}
+use Rattle.std.proofs.Common.{◌≤◌, ap, ◌∙◌, sym, length, arith, refl}
 use Rattle.std.specs.String.{string_bytes}
 use Rattle.winnow_stream.specs.Text.{text_source}
 use Rattle.winnow_stream.proofs.lemmas.TextLemmas.{width-text_source}

@@ -3,6 +3,7 @@ use Rattle.std.proofs.lemmas.List.{length-append}
 use Rattle.winnow_stream.specs.Front.{back}
 use Rattle.winnow_feed.specs.Inputs.{text_input, joined}
 use Rattle.winnow_feed.specs.Feeding.{FeedState, bytes_fed}
+use Rattle.winnow_feed.specs.Reach.{least_marks}
 use Rattle.winnow_feed.proofs.lemmas.InputLemmas.{texts-input}
 use Rattle.winnow_feed.proofs.lemmas.FeedLemmas.{grow, least-anywhere, taken, taken-room, skips, Fits-fed, Fits-skipped, came-out}
 use Rattle.std.specs.String.{string_bytes}
@@ -53,6 +54,7 @@ invariant_of-self-2 c =
       marks = t.marks;
       fits = omega (arith, taken-room text_input texts-input old new c.args.piece.now c.as_str.result.now c.take_in-unneeded.result (is_utf8-from_IsUtf8 c.args.piece.now c.utf8.piece) (is_utf8-from_IsUtf8 _ (IsUtf8-string_bytes c.forget_text.new.kept)) (c.as_str.ensures.value ∙ c.in_ok-push_str.ensures.bytes) left (rw is at t.offset) t.base (rw is at t.least) (rw is at t.stands) i.input i.stands, ap bytes_fed c.self.view_is, c.requires);
       counted = omega (arith, t.tried);
+      named_is = i.named_is ∙ ap (λ s. least_marks s.now) (sym t.script);
     }
 
 pub returns-clause-fits : goal.returns-clause-fits
@@ -88,6 +90,7 @@ invariant_of-self c =
       marks = i.marks;
       fits = omega (arith, c.requires, ap bytes_fed c.self.view_is);
       counted = i.counted;
+      named_is = i.named_is;
     }
 
 pub returns-then-self-before-clause-fits : goal.returns-then-self-before-clause-fits

@@ -13,13 +13,13 @@ invariant_of-result c = record {
   marks = omega (arith, c.in_ok-told.ensures.len, c.in_ok-marks.ensures.len);
   fits = omega (arith, ap length c.new.ensures.bytes);
   counted = omega arith;
+  named_is = c.in_ok-named.ensures;
 }
 
 pub returns-clause-fits : goal.returns-clause-fits
 returns-clause-fits c = record {
   are_pieces = tt;
   stands = new-stands text_input texts-input _ _ c.in_ok-told.ensures.items c.in_ok-marks.ensures.items c.new.ensures.bytes refl refl refl refl;
-  rests = λ l. absurd (omega arith);
   told = c.in_ok-told.ensures.items;
   count = refl;
   tried = refl;

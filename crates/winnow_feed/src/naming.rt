@@ -1,0 +1,36 @@
+ghost use Rattle.std.specs.Prelude.{◌≡◌, IfOk};
+ghost use Rattle.winnow_feed.specs.Reach.{mark_named, least_marks};
+
+use std::alloc::{AllocError, Global};
+use winnow_run::{SearchStep, Step};
+use winnow_sets::CharSet;
+
+// The number of the mark that a step names, or the greatest number of all.
+fn mark_named<L>(step: &SearchStep<CharSet, L>) -> usize
+    ensures { result ≡ mark_named step.now }
+{
+    match step {
+        SearchStep::Call(Step::Reset(k)) => *k,
+        SearchStep::Call(Step::Since(k)) => *k,
+        _ => usize::MAX,
+    }
+}
+
+/// Returns for each step the least number of a mark that it or a later one names, so that a feed
+/// knows where no step left names a mark that is made.
+pub(crate) fn marks_named<L>(
+    alloc: Global,
+    script: &[SearchStep<CharSet, L>],
+) -> Result<Vec<usize>, AllocError>
+    ensures { IfOk result (λ named. named.items ≡ least_marks script.now) }
+{
+    let mut named = vec![in alloc; usize::MAX; script.len()]?;
+    let mut least = usize::MAX;
+    let mut i = script.len();
+    while 0 < i {
+        i -= 1;
+        least = least.min(mark_named(&script[i]));
+        named[i] = least;
+    }
+    Ok(named)
+}
