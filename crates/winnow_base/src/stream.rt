@@ -4,7 +4,7 @@ pub use winnow_bytes::{Bytes, LowerBytes, UpperBytes, bytes_equality_law, bytes_
 pub use winnow_count::{
     Accumulate, ParseSlice, Range, Readable, ToUsize, accumulate_all, range_law,
 };
-pub use winnow_feed::{ByteFeed, Finished, TextFeed, Told, run_pieces, run_pieces_text};
+pub use winnow_feed::{ByteFeed, Finished, TextFeed, Told, Waiting, run_pieces, run_pieces_text};
 pub use winnow_kinds::{BStr, ByteLiteral, ByteNeedles, text_equality_law, text_order_law};
 pub use winnow_match::{
     Compare, CompareResult, FindSlice, Needles, Stretch, byte_hit_law, compare_law,

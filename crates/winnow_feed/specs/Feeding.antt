@@ -51,10 +51,12 @@ module _ (i : InputKind) where
     pub stands : Stands true i.pieces (i.source input) (i.source f.kept) f.run
     pub least : KeepsLeast (bytes_fed f) f.run
 
-  -- there is room for every answer and mark, the places fit, and the marks that steps name are known
+  -- once a piece was fed no step that is left is definite, there is room for every answer and mark, the places fit, and the
+  -- marks that steps name are known
   pub record IsSound (f : FeedState) (named : List ℕ) : Type 0 where
     pub input : List ℕ
     pub stands : StandsFor f input
+    pub rests : 0 < f.run.pieces → IsAtRest i.pieces (i.source input) f.run
     pub told_room : length f.run.script.now ≤ vec_capacity f.run.told
     pub mark_room : length f.run.script.now ≤ vec_capacity f.run.marks
     pub marks : vec_len f.run.marks ≤ vec_len f.run.told

@@ -1,8 +1,8 @@
 -- The two inputs that come in pieces: bytes, and text.
-use Rattle.std.specs.Prelude.{ℕ, Bool, true, false, List, [], ◌∷◌, ◌++◌, map}
+use Rattle.std.specs.Prelude.{ℕ, nat_le, Bool, true, false, List, [], ◌∷◌, ◌++◌, map}
 use Rattle.std.specs.Borrow.{Bor}
 use Rattle.std.specs.Char.{encode_utf8}
-use Rattle.std.specs.Str.{is_utf8}
+use Rattle.std.specs.Str.{is_utf8, all_scalars}
 use Rattle.winnow_stream.specs.Source.{Source, units}
 use Rattle.winnow_stream.specs.Text.{text_source}
 use Rattle.winnow_sets.specs.declared.char_set.CharSet.{CharSet}
@@ -20,17 +20,19 @@ byte_kind = piece_kind (λ byte. byte) true (λ byte. byte ∷ []) (λ literal. 
 abbrev pub text_kind : PieceKind ℕ CharSet (Bor (List ℕ))
 text_kind = piece_kind (λ c. c) false encode_utf8 (λ literal. literal.now)
 
--- an input: which bytes it may be, and the tokens that they are
+-- an input: which bytes it may be, and the tokens that they are; which numbers are tokens, and the greatest of them
 pub record InputKind : Type 0 where
   pub valid : List ℕ → Bool
   pub source : List ℕ → Source ℕ
   pub pieces : PieceKind ℕ CharSet (Bor (List ℕ))
+  pub is_token : ℕ → Bool
+  pub greatest : ℕ
 
 abbrev pub byte_input : InputKind
-byte_input = record { valid = λ _. true; source = units; pieces = byte_kind }
+byte_input = record { valid = λ _. true; source = units; pieces = byte_kind; is_token = λ n. nat_le n 255; greatest = 255 }
 
 abbrev pub text_input : InputKind
-text_input = record { valid = is_utf8; source = text_source; pieces = text_kind }
+text_input = record { valid = is_utf8; source = text_source; pieces = text_kind; is_token = λ n. all_scalars (n ∷ []); greatest = 1114111 }
 
 -- the pieces one after the other
 abbrev pub joined : List (List ℕ) → List ℕ

@@ -5,3 +5,5 @@ pub mod Reach
 pub mod Telling
 pub mod Standing
 pub mod Feeding
+pub mod Missing
+pub mod Waits

@@ -77,8 +77,8 @@ where
     }
 }
 
-// How many tokens remain.
-fn tokens_left<S: Stream + Copy>(rest: S) -> usize
+/// How many tokens remain.
+pub(crate) fn tokens_left<S: Stream + Copy>(rest: S) -> usize
 where
     S::Token: Drop,
     requires { S.valid rest }

@@ -1,9 +1,10 @@
 use crate::buffers::forget_bytes;
 use crate::keeping::take_in;
 use crate::looking::Passed;
+use crate::missing::next_missing;
 use crate::naming::marks_named;
 use crate::progress::{Progress, advance};
-use crate::{Finished, Told};
+use crate::{Finished, Told, Waiting};
 use std::alloc::{AllocError, Global};
 use std::marker::Model;
 use winnow_run::SearchStep;
@@ -43,6 +44,7 @@ impl<'k> ByteFeed<'k> {
     ghost use Rattle.winnow_feed.specs.Telling.{told_of, tried_of};
     ghost use Rattle.winnow_feed.specs.Feeding.{Fits, FitsWith, LetsOut, IsAnswered, Finishes};
     ghost use Rattle.winnow_feed.specs.Feeding.{held_after, bytes_fed, script_of};
+    ghost use Rattle.winnow_feed.specs.Waits.{TellsWaiting, WantsMore};
 
     /// Returns a feed that was fed nothing. It has room for every answer and mark, so that
     /// `feed` takes memory for bytes alone.
@@ -133,6 +135,25 @@ impl<'k> ByteFeed<'k> {
         );
         forget_bytes(&mut self.kept, unneeded);
         Ok(self.run.told.len() - before)
+    }
+
+    /// Returns what the feed waits for: an input with which behind what was fed the next step
+    /// answers otherwise, unless there is none. Memory is taken for that alone.
+    pub fn waits_for(&self) -> Result<Waiting<Vec<u8>>, AllocError>
+        ensures waits { IfOk result (TellsWaiting byte_input (λ more. more.items) self.now) }
+        ensures refused { OnErr result (WantsMore byte_input self.now) }
+    {
+        if self.run.pieces == 0 {
+            return Ok(Waiting::NotFed);
+        }
+        if self.run.script.len() <= self.run.told.len() {
+            return Ok(Waiting::NotWaiting);
+        }
+        let kept = Partial::new(self.kept.as_slice());
+        match next_missing(*self.kept.allocator(), &self.run, kept)? {
+            Some(more) => Ok(Waiting::Until(more)),
+            None => Ok(Waiting::ToEnd),
+        }
     }
 
     /// Ends the input, and returns all answers. It takes no memory.

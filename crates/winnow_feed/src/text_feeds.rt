@@ -1,9 +1,11 @@
 use crate::buffers::forget_text;
 use crate::keeping::take_in;
 use crate::looking::Passed;
+use crate::missing::next_missing;
 use crate::naming::marks_named;
 use crate::progress::{Progress, advance};
-use crate::{Finished, Told};
+use crate::texts::is_spelt;
+use crate::{Finished, Told, Waiting};
 use std::alloc::{AllocError, Global};
 use std::marker::Model;
 use winnow_run::SearchStep;
@@ -44,6 +46,8 @@ impl<'k> TextFeed<'k> {
     ghost use Rattle.winnow_feed.specs.Telling.{told_of, tried_of};
     ghost use Rattle.winnow_feed.specs.Feeding.{Fits, FitsWith, LetsOut, IsAnswered, Finishes};
     ghost use Rattle.winnow_feed.specs.Feeding.{held_after, bytes_fed, script_of};
+    ghost use Rattle.std.specs.String.{string_bytes};
+    ghost use Rattle.winnow_feed.specs.Waits.{TellsWaiting, WantsMore};
 
     /// Returns a feed that was fed nothing. It has room for every answer and mark, so that
     /// `feed` takes memory for bytes alone.
@@ -130,6 +134,31 @@ impl<'k> TextFeed<'k> {
         let unneeded = take_in(&mut self.run, &self.named, Partial::new(self.kept.as_str()));
         forget_text(&mut self.kept, unneeded);
         Ok(self.run.told.len() - before)
+    }
+
+    /// Returns what the feed waits for: an input with which behind what was fed the next step
+    /// answers otherwise, unless there is none. Memory is taken for that alone.
+    pub fn waits_for(&self) -> Result<Waiting<String>, AllocError>
+        ensures waits { IfOk result (TellsWaiting text_input string_bytes self.now) }
+        ensures refused { OnErr result (WantsMore text_input self.now) }
+    {
+        if self.run.pieces == 0 {
+            return Ok(Waiting::NotFed);
+        }
+        if self.run.script.len() <= self.run.told.len() {
+            return Ok(Waiting::NotWaiting);
+        }
+        let script = self.run.script;
+        let step = &script[self.run.told.len()];
+        is_spelt(step);
+        let kept = Partial::new(self.kept.as_str());
+        match next_missing(*self.kept.allocator(), &self.run, kept)? {
+            Some(more) => match String::from_utf8(more) {
+                Ok(more) => Ok(Waiting::Until(more)),
+                Err(_) => unreachable!(),
+            },
+            None => Ok(Waiting::ToEnd),
+        }
     }
 
     /// Ends the input, and returns all answers. It takes no memory.

@@ -1,5 +1,6 @@
 use Rattle.std.proofs.Common.{◌≤◌, ◌++◌, ap, ◌∙◌, length, sym, arith, refl}
 use Rattle.std.proofs.lemmas.List.{length-append}
+use Rattle.std.proofs.lemmas.Option.{slice_get_within}
 use Rattle.winnow_stream.specs.Front.{back}
 use Rattle.winnow_feed.specs.Inputs.{byte_input, joined}
 use Rattle.winnow_feed.specs.Feeding.{FeedState, bytes_fed}
@@ -47,6 +48,7 @@ invariant_of-self-2 c =
     record {
       input = i.input ++ c.args.piece.now;
       stands = (taken byte_input bytes-input old new c.args.piece.now c.as_slice.result.now c.take_in-unneeded.result refl refl (c.as_slice.ensures.value ∙ c.in_ok-extend_from_slice.ensures.items) left (rw is at t.offset) t.base (rw is at t.least) (rw is at t.stands) i.input i.stands).0;
+      rests = λ _. (taken byte_input bytes-input old new c.args.piece.now c.as_slice.result.now c.take_in-unneeded.result refl refl (c.as_slice.ensures.value ∙ c.in_ok-extend_from_slice.ensures.items) left (rw is at t.offset) t.base (rw is at t.least) (rw is at t.stands) i.input i.stands).1;
       told_room = omega (arith, script, i.told_room, t.told_room);
       mark_room = omega (arith, script, i.mark_room, t.mark_room);
       marks = t.marks;
@@ -83,6 +85,7 @@ invariant_of-self c =
     record {
       input = i.input ++ c.args.piece.now;
       stands = skips byte_input bytes-input old i.input c.args.piece.now _ refl i.stands done refl refl refl refl refl refl;
+      rests = λ _ s e. absurd (omega (arith, slice_get_within c.self.inside.run.script.now (length c.self.inside.run.told.items) s e, done));
       told_room = i.told_room;
       mark_room = i.mark_room;
       marks = i.marks;

@@ -1,5 +1,6 @@
 use Rattle.std.proofs.Common.{◌≤◌, ◌++◌, ap, ◌∙◌, length, sym, arith, refl}
 use Rattle.std.proofs.lemmas.List.{length-append}
+use Rattle.std.proofs.lemmas.Option.{slice_get_within}
 use Rattle.winnow_stream.specs.Front.{back}
 use Rattle.winnow_feed.specs.Inputs.{text_input, joined}
 use Rattle.winnow_feed.specs.Feeding.{FeedState, bytes_fed}
@@ -49,6 +50,7 @@ invariant_of-self-2 c =
     record {
       input = i.input ++ c.args.piece.now;
       stands = (taken text_input texts-input old new c.args.piece.now c.as_str.result.now c.take_in-unneeded.result (is_utf8-from_IsUtf8 c.args.piece.now c.utf8.piece) (is_utf8-from_IsUtf8 _ (IsUtf8-string_bytes c.forget_text.new.kept)) (c.as_str.ensures.value ∙ c.in_ok-push_str.ensures.bytes) left (rw is at t.offset) t.base (rw is at t.least) (rw is at t.stands) i.input i.stands).0;
+      rests = λ _. (taken text_input texts-input old new c.args.piece.now c.as_str.result.now c.take_in-unneeded.result (is_utf8-from_IsUtf8 c.args.piece.now c.utf8.piece) (is_utf8-from_IsUtf8 _ (IsUtf8-string_bytes c.forget_text.new.kept)) (c.as_str.ensures.value ∙ c.in_ok-push_str.ensures.bytes) left (rw is at t.offset) t.base (rw is at t.least) (rw is at t.stands) i.input i.stands).1;
       told_room = omega (arith, script, i.told_room, t.told_room);
       mark_room = omega (arith, script, i.mark_room, t.mark_room);
       marks = t.marks;
@@ -85,6 +87,7 @@ invariant_of-self c =
     record {
       input = i.input ++ c.args.piece.now;
       stands = skips text_input texts-input old i.input c.args.piece.now _ (is_utf8-from_IsUtf8 c.args.piece.now c.utf8.piece) i.stands done refl refl refl refl refl refl;
+      rests = λ _ s e. absurd (omega (arith, slice_get_within c.self.inside.run.script.now (length c.self.inside.run.told.items) s e, done));
       told_room = i.told_room;
       mark_room = i.mark_room;
       marks = i.marks;

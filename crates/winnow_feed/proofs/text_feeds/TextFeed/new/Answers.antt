@@ -8,6 +8,7 @@ pub invariant_of-result : goal.invariant_of-result
 invariant_of-result c = record {
   input = [];
   stands = new-stands text_input texts-input _ _ c.in_ok-told.ensures.items c.in_ok-marks.ensures.items c.new.ensures.bytes refl refl refl refl;
+  rests = λ l. absurd (omega arith);
   told_room = omega (arith, c.in_ok-told.ensures.capacity);
   mark_room = omega (arith, c.in_ok-marks.ensures.capacity);
   marks = omega (arith, c.in_ok-told.ensures.len, c.in_ok-marks.ensures.len);
@@ -20,6 +21,7 @@ pub returns-clause-fits : goal.returns-clause-fits
 returns-clause-fits c = record {
   are_pieces = tt;
   stands = new-stands text_input texts-input _ _ c.in_ok-told.ensures.items c.in_ok-marks.ensures.items c.new.ensures.bytes refl refl refl refl;
+  rests = λ l. absurd (omega arith);
   told = c.in_ok-told.ensures.items;
   count = refl;
   tried = refl;

@@ -1,0 +1,222 @@
+-- What a feed waits for, from the pieces that it fits.
+use Rattle.std.proofs.Common.{◌≡◌, ℕ, zero, suc, ◌<◌, Bool, true, false, List, [], ◌∷◌, ◌++◌, length, take, get_or, Option, Some, None, Result, Ok, Err, refl, sym, ap, ◌∙◌, arith, Bor}
+use Rattle.std.specs.Prelude.{slice_get, is_some, option_map, IfSome, IsSome, IfOk, OnErr}
+use Rattle.std.specs.List.{AllByRecursion}
+use Rattle.std.proofs.lemmas.Bool.{le-leb}
+use Rattle.std.proofs.lemmas.List.{length-map}
+use Rattle.std.proofs.lemmas.Option.{none-some, same_Some, slice_get-get_or}
+use Rattle.winnow_stream.specs.Source.{Source, first_offset}
+use Rattle.winnow_stream.specs.Cursor.{Cursor, start, rest, cursor_after, answers_from}
+use Rattle.winnow_match.specs.Search.{needle_list}
+use Rattle.winnow_sets.specs.declared.char_set.CharSet.{CharSet}
+use Rattle.winnow_sets.specs.Sets.{char_ranges, least_of_first}
+use Rattle.winnow_sets.proofs.lemmas.RangeLemmas.{none_held, least_within}
+use Rattle.winnow_run.specs.declared.script.Step.TheVariants as call
+use Rattle.winnow_run.specs.declared.script.Answer.TheVariants as answer
+use Rattle.winnow_run.specs.declared.search_script.SearchStep.{SearchStep}
+use Rattle.winnow_run.specs.declared.search_script.SearchStep.TheVariants as step
+use Rattle.winnow_run.specs.declared.search_script.SearchAnswer.TheVariants as search_answered
+use Rattle.winnow_run.specs.Searching.{PlacedSearchAnswer, search_answer, search_next}
+use Rattle.winnow_run.specs.Definite.{PieceKind, kind_of, is_definite}
+use Rattle.winnow_run.proofs.lemmas.StepLemmas.{Inside, start-inside, rest-more}
+use Rattle.winnow_feed.specs.declared.progress.Progress.{Progress}
+use Rattle.winnow_feed.specs.Inputs.{PieceStep, InputKind, byte_input, joined}
+use Rattle.winnow_feed.specs.Reach.{Reaches}
+use Rattle.winnow_feed.specs.Standing.{Stands, IsAtRest, next_step, answers_told}
+use Rattle.winnow_feed.specs.Feeding.{FeedState, StandsFor, Fits, script_of}
+use Rattle.winnow_feed.specs.Missing.{missing}
+use Rattle.winnow_feed.specs.Waits.{TellsMissing, MissesSome, IsSpelt, answer_on, waiting_number, waiting_step, waiting_rest, missing_on, IsMissing, WaitsToEnd, MissesMore}
+use Rattle.winnow_feed.proofs.lemmas.InputLemmas.{IsInput}
+use Rattle.winnow_feed.proofs.lemmas.SpellingLemmas.{IsSpelling}
+use Rattle.winnow_feed.proofs.lemmas.ReachLemmas.{Reaches-cursor, Reaches-more}
+use Rattle.winnow_feed.proofs.lemmas.StandingLemmas.{rest-back}
+use Rattle.winnow_feed.proofs.lemmas.KeepingLemmas.{stands-inside}
+use Rattle.winnow_feed.proofs.lemmas.FeedLemmas.{out-is}
+use Rattle.winnow_feed.proofs.lemmas.MissingLemmas.{step-changes, missing-valid, first-never}
+
+pub on-err : {A E : Type 0} (r : Result A E) (P : Type 0) → P → OnErr r P
+on-err (Ok a) P p = tt
+on-err (Err e) P p = p
+
+at-exists : {X : Type 0} (xs : List X) (n : ℕ) → n < length xs → (x : X) × (slice_get xs n ≡ Some x)
+at-exists [] n l = absurd (omega arith)
+at-exists (x ∷ xs) zero l = (x, refl)
+at-exists (x ∷ xs) (suc n) l = at-exists xs n (omega arith)
+
+-- ---- what a step is missing where the kept input remains is what it is missing on the joined one
+
+module _ {T L : Type 0} (k : PieceKind T CharSet L) (greatest : ℕ) (spell : ℕ → List ℕ) (kept : Source T) (p : Progress T L) (x : SearchStep CharSet L) (next : next_step p ≡ Some x) (r : Source T) (is : (all : Source T) (h : Stands true k all kept p) → r ≡ rest all h.at) where
+  missing-same : (all : Source T) (h : Stands true k all kept p) (s : SearchStep CharSet L) → next_step p ≡ Some s → missing k greatest spell r x ≡ missing k greatest spell (rest all h.at) s
+  missing-same all h s e = ap (λ b. missing k greatest spell b x) (is all h) ∙ ap (missing k greatest spell (rest all h.at)) (same_Some x s (sym next ∙ e))
+
+  pub ok-missing : {A E : Type 0} (bytes : A → List ℕ) (result : Result (Option A) E) → IfOk result (λ m. option_map bytes m ≡ missing k greatest spell r x) → IfOk result (λ m. TellsMissing k greatest spell kept p (option_map bytes m))
+  ok-missing bytes (Ok m) e = λ all h s n. e ∙ missing-same all h s n
+  ok-missing bytes (Err f) e = tt
+
+  pub err-missing : {A E : Type 0} (result : Result A E) → OnErr result (IsSome (missing k greatest spell r x)) → OnErr result (MissesSome k greatest spell kept p)
+  err-missing (Ok a) e = tt
+  err-missing (Err f) e = λ all h s n. ap is_some (sym (missing-same all h s n)) ∙ e
+
+-- what the next step answers is the answer of that number
+reached-answer : {T C L : Type 0} (strict : Bool) (k : PieceKind T C L) (all : Source T) (s t : Cursor) (steps : List (SearchStep C L)) (gs : List (PlacedSearchAnswer T)) (x : SearchStep C L) → Reaches strict k all s steps gs t → slice_get steps (length gs) ≡ Some x → slice_get (answers_from (search_answer (kind_of k) all) (search_next all) steps s) (length gs) ≡ Some (search_answer (kind_of k) all x t)
+reached-answer strict k all s t [] [] x r e = absurd (none-some x e)
+reached-answer strict k all s t (y ∷ steps) [] x r e = let same : y ≡ x = same_Some y x e in rw (r, same) refl
+reached-answer strict k all s t [] (a ∷ gs) x r e = elim r [ ]
+reached-answer strict k all s t (y ∷ steps) (a ∷ gs) x r e = reached-answer strict k all (search_next all y s) t steps gs x r.2 e
+
+-- ---- a feed that stands for an input, where its next step waits
+
+pub next-exists : {T L : Type 0} (p : Progress T L) → length p.told.items < length p.script.now → (s : SearchStep CharSet L) × (next_step p ≡ Some s)
+next-exists p l = at-exists p.script.now (length p.told.items) l
+
+pub next-spelt : (i : InputKind) (p : Progress ℕ (Bor (List ℕ))) (n : ℕ) (d : PieceStep) → n ≡ length p.told.items → n < length p.script.now → IsSpelt i (get_or p.script.now n d) → (s : PieceStep) × (next_step p ≡ Some s) × IsSpelt i s
+next-spelt i p n d e l spelt = (get_or p.script.now n d, ap (slice_get p.script.now) (sym e) ∙ slice_get-get_or p.script.now n d l, spelt)
+
+module _ (i : InputKind) (law : IsInput i) (spelling : IsSpelling i) (f : FeedState) (J : List ℕ) (h : StandsFor i f J) (rests : IsAtRest i.pieces (i.source J) f.run) (s : PieceStep) (next : next_step f.run ≡ Some s) where
+  pub inside : Inside (i.source J) h.stands.at
+  inside = stands-inside i.pieces (i.source J) (i.source f.kept) f.run h.stands
+
+  pub waits : is_definite i.pieces s (rest (i.source J) h.stands.at) ≡ false
+  waits = ap (is_definite i.pieces s) (sym (rest-back true i.pieces (i.source J) (i.source f.kept) f.run h.stands s next)) ∙ rests s next
+
+  -- what it is missing is an input
+  pub missing-input : (m : List ℕ) → IsSpelt i s → Some m ≡ missing i.pieces i.greatest i.pieces.write (rest (i.source J) h.stands.at) s → i.valid m ≡ true
+  missing-input m u e = missing-valid i law spelling J h.stands.at inside m h.is_input s waits u (sym e)
+
+-- ---- the same of pieces that it fits
+
+module _ (i : InputKind) (law : IsInput i) (spelling : IsSpelling i) (f : FeedState) (pieces : List (List ℕ)) (h : Fits i f pieces) (some : 0 < length pieces) (s : PieceStep) (next : next_step f.run ≡ Some s) where
+  abbrev J : List ℕ
+  J = joined pieces
+
+  abbrev all : Source ℕ
+  all = i.source (joined pieces)
+
+  abbrev st : Stands true i.pieces (i.source (joined pieces)) (i.source f.kept) f.run
+  st = h.stands.stands
+
+  told-length : length (answers_told f.run) ≡ length f.run.told.items
+  told-length = length-map f.run.told.items (λ t. t.answer)
+
+  number-is : waiting_number i (script_of f) J ≡ length (answers_told f.run)
+  number-is = ap length (out-is i law all (i.source f.kept) f.run st (h.rests some))
+
+  next-told : slice_get f.run.script.now (length (answers_told f.run)) ≡ Some s
+  next-told = ap (slice_get f.run.script.now) told-length ∙ next
+
+  pub step-is : waiting_step i (script_of f) J ≡ Some s
+  step-is = ap (slice_get f.run.script.now) number-is ∙ next-told
+
+  pub rest-is : waiting_rest i (script_of f) J ≡ rest all st.at
+  rest-is =
+      ap (λ n. rest all (cursor_after (search_next all) (take n f.run.script.now) start)) number-is
+      ∙ ap (rest all) (Reaches-cursor true i.pieces all start st.at f.run.script.now (answers_told f.run) st.reaches)
+
+  pub missing-is : missing_on i (script_of f) J s ≡ missing i.pieces i.greatest i.pieces.write (rest all st.at) s
+  missing-is = ap (λ r. missing i.pieces i.greatest i.pieces.write r s) rest-is
+
+  within : Inside all st.at
+  within = inside i law spelling f J h.stands (h.rests some) s next
+
+  indefinite : is_definite i.pieces s (rest all st.at) ≡ false
+  indefinite = waits i law spelling f J h.stands (h.rests some) s next
+
+  answer-is : answer_on i (script_of f) (waiting_number i (script_of f) J) J ≡ Some (search_answer (kind_of i.pieces) all s st.at)
+  answer-is =
+      ap (slice_get (answers_from (search_answer (kind_of i.pieces) all) (search_next all) f.run.script.now start)) number-is
+      ∙ reached-answer true i.pieces all start st.at f.run.script.now (answers_told f.run) s st.reaches next-told
+
+  -- the answers that are out are those of any longer input
+  answer-more : (m : List ℕ) → answer_on i (script_of f) (waiting_number i (script_of f) J) (J ++ m) ≡ Some (search_answer (kind_of i.pieces) (all ++ i.source m) s st.at)
+  answer-more m =
+      let longer = Reaches-more i.pieces all (i.source m) start st.at f.run.script.now (answers_told f.run) (start-inside all) st.reaches in
+      ap (λ src. slice_get (answers_from (search_answer (kind_of i.pieces) src) (search_next src) f.run.script.now start) (waiting_number i (script_of f) J)) (law.split J m h.stands.is_input)
+      ∙ ap (slice_get (answers_from (search_answer (kind_of i.pieces) (all ++ i.source m)) (search_next (all ++ i.source m)) f.run.script.now start)) number-is
+      ∙ reached-answer true i.pieces (all ++ i.source m) start st.at f.run.script.now (answers_told f.run) s longer next-told
+
+  pub is-missing : (m : List ℕ) → IsSpelt i s → Some m ≡ missing i.pieces i.greatest i.pieces.write (rest all st.at) s → IsMissing i (script_of f) J m
+  is-missing m u e =
+      let v = missing-input i law spelling f J h.stands (h.rests some) s next m u e in
+      record {
+        s = s;
+        waits = step-is;
+        named = missing-is ∙ sym e;
+        valid = v;
+        changes = λ same. step-changes i law spelling J st.at within m s indefinite u v (sym e) (same_Some _ _ (sym (answer-more m) ∙ same ∙ answer-is));
+      }
+
+  pub misses-more : IsSome (missing i.pieces i.greatest i.pieces.write (rest all st.at) s) → MissesMore i (script_of f) pieces
+  misses-more e = (some, (s, step-is, ap is_some missing-is ∙ e))
+
+-- ---- and none changes its answer
+
+mapped-none : (spell : ℕ → List ℕ) (o : Option ℕ) → None ≡ option_map spell o → o ≡ None
+mapped-none spell None e = refl
+mapped-none spell (Some t) e = absurd (none-some (spell t) e)
+
+none-hold : (i : InputKind) (holds : ℕ → Bool) (m : Source ℕ) → ((t : ℕ) → i.is_token t ≡ true → holds t ≡ false) → AllByRecursion (λ (x : ℕ × ℕ). i.is_token x.0 ≡ true) m → AllByRecursion (λ (x : ℕ × ℕ). holds x.0 ≡ false) m
+none-hold i holds [] f h = tt
+none-hold i holds (x ∷ m) f h = (f x.0 h.0, none-hold i holds m f h.1)
+
+module _ (i : InputKind) (law : IsInput i) (spelling : IsSpelling i) (f : FeedState) (pieces : List (List ℕ)) (h : Fits i f pieces) (some : 0 < length pieces) where
+  first-waits : (set : CharSet) → next_step f.run ≡ Some (step.Call (call.First set)) → least_of_first i.greatest (char_ranges set) ≡ None → WaitsToEnd i (script_of f) (joined pieces)
+  first-waits set next e =
+      let s : PieceStep = step.Call (call.First set) in
+      let at : Cursor = h.stands.stands.at in
+      let none : (t : ℕ) → i.is_token t ≡ true → i.pieces.holds set t ≡ false = λ t u. spelling.holds_is set t ∙ none_held i.greatest (char_ranges set) e t (spelling.token_most t u) in
+      record {
+        set = set;
+        waits = step-is i law spelling f pieces h some s next;
+        holds_none = none;
+        never = λ m bytes v.
+            let tokens = none-hold i (i.pieces.holds set) (i.source m) none (spelling.tokens m bytes v) in
+            let more = rest-more i.pieces (i.source (joined pieces)) (i.source m) at (within i law spelling f pieces h some s next) in
+            let same = ap (first_offset (i.pieces.holds set)) more ∙ first-never (i.pieces.holds set) (rest (i.source (joined pieces)) at) (i.source m) (indefinite i law spelling f pieces h some s next) tokens in
+            answer-more i law spelling f pieces h some s next m ∙ ap (λ o. Some (search_answered.Call (answer.First o))) same ∙ sym (answer-is i law spelling f pieces h some s next);
+      }
+
+  pub to-end : (s : PieceStep) → next_step f.run ≡ Some s → None ≡ missing i.pieces i.greatest i.pieces.write (rest (i.source (joined pieces)) h.stands.stands.at) s → WaitsToEnd i (script_of f) (joined pieces)
+  to-end (step.Call call.Next) next e = absurd (none-some _ e)
+  to-end (step.Call call.Peek) next e = absurd (none-some _ e)
+  to-end (step.Call (call.Take n)) next e = absurd (none-some _ e)
+  to-end (step.Call (call.Look n)) next e = absurd (none-some _ e)
+  to-end (step.Call call.Finish) next e = absurd (none-some _ e)
+  to-end (step.Call call.PeekFinish) next e = absurd (none-some _ e)
+  to-end (step.Call call.Eof) next e = absurd (none-some _ e)
+  to-end (step.Call (call.At n)) next e = absurd (none-some _ e)
+  to-end (step.Call (call.IsOffset n)) next e = absurd (none-some _ e)
+  to-end (step.Call (call.First set)) next e = first-waits set next (mapped-none i.pieces.write (least_of_first i.greatest (char_ranges set)) e)
+  to-end (step.Call call.Each) next e = absurd (none-some _ e)
+  to-end (step.Call call.Mark) next e = absurd (none-some _ e)
+  to-end (step.Call (call.Reset k)) next e = absurd (none-some _ e)
+  to-end (step.Call (call.Since k)) next e = absurd (none-some _ e)
+  to-end (step.Compare l) next e = absurd (none-some _ e)
+  to-end (step.Find ns) next e = absurd (none-some _ e)
+
+-- ---- bytes are spelt, whatever the step
+
+all-valid : (ls : List (List ℕ)) → AllByRecursion (λ needle. byte_input.valid needle ≡ true) ls
+all-valid [] = tt
+all-valid (l ∷ ls) = (refl, all-valid ls)
+
+least-byte : (ranges : List (ℕ × ℕ)) (o : Option ℕ) → least_of_first 255 ranges ≡ o → IfSome o (λ t. byte_input.is_token t ≡ true)
+least-byte ranges None e = tt
+least-byte ranges (Some t) e = le-leb t 255 (least_within 255 ranges t e)
+
+pub bytes-spelt : (s : PieceStep) → IsSpelt byte_input s
+bytes-spelt (step.Call call.Next) = tt
+bytes-spelt (step.Call call.Peek) = tt
+bytes-spelt (step.Call (call.Take n)) = tt
+bytes-spelt (step.Call (call.Look n)) = tt
+bytes-spelt (step.Call call.Finish) = tt
+bytes-spelt (step.Call call.PeekFinish) = tt
+bytes-spelt (step.Call call.Eof) = tt
+bytes-spelt (step.Call (call.At n)) = tt
+bytes-spelt (step.Call (call.IsOffset n)) = tt
+bytes-spelt (step.Call (call.First set)) = least-byte (char_ranges set) (least_of_first 255 (char_ranges set)) refl
+bytes-spelt (step.Call call.Each) = tt
+bytes-spelt (step.Call call.Mark) = tt
+bytes-spelt (step.Call (call.Reset k)) = tt
+bytes-spelt (step.Call (call.Since k)) = tt
+bytes-spelt (step.Compare l) = refl
+bytes-spelt (step.Find ns) = all-valid (needle_list byte_input.pieces.literal ns)

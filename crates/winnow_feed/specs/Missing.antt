@@ -1,0 +1,44 @@
+-- What a step that waits is missing: bytes with which behind the input its answer is another one.
+use Rattle.std.specs.Prelude.{ℕ, Bool, ◌-◌, if◌then◌else◌, List, [], length, drop, replicate, Option, None, Some, is_some, option_map}
+use Rattle.winnow_stream.specs.Source.{Source, width}
+use Rattle.winnow_run.specs.declared.script.Step.{Step}
+use Rattle.winnow_run.specs.declared.script.Step.TheVariants as call
+use Rattle.winnow_match.specs.Bytes.{written}
+use Rattle.winnow_match.specs.Search.{hit, needle_of, needle_list}
+use Rattle.winnow_match.specs.Stretch.{stretch_of}
+use Rattle.winnow_match.specs.declared.needles.Stretch.{Stretch}
+use Rattle.winnow_sets.specs.Sets.{char_ranges, least_of_first}
+use Rattle.winnow_sets.specs.declared.char_set.CharSet.{CharSet}
+use Rattle.winnow_run.specs.declared.search_script.SearchStep.{SearchStep}
+use Rattle.winnow_run.specs.declared.search_script.SearchStep.TheVariants as step
+use Rattle.winnow_run.specs.Definite.{PieceKind}
+
+-- n letters a
+abbrev pub letters : ℕ → List ℕ
+letters n = replicate n 97
+
+-- a needle that the bytes end inside, without what is there of it
+abbrev pub rest_of_needle : List (List ℕ) → List ℕ → Option Stretch → List ℕ
+rest_of_needle needles bytes None = []
+rest_of_needle needles bytes (Some s) = drop (length bytes - s.place) (needle_of needles s.needle)
+
+-- of a search: the first listed needle, where none stands, and else the rest of the one that stretches
+abbrev pub needle_missing : List (List ℕ) → List ℕ → List ℕ
+needle_missing needles bytes = if is_some (hit needles bytes) then rest_of_needle needles bytes (stretch_of needles bytes) else needle_of needles 0
+
+-- of a call where r remains, of tokens up to the greatest that are spelt so: `None` of a set that holds none of them
+module _ {T : Type 0} (counts_missing : Bool) (greatest : ℕ) (spell : ℕ → List ℕ) (r : Source T) where
+  abbrev pub call_missing : Step CharSet → Option (List ℕ)
+  call_missing (call.Take n) = Some (letters (n - width r))
+  call_missing (call.Look n) = Some (letters (n - width r))
+  call_missing (call.IsOffset n) = Some (letters (n - width r))
+  call_missing (call.At n) = Some (letters (if counts_missing then 1 else n - length r))
+  call_missing (call.First set) = option_map spell (least_of_first greatest (char_ranges set))
+  call_missing _ = Some (letters 1)
+
+-- of a step: of a comparison the rest of the literal
+module _ {T L : Type 0} (k : PieceKind T CharSet L) (greatest : ℕ) (spell : ℕ → List ℕ) (r : Source T) where
+  abbrev pub missing : SearchStep CharSet L → Option (List ℕ)
+  missing (step.Call s) = call_missing k.counts_missing greatest spell r s
+  missing (step.Compare literal) = Some (drop (length (written k.write r)) (k.literal literal))
+  missing (step.Find needles) = Some (needle_missing (needle_list k.literal needles) (written k.write r))

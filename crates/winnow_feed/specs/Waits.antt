@@ -1,0 +1,91 @@
+-- What a feed waits for.
+use Rattle.std.specs.Prelude.{◌≡◌, ℕ, ◌≤◌, ◌<◌, true, false, List, [], ◌++◌, length, take, Option, Some, IsSome, IfSome, slice_get, ⊤}
+use Rattle.std.specs.List.{AllByRecursion}
+use Rattle.winnow_stream.specs.Source.{Source}
+use Rattle.winnow_stream.specs.Cursor.{start, rest, cursor_after}
+use Rattle.winnow_sets.specs.declared.char_set.CharSet.{CharSet}
+use Rattle.winnow_sets.specs.Sets.{char_ranges, least_of_first}
+use Rattle.winnow_match.specs.Search.{needle_list}
+use Rattle.winnow_run.specs.declared.script.Step.TheVariants as call
+use Rattle.winnow_run.specs.declared.search_script.SearchStep.{SearchStep}
+use Rattle.winnow_run.specs.declared.search_script.SearchStep.TheVariants as step
+use Rattle.winnow_run.specs.Searching.{PlacedSearchAnswer, search_answers, search_next}
+use Rattle.winnow_run.specs.Definite.{PieceKind, kind_of}
+use Rattle.winnow_feed.specs.declared.progress.Progress.{Progress}
+use Rattle.winnow_feed.specs.declared.waiting.Waiting.{Waiting}
+use Rattle.winnow_feed.specs.declared.waiting.Waiting.TheVariants as waiting
+use Rattle.winnow_feed.specs.Inputs.{PieceStep, InputKind, joined}
+use Rattle.winnow_feed.specs.Missing.{missing}
+use Rattle.winnow_feed.specs.Standing.{Stands, next_step}
+use Rattle.winnow_feed.specs.Telling.{out_on, told_of}
+use Rattle.winnow_feed.specs.Feeding.{FeedState, Fits, script_of}
+
+-- whatever joined input the run stands for, this is what its next step is missing there
+abbrev pub TellsMissing : {T L : Type 0} → PieceKind T CharSet L → ℕ → (ℕ → List ℕ) → Source T → Progress T L → Option (List ℕ) → Type 0
+TellsMissing {T} {L} k greatest spell kept p told =
+    (all : Source T) (stands : Stands true k all kept p) (s : SearchStep CharSet L) → next_step p ≡ Some s → told ≡ missing k greatest spell (rest all stands.at) s
+
+-- and it is something
+abbrev pub MissesSome : {T L : Type 0} → PieceKind T CharSet L → ℕ → (ℕ → List ℕ) → Source T → Progress T L → Type 0
+MissesSome {T} {L} k greatest spell kept p =
+    (all : Source T) (stands : Stands true k all kept p) (s : SearchStep CharSet L) → next_step p ≡ Some s → IsSome (missing k greatest spell (rest all stands.at) s)
+
+-- what a step names is of the kind: its literals are inputs, and the first range of its set that holds a token begins with one
+abbrev pub IsSpelt : InputKind → PieceStep → Type 0
+IsSpelt i (step.Call (call.First set)) = IfSome (least_of_first i.greatest (char_ranges set)) (λ token. i.is_token token ≡ true)
+IsSpelt i (step.Call s) = ⊤
+IsSpelt i (step.Compare literal) = i.valid (i.pieces.literal literal) ≡ true
+IsSpelt i (step.Find needles) = AllByRecursion (λ needle. i.valid needle ≡ true) (needle_list i.pieces.literal needles)
+
+module _ (i : InputKind) (script : List PieceStep) where
+  -- what a step of the script answers on a joined input
+  abbrev pub answer_on : ℕ → List ℕ → Option (PlacedSearchAnswer ℕ)
+  answer_on n input = slice_get (search_answers (kind_of i.pieces) (i.source input) script) n
+
+  -- on a joined input: the number of the step that waits, the step, and what remains there
+  abbrev pub waiting_number : List ℕ → ℕ
+  waiting_number input = length (out_on i script input)
+
+  abbrev pub waiting_step : List ℕ → Option PieceStep
+  waiting_step input = slice_get script (waiting_number input)
+
+  abbrev pub waiting_rest : List ℕ → Source ℕ
+  waiting_rest input = rest (i.source input) (cursor_after (search_next (i.source input)) (take (waiting_number input) script) start)
+
+  -- what that step is missing
+  abbrev pub missing_on : List ℕ → PieceStep → Option (List ℕ)
+  missing_on input s = missing i.pieces i.greatest i.pieces.write (waiting_rest input) s
+
+  -- these bytes are an input, they are what the step that waits is missing, and with them it answers otherwise
+  pub record IsMissing (input more : List ℕ) : Type 0 where
+    pub s : PieceStep
+    pub waits : waiting_step input ≡ Some s
+    pub named : missing_on input s ≡ Some more
+    pub valid : i.valid more ≡ true
+    pub changes : ¬ (answer_on (waiting_number input) (input ++ more) ≡ answer_on (waiting_number input) input)
+
+  -- the step that waits is `First` over a set that holds no token, and no more input changes its answer
+  pub record WaitsToEnd (input : List ℕ) : Type 0 where
+    pub set : CharSet
+    pub waits : waiting_step input ≡ Some (step.Call (call.First set))
+    pub holds_none : (token : ℕ) → i.is_token token ≡ true → i.pieces.holds set token ≡ false
+    pub never : (more : List ℕ) → AllByRecursion (λ byte. byte ≤ 255) more → i.valid more ≡ true → answer_on (waiting_number input) (input ++ more) ≡ answer_on (waiting_number input) input
+
+  -- what is waited for after these pieces, where what is missing has these bytes
+  abbrev pub WaitsFor : {P : Type 0} → (P → List ℕ) → List (List ℕ) → Waiting P → Type 0
+  WaitsFor bytes pieces waiting.NotFed = pieces ≡ []
+  WaitsFor bytes pieces waiting.NotWaiting = (0 < length pieces) × (length script ≤ length (told_of i script pieces))
+  WaitsFor bytes pieces (waiting.Until more) = (0 < length pieces) × IsMissing (joined pieces) (bytes more)
+  WaitsFor bytes pieces waiting.ToEnd = (0 < length pieces) × WaitsToEnd (joined pieces)
+
+  -- after these pieces a step waits that is missing something
+  abbrev pub MissesMore : List (List ℕ) → Type 0
+  MissesMore pieces = (0 < length pieces) × ((s : PieceStep) × (waiting_step (joined pieces) ≡ Some s) × IsSome (missing_on (joined pieces) s))
+
+-- what a feed waits for, whatever pieces it fits
+abbrev pub TellsWaiting : {P : Type 0} → InputKind → (P → List ℕ) → FeedState → Waiting P → Type 0
+TellsWaiting i bytes f waiting = (pieces : List (List ℕ)) → Fits i f pieces → WaitsFor i (script_of f) bytes pieces waiting
+
+-- whatever pieces it fits, a step waits that is missing something
+abbrev pub WantsMore : InputKind → FeedState → Type 0
+WantsMore i f = (pieces : List (List ℕ)) → Fits i f pieces → MissesMore i (script_of f) pieces

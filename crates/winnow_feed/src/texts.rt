@@ -1,0 +1,62 @@
+ghost use Rattle.std.specs.Prelude.{◌≡◌, true, IfSome};
+ghost use Rattle.std.specs.List.{AllByRecursion};
+ghost use Rattle.std.specs.Str.{is_utf8};
+ghost use Rattle.winnow_match.specs.Search.{bytes_of_needles};
+ghost use Rattle.winnow_sets.specs.Sets.{char_ranges, least_of_first};
+ghost use Rattle.winnow_feed.specs.Inputs.{text_input};
+ghost use Rattle.winnow_feed.specs.Waits.{IsSpelt};
+
+use winnow_match::Needles;
+use winnow_run::{SearchStep, Step};
+use winnow_sets::CharSet;
+
+// A text is UTF-8.
+fn is_text(text: &str)
+    ensures { is_utf8 text.now ≡ true }
+{}
+
+// So is each of these.
+fn are_needles(needles: &Needles<&str>)
+    ensures { AllByRecursion (λ needle. is_utf8 needle ≡ true) (bytes_of_needles needles.now) }
+{
+    match needles {
+        Needles::One(a) => is_text(a),
+        Needles::Two(a, b) => {
+            is_text(a);
+            is_text(b);
+        }
+        Needles::Three(a, b, c) => {
+            is_text(a);
+            is_text(b);
+            is_text(c);
+        }
+    }
+}
+
+// The number of a character is one.
+fn is_character(c: char)
+    ensures { text_input.is_token c ≡ true }
+{}
+
+// The first range that holds a character begins with one.
+fn begins_with_one(set: &CharSet)
+    ensures { IfSome (least_of_first text_input.greatest (char_ranges set.now))
+        (λ c. text_input.is_token c ≡ true) }
+{
+    if let Some(c) = set.any_char() {
+        is_character(c);
+    }
+}
+
+/// What a step over text names is text. It changes nothing: its contract is what the types of the
+/// step's literals and sets say.
+pub(crate) fn is_spelt(step: &SearchStep<CharSet, &str>)
+    ensures { IsSpelt text_input step.now }
+{
+    match step {
+        SearchStep::Call(Step::First(set)) => begins_with_one(set),
+        SearchStep::Call(_) => {}
+        SearchStep::Compare(literal) => is_text(literal),
+        SearchStep::Find(needles) => are_needles(needles),
+    }
+}
