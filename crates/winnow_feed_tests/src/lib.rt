@@ -1,7 +1,9 @@
-//! The tests of feeds: which answers come out after which piece, and what is kept. Nothing here is part of the library.
+//! The tests of feeds: which answers come out after which piece, what is kept, and what is waited for. Nothing here is part of the library.
 #![tactic(auto)]
 
 #[cfg(test)]
 mod held;
 #[cfg(test)]
 mod pieces;
+#[cfg(test)]
+mod waits;

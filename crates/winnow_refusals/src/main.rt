@@ -15,6 +15,7 @@ mod kinds;
 mod recovery;
 mod scripts;
 mod trees;
+mod waiting;
 
 use std::alloc::{AllocError, Global};
 use std::{env, io};
@@ -114,7 +115,23 @@ fn report_all(rt: &impl Print, alloc: Global) -> io::Result<()> {
     )?;
     report_accumulators(rt, alloc)?;
     report_trees(rt, alloc)?;
-    report_feeds(rt, alloc)
+    report_feeds(rt, alloc)?;
+    report_waiting(rt, alloc)
+}
+
+fn report_waiting(rt: &impl Print, alloc: Global) -> io::Result<()> {
+    report(
+        rt,
+        "waits_for of bytes",
+        waiting::wait_for_bytes(alloc),
+        waiting::wait_for_bytes(alloc),
+    )?;
+    report(
+        rt,
+        "waits_for of text",
+        waiting::wait_for_text(alloc),
+        waiting::wait_for_text(alloc),
+    )
 }
 
 fn report_trees(rt: &impl Print, alloc: Global) -> io::Result<()> {

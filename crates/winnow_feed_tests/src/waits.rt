@@ -1,0 +1,158 @@
+use std::alloc::{AllocError, Global};
+use std::test::Fail;
+use winnow_base::stream::Step::{
+    At, Each, Eof, Finish, First, IsOffset, Look, Next, Peek, PeekFinish, Take,
+};
+use winnow_base::stream::{ByteFeed, CharSet, Needles, SearchStep, TextFeed, Waiting};
+
+type ByteStep<'k> = SearchStep<CharSet<'k>, &'k [u8]>;
+
+type TextStep<'k> = SearchStep<CharSet<'k>, &'k str>;
+
+// What is missing, or in words what is waited for.
+fn in_words(alloc: Global, waiting: Waiting<Vec<u8>>) -> Result<String, AllocError> {
+    match waiting {
+        Waiting::NotFed => String::from_str(alloc, "(not fed)"),
+        Waiting::NotWaiting => String::from_str(alloc, "(nothing)"),
+        Waiting::Until(more) => String::from_utf8_lossy(alloc, more.as_slice()),
+        Waiting::ToEnd => String::from_str(alloc, "(the end)"),
+    }
+}
+
+fn text_in_words(alloc: Global, waiting: Waiting<String>) -> Result<String, AllocError> {
+    match waiting {
+        Waiting::NotFed => String::from_str(alloc, "(not fed)"),
+        Waiting::NotWaiting => String::from_str(alloc, "(nothing)"),
+        Waiting::Until(more) => Ok(more),
+        Waiting::ToEnd => String::from_str(alloc, "(the end)"),
+    }
+}
+
+// What is waited for before the first piece, and after each.
+fn waits(alloc: Global, script: &[ByteStep], pieces: &[&[u8]]) -> Result<String, AllocError> {
+    let mut feed = ByteFeed::new(alloc, script)?;
+    let mut line = in_words(alloc, feed.waits_for()?)?;
+    for piece in pieces {
+        // A place has to fit: no piece here is long.
+        if feed.fed() > 1_000_000 || piece.len() > 1_000_000 {
+            return Ok(line);
+        }
+        feed.feed(piece)?;
+        let waiting = in_words(alloc, feed.waits_for()?)?;
+        line = format!(in alloc; "{line} {waiting}")?;
+    }
+    Ok(line)
+}
+
+fn text_waits(alloc: Global, script: &[TextStep], pieces: &[&str]) -> Result<String, AllocError> {
+    let mut feed = TextFeed::new(alloc, script)?;
+    let mut line = text_in_words(alloc, feed.waits_for()?)?;
+    for piece in pieces {
+        if feed.fed() > 1_000_000 || piece.len() > 1_000_000 {
+            return Ok(line);
+        }
+        feed.feed(piece)?;
+        let waiting = text_in_words(alloc, feed.waits_for()?)?;
+        line = format!(in alloc; "{line} {waiting}")?;
+    }
+    Ok(line)
+}
+
+// The first range is reversed, and the second holds no byte.
+const RANGES: [(char, char); 3] = [('z', 'a'), ('\u{100}', '\u{12c}'), ('q', 'x')];
+
+#[test]
+fn a_byte_step_is_missing_what_changes_its_answer(rt: HostRuntime) -> Result<(), Fail> {
+    let two: Needles<&[u8]> = Needles::Two(b"abc", b"b");
+    let table: [(ByteStep, &[u8], &str); 14] = [
+        (SearchStep::Call(Next), b"", "a"),
+        (SearchStep::Call(Peek), b"", "a"),
+        (SearchStep::Call(Finish), b"ab", "a"),
+        (SearchStep::Call(PeekFinish), b"ab", "a"),
+        (SearchStep::Call(Eof), b"ab", "a"),
+        (SearchStep::Call(Each), b"ab", "a"),
+        (SearchStep::Call(At(9)), b"ab", "a"),
+        (SearchStep::Call(Take(5)), b"ab", "aaa"),
+        (SearchStep::Call(Look(3)), b"ab", "a"),
+        (SearchStep::Call(IsOffset(4)), b"", "aaaa"),
+        (SearchStep::Call(First(CharSet::new(&RANGES))), b"ab", "q"),
+        (SearchStep::Compare(b"abcd"), b"ab", "cd"),
+        (SearchStep::Find(two), b"xa", "abc"),
+        (SearchStep::Find(two), b"xab", "c"),
+    ];
+    for (step, piece, want) in table {
+        let line = waits(rt.alloc(), &[step], &[piece])?;
+        let want = format!(in rt.alloc(); "(not fed) {want}")?;
+        assert_eq!(rt; line, want, "{step:?}");
+    }
+    Ok(())
+}
+
+#[test]
+fn a_text_step_is_missing_what_changes_its_answer(rt: HostRuntime) -> Result<(), Fail> {
+    let two: Needles<&str> = Needles::Two("aéß", "é");
+    let table: [(TextStep, &str, &str); 14] = [
+        (SearchStep::Call(Next), "", "a"),
+        (SearchStep::Call(Peek), "", "a"),
+        (SearchStep::Call(Finish), "é", "a"),
+        (SearchStep::Call(PeekFinish), "é", "a"),
+        (SearchStep::Call(Eof), "é", "a"),
+        (SearchStep::Call(Each), "é", "a"),
+        (SearchStep::Call(At(3)), "é", "aa"),
+        (SearchStep::Call(Take(5)), "é", "aaa"),
+        (SearchStep::Call(Look(3)), "é", "a"),
+        (SearchStep::Call(IsOffset(4)), "", "aaaa"),
+        (SearchStep::Call(First(CharSet::new(&RANGES))), "é", "Ā"),
+        (SearchStep::Compare("aéß"), "aé", "ß"),
+        (SearchStep::Find(two), "xa", "aéß"),
+        (SearchStep::Find(two), "xaé", "ß"),
+    ];
+    for (step, piece, want) in table {
+        let line = text_waits(rt.alloc(), &[step], &[piece])?;
+        let want = format!(in rt.alloc(); "(not fed) {want}")?;
+        assert_eq!(rt; line, want, "{step:?}");
+    }
+    Ok(())
+}
+
+#[test]
+fn each_step_waits_in_turn(rt: HostRuntime) -> Result<(), Fail> {
+    let script: [ByteStep; 2] = [
+        SearchStep::Find(Needles::Two(b"abc", b"b")),
+        SearchStep::Call(At(9)),
+    ];
+    let line = waits(rt.alloc(), &script, &[b"ab", b"x", b"", b"abcdef"])?;
+    assert_eq!(rt; line.as_str(), "(not fed) c a a (nothing)");
+    let script: [TextStep; 1] = [SearchStep::Call(At(3))];
+    let line = text_waits(rt.alloc(), &script, &["é", "aa"])?;
+    assert_eq!(rt; line.as_str(), "(not fed) aa (nothing)");
+    Ok(())
+}
+
+#[test]
+fn a_set_that_holds_no_token_waits_to_the_end(rt: HostRuntime) -> Result<(), Fail> {
+    let script: [ByteStep; 1] = [SearchStep::Call(First(CharSet::new(&[('\u{100}', '\u{12c}')])))];
+    let line = waits(rt.alloc(), &script, &[b"a"])?;
+    assert_eq!(rt; line.as_str(), "(not fed) (the end)");
+    let script: [TextStep; 1] = [SearchStep::Call(First(CharSet::new(&[('z', 'a')])))];
+    let line = text_waits(rt.alloc(), &script, &["a"])?;
+    assert_eq!(rt; line.as_str(), "(not fed) (the end)");
+    Ok(())
+}
+
+#[test]
+fn what_is_too_long_is_refused(rt: HostRuntime) -> Result<(), Fail> {
+    let script: [ByteStep; 2] = [SearchStep::Call(Next), SearchStep::Call(Take(usize::MAX))];
+    let mut feed = ByteFeed::new(rt.alloc(), &script)?;
+    feed.feed(b"ab")?;
+    assert!(rt; feed.waits_for().is_err());
+    assert_eq!(rt; (feed.fed(), feed.held(), feed.tried()), (2, 1, 2));
+    assert_eq!(rt; feed.answers().len(), 1);
+    let script: [TextStep; 2] = [SearchStep::Call(Next), SearchStep::Call(Take(usize::MAX))];
+    let mut feed = TextFeed::new(rt.alloc(), &script)?;
+    feed.feed("ab")?;
+    assert!(rt; feed.waits_for().is_err());
+    assert_eq!(rt; (feed.fed(), feed.held(), feed.tried()), (2, 1, 2));
+    assert_eq!(rt; feed.answers().len(), 1);
+    Ok(())
+}

@@ -1,0 +1,56 @@
+use std::alloc::{AllocError, Global};
+use winnow_feed::{ByteFeed, TextFeed, Waiting};
+use winnow_run::SearchStep;
+use winnow_run::SearchStep::{Call, Compare};
+use winnow_run::Step::Next;
+use winnow_sets::CharSet;
+
+const BYTES: [SearchStep<CharSet<'static>, &[u8]>; 2] = [Call(Next), Compare(b"bcd")];
+
+const TEXTS: [SearchStep<CharSet<'static>, &str>; 2] = [Call(Next), Compare("bcd")];
+
+// No place comes near what a `usize` holds.
+const MOST: usize = 1_000_000;
+
+// What a feed says of its bytes, its attempts and its answers.
+fn counts(feed: &ByteFeed) -> (usize, usize, u64, usize) {
+    let out = feed.answers().len();
+    (feed.fed(), feed.held(), feed.tried(), out)
+}
+
+fn text_counts(feed: &TextFeed) -> (usize, usize, u64, usize) {
+    let out = feed.answers().len();
+    (feed.fed(), feed.held(), feed.tried(), out)
+}
+
+/// What a feed of bytes waits for. Refused, the feed is as it was, and answers when it is asked again.
+pub fn wait_for_bytes(alloc: Global) -> Result<bool, AllocError> {
+    let mut feed = ByteFeed::new(alloc, &BYTES)?;
+    if feed.fed() > MOST {
+        return Ok(false);
+    }
+    feed.feed(b"ab")?;
+    let before = counts(&feed);
+    let waiting = match feed.waits_for() {
+        Ok(waiting) => waiting,
+        Err(_) if counts(&feed) != before => return Ok(false),
+        Err(_) => feed.waits_for()?,
+    };
+    Ok(matches!(waiting, Waiting::Until(more) if more.as_slice() == b"cd".as_slice()))
+}
+
+/// What a feed of text waits for.
+pub fn wait_for_text(alloc: Global) -> Result<bool, AllocError> {
+    let mut feed = TextFeed::new(alloc, &TEXTS)?;
+    if feed.fed() > MOST {
+        return Ok(false);
+    }
+    feed.feed("ab")?;
+    let before = text_counts(&feed);
+    let waiting = match feed.waits_for() {
+        Ok(waiting) => waiting,
+        Err(_) if text_counts(&feed) != before => return Ok(false),
+        Err(_) => feed.waits_for()?,
+    };
+    Ok(matches!(waiting, Waiting::Until(more) if more.as_str() == "cd"))
+}
