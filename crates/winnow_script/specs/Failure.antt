@@ -2,8 +2,8 @@
 use Rattle.std.specs.Prelude.{ℕ, List, codes}
 use Rattle.std.specs.declared.io.ErrorKind.{ErrorKind}
 use Rattle.std.specs.declared.io.ErrorKind.TheVariants as kind
-use Rattle.winnow_script.specs.Fault.{fault_text}
-use Rattle.winnow_script.specs.declared.fault.ScriptFault.TheVariants as fault
+use Rattle.winnow_execute.specs.Fault.{fault_text}
+use Rattle.winnow_execute.specs.ScriptFault.TheVariants as fault
 use Rattle.winnow_script.specs.declared.program.Failure.{Failure}
 use Rattle.winnow_script.specs.declared.program.Failure.TheVariants.{Script, InputOrOutput}
 

@@ -17,23 +17,10 @@
 //! 2 where a line is faulty, 3 where memory ran out, and 4 where reading or writing failed.
 #![tactic(auto)]
 
-mod contents;
-mod execution;
-mod fault;
-mod inputs;
-mod lending;
-mod lines;
-mod literals;
-mod printing;
 mod program;
-mod steps;
 #[cfg(test)]
 mod tests;
-mod words;
 
-pub use execution::execute;
-pub use fault::ScriptFault;
-pub use literals::literal;
 use std::process::ExitCode;
 
 fn main(rt: HostRuntime) -> ExitCode {

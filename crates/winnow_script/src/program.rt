@@ -3,10 +3,10 @@ ghost use Rattle.std.specs.IoError.{error_kind};
 ghost use Rattle.winnow_script.specs.Failure.{status_of, failure_text, failure_of};
 ghost use Rattle.winnow_script.specs.declared.program.Failure.TheVariants.{Script};
 
-use crate::{ScriptFault, execute};
 use std::alloc::Global;
 use std::fmt;
 use std::io::{self, ErrorKind, Read};
+use winnow_execute::{ScriptFault, execute};
 
 /// The most bytes that a script may have.
 const MAX_INPUT: u64 = 1_048_576;

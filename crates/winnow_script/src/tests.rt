@@ -1,5 +1,2 @@
-mod answers;
-mod faults;
+mod failures;
 mod inputs;
-mod refusals;
-mod words;

@@ -1,0 +1,4 @@
+-- What contracts name of the lines that a script is read from.
+pub use Rattle.winnow_read.specs.Fault
+pub use Rattle.winnow_read.specs.Literal
+pub use Rattle.winnow_read.specs.declared.fault.ScriptFault

@@ -1,0 +1,11 @@
+-- Rows of lines: one more line.
+use Rattle.std.proofs.Common.{ℕ, List, [], ◌∷◌, ◌++◌, ap}
+use Rattle.winnow_read.specs.Newline.{first_line, rest_lines}
+use Rattle.winnow_read.specs.Lines.{AreLines}
+
+-- one more line tells one more item
+pub AreLines-push : {T : Type 0} (Tells : List ℕ → T → Type 0) (text : List ℕ) (items : List T) (rest : List ℕ) (item : T)
+    → AreLines Tells text items rest → Tells (first_line rest) item → AreLines Tells text (items ++ item ∷ []) (rest_lines rest)
+AreLines-push Tells text [] rest item e told = (rw e told, ap rest_lines e)
+AreLines-push Tells text (x ∷ items) rest item lines told =
+    (lines.0, AreLines-push Tells (rest_lines text) items rest item lines.1 told)

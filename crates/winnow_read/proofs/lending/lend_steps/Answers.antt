@@ -1,0 +1,11 @@
+use Rattle.std.proofs.Common.{sym}
+use Rattle.std.proofs.lemmas.List.{take_more}
+use Rattle.winnow_read.specs.Lending.{IsSameStep}
+use Rattle.winnow_read.proofs.ZipLemmas.{AllZip-push}
+use Rattle.winnow_read.proofs.lending.lend_steps.Goals as goal
+
+pub loop-step-preserved : goal.loop-step-preserved
+loop-step-preserved g c =
+    let more = take_more c.args.steps.now c.loop-step.step-index c.step-item.result c.loop-step-test.true in
+    let pushed = AllZip-push (IsSameStep g.L.Contents.bytes g.L.Lend.lent_bytes) _ _ _ _ c.loop-step.invariant c.lend_step.ensures in
+    rw (more, sym c.step-item.is, c.in_ok-push.ensures.items) pushed

@@ -1,0 +1,17 @@
+-- The lines of the kind and of the input.
+use Rattle.std.specs.Prelude.{◌≡◌, ℕ, List, codes}
+use Rattle.winnow_read.specs.Literal.{TellsBytes}
+use Rattle.winnow_read.specs.Words.{first_word, later_words}
+use Rattle.winnow_read.specs.declared.inputs.Kind.{Kind}
+use Rattle.winnow_read.specs.declared.inputs.Kind.TheVariants.{Bytes, Text, BytePieces, TextPieces}
+
+-- the word for a kind of input
+abbrev pub kind_word : Kind → List ℕ
+kind_word Bytes = codes "bytes"
+kind_word Text = codes "text"
+kind_word BytePieces = codes "byte-pieces"
+kind_word TextPieces = codes "text-pieces"
+
+-- the bytes that a line of this name tells: the name, a space, and the word of the bytes
+abbrev pub TellsNamed : {L : Type 0} → (L → List ℕ) → List ℕ → List ℕ → L → Type 0
+TellsNamed bytes name line literal = (first_word line ≡ name) × TellsBytes (later_words line) (bytes literal)

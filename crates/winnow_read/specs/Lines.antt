@@ -1,0 +1,14 @@
+-- The lines that are left of an input, and what a row of lines tells.
+use Rattle.std.specs.Prelude.{◌≡◌, ℕ, ◌+◌, List, [], ◌∷◌, length}
+use Rattle.winnow_read.specs.Newline.{first_line, rest_lines}
+use Rattle.winnow_read.specs.declared.lines.Lines.{Lines}
+
+-- a number that none of them can pass, as each has one byte at least
+abbrev pub reach : Lines → ℕ
+reach lines = lines.number + length lines.rest.now
+
+-- the first lines of a text tell these items, one each and in order, and leave the rest
+module _ {T : Type 0} (Tells : List ℕ → T → Type 0) where
+  abbrev pub AreLines : List ℕ → List T → List ℕ → Type 0
+  AreLines text [] rest = text ≡ rest
+  AreLines text (item ∷ items) rest = Tells (first_line text) item × AreLines (rest_lines text) items rest

@@ -1,0 +1,81 @@
+ghost use Rattle.std.specs.Prelude.{◌≡◌, ◌<◌, ◌≤◌, [], ◌∷◌, codes, IfErr, IfOk, OnOk, length};
+ghost use Rattle.winnow_read.specs.Fault.{IsWithin};
+ghost use Rattle.winnow_read.specs.Inputs.{kind_word, TellsNamed};
+ghost use Rattle.winnow_read.specs.Lines.{reach, AreLines};
+ghost use Rattle.winnow_read.specs.Newline.{first_line, rest_lines};
+
+use crate::ScriptFault;
+use crate::contents::Contents;
+use crate::lines::Lines;
+use crate::words::{read_literal, split_word};
+use std::alloc::Global;
+
+/// The kind of a script: what its input is, and whether it comes in pieces.
+#[derive(Clone, Copy)]
+pub enum Kind {
+    Bytes,
+    Text,
+    BytePieces,
+    TextPieces,
+}
+
+/// The kind that the first line tells.
+pub fn read_kind(lines: &mut Lines) -> Result<Kind, ScriptFault>
+    ensures kind { IfOk result (λ kind. first_line lines.old.rest.now ≡ kind_word kind) }
+    ensures rest { lines.new.rest.now ≡ rest_lines lines.old.rest.now }
+    ensures reach { reach lines.new ≤ reach lines.old }
+    ensures err { IfErr result (IsWithin (reach lines.old)) }
+{
+    let fault = lines.fault();
+    match lines.next_line() {
+        Some("bytes") => Ok(Kind::Bytes),
+        Some("text") => Ok(Kind::Text),
+        Some("byte-pieces") => Ok(Kind::BytePieces),
+        Some("text-pieces") => Ok(Kind::TextPieces),
+        _ => Err(fault),
+    }
+}
+
+/// The input that the last line tells.
+pub fn read_input<L: Contents>(alloc: Global, lines: &mut Lines) -> Result<L, ScriptFault>
+    ensures input { IfOk result (λ input.
+        AreLines (TellsNamed L.bytes (codes "input")) lines.old.rest.now (input ∷ []) []) }
+    ensures err { IfErr result (IsWithin (reach lines.old)) }
+{
+    let input = read_line(alloc, lines, "input")?;
+    if !lines.is_empty() {
+        return Err(lines.fault());
+    }
+    Ok(input)
+}
+
+/// The pieces that the lines to the end tell, one each.
+pub fn read_pieces<L: Contents>(alloc: Global, lines: &mut Lines) -> Result<Vec<L>, ScriptFault>
+    ensures pieces { IfOk result (λ pieces.
+        AreLines (TellsNamed L.bytes (codes "piece")) lines.old.rest.now pieces.items []) }
+    ensures err { IfErr result (IsWithin (reach lines.old)) }
+{
+    let mut pieces = Vec::new(alloc);
+    while !lines.is_empty() {
+        pieces.push(read_line(alloc, lines, "piece")?)?;
+    }
+    Ok(pieces)
+}
+
+// What the next line tells, which has to be this word, a space and a literal.
+fn read_line<L: Contents>(alloc: Global, lines: &mut Lines, name: &str) -> Result<L, ScriptFault>
+    ensures told { IfOk result (TellsNamed L.bytes name.now (first_line lines.old.rest.now)) }
+    ensures rest { lines.new.rest.now ≡ rest_lines lines.old.rest.now }
+    ensures shorter { OnOk result (length lines.new.rest.now < length lines.old.rest.now) }
+    ensures reach { reach lines.new ≤ reach lines.old }
+    ensures err { IfErr result (IsWithin (reach lines.old)) }
+{
+    let fault = lines.fault();
+    let Some(line) = lines.next_line() else {
+        return Err(fault);
+    };
+    match split_word(line) {
+        Some((first, word)) if first == name => read_literal(alloc, word)?.ok_or(fault),
+        _ => Err(fault),
+    }
+}

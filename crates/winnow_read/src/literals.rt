@@ -1,0 +1,26 @@
+ghost use Rattle.std.specs.Prelude.{◌≡◌, ◌⊎◌, ◌↔◌, codes, IfOk, IsSome, IfSome};
+ghost use Rattle.winnow_read.specs.Literal.{IsHexWord, TellsBytes};
+
+use hex::FromHexError;
+use std::alloc::{AllocError, Global};
+
+/// The bytes of a word: none for `-`, and else those of its hexadecimal digits, an even number of them and at least
+/// two, in either case. `None` for any other word.
+pub fn literal(alloc: Global, word: &[u8]) -> Result<Option<Vec<u8>>, AllocError>
+    ensures found { IfOk result (λ found. IsSome found ↔ ((word.now ≡ codes "-") ⊎ IsHexWord word.now)) }
+    ensures bytes { IfOk result (λ found. IfSome found (λ bytes. TellsBytes word.now bytes.items)) }
+{
+    if word.is_empty() {
+        return Ok(None);
+    }
+    if word == b"-".as_slice() {
+        return Ok(Some(Vec::new(alloc)));
+    }
+    match hex::decode(alloc, word) {
+        Ok(bytes) => Ok(Some(bytes)),
+        Err(error) => match error {
+            FromHexError::OutOfMemory => Err(AllocError),
+            _ => Ok(None),
+        },
+    }
+}

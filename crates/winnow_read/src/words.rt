@@ -1,0 +1,103 @@
+ghost use Rattle.std.specs.Prelude.{◌≡◌, ◌^◌, ◌<◌, IfOk, IfSome};
+ghost use Rattle.std.specs.Char.{IsScalar};
+ghost use Rattle.std.specs.Option.{SomeIff};
+ghost use Rattle.std.specs.Str.Parse.{IsNumeral, digits_value};
+ghost use Rattle.winnow_read.specs.Literal.{TellsBytes};
+ghost use Rattle.winnow_read.specs.Words.{first_word, later_words, TellsRange, TellsRanges, TellsNeedles};
+
+use crate::contents::Contents;
+use crate::literals::literal;
+use std::alloc::{AllocError, Global};
+use winnow_match::Needles;
+
+/// The first word, and the words behind its space; `None` where there is no space.
+pub fn split_word(words: &str) -> Option<(&str, &str)>
+    ensures first { IfSome result (λ parts. parts.0.now ≡ first_word words.now) }
+    ensures later { IfSome result (λ parts. parts.1.now ≡ later_words words.now) }
+{
+    words.split_once(' ')
+}
+
+/// The number that decimal digits write, if it fits.
+pub fn read_number(word: &str) -> Option<usize>
+    ensures { SomeIff result (IsNumeral 10 word.now × (digits_value 10 word.now < 2 ^ 64)) (digits_value 10 word.now) }
+{
+    // `parse` would take a sign.
+    if word.starts_with('+') {
+        return None;
+    }
+    word.parse().ok()
+}
+
+/// The literal whose bytes a word tells, if it tells any and they are one.
+pub fn read_literal<L: Contents>(alloc: Global, word: &str) -> Result<Option<L>, AllocError>
+    ensures { IfOk result (λ found. IfSome found (λ read. TellsBytes word.now (L.bytes read))) }
+{
+    match literal(alloc, word.as_bytes())? {
+        Some(bytes) => Ok(L::from_bytes(bytes)),
+        None => Ok(None),
+    }
+}
+
+/// The needles that one to three words tell.
+pub fn read_needles<L: Contents>(
+    alloc: Global,
+    words: &str,
+) -> Result<Option<Needles<L>>, AllocError>
+    ensures { IfOk result (λ found. IfSome found (TellsNeedles L.bytes words.now)) }
+{
+    let Some((first, later)) = split_word(words) else {
+        return match read_literal(alloc, words)? {
+            Some(only) => Ok(Some(Needles::One(only))),
+            None => Ok(None),
+        };
+    };
+    let Some(first) = read_literal(alloc, first)? else {
+        return Ok(None);
+    };
+    let Some((second, third)) = split_word(later) else {
+        return match read_literal(alloc, later)? {
+            Some(second) => Ok(Some(Needles::Two(first, second))),
+            None => Ok(None),
+        };
+    };
+    let Some(second) = read_literal(alloc, second)? else {
+        return Ok(None);
+    };
+    match read_literal(alloc, third)? {
+        Some(third) => Ok(Some(Needles::Three(first, second, third))),
+        None => Ok(None),
+    }
+}
+
+/// The ranges that a word tells: none for `-`, and else those between its commas.
+pub fn read_ranges(alloc: Global, word: &str) -> Result<Option<Vec<(char, char)>>, AllocError>
+    ensures { IfOk result (λ found. IfSome found (λ ranges. TellsRanges word.now ranges.items)) }
+{
+    let mut ranges = Vec::new(alloc);
+    if word == "-" {
+        return Ok(Some(ranges));
+    }
+    for part in word.split(',') {
+        let Some(range) = read_range(part) else {
+            return Ok(None);
+        };
+        ranges.push(range)?;
+    }
+    Ok(Some(ranges))
+}
+
+fn read_range(word: &str) -> Option<(char, char)>
+    ensures { IfSome result (TellsRange word.now) }
+{
+    let (low, high) = word.split_once("..")?;
+    Some((read_char(low)?, read_char(high)?))
+}
+
+// The character whose number decimal digits write.
+fn read_char(word: &str) -> Option<char>
+    ensures { SomeIff result (IsNumeral 10 word.now × IsScalar (digits_value 10 word.now)) (digits_value 10 word.now) }
+{
+    let number = read_number(word)?;
+    char::from_u32(u32::try_from(number).ok()?)
+}
