@@ -1,5 +1,5 @@
 -- Rows of lines: one more line.
-use Rattle.std.proofs.Common.{ℕ, List, [], ◌∷◌, ◌++◌, ap}
+use Rattle.std.proofs.Common.{◌≡◌, ℕ, List, [], ◌∷◌, ◌++◌, length, ap, arith, refl}
 use Rattle.winnow_read.specs.Newline.{first_line, rest_lines}
 use Rattle.winnow_read.specs.Lines.{AreLines}
 
@@ -9,3 +9,8 @@ pub AreLines-push : {T : Type 0} (Tells : List ℕ → T → Type 0) (text : Lis
 AreLines-push Tells text [] rest item e told = (rw e told, ap rest_lines e)
 AreLines-push Tells text (x ∷ items) rest item lines told =
     (lines.0, AreLines-push Tells (rest_lines text) items rest item lines.1 told)
+
+-- a text of no bytes
+pub empty_of_length : (text : List ℕ) → length text ≡ 0 → text ≡ []
+empty_of_length [] e = refl
+empty_of_length (x ∷ xs) e = absurd (omega (arith, e))

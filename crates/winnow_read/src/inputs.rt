@@ -1,4 +1,4 @@
-ghost use Rattle.std.specs.Prelude.{◌≡◌, ◌<◌, ◌≤◌, [], ◌∷◌, codes, IfErr, IfOk, OnOk, length};
+ghost use Rattle.std.specs.Prelude.{◌≡◌, ◌<◌, ◌≤◌, [], ◌∷◌, codes, IfErr, IfOk, IfSome, OnOk, length};
 ghost use Rattle.winnow_read.specs.Fault.{IsWithin};
 ghost use Rattle.winnow_read.specs.Inputs.{kind_word, TellsNamed};
 ghost use Rattle.winnow_read.specs.Lines.{reach, AreLines};
@@ -27,12 +27,21 @@ pub fn read_kind(lines: &mut Lines) -> Result<Kind, ScriptFault>
     ensures err { IfErr result (IsWithin (reach lines.old)) }
 {
     let fault = lines.fault();
-    match lines.next_line() {
-        Some("bytes") => Ok(Kind::Bytes),
-        Some("text") => Ok(Kind::Text),
-        Some("byte-pieces") => Ok(Kind::BytePieces),
-        Some("text-pieces") => Ok(Kind::TextPieces),
-        _ => Err(fault),
+    let Some(line) = lines.next_line() else {
+        return Err(fault);
+    };
+    kind_of(line).ok_or(fault)
+}
+
+fn kind_of(word: &str) -> Option<Kind>
+    ensures { IfSome result (λ kind. word.now ≡ kind_word kind) }
+{
+    match word {
+        "bytes" => Some(Kind::Bytes),
+        "text" => Some(Kind::Text),
+        "byte-pieces" => Some(Kind::BytePieces),
+        "text-pieces" => Some(Kind::TextPieces),
+        _ => None,
     }
 }
 

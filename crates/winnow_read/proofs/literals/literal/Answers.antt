@@ -1,4 +1,4 @@
-use Rattle.std.proofs.Common.{Decides, ◌≡◌, inl, inr, sym, ◌∙◌, refl, arith, false, length, eqb}
+use Rattle.std.proofs.Common.{rules, Decides, ◌≡◌, inl, inr, sym, ◌∙◌, refl, arith, false, length, eqb}
 use Rattle.std.proofs.lemmas.Result.{IfOk-at_ok}
 use Rattle.std.proofs.lemmas.Bool.{eqb-false}
 use Rattle.std.proofs.lemmas.Slice.Eq.{slice_eq-Decides}
@@ -37,3 +37,12 @@ returns-in_default c =
       );
       bytes = tt;
     }
+
+pub returns-then-is_empty-clause-found : goal.returns-then-is_empty-clause-found
+returns-then-is_empty-clause-found c = search rules
+
+pub returns-then-eq : goal.returns-then-eq
+returns-then-eq c =
+    let is_dash : Decides c.eq.result (c.args.word.now ≡ c.as_slice.result.now) = slice_eq-Decides Decides-eqb _ _ _ c.eq.ensures in
+    let dash = is_dash.0 c.if-eq.true ∙ c.as_slice.ensures in
+    record { found = (λ _. inl dash, λ _. refl); bytes = inl (dash, c.new.ensures.items) }
