@@ -1,3 +1,4 @@
+pub mod FedLemmas
 pub mod LineLemmas
 pub mod OptionLemmas
 pub mod ZipLemmas

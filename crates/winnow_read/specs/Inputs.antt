@@ -1,7 +1,9 @@
 -- The lines of the kind and of the input.
-use Rattle.std.specs.Prelude.{◌≡◌, ℕ, List, codes}
+use Rattle.std.specs.Prelude.{◌≡◌, ℕ, List, [], ◌∷◌, codes, ⊤}
 use Rattle.winnow_read.specs.Literal.{TellsBytes}
 use Rattle.winnow_read.specs.Words.{first_word, later_words}
+use Rattle.winnow_read.specs.declared.fed_lines.FedLine.{FedLine}
+use Rattle.winnow_read.specs.declared.fed_lines.FedLine.TheVariants.{Piece, Waits}
 use Rattle.winnow_read.specs.declared.inputs.Kind.{Kind}
 use Rattle.winnow_read.specs.declared.inputs.Kind.TheVariants.{Bytes, Text, BytePieces, TextPieces}
 
@@ -15,3 +17,14 @@ kind_word TextPieces = codes "text-pieces"
 -- the bytes that a line of this name tells: the name, a space, and the word of the bytes
 abbrev pub TellsNamed : {L : Type 0} → (L → List ℕ) → List ℕ → List ℕ → L → Type 0
 TellsNamed bytes name line literal = (first_word line ≡ name) × TellsBytes (later_words line) (bytes literal)
+
+-- a line of a kind of pieces tells this: a piece, or the word by which it asks what is waited for
+module _ {L : Type 0} (bytes : L → List ℕ) where
+  abbrev pub TellsFed : List ℕ → FedLine L → Type 0
+  TellsFed line (Piece piece) = TellsNamed bytes (codes "piece") line piece
+  TellsFed line Waits = line ≡ codes "waits"
+
+-- nothing is asked before a piece
+abbrev pub BeginsWithPiece : {L : Type 0} → List (FedLine L) → Type 0
+BeginsWithPiece (Waits ∷ lines) = ⊥
+BeginsWithPiece _ = ⊤

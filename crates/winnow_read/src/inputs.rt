@@ -71,8 +71,12 @@ pub fn read_pieces<L: Contents>(alloc: Global, lines: &mut Lines) -> Result<Vec<
     Ok(pieces)
 }
 
-// What the next line tells, which has to be this word, a space and a literal.
-fn read_line<L: Contents>(alloc: Global, lines: &mut Lines, name: &str) -> Result<L, ScriptFault>
+/// What the next line tells, which has to be this word, a space and a literal.
+pub fn read_line<L: Contents>(
+    alloc: Global,
+    lines: &mut Lines,
+    name: &str,
+) -> Result<L, ScriptFault>
     ensures told { IfOk result (TellsNamed L.bytes name.now (first_line lines.old.rest.now)) }
     ensures rest { lines.new.rest.now ≡ rest_lines lines.old.rest.now }
     ensures shorter { OnOk result (length lines.new.rest.now < length lines.old.rest.now) }

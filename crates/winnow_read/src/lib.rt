@@ -6,6 +6,7 @@
 
 mod contents;
 mod fault;
+mod fed_lines;
 mod inputs;
 mod lending;
 mod lines;
@@ -15,6 +16,7 @@ mod words;
 
 pub use contents::{Contents, Lend};
 pub use fault::ScriptFault;
+pub use fed_lines::{FedLine, read_fed_lines};
 pub use inputs::{Kind, read_input, read_kind, read_pieces};
 pub use lending::{lend_all, lend_steps};
 pub use lines::Lines;

@@ -1,0 +1,14 @@
+use Rattle.std.proofs.Common.{◌≤◌, length}
+use Rattle.winnow_read.specs.Inputs.{TellsFed, BeginsWithPiece}
+use Rattle.winnow_read.specs.Lines.{reach, AreLines}
+use Rattle.winnow_read.proofs.fed_lines.read_fed_lines.Given as goal
+
+abbrev pub invariant-loop-alloc : goal.invariant-loop-alloc
+invariant-loop-alloc g l = record {
+  told : AreLines (TellsFed g.L.Contents.bytes) l.fn.lines.rest.now l.told.items l.lines.rest.now;
+  first : BeginsWithPiece l.told.items;
+  reach : reach l.lines ≤ reach l.fn.lines;
+}
+
+abbrev pub decreases-loop-alloc : goal.decreases-loop-alloc
+decreases-loop-alloc g l = length l.lines.rest.now

@@ -1,0 +1,57 @@
+ghost use Rattle.std.specs.Prelude.{◌≡◌, ◌≢◌, ◌<◌, ◌≤◌, [], IfErr, IfOk, IsTrue, OnOk, length};
+ghost use Rattle.winnow_read.specs.Fault.{IsWithin};
+ghost use Rattle.winnow_read.specs.Inputs.{TellsFed, BeginsWithPiece};
+ghost use Rattle.winnow_read.specs.Lines.{reach, AreLines};
+ghost use Rattle.winnow_read.specs.Newline.{first_line, rest_lines};
+ghost use Rattle.winnow_read.specs.declared.fed_lines.FedLine.TheVariants.{Waits};
+
+use crate::ScriptFault;
+use crate::contents::Contents;
+use crate::inputs::read_line;
+use crate::lines::Lines;
+use std::alloc::Global;
+
+/// A line of a kind of pieces: a piece, or the word by which it asks what is waited for.
+#[derive(Drop)]
+pub enum FedLine<L> {
+    Piece(L),
+    Waits,
+}
+
+/// What the lines to the end tell: pieces, one each, and behind the first of them also lines that ask what is waited for.
+pub fn read_fed_lines<L: Contents>(
+    alloc: Global,
+    lines: &mut Lines,
+) -> Result<Vec<FedLine<L>>, ScriptFault>
+    ensures told { IfOk result (λ told. AreLines (TellsFed L.bytes) lines.old.rest.now told.items []) }
+    ensures first { IfOk result (λ told. BeginsWithPiece told.items) }
+    ensures err { IfErr result (IsWithin (reach lines.old)) }
+{
+    let mut told = Vec::new(alloc);
+    while !lines.is_empty() {
+        let line = read_fed_line(alloc, lines, told.is_empty())?;
+        told.push(line)?;
+    }
+    Ok(told)
+}
+
+// What the next line tells, which asks nothing where it is the first.
+fn read_fed_line<L: Contents>(
+    alloc: Global,
+    lines: &mut Lines,
+    is_first: bool,
+) -> Result<FedLine<L>, ScriptFault>
+    ensures told { IfOk result (TellsFed L.bytes (first_line lines.old.rest.now)) }
+    ensures first { IsTrue is_first → IfOk result (λ line. line ≢ Waits) }
+    ensures rest { OnOk result (lines.new.rest.now ≡ rest_lines lines.old.rest.now) }
+    ensures shorter { OnOk result (length lines.new.rest.now < length lines.old.rest.now) }
+    ensures reach { reach lines.new ≤ reach lines.old }
+    ensures err { IfErr result (IsWithin (reach lines.old)) }
+{
+    let mut ahead = *lines;
+    if !is_first && ahead.next_line() == Some("waits") {
+        *lines = ahead;
+        return Ok(FedLine::Waits);
+    }
+    Ok(FedLine::Piece(read_line(alloc, lines, "piece")?))
+}
