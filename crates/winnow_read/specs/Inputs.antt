@@ -1,5 +1,5 @@
 -- The lines of the kind and of the input.
-use Rattle.std.specs.Prelude.{◌≡◌, ℕ, List, [], ◌∷◌, codes, ⊤}
+use Rattle.std.specs.Prelude.{◌≡◌, ℕ, List, ◌∷◌, codes, ⊤}
 use Rattle.winnow_read.specs.Literal.{TellsBytes}
 use Rattle.winnow_read.specs.Words.{first_word, later_words}
 use Rattle.winnow_read.specs.declared.fed_lines.FedLine.{FedLine}
