@@ -2,15 +2,16 @@ ghost use Rattle.std.specs.Prelude.{◌+◌, IfErr, length};
 ghost use Rattle.winnow_read.specs.Fault.{IsWithin};
 ghost use Rattle.winnow_read.specs.Lines.{reach};
 
-use crate::printing::{PushWords, push_answer, push_told};
+use crate::printing::{PushWords, push_answer};
+use crate::report::Report;
 use std::alloc::{AllocError, Global};
 use winnow_base::stream::{
-    AsChar, CharSet, Compare, FindSlice, Finished, Needles, SearchStep, Stream, run_pieces,
-    run_pieces_text, run_search,
+    AsChar, ByteFeed, CharSet, Compare, FindSlice, Needles, SearchStep, Stream, TextFeed,
+    run_search,
 };
 use winnow_read::{
-    Kind, Lines, ScriptFault, ScriptStep, lend_all, lend_steps, read_input, read_kind, read_pieces,
-    read_steps,
+    FedLine, Kind, Lines, ScriptFault, ScriptStep, lend_steps, read_fed_lines, read_input,
+    read_kind, read_steps,
 };
 
 /// Runs the script of these lines, and gives its answers as lines.
@@ -51,22 +52,56 @@ fn execute_byte_pieces(alloc: Global, lines: &mut Lines) -> Result<String, Scrip
     ensures { IfErr result (IsWithin (reach lines.old)) }
 {
     let steps: Vec<ScriptStep<'_, Vec<u8>>> = read_steps(alloc, lines)?;
-    let pieces: Vec<Vec<u8>> = read_pieces(alloc, lines)?;
+    let fed: Vec<FedLine<Vec<u8>>> = read_fed_lines(alloc, lines)?;
     let steps = lend_steps(alloc, &steps)?;
-    let pieces = lend_all(alloc, &pieces)?;
-    let finished = run_pieces(alloc, &steps, &pieces)?;
-    Ok(told_lines(alloc, &finished)?)
+    let mut feed = ByteFeed::new(alloc, &steps)?;
+    let mut report = Report::new(alloc);
+    for line in &fed {
+        match line {
+            FedLine::Piece(piece) => {
+                // The pieces are no longer than the lines that told them, and so this never is.
+                if piece.len() > usize::MAX - feed.fed() {
+                    return Err(ScriptFault::OutOfMemory);
+                }
+                feed.feed(piece)?;
+                report.count_piece();
+            }
+            FedLine::Waits => {
+                report.push_answers(feed.answers())?;
+                report.push_waiting(&feed.waits_for()?)?;
+            }
+        }
+    }
+    report.push_answers(feed.end().answers())?;
+    Ok(report.into_text())
 }
 
 fn execute_text_pieces(alloc: Global, lines: &mut Lines) -> Result<String, ScriptFault>
     ensures { IfErr result (IsWithin (reach lines.old)) }
 {
     let steps: Vec<ScriptStep<'_, String>> = read_steps(alloc, lines)?;
-    let pieces: Vec<String> = read_pieces(alloc, lines)?;
+    let fed: Vec<FedLine<String>> = read_fed_lines(alloc, lines)?;
     let steps = lend_steps(alloc, &steps)?;
-    let pieces = lend_all(alloc, &pieces)?;
-    let finished = run_pieces_text(alloc, &steps, &pieces)?;
-    Ok(told_lines(alloc, &finished)?)
+    let mut feed = TextFeed::new(alloc, &steps)?;
+    let mut report = Report::new(alloc);
+    for line in &fed {
+        match line {
+            FedLine::Piece(piece) => {
+                // The pieces are no longer than the lines that told them, and so this never is.
+                if piece.len() > usize::MAX - feed.fed() {
+                    return Err(ScriptFault::OutOfMemory);
+                }
+                feed.feed(piece)?;
+                report.count_piece();
+            }
+            FedLine::Waits => {
+                report.push_answers(feed.answers())?;
+                report.push_waiting(&feed.waits_for()?)?;
+            }
+        }
+    }
+    report.push_answers(feed.end().answers())?;
+    Ok(report.into_text())
 }
 
 // Runs steps on any stream whose tokens stand for characters, and whose slices can be told.
@@ -84,17 +119,6 @@ where
     let mut text = String::new(alloc);
     for answer in &answers {
         push_answer(&mut text, answer)?;
-    }
-    Ok(text)
-}
-
-fn told_lines<T: AsChar + Copy>(
-    alloc: Global,
-    finished: &Finished<T>,
-) -> Result<String, AllocError> {
-    let mut text = String::new(alloc);
-    for told in finished.answers() {
-        push_told(&mut text, told)?;
     }
     Ok(text)
 }

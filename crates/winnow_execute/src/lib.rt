@@ -7,6 +7,7 @@
 
 mod execution;
 mod printing;
+mod report;
 
 pub use execution::execute;
 pub use winnow_read::{ScriptFault, literal};

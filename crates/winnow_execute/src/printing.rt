@@ -22,6 +22,18 @@ impl PushWords for &str {
     }
 }
 
+impl PushWords for Vec<u8> {
+    fn push_words(&self, text: &mut String) -> Result<(), AllocError> {
+        self.as_slice().push_words(text)
+    }
+}
+
+impl PushWords for String {
+    fn push_words(&self, text: &mut String) -> Result<(), AllocError> {
+        self.as_str().push_words(text)
+    }
+}
+
 impl<T: AsChar + Copy> PushWords for Vec<(usize, T)> {
     fn push_words(&self, text: &mut String) -> Result<(), AllocError> {
         for (offset, token) in self {

@@ -155,6 +155,30 @@ fn steps_on_pieces(rt: HostRuntime) -> Result<(), Fail> {
 }
 
 #[test]
+fn what_is_waited_for(rt: HostRuntime) -> Result<(), Fail> {
+    answers_are(
+        &rt,
+        &[
+            (
+                "a letter, and a needle of which a part is there",
+                "byte-pieces\nfind 616263 62\nat 9\npiece 6162\nwaits\npiece 78\nwaits\n",
+                "1 waits 63\n2 find 1..2\n2 waits 61\nend at needs 6\n",
+            ),
+            (
+                "a set that holds no byte",
+                "byte-pieces\nfirst 256..300\npiece 61\nwaits\n",
+                "1 waits end\nend first none\n",
+            ),
+            (
+                "no step that waits",
+                "text-pieces\nat 3\npiece c3a9\nwaits\npiece 6161\nwaits\n",
+                "1 waits 6161\n2 at 4\n2 waits none\n",
+            ),
+        ],
+    )
+}
+
+#[test]
 fn forms_of_lines(rt: HostRuntime) -> Result<(), Fail> {
     answers_are(
         &rt,

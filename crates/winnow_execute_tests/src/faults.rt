@@ -126,7 +126,21 @@ fn lines_of_pieces(rt: HostRuntime) -> Result<(), Fail> {
                 b"text-pieces\nnext\npiece 61\npiece c3\npiece a9\n",
                 4,
             ),
-            ("waiting", b"byte-pieces\nnext\npiece 61\nwaits\n", 4),
+            (
+                "a question before a piece",
+                b"byte-pieces\nnext\nwaits\npiece 61\n",
+                3,
+            ),
+            (
+                "a question of a whole kind",
+                b"bytes\nnext\nwaits\ninput 61\n",
+                3,
+            ),
+            (
+                "a question with a word",
+                b"byte-pieces\npiece 61\nwaits 1\n",
+                3,
+            ),
         ],
     )
 }
