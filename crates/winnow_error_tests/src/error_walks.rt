@@ -1,6 +1,7 @@
 ghost use Rattle.std.specs.Prelude.{◌≡◌, IfOk, IsOk, OnErr, IfErr};
 
 use std::alloc::{AllocError, Global};
+use winnow_context::StrContext;
 use winnow_error::{
     AddContext, AssociativeOr, ErrorConvert, FromExternalError, FromRecoverableError, ModalError,
     ParserError,
@@ -92,6 +93,22 @@ pub fn blame<I, X, E: FromExternalError<I, X>>(alloc: Global, input: &I, cause: 
     ensures { E.from_external_gives input.now cause result }
 {
     E::from_external_error(alloc, input, cause)
+}
+
+/// The last of three alternatives: an error of another's, told of a context elsewhere, from which a parser then recovered.
+pub fn tell_last<I: Stream, E>(alloc: Global, input: &I, elsewhere: &I) -> Result<E, AllocError>
+where
+    E: AssociativeOr<I> + AddContext<I, StrContext> + FromExternalError<I, String>,
+    E: FromRecoverableError<I, E>,
+    requires input { I.valid input.now }
+    requires elsewhere { I.valid elsewhere.now }
+{
+    let cause = String::from_str(alloc, "bad digit")?;
+    let error: E = blame(alloc, input, cause);
+    let told = in_context(alloc, error, elsewhere, StrContext::Label("number"))?;
+    let last = recover_at(input, told);
+    let (first, second) = (E::from_input(alloc, input), E::from_input(alloc, elsewhere));
+    Ok(join_three(alloc, first, second, last))
 }
 
 /// The same error as another type.

@@ -3,3 +3,4 @@ mod alternatives;
 mod contexts;
 mod error_traits;
 mod modes;
+mod printing;

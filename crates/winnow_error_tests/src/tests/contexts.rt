@@ -1,10 +1,11 @@
+use super::printing::{debugs, prints};
 use crate::error_walks::blame;
 use std::alloc::{AllocError, Global};
+use std::process::Abort;
 use std::test::Fail;
 use winnow_context::StrContext::{Expected, Label};
 use winnow_context::StrContextValue::{CharLiteral, Description, StringLiteral};
-use winnow_context::{ContextError, StrContext};
-use winnow_test_helpers::{debugged, shown};
+use winnow_context::{ContextError, StrContext, StrContextValue};
 
 type Told = ContextError<StrContext>;
 
@@ -25,20 +26,24 @@ fn three_lines(rt: HostRuntime) -> Result<(), Fail> {
         Expected(Description("a digit")),
         Label("two"),
     ])?;
-    assert_eq!(rt;
-        shown(rt.alloc(), &error)?.as_str(),
-        "invalid number\nexpected newline, `x`, '`', `\\u{7f}`, a digit\nbad"
-    );
+    prints(
+        &rt,
+        rt.alloc(),
+        &error,
+        "invalid number\nexpected newline, `x`, '`', `\\u{7f}`, a digit\nbad",
+    )?;
     Ok(())
 }
 
-// The text of an error with a label, an expectation and a cause, where each is wanted.
-fn explained(
+// Asserts the text of an error with a label, an expectation and a cause, where each is wanted.
+fn explains(
+    rt: &impl Abort,
     alloc: Global,
     is_labelled: bool,
     is_expected: bool,
     cause: Option<&str>,
-) -> Result<String, AllocError> {
+    wanted: &str,
+) -> Result<(), AllocError> {
     let mut error = match cause {
         Some(cause) => caused_by(alloc, cause)?,
         None => Told::new(alloc),
@@ -49,7 +54,7 @@ fn explained(
     if is_labelled {
         error.push(Label("number"))?;
     }
-    shown(alloc, &error)
+    prints(rt, alloc, &error, wanted)
 }
 
 #[test]
@@ -63,32 +68,29 @@ fn the_lines_that_are_there(rt: HostRuntime) -> Result<(), Fail> {
         (true, false, Some("bad"), "invalid number\nbad"),
         (false, true, Some("bad"), "expected a digit\nbad"),
     ] {
-        let text = explained(rt.alloc(), is_labelled, is_expected, cause)?;
-        assert_eq!(rt; text.as_str(), wanted);
+        explains(&rt, rt.alloc(), is_labelled, is_expected, cause, wanted)?;
     }
     Ok(())
 }
 
+const VALUES: [(StrContextValue, &str); 8] = [
+    (CharLiteral('a'), "`a`"),
+    (CharLiteral('\0'), "`\\0`"),
+    (CharLiteral('\t'), "`\\t`"),
+    (CharLiteral('\r'), "`\\r`"),
+    (CharLiteral('\u{1b}'), "`\\u{1b}`"),
+    (CharLiteral('é'), "`é`"),
+    (StringLiteral("`"), "```"),
+    (Description("`"), "`"),
+];
+
 #[test]
 fn contexts_and_values_alone(rt: HostRuntime) -> Result<(), Fail> {
-    let cases = [
-        (CharLiteral('a'), "`a`"),
-        (CharLiteral('\0'), "`\\0`"),
-        (CharLiteral('\t'), "`\\t`"),
-        (CharLiteral('\r'), "`\\r`"),
-        (CharLiteral('\u{1b}'), "`\\u{1b}`"),
-        (CharLiteral('é'), "`é`"),
-        (StringLiteral("`"), "```"),
-        (Description("`"), "`"),
-    ];
-    for (value, text) in cases {
-        assert_eq!(rt; shown(rt.alloc(), &value)?.as_str(), text);
+    for (value, text) in &VALUES {
+        prints(&rt, rt.alloc(), value, text)?;
     }
-    assert_eq!(rt; shown(rt.alloc(), &Label("x"))?.as_str(), "invalid x");
-    assert_eq!(rt;
-        shown(rt.alloc(), &Expected('x'.into()))?.as_str(),
-        "expected `x`"
-    );
+    prints(&rt, rt.alloc(), &Label("x"), "invalid x")?;
+    prints(&rt, rt.alloc(), &Expected('x'.into()), "expected `x`")?;
     Ok(())
 }
 
@@ -100,30 +102,52 @@ fn told_thrice(alloc: Global) -> Result<Told, AllocError> {
     Ok(error)
 }
 
+// The cause, the number of contexts, and the first of them.
+fn told(error: &Told) -> (Option<&str>, usize, Option<&StrContext>) {
+    (
+        error.cause(),
+        error.context().count(),
+        error.context().next(),
+    )
+}
+
 #[test]
 fn contexts_are_kept_in_order(rt: HostRuntime) -> Result<(), Fail> {
     let error = told_thrice(rt.alloc())?;
-    assert_eq!(rt; error.cause(), Some("bad"));
-    assert_eq!(rt; error.context().count(), 3);
-    assert_eq!(rt; error.context().next(), Some(&Label("a")));
-    assert_eq!(rt;
-        debugged(rt.alloc(), &error)?.as_str(),
-        "ContextError { context: [Label(\"a\"), Label(\"b\"), Expected(CharLiteral('c'))], cause: Some(\"bad\") }"
-    );
+    assert_eq!(rt; told(&error), (Some("bad"), 3, Some(&Label("a"))));
+    debugs(
+        &rt,
+        rt.alloc(),
+        &error,
+        "ContextError { context: [Label(\"a\"), Label(\"b\"), Expected(CharLiteral('c'))], cause: Some(\"bad\") }",
+    )?;
     Ok(())
+}
+
+// Whether a clone is equal, whether it is so once the error is told more, and whether it is one that tells nothing.
+fn compared(alloc: Global) -> Result<[bool; 3], AllocError> {
+    let mut error = told_thrice(alloc)?;
+    let copy = error.clone()?;
+    let is_same = copy == error;
+    error.push(Label("d"))?;
+    Ok([is_same, copy == error, copy == Told::new(alloc)])
 }
 
 #[test]
 fn a_clone_stays_as_it_was(rt: HostRuntime) -> Result<(), Fail> {
-    let (mut error, none) = (told_thrice(rt.alloc())?, Told::new(rt.alloc()));
-    let copy = error.clone()?;
-    assert!(rt; copy == error && copy != none);
-    error.push(Label("d"))?;
-    assert!(rt; copy != error);
-    assert_eq!(rt; none.cause(), None);
-    assert_eq!(rt;
-        debugged(rt.alloc(), &none.context())?.as_str(),
-        "ContextItems { rest: [] }"
-    );
+    assert_eq!(rt; compared(rt.alloc())?, [true, false, false]);
+    Ok(())
+}
+
+#[test]
+fn an_error_that_tells_nothing(rt: HostRuntime) -> Result<(), Fail> {
+    let none = Told::new(rt.alloc());
+    assert_eq!(rt; told(&none), (None, 0, None));
+    debugs(
+        &rt,
+        rt.alloc(),
+        &none.context(),
+        "ContextItems { rest: [] }",
+    )?;
     Ok(())
 }

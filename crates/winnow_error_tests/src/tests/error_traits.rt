@@ -3,19 +3,23 @@ use crate::error_members::{
     err_mode_convert_law, err_mode_law, error_text_law, input_error_law,
 };
 use crate::error_walks::{
-    blame, convert_to, cut_and_back, fail_twice, in_context, join_three, kinds, or_three,
-    recover_at,
+    convert_to, cut_and_back, fail_twice, in_context, join_three, kinds, or_three, recover_at,
+    tell_last,
 };
 use crate::own_errors::{Furthest, Labelled};
 use std::alloc::{AllocError, Global};
+use std::fmt::Debug;
+use std::process::Abort;
 use std::test::Fail;
 use winnow_context::StrContext::Label;
 use winnow_context::{ContextError, StrContext};
 use winnow_error::ErrMode::{Backtrack, Cut, Incomplete};
 use winnow_error::{
-    AddContext, EmptyError, ErrMode, FromExternalError, InputError, bracket_law, mode_law, or_law,
+    AddContext, AssociativeOr, EmptyError, ErrMode, FromExternalError, FromRecoverableError,
+    InputError, bracket_law, mode_law, or_law,
 };
-use winnow_stream::Needed;
+use winnow_stream::{Needed, Stream};
+use winnow_test_helpers::debugged;
 
 type Bytes<'i> = &'i [u8];
 
@@ -27,58 +31,89 @@ const PLAIN: [(bool, bool); 3] = [(true, false), (true, false), (true, false)];
 
 const MODAL: [(bool, bool); 3] = [(true, false), (false, false), (false, true)];
 
-#[test]
-fn errors_are_made_in_three_ways(rt: HostRuntime) {
-    let alloc = rt.alloc();
-    let bytes: Bytes = b"12x";
-    assert_eq!(rt; kinds::<Bytes, InputError<Bytes>>(alloc, &bytes), PLAIN);
-    assert_eq!(rt; kinds::<Text, EmptyError>(alloc, &"12x"), PLAIN);
-    assert_eq!(rt; kinds::<Bytes, ()>(alloc, &bytes), PLAIN);
-    assert_eq!(rt; kinds::<Bytes, Told>(alloc, &bytes), PLAIN);
+// Asserts what generic code makes of an error type: how errors are made in three ways, the inner error of two alternatives, and
+// what the last of three alternatives is, which was another's error, was told a context elsewhere, and was recovered from.
+fn makes<I: Stream + Copy, E>(
+    rt: &impl Abort,
+    alloc: Global,
+    input: I,
+    elsewhere: I,
+    kinds_wanted: [(bool, bool); 3],
+    wanted: (&str, &str),
+) -> Result<(), AllocError>
+where
+    E: AssociativeOr<I> + AddContext<I, StrContext> + FromExternalError<I, String>,
+    E: FromRecoverableError<I, E> + Debug + Drop,
+    E::Inner: Debug + Drop,
+    requires input { I.valid input }
+    requires elsewhere { I.valid elsewhere }
+{
+    let made = kinds::<I, E>(alloc, &input);
+    let inner = debugged(alloc, &fail_twice::<I, E>(alloc, &input)?)?;
+    let last = debugged(alloc, &tell_last::<I, E>(alloc, &input, &elsewhere)?)?;
     assert_eq!(rt;
-        kinds::<Text, ErrMode<InputError<Text>>>(alloc, &"12x"),
-        MODAL
+        (made, (inner.as_str(), last.as_str())),
+        (kinds_wanted, wanted)
     );
-    assert_eq!(rt; kinds::<Bytes, ErrMode<Told>>(alloc, &bytes), MODAL);
-}
-
-#[test]
-fn two_alternatives_fail_where_the_input_stands(rt: HostRuntime) -> Result<(), Fail> {
-    let alloc = rt.alloc();
-    let bytes: Bytes = b"12x";
-    let at_bytes = Some(InputError { input: bytes });
-    assert_eq!(rt;
-        fail_twice::<Bytes, InputError<Bytes>>(alloc, &bytes)?,
-        at_bytes
-    );
-    assert_eq!(rt;
-        fail_twice::<Bytes, ErrMode<InputError<Bytes>>>(alloc, &bytes)?,
-        at_bytes
-    );
-    assert_eq!(rt;
-        fail_twice::<Text, EmptyError>(alloc, &"12x")?,
-        Some(EmptyError)
-    );
-    assert_eq!(rt; fail_twice::<Text, ErrMode<()>>(alloc, &"12x")?, Some(()));
-    assert!(rt; fail_twice::<Text, Told>(alloc, &"12x")? == Some(Told::new(alloc)));
     Ok(())
 }
 
 #[test]
-fn an_associative_or_joins_three(rt: HostRuntime) -> Result<(), Fail> {
+fn errors_are_made_joined_and_told(rt: HostRuntime) -> Result<(), Fail> {
     let alloc = rt.alloc();
-    let (a, b, c) = (
-        InputError::at("a"),
-        InputError::at("b"),
-        InputError::at("c"),
-    );
-    let last = join_three::<Text, _>(alloc, a, b, c);
-    assert_eq!(rt; last.input, "c");
-    let EmptyError = or_three::<Text, _>(alloc, EmptyError, EmptyError, EmptyError)?;
-    or_three::<Text, ()>(alloc, (), (), ())?;
-    let bad = blame::<Text, String, Told>(alloc, &"12x", String::from_str(alloc, "bad")?);
-    let last = join_three::<Text, Told>(alloc, Told::new(alloc), Told::new(alloc), bad);
-    assert_eq!(rt; last.cause(), Some("bad"));
+    makes::<Text, EmptyError>(
+        &rt,
+        alloc,
+        "12x",
+        "",
+        PLAIN,
+        ("Some(EmptyError)", "EmptyError"),
+    )?;
+    makes::<Text, ()>(&rt, alloc, "12x", "", PLAIN, ("Some(())", "()"))?;
+    makes::<Bytes, InputError<Bytes>>(
+        &rt,
+        alloc,
+        b"1",
+        b"",
+        PLAIN,
+        (
+            "Some(InputError { input: [49] })",
+            "InputError { input: [49] }",
+        ),
+    )?;
+    makes::<Text, ErrMode<InputError<Text>>>(
+        &rt,
+        alloc,
+        "12x",
+        "",
+        MODAL,
+        (
+            "Some(InputError { input: \"12x\" })",
+            "Backtrack(InputError { input: \"12x\" })",
+        ),
+    )?;
+    makes::<Text, Told>(
+        &rt,
+        alloc,
+        "12x",
+        "",
+        PLAIN,
+        (
+            "Some(ContextError { context: [], cause: None })",
+            "ContextError { context: [Label(\"number\")], cause: Some(\"bad digit\") }",
+        ),
+    )?;
+    makes::<Text, ErrMode<Told>>(
+        &rt,
+        alloc,
+        "12x",
+        "",
+        MODAL,
+        (
+            "Some(ContextError { context: [], cause: None })",
+            "Backtrack(ContextError { context: [Label(\"number\")], cause: Some(\"bad digit\") })",
+        ),
+    )?;
     Ok(())
 }
 
@@ -86,69 +121,37 @@ fn an_associative_or_joins_three(rt: HostRuntime) -> Result<(), Fail> {
 fn an_associative_or_of_ones_own_joins_three(rt: HostRuntime) -> Result<(), Fail> {
     let alloc = rt.alloc();
     let (one, four, two) = (Furthest(1), Furthest(4), Furthest(2));
-    assert_eq!(rt; or_three::<Bytes, _>(alloc, one, four, two)?.0, 4);
-    let cut = join_three::<Bytes, _>(alloc, Backtrack(one), Cut(two), Cut(four));
-    assert!(rt; matches!(&cut, Cut(Furthest(2))));
-    assert!(rt; matches!(&cut_and_back(Cut(four)), Backtrack(Furthest(4))));
-    Ok(())
-}
-
-// Whether the cause is the bad digit, and how many contexts are told, of an error that may be tried again.
-fn cause_and_contexts(error: &ErrMode<Told>) -> Option<(bool, usize)> {
-    match error {
-        Backtrack(error) => Some((error.cause() == Some("bad digit"), error.context().count())),
-        _ => None,
-    }
-}
-
-#[test]
-fn errors_are_told_more(rt: HostRuntime) -> Result<(), Fail> {
-    let alloc = rt.alloc();
-    let cause = String::from_str(alloc, "bad digit")?;
-    let error = blame::<Text, String, ErrMode<Told>>(alloc, &"12x", cause);
-    let error = in_context::<Text, StrContext, _>(alloc, error, &"12x", Label("number"))?;
-    assert_eq!(rt; cause_and_contexts(&error), Some((true, 1)));
-    let short: ErrMode<Told> = Incomplete(Needed::Unknown);
-    let short = in_context::<Text, StrContext, _>(alloc, short, &"12x", Label("number"))?;
-    assert!(rt; matches!(&short, Incomplete(Needed::Unknown)));
-    let told = in_context::<Text, StrContext, _>(alloc, Told::new(alloc), &"", Label("x"))?;
-    assert_eq!(rt; told.context().next(), Some(&Label("x")));
-    Ok(())
-}
-
-// An error of another's, told a context at another input.
-fn blamed_in_context<E>(alloc: Global) -> Result<E, AllocError>
-where
-    E: FromExternalError<Text<'static>, u8> + AddContext<Text<'static>, u8>,
-{
-    let error = blame::<Text, u8, E>(alloc, &"12x", 7);
-    in_context::<Text, u8, E>(alloc, error, &"", 7)
-}
-
-#[test]
-fn errors_without_contexts_stay(rt: HostRuntime) -> Result<(), Fail> {
-    let alloc = rt.alloc();
-    let plain: InputError<Text> = blamed_in_context(alloc)?;
-    assert_eq!(rt; plain.input, "12x");
-    let _empty: EmptyError = blamed_in_context(alloc)?;
-    blamed_in_context::<()>(alloc)?;
-    Ok(())
-}
-
-#[test]
-fn errors_are_recorded(rt: HostRuntime) {
-    let bytes: Bytes = b"12x";
-    let cut = Cut(InputError { input: bytes });
+    let last = or_three::<Bytes, Furthest>(alloc, one, four, two)?;
+    let cut = join_three::<Bytes, ErrMode<Furthest>>(alloc, Backtrack(one), Cut(two), Cut(four));
     assert_eq!(rt;
-        recover_at::<Bytes, _, ErrMode<InputError<Bytes>>>(&bytes, cut),
-        cut
+        [Backtrack(last), cut, cut_and_back(Cut(four))],
+        [Backtrack(four), Cut(two), Backtrack(four)]
     );
-    let at_text = recover_at::<Text, _, InputError<Text>>(&"12x", InputError { input: "x" });
-    assert_eq!(rt; at_text.input, "x");
-    let EmptyError = recover_at::<Text, _, EmptyError>(&"12x", EmptyError);
-    recover_at::<Text, _, ()>(&"12x", ());
-    let told = recover_at::<Text, _, Told>(&"12x", Told::new(rt.alloc()));
-    assert!(rt; told == Told::new(rt.alloc()));
+    Ok(())
+}
+
+#[test]
+fn modes_stay_when_told_or_recorded(rt: HostRuntime) -> Result<(), Fail> {
+    let more: ErrMode<EmptyError> = Incomplete(Needed::Unknown);
+    let told = in_context::<Text, StrContext, _>(rt.alloc(), more, &"12x", Label("number"))?;
+    let recorded = recover_at::<Text, _, ErrMode<EmptyError>>(&"12x", Cut(EmptyError));
+    assert_eq!(rt; [told, recorded], [more, Cut(EmptyError)]);
+    Ok(())
+}
+
+// Whether an error that becomes its own type stays.
+fn is_kept(alloc: Global) -> Result<bool, AllocError> {
+    Ok(convert_to::<Told, Told>(alloc, Told::new(alloc))? == Told::new(alloc))
+}
+
+// Whether an error that is cut is converted and stays cut, and whether one that may be tried again is then the same.
+fn converted(alloc: Global) -> Result<[bool; 2], AllocError> {
+    let mut wanted = Told::new(alloc);
+    wanted.push(Label("number"))?;
+    let wanted = Cut(wanted);
+    let cut = convert_to::<ErrMode<Told>, _>(alloc, Cut(Labelled("number")))?;
+    let again = Backtrack(Labelled("number")).convert::<Told>(alloc)?;
+    Ok([cut == wanted, again == wanted])
 }
 
 #[test]
@@ -156,12 +159,8 @@ fn errors_are_converted(rt: HostRuntime) -> Result<(), Fail> {
     let alloc = rt.alloc();
     convert_to::<(), ()>(alloc, ())?;
     let EmptyError = convert_to::<EmptyError, _>(alloc, EmptyError)?;
-    assert!(rt; convert_to::<Told, Told>(alloc, Told::new(alloc))? == Told::new(alloc));
-    let told = convert_to::<ErrMode<Told>, _>(alloc, Cut(Labelled("number")))?;
-    let mut want = Told::new(alloc);
-    want.push(Label("number"))?;
-    assert!(rt; told == Cut(want));
-    assert!(rt; Backtrack(Labelled("x")).convert::<Told>(alloc)? != told);
+    let [cut, again] = converted(alloc)?;
+    assert_eq!(rt; [is_kept(alloc)?, cut, again], [true, true, false]);
     Ok(())
 }
 
