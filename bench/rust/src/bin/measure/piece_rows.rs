@@ -9,10 +9,16 @@ use winnow_bench::{our_feeds as ours, our_searches, their_feeds as theirs, their
 /// How long pieces are, and what part of the bytes that wait the Rust loop has time for.
 const CUTS: [(usize, &str, usize); 4] = [(64 << 10, "64 KB", 1), (1 << 10, "1 KB", 4), (16, "16 bytes", 32), (1, "1 byte", 128)];
 
+/// A piece that is longer than any input.
+const WHOLE: usize = usize::MAX;
+
 const STEPS: usize = 10_000;
 
-/// Needles that stand in no text, the last three of one length.
-const ABSENT: &str = "key:a-b:two-";
+/// Needles that stand in no text: one or three of 4 bytes, or three of 4, 5 and 6 bytes.
+const ABSENT: &str = "key:a-b:two-x:y";
+
+/// Needles of 4, 5 and 6 bytes that stand in no run of the letter `a`, and begin at each place of it.
+const BEGUN: &str = "aaabaaaabaaaaab";
 
 /// How wide a line of the long run is, how many a script goes through, and how long a piece is.
 const LINE: usize = 61;
@@ -31,8 +37,11 @@ pub struct Pieces {
     cuts: Vec<Vec<u64>>,
     /// Steps that wait to the end, by their names
     waiting: Vec<(&'static str, RawStep)>,
+    /// A run of the letter `a`, and the search of needles that begin at each place of it
+    begun: Vec<u8>,
+    find_begun: RawStep,
     at: [RawStep; 1],
-    compare: Vec<[RawStep; 1]>,
+    compare: Vec<RawStep>,
     /// Lines that begin again behind their end, the script of a thousand of them, and how many pieces there are
     lines: Vec<u8>,
     line_script: Vec<RawStep>,
@@ -55,10 +64,13 @@ impl Pieces {
             waiting: vec![
                 ("Find of one needle", first_needle(FIND[0])),
                 ("Find of three needles of one length", first_needle(FIND_AS_LONG[1])),
+                ("Find of three needles of different lengths", first_needle(FIND[2])),
                 ("First", RawStep::from(Step::First(0, 0))),
             ],
+            begun: vec![b'a'; waiting / 4],
+            find_begun: first_needle(FIND[2]),
             at: [RawStep::from(Step::At(usize::MAX))],
-            compare: CUTS.iter().map(|(_, _, part)| [RawStep::search(COMPARE, 0, waiting / part + 1)]).collect(),
+            compare: CUTS.iter().map(|(_, _, part)| RawStep::search(COMPARE, 0, waiting / part + 1)).collect(),
             ascii,
             mixed,
             literal,
@@ -99,18 +111,19 @@ pub fn piece_rows(pieces: &Pieces) -> Vec<Row<'_>> {
     for (number, (length, name, part)) in CUTS.iter().enumerate() {
         let ascii = front(&pieces.ascii, pieces.ascii.len() / part);
         for (step, raw) in &pieces.waiting {
-            let input = (ascii.as_bytes(), ABSENT.as_bytes(), std::slice::from_ref(raw));
-            let on = On { name: "bytes", input, units: ascii.len(), calls: 1 };
-            rows.push(on.row(&waits(step, ascii.len(), name), *length as u64, ours::feed_bytes, theirs::feed_bytes).fed());
+            rows.push(waiting_row(&waits(step, ascii.len(), name), ascii.as_bytes(), ABSENT, raw, *length));
         }
-        let input = (ascii.as_bytes(), pieces.literal.as_bytes(), pieces.compare[number].as_slice());
-        let on = On { name: "bytes", input, units: ascii.len(), calls: 1 };
-        rows.push(on.row(&waits("Compare of a literal as long", ascii.len(), name), *length as u64, ours::feed_bytes, theirs::feed_bytes).fed());
+        let compare = waits("Compare of a literal as long", ascii.len(), name);
+        rows.push(waiting_row(&compare, ascii.as_bytes(), &pieces.literal, &pieces.compare[number], *length));
         let mixed = front(&pieces.mixed, pieces.mixed.len() / part);
         let input = (mixed, "", pieces.at.as_slice(), pieces.cuts[number].as_slice());
         let on = On { name: "mixed text", input, units: mixed.len(), calls: 1 };
         rows.push(on.row(&waits("At", mixed.len(), name), 0, ours::feed_text, theirs::feed_text).fed());
     }
+    for (step, raw) in &pieces.waiting {
+        rows.push(waiting_row(&waits_whole(step, pieces.ascii.len()), pieces.ascii.as_bytes(), ABSENT, raw, WHOLE));
+    }
+    rows.extend(begun_rows(pieces));
     let input = (pieces.lines.as_slice(), b"\n".as_slice(), pieces.line_script.as_slice(), PIECE as u64);
     let on = On { name: "bytes", input, units: pieces.pieces * PIECE, calls: 1 };
     let name = format!("lines, {} in pieces of 64 KB, scripts of 1,000", size(pieces.pieces * PIECE));
@@ -132,8 +145,27 @@ fn script_rows(pieces: &Pieces) -> Vec<Row<'_>> {
     rows
 }
 
+// A search of needles that begin at each place and stand at none, over pieces and over the whole.
+fn begun_rows(pieces: &Pieces) -> [Row<'_>; 2] {
+    let step = "Find of three needles begun at each place";
+    let (length, name, _) = CUTS[1];
+    [(waits(step, pieces.begun.len(), name), length), (waits_whole(step, pieces.begun.len()), WHOLE)]
+        .map(|(name, piece)| waiting_row(&name, &pieces.begun, BEGUN, &pieces.find_begun, piece))
+}
+
+// A step over bytes that no piece of that length lets out.
+fn waiting_row<'p>(name: &str, input: &'p [u8], literals: &'p str, raw: &'p RawStep, piece: usize) -> Row<'p> {
+    let units = input.len();
+    let on = On { name: "bytes", input: (input, literals.as_bytes(), std::slice::from_ref(raw)), units, calls: 1 };
+    on.row(name, piece as u64, ours::feed_bytes, theirs::feed_bytes).fed()
+}
+
 fn waits(step: &str, length: usize, piece: &str) -> String {
     format!("{step} that waits, {} in pieces of {piece}", size(length))
+}
+
+fn waits_whole(step: &str, length: usize) -> String {
+    format!("{step} that waits, {} whole", size(length))
 }
 
 fn size(bytes: usize) -> String {
