@@ -51,7 +51,7 @@ fn borrowed(alloc: Global) -> Result<Vec<&'static str>, AllocError> {
 
 fn owned(alloc: Global) -> Result<Vec<String>, AllocError> {
     let mut texts = Vec::new(alloc);
-    for text in TEXTS {
+    for text in &TEXTS {
         texts.push(String::from_str(alloc, text)?)?;
     }
     Ok(texts)
@@ -59,8 +59,8 @@ fn owned(alloc: Global) -> Result<Vec<String>, AllocError> {
 
 fn cows(alloc: Global) -> Result<Vec<CowStr<'static, Global>>, AllocError> {
     let mut texts = Vec::new(alloc);
-    for text in TEXTS {
-        texts.push(CowStr::Borrowed(text))?;
+    for text in &TEXTS {
+        texts.push(CowStr::Borrowed(*text))?;
     }
     Ok(texts)
 }
@@ -97,80 +97,59 @@ fn has_texts_owned(text: &CowStr<'static, Global>, count: usize) -> bool {
         && is_front(text.as_str(), count.saturating_mul(3))
 }
 
-/// Each accumulator that takes memory, of each kind of item.
-pub fn all(alloc: Global) -> [(&'static str, Result<bool, AllocError>); 15] {
-    [
-        ("Vec of items", vector_of_items(alloc)),
-        ("Vec of slices", vector_of_slices(alloc)),
-        ("VecDeque of slices", queue_of_slices(alloc)),
-        ("String of characters", text_of_characters(alloc)),
-        ("String of texts", text_of_texts(alloc)),
-        ("String of cows", text_of_cows(alloc)),
-        ("String of strings", text_of_strings(alloc)),
-        ("CowStr of characters", cow_of_characters(alloc)),
-        ("CowStr of texts", cow_of_texts(alloc)),
-        ("CowStr of cows", cow_of_cows(alloc)),
-        ("CowStr of strings", cow_of_strings(alloc)),
-        ("BTreeMap", tree_map(alloc)),
-        ("HashMap", hash_map(alloc)),
-        ("BTreeSet", tree_set(alloc)),
-        ("HashSet", hash_set(alloc)),
-    ]
-}
-
-fn vector_of_items(alloc: Global) -> Result<bool, AllocError> {
+pub fn vector_of_items(alloc: Global) -> Result<bool, AllocError> {
     gather(alloc, numbers(alloc)?, |all: &Vec<usize>, count| {
         all.iter().copied().eq(0..count)
     })
 }
 
-fn vector_of_slices(alloc: Global) -> Result<bool, AllocError> {
+pub fn vector_of_slices(alloc: Global) -> Result<bool, AllocError> {
     let pieces = Vec::from_slice(alloc, &PIECES)?;
     gather(alloc, pieces, |all: &Vec<usize>, count| {
         all.iter().copied().eq(0..count.saturating_mul(2))
     })
 }
 
-fn queue_of_slices(alloc: Global) -> Result<bool, AllocError> {
+pub fn queue_of_slices(alloc: Global) -> Result<bool, AllocError> {
     let pieces = Vec::from_slice(alloc, &PIECES)?;
     gather(alloc, pieces, |all: &VecDeque<usize>, count| {
         all.iter().copied().eq(0..count.saturating_mul(2))
     })
 }
 
-fn text_of_characters(alloc: Global) -> Result<bool, AllocError> {
+pub fn text_of_characters(alloc: Global) -> Result<bool, AllocError> {
     gather(alloc, characters(alloc)?, has_characters)
 }
 
-fn text_of_texts(alloc: Global) -> Result<bool, AllocError> {
+pub fn text_of_texts(alloc: Global) -> Result<bool, AllocError> {
     gather(alloc, borrowed(alloc)?, has_texts)
 }
 
-fn text_of_cows(alloc: Global) -> Result<bool, AllocError> {
+pub fn text_of_cows(alloc: Global) -> Result<bool, AllocError> {
     gather(alloc, cows(alloc)?, has_texts)
 }
 
-fn text_of_strings(alloc: Global) -> Result<bool, AllocError> {
+pub fn text_of_strings(alloc: Global) -> Result<bool, AllocError> {
     gather(alloc, owned(alloc)?, has_texts)
 }
 
-fn cow_of_characters(alloc: Global) -> Result<bool, AllocError> {
+pub fn cow_of_characters(alloc: Global) -> Result<bool, AllocError> {
     gather(alloc, characters(alloc)?, has_characters_owned)
 }
 
-fn cow_of_texts(alloc: Global) -> Result<bool, AllocError> {
+pub fn cow_of_texts(alloc: Global) -> Result<bool, AllocError> {
     gather(alloc, borrowed(alloc)?, has_texts_borrowed)
 }
 
-fn cow_of_cows(alloc: Global) -> Result<bool, AllocError> {
+pub fn cow_of_cows(alloc: Global) -> Result<bool, AllocError> {
     gather(alloc, cows(alloc)?, has_texts_borrowed)
 }
 
-fn cow_of_strings(alloc: Global) -> Result<bool, AllocError> {
+pub fn cow_of_strings(alloc: Global) -> Result<bool, AllocError> {
     gather(alloc, owned(alloc)?, has_texts_owned)
 }
 
-fn tree_map(alloc: Global) -> Result<bool, AllocError> {
+pub fn tree_map(alloc: Global) -> Result<bool, AllocError> {
     gather(
         alloc,
         pairs(alloc)?,
@@ -180,19 +159,19 @@ fn tree_map(alloc: Global) -> Result<bool, AllocError> {
     )
 }
 
-fn hash_map(alloc: Global) -> Result<bool, AllocError> {
+pub fn hash_map(alloc: Global) -> Result<bool, AllocError> {
     gather(alloc, pairs(alloc)?, |all: &HashMap<usize, usize>, count| {
         all.len() == count && (0..count).all(|number| all.get(&number) == Some(&number))
     })
 }
 
-fn tree_set(alloc: Global) -> Result<bool, AllocError> {
+pub fn tree_set(alloc: Global) -> Result<bool, AllocError> {
     gather(alloc, numbers(alloc)?, |all: &BTreeSet<usize>, count| {
         all.iter().copied().eq(0..count)
     })
 }
 
-fn hash_set(alloc: Global) -> Result<bool, AllocError> {
+pub fn hash_set(alloc: Global) -> Result<bool, AllocError> {
     gather(alloc, numbers(alloc)?, |all: &HashSet<usize>, count| {
         all.len() == count && (0..count).all(|number| all.contains(&number))
     })

@@ -96,18 +96,18 @@ fn is_finished<T: PartialEq>(finished: &Finished<T>, answers: &[Told<T>]) -> boo
 /// A feed of bytes. Refused, it is as it was, and takes the same piece again.
 pub fn feed_bytes(alloc: Global) -> Result<bool, AllocError> {
     let long = vec![in alloc; b'b'; LONG]?;
-    let wanted = answers(97, 98, 98);
+    feed_pieces(alloc, &[b"a", b"", long.as_slice()], &answers(97, 98, 98))
+}
+
+fn feed_pieces(alloc: Global, pieces: &[&[u8]], wanted: &[Told<u8>]) -> Result<bool, AllocError> {
     let mut feed = ByteFeed::new(alloc, &BYTES)?;
-    let pieces: [&[u8]; 3] = [b"a", b"", long.as_slice()];
     for piece in pieces {
-        if !feed_again(&mut feed, piece, &wanted)? {
+        if !feed_again(&mut feed, *piece, wanted)? {
             return Ok(false);
         }
     }
-    if feed.answers().len() != 3 || feed.held() != LONG - 1 {
-        return Ok(false);
-    }
-    Ok(is_finished(&feed.end(), &wanted))
+    let waits = feed.answers().len() == 3 && feed.held() == LONG - 1;
+    Ok(waits && is_finished(&feed.end(), wanted))
 }
 
 /// A feed of text. Refused, it is as it was, and takes the same piece again.
@@ -116,17 +116,18 @@ pub fn feed_text(alloc: Global) -> Result<bool, AllocError> {
     let Ok(long) = str::from_utf8(long.as_slice()) else {
         return Ok(false);
     };
-    let wanted = answers('a', 'b', 'b');
+    feed_texts(alloc, &["a", "", long], &answers('a', 'b', 'b'))
+}
+
+fn feed_texts(alloc: Global, pieces: &[&str], wanted: &[Told<char>]) -> Result<bool, AllocError> {
     let mut feed = TextFeed::new(alloc, &TEXTS)?;
-    for piece in ["a", "", long] {
-        if !feed_text_again(&mut feed, piece, &wanted)? {
+    for piece in pieces {
+        if !feed_text_again(&mut feed, *piece, wanted)? {
             return Ok(false);
         }
     }
-    if feed.answers().len() != 3 || feed.held() != LONG - 1 {
-        return Ok(false);
-    }
-    Ok(is_finished(&feed.end(), &wanted))
+    let waits = feed.answers().len() == 3 && feed.held() == LONG - 1;
+    Ok(waits && is_finished(&feed.end(), wanted))
 }
 
 /// The same pieces of bytes at once.
@@ -146,9 +147,14 @@ pub fn all_text(alloc: Global) -> Result<bool, AllocError> {
     Ok(is_finished(&finished, &answers('a', 'b', 'b')))
 }
 
-// Feeds bytes in pieces of that length; whether the feed kept none of them.
-fn keeps_none(feed: &mut ByteFeed, bytes: &[u8], length: usize) -> Result<bool, AllocError> {
-    for piece in bytes.chunks(length.max(1)) {
+// Feeds so many pieces of that length; whether the feed kept none of their bytes.
+fn keeps_none(
+    feed: &mut ByteFeed,
+    bytes: &[u8],
+    length: usize,
+    pieces: usize,
+) -> Result<bool, AllocError> {
+    for piece in bytes.chunks(length.max(1)).take(pieces) {
         if feed.fed() > MOST || piece.len() > MOST {
             return Ok(false);
         }
@@ -157,14 +163,14 @@ fn keeps_none(feed: &mut ByteFeed, bytes: &[u8], length: usize) -> Result<bool, 
             return Ok(false);
         }
     }
-    Ok(true)
+    Ok(feed.fed() == length.saturating_mul(pieces))
 }
 
-/// Bytes in pieces of that length, which a script takes from the feed as they come.
-pub fn drain(alloc: Global, length: usize) -> Result<bool, AllocError> {
+/// So many pieces of that length, whole parts of 1,024 bytes, which a script takes from the feed as they come.
+pub fn drain(alloc: Global, length: usize, pieces: usize) -> Result<bool, AllocError> {
     let script: [ByteStep; 256] = [Call(Take(1024)); 256];
     let bytes = vec![in alloc; b'a'; 262_144]?;
     let mut feed = ByteFeed::new(alloc, &script)?;
-    let kept_none = keeps_none(&mut feed, bytes.as_slice(), length)?;
-    Ok(kept_none && feed.answers().len() == 256)
+    let kept_none = keeps_none(&mut feed, bytes.as_slice(), length, pieces)?;
+    Ok(kept_none && feed.answers().len() == feed.fed() / 1024)
 }
