@@ -72,20 +72,29 @@ impl<I: Stream> ParserError<I> for Failures {
     }
 }
 
+type Tree = OrTree<ErrMode<Failures>>;
+
 // The error of a parser that failed at an input.
-fn failed(alloc: Global, input: &'static str) -> Result<ErrMode<Failures>, AllocError> {
+fn failed(alloc: Global, input: &'static str) -> Result<Tree, AllocError> {
     let start = input.checkpoint();
     let error: ErrMode<Failures> = ParserError::<&'static str>::from_input(alloc, &input);
-    error.append(alloc, &input, &start)
+    Ok(OrTree::One(error.append(alloc, &input, &start)?))
+}
+
+fn both(
+    alloc: Global,
+    first: Result<Tree, AllocError>,
+    second: Result<Tree, AllocError>,
+) -> Result<Tree, AllocError> {
+    let first = Box::new(alloc, first?)?;
+    let second = Box::new(alloc, second?)?;
+    Ok(OrTree::Both(first, second))
 }
 
 /// Errors appended to and combined, which a refusal gives up.
 pub fn combine_three(alloc: Global) -> Result<bool, AllocError> {
-    let first = OrTree::One(failed(alloc, "12x")?);
-    let second = OrTree::One(failed(alloc, "2x")?);
-    let third = OrTree::One(failed(alloc, "x")?);
-    let later = OrTree::Both(Box::new(alloc, second)?, Box::new(alloc, third)?);
-    let tree = OrTree::Both(Box::new(alloc, first)?, Box::new(alloc, later)?);
+    let later = both(alloc, failed(alloc, "2x"), failed(alloc, "x"));
+    let tree = both(alloc, failed(alloc, "12x"), later)?;
     match combine::<&'static str, Failures>(alloc, tree)? {
         Backtrack(error) => Ok(error.0.as_slice() == [3, 2, 1].as_slice()),
         _ => Ok(false),

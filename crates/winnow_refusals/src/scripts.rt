@@ -1,4 +1,5 @@
 use std::alloc::{AllocError, Global};
+use std::fmt::Debug;
 use winnow_match::Needles;
 use winnow_run::Step::{Each, Finish, Mark, Next, Reset};
 use winnow_run::{SearchStep, Step, run, run_and_reset, run_search};
@@ -9,20 +10,28 @@ const SCRIPT: [Step<NoSet>; 6] = [Next, Mark, Each, Reset(0), Mark, Finish];
 const ANSWERS: &str =
     "[Token(Some(97)), Marked(0), Items([(0, 98), (1, 99)]), Done, Marked(1), Slice([98, 99])]";
 
+// Whether that is the text of the answers.
+fn prints<A: Debug>(alloc: Global, answers: &A, wanted: &str) -> Result<bool, AllocError> {
+    let text = format!(in alloc; "{answers:?}")?;
+    Ok(text.as_str() == wanted)
+}
+
+// Refused, where the stream stands where it stood.
+fn refused(input: &[u8], refused: AllocError) -> Result<bool, AllocError> {
+    if input == b"abc".as_slice() {
+        Err(refused)
+    } else {
+        Ok(false)
+    }
+}
+
 /// A script that grows the answers, the marks and a list of items. Refused, the stream stands where it stood.
 pub fn run_script(alloc: Global) -> Result<bool, AllocError> {
     let mut input: &[u8] = b"abc";
-    let answers = match run(alloc, &mut input, &SCRIPT) {
-        Ok(answers) => answers,
-        Err(refused) => {
-            return if input == b"abc".as_slice() {
-                Err(refused)
-            } else {
-                Ok(false)
-            };
-        }
-    };
-    Ok(input.is_empty() && format!(in alloc; "{answers:?}")?.as_str() == ANSWERS)
+    match run(alloc, &mut input, &SCRIPT) {
+        Ok(answers) => Ok(input.is_empty() && prints(alloc, &answers, ANSWERS)?),
+        Err(err) => refused(input, err),
+    }
 }
 
 /// The same script, and the stream goes back, refused or not.
@@ -32,7 +41,7 @@ pub fn look_ahead(alloc: Global) -> Result<bool, AllocError> {
     if input != b"abc".as_slice() {
         return Ok(false);
     }
-    Ok(format!(in alloc; "{:?}", answers?)?.as_str() == ANSWERS)
+    prints(alloc, &answers?, ANSWERS)
 }
 
 const SEARCH: [SearchStep<NoSet, &[u8]>; 6] = [
@@ -50,15 +59,8 @@ const FOUND: &str =
 /// A script that also compares and searches. Refused, the stream stands where it stood.
 pub fn search_script(alloc: Global) -> Result<bool, AllocError> {
     let mut input: &[u8] = b"abc";
-    let answers = match run_search(alloc, &mut input, &SEARCH) {
-        Ok(answers) => answers,
-        Err(refused) => {
-            return if input == b"abc".as_slice() {
-                Err(refused)
-            } else {
-                Ok(false)
-            };
-        }
-    };
-    Ok(input == b"bc".as_slice() && format!(in alloc; "{answers:?}")?.as_str() == FOUND)
+    match run_search(alloc, &mut input, &SEARCH) {
+        Ok(answers) => Ok(input == b"bc".as_slice() && prints(alloc, &answers, FOUND)?),
+        Err(err) => refused(input, err),
+    }
 }

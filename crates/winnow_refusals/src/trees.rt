@@ -1,8 +1,9 @@
 use std::alloc::{AllocError, Global};
+use std::fmt::Display;
 use winnow_context::StrContext;
 use winnow_context::StrContext::Label;
 use winnow_error::ErrMode::Backtrack;
-use winnow_error::{AddContext, ErrorConvert, OrTree, ParserError};
+use winnow_error::{AddContext, ErrMode, ErrorConvert, OrTree, ParserError};
 use winnow_stream::Stream;
 use winnow_tree::{TreeError, combine_trees};
 use winnow_views::Bits;
@@ -31,26 +32,39 @@ fn alternatives<'i>(alloc: Global) -> Result<Tree<'i>, AllocError> {
 const ALTERNATIVES: &str =
     "during one of:\n   at '12x'\n   at '12x'\n    0:  at '12x'\n    1: invalid a at '12x'\n";
 
+// Whether that is the text of the error.
+fn prints<I: Display>(
+    alloc: Global,
+    error: &TreeError<I, StrContext>,
+    wanted: &str,
+) -> Result<bool, AllocError> {
+    let text = error.text(alloc)?;
+    Ok(text.as_str() == wanted)
+}
+
 /// Frames on an error, which a refusal gives up.
 pub fn append(alloc: Global) -> Result<bool, AllocError> {
-    let text = stacked(alloc)?.text(alloc)?;
-    Ok(text.as_str() == " at '12x'\n  0:  at '12x'\n  1: invalid a at '12x'\n")
+    let error = stacked(alloc)?;
+    prints(
+        alloc,
+        &error,
+        " at '12x'\n  0:  at '12x'\n  1: invalid a at '12x'\n",
+    )
 }
 
 /// The error of two alternatives, which a refusal gives up.
 pub fn or(alloc: Global) -> Result<bool, AllocError> {
-    let text = alternatives(alloc)?.text(alloc)?;
-    Ok(text.as_str() == ALTERNATIVES)
+    let error = alternatives(alloc)?;
+    prints(alloc, &error, ALTERNATIVES)
 }
 
 /// The text of an error. Refused, the error is as it was.
 pub fn text(alloc: Global) -> Result<bool, AllocError> {
     let error = alternatives(alloc)?;
-    match error.text(alloc) {
-        Ok(text) => Ok(text.as_str() == ALTERNATIVES),
+    match prints(alloc, &error, ALTERNATIVES) {
+        Ok(told) => Ok(told),
         Err(refused) => {
-            let again = error.text(alloc)?;
-            if again.as_str() == ALTERNATIVES {
+            if prints(alloc, &error, ALTERNATIVES)? {
                 Err(refused)
             } else {
                 Ok(false)
@@ -63,32 +77,40 @@ pub fn text(alloc: Global) -> Result<bool, AllocError> {
 pub fn map_input(alloc: Global) -> Result<bool, AllocError> {
     let owned = stacked(alloc)?.into_owned(alloc)?;
     let lengths = owned.map_input(alloc, |text: String| text.len())?;
-    let text = lengths.text(alloc)?;
-    Ok(text.as_str() == " at '3'\n  0:  at '3'\n  1: invalid a at '3'\n")
+    prints(
+        alloc,
+        &lengths,
+        " at '3'\n  0:  at '3'\n  1: invalid a at '3'\n",
+    )
+}
+
+// An error at bytes that a parser failed of.
+fn at_bytes<'i>(alloc: Global) -> Result<TreeError<&'i [u8], StrContext>, AllocError> {
+    let input: &[u8] = b"12x";
+    let start = input.checkpoint();
+    let error: TreeError<&[u8], StrContext> = TreeError::from_input(alloc, &input);
+    ParserError::<&[u8]>::append(error, alloc, &input, &start)
 }
 
 /// An error at bytes told at their bits, and back.
 pub fn convert(alloc: Global) -> Result<bool, AllocError> {
-    let input: &[u8] = b"12x";
-    let start = input.checkpoint();
-    let error: TreeError<&[u8], StrContext> = TreeError::from_input(alloc, &input);
-    let error = ParserError::<&[u8]>::append(error, alloc, &input, &start)?;
-    let bits: TreeError<Bits<&[u8]>, StrContext> = error.convert(alloc)?;
+    let bits: TreeError<Bits<&[u8]>, StrContext> = at_bytes(alloc)?.convert(alloc)?;
     let bytes: TreeError<&[u8], StrContext> = bits.convert(alloc)?;
     let lengths = bytes.map_input(alloc, |bytes: &[u8]| bytes.len())?;
-    let text = lengths.text(alloc)?;
-    Ok(text.as_str() == " at '3'\n  0:  at '3'\n")
+    prints(alloc, &lengths, " at '3'\n  0:  at '3'\n")
+}
+
+fn boxed<'i>(alloc: Global, error: Tree<'i>) -> Result<Box<OrTree<ErrMode<Tree<'i>>>>, AllocError> {
+    Ok(Box::new(alloc, OrTree::One(Backtrack(error)))?)
 }
 
 /// Two alternatives, bracketed.
 pub fn combine(alloc: Global) -> Result<bool, AllocError> {
-    let first = Box::new(alloc, OrTree::One(Backtrack(at(alloc))))?;
-    let second = Box::new(alloc, OrTree::One(Backtrack(stacked(alloc)?)))?;
+    let second = stacked(alloc)?;
+    let first = boxed(alloc, at(alloc))?;
+    let second = boxed(alloc, second)?;
     match combine_trees(alloc, OrTree::Both(first, second))? {
-        Backtrack(error) => {
-            let text = error.text(alloc)?;
-            Ok(text.as_str() == ALTERNATIVES)
-        }
+        Backtrack(error) => prints(alloc, &error, ALTERNATIVES),
         _ => Ok(false),
     }
 }
