@@ -3,7 +3,8 @@ ghost use Rattle.winnow_base.specs.Script.{AreReady};
 use std::alloc::{AllocError, Global};
 use std::test::Fail;
 use winnow_base::stream::{
-    AsChar, CharSet, ContainsToken, ScriptSet, Step, Stream, Where, run, union_law,
+    AsChar, CharSet, ContainsToken, ScriptSet, Step, Stream, Where, run, union_law, union_of_four_law,
+    union_of_three_law,
 };
 use winnow_test_helpers::debugged;
 
@@ -313,6 +314,8 @@ fn a_set_names_what_it_holds(rt: HostRuntime) {
 #[test]
 fn the_law_can_be_called() {
     union_law::<char, CharSet, (char, u8)>();
+    union_of_three_law::<char, char, u8, CharSet>();
+    union_of_four_law::<char, char, u8, CharSet, char>();
 }
 
 #[test]

@@ -1,11 +1,11 @@
-ghost use Rattle.std.specs.Prelude.{◌≡◌, IfSome};
+ghost use Rattle.std.specs.Prelude.{◌≡◌, ◌≤◌, IfSome};
 ghost use Rattle.winnow_views.specs.BitStream.{IsValidBits};
 ghost use Rattle.winnow_views.specs.BitWidth.{SlicesHaveWidths};
 
 use winnow_bytes::Bytes;
 use winnow_kinds::BStr;
-use winnow_stream::{SliceLen, Stream, StreamIsPartial};
-use winnow_views::{Bits, bit_slice_law, bit_source_law, byte_slice_law};
+use winnow_stream::{Offset, SliceLen, Stream, StreamIsPartial};
+use winnow_views::{Bits, bit_checkpoint_law, bit_slice_law, bit_source_law, byte_slice_law};
 use winnow_wrap::{LocatingSlice, Partial};
 
 // The length of the slice of that many bits, which is their number.
@@ -37,6 +37,26 @@ fn a_slice_of_bits_is_as_long_as_its_offset(rt: HostRuntime) {
         length_of(&mut located, 11),
     ];
     assert_eq!(rt; lengths, [Some(11); 3]);
+}
+
+// The width of the next bit, by the checkpoints before and behind it.
+fn width_of_next<I: Stream<Token = u8>>(bits: &mut Bits<I>) -> usize
+    requires { IsValidBits I.valid I.remaining bits.old }
+    ensures { result ≤ 1 }
+{
+    bit_checkpoint_law::<I>();
+    let start = bits.checkpoint();
+    let _ = bits.next_token();
+    bits.checkpoint().offset_from(&start)
+}
+
+#[test]
+fn checkpoints_of_bits_are_measured(rt: HostRuntime) {
+    bit_source_law();
+    let mut bits = Bits::new(BStr::new(b"\xab"));
+    assert_eq!(rt; width_of_next(&mut bits), 1);
+    let _ = bits.finish();
+    assert_eq!(rt; width_of_next(&mut bits), 0);
 }
 
 #[test]

@@ -5,7 +5,8 @@ use std::fmt::Debug;
 use std::process::Abort;
 use std::test::Fail;
 use winnow_error::ErrMode::{Backtrack, Cut, Incomplete};
-use winnow_error::{ErrMode, InputError, OrTree, ParserError, combine};
+use winnow_context::{ContextError, StrContext};
+use winnow_error::{AssociativeOr, EmptyError, ErrMode, InputError, OrTree, ParserError, combine, join_all};
 use winnow_stream::{Needed, Str};
 
 type Place = InputError<Str<'static>>;
@@ -93,6 +94,40 @@ fn an_associative_or_of_ones_own(rt: HostRuntime) -> Result<(), Fail> {
         combine_to(&rt, rt.alloc(), &errors, [want; 2])?;
     }
     Ok(())
+}
+
+// Asserts the debug text of what two alternatives join to.
+fn join_to<E: AssociativeOr<Str<'static>> + Drop + Debug>(
+    rt: &impl Abort,
+    alloc: Global,
+    errors: [ErrMode<E>; 2],
+    want: &str,
+) -> Result<(), AllocError> {
+    let [first, second] = errors;
+    let tree = both(alloc, OrTree::One(first), OrTree::One(second))?;
+    debugs(rt, alloc, &join_all::<Str<'static>, E>(alloc, tree), want)
+}
+
+#[test]
+fn errors_under_an_associative_or_are_joined(rt: HostRuntime) -> Result<(), Fail> {
+    let alloc = rt.alloc();
+    let (b, needs) = (at("b"), Incomplete(Needed::new(3)));
+    join_to(
+        &rt,
+        alloc,
+        [Backtrack(at("a")), Backtrack(b)],
+        "Backtrack(InputError { input: \"b\" })",
+    )?;
+    join_to(&rt, alloc, [Backtrack(EmptyError), Cut(EmptyError)], "Cut(EmptyError)")?;
+    join_to(&rt, alloc, [Cut(()), Backtrack(())], "Cut(())")?;
+    join_to(&rt, alloc, [Backtrack(Cut(b)), Backtrack(needs)], "Backtrack(Incomplete(Size(3)))")?;
+    let context: ContextError<StrContext> = ContextError::new(alloc);
+    join_to(&rt, alloc, [Backtrack(context), needs_more()], "Incomplete(Unknown)")?;
+    Ok(())
+}
+
+fn needs_more() -> ErrMode<ContextError<StrContext>> {
+    Incomplete(Needed::Unknown)
 }
 
 // Brackets matter where every error may be tried again, and only there.
