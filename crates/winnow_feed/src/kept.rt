@@ -33,7 +33,8 @@ pub(crate) trait Kept: Stream + StreamIsPartial + Copy {
             ≡ option_map spell (least_of_first greatest (char_ranges set.now))) }
         ensures refused { OnErr result (IsSome (least_of_first greatest (char_ranges set.now))) };
 
-    /// How many letters change the answer of a call that counts so many tokens, where they are too few.
+    /// How many letters change the answer of a call that counts that many tokens, where fewer
+    /// remain.
     fn letters_to(&self, asked: usize) -> usize
         requires { Self.valid self.now }
         ensures { result

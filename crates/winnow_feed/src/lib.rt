@@ -3,8 +3,8 @@
 //! However the input is cut, a script answers as on the pieces joined. After each piece those
 //! answers are out that no further input can change, each with the number of the piece that let
 //! it out; the end lets out the rest. A feed keeps no byte that no later step can reach, and a
-//! step that waits goes on from what it has settled. What a step waits for a feed can name: an input
-//! that would change its answer, unless there is none.
+//! step that waits goes on from what it has settled. What a step waits for a feed can name: an
+//! input that would change its answer, unless there is none.
 //!
 //! `ByteFeed` and `TextFeed` take the pieces one by one, `run_pieces` and `run_pieces_text` a list
 //! of them. What they share is in the private modules: `kept` is the stream over what is kept,

@@ -1,4 +1,5 @@
-ghost use Rattle.std.specs.Prelude.{◌≡◌, ◌<◌, true, drop, length, vec_len, option_map, IfOk, OnErr, IsSome};
+ghost use Rattle.std.specs.Prelude.{◌≡◌, ◌<◌, true, drop, length, vec_len, option_map};
+ghost use Rattle.std.specs.Prelude.{IfOk, OnErr, IsSome};
 ghost use Rattle.winnow_stream.specs.Source.{width};
 ghost use Rattle.winnow_match.specs.Search.{bytes_of_needles, needle_of};
 ghost use Rattle.winnow_feed.specs.Settled.{IsSettled, NoneStands};
@@ -124,8 +125,8 @@ where
     }
 }
 
-/// Returns what the next step is missing, where this is kept. It is `None` of a step that looks for a
-/// token of a set that holds none.
+/// Returns what the next step is missing, where this is kept. It is `None` of a step that looks
+/// for a token of a set that holds none.
 pub(crate) fn next_missing<S: Kept, L: AsBStr>(
     alloc: Global,
     progress: &Progress<S::Token, L>,

@@ -23,7 +23,8 @@ fn text_counts(feed: &TextFeed) -> (usize, usize, u64, usize) {
     (feed.fed(), feed.held(), feed.tried(), out)
 }
 
-/// What a feed of bytes waits for. Refused, the feed is as it was, and answers when it is asked again.
+/// What a feed of bytes waits for. Refused, the feed is as it was, and answers when it is asked
+/// again.
 pub fn wait_for_bytes(alloc: Global) -> Result<bool, AllocError> {
     let mut feed = ByteFeed::new(alloc, &BYTES)?;
     if feed.fed() > MOST {
