@@ -2,6 +2,7 @@ use crate::failing::{both, under};
 use std::alloc::{AllocError, Global};
 use std::fmt;
 use std::fmt::Display;
+use std::process::Abort;
 use std::test::Fail;
 use winnow_context::StrContext;
 use winnow_context::StrContext::Label;
@@ -45,71 +46,83 @@ where
     tree.map_input(alloc, op)?.text(alloc)
 }
 
-#[test]
-fn frames_have_the_input_of_their_start(rt: HostRuntime) -> Result<(), Fail> {
-    let alloc = rt.alloc();
-    let rows = [
-        (
-            tried(alloc, LocatingSlice::new("12x"), |s: LocatingSlice<&str>| {
-                Seen(BStr::new(s.inner().as_bytes()), s.current_token_start())
-            })?,
-            0,
-            1,
-        ),
-        (
-            tried(
-                alloc,
-                TokenSlice::new(b"12x"),
-                |s: TokenSlice<'_, u8>| Seen(BStr::new(s.as_slice()), s.previous_tokens().count()),
-            )?,
-            0,
-            1,
-        ),
-        (
-            tried(
-                alloc,
-                Partial::new(b"12x".as_slice()),
-                |s: Partial<&[u8]>| Seen(BStr::new(s.into_inner()), usize::from(s.is_partial())),
-            )?,
-            1,
-            1,
-        ),
-        (
-            tried(
-                alloc,
-                Stateful {
-                    input: "12x",
-                    state: 7,
-                },
-                |s: Stateful<&str, usize>| Seen(BStr::new(s.input.as_bytes()), s.state),
-            )?,
-            7,
-            7,
-        ),
-    ];
-    for (text, at_start, behind) in rows {
-        let wanted = format!(in alloc;
-            "during one of:\n   at '12x, {at_start}'\n   at '2x, {behind}'\n    0:  at '12x, {at_start}'\n    1: invalid a at '12x, {at_start}'\n"
-        )?;
-        assert_eq!(rt; text.as_str(), wanted.as_str());
-    }
+// Asserts that text, by what the input knows at the start and behind the first token.
+fn knows<I: Stream + Copy, J: Display + Drop, O: Fn(I) -> J + Drop>(
+    rt: &impl Abort,
+    alloc: Global,
+    input: I,
+    op: O,
+    known: [usize; 2],
+) -> Result<(), AllocError>
+where
+    I::Token: Drop,
+    requires valid { I.valid input }
+    requires callable { O.IsAlwaysCallable op }
+{
+    let [start, behind] = known;
+    let text = tried(alloc, input, op)?;
+    let wanted = format!(in alloc;
+        "during one of:\n   at '12x, {start}'\n   at '2x, {behind}'\n    0:  at '12x, {start}'\n    1: invalid a at '12x, {start}'\n"
+    )?;
+    assert_eq!(rt; text.as_str(), wanted.as_str());
     Ok(())
 }
 
-// It is not `Copy`, so no error of a parser holds it: a tree at it is made by hand.
 #[test]
-fn a_tree_at_a_stream_that_records(rt: HostRuntime) -> Result<(), Fail> {
+fn frames_have_the_input_of_their_start(rt: HostRuntime) -> Result<(), Fail> {
     let alloc = rt.alloc();
+    knows(
+        &rt,
+        alloc,
+        LocatingSlice::new("12x"),
+        |s: LocatingSlice<&str>| Seen(BStr::new(s.inner().as_bytes()), s.current_token_start()),
+        [0, 1],
+    )?;
+    knows(
+        &rt,
+        alloc,
+        TokenSlice::new(b"12x"),
+        |s: TokenSlice<'_, u8>| Seen(BStr::new(s.as_slice()), s.previous_tokens().count()),
+        [0, 1],
+    )?;
+    knows(
+        &rt,
+        alloc,
+        Partial::new(b"12x".as_slice()),
+        |s: Partial<&[u8]>| Seen(BStr::new(s.into_inner()), usize::from(s.is_partial())),
+        [1, 1],
+    )?;
+    knows(
+        &rt,
+        alloc,
+        Stateful {
+            input: "12x",
+            state: 7,
+        },
+        |s: Stateful<&str, usize>| Seen(BStr::new(s.input.as_bytes()), s.state),
+        [7, 7],
+    )?;
+    Ok(())
+}
+
+// It is not `Copy`, so no error of a parser holds it: a tree at it is made by hand. Its text, and that of the tree at the text inside.
+fn recording_texts(alloc: Global) -> Result<String, AllocError> {
     let input: Recoverable<&str, ErrMode<EmptyError>> = Recoverable::new(alloc, "12x");
     let tree: TreeError<_, StrContext> = TreeError::Base(TreeErrorBase { input, cause: None });
-    assert_eq!(rt; tree.text(alloc)?.as_str(), " at '12x'\n");
+    let text = tree.text(alloc)?;
     let plain = tree.map_input(
         alloc,
         |s: Recoverable<&str, ErrMode<EmptyError>>| *s.inner(),
     )?;
+    let owned = plain.into_owned(alloc)?.text(alloc)?;
+    format!(in alloc; "{text}{owned}")
+}
+
+#[test]
+fn a_tree_at_a_stream_that_records(rt: HostRuntime) -> Result<(), Fail> {
     assert_eq!(rt;
-        plain.into_owned(alloc)?.text(alloc)?.as_str(),
-        " at '12x'\n"
+        recording_texts(rt.alloc())?.as_str(),
+        " at '12x'\n at '12x'\n"
     );
     Ok(())
 }

@@ -1,7 +1,33 @@
 use crate::failing::fail_at;
+use std::alloc::{AllocError, Global};
+use std::fmt::Display;
+use std::process::Abort;
 use std::test::Fail;
-use winnow_error::{EmptyError, InputError};
+use winnow_error::{EmptyError, InputError, ParserError};
 use winnow_parse_error::translate_position;
+use winnow_stream::{AsBStr, Stream};
+
+// Asserts the text of an error of a parse that failed at that offset.
+fn fails_as<I: Stream + AsBStr, E: ParserError<I> + Display + Drop>(
+    rt: &impl Abort,
+    alloc: Global,
+    input: I,
+    offset: usize,
+    wanted: &str,
+) -> Result<(), AllocError>
+where
+    I::Slice: Drop,
+    I: Drop,
+    requires { I.valid input }
+{
+    let error = fail_at::<I, E>(alloc, input, offset);
+    assert_eq!(rt;
+        format!(in alloc; "{error}")?.as_str(),
+        wanted,
+        "at {offset}"
+    );
+    Ok(())
+}
 
 #[test]
 fn texts_of_parse_errors(rt: HostRuntime) -> Result<(), Fail> {
@@ -23,14 +49,10 @@ fn texts_of_parse_errors(rt: HostRuntime) -> Result<(), Fail> {
         ),
     ];
     for (text, offset, wanted) in rows {
-        let error = fail_at::<&str, EmptyError>(rt.alloc(), text, offset);
-        assert_eq!(rt; format!(in rt.alloc(); "{error}")?.as_str(), wanted);
+        fails_as::<&str, EmptyError>(&rt, rt.alloc(), text, offset, wanted)?;
     }
-    let error = fail_at::<&str, InputError<&str>>(rt.alloc(), "0xZ123", 2);
-    assert_eq!(rt;
-        format!(in rt.alloc(); "{error}")?.as_str(),
-        "0xZ123\n  ^\nfailed to parse starting at: Z123"
-    );
+    let wanted = "0xZ123\n  ^\nfailed to parse starting at: Z123";
+    fails_as::<&str, InputError<&str>>(&rt, rt.alloc(), "0xZ123", 2, wanted)?;
     Ok(())
 }
 
@@ -45,8 +67,7 @@ fn texts_over_damaged_bytes(rt: HostRuntime) -> Result<(), Fail> {
         (b"\xe2\x82", 1, "\u{FFFD}\n ^\nfailed to parse"),
     ];
     for (bytes, offset, wanted) in rows {
-        let error = fail_at::<&[u8], EmptyError>(rt.alloc(), bytes, offset);
-        assert_eq!(rt; format!(in rt.alloc(); "{error}")?.as_str(), wanted);
+        fails_as::<&[u8], EmptyError>(&rt, rt.alloc(), bytes, offset, wanted)?;
     }
     Ok(())
 }
@@ -88,9 +109,9 @@ fn positions(rt: HostRuntime) {
 #[test]
 fn what_a_parse_error_holds(rt: HostRuntime) {
     let error = fail_at::<&str, InputError<&str>>(rt.alloc(), "abc", 1);
+    let (input, offset, inner) = (*error.input(), error.offset(), error.inner().input);
     assert_eq!(rt;
-        (*error.input(), error.offset(), error.inner().input),
-        ("abc", 1, "bc")
+        (input, offset, inner, error.into_inner().input),
+        ("abc", 1, "bc", "bc")
     );
-    assert_eq!(rt; error.into_inner().input, "bc");
 }
