@@ -8,20 +8,22 @@ ghost use Rattle.winnow_wrap.specs.Mark.{unmarked, mark};
 use std::alloc::{AllocError, Global};
 use std::cmp::Ordering;
 use std::fmt::Debug;
+use std::ops::Range;
+use std::process::Abort;
 use std::test::Fail;
-use winnow_match::CompareResult;
+use winnow_match::{Compare, CompareResult, FindSlice};
 use winnow_run::Step;
 use winnow_stream::{AsBytes, Checkpoint, Location, NoSet, Stream, StreamIsPartial, UpdateSlice};
-use winnow_test_helpers::{
-    Traced, compares, debugged, finds, seen, shown, tell, width_from, window_of,
-};
+use winnow_test_helpers::{compares, debugged, finds, marks, seen, tell, width_from, window_of};
 use winnow_wrap::{LocatingSlice, Partial, Placed, Stateful};
 
-type Nest<'i> = Partial<Stateful<LocatingSlice<&'i str>, u32>>;
+type Nest<I> = Partial<Stateful<LocatingSlice<I>, u32>>;
 
-// Three wrappers round a text.
-fn nest<'i>(input: &'i str) -> Nest<'i>
-    ensures { ⟦<Nest<'i> as Stream>⟧.valid result }
+// Three wrappers round a stream.
+fn nest<I: Stream + StreamIsPartial>(input: I) -> Nest<I>
+    requires valid { I.valid input }
+    requires unmarked { I.supports_partial ≡ false }
+    ensures { ⟦<Nest<I> as Stream>⟧.valid result }
 {
     Partial::new(Stateful {
         input: LocatingSlice::new(input),
@@ -30,13 +32,16 @@ fn nest<'i>(input: &'i str) -> Nest<'i>
 }
 
 // A script leaves the mark, the state and the whole input as they were, whatever it takes.
-fn told_nest<'i>(
+fn told_nest<I: Stream>(
     alloc: Global,
-    s: &mut Nest<'i>,
+    s: &mut Nest<I>,
     script: &[Step<NoSet>],
 ) -> Result<String, AllocError>
-    requires { ⟦<Nest<'i> as Stream>⟧.valid s.old }
-    ensures valid { ⟦<Nest<'i> as Stream>⟧.valid s.new }
+where
+    I::Token: Drop,
+    I::Slice: Drop,
+    requires { ⟦<Nest<I> as Stream>⟧.valid s.old }
+    ensures valid { ⟦<Nest<I> as Stream>⟧.valid s.new }
     ensures mark { mark s.old ≡ mark s.new }
     ensures state { (unmarked s.old).state ≡ (unmarked s.new).state }
     ensures start { (unmarked s.old).input.start ≡ (unmarked s.new).input.start }
@@ -183,37 +188,84 @@ fn place<S: Location>(s: &S) -> (usize, usize)
     (s.previous_token_end(), s.current_token_start())
 }
 
+// A token is taken, and then a window of that width: what it holds and the places around it, and the first place and the rest
+// where it starts anew; `None` where there is none.
+fn window_of_nest<I: Stream + StreamIsPartial + UpdateSlice + Drop>(
+    input: I,
+    offset: usize,
+) -> Option<((I::Slice, I::Slice), [(usize, usize); 2])>
+where
+    I::Token: Drop,
+    requires valid { I.valid input }
+    requires unmarked { I.supports_partial ≡ false }
+{
+    let mut s = nest(input);
+    let _ = s.next_token();
+    if !s.is_offset(offset) {
+        return None;
+    }
+    let mut window = window_of(s, offset);
+    let (front, start) = (window.peek_finish(), place(&window));
+    Some(((front, window.finish()), [start, place(&window)]))
+}
+
 #[test]
 fn the_place_in_a_window_is_that_in_the_whole(rt: HostRuntime) {
+    assert_eq!(rt;
+        window_of_nest("abcdef", 3),
+        Some((("bcd", "bcd"), [(1, 1), (4, 4)]))
+    );
+}
+
+#[test]
+fn a_window_starts_anew_as_the_whole(rt: HostRuntime) {
     let mut located = LocatingSlice::new("abcdef");
-    let _ = located.next_token();
     let _ = located.next_token();
     let at = located.checkpoint();
     assert!(rt; located.is_offset(3));
     let slice = located.next_slice(3);
-    assert_eq!(rt; slice, "cde");
-    assert_eq!(rt; place(&located), (5, 5));
+    let behind = place(&located);
     let mut window = located.update_slice(slice, &at);
-    assert_eq!(rt; place(&window), (2, 2));
-    assert_eq!(rt; window.next_token(), Some('c'));
-    assert_eq!(rt; place(&window), (3, 3));
+    let _ = window.next_token();
+    let inside = place(&window);
     window.reset_to_start();
-    assert_eq!(rt; *window.inner(), "abcdef");
-    assert_eq!(rt; place(&window), (0, 0));
+    assert_eq!(rt;
+        (slice, *window.inner(), [behind, inside, place(&window)]),
+        ("bcd", "abcdef", [(4, 4), (2, 2), (0, 0)])
+    );
 }
 
 #[test]
 fn the_mark_is_no_part_of_a_checkpoint(rt: HostRuntime) {
-    let nothing: &[u8] = b"";
-    let mut partial = Partial::new(nothing);
+    let mut partial = Partial::new(b"".as_slice());
     let start = partial.checkpoint();
-    assert!(rt; partial.is_partial());
-    assert!(rt; partial.complete());
-    assert!(rt; !partial.is_partial());
+    let marked = marks(&mut partial);
+    let state = partial.complete();
     partial.reset(&start);
-    assert!(rt; !partial.is_partial());
-    partial.restore_partial(true);
-    assert!(rt; partial.is_partial());
+    assert_eq!(rt;
+        (marked, [state, partial.is_partial()]),
+        ([true, true, false, true], [true, false])
+    );
+}
+
+// Whether the types have a mark: a place and a state round one, a place round one, a mark round both, and both alone; and whether
+// the last awaits more.
+fn supported<I: Stream + StreamIsPartial + Copy>(input: I) -> [bool; 5]
+    requires valid { I.valid input }
+    requires unmarked { I.supports_partial ≡ false }
+{
+    let marked = Stateful {
+        input: LocatingSlice::new(Partial::new(input)),
+        state: 7,
+    };
+    let plain = nest(input).into_inner();
+    [
+        supports(&marked),
+        supports(&marked.input),
+        supports(&nest(input)),
+        supports(&plain),
+        awaits(&plain),
+    ]
 }
 
 #[test]
@@ -222,17 +274,14 @@ fn a_mark_inside_two_wrappers(rt: HostRuntime) {
         input: LocatingSlice::new(Partial::new("ab")),
         state: 7,
     };
-    assert!(rt; s.is_partial());
-    assert_eq!(rt; peek_complete(&mut s), (false, Some('a')));
-    assert!(rt; s.is_partial());
-    assert_eq!(rt; complete_inside(&mut s), (true, false));
-    assert_eq!(rt; (s.state, place(&s)), (7, (0, 0)));
+    let peeked = peek_complete(&mut s);
+    let restored = s.is_partial();
+    let cleared = complete_inside(&mut s);
     assert_eq!(rt;
-        (supports(&s), supports(&s.input), supports(&nest(""))),
-        (true, true, true)
+        (peeked, restored, cleared, s.state, place(&s)),
+        ((false, Some('a')), true, (true, false), 7, (0, 0))
     );
-    let plain = nest("").into_inner();
-    assert_eq!(rt; (supports(&plain), awaits(&plain)), (false, false));
+    assert_eq!(rt; supported(""), [true, true, true, false, false]);
 }
 
 #[test]
@@ -242,9 +291,33 @@ fn a_plain_stream_has_no_mark(rt: HostRuntime) {
     assert_eq!(rt; (bytes, text), (b"ab".as_slice(), "cd"));
 }
 
+// The debug text of the stream inside three wrappers.
+fn rest_of<I: Stream>(alloc: Global, s: &Nest<I>) -> Result<String, AllocError> {
+    debugged(alloc, inside(s))
+}
+
+// What a script answers through three wrappers, and what it leaves: the place, the state, the mark, the rest, and that of a clone.
+fn told_and_left<I: Stream + StreamIsPartial + Copy>(
+    alloc: Global,
+    input: I,
+    script: &[Step<NoSet>],
+) -> Result<String, AllocError>
+where
+    I::Token: Drop,
+    I::Slice: Drop,
+    requires valid { I.valid input }
+    requires unmarked { I.supports_partial ≡ false }
+{
+    let mut s = nest(input);
+    let answers = told_nest(alloc, &mut s, script)?;
+    let (place, mark, state) = (place(&s), s.is_partial(), s.state);
+    let rest = rest_of(alloc, &s)?;
+    let copied = rest_of(alloc, &cloned(&s)?)?;
+    format!(in alloc; "{answers} {place:?} {state} {mark} {rest} {copied}")
+}
+
 #[test]
 fn a_script_runs_through_three_wrappers(rt: HostRuntime) -> Result<(), Fail> {
-    let mut s = nest("abcdef");
     let script = [
         Step::Next,
         Step::Mark,
@@ -254,38 +327,32 @@ fn a_script_runs_through_three_wrappers(rt: HostRuntime) -> Result<(), Fail> {
         Step::Reset(0),
         Step::Next,
     ];
-    let answers = told_nest(rt.alloc(), &mut s, &script)?;
     assert_eq!(rt;
-        answers.as_str(),
-        "[Token(Some('a')), Marked(0), Slice(\"bcd\"), Offset(3), Token(Some('e')), Done, Token(Some('b'))]"
+        told_and_left(rt.alloc(), "abcdef", &script)?.as_str(),
+        "[Token(Some('a')), Marked(0), Slice(\"bcd\"), Offset(3), Token(Some('e')), Done, Token(Some('b'))] \
+        (2, 2) 7 true \"cdef\" \"cdef\""
     );
-    assert_eq!(rt; place(&s), (2, 2));
-    assert_eq!(rt; (s.state, s.is_partial(), *inside(&s)), (7, true, "cdef"));
-    assert_eq!(rt; *inside(&cloned(&s)?), "cdef");
     Ok(())
+}
+
+// A comparison and a search through three wrappers.
+fn asked<I>(input: I) -> (CompareResult, Option<Range<usize>>)
+where
+    I: Compare<&'static str> + FindSlice<char> + StreamIsPartial + Copy,
+    requires valid { I.valid input }
+    requires unmarked { I.supports_partial ≡ false }
+{
+    (compares(nest(input), "abc"), finds(nest(input), 'b'))
 }
 
 #[test]
 fn each_call_is_passed_on_through_three_wrappers(rt: HostRuntime) -> Result<(), Fail> {
-    assert_eq!(rt; compares(nest("abc"), "abc"), CompareResult::Ok(3));
-    assert_eq!(rt; finds(nest("abc"), 'b'), Some(1..2));
+    assert_eq!(rt; asked("abc"), (CompareResult::Ok(3), Some(1..2)));
     assert_eq!(rt;
         seen(rt.alloc(), &nest("abc"))?.as_str(),
         "abc 3 [97, 98, 99]"
     );
     Ok(())
-}
-
-#[test]
-fn a_window_through_three_wrappers(rt: HostRuntime) {
-    let mut s = nest("abcdef");
-    let _ = s.next_token();
-    assert!(rt; s.is_offset(3));
-    let mut window = window_of(s, 3);
-    assert_eq!(rt; window.peek_finish(), "bcd");
-    assert_eq!(rt; place(&window), (1, 1));
-    assert_eq!(rt; window.finish(), "bcd");
-    assert_eq!(rt; place(&window), (4, 4));
 }
 
 #[test]
@@ -300,66 +367,116 @@ fn bytes_and_widths_through_three_wrappers(rt: HostRuntime) {
         state: 8,
     });
     let start = checkpoint_of(&s);
-    assert_eq!(rt; width_from(&rest, &s), 2);
-    assert_eq!(rt; width_from(&rest, &start), 2);
-    assert_eq!(rt; width_from(&checkpoint_of(&rest), &start), 2);
-    assert_eq!(rt; rest.as_bytes(), &bytes[2..]);
-    assert_eq!(rt; s.peek_finish(), bytes);
-    assert_eq!(rt; *s.into_inner().input.inner(), bytes);
+    let widths = [
+        width_from(&rest, &s),
+        width_from(&rest, &start),
+        width_from(&checkpoint_of(&rest), &start),
+    ];
+    assert_eq!(rt;
+        (
+            widths,
+            rest.as_bytes(),
+            s.peek_finish(),
+            *s.into_inner().input.inner()
+        ),
+        ([2; 3], &bytes[2..], bytes, bytes)
+    );
 }
 
-#[test]
-fn texts_of_wrappers(rt: HostRuntime) -> Result<(), Fail> {
-    let alloc = rt.alloc();
-    let located = LocatingSlice::new("ab");
-    for (text, wanted) in [
-        (shown(alloc, &located)?, "ab"),
-        (debugged(alloc, &located)?, "\"ab\""),
-        (debugged(alloc, &located.checkpoint())?, "\"ab\""),
-        (
-            debugged(alloc, &nest("ab"))?,
-            "Partial { input: Stateful { input: \"ab\", state: 7 }, partial: true }",
-        ),
-        (shown(alloc, &Traced(nest("ab")))?, "\"ab\""),
-    ] {
-        assert_eq!(rt; text.as_str(), wanted);
-    }
+// Asserts the debug text.
+fn debugs<T: Debug>(
+    rt: &impl Abort,
+    alloc: Global,
+    value: &T,
+    wanted: &str,
+) -> Result<(), AllocError> {
+    assert_eq!(rt; debugged(alloc, value)?.as_str(), wanted);
     Ok(())
 }
 
 #[test]
-fn wrappers_are_compared_by_what_they_hold(rt: HostRuntime) {
-    let (located, mut later) = (LocatingSlice::new("ab"), LocatingSlice::new("ab"));
+fn texts_of_wrappers(rt: HostRuntime) -> Result<(), Fail> {
+    let (alloc, located) = (rt.alloc(), LocatingSlice::new("ab"));
+    debugs(&rt, alloc, &located, "\"ab\"")?;
+    debugs(&rt, alloc, &located.checkpoint(), "\"ab\"")?;
+    debugs(
+        &rt,
+        alloc,
+        &nest("ab"),
+        "Partial { input: Stateful { input: \"ab\", state: 7 }, partial: true }",
+    )?;
+    Ok(())
+}
+
+// Whether a place further on is the same, is greater, and is the same again once it is reset, each with its checkpoint.
+fn compared_places<I: Stream + Ord + Copy>(input: I) -> [bool; 5]
+where
+    I::Checkpoint: Ord,
+    I::Token: Drop,
+    requires { I.valid input }
+{
+    let (located, mut later) = (LocatingSlice::new(input), LocatingSlice::new(input));
     let start = located.checkpoint();
-    assert!(rt; later == located && later.checkpoint() == start);
+    let same = [later == located, later.checkpoint() == start];
     let _ = later.next_token();
-    assert!(rt; later > located && later.checkpoint() > start);
+    let further = [later > located, later.checkpoint() > start];
     later.reset(&start);
-    assert!(rt; later == located);
+    [same[0], same[1], further[0], further[1], later == located]
+}
+
+#[test]
+fn places_are_compared_by_what_they_hold(rt: HostRuntime) {
+    assert_eq!(rt; compared_places("ab"), [true; 5]);
     // The start counts before what remains, and the place not at all.
+    let mut later = LocatingSlice::new("ab");
     let _ = later.next_token();
     assert_eq!(rt; order_of(&later, &LocatingSlice::new("ac")), Ordering::Less);
+}
+
+#[test]
+fn equal_windows_may_have_other_places(rt: HostRuntime) {
     let (first, mut second) = (LocatingSlice::new("abab"), LocatingSlice::new("abab"));
-    assert!(rt; second.is_offset(2));
+    assert!(rt; first.is_offset(2) && second.is_offset(2));
     let _ = second.next_slice(2);
-    assert!(rt; !is_same(&first, &second));
-    assert!(rt; first.is_offset(2));
+    let is_same_rest = is_same(&first, &second);
     assert!(rt; second.is_offset(2));
     let (first, second) = (window_of(first, 2), window_of(second, 2));
-    assert_eq!(rt; (place(&first), place(&second)), ((0, 0), (2, 2)));
-    assert!(rt; is_same(&first, &second));
+    assert_eq!(rt;
+        (
+            is_same_rest,
+            is_same(&first, &second),
+            place(&first),
+            place(&second)
+        ),
+        (false, true, (0, 0), (2, 2))
+    );
     assert_eq!(rt;
         order_of_places::<&str>(&first.checkpoint(), &second.checkpoint()),
         (true, Ordering::Equal)
     );
+}
+
+#[test]
+fn marks_and_states_are_compared(rt: HostRuntime) {
     let (set, mut clear) = (Partial::new("ab"), Partial::new("ab"));
     let _ = clear.complete();
-    assert!(rt; is_same_marked(&set, &set) && !is_same_marked(&set, &clear));
-    assert_eq!(rt; marked_order(&clear, &set), Ordering::Less);
-    assert_eq!(rt; marked_order(&Partial::new("a"), &clear), Ordering::Less);
     let counted = Stateful {
         input: "",
         state: 0,
     };
-    assert!(rt; is_same_state(&counted, &Stateful::default()));
+    assert_eq!(rt;
+        [
+            is_same_marked(&set, &set),
+            is_same_marked(&set, &clear),
+            is_same_state(&counted, &Stateful::default())
+        ],
+        [true, false, true]
+    );
+    assert_eq!(rt;
+        [
+            marked_order(&clear, &set),
+            marked_order(&Partial::new("a"), &clear)
+        ],
+        [Ordering::Less; 2]
+    );
 }
