@@ -1,24 +1,23 @@
-ghost use Rattle.std.specs.Prelude.{◌≡◌, IfOk, OnOk, OnErr, Err, false, [], ◌∷◌, ◌++◌};
+ghost use Rattle.std.specs.Prelude.{◌≡◌, OnOk, OnErr, Err, false, [], ◌∷◌, ◌++◌};
 ghost use Rattle.winnow_recover.specs.declared.record_error.RecordError.TheVariants.{Refused};
 ghost use Rattle.winnow_recover.specs.declared.recoverable.Recoverable.{Recoverable};
 ghost use Rattle.winnow_recover.specs.Recovering.{recovering_input, recorded_errors, records_errors, IsSame, Records};
 ghost use Rattle.winnow_stream.specs.declared.checkpoint.Checkpoint.{Checkpoint};
 
+use std::alloc::{AllocError, Global};
 use std::fmt::{Debug, Display};
-use std::ops::Deref;
+use std::ops::{Deref, Range};
 use std::test::Fail;
 use winnow_bytes::Bytes;
-use winnow_error::ErrMode::{Backtrack, Incomplete};
+use winnow_error::ErrMode::{Backtrack, Cut, Incomplete};
 use winnow_error::{EmptyError, ErrMode, FromRecoverableError, ParserError};
 use winnow_kinds::BStr;
 use winnow_match::{Compare, CompareResult, FindSlice};
 use winnow_recover::{RecordError, Recover, Recoverable};
-use winnow_run::Step;
-use winnow_run::Step::{Each, Mark, Next, Peek, Reset, Since, Take};
 use winnow_stream::{
-    AsBytes, Location, Needed, NoSet, Offset, Stream, StreamIsPartial, UpdateSlice,
+    AsBStr, AsBytes, Location, Needed, Offset, SliceLen, Stream, StreamIsPartial, UpdateSlice,
 };
-use winnow_test_helpers::{seen, told, width_from};
+use winnow_test_helpers::{marks, seen, width_from};
 use winnow_views::{Bits, TokenSlice, bit_source_law};
 use winnow_wrap::{LocatingSlice, Partial, Stateful};
 
@@ -27,6 +26,7 @@ type Mode = ErrMode<EmptyError>;
 // Records an error of a parser that failed where it began, as generic code does.
 fn recover_here<S: Recover<E>, E>(s: &mut S, err: E) -> Result<(), RecordError<E>>
     requires { S.valid s.old }
+    ensures { S.valid s.new }
 {
     let here = s.checkpoint();
     s.record_err(&here, &here, err)
@@ -40,6 +40,7 @@ fn refused_by<S: Recover<E>, E>(s: &mut S, err: E) -> (Result<(), RecordError<E>
     ensures unsupported { result.1 ≡ false }
     ensures remains { S.remaining s.new ≡ S.remaining s.old }
     ensures kept { S.keeps s.old s.new }
+    ensures valid { S.valid s.new }
 {
     let here = s.checkpoint();
     (s.record_err(&here, &here, err), S::is_recovery_supported())
@@ -91,112 +92,196 @@ fn laws_of_members(_rt: HostRuntime) {
     passed_on_law::<&str, Mode>();
 }
 
+// Records an error behind a token, goes back, and records one that is incomplete: what the calls answered, the token ahead, and
+// what stands inside at the end.
+fn recorded_and_reset<I: Stream + Drop>(alloc: Global, input: I) -> Result<String, AllocError>
+where
+    I::Token: Drop,
+    requires { I.valid input }
+{
+    let mut s: Recoverable<I, Mode> = Recoverable::new(alloc, input);
+    let before = s.checkpoint();
+    let token = s.next_token();
+    let first: Result<(), RecordError<Mode>> = recorded(&mut s, Backtrack(EmptyError));
+    s.reset(&before);
+    let second: Result<(), RecordError<Mode>> = recorded(&mut s, Incomplete(Needed::Unknown));
+    let ahead = s.peek_token();
+    let (input, errors) = s.into_parts();
+    format!(in alloc; "{token:?} {first:?}, {second:?} {ahead:?}, {input:?} {errors:?}")
+}
+
 #[test]
 fn reset_leaves_what_was_recorded(rt: HostRuntime) -> Result<(), Fail> {
-    let mut s = Recoverable::new(rt.alloc(), "abc");
-    let before = s.checkpoint();
-    assert_eq!(rt; s.next_token(), Some('a'));
-    assert_eq!(rt; recorded(&mut s, Backtrack(EmptyError)), Ok(()));
-    s.reset(&before);
-    let wanted: Mode = Incomplete(Needed::Unknown);
     assert_eq!(rt;
-        recorded(&mut s, wanted),
-        Err(RecordError::Refused(Incomplete(Needed::Unknown)))
+        recorded_and_reset(rt.alloc(), "abc")?.as_str(),
+        "Some('a') Ok(()), Err(Refused(Incomplete(Unknown))) Some('a'), \"abc\" [Backtrack(EmptyError)]"
     );
-    assert_eq!(rt; s.peek_token(), Some('a'));
-    let (input, errors): (&str, Vec<Mode>) = s.into_parts();
-    assert_eq!(rt; input, "abc");
-    assert_eq!(rt; errors.as_slice(), [Backtrack(EmptyError)].as_slice());
     Ok(())
+}
+
+// What a stream that records no error answers to two of them, and its errors then.
+fn refused_all<I: Stream + Drop>(alloc: Global, input: I) -> Result<String, AllocError>
+where
+    requires { I.valid input }
+{
+    let mut s: Recoverable<I, Mode> = Recoverable::unrecoverable(alloc, input);
+    let failed: Result<(), RecordError<Mode>> = recover_here(&mut s, Backtrack(EmptyError));
+    let cut_short = recover_here(&mut s, Incomplete(Needed::Unknown));
+    let (_, errors) = s.into_parts();
+    let is_supported = <Recoverable<I, Mode> as Recover<Mode>>::is_recovery_supported();
+    format!(in alloc; "{failed:?}, {cut_short:?}, {errors:?} {is_supported}")
 }
 
 #[test]
 fn unrecoverable_records_nothing(rt: HostRuntime) -> Result<(), Fail> {
-    let mut s: Recoverable<&[u8], Mode> = Recoverable::unrecoverable(rt.alloc(), b"ab");
-    for err in [Backtrack(EmptyError), Incomplete(Needed::Unknown)] {
-        assert_eq!(rt; recover_here(&mut s, err), Err(RecordError::Refused(err)));
-    }
-    assert_eq!(rt; s.into_parts().1.len(), 0);
-    assert!(rt; <Recoverable<&[u8], Mode> as Recover<Mode>>::is_recovery_supported());
+    assert_eq!(rt;
+        refused_all(rt.alloc(), b"ab".as_slice())?.as_str(),
+        "Err(Refused(Backtrack(EmptyError))), Err(Refused(Incomplete(Unknown))), [] true"
+    );
     Ok(())
+}
+
+// Whether a stream with no recovery gives the error back.
+fn refuses<S: Recover<E>, E: Copy + PartialEq>(s: &mut S, err: E) -> bool
+    requires valid { S.valid s.old }
+    requires unsupported { S.supports_recovery ≡ false }
+    ensures valid { S.valid s.new }
+{
+    refused_by(s, err) == (Err(RecordError::Refused(err)), false)
 }
 
 #[test]
 fn plain_streams_refuse(rt: HostRuntime) {
     bit_source_law();
     let bytes: &[u8] = b"ab";
-    let refused = (Err(RecordError::Refused(7)), false);
-    assert_eq!(rt; refused_by(&mut { bytes }, 7), refused, "bytes");
-    assert_eq!(rt; refused_by(&mut "ab", 7), refused, "a text");
-    assert_eq!(rt; refused_by(&mut BStr::new(bytes), 7), refused, "BStr");
-    assert_eq!(rt; refused_by(&mut Bytes::new(bytes), 7), refused, "Bytes");
+    let refused = [
+        refuses(&mut { bytes }, 7),
+        refuses(&mut "ab", 7),
+        refuses(&mut BStr::new(bytes), 7),
+        refuses(&mut Bytes::new(bytes), 7),
+        refuses(&mut TokenSlice::new(bytes), 7),
+        refuses(&mut Bits::new(bytes), 7),
+    ];
     assert_eq!(rt;
-        refused_by(&mut TokenSlice::new(bytes), 7),
         refused,
-        "tokens"
+        [true; 6],
+        "bytes, text, BStr, Bytes, tokens, bits"
     );
-    assert_eq!(rt; refused_by(&mut Bits::new(bytes), 7), refused, "bits");
+}
+
+// Whether a state, a place and a mark round a stream that records refuse its errors.
+fn wrappers_refuse<I: Stream + StreamIsPartial + Drop>(alloc: Global, input: I) -> [bool; 3]
+    requires valid { I.valid input }
+    requires unmarked { I.supports_partial ≡ false }
+{
+    let inside: Recoverable<I, Mode> = Recoverable::new(alloc, input);
+    let mut s = Stateful {
+        input: LocatingSlice::new(inside),
+        state: 7u32,
+    };
+    let mode: Mode = Backtrack(EmptyError);
+    let (state, place) = (refuses(&mut s, mode), refuses(&mut s.input, mode));
+    let mut marked = Partial::new(s);
+    [state, place, refuses(&mut marked, mode)]
+}
+
+// Whether a state round a stream that records refuses its error, and how many errors were recorded.
+fn recorded_inside<I: Stream + Drop>(alloc: Global, input: I) -> (bool, usize)
+    requires { I.valid input }
+{
+    let inside: Recoverable<I, Mode> = Recoverable::new(alloc, input);
+    let mut s = Stateful {
+        input: inside,
+        state: 7u32,
+    };
+    let mode: Mode = Cut(EmptyError);
+    let is_refused = refuses(&mut s, mode);
+    let Stateful { input, state: _ } = s;
+    let (_, errors) = input.into_parts();
+    (is_refused, errors.len())
 }
 
 #[test]
 fn wrappers_refuse_also_round_one_that_records(rt: HostRuntime) {
     bit_source_law();
-    let (mode, refused): (Mode, _) = (
-        Backtrack(EmptyError),
-        (Err(RecordError::Refused(Backtrack(EmptyError))), false),
+    let alloc = rt.alloc();
+    let inside: Recoverable<&[u8], Mode> = Recoverable::new(alloc, b"ab");
+    let mode: Mode = Backtrack(EmptyError);
+    assert_eq!(rt;
+        (
+            wrappers_refuse(alloc, "ab"),
+            recorded_inside(alloc, "ab"),
+            refuses(&mut Bits::new(inside), mode)
+        ),
+        ([true; 3], (true, 0), true),
+        "a state, a place, a mark; a state; bits"
     );
-    let inside: Recoverable<&str, Mode> = Recoverable::new(rt.alloc(), "ab");
-    let mut s = Stateful {
-        input: LocatingSlice::new(inside),
-        state: 7,
-    };
-    assert_eq!(rt; refused_by(&mut s, mode), refused, "a state");
-    assert_eq!(rt; refused_by(&mut s.input, mode), refused, "a place");
-    let mut marked = Partial::new(s);
-    assert_eq!(rt; refused_by(&mut marked, mode), refused, "a mark");
-    let inside: Recoverable<&[u8], Mode> = Recoverable::new(rt.alloc(), b"ab");
-    assert_eq!(rt; refused_by(&mut Bits::new(inside), mode), refused, "bits");
 }
 
-#[test]
-fn a_script_runs_as_on_the_text_inside(rt: HostRuntime) -> Result<(), Fail> {
-    let script: [Step<NoSet>; 7] = [Next, Mark, Take(3), Since(0), Reset(0), Peek, Each];
-    let plain = told(rt.alloc(), "aéb", &script)?;
-    let s: Recoverable<&str, Mode> = Recoverable::new(rt.alloc(), "aéb");
-    assert_eq!(rt; told(rt.alloc(), s, &script)?.as_str(), plain.as_str());
-    Ok(())
-}
-
-// The window of the front of that width, and the width that was taken before it; `None` where there is none.
-fn window_of<S: UpdateSlice>(mut s: S, offset: usize) -> Result<(S, usize), S>
-    requires { S.valid s }
-    ensures { IfOk result (λ p. S.valid p.0) }
+// A comparison and a search, which are passed on.
+fn searched<I: Compare<&'static str> + FindSlice<char> + Drop>(
+    alloc: Global,
+    input: I,
+) -> (CompareResult, Option<Range<usize>>)
+    requires { I.valid input }
 {
+    let s: Recoverable<I, Mode> = Recoverable::new(alloc, input);
+    (s.compare("abd"), s.find_slice('c'))
+}
+
+// What the calls that change nothing answer, and the stream inside by both ways to it.
+fn seen_inside<I: Stream + SliceLen + AsBStr + Display + Drop>(
+    alloc: Global,
+    input: I,
+) -> Result<String, AllocError>
+where
+    requires { I.has_width input }
+{
+    let s: Recoverable<I, Mode> = Recoverable::new(alloc, input);
+    let text = seen(alloc, &s)?;
+    let inside: &I = &s;
+    format!(in alloc; "{text} {inside} {}", s.inner())
+}
+
+// The front of that width and what is left of it as the window that it makes remains, with its width; `None` where there is none.
+fn window_inside<I: UpdateSlice + Drop>(
+    alloc: Global,
+    input: I,
+    offset: usize,
+) -> Option<(I::Slice, I::Slice, usize)>
+    requires { I.valid input }
+{
+    let mut s: Recoverable<I, Mode> = Recoverable::new(alloc, input);
     if !s.is_offset(offset) {
-        return Err(s);
+        return None;
     }
     let start = s.checkpoint();
     let slice = s.next_slice(offset);
     let taken = s.offset_since(&start);
-    Ok((s.update_slice(slice, &start), taken))
+    let mut window = s.update_slice(slice, &start);
+    Some((window.peek_finish(), window.finish(), taken))
 }
 
 #[test]
 fn every_call_is_passed_on(rt: HostRuntime) -> Result<(), Fail> {
-    let mut s: Recoverable<&str, Mode> = Recoverable::new(rt.alloc(), "abcd");
-    assert_eq!(rt; s.compare("abd"), CompareResult::Error);
-    assert_eq!(rt; s.find_slice('c'), Some(2..3));
-    assert_eq!(rt; seen(rt.alloc(), &s)?.as_str(), "abcd 4 [97, 98, 99, 100]");
-    let start = s.checkpoint();
-    assert_eq!(rt; s.offset_from(&start), 0);
-    s.complete();
-    s.restore_partial(());
-    assert!(rt; !s.is_partial());
-    let text: &str = &s;
-    assert_eq!(rt; (text, *s.inner()), ("abcd", "abcd"));
-    let (mut window, taken) = window_of(s, 2).ok().ok_or("no window")?;
-    assert_eq!(rt; (window.peek_finish(), taken), ("ab", 2));
-    assert_eq!(rt; window.finish(), "ab");
+    let alloc = rt.alloc();
+    let mut s: Recoverable<&str, Mode> = Recoverable::new(alloc, "abcd");
+    assert_eq!(rt;
+        (
+            searched(alloc, "abcd"),
+            window_inside(alloc, "abcd", 2),
+            marks(&mut s)
+        ),
+        (
+            (CompareResult::Error, Some(2..3)),
+            Some(("ab", "ab", 2)),
+            [false; 4]
+        )
+    );
+    assert_eq!(rt;
+        seen_inside(alloc, "abcd")?.as_str(),
+        "abcd 4 [97, 98, 99, 100] abcd abcd"
+    );
     Ok(())
 }
 
@@ -216,7 +301,12 @@ fn places_and_widths_are_passed_on(rt: HostRuntime) {
     let bytes: &[u8] = b"abc";
     let mut s: Recoverable<_, Mode> = Recoverable::new(rt.alloc(), LocatingSlice::new(bytes));
     let rest: Recoverable<_, Mode> = Recoverable::new(rt.alloc(), LocatingSlice::new(&bytes[2..]));
-    assert_eq!(rt; width_from(&rest, &s), 2);
-    assert_eq!(rt; s.next_token(), Some(b'a'));
-    assert_eq!(rt; place_and_bytes(&s), ((1, 1), &bytes[1..]));
+    let width = width_from(&rest, &s);
+    let start = s.checkpoint();
+    let none = s.offset_from(&start);
+    let _ = s.next_token();
+    assert_eq!(rt;
+        (width, none, place_and_bytes(&s)),
+        (2, 0, ((1, 1), &bytes[1..]))
+    );
 }

@@ -4,6 +4,7 @@ ghost use Rattle.winnow_views.specs.declared.token_slice.TokenSlice.{TokenSlice}
 
 use std::alloc::{AllocError, Global};
 use std::fmt::Debug;
+use std::process::Abort;
 use std::test::Fail;
 use winnow_match::CompareResult;
 use winnow_run::Step::{At, Each, Finish, Mark, Next, Peek, Reset, Since, Take};
@@ -43,6 +44,32 @@ const LEXED: [Lexed; 3] = [
 fn shown(alloc: Global, tokens: &TokenSlice<'_, u8>) -> Result<String, AllocError> {
     let previous: Vec<&u8> = tokens.previous_tokens().collect(alloc)?;
     format!(in alloc; "{tokens:?} after {previous:?}")
+}
+
+// Asserts it.
+fn shows(
+    rt: &impl Abort,
+    alloc: Global,
+    tokens: &TokenSlice<'_, u8>,
+    want: &str,
+) -> Result<(), AllocError> {
+    assert_eq!(rt; shown(alloc, tokens)?.as_str(), want);
+    Ok(())
+}
+
+// Asserts the answers of a script on tokens.
+fn answers<T: Debug>(
+    rt: &impl Abort,
+    alloc: Global,
+    tokens: &[T],
+    script: &[Step<NoSet>],
+    want: &str,
+) -> Result<(), AllocError> {
+    assert_eq!(rt;
+        told(alloc, TokenSlice::new(tokens), script)?.as_str(),
+        want
+    );
+    Ok(())
 }
 
 // Runs a script, which knows nothing of tokens: the whole list stays.
@@ -86,20 +113,14 @@ fn complete_tokens<'t, T>(s: &mut TokenSlice<'t, T>)
 #[test]
 fn a_window_has_the_place_where_it_begins(rt: HostRuntime) -> Result<(), Fail> {
     let mut tokens = TokenSlice::new(&[5, 6, 7, 8]);
-    assert_eq!(rt;
-        shown(rt.alloc(), &tokens)?.as_str(),
-        "[5, 6, 7, 8] after []"
-    );
+    shows(&rt, rt.alloc(), &tokens, "[5, 6, 7, 8] after []")?;
     let _ = tokens.next_token();
     let mut tokens = window(tokens, 2).ok_or("two tokens remain")?;
-    assert_eq!(rt; shown(rt.alloc(), &tokens)?.as_str(), "[6, 7] after [5]");
-    assert_eq!(rt; tokens.next_token(), Some(&6));
-    assert_eq!(rt; shown(rt.alloc(), &tokens)?.as_str(), "[7] after [6, 5]");
+    shows(&rt, rt.alloc(), &tokens, "[6, 7] after [5]")?;
+    let _ = tokens.next_token();
+    shows(&rt, rt.alloc(), &tokens, "[7] after [6, 5]")?;
     tokens.reset_to_start();
-    assert_eq!(rt;
-        shown(rt.alloc(), &tokens)?.as_str(),
-        "[5, 6, 7, 8] after []"
-    );
+    shows(&rt, rt.alloc(), &tokens, "[5, 6, 7, 8] after []")?;
     Ok(())
 }
 
@@ -117,28 +138,31 @@ fn scripts_run_over_tokens(rt: HostRuntime) -> Result<(), Fail> {
         Reset(0),
         Peek,
     ];
-    for (answers, want) in [
-        (
-            told(rt.alloc(), TokenSlice::new(b"abcd"), &script)?,
-            "[Marked(0), Token(Some(97)), At(Ok(3)), Slice([98, 99]), Offset(3), Items([(0, 100)]), Slice([100]), Token(None), Done, Token(Some(97))]",
-        ),
-        (
-            told(rt.alloc(), TokenSlice::new(&["a", "b", "c"]), &script)?,
-            "[Marked(0), Token(Some(\"a\")), At(Err(Size(1))), Slice([\"b\", \"c\"]), Offset(3), Items([]), Slice([]), Token(None), Done, Token(Some(\"a\"))]",
-        ),
-        (
-            told(rt.alloc(), TokenSlice::new(&LEXED), &[At(3), Take(2), Each])?,
-            "[At(Ok(3)), Slice([Lexed { start: 1, end: 9 }, Lexed { start: 11, end: 19 }]), Items([(0, Lexed { start: 21, end: 29 })])]",
-        ),
-    ] {
-        assert_eq!(rt; answers.as_str(), want);
-    }
+    let alloc = rt.alloc();
+    answers(
+        &rt,
+        alloc,
+        b"abcd",
+        &script,
+        "[Marked(0), Token(Some(97)), At(Ok(3)), Slice([98, 99]), Offset(3), Items([(0, 100)]), Slice([100]), Token(None), Done, Token(Some(97))]",
+    )?;
+    answers(
+        &rt,
+        alloc,
+        &["a", "b", "c"],
+        &script,
+        "[Marked(0), Token(Some(\"a\")), At(Err(Size(1))), Slice([\"b\", \"c\"]), Offset(3), Items([]), Slice([]), Token(None), Done, Token(Some(\"a\"))]",
+    )?;
+    answers(
+        &rt,
+        alloc,
+        &LEXED,
+        &[At(3), Take(2), Each],
+        "[At(Ok(3)), Slice([Lexed { start: 1, end: 9 }, Lexed { start: 11, end: 19 }]), Items([(0, Lexed { start: 21, end: 29 })])]",
+    )?;
     let mut tokens = TokenSlice::new(b"abcd");
-    assert_eq!(rt; run_on(rt.alloc(), &mut tokens, &script[..4])?, 4);
-    assert_eq!(rt;
-        shown(rt.alloc(), &tokens)?.as_str(),
-        "[100] after [99, 98, 97]"
-    );
+    assert_eq!(rt; run_on(alloc, &mut tokens, &script[..4])?, 4);
+    shows(&rt, alloc, &tokens, "[100] after [99, 98, 97]")?;
     Ok(())
 }
 
@@ -152,11 +176,11 @@ fn a_checkpoint_of_a_longer_list_is_taken(rt: HostRuntime) -> Result<(), Fail> {
     let mut tokens = TokenSlice::new(&[7, 8]);
     let _ = tokens.next_token();
     tokens.reset(&longer.checkpoint());
-    assert_eq!(rt; shown(rt.alloc(), &tokens)?.as_str(), "[5] after [8, 7]");
+    shows(&rt, rt.alloc(), &tokens, "[5] after [8, 7]")?;
     let _ = tokens.next_token();
-    assert_eq!(rt; shown(rt.alloc(), &tokens)?.as_str(), "[] after [8, 7]");
+    shows(&rt, rt.alloc(), &tokens, "[] after [8, 7]")?;
     tokens.reset_to_start();
-    assert_eq!(rt; shown(rt.alloc(), &tokens)?.as_str(), "[7, 8] after []");
+    shows(&rt, rt.alloc(), &tokens, "[7, 8] after []")?;
     Ok(())
 }
 
@@ -173,16 +197,19 @@ fn locations_are_those_of_the_neighbours(rt: HostRuntime) {
 #[test]
 fn the_first_token_is_compared(rt: HostRuntime) {
     let tokens = TokenSlice::new(&[5, 6]);
-    for (answer, want) in [
-        (compares(tokens, 5), CompareResult::Ok(1)),
-        (compares(tokens, 6), CompareResult::Error),
-        (compares(TokenSlice::new(&[]), 5), CompareResult::Incomplete),
-    ] {
-        assert_eq!(rt; answer, want);
-    }
     assert_eq!(rt;
-        compares(TokenSlice::new(&LEXED), Lexed { start: 1, end: 9 }),
-        CompareResult::Ok(1)
+        [
+            compares(tokens, 5),
+            compares(tokens, 6),
+            compares(TokenSlice::new(&[]), 5),
+            compares(TokenSlice::new(&LEXED), Lexed { start: 1, end: 9 })
+        ],
+        [
+            CompareResult::Ok(1),
+            CompareResult::Error,
+            CompareResult::Incomplete,
+            CompareResult::Ok(1)
+        ]
     );
 }
 
@@ -191,12 +218,18 @@ fn widths_are_numbers_of_tokens(rt: HostRuntime) {
     let start = TokenSlice::new(b"abc");
     let mut tokens = start;
     let _ = tokens.next_token();
-    assert_eq!(rt; width_from(&tokens, &start), 1);
-    assert_eq!(rt; width_from(&tokens, &start.checkpoint()), 1);
-    assert_eq!(rt; width_from(&tokens.checkpoint(), &start.checkpoint()), 1);
-    assert_eq!(rt; (width(&tokens), marks(&mut tokens)), (2, [false; 4]));
+    let widths = [
+        width_from(&tokens, &start),
+        width_from(&tokens, &start.checkpoint()),
+        width_from(&tokens.checkpoint(), &start.checkpoint()),
+        width(&tokens),
+    ];
+    let marked = marks(&mut tokens);
     complete_tokens(&mut tokens);
-    assert_eq!(rt; tokens.as_slice(), b"bc".as_slice());
+    assert_eq!(rt;
+        (widths, marked, tokens.as_slice()),
+        ([1, 1, 1, 2], [false; 4], b"bc".as_slice())
+    );
 }
 
 #[test]
@@ -205,11 +238,16 @@ fn equality_is_that_of_the_tokens(rt: HostRuntime) {
     let mut tokens = start;
     let _ = tokens.next_token();
     let other = TokenSlice::new(&[7]);
-    assert_eq!(rt; start == TokenSlice::new(&[7, 7]), true);
-    assert_eq!(rt; start == tokens, false);
-    assert_eq!(rt; other == tokens, false);
-    assert_eq!(rt; other.checkpoint() == tokens.checkpoint(), true);
-    assert_eq!(rt; start.checkpoint() > tokens.checkpoint(), true);
+    assert_eq!(rt;
+        [
+            start == TokenSlice::new(&[7, 7]),
+            start == tokens,
+            other == tokens,
+            other.checkpoint() == tokens.checkpoint(),
+            start.checkpoint() > tokens.checkpoint()
+        ],
+        [true, false, false, true, true]
+    );
 }
 
 #[test]
