@@ -11,7 +11,7 @@ pub fn field<S: Stream<Token = u8>>(input: &mut S) -> Result<S::Slice, Needed>
         (first_token (S.remaining input.old) ≡ Some count)
         × (count ≤ length (drop 1 (S.remaining input.old)))
         × S.is_slice slice (drop 1 (S.remaining input.old))
-            (width (take count (drop 1 (S.remaining input.old)))))) }
+        (width (take count (drop 1 (S.remaining input.old)))))) }
     ensures behind { IfOk result (λ _. (count : ℕ) × (
         (first_token (S.remaining input.old) ≡ Some count)
         × (S.remaining input.new ≡ drop count (drop 1 (S.remaining input.old))))) }

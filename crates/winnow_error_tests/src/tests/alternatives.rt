@@ -4,9 +4,11 @@ use std::alloc::{AllocError, Global};
 use std::fmt::Debug;
 use std::process::Abort;
 use std::test::Fail;
-use winnow_error::ErrMode::{Backtrack, Cut, Incomplete};
 use winnow_context::{ContextError, StrContext};
-use winnow_error::{AssociativeOr, EmptyError, ErrMode, InputError, OrTree, ParserError, combine, join_all};
+use winnow_error::ErrMode::{Backtrack, Cut, Incomplete};
+use winnow_error::{
+    AssociativeOr, EmptyError, ErrMode, InputError, OrTree, ParserError, combine, join_all,
+};
 use winnow_stream::{Needed, Str};
 
 type Place = InputError<Str<'static>>;
@@ -118,11 +120,26 @@ fn errors_under_an_associative_or_are_joined(rt: HostRuntime) -> Result<(), Fail
         [Backtrack(at("a")), Backtrack(b)],
         "Backtrack(InputError { input: \"b\" })",
     )?;
-    join_to(&rt, alloc, [Backtrack(EmptyError), Cut(EmptyError)], "Cut(EmptyError)")?;
+    join_to(
+        &rt,
+        alloc,
+        [Backtrack(EmptyError), Cut(EmptyError)],
+        "Cut(EmptyError)",
+    )?;
     join_to(&rt, alloc, [Cut(()), Backtrack(())], "Cut(())")?;
-    join_to(&rt, alloc, [Backtrack(Cut(b)), Backtrack(needs)], "Backtrack(Incomplete(Size(3)))")?;
+    join_to(
+        &rt,
+        alloc,
+        [Backtrack(Cut(b)), Backtrack(needs)],
+        "Backtrack(Incomplete(Size(3)))",
+    )?;
     let context: ContextError<StrContext> = ContextError::new(alloc);
-    join_to(&rt, alloc, [Backtrack(context), needs_more()], "Incomplete(Unknown)")?;
+    join_to(
+        &rt,
+        alloc,
+        [Backtrack(context), needs_more()],
+        "Incomplete(Unknown)",
+    )?;
     Ok(())
 }
 
