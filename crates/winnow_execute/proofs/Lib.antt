@@ -1,1 +1,1 @@
-mod LengthLemmas
+mod FedPieceLemmas

@@ -1,5 +1,6 @@
-ghost use Rattle.std.specs.Prelude.{◌+◌, IfErr, length};
+ghost use Rattle.std.specs.Prelude.{◌+◌, ◌<◌, ◌^◌, IfErr, length, string_bytes, sum_by};
 ghost use Rattle.winnow_read.specs.Fault.{IsWithin};
+ghost use Rattle.winnow_read.specs.Inputs.{piece_length};
 ghost use Rattle.winnow_read.specs.Lines.{reach};
 
 use crate::printing::{PushWords, push_answer};
@@ -54,21 +55,28 @@ fn execute_byte_pieces(alloc: Global, lines: &mut Lines) -> Result<String, Scrip
     let steps: Vec<ScriptStep<'_, Vec<u8>>> = read_steps(alloc, lines)?;
     let fed: Vec<FedLine<Vec<u8>>> = read_fed_lines(alloc, lines)?;
     let steps = lend_steps(alloc, &steps)?;
-    let mut feed = ByteFeed::new(alloc, &steps)?;
+    Ok(run_byte_lines(alloc, &steps, &fed)?)
+}
+
+// Feeds steps the pieces of these lines, and tells what a feed waits for where a line asks.
+fn run_byte_lines(
+    alloc: Global,
+    steps: &[SearchStep<CharSet<'_>, &[u8]>],
+    lines: &[FedLine<Vec<u8>>],
+) -> Result<String, AllocError>
+    requires { sum_by (piece_length (λ piece. piece.items)) lines.now < 2 ^ 64 }
+{
+    let mut feed = ByteFeed::new(alloc, steps)?;
     let mut report = Report::new(alloc);
-    for line in &fed {
+    for line in lines {
         match line {
             FedLine::Piece(piece) => {
-                // The pieces are no longer than the lines that told them, and so this never is.
-                if piece.len() > usize::MAX - feed.fed() {
-                    return Err(ScriptFault::OutOfMemory);
-                }
                 feed.feed(piece)?;
                 report.count_piece();
             }
             FedLine::Waits => {
                 report.push_answers(feed.answers())?;
-                report.push_waiting(&feed.waits_for()?)?;
+                report.push_waiting(feed.waits_for()?)?;
             }
         }
     }
@@ -82,21 +90,28 @@ fn execute_text_pieces(alloc: Global, lines: &mut Lines) -> Result<String, Scrip
     let steps: Vec<ScriptStep<'_, String>> = read_steps(alloc, lines)?;
     let fed: Vec<FedLine<String>> = read_fed_lines(alloc, lines)?;
     let steps = lend_steps(alloc, &steps)?;
-    let mut feed = TextFeed::new(alloc, &steps)?;
+    Ok(run_text_lines(alloc, &steps, &fed)?)
+}
+
+// Feeds steps the pieces of these lines, and tells what a feed waits for where a line asks.
+fn run_text_lines(
+    alloc: Global,
+    steps: &[SearchStep<CharSet<'_>, &str>],
+    lines: &[FedLine<String>],
+) -> Result<String, AllocError>
+    requires { sum_by (piece_length string_bytes) lines.now < 2 ^ 64 }
+{
+    let mut feed = TextFeed::new(alloc, steps)?;
     let mut report = Report::new(alloc);
-    for line in &fed {
+    for line in lines {
         match line {
             FedLine::Piece(piece) => {
-                // The pieces are no longer than the lines that told them, and so this never is.
-                if piece.len() > usize::MAX - feed.fed() {
-                    return Err(ScriptFault::OutOfMemory);
-                }
                 feed.feed(piece)?;
                 report.count_piece();
             }
             FedLine::Waits => {
                 report.push_answers(feed.answers())?;
-                report.push_waiting(&feed.waits_for()?)?;
+                report.push_waiting(feed.waits_for()?)?;
             }
         }
     }

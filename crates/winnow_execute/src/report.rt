@@ -38,7 +38,10 @@ impl Report {
     }
 
     /// Adds the line that says what is waited for.
-    pub fn push_waiting<P: PushWords>(&mut self, waiting: &Waiting<P>) -> Result<(), AllocError> {
+    pub fn push_waiting<P: PushWords + Drop>(
+        &mut self,
+        waiting: Waiting<P>,
+    ) -> Result<(), AllocError> {
         let pieces = self.pieces;
         write!(self.text, "{pieces} waits")?;
         match waiting {

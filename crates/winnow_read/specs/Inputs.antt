@@ -1,5 +1,5 @@
 -- The lines of the kind and of the input.
-use Rattle.std.specs.Prelude.{◌≡◌, ℕ, List, ◌∷◌, codes, ⊤}
+use Rattle.std.specs.Prelude.{◌≡◌, ℕ, List, ◌∷◌, codes, length, ⊤}
 use Rattle.winnow_read.specs.Literal.{TellsBytes}
 use Rattle.winnow_read.specs.Words.{first_word, later_words}
 use Rattle.winnow_read.specs.declared.fed_lines.FedLine.{FedLine}
@@ -23,6 +23,11 @@ module _ {L : Type 0} (bytes : L → List ℕ) where
   abbrev pub TellsFed : List ℕ → FedLine L → Type 0
   TellsFed line (Piece piece) = TellsNamed bytes (codes "piece") line piece
   TellsFed line Waits = line ≡ codes "waits"
+
+  -- how many bytes of a piece a line tells
+  abbrev pub piece_length : FedLine L → ℕ
+  piece_length (Piece piece) = length (bytes piece)
+  piece_length Waits = 0
 
 -- nothing is asked before a piece
 abbrev pub BeginsWithPiece : {L : Type 0} → List (FedLine L) → Type 0

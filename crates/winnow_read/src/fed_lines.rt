@@ -1,6 +1,6 @@
-ghost use Rattle.std.specs.Prelude.{◌≡◌, ◌≢◌, ◌<◌, ◌≤◌, [], IfErr, IfOk, IsTrue, OnOk, length};
+ghost use Rattle.std.specs.Prelude.{◌≡◌, ◌≢◌, ◌<◌, ◌≤◌, [], IfErr, IfOk, IsTrue, OnOk, length, sum_by};
 ghost use Rattle.winnow_read.specs.Fault.{IsWithin};
-ghost use Rattle.winnow_read.specs.Inputs.{TellsFed, BeginsWithPiece};
+ghost use Rattle.winnow_read.specs.Inputs.{TellsFed, BeginsWithPiece, piece_length};
 ghost use Rattle.winnow_read.specs.Lines.{reach, AreLines};
 ghost use Rattle.winnow_read.specs.Newline.{first_line, rest_lines};
 ghost use Rattle.winnow_read.specs.declared.fed_lines.FedLine.TheVariants.{Waits};
@@ -25,6 +25,8 @@ pub fn read_fed_lines<L: Contents>(
 ) -> Result<Vec<FedLine<L>>, ScriptFault>
     ensures told { IfOk result (λ told. AreLines (TellsFed L.bytes) lines.old.rest.now told.items []) }
     ensures first { IfOk result (λ told. BeginsWithPiece told.items) }
+    ensures short { IfOk result (λ told.
+        sum_by (piece_length L.bytes) told.items ≤ length lines.old.rest.now) }
     ensures err { IfErr result (IsWithin (reach lines.old)) }
 {
     let mut told = Vec::new(alloc);
