@@ -1,7 +1,6 @@
 -- Two lists of one length, element by element.
-use Rattle.std.proofs.Common.{◌≡◌, List, [], ◌∷◌, ◌++◌, map, refl}
+use Rattle.std.proofs.Common.{List, [], ◌∷◌, ◌++◌, map}
 use Rattle.std.specs.List.{AllZip}
-use Rattle.std.proofs.lemmas.List.{map-append}
 
 -- one more pair
 pub AllZip-push : {A B : Type 0} (R : A → B → Type 0) (xs : List A) (ys : List B) (x : A) (y : B)
@@ -18,8 +17,3 @@ AllZip-map f R [] [] all = tt
 AllZip-map f R [] (y ∷ ys) all = absurd all
 AllZip-map f R (x ∷ xs) [] all = absurd all
 AllZip-map f R (x ∷ xs) (y ∷ ys) all = (all.0, AllZip-map f R xs ys all.1)
-
--- one more pair of elements of which f and g make the same
-pub map-push : {A B C : Type 0} (f : A → C) (g : B → C) (xs : List A) (ys : List B) (x : A) (y : B)
-    → map f xs ≡ map g ys → f x ≡ g y → map f (xs ++ x ∷ []) ≡ map g (ys ++ y ∷ [])
-map-push f g xs ys x y same here = rw (map-append f xs (x ∷ []), map-append g ys (y ∷ []), same, here) refl

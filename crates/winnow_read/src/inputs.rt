@@ -58,19 +58,6 @@ pub fn read_input<L: Contents>(alloc: Global, lines: &mut Lines) -> Result<L, Sc
     Ok(input)
 }
 
-/// The pieces that the lines to the end tell, one each.
-pub fn read_pieces<L: Contents>(alloc: Global, lines: &mut Lines) -> Result<Vec<L>, ScriptFault>
-    ensures pieces { IfOk result (λ pieces.
-        AreLines (TellsNamed L.bytes (codes "piece")) lines.old.rest.now pieces.items []) }
-    ensures err { IfErr result (IsWithin (reach lines.old)) }
-{
-    let mut pieces = Vec::new(alloc);
-    while !lines.is_empty() {
-        pieces.push(read_line(alloc, lines, "piece")?)?;
-    }
-    Ok(pieces)
-}
-
 /// What the next line tells, which has to be this word, a space and a literal.
 pub fn read_line<L: Contents>(
     alloc: Global,

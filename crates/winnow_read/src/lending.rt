@@ -1,4 +1,4 @@
-ghost use Rattle.std.specs.Prelude.{◌≡◌, map, IfOk};
+ghost use Rattle.std.specs.Prelude.{◌≡◌, IfOk};
 ghost use Rattle.std.specs.List.{AllZip};
 ghost use Rattle.winnow_read.specs.Lending.{AreSameNeedles, IsSameStep};
 
@@ -8,17 +8,6 @@ use std::alloc::{AllocError, Global};
 use winnow_match::Needles;
 use winnow_run::{SearchStep, Step};
 use winnow_sets::CharSet;
-
-/// All members of a list, lent.
-pub fn lend_all<'k, L: Lend<'k>>(alloc: Global, owned: &'k [L]) -> Result<Vec<L::Lent>, AllocError>
-    ensures { IfOk result (λ lent. map L.lent_bytes lent.items ≡ map L.bytes owned.now) }
-{
-    let mut lent = Vec::with_capacity(alloc, owned.len())?;
-    for contents in owned {
-        lent.push(contents.lend())?;
-    }
-    Ok(lent)
-}
 
 /// The steps of a script, as a run takes them.
 pub fn lend_steps<'k, L: Lend<'k>>(

@@ -1,7 +1,7 @@
 //! The lines of a script, read: its kind, its steps, and its input, whole or in pieces.
 //!
-//! [`read_kind`] reads the first line, [`read_steps`] the lines of steps behind it, and [`read_input`] or [`read_pieces`] what is
-//! left. A script owns what its lines tell, and [`lend_steps`] and [`lend_all`] lend it for a run.
+//! [`read_kind`] reads the first line, [`read_steps`] the lines of steps behind it, and [`read_input`] or [`read_fed_lines`] what is
+//! left. A script owns what its lines tell, and [`lend_steps`] lends it for a run.
 #![tactic(auto)]
 
 mod contents;
@@ -17,8 +17,8 @@ mod words;
 pub use contents::{Contents, Lend};
 pub use fault::ScriptFault;
 pub use fed_lines::{FedLine, read_fed_lines};
-pub use inputs::{Kind, read_input, read_kind, read_pieces};
-pub use lending::{lend_all, lend_steps};
+pub use inputs::{Kind, read_input, read_kind};
+pub use lending::lend_steps;
 pub use lines::Lines;
 pub use literals::literal;
 pub use steps::{ScriptStep, read_steps};
