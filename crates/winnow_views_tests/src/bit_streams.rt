@@ -5,7 +5,6 @@ ghost use Rattle.winnow_views.specs.BitSource.{IsBitSource};
 ghost use Rattle.winnow_views.specs.BitWidth.{SlicesHaveWidths};
 
 use std::alloc::{AllocError, Global};
-use std::process::Abort;
 use std::test::Fail;
 use winnow_run::Step;
 use winnow_run::Step::{At, Each, Eof, Finish, Look, Mark, Next, Peek, Reset, Since, Take};
@@ -61,21 +60,6 @@ fn told_at<'i>(
     }
 }
 
-// Asserts the answers of a script on the bits of bytes from a place on.
-fn answers(
-    rt: &impl Abort,
-    alloc: Global,
-    bytes: &[u8],
-    place: usize,
-    script: &[Step<NoSet>],
-    want: &str,
-) -> Result<(), AllocError> {
-    let told = told_at(alloc, bytes, place, script)?;
-    let answers = told.as_ref().map(|told| told.as_str());
-    assert_eq!(rt; answers, Some(want), "at {place}");
-    Ok(())
-}
-
 #[test]
 fn scripts_on_bits(rt: HostRuntime) -> Result<(), Fail> {
     let cases: [(&[u8], usize, &[Step<NoSet>], &str); 6] = [
@@ -117,7 +101,8 @@ fn scripts_on_bits(rt: HostRuntime) -> Result<(), Fail> {
         ),
     ];
     for (bytes, place, script, want) in cases {
-        answers(&rt, rt.alloc(), bytes, place, script, want)?;
+        let told = told_at(rt.alloc(), bytes, place, script)?.ok_or("no bits")?;
+        assert_eq!(rt; told.as_str(), want, "at {place}");
     }
     Ok(())
 }
@@ -154,56 +139,30 @@ where
     Some((slice, length))
 }
 
-const BYTES: [u8; 3] = *b"\xab\x31\xc0";
-
-// Whether the bits that remain are those.
-fn remain(rest: &Bits<&[u8]>, wanted: Option<&[bool]>) -> bool {
-    match wanted {
-        Some(wanted) => rest
-            .iter_offsets()
-            .map(|(_, bit)| bit)
-            .eq(wanted.iter().copied()),
-        None => false,
-    }
-}
-
-// The slice of that many bits from a place on, with its length, and whether those behind it remain; `None` where there is none.
-fn taken<'i>(
-    bytes: &'i [u8],
-    slow: &[bool],
-    place: usize,
-    count: usize,
-) -> Option<((&'i [u8], usize, usize), usize, bool)> {
-    byte_slice_law();
-    let mut rest = bits_at(bytes, place)?;
-    let (slice, length) = take(&mut rest, count)?;
-    Some((
-        slice,
-        length,
-        remain(&rest, slow.get(place.saturating_add(count)..)),
-    ))
-}
-
-// Asserts each slice from a place on, and that there is no longer one.
-fn slices_agree(rt: &impl Abort, slow: &[bool], place: usize) {
-    for count in 0..26usize {
-        let end = place.saturating_add(count);
-        let want = match BYTES.get(..end / 8) {
-            Some(whole) if end <= 24 => Some(((whole, place, end % 8), count, true)),
-            _ => None,
-        };
-        assert_eq!(rt; taken(&BYTES, slow, place, count), want, "{place}, {count}");
-    }
-}
-
 #[test]
 fn slices_against_a_slow_reading(rt: HostRuntime) -> Result<(), Fail> {
-    let slow = slow_bits(rt.alloc(), &BYTES)?;
+    let bytes = b"\xab\x31\xc0".as_slice();
+    let slow = slow_bits(rt.alloc(), bytes)?;
+    byte_slice_law();
     for place in 0..8usize {
-        slices_agree(&rt, slow.as_slice(), place);
-        let one = bits_at(&BYTES[..1], place);
-        let is_kept = one.is_some_and(|one| remain(&one, slow.get(place..8)));
-        assert!(rt; is_kept, "one byte at {place}");
+        for count in 0..25 - place {
+            let mut rest = bits_at(bytes, place).ok_or("no bits")?;
+            let ((whole, start, end), length) = take(&mut rest, count).ok_or("too few")?;
+            assert_eq!(rt; (whole, start), (&bytes[..(place + count) / 8], place));
+            assert_eq!(rt; (end, length), ((place + count) % 8, count));
+            let left: Vec<bool> = rest.iter_offsets().map(|(_, bit)| bit).collect(rt.alloc())?;
+            assert_eq!(rt;
+                Some(left.as_slice()),
+                slow.get(place + count..),
+                "{place}, {count}"
+            );
+        }
+        let mut rest = bits_at(bytes, place).ok_or("no bits")?;
+        assert_eq!(rt; take(&mut rest, 25 - place), None);
+        // One byte.
+        let one = bits_at(&bytes[..1], place).ok_or("no bits")?;
+        let left: Vec<bool> = one.iter_offsets().map(|(_, bit)| bit).collect(rt.alloc())?;
+        assert_eq!(rt; Some(left.as_slice()), slow.get(place..8), "{place}");
     }
     Ok(())
 }
@@ -243,29 +202,19 @@ fn places_of_bits(rt: HostRuntime) {
     let bytes = b"\xab\x31".as_slice();
     let start = Bits::new(bytes);
     let mut end = start;
-    let width = token_width(&mut end);
-    let equal = [
-        end == Bits::at_place(bytes, 1),
-        end == start,
-        end.checkpoint() == start.checkpoint(),
-        start.checkpoint() == Bits::new(bytes).checkpoint(),
-    ];
-    assert_eq!(rt;
-        (width, end.into_parts(), equal),
-        (1, (bytes, 1), [true, false, false, true])
-    );
+    assert_eq!(rt; token_width(&mut end), 1);
+    assert_eq!(rt; end.into_parts(), (bytes, 1));
+    assert!(rt; end == Bits::at_place(bytes, 1) && end != start);
+    assert!(rt; end.checkpoint() != start.checkpoint());
+    assert!(rt; start.checkpoint() == Bits::new(bytes).checkpoint());
+    assert_eq!(rt; width_from(&Bits::at_place(bytes, 5), &start), 5);
     assert_eq!(rt; marks(&mut end), [false; 4]);
     complete_bits(&mut end);
     let mut rest = Bits::at_place(bytes, 5);
-    assert_eq!(rt;
-        [width_from(&rest, &start), place_of(&start), place_of(&rest)],
-        [5, 0, 5]
-    );
-    let finished = [rest.peek_finish(), rest.finish()];
-    assert_eq!(rt;
-        (finished, rest.into_parts()),
-        ([(bytes, 5, 0); 2], (b"".as_slice(), 0))
-    );
+    assert_eq!(rt; (place_of(&start), place_of(&rest)), (0, 5));
+    assert_eq!(rt; rest.peek_finish(), (bytes, 5, 0));
+    assert_eq!(rt; rest.finish(), (bytes, 5, 0));
+    assert_eq!(rt; rest.into_parts(), (b"".as_slice(), 0));
 }
 
 #[test]

@@ -42,7 +42,8 @@ fn a_slice_of_bits_is_as_long_as_its_offset(rt: HostRuntime) {
 // The width of the next bit, by the checkpoints before and behind it.
 fn width_of_next<I: Stream<Token = u8>>(bits: &mut Bits<I>) -> usize
     requires { IsValidBits I.valid I.remaining bits.old }
-    ensures { result ≤ 1 }
+    ensures width { result ≤ 1 }
+    ensures valid { IsValidBits I.valid I.remaining bits.new }
 {
     bit_checkpoint_law::<I>();
     let start = bits.checkpoint();
