@@ -58,7 +58,7 @@ pub use Rattle.winnow_feed.specs.Inputs
 pub use Rattle.winnow_feed.specs.Telling
 pub use Rattle.winnow_feed.specs.Reach
 pub use Rattle.winnow_feed.specs.Feeding
-pub use Rattle.winnow_feed.specs.Missing
+pub use Rattle.winnow_attempt.specs.Missing
 pub use Rattle.winnow_feed.specs.Waits
 -- The types of a script, with their variants.
 pub use Rattle.winnow_match.specs.declared.needles.Needles

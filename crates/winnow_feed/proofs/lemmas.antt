@@ -1,17 +1,12 @@
 pub mod FeedLemmas
 pub mod InputLemmas
 pub mod KeepingLemmas
-pub mod LookLemmas
 pub mod MissingLemmas
 pub mod NamingLemmas
-pub mod NeedleLemmas
-pub mod PassedLemmas
 pub mod PieceLemmas
 pub mod ReachLemmas
-pub mod SettledLemmas
 pub mod SpellingLemmas
 pub mod StandingLemmas
 pub mod TellingLemmas
 pub mod TextRestLemmas
-pub mod ViewLemmas
 pub mod WaitingLemmas

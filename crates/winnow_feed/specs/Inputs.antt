@@ -8,7 +8,7 @@ use Rattle.winnow_stream.specs.Text.{text_source}
 use Rattle.winnow_sets.specs.declared.char_set.CharSet.{CharSet}
 use Rattle.winnow_run.specs.declared.search_script.SearchStep.{SearchStep}
 use Rattle.winnow_run.specs.Definite.{PieceKind}
-use Rattle.winnow_feed.specs.View.{piece_kind}
+use Rattle.winnow_attempt.specs.View.{piece_kind}
 
 -- a literal, of bytes or of text, is its bytes; a token is a byte or the number of a character
 abbrev pub PieceStep : Type 0

@@ -1,9 +1,6 @@
-pub mod Settled
-pub mod View
 pub mod Inputs
 pub mod Reach
 pub mod Telling
 pub mod Standing
 pub mod Feeding
-pub mod Missing
 pub mod Waits

@@ -8,7 +8,7 @@ use Rattle.winnow_run.specs.declared.search_script.SearchStep.{SearchStep}
 use Rattle.winnow_feed.specs.declared.progress.Progress.{Progress}
 use Rattle.winnow_run.specs.Searching.{PlacedSearchAnswer}
 use Rattle.winnow_run.specs.Definite.{PieceKind, is_definite}
-use Rattle.winnow_feed.specs.Settled.{IsSettled}
+use Rattle.winnow_attempt.specs.Settled.{IsSettled}
 use Rattle.winnow_feed.specs.Reach.{Reaches, needed_from, needed_place}
 use Rattle.winnow_feed.specs.Telling.{capped, under}
 

@@ -15,7 +15,7 @@ use Rattle.winnow_feed.specs.declared.progress.Progress.{Progress}
 use Rattle.winnow_feed.specs.declared.waiting.Waiting.{Waiting}
 use Rattle.winnow_feed.specs.declared.waiting.Waiting.TheVariants as waiting
 use Rattle.winnow_feed.specs.Inputs.{PieceStep, InputKind, joined}
-use Rattle.winnow_feed.specs.Missing.{missing}
+use Rattle.winnow_attempt.specs.Missing.{missing}
 use Rattle.winnow_feed.specs.Standing.{Stands, next_step}
 use Rattle.winnow_feed.specs.Telling.{out_on, told_of}
 use Rattle.winnow_feed.specs.Feeding.{FeedState, Fits, script_of}

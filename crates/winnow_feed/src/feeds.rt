@@ -1,12 +1,12 @@
 use crate::buffers::forget_bytes;
 use crate::keeping::take_in;
-use crate::looking::Passed;
 use crate::missing::next_missing;
 use crate::naming::marks_named;
 use crate::progress::{Progress, advance};
 use crate::{Finished, Told, Waiting};
 use std::alloc::{AllocError, Global};
 use std::marker::Model;
+use winnow_attempt::Passed;
 use winnow_run::SearchStep;
 use winnow_sets::CharSet;
 use winnow_stream::StreamIsPartial;

@@ -2,15 +2,14 @@ ghost use Rattle.std.specs.Prelude.{◌≡◌, ℕ, ◌+◌, ◌≤◌, ◌<◌,
 ghost use Rattle.std.specs.Prelude.{vec_capacity, IsTrue, Some};
 ghost use Rattle.winnow_stream.specs.Source.{width};
 ghost use Rattle.winnow_stream.specs.Front.{is_offset};
-ghost use Rattle.winnow_feed.specs.View.{piece_kind};
+ghost use Rattle.winnow_attempt.specs.View.{piece_kind};
 ghost use Rattle.winnow_feed.specs.Reach.{named_place, least_place, needed_place, least_marks};
 ghost use Rattle.winnow_feed.specs.Standing.{IsStanding, TakesIn, KeepsLeast, KeepsNeeded};
 ghost use Rattle.winnow_feed.specs.Standing.{Tells, Tries, steps_left};
 ghost use Rattle.winnow_feed.specs.Telling.{capped};
 
-use crate::kept::Kept;
-use crate::looking::mark_at;
 use crate::progress::{Progress, advance};
+use winnow_attempt::{Kept, mark_at};
 use winnow_run::{SearchStep, Step};
 use winnow_sets::{AsChar, CharSet};
 use winnow_stream::{AsBStr, Stream, StreamIsPartial};

@@ -7,21 +7,15 @@
 //! input that would change its answer, unless there is none.
 //!
 //! `ByteFeed` and `TextFeed` take the pieces one by one, `run_pieces` and `run_pieces_text` a list
-//! of them. What they share is in the private modules: `kept` is the stream over what is kept,
-//! whose mark says whether more may follow; `looking` and `literals` look at a step over it;
-//! `attempts` says whether the step waits and what it has passed for good; `progress` runs steps
-//! until one waits; `naming` and `keeping` say what may be dropped then, and `buffers` drops it;
-//! `missing` says what a step that waits is missing.
+//! of them. What they share is `winnow_attempt`, which attempts one step over what is kept, and the
+//! private modules: `progress` runs steps until one waits; `naming` and `keeping` say what may be
+//! dropped then, and `buffers` drops it; `missing` says what the step that waits is missing.
 #![tactic(auto)]
 
-mod attempts;
 mod buffers;
 mod feeds;
 mod finished;
 mod keeping;
-mod kept;
-mod literals;
-mod looking;
 mod missing;
 mod naming;
 mod progress;

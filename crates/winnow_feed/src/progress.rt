@@ -1,15 +1,13 @@
 ghost use Rattle.std.specs.Prelude.{◌≡◌, ◌+◌, ◌≤◌, ◌<◌, ◌^◌, ◌∷◌, ◌++◌, [], false, length};
 ghost use Rattle.std.specs.Prelude.{IsTrue, vec_len, vec_capacity, if◌then◌else◌};
 ghost use Rattle.winnow_stream.specs.Source.{width};
-ghost use Rattle.winnow_feed.specs.View.{piece_kind};
+ghost use Rattle.winnow_attempt.specs.View.{piece_kind};
 ghost use Rattle.winnow_feed.specs.Standing.{IsStanding, KeepsStanding, StandsAtRest};
 ghost use Rattle.winnow_feed.specs.Standing.{ComesToRest, Tells, Tries, StandsStill};
 ghost use Rattle.winnow_feed.specs.Telling.{capped, under};
 
 use crate::Told;
-use crate::attempts::{Attempt, attempt_step};
-use crate::kept::Kept;
-use crate::looking::Passed;
+use winnow_attempt::{Attempt, Kept, Passed, attempt_step};
 use winnow_run::{PieceAnswer, SearchStep};
 use winnow_sets::{AsChar, CharSet};
 use winnow_stream::{AsBStr, Stream, StreamIsPartial};

@@ -1,6 +1,5 @@
 use crate::buffers::forget_text;
 use crate::keeping::take_in;
-use crate::looking::Passed;
 use crate::missing::next_missing;
 use crate::naming::marks_named;
 use crate::progress::{Progress, advance};
@@ -8,6 +7,7 @@ use crate::texts::is_spelt;
 use crate::{Finished, Told, Waiting};
 use std::alloc::{AllocError, Global};
 use std::marker::Model;
+use winnow_attempt::Passed;
 use winnow_run::SearchStep;
 use winnow_sets::CharSet;
 use winnow_stream::StreamIsPartial;

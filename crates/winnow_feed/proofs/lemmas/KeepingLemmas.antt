@@ -17,8 +17,8 @@ use Rattle.winnow_run.specs.Definite.{PieceKind}
 use Rattle.winnow_feed.specs.Reach.{named_index, least_index, needed_from, named_place, least_place, needed_place}
 use Rattle.winnow_feed.specs.Standing.{Stands, StandsStill, KeepsLeast, steps_left, answers_told}
 use Rattle.winnow_run.proofs.lemmas.StepLemmas.{Inside, start-inside}
-use Rattle.winnow_feed.proofs.lemmas.SettledLemmas.{width-split, settled-more}
-use Rattle.winnow_feed.proofs.lemmas.ViewLemmas.{marked, reset-place}
+use Rattle.winnow_attempt.proofs.lemmas.SettledLemmas.{width-split, settled-more}
+use Rattle.winnow_attempt.proofs.lemmas.ViewLemmas.{marked, reset-place}
 use Rattle.winnow_feed.proofs.lemmas.ReachLemmas.{Reaches-inside, Reaches-more, Reaches-loose, least-at}
 
 pub least-step : {C L : Type 0} (at : ℕ) (marks : List ℕ) (least : ℕ) (s : ℕ) (steps : List (SearchStep C L)) → least_place at marks (min least s) steps ≡ min s (least_place at marks least steps)

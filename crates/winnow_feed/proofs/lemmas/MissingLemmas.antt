@@ -36,11 +36,11 @@ use Rattle.winnow_run.specs.Definite.{kind_of, is_decided, is_call_definite, is_
 use Rattle.winnow_run.proofs.lemmas.StepLemmas.{Inside, rest-more}
 use Rattle.winnow_run.proofs.lemmas.MoreLemmas.{width-append, written-append}
 use Rattle.winnow_feed.specs.Inputs.{PieceStep, InputKind}
-use Rattle.winnow_feed.specs.Missing.{letters, needle_missing, call_missing, missing}
+use Rattle.winnow_attempt.specs.Missing.{letters, needle_missing, call_missing, missing}
 use Rattle.winnow_feed.specs.Waits.{IsSpelt}
 use Rattle.winnow_feed.proofs.lemmas.InputLemmas.{IsInput}
 use Rattle.winnow_feed.proofs.lemmas.SpellingLemmas.{IsSpelling}
-use Rattle.winnow_feed.proofs.lemmas.NeedleLemmas.{needle-changes}
+use Rattle.winnow_attempt.proofs.lemmas.NeedleLemmas.{needle-changes}
 
 -- ---- one word at a time
 

@@ -15,7 +15,7 @@ use Rattle.winnow_sets.specs.declared.char_set.CharSet.{CharSet}
 use Rattle.winnow_sets.specs.Sets.{char_ranges, in_ranges}
 use Rattle.winnow_feed.specs.Inputs.{InputKind, byte_input, text_input}
 use Rattle.winnow_match.specs.Comparison.{IsFrontOf}
-use Rattle.winnow_feed.specs.Missing.{letters, needle_missing}
+use Rattle.winnow_attempt.specs.Missing.{letters, needle_missing}
 use Rattle.winnow_feed.proofs.lemmas.TextRestLemmas.{text-drop, rest-text, needle-text}
 
 pub record IsSpelling (i : InputKind) : Type 0 where

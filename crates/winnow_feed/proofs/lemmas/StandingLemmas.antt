@@ -13,18 +13,18 @@ use Rattle.winnow_match.specs.Bytes.{written}
 use Rattle.winnow_match.specs.Search.{needle_list}
 use Rattle.winnow_run.specs.declared.search_script.SearchStep.{SearchStep}
 use Rattle.winnow_run.specs.declared.search_script.SearchStep.TheVariants as step
-use Rattle.winnow_feed.specs.declared.looking.Look.{Look}
+use Rattle.winnow_attempt.specs.declared.looking.Look.{Look}
 use Rattle.winnow_feed.specs.declared.progress.Progress.{Progress}
 use Rattle.winnow_run.specs.Searching.{search_answer, search_next}
 use Rattle.winnow_run.specs.Definite.{PieceKind, kind_of, is_definite}
-use Rattle.winnow_feed.specs.Settled.{IsSettled}
-use Rattle.winnow_feed.specs.View.{look_of}
+use Rattle.winnow_attempt.specs.Settled.{IsSettled}
+use Rattle.winnow_attempt.specs.View.{look_of}
 use Rattle.winnow_feed.specs.Reach.{least_index, needed_from}
 use Rattle.winnow_feed.specs.Telling.{under}
 use Rattle.winnow_feed.specs.Standing.{Stands, Tells, next_step, steps_left, answers_told}
 use Rattle.winnow_run.proofs.lemmas.StepLemmas.{Inside, start-inside}
-use Rattle.winnow_feed.proofs.lemmas.SettledLemmas.{width-split, NoneHeld-none, NoneStands-none, AreCounted-none, AreSame-none}
-use Rattle.winnow_feed.proofs.lemmas.ViewLemmas.{view-answer, view-place, view-marks}
+use Rattle.winnow_attempt.proofs.lemmas.SettledLemmas.{width-split, NoneHeld-none, NoneStands-none, AreCounted-none, AreSame-none}
+use Rattle.winnow_attempt.proofs.lemmas.ViewLemmas.{view-answer, view-place, view-marks}
 use Rattle.winnow_feed.proofs.lemmas.ReachLemmas.{Reaches-inside, Reaches-push, least-at, never_back}
 
 drop-at : {X : Type 0} (xs : List X) (i : ℕ) (x : X) → slice_get xs i ≡ Some x → drop i xs ≡ x ∷ drop (suc i) xs

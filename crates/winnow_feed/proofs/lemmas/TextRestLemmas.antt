@@ -17,7 +17,7 @@ use Rattle.winnow_match.proofs.lemmas.ByteLemmas.{utf8_of-char_source}
 use Rattle.winnow_match.proofs.lemmas.FrontLemmas.{front_rest, is_front-IsFrontOf, length-front}
 use Rattle.winnow_match.proofs.lemmas.StretchLemmas.{none-or-some}
 use Rattle.winnow_match.proofs.lemmas.MoveLemmas.{inside, stretch-some, stretch-first, stretch-empty}
-use Rattle.winnow_feed.specs.Missing.{needle_missing}
+use Rattle.winnow_attempt.specs.Missing.{needle_missing}
 
 scalars-drop : (k : ℕ) (cs : List ℕ) → all_scalars cs ≡ true → all_scalars (drop k cs) ≡ true
 scalars-drop zero cs h = h

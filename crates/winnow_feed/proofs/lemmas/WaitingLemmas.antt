@@ -24,7 +24,7 @@ use Rattle.winnow_feed.specs.Inputs.{PieceStep, InputKind, byte_input, joined}
 use Rattle.winnow_feed.specs.Reach.{Reaches}
 use Rattle.winnow_feed.specs.Standing.{Stands, IsAtRest, next_step, answers_told}
 use Rattle.winnow_feed.specs.Feeding.{FeedState, StandsFor, Fits, script_of}
-use Rattle.winnow_feed.specs.Missing.{missing}
+use Rattle.winnow_attempt.specs.Missing.{missing}
 use Rattle.winnow_feed.specs.Waits.{TellsMissing, MissesSome, IsSpelt, answer_on, waiting_number, waiting_step, waiting_rest, missing_on, IsMissing, WaitsToEnd, MissesMore}
 use Rattle.winnow_feed.proofs.lemmas.InputLemmas.{IsInput}
 use Rattle.winnow_feed.proofs.lemmas.SpellingLemmas.{IsSpelling}

@@ -1,6 +1,6 @@
 use Rattle.std.proofs.Common.{◌≡◌, ◌+◌, ◌≤◌, ◌-◌, length, vec_len, vec_capacity}
 use Rattle.winnow_stream.specs.Source.{Source}
-use Rattle.winnow_feed.specs.View.{piece_kind}
+use Rattle.winnow_attempt.specs.View.{piece_kind}
 use Rattle.winnow_feed.specs.Standing.{Stands, Tells, StandsStill}
 use Rattle.winnow_feed.specs.Telling.{capped}
 use Rattle.winnow_feed.proofs.progress.advance.Given as goal

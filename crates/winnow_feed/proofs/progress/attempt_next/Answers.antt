@@ -2,10 +2,10 @@ use Rattle.std.proofs.Common.{[], ◌∷◌, length, length-append, sym, ap, ◌
 use Rattle.std.proofs.lemmas.Option.{same_Some}
 use Rattle.winnow_stream.specs.Source.{width}
 use Rattle.winnow_stream.specs.Front.{back}
-use Rattle.winnow_feed.specs.View.{piece_kind}
+use Rattle.winnow_attempt.specs.View.{piece_kind}
 use Rattle.winnow_run.specs.Definite.{is_definite}
-use Rattle.winnow_feed.specs.Settled.{IsSettled}
-use Rattle.winnow_feed.specs.View.{look_of}
+use Rattle.winnow_attempt.specs.Settled.{IsSettled}
+use Rattle.winnow_attempt.specs.View.{look_of}
 use Rattle.winnow_feed.specs.Telling.{under}
 use Rattle.winnow_feed.proofs.lemmas.StandingLemmas.{next-is, base-le, kept-offset, kept-rest, kept-room, rest-back, Stands-waits, Stands-answered, Tells-none}
 use Rattle.winnow_feed.proofs.progress.attempt_next.Goals as goal

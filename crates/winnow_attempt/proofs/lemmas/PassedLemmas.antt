@@ -1,0 +1,117 @@
+-- What a waiting step has passed, by cases of the code.
+use Rattle.std.proofs.Common.{◌≡◌, ℕ, ◌+◌, ◌-◌, ◌≤◌, ◌<◌, Bool, true, false, cond, leb, List, [], ◌∷◌, ◌++◌, length, take, Option, None, Some, Ok, Err, refl, sym, ap, ◌∙◌, subst, arith, length-drop, take_all}
+use Rattle.std.proofs.lemmas.List.{take_at}
+use Rattle.std.specs.Prelude.{is_some, is_ok}
+use Rattle.std.specs.declared.ops.Range.{Range}
+use Rattle.std.proofs.lemmas.Bool.{le-leb, leb-false, and_from}
+use Rattle.winnow_stream.specs.Source.{Source, width, HasWidths, first_token, first_offset}
+use Rattle.winnow_stream.specs.Front.{count_to, back}
+use Rattle.winnow_stream.specs.Shortage.{shortage, offset_at}
+use Rattle.winnow_stream.proofs.lemmas.FrontLemmas.{count_to-le, is_offset-whole, count_to-place}
+use Rattle.winnow_stream.specs.declared.needed.Needed.{Needed}
+use Rattle.winnow_match.specs.declared.compare.CompareResult.{CompareResult}
+use Rattle.winnow_match.specs.declared.compare.CompareResult.TheVariants as compared
+use Rattle.winnow_match.specs.Comparison.{comparison}
+use Rattle.winnow_match.specs.Search.{hit}
+use Rattle.winnow_match.specs.declared.needles.Stretch.{Stretch}
+use Rattle.winnow_match.specs.Stretch.{stretch_of, longest}
+use Rattle.winnow_match.proofs.lemmas.MoveLemmas.{stretch-within, none-before_stretch}
+use Rattle.winnow_match.proofs.lemmas.RuleLemmas.{none-definite}
+use Rattle.winnow_match.proofs.lemmas.ComparisonLemmas.{incomplete-says}
+use Rattle.winnow_run.specs.declared.script.Step.TheVariants as call
+use Rattle.winnow_run.specs.declared.search_script.SearchStep.{SearchStep}
+use Rattle.winnow_run.specs.declared.search_script.SearchStep.TheVariants as step
+use Rattle.winnow_attempt.specs.View.{never_definite, look_of}
+use Rattle.winnow_run.specs.Definite.{PieceKind, is_definite, is_decided}
+use Rattle.winnow_attempt.specs.Settled.{NoneHeld, NoneStands, AreSame, AreCounted}
+use Rattle.winnow_attempt.proofs.lemmas.SettledLemmas.{NoneHeld-whole, NoneStands-searched, have_most}
+
+none_of : {A : Type 0} (o : Option A) → is_some o ≡ false → o ≡ None
+none_of None h = refl
+none_of (Some x) h = absurd (cc)
+
+pub first-passed : {T : Type 0} (holds : T → Bool) (r : Source T) → HasWidths r → is_some (first_offset holds r) ≡ false → NoneHeld holds r (width r)
+first-passed holds r w h = NoneHeld-whole holds r w (none_of (first_offset holds r) h)
+
+short : (b : Bool) (w : ℕ) (e : Needed) → is_ok (cond b (Ok w) (Err e)) ≡ false → b ≡ false
+short true w e h = h
+short false w e h = refl
+
+pub at-short : {T : Type 0} (counts_missing : Bool) (r : Source T) (asked : ℕ) → is_ok (offset_at counts_missing r asked) ≡ false → length r ≤ asked
+at-short counts_missing r asked h =
+    let e = short (leb asked (length r)) (width (take asked r)) (shortage counts_missing (asked - length r)) h in
+    omega (arith, leb-false asked (length r) e)
+
+pub counted-whole : {T : Type 0} (asked : ℕ) (r : Source T) (n count total : ℕ) → HasWidths r → AreCounted asked r n count → length r ≤ asked → total ≡ count + length (back r n) → AreCounted asked r (width r) total
+counted-whole asked r n count total w h l e =
+    let whole : width (take (length r) r) ≡ width r = ap width (take_all (length r) r (omega arith)) in
+    let k : count_to r (width r) ≡ length r = subst (λ m. count_to r m ≡ length r) whole (count_to-place r (length r) w (omega arith)) in
+    let same : total ≡ length r = omega (arith, e, h.counted, length-drop (count_to r n) r, count_to-le r n) in
+    record { offset = is_offset-whole r w; counted = k ∙ sym same; fits = omega (arith, same) }
+
+undecided : (c : CompareResult) → is_decided c ≡ false → c ≡ compared.Incomplete
+undecided (compared.Ok n) h = absurd (cc)
+undecided compared.Incomplete h = refl
+undecided compared.Error h = absurd (cc)
+
+pub same-whole : (literal bytes : List ℕ) → is_decided (comparison literal bytes) ≡ false → AreSame literal bytes (length bytes)
+same-whole literal bytes h =
+    let parts = (incomplete-says literal bytes).0 (undecided (comparison literal bytes) h) in
+    let e : literal ≡ bytes ++ parts.0.0 = parts.0.1 in
+    record {
+      within = omega arith;
+      fits = omega (arith, parts.1);
+      same = take_all (length bytes) bytes (omega arith) ∙ sym (ap (take (length bytes)) e ∙ take_at bytes parts.0.0 (length bytes) refl);
+    }
+
+-- ---- searches
+
+most-longest : (w : ℕ) (ls : List (List ℕ)) → longest ls ≤ w → have_most w ls ≡ true
+most-longest w [] l = refl
+most-longest w (x ∷ ls) l = and_from _ _ (le-leb (length x) w (omega (arith, l))) (most-longest w ls (omega (arith, l)))
+
+module _ (ls : List (List ℕ)) (bs : List ℕ) where
+  pub searched-none : (m : ℕ) → m ≡ longest ls → None ≡ hit ls bs → NoneStands ls bs (length bs - (m - 1))
+  searched-none m e none = NoneStands-searched (m - 1) ls bs (most-longest (m - 1 + 1) ls (omega (arith, e))) (sym none)
+
+  pub searched-hit : (r : Range ℕ) (s : Stretch) → Some r ≡ hit ls bs → Some s ≡ stretch_of ls bs → NoneStands ls bs s.place
+  searched-hit r s h e = record { within = stretch-within ls bs r s (sym h) (sym e); none = λ m i l. none-before_stretch ls bs r s (sym h) (sym e) m i l }
+
+pub ruleset found_hits = (none-definite)
+
+pub ruleset passes = (first-passed, at-short, same-whole)
+
+pub length-width : {T : Type 0} (r : Source T) → HasWidths r → length r ≤ width r
+length-width [] h = omega arith
+length-width (x ∷ r) h = omega (arith, h.0, length-width r h.1)
+
+pub one-left : {T : Type 0} (r : Source T) → is_some (first_token r) ≡ true → 0 < length r
+one-left [] h = absurd (cc)
+one-left (x ∷ r) h = omega arith
+
+-- ---- attempts
+
+pub never : {T C L : Type 0} (k : PieceKind T C L) (s : SearchStep C L) (r : Source T) → never_definite s ≡ true → is_definite k s r ≡ false
+never k (step.Call call.Next) r h = absurd (cc)
+never k (step.Call call.Peek) r h = absurd (cc)
+never k (step.Call (call.Take n)) r h = absurd (cc)
+never k (step.Call (call.Look n)) r h = absurd (cc)
+never k (step.Call call.Finish) r h = refl
+never k (step.Call call.PeekFinish) r h = refl
+never k (step.Call call.Eof) r h = refl
+never k (step.Call (call.At n)) r h = absurd (cc)
+never k (step.Call (call.IsOffset n)) r h = absurd (cc)
+never k (step.Call (call.First c)) r h = absurd (cc)
+never k (step.Call call.Each) r h = refl
+never k (step.Call call.Mark) r h = absurd (cc)
+never k (step.Call (call.Reset n)) r h = absurd (cc)
+never k (step.Call (call.Since n)) r h = absurd (cc)
+never k (step.Compare l) r h = absurd (cc)
+never k (step.Find ns) r h = absurd (cc)
+
+pub look-definite : {T C L : Type 0} (k : PieceKind T C L) (at : ℕ) (marks : List ℕ) (r : Source T) (s : SearchStep C L) → (look_of k at marks r s).definite ≡ is_definite k s r
+look-definite k at marks r (step.Call s) = refl
+look-definite k at marks r (step.Compare l) = refl
+look-definite k at marks r (step.Find ns) = refl
+
+pub ruleset attempted = (never, look-definite)

@@ -1,0 +1,138 @@
+-- What remains, the place and the places of the marks say all that the cursor on the whole list does.
+use Rattle.std.proofs.Common.{◌≡◌, ℕ, zero, suc, ◌+◌, ◌-◌, ◌≤◌, min, cond, List, [], ◌∷◌, ◌++◌, length, take, drop, map, Option, None, Some, refl, sym, ap, ◌∙◌, arith, inl, inr, take_all}
+use Rattle.std.specs.Prelude.{unwrap_or, slice_get, option_map}
+use Rattle.std.specs.List.{AllByRecursion}
+use Rattle.std.proofs.lemmas.Bool.{cases_Bool, cases_lt, le-leb, lt-leb}
+use Rattle.std.proofs.lemmas.List.{length-map, map-append}
+use Rattle.winnow_stream.specs.Source.{Source, width, HasWidths}
+use Rattle.winnow_stream.specs.Front.{front_count, is_offset, count_to}
+use Rattle.winnow_stream.specs.Cursor.{Cursor, rest, place}
+use Rattle.winnow_run.specs.Script.{since_answer, reset_answer, step_answer}
+use Rattle.winnow_run.specs.declared.script.Step.{Step}
+use Rattle.winnow_run.specs.declared.script.Step.TheVariants as call
+use Rattle.winnow_run.specs.declared.script.Answer.TheVariants as answer
+use Rattle.winnow_stream.proofs.lemmas.FrontLemmas.{front_count-found, front_count-missing, width-front, width-take_drop}
+use Rattle.winnow_run.proofs.lemmas.PlaceLemmas.{width-later, width-antitone}
+use Rattle.winnow_run.specs.declared.search_script.SearchStep.{SearchStep}
+use Rattle.winnow_run.specs.declared.search_script.SearchStep.TheVariants as step
+use Rattle.winnow_run.specs.declared.search_script.SearchAnswer.TheVariants as search_answered
+use Rattle.winnow_run.specs.Searching.{search_answer, search_next}
+use Rattle.winnow_run.specs.Definite.{PieceKind, kind_of}
+use Rattle.winnow_attempt.specs.View.{since_view, call_view, first_width, look_of}
+use Rattle.winnow_run.proofs.lemmas.StepLemmas.{Inside}
+use Rattle.winnow_attempt.proofs.lemmas.SettledLemmas.{width-split}
+
+place-next : {T : Type 0} (all : Source T) (i : ℕ) → i ≤ length all → width (take i all) + first_width (drop i all) ≡ width (take (min (i + 1) (length all)) all)
+place-next [] zero h = refl
+place-next [] (suc i) h = absurd (omega arith)
+place-next (x ∷ all) zero h =
+    let e : min (zero + 1) (suc (length all)) ≡ suc zero = omega arith in
+    rw e (omega arith)
+place-next (x ∷ all) (suc i) h =
+    let e : min (suc i + 1) (suc (length all)) ≡ suc (min (i + 1) (length all)) = omega arith in
+    rw e (omega (arith, place-next all i (omega arith)))
+
+taken-place : {T : Type 0} (all : Source T) (i n : ℕ) → cond (is_offset (drop i all) n) (width (take i all) + n) (width (take i all)) ≡ width (take (i + unwrap_or (front_count (drop i all) n) 0) all)
+taken-place all i n =
+    let r = drop i all in
+    elim (cases_Bool (is_offset r n)) [
+      | inl e ↦
+          let f = front_count-found r n e in
+          let w : width (take (count_to r n) r) ≡ n = width-front r n e in
+          rw e (sym (ap (λ o. width (take (i + unwrap_or o 0) all)) f ∙ width-split i (count_to r n) all ∙ ap (λ m. width (take i all) + m) w))
+      | inr e ↦
+          let f = front_count-missing r n e in
+          let z : i + 0 ≡ i = omega arith in
+          rw e (sym (ap (λ o. width (take (i + unwrap_or o 0) all)) f ∙ ap (λ m. width (take m all)) z))
+    ]
+
+end-place : {T : Type 0} (all : Source T) (i : ℕ) → width (take i all) + width (drop i all) ≡ width (take (length all) all)
+end-place all i = width-take_drop all i ∙ ap width (sym (take_all (length all) all (omega arith)))
+
+pub marked : (f : ℕ → ℕ) (marks : List ℕ) (k : ℕ) → slice_get (map f marks) k ≡ option_map f (slice_get marks k)
+marked f [] k = refl
+marked f (m ∷ marks) zero = refl
+marked f (m ∷ marks) (suc k) = marked f marks k
+
+pub reset-place : (f : ℕ → ℕ) (o : Option ℕ) (i : ℕ) → unwrap_or (option_map f o) (f i) ≡ f (unwrap_or o i)
+reset-place f None i = refl
+reset-place f (Some m) i = refl
+
+reset-same : {T : Type 0} (f : ℕ → ℕ) (o : Option ℕ) → reset_answer {T = T} (option_map f o) ≡ reset_answer o
+reset-same f None = refl
+reset-same f (Some m) = refl
+
+since-same : {T : Type 0} (all : Source T) (i m : ℕ) → HasWidths all → i ≤ length all → m ≤ length all → since_view {T = T} (place all i) (Some (place all m)) ≡ since_answer all i (Some m)
+since-same all i m w hi hm =
+    let a = width-take_drop all i in
+    let b = width-take_drop all m in
+    elim (cases_lt i m) [
+      | inl l ↦ let c = width-later all i m w l hm in rw (lt-leb (place all m) (place all i) (omega arith), lt-leb m i l) refl
+      | inr l ↦
+          let c = width-antitone all m i l in
+          let e : place all i - place all m ≡ width (drop m all) - width (drop i all) = omega arith in
+          rw (le-leb (place all m) (place all i) (omega arith), le-leb m i l) (ap (λ n. answer.Offset n) e)
+    ]
+
+since-marked : {T : Type 0} (all : Source T) (i : ℕ) (marks : List ℕ) (k : ℕ) → HasWidths all → i ≤ length all → AllByRecursion (λ m. m ≤ length all) marks → since_view {T = T} (place all i) (slice_get (map (place all) marks) k) ≡ since_answer all i (slice_get marks k)
+since-marked all i [] k w hi h = refl
+since-marked all i (m ∷ marks) zero w hi h = since-same all i m w hi h.0
+since-marked all i (m ∷ marks) (suc k) w hi h = since-marked all i marks k w hi h.1
+
+module _ {T C L : Type 0} (k : PieceKind T C L) (all : Source T) (at : Cursor) (w : HasWidths all) (inside : Inside all at) where
+  call-view : (s : Step C) → call_view k.holds k.counts_missing (place all at.index) (map (place all) at.marks) (rest all at) s ≡ step_answer k.holds k.counts_missing all s at
+  call-view call.Next = refl
+  call-view call.Peek = refl
+  call-view (call.Take n) = refl
+  call-view (call.Look n) = refl
+  call-view call.Finish = refl
+  call-view call.PeekFinish = refl
+  call-view call.Eof = refl
+  call-view (call.At n) = refl
+  call-view (call.IsOffset n) = refl
+  call-view (call.First c) = refl
+  call-view call.Each = refl
+  call-view call.Mark = ap (λ n. answer.Marked n) (length-map at.marks (place all))
+  call-view (call.Reset i) = ap reset_answer (marked (place all) at.marks i) ∙ reset-same (place all) (slice_get at.marks i)
+  call-view (call.Since i) = since-marked all at.index at.marks i w inside.index inside.marks
+
+  pub view-answer : (s : SearchStep C L) → (look_of k (place all at.index) (map (place all) at.marks) (rest all at) s).answer ≡ search_answer (kind_of k) all s at
+  view-answer (step.Call s) = ap (λ a. search_answered.Call a) (call-view s)
+  view-answer (step.Compare l) = refl
+  view-answer (step.Find ns) = refl
+
+  pub view-place : (s : SearchStep C L) → (look_of k (place all at.index) (map (place all) at.marks) (rest all at) s).place ≡ place all (search_next all s at).index
+  view-place (step.Call call.Next) = place-next all at.index inside.index
+  view-place (step.Call call.Peek) = refl
+  view-place (step.Call (call.Take n)) = taken-place all at.index n
+  view-place (step.Call (call.Look n)) = refl
+  view-place (step.Call call.Finish) = end-place all at.index
+  view-place (step.Call call.PeekFinish) = refl
+  view-place (step.Call call.Eof) = refl
+  view-place (step.Call (call.At n)) = refl
+  view-place (step.Call (call.IsOffset n)) = refl
+  view-place (step.Call (call.First c)) = refl
+  view-place (step.Call call.Each) = refl
+  view-place (step.Call call.Mark) = refl
+  view-place (step.Call (call.Reset i)) = ap (λ o. unwrap_or o (place all at.index)) (marked (place all) at.marks i) ∙ reset-place (place all) (slice_get at.marks i) at.index
+  view-place (step.Call (call.Since i)) = refl
+  view-place (step.Compare l) = refl
+  view-place (step.Find ns) = refl
+
+  pub view-marks : (s : SearchStep C L) → cond (look_of k (place all at.index) (map (place all) at.marks) (rest all at) s).marks (map (place all) at.marks ++ place all at.index ∷ []) (map (place all) at.marks) ≡ map (place all) (search_next all s at).marks
+  view-marks (step.Call call.Next) = refl
+  view-marks (step.Call call.Peek) = refl
+  view-marks (step.Call (call.Take n)) = refl
+  view-marks (step.Call (call.Look n)) = refl
+  view-marks (step.Call call.Finish) = refl
+  view-marks (step.Call call.PeekFinish) = refl
+  view-marks (step.Call call.Eof) = refl
+  view-marks (step.Call (call.At n)) = refl
+  view-marks (step.Call (call.IsOffset n)) = refl
+  view-marks (step.Call (call.First c)) = refl
+  view-marks (step.Call call.Each) = refl
+  view-marks (step.Call call.Mark) = sym (map-append (place all) at.marks (at.index ∷ []))
+  view-marks (step.Call (call.Reset i)) = refl
+  view-marks (step.Call (call.Since i)) = refl
+  view-marks (step.Compare l) = refl
+  view-marks (step.Find ns) = refl

@@ -1,0 +1,15 @@
+use Rattle.std.proofs.Common.{◌≡◌, ◌-◌, length, ◌∙◌, sym, subst, arith}
+use Rattle.winnow_match.specs.Search.{bytes_of_needles}
+use Rattle.winnow_attempt.specs.Settled.{NoneStands}
+use Rattle.winnow_attempt.proofs.lemmas.PassedLemmas.{searched-none, searched-hit}
+use Rattle.winnow_attempt.proofs.literals.searched.Goals as goal
+
+pub returns-in-Some-stretch : goal.returns-in-Some-stretch
+returns-in-Some-stretch c = searched-hit (bytes_of_needles c.args.needles.now) c.args.bytes.now _ _ (sym c.in-Some.is ∙ c.requires) c.in-Some-stretch.ensures.value
+
+pub returns-in-None : goal.returns-in-None
+returns-in-None c =
+    let ls = bytes_of_needles c.args.needles.now in
+    let bs = c.args.bytes.now in
+    let e : c.saturating_sub-in-None.result ≡ length bs - (c.longest.result - 1) = omega (arith, c.saturating_sub-in-None.ensures, c.saturating_sub.ensures) in
+    subst (NoneStands ls bs) (sym e) (searched-none ls bs c.longest.result c.longest.ensures (sym c.in-None.is ∙ c.requires))

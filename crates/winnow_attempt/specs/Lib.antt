@@ -1,0 +1,3 @@
+pub mod Settled
+pub mod View
+pub mod Missing

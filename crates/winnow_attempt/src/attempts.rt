@@ -1,0 +1,204 @@
+ghost use Rattle.std.specs.Prelude.{◌≡◌, ◌+◌, ◌≤◌, ◌<◌, ◌^◌, false, length};
+ghost use Rattle.winnow_stream.specs.Source.{width};
+ghost use Rattle.winnow_attempt.specs.Settled.{IsSettled, AreCounted};
+ghost use Rattle.winnow_run.specs.Definite.{is_definite, is_decided};
+ghost use Rattle.winnow_attempt.specs.View.{piece_kind, look_of, never_definite, Attempts, GivesAnswer};
+
+use crate::kept::Kept;
+use crate::literals::{compare_from, find_from, needle_bytes, searched, stays_found};
+use crate::looking::{Look, Passed, look_call};
+use winnow_match::CompareResult;
+use winnow_run::{PieceAnswer, SearchAnswer, SearchStep, Step};
+use winnow_sets::{AsChar, CharSet};
+use winnow_stream::{AsBStr, Stream, StreamIsPartial};
+
+/// What an attempt at a step came to.
+#[derive(Drop)]
+pub enum Attempt<T> {
+    /// No further input can change its answer.
+    Answered(Look<T>),
+    /// It waits, and has passed so much for good.
+    Waits(Passed),
+}
+
+// Whether more input cannot change the comparison.
+fn is_decided_now(compared: &CompareResult) -> bool
+    ensures { result ≡ is_decided compared.now }
+{
+    match compared {
+        CompareResult::Incomplete => false,
+        _ => true,
+    }
+}
+
+/// Looks at a step, from what it has passed on.
+pub fn look<S: Kept, L: AsBStr>(
+    step: &SearchStep<CharSet, L>,
+    rest: S,
+    place: usize,
+    marks: &[usize],
+    passed: Passed,
+) -> Look<S::Token>
+where
+    S::Token: AsChar + Drop,
+    S::Slice: Drop,
+    requires valid { S.valid rest }
+    requires room { place + width (S.remaining rest) < 2 ^ 64 }
+    requires settled { IsSettled
+        (piece_kind S.Token.code S.counts_missing S.write L.text_bytes)
+        step.now (S.remaining rest) passed.width passed.tokens }
+    ensures { result ≡ look_of
+        (piece_kind S.Token.code S.counts_missing S.write L.text_bytes)
+        place marks.now (S.remaining rest) step.now }
+{
+    match step {
+        SearchStep::Call(call) => look_call(call, rest, place, marks, passed),
+        SearchStep::Compare(literal) => {
+            let compared = compare_from(literal.as_bstr(), rest.bytes(), passed.width);
+            let definite = is_decided_now(&compared);
+            Look {
+                answer: SearchAnswer::Compared(compared),
+                definite,
+                place,
+                marks: false,
+            }
+        }
+        SearchStep::Find(needles) => {
+            let needles = needle_bytes(needles);
+            let found = find_from(&needles, rest.bytes(), passed.width);
+            let definite = stays_found(&needles, rest.bytes(), &found);
+            Look {
+                answer: SearchAnswer::Hit(found),
+                definite,
+                place,
+                marks: false,
+            }
+        }
+    }
+}
+
+/// How many tokens remain.
+pub fn tokens_left<S: Stream + Copy>(rest: S) -> usize
+where
+    S::Token: Drop,
+    requires { S.valid rest }
+    ensures { result ≡ length (S.remaining rest) }
+{
+    let _end = rest.eof_offset();
+    let mut later = rest;
+    let mut tokens = 0;
+    while later.next_token().is_some() {
+        tokens += 1;
+    }
+    tokens
+}
+
+// All that remains is counted.
+fn count_on<S: Kept>(rest: S, asked: usize, passed: Passed) -> Passed
+where
+    S::Token: Drop,
+    S::Slice: Drop,
+    requires valid { S.valid rest }
+    requires passed { AreCounted asked (S.remaining rest) passed.width passed.tokens }
+    requires waits { length (S.remaining rest) ≤ asked }
+    ensures { AreCounted asked (S.remaining rest) result.width result.tokens }
+{
+    let mut later = rest;
+    later.next_slice(passed.width);
+    Passed {
+        width: rest.eof_offset(),
+        tokens: passed.tokens + tokens_left(later),
+    }
+}
+
+/// What a step that waits with this answer has passed for good.
+#[tactic(auto, using(crate::proofs::lemmas::PassedLemmas::passes))]
+pub fn settle<S: Kept, L: AsBStr>(
+    step: &SearchStep<CharSet, L>,
+    rest: S,
+    answer: &PieceAnswer<S::Token>,
+    passed: Passed,
+) -> Passed
+where
+    S::Token: AsChar + Drop,
+    S::Slice: Drop,
+    requires valid { S.valid rest }
+    requires settled { IsSettled
+        (piece_kind S.Token.code S.counts_missing S.write L.text_bytes)
+        step.now (S.remaining rest) passed.width passed.tokens }
+    requires answer { GivesAnswer
+        (piece_kind S.Token.code S.counts_missing S.write L.text_bytes)
+        (S.remaining rest) step.now answer.now }
+    requires waits { is_definite
+        (piece_kind S.Token.code S.counts_missing S.write L.text_bytes)
+        step.now (S.remaining rest) ≡ false }
+    ensures { IsSettled
+        (piece_kind S.Token.code S.counts_missing S.write L.text_bytes)
+        step.now (S.remaining rest) result.width result.tokens }
+{
+    match step {
+        SearchStep::Call(Step::First(_)) => Passed {
+            width: rest.eof_offset(),
+            tokens: 0,
+        },
+        SearchStep::Call(Step::At(asked)) => count_on(rest, *asked, passed),
+        SearchStep::Call(_) => passed,
+        SearchStep::Compare(_) => Passed {
+            width: rest.bytes().len(),
+            tokens: 0,
+        },
+        SearchStep::Find(needles) => match answer {
+            SearchAnswer::Hit(found) => Passed {
+                width: searched(&needle_bytes(needles), rest.bytes(), found),
+                tokens: 0,
+            },
+            _ => passed,
+        },
+    }
+}
+
+// Whether no input makes the step definite, so that looking at it is no use.
+fn waits_to_the_end<L>(step: &SearchStep<CharSet, L>) -> bool
+    ensures { result ≡ never_definite step.now }
+{
+    match step {
+        SearchStep::Call(Step::Finish | Step::PeekFinish | Step::Eof | Step::Each) => true,
+        SearchStep::Call(_) => false,
+        SearchStep::Compare(_) => false,
+        SearchStep::Find(_) => false,
+    }
+}
+
+/// Attempts a step where `rest` remains, from what it has passed on. Only where more may follow
+/// can it wait.
+#[tactic(auto, using(crate::proofs::lemmas::PassedLemmas::attempted))]
+pub fn attempt_step<S: Kept, L: AsBStr>(
+    step: &SearchStep<CharSet, L>,
+    rest: S,
+    place: usize,
+    marks: &[usize],
+    passed: Passed,
+) -> Attempt<S::Token>
+where
+    S::Token: AsChar + Drop,
+    S::Slice: Drop,
+    requires valid { S.valid rest }
+    requires room { place + width (S.remaining rest) < 2 ^ 64 }
+    requires settled { IsSettled
+        (piece_kind S.Token.code S.counts_missing S.write L.text_bytes)
+        step.now (S.remaining rest) passed.width passed.tokens }
+    ensures { Attempts
+        (piece_kind S.Token.code S.counts_missing S.write L.text_bytes)
+        place marks.now (S.remaining rest) step.now (S.expects_more rest) result }
+{
+    let partial = rest.is_partial();
+    if partial && waits_to_the_end(step) {
+        return Attempt::Waits(passed);
+    }
+    let looked = look(step, rest, place, marks, passed);
+    if looked.definite || !partial {
+        Attempt::Answered(looked)
+    } else {
+        Attempt::Waits(settle(step, rest, &looked.answer, passed))
+    }
+}

@@ -1,0 +1,98 @@
+ghost use Rattle.std.specs.Prelude.{◌≡◌, ◌≤◌, false, length, drop, IfSome};
+ghost use Rattle.winnow_match.specs.Comparison.{comparison};
+ghost use Rattle.winnow_match.specs.Search.{hit, needle_list, bytes_of_needles};
+ghost use Rattle.winnow_match.specs.Stretch.{hit_is_definite};
+ghost use Rattle.winnow_attempt.specs.Settled.{AreSame, NoneStands};
+
+use std::ops::Range;
+use winnow_match::{Compare, CompareResult, FindSlice, Needles, stretch};
+use winnow_stream::AsBStr;
+
+/// The needles as bytes.
+pub fn needle_bytes<L: AsBStr>(needles: &Needles<L>) -> Needles<&[u8]>
+    ensures { bytes_of_needles result ≡ needle_list L.text_bytes needles.now }
+{
+    match needles {
+        Needles::One(a) => Needles::One(a.as_bstr()),
+        Needles::Two(a, b) => Needles::Two(a.as_bstr(), b.as_bstr()),
+        Needles::Three(a, b, c) => Needles::Three(a.as_bstr(), b.as_bstr(), c.as_bstr()),
+    }
+}
+
+// What follows the first n bytes.
+fn behind(bytes: &[u8], n: usize) -> &[u8]
+    requires { n ≤ length bytes.now }
+    ensures { result.now ≡ drop n bytes.now }
+{
+    bytes.split_at(n).1
+}
+
+// How the literal compares with the bytes.
+#[tactic(auto, using(winnow_match::proofs::lemmas::ByteLemmas::source_bytes))]
+fn compare_all(literal: &[u8], bytes: &[u8]) -> CompareResult
+    ensures { result ≡ comparison literal.now bytes.now }
+{
+    bytes.compare(literal)
+}
+
+// The first place of a needle in the bytes.
+#[tactic(auto, using(crate::proofs::lemmas::LookLemmas::hits_fit))]
+fn find_all(needles: &Needles<&[u8]>, bytes: &[u8]) -> Option<Range<usize>>
+    ensures value { result ≡ hit (bytes_of_needles needles.now) bytes.now }
+    ensures fits { IfSome result (λ p. (p.start ≤ p.end) × (p.end ≤ length bytes.now)) }
+{
+    bytes.find_slice(*needles)
+}
+
+/// How the literal compares with the bytes, where so many are the same.
+pub fn compare_from(literal: &[u8], bytes: &[u8], passed: usize) -> CompareResult
+    requires { AreSame literal.now bytes.now passed }
+    ensures { result ≡ comparison literal.now bytes.now }
+{
+    match compare_all(behind(literal, passed), behind(bytes, passed)) {
+        CompareResult::Ok(_) => CompareResult::Ok(literal.len()),
+        CompareResult::Incomplete => CompareResult::Incomplete,
+        CompareResult::Error => CompareResult::Error,
+    }
+}
+
+/// The first place of a needle in the bytes, where none stands before `passed`.
+pub fn find_from(needles: &Needles<&[u8]>, bytes: &[u8], passed: usize) -> Option<Range<usize>>
+    requires { NoneStands (bytes_of_needles needles.now) bytes.now passed }
+    ensures { result ≡ hit (bytes_of_needles needles.now) bytes.now }
+{
+    match find_all(needles, behind(bytes, passed)) {
+        Some(places) => Some(passed + places.start..passed + places.end),
+        None => None,
+    }
+}
+
+/// Whether something was found, and no further input can move it.
+#[tactic(auto, using(crate::proofs::lemmas::PassedLemmas::found_hits))]
+pub fn stays_found(needles: &Needles<&[u8]>, bytes: &[u8], found: &Option<Range<usize>>) -> bool
+    requires { found.now ≡ hit (bytes_of_needles needles.now) bytes.now }
+    ensures { result ≡ hit_is_definite (bytes_of_needles needles.now) bytes.now }
+{
+    match found {
+        Some(hit) => stretch(bytes, needles, hit).is_none(),
+        None => false,
+    }
+}
+
+/// A place before which no needle stands, whatever follows, where what was found may still move:
+/// that of the needle that could come to stand there.
+#[tactic(auto, using(crate::proofs::lemmas::PassedLemmas::found_hits))]
+pub fn searched(needles: &Needles<&[u8]>, bytes: &[u8], found: &Option<Range<usize>>) -> usize
+    requires { found.now ≡ hit (bytes_of_needles needles.now) bytes.now }
+    ensures { NoneStands (bytes_of_needles needles.now) bytes.now result }
+{
+    match found {
+        Some(hit) => match stretch(bytes, needles, hit) {
+            Some(stretch) => stretch.place,
+            None => 0,
+        },
+        None => bytes
+            .len()
+            .saturating_sub(needles.longest().saturating_sub(1)),
+    }
+}

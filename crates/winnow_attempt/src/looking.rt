@@ -1,0 +1,211 @@
+ghost use Rattle.std.specs.Prelude.{◌≡◌, ◌+◌, ◌<◌, ◌^◌, ◌≤◌, false, length, slice_get, IsTrue};
+ghost use Rattle.winnow_stream.specs.Source.{width, first_offset};
+ghost use Rattle.winnow_stream.specs.Front.{is_offset};
+ghost use Rattle.winnow_stream.specs.Shortage.{offset_at};
+ghost use Rattle.winnow_attempt.specs.Settled.{NoneHeld, AreCounted, IsCallSettled};
+ghost use Rattle.winnow_attempt.specs.View.{held, first_width, call_look};
+ghost use Rattle.winnow_run.specs.declared.search_script.SearchAnswer.TheVariants as search_answered;
+
+use crate::kept::Kept;
+use std::ops::Range;
+use winnow_run::{Answer, PieceAnswer, SearchAnswer, Step};
+use winnow_sets::{AsChar, CharSet};
+use winnow_stream::{Needed, ScriptSet, Stream};
+
+/// What looking at a step gives: its answer, whether more input can change it, and where it leads.
+#[derive(Drop)]
+pub struct Look<T> {
+    pub answer: PieceAnswer<T>,
+    pub definite: bool,
+    pub place: usize,
+    pub marks: bool,
+}
+
+// The offset of the first token of the set.
+fn first_in<S: Stream>(set: &CharSet, rest: &S) -> Option<usize>
+where
+    S::Token: AsChar,
+    requires { S.valid rest.now }
+    ensures { result ≡ first_offset (held S.Token.code set.now) (S.remaining rest.now) }
+{
+    rest.offset_for(|token| set.holds(token))
+}
+
+// The first token of the set, where what is passed has none.
+pub fn first_from<S: Kept>(set: &CharSet, rest: S, passed: usize) -> Option<usize>
+where
+    S::Token: AsChar,
+    S::Slice: Drop,
+    requires valid { S.valid rest }
+    requires passed { NoneHeld (held S.Token.code set.now) (S.remaining rest) passed }
+    ensures { result ≡ first_offset (held S.Token.code set.now) (S.remaining rest) }
+{
+    let _end = rest.eof_offset();
+    let mut later = rest;
+    later.next_slice(passed);
+    match first_in(set, &later) {
+        Some(offset) => Some(passed + offset),
+        None => None,
+    }
+}
+
+// The offset behind that many tokens, where those that are passed are counted.
+pub fn offset_from<S: Kept>(
+    rest: S,
+    asked: usize,
+    passed: usize,
+    counted: usize,
+) -> Result<usize, Needed>
+where
+    S::Slice: Drop,
+    requires valid { S.valid rest }
+    requires passed { AreCounted asked (S.remaining rest) passed counted }
+    ensures { result ≡ offset_at S.counts_missing (S.remaining rest) asked }
+{
+    let _end = rest.eof_offset();
+    let mut later = rest;
+    later.next_slice(passed);
+    match later.offset_at(asked - counted) {
+        Ok(offset) => Ok(passed + offset),
+        Err(needed) => Err(needed),
+    }
+}
+
+/// What a waiting step has passed for good: so much width, and so many tokens if it counts them.
+#[derive(Clone, Copy)]
+pub struct Passed {
+    pub width: usize,
+    pub tokens: usize,
+}
+
+// What a call gives that makes no mark.
+fn shown<T>(answer: Answer<T, Range<usize>, Range<usize>>, definite: bool, place: usize) -> Look<T>
+    ensures { result ≡ record {
+      answer = search_answered.Call answer;
+      definite = definite;
+      place = place;
+      marks = false;
+    } }
+{
+    Look {
+        answer: SearchAnswer::Call(answer),
+        definite,
+        place,
+        marks: false,
+    }
+}
+
+// The width of the first token.
+fn width_of_first<S: Stream + Copy>(rest: S) -> usize
+where
+    S::Token: Drop,
+    requires { S.valid rest }
+    ensures { result ≡ first_width (S.remaining rest) }
+{
+    let mut later = rest;
+    let _token = later.next_token();
+    rest.eof_offset() - later.eof_offset()
+}
+
+// The mark of that number.
+#[tactic(auto, using(crate::proofs::lemmas::LookLemmas::marks_read))]
+pub fn mark_at(marks: &[usize], number: usize) -> Option<usize>
+    ensures { result ≡ slice_get marks.now number }
+{
+    if number < marks.len() {
+        Some(marks[number])
+    } else {
+        None
+    }
+}
+
+// Whether the offset is valid.
+#[tactic(auto, using(crate::proofs::lemmas::LookLemmas::looks))]
+fn has_offset<S: Stream>(rest: &S, offset: usize) -> bool
+    requires { S.valid rest.now }
+    ensures value { result ≡ is_offset (S.remaining rest.now) offset }
+    ensures fits { IsTrue result → offset ≤ width (S.remaining rest.now) }
+{
+    rest.is_offset(offset)
+}
+
+// Looks at a call, from what it has passed on.
+#[tactic(auto, using(crate::proofs::lemmas::LookLemmas::looks))]
+pub fn look_call<S: Kept>(
+    call: &Step<CharSet>,
+    rest: S,
+    place: usize,
+    marks: &[usize],
+    passed: Passed,
+) -> Look<S::Token>
+where
+    S::Token: AsChar + Drop,
+    S::Slice: Drop,
+    requires valid { S.valid rest }
+    requires room { place + width (S.remaining rest) < 2 ^ 64 }
+    requires settled { IsCallSettled (held S.Token.code) call.now (S.remaining rest) passed.width passed.tokens }
+    ensures { result ≡ call_look
+        (held S.Token.code) S.counts_missing place marks.now (S.remaining rest) call.now }
+{
+    let left = rest.eof_offset();
+    match call {
+        Step::Next => {
+            let token = rest.peek_token();
+            let definite = token.is_some();
+            shown(Answer::Token(token), definite, place + width_of_first(rest))
+        }
+        Step::Peek => {
+            let token = rest.peek_token();
+            let definite = token.is_some();
+            shown(Answer::Token(token), definite, place)
+        }
+        Step::Take(n) => {
+            if has_offset(&rest, *n) {
+                shown(Answer::Slice(place..place + *n), *n <= left, place + *n)
+            } else {
+                shown(Answer::BadOffset, *n <= left, place)
+            }
+        }
+        Step::Look(n) => {
+            if has_offset(&rest, *n) {
+                shown(Answer::Slice(place..place + *n), *n <= left, place)
+            } else {
+                shown(Answer::BadOffset, *n <= left, place)
+            }
+        }
+        Step::Finish => shown(Answer::Slice(place..place + left), false, place + left),
+        Step::PeekFinish => shown(Answer::Slice(place..place + left), false, place),
+        Step::Eof => shown(Answer::Offset(left), false, place),
+        Step::At(n) => {
+            let found = offset_from(rest, *n, passed.width, passed.tokens);
+            let definite = found.is_ok();
+            shown(Answer::At(found), definite, place)
+        }
+        Step::IsOffset(n) => shown(Answer::Flag(has_offset(&rest, *n)), *n <= left, place),
+        Step::First(set) => {
+            let found = first_from(set, rest, passed.width);
+            shown(Answer::First(found), found.is_some(), place)
+        }
+        Step::Each => shown(Answer::Items(place..place + left), false, place),
+        Step::Mark => Look {
+            answer: SearchAnswer::Call(Answer::Marked(marks.len())),
+            definite: true,
+            place,
+            marks: true,
+        },
+        Step::Reset(k) => match mark_at(marks, *k) {
+            Some(mark) => shown(Answer::Done, true, mark),
+            None => shown(Answer::NoMark, true, place),
+        },
+        Step::Since(k) => match mark_at(marks, *k) {
+            Some(mark) => {
+                if mark <= place {
+                    shown(Answer::Offset(place - mark), true, place)
+                } else {
+                    shown(Answer::LaterMark, true, place)
+                }
+            }
+            None => shown(Answer::NoMark, true, place),
+        },
+    }
+}

@@ -1,0 +1,125 @@
+ghost use Rattle.std.specs.Prelude.{◌≡◌, ◌<◌, true, drop, length, vec_len, option_map};
+ghost use Rattle.std.specs.Prelude.{IfOk, OnErr, IsSome};
+ghost use Rattle.winnow_stream.specs.Source.{width};
+ghost use Rattle.winnow_match.specs.Search.{bytes_of_needles, needle_of};
+ghost use Rattle.winnow_attempt.specs.Settled.{IsSettled, NoneStands};
+ghost use Rattle.winnow_attempt.specs.View.{piece_kind};
+ghost use Rattle.winnow_attempt.specs.Missing.{letters, needle_missing, call_missing, missing};
+
+use crate::kept::Kept;
+use crate::literals::{find_from, needle_bytes};
+use crate::looking::Passed;
+use std::alloc::{AllocError, Global};
+use winnow_match::{Needles, stretch};
+use winnow_run::{SearchStep, Step};
+use winnow_sets::{AsChar, CharSet};
+use winnow_stream::{AsBStr, Stream, StreamIsPartial};
+
+// n letters a.
+fn letters(alloc: Global, n: usize) -> Result<Vec<u8>, AllocError>
+    ensures { IfOk result (λ made. made.items ≡ letters n) }
+{
+    vec![in alloc; b'a'; n]
+}
+
+// What follows the first n bytes, if there are as many.
+fn after(bytes: &[u8], n: usize) -> &[u8]
+    ensures { result.now ≡ drop n bytes.now }
+{
+    if n <= bytes.len() {
+        bytes.split_at(n).1
+    } else {
+        &[]
+    }
+}
+
+// The needle of that number, counted from 0.
+fn needle_of<'n>(needles: &Needles<&'n [u8]>, number: usize) -> &'n [u8]
+    ensures { result.now ≡ needle_of (bytes_of_needles needles.now) number }
+{
+    match needles {
+        Needles::One(a) | Needles::Two(a, _) | Needles::Three(a, _, _) if number == 0 => a,
+        Needles::Two(_, b) | Needles::Three(_, b, _) if number == 1 => b,
+        Needles::Three(_, _, c) if number == 2 => c,
+        _ => &[],
+    }
+}
+
+// What a search is missing, where no needle stands before `passed`.
+fn needle_missing<'n>(needles: &Needles<&'n [u8]>, bytes: &[u8], passed: usize) -> &'n [u8]
+    requires { NoneStands (bytes_of_needles needles.now) bytes.now passed }
+    ensures { result.now ≡ needle_missing (bytes_of_needles needles.now) bytes.now }
+{
+    match find_from(needles, bytes, passed) {
+        None => needle_of(needles, 0),
+        Some(hit) => match stretch(bytes, needles, &hit) {
+            None => &[],
+            Some(found) => after(
+                needle_of(needles, found.needle),
+                bytes.len().saturating_sub(found.place),
+            ),
+        },
+    }
+}
+
+// What a call is missing.
+fn call_missing<S: Kept>(
+    alloc: Global,
+    call: &Step<CharSet>,
+    rest: S,
+) -> Result<Option<Vec<u8>>, AllocError>
+where
+    S::Token: AsChar + Drop,
+    S::Slice: Drop,
+    requires { S.valid rest }
+    ensures told { IfOk result (λ more. option_map (λ bytes. bytes.items) more ≡ call_missing
+        S.counts_missing S.greatest S.spell (S.remaining rest) call.now) }
+    ensures refused { OnErr result
+        (IsSome (call_missing S.counts_missing S.greatest S.spell (S.remaining rest) call.now)) }
+{
+    match call {
+        Step::Take(n) => Ok(Some(letters(alloc, n.saturating_sub(rest.eof_offset()))?)),
+        Step::Look(n) => Ok(Some(letters(alloc, n.saturating_sub(rest.eof_offset()))?)),
+        Step::IsOffset(n) => Ok(Some(letters(alloc, n.saturating_sub(rest.eof_offset()))?)),
+        Step::At(n) => Ok(Some(letters(alloc, rest.letters_to(*n))?)),
+        Step::First(set) => rest.spell_one(alloc, set),
+        _ => Ok(Some(letters(alloc, 1)?)),
+    }
+}
+
+/// What a step is missing where `rest` remains, of which it has passed so much. It is `None` of a
+/// step that looks for a token of a set that holds none; memory is refused only where something is
+/// missing.
+pub fn step_missing<S: Kept, L: AsBStr>(
+    alloc: Global,
+    step: &SearchStep<CharSet, L>,
+    rest: S,
+    passed: Passed,
+) -> Result<Option<Vec<u8>>, AllocError>
+where
+    S::Token: AsChar + Drop,
+    S::Slice: Drop,
+    requires valid { S.valid rest }
+    requires settled { IsSettled
+        (piece_kind S.Token.code S.counts_missing S.write L.text_bytes)
+        step.now (S.remaining rest) passed.width passed.tokens }
+    ensures told { IfOk result (λ more. option_map (λ bytes. bytes.items) more ≡ missing
+        (piece_kind S.Token.code S.counts_missing S.write L.text_bytes)
+        S.greatest S.spell (S.remaining rest) step.now) }
+    ensures refused { OnErr result (IsSome (missing
+        (piece_kind S.Token.code S.counts_missing S.write L.text_bytes)
+        S.greatest S.spell (S.remaining rest) step.now)) }
+{
+    match step {
+        SearchStep::Call(call) => call_missing(alloc, call, rest),
+        SearchStep::Compare(literal) => {
+            let more = after(literal.as_bstr(), rest.bytes().len());
+            Ok(Some(Vec::from_slice(alloc, more)?))
+        }
+        SearchStep::Find(needles) => {
+            let needles = needle_bytes(needles);
+            let more = needle_missing(&needles, rest.bytes(), passed.width);
+            Ok(Some(Vec::from_slice(alloc, more)?))
+        }
+    }
+}
