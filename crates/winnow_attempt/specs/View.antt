@@ -1,6 +1,6 @@
 -- What a step answers and where it leads, from what remains, the place of the cursor and the places of the marks: what a feed
 -- knows, whatever it has kept of the input.
-use Rattle.std.specs.Prelude.{◌≡◌, ℕ, ◌+◌, ◌-◌, nat_le, Bool, true, false, cond, List, [], ◌∷◌, length, Option, None, Some, unwrap_or, slice_get}
+use Rattle.std.specs.Prelude.{◌≡◌, ℕ, ◌+◌, ◌-◌, nat_le, Bool, true, false, cond, List, [], ◌∷◌, ◌++◌, length, Option, None, Some, unwrap_or, slice_get}
 use Rattle.winnow_stream.specs.Source.{Source, width, first_token, first_offset}
 use Rattle.winnow_stream.specs.Front.{front_count, is_offset}
 use Rattle.winnow_stream.specs.Shortage.{offset_at}
@@ -18,7 +18,8 @@ use Rattle.winnow_run.specs.declared.search_script.SearchStep.{SearchStep}
 use Rattle.winnow_run.specs.declared.search_script.SearchStep.TheVariants as step
 use Rattle.winnow_run.specs.declared.search_script.SearchAnswer.TheVariants as search_answered
 use Rattle.winnow_run.specs.Searching.{PlacedSearchAnswer}
-use Rattle.winnow_attempt.specs.declared.looking.Look.{Look}
+use Rattle.winnow_attempt.specs.declared.looking.Seen.{Seen}
+use Rattle.winnow_attempt.specs.declared.told.Told.{Told}
 use Rattle.winnow_attempt.specs.declared.attempts.Attempt.{Attempt}
 use Rattle.winnow_attempt.specs.declared.attempts.Attempt.TheVariants as attempt
 use Rattle.winnow_attempt.specs.Settled.{IsSettled}
@@ -70,7 +71,21 @@ abbrev pub makes_mark : {C : Type 0} → Step C → Bool
 makes_mark call.Mark = true
 makes_mark _ = false
 
--- all that looking at a call gives
+-- all that looking at a step gives: its answer, whether more input can change it, where it leads, and whether it marks that place
+pub record Look (T : Type 0) : Type 0 where
+  pub answer : PlacedSearchAnswer T
+  pub definite : Bool
+  pub place : ℕ
+  pub marks : Bool
+
+-- the same without the answer
+abbrev pub seen_of : {T : Type 0} → Look T → Seen
+seen_of look = record { definite = look.definite; place = look.place; marks = look.marks }
+
+-- an answer under the number of a piece, or under none
+abbrev pub under : {T : Type 0} → Option ℕ → PlacedSearchAnswer T → Told T
+under piece answer = record { piece = piece; answer = answer }
+
 module _ {T C : Type 0} (holds : C → T → Bool) (counts_missing : Bool) (at : ℕ) (marks : List ℕ) (r : Source T) where
   abbrev pub call_look : Step C → Look T
   call_look s = record {
@@ -108,8 +123,8 @@ never_definite (step.Call call.Eof) = true
 never_definite (step.Call call.Each) = true
 never_definite _ = false
 
--- an attempt: the answer, where it is definite or no more may follow, or else what is passed for good
-module _ {T C L : Type 0} (k : PieceKind T C L) (at : ℕ) (marks : List ℕ) (r : Source T) (s : SearchStep C L) (more : Bool) where
-  abbrev pub Attempts : Attempt T → Type 0
-  Attempts (attempt.Answered look) = (more ≡ true → is_definite k s r ≡ true) × (look ≡ look_of k at marks r s)
-  Attempts (attempt.Waits passed) = (more ≡ true) × (is_definite k s r ≡ false) × IsSettled k s r passed.width passed.tokens
+-- an attempt: the answer is told under the piece, where it is definite or no more may follow; or else nothing is told, and the step has passed so much for good
+module _ {T C L : Type 0} (k : PieceKind T C L) (at : ℕ) (marks : List ℕ) (r : Source T) (s : SearchStep C L) (more : Bool) (piece : Option ℕ) (before after : List (Told T)) where
+  abbrev pub Attempts : Attempt → Type 0
+  Attempts (attempt.Answered seen) = (more ≡ true → is_definite k s r ≡ true) × (seen ≡ seen_of (look_of k at marks r s)) × (after ≡ before ++ under piece (look_of k at marks r s).answer ∷ [])
+  Attempts (attempt.Waits passed) = (more ≡ true) × (is_definite k s r ≡ false) × IsSettled k s r passed.width passed.tokens × (after ≡ before)

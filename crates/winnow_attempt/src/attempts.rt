@@ -1,22 +1,25 @@
-ghost use Rattle.std.specs.Prelude.{◌≡◌, ◌+◌, ◌≤◌, ◌<◌, ◌^◌, false, length};
+ghost use Rattle.std.specs.Prelude.{◌≡◌, ℕ, ◌+◌, ◌≤◌, ◌<◌, ◌^◌, ◌∷◌, ◌++◌, [], List, Option, false, length, vec_len, vec_capacity};
 ghost use Rattle.winnow_stream.specs.Source.{width};
 ghost use Rattle.winnow_attempt.specs.Settled.{IsSettled, AreCounted};
 ghost use Rattle.winnow_run.specs.Definite.{is_definite, is_decided};
-ghost use Rattle.winnow_attempt.specs.View.{piece_kind, look_of, never_definite, Attempts, GivesAnswer};
+ghost use Rattle.winnow_attempt.specs.View.{piece_kind, look_of, seen_of, under, never_definite, Attempts, GivesAnswer};
+ghost use Rattle.winnow_attempt.specs.declared.told.Told.{Told};
+ghost use Rattle.winnow_run.specs.Searching.{PlacedSearchAnswer};
 
+use crate::Told;
 use crate::kept::Kept;
 use crate::literals::{compare_from, find_from, needle_bytes, searched, stays_found};
-use crate::looking::{Look, Passed, look_call};
+use crate::looking::{Passed, Seen, look_call, tell};
 use winnow_match::CompareResult;
 use winnow_run::{PieceAnswer, SearchAnswer, SearchStep, Step};
 use winnow_sets::{AsChar, CharSet};
 use winnow_stream::{AsBStr, Stream, StreamIsPartial};
 
 /// What an attempt at a step came to.
-#[derive(Drop)]
-pub enum Attempt<T> {
-    /// No further input can change its answer.
-    Answered(Look<T>),
+#[derive(Clone, Copy)]
+pub enum Attempt {
+    /// It is answered, and no further input can change that.
+    Answered(Seen),
     /// It waits, and has passed so much for good.
     Waits(Passed),
 }
@@ -31,14 +34,16 @@ fn is_decided_now(compared: &CompareResult) -> bool
     }
 }
 
-/// Looks at a step, from what it has passed on.
+/// Looks at a step, from what it has passed on, and tells its answer under the piece.
 pub fn look<S: Kept, L: AsBStr>(
     step: &SearchStep<CharSet, L>,
     rest: S,
     place: usize,
     marks: &[usize],
     passed: Passed,
-) -> Look<S::Token>
+    told: &mut Vec<Told<S::Token>>,
+    piece: Option<u64>,
+) -> Seen
 where
     S::Token: AsChar + Drop,
     S::Slice: Drop,
@@ -47,17 +52,23 @@ where
     requires settled { IsSettled
         (piece_kind S.Token.code S.counts_missing S.write L.text_bytes)
         step.now (S.remaining rest) passed.width passed.tokens }
-    ensures { result ≡ look_of
+    requires told_room { vec_len told.old < vec_capacity told.old }
+    ensures seen { result ≡ seen_of (look_of
         (piece_kind S.Token.code S.counts_missing S.write L.text_bytes)
-        place marks.now (S.remaining rest) step.now }
+        place marks.now (S.remaining rest) step.now) }
+    ensures items { told.new.items ≡ told.old.items ++ under piece (look_of
+        (piece_kind S.Token.code S.counts_missing S.write L.text_bytes)
+        place marks.now (S.remaining rest) step.now).answer ∷ [] }
+    ensures len { vec_len told.new ≡ vec_len told.old + 1 }
+    ensures capacity { vec_capacity told.old ≤ vec_capacity told.new }
 {
     match step {
-        SearchStep::Call(call) => look_call(call, rest, place, marks, passed),
+        SearchStep::Call(call) => look_call(call, rest, place, marks, passed, told, piece),
         SearchStep::Compare(literal) => {
             let compared = compare_from(literal.as_bstr(), rest.bytes(), passed.width);
             let definite = is_decided_now(&compared);
-            Look {
-                answer: SearchAnswer::Compared(compared),
+            tell(told, piece, SearchAnswer::Compared(compared));
+            Seen {
                 definite,
                 place,
                 marks: false,
@@ -67,13 +78,27 @@ where
             let needles = needle_bytes(needles);
             let found = find_from(&needles, rest.bytes(), passed.width);
             let definite = stays_found(&needles, rest.bytes(), &found);
-            Look {
-                answer: SearchAnswer::Hit(found),
+            tell(told, piece, SearchAnswer::Hit(found));
+            Seen {
                 definite,
                 place,
                 marks: false,
             }
         }
+    }
+}
+
+// Takes the last answer back.
+fn take_back<T: Drop>(told: &mut Vec<Told<T>>) -> PieceAnswer<T>
+    requires { 0 < vec_len told.old }
+    ensures items { (before : List (Told T)) → (piece : Option ℕ) → (answer : PlacedSearchAnswer T)
+        → told.old.items ≡ before ++ under piece answer ∷ []
+        → (told.new.items ≡ before) × (result ≡ answer) }
+    ensures capacity { vec_capacity told.new ≡ vec_capacity told.old }
+{
+    match told.pop() {
+        Some(last) => last.answer,
+        None => unreachable!(),
     }
 }
 
@@ -169,8 +194,8 @@ fn waits_to_the_end<L>(step: &SearchStep<CharSet, L>) -> bool
     }
 }
 
-/// Attempts a step where `rest` remains, from what it has passed on. Only where more may follow
-/// can it wait.
+/// Attempts a step where `rest` remains, from what it has passed on. Its answer is told under the
+/// piece, where it is definite or no more may follow; else the step waits, and nothing is told.
 #[tactic(auto, using(crate::proofs::lemmas::PassedLemmas::attempted))]
 pub fn attempt_step<S: Kept, L: AsBStr>(
     step: &SearchStep<CharSet, L>,
@@ -178,7 +203,9 @@ pub fn attempt_step<S: Kept, L: AsBStr>(
     place: usize,
     marks: &[usize],
     passed: Passed,
-) -> Attempt<S::Token>
+    told: &mut Vec<Told<S::Token>>,
+    piece: Option<u64>,
+) -> Attempt
 where
     S::Token: AsChar + Drop,
     S::Slice: Drop,
@@ -187,18 +214,22 @@ where
     requires settled { IsSettled
         (piece_kind S.Token.code S.counts_missing S.write L.text_bytes)
         step.now (S.remaining rest) passed.width passed.tokens }
-    ensures { Attempts
+    requires told_room { vec_len told.old < vec_capacity told.old }
+    ensures attempts { Attempts
         (piece_kind S.Token.code S.counts_missing S.write L.text_bytes)
-        place marks.now (S.remaining rest) step.now (S.expects_more rest) result }
+        place marks.now (S.remaining rest) step.now (S.expects_more rest)
+        piece told.old.items told.new.items result }
+    ensures capacity { vec_capacity told.old ≤ vec_capacity told.new }
 {
     let partial = rest.is_partial();
     if partial && waits_to_the_end(step) {
         return Attempt::Waits(passed);
     }
-    let looked = look(step, rest, place, marks, passed);
-    if looked.definite || !partial {
-        Attempt::Answered(looked)
+    let seen = look(step, rest, place, marks, passed, told, piece);
+    if seen.definite || !partial {
+        Attempt::Answered(seen)
     } else {
-        Attempt::Waits(settle(step, rest, &looked.answer, passed))
+        let answer = take_back(told);
+        Attempt::Waits(settle(step, rest, &answer, passed))
     }
 }

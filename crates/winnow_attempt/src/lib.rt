@@ -13,8 +13,10 @@ mod kept;
 mod literals;
 mod looking;
 mod missing;
+mod told;
 
 pub use attempts::{Attempt, attempt_step};
 pub use kept::Kept;
-pub use looking::{Look, Passed, mark_at};
+pub use looking::{Passed, Seen, mark_at};
 pub use missing::step_missing;
+pub use told::Told;

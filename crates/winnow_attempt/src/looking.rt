@@ -1,21 +1,22 @@
-ghost use Rattle.std.specs.Prelude.{◌≡◌, ◌+◌, ◌<◌, ◌^◌, ◌≤◌, false, length, slice_get, IsTrue};
+ghost use Rattle.std.specs.Prelude.{◌≡◌, ◌+◌, ◌<◌, ◌^◌, ◌≤◌, ◌∷◌, ◌++◌, [], false, length, slice_get, IsTrue, vec_len, vec_capacity};
 ghost use Rattle.winnow_stream.specs.Source.{width, first_offset};
 ghost use Rattle.winnow_stream.specs.Front.{is_offset};
 ghost use Rattle.winnow_stream.specs.Shortage.{offset_at};
 ghost use Rattle.winnow_attempt.specs.Settled.{NoneHeld, AreCounted, IsCallSettled};
-ghost use Rattle.winnow_attempt.specs.View.{held, first_width, call_look};
+ghost use Rattle.winnow_attempt.specs.View.{held, first_width, call_look, seen_of, under};
 ghost use Rattle.winnow_run.specs.declared.search_script.SearchAnswer.TheVariants as search_answered;
 
+use crate::Told;
 use crate::kept::Kept;
 use std::ops::Range;
 use winnow_run::{Answer, PieceAnswer, SearchAnswer, Step};
 use winnow_sets::{AsChar, CharSet};
 use winnow_stream::{Needed, ScriptSet, Stream};
 
-/// What looking at a step gives: its answer, whether more input can change it, and where it leads.
-#[derive(Drop)]
-pub struct Look<T> {
-    pub answer: PieceAnswer<T>,
+/// What looking at a step gives beside its answer: whether more input can change that, where it leads, and whether it marks
+/// the place where it stood.
+#[derive(Clone, Copy)]
+pub struct Seen {
     pub definite: bool,
     pub place: usize,
     pub marks: bool,
@@ -78,17 +79,38 @@ pub struct Passed {
     pub tokens: usize,
 }
 
-// What a call gives that makes no mark.
-fn shown<T>(answer: Answer<T, Range<usize>, Range<usize>>, definite: bool, place: usize) -> Look<T>
-    ensures { result ≡ record {
-      answer = search_answered.Call answer;
-      definite = definite;
-      place = place;
-      marks = false;
-    } }
+/// Puts an answer behind the others, where there is room.
+#[inline(always)]
+pub fn tell<T: Drop>(told: &mut Vec<Told<T>>, piece: Option<u64>, answer: PieceAnswer<T>)
+    requires { vec_len told.old < vec_capacity told.old }
+    ensures items { told.new.items ≡ told.old.items ++ under piece answer ∷ [] }
+    ensures len { vec_len told.new ≡ vec_len told.old + 1 }
+    ensures capacity { vec_capacity told.old ≤ vec_capacity told.new }
 {
-    Look {
-        answer: SearchAnswer::Call(answer),
+    let more = Told { piece, answer };
+    match told.push(more) {
+        Ok(()) => {}
+        Err(_) => unreachable!(),
+    }
+}
+
+// Tells what a call answers that makes no mark.
+#[inline(always)]
+fn shown<T: Drop>(
+    told: &mut Vec<Told<T>>,
+    piece: Option<u64>,
+    answer: Answer<T, Range<usize>, Range<usize>>,
+    definite: bool,
+    place: usize,
+) -> Seen
+    requires { vec_len told.old < vec_capacity told.old }
+    ensures seen { result ≡ record { definite = definite; place = place; marks = false } }
+    ensures items { told.new.items ≡ told.old.items ++ under piece (search_answered.Call answer) ∷ [] }
+    ensures len { vec_len told.new ≡ vec_len told.old + 1 }
+    ensures capacity { vec_capacity told.old ≤ vec_capacity told.new }
+{
+    tell(told, piece, SearchAnswer::Call(answer));
+    Seen {
         definite,
         place,
         marks: false,
@@ -129,7 +151,8 @@ fn has_offset<S: Stream>(rest: &S, offset: usize) -> bool
     rest.is_offset(offset)
 }
 
-// Looks at a call, from what it has passed on.
+/// Looks at a call, from what it has passed on, and tells its answer under the piece.
+// Each case tells its own answer: one that is handed on is copied through memory at each hand.
 #[tactic(auto, using(crate::proofs::lemmas::LookLemmas::looks))]
 pub fn look_call<S: Kept>(
     call: &Step<CharSet>,
@@ -137,75 +160,121 @@ pub fn look_call<S: Kept>(
     place: usize,
     marks: &[usize],
     passed: Passed,
-) -> Look<S::Token>
+    told: &mut Vec<Told<S::Token>>,
+    piece: Option<u64>,
+) -> Seen
 where
     S::Token: AsChar + Drop,
     S::Slice: Drop,
     requires valid { S.valid rest }
     requires room { place + width (S.remaining rest) < 2 ^ 64 }
     requires settled { IsCallSettled (held S.Token.code) call.now (S.remaining rest) passed.width passed.tokens }
-    ensures { result ≡ call_look
-        (held S.Token.code) S.counts_missing place marks.now (S.remaining rest) call.now }
+    requires told_room { vec_len told.old < vec_capacity told.old }
+    ensures seen { result ≡ seen_of (call_look
+        (held S.Token.code) S.counts_missing place marks.now (S.remaining rest) call.now) }
+    ensures items { told.new.items ≡ told.old.items ++ under piece (call_look
+        (held S.Token.code) S.counts_missing place marks.now (S.remaining rest) call.now).answer ∷ [] }
+    ensures len { vec_len told.new ≡ vec_len told.old + 1 }
+    ensures capacity { vec_capacity told.old ≤ vec_capacity told.new }
 {
     let left = rest.eof_offset();
     match call {
         Step::Next => {
             let token = rest.peek_token();
             let definite = token.is_some();
-            shown(Answer::Token(token), definite, place + width_of_first(rest))
+            let next = place + width_of_first(rest);
+            shown(told, piece, Answer::Token(token), definite, next)
         }
         Step::Peek => {
             let token = rest.peek_token();
             let definite = token.is_some();
-            shown(Answer::Token(token), definite, place)
+            shown(told, piece, Answer::Token(token), definite, place)
         }
         Step::Take(n) => {
             if has_offset(&rest, *n) {
-                shown(Answer::Slice(place..place + *n), *n <= left, place + *n)
+                shown(
+                    told,
+                    piece,
+                    Answer::Slice(place..place + *n),
+                    *n <= left,
+                    place + *n,
+                )
             } else {
-                shown(Answer::BadOffset, *n <= left, place)
+                shown(told, piece, Answer::BadOffset, *n <= left, place)
             }
         }
         Step::Look(n) => {
             if has_offset(&rest, *n) {
-                shown(Answer::Slice(place..place + *n), *n <= left, place)
+                shown(
+                    told,
+                    piece,
+                    Answer::Slice(place..place + *n),
+                    *n <= left,
+                    place,
+                )
             } else {
-                shown(Answer::BadOffset, *n <= left, place)
+                shown(told, piece, Answer::BadOffset, *n <= left, place)
             }
         }
-        Step::Finish => shown(Answer::Slice(place..place + left), false, place + left),
-        Step::PeekFinish => shown(Answer::Slice(place..place + left), false, place),
-        Step::Eof => shown(Answer::Offset(left), false, place),
+        Step::Finish => shown(
+            told,
+            piece,
+            Answer::Slice(place..place + left),
+            false,
+            place + left,
+        ),
+        Step::PeekFinish => shown(
+            told,
+            piece,
+            Answer::Slice(place..place + left),
+            false,
+            place,
+        ),
+        Step::Eof => shown(told, piece, Answer::Offset(left), false, place),
         Step::At(n) => {
             let found = offset_from(rest, *n, passed.width, passed.tokens);
             let definite = found.is_ok();
-            shown(Answer::At(found), definite, place)
+            shown(told, piece, Answer::At(found), definite, place)
         }
-        Step::IsOffset(n) => shown(Answer::Flag(has_offset(&rest, *n)), *n <= left, place),
+        Step::IsOffset(n) => shown(
+            told,
+            piece,
+            Answer::Flag(has_offset(&rest, *n)),
+            *n <= left,
+            place,
+        ),
         Step::First(set) => {
             let found = first_from(set, rest, passed.width);
-            shown(Answer::First(found), found.is_some(), place)
+            shown(told, piece, Answer::First(found), found.is_some(), place)
         }
-        Step::Each => shown(Answer::Items(place..place + left), false, place),
-        Step::Mark => Look {
-            answer: SearchAnswer::Call(Answer::Marked(marks.len())),
-            definite: true,
+        Step::Each => shown(
+            told,
+            piece,
+            Answer::Items(place..place + left),
+            false,
             place,
-            marks: true,
-        },
+        ),
+        Step::Mark => {
+            tell(told, piece, SearchAnswer::Call(Answer::Marked(marks.len())));
+            Seen {
+                definite: true,
+                place,
+                marks: true,
+            }
+        }
         Step::Reset(k) => match mark_at(marks, *k) {
-            Some(mark) => shown(Answer::Done, true, mark),
-            None => shown(Answer::NoMark, true, place),
+            Some(mark) => shown(told, piece, Answer::Done, true, mark),
+            None => shown(told, piece, Answer::NoMark, true, place),
         },
         Step::Since(k) => match mark_at(marks, *k) {
             Some(mark) => {
                 if mark <= place {
-                    shown(Answer::Offset(place - mark), true, place)
+                    shown(told, piece, Answer::Offset(place - mark), true, place)
                 } else {
-                    shown(Answer::LaterMark, true, place)
+                    shown(told, piece, Answer::LaterMark, true, place)
                 }
             }
-            None => shown(Answer::NoMark, true, place),
+            None => shown(told, piece, Answer::NoMark, true, place),
         },
     }
 }

@@ -4,7 +4,7 @@ use Rattle.std.specs.List.{AllByRecursion}
 use Rattle.std.specs.Borrow.{Bor}
 use Rattle.winnow_stream.specs.Source.{width}
 use Rattle.winnow_stream.specs.Cursor.{start, cursor_after}
-use Rattle.winnow_feed.specs.declared.told.Told.{Told}
+use Rattle.winnow_attempt.specs.declared.told.Told.{Told}
 use Rattle.winnow_feed.specs.declared.finished.Finished.{Finished}
 use Rattle.winnow_feed.specs.declared.progress.Progress.{Progress}
 use Rattle.winnow_run.specs.Searching.{search_next}

@@ -10,7 +10,8 @@ use Rattle.winnow_run.specs.Searching.{PlacedSearchAnswer}
 use Rattle.winnow_run.specs.Definite.{PieceKind, is_definite}
 use Rattle.winnow_attempt.specs.Settled.{IsSettled}
 use Rattle.winnow_feed.specs.Reach.{Reaches, needed_from, needed_place}
-use Rattle.winnow_feed.specs.Telling.{capped, under}
+use Rattle.winnow_feed.specs.Telling.{capped}
+use Rattle.winnow_attempt.specs.View.{under}
 
 -- the next step, if one is left
 abbrev pub next_step : {T L : Type 0} → Progress T L → Option (SearchStep CharSet L)

@@ -1,7 +1,8 @@
 -- What a script over pieces tells: which answers are out after them, and under which numbers.
 use Rattle.std.specs.Prelude.{ℕ, ◌+◌, min, Bool, nat_lt, if◌then◌else◌, List, [], ◌∷◌, ◌++◌, length, drop, map, Option, None, Some}
 use Rattle.winnow_stream.specs.Cursor.{place}
-use Rattle.winnow_feed.specs.declared.told.Told.{Told}
+use Rattle.winnow_attempt.specs.declared.told.Told.{Told}
+use Rattle.winnow_attempt.specs.View.{under}
 use Rattle.winnow_run.specs.Searching.{PlacedSearchAnswer, search_answers, search_cursor}
 use Rattle.winnow_run.specs.Definite.{kind_of, out}
 use Rattle.winnow_feed.specs.Inputs.{PieceStep, InputKind, joined}
@@ -9,10 +10,6 @@ use Rattle.winnow_feed.specs.Inputs.{PieceStep, InputKind, joined}
 -- a count that stops at the greatest u64
 abbrev pub capped : ℕ → ℕ
 capped n = min n 18446744073709551615
-
--- an answer under the number of a piece, or under none
-abbrev pub under : {T : Type 0} → Option ℕ → PlacedSearchAnswer T → Told T
-under piece answer = record { piece = piece; answer = answer }
 
 -- the length of the shortest nonempty front of the pieces, behind what is joined already, whose joined input passes
 abbrev pub shortest_front : (List ℕ → Bool) → List ℕ → List (List ℕ) → ℕ

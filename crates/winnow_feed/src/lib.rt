@@ -22,12 +22,11 @@ mod progress;
 mod runs;
 mod text_feeds;
 mod texts;
-mod told;
 mod waiting;
 
 pub use feeds::ByteFeed;
 pub use finished::Finished;
 pub use runs::{run_pieces, run_pieces_text};
 pub use text_feeds::TextFeed;
-pub use told::Told;
 pub use waiting::Waiting;
+pub use winnow_attempt::Told;

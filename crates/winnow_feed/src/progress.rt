@@ -4,11 +4,11 @@ ghost use Rattle.winnow_stream.specs.Source.{width};
 ghost use Rattle.winnow_attempt.specs.View.{piece_kind};
 ghost use Rattle.winnow_feed.specs.Standing.{IsStanding, KeepsStanding, StandsAtRest};
 ghost use Rattle.winnow_feed.specs.Standing.{ComesToRest, Tells, Tries, StandsStill};
-ghost use Rattle.winnow_feed.specs.Telling.{capped, under};
+ghost use Rattle.winnow_feed.specs.Telling.{capped};
+ghost use Rattle.winnow_attempt.specs.View.{under};
 
-use crate::Told;
-use winnow_attempt::{Attempt, Kept, Passed, attempt_step};
-use winnow_run::{PieceAnswer, SearchStep};
+use winnow_attempt::{Attempt, Kept, Passed, Told, attempt_step};
+use winnow_run::SearchStep;
 use winnow_sets::{AsChar, CharSet};
 use winnow_stream::{AsBStr, Stream, StreamIsPartial};
 
@@ -38,20 +38,6 @@ fn push_mark(marks: &mut Vec<usize>, at: usize, makes: bool)
             Ok(()) => {}
             Err(_) => unreachable!(),
         }
-    }
-}
-
-// Puts an answer behind the others, where there is room.
-fn tell<T: Drop>(told: &mut Vec<Told<T>>, piece: Option<u64>, answer: PieceAnswer<T>)
-    requires { vec_len told.old < vec_capacity told.old }
-    ensures items { told.new.items ≡ told.old.items ++ under piece answer ∷ [] }
-    ensures len { vec_len told.new ≡ vec_len told.old + 1 }
-    ensures capacity { vec_capacity told.old ≤ vec_capacity told.new }
-{
-    let more = Told { piece, answer };
-    match told.push(more) {
-        Ok(()) => {}
-        Err(_) => unreachable!(),
     }
 }
 
@@ -101,15 +87,22 @@ where
     let mut rest = kept;
     rest.next_slice(progress.place - progress.base);
     progress.tried = progress.tried.saturating_add(1);
-    match attempt_step(step, rest, progress.place, &progress.marks, progress.passed) {
+    match attempt_step(
+        step,
+        rest,
+        progress.place,
+        &progress.marks,
+        progress.passed,
+        &mut progress.told,
+        piece,
+    ) {
         Attempt::Waits(passed) => {
             progress.passed = passed;
             false
         }
-        Attempt::Answered(looked) => {
-            push_mark(&mut progress.marks, progress.place, looked.marks);
-            tell(&mut progress.told, piece, looked.answer);
-            progress.place = looked.place;
+        Attempt::Answered(seen) => {
+            push_mark(&mut progress.marks, progress.place, seen.marks);
+            progress.place = seen.place;
             progress.passed = Passed {
                 width: 0,
                 tokens: 0,

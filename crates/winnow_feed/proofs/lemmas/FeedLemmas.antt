@@ -15,7 +15,8 @@ use Rattle.winnow_run.specs.Searching.{search_next, search_answers, search_curso
 use Rattle.winnow_feed.specs.Inputs.{InputKind, joined}
 use Rattle.winnow_feed.specs.Reach.{needed_place, needed_from}
 use Rattle.winnow_feed.specs.Standing.{Stands, IsAtRest, KeepsLeast, TakesIn, Tells, Tries, next_step, steps_left, answers_told}
-use Rattle.winnow_feed.specs.Telling.{capped, under, out_on, is_waiting, told_of, waits, tried_of, all_answers}
+use Rattle.winnow_feed.specs.Telling.{capped, out_on, is_waiting, told_of, waits, tried_of, all_answers}
+use Rattle.winnow_attempt.specs.View.{under}
 use Rattle.winnow_feed.specs.Feeding.{FeedState, Fits, StandsFor, Finishes, held_after, script_of, bytes_fed}
 use Rattle.winnow_feed.proofs.lemmas.InputLemmas.{IsInput, joined-push}
 use Rattle.winnow_feed.proofs.lemmas.TellingLemmas.{AreInputs, answers_of, answers-under, told_of-push, waits-push}

@@ -13,14 +13,13 @@ use Rattle.winnow_match.specs.Bytes.{written}
 use Rattle.winnow_match.specs.Search.{needle_list}
 use Rattle.winnow_run.specs.declared.search_script.SearchStep.{SearchStep}
 use Rattle.winnow_run.specs.declared.search_script.SearchStep.TheVariants as step
-use Rattle.winnow_attempt.specs.declared.looking.Look.{Look}
 use Rattle.winnow_feed.specs.declared.progress.Progress.{Progress}
 use Rattle.winnow_run.specs.Searching.{search_answer, search_next}
 use Rattle.winnow_run.specs.Definite.{PieceKind, kind_of, is_definite}
 use Rattle.winnow_attempt.specs.Settled.{IsSettled}
-use Rattle.winnow_attempt.specs.View.{look_of}
+use Rattle.winnow_attempt.specs.View.{Look, look_of}
 use Rattle.winnow_feed.specs.Reach.{least_index, needed_from}
-use Rattle.winnow_feed.specs.Telling.{under}
+use Rattle.winnow_attempt.specs.View.{under}
 use Rattle.winnow_feed.specs.Standing.{Stands, Tells, next_step, steps_left, answers_told}
 use Rattle.winnow_run.proofs.lemmas.StepLemmas.{Inside, start-inside}
 use Rattle.winnow_attempt.proofs.lemmas.SettledLemmas.{width-split, NoneHeld-none, NoneStands-none, AreCounted-none, AreSame-none}
@@ -55,7 +54,7 @@ none-passed k (step.Compare l) r = AreSame-none (k.literal l) (written k.write r
 none-passed k (step.Find ns) r = NoneStands-none (needle_list k.literal ns) (written k.write r)
 
 -- a run that differs in what it counts alone
-pub Stands-same : {T L : Type 0} (strict : Bool) (k : PieceKind T CharSet L) (all kept : Source T) (p : Progress T L) → Stands strict k all kept p → (q : Progress T L) → q.script ≡ p.script → q.told ≡ p.told → q.place ≡ p.place → q.marks ≡ p.marks → q.passed ≡ p.passed → q.base ≡ p.base → Stands strict k all kept q
+pub Stands-same : {T L : Type 0} (strict : Bool) (k : PieceKind T CharSet L) (all kept : Source T) (p : Progress T L) → Stands strict k all kept p → (q : Progress T L) → q.script ≡ p.script → q.told.items ≡ p.told.items → q.place ≡ p.place → q.marks ≡ p.marks → q.passed ≡ p.passed → q.base ≡ p.base → Stands strict k all kept q
 Stands-same strict k all kept p h q script told here marks passed base = record {
   widths = h.widths;
   at = h.at;
@@ -71,8 +70,8 @@ Stands-same strict k all kept p h q script told here marks passed base = record 
 
 -- ---- what was told
 
-pub Tells-none : {T L : Type 0} (piece : Option ℕ) (p q : Progress T L) → q.told ≡ p.told → Tells piece p q
-Tells-none piece p q e = record { more = []; told = ap (λ t. t.items) e ∙ sym (append-nil p.told.items) }
+pub Tells-none : {T L : Type 0} (piece : Option ℕ) (p q : Progress T L) → q.told.items ≡ p.told.items → Tells piece p q
+Tells-none piece p q e = record { more = []; told = e ∙ sym (append-nil p.told.items) }
 
 pub Tells-more : {T L : Type 0} (piece : Option ℕ) (p q r : Progress T L) → Tells piece p q → Tells piece q r → Tells piece p r
 Tells-more piece p q r h g = record {
@@ -129,7 +128,7 @@ module _ {T L : Type 0} (strict : Bool) (k : PieceKind T CharSet L) (all kept : 
 
   -- ---- an attempt that waits
 
-  pub Stands-waits : (q : Progress T L) → q.script ≡ p.script → q.told ≡ p.told → q.place ≡ p.place → q.marks ≡ p.marks → q.base ≡ p.base → IsSettled k x (rest all h.at) q.passed.width q.passed.tokens → Stands strict k all kept q
+  pub Stands-waits : (q : Progress T L) → q.script ≡ p.script → q.told.items ≡ p.told.items → q.place ≡ p.place → q.marks ≡ p.marks → q.base ≡ p.base → IsSettled k x (rest all h.at) q.passed.width q.passed.tokens → Stands strict k all kept q
   Stands-waits q script told here marks base settled =
       let same : next_step q ≡ Some x = rw (script, told) next in
       record {

@@ -9,9 +9,10 @@ use Rattle.winnow_run.specs.declared.search_script.SearchStep.{SearchStep}
 use Rattle.winnow_run.specs.Searching.{PlacedSearchAnswer, search_next}
 use Rattle.winnow_run.specs.Definite.{PieceKind, is_definite, judged, out}
 use Rattle.winnow_run.proofs.lemmas.StepLemmas.{Inside, step-more, step-inside, start-inside}
-use Rattle.winnow_feed.specs.declared.told.Told.{Told}
+use Rattle.winnow_attempt.specs.declared.told.Told.{Told}
 use Rattle.winnow_feed.specs.Inputs.{PieceStep, InputKind, joined}
-use Rattle.winnow_feed.specs.Telling.{capped, under, shortest_front, numbered, out_on, lets_out, is_waiting, piece_of, told_of, waits}
+use Rattle.winnow_feed.specs.Telling.{capped, shortest_front, numbered, out_on, lets_out, is_waiting, piece_of, told_of, waits}
+use Rattle.winnow_attempt.specs.View.{under}
 use Rattle.winnow_feed.proofs.lemmas.InputLemmas.{IsInput, joined-push}
 use Rattle.winnow_feed.proofs.lemmas.ReachLemmas.{take_while-stop, take_while-go}
 

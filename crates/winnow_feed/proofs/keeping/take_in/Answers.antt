@@ -1,5 +1,5 @@
 use Rattle.std.proofs.Common.{◌+◌, ◌++◌, Some, map, ap, ◌∙◌, sym, arith, refl}
-use Rattle.winnow_feed.specs.Telling.{under}
+use Rattle.winnow_attempt.specs.View.{under}
 use Rattle.winnow_feed.proofs.lemmas.StandingLemmas.{Stands-same}
 use Rattle.winnow_feed.proofs.lemmas.KeepingLemmas.{least-from, unneeded-offset, Stands-needed, least-still}
 use Rattle.winnow_feed.proofs.keeping.take_in.Goals as goal
