@@ -1,3 +1,4 @@
 pub mod Explanation
 pub mod ContextText
+pub mod ContextDebug
 pub mod Line

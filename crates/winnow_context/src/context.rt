@@ -5,10 +5,12 @@ ghost use Rattle.std.specs.Iterator.{AlwaysYields, IsFinite, ExtendsWithItems};
 ghost use Rattle.std.specs.Option.{option_eq};
 ghost use Rattle.std.specs.Ordering.{on, eq_of_both};
 ghost use Rattle.std.proofs.Common.{rules};
+ghost use Rattle.winnow_context.specs.ContextDebug.{explanation_debug};
 ghost use Rattle.winnow_context.specs.Explanation.{Extends, pushed, caused_by, unexplained};
 
 use crate::ContextItems;
 use std::alloc::{AllocError, Global};
+use std::fmt;
 use std::marker::Model;
 use winnow_error::{
     AddContext, AssociativeOr, ErrorConvert, FromExternalError, FromRecoverableError, ParserError,
@@ -18,7 +20,7 @@ use winnow_stream::{Needed, Stream};
 /// An error that tells what was being read when it came, and what another's error caused it, if one did.
 ///
 /// Contracts see the list of contexts and the text of the cause, and nothing of the room that they take.
-#[derive(Debug, Drop)]
+#[derive(Drop)]
 pub struct ContextError<C> {
     context: Vec<C>,
     cause: Option<String>,
@@ -229,5 +231,25 @@ impl<C: PartialEq> PartialEq for ContextError<C> {
 
     fn eq(&self, other: &Self) -> bool {
         self.context == other.context && self.cause == other.cause
+    }
+}
+
+/// Prints what a derive would, and says so.
+impl<C: fmt::Debug> fmt::Debug for ContextError<C> {
+    ghost debug_output = { explanation_debug C.debug_output };
+
+    fn fmt<W: fmt::Write>(&self, f: &mut fmt::Formatter<W>) -> fmt::Result {
+        if f.alternate() {
+            let mut fields = f.debug_struct("ContextError");
+            return fields
+                .field("context", &self.context)
+                .field("cause", &self.cause)
+                .finish();
+        }
+        f.write_str("ContextError { context: ")?;
+        self.context.fmt(f)?;
+        f.write_str(", cause: ")?;
+        self.cause.fmt(f)?;
+        f.write_str(" }")
     }
 }

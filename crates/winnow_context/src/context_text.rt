@@ -4,6 +4,7 @@ ghost use Rattle.winnow_context.specs.ContextText.{first_label, expected, is_any
 
 use crate::{ContextError, StrContext};
 use std::fmt;
+use winnow_error::write_bare;
 
 /// The first label, if there is one.
 fn first_label(contexts: &[StrContext]) -> Option<&'static str>
@@ -74,8 +75,11 @@ impl<T: fmt::Display> fmt::Display for Line<'_, T> {
     }
 }
 
+/// No option changes the text.
 impl fmt::Display for ContextError<StrContext> {
     ghost output = { λ e. Some (explanation_text e) };
+
+    ghost styled_output = { λ e _. Some (explanation_text e) };
 
     fn fmt<W: fmt::Write>(&self, f: &mut fmt::Formatter<W>) -> fmt::Result {
         let contexts = self.context().as_slice();
@@ -97,6 +101,6 @@ impl fmt::Display for ContextError<StrContext> {
             start: "",
             text: self.cause(),
         };
-        write!(f, "{label}{expected}{cause}")
+        write_bare(f, format_args!("{label}{expected}{cause}"))
     }
 }

@@ -5,6 +5,7 @@ mod context;
 mod context_items;
 mod context_text;
 mod str_context;
+mod variants;
 
 pub use context::ContextError;
 pub use context_items::ContextItems;

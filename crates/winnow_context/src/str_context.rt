@@ -1,11 +1,14 @@
 ghost use Rattle.std.specs.Prelude.{◌≡◌, Some};
 ghost use Rattle.winnow_context.specs.ContextText.{value_text, context_text, char_text, escape};
+ghost use Rattle.winnow_context.specs.ContextDebug.{value_debug, context_debug};
 ghost use Rattle.winnow_context.specs.declared.str_context.StrContextValue.TheVariants.{CharLiteral, StringLiteral};
 
+use crate::variants::write_variant;
 use std::fmt;
+use winnow_error::write_bare;
 
 /// What a parser was reading, or what it would have taken.
-#[derive(Clone, Debug, PartialEq, Eq, Drop)]
+#[derive(Clone, PartialEq, Eq, Drop)]
 pub enum StrContext {
     /// What was being read, as `number`
     Label(&'static str),
@@ -14,7 +17,7 @@ pub enum StrContext {
 }
 
 /// What a parser would have taken.
-#[derive(Clone, Debug, PartialEq, Eq, Drop)]
+#[derive(Clone, PartialEq, Eq, Drop)]
 pub enum StrContextValue {
     /// A character
     CharLiteral(char),
@@ -83,28 +86,56 @@ impl fmt::Display for Quoted {
     }
 }
 
+/// No option changes the text.
 impl fmt::Display for StrContextValue {
     ghost output = { λ v. Some (value_text v) };
 
+    ghost styled_output = { λ v _. Some (value_text v) };
+
     fn fmt<W: fmt::Write>(&self, f: &mut fmt::Formatter<W>) -> fmt::Result {
         match self {
-            StrContextValue::CharLiteral(c) => {
-                let quoted = Quoted(*c);
-                write!(f, "{quoted}")
-            }
-            StrContextValue::StringLiteral(text) => write!(f, "`{text}`"),
-            StrContextValue::Description(text) => write!(f, "{text}"),
+            StrContextValue::CharLiteral(c) => write_bare(f, Quoted(*c)),
+            StrContextValue::StringLiteral(text) => write_bare(f, format_args!("`{text}`")),
+            StrContextValue::Description(text) => f.write_str(text),
         }
     }
 }
 
+/// No option changes the text.
 impl fmt::Display for StrContext {
     ghost output = { λ c. Some (context_text c) };
 
+    ghost styled_output = { λ c _. Some (context_text c) };
+
     fn fmt<W: fmt::Write>(&self, f: &mut fmt::Formatter<W>) -> fmt::Result {
         match self {
-            StrContext::Label(label) => write!(f, "invalid {label}"),
-            StrContext::Expected(value) => write!(f, "expected {value}"),
+            StrContext::Label(label) => write_bare(f, format_args!("invalid {label}")),
+            StrContext::Expected(value) => write_bare(f, format_args!("expected {value}")),
+        }
+    }
+}
+
+/// Prints what a derive would, and says so.
+impl fmt::Debug for StrContextValue {
+    ghost debug_output = { value_debug };
+
+    fn fmt<W: fmt::Write>(&self, f: &mut fmt::Formatter<W>) -> fmt::Result {
+        match self {
+            StrContextValue::CharLiteral(c) => write_variant(f, "CharLiteral", c),
+            StrContextValue::StringLiteral(text) => write_variant(f, "StringLiteral", text),
+            StrContextValue::Description(text) => write_variant(f, "Description", text),
+        }
+    }
+}
+
+/// Prints what a derive would, and says so.
+impl fmt::Debug for StrContext {
+    ghost debug_output = { context_debug };
+
+    fn fmt<W: fmt::Write>(&self, f: &mut fmt::Formatter<W>) -> fmt::Result {
+        match self {
+            StrContext::Label(label) => write_variant(f, "Label", label),
+            StrContext::Expected(value) => write_variant(f, "Expected", value),
         }
     }
 }

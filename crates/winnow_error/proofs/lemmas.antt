@@ -1,1 +1,2 @@
+pub mod BareLemmas
 pub mod PickLemmas

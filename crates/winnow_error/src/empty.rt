@@ -8,7 +8,7 @@ use std::fmt;
 use winnow_stream::{Needed, Stream};
 
 /// An error that tells nothing but that a parser failed.
-#[derive(Clone, Copy, Debug, PartialEq, Eq)]
+#[derive(Clone, Copy, PartialEq, Eq)]
 pub struct EmptyError;
 
 impl<I: Stream> ParserError<I> for EmptyError {
@@ -129,10 +129,21 @@ impl ErrorConvert<Self> for EmptyError {
     }
 }
 
+/// Prints what a derive would, and says so.
+impl fmt::Debug for EmptyError {
+    ghost debug_output = { λ _. Some (codes "EmptyError") };
+
+    fn fmt<W: fmt::Write>(&self, f: &mut fmt::Formatter<W>) -> fmt::Result {
+        f.write_str("EmptyError")
+    }
+}
+
 impl fmt::Display for EmptyError {
     ghost output = { λ _. Some (codes "failed to parse") };
 
+    ghost styled_output = { λ _ _. Some (codes "failed to parse") };
+
     fn fmt<W: fmt::Write>(&self, f: &mut fmt::Formatter<W>) -> fmt::Result {
-        write!(f, "failed to parse")
+        f.write_str("failed to parse")
     }
 }

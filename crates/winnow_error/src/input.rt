@@ -1,13 +1,15 @@
 ghost use Rattle.std.specs.Prelude.{◌≡◌, ◌++◌, true, None, Ok, Some, refl, codes, IfOk, string_bytes};
 ghost use Rattle.std.specs.Fmt.{◌++?◌};
 
-use crate::{AddContext, AssociativeOr, FromExternalError, FromRecoverableError, ParserError};
+use crate::{
+    AddContext, AssociativeOr, FromExternalError, FromRecoverableError, ParserError, write_bare,
+};
 use std::alloc::{AllocError, Global};
 use std::fmt;
 use winnow_stream::{Needed, Stream};
 
 /// An error that holds the input where it came, and nothing else.
-#[derive(Clone, Copy, Debug, PartialEq, Eq, Drop)]
+#[derive(Clone, Copy, PartialEq, Eq, Drop)]
 pub struct InputError<I> {
     /// The input as it stood where the parser failed
     pub input: I,
@@ -164,11 +166,30 @@ impl<I: Copy, E: Drop> FromExternalError<I, E> for InputError<I> {
     }
 }
 
+/// Prints what a derive would, and says so.
+impl<I: fmt::Debug> fmt::Debug for InputError<I> {
+    ghost debug_output = { λ e. Some (codes "InputError { input: ") ++? I.debug_output e.input ++? Some (codes " }") };
+
+    fn fmt<W: fmt::Write>(&self, f: &mut fmt::Formatter<W>) -> fmt::Result {
+        if f.alternate() {
+            return f
+                .debug_struct("InputError")
+                .field("input", &self.input)
+                .finish();
+        }
+        f.write_str("InputError { input: ")?;
+        self.input.fmt(f)?;
+        f.write_str(" }")
+    }
+}
+
 impl<I: fmt::Display> fmt::Display for InputError<I> {
     ghost output = { λ e. Some (codes "failed to parse starting at: ") ++? I.output e.input };
 
+    ghost styled_output = { λ e _. Some (codes "failed to parse starting at: ") ++? I.output e.input };
+
     fn fmt<W: fmt::Write>(&self, f: &mut fmt::Formatter<W>) -> fmt::Result {
         let input = &self.input;
-        write!(f, "failed to parse starting at: {input}")
+        write_bare(f, format_args!("failed to parse starting at: {input}"))
     }
 }

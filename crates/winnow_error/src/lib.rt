@@ -3,6 +3,7 @@
 
 mod add_context;
 mod associative_or;
+mod bare;
 mod bit_errors;
 mod combining;
 mod empty;
@@ -19,6 +20,8 @@ mod unit;
 
 pub use add_context::AddContext;
 pub use associative_or::AssociativeOr;
+#[doc(hidden)]
+pub use bare::write_bare;
 pub use combining::{OrTree, combine, join_all};
 pub use empty::EmptyError;
 pub use error_convert::ErrorConvert;

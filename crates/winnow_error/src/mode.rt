@@ -6,7 +6,7 @@ ghost use Rattle.winnow_error.specs.ModeLemmas.{mode_cut-cut, mode_backtrack-bac
 
 use crate::{
     AddContext, AssociativeOr, ErrorConvert, FromExternalError, FromRecoverableError, InputError,
-    ModalError, ParserError,
+    ModalError, ParserError, write_bare,
 };
 use std::alloc::{AllocError, Global};
 use std::fmt;
@@ -315,15 +315,17 @@ impl<E: ErrorConvert<E2>, E2> ErrorConvert<ErrMode<E2>> for ErrMode<E> {
 impl<E: fmt::Debug> fmt::Display for ErrMode<E> {
     ghost output = { mode_text E.debug_output };
 
+    ghost styled_output = { λ e _. mode_text E.debug_output e };
+
     fn fmt<W: fmt::Write>(&self, f: &mut fmt::Formatter<W>) -> fmt::Result {
         match self {
             ErrMode::Incomplete(Needed::Size(size)) => {
                 let size = size.get();
-                write!(f, "Parsing requires {size} more data")
+                write_bare(f, format_args!("Parsing requires {size} more data"))
             }
-            ErrMode::Incomplete(Needed::Unknown) => write!(f, "Parsing requires more data"),
-            ErrMode::Cut(error) => write!(f, "Parsing Failure: {error:?}"),
-            ErrMode::Backtrack(error) => write!(f, "Parsing Error: {error:?}"),
+            ErrMode::Incomplete(Needed::Unknown) => f.write_str("Parsing requires more data"),
+            ErrMode::Cut(error) => write_bare(f, format_args!("Parsing Failure: {error:?}")),
+            ErrMode::Backtrack(error) => write_bare(f, format_args!("Parsing Error: {error:?}")),
         }
     }
 }

@@ -1,0 +1,22 @@
+//! Variants of enums as debug text.
+
+ghost use Rattle.std.specs.Fmt.{DisplaysOnOk, debug_variant};
+
+use std::fmt;
+
+/// Prints a variant that holds a value, as a derive does.
+pub fn write_variant<T: fmt::Debug, W: fmt::Write>(
+    f: &mut fmt::Formatter<W>,
+    name: &str,
+    value: &T,
+) -> fmt::Result
+    ensures { DisplaysOnOk W.write_str_gives f.old result (debug_variant name.now (T.debug_output value.now)) f.new }
+{
+    if f.alternate() {
+        return f.debug_tuple(name).field(value).finish();
+    }
+    f.write_str(name)?;
+    f.write_str("(")?;
+    value.fmt(f)?;
+    f.write_str(")")
+}
