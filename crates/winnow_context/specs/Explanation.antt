@@ -1,5 +1,6 @@
 -- What a context error tells.
 use Rattle.std.specs.Prelude.{◌≡◌, ◌++◌, ℕ, List, [], ◌∷◌, Option, Some, None}
+use Rattle.std.specs.Iterator.{YieldsThen}
 
 -- the contexts in the order in which they were pushed, and the text of the cause
 pub record Explanation (C : Type 0) : Type 0 where
@@ -21,3 +22,7 @@ pushed e c = record e { contexts = e.contexts ++ c ∷ [] }
 -- `to` is `from` with these contexts more
 abbrev pub Extends : {C : Type 0} → Explanation C → List C → Explanation C → Type 0
 Extends from cs to = to ≡ record from { contexts = from.contexts ++ cs }
+
+-- of what `contexts` became one more came than `to` has behind `from`, and that one was given up
+abbrev pub KeepsAllButOne : {U T C : Type 0} → (U → T → Type 0) → (T → Option C → T → Type 0) → U → Explanation C → Explanation C → Type 0
+KeepsAllButOne {U} {T} {C} becomes steps contexts from to = (it : T) × (kept : List C) × (more : C) × (rest : T) × becomes contexts it × YieldsThen steps it kept (Some more) rest × Extends from kept to

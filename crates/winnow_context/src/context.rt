@@ -6,7 +6,7 @@ ghost use Rattle.std.specs.Option.{option_eq};
 ghost use Rattle.std.specs.Ordering.{on, eq_of_both};
 ghost use Rattle.std.proofs.Common.{rules};
 ghost use Rattle.winnow_context.specs.ContextDebug.{explanation_debug};
-ghost use Rattle.winnow_context.specs.Explanation.{Extends, pushed, caused_by, unexplained};
+ghost use Rattle.winnow_context.specs.Explanation.{Extends, KeepsAllButOne, pushed, caused_by, unexplained};
 
 use crate::ContextItems;
 use std::alloc::{AllocError, Global};
@@ -65,12 +65,22 @@ impl<C: Drop> ContextError<C> {
         Ok(())
     }
 
-    /// Adds contexts in the order in which they come, which has an end. Where there is no memory, those that were added stay.
+    /// Adds contexts in the order in which they come, which has an end. Where there is no memory for one, it is given up, and those
+    /// that came before it stay.
     pub fn extend<U: IntoIterator<Item = C>>(&mut self, contexts: U) -> Result<(), AllocError>
         requires { (it : U.IntoIter) → U.into_iter_gives contexts it → U.IntoIter.can_next it × IsFinite (U.IntoIter.remaining it) }
-        ensures { ExtendsWithItems U.into_iter_gives U.IntoIter.next_gives Extends contexts self.old self.new result }
+        ensures ran { ExtendsWithItems U.into_iter_gives U.IntoIter.next_gives Extends
+            contexts self.old self.new result }
+        ensures refused { OnErr result (KeepsAllButOne U.into_iter_gives U.IntoIter.next_gives
+            contexts self.old self.new) }
     {
-        self.context.extend(contexts)
+        let contexts = contexts.into_iter();
+        // The hint may be too high, so that its refusal is no want of memory yet.
+        let _hinted = self.context.reserve(contexts.size_hint().0);
+        for context in contexts {
+            self.push(context)?;
+        }
+        Ok(())
     }
 
     /// The contexts, in the order in which they were added.

@@ -10,7 +10,8 @@ pub fn write_variant<T: fmt::Debug, W: fmt::Write>(
     name: &str,
     value: &T,
 ) -> fmt::Result
-    ensures { DisplaysOnOk W.write_str_gives f.old result (debug_variant name.now (T.debug_output value.now)) f.new }
+    ensures { DisplaysOnOk W.write_str_gives f.old result
+        (debug_variant name.now (T.debug_output value.now)) f.new }
 {
     if f.alternate() {
         return f.debug_tuple(name).field(value).finish();

@@ -12,7 +12,9 @@ struct Bare<'f, W> {
 }
 
 impl<W: fmt::Write> fmt::Write for Bare<'_, W> {
-    ghost write_str_gives = { λ s bs t. (IsFlush s.f.now → HasWrittenStyled W.write_str_gives s.f.now bs t.f.now) × (t.f.ghost_name ≡ s.f.ghost_name) };
+    ghost write_str_gives = { λ s bs t. (IsFlush s.f.now
+        → HasWrittenStyled W.write_str_gives s.f.now bs t.f.now)
+        × (t.f.ghost_name ≡ s.f.ghost_name) };
 
     fn write_str(&mut self, s: &str) -> fmt::Result {
         self.f.write_str(s)

@@ -168,7 +168,8 @@ impl<I: Copy, E: Drop> FromExternalError<I, E> for InputError<I> {
 
 /// Prints what a derive would, and says so.
 impl<I: fmt::Debug> fmt::Debug for InputError<I> {
-    ghost debug_output = { λ e. Some (codes "InputError { input: ") ++? I.debug_output e.input ++? Some (codes " }") };
+    ghost debug_output = { λ e. Some (codes "InputError { input: ") ++? I.debug_output e.input
+        ++? Some (codes " }") };
 
     fn fmt<W: fmt::Write>(&self, f: &mut fmt::Formatter<W>) -> fmt::Result {
         if f.alternate() {
@@ -186,7 +187,8 @@ impl<I: fmt::Debug> fmt::Debug for InputError<I> {
 impl<I: fmt::Display> fmt::Display for InputError<I> {
     ghost output = { λ e. Some (codes "failed to parse starting at: ") ++? I.output e.input };
 
-    ghost styled_output = { λ e _. Some (codes "failed to parse starting at: ") ++? I.output e.input };
+    ghost styled_output = { λ e _. Some (codes "failed to parse starting at: ")
+        ++? I.output e.input };
 
     fn fmt<W: fmt::Write>(&self, f: &mut fmt::Formatter<W>) -> fmt::Result {
         let input = &self.input;
