@@ -1,12 +1,13 @@
 //! What the ghost members of each error type say, spelled out. Generic code promises what they say and no more, so a member that says
 //! less is refused here.
-ghost use Rattle.std.specs.Prelude.{◌≡◌, ◌&&◌, ℕ, Some, codes, nat_eq, string_bytes};
+ghost use Rattle.std.specs.Prelude.{◌≡◌, ◌&&◌, ℕ, true, None, Some, Ok, codes, nat_eq, string_bytes};
 ghost use Rattle.std.specs.Cmp.Lexicographic.{pointwise};
 ghost use Rattle.std.specs.Fmt.{◌++?◌};
 ghost use Rattle.std.specs.Option.{option_eq};
+ghost use Rattle.winnow_context.specs.ContextDebug.{value_debug, context_debug, explanation_debug};
 ghost use Rattle.winnow_context.specs.ContextText.{value_text, context_text, explanation_text};
 ghost use Rattle.winnow_context.specs.Explanation.{Explanation, unexplained, caused_by, pushed};
-ghost use Rattle.winnow_error.specs.Mode.{Mode, ModeAppends, ModeMaps, ModeOr, IsBacktrackOf, IsCutOf};
+ghost use Rattle.winnow_error.specs.Mode.{Mode, ModeAppends, ModeMaps, ModeOr, IsBacktrackOf, IsCutOf, mode_needs, mode_backtracks, mode_inner, mode_cut, mode_backtrack, mode_map, mode_joined};
 ghost use Rattle.winnow_error.specs.ModeText.{mode_text};
 ghost use Rattle.winnow_error.specs.declared.input.InputError.{InputError};
 ghost use Rattle.winnow_error.specs.declared.mode.ErrMode.TheVariants.{Incomplete};
@@ -19,11 +20,12 @@ ghost use Rattle.winnow_stream.specs.declared.needed.Needed.{Needed};
 use std::fmt::{Debug, Display};
 use winnow_context::{ContextError, StrContext, StrContextValue};
 use winnow_error::{
-    AddContext, EmptyError, ErrMode, ErrorConvert, FromExternalError, InputError, ParserError,
+    AddContext, AssociativeOr, EmptyError, ErrMode, ErrorConvert, FromExternalError,
+    FromRecoverableError, InputError, ModalError, ParserError,
 };
 use winnow_stream::{Needed, Stream};
 
-/// An `InputError` holds the input where it was made, and nothing that comes later is told it.
+/// An `InputError` holds the input where it was made, nothing that comes later is told it, and of two alternatives the second counts.
 pub fn input_error_law<I: Stream + Copy, C: Drop>()
     ensures made { (input : I) (e : InputError I) → ⟦<InputError<I> as ParserError<I>>⟧.from_input_gives input e → e.input ≡ input }
     ensures misused { (input : I) (e : InputError I) → ⟦<InputError<I> as ParserError<I>>⟧.assert_gives input e → e.input ≡ input }
@@ -31,11 +33,22 @@ pub fn input_error_law<I: Stream + Copy, C: Drop>()
     ensures caused { (input : I) (x : C) (e : InputError I) → ⟦<InputError<I> as FromExternalError<I, C>>⟧.from_external_gives input x e → e.input ≡ input }
     ensures appended { (e r : InputError I) (input : I) (start : I.Checkpoint) → ⟦<InputError<I> as ParserError<I>>⟧.append_gives e input start r → r ≡ e }
     ensures told { (e r : InputError I) (input : I) (start : I.Checkpoint) (c : C) → ⟦<InputError<I> as AddContext<I, C>>⟧.add_context_gives e input start c r → r ≡ e }
+    ensures second { (a b r : InputError I) → ⟦<InputError<I> as ParserError<I>>⟧.or_gives a b r
+        → r ≡ b }
+    ensures joined { (a b : InputError I) → ⟦<InputError<I> as AssociativeOr<I>>⟧.joined a b ≡ b }
+    ensures recovered { (start place : I.Checkpoint) (input : I) (e : InputError I)
+        → ⟦<InputError<I> as FromRecoverableError<I, InputError<I>>>⟧.recovered start place input e ≡ e }
+    ensures backtracks { (e : InputError I) → ⟦<InputError<I> as ParserError<I>>⟧.backtracks e
+        ≡ true }
+    ensures inner { (e : InputError I) → ⟦<InputError<I> as ParserError<I>>⟧.inner e ≡ Ok e }
+    ensures needs { (e : InputError I) → ⟦<InputError<I> as ParserError<I>>⟧.needs e ≡ None }
+    ensures or_answers { ⟦<InputError<I> as ParserError<I>>⟧.or_refusable → ⊥ }
     ensures append_answers { ⟦<InputError<I> as ParserError<I>>⟧.append_refusable → ⊥ }
     ensures add_context_answers { ⟦<InputError<I> as AddContext<I, C>>⟧.add_context_refusable → ⊥ }
 {}
 
-/// A `ContextError` is made empty or of its cause, is told contexts alone, and is equal to one with equal contexts and the same cause.
+/// A `ContextError` is made empty or of its cause, is told contexts alone, and is equal to one with equal contexts and the same
+/// cause; of two alternatives the second counts.
 pub fn context_error_law<I: Stream, C: Drop + PartialEq>()
     ensures made { (input : I) (e : Explanation C) → ⟦<ContextError<C> as ParserError<I>>⟧.from_input_gives input e → e ≡ unexplained }
     ensures misused { (input : I) (e : Explanation C) → ⟦<ContextError<C> as ParserError<I>>⟧.assert_gives input e → e ≡ unexplained }
@@ -44,16 +57,35 @@ pub fn context_error_law<I: Stream, C: Drop + PartialEq>()
     ensures appended { (e r : Explanation C) (input : I) (start : I.Checkpoint) → ⟦<ContextError<C> as ParserError<I>>⟧.append_gives e input start r → r ≡ e }
     ensures told { (e r : Explanation C) (input : I) (start : I.Checkpoint) (c : C) → ⟦<ContextError<C> as AddContext<I, C>>⟧.add_context_gives e input start c r → r ≡ pushed e c }
     ensures converted { (e r : Explanation C) → ⟦<ContextError<C> as ErrorConvert<ContextError<C>>>⟧.convert_gives e r → r ≡ e }
+    ensures second { (a b r : Explanation C)
+        → ⟦<ContextError<C> as ParserError<I>>⟧.or_gives a b r → r ≡ b }
+    ensures joined { (a b : Explanation C) → ⟦<ContextError<C> as AssociativeOr<I>>⟧.joined a b
+        ≡ b }
+    ensures recovered { (start place : I.Checkpoint) (input : I) (e : Explanation C)
+        → ⟦<ContextError<C> as FromRecoverableError<I, ContextError<C>>>⟧.recovered start place input e ≡ e }
+    ensures backtracks { (e : Explanation C) → ⟦<ContextError<C> as ParserError<I>>⟧.backtracks e
+        ≡ true }
+    ensures inner { (e : Explanation C) → ⟦<ContextError<C> as ParserError<I>>⟧.inner e ≡ Ok e }
+    ensures needs { (e : Explanation C) → ⟦<ContextError<C> as ParserError<I>>⟧.needs e ≡ None }
+    ensures or_answers { ⟦<ContextError<C> as ParserError<I>>⟧.or_refusable → ⊥ }
     ensures append_answers { ⟦<ContextError<C> as ParserError<I>>⟧.append_refusable → ⊥ }
     ensures convert_answers { ⟦<ContextError<C> as ErrorConvert<ContextError<C>>>⟧.convert_refusable → ⊥ }
     ensures equal { (e f : Explanation C) → ⟦<ContextError<C> as PartialEq>⟧.eq e f ≡ (pointwise C.eq e.contexts f.contexts && option_eq (pointwise nat_eq) e.cause f.cause) }
 {}
 
-/// The errors that tell nothing take no memory.
+/// The errors that tell nothing take no memory, and let another alternative be tried.
 pub fn empty_error_law<I: Stream, C: Drop>()
+    ensures backtracks { (e : EmptyError) → ⟦<EmptyError as ParserError<I>>⟧.backtracks e ≡ true }
+    ensures inner { (e : EmptyError) → ⟦<EmptyError as ParserError<I>>⟧.inner e ≡ Ok e }
+    ensures needs { (e : EmptyError) → ⟦<EmptyError as ParserError<I>>⟧.needs e ≡ None }
+    ensures or_answers { ⟦<EmptyError as ParserError<I>>⟧.or_refusable → ⊥ }
     ensures append_answers { ⟦<EmptyError as ParserError<I>>⟧.append_refusable → ⊥ }
     ensures add_context_answers { ⟦<EmptyError as AddContext<I, C>>⟧.add_context_refusable → ⊥ }
     ensures convert_answers { ⟦<EmptyError as ErrorConvert<EmptyError>>⟧.convert_refusable → ⊥ }
+    ensures unit_backtracks { (e : Unit {0}) → ⟦<() as ParserError<I>>⟧.backtracks e ≡ true }
+    ensures unit_inner { (e : Unit {0}) → ⟦<() as ParserError<I>>⟧.inner e ≡ Ok e }
+    ensures unit_needs { (e : Unit {0}) → ⟦<() as ParserError<I>>⟧.needs e ≡ None }
+    ensures unit_or_answers { ⟦<() as ParserError<I>>⟧.or_refusable → ⊥ }
     ensures unit_append_answers { ⟦<() as ParserError<I>>⟧.append_refusable → ⊥ }
     ensures unit_add_context_answers { ⟦<() as AddContext<I, C>>⟧.add_context_refusable → ⊥ }
     ensures unit_convert_answers { ⟦<() as ErrorConvert<()>>⟧.convert_refusable → ⊥ }
@@ -66,8 +98,24 @@ pub fn err_mode_law<I: Stream, E: ParserError<I>>()
     ensures cut_short { (input : I) (needed : Needed) (e : Mode E) → ⟦<ErrMode<E> as ParserError<I>>⟧.incomplete_gives input needed e → e ≡ Incomplete needed }
     ensures appended { (e r : Mode E) (input : I) (start : I.Checkpoint) → ⟦<ErrMode<E> as ParserError<I>>⟧.append_gives e input start r → ModeAppends (λ a. E.append_gives a input start) e r }
     ensures joined { (a b r : Mode E) → ⟦<ErrMode<E> as ParserError<I>>⟧.or_gives a b r → ModeOr E.or_gives a b r }
+    ensures backtracks { (e : Mode E) → ⟦<ErrMode<E> as ParserError<I>>⟧.backtracks e
+        ≡ mode_backtracks e }
+    ensures inner { (e : Mode E) → ⟦<ErrMode<E> as ParserError<I>>⟧.inner e ≡ mode_inner e }
+    ensures needs { (e : Mode E) → ⟦<ErrMode<E> as ParserError<I>>⟧.needs e ≡ mode_needs e }
+    ensures cut { (e : Mode E) → ⟦<ErrMode<E> as ModalError>⟧.cut_of e ≡ mode_cut e }
+    ensures backtrack { (e : Mode E) → ⟦<ErrMode<E> as ModalError>⟧.backtrack_of e
+        ≡ mode_backtrack e }
     ensures append_refused { ⟦<ErrMode<E> as ParserError<I>>⟧.append_refusable → E.append_refusable }
     ensures or_refused { ⟦<ErrMode<E> as ParserError<I>>⟧.or_refusable → E.or_refusable }
+{}
+
+/// So it is with alternatives that are joined without memory, and where a parser recovers.
+pub fn err_mode_joined_law<I: Stream, E: AssociativeOr<I> + FromRecoverableError<I, E2>, E2>()
+    ensures joined { (a b : Mode E) → ⟦<ErrMode<E> as AssociativeOr<I>>⟧.joined a b
+        ≡ mode_joined E.joined a b }
+    ensures recovered { (start place : I.Checkpoint) (input : I) (e : Mode E2)
+        → ⟦<ErrMode<E> as FromRecoverableError<I, ErrMode<E2>>>⟧.recovered start place input e
+        ≡ mode_map (E.recovered start place input) e }
 {}
 
 /// So it is with contexts.
@@ -97,4 +145,34 @@ pub fn error_text_law<I: Display, E: Debug>()
     ensures value { (v : StrContextValue) → ⟦<StrContextValue as Display>⟧.output v ≡ Some (value_text v) }
     ensures context { (c : StrContext) → ⟦<StrContext as Display>⟧.output c ≡ Some (context_text c) }
     ensures contexts { (e : Explanation StrContext) → ⟦<ContextError<StrContext> as Display>⟧.output e ≡ Some (explanation_text e) }
+{}
+
+/// No option of a hole changes what an error prints.
+pub fn bare_text_law<I: Display, E: Debug>()
+    ensures mode { (e : Mode E) (spec : _)
+        → ⟦<ErrMode<E> as Display>⟧.styled_output e spec ≡ mode_text E.debug_output e }
+    ensures input { (e : InputError I) (spec : _)
+        → ⟦<InputError<I> as Display>⟧.styled_output e spec
+        ≡ ⟦<InputError<I> as Display>⟧.output e }
+    ensures empty { (e : EmptyError) (spec : _)
+        → ⟦<EmptyError as Display>⟧.styled_output e spec ≡ Some (codes "failed to parse") }
+    ensures value { (v : StrContextValue) (spec : _)
+        → ⟦<StrContextValue as Display>⟧.styled_output v spec ≡ Some (value_text v) }
+    ensures context { (c : StrContext) (spec : _)
+        → ⟦<StrContext as Display>⟧.styled_output c spec ≡ Some (context_text c) }
+    ensures contexts { (e : Explanation StrContext) (spec : _)
+        → ⟦<ContextError<StrContext> as Display>⟧.styled_output e spec ≡ Some (explanation_text e) }
+{}
+
+/// The debug text of each error, so that a mode of it has a text.
+pub fn debug_text_law<I: Debug, C: Debug>()
+    ensures input { (e : InputError I) → ⟦<InputError<I> as Debug>⟧.debug_output e
+        ≡ (Some (codes "InputError { input: ") ++? I.debug_output e.input ++? Some (codes " }")) }
+    ensures empty { (e : EmptyError) → ⟦<EmptyError as Debug>⟧.debug_output e
+        ≡ Some (codes "EmptyError") }
+    ensures value { (v : StrContextValue) → ⟦<StrContextValue as Debug>⟧.debug_output v
+        ≡ value_debug v }
+    ensures context { (c : StrContext) → ⟦<StrContext as Debug>⟧.debug_output c ≡ context_debug c }
+    ensures contexts { (e : Explanation C) → ⟦<ContextError<C> as Debug>⟧.debug_output e
+        ≡ explanation_debug C.debug_output e }
 {}

@@ -2,5 +2,6 @@
 mod alternatives;
 mod contexts;
 mod error_traits;
+mod growing;
 mod modes;
 mod printing;

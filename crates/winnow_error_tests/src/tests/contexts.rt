@@ -1,4 +1,4 @@
-use super::printing::{debugs, prints};
+use super::printing::{debugs, debugs_under_options, prints};
 use crate::error_walks::blame;
 use std::alloc::{AllocError, Global};
 use std::process::Abort;
@@ -120,6 +120,20 @@ fn contexts_are_kept_in_order(rt: HostRuntime) -> Result<(), Fail> {
         rt.alloc(),
         &error,
         "ContextError { context: [Label(\"a\"), Label(\"b\"), Expected(CharLiteral('c'))], cause: Some(\"bad\") }",
+    )?;
+    Ok(())
+}
+
+#[test]
+fn contexts_as_debug_text_under_options(rt: HostRuntime) -> Result<(), Fail> {
+    let mut error = caused_by(rt.alloc(), "bad")?;
+    error.extend([Label("a"), Expected('c'.into())])?;
+    debugs_under_options(
+        &rt,
+        rt.alloc(),
+        &error,
+        "ContextError {\n    context: [\n        Label(\n            \"a\",\n        ),\n        Expected(\n            CharLiteral(\n                'c',\n            ),\n        ),\n    ],\n    cause: Some(\n        \"bad\",\n    ),\n}\n\
+         ContextError { context: [Label(\"a\"), Expected(CharLiteral('c'))], cause: Some(\"bad\") }",
     )?;
     Ok(())
 }

@@ -1,6 +1,7 @@
 use crate::error_members::{
-    context_error_law, empty_error_law, err_mode_cause_law, err_mode_context_law,
-    err_mode_convert_law, err_mode_law, error_text_law, input_error_law,
+    bare_text_law, context_error_law, debug_text_law, empty_error_law, err_mode_cause_law,
+    err_mode_context_law, err_mode_convert_law, err_mode_joined_law, err_mode_law, error_text_law,
+    input_error_law,
 };
 use crate::error_walks::{
     convert_to, cut_and_back, fail_twice, in_context, join_three, kinds, or_three, recover_at,
@@ -174,8 +175,11 @@ fn laws_of_errors(_rt: HostRuntime) {
     context_error_law::<Text, StrContext>();
     empty_error_law::<Text, StrContext>();
     err_mode_law::<Text, Told>();
+    err_mode_joined_law::<Text, Told, Told>();
     err_mode_context_law::<Text, StrContext, Told>();
     err_mode_cause_law::<Text, String, Told>();
     err_mode_convert_law::<Labelled, Told>();
     error_text_law::<Text, EmptyError>();
+    bare_text_law::<Text, EmptyError>();
+    debug_text_law::<Text, StrContext>();
 }

@@ -1,4 +1,7 @@
-use super::printing::{debugs, prints};
+ghost use Rattle.std.specs.Prelude.{◌≡◌, IfOk, codes, string_bytes};
+
+use super::printing::{debugs, debugs_under_options, prints};
+use std::alloc::{AllocError, Global};
 use std::test::Fail;
 use winnow_error::ErrMode::{Backtrack, Cut, Incomplete};
 use winnow_error::{EmptyError, ErrMode, InputError, ModalResult, Needed};
@@ -106,5 +109,35 @@ fn debug_texts(rt: HostRuntime) -> Result<(), Fail> {
     for (error, text) in cases {
         debugs(&rt, rt.alloc(), &error, text)?;
     }
+    Ok(())
+}
+
+#[test]
+fn debug_texts_under_options(rt: HostRuntime) -> Result<(), Fail> {
+    let error: ErrMode<InputError<&[u8]>> = Backtrack(InputError::at(b"12"));
+    debugs_under_options(
+        &rt,
+        rt.alloc(),
+        &error,
+        "Backtrack(\n    InputError {\n        input: [\n            49,\n            50,\n        ],\n    },\n)\n\
+         Backtrack(InputError { input: [   49,    50] })",
+    )?;
+    Ok(())
+}
+
+// The text of a mode over an error of this library is known to the byte.
+fn failure(alloc: Global) -> Result<String, AllocError>
+    ensures { IfOk result (λ text. string_bytes text ≡ codes "Parsing Failure: EmptyError") }
+{
+    let error: ErrMode<EmptyError> = Cut(EmptyError);
+    format!(in alloc; "{error}")
+}
+
+#[test]
+fn a_text_that_is_known(rt: HostRuntime) -> Result<(), Fail> {
+    assert_eq!(rt;
+        failure(rt.alloc())?.as_str(),
+        "Parsing Failure: EmptyError"
+    );
     Ok(())
 }

@@ -1,16 +1,18 @@
 use std::alloc::{AllocError, Global};
 use std::fmt::{Debug, Display};
 use std::process::Abort;
-use winnow_test_helpers::{debugged, shown};
+use winnow_test_helpers::debugged;
 
-/// Asserts the printed text.
+/// Asserts the printed text, which is the same whatever the options of the hole are.
 pub fn prints<T: Display>(
     rt: &impl Abort,
     alloc: Global,
     value: &T,
     wanted: &str,
 ) -> Result<(), AllocError> {
-    assert_eq!(rt; shown(alloc, value)?.as_str(), wanted);
+    let printed = format!(in alloc; "{value} {value:#} {value:>60} {value:.3}")?;
+    let all_wanted = format!(in alloc; "{wanted} {wanted} {wanted} {wanted}")?;
+    assert_eq!(rt; printed.as_str(), all_wanted.as_str());
     Ok(())
 }
 
@@ -22,5 +24,19 @@ pub fn debugs<T: Debug>(
     wanted: &str,
 ) -> Result<(), AllocError> {
     assert_eq!(rt; debugged(alloc, value)?.as_str(), wanted);
+    Ok(())
+}
+
+/// Asserts the debug text under `#`, and with a width, which reaches the parts alone.
+pub fn debugs_under_options<T: Debug>(
+    rt: &impl Abort,
+    alloc: Global,
+    value: &T,
+    wanted: &str,
+) -> Result<(), AllocError> {
+    assert_eq!(rt;
+        format!(in alloc; "{value:#?}\n{value:5?}")?.as_str(),
+        wanted
+    );
     Ok(())
 }

@@ -1,0 +1,43 @@
+//! Calls that take memory are answered where it is there, for nothing, for little and for much.
+
+use crate::error_walks::in_context;
+use std::alloc::{AllocError, Global};
+use std::test::Fail;
+use winnow_context::ContextError;
+use winnow_error::InputError;
+
+// The number of contexts of an error that is told `count` contexts one by one, then at once, then as a parser tells them.
+fn told_thrice(alloc: Global, count: u16) -> Result<usize, AllocError> {
+    let mut error: ContextError<u16> = ContextError::new(alloc);
+    for number in 0..count {
+        error.push(number)?;
+    }
+    error.extend(0..count)?;
+    for number in 0..count {
+        error = in_context(alloc, error, &"12x", number)?;
+    }
+    Ok(error.clone()?.context().count())
+}
+
+// The lengths of a text of so many characters and of its bytes, once an error owns them.
+fn owned(alloc: Global, count: u16) -> Result<(usize, usize), AllocError> {
+    let mut text = String::new(alloc);
+    for _ in 0..count {
+        text.push('x')?;
+    }
+    let bytes = InputError::at(text.as_bytes()).into_owned(alloc)?;
+    let text = InputError::at(text.as_str()).into_owned(alloc)?;
+    Ok((text.input.len(), bytes.input.len()))
+}
+
+#[test]
+fn errors_grow_at_any_size(rt: HostRuntime) -> Result<(), Fail> {
+    for (count, told) in [(0, 0), (3, 9), (4000, 12000)] {
+        let length = count as usize;
+        assert_eq!(rt;
+            (told_thrice(rt.alloc(), count)?, owned(rt.alloc(), count)?),
+            (told, (length, length))
+        );
+    }
+    Ok(())
+}
