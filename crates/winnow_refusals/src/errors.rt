@@ -47,18 +47,28 @@ pub fn push(alloc: Global) -> Result<bool, AllocError> {
     Ok(tells_first(&error, LABELS.len()))
 }
 
-/// Three contexts at once. Refused, those that came before stay.
+// A label as a context.
+fn context(index: usize) -> Option<StrContext> {
+    match LABELS.get(index) {
+        Some(label) => Some(Label(*label)),
+        None => None,
+    }
+}
+
+/// Contexts of an iterator that cannot say how many it has, so that their room grows more than once. Refused, all that came stay but
+/// the last.
 pub fn extend(alloc: Global) -> Result<bool, AllocError> {
     let mut error = Told::new(alloc);
-    if let Err(refused) = error.extend([Label("a"), Label("b"), Label("c")]) {
+    let mut left = 0..LABELS.len();
+    if let Err(refused) = error.extend(left.by_ref().filter_map(context)) {
         let count = error.context().count();
-        return if count < 3 && tells_first(&error, count) {
+        return if left.start.saturating_sub(count) == 1 && tells_first(&error, count) {
             Err(refused)
         } else {
             Ok(false)
         };
     }
-    Ok(tells_first(&error, 3))
+    Ok(tells_first(&error, LABELS.len()))
 }
 
 /// A clone. Refused, its source is as it was.
