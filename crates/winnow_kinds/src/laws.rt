@@ -4,7 +4,7 @@ ghost use Rattle.std.specs.Ordering.{nat_cmp};
 ghost use Rattle.winnow_stream.specs.Checkpoint.{checkpoint_inner};
 ghost use Rattle.winnow_stream.specs.declared.checkpoint.Checkpoint.{Checkpoint};
 ghost use Rattle.winnow_kinds.specs.TextContents.{bstr_contents};
-ghost use Rattle.winnow_kinds.specs.declared.bstr.BStr.{BStr};
+ghost use Rattle.winnow_kinds.specs.declared.text.BStr.{BStr};
 
 use crate::BStr;
 use winnow_stream::Checkpoint;

@@ -3,14 +3,14 @@
 //! stream around a slice of bytes.
 #![tactic(auto)]
 
-mod bstr;
 mod escapes;
 mod laws;
 mod literals;
 mod lossy;
 mod needles;
+mod text;
 
-pub use bstr::BStr;
 pub use laws::{text_equality_law, text_order_law};
 pub use literals::ByteLiteral;
 pub use needles::ByteNeedles;
+pub use text::BStr;

@@ -4,7 +4,7 @@ ghost use Rattle.winnow_kinds.specs.TextContents.{bstr_contents};
 ghost use Rattle.winnow_bytes.specs.ByteContents.{bytes_contents};
 ghost use Rattle.winnow_kinds.specs.Escapes.{debug_text};
 ghost use Rattle.winnow_bytes.specs.Hex.{hex_text};
-ghost use Rattle.winnow_kinds.specs.declared.bstr.BStr.{BStr};
+ghost use Rattle.winnow_kinds.specs.declared.text.BStr.{BStr};
 ghost use Rattle.winnow_bytes.specs.declared.bytes.Bytes.{Bytes};
 
 use std::alloc::{AllocError, Global};

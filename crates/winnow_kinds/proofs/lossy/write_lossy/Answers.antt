@@ -1,7 +1,8 @@
 use Rattle.std.proofs.Common.{◌≡◌, ◌++◌, ◌<◌, length, ap, sym, ◌∙◌, append_assoc, append-nil, rules}
 use Rattle.std.proofs.Output.{has_written_append, has_written_of_eq}
-use Rattle.std.proofs.lemmas.Str.{utf8_lossy_chunk, utf8_lossy_last_chunk, utf8_lossy_empty}
+use Rattle.std.proofs.lemmas.Str.{utf8_lossy_empty}
 use Rattle.std.specs.Str.Lossy.{replacement_bytes}
+use Rattle.winnow_kinds.proofs.lemmas.LossyLemmas.{utf8_lossy-damaged, utf8_lossy-last}
 use Rattle.winnow_kinds.proofs.lossy.write_lossy.Goals as goal
 
 pub loop-chunk-preserved-in-Continue-branch-2 : goal.loop-chunk-preserved-in-Continue-branch-2
@@ -9,9 +10,10 @@ loop-chunk-preserved-in-Continue-branch-2 g c = λ plain.
     let now = c.loop-chunk.invariant plain in
     let steps = c.in-Some.ensures.steps in
     let some : 0 < length c.in-Some.chunk.invalid.now = search rules in
-    let text = utf8_lossy_chunk _ _ _ _ steps.0 steps.3.0 steps.3.1 some in (
+    let text = utf8_lossy-damaged _ _ _ _ steps.0 (steps.4 some) (steps.5 some) some in
+    let first = has_written_append _ _ _ c.loop-chunk.f _ _ now.1 (c.write_str.ensures.writes now.1.plain (search rules)) in (
       (now.0 ++ c.valid.result.now) ++ replacement_bytes,
-      has_written_append _ _ _ c.write_str.new.self _ _ (has_written_append _ _ _ c.loop-chunk.f _ _ now.1 (search rules)) (search rules),
+      has_written_append _ _ _ c.write_str.new.self _ _ first (c.write_str-then-not-is_empty.ensures.writes first.plain (search rules)),
       rw c.valid.ensures (simp append_assoc (rw text at now.2)),
     )
 
@@ -20,9 +22,9 @@ loop-chunk-preserved g c = λ plain.
     let now = c.loop-chunk.invariant plain in
     let steps = c.in-Some.ensures.steps in
     let none : length c.in-Some.chunk.invalid.now ≡ 0 = search rules in
-    let text = utf8_lossy_last_chunk _ _ _ _ steps.0 steps.3.0 none (steps.2 none) in (
+    let text = utf8_lossy-last _ _ _ _ steps.0 steps.1 none (steps.3 none) in (
       now.0 ++ c.valid.result.now,
-      has_written_append _ _ _ c.loop-chunk.f _ _ now.1 (search rules),
+      has_written_append _ _ _ c.loop-chunk.f _ _ now.1 (c.write_str.ensures.writes now.1.plain (search rules)),
       rw c.valid.ensures (rw append_assoc (rw text at now.2)),
     )
 
