@@ -1,11 +1,15 @@
 //! Streams, their wrappers, and what parsers do with them.
 
-pub use winnow_bytes::{Bytes, LowerBytes, UpperBytes, bytes_equality_law, bytes_order_law};
+pub use winnow_bytes::{
+    Bytes, LowerBytes, UpperBytes, bytes_equality_law, bytes_hash_law, bytes_order_law,
+};
 pub use winnow_count::{
     Accumulate, ParseSlice, Range, Readable, ToUsize, accumulate_all, range_law,
 };
 pub use winnow_feed::{ByteFeed, Finished, TextFeed, Told, Waiting, run_pieces, run_pieces_text};
-pub use winnow_kinds::{BStr, ByteLiteral, ByteNeedles, text_equality_law, text_order_law};
+pub use winnow_kinds::{
+    BStr, ByteLiteral, ByteNeedles, text_equality_law, text_hash_law, text_order_law,
+};
 pub use winnow_match::{
     Compare, CompareResult, FindSlice, Needles, Stretch, byte_hit_law, compare_law,
     compare_more_law, definite_hit_law, find_law, find_more_law, stretch, stretch_law,

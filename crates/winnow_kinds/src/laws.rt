@@ -1,4 +1,5 @@
-ghost use Rattle.std.specs.Prelude.{◌≡◌, ◌↔◌, IsTrue};
+ghost use Rattle.std.specs.Prelude.{◌≡◌, ◌↔◌, ℕ, List, IsTrue};
+ghost use Rattle.std.specs.Borrow.{Bor};
 ghost use Rattle.std.specs.Cmp.Lexicographic.{slice_cmp};
 ghost use Rattle.std.specs.Ordering.{nat_cmp};
 ghost use Rattle.winnow_stream.specs.Checkpoint.{checkpoint_inner};
@@ -7,17 +8,33 @@ ghost use Rattle.winnow_kinds.specs.TextContents.{bstr_contents};
 ghost use Rattle.winnow_kinds.specs.declared.text.BStr.{BStr};
 
 use crate::BStr;
+use std::hash::Hash;
 use winnow_stream::Checkpoint;
 
 /// The law of equality: two values are equal exactly where they have the same contents, and two checkpoints where the same contents
 /// remained. It does nothing when called: its contract is the law.
 pub fn text_equality_law()
-    ensures values { (s t : BStr) → IsTrue (⟦<BStr<'static> as PartialEq>⟧.eq s t) ↔ (bstr_contents s ≡ bstr_contents t) }
-    ensures places { (c d : Checkpoint BStr BStr) → IsTrue (⟦<Checkpoint<BStr<'static>, BStr<'static>> as PartialEq>⟧.eq c d) ↔ (bstr_contents (checkpoint_inner c) ≡ bstr_contents (checkpoint_inner d)) }
+    ensures values { (s t : BStr)
+        → IsTrue (⟦<BStr<'static> as PartialEq>⟧.eq s t) ↔ (bstr_contents s ≡ bstr_contents t) }
+    ensures places { (c d : Checkpoint BStr BStr)
+        → IsTrue (⟦<Checkpoint<BStr<'static>, BStr<'static>> as PartialEq>⟧.eq c d)
+        ↔ (bstr_contents (checkpoint_inner c) ≡ bstr_contents (checkpoint_inner d)) }
 {}
 
-/// The law of order: checkpoints stand to each other as the contents that remained there, by the first byte that differs. It does
-/// nothing when called: its contract is the law.
+/// The law of order: values stand to each other as their contents do, by the first byte that differs, and checkpoints as the contents
+/// that remained there. It does nothing when called: its contract is the law.
 pub fn text_order_law()
-    ensures { (c d : Checkpoint BStr BStr) → ⟦<Checkpoint<BStr<'static>, BStr<'static>> as Ord>⟧.cmp c d ≡ slice_cmp nat_cmp (bstr_contents (checkpoint_inner c)) (bstr_contents (checkpoint_inner d)) }
+    ensures values { (s t : BStr)
+        → ⟦<BStr<'static> as Ord>⟧.cmp s t
+        ≡ slice_cmp nat_cmp (bstr_contents s) (bstr_contents t) }
+    ensures places { (c d : Checkpoint BStr BStr)
+        → ⟦<Checkpoint<BStr<'static>, BStr<'static>> as Ord>⟧.cmp c d
+        ≡ slice_cmp nat_cmp (bstr_contents (checkpoint_inner c))
+        (bstr_contents (checkpoint_inner d)) }
+{}
+
+/// The law of hashes: a value is hashed as a slice of the same bytes is. It does nothing when called: its contract is the law.
+pub fn text_hash_law()
+    ensures { (s : BStr) (bytes : Bor (List ℕ)) → bytes.now ≡ bstr_contents s
+        → ⟦<BStr<'static> as Hash>⟧.hash_input s ≡ ⟦<&'static [u8] as Hash>⟧.hash_input bytes }
 {}

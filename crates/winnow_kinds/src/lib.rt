@@ -10,7 +10,7 @@ mod lossy;
 mod needles;
 mod text;
 
-pub use laws::{text_equality_law, text_order_law};
+pub use laws::{text_equality_law, text_hash_law, text_order_law};
 pub use literals::ByteLiteral;
 pub use needles::ByteNeedles;
 pub use text::BStr;
