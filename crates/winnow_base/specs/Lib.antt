@@ -22,6 +22,7 @@ pub use Rattle.winnow_count.specs.AccumulationLaws
 pub use Rattle.winnow_count.specs.CountRange
 pub use Rattle.winnow_count.specs.Reading
 pub use Rattle.winnow_kinds.specs.TextContents
+pub use Rattle.winnow_kinds.specs.LossyText
 pub use Rattle.winnow_kinds.specs.Escapes
 pub use Rattle.winnow_bytes.specs.ByteContents
 pub use Rattle.winnow_bytes.specs.Hex

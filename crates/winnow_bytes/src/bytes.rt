@@ -2,6 +2,7 @@ ghost use Rattle.std.specs.Prelude.{◌≡◌, ◌↔◌, ◌<◌, ◌≤◌, tr
 ghost use Rattle.std.specs.Cmp.{partial_equiv_from_equiv, on_per, on_equiv, on_po, on_total};
 ghost use Rattle.std.specs.Cmp.Lexicographic.{pointwise, slice_cmp, nat_list_eq_equiv, nat_list_cmp_total, texts_ties, texts_po};
 ghost use Rattle.std.specs.Cmp.Rules.{hashing};
+ghost use Rattle.std.specs.Fmt.{WritesOnOk, WritesStyledOnOk};
 ghost use Rattle.std.specs.Hash as fed;
 ghost use Rattle.std.specs.Ordering.{nat_cmp};
 ghost use Rattle.std.proofs.Common.{rules, sym, ap};
@@ -289,23 +290,28 @@ impl<T: ByteNeedles> FindSlice<T> for Bytes<'_> {
     }
 }
 
-/// Two hexadecimal digits a byte, in capitals.
+/// Two hexadecimal digits a byte, in capitals; no option of a hole changes the text.
 impl fmt::Display for Bytes<'_> {
     ghost output = { λ s. Some (hex_text true (bytes_contents s)) };
 
+    ghost styled_output = { λ s _. Some (hex_text true (bytes_contents s)) };
+
     fn fmt<W: fmt::Write>(&self, f: &mut fmt::Formatter<W>) -> fmt::Result {
-        let upper = self.upper();
-        write!(f, "{upper}")
+        fmt::Display::fmt(&self.upper(), f)
     }
 }
 
-/// Two hexadecimal digits a byte, in capitals.
+/// Two hexadecimal digits a byte, in capitals; no option of a hole changes the text.
 impl fmt::Debug for Bytes<'_> {
     ghost debug_output = { λ s. Some (hex_text true (bytes_contents s)) };
 
-    fn fmt<W: fmt::Write>(&self, f: &mut fmt::Formatter<W>) -> fmt::Result {
-        let upper = self.upper();
-        write!(f, "{upper}")
+    fn fmt<W: fmt::Write>(&self, f: &mut fmt::Formatter<W>) -> fmt::Result
+        ensures writes { WritesOnOk W.write_str_gives f.old result
+            (hex_text true (bytes_contents self.now)) f.new }
+        ensures styled { WritesStyledOnOk W.write_str_gives f.old result
+            (hex_text true (bytes_contents self.now)) f.new }
+    {
+        fmt::Display::fmt(&self.upper(), f)
     }
 }
 

@@ -1,10 +1,31 @@
 ghost use Rattle.std.specs.Prelude.{◌≡◌, true, false, Some};
+ghost use Rattle.std.specs.Fmt.{WritesOnOk, WritesStyledOnOk};
 ghost use Rattle.winnow_bytes.specs.ByteContents.{upper_contents, lower_contents};
-ghost use Rattle.winnow_bytes.specs.Hex.{hex_text};
+ghost use Rattle.winnow_bytes.specs.Hex.{two_digits, hex_text};
 
 use std::fmt;
+use winnow_kinds::write_hex_digit;
 
-/// Bytes that print as two hexadecimal digits each, in capitals.
+/// Writes two digits a byte, in capitals or not.
+fn write_hex<W: fmt::Write>(bytes: &[u8], upper: bool, f: &mut fmt::Formatter<W>) -> fmt::Result
+    ensures writes { WritesOnOk W.write_str_gives f.old result (hex_text upper bytes.now) f.new }
+    ensures styled { WritesStyledOnOk W.write_str_gives f.old result
+        (hex_text upper bytes.now) f.new }
+{
+    for &byte in bytes {
+        write_byte(byte, upper, f)?;
+    }
+    Ok(())
+}
+
+fn write_byte<W: fmt::Write>(byte: u8, upper: bool, f: &mut fmt::Formatter<W>) -> fmt::Result
+    ensures { WritesStyledOnOk W.write_str_gives f.old result (two_digits upper byte) f.new }
+{
+    write_hex_digit(byte / 16, upper, f)?;
+    write_hex_digit(byte % 16, upper, f)
+}
+
+/// Bytes that print as two hexadecimal digits each, in capitals, whatever the options of a hole are.
 #[derive(Clone, Copy, Debug)]
 pub struct UpperBytes<'i> {
     bytes: &'i [u8],
@@ -21,15 +42,14 @@ impl<'i> UpperBytes<'i> {
 impl fmt::Display for UpperBytes<'_> {
     ghost output = { λ s. Some (hex_text true (upper_contents s)) };
 
+    ghost styled_output = { λ s _. Some (hex_text true (upper_contents s)) };
+
     fn fmt<W: fmt::Write>(&self, f: &mut fmt::Formatter<W>) -> fmt::Result {
-        for &byte in self.bytes {
-            write!(f, "{byte:02X}")?;
-        }
-        Ok(())
+        write_hex(self.bytes, true, f)
     }
 }
 
-/// Bytes that print as two hexadecimal digits each, in small letters.
+/// Bytes that print as two hexadecimal digits each, in small letters, whatever the options of a hole are.
 #[derive(Clone, Copy, Debug)]
 pub struct LowerBytes<'i> {
     bytes: &'i [u8],
@@ -46,10 +66,9 @@ impl<'i> LowerBytes<'i> {
 impl fmt::Display for LowerBytes<'_> {
     ghost output = { λ s. Some (hex_text false (lower_contents s)) };
 
+    ghost styled_output = { λ s _. Some (hex_text false (lower_contents s)) };
+
     fn fmt<W: fmt::Write>(&self, f: &mut fmt::Formatter<W>) -> fmt::Result {
-        for &byte in self.bytes {
-            write!(f, "{byte:02x}")?;
-        }
-        Ok(())
+        write_hex(self.bytes, false, f)
     }
 }

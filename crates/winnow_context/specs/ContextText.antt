@@ -1,18 +1,14 @@
 -- What a context prints, and an error that tells of several.
 use Rattle.std.specs.Prelude.{Bool, true, false, ℕ, List, [], ◌∷◌, ◌++◌, Option, Some, None, option_map, if◌then◌else◌, ◌==◌, codes, encode_utf8}
 use Rattle.std.specs.Char.{is_ascii_control}
-use Rattle.std.specs.Fmt.{digits}
 use Rattle.std.specs.List.{join_by}
 use Rattle.std.specs.Option.{option_to_list}
+use Rattle.winnow_kinds.specs.Escapes.{escape}
 use Rattle.winnow_context.specs.Explanation.{Explanation}
 use Rattle.winnow_context.specs.declared.str_context.StrContext.{StrContext}
 use Rattle.winnow_context.specs.declared.str_context.StrContext.TheVariants.{Label, Expected}
 use Rattle.winnow_context.specs.declared.str_context.StrContextValue.{StrContextValue}
 use Rattle.winnow_context.specs.declared.str_context.StrContextValue.TheVariants.{CharLiteral, StringLiteral, Description}
-
--- a control character of ASCII, escaped
-abbrev pub escape : ℕ → List ℕ
-escape c = if c == 0 then codes "\\0" else (if c == 9 then codes "\\t" else (if c == 13 then codes "\\r" else (if c == 10 then codes "\\n" else codes "\\u{" ++ digits 16 false c ++ codes "}")))
 
 -- a character: a newline in words, a backtick between apostrophes, any other between backticks, a control escaped
 abbrev pub char_text : ℕ → List ℕ

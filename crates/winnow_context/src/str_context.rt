@@ -1,11 +1,12 @@
 ghost use Rattle.std.specs.Prelude.{◌≡◌, Some};
-ghost use Rattle.winnow_context.specs.ContextText.{value_text, context_text, char_text, escape};
+ghost use Rattle.winnow_context.specs.ContextText.{value_text, context_text, char_text};
 ghost use Rattle.winnow_context.specs.ContextDebug.{value_debug, context_debug};
 ghost use Rattle.winnow_context.specs.declared.str_context.StrContextValue.TheVariants.{CharLiteral, StringLiteral};
 
 use crate::variants::write_variant;
 use std::fmt;
 use winnow_error::write_bare;
+use winnow_kinds::write_escaped;
 
 /// What a parser was reading, or what it would have taken.
 #[derive(Clone, PartialEq, Eq, Drop)]
@@ -43,27 +44,6 @@ impl From<&'static str> for StrContextValue {
     }
 }
 
-/// A control character of ASCII, escaped.
-#[derive(Drop)]
-struct Escaped(char);
-
-impl fmt::Display for Escaped {
-    ghost output = { λ c. Some (escape c.0) };
-
-    fn fmt<W: fmt::Write>(&self, f: &mut fmt::Formatter<W>) -> fmt::Result {
-        match self.0 {
-            '\0' => write!(f, "\\0"),
-            '\t' => write!(f, "\\t"),
-            '\r' => write!(f, "\\r"),
-            '\n' => write!(f, "\\n"),
-            other => {
-                let code = other as u32;
-                write!(f, "\\u{{{code:x}}}")
-            }
-        }
-    }
-}
-
 /// A character that would have been taken.
 #[derive(Drop)]
 struct Quoted(char);
@@ -78,8 +58,9 @@ impl fmt::Display for Quoted {
         } else if c == '`' {
             write!(f, "'`'")
         } else if c.is_ascii_control() {
-            let escaped = Escaped(c);
-            write!(f, "`{escaped}`")
+            f.write_str("`")?;
+            write_escaped(c, f)?;
+            f.write_str("`")
         } else {
             write!(f, "`{c}`")
         }

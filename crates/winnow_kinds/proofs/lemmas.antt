@@ -1,1 +1,2 @@
 pub mod LossyLemmas
+pub mod WriteLemmas

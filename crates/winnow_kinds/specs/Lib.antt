@@ -1,2 +1,3 @@
 pub mod TextContents
+pub mod LossyText
 pub mod Escapes

@@ -1,35 +1,51 @@
-ghost use Rattle.std.specs.Prelude.{◌<◌, IsTrue};
-ghost use Rattle.std.specs.Fmt.{WritesOnOk};
+ghost use Rattle.std.specs.Prelude.{◌≡◌, ◌<◌, ◌++◌, false, codes, IsTrue};
+ghost use Rattle.std.specs.Fmt.{WritesOnOk, WritesStyledOnOk, DisplaysOnOk, DisplaysStyledOnOk, formatter_spec, spec_alternate, digits};
 ghost use Rattle.std.specs.List.{flat_map};
-ghost use Rattle.winnow_kinds.specs.Escapes.{escape, is_ascii};
+ghost use Rattle.winnow_kinds.specs.Escapes.{escape, is_ascii, debug_text, styled_debug_text};
 
+use crate::digits::write_hex_digit;
 use std::fmt;
 
-/// Writes the escaped bytes, each as the character of its number.
-pub(crate) fn write_escaped<W: fmt::Write>(bytes: &[u8], f: &mut fmt::Formatter<W>) -> fmt::Result
-    ensures { IsTrue (is_ascii bytes.now) → WritesOnOk W.write_str_gives f.old result (flat_map escape bytes.now) f.new }
+/// Writes a character as a debug text has it.
+#[doc(hidden)]
+pub fn write_escaped<W: fmt::Write>(c: char, f: &mut fmt::Formatter<W>) -> fmt::Result
+    ensures writes { c < 128 → WritesOnOk W.write_str_gives f.old result (escape c) f.new }
+    ensures styled { c < 128 → WritesStyledOnOk W.write_str_gives f.old result (escape c) f.new }
 {
-    for byte in bytes {
-        write_byte(*byte, f)?;
+    match c {
+        '\0' => f.write_str("\\0"),
+        '\t' => f.write_str("\\t"),
+        '\r' => f.write_str("\\r"),
+        '\n' => f.write_str("\\n"),
+        '\'' => f.write_str("\\'"),
+        '"' => f.write_str("\\\""),
+        '\\' => f.write_str("\\\\"),
+        ' '..='~' => f.write_char(c),
+        '\u{80}'.. => write_past_ascii(c, f),
+        control => write_code(control as u8, f),
     }
-    Ok(())
 }
 
-fn write_byte<W: fmt::Write>(byte: u8, f: &mut fmt::Formatter<W>) -> fmt::Result
-    ensures { byte < 128 → WritesOnOk W.write_str_gives f.old result (escape byte) f.new }
+fn write_code<W: fmt::Write>(code: u8, f: &mut fmt::Formatter<W>) -> fmt::Result
+    ensures writes { WritesOnOk W.write_str_gives f.old result
+        (codes "\\u{" ++ digits 16 false code ++ codes "}") f.new }
+    ensures styled { WritesStyledOnOk W.write_str_gives f.old result
+        (codes "\\u{" ++ digits 16 false code ++ codes "}") f.new }
 {
-    match byte {
-        b'\0' => f.write_str("\\0"),
-        b'\t' => f.write_str("\\t"),
-        b'\r' => f.write_str("\\r"),
-        b'\n' => f.write_str("\\n"),
-        b'\'' => f.write_str("\\'"),
-        b'"' => f.write_str("\\\""),
-        b'\\' => f.write_str("\\\\"),
-        b' '..=b'~' => f.write_char(char::from(byte)),
-        0x80.. => write_past_ascii(char::from(byte), f),
-        control => write!(f, "\\u{{{control:x}}}"),
+    f.write_str("\\u{")?;
+    write_digits(code, f)?;
+    f.write_str("}")
+}
+
+fn write_digits<W: fmt::Write>(code: u8, f: &mut fmt::Formatter<W>) -> fmt::Result
+    ensures writes { WritesOnOk W.write_str_gives f.old result (digits 16 false code) f.new }
+    ensures styled { WritesStyledOnOk W.write_str_gives f.old result (digits 16 false code) f.new }
+{
+    if code < 16 {
+        return write_hex_digit(code, false, f);
     }
+    write_hex_digit(code / 16, false, f)?;
+    write_hex_digit(code % 16, false, f)
 }
 
 fn write_past_ascii<W: fmt::Write>(c: char, f: &mut fmt::Formatter<W>) -> fmt::Result {
@@ -37,4 +53,38 @@ fn write_past_ascii<W: fmt::Write>(c: char, f: &mut fmt::Formatter<W>) -> fmt::R
         f.write_char(part)?;
     }
     Ok(())
+}
+
+/// Writes the escaped bytes, each as the character of its number.
+fn write_bytes<W: fmt::Write>(bytes: &[u8], f: &mut fmt::Formatter<W>) -> fmt::Result
+    ensures { IsTrue (is_ascii bytes.now)
+        → WritesStyledOnOk W.write_str_gives f.old result (flat_map escape bytes.now) f.new }
+{
+    for byte in bytes {
+        write_escaped(char::from(*byte), f)?;
+    }
+    Ok(())
+}
+
+fn write_quoted<W: fmt::Write>(bytes: &[u8], f: &mut fmt::Formatter<W>) -> fmt::Result
+    ensures { IsTrue (is_ascii bytes.now)
+        → WritesStyledOnOk W.write_str_gives f.old result
+        (codes "\"" ++ (flat_map escape bytes.now ++ codes "\"")) f.new }
+{
+    f.write_str("\"")?;
+    write_bytes(bytes, f)?;
+    f.write_str("\"")
+}
+
+/// Writes the debug text of the bytes.
+pub(crate) fn write_debug<W: fmt::Write>(bytes: &[u8], f: &mut fmt::Formatter<W>) -> fmt::Result
+    ensures writes { DisplaysOnOk W.write_str_gives f.old result (debug_text bytes.now) f.new }
+    ensures styled { DisplaysStyledOnOk W.write_str_gives f.old result
+        (styled_debug_text (spec_alternate (formatter_spec f.old)) bytes.now) f.new }
+{
+    if f.alternate() {
+        write_bytes(bytes, f)
+    } else {
+        write_quoted(bytes, f)
+    }
 }

@@ -3,6 +3,7 @@
 //! stream around a slice of bytes.
 #![tactic(auto)]
 
+mod digits;
 mod escapes;
 mod laws;
 mod literals;
@@ -10,6 +11,8 @@ mod lossy;
 mod needles;
 mod text;
 
+pub use digits::write_hex_digit;
+pub use escapes::write_escaped;
 pub use laws::{text_equality_law, text_hash_law, text_order_law};
 pub use literals::ByteLiteral;
 pub use needles::ByteNeedles;

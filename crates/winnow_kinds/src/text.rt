@@ -2,6 +2,7 @@ ghost use Rattle.std.specs.Prelude.{◌≡◌, ◌↔◌, ◌<◌, ◌≤◌, tr
 ghost use Rattle.std.specs.Cmp.{partial_equiv_from_equiv, on_per, on_equiv, on_po, on_total};
 ghost use Rattle.std.specs.Cmp.Lexicographic.{pointwise, slice_cmp, nat_list_eq_equiv, nat_list_cmp_total, texts_ties, texts_po};
 ghost use Rattle.std.specs.Cmp.Rules.{hashing};
+ghost use Rattle.std.specs.Fmt.{DisplaysOnOk, DisplaysStyledOnOk, formatter_spec, spec_alternate, spec_precision};
 ghost use Rattle.std.specs.Hash as fed;
 ghost use Rattle.std.specs.Ordering.{nat_cmp};
 ghost use Rattle.std.specs.Str.Lossy.{utf8_lossy};
@@ -14,9 +15,10 @@ ghost use Rattle.winnow_match.specs.Bytes.{bytes_of};
 ghost use Rattle.winnow_match.specs.Comparison.{comparison};
 ghost use Rattle.winnow_match.specs.Search.{hit};
 ghost use Rattle.winnow_kinds.specs.TextContents.{bstr_contents};
-ghost use Rattle.winnow_kinds.specs.Escapes.{debug_text};
+ghost use Rattle.winnow_kinds.specs.LossyText.{lossy_text};
+ghost use Rattle.winnow_kinds.specs.Escapes.{debug_text, styled_debug_text};
 
-use crate::escapes::write_escaped;
+use crate::escapes::write_debug;
 use crate::lossy::write_lossy;
 use crate::{ByteLiteral, ByteNeedles};
 use std::alloc::{AllocError, Global};
@@ -277,26 +279,31 @@ impl<T: ByteNeedles> FindSlice<T> for BStr<'_> {
     }
 }
 
-/// The text, with U+FFFD for each maximal damaged part.
+/// The text, with U+FFFD for each maximal damaged part. A precision is how many characters are shown at most; no other option of a
+/// hole changes the text.
 impl fmt::Display for BStr<'_> {
     ghost output = { λ s. Some (utf8_lossy (bstr_contents s)) };
+
+    ghost styled_output = { λ s spec. Some (lossy_text (spec_precision spec) (bstr_contents s)) };
 
     fn fmt<W: fmt::Write>(&self, f: &mut fmt::Formatter<W>) -> fmt::Result {
         write_lossy(self.bytes, f)
     }
 }
 
-/// The escaped bytes in double quotes, each as the character of its number; `{:#?}` leaves the quotes out.
+/// The escaped bytes in double quotes, each as the character of its number; `{:#?}` leaves the quotes out, and no other option of a hole
+/// changes the text.
 impl fmt::Debug for BStr<'_> {
     ghost debug_output = { λ s. debug_text (bstr_contents s) };
 
-    fn fmt<W: fmt::Write>(&self, f: &mut fmt::Formatter<W>) -> fmt::Result {
-        if f.alternate() {
-            return write_escaped(self.bytes, f);
-        }
-        f.write_str("\"")?;
-        write_escaped(self.bytes, f)?;
-        f.write_str("\"")
+    fn fmt<W: fmt::Write>(&self, f: &mut fmt::Formatter<W>) -> fmt::Result
+        ensures writes { DisplaysOnOk W.write_str_gives f.old result
+            (debug_text (bstr_contents self.now)) f.new }
+        ensures styled { DisplaysStyledOnOk W.write_str_gives f.old result
+            (styled_debug_text (spec_alternate (formatter_spec f.old)) (bstr_contents self.now))
+            f.new }
+    {
+        write_debug(self.bytes, f)
     }
 }
 
