@@ -1,19 +1,15 @@
-ghost use Rattle.std.specs.Prelude.{◌≡◌, true, false, [], IfOk, IfSome, string_bytes};
-ghost use Rattle.std.specs.Str.Lossy.{utf8_lossy};
+ghost use Rattle.std.specs.Prelude.{◌≡◌, []};
 ghost use Rattle.winnow_kinds.specs.TextContents.{bstr_contents};
 ghost use Rattle.winnow_bytes.specs.ByteContents.{bytes_contents};
-ghost use Rattle.winnow_kinds.specs.Escapes.{debug_text};
-ghost use Rattle.winnow_bytes.specs.Hex.{hex_text};
 ghost use Rattle.winnow_kinds.specs.declared.text.BStr.{BStr};
 ghost use Rattle.winnow_bytes.specs.declared.bytes.Bytes.{Bytes};
 
-use std::alloc::{AllocError, Global};
 use std::cmp::Ordering;
 use std::hash::{DefaultHasher, Hash, Hasher};
 use std::process::Abort;
 use std::test::Fail;
-use winnow_bytes::{Bytes, bytes_equality_law, bytes_order_law};
-use winnow_kinds::{BStr, text_equality_law, text_order_law};
+use winnow_bytes::{Bytes, bytes_equality_law, bytes_hash_law, bytes_order_law};
+use winnow_kinds::{BStr, text_equality_law, text_hash_law, text_order_law};
 use winnow_match::{Compare, CompareResult, Needles};
 use winnow_run::Step;
 use winnow_run::Step::{At, Each, Finish, IsOffset, Look, Mark, Next, Peek, Reset, Since, Take};
@@ -74,7 +70,7 @@ where
     }
 }
 
-// What the conversions give and what is displayed, by their contracts alone.
+// What the conversions give, by their contracts alone.
 
 fn texts<'i>(text: &'i str, bytes: &'i [u8]) -> (BStr<'i>, &'i [u8], BStr<'i>)
     ensures text { bstr_contents result.0 ≡ text.now }
@@ -88,18 +84,6 @@ fn texts<'i>(text: &'i str, bytes: &'i [u8]) -> (BStr<'i>, &'i [u8], BStr<'i>)
     )
 }
 
-fn text_shown(alloc: Global, s: &BStr) -> Result<String, AllocError>
-    ensures { IfOk result (λ t. string_bytes t ≡ utf8_lossy (bstr_contents s.now)) }
-{
-    format!(in alloc; "{s}")
-}
-
-fn text_debugged(alloc: Global, s: &BStr) -> Result<String, AllocError>
-    ensures { IfOk result (λ t. IfSome (debug_text (bstr_contents s.now)) (λ text. string_bytes t ≡ text)) }
-{
-    format!(in alloc; "{s:?}")
-}
-
 fn bytes<'i>(text: &'i str, bytes: &'i [u8]) -> (Bytes<'i>, &'i [u8], Bytes<'i>)
     ensures text { bytes_contents result.0 ≡ text.now }
     ensures bytes { result.1.now ≡ bytes.now }
@@ -110,25 +94,6 @@ fn bytes<'i>(text: &'i str, bytes: &'i [u8]) -> (Bytes<'i>, &'i [u8], Bytes<'i>)
         <&[u8]>::from(Bytes::from(bytes)),
         Bytes::default(),
     )
-}
-
-fn bytes_shown(alloc: Global, s: &Bytes) -> Result<String, AllocError>
-    ensures { IfOk result (λ t. string_bytes t ≡ hex_text true (bytes_contents s.now)) }
-{
-    format!(in alloc; "{s}")
-}
-
-fn bytes_debugged(alloc: Global, s: &Bytes) -> Result<String, AllocError>
-    ensures { IfOk result (λ t. string_bytes t ≡ hex_text true (bytes_contents s.now)) }
-{
-    format!(in alloc; "{s:?}")
-}
-
-fn lower_shown(alloc: Global, s: &Bytes) -> Result<String, AllocError>
-    ensures { IfOk result (λ t. string_bytes t ≡ hex_text false (bytes_contents s.now)) }
-{
-    let lower = s.lower();
-    format!(in alloc; "{lower}")
 }
 
 fn as_bstr_of<S: AsBStr>(stream: &S) -> &[u8] {
@@ -330,66 +295,6 @@ fn contents_of_bytes(rt: HostRuntime) -> Result<(), Fail> {
 }
 
 #[test]
-fn damaged_text(rt: HostRuntime) -> Result<(), Fail> {
-    let table: [(&[u8], &str); 9] = [
-        (b"", ""),
-        (b"abc", "abc"),
-        (b"\xc3\xa9\xe2\x82\xac\xf0\x9f\x98\x80", "é€😀"),
-        (b"\xf0\x28\x8c\xbc", "\u{FFFD}(\u{FFFD}\u{FFFD}"),
-        (b"a\xf0\x9f\x98", "a\u{FFFD}"),
-        (b"\xe2\x82a\xff", "\u{FFFD}a\u{FFFD}"),
-        (b"\xed\xa0\x80", "\u{FFFD}\u{FFFD}\u{FFFD}"),
-        (b"\xc0\x80z", "\u{FFFD}\u{FFFD}z"),
-        (b"\xf4\x90\xc3\xa9", "\u{FFFD}\u{FFFD}é"),
-    ];
-    for (bytes, text) in table {
-        let s = BStr::new(bytes);
-        assert_eq!(rt; text_shown(rt.alloc(), &s)?.as_str(), text);
-    }
-    Ok(())
-}
-
-#[test]
-fn debug_texts_of_text(rt: HostRuntime) -> Result<(), Fail> {
-    let table: [(&[u8], &str); 8] = [
-        (b"", r#""""#),
-        (b"abc", r#""abc""#),
-        (b"\0\t\r\n", r#""\0\t\r\n""#),
-        (b"'\"\\", r#""\'\"\\""#),
-        (b"\x01\x0b\x1f\x7f", r#""\u{1}\u{b}\u{1f}\u{7f}""#),
-        (b" !AZaz09~", r#"" !AZaz09~""#),
-        // Past ASCII each byte is the character of its number.
-        (b"\xc3\xa9", r#""Ã©""#),
-        (b"\x80\xa0\xad\xff", r#""\u{80}\u{a0}\u{ad}ÿ""#),
-    ];
-    for (bytes, text) in table {
-        let s = BStr::new(bytes);
-        assert_eq!(rt; text_debugged(rt.alloc(), &s)?.as_str(), text);
-    }
-    let bare = format!(in rt.alloc(); "{:#?}", BStr::new(b"a\n"))?;
-    assert_eq!(rt; bare.as_str(), r"a\n");
-    Ok(())
-}
-
-#[test]
-fn hexadecimal_texts(rt: HostRuntime) -> Result<(), Fail> {
-    let table: [(&[u8], &str); 3] = [
-        (b"", "|||"),
-        (b"\xf0\x28\x8c\xbc", "F0288CBC|F0288CBC|F0288CBC|f0288cbc"),
-        (b"\x00\x09\x0a\xff", "00090AFF|00090AFF|00090AFF|00090aff"),
-    ];
-    for (bytes, wanted) in table {
-        let s = Bytes::new(bytes);
-        let shown = bytes_shown(rt.alloc(), &s)?;
-        let debugged = bytes_debugged(rt.alloc(), &s)?;
-        let lower = lower_shown(rt.alloc(), &s)?;
-        let told = format!(in rt.alloc(); "{shown}|{debugged}|{}|{lower}", s.upper())?;
-        assert_eq!(rt; told.as_str(), wanted);
-    }
-    Ok(())
-}
-
-#[test]
 fn traces_print_what_remains(rt: HostRuntime) -> Result<(), Fail> {
     let (text, bytes) = (Traced(BStr::new(b"ab")), Traced(Bytes::new(b"ab")));
     let traces = format!(in rt.alloc(); "{text} {bytes}")?;
@@ -402,6 +307,8 @@ fn traces_print_what_remains(rt: HostRuntime) -> Result<(), Fail> {
 fn laws_of_contents(_rt: HostRuntime) {
     text_equality_law();
     text_order_law();
+    text_hash_law();
     bytes_equality_law();
     bytes_order_law();
+    bytes_hash_law();
 }

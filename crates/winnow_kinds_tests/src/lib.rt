@@ -5,3 +5,5 @@
 mod kinds;
 #[cfg(test)]
 mod own_literals;
+#[cfg(test)]
+mod texts;
