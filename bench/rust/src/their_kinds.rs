@@ -45,8 +45,11 @@ pub fn texts(input: &[u8], width: usize) -> Vec<u64> {
         text.to_string(),
         format!("{text:?}"),
         format!("{text:#?}"),
+        format!("{text:.2}"),
+        format!("{text:9.1?}"),
         bytes.to_string(),
         format!("{bytes:?}"),
+        format!("{bytes:9.1}"),
         format!("{bytes:X}"),
         format!("{bytes:x}"),
     ] {

@@ -52,8 +52,11 @@ fn tell_texts(alloc: Global, input: &[u8], width: usize) -> Result<Vec<u64>, All
         format!(in alloc; "{text}")?,
         format!(in alloc; "{text:?}")?,
         format!(in alloc; "{text:#?}")?,
+        format!(in alloc; "{text:.2}")?,
+        format!(in alloc; "{text:9.1?}")?,
         format!(in alloc; "{bytes}")?,
         format!(in alloc; "{bytes:?}")?,
+        format!(in alloc; "{bytes:9.1}")?,
         format!(in alloc; "{}", bytes.upper())?,
         format!(in alloc; "{}", bytes.lower())?,
     ] {

@@ -15,6 +15,7 @@ mod place_cases;
 mod search_cases;
 mod search_run_cases;
 mod shrink;
+mod text_cases;
 mod tree_cases;
 
 use case::Case;
@@ -69,6 +70,7 @@ fn more(room: &mut Room) -> Result<Vec<(&'static str, usize)>, String> {
         ("lists gathered", count_cases::compare_accumulators(room, RANDOM_CASES)?),
         ("runs that search", search_run_cases::compare_search_runs(room, RANDOM_CASES)?),
         ("scripts in pieces", piece_cases::compare_pieces(room, RANDOM_CASES)?),
+        ("texts of bytes", text_cases::compare_byte_texts(room)?),
         ("trees", tree_cases::compare_trees(room, RANDOM_CASES)?),
         #[cfg(winnow_hooks)]
         ("places", place_cases::compare_places(room, RANDOM_CASES)?),
