@@ -3,8 +3,8 @@ ghost use Rattle.std.specs.Fmt.{WritesOnOk, WritesStyledOnOk};
 ghost use Rattle.winnow_bytes.specs.ByteContents.{upper_contents, lower_contents};
 ghost use Rattle.winnow_bytes.specs.Hex.{two_digits, hex_text};
 
-use std::fmt;
-use winnow_kinds::write_hex_digit;
+use std::{fmt, str};
+use winnow_kinds::hex_digit;
 
 /// Writes two digits a byte, in capitals or not.
 fn write_hex<W: fmt::Write>(bytes: &[u8], upper: bool, f: &mut fmt::Formatter<W>) -> fmt::Result
@@ -21,8 +21,12 @@ fn write_hex<W: fmt::Write>(bytes: &[u8], upper: bool, f: &mut fmt::Formatter<W>
 fn write_byte<W: fmt::Write>(byte: u8, upper: bool, f: &mut fmt::Formatter<W>) -> fmt::Result
     ensures { WritesStyledOnOk W.write_str_gives f.old result (two_digits upper byte) f.new }
 {
-    write_hex_digit(byte / 16, upper, f)?;
-    write_hex_digit(byte % 16, upper, f)
+    let digits = [hex_digit(byte / 16, upper), hex_digit(byte % 16, upper)];
+    match str::from_utf8(&digits) {
+        Ok(digits) => f.write_str(digits),
+        // Never: digits are text.
+        Err(_) => Err(fmt::Error),
+    }
 }
 
 /// Bytes that print as two hexadecimal digits each, in capitals, whatever the options of a hole are.

@@ -1,9 +1,9 @@
-ghost use Rattle.std.specs.Prelude.{◌≡◌, ◌<◌, ◌++◌, false, codes, IsTrue};
-ghost use Rattle.std.specs.Fmt.{WritesOnOk, WritesStyledOnOk, DisplaysOnOk, DisplaysStyledOnOk, formatter_spec, spec_alternate, digits};
+ghost use Rattle.std.specs.Prelude.{◌≡◌, ◌<◌, ◌∷◌, [], ◌++◌, false, codes, IsTrue};
+ghost use Rattle.std.specs.Fmt.{WritesOnOk, WritesStyledOnOk, DisplaysOnOk, DisplaysStyledOnOk, formatter_spec, spec_alternate, digits, digit_glyph};
 ghost use Rattle.std.specs.List.{flat_map};
 ghost use Rattle.winnow_kinds.specs.Escapes.{escape, is_ascii, debug_text, styled_debug_text};
 
-use crate::digits::write_hex_digit;
+use crate::digits::hex_digit;
 use std::fmt;
 
 /// Writes a character as a debug text has it.
@@ -42,10 +42,17 @@ fn write_digits<W: fmt::Write>(code: u8, f: &mut fmt::Formatter<W>) -> fmt::Resu
     ensures styled { WritesStyledOnOk W.write_str_gives f.old result (digits 16 false code) f.new }
 {
     if code < 16 {
-        return write_hex_digit(code, false, f);
+        return write_digit(code, f);
     }
-    write_hex_digit(code / 16, false, f)?;
-    write_hex_digit(code % 16, false, f)
+    write_digit(code / 16, f)?;
+    write_digit(code % 16, f)
+}
+
+fn write_digit<W: fmt::Write>(value: u8, f: &mut fmt::Formatter<W>) -> fmt::Result
+    requires { value < 16 }
+    ensures { WritesStyledOnOk W.write_str_gives f.old result (digit_glyph false value ∷ []) f.new }
+{
+    f.write_char(char::from(hex_digit(value, false)))
 }
 
 fn write_past_ascii<W: fmt::Write>(c: char, f: &mut fmt::Formatter<W>) -> fmt::Result {

@@ -11,7 +11,7 @@ mod lossy;
 mod needles;
 mod text;
 
-pub use digits::write_hex_digit;
+pub use digits::hex_digit;
 pub use escapes::write_escaped;
 pub use laws::{text_equality_law, text_hash_law, text_order_law};
 pub use literals::ByteLiteral;
