@@ -1,4 +1,5 @@
 pub mod FrontLemmas
+pub mod FusedLemmas
 pub mod IndexLemmas
 pub mod MissingLemmas
 pub mod OffsetLemmas

@@ -2,6 +2,7 @@ ghost use Rattle.std.specs.Prelude.{◌≡◌, ℕ, ◌-◌, ◌≤◌, Bool, []
 ghost use Rattle.std.specs.Iterator.{IsFinite, AlwaysYields, size};
 ghost use Rattle.winnow_stream.specs.Source.{Source, width, HasWidths, IsEndOf, Computes, first_token, FindsFirst, first_offset, offsets};
 ghost use Rattle.winnow_stream.specs.Front.{is_offset, back};
+ghost use Rattle.winnow_stream.specs.Fused.{IsFused};
 ghost use Rattle.winnow_stream.specs.Shortage.{offset_at};
 
 use crate::Needed;
@@ -58,13 +59,14 @@ pub trait Stream: Rest + Debug {
     // Two values agree in all that no call of `Stream` changes.
     ghost keeps: { Self → Self → Type 0 };
 
-    /// Each remaining token with its offset, in order.
+    /// Each remaining token with its offset, in order. After its end the iterator gives nothing more.
     fn iter_offsets(&self) -> Self::IterOffsets
         requires { valid self.now }
         ensures can { Self.IterOffsets.can_next result }
         ensures ends { IsFinite (Self.IterOffsets.remaining result) }
         ensures count { size (Self.IterOffsets.remaining result) ≤ width (remaining self.now) }
-        ensures items { AlwaysYields Self.IterOffsets.next_gives (λ x. x) result (offsets (remaining self.now)) };
+        ensures items { AlwaysYields Self.IterOffsets.next_gives (λ x. x) result (offsets (remaining self.now)) }
+        ensures fused { IsFused Self.IterOffsets.next_gives };
 
     /// The width of what remains.
     fn eof_offset(&self) -> usize

@@ -1,9 +1,11 @@
 -- What `BitOffsets` yields, by what the iterator of bytes yields.
-use Rattle.std.proofs.Common.{◌≡◌, ℕ, zero, suc, ◌+◌, ◌-◌, ◌<◌, List, [], ◌∷◌, ◌++◌, drop, Option, Some, None, Bool, refl, sym, ◌∙◌, ap, arith, subst}
+use Rattle.std.proofs.Common.{◌≡◌, ℕ, zero, suc, ◌+◌, ◌-◌, ◌<◌, List, [], ◌∷◌, ◌++◌, drop, Option, Some, None, Bool, refl, sym, ◌∙◌, ap, arith, subst, ◌≤◌, inl, inr}
 use Rattle.std.specs.Iterator.{AlwaysYields}
+use Rattle.std.proofs.lemmas.Bool.{cases_lt}
 use Rattle.std.proofs.lemmas.Iterator.{YieldsList}
 use Rattle.std.proofs.lemmas.Option.{none-some, same_Some}
 use Rattle.winnow_stream.specs.Source.{Source, units, offsets_from, offsets}
+use Rattle.winnow_stream.specs.Fused.{IsFused}
 use Rattle.winnow_views.specs.declared.bit_offsets.BitOffsets.{BitOffsets}
 use Rattle.winnow_views.specs.BitSource.{HasUnits, bit_of, byte_bits, bits_of, bits_from}
 use Rattle.winnow_views.specs.BitSteps.{ReadsByte, BitStep}
@@ -71,7 +73,7 @@ module _ {J : Type 0} (steps : J → Option (ℕ × ℕ) → J → Type 0) where
       ))
 
   no-bit : (s : BitOffsets J) (x : ℕ × Bool) (j : BitOffsets J) (y : Option (ℕ × ℕ)) → AlwaysYields steps (λ x. x) s.bytes [] → steps s.bytes y j.bytes → ReadsByte s y (Some x) j → ⊥
-  no-bit s x j None h t r = none-some _ (sym r)
+  no-bit s x j None h t r = none-some _ (sym r.0)
   no-bit s x j (Some q) h t r = h q j.bytes t
 
   no-end : (s : BitOffsets J) (p : ℕ × ℕ) (left : List (ℕ × ℕ)) (j : BitOffsets J) (y : Option (ℕ × ℕ)) → AlwaysYields steps (λ x. x) s.bytes (p ∷ left) → steps s.bytes y j.bytes → ReadsByte s y None j → ⊥
@@ -80,23 +82,44 @@ module _ {J : Type 0} (steps : J → Option (ℕ × ℕ) → J → Type 0) where
 
   next-byte : (s : BitOffsets J) (p : ℕ × ℕ) (left : List (ℕ × ℕ)) (x : ℕ × Bool) (j : BitOffsets J) (y : Option (ℕ × ℕ)) → AlwaysYields steps (λ x. x) s.bytes (p ∷ left) → steps s.bytes y j.bytes → ReadsByte s y (Some x) j
       → (x ≡ (s.offset, bit_of p.1 s.place)) × (j.byte ≡ p.1) × (j.bit ≡ s.place + 1) × (j.place ≡ 0) × (j.offset ≡ s.offset + 1) × AlwaysYields steps (λ x. x) j.bytes left
-  next-byte s p left x j None h t r = absurd (none-some _ (sym r))
+  next-byte s p left x j None h t r = absurd (none-some _ (sym r.0))
   next-byte s p left x j (Some q) h t r =
       let e = h.1 q j.bytes t in
       (same_Some _ _ r.0 ∙ ap (λ v. (s.offset, bit_of v.1 s.place)) e.0, r.1 ∙ ap (λ v. v.1) e.0, r.2, r.3, r.4, e.1)
 
   at-byte : (left : List (ℕ × ℕ)) (s : BitOffsets J) → s.bit ≡ 8 → s.place < 8 → AlwaysYields steps (λ x. x) s.bytes left → Shows s left
-  at-byte [] s e p h = yields-end (BitStep steps) s (shown s []) (shown-end s e) (λ x j t. let d = t.1 e in no-bit s x j d.0 h d.1 d.2)
+  at-byte [] s e p h = yields-end (BitStep steps) s (shown s []) (shown-end s e) (λ x j t. let d = t.1 (omega (arith, e)) in no-bit s x j d.0 h d.1 d.2)
   at-byte (q ∷ left) s e p h =
       yields-first (BitStep steps) s (s.offset, bit_of q.1 s.place) (shown s (q ∷ left)) (told (s.offset + 1) (at_hand q.1 (s.place + 1) 0 left)) (shown-byte s q left e p)
-      (λ j t. let d = t.1 e in no-end s q left j d.0 h d.1 d.2)
+      (λ j t. let d = t.1 (omega (arith, e)) in no-end s q left j d.0 h d.1 d.2)
       (λ x j t.
-      let d = t.1 e in
+      let d = t.1 (omega (arith, e)) in
       let f = next-byte s q left x j d.0 h d.1 d.2 in (
         f.0,
         subst (λ ys. AlwaysYields (BitStep steps) (λ x. x) j ys) (shown-at j left (s.offset + 1) q.1 (s.place + 1) 0 f.4 f.1 f.2 f.3)
             (in-byte left (7 - s.place) (at-byte left) j (omega (arith, f.2, p)) (omega (arith, f.3)) f.5),
       ))
+
+-- ---- the end
+
+module _ {J : Type 0} (steps : J → Option (ℕ × ℕ) → J → Type 0) (fused : IsFused steps) where
+  ended : (s t : BitOffsets J) (y : Option (ℕ × ℕ)) → steps s.bytes y t.bytes → ReadsByte s y None t → steps s.bytes None t.bytes × (t.bit ≡ 8)
+  ended s t None h r = (h, r.1)
+  ended s t (Some q) h r = absurd (none-some _ r.0)
+
+  silent : (s t u : BitOffsets J) (x : ℕ × Bool) (y : Option (ℕ × ℕ)) → steps s.bytes None t.bytes → steps t.bytes y u.bytes → ReadsByte t y (Some x) u → ⊥
+  silent s t u x None h k r = none-some _ (sym r.0)
+  silent s t u x (Some q) h k r = fused s.bytes t.bytes u.bytes q h k
+
+  past : (n : ℕ) → ¬ (n < 8) → 8 ≤ n
+  past n refuted = elim (cases_lt n 8) [ inl below ↦ absurd (refuted below) | inr from ↦ from ]
+
+  pub IsFused-BitStep : IsFused (BitStep steps)
+  IsFused-BitStep s t u x p q =
+      let d = p.1 (past s.bit (λ h. none-some _ (p.0 h).0)) in
+      let e = ended s t d.0 d.1 d.2 in
+      let f = q.1 (omega (arith, e.1)) in
+      silent s t u x f.0 e.0 f.1 f.2
 
 -- the bytes of the offsets of bytes are the bytes
 bytes_of-offsets_from : (n : ℕ) (r : List (ℕ × ℕ)) → HasUnits r → bytes_of (offsets_from n r) ≡ r
