@@ -147,6 +147,8 @@ impl<'i> Stream for Bytes<'i> {
 
     ghost has_widths = { λ s _. HasWidths-units (bytes_contents s) };
 
+    ghost has_widths_remained = { λ c _. HasWidths-units (bytes_contents (checkpoint_inner c)) };
+
     ghost rest_width_remaining = { λ s _. sym (width-units (bytes_contents s)) };
 
     ghost rest_width_remained = { λ c _. sym (width-units (bytes_contents (checkpoint_inner c))) };

@@ -136,6 +136,8 @@ impl<'i> Stream for BStr<'i> {
 
     ghost has_widths = { λ s _. HasWidths-units (bstr_contents s) };
 
+    ghost has_widths_remained = { λ c _. HasWidths-units (bstr_contents (checkpoint_inner c)) };
+
     ghost rest_width_remaining = { λ s _. sym (width-units (bstr_contents s)) };
 
     ghost rest_width_remained = { λ c _. sym (width-units (bstr_contents (checkpoint_inner c))) };

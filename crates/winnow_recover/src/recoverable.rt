@@ -111,6 +111,8 @@ impl<I: Stream, E: Debug> Stream for Recoverable<I, E> {
 
     ghost has_widths = { λ s. I.has_widths s.input };
 
+    ghost has_widths_remained = { λ c. I.has_widths_remained (checkpoint_inner c) };
+
     ghost rest_width_remaining = { λ s. I.rest_width_remaining s.input };
 
     ghost rest_width_remained = { λ c. I.rest_width_remained (checkpoint_inner c) };

@@ -75,6 +75,8 @@ impl<'i, T: Copy + Debug> Stream for &'i [T] {
 
     ghost has_widths = { λ s _. HasWidths-units s.now };
 
+    ghost has_widths_remained = { λ c _. HasWidths-units (checkpoint_inner c).now };
+
     ghost rest_width_remaining = { λ s _. sym (width-units s.now) };
 
     ghost rest_width_remained = { λ c _. sym (width-units (checkpoint_inner c).now) };

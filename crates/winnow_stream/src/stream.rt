@@ -179,8 +179,10 @@ pub trait Stream: Rest + Debug {
         self.fmt(f)
     }
 
-    // Each token that remains of a valid value has a width of at least 1.
+    // Each token that remains of a valid value has a width of at least 1, and each that remained at a valid checkpoint.
     ghost has_widths: { (s : Self) → valid s → HasWidths (remaining s) };
+
+    ghost has_widths_remained: { (c : Self.Checkpoint) → valid_checkpoint c → HasWidths (remained c) };
 
     // What `Rest` says of a valid value, and of its checkpoints, is the width of the list.
     ghost rest_width_remaining: { (s : Self) → valid s → Self.rest_width s ≡ width (remaining s) };

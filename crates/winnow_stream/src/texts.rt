@@ -68,6 +68,8 @@ impl<'i> Stream for &'i str {
 
     ghost has_widths = { λ s _. HasWidths-char_source (chars s.now) };
 
+    ghost has_widths_remained = { λ c _. HasWidths-char_source (chars (checkpoint_inner c).now) };
+
     ghost rest_width_remaining = { λ s _. refl };
 
     ghost rest_width_remained = { λ c _. refl };

@@ -61,6 +61,8 @@ impl<'a> Stream for Listed<'a> {
 
     ghost has_widths = { λ s _. HasWidths-units s.rest.now };
 
+    ghost has_widths_remained = { λ c _. HasWidths-units (checkpoint_inner c).now };
+
     ghost rest_width_remaining = { λ s _. refl };
 
     ghost rest_width_remained = { λ c _. sym (width-units (checkpoint_inner c).now) };

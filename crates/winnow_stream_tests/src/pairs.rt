@@ -80,6 +80,8 @@ impl<'a> Stream for Pairs<'a> {
 
     ghost has_widths = { λ s _. HasWidths-pair_source s.rest.now };
 
+    ghost has_widths_remained = { λ c _. HasWidths-pair_source (checkpoint_inner c).rest.now };
+
     ghost rest_width_remaining = { λ s _. sym (width-pair_source s.rest.now) };
 
     ghost rest_width_remained = { λ c _. sym (width-pair_source (checkpoint_inner c).rest.now) };

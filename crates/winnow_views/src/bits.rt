@@ -110,6 +110,8 @@ impl<I: Stream<Token = u8>> Stream for Bits<I> {
 
     ghost has_widths = { λ s _. HasWidths-bits_from (I.remaining s.input) s.place };
 
+    ghost has_widths_remained = { λ c _. HasWidths-bits_from (I.remained (checkpoint_inner c).bytes) (checkpoint_inner c).place };
+
     ghost rest_width_remaining = { λ s v. rest_width-bits_from (I.remaining s.input) s.place (I.rest_width s.input) v.1.units (I.rest_width_remaining s.input v.0) };
 
     ghost rest_width_remained = { λ c v. let b = checkpoint_inner c in rest_width-bits_from (I.remained b.bytes) b.place (I.Checkpoint.rest_width b.bytes) v.1.units (I.rest_width_remained b.bytes v.0) };

@@ -124,6 +124,8 @@ impl<'t, T: Debug> Stream for TokenSlice<'t, T> {
 
     ghost has_widths = { λ s _. HasWidths-units _ };
 
+    ghost has_widths_remained = { λ c _. HasWidths-units _ };
+
     ghost rest_width_remaining = { λ s _. sym (width-remaining_in T.row s.view) };
 
     ghost rest_width_remained = { λ c _. sym (width-remaining_in T.row (checkpoint_inner c)) };

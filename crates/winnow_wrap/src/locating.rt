@@ -165,6 +165,8 @@ impl<I: Stream<Checkpoint = C>, C: Rest + Copy + Debug> Stream for LocatingSlice
 
     ghost has_widths = { λ s v. I.has_widths s.input v.0 };
 
+    ghost has_widths_remained = { λ c v. I.has_widths_remained (checkpoint_inner c).inner v };
+
     ghost rest_width_remaining = { λ s v. I.rest_width_remaining s.input v.0 };
 
     ghost rest_width_remained = { λ c v. I.rest_width_remained (checkpoint_inner c).inner v };

@@ -64,6 +64,8 @@ impl<I: Stream, S: Debug> Stream for Stateful<I, S> {
 
     ghost has_widths = { λ s v. I.has_widths s.input v };
 
+    ghost has_widths_remained = { λ c v. I.has_widths_remained (checkpoint_inner c) v };
+
     ghost rest_width_remaining = { λ s v. I.rest_width_remaining s.input v };
 
     ghost rest_width_remained = { λ c v. I.rest_width_remained (checkpoint_inner c) v };
