@@ -1,6 +1,7 @@
 -- What contracts name, from each of the crates that this one passes on.
 pub use Rattle.winnow_stream.specs.Source
 pub use Rattle.winnow_stream.specs.Front
+pub use Rattle.winnow_stream.specs.Place
 pub use Rattle.winnow_stream.specs.Fused
 pub use Rattle.winnow_stream.specs.Shortage
 pub use Rattle.winnow_stream.specs.Units

@@ -84,6 +84,8 @@ impl<I: Rest, E> Rest for Recoverable<I, E> {
     ghost rest_width = { λ s. I.rest_width s.input };
 
     ghost same_rest = { λ s t. I.same_rest s.input t.input };
+
+    ghost place = { λ s. I.place s.input };
 }
 
 impl<I: Stream, E: Debug> Stream for Recoverable<I, E> {

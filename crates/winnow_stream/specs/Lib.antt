@@ -1,5 +1,6 @@
 pub mod Source
 pub mod Front
+pub mod Place
 pub mod Fused
 pub mod Shortage
 pub mod Units

@@ -37,6 +37,8 @@ impl<T, S> Checkpoint<T, S> {
 
 impl<T: Rest, S> Rest for Checkpoint<T, S> {
     ghost rest_width = { λ c. T.rest_width (checkpoint_inner c) };
+
+    ghost place = { λ c. T.place (checkpoint_inner c) };
 }
 
 impl<T: Debug, S> Debug for Checkpoint<T, S> {

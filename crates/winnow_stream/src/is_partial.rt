@@ -25,14 +25,16 @@ pub trait StreamIsPartial: Rest + Sized {
         ensures complete { expects_more self.new ≡ false }
         ensures same { same_but_mark self.old self.new }
         ensures rest { Self.same_rest self.old self.new }
-        ensures width { Self.rest_width self.new ≡ Self.rest_width self.old };
+        ensures width { Self.rest_width self.new ≡ Self.rest_width self.old }
+        ensures place { Self.place self.new ≡ Self.place self.old };
 
     /// Sets the mark to what `complete` answered.
     fn restore_partial(&mut self, state: Self::PartialState)
         ensures set { partial_state self.new ≡ state }
         ensures same { same_but_mark self.old self.new }
         ensures rest { Self.same_rest self.old self.new }
-        ensures width { Self.rest_width self.new ≡ Self.rest_width self.old };
+        ensures width { Self.rest_width self.new ≡ Self.rest_width self.old }
+        ensures place { Self.place self.new ≡ Self.place self.old };
 
     /// Whether the type has a mark.
     fn is_partial_supported() -> bool

@@ -8,9 +8,10 @@ ghost use Rattle.winnow_stream.specs.declared.checkpoint.Checkpoint.{Checkpoint}
 ghost use Rattle.winnow_stream.specs.Source.{Source, units, width, HasWidths, first_offset};
 ghost use Rattle.winnow_stream.specs.Source.{FindsFirst};
 ghost use Rattle.winnow_stream.specs.Front.{HasFront, is_offset, front, back};
+ghost use Rattle.winnow_stream.specs.Place.{place_behind, TellsPlace};
 ghost use Rattle.winnow_stream.specs.Shortage.{needed, offset_at};
 
-use crate::{Checkpoint, SliceLen, Stream};
+use crate::{Checkpoint, Location, SliceLen, Stream};
 
 /// The law of fronts: an offset is valid exactly where some front has that width, what is taken has that width, and what is
 /// taken followed by what remains is what was there, so that the widths of both sum to the whole width. Behind a front the offsets
@@ -62,6 +63,15 @@ pub fn taken_law<T>()
 /// where none is held. It does nothing when called: its contract is the law.
 pub fn first_law<T>()
     ensures { (holds : T → Bool) (r : Source T) → FindsFirst (λ x b. holds x ≡ b) r (first_offset holds r) }
+{}
+
+/// The law of spans: where a stream's location is its place, the location behind a width is the location before it and that width. It
+/// does nothing when called: its contract is the law.
+pub fn span_law<S: Stream + Location>()
+    ensures end { TellsPlace S.place S.token_end S.token_start → (s t : S) (n : ℕ)
+        → S.place t ≡ place_behind (S.place s) n → S.token_end t ≡ S.token_start s + n }
+    ensures start { TellsPlace S.place S.token_end S.token_start → (s t : S) (n : ℕ)
+        → S.place t ≡ place_behind (S.place s) n → S.token_start t ≡ S.token_start s + n }
 {}
 
 /// The law of plain slices: their tokens tell their elements, the valid offsets are those up to their length, and a front and what

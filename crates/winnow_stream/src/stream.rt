@@ -1,7 +1,8 @@
-ghost use Rattle.std.specs.Prelude.{◌≡◌, ℕ, ◌-◌, ◌≤◌, Bool, [], IsTrue, IfSome, drop};
+ghost use Rattle.std.specs.Prelude.{◌≡◌, ℕ, ◌-◌, ◌≤◌, Bool, [], Option, None, IsTrue, IfSome, take, drop};
 ghost use Rattle.std.specs.Iterator.{IsFinite, AlwaysYields, size};
 ghost use Rattle.winnow_stream.specs.Source.{Source, width, HasWidths, IsEndOf, Computes, first_token, FindsFirst, first_offset, offsets};
 ghost use Rattle.winnow_stream.specs.Front.{is_offset, back};
+ghost use Rattle.winnow_stream.specs.Place.{place_behind};
 ghost use Rattle.winnow_stream.specs.Fused.{IsFused};
 ghost use Rattle.winnow_stream.specs.Shortage.{offset_at};
 
@@ -20,6 +21,9 @@ pub trait Rest {
     // Two values that no call of `Stream` tells apart by what remains. Only a type with a mark for partial input needs more
     // than equality.
     ghost same_rest: { Self → Self → Type 0 } = { λ s t. s ≡ t };
+
+    // Where it stands in the whole input, in its offsets, or stood; `None` where it keeps no place.
+    ghost place: { Self → Option ℕ } = { λ _. None };
 }
 
 /// A list of tokens with widths, of which calls take the front.
@@ -78,6 +82,7 @@ pub trait Stream: Rest + Debug {
         requires { valid self.old }
         ensures answer { result ≡ first_token (remaining self.old) }
         ensures remains { remaining self.new ≡ drop 1 (remaining self.old) }
+        ensures place { Self.place self.new ≡ place_behind (Self.place self.old) (width (take 1 (remaining self.old))) }
         ensures valid { valid self.new }
         ensures kept { keeps self.old self.new };
 
@@ -124,6 +129,7 @@ pub trait Stream: Rest + Debug {
         requires offset { IsTrue (is_offset (remaining self.old) offset) }
         ensures answer { is_slice result (remaining self.old) offset }
         ensures remains { remaining self.new ≡ back (remaining self.old) offset }
+        ensures place { Self.place self.new ≡ place_behind (Self.place self.old) offset }
         ensures valid { valid self.new }
         ensures kept { keeps self.old self.new };
 
@@ -138,6 +144,7 @@ pub trait Stream: Rest + Debug {
         requires { valid self.old }
         ensures answer { is_slice result (remaining self.old) (width (remaining self.old)) }
         ensures remains { remaining self.new ≡ [] }
+        ensures place { Self.place self.new ≡ place_behind (Self.place self.old) (width (remaining self.old)) }
         ensures valid { valid self.new }
         ensures kept { keeps self.old self.new }
     {
@@ -157,6 +164,7 @@ pub trait Stream: Rest + Debug {
     fn checkpoint(&self) -> Self::Checkpoint
         requires { valid self.now }
         ensures means { remained result ≡ remaining self.now }
+        ensures place { Self.Checkpoint.place result ≡ Self.place self.now }
         ensures valid { valid_checkpoint result };
 
     /// Goes back, or forward, to a checkpoint: what remained there remains, and what is kept stays.
@@ -164,6 +172,7 @@ pub trait Stream: Rest + Debug {
         requires valid { valid self.old }
         requires valid_checkpoint { valid_checkpoint checkpoint.now }
         ensures remains { remaining self.new ≡ remained checkpoint.now }
+        ensures place { Self.place self.new ≡ Self.Checkpoint.place checkpoint.now }
         ensures valid { valid self.new }
         ensures kept { keeps self.old self.new };
 

@@ -11,6 +11,8 @@ mod literals;
 #[cfg(test)]
 mod pairs;
 #[cfg(test)]
+mod spans;
+#[cfg(test)]
 mod tests;
 #[cfg(test)]
 mod walks;

@@ -4,4 +4,5 @@ mod literals;
 mod own_streams;
 mod scripts;
 mod small_parts;
+mod spans;
 mod texts;

@@ -1,11 +1,16 @@
 -- What a stream of bits means, by what the stream of bytes inside means.
-use Rattle.std.specs.Prelude.{◌≡◌, ℕ, ◌*◌, ◌-◌, Bool}
+use Rattle.std.specs.Prelude.{◌≡◌, ℕ, ◌*◌, ◌-◌, ◌+◌, Bool, Option, Some, None}
 use Rattle.winnow_stream.specs.Source.{Source, width}
 use Rattle.winnow_stream.specs.Checkpoint.{checkpoint_inner}
 use Rattle.winnow_stream.specs.declared.checkpoint.Checkpoint.{Checkpoint}
 use Rattle.winnow_views.specs.declared.bits.Bits.{Bits}
 use Rattle.winnow_views.specs.declared.bits.BitPlace.{BitPlace}
 use Rattle.winnow_views.specs.BitSource.{bits_from, IsBitSource}
+
+-- the bits before a place in a byte, by the bytes before that byte
+abbrev pub place_in_bits : Option ℕ → ℕ → Option ℕ
+place_in_bits None place = None
+place_in_bits (Some bytes) place = Some (8 * bytes + place)
 
 module _ {I : Type 0} where
   -- the stream of bytes, and the place in its first byte
@@ -23,6 +28,10 @@ module _ {I : Type 0} where
   abbrev pub IsValidBits : (I → Type 0) → (I → Source ℕ) → Bits I → Type 0
   IsValidBits valid remaining s = valid s.input × IsBitSource (remaining s.input) s.place
 
+  -- where it stands in the whole input, in bits
+  abbrev pub whole_place : (I → Option ℕ) → Bits I → Option ℕ
+  whole_place place s = place_in_bits (place s.input) s.place
+
 -- the same of a checkpoint, which also has the number of bits
 module _ {C : Type 0} where
   abbrev pub bits_remained : (C → Source ℕ) → BitPlace C → Source Bool
@@ -30,6 +39,9 @@ module _ {C : Type 0} where
 
   abbrev pub IsValidPlace : (C → Type 0) → (C → Source ℕ) → BitPlace C → Type 0
   IsValidPlace valid remained c = valid c.bytes × IsBitSource (remained c.bytes) c.place × (c.count ≡ width (bits_remained remained c))
+
+  abbrev pub whole_place_at : (C → Option ℕ) → BitPlace C → Option ℕ
+  whole_place_at place c = place_in_bits (place c.bytes) c.place
 
   -- its number of bits is that of its bytes from its place on, as it is where it is valid
   abbrev pub IsCounted : (C → ℕ) → BitPlace C → Type 0

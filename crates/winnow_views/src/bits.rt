@@ -1,10 +1,11 @@
-ghost use Rattle.std.specs.Prelude.{◌≡◌, ◌+◌, ◌-◌, ◌*◌, ◌/◌, ◌%◌, ◌<◌, true, [], drop, IsTrue, IfSome, IfNone};
+ghost use Rattle.std.specs.Prelude.{◌≡◌, ◌+◌, ◌-◌, ◌*◌, ◌/◌, ◌%◌, ◌<◌, true, [], take, drop, IsTrue, IfSome, IfNone};
 ghost use Rattle.winnow_stream.specs.Checkpoint.{checkpoint_inner};
 ghost use Rattle.winnow_stream.specs.Source.{first_token, width};
 ghost use Rattle.winnow_stream.specs.Front.{is_offset, back};
+ghost use Rattle.winnow_stream.specs.Place.{place_behind};
 ghost use Rattle.winnow_views.specs.BitSource.{IsBitSlice, IsBitSliceAt};
 ghost use Rattle.winnow_views.specs.BitStream.{bits_input, bits_place, bits_remaining, bits_remained, IsValidBits, IsValidPlace};
-ghost use Rattle.winnow_views.specs.BitStream.{bytes_at, place_at, IsCounted};
+ghost use Rattle.winnow_views.specs.BitStream.{bytes_at, place_at, whole_place, whole_place_at, IsCounted};
 ghost use Rattle.winnow_views.specs.BitLaws.{HasWidths-bits_from, rest_width-bits_from, bits_remaining-same, IsValidBits-same};
 
 use crate::BitOffsets;
@@ -75,12 +76,16 @@ fn whole_and_rest(bits: usize, place: usize) -> (usize, usize)
 
 impl<C: Rest> Rest for BitPlace<C> {
     ghost rest_width = { λ c. 8 * C.rest_width c.bytes - c.place };
+
+    ghost place = { whole_place_at C.place };
 }
 
 impl<I: Rest> Rest for Bits<I> {
     ghost rest_width = { λ s. 8 * I.rest_width s.input - s.place };
 
     ghost same_rest = { λ s t. I.same_rest s.input t.input × (s.place ≡ t.place) };
+
+    ghost place = { whole_place I.place };
 }
 
 /// Each bit has width 1, and a shortage says how many bits are missing. What the stream of bytes keeps is kept.
@@ -140,6 +145,8 @@ impl<I: Stream<Token = u8>> Stream for Bits<I> {
         ensures end { IfNone result (self.new ≡ self.old) }
         ensures answer { result ≡ first_token (bits_remaining I.remaining self.old) }
         ensures remains { bits_remaining I.remaining self.new ≡ drop 1 (bits_remaining I.remaining self.old) }
+        ensures whole { whole_place I.place self.new ≡ place_behind (whole_place I.place self.old)
+            (width (take 1 (bits_remaining I.remaining self.old))) }
         ensures valid { IsValidBits I.valid I.remaining self.new }
         ensures kept { I.keeps (bits_input self.old) (bits_input self.new) }
     {
@@ -178,6 +185,7 @@ impl<I: Stream<Token = u8>> Stream for Bits<I> {
             ≡ back (I.remaining (bits_input self.old)) ((offset + bits_place self.old) / 8) }
         ensures answer { IsBitSlice I.is_slice result (bits_remaining I.remaining self.old) offset }
         ensures remains { bits_remaining I.remaining self.new ≡ back (bits_remaining I.remaining self.old) offset }
+        ensures whole { whole_place I.place self.new ≡ place_behind (whole_place I.place self.old) offset }
         ensures valid { IsValidBits I.valid I.remaining self.new }
         ensures kept { I.keeps (bits_input self.old) (bits_input self.new) }
     {
@@ -205,6 +213,8 @@ impl<I: Stream<Token = u8>> Stream for Bits<I> {
         ensures bytes { I.remaining (bits_input self.new) ≡ [] }
         ensures answer { IsBitSlice I.is_slice result (bits_remaining I.remaining self.old) (width (bits_remaining I.remaining self.old)) }
         ensures remains { bits_remaining I.remaining self.new ≡ [] }
+        ensures whole { whole_place I.place self.new ≡ place_behind (whole_place I.place self.old)
+            (width (bits_remaining I.remaining self.old)) }
         ensures valid { IsValidBits I.valid I.remaining self.new }
         ensures kept { I.keeps (bits_input self.old) (bits_input self.new) }
     {
@@ -225,6 +235,7 @@ impl<I: Stream<Token = u8>> Stream for Bits<I> {
         ensures bytes { I.remained (bytes_at result) ≡ I.remaining (bits_input self.now) }
         ensures place { place_at result ≡ bits_place self.now }
         ensures means { bits_remained I.remained (checkpoint_inner result) ≡ bits_remaining I.remaining self.now }
+        ensures whole { whole_place_at I.Checkpoint.place (checkpoint_inner result) ≡ whole_place I.place self.now }
         ensures valid { IsValidPlace I.valid_checkpoint I.remained (checkpoint_inner result) }
     {
         Checkpoint::new(BitPlace {
@@ -240,6 +251,8 @@ impl<I: Stream<Token = u8>> Stream for Bits<I> {
         ensures bytes { I.remaining (bits_input self.new) ≡ I.remained (bytes_at checkpoint.now) }
         ensures place { bits_place self.new ≡ place_at checkpoint.now }
         ensures remains { bits_remaining I.remaining self.new ≡ bits_remained I.remained (checkpoint_inner checkpoint.now) }
+        ensures whole { whole_place I.place self.new
+            ≡ whole_place_at I.Checkpoint.place (checkpoint_inner checkpoint.now) }
         ensures valid { IsValidBits I.valid I.remaining self.new }
         ensures kept { I.keeps (bits_input self.old) (bits_input self.new) }
     {

@@ -1,4 +1,4 @@
-ghost use Rattle.std.specs.Prelude.{◌≡◌, ◌+◌, true, [], length, drop, min, reverse, IsTrue, refl, ⊤};
+ghost use Rattle.std.specs.Prelude.{◌≡◌, ◌+◌, true, [], Some, length, drop, min, reverse, IsTrue, refl, ⊤};
 ghost use Rattle.std.specs.Iterator.{AlwaysYields, IsFinite};
 ghost use Rattle.std.specs.Option.{option_copied};
 ghost use Rattle.std.proofs.Common.{sym, ap, ◌∙◌};
@@ -96,6 +96,8 @@ impl<'t, T> TokenSlice<'t, T> {
 
 impl<T> Rest for TokenSlice<'_, T> {
     ghost rest_width = { λ s. length (rest_of s) };
+
+    ghost place = { λ s. Some (place_of s) };
 }
 
 #[tactic(auto, using(crate::proofs::lemmas::TokenLemmas::token_steps))]

@@ -1,4 +1,4 @@
-ghost use Rattle.std.specs.Prelude.{◌≡◌, ◌+◌, ◌≤◌, drop, length};
+ghost use Rattle.std.specs.Prelude.{◌≡◌, ◌+◌, ◌≤◌, Some, drop, length};
 ghost use Rattle.winnow_views.specs.TokenPlaces.{rest_in, remaining_in, place_in};
 
 use crate::TokenView;
@@ -22,6 +22,8 @@ impl<'t, T> TokenView<'t, T> {
 
 impl<T> Rest for TokenView<'_, T> {
     ghost rest_width = { λ s. length (rest_in s) };
+
+    ghost place = { λ s. Some (place_in s) };
 }
 
 impl<'t, T> Offset<TokenView<'t, T>> for TokenView<'t, T> {

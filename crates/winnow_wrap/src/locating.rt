@@ -1,4 +1,4 @@
-ghost use Rattle.std.specs.Prelude.{◌≡◌, ◌+◌, ◌<◌, ◌^◌, [], take, drop, IsTrue, refl, ⊤};
+ghost use Rattle.std.specs.Prelude.{◌≡◌, ◌+◌, ◌<◌, ◌^◌, [], Some, take, drop, IsTrue, refl, ⊤};
 ghost use Rattle.std.proofs.Common.{◌∙◌, subst};
 ghost use Rattle.winnow_stream.specs.Source.{width, first_token};
 ghost use Rattle.winnow_stream.specs.Front.{is_offset, back};
@@ -63,6 +63,8 @@ impl<C: Rest + Copy> Copy for Placed<C> {}
 
 impl<C: Rest> Rest for Placed<C> {
     ghost rest_width = { λ c. C.rest_width c.inner };
+
+    ghost place = { λ c. Some c.place };
 }
 
 impl<C: Offset<C>> Offset<Placed<C>> for Placed<C> {
@@ -137,6 +139,8 @@ impl<I: Rest, C: Rest> Rest for LocatingSlice<I, C> {
     ghost rest_width = { λ s. I.rest_width s.input };
 
     ghost same_rest = { λ s t. (s.start ≡ t.start) × (s.place ≡ t.place) × I.same_rest s.input t.input };
+
+    ghost place = { λ s. Some s.place };
 }
 
 /// What remains is what remains inside, and the start is kept. Each call says what becomes of the place.

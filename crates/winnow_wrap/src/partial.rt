@@ -60,6 +60,8 @@ impl<I: Rest> Rest for Partial<I> {
 
     // The mark is no part of what remains.
     ghost same_rest = { λ s t. s.input ≡ t.input };
+
+    ghost place = { λ s. I.place s.input };
 }
 
 /// What remains is what remains inside, and the mark is kept.

@@ -36,6 +36,8 @@ impl<I: Rest, S> Rest for Stateful<I, S> {
     ghost rest_width = { λ s. I.rest_width s.input };
 
     ghost same_rest = { λ s t. I.same_rest s.input t.input };
+
+    ghost place = { λ s. I.place s.input };
 }
 
 /// What remains is what remains inside, and the state is kept.

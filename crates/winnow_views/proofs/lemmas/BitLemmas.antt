@@ -1,5 +1,5 @@
 -- The bits of bytes: what each call of a stream of bits answers and leaves.
-use Rattle.std.proofs.Common.{◌≡◌, ℕ, zero, suc, ◌+◌, ◌-◌, ◌*◌, ◌/◌, ◌%◌, ◌^◌, ◌≤◌, ◌<◌, leb, true, Bool, List, [], ◌∷◌, ◌++◌, length, map, take, drop, Some, Ok, Err, refl, sym, ap, ◌∙◌, subst, arith, IsTrue, zero-add}
+use Rattle.std.proofs.Common.{◌≡◌, ℕ, zero, suc, ◌+◌, ◌-◌, ◌*◌, ◌/◌, ◌%◌, ◌^◌, ◌≤◌, ◌<◌, leb, true, Bool, List, [], ◌∷◌, ◌++◌, length, map, take, drop, Option, Some, None, Ok, Err, refl, sym, ap, ◌∙◌, subst, arith, IsTrue, zero-add}
 use Rattle.std.proofs.lemmas.Bool.Decides.{nat_tests}
 use Rattle.std.proofs.lemmas.List.{length-drop, length-map, drop-drop, drop-take}
 use Rattle.std.specs.Int.NonZero.{non_zero_usize_get}
@@ -7,11 +7,13 @@ use Rattle.std.specs.declared.num.NonZeroUsize.{NonZeroUsize}
 use Rattle.winnow_stream.specs.declared.needed.Needed.TheVariants.{Size}
 use Rattle.winnow_stream.specs.Source.{Source, units, width, first_token}
 use Rattle.winnow_stream.specs.Front.{is_offset, count_to, front, back}
+use Rattle.winnow_stream.specs.Place.{place_behind}
 use Rattle.winnow_stream.specs.Shortage.{offset_at}
 use Rattle.winnow_stream.specs.Units.{width-units}
 use Rattle.winnow_stream.proofs.lemmas.FrontLemmas.{width-front}
 use Rattle.winnow_stream.proofs.lemmas.UnitLemmas.{length-units, is_offset-units, count_to-units, le-from_is_offset, units-take, units-drop, offset_at-units_short, offset_at-units_fits}
 use Rattle.winnow_views.specs.BitSource.{HasUnits, bit_of, byte_bits, bits_of, bits_from, IsBitSource, IsBitSlice}
+use Rattle.winnow_views.specs.BitStream.{place_in_bits}
 use Rattle.winnow_views.specs.BitWidth.{SlicesHaveWidths}
 use Rattle.winnow_views.specs.BitLaws.{units-HasUnits, width-HasUnits, length-bits_past, width-bits_from}
 
@@ -62,6 +64,18 @@ units-drop_one (x ∷ xs) = refl
 
 pub next-bit : (bytes : List (ℕ × ℕ)) (place : ℕ) → bits_from bytes (place + 1) ≡ drop 1 (bits_from bytes place)
 next-bit bytes place = ap units (sym (drop-drop 1 place (bits_of bytes))) ∙ units-drop_one (drop place (bits_of bytes))
+
+-- where one bit leaves a stream of bits in the whole input
+width-first_bit : (bits : List Bool) (b : Bool) → Some b ≡ first_token (units bits) → width (take 1 (units bits)) ≡ 1
+width-first_bit [] b e = absurd (cc)
+width-first_bit (x ∷ xs) b e = refl
+
+one-behind : (bytes : Option ℕ) (place n : ℕ) → n ≡ 1 → place_in_bits bytes (place + 1) ≡ place_behind (place_in_bits bytes place) n
+one-behind None place n e = refl
+one-behind (Some bytes) place n e = let f : 8 * bytes + (place + 1) ≡ 8 * bytes + place + n = omega (arith, e) in ap Some f
+
+pub place_in_bits-next : (at : Option ℕ) (bytes : List (ℕ × ℕ)) (place : ℕ) (b : Bool) → Some b ≡ first_token (bits_from bytes place) → place_in_bits at (place + 1) ≡ place_behind (place_in_bits at place) (width (take 1 (bits_from bytes place)))
+place_in_bits-next at bytes place b e = one-behind at place _ (width-first_bit (drop place (bits_of bytes)) b e)
 
 -- ---- slices
 
@@ -139,6 +153,11 @@ module _ (bytes left : List (ℕ × ℕ)) (place n whole rest : ℕ) (h : IsBitS
         at_end = λ e. r ∙ rest-at_end bytes place n h a (omega (arith, ap length e, l, w));
         fits = omega (arith, width-bits_from left rest, l, k, a, f, w, r);
       }
+
+-- where a slice of n bits leaves a stream of bits in the whole input
+pub place_in_bits-behind : (bytes : Option ℕ) (place n whole rest : ℕ) → whole ≡ (n + place) / 8 → rest ≡ (n + place) % 8 → place_in_bits (place_behind bytes whole) rest ≡ place_behind (place_in_bits bytes place) n
+place_in_bits-behind None place n whole rest w r = refl
+place_in_bits-behind (Some bytes) place n whole rest w r = let e : 8 * (bytes + whole) + rest ≡ 8 * bytes + place + n = omega (arith, w, r) in ap Some e
 
 -- ---- laws
 

@@ -1,6 +1,6 @@
 -- A slice of tokens as a source: the lemmas on units, for references to the elements.
 use Rattle.std.proofs.Common.{◌≡◌, ℕ, zero, suc, ◌+◌, ◌*◌, ◌-◌, ◌≤◌, leb, true, List, [], ◌∷◌, length, take, drop, refl, ap, sym, ◌∙◌, arith, IsTrue, take_all, length-drop, length-take}
-use Rattle.std.specs.Prelude.{Ok, Err, Some}
+use Rattle.std.specs.Prelude.{Ok, Err, Some, min}
 use Rattle.std.specs.Borrow.{Bor, RattleType}
 use Rattle.std.specs.Mem.{type_size}
 use Rattle.std.specs.Int.NonZero.{non_zero_usize_get}
@@ -64,6 +64,17 @@ module _ {T : Type 0} (size : ℕ) (at : ℕ × ℕ) (xs : List T) where
 
   pub drop_all-tokens_of : drop (length xs) (units (references size at xs)) ≡ []
   drop_all-tokens_of = drop_all (length xs) (units (references size at xs)) (omega (arith, length-tokens_of))
+
+  -- where a call moves a place on to
+  pub place-first : (p q : ℕ) → q ≡ p + min 1 (length xs) → Some q ≡ Some (p + width (take 1 (units (references size at xs))))
+  place-first p q e = ap Some (e ∙ ap (λ n. p + n) (width-first xs at))
+    where
+      width-first : (ys : List T) (a : ℕ × ℕ) → min 1 (length ys) ≡ width (take 1 (units (references size a ys)))
+      width-first [] a = refl
+      width-first (y ∷ ys) a = omega arith
+
+  pub place-all : (p q : ℕ) → q ≡ p + length xs → Some q ≡ Some (p + width (units (references size at xs)))
+  place-all p q e = ap Some (e ∙ ap (λ n. p + n) (sym width-references))
 
   -- what follows a front, by its width
   pub back-units : (n : ℕ) → IsTrue (is_offset (units (references size at xs)) n) → drop n (units (references size at xs)) ≡ back (units (references size at xs)) n
