@@ -1,9 +1,10 @@
 -- Where a run stands, and what one step of its script answers and leaves there.
-use Rattle.std.specs.Prelude.{◌≡◌, ℕ, ◌≤◌, Bool, List, length, drop, slice_get, IfSome, ⊤}
+use Rattle.std.specs.Prelude.{◌≡◌, ℕ, ◌-◌, ◌≤◌, Bool, Option, List, length, drop, slice_get, IfSome, ⊤}
 use Rattle.std.specs.List.{AllZip}
 use Rattle.std.specs.Global.{Vec}
 use Rattle.winnow_stream.specs.Source.{Source, width, HasWidths}
 use Rattle.winnow_stream.specs.Cursor.{Cursor, place}
+use Rattle.winnow_stream.specs.Place.{place_behind}
 use Rattle.winnow_stream.specs.declared.needed.Needed.{Needed}
 use Rattle.winnow_run.specs.Marks.{places_of, HasRoom}
 use Rattle.winnow_run.specs.Script.{step_next, IsAnswer}
@@ -71,3 +72,11 @@ AnswersStep {C} {T} tells is_slice counts_missing step here given =
 -- after the step the run stands where the step leaves the cursor, whatever cursor it stood at
 abbrev pub StandsAfter : {C T : Type 0} → Step C → Stand T → Stand T → Type 0
 StandsAfter {C} {T} step here there = (all : Source T) (at : Cursor) → StandsAt here all at → StandsAt there all (step_next all step at)
+
+-- in the whole input, the origin and the stream are as far behind the place of the list's start as the run says
+abbrev pub ArePlaced : {T : Type 0} → Option ℕ → Stand T → Option ℕ → Option ℕ → Type 0
+ArePlaced whole here origin place = (origin ≡ place_behind whole here.base) × (place ≡ place_behind whole (here.end - width here.rest))
+
+-- so they are after a step, if they were before it
+abbrev pub StayPlaced : {T : Type 0} → Option ℕ → Stand T → Option ℕ → Stand T → Option ℕ → Type 0
+StayPlaced origin here from there to = (whole : Option ℕ) → ArePlaced whole here origin from → ArePlaced whole there origin to

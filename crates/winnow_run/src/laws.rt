@@ -23,6 +23,7 @@ where
     ensures answers { IfOk result (λ out.
         AreAnswers C.tells S.is_slice S.counts_missing (S.remaining s.old) script.now out.items) }
     ensures remains { S.remaining s.new ≡ S.remaining s.old }
+    ensures place { S.place s.new ≡ S.place s.old }
     ensures valid { S.valid s.new }
     ensures kept { S.keeps s.old s.new }
 {

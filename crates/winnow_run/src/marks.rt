@@ -2,7 +2,7 @@ ghost use Rattle.std.specs.Prelude.{◌≡◌, ◌-◌, ◌≤◌, [], ◌∷◌
 ghost use Rattle.winnow_stream.specs.Source.{width};
 
 use std::alloc::{AllocError, Global};
-use winnow_stream::Stream;
+use winnow_stream::{Rest, Stream};
 
 /// The marks of a run: the place of each, in the order in which they were made.
 ///
@@ -73,10 +73,13 @@ pub struct Origin<K> {
 impl<K> Origin<K> {
     /// Returns where the stream stands, as the origin of a run whose list ends at that place.
     pub fn new<S: Stream<Checkpoint = K>>(s: &S, end: usize) -> Self
+    where
+        K: Rest,
         requires valid { S.valid s.now }
         requires fits { width (S.remaining s.now) ≤ end }
         ensures means { S.remained result.checkpoint ≡ S.remaining s.now }
         ensures valid { S.valid_checkpoint result.checkpoint }
+        ensures located { K.place result.checkpoint ≡ S.place s.now }
         ensures place { result.place ≡ end - width (S.remaining s.now) }
         ensures end { result.end ≡ end }
     {

@@ -1,6 +1,8 @@
-ghost use Rattle.std.specs.Prelude.{◌≡◌, IfOk, OnErr, OnOk};
+ghost use Rattle.std.specs.Prelude.{◌≡◌, ◌-◌, IfOk, OnErr, OnOk};
+ghost use Rattle.winnow_stream.specs.Source.{width};
+ghost use Rattle.winnow_stream.specs.Place.{place_behind};
 ghost use Rattle.winnow_run.specs.Searching.{rest_after_search, AreSearchAnswers, IsSearchReady, AreSearchReady, IsSearchInReach, AnswersSearchStep, StandsAfterSearchStep};
-ghost use Rattle.winnow_run.specs.Standing.{stand, StandsSomewhere};
+ghost use Rattle.winnow_run.specs.Standing.{stand, StandsSomewhere, StayPlaced};
 
 use crate::{Marks, Origin, SearchAnswer, SearchStep, answer_step};
 use std::alloc::{AllocError, Global};
@@ -25,7 +27,10 @@ where
         AreSearchAnswers C.tells S.is_slice S.counts_missing S.compared S.found
         (S.remaining s.old) script.now out.items) }
     ensures remains { OnOk result (S.remaining s.new ≡ rest_after_search (S.remaining s.old) script.now) }
+    ensures place { OnOk result (S.place s.new
+        ≡ place_behind (S.place s.old) (width (S.remaining s.old) - width (S.remaining s.new))) }
     ensures refused { OnErr result (S.remaining s.new ≡ S.remaining s.old) }
+    ensures stays { OnErr result (S.place s.new ≡ S.place s.old) }
     ensures valid { S.valid s.new }
     ensures kept { S.keeps s.old s.new }
 {
@@ -52,6 +57,8 @@ where
         AreSearchAnswers C.tells S.is_slice S.counts_missing S.compared S.found
         (S.remaining s.old) script.now out.items) }
     ensures remains { OnOk result (S.remaining s.new ≡ rest_after_search (S.remaining s.old) script.now) }
+    ensures place { OnOk result (S.place s.new
+        ≡ place_behind (S.place s.old) (width (S.remaining s.old) - width (S.remaining s.new))) }
     ensures valid { S.valid s.new }
     ensures kept { S.keeps s.old s.new }
 {
@@ -89,6 +96,9 @@ where
     ensures stands { OnOk result (StandsAfterSearchStep step.now
         (stand S.remained origin.now (S.remaining s.old) marks.old)
         (stand S.remained origin.now (S.remaining s.new) marks.new)) }
+    ensures place { StayPlaced (S.Checkpoint.place origin.now.checkpoint)
+        (stand S.remained origin.now (S.remaining s.old) marks.old) (S.place s.old)
+        (stand S.remained origin.now (S.remaining s.new) marks.new) (S.place s.new) }
     ensures valid { S.valid s.new }
     ensures kept { S.keeps s.old s.new }
 {

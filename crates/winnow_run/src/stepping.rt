@@ -1,7 +1,7 @@
 ghost use Rattle.std.specs.Prelude.{◌≡◌, ◌≤◌, IfOk, IsOk, OnErr, OnOk};
 ghost use Rattle.winnow_run.specs.Marks.{room_of};
 ghost use Rattle.winnow_run.specs.Script.{IsReady};
-ghost use Rattle.winnow_run.specs.Standing.{stand, StandsSomewhere, IsInReach, TakesNoMemory, AnswersStep, StandsAfter};
+ghost use Rattle.winnow_run.specs.Standing.{stand, StandsSomewhere, IsInReach, TakesNoMemory, AnswersStep, StandsAfter, StayPlaced};
 
 use crate::{Answer, Marks, Origin, Step};
 use std::alloc::{AllocError, Global};
@@ -34,6 +34,9 @@ where
     ensures stands { OnOk result (StandsAfter step.now
         (stand S.remained origin.now (S.remaining s.old) marks.old)
         (stand S.remained origin.now (S.remaining s.new) marks.new)) }
+    ensures place { StayPlaced (S.Checkpoint.place origin.now.checkpoint)
+        (stand S.remained origin.now (S.remaining s.old) marks.old) (S.place s.old)
+        (stand S.remained origin.now (S.remaining s.new) marks.new) (S.place s.new) }
     ensures refused { OnErr result (stand S.remained origin.now (S.remaining s.new) marks.new
         ≡ stand S.remained origin.now (S.remaining s.old) marks.old) }
     ensures sure { TakesNoMemory step.now marks.old → IsOk result }

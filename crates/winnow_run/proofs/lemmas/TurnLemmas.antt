@@ -1,5 +1,5 @@
 -- What each step answers and leaves, where a run stands at the cursor.
-use Rattle.std.proofs.Common.{◌≡◌, ℕ, ◌+◌, ◌-◌, ◌≤◌, ◌<◌, leb, Bool, true, false, List, [], ◌∷◌, ◌++◌, length, take, drop, ap, sym, ◌∙◌, arith, Some, None, inl, inr, length-drop}
+use Rattle.std.proofs.Common.{◌≡◌, ℕ, ◌+◌, ◌-◌, ◌≤◌, ◌<◌, leb, Bool, true, false, List, [], ◌∷◌, ◌++◌, length, take, drop, refl, ap, sym, ◌∙◌, arith, Option, Some, None, inl, inr, length-drop}
 use Rattle.std.specs.Prelude.{slice_get, is_some}
 use Rattle.std.proofs.lemmas.Bool.Decides.{nat_tests}
 use Rattle.std.proofs.lemmas.Bool.{cases_lt, le-leb}
@@ -10,10 +10,21 @@ use Rattle.winnow_stream.specs.Front.{front_count, is_offset, count_to, front, b
 use Rattle.winnow_stream.specs.Cursor.{Cursor, rest, place, places}
 use Rattle.winnow_stream.proofs.lemmas.FrontLemmas.{back-place, front-whole, HasWidths-drop, back-drop, within-back, front_count-found, front_count-missing, front_count-place, width-take_drop}
 use Rattle.winnow_run.specs.Script.{step_next}
-use Rattle.winnow_run.specs.Standing.{Stand, StandsAt, IsMarkAt}
+use Rattle.winnow_stream.specs.Place.{place_behind}
+use Rattle.winnow_run.specs.Standing.{Stand, StandsAt, IsMarkAt, ArePlaced}
 use Rattle.winnow_run.specs.declared.script.Step.TheVariants.{Next, Take, Mark, Reset}
 use Rattle.winnow_run.proofs.lemmas.PlaceLemmas.{drop-next, width-later, width-antitone}
 use Rattle.winnow_run.proofs.lemmas.PairLemmas.{AllZip-more, AllZip-found, AllZip-missing}
+
+-- ---- places in the whole input
+
+pub behind-none : (whole : Option ℕ) (n : ℕ) → n ≡ 0 → whole ≡ place_behind whole n
+behind-none None n e = refl
+behind-none (Some p) n e = let f : p ≡ p + n = omega (arith, e) in ap Some f
+
+behind-on : (whole : Option ℕ) (n w m : ℕ) → n + w ≡ m → place_behind (place_behind whole n) w ≡ place_behind whole m
+behind-on None n w m e = refl
+behind-on (Some p) n w m e = let f : p + n + w ≡ p + m = omega (arith, e) in ap Some f
 
 module _ {T : Type 0} (here : Stand T) (all : Source T) (at : Cursor) (h : StandsAt here all at) where
   pub slice-place : {S : Type 0} (is_slice : S → Source T → ℕ → Type 0) (n m : ℕ) (s : S) → m ≡ n → is_slice s here.rest n → is_slice s (back all (width (take at.index all))) m
@@ -107,6 +118,19 @@ module _ {T : Type 0} (here : Stand T) (all : Source T) (at : Cursor) (h : Stand
   mark-back m i f l =
       rw (h.origin, origin-width m i f l)
       (back-place (drop h.first all) (i - h.first) (HasWidths-drop h.first all h.widths) (origin-within m i f l) ∙ origin-drop i (origin-before m i f l))
+
+  -- where each step that moves leaves the stream in the whole input
+  pub placed-on : (whole origin from to : Option ℕ) (t : Source T) (w : ℕ) → w + width t ≡ width here.rest → to ≡ place_behind from w → ArePlaced whole here origin from → ArePlaced whole (record here { rest = t }) origin to
+  placed-on whole origin from to t w e p q =
+      (q.0, p ∙ ap (λ v. place_behind v w) q.1 ∙ behind-on whole (here.end - width here.rest) w (here.end - width t) (omega (arith, e, end-later)))
+
+  pub placed-reset : (whole origin from to : Option ℕ) (t : Source T) (k m : ℕ) → slice_get here.marks k ≡ Some m → here.base ≤ m → t ≡ back here.origin (m - here.base) → to ≡ place_behind origin (m - here.base) → ArePlaced whole here origin from → ArePlaced whole (record here { rest = t }) origin to
+  placed-reset whole origin from to t k m f l e p q =
+      let g = mark-found k m f in
+      let there : width t ≡ width (drop g.0 all) = ap width (e ∙ mark-back m g.0 g.1.1 l) in
+      let is : m ≡ place all g.0 = g.1.1.is in
+      let left : here.end - width t ≡ m = omega (arith, there, is, h.end, width-take_drop all g.0) in
+      (q.0, p ∙ ap (λ v. place_behind v (m - here.base)) q.0 ∙ behind-on whole here.base (m - here.base) m (omega (arith, l)) ∙ ap (place_behind whole) (sym left))
 
   -- where each step that moves, or marks, leaves the run
   pub stands-moved : (i : ℕ) (t : Source T) → t ≡ drop i all → i ≤ length all → StandsAt (record here { rest = t }) all (record at { index = i })

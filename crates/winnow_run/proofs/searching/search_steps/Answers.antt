@@ -1,10 +1,12 @@
-use Rattle.std.proofs.Common.{◌≡◌, [], ◌∷◌, ◌++◌, refl, sym, ◌∙◌, ap, subst, arith}
+use Rattle.std.proofs.Common.{◌≡◌, ◌-◌, [], ◌∷◌, ◌++◌, refl, sym, ◌∙◌, ap, subst, arith}
 use Rattle.std.proofs.lemmas.List.{append_assoc, append-nil, nil_from_length}
 use Rattle.std.proofs.lemmas.List.Elements.{All-head, All-tail}
 use Rattle.std.specs.List.{All}
 use Rattle.winnow_stream.specs.Source.{width}
 use Rattle.winnow_stream.specs.Cursor.{start}
+use Rattle.winnow_stream.specs.Place.{place_behind}
 use Rattle.winnow_run.specs.Searching.{search_next, IsSearchReady, IsSearchAnswer}
+use Rattle.winnow_run.proofs.lemmas.TurnLemmas.{behind-none}
 use Rattle.winnow_run.proofs.lemmas.ScriptLemmas.{cursor-append, AreGiven-append}
 use Rattle.winnow_run.proofs.searching.search_steps.Goals as goal
 
@@ -20,6 +22,10 @@ loop-step-init g c =
       split = refl;
       origin = c.new-origin.ensures.valid;
       base = base;
+      placed = (
+        c.new-origin.ensures.located ∙ behind-none _ _ base,
+        behind-none _ (c.new-origin.result.end - width (g.S.Stream.remaining c.args.s.now)) (omega (arith, end)),
+      );
       stands = record {
         widths = g.met.S.Stream.has_widths _ c.requires.valid;
         rest = refl;
@@ -53,6 +59,7 @@ loop-step-preserved g c =
       valid = c.search_step.ensures.valid;
       origin = i.origin;
       base = i.base;
+      placed = c.search_step.ensures.place _ i.placed;
       kept = g.met.S.Stream.keeps_transitive _ _ _ i.kept c.search_step.ensures.kept;
       ready = All-tail (IsSearchReady g.C.ScriptSet.can_hold) c.in-Some.step.now c.in-Some.later.now (subst (All (IsSearchReady g.C.ScriptSet.can_hold)) e i.ready);
       done = i.done ++ c.in-Some.step.now ∷ [];
@@ -74,3 +81,8 @@ returns-clause-remains g c =
     let i = c.loop-step.invariant in
     let e : c.args.script.now ≡ i.done = i.split ∙ ap (λ xs. i.done ++ xs) (nil_from_length _ c.in_default.ensures.cases) ∙ append-nil i.done in
     rw e i.stands.rest
+
+pub returns-clause-place : goal.returns-clause-place
+returns-clause-place g c =
+    let i = c.loop-step.invariant in
+    i.placed.1 ∙ ap (λ n. place_behind (g.S.Rest.place c.args.s.now) (n - width (g.S.Stream.remaining c.loop-step.s))) i.stands.end
