@@ -20,12 +20,13 @@ pub use winnow_run::{
     run_and_reset, run_search,
 };
 pub use winnow_sets::{
-    AsChar, CharSet, ContainsToken, Where, union_law, union_of_four_law, union_of_three_law,
+    AsChar, CharSet, ContainsToken, FixedSet, Where, union_law, union_of_four_law,
+    union_of_three_law,
 };
 pub use winnow_stream::{
     AsBStr, AsBytes, Checkpoint, Location, Needed, NoSet, Offset, Rest, ScriptSet, SliceLen,
     SliceOffsets, Str, Stream, StreamIsPartial, UpdateSlice, checkpoint_equality_law, first_law,
-    front_law, offset_law, shortage_law, slice_law, span_law, taken_law, text_slice_law,
+    front_law, held_law, offset_law, shortage_law, slice_law, span_law, taken_law, text_slice_law,
 };
 pub use winnow_views::{PreviousTokens, TokenOffsets, TokenSlice, TokenView, token_equality_law};
 pub use winnow_wrap::{LocatingSlice, Partial, Placed, Stateful};

@@ -1,13 +1,17 @@
 //! Sets of tokens: which bytes or characters a parser accepts.
 //!
 //! [`AsChar`] gives a token's character: a byte stands for the character of its number. [`ContainsToken`] is what every set
-//! meets: characters, ranges, slices and arrays, [`CharSet`], closures under [`Where`], and tuples, which are unions.
+//! meets: characters, ranges, slices and arrays, [`CharSet`], closures under [`Where`], and tuples, which are unions. All but
+//! closures are [`FixedSet`]s, of which generic code knows what they hold.
 #![tactic(auto)]
 
 mod as_char;
 mod char_set;
 mod closures;
 mod contains_token;
+mod fixed_ranges;
+mod fixed_set;
+mod fixed_unions;
 mod laws;
 mod members;
 mod ranges;
@@ -17,4 +21,5 @@ pub use as_char::AsChar;
 pub use char_set::CharSet;
 pub use closures::Where;
 pub use contains_token::ContainsToken;
+pub use fixed_set::FixedSet;
 pub use laws::{union_law, union_of_four_law, union_of_three_law};

@@ -1,5 +1,6 @@
 pub mod FrontLemmas
 pub mod FusedLemmas
+pub mod HeldLemmas
 pub mod IndexLemmas
 pub mod MissingLemmas
 pub mod OffsetLemmas

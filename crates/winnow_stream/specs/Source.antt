@@ -62,3 +62,13 @@ FindsFirst answers r (Some w) = AcceptsFirst answers r w
 -- whatever a closure or a set answers of a token, it is what `holds` says
 abbrev pub Computes : {T : Type 0} → (T → Bool → Type 0) → (T → Bool) → Type 0
 Computes {T} answers holds = (x : T) (b : Bool) → answers x b → b ≡ holds x
+
+-- the tokens up to the first that a set does not hold
+abbrev pub held_front : {T : Type 0} → (T → Bool) → Source T → Source T
+held_front holds [] = []
+held_front holds (x ∷ xs) = cond (holds x.0) (x ∷ held_front holds xs) []
+
+-- a set holds each token
+abbrev pub HoldsAll : {T : Type 0} → (T → Bool) → Source T → Type 0
+HoldsAll holds [] = ⊤
+HoldsAll holds (x ∷ xs) = (holds x.0 ≡ true) × HoldsAll holds xs

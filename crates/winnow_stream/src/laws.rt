@@ -1,12 +1,12 @@
-ghost use Rattle.std.specs.Prelude.{◌≡◌, ℕ, ◌++◌, ◌+◌, ◌-◌, ◌≤◌, ◌<◌, ◌↔◌, Bool, true, List, []};
-ghost use Rattle.std.specs.Prelude.{Ok, Err, Some, None, IfOk, IsOk, IsTrue, length, take, drop};
+ghost use Rattle.std.specs.Prelude.{◌≡◌, ℕ, ◌++◌, ◌+◌, ◌-◌, ◌≤◌, ◌<◌, ◌↔◌, Bool, true, false, List, []};
+ghost use Rattle.std.specs.Prelude.{Ok, Err, Some, None, IfOk, IsOk, IsTrue, not, unwrap_or, length, take, drop};
 ghost use Rattle.std.specs.Borrow.{Bor};
 ghost use Rattle.std.specs.Cmp.Lexicographic.{pointwise, slice_cmp};
 ghost use Rattle.std.specs.Ordering.{nat_cmp};
 ghost use Rattle.winnow_stream.specs.Checkpoint.{checkpoint_inner};
 ghost use Rattle.winnow_stream.specs.declared.checkpoint.Checkpoint.{Checkpoint};
-ghost use Rattle.winnow_stream.specs.Source.{Source, units, width, HasWidths, first_offset};
-ghost use Rattle.winnow_stream.specs.Source.{FindsFirst};
+ghost use Rattle.winnow_stream.specs.Source.{Source, units, width, HasWidths, first_token, first_offset};
+ghost use Rattle.winnow_stream.specs.Source.{FindsFirst, held_front, HoldsAll};
 ghost use Rattle.winnow_stream.specs.Front.{HasFront, is_offset, front, back};
 ghost use Rattle.winnow_stream.specs.Place.{place_behind, TellsPlace};
 ghost use Rattle.winnow_stream.specs.Shortage.{needed, offset_at};
@@ -63,6 +63,21 @@ pub fn taken_law<T>()
 /// where none is held. It does nothing when called: its contract is the law.
 pub fn first_law<T>()
     ensures { (holds : T → Bool) (r : Source T) → FindsFirst (λ x b. holds x ≡ b) r (first_offset holds r) }
+{}
+
+/// The law of a front of tokens that are held: the offset of the first token that is not held, or else the whole width, is the width of
+/// the tokens up to there. It is an offset, all of them are held, and the token behind them, if there is one, is not. It does nothing
+/// when called: its contract is the law.
+pub fn held_law<T>()
+    ensures width { (holds : T → Bool) (r : Source T)
+        → unwrap_or (first_offset (λ x. not (holds x)) r) (width r) ≡ width (held_front holds r) }
+    ensures offset { (holds : T → Bool) (r : Source T) → HasWidths r → IsTrue (is_offset r (width (held_front holds r))) }
+    ensures front { (holds : T → Bool) (r : Source T) → take (length (held_front holds r)) r ≡ held_front holds r }
+    ensures back { (holds : T → Bool) (r : Source T) → HasWidths r
+        → back r (width (held_front holds r)) ≡ drop (length (held_front holds r)) r }
+    ensures held { (holds : T → Bool) (r : Source T) → HoldsAll holds (held_front holds r) }
+    ensures next { (holds : T → Bool) (r : Source T) (x : T)
+        → first_token (drop (length (held_front holds r)) r) ≡ Some x → holds x ≡ false }
 {}
 
 /// The law of spans: where a stream's location is its place, the location behind a width is the location before it and that width. It

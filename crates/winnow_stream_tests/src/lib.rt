@@ -5,6 +5,8 @@
 #[cfg(test)]
 mod fields;
 #[cfg(test)]
+mod held;
+#[cfg(test)]
 mod listed;
 #[cfg(test)]
 mod literals;

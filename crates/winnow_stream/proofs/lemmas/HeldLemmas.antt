@@ -1,0 +1,55 @@
+-- The tokens up to the first that a set does not hold.
+use Rattle.std.proofs.Common.{◌≡◌, ℕ, suc, ◌+◌, ◌≤◌, Bool, true, false, cond, List, [], ◌∷◌, length, take, drop, Option, Some, None, refl, ap, sym, ◌∙◌, arith}
+use Rattle.std.specs.Prelude.{not, unwrap_or}
+use Rattle.std.proofs.lemmas.Option.{none-some, same_Some}
+use Rattle.winnow_stream.specs.Source.{width, HasWidths, first_token, first_held, offsets_from, held_front, HoldsAll}
+use Rattle.winnow_stream.specs.Front.{is_offset, back}
+use Rattle.winnow_stream.proofs.lemmas.FrontLemmas.{is_offset-HasFront, back-place}
+
+module _ {A : Type 0} (holds : A → Bool) where
+  -- one token, by whether it is held
+  width-step : (b : Bool) (x : A × ℕ) (front : List (A × ℕ)) (n w : ℕ) (later : Option ℕ) → unwrap_or later (n + x.1 + w) ≡ n + x.1 + width front → unwrap_or (cond (not b) (Some n) later) (n + (x.1 + w)) ≡ n + width (cond b (x ∷ front) [])
+  width-step true x front n w later e = let a : n + (x.1 + w) ≡ n + x.1 + w = omega arith in let c : n + x.1 + width front ≡ n + (x.1 + width front) = omega arith in ap (unwrap_or later) a ∙ e ∙ c
+  width-step false x front n w later e = omega arith
+
+  pub width-held_front : (n : ℕ) (r : List (A × ℕ)) → unwrap_or (first_held (λ x. not (holds x)) (offsets_from n r)) (n + width r) ≡ n + width (held_front holds r)
+  width-held_front n [] = refl
+  width-held_front n (x ∷ xs) = width-step (holds x.0) x (held_front holds xs) n (width xs) _ (width-held_front (n + x.1) xs)
+
+  held-step : (b : Bool) (x : A × ℕ) (front : List (A × ℕ)) → holds x.0 ≡ b → HoldsAll holds front → HoldsAll holds (cond b (x ∷ front) [])
+  held-step true x front e h = (e, h)
+  held-step false x front e h = tt
+
+  pub HoldsAll-held_front : (r : List (A × ℕ)) → HoldsAll holds (held_front holds r)
+  HoldsAll-held_front [] = tt
+  HoldsAll-held_front (x ∷ xs) = held-step (holds x.0) x (held_front holds xs) refl (HoldsAll-held_front xs)
+
+  next-step : (b : Bool) (x : A × ℕ) (xs front : List (A × ℕ)) (y : A) → holds x.0 ≡ b → (first_token (drop (length front) xs) ≡ Some y → holds y ≡ false) → first_token (drop (length (cond b (x ∷ front) [])) (x ∷ xs)) ≡ Some y → holds y ≡ false
+  next-step true x xs front y e later h = later h
+  next-step false x xs front y e later h = ap holds (sym (same_Some _ _ h)) ∙ e
+
+  pub next-held_front : (r : List (A × ℕ)) (y : A) → first_token (drop (length (held_front holds r)) r) ≡ Some y → holds y ≡ false
+  next-held_front [] y h = absurd (none-some _ h)
+  next-held_front (x ∷ xs) y h = next-step (holds x.0) x xs (held_front holds xs) y refl (next-held_front xs y) h
+
+  take-step : (b : Bool) (x : A × ℕ) (xs front : List (A × ℕ)) → take (length front) xs ≡ front → take (length (cond b (x ∷ front) [])) (x ∷ xs) ≡ cond b (x ∷ front) []
+  take-step true x xs front e = ap (λ t. x ∷ t) e
+  take-step false x xs front e = refl
+
+  pub take-held_front : (r : List (A × ℕ)) → take (length (held_front holds r)) r ≡ held_front holds r
+  take-held_front [] = refl
+  take-held_front (x ∷ xs) = take-step (holds x.0) x xs (held_front holds xs) (take-held_front xs)
+
+  length-step : (b : Bool) (x : A × ℕ) (xs front : List (A × ℕ)) → length front ≤ length xs → length (cond b (x ∷ front) []) ≤ length (x ∷ xs)
+  length-step true x xs front l = omega (arith, l)
+  length-step false x xs front l = omega arith
+
+  length-held_front : (r : List (A × ℕ)) → length (held_front holds r) ≤ length r
+  length-held_front [] = omega arith
+  length-held_front (x ∷ xs) = length-step (holds x.0) x xs (held_front holds xs) (length-held_front xs)
+
+  pub is_offset-held_front : (r : List (A × ℕ)) → HasWidths r → is_offset r (width (held_front holds r)) ≡ true
+  is_offset-held_front r h = is_offset-HasFront r _ h (length (held_front holds r), (length-held_front r, ap width (take-held_front r)))
+
+  pub back-held_front : (r : List (A × ℕ)) → HasWidths r → back r (width (held_front holds r)) ≡ drop (length (held_front holds r)) r
+  back-held_front r h = ap (λ t. back r (width t)) (sym (take-held_front r)) ∙ back-place r (length (held_front holds r)) h (length-held_front r)
