@@ -3,7 +3,7 @@ use Rattle.std.proofs.Common.{◌≡◌, ◌<◌, ℕ, List, [], ◌++◌, lengt
 use Rattle.std.proofs.lemmas.List.{nil_from_length}
 use Rattle.std.proofs.lemmas.Str.{utf8_valid_len-IsValidUpTo, utf8_valid_len-IsUtf8, utf8_lossy_chunk, utf8_lossy_last_chunk}
 use Rattle.std.specs.Str.{IsValidUpTo}
-use Rattle.std.specs.Str.Lossy.{utf8_lossy, utf8_valid_len, utf8_invalid_len, replacement_bytes}
+use Rattle.std.specs.Str.Lossy.{utf8_lossy, utf8_valid_len, replacement_bytes}
 use Rattle.bstr.specs.Utf8.{decoded}
 use Rattle.bstr.proofs.lemmas.LossyLemmas.{utf8_invalid_len-decoded}
 use Rattle.bstr.proofs.lemmas.UnicodeLemmas.{none_after_valid}

@@ -4,7 +4,7 @@ use Rattle.std.proofs.lemmas.Bool.{cases_lt}
 use Rattle.std.proofs.lemmas.Bool.Decides.{nat_tests}
 use Rattle.std.proofs.lemmas.List.{take_more, flat_map_more}
 use Rattle.std.proofs.lemmas.List.Folds.{list_all_at}
-use Rattle.std.specs.Fmt.{IsDefaultSpec, WritesOnOk, WritesStyledOnOk, HasWrittenStyled}
+use Rattle.std.specs.Fmt.{IsDefaultSpec, WritesOnOk, WritesStyledOnOk}
 use Rattle.std.specs.List.{flat_map}
 use Rattle.std.specs.Prelude.{Result}
 use Rattle.std.specs.declared.fmt.Error.{Error}

@@ -1,4 +1,4 @@
-use Rattle.std.proofs.Common.{◌≡◌, ◌<◌, get_or, refl, sym, ap, subst, ◌∙◌, rules}
+use Rattle.std.proofs.Common.{◌≡◌, ◌<◌, get_or, refl, sym, ap, subst, rules}
 use Rattle.std.proofs.Output.{has_written_styled_append, has_written_styled_of_eq}
 use Rattle.winnow_kinds.specs.Escapes.{escape}
 use Rattle.winnow_kinds.proofs.lemmas.WriteLemmas.{flat_map-more, is_ascii-byte}

@@ -1,4 +1,4 @@
-use Rattle.std.proofs.Common.{false, refl, sym, arith, rules}
+use Rattle.std.proofs.Common.{false, refl, sym, rules}
 use Rattle.std.proofs.Output.{has_written_styled_append, has_written_styled_of_eq}
 use Rattle.std.proofs.lemmas.Fmt.{hex_one_digit, hex_two_digits}
 use Rattle.winnow_kinds.proofs.lemmas.WriteLemmas.{WritesOnOk-from_styled}
