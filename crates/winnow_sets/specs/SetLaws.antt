@@ -1,6 +1,6 @@
 -- What a union answers where each of its sets answers one thing.
 use Rattle.std.specs.Prelude.{Bool, true, false, ◌||◌}
-use Rattle.std.proofs.Common.{ap, ap₂, sym, inl, inr}
+use Rattle.std.proofs.Common.{ap₂, sym, inl, inr}
 use Rattle.std.proofs.lemmas.Bool.{or_left, or_right}
 use Rattle.winnow_sets.specs.Sets.{◌∪◌, AnswersOnly}
 

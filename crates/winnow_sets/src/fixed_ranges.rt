@@ -8,14 +8,16 @@ use std::ops::{Range, RangeFrom, RangeFull, RangeInclusive, RangeTo, RangeToIncl
 
 /// The characters from the first bound up to the second, which is not held.
 impl<T: AsChar, B: AsChar + Copy> FixedSet<T> for Range<B> {
-    ghost holds = { λ range token. is_between (B.code range.start) (B.code range.end) (T.code token) };
+    ghost holds = { λ range token. is_between (B.code range.start) (B.code range.end)
+        (T.code token) };
 
     ghost answers_only = { λ _ _ _ e. e };
 }
 
 /// The characters from the first bound up to the second, both held.
 impl<T: AsChar, B: AsChar + Copy> FixedSet<T> for RangeInclusive<B> {
-    ghost holds = { λ range token. is_in_range (B.code (range_inclusive_start range)) (B.code (range_inclusive_end range)) (T.code token) };
+    ghost holds = { λ range token. is_in_range (B.code (range_inclusive_start range))
+        (B.code (range_inclusive_end range)) (T.code token) };
 
     ghost answers_only = { λ _ _ _ e. e };
 }

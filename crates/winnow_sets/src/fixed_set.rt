@@ -20,7 +20,8 @@ pub trait FixedSet<T>: ContainsToken<T> {
     }
 
     // It answers nothing else.
-    ghost answers_only: { (set : Self) (token : T) → AnswersOnly (Self.tells set token) (holds set token) };
+    ghost answers_only: { (set : Self) (token : T)
+        → AnswersOnly (Self.tells set token) (holds set token) };
 }
 
 /// The one byte.

@@ -71,8 +71,10 @@ pub fn first_law<T>()
 pub fn held_law<T>()
     ensures width { (holds : T → Bool) (r : Source T)
         → unwrap_or (first_offset (λ x. not (holds x)) r) (width r) ≡ width (held_front holds r) }
-    ensures offset { (holds : T → Bool) (r : Source T) → HasWidths r → IsTrue (is_offset r (width (held_front holds r))) }
-    ensures front { (holds : T → Bool) (r : Source T) → take (length (held_front holds r)) r ≡ held_front holds r }
+    ensures offset { (holds : T → Bool) (r : Source T) → HasWidths r
+        → IsTrue (is_offset r (width (held_front holds r))) }
+    ensures front { (holds : T → Bool) (r : Source T)
+        → take (length (held_front holds r)) r ≡ held_front holds r }
     ensures back { (holds : T → Bool) (r : Source T) → HasWidths r
         → back r (width (held_front holds r)) ≡ drop (length (held_front holds r)) r }
     ensures held { (holds : T → Bool) (r : Source T) → HoldsAll holds (held_front holds r) }

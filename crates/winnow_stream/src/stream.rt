@@ -82,7 +82,8 @@ pub trait Stream: Rest + Debug {
         requires { valid self.old }
         ensures answer { result ≡ first_token (remaining self.old) }
         ensures remains { remaining self.new ≡ drop 1 (remaining self.old) }
-        ensures place { Self.place self.new ≡ place_behind (Self.place self.old) (width (take 1 (remaining self.old))) }
+        ensures place { Self.place self.new
+            ≡ place_behind (Self.place self.old) (width (take 1 (remaining self.old))) }
         ensures valid { valid self.new }
         ensures kept { keeps self.old self.new };
 
@@ -144,7 +145,8 @@ pub trait Stream: Rest + Debug {
         requires { valid self.old }
         ensures answer { is_slice result (remaining self.old) (width (remaining self.old)) }
         ensures remains { remaining self.new ≡ [] }
-        ensures place { Self.place self.new ≡ place_behind (Self.place self.old) (width (remaining self.old)) }
+        ensures place { Self.place self.new
+            ≡ place_behind (Self.place self.old) (width (remaining self.old)) }
         ensures valid { valid self.new }
         ensures kept { keeps self.old self.new }
     {
@@ -191,7 +193,8 @@ pub trait Stream: Rest + Debug {
     // Each token that remains of a valid value has a width of at least 1, and each that remained at a valid checkpoint.
     ghost has_widths: { (s : Self) → valid s → HasWidths (remaining s) };
 
-    ghost has_widths_remained: { (c : Self.Checkpoint) → valid_checkpoint c → HasWidths (remained c) };
+    ghost has_widths_remained: { (c : Self.Checkpoint) → valid_checkpoint c
+        → HasWidths (remained c) };
 
     // What `Rest` says of a valid value, and of its checkpoints, is the width of the list.
     ghost rest_width_remaining: { (s : Self) → valid s → Self.rest_width s ≡ width (remaining s) };

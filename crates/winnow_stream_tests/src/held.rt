@@ -10,8 +10,10 @@ pub fn take_while<S: Stream, C: FixedSet<S::Token>>(input: &mut S, set: &C) -> S
     ensures slice { S.is_slice result (S.remaining input.old)
         (width (held_front (C.holds set.now) (S.remaining input.old))) }
     ensures behind { S.remaining input.new
-        ≡ drop (length (held_front (C.holds set.now) (S.remaining input.old))) (S.remaining input.old) }
-    ensures held { HoldsAll (C.holds set.now) (held_front (C.holds set.now) (S.remaining input.old)) }
+        ≡ drop (length (held_front (C.holds set.now) (S.remaining input.old)))
+        (S.remaining input.old) }
+    ensures held { HoldsAll (C.holds set.now)
+        (held_front (C.holds set.now) (S.remaining input.old)) }
     ensures next { (token : S.Token) → first_token (S.remaining input.new) ≡ Some token
         → C.holds set.now token ≡ false }
     ensures valid { S.valid input.new }

@@ -115,7 +115,8 @@ impl<I: Stream<Token = u8>> Stream for Bits<I> {
 
     ghost has_widths = { λ s _. HasWidths-bits_from (I.remaining s.input) s.place };
 
-    ghost has_widths_remained = { λ c _. HasWidths-bits_from (I.remained (checkpoint_inner c).bytes) (checkpoint_inner c).place };
+    ghost has_widths_remained = { λ c _. let b = checkpoint_inner c in
+        HasWidths-bits_from (I.remained b.bytes) b.place };
 
     ghost rest_width_remaining = { λ s v. rest_width-bits_from (I.remaining s.input) s.place (I.rest_width s.input) v.1.units (I.rest_width_remaining s.input v.0) };
 
@@ -185,7 +186,8 @@ impl<I: Stream<Token = u8>> Stream for Bits<I> {
             ≡ back (I.remaining (bits_input self.old)) ((offset + bits_place self.old) / 8) }
         ensures answer { IsBitSlice I.is_slice result (bits_remaining I.remaining self.old) offset }
         ensures remains { bits_remaining I.remaining self.new ≡ back (bits_remaining I.remaining self.old) offset }
-        ensures whole { whole_place I.place self.new ≡ place_behind (whole_place I.place self.old) offset }
+        ensures whole { whole_place I.place self.new
+            ≡ place_behind (whole_place I.place self.old) offset }
         ensures valid { IsValidBits I.valid I.remaining self.new }
         ensures kept { I.keeps (bits_input self.old) (bits_input self.new) }
     {
@@ -235,7 +237,8 @@ impl<I: Stream<Token = u8>> Stream for Bits<I> {
         ensures bytes { I.remained (bytes_at result) ≡ I.remaining (bits_input self.now) }
         ensures place { place_at result ≡ bits_place self.now }
         ensures means { bits_remained I.remained (checkpoint_inner result) ≡ bits_remaining I.remaining self.now }
-        ensures whole { whole_place_at I.Checkpoint.place (checkpoint_inner result) ≡ whole_place I.place self.now }
+        ensures whole { whole_place_at I.Checkpoint.place (checkpoint_inner result)
+            ≡ whole_place I.place self.now }
         ensures valid { IsValidPlace I.valid_checkpoint I.remained (checkpoint_inner result) }
     {
         Checkpoint::new(BitPlace {
