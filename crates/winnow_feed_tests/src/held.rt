@@ -60,6 +60,22 @@ fn a_mark_that_no_step_names_is_not(rt: HostRuntime) -> Result<(), Fail> {
 }
 
 #[test]
+fn a_mark_is_dropped_once_it_was_gone_back_to(rt: HostRuntime) -> Result<(), Fail> {
+    let script: [ByteStep; 6] = [
+        SearchStep::Call(Mark),
+        SearchStep::Call(Next),
+        SearchStep::Call(Next),
+        SearchStep::Call(Reset(0)),
+        SearchStep::Call(Next),
+        SearchStep::Call(Finish),
+    ];
+    let mut feed = ByteFeed::new(rt.alloc(), &script)?;
+    let line = fed(rt.alloc(), &mut feed, &[b"a", b"b", b"c"])?;
+    assert_eq!(rt; line.as_str(), "0; 2 1 3; 3 1 7; 0 2 8");
+    Ok(())
+}
+
+#[test]
 fn a_waiting_step_is_attempted_once_a_piece(rt: HostRuntime) -> Result<(), Fail> {
     let script: [ByteStep; 4] = [
         SearchStep::Call(Next),

@@ -1,0 +1,137 @@
+use std::alloc::{AllocError, Global};
+use std::fmt::Debug;
+use std::test::Fail;
+use winnow_base::stream::Step::{At, Finish, First, Mark, Reset, Since, Take};
+use winnow_base::stream::{ByteFeed, CharSet, Finished, Needles, SearchStep, TextFeed};
+
+// All answers, and then the final place.
+fn answers_of<T: Debug>(alloc: Global, finished: &Finished<T>) -> Result<String, AllocError> {
+    let mut line = String::new(alloc);
+    for told in finished.answers() {
+        let answer = &told.answer;
+        line = format!(in alloc; "{line}{answer:?}; ")?;
+    }
+    format!(in alloc; "{line}at {}", finished.cursor())
+}
+
+// A place has to fit: no piece here is long.
+fn feed_bytes(feed: &mut ByteFeed, piece: &[u8]) -> Result<(), AllocError> {
+    if feed.fed() < 1_000 && piece.len() < 1_000 {
+        feed.feed(piece)?;
+    }
+    Ok(())
+}
+
+fn feed_text(feed: &mut TextFeed, piece: &str) -> Result<(), AllocError> {
+    if feed.fed() < 1_000 && piece.len() < 1_000 {
+        feed.feed(piece)?;
+    }
+    Ok(())
+}
+
+// Cuts the bytes behind the first, second and so on where the bits of `cut` say so, from the lowest on; with an empty piece before
+// every piece, or without.
+fn feed_cut(
+    feed: &mut ByteFeed,
+    bytes: &[u8],
+    cut: u32,
+    with_empty: bool,
+) -> Result<(), AllocError> {
+    let mut cuts_left = cut;
+    let mut start = 0;
+    for place in 1..=bytes.len() {
+        if place == bytes.len() || cuts_left % 2 == 1 {
+            if with_empty {
+                feed_bytes(feed, b"")?;
+            }
+            feed_bytes(feed, bytes.get(start..place).unwrap_or(b""))?;
+            start = place;
+        }
+        cuts_left /= 2;
+    }
+    Ok(())
+}
+
+// The same between characters.
+fn feed_text_cut(
+    feed: &mut TextFeed,
+    text: &str,
+    cut: u32,
+    with_empty: bool,
+) -> Result<(), AllocError> {
+    let mut cuts_left = cut;
+    let mut start = 0;
+    let mut place: usize = 0;
+    for c in text.chars() {
+        place = place.saturating_add(c.len_utf8());
+        if place == text.len() || cuts_left % 2 == 1 {
+            if with_empty {
+                feed_text(feed, "")?;
+            }
+            feed_text(feed, text.get(start..place).unwrap_or(""))?;
+            start = place;
+        }
+        cuts_left /= 2;
+    }
+    Ok(())
+}
+
+#[test]
+fn bytes_answer_the_same_however_they_are_cut(rt: HostRuntime) -> Result<(), Fail> {
+    let d = [('d', 'd')];
+    let script: [SearchStep<CharSet, &[u8]>; 12] = [
+        SearchStep::Call(Mark),
+        SearchStep::Call(Take(2)),
+        SearchStep::Call(Mark),
+        SearchStep::Compare(b"c"),
+        SearchStep::Find(Needles::One(b"abd")),
+        SearchStep::Call(Reset(0)),
+        SearchStep::Find(Needles::Three(b"bca", b"bc", b"d")),
+        SearchStep::Call(Reset(1)),
+        SearchStep::Call(Since(0)),
+        SearchStep::Call(First(CharSet::new(&d))),
+        SearchStep::Call(At(3)),
+        SearchStep::Call(Finish),
+    ];
+    for case in 0..64 {
+        let mut feed = ByteFeed::new(rt.alloc(), &script)?;
+        feed_cut(&mut feed, b"abcabd", case / 2, case % 2 == 1)?;
+        assert_eq!(rt;
+            answers_of(rt.alloc(), &feed.end())?.as_str(),
+            "Call(Marked(0)); Call(Slice(0..2)); Call(Marked(1)); Compared(Ok(1)); Hit(Some(1..4)); Call(Done); Hit(Some(1..4)); \
+             Call(Done); Call(Offset(2)); Call(First(Some(3))); Call(At(Ok(3))); Call(Slice(2..6)); at 6",
+            "{case}"
+        );
+    }
+    Ok(())
+}
+
+#[test]
+fn text_answers_the_same_however_it_is_cut(rt: HostRuntime) -> Result<(), Fail> {
+    let digits = [('0', '9')];
+    let script: [SearchStep<CharSet, &str>; 12] = [
+        SearchStep::Call(Mark),
+        SearchStep::Call(Take(1)),
+        SearchStep::Call(Mark),
+        SearchStep::Compare("é"),
+        SearchStep::Find(Needles::One("ß")),
+        SearchStep::Call(Reset(0)),
+        SearchStep::Find(Needles::Three("é1", "1", "ß")),
+        SearchStep::Call(Reset(1)),
+        SearchStep::Call(Since(0)),
+        SearchStep::Call(First(CharSet::new(&digits))),
+        SearchStep::Call(At(2)),
+        SearchStep::Call(Finish),
+    ];
+    for case in 0..16 {
+        let mut feed = TextFeed::new(rt.alloc(), &script)?;
+        feed_text_cut(&mut feed, "aé1ß", case / 2, case % 2 == 1)?;
+        assert_eq!(rt;
+            answers_of(rt.alloc(), &feed.end())?.as_str(),
+            "Call(Marked(0)); Call(Slice(0..1)); Call(Marked(1)); Compared(Ok(2)); Hit(Some(3..5)); Call(Done); Hit(Some(1..4)); \
+             Call(Done); Call(Offset(1)); Call(First(Some(2))); Call(At(Ok(3))); Call(Slice(1..6)); at 6",
+            "{case}"
+        );
+    }
+    Ok(())
+}
