@@ -128,7 +128,18 @@ pub fn piece_rows(pieces: &Pieces) -> Vec<Row<'_>> {
     let on = On { name: "bytes", input, units: pieces.pieces * PIECE, calls: 1 };
     let name = format!("lines, {} in pieces of 64 KB, scripts of 1,000", size(pieces.pieces * PIECE));
     rows.push(on.row(&name, pieces.pieces as u64, ours::feed_lines, theirs::feed_lines).fed());
+    rows.push(whole_lines_row(pieces));
     rows
+}
+
+// The script of a thousand lines over those lines, as often as they are many.
+fn whole_lines_row(pieces: &Pieces) -> Row<'_> {
+    let lines = &pieces.lines[..LINE * LINES];
+    let rounds = pieces.pieces * PIECE / lines.len();
+    let input = (lines, b"\n".as_slice(), pieces.line_script.as_slice());
+    let on = On { name: "bytes", input, units: rounds * lines.len(), calls: 1 };
+    let name = format!("lines, {}, each 1,000 whole", size(rounds * lines.len()));
+    on.row(&name, rounds as u64, our_searches::run_search, their_search_runs::run_rounds).fed()
 }
 
 // One script over the whole, and in pieces.
