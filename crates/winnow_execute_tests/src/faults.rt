@@ -26,6 +26,7 @@ fn first_faulty_line(rt: HostRuntime) -> Result<(), Fail> {
             ("no line of a kind", b"next\nbytes\ninput 61\n", 1),
             ("an unknown kind", b"words\ninput 61\n", 1),
             ("a kind in capitals", b"Bytes\ninput 61\n", 1),
+            ("a kind that is not UTF-8", b"\xff\ninput 61\n", 1),
             ("no step and no input", b"bytes", 2),
             ("no input", b"bytes\nnext\n", 3),
             ("an unknown step", b"bytes\nnext\nfly\ninput 61\n", 3),

@@ -7,6 +7,8 @@ mod answers;
 #[cfg(test)]
 mod faults;
 #[cfg(test)]
+mod long_scripts;
+#[cfg(test)]
 mod refusals;
 #[cfg(test)]
 mod words;
