@@ -1,5 +1,6 @@
 use std::fmt::{Debug, Display};
 use std::hash::Hash;
+use std::ops::{Range, RangeFrom, RangeFull, RangeInclusive, RangeTo, RangeToInclusive};
 use winnow_bytes::Bytes;
 use winnow_context::{ContextError, StrContext, StrContextValue};
 use winnow_error::{
@@ -10,8 +11,9 @@ use winnow_kinds::BStr;
 use winnow_match::{Compare, CompareResult, FindSlice, Needles};
 use winnow_recover::{RecordError, Recover, Recoverable};
 use winnow_run::{Answer, Step};
+use winnow_sets::{AsChar, CharSet, ContainsToken, FixedSet, Where};
 use winnow_stream::{
-    AsBStr, AsBytes, Location, Needed, NoSet, Offset, SliceLen, Stream, StreamIsPartial,
+    AsBStr, AsBytes, Location, Needed, NoSet, Offset, ScriptSet, SliceLen, Stream, StreamIsPartial,
     UpdateSlice,
 };
 use winnow_views::{Bits, TokenSlice};
@@ -112,6 +114,51 @@ fn wrappers_are_searched_for<I: FindSlice<T>, T>() {
 
 fn compares_a_token<S: Compare<u8>>() {}
 
+fn is_character<T: AsChar>() {}
+
+fn is_fixed<S: FixedSet<T>, T>() {}
+
+// A set of characters may be asked of tokens of each kind.
+fn is_set_of_characters<S>()
+where
+    S: FixedSet<u8> + FixedSet<&'static u8> + FixedSet<char> + FixedSet<&'static char>,
+{}
+
+// A range is a set of characters, whatever kind its ends are of.
+fn ranges_are_sets<B: AsChar + Copy>() {
+    is_set_of_characters::<Range<B>>();
+    is_set_of_characters::<RangeInclusive<B>>();
+    is_set_of_characters::<RangeFrom<B>>();
+    is_set_of_characters::<RangeTo<B>>();
+    is_set_of_characters::<RangeToInclusive<B>>();
+}
+
+// A tuple of sets is one, from what each set is alone.
+fn unions_are_sets<A: FixedSet<T>, T: Copy>() {
+    is_fixed::<(A,), T>();
+    is_fixed::<(A, A), T>();
+    is_fixed::<(A, A, A), T>();
+    is_fixed::<(A, A, A, A), T>();
+    is_fixed::<(A, A, A, A, A), T>();
+    is_fixed::<(A, A, A, A, A, A), T>();
+    is_fixed::<(A, A, A, A, A, A, A), T>();
+    is_fixed::<(A, A, A, A, A, A, A, A), T>();
+    is_fixed::<(A, A, A, A, A, A, A, A, A), T>();
+    is_fixed::<(A, A, A, A, A, A, A, A, A, A), T>();
+}
+
+fn is_set<S: ContainsToken<T>, T>() {}
+
+fn is_script_set<S: ScriptSet<T>, T>() {}
+
+// A closure is a set of what it is called with, which a script can name; nothing is fixed of it.
+fn closures_are_sets<F: Fn(u8) -> bool + Copy>(_: F) {
+    is_set::<Where<F>, u8>();
+    is_set::<(Where<F>, u8), u8>();
+    is_script_set::<Where<F>, u8>();
+    is_copied::<Where<F>>();
+}
+
 fn is_error<I: Stream, E>()
 where
     E: ParserError<I> + AssociativeOr<I> + AddContext<I, StrContext>,
@@ -202,6 +249,36 @@ fn literals_and_needles_are_those_of_the_bytes_or_the_text_inside() {
 }
 
 #[test]
+fn sets_are_asked_of_each_kind_of_token() {
+    is_character::<u8>();
+    is_character::<&'static u8>();
+    is_character::<char>();
+    is_character::<&'static char>();
+    is_set_of_characters::<u8>();
+    is_set_of_characters::<char>();
+    is_set_of_characters::<()>();
+    is_set_of_characters::<&'static [u8]>();
+    is_set_of_characters::<&'static [char]>();
+    is_set_of_characters::<[u8; 2]>();
+    is_set_of_characters::<[char; 2]>();
+    is_set_of_characters::<&'static [u8; 2]>();
+    is_set_of_characters::<&'static [char; 2]>();
+    is_set_of_characters::<CharSet<'static>>();
+    is_set_of_characters::<RangeFull>();
+    ranges_are_sets::<u8>();
+    ranges_are_sets::<char>();
+    unions_are_sets::<CharSet<'static>, char>();
+}
+
+#[test]
+fn sets_that_scripts_can_name() {
+    is_script_set::<CharSet<'static>, u8>();
+    is_script_set::<CharSet<'static>, char>();
+    is_script_set::<NoSet, u8>();
+    closures_are_sets(|token: u8| token < 3);
+}
+
+#[test]
 fn every_error_has_the_traits_of_errors() {
     is_error::<&'static str, InputError<&'static str>>();
     is_error::<&'static str, EmptyError>();
@@ -218,6 +295,7 @@ fn every_error_has_the_traits_of_errors() {
 #[test]
 fn values_derive_what_is_listed() {
     is_value::<Needed>();
+    is_value::<NoSet>();
     is_value::<EmptyError>();
     is_value::<BStr<'static>>();
     is_value::<Bytes<'static>>();
@@ -235,10 +313,12 @@ fn values_derive_what_is_listed() {
     is_compared::<RecordError<EmptyError>>();
     is_copied::<Step<NoSet>>();
     is_copied::<Needles<&'static str>>();
+    is_copied::<CharSet<'static>>();
     is_ordered::<BStr<'static>>();
     is_ordered::<Bytes<'static>>();
     is_ordered::<LocatingSlice<&'static str>>();
     is_ordered::<Partial<&'static str>>();
+    has_default::<NoSet>();
     has_default::<BStr<'static>>();
     has_default::<Bytes<'static>>();
     has_default::<TokenSlice<'static, u8>>();
