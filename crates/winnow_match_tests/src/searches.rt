@@ -103,16 +103,39 @@ fn literals_of_text(rt: HostRuntime) {
     }
 }
 
+// A search by the tuple of as many needles.
+fn finds_tuple<N, S>(s: S, needles: &Needles<N>) -> Option<Range<usize>>
+where
+    N: Copy,
+    S: FindSlice<(N,)> + FindSlice<(N, N)> + FindSlice<(N, N, N)> + Drop,
+    requires { S.valid s }
+{
+    match needles {
+        Needles::One(a) => finds(s, (*a,)),
+        Needles::Two(a, b) => finds(s, (*a, *b)),
+        Needles::Three(a, b, c) => finds(s, (*a, *b, *c)),
+    }
+}
+
+// The same search by `Needles` and by a tuple.
+fn both_ways<N, S>(s: S, needles: Needles<N>) -> [Option<Range<usize>>; 2]
+where
+    N: Copy,
+    S: FindSlice<Needles<N>> + FindSlice<(N,)> + FindSlice<(N, N)> + FindSlice<(N, N, N)> + Copy,
+    requires { S.valid s }
+{
+    [finds(s, needles), finds_tuple(s, &needles)]
+}
+
 // A search of a text, and of its bytes.
 fn is_found(rt: &impl Abort, input: &str, needles: Needles<&str>, want: Option<Range<usize>>) {
-    let bytes = match needles {
-        Needles::One(a) => Needles::One(a.as_bytes()),
-        Needles::Two(a, b) => Needles::Two(a.as_bytes(), b.as_bytes()),
-        Needles::Three(a, b, c) => Needles::Three(a.as_bytes(), b.as_bytes(), c.as_bytes()),
-    };
-    let found = [finds(input, needles), finds(input.as_bytes(), bytes)];
+    let in_text = both_ways(input, needles);
+    let in_bytes = both_ways(input.as_bytes(), needles.as_bytes());
     assert!(rt;
-        found.iter().all(|hit| *hit == want),
+        in_text
+            .iter()
+            .chain(in_bytes.iter())
+            .all(|hit| *hit == want),
         "{input}, {needles:?}"
     );
 }
@@ -266,9 +289,10 @@ fn what_could_move_a_hit(rt: HostRuntime) {
         (b"ab", Needles::One("b"), Some(None)),
     ];
     for (input, needles, want) in table {
+        let [hit, same_hit] = both_ways(input, needles.as_bytes());
         assert_eq!(rt;
-            moved_by(input, needles.as_bytes()),
-            want,
+            (moved_by(input, needles.as_bytes()), same_hit),
+            (want, hit),
             "{input:?} with {needles:?}"
         );
     }
