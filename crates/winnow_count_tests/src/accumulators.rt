@@ -112,3 +112,101 @@ fn maps_and_sets(rt: HostRuntime) -> Result<(), Fail> {
     );
     Ok(())
 }
+
+// Memory is there: none of these numbers of items is refused.
+const COUNTS: [usize; 3] = [0, 3, 20_000];
+
+// An accumulator that is given the same item so many times.
+fn gathered_often<A, T>(alloc: Global, item: T, count: usize) -> Result<A, AllocError>
+where
+    A: Accumulate<T> + Drop,
+    T: Copy + Drop,
+{
+    accumulate_all(alloc, vec![in alloc; item; count]?)
+}
+
+#[test]
+fn as_many_items_as_are_given(rt: HostRuntime) -> Result<(), Fail> {
+    let alloc = rt.alloc();
+    for count in COUNTS {
+        let number: usize = gathered_often(alloc, 'a', count)?;
+        let listed: Vec<u8> = gathered_often(alloc, 7, count)?;
+        let joined: Vec<u8> = gathered_often(alloc, [7].as_slice(), count)?;
+        let queue: VecDeque<u8> = gathered_often(alloc, [7].as_slice(), count)?;
+        let characters: String = gathered_often(alloc, 'a', count)?;
+        let texts: String = gathered_often(alloc, "a", count)?;
+        let cow: CowStr<'_, Global> = gathered_often(alloc, "a", count)?;
+        let cow_of_characters: CowStr<'_, Global> = gathered_often(alloc, 'a', count)?;
+        let counts = [
+            number,
+            listed.len(),
+            joined.len(),
+            queue.len(),
+            characters.len(),
+            texts.len(),
+            cow.as_str().len(),
+            cow_of_characters.as_str().len(),
+        ];
+        assert_eq!(rt; counts, [count; 8]);
+    }
+    Ok(())
+}
+
+fn letters(alloc: Global, count: usize) -> Result<Vec<String>, AllocError> {
+    let mut texts = Vec::new(alloc);
+    for _ in 0..count {
+        texts.push(owned(alloc, "a")?)?;
+    }
+    Ok(texts)
+}
+
+fn cows_of_letters(
+    alloc: Global,
+    count: usize,
+) -> Result<Vec<CowStr<'static, Global>>, AllocError> {
+    let mut cows = Vec::new(alloc);
+    for _ in 0..count {
+        cows.push(CowStr::Borrowed("a"))?;
+    }
+    Ok(cows)
+}
+
+#[test]
+fn as_many_owned_texts_as_are_given(rt: HostRuntime) -> Result<(), Fail> {
+    let alloc = rt.alloc();
+    for count in COUNTS {
+        let strings: String = accumulate_all(alloc, letters(alloc, count)?)?;
+        let cows: String = accumulate_all(alloc, cows_of_letters(alloc, count)?)?;
+        let cow_of_strings: CowStr<'_, Global> = accumulate_all(alloc, letters(alloc, count)?)?;
+        let cow_of_cows: CowStr<'_, Global> = accumulate_all(
+            alloc,
+            cows_of_letters(alloc, count)?,
+        )?;
+        let counts = [
+            strings.len(),
+            cows.len(),
+            cow_of_strings.as_str().len(),
+            cow_of_cows.as_str().len(),
+        ];
+        assert_eq!(rt; counts, [count; 4]);
+    }
+    Ok(())
+}
+
+#[test]
+fn as_many_keys_as_are_given(rt: HostRuntime) -> Result<(), Fail> {
+    let alloc = rt.alloc();
+    for count in COUNTS {
+        let keys: Vec<usize> = (0..count).collect(alloc)?;
+        let pairs: Vec<(usize, u8)> = keys.iter().map(|key| (*key, 7)).collect(alloc)?;
+        let tree: BTreeMap<usize, u8> = accumulate_all(alloc, pairs.to_vec(alloc)?)?;
+        let hashed: HashMap<usize, u8> = accumulate_all(alloc, pairs)?;
+        let ordered: BTreeSet<usize> = accumulate_all(alloc, keys.to_vec(alloc)?)?;
+        let set: HashSet<usize> = accumulate_all(alloc, keys)?;
+        assert_eq!(rt;
+            [tree.len(), hashed.len(), ordered.len(), set.len()],
+            [count; 4]
+        );
+    }
+    Ok(())
+}
