@@ -3,9 +3,9 @@ use winnow_base::stream::Step::{
     At, Each, Eof, Finish, First, IsOffset, Look, Mark, Next, Peek, PeekFinish, Reset, Since, Take,
 };
 use winnow_base::stream::{
-    Needles, NoSet, SearchStep, Step, definite_law, run_and_reset, run_search,
+    Answer, Needles, NoSet, SearchStep, Step, definite_law, run, run_and_reset, run_search,
 };
-use winnow_test_helpers::told;
+use winnow_test_helpers::{debugged, told};
 
 #[test]
 fn bytes(rt: HostRuntime) -> Result<(), Fail> {
@@ -98,4 +98,57 @@ fn comparisons_and_searches_move_nothing(rt: HostRuntime) -> Result<(), Fail> {
 #[test]
 fn definite_answers_stay(_rt: HostRuntime) {
     definite_law::<u8, NoSet, &'static [u8]>();
+}
+
+// Memory is there: no number of items or of steps is refused.
+#[test]
+fn as_many_answers_as_steps(rt: HostRuntime) -> Result<(), Fail> {
+    let alloc = rt.alloc();
+    for count in [0, 3, 20_000] {
+        let input = vec![in alloc; b'a'; count]?;
+        let mut bytes = input.as_slice();
+        let items = run(alloc, &mut bytes, &[Step::<NoSet>::Each])?;
+        let tokens = run(
+            alloc,
+            &mut bytes,
+            &vec![in alloc; Step::<NoSet>::Next; count]?,
+        )?;
+        let rest = bytes.len();
+        let search: SearchStep<NoSet, &[u8]> = SearchStep::Find(Needles::Two(b"b", b""));
+        let hits = run_search(alloc, &mut bytes, &vec![in alloc; search; count]?)?;
+        let item_count = match items.first() {
+            Some(Answer::Items(items)) => items.len(),
+            _ => usize::MAX,
+        };
+        assert_eq!(rt;
+            (item_count, tokens.len(), rest, hits.len()),
+            (count, count, 0, count)
+        );
+    }
+    Ok(())
+}
+
+#[test]
+fn debug_texts(rt: HostRuntime) -> Result<(), Fail> {
+    let script = [
+        Next,
+        Peek,
+        Take(1),
+        Look(2),
+        Finish,
+        PeekFinish,
+        Eof,
+        At(3),
+        IsOffset(4),
+        First(NoSet),
+        Each,
+        Mark,
+        Reset(5),
+        Since(6),
+    ];
+    assert_eq!(rt;
+        debugged(rt.alloc(), &script)?.as_str(),
+        "[Next, Peek, Take(1), Look(2), Finish, PeekFinish, Eof, At(3), IsOffset(4), First(NoSet), Each, Mark, Reset(5), Since(6)]"
+    );
+    Ok(())
 }
