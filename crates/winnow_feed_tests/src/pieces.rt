@@ -156,3 +156,22 @@ fn text_in_pieces(rt: HostRuntime) -> Result<(), Fail> {
     );
     Ok(())
 }
+
+// Memory is there: no number of steps is refused, neither when a feed is made nor when it is fed.
+#[test]
+fn as_many_answers_as_steps(rt: HostRuntime) -> Result<(), Fail> {
+    let alloc = rt.alloc();
+    for count in [0, 3, 20_000] {
+        let step: ByteStep = SearchStep::Call(Next);
+        let script = vec![in alloc; step; count]?;
+        let bytes = run_pieces(alloc, &script, &[b"abc"])?;
+        let step: TextStep = SearchStep::Call(Peek);
+        let script = vec![in alloc; step; count]?;
+        let text = run_pieces_text(alloc, &script, &["é"])?;
+        assert_eq!(rt;
+            (bytes.answers().len(), text.answers().len()),
+            (count, count)
+        );
+    }
+    Ok(())
+}
