@@ -18,7 +18,7 @@ use winnow_stream::{AsBStr, Stream, StreamIsPartial};
 /// What an attempt at a step came to.
 #[derive(Clone, Copy)]
 pub enum Attempt {
-    /// It is answered, and no further input can change that.
+    /// It is answered: no further input can change that, or none may follow.
     Answered(Seen),
     /// It waits, and has passed so much for good.
     Waits(Passed),
@@ -35,7 +35,7 @@ fn is_decided_now(compared: &CompareResult) -> bool
 }
 
 /// Looks at a step, from what it has passed on, and tells its answer under the piece.
-pub fn look<S: Kept, L: AsBStr>(
+pub(crate) fn look<S: Kept, L: AsBStr>(
     step: &SearchStep<CharSet, L>,
     rest: S,
     place: usize,
@@ -103,7 +103,7 @@ fn take_back<T: Drop>(told: &mut Vec<Told<T>>) -> PieceAnswer<T>
 }
 
 /// How many tokens remain.
-pub fn tokens_left<S: Stream + Copy>(rest: S) -> usize
+pub(crate) fn tokens_left<S: Stream + Copy>(rest: S) -> usize
 where
     S::Token: Drop,
     requires { S.valid rest }
@@ -138,7 +138,7 @@ where
 
 /// What a step that waits with this answer has passed for good.
 #[tactic(auto, using(crate::proofs::lemmas::PassedLemmas::passes))]
-pub fn settle<S: Kept, L: AsBStr>(
+pub(crate) fn settle<S: Kept, L: AsBStr>(
     step: &SearchStep<CharSet, L>,
     rest: S,
     answer: &PieceAnswer<S::Token>,

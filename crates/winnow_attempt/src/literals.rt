@@ -9,7 +9,7 @@ use winnow_match::{Compare, CompareResult, FindSlice, Needles, stretch};
 use winnow_stream::AsBStr;
 
 /// The needles as bytes.
-pub fn needle_bytes<L: AsBStr>(needles: &Needles<L>) -> Needles<&[u8]>
+pub(crate) fn needle_bytes<L: AsBStr>(needles: &Needles<L>) -> Needles<&[u8]>
     ensures { bytes_of_needles result ≡ needle_list L.text_bytes needles.now }
 {
     match needles {
@@ -45,7 +45,7 @@ fn find_all(needles: &Needles<&[u8]>, bytes: &[u8]) -> Option<Range<usize>>
 }
 
 /// How the literal compares with the bytes, where so many are the same.
-pub fn compare_from(literal: &[u8], bytes: &[u8], passed: usize) -> CompareResult
+pub(crate) fn compare_from(literal: &[u8], bytes: &[u8], passed: usize) -> CompareResult
     requires { AreSame literal.now bytes.now passed }
     ensures { result ≡ comparison literal.now bytes.now }
 {
@@ -57,7 +57,7 @@ pub fn compare_from(literal: &[u8], bytes: &[u8], passed: usize) -> CompareResul
 }
 
 /// The first place of a needle in the bytes, where none stands before `passed`.
-pub fn find_from(needles: &Needles<&[u8]>, bytes: &[u8], passed: usize) -> Option<Range<usize>>
+pub(crate) fn find_from(needles: &Needles<&[u8]>, bytes: &[u8], passed: usize) -> Option<Range<usize>>
     requires { NoneStands (bytes_of_needles needles.now) bytes.now passed }
     ensures { result ≡ hit (bytes_of_needles needles.now) bytes.now }
 {
@@ -69,7 +69,7 @@ pub fn find_from(needles: &Needles<&[u8]>, bytes: &[u8], passed: usize) -> Optio
 
 /// Whether something was found, and no further input can move it.
 #[tactic(auto, using(crate::proofs::lemmas::PassedLemmas::found_hits))]
-pub fn stays_found(needles: &Needles<&[u8]>, bytes: &[u8], found: &Option<Range<usize>>) -> bool
+pub(crate) fn stays_found(needles: &Needles<&[u8]>, bytes: &[u8], found: &Option<Range<usize>>) -> bool
     requires { found.now ≡ hit (bytes_of_needles needles.now) bytes.now }
     ensures { result ≡ hit_is_definite (bytes_of_needles needles.now) bytes.now }
 {
@@ -82,7 +82,7 @@ pub fn stays_found(needles: &Needles<&[u8]>, bytes: &[u8], found: &Option<Range<
 /// A place before which no needle stands, whatever follows, where what was found may still move:
 /// that of the needle that could come to stand there.
 #[tactic(auto, using(crate::proofs::lemmas::PassedLemmas::found_hits))]
-pub fn searched(needles: &Needles<&[u8]>, bytes: &[u8], found: &Option<Range<usize>>) -> usize
+pub(crate) fn searched(needles: &Needles<&[u8]>, bytes: &[u8], found: &Option<Range<usize>>) -> usize
     requires { found.now ≡ hit (bytes_of_needles needles.now) bytes.now }
     ensures { NoneStands (bytes_of_needles needles.now) bytes.now result }
 {

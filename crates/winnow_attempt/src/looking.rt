@@ -1,4 +1,4 @@
-ghost use Rattle.std.specs.Prelude.{◌≡◌, ◌+◌, ◌<◌, ◌^◌, ◌≤◌, ◌∷◌, ◌++◌, [], false, length, slice_get, IsTrue, vec_len, vec_capacity};
+ghost use Rattle.std.specs.Prelude.{◌≡◌, ◌+◌, ◌<◌, ◌^◌, ◌≤◌, ◌∷◌, ◌++◌, [], false, slice_get, IsTrue, vec_len, vec_capacity};
 ghost use Rattle.winnow_stream.specs.Source.{width, first_offset};
 ghost use Rattle.winnow_stream.specs.Front.{is_offset};
 ghost use Rattle.winnow_stream.specs.Shortage.{offset_at};
@@ -33,7 +33,7 @@ where
 }
 
 // The first token of the set, where what is passed has none.
-pub fn first_from<S: Kept>(set: &CharSet, rest: S, passed: usize) -> Option<usize>
+pub(crate) fn first_from<S: Kept>(set: &CharSet, rest: S, passed: usize) -> Option<usize>
 where
     S::Token: AsChar,
     S::Slice: Drop,
@@ -51,7 +51,7 @@ where
 }
 
 // The offset behind that many tokens, where those that are passed are counted.
-pub fn offset_from<S: Kept>(
+pub(crate) fn offset_from<S: Kept>(
     rest: S,
     asked: usize,
     passed: usize,
@@ -81,7 +81,7 @@ pub struct Passed {
 
 /// Puts an answer behind the others, where there is room.
 #[inline(always)]
-pub fn tell<T: Drop>(told: &mut Vec<Told<T>>, piece: Option<u64>, answer: PieceAnswer<T>)
+pub(crate) fn tell<T: Drop>(told: &mut Vec<Told<T>>, piece: Option<u64>, answer: PieceAnswer<T>)
     requires { vec_len told.old < vec_capacity told.old }
     ensures items { told.new.items ≡ told.old.items ++ under piece answer ∷ [] }
     ensures len { vec_len told.new ≡ vec_len told.old + 1 }
@@ -129,7 +129,7 @@ where
     rest.eof_offset() - later.eof_offset()
 }
 
-// The mark of that number.
+/// The place of the mark of that number, counted from 0, if it was made.
 #[tactic(auto, using(crate::proofs::lemmas::LookLemmas::marks_read))]
 pub fn mark_at(marks: &[usize], number: usize) -> Option<usize>
     ensures { result ≡ slice_get marks.now number }
@@ -154,7 +154,7 @@ fn has_offset<S: Stream>(rest: &S, offset: usize) -> bool
 /// Looks at a call, from what it has passed on, and tells its answer under the piece.
 // Each case tells its own answer: one that is handed on is copied through memory at each hand.
 #[tactic(auto, using(crate::proofs::lemmas::LookLemmas::looks))]
-pub fn look_call<S: Kept>(
+pub(crate) fn look_call<S: Kept>(
     call: &Step<CharSet>,
     rest: S,
     place: usize,

@@ -1,6 +1,5 @@
-ghost use Rattle.std.specs.Prelude.{◌≡◌, ◌<◌, true, drop, length, vec_len, option_map};
+ghost use Rattle.std.specs.Prelude.{◌≡◌, ◌<◌, drop, option_map};
 ghost use Rattle.std.specs.Prelude.{IfOk, OnErr, IsSome};
-ghost use Rattle.winnow_stream.specs.Source.{width};
 ghost use Rattle.winnow_match.specs.Search.{bytes_of_needles, needle_of};
 ghost use Rattle.winnow_attempt.specs.Settled.{IsSettled, NoneStands};
 ghost use Rattle.winnow_attempt.specs.View.{piece_kind};

@@ -277,6 +277,8 @@ impl StreamIsPartial for Bytes<'_> {
 impl<T: ByteLiteral> Compare<T> for Bytes<'_> {
     ghost compared = { λ literal r. comparison (T.literal_bytes literal) (bytes_of r) };
 
+    ghost literal_width = { λ literal. length (T.literal_bytes literal) };
+
     fn compare(&self, t: T) -> CompareResult {
         t.compare_with(self.bytes)
     }

@@ -1,4 +1,4 @@
-ghost use Rattle.std.specs.Prelude.{◌≡◌, ℕ, ◌+◌, ◌≤◌, ◌<◌, ◌^◌, true, length, drop, vec_len};
+ghost use Rattle.std.specs.Prelude.{◌≡◌, ℕ, ◌+◌, ◌≤◌, ◌<◌, ◌^◌, true, length, vec_len};
 ghost use Rattle.std.specs.Prelude.{vec_capacity, IsTrue, Some};
 ghost use Rattle.winnow_stream.specs.Source.{width};
 ghost use Rattle.winnow_stream.specs.Front.{is_offset};

@@ -1,6 +1,6 @@
 -- How a literal compares with the front of some bytes.
-use Rattle.std.specs.Prelude.{◌≡◌, ℕ, ◌==◌, Bool, true, false, ◌&&◌, if◌then◌else◌, List, [], ◌∷◌, ◌++◌, length, IsTrue, ⊤}
-use Rattle.winnow_stream.specs.Source.{Source}
+use Rattle.std.specs.Prelude.{◌≡◌, ℕ, ◌<◌, ◌==◌, Bool, true, false, ◌&&◌, if◌then◌else◌, List, [], ◌∷◌, ◌++◌, length, IsTrue, ⊤}
+use Rattle.winnow_stream.specs.Source.{Source, width}
 use Rattle.winnow_stream.specs.Front.{is_offset}
 use Rattle.winnow_match.specs.declared.compare.CompareResult.{CompareResult}
 use Rattle.winnow_match.specs.declared.compare.CompareResult.TheVariants as compared
@@ -26,3 +26,9 @@ abbrev pub EndsAtOffset : {T : Type 0} → CompareResult → Source T → Type 0
 EndsAtOffset (compared.Ok n) r = IsTrue (is_offset r n)
 EndsAtOffset compared.Incomplete r = ⊤
 EndsAtOffset compared.Error r = ⊤
+
+-- a literal that stands at the front of r has the width w, and one that r is too short for is wider than r
+abbrev pub AgreesWithWidth : {T : Type 0} → CompareResult → ℕ → Source T → Type 0
+AgreesWithWidth (compared.Ok n) w r = n ≡ w
+AgreesWithWidth compared.Incomplete w r = width r < w
+AgreesWithWidth compared.Error w r = ⊤

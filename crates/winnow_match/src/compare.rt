@@ -1,6 +1,6 @@
-ghost use Rattle.std.specs.Prelude.{◌≡◌};
+ghost use Rattle.std.specs.Prelude.{◌≡◌, ℕ};
 ghost use Rattle.winnow_stream.specs.Source.{Source};
-ghost use Rattle.winnow_match.specs.Comparison.{EndsAtOffset};
+ghost use Rattle.winnow_match.specs.Comparison.{EndsAtOffset, AgreesWithWidth};
 ghost use Rattle.winnow_match.specs.declared.compare.CompareResult.{CompareResult};
 
 use winnow_stream::Stream;
@@ -21,10 +21,15 @@ pub trait Compare<T>: Stream {
     // What the comparison answers of a literal and of what remains.
     ghost compared: { T → Source Self.Token → CompareResult };
 
+    // The width of a literal, where it stands in the stream.
+    ghost literal_width: { T → ℕ };
+
     /// How the literal compares with the front of the stream, which stays where it is. The width of an `Ok` is an offset, so
-    /// that a slice may be taken up to it.
+    /// that a slice may be taken up to it. Where the answer is `Incomplete`, what remains is less wide than the literal, and
+    /// so much is lacking.
     fn compare(&self, t: T) -> CompareResult
         requires { Self.valid self.now }
         ensures answer { result ≡ compared t (Self.remaining self.now) }
-        ensures offset { EndsAtOffset result (Self.remaining self.now) };
+        ensures offset { EndsAtOffset result (Self.remaining self.now) }
+        ensures width { AgreesWithWidth result (literal_width t) (Self.remaining self.now) };
 }

@@ -52,6 +52,8 @@ fn compare_whole(input: &[u8], literal: &[u8]) -> CompareResult
 impl<'i, 'l> Compare<&'l [u8]> for &'i [u8] {
     ghost compared = { λ literal r. comparison literal.now (bytes_of r) };
 
+    ghost literal_width = { λ literal. length literal.now };
+
     fn compare(&self, literal: &'l [u8]) -> CompareResult {
         compare_front(self, literal)
     }
@@ -60,6 +62,8 @@ impl<'i, 'l> Compare<&'l [u8]> for &'i [u8] {
 #[tactic(auto, using(crate::proofs::lemmas::OffsetLemmas::source_answers))]
 impl<'i, const LEN: usize> Compare<[u8; LEN]> for &'i [u8] {
     ghost compared = { λ literal r. comparison literal (bytes_of r) };
+
+    ghost literal_width = { λ literal. length literal };
 
     fn compare(&self, literal: [u8; LEN]) -> CompareResult {
         compare_front(self, &literal)
@@ -70,6 +74,8 @@ impl<'i, const LEN: usize> Compare<[u8; LEN]> for &'i [u8] {
 impl<'i, 'l, const LEN: usize> Compare<&'l [u8; LEN]> for &'i [u8] {
     ghost compared = { λ literal r. comparison literal.now (bytes_of r) };
 
+    ghost literal_width = { λ literal. length literal.now };
+
     fn compare(&self, literal: &'l [u8; LEN]) -> CompareResult {
         compare_front(self, literal)
     }
@@ -78,6 +84,8 @@ impl<'i, 'l, const LEN: usize> Compare<&'l [u8; LEN]> for &'i [u8] {
 #[tactic(auto, using(crate::proofs::lemmas::OffsetLemmas::source_answers))]
 impl<'i, 'l> Compare<&'l str> for &'i [u8] {
     ghost compared = { λ literal r. comparison literal.now (bytes_of r) };
+
+    ghost literal_width = { λ literal. length literal.now };
 
     fn compare(&self, literal: &'l str) -> CompareResult {
         compare_front(self, literal.as_bytes())
@@ -88,6 +96,8 @@ impl<'i, 'l> Compare<&'l str> for &'i [u8] {
 impl<'i> Compare<u8> for &'i [u8] {
     ghost compared = { λ literal r. comparison (literal ∷ []) (bytes_of r) };
 
+    ghost literal_width = { λ _. 1 };
+
     fn compare(&self, literal: u8) -> CompareResult {
         compare_front(self, &[literal])
     }
@@ -97,6 +107,8 @@ impl<'i> Compare<u8> for &'i [u8] {
 #[tactic(auto, using(crate::proofs::lemmas::OffsetLemmas::source_answers))]
 impl<'i> Compare<char> for &'i [u8] {
     ghost compared = { λ literal r. comparison (encode_utf8 literal) (bytes_of r) };
+
+    ghost literal_width = { λ literal. length (encode_utf8 literal) };
 
     fn compare(&self, literal: char) -> CompareResult {
         let mut buffer = [0; 4];

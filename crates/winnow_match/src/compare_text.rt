@@ -1,3 +1,4 @@
+ghost use Rattle.std.specs.Prelude.{length};
 ghost use Rattle.std.specs.Char.{encode_utf8};
 ghost use Rattle.winnow_match.specs.Bytes.{utf8_of};
 ghost use Rattle.winnow_match.specs.Comparison.{comparison};
@@ -9,6 +10,8 @@ use crate::{Compare, CompareResult};
 impl<'i, 'l> Compare<&'l str> for &'i str {
     ghost compared = { λ literal r. comparison literal.now (utf8_of r) };
 
+    ghost literal_width = { λ literal. length literal.now };
+
     fn compare(&self, literal: &'l str) -> CompareResult {
         compare_front((*self).as_bytes(), literal.as_bytes())
     }
@@ -17,6 +20,8 @@ impl<'i, 'l> Compare<&'l str> for &'i str {
 #[tactic(auto, using(crate::proofs::lemmas::OffsetLemmas::source_answers))]
 impl<'i> Compare<char> for &'i str {
     ghost compared = { λ literal r. comparison (encode_utf8 literal) (utf8_of r) };
+
+    ghost literal_width = { λ literal. length (encode_utf8 literal) };
 
     fn compare(&self, literal: char) -> CompareResult {
         let mut buffer = [0; 4];

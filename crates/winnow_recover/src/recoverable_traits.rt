@@ -117,6 +117,8 @@ impl<I: StreamIsPartial, E> StreamIsPartial for Recoverable<I, E> {
 impl<I: Compare<T>, E: Debug, T> Compare<T> for Recoverable<I, E> {
     ghost compared = { I.compared };
 
+    ghost literal_width = { I.literal_width };
+
     fn compare(&self, t: T) -> CompareResult {
         self.input.compare(t)
     }

@@ -1,9 +1,12 @@
-ghost use Rattle.std.specs.Prelude.{◌≡◌, ℕ, ◌-◌, Some, None, IfSome, IfNone};
+ghost use Rattle.std.specs.Prelude.{◌≡◌, ℕ, ◌-◌, ◌<◌, Some, None, Err, IfSome, IfNone, IfOk, OnErr};
 ghost use Rattle.std.specs.declared.ops.Range as range_declared;
+ghost use Rattle.winnow_stream.specs.Source.{width};
+ghost use Rattle.winnow_stream.specs.Shortage.{needed};
 ghost use Rattle.winnow_base.specs.Front.{back};
 ghost use Rattle.winnow_match.specs.declared.compare.CompareResult.TheVariants as compared;
 
-use winnow_base::stream::{Compare, CompareResult, FindSlice, front_law};
+use winnow_base::error::Needed;
+use winnow_base::stream::{Compare, CompareResult, FindSlice, SliceLen, front_law};
 
 /// The literal, where the stream begins with it, and moves past it; else nothing moves.
 pub fn literal<S: Compare<T>, T>(input: &mut S, wanted: T) -> Option<S::Slice>
@@ -16,6 +19,38 @@ pub fn literal<S: Compare<T>, T>(input: &mut S, wanted: T) -> Option<S::Slice>
     match input.compare(wanted) {
         CompareResult::Ok(width) => Some(input.next_slice(width)),
         CompareResult::Incomplete | CompareResult::Error => None,
+    }
+}
+
+/// The literal, where the stream begins with it, and moves past it. Else nothing moves, and the error says how much is lacking,
+/// where more input may complete the literal.
+pub fn literal_or_lack<S: Compare<T>, T: SliceLen + Copy>(
+    input: &mut S,
+    wanted: T,
+) -> Result<S::Slice, Option<Needed>>
+    requires valid { S.valid input.old }
+    requires has_width { T.has_width wanted }
+    requires same_width { T.width_of wanted ≡ S.literal_width wanted }
+    ensures taken { IfOk result (λ slice.
+        S.is_slice slice (S.remaining input.old) (S.literal_width wanted)
+        × (S.remaining input.new ≡ back (S.remaining input.old) (S.literal_width wanted))) }
+    ensures lacks { S.compared wanted (S.remaining input.old) ≡ compared.Incomplete
+        → (width (S.remaining input.old) < S.literal_width wanted)
+        × (result ≡ Err (Some
+        (needed (S.literal_width wanted - width (S.remaining input.old))))) }
+    ensures differs { S.compared wanted (S.remaining input.old) ≡ compared.Error
+        → result ≡ Err None }
+    ensures refused { OnErr result (S.remaining input.new ≡ S.remaining input.old) }
+    ensures valid { S.valid input.new }
+    ensures kept { S.keeps input.old input.new }
+{
+    match input.compare(wanted) {
+        CompareResult::Ok(width) => Ok(input.next_slice(width)),
+        CompareResult::Incomplete => {
+            let lacking = wanted.slice_len() - input.eof_offset();
+            Err(Some(Needed::new(lacking)))
+        }
+        CompareResult::Error => Err(None),
     }
 }
 

@@ -117,6 +117,8 @@ impl<T> StreamIsPartial for TokenSlice<'_, T> {
 impl<T: Debug + Eq + Drop> Compare<T> for TokenSlice<'_, T> {
     ghost compared = { λ literal r. first_comparison T.eq literal (first_token r) };
 
+    ghost literal_width = { λ _. 1 };
+
     fn compare(&self, literal: T) -> CompareResult {
         match self.peek_token() {
             Some(token) => {

@@ -130,6 +130,8 @@ impl<I: Compare<T> + Stream<Checkpoint = C>, C: Rest + Copy + Debug, T> Compare<
     for LocatingSlice<I, C> {
     ghost compared = { I.compared };
 
+    ghost literal_width = { I.literal_width };
+
     fn compare(&self, t: T) -> CompareResult {
         self.input.compare(t)
     }

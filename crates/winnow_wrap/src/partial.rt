@@ -264,6 +264,8 @@ impl<I: Rest> StreamIsPartial for Partial<I> {
 impl<I: Compare<T>, T> Compare<T> for Partial<I> {
     ghost compared = { I.compared };
 
+    ghost literal_width = { I.literal_width };
+
     fn compare(&self, t: T) -> CompareResult {
         self.input.compare(t)
     }

@@ -238,6 +238,8 @@ impl<I: StreamIsPartial, S> StreamIsPartial for Stateful<I, S> {
 impl<I: Compare<T>, S: Debug, T> Compare<T> for Stateful<I, S> {
     ghost compared = { I.compared };
 
+    ghost literal_width = { I.literal_width };
+
     fn compare(&self, t: T) -> CompareResult {
         self.input.compare(t)
     }

@@ -194,11 +194,6 @@ module _ {T L : Type 0} (k : PieceKind T CharSet L) (all kept : Source T) (p : P
   pub least-low : p.base ≤ place all (needed_from all (steps_left p) h.at)
   least-low = let m = place-monotone all h.first (needed_from all (steps_left p) h.at) h.reached in omega (arith, m, h.based)
 
-  pub least-high : place all (needed_from all (steps_left p) h.at) ≤ p.base + width kept
-  least-high =
-      let m = place-monotone all (needed_from all (steps_left p) h.at) (length all) (needed-within all h.at (steps_left p) stands-inside.index) in
-      omega (arith, m, end-is)
-
   pub fed-is : p.base + width kept ≡ width all
   fed-is = omega (arith, h.based, ap width h.is_kept, width-take_drop all h.first)
 

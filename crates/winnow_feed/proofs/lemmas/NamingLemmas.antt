@@ -53,12 +53,6 @@ least_marks-at [] i d h = absurd (omega arith)
 least_marks-at (s ∷ steps) zero d h = refl
 least_marks-at (s ∷ steps) (suc i) d h = least_marks-at steps i d (omega arith)
 
--- one more step from the end
-pub least_marks-set : {C L : Type 0} (named : List ℕ) (steps : List (SearchStep C L)) (i : ℕ) (s : SearchStep C L) (x : ℕ) → drop i steps ≡ s ∷ drop (i + 1) steps → drop (i + 1) named ≡ least_marks (drop (i + 1) steps) → i < length named → x ≡ least_mark (drop i steps) → drop i (set named i x) ≡ least_marks (drop i steps)
-least_marks-set named steps i s x at later within is =
-    let x_is : x ≡ least_mark (s ∷ drop (i + 1) steps) = is ∙ ap least_mark at in
-    drop-set named i x within ∙ ap (λ xs. x ∷ xs) later ∙ ap (λ n. n ∷ least_marks (drop (i + 1) steps)) x_is ∙ sym (ap least_marks at)
-
 module _ {C L : Type 0} (named : List ℕ) (steps : List (SearchStep C L)) (h : named ≡ least_marks steps) where
   pub named-length : length named ≡ length steps
   named-length = ap length h ∙ length-least_marks steps

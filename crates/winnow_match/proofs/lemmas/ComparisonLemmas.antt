@@ -52,17 +52,19 @@ module _ (literal bytes : List ℕ) where
     λ f. sym (comparison-ok literal bytes (is_front-IsFrontOf literal bytes f.0)) ∙ ap compared.Ok (sym f.1),
   )
 
+  -- bytes that do not begin with the literal, but with which it begins, are shorter
+  pub shorter-front : is_front literal bytes ≡ false → is_front bytes literal ≡ true → length bytes < length literal
+  shorter-front h g =
+      elim (cases_lt (length bytes) (length literal)) [
+        | inl l ↦ l
+        | inr l ↦ absurd (false≢true (sym h ∙ is_front-whole bytes literal g l))
+      ]
+
   pub incomplete-says : comparison literal bytes ≡ compared.Incomplete ↔ (IsFrontOf bytes literal × (length bytes < length literal))
   incomplete-says = (
     λ h.
         let parts = incomplete-parts (is_front literal bytes) (is_front bytes literal) (length literal) h in
-        let shorter : length bytes < length literal =
-        elim (cases_lt (length bytes) (length literal)) [
-          | inl l ↦ l
-          | inr l ↦ absurd (false≢true (sym parts.0 ∙ is_front-whole bytes literal parts.1 l))
-        ]
-        in
-        (IsFrontOf-is_front bytes literal parts.1, shorter),
+        (IsFrontOf-is_front bytes literal parts.1, shorter-front parts.0 parts.1),
     λ f. sym (comparison-incomplete literal bytes f.1 (is_front-IsFrontOf bytes literal f.0)),
   )
 

@@ -9,17 +9,19 @@ use Rattle.std.proofs.lemmas.Option.{same_Some}
 use Rattle.std.proofs.lemmas.Bool.Decides.{nat_tests}
 use Rattle.std.proofs.lemmas.List.{get_or-drop, take_at}
 use Rattle.std.proofs.lemmas.Str.{IsUtf8-drop, IsCharBoundary-start, IsCharBoundary-from_take, IsCharBoundary-from_rest}
-use Rattle.winnow_stream.specs.Source.{Source, units}
+use Rattle.winnow_stream.specs.Source.{Source, units, width}
+use Rattle.winnow_stream.specs.Units.{width-units}
 use Rattle.winnow_stream.specs.Front.{is_offset}
 use Rattle.winnow_stream.specs.Text.{text_source}
 use Rattle.winnow_stream.specs.Cursor.{places}
 use Rattle.winnow_stream.proofs.lemmas.UnitLemmas.{is_offset-units}
-use Rattle.winnow_stream.proofs.lemmas.TextLemmas.{is_offset-from_boundary}
+use Rattle.winnow_stream.proofs.lemmas.TextLemmas.{is_offset-from_boundary, width-text_source}
 use Rattle.winnow_match.specs.declared.compare.CompareResult.{CompareResult}
 use Rattle.winnow_match.specs.declared.compare.CompareResult.TheVariants as compared
-use Rattle.winnow_match.specs.Comparison.{is_front, comparison, EndsAtOffset}
+use Rattle.winnow_match.specs.Comparison.{is_front, comparison, EndsAtOffset, AgreesWithWidth}
 use Rattle.winnow_match.specs.Search.{is_empty, needle_of, hit, first_hit, AreOffsets, AreTexts}
 use Rattle.winnow_match.proofs.lemmas.ByteLemmas.{bytes_of-units, utf8_of-text_source}
+use Rattle.winnow_match.proofs.lemmas.ComparisonLemmas.{shorter-front}
 use Rattle.winnow_match.proofs.lemmas.FrontLemmas.{length-front, front_rest, is_front-IsFrontOf}
 use Rattle.winnow_match.proofs.lemmas.SearchLemmas.{nonempty-length}
 use Rattle.winnow_match.proofs.lemmas.HitLemmas.{hit-IsFirstHit}
@@ -53,6 +55,11 @@ comparison-ends r true b n h = h refl
 comparison-ends r false true n h = tt
 comparison-ends r false false n h = tt
 
+comparison-agrees : {T : Type 0} (r : Source T) (a b : Bool) (n : ℕ) → (a ≡ false → b ≡ true → width r < n) → AgreesWithWidth (cond a (compared.Ok n) (cond b compared.Incomplete compared.Error)) n r
+comparison-agrees r true b n h = refl
+comparison-agrees r false true n h = h refl refl
+comparison-agrees r false false n h = tt
+
 is_offset-le : (xs : List ℕ) (n : ℕ) → n ≤ length xs → is_offset (units xs) n ≡ true
 is_offset-le xs n l = is_offset-units xs n ∙ grind (arith, nat_tests)
 
@@ -71,6 +78,17 @@ module _ (literal bytes : List ℕ) (result : CompareResult) (is : result ≡ co
       (subst (IsCharBoundary bytes) {x = 0 + length literal} {y = length literal} (omega arith) (boundary-end literal bytes 0 v u (IsCharBoundary-start bytes v) h))
       in
       subst P (sym is) (comparison-ends (text_source bytes) (is_front literal bytes) (is_front bytes literal) (length literal) ends)
+
+  agrees : {T : Type 0} (r : Source T) → width r ≡ length bytes → AgreesWithWidth result (length literal) r
+  agrees r w =
+      let P : CompareResult → Type 0 = λ x. AgreesWithWidth x (length literal) r in
+      subst P (sym is) (comparison-agrees r (is_front literal bytes) (is_front bytes literal) (length literal) (λ h g. let l = shorter-front literal bytes h g in omega (arith, w, l)))
+
+  pub AgreesWithWidth-bytes : AgreesWithWidth result (length literal) (units bytes)
+  AgreesWithWidth-bytes = agrees (units bytes) (width-units bytes)
+
+  pub AgreesWithWidth-text : IsUtf8 bytes → AgreesWithWidth result (length literal) (text_source bytes)
+  AgreesWithWidth-text v = agrees (text_source bytes) (width-text_source bytes v)
 
 -- ---- searches
 
@@ -121,4 +139,4 @@ module _ (ls : List (List ℕ)) (bytes : List ℕ) (result : Option (Range ℕ))
       (is_offset-from_boundary bytes k v b, is_offset-from_boundary bytes (k + length n) v (boundary-end n bytes k v u b f))) result is
 
 -- what the calls of slices and texts answer
-pub ruleset source_answers = (bytes_of-units, utf8_of-text_source, EndsAtOffset-bytes, EndsAtOffset-text, AreOffsets-bytes, AreOffsets-text)
+pub ruleset source_answers = (bytes_of-units, utf8_of-text_source, EndsAtOffset-bytes, EndsAtOffset-text, AgreesWithWidth-bytes, AgreesWithWidth-text, AreOffsets-bytes, AreOffsets-text)

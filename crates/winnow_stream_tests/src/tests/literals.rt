@@ -1,6 +1,7 @@
 ghost use Rattle.std.specs.Prelude.{◌≡◌, false};
 
-use crate::literals::{literal, take_through, take_until};
+use crate::literals::{literal, literal_or_lack, take_through, take_until};
+use winnow_base::error::Needed;
 use winnow_base::stream::{Compare, FindSlice, LocatingSlice, Partial, StreamIsPartial};
 
 type Taken<T> = ([Option<T>; 4], [Option<(T, T)>; 2]);
@@ -39,6 +40,15 @@ fn bytes_are_taken_by_what_they_hold(rt: HostRuntime) {
         )
     );
     assert_eq!(rt; input, b"d".as_slice());
+}
+
+#[test]
+fn what_lacks_of_a_literal_is_told(rt: HostRuntime) {
+    let mut input: &[u8] = b"ab";
+    let taken: &[u8] = b"a";
+    assert_eq!(rt; literal_or_lack(&mut input, b"abcd".as_slice()), Err(Some(Needed::new(2))));
+    assert_eq!(rt; literal_or_lack(&mut input, b"b".as_slice()), Err(None));
+    assert_eq!(rt; literal_or_lack(&mut input, b"a".as_slice()), Ok(taken));
 }
 
 // What literals and needles take of a text.

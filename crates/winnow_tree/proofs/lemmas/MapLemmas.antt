@@ -38,9 +38,6 @@ pub entries_push : {A B I J C : Type 0} (R : I → J → Type 0) (f : A → Tree
 entries_push R f g xs ys zs x y h r e =
     subst (λ l. TreesMap R (trees_of l) (trees_of (map g zs))) (sym (map-push f xs x)) (subst (λ l. TreesMap R (trees_of (map f xs ++ f x ∷ [])) (trees_of l)) (sym (ap (map g) e ∙ map-push g ys y)) (TreesMap-more R (map f xs) (map g ys) (f x) (g y) h r))
 
-tree_contents-base : {I C : Type 0} (b : TreeErrorBase I) → tree_contents {I = I} {C = C} (Base b) ≡ base b.input (option_map string_bytes b.cause)
-tree_contents-base {I} {C} b = ap tree_contents (sym (rolls-Base b)) ∙ fold-roll-TreeError I C (Tree I C) layer_contents _
-
 tree_contents-stack : {I C : Type 0} (b : Box (TreeError I C) Global) (s : Vec (TreeErrorFrame I C) Global) → tree_contents (Stack b s) ≡ stack (tree_contents b.value) (map frame_contents s.items)
 tree_contents-stack {I} {C} b s = ap tree_contents (sym (rolls-Stack b s)) ∙ fold-roll-TreeError I C (Tree I C) layer_contents _
 
