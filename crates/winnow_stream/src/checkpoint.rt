@@ -41,7 +41,10 @@ impl<T: Rest, S> Rest for Checkpoint<T, S> {
     ghost place = { λ c. T.place (checkpoint_inner c) };
 }
 
+/// As what it holds.
 impl<T: Debug, S> Debug for Checkpoint<T, S> {
+    ghost debug_output = { λ c. T.debug_output (checkpoint_inner c) };
+
     fn fmt<W: fmt::Write>(&self, f: &mut fmt::Formatter<W>) -> fmt::Result {
         self.inner.fmt(f)
     }
