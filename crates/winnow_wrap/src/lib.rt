@@ -4,11 +4,17 @@
 //! follow. Each meets the whole of `Stream` from the stream inside alone, so they nest as one likes over any stream.
 #![tactic(auto)]
 
+mod laws;
+mod located;
 mod locating;
 mod locating_traits;
 mod partial;
 mod stateful;
 
-pub use locating::{LocatingSlice, Placed};
+pub use laws::{
+    located_equality_law, located_order_law, marked_equality_law, marked_order_law,
+    stateful_equality_law,
+};
+pub use located::{LocatingSlice, Placed};
 pub use partial::Partial;
 pub use stateful::Stateful;

@@ -1,6 +1,7 @@
 ghost use Rattle.std.specs.Prelude.{◌≡◌, ℕ, IsTrue};
 ghost use Rattle.winnow_stream.specs.Front.{is_offset, front, IsSomeFront};
-ghost use Rattle.winnow_stream.specs.Checkpoint.{checkpoint_inner};
+ghost use Rattle.winnow_wrap.specs.Located.{located_input, located_start, located_place};
+ghost use Rattle.winnow_wrap.specs.Located.{IsValidLocated, KeepsLocated, inner_at, location_at};
 
 use crate::{LocatingSlice, Placed};
 use std::fmt;
@@ -13,7 +14,7 @@ use winnow_stream::{
 };
 
 impl<I: Offset<I>, C: Rest> Offset<LocatingSlice<I, C>> for LocatingSlice<I, C> {
-    ghost can_measure = { λ s start. I.can_measure s.input start.input };
+    ghost can_measure = { λ s start. I.can_measure (located_input s) (located_input start) };
 
     fn offset_from(&self, start: &LocatingSlice<I, C>) -> usize {
         self.input.offset_from(&start.input)
@@ -22,7 +23,7 @@ impl<I: Offset<I>, C: Rest> Offset<LocatingSlice<I, C>> for LocatingSlice<I, C> 
 
 impl<I: Offset<C>, C: Rest> Offset<Checkpoint<Placed<C>, LocatingSlice<I, C>>>
     for LocatingSlice<I, C> {
-    ghost can_measure = { λ s c. I.can_measure s.input (checkpoint_inner c).inner };
+    ghost can_measure = { λ s c. I.can_measure (located_input s) (inner_at c) };
 
     fn offset_from(&self, start: &Checkpoint<Placed<C>, LocatingSlice<I, C>>) -> usize {
         self.input.offset_from(&start.inner().inner)
@@ -30,9 +31,9 @@ impl<I: Offset<C>, C: Rest> Offset<Checkpoint<Placed<C>, LocatingSlice<I, C>>>
 }
 
 impl<I: SliceLen + Rest, C: Rest> SliceLen for LocatingSlice<I, C> {
-    ghost has_width = { λ s. I.has_width s.input };
+    ghost has_width = { λ s. I.has_width (located_input s) };
 
-    ghost width_of = { λ s. I.width_of s.input };
+    ghost width_of = { λ s. I.width_of (located_input s) };
 
     fn slice_len(&self) -> usize {
         self.input.slice_len()
@@ -42,13 +43,15 @@ impl<I: SliceLen + Rest, C: Rest> SliceLen for LocatingSlice<I, C> {
 impl<I: UpdateSlice + Stream<Checkpoint = C>, C: Rest + Copy + Debug> UpdateSlice
     for LocatingSlice<I, C> {
     fn update_slice(self, inner: I::Slice, at: &Checkpoint<Placed<C>, Self>) -> Self
-        requires valid { I.valid self.input × I.valid_checkpoint self.start }
-        requires valid_checkpoint { I.valid_checkpoint (checkpoint_inner at.now).inner }
-        requires is_front { IsSomeFront I.is_slice inner (I.remained (checkpoint_inner at.now).inner) }
-        ensures remains { (n : ℕ) → IsTrue (is_offset (I.remained (checkpoint_inner at.now).inner) n) → I.is_slice inner (I.remained (checkpoint_inner at.now).inner) n → I.remaining result.input ≡ front (I.remained (checkpoint_inner at.now).inner) n }
-        ensures valid { I.valid result.input × I.valid_checkpoint result.start }
-        ensures kept { (self.start ≡ result.start) × I.keeps self.input result.input }
-        ensures place { result.place ≡ (checkpoint_inner at.now).place }
+        requires valid { IsValidLocated I.valid I.valid_checkpoint self }
+        requires valid_checkpoint { I.valid_checkpoint (inner_at at.now) }
+        requires is_front { IsSomeFront I.is_slice inner (I.remained (inner_at at.now)) }
+        ensures remains { (n : ℕ) → IsTrue (is_offset (I.remained (inner_at at.now)) n)
+            → I.is_slice inner (I.remained (inner_at at.now)) n
+            → I.remaining (located_input result) ≡ front (I.remained (inner_at at.now)) n }
+        ensures valid { IsValidLocated I.valid I.valid_checkpoint result }
+        ensures kept { KeepsLocated I.keeps self result }
+        ensures place { located_place result ≡ location_at at.now }
     {
         let LocatingSlice {
             start,
@@ -65,9 +68,9 @@ impl<I: UpdateSlice + Stream<Checkpoint = C>, C: Rest + Copy + Debug> UpdateSlic
 }
 
 impl<I: Rest, C: Rest> Location for LocatingSlice<I, C> {
-    ghost token_end = { λ s. s.place };
+    ghost token_end = { located_place };
 
-    ghost token_start = { λ s. s.place };
+    ghost token_start = { located_place };
 
     fn previous_token_end(&self) -> usize {
         self.place
@@ -79,7 +82,7 @@ impl<I: Rest, C: Rest> Location for LocatingSlice<I, C> {
 }
 
 impl<I: AsBytes + Rest, C: Rest> AsBytes for LocatingSlice<I, C> {
-    ghost bytes = { λ s. I.bytes s.input };
+    ghost bytes = { λ s. I.bytes (located_input s) };
 
     fn as_bytes(&self) -> &[u8] {
         self.input.as_bytes()
@@ -87,7 +90,7 @@ impl<I: AsBytes + Rest, C: Rest> AsBytes for LocatingSlice<I, C> {
 }
 
 impl<I: AsBStr + Rest, C: Rest> AsBStr for LocatingSlice<I, C> {
-    ghost text_bytes = { λ s. I.text_bytes s.input };
+    ghost text_bytes = { λ s. I.text_bytes (located_input s) };
 
     fn as_bstr(&self) -> &[u8] {
         self.input.as_bstr()
@@ -99,15 +102,17 @@ impl<I: StreamIsPartial, C: Rest> StreamIsPartial for LocatingSlice<I, C> {
 
     ghost supports_partial = { I.supports_partial };
 
-    ghost partial_state = { λ s. I.partial_state s.input };
+    ghost partial_state = { λ s. I.partial_state (located_input s) };
 
-    ghost expects_more = { λ s. I.expects_more s.input };
+    ghost expects_more = { λ s. I.expects_more (located_input s) };
 
-    ghost same_but_mark = { λ s t. (s.start ≡ t.start) × (s.place ≡ t.place) × I.same_but_mark s.input t.input };
+    ghost same_but_mark = { λ s t. (located_start s ≡ located_start t)
+        × (located_place s ≡ located_place t)
+        × I.same_but_mark (located_input s) (located_input t) };
 
-    ghost mark_tells = { λ s t. I.mark_tells s.input t.input };
+    ghost mark_tells = { λ s t. I.mark_tells (located_input s) (located_input t) };
 
-    ghost no_mark = { λ unsupported s. I.no_mark unsupported s.input };
+    ghost no_mark = { λ unsupported s. I.no_mark unsupported (located_input s) };
 
     fn complete(&mut self) -> I::PartialState {
         self.input.complete()
@@ -146,18 +151,20 @@ impl<I: FindSlice<T> + Stream<Checkpoint = C>, C: Rest + Copy + Debug, T> FindSl
     }
 }
 
-/// As the stream inside.
+/// As the stream inside, under the options of a hole too.
 impl<I: Display + Rest, C: Rest> Display for LocatingSlice<I, C> {
-    ghost output = { λ s. I.output s.input };
+    ghost output = { λ s. I.output (located_input s) };
+
+    ghost styled_output = { λ s. I.styled_output (located_input s) };
 
     fn fmt<W: fmt::Write>(&self, f: &mut fmt::Formatter<W>) -> fmt::Result {
-        self.input.fmt(f)
+        Display::fmt(&self.input, f)
     }
 }
 
 /// As the stream inside.
 impl<I: Debug + Rest, C: Rest> Debug for LocatingSlice<I, C> {
-    ghost debug_output = { λ s. I.debug_output s.input };
+    ghost debug_output = { λ s. I.debug_output (located_input s) };
 
     fn fmt<W: fmt::Write>(&self, f: &mut fmt::Formatter<W>) -> fmt::Result {
         self.input.fmt(f)

@@ -48,7 +48,7 @@ impl<I> Partial<I> {
 impl<I> Deref for Partial<I> {
     type Target = I;
 
-    ghost deref_gives = { λ s t. t ≡ s.input };
+    ghost deref_gives = { λ s t. t ≡ unmarked s };
 
     fn deref(&self) -> &I {
         &self.input
@@ -56,12 +56,12 @@ impl<I> Deref for Partial<I> {
 }
 
 impl<I: Rest> Rest for Partial<I> {
-    ghost rest_width = { λ s. I.rest_width s.input };
+    ghost rest_width = { λ s. I.rest_width (unmarked s) };
 
     // The mark is no part of what remains.
-    ghost same_rest = { λ s t. s.input ≡ t.input };
+    ghost same_rest = { λ s t. unmarked s ≡ unmarked t };
 
-    ghost place = { λ s. I.place s.input };
+    ghost place = { λ s. I.place (unmarked s) };
 }
 
 /// What remains is what remains inside, and the mark is kept.
@@ -74,9 +74,9 @@ impl<I: Stream> Stream for Partial<I> {
 
     type Checkpoint = Checkpoint<I::Checkpoint, Self>;
 
-    ghost remaining = { λ s. I.remaining s.input };
+    ghost remaining = { λ s. I.remaining (unmarked s) };
 
-    ghost valid = { λ s. I.valid s.input };
+    ghost valid = { λ s. I.valid (unmarked s) };
 
     ghost remained = { λ c. I.remained (checkpoint_inner c) };
 
@@ -86,13 +86,13 @@ impl<I: Stream> Stream for Partial<I> {
 
     ghost counts_missing = { I.counts_missing };
 
-    ghost keeps = { λ s t. (s.partial ≡ t.partial) × I.keeps s.input t.input };
+    ghost keeps = { λ s t. (mark s ≡ mark t) × I.keeps (unmarked s) (unmarked t) };
 
-    ghost has_widths = { λ s v. I.has_widths s.input v };
+    ghost has_widths = { λ s v. I.has_widths (unmarked s) v };
 
     ghost has_widths_remained = { λ c v. I.has_widths_remained (checkpoint_inner c) v };
 
-    ghost rest_width_remaining = { λ s v. I.rest_width_remaining s.input v };
+    ghost rest_width_remaining = { λ s v. I.rest_width_remaining (unmarked s) v };
 
     ghost rest_width_remained = { λ c v. I.rest_width_remained (checkpoint_inner c) v };
 
@@ -100,9 +100,12 @@ impl<I: Stream> Stream for Partial<I> {
 
     ghost same_rest_valid = { λ s t e v. subst I.valid e v };
 
-    ghost keeps_reflexive = { λ s. (refl, I.keeps_reflexive s.input) };
+    ghost keeps_reflexive = { λ s. (refl, I.keeps_reflexive (unmarked s)) };
 
-    ghost keeps_transitive = { λ s t u p q. (p.0 ∙ q.0, I.keeps_transitive s.input t.input u.input p.1 q.1) };
+    ghost keeps_transitive = { λ s t u p q. (
+      p.0 ∙ q.0,
+      I.keeps_transitive (unmarked s) (unmarked t) (unmarked u) p.1 q.1,
+    ) };
 
     fn iter_offsets(&self) -> I::IterOffsets {
         self.input.iter_offsets()
@@ -162,7 +165,7 @@ impl<I: Stream> Stream for Partial<I> {
 }
 
 impl<I: Offset<I>> Offset<Partial<I>> for Partial<I> {
-    ghost can_measure = { λ s start. I.can_measure s.input start.input };
+    ghost can_measure = { λ s start. I.can_measure (unmarked s) (unmarked start) };
 
     fn offset_from(&self, start: &Partial<I>) -> usize {
         self.input.offset_from(&start.input)
@@ -170,7 +173,7 @@ impl<I: Offset<I>> Offset<Partial<I>> for Partial<I> {
 }
 
 impl<I: Offset<C>, C: Rest> Offset<Checkpoint<C, Partial<I>>> for Partial<I> {
-    ghost can_measure = { λ s c. I.can_measure s.input (checkpoint_inner c) };
+    ghost can_measure = { λ s c. I.can_measure (unmarked s) (checkpoint_inner c) };
 
     fn offset_from(&self, start: &Checkpoint<C, Partial<I>>) -> usize {
         self.input.offset_from(start.inner())
@@ -178,9 +181,9 @@ impl<I: Offset<C>, C: Rest> Offset<Checkpoint<C, Partial<I>>> for Partial<I> {
 }
 
 impl<I: SliceLen> SliceLen for Partial<I> {
-    ghost has_width = { λ s. I.has_width s.input };
+    ghost has_width = { λ s. I.has_width (unmarked s) };
 
-    ghost width_of = { λ s. I.width_of s.input };
+    ghost width_of = { λ s. I.width_of (unmarked s) };
 
     fn slice_len(&self) -> usize {
         self.input.slice_len()
@@ -198,9 +201,9 @@ impl<I: UpdateSlice> UpdateSlice for Partial<I> {
 }
 
 impl<I: Location> Location for Partial<I> {
-    ghost token_end = { λ s. I.token_end s.input };
+    ghost token_end = { λ s. I.token_end (unmarked s) };
 
-    ghost token_start = { λ s. I.token_start s.input };
+    ghost token_start = { λ s. I.token_start (unmarked s) };
 
     fn previous_token_end(&self) -> usize {
         self.input.previous_token_end()
@@ -212,7 +215,7 @@ impl<I: Location> Location for Partial<I> {
 }
 
 impl<I: AsBytes> AsBytes for Partial<I> {
-    ghost bytes = { λ s. I.bytes s.input };
+    ghost bytes = { λ s. I.bytes (unmarked s) };
 
     fn as_bytes(&self) -> &[u8] {
         self.input.as_bytes()
@@ -220,7 +223,7 @@ impl<I: AsBytes> AsBytes for Partial<I> {
 }
 
 impl<I: AsBStr> AsBStr for Partial<I> {
-    ghost text_bytes = { λ s. I.text_bytes s.input };
+    ghost text_bytes = { λ s. I.text_bytes (unmarked s) };
 
     fn as_bstr(&self) -> &[u8] {
         self.input.as_bstr()
@@ -232,11 +235,11 @@ impl<I: Rest> StreamIsPartial for Partial<I> {
 
     ghost supports_partial = { true };
 
-    ghost partial_state = { λ s. s.partial };
+    ghost partial_state = { mark };
 
-    ghost expects_more = { λ s. s.partial };
+    ghost expects_more = { mark };
 
-    ghost same_but_mark = { λ s t. s.input ≡ t.input };
+    ghost same_but_mark = { λ s t. unmarked s ≡ unmarked t };
 
     ghost mark_tells = { λ _ _ same. same };
 
@@ -279,9 +282,11 @@ impl<I: FindSlice<T>, T> FindSlice<T> for Partial<I> {
     }
 }
 
-/// As the stream inside.
+/// As the stream inside, under the options of a hole too.
 impl<I: Display> Display for Partial<I> {
-    ghost output = { λ s. I.output s.input };
+    ghost output = { λ s. I.output (unmarked s) };
+
+    ghost styled_output = { λ s. I.styled_output (unmarked s) };
 
     fn fmt<W: fmt::Write>(&self, f: &mut fmt::Formatter<W>) -> fmt::Result {
         self.input.fmt(f)

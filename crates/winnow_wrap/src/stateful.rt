@@ -78,7 +78,10 @@ impl<I: Stream, S: Debug> Stream for Stateful<I, S> {
 
     ghost keeps_reflexive = { λ s. (refl, I.keeps_reflexive s.input) };
 
-    ghost keeps_transitive = { λ s t u p q. (p.0 ∙ q.0, I.keeps_transitive s.input t.input u.input p.1 q.1) };
+    ghost keeps_transitive = { λ s t u p q. (
+      p.0 ∙ q.0,
+      I.keeps_transitive s.input t.input u.input p.1 q.1,
+    ) };
 
     fn iter_offsets(&self) -> I::IterOffsets {
         self.input.iter_offsets()
@@ -253,9 +256,11 @@ impl<I: FindSlice<T>, S: Debug, T> FindSlice<T> for Stateful<I, S> {
     }
 }
 
-/// As the stream inside.
+/// As the stream inside, under the options of a hole too.
 impl<I: Display, S> Display for Stateful<I, S> {
     ghost output = { λ s. I.output s.input };
+
+    ghost styled_output = { λ s. I.styled_output s.input };
 
     fn fmt<W: fmt::Write>(&self, f: &mut fmt::Formatter<W>) -> fmt::Result {
         self.input.fmt(f)

@@ -1,0 +1,82 @@
+ghost use Rattle.std.specs.Prelude.{◌≡◌, ◌&&◌};
+ghost use Rattle.std.specs.Ordering.{on, then_cmp, bool_cmp};
+ghost use Rattle.winnow_stream.specs.Checkpoint.{checkpoint_inner};
+ghost use Rattle.winnow_stream.specs.declared.checkpoint.Checkpoint.{Checkpoint};
+ghost use Rattle.winnow_wrap.specs.Located.{located_input, located_start, inner_at};
+ghost use Rattle.winnow_wrap.specs.Mark.{unmarked, mark};
+ghost use Rattle.winnow_wrap.specs.declared.located.LocatingSlice.{LocatingSlice};
+ghost use Rattle.winnow_wrap.specs.declared.located.Placed.{Placed};
+ghost use Rattle.winnow_wrap.specs.declared.partial.Partial.{Partial};
+ghost use Rattle.winnow_wrap.specs.declared.stateful.Stateful.{Stateful};
+
+use crate::{LocatingSlice, Partial, Placed, Stateful};
+use winnow_stream::{Checkpoint, Stream};
+
+/// The law of equality: streams that know their place are compared by where the whole input starts and by the stream inside, and
+/// checkpoints by that of the stream inside, wherever they stand. It does nothing when called: its contract is the law.
+pub fn located_equality_law<I: Stream + PartialEq>()
+where
+    I::Checkpoint: PartialEq,
+    ensures streams { (s t : LocatingSlice I I.Checkpoint I.Rest I.Checkpoint.Rest)
+        → ⟦<LocatingSlice<I> as PartialEq>⟧.eq s t
+        ≡ (I.Checkpoint.eq (located_start s) (located_start t)
+        && I.eq (located_input s) (located_input t)) }
+    ensures places { (c d : Checkpoint (Placed I.Checkpoint I.Checkpoint.Rest)
+        (LocatingSlice I I.Checkpoint I.Rest I.Checkpoint.Rest))
+        → ⟦<Checkpoint<Placed<I::Checkpoint>, LocatingSlice<I>> as PartialEq>⟧.eq c d
+        ≡ I.Checkpoint.eq (inner_at c) (inner_at d) }
+{}
+
+/// The law of order: streams that know their place stand to each other as the starts of the whole input do, and where these are
+/// equal as the streams inside; checkpoints as those of the stream inside. It does nothing when called: its contract is the law.
+pub fn located_order_law<I: Stream + Ord>()
+where
+    I::Checkpoint: Ord,
+    ensures streams { (s t : LocatingSlice I I.Checkpoint I.Rest I.Checkpoint.Rest)
+        → ⟦<LocatingSlice<I> as Ord>⟧.cmp s t
+        ≡ then_cmp (on located_start I.Checkpoint.cmp) (on located_input I.cmp) s t }
+    ensures places { (c d : Checkpoint (Placed I.Checkpoint I.Checkpoint.Rest)
+        (LocatingSlice I I.Checkpoint I.Rest I.Checkpoint.Rest))
+        → ⟦<Checkpoint<Placed<I::Checkpoint>, LocatingSlice<I>> as Ord>⟧.cmp c d
+        ≡ I.Checkpoint.cmp (inner_at c) (inner_at d) }
+{}
+
+/// The law of equality: streams with a mark are compared by the stream inside and the mark, and checkpoints by that of the stream
+/// inside. It does nothing when called: its contract is the law.
+pub fn marked_equality_law<I: Stream + PartialEq>()
+where
+    I::Checkpoint: PartialEq,
+    ensures streams { (s t : Partial I)
+        → ⟦<Partial<I> as PartialEq>⟧.eq s t
+        ≡ (I.eq (unmarked s) (unmarked t) && ⟦<bool as PartialEq>⟧.eq (mark s) (mark t)) }
+    ensures places { (c d : Checkpoint I.Checkpoint (Partial I))
+        → ⟦<Checkpoint<I::Checkpoint, Partial<I>> as PartialEq>⟧.eq c d
+        ≡ I.Checkpoint.eq (checkpoint_inner c) (checkpoint_inner d) }
+{}
+
+/// The law of order: streams with a mark stand to each other as the streams inside do, and where these are equal as the marks, of
+/// which the one that is set is the greater; checkpoints as those of the stream inside. It does nothing when called: its contract is
+/// the law.
+pub fn marked_order_law<I: Stream + Ord>()
+where
+    I::Checkpoint: Ord,
+    ensures streams { (s t : Partial I)
+        → ⟦<Partial<I> as Ord>⟧.cmp s t
+        ≡ then_cmp (on unmarked I.cmp) (on mark bool_cmp) s t }
+    ensures places { (c d : Checkpoint I.Checkpoint (Partial I))
+        → ⟦<Checkpoint<I::Checkpoint, Partial<I>> as Ord>⟧.cmp c d
+        ≡ I.Checkpoint.cmp (checkpoint_inner c) (checkpoint_inner d) }
+{}
+
+/// The law of equality: streams with a state are compared by the stream inside and the state, and checkpoints by that of the stream
+/// inside. It does nothing when called: its contract is the law.
+pub fn stateful_equality_law<I: Stream + PartialEq, S: PartialEq>()
+where
+    I::Checkpoint: PartialEq,
+    ensures streams { (s t : Stateful I S)
+        → ⟦<Stateful<I, S> as PartialEq>⟧.eq s t
+        ≡ (I.eq s.input t.input && S.eq s.state t.state) }
+    ensures places { (c d : Checkpoint I.Checkpoint (Stateful I S))
+        → ⟦<Checkpoint<I::Checkpoint, Stateful<I, S>> as PartialEq>⟧.eq c d
+        ≡ I.Checkpoint.eq (checkpoint_inner c) (checkpoint_inner d) }
+{}
