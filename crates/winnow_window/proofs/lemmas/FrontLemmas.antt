@@ -1,0 +1,28 @@
+-- Tokens of width 1: a list that is a front of another is so many of its elements.
+use Rattle.std.proofs.Common.{◌≡◌, ℕ, ◌≤◌, List, length, take, drop, IsTrue, ap, sym, ◌∙◌, arith, length-take-le}
+use Rattle.std.proofs.lemmas.List.{drop-map}
+use Rattle.winnow_stream.specs.Source.{units}
+use Rattle.winnow_stream.specs.Front.{is_offset, front}
+use Rattle.winnow_stream.proofs.lemmas.UnitLemmas.{le-from_is_offset, units-take, units-same}
+
+module _ {T : Type 0} (xs ys : List T) (n : ℕ) (h : IsTrue (is_offset (units ys) n)) (e : units xs ≡ front (units ys) n) where
+  inside : n ≤ length ys
+  inside = le-from_is_offset ys n h
+
+  same : xs ≡ take n ys
+  same = units-same xs (take n ys) (e ∙ sym (units-take ys n inside))
+
+  count : length xs ≡ n
+  count = ap length same ∙ length-take-le n ys inside
+
+  -- it is no longer
+  pub le-from_front : length xs ≤ length ys
+  le-from_front = omega (arith, count, inside)
+
+  -- and these are the elements
+  pub take-front : take (length xs) ys ≡ xs
+  take-front = ap (λ k. take k ys) count ∙ sym same
+
+-- moving on leaves the tokens behind
+pub units-behind : {T : Type 0} (xs : List T) (n : ℕ) → units (drop n xs) ≡ drop n (units xs)
+units-behind xs n = sym (drop-map (λ x. (x, 1)) n xs)

@@ -1,0 +1,24 @@
+ghost use Rattle.std.specs.Prelude.{◌≡◌, ◌≤◌, length, ⊤};
+
+use std::alloc::AllocError;
+
+/// A part of a slice: the whole slice, and where the part starts and ends in it. Moving on changes the start alone.
+pub struct Window<'i, T> {
+    pub(crate) whole: &'i [T],
+    pub(crate) start: usize,
+    pub(crate) end: usize,
+    ghost ordered: { start ≤ end },
+    ghost within: { end ≤ length whole.now },
+}
+
+impl<T> Clone for Window<'_, T> {
+    ghost is_clone = { λ s t. s ≡ t };
+
+    ghost is_infallible = { λ _. ⊤ };
+
+    fn clone(&self) -> Result<Self, AllocError> {
+        Ok(*self)
+    }
+}
+
+impl<T> Copy for Window<'_, T> {}
