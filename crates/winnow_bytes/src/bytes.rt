@@ -28,11 +28,12 @@ use winnow_stream::{
     AsBytes, Checkpoint, Needed, Offset, Rest, SliceLen, SliceOffsets, Stream, StreamIsPartial,
     UpdateSlice,
 };
+use winnow_window::Window;
 
 /// Bytes that are no text, as a stream: it streams as `&[u8]` does, and prints as hexadecimal digits.
 #[derive(Clone, Copy)]
 pub struct Bytes<'i> {
-    bytes: &'i [u8],
+    window: Window<'i, u8>,
 }
 
 impl<'i> Bytes<'i> {
@@ -40,14 +41,16 @@ impl<'i> Bytes<'i> {
     pub fn new(bytes: &'i [u8]) -> Self
         ensures { bytes_contents result ≡ bytes.now }
     {
-        Bytes { bytes }
+        Bytes {
+            window: Window::new(bytes),
+        }
     }
 
     /// The bytes that remain.
     pub fn inner(&self) -> &'i [u8]
         ensures { result.now ≡ bytes_contents self.now }
     {
-        self.bytes
+        self.window.slice()
     }
 
     /// The byte at a place.
@@ -55,7 +58,7 @@ impl<'i> Bytes<'i> {
         requires { i < length (bytes_contents self.now) }
         ensures { slice_get (bytes_contents self.now) i ≡ Some result }
     {
-        self.bytes[i]
+        *self.window.at(i)
     }
 
     /// The bytes from place `a` up to place `b`.
@@ -64,56 +67,58 @@ impl<'i> Bytes<'i> {
         requires within { b ≤ length (bytes_contents self.now) }
         ensures { bytes_contents result ≡ slice_range (bytes_contents self.now) a b }
     {
-        Bytes::new(&self.bytes[a..b])
+        Bytes {
+            window: self.window.behind(a).before(b - a),
+        }
     }
 
     /// Whether these are the bytes.
     pub fn eq_bytes(&self, bytes: &[u8]) -> bool
         ensures { IsTrue result ↔ (bytes_contents self.now ≡ bytes.now) }
     {
-        self.bytes == bytes
+        self.inner() == bytes
     }
 
     /// Whether these are the bytes of the text.
     pub fn eq_str(&self, text: &str) -> bool
         ensures { IsTrue result ↔ (bytes_contents self.now ≡ text.now) }
     {
-        self.bytes == text.as_bytes()
+        self.inner() == text.as_bytes()
     }
 
     /// How these stand to the bytes in the order of the first byte that differs.
     pub fn cmp_bytes(&self, bytes: &[u8]) -> Ordering
         ensures { result ≡ slice_cmp nat_cmp (bytes_contents self.now) bytes.now }
     {
-        self.bytes.cmp(bytes)
+        self.inner().cmp(bytes)
     }
 
     /// How these stand to the bytes of the text in the order of the first byte that differs.
     pub fn cmp_str(&self, text: &str) -> Ordering
         ensures { result ≡ slice_cmp nat_cmp (bytes_contents self.now) text.now }
     {
-        self.bytes.cmp(text.as_bytes())
+        self.inner().cmp(text.as_bytes())
     }
 
     /// A copy of the bytes.
     pub fn to_vec(&self, alloc: Global) -> Result<Vec<u8>, AllocError>
         ensures { IfOk result (λ v. v.items ≡ bytes_contents self.now) }
     {
-        self.bytes.to_vec(alloc)
+        self.inner().to_vec(alloc)
     }
 
     /// The same, to be printed in capital digits.
     pub fn upper(&self) -> UpperBytes<'i>
         ensures { upper_contents result ≡ bytes_contents self.now }
     {
-        UpperBytes::new(self.bytes)
+        UpperBytes::new(self.inner())
     }
 
     /// The same, to be printed in small digits.
     pub fn lower(&self) -> LowerBytes<'i>
         ensures { lower_contents result ≡ bytes_contents self.now }
     {
-        LowerBytes::new(self.bytes)
+        LowerBytes::new(self.inner())
     }
 }
 
@@ -162,35 +167,39 @@ impl<'i> Stream for Bytes<'i> {
     ghost keeps_transitive = { λ _ _ _ _ _. tt };
 
     fn iter_offsets(&self) -> SliceOffsets<'i, u8> {
-        self.bytes.iter_offsets()
+        self.inner().iter_offsets()
     }
 
     fn eof_offset(&self) -> usize {
-        self.bytes.eof_offset()
+        self.inner().eof_offset()
     }
 
     fn next_token(&mut self) -> Option<u8> {
-        self.bytes.next_token()
+        let token = self.peek_token()?;
+        self.window = self.window.behind(1);
+        Some(token)
     }
 
     fn peek_token(&self) -> Option<u8> {
-        self.bytes.peek_token()
+        self.inner().peek_token()
     }
 
     fn offset_at(&self, tokens: usize) -> Result<usize, Needed> {
-        self.bytes.offset_at(tokens)
+        self.inner().offset_at(tokens)
     }
 
     fn is_offset(&self, offset: usize) -> bool {
-        self.bytes.is_offset(offset)
+        self.inner().is_offset(offset)
     }
 
     fn next_slice(&mut self, offset: usize) -> &'i [u8] {
-        self.bytes.next_slice(offset)
+        let slice = self.peek_slice(offset);
+        self.window = self.window.behind(offset);
+        slice
     }
 
     fn peek_slice(&self, offset: usize) -> &'i [u8] {
-        self.bytes.peek_slice(offset)
+        self.inner().peek_slice(offset)
     }
 
     fn checkpoint(&self) -> Checkpoint<Bytes<'i>, Bytes<'i>> {
@@ -203,13 +212,13 @@ impl<'i> Stream for Bytes<'i> {
 
     #[tactic(auto, using(winnow_stream::proofs::lemmas::UnitLemmas::units_steps))]
     fn offset_since(&self, start: &Checkpoint<Bytes<'i>, Bytes<'i>>) -> usize {
-        start.inner().bytes.len() - self.bytes.len()
+        start.inner().window.len() - self.window.len()
     }
 }
 
 impl<'i> Offset<Bytes<'i>> for Bytes<'i> {
     fn offset_from(&self, start: &Bytes<'i>) -> usize {
-        start.bytes.len() - self.bytes.len()
+        start.window.len() - self.window.len()
     }
 }
 
@@ -223,13 +232,15 @@ impl SliceLen for Bytes<'_> {
     ghost width_of = { λ s. length (bytes_contents s) };
 
     fn slice_len(&self) -> usize {
-        self.bytes.len()
+        self.window.len()
     }
 }
 
 impl<'i> UpdateSlice for Bytes<'i> {
-    fn update_slice(self, inner: &'i [u8], _at: &Checkpoint<Bytes<'i>, Bytes<'i>>) -> Self {
-        Bytes::new(inner)
+    fn update_slice(self, inner: &'i [u8], at: &Checkpoint<Bytes<'i>, Bytes<'i>>) -> Self {
+        Bytes {
+            window: at.inner().window.before(inner.len()),
+        }
     }
 }
 
@@ -237,7 +248,7 @@ impl AsBytes for Bytes<'_> {
     ghost bytes = { λ s. bytes_contents s };
 
     fn as_bytes(&self) -> &[u8] {
-        self.bytes
+        self.inner()
     }
 }
 
@@ -280,7 +291,7 @@ impl<T: ByteLiteral> Compare<T> for Bytes<'_> {
     ghost literal_width = { λ literal. length (T.literal_bytes literal) };
 
     fn compare(&self, t: T) -> CompareResult {
-        t.compare_with(self.bytes)
+        t.compare_with(self.inner())
     }
 }
 
@@ -290,7 +301,7 @@ impl<T: ByteNeedles> FindSlice<T> for Bytes<'_> {
     ghost found = { λ needles r. hit (T.needle_bytes needles) (bytes_of r) };
 
     fn find_slice(&self, substr: T) -> Option<Range<usize>> {
-        substr.find_in(self.bytes)
+        substr.find_in(self.inner())
     }
 }
 
@@ -347,7 +358,7 @@ impl<'i> From<Bytes<'i>> for &'i [u8] {
     ghost from_gives = { λ s bytes. bytes.now ≡ bytes_contents s };
 
     fn from(s: Bytes<'i>) -> Self {
-        s.bytes
+        s.inner()
     }
 }
 
@@ -357,7 +368,7 @@ impl PartialEq for Bytes<'_> {
     ghost laws = { on_per bytes_contents (partial_equiv_from_equiv nat_list_eq_equiv) };
 
     fn eq(&self, other: &Self) -> bool {
-        self.bytes == other.bytes
+        self.inner() == other.inner()
     }
 }
 
@@ -385,7 +396,7 @@ impl Ord for Bytes<'_> {
     ghost matches_eq = { λ s t. texts_ties (bytes_contents s) (bytes_contents t) };
 
     fn cmp(&self, other: &Self) -> Ordering {
-        self.bytes.cmp(other.bytes)
+        self.inner().cmp(other.inner())
     }
 }
 
@@ -395,6 +406,6 @@ impl Hash for Bytes<'_> {
     ghost respects_eq = { Prim.search (hashing, rules) };
 
     fn hash<H: Hasher>(&self, state: &mut H) {
-        self.bytes.hash(state);
+        self.inner().hash(state);
     }
 }
