@@ -31,11 +31,12 @@ use winnow_stream::{
     AsBStr, Checkpoint, Needed, Offset, Rest, SliceLen, SliceOffsets, Stream, StreamIsPartial,
     UpdateSlice,
 };
+use winnow_window::Window;
 
 /// Bytes that are text by convention, as a stream: it streams as `&[u8]` does, and prints as text.
 #[derive(Clone, Copy)]
 pub struct BStr<'i> {
-    bytes: &'i [u8],
+    window: Window<'i, u8>,
 }
 
 impl<'i> BStr<'i> {
@@ -43,14 +44,16 @@ impl<'i> BStr<'i> {
     pub fn new(bytes: &'i [u8]) -> Self
         ensures { bstr_contents result ≡ bytes.now }
     {
-        BStr { bytes }
+        BStr {
+            window: Window::new(bytes),
+        }
     }
 
     /// The bytes that remain.
     pub fn inner(&self) -> &'i [u8]
         ensures { result.now ≡ bstr_contents self.now }
     {
-        self.bytes
+        self.window.slice()
     }
 
     /// The byte at a place.
@@ -58,7 +61,7 @@ impl<'i> BStr<'i> {
         requires { i < length (bstr_contents self.now) }
         ensures { slice_get (bstr_contents self.now) i ≡ Some result }
     {
-        self.bytes[i]
+        *self.window.at(i)
     }
 
     /// The bytes from place `a` up to place `b`.
@@ -67,42 +70,44 @@ impl<'i> BStr<'i> {
         requires within { b ≤ length (bstr_contents self.now) }
         ensures { bstr_contents result ≡ slice_range (bstr_contents self.now) a b }
     {
-        BStr::new(&self.bytes[a..b])
+        BStr {
+            window: self.window.behind(a).before(b - a),
+        }
     }
 
     /// Whether these are the bytes.
     pub fn eq_bytes(&self, bytes: &[u8]) -> bool
         ensures { IsTrue result ↔ (bstr_contents self.now ≡ bytes.now) }
     {
-        self.bytes == bytes
+        self.inner() == bytes
     }
 
     /// Whether these are the bytes of the text.
     pub fn eq_str(&self, text: &str) -> bool
         ensures { IsTrue result ↔ (bstr_contents self.now ≡ text.now) }
     {
-        self.bytes == text.as_bytes()
+        self.inner() == text.as_bytes()
     }
 
     /// How these stand to the bytes in the order of the first byte that differs.
     pub fn cmp_bytes(&self, bytes: &[u8]) -> Ordering
         ensures { result ≡ slice_cmp nat_cmp (bstr_contents self.now) bytes.now }
     {
-        self.bytes.cmp(bytes)
+        self.inner().cmp(bytes)
     }
 
     /// How these stand to the bytes of the text in the order of the first byte that differs.
     pub fn cmp_str(&self, text: &str) -> Ordering
         ensures { result ≡ slice_cmp nat_cmp (bstr_contents self.now) text.now }
     {
-        self.bytes.cmp(text.as_bytes())
+        self.inner().cmp(text.as_bytes())
     }
 
     /// A copy of the bytes.
     pub fn to_vec(&self, alloc: Global) -> Result<Vec<u8>, AllocError>
         ensures { IfOk result (λ v. v.items ≡ bstr_contents self.now) }
     {
-        self.bytes.to_vec(alloc)
+        self.inner().to_vec(alloc)
     }
 }
 
@@ -151,35 +156,39 @@ impl<'i> Stream for BStr<'i> {
     ghost keeps_transitive = { λ _ _ _ _ _. tt };
 
     fn iter_offsets(&self) -> SliceOffsets<'i, u8> {
-        self.bytes.iter_offsets()
+        self.inner().iter_offsets()
     }
 
     fn eof_offset(&self) -> usize {
-        self.bytes.eof_offset()
+        self.inner().eof_offset()
     }
 
     fn next_token(&mut self) -> Option<u8> {
-        self.bytes.next_token()
+        let token = self.peek_token()?;
+        self.window = self.window.behind(1);
+        Some(token)
     }
 
     fn peek_token(&self) -> Option<u8> {
-        self.bytes.peek_token()
+        self.inner().peek_token()
     }
 
     fn offset_at(&self, tokens: usize) -> Result<usize, Needed> {
-        self.bytes.offset_at(tokens)
+        self.inner().offset_at(tokens)
     }
 
     fn is_offset(&self, offset: usize) -> bool {
-        self.bytes.is_offset(offset)
+        self.inner().is_offset(offset)
     }
 
     fn next_slice(&mut self, offset: usize) -> &'i [u8] {
-        self.bytes.next_slice(offset)
+        let slice = self.peek_slice(offset);
+        self.window = self.window.behind(offset);
+        slice
     }
 
     fn peek_slice(&self, offset: usize) -> &'i [u8] {
-        self.bytes.peek_slice(offset)
+        self.inner().peek_slice(offset)
     }
 
     fn checkpoint(&self) -> Checkpoint<BStr<'i>, BStr<'i>> {
@@ -192,13 +201,13 @@ impl<'i> Stream for BStr<'i> {
 
     #[tactic(auto, using(winnow_stream::proofs::lemmas::UnitLemmas::units_steps))]
     fn offset_since(&self, start: &Checkpoint<BStr<'i>, BStr<'i>>) -> usize {
-        start.inner().bytes.len() - self.bytes.len()
+        start.inner().window.len() - self.window.len()
     }
 }
 
 impl<'i> Offset<BStr<'i>> for BStr<'i> {
     fn offset_from(&self, start: &BStr<'i>) -> usize {
-        start.bytes.len() - self.bytes.len()
+        start.window.len() - self.window.len()
     }
 }
 
@@ -212,13 +221,15 @@ impl SliceLen for BStr<'_> {
     ghost width_of = { λ s. length (bstr_contents s) };
 
     fn slice_len(&self) -> usize {
-        self.bytes.len()
+        self.window.len()
     }
 }
 
 impl<'i> UpdateSlice for BStr<'i> {
-    fn update_slice(self, inner: &'i [u8], _at: &Checkpoint<BStr<'i>, BStr<'i>>) -> Self {
-        BStr::new(inner)
+    fn update_slice(self, inner: &'i [u8], at: &Checkpoint<BStr<'i>, BStr<'i>>) -> Self {
+        BStr {
+            window: at.inner().window.before(inner.len()),
+        }
     }
 }
 
@@ -226,7 +237,7 @@ impl AsBStr for BStr<'_> {
     ghost text_bytes = { λ s. bstr_contents s };
 
     fn as_bstr(&self) -> &[u8] {
-        self.bytes
+        self.inner()
     }
 }
 
@@ -269,7 +280,7 @@ impl<T: ByteLiteral> Compare<T> for BStr<'_> {
     ghost literal_width = { λ literal. length (T.literal_bytes literal) };
 
     fn compare(&self, t: T) -> CompareResult {
-        t.compare_with(self.bytes)
+        t.compare_with(self.inner())
     }
 }
 
@@ -279,7 +290,7 @@ impl<T: ByteNeedles> FindSlice<T> for BStr<'_> {
     ghost found = { λ needles r. hit (T.needle_bytes needles) (bytes_of r) };
 
     fn find_slice(&self, substr: T) -> Option<Range<usize>> {
-        substr.find_in(self.bytes)
+        substr.find_in(self.inner())
     }
 }
 
@@ -291,7 +302,7 @@ impl fmt::Display for BStr<'_> {
     ghost styled_output = { λ s spec. Some (lossy_text (spec_precision spec) (bstr_contents s)) };
 
     fn fmt<W: fmt::Write>(&self, f: &mut fmt::Formatter<W>) -> fmt::Result {
-        write_lossy(self.bytes, f)
+        write_lossy(self.inner(), f)
     }
 }
 
@@ -307,7 +318,7 @@ impl fmt::Debug for BStr<'_> {
             (styled_debug_text (spec_alternate (formatter_spec f.old)) (bstr_contents self.now))
             f.new }
     {
-        write_debug(self.bytes, f)
+        write_debug(self.inner(), f)
     }
 }
 
@@ -339,7 +350,7 @@ impl<'i> From<BStr<'i>> for &'i [u8] {
     ghost from_gives = { λ s bytes. bytes.now ≡ bstr_contents s };
 
     fn from(s: BStr<'i>) -> Self {
-        s.bytes
+        s.inner()
     }
 }
 
@@ -349,7 +360,7 @@ impl PartialEq for BStr<'_> {
     ghost laws = { on_per bstr_contents (partial_equiv_from_equiv nat_list_eq_equiv) };
 
     fn eq(&self, other: &Self) -> bool {
-        self.bytes == other.bytes
+        self.inner() == other.inner()
     }
 }
 
@@ -377,7 +388,7 @@ impl Ord for BStr<'_> {
     ghost matches_eq = { λ s t. texts_ties (bstr_contents s) (bstr_contents t) };
 
     fn cmp(&self, other: &Self) -> Ordering {
-        self.bytes.cmp(other.bytes)
+        self.inner().cmp(other.inner())
     }
 }
 
@@ -387,6 +398,6 @@ impl Hash for BStr<'_> {
     ghost respects_eq = { Prim.search (hashing, rules) };
 
     fn hash<H: Hasher>(&self, state: &mut H) {
-        self.bytes.hash(state);
+        self.inner().hash(state);
     }
 }

@@ -1,0 +1,13 @@
+use Rattle.std.proofs.Common.{length, take, ap, ◌∙◌}
+use Rattle.winnow_stream.specs.Checkpoint.{checkpoint_inner}
+use Rattle.winnow_stream.specs.Source.{units}
+use Rattle.winnow_window.proofs.lemmas.FrontLemmas.{take-front}
+use Rattle.winnow_kinds.specs.TextContents.{bstr_contents}
+use Rattle.winnow_kinds.proofs.text.BStrUpdateSlice.update_slice.Goals as goal
+
+pub returns-clause-remains : goal.returns-clause-remains
+returns-clause-remains c n h e =
+    let inner = c.args.inner.now in
+    let whole = bstr_contents (checkpoint_inner c.args.at.now) in
+    let cut = c.before-2.ensures.contents ∙ ap (λ s. take (length inner) (bstr_contents s)) c.inner.ensures in
+    ap units (cut ∙ take-front inner whole n h e) ∙ e
