@@ -4,23 +4,24 @@ use Rattle.std.specs.Borrow.{Bor, RattleType}
 use Rattle.winnow_stream.specs.Source.{Source, width}
 use Rattle.winnow_stream.specs.Checkpoint.{checkpoint_inner}
 use Rattle.winnow_stream.specs.declared.checkpoint.Checkpoint.{Checkpoint}
+use Rattle.winnow_window.specs.Contents.{contents_of, slice_of, start_of}
 use Rattle.winnow_views.specs.TokenSources.{tokens_of, width-tokens_of}
 use Rattle.winnow_views.specs.declared.token_slice.TokenSlice.{TokenSlice}
 use Rattle.winnow_views.specs.declared.token_view.TokenView.{TokenView}
 
 -- of a view: the elements that remain, the same as tokens (a reference to each element), and its place
 abbrev pub rest_in : {T : Type 0} → TokenView T → List T
-rest_in v = v.rest.now
+rest_in v = contents_of v.window
 
 abbrev pub remaining_in : (R : RattleType) → TokenView R.Denot → Source (Bor R.Denot)
-remaining_in R v = tokens_of R v.rest
+remaining_in R v = tokens_of R (slice_of R v.window)
 
 abbrev pub place_in : {T : Type 0} → TokenView T → ℕ
-place_in v = v.place
+place_in v = start_of v.window
 
 -- the width that remains of a view is the number of its elements
 pub width-remaining_in : (R : RattleType) (v : TokenView R.Denot) → width (remaining_in R v) ≡ length (rest_in v)
-width-remaining_in R v = width-tokens_of R v.rest
+width-remaining_in R v = width-tokens_of R (slice_of R v.window)
 
 -- the whole list, taken or not
 abbrev pub whole_of : {T : Type 0} → TokenSlice T → Bor (List T)

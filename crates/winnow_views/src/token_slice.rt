@@ -15,13 +15,13 @@ use crate::{PreviousTokens, TokenOffsets, TokenView};
 use std::fmt::Debug;
 use std::num::NonZeroUsize;
 use winnow_stream::{Checkpoint, Needed, Rest, Stream};
+use winnow_window::Window;
 
 /// The tokens that a lexer made, as a stream that lends them: its token is a `&T`, of width 1.
 ///
 /// It knows the whole list and its place there: how many tokens were taken before what remains. `reset` takes the place of
 /// the checkpoint, and a window the place of the checkpoint where it begins.
 #[derive_where(Clone, Copy)]
-#[derive_where(PartialEq, Eq; T)]
 pub struct TokenSlice<'t, T> {
     pub(crate) whole: &'t [T],
     pub(crate) view: TokenView<'t, T>,
@@ -38,8 +38,7 @@ impl<'t, T> TokenSlice<'t, T> {
         TokenSlice {
             whole: tokens,
             view: TokenView {
-                rest: tokens,
-                place: 0,
+                window: Window::new(tokens),
             },
         }
     }
@@ -49,7 +48,7 @@ impl<'t, T> TokenSlice<'t, T> {
         ensures value { result.now ≡ rest_of self.now }
         ensures tokens { tokens_of T.row result ≡ remaining_of T.row self.now }
     {
-        self.view.rest
+        self.view.window.slice()
     }
 
     /// Goes back to the whole list, also out of a window.
@@ -82,7 +81,7 @@ impl<'t, T> TokenSlice<'t, T> {
     pub(crate) fn next_left(&self) -> Option<&'t T>
         ensures { option_copied result ≡ next_of self.now }
     {
-        self.view.rest.first()
+        self.view.window.slice().first()
     }
 
     // The tokens of the whole list before the place.
@@ -90,7 +89,7 @@ impl<'t, T> TokenSlice<'t, T> {
     fn taken(&self) -> &'t [T]
         ensures { result.now ≡ taken_of self.now }
     {
-        &self.whole[..self.view.place.min(self.whole.len())]
+        &self.whole[..self.view.window.start().min(self.whole.len())]
     }
 }
 
@@ -141,11 +140,11 @@ impl<'t, T: Debug> Stream for TokenSlice<'t, T> {
     ghost keeps_transitive = { λ _ _ _ p q. p ∙ q };
 
     fn iter_offsets(&self) -> TokenOffsets<'t, T> {
-        TokenOffsets::new(self.view.rest)
+        TokenOffsets::new(self.view.window.slice())
     }
 
     fn eof_offset(&self) -> usize {
-        self.view.rest.len()
+        self.view.window.len()
     }
 
     fn next_token(&mut self) -> Option<&'t T>
@@ -155,7 +154,7 @@ impl<'t, T: Debug> Stream for TokenSlice<'t, T> {
         ensures kept { whole_of self.old ≡ whole_of self.new }
         ensures place { place_of self.new ≡ place_of self.old + min 1 (length (rest_of self.old)) }
     {
-        let rest = self.view.rest;
+        let rest = self.view.window.slice();
         if rest.is_empty() {
             return None;
         }
@@ -164,7 +163,7 @@ impl<'t, T: Debug> Stream for TokenSlice<'t, T> {
     }
 
     fn peek_token(&self) -> Option<&'t T> {
-        let rest = self.view.rest;
+        let rest = self.view.window.slice();
         if rest.is_empty() {
             return None;
         }
@@ -172,14 +171,14 @@ impl<'t, T: Debug> Stream for TokenSlice<'t, T> {
     }
 
     fn offset_at(&self, tokens: usize) -> Result<usize, Needed> {
-        match NonZeroUsize::new(tokens.saturating_sub(self.view.rest.len())) {
+        match NonZeroUsize::new(tokens.saturating_sub(self.view.window.len())) {
             Some(missing) => Err(Needed::Size(missing)),
             None => Ok(tokens),
         }
     }
 
     fn is_offset(&self, offset: usize) -> bool {
-        offset <= self.view.rest.len()
+        offset <= self.view.window.len()
     }
 
     fn next_slice(&mut self, offset: usize) -> &'t [T]
@@ -190,13 +189,14 @@ impl<'t, T: Debug> Stream for TokenSlice<'t, T> {
         ensures kept { whole_of self.old ≡ whole_of self.new }
         ensures place { place_of self.new ≡ place_of self.old + offset }
     {
-        let slice = &self.view.rest[..offset];
+        let slice = self.peek_slice(offset);
         self.view = self.view.behind(offset);
         slice
     }
 
     fn peek_slice(&self, offset: usize) -> &'t [T] {
-        &self.view.rest[..offset]
+        let rest = self.view.window.slice();
+        &rest[..offset]
     }
 
     fn finish(&mut self) -> &'t [T]
@@ -206,7 +206,7 @@ impl<'t, T: Debug> Stream for TokenSlice<'t, T> {
         ensures kept { whole_of self.old ≡ whole_of self.new }
         ensures place { place_of self.new ≡ place_of self.old + length (rest_of self.old) }
     {
-        let slice = self.view.rest;
+        let slice = self.view.window.slice();
         self.view = self.view.behind(slice.len());
         slice
     }
@@ -229,6 +229,6 @@ impl<'t, T: Debug> Stream for TokenSlice<'t, T> {
     }
 
     fn offset_since(&self, start: &Checkpoint<TokenView<'t, T>, TokenSlice<'t, T>>) -> usize {
-        start.inner().rest.len() - self.view.rest.len()
+        start.inner().window.len() - self.view.window.len()
     }
 }

@@ -1,4 +1,7 @@
-ghost use Rattle.std.specs.Prelude.{◌≡◌, ℕ, false, [], length, IsTrue, refl};
+ghost use Rattle.std.specs.Prelude.{◌≡◌, ◌&&◌, ℕ, false, [], length, IsTrue, refl};
+ghost use Rattle.std.specs.Cmp.{and_per, and_equiv, on_per, on_equiv};
+ghost use Rattle.std.specs.Cmp.Lexicographic.{pointwise, lists_per, lists_equiv};
+ghost use Rattle.std.specs.Fmt.{debug_list};
 ghost use Rattle.winnow_stream.specs.Source.{first_token};
 ghost use Rattle.winnow_stream.specs.Front.{is_offset, front, IsSomeFront};
 ghost use Rattle.winnow_views.specs.TokenSources.{tokens_of};
@@ -27,7 +30,7 @@ impl<T> SliceLen for TokenSlice<'_, T> {
     ghost width_of = { λ s. length (rest_of s) };
 
     fn slice_len(&self) -> usize {
-        self.view.rest.len()
+        self.view.window.len()
     }
 }
 
@@ -45,8 +48,7 @@ impl<'t, T: Debug> UpdateSlice for TokenSlice<'t, T> {
         ensures place { place_of result ≡ place_at at.now }
     {
         let view = TokenView {
-            rest: inner,
-            place: at.inner().place,
+            window: at.inner().window.before(inner.len()),
         };
         TokenSlice {
             whole: self.whole,
@@ -133,9 +135,27 @@ impl<T: Debug + Eq + Drop> Compare<T> for TokenSlice<'_, T> {
     }
 }
 
+/// Two are equal where their whole lists are and what remains of them is, whatever their places.
+impl<T: PartialEq> PartialEq for TokenSlice<'_, T> {
+    ghost eq = { λ s t. pointwise T.eq (whole_of s).now (whole_of t).now && pointwise T.eq (rest_of s) (rest_of t) };
+
+    ghost laws = { and_per (on_per (λ s. (whole_of s).now) (lists_per T.laws)) (on_per rest_of (lists_per T.laws)) };
+
+    fn eq(&self, other: &Self) -> bool {
+        self.whole == other.whole && self.view == other.view
+    }
+}
+
+impl<T: Eq> Eq for TokenSlice<'_, T> {
+    ghost laws = { and_equiv (on_equiv (λ s. (whole_of s).now) (lists_equiv T.Eq.laws)) (on_equiv rest_of (lists_equiv T.Eq.laws)) };
+}
+
+/// As a list of what remains.
 impl<T: Debug> Debug for TokenSlice<'_, T> {
+    ghost debug_output = { λ s. debug_list T.debug_output (rest_of s) };
+
     fn fmt<W: fmt::Write>(&self, f: &mut fmt::Formatter<W>) -> fmt::Result {
-        self.view.rest.fmt(f)
+        self.view.fmt(f)
     }
 }
 

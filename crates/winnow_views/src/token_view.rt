@@ -1,19 +1,21 @@
-ghost use Rattle.std.specs.Prelude.{◌≡◌, ◌+◌, ◌<◌, ◌^◌, length, ⊤};
+ghost use Rattle.std.specs.Prelude.{◌≡◌, ⊤};
+ghost use Rattle.std.specs.Cmp.{on_per, on_equiv, on_po, on_total};
+ghost use Rattle.std.specs.Cmp.Lexicographic.{pointwise, slice_cmp, slice_partial_cmp, lists_per, lists_equiv, lists_po, lists_total, lists_agrees, lists_ties};
+ghost use Rattle.std.specs.Fmt.{debug_list};
+ghost use Rattle.winnow_views.specs.TokenPlaces.{rest_in};
 
 use std::alloc::AllocError;
+use std::cmp::Ordering;
 use std::fmt;
 use std::fmt::Debug;
+use winnow_window::Window;
 
-/// What remains of a [`TokenSlice`](crate::TokenSlice), and its place in the whole list: what a checkpoint holds.
+/// What remains of a [`TokenSlice`](crate::TokenSlice), and its place in the whole list, which is where it starts there: what a
+/// checkpoint holds.
 ///
 /// Equality and order are those of what remains.
-#[derive_where(PartialEq, Eq, PartialOrd, Ord; T)]
 pub struct TokenView<'t, T> {
-    pub(crate) rest: &'t [T],
-    #[derive_where(skip)]
-    pub(crate) place: usize,
-    // Behind any number of the tokens, the place is a number still.
-    ghost fits: { place + length rest.now < 2 ^ 64 },
+    pub(crate) window: Window<'t, T>,
 }
 
 impl<T> Clone for TokenView<'_, T> {
@@ -28,8 +30,49 @@ impl<T> Clone for TokenView<'_, T> {
 
 impl<T> Copy for TokenView<'_, T> {}
 
+impl<T: PartialEq> PartialEq for TokenView<'_, T> {
+    ghost eq = { λ s t. pointwise T.eq (rest_in s) (rest_in t) };
+
+    ghost laws = { on_per rest_in (lists_per T.laws) };
+
+    fn eq(&self, other: &Self) -> bool {
+        self.window.slice() == other.window.slice()
+    }
+}
+
+impl<T: Eq> Eq for TokenView<'_, T> {
+    ghost laws = { on_equiv rest_in (lists_equiv T.Eq.laws) };
+}
+
+impl<T: PartialOrd> PartialOrd for TokenView<'_, T> {
+    ghost partial_cmp = { λ s t. slice_partial_cmp T.partial_cmp (rest_in s) (rest_in t) };
+
+    ghost laws = { on_po rest_in (lists_po T.PartialOrd.laws) };
+
+    fn partial_cmp(&self, other: &Self) -> Option<Ordering> {
+        self.window.slice().partial_cmp(&other.window.slice())
+    }
+}
+
+impl<T: Ord> Ord for TokenView<'_, T> {
+    ghost cmp = { λ s t. slice_cmp T.cmp (rest_in s) (rest_in t) };
+
+    ghost total = { on_total rest_in (lists_total T.total) };
+
+    ghost matches_partial_cmp = { λ s t. lists_agrees T.matches_partial_cmp (rest_in s) (rest_in t) };
+
+    ghost matches_eq = { λ s t. lists_ties T.cmp T.matches_eq (rest_in s) (rest_in t) };
+
+    fn cmp(&self, other: &Self) -> Ordering {
+        self.window.slice().cmp(&other.window.slice())
+    }
+}
+
+/// As a list of what remains.
 impl<T: Debug> Debug for TokenView<'_, T> {
+    ghost debug_output = { λ s. debug_list T.debug_output (rest_in s) };
+
     fn fmt<W: fmt::Write>(&self, f: &mut fmt::Formatter<W>) -> fmt::Result {
-        self.rest.fmt(f)
+        self.window.slice().fmt(f)
     }
 }

@@ -14,8 +14,7 @@ impl<'t, T> TokenView<'t, T> {
         ensures place { place_in result ≡ place_in self.entry + tokens }
     {
         TokenView {
-            rest: &self.rest[tokens..],
-            place: self.place + tokens,
+            window: self.window.behind(tokens),
         }
     }
 }
@@ -28,6 +27,6 @@ impl<T> Rest for TokenView<'_, T> {
 
 impl<'t, T> Offset<TokenView<'t, T>> for TokenView<'t, T> {
     fn offset_from(&self, start: &TokenView<'t, T>) -> usize {
-        start.rest.len() - self.rest.len()
+        start.window.len() - self.window.len()
     }
 }

@@ -1,5 +1,5 @@
 -- A slice of tokens as a source: the lemmas on units, for references to the elements.
-use Rattle.std.proofs.Common.{◌≡◌, ℕ, zero, suc, ◌+◌, ◌*◌, ◌-◌, ◌≤◌, leb, true, List, [], ◌∷◌, length, take, drop, refl, ap, sym, ◌∙◌, arith, IsTrue, take_all, length-drop, length-take}
+use Rattle.std.proofs.Common.{◌≡◌, ℕ, zero, suc, ◌+◌, ◌*◌, ◌-◌, ◌≤◌, leb, true, List, [], ◌∷◌, length, take, drop, refl, ap, sym, ◌∙◌, arith, IsTrue, map, take_all, length-drop}
 use Rattle.std.specs.Prelude.{Ok, Err, Some, min}
 use Rattle.std.specs.Borrow.{Bor, RattleType}
 use Rattle.std.specs.Mem.{type_size}
@@ -7,13 +7,16 @@ use Rattle.std.specs.Int.NonZero.{non_zero_usize_get}
 use Rattle.std.specs.declared.num.NonZeroUsize.{NonZeroUsize}
 use Rattle.winnow_stream.specs.declared.needed.Needed.TheVariants.{Size}
 use Rattle.winnow_stream.specs.Source.{units, width, IsEndOf, first_token}
-use Rattle.winnow_stream.specs.Front.{is_offset, count_to, front, back}
+use Rattle.winnow_stream.specs.Front.{is_offset, front, back}
 use Rattle.winnow_stream.specs.Shortage.{offset_at}
 use Rattle.winnow_stream.specs.Units.{width-units}
 use Rattle.winnow_stream.proofs.lemmas.FrontLemmas.{width-end}
 use Rattle.winnow_stream.proofs.lemmas.UnitLemmas.{length-units, is_offset-units, le-from_is_offset, units-take, count_to-units, front-units, offset_at-units_short, offset_at-units_fits}
 use Rattle.std.proofs.lemmas.Bool.Decides.{nat_tests}
 use Rattle.std.proofs.lemmas.List.{drop-map, drop_all}
+use Rattle.winnow_window.specs.Contents.{slice_before}
+use Rattle.winnow_window.proofs.lemmas.FrontLemmas.{take-front}
+use Rattle.winnow_window.proofs.lemmas.FrontLemmas.{le-from_front as le-from_units}
 use Rattle.winnow_views.specs.TokenSources.{references, tokens_of, length-references, width-tokens_of}
 
 -- references to a part of the list: those of the whole at its places
@@ -27,6 +30,14 @@ references-drop size at zero xs = ap (λ o. references size (at.0, o) xs) (omega
 references-drop size at (suc n) [] = refl
 references-drop size at (suc n) (x ∷ xs) =
     ap (λ o. references size (at.0, o) (drop n xs)) (omega arith) ∙ references-drop size (at.0, size + at.1) n xs
+
+-- the elements that are referred to
+abbrev values : {T : Type 0} → List (Bor T) → List T
+values xs = map (λ x. x.now) xs
+
+values-references : {T : Type 0} (size : ℕ) (at : ℕ × ℕ) (xs : List T) → values (references size at xs) ≡ xs
+values-references size at [] = refl
+values-references size at (x ∷ xs) = ap (λ ys. x ∷ ys) (values-references size (at.0, size + at.1) xs)
 
 pub tokens_of-drop : {T : Type 0} (size : ℕ) (at : ℕ × ℕ) (n : ℕ) (xs : List T) → units (references size (at.0, n * size + at.1) (drop n xs)) ≡ drop n (units (references size at xs))
 tokens_of-drop size at n xs = ap units (references-drop size at n xs) ∙ sym (drop-map (λ x. (x, 1)) n (references size at xs))
@@ -90,12 +101,27 @@ module _ (R : RattleType) where
   pub le-from_end : (s whole : Bor (List R.Denot)) → IsEndOf (tokens_of R s) (tokens_of R whole) → length s.now ≤ length whole.now
   le-from_end s whole h = let w = width-end (tokens_of R s) (tokens_of R whole) h in omega (arith, w, width-tokens_of R s, width-tokens_of R whole)
 
-  -- what is a front of a slice is no longer
-  pub le-from_front : (s whole : Bor (List R.Denot)) (n : ℕ) → tokens_of R s ≡ front (tokens_of R whole) n → length s.now ≤ length whole.now
-  le-from_front s whole n e =
-      let l = length-take (count_to (tokens_of R whole) n) (tokens_of R whole) in
-      let a = length-tokens_of (type_size R) s.ref_ptr s.now in
-      let b = length-tokens_of (type_size R) whole.ref_ptr whole.now in
-      omega (arith, l, ap length e, a, b)
+  -- a front of a slice: it is no longer, and is so many of its elements
+  module _ (s whole : Bor (List R.Denot)) (n : ℕ) (h : IsTrue (is_offset (tokens_of R whole) n)) (e : tokens_of R s ≡ front (tokens_of R whole) n) where
+    abbrev part : List (Bor R.Denot)
+    part = references (type_size R) s.ref_ptr s.now
+
+    abbrev all : List (Bor R.Denot)
+    all = references (type_size R) whole.ref_ptr whole.now
+
+    count : length part ≡ length s.now
+    count = length-references (type_size R) s.ref_ptr s.now
+
+    pub le-from_front : length s.now ≤ length whole.now
+    le-from_front = let l = le-from_units part all n h e in omega (arith, l, count, length-references (type_size R) whole.ref_ptr whole.now)
+
+    same : references (type_size R) whole.ref_ptr (take (length s.now) whole.now) ≡ references (type_size R) s.ref_ptr s.now
+    same = references-take (type_size R) whole.ref_ptr (length s.now) whole.now ∙ ap (λ k. take k all) (sym count) ∙ take-front part all n h e
+
+    pub tokens_of-before : tokens_of R (slice_before (length s.now) whole) ≡ tokens_of R s
+    tokens_of-before = ap units same
+
+    pub now-before : take (length s.now) whole.now ≡ s.now
+    now-before = sym (values-references (type_size R) whole.ref_ptr (take (length s.now) whole.now)) ∙ ap values same ∙ values-references (type_size R) s.ref_ptr s.now
 
 pub ruleset token_steps = (tokens_of-drop, length-tokens_of, width-references, is_offset-tokens_of, le-from_offset, front-tokens_of, offset_at-short, offset_at-fits, part-tokens_of, front_all-tokens_of, drop_all-tokens_of, back-units)

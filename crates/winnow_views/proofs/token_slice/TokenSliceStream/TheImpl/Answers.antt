@@ -1,12 +1,13 @@
 -- Each call moves the place of the trait as it moves that of the slice.
 use Rattle.std.specs.Mem.{type_size}
 use Rattle.std.proofs.Common.{ap, Some}
+use Rattle.winnow_window.specs.Contents.{slice_of}
 use Rattle.winnow_views.proofs.lemmas.TokenLemmas.{place-first, place-all}
 use Rattle.winnow_views.proofs.token_slice.TokenSliceStream.TheImpl.Goals as goal
 
 pub next_token-tells : goal.next_token-tells
 next_token-tells g x c =
-    let rest = c.args.self.now.view.rest in
+    let rest = slice_of g.row.T c.args.self.now.view.window in
     record {
       answer = c.ensures.answer;
       remains = c.ensures.remains;
@@ -26,7 +27,7 @@ next_slice-tells g x c = record {
 
 pub finish-tells : goal.finish-tells
 finish-tells g x c =
-    let rest = c.args.self.now.view.rest in
+    let rest = slice_of g.row.T c.args.self.now.view.window in
     record {
       answer = c.ensures.answer;
       remains = c.ensures.remains;

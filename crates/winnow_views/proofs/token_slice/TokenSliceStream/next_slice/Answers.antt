@@ -1,9 +1,0 @@
-use Rattle.std.proofs.Common.{sym, length-take-le}
-use Rattle.std.specs.Mem.{type_size}
-use Rattle.winnow_views.proofs.lemmas.TokenLemmas.{le-from_offset}
-use Rattle.winnow_views.proofs.token_slice.TokenSliceStream.next_slice.Goals as goal
-
-pub slice_bounds-slice-end : goal.slice_bounds-slice-end
-slice_bounds-slice-end g c =
-    let rest = c.args.self.now.view.rest in
-    sym (length-take-le c.args.offset rest.now (le-from_offset (type_size g.row.T) rest.ref_ptr rest.now c.args.offset c.requires.offset))
