@@ -9,6 +9,8 @@ use winnow_match::{Compare, CompareResult, FindSlice, Needles, stretch};
 use winnow_stream::AsBStr;
 
 /// The needles as bytes.
+// It and what follows are compiled into the one look that calls them: needles that are handed on are copied through memory.
+#[inline(always)]
 pub(crate) fn needle_bytes<L: AsBStr>(needles: &Needles<L>) -> Needles<&[u8]>
     ensures { bytes_of_needles result ≡ needle_list L.text_bytes needles.now }
 {
@@ -20,6 +22,7 @@ pub(crate) fn needle_bytes<L: AsBStr>(needles: &Needles<L>) -> Needles<&[u8]>
 }
 
 // What follows the first n bytes.
+#[inline(always)]
 fn behind(bytes: &[u8], n: usize) -> &[u8]
     requires { n ≤ length bytes.now }
     ensures { result.now ≡ drop n bytes.now }
@@ -37,11 +40,16 @@ fn compare_all(literal: &[u8], bytes: &[u8]) -> CompareResult
 
 // The first place of a needle in the bytes.
 #[tactic(auto, using(crate::proofs::lemmas::LookLemmas::hits_fit))]
+#[inline(always)]
 fn find_all(needles: &Needles<&[u8]>, bytes: &[u8]) -> Option<Range<usize>>
     ensures value { result ≡ hit (bytes_of_needles needles.now) bytes.now }
     ensures fits { IfSome result (λ p. (p.start ≤ p.end) × (p.end ≤ length bytes.now)) }
 {
-    bytes.find_slice(*needles)
+    match needles {
+        Needles::One(a) => bytes.find_slice(*a),
+        Needles::Two(a, b) => bytes.find_slice((*a, *b)),
+        Needles::Three(a, b, c) => bytes.find_slice((*a, *b, *c)),
+    }
 }
 
 /// How the literal compares with the bytes, where so many are the same.
@@ -57,6 +65,7 @@ pub(crate) fn compare_from(literal: &[u8], bytes: &[u8], passed: usize) -> Compa
 }
 
 /// The first place of a needle in the bytes, where none stands before `passed`.
+#[inline(always)]
 pub(crate) fn find_from(needles: &Needles<&[u8]>, bytes: &[u8], passed: usize) -> Option<Range<usize>>
     requires { NoneStands (bytes_of_needles needles.now) bytes.now passed }
     ensures { result ≡ hit (bytes_of_needles needles.now) bytes.now }
@@ -69,6 +78,7 @@ pub(crate) fn find_from(needles: &Needles<&[u8]>, bytes: &[u8], passed: usize) -
 
 /// Whether something was found, and no further input can move it.
 #[tactic(auto, using(crate::proofs::lemmas::PassedLemmas::found_hits))]
+#[inline(always)]
 pub(crate) fn stays_found(needles: &Needles<&[u8]>, bytes: &[u8], found: &Option<Range<usize>>) -> bool
     requires { found.now ≡ hit (bytes_of_needles needles.now) bytes.now }
     ensures { result ≡ hit_is_definite (bytes_of_needles needles.now) bytes.now }
