@@ -29,4 +29,7 @@ pub use winnow_stream::{
     front_law, held_law, offset_law, shortage_law, slice_law, span_law, taken_law, text_slice_law,
 };
 pub use winnow_views::{PreviousTokens, TokenOffsets, TokenSlice, TokenView, token_equality_law};
-pub use winnow_wrap::{LocatingSlice, Partial, Placed, Stateful};
+pub use winnow_wrap::{
+    LocatingSlice, Partial, Placed, Stateful, located_equality_law, located_order_law,
+    marked_equality_law, marked_order_law, stateful_equality_law,
+};
