@@ -1,8 +1,10 @@
-ghost use Rattle.std.specs.Prelude.{◌≡◌, ℕ, ◌+◌, ◌≤◌, ◌<◌, ◌^◌, ◌∷◌, ◌++◌, [], List, Option, false, length, vec_len, vec_capacity};
+ghost use Rattle.std.specs.Prelude.{◌≡◌, ℕ, ◌+◌, ◌≤◌, ◌<◌, ◌^◌, ◌∷◌, ◌++◌, [], List, Option, false};
+ghost use Rattle.std.specs.Prelude.{length, vec_len, vec_capacity};
 ghost use Rattle.winnow_stream.specs.Source.{width};
 ghost use Rattle.winnow_attempt.specs.Settled.{IsSettled, AreCounted};
 ghost use Rattle.winnow_run.specs.Definite.{is_definite, is_decided};
-ghost use Rattle.winnow_attempt.specs.View.{piece_kind, look_of, seen_of, under, never_definite, Attempts, GivesAnswer};
+ghost use Rattle.winnow_attempt.specs.View.{piece_kind, look_of, seen_of, under, never_definite};
+ghost use Rattle.winnow_attempt.specs.View.{Attempts, GivesAnswer};
 ghost use Rattle.winnow_attempt.specs.declared.told.Told.{Told};
 ghost use Rattle.winnow_run.specs.Searching.{PlacedSearchAnswer};
 
@@ -102,7 +104,7 @@ fn take_back<T: Drop>(told: &mut Vec<Told<T>>) -> PieceAnswer<T>
     }
 }
 
-/// How many tokens remain.
+/// Returns how many tokens remain.
 pub(crate) fn tokens_left<S: Stream + Copy>(rest: S) -> usize
 where
     S::Token: Drop,
@@ -136,7 +138,7 @@ where
     }
 }
 
-/// What a step that waits with this answer has passed for good.
+/// Returns what a step that waits with this answer has passed for good.
 #[tactic(auto, using(crate::proofs::lemmas::PassedLemmas::passes))]
 pub(crate) fn settle<S: Kept, L: AsBStr>(
     step: &SearchStep<CharSet, L>,

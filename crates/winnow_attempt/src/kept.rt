@@ -17,7 +17,7 @@ pub trait Kept: Stream + StreamIsPartial + Copy {
     // The bytes of a token.
     ghost write: { Self.Token → List ℕ };
 
-    /// The bytes that remain.
+    /// Returns the bytes that remain.
     fn bytes(&self) -> &[u8]
         requires { Self.valid self.now }
         ensures { result.now ≡ written write (Self.remaining self.now) };
@@ -27,13 +27,13 @@ pub trait Kept: Stream + StreamIsPartial + Copy {
 
     ghost spell: { ℕ → List ℕ };
 
-    /// The bytes of the first token that a range of the set begins with, if the set holds a token.
+    /// Returns the bytes of the first token that a range of the set begins with, if the set holds a token.
     fn spell_one(&self, alloc: Global, set: &CharSet) -> Result<Option<Vec<u8>>, AllocError>
         ensures told { IfOk result (λ one. option_map (λ bytes. bytes.items) one
             ≡ option_map spell (least_of_first greatest (char_ranges set.now))) }
         ensures refused { OnErr result (IsSome (least_of_first greatest (char_ranges set.now))) };
 
-    /// How many letters change the answer of a call that counts that many tokens, where fewer
+    /// Returns how many letters change the answer of a call that counts that many tokens, where fewer
     /// remain.
     fn letters_to(&self, asked: usize) -> usize
         requires { Self.valid self.now }

@@ -8,7 +8,7 @@ use std::ops::Range;
 use winnow_match::{Compare, CompareResult, FindSlice, Needles, stretch};
 use winnow_stream::AsBStr;
 
-/// The needles as bytes.
+/// Returns the needles as bytes.
 // It and what follows are compiled into the one look that calls them: needles that are handed on are copied through memory.
 #[inline(always)]
 pub(crate) fn needle_bytes<L: AsBStr>(needles: &Needles<L>) -> Needles<&[u8]>
@@ -52,7 +52,7 @@ fn find_all(needles: &Needles<&[u8]>, bytes: &[u8]) -> Option<Range<usize>>
     }
 }
 
-/// How the literal compares with the bytes, where so many are the same.
+/// Returns how the literal compares with the bytes, where so many are the same.
 pub(crate) fn compare_from(literal: &[u8], bytes: &[u8], passed: usize) -> CompareResult
     requires { AreSame literal.now bytes.now passed }
     ensures { result ≡ comparison literal.now bytes.now }
@@ -64,7 +64,7 @@ pub(crate) fn compare_from(literal: &[u8], bytes: &[u8], passed: usize) -> Compa
     }
 }
 
-/// The first place of a needle in the bytes, where none stands before `passed`.
+/// Returns the first place of a needle in the bytes, where none stands before `passed`.
 #[inline(always)]
 pub(crate) fn find_from(needles: &Needles<&[u8]>, bytes: &[u8], passed: usize) -> Option<Range<usize>>
     requires { NoneStands (bytes_of_needles needles.now) bytes.now passed }
@@ -76,7 +76,7 @@ pub(crate) fn find_from(needles: &Needles<&[u8]>, bytes: &[u8], passed: usize) -
     }
 }
 
-/// Whether something was found, and no further input can move it.
+/// Returns whether something was found, and no further input can move it.
 #[tactic(auto, using(crate::proofs::lemmas::PassedLemmas::found_hits))]
 #[inline(always)]
 pub(crate) fn stays_found(needles: &Needles<&[u8]>, bytes: &[u8], found: &Option<Range<usize>>) -> bool
@@ -89,7 +89,7 @@ pub(crate) fn stays_found(needles: &Needles<&[u8]>, bytes: &[u8], found: &Option
     }
 }
 
-/// A place before which no needle stands, whatever follows, where what was found may still move:
+/// Returns a place before which no needle stands, whatever follows, where what was found may still move:
 /// that of the needle that could come to stand there.
 #[tactic(auto, using(crate::proofs::lemmas::PassedLemmas::found_hits))]
 pub(crate) fn searched(needles: &Needles<&[u8]>, bytes: &[u8], found: &Option<Range<usize>>) -> usize

@@ -1,10 +1,12 @@
-ghost use Rattle.std.specs.Prelude.{◌≡◌, ◌+◌, ◌<◌, ◌^◌, ◌≤◌, ◌∷◌, ◌++◌, [], false, slice_get, IsTrue, vec_len, vec_capacity};
+ghost use Rattle.std.specs.Prelude.{◌≡◌, ◌+◌, ◌<◌, ◌^◌, ◌≤◌, ◌∷◌, ◌++◌, [], false, slice_get};
+ghost use Rattle.std.specs.Prelude.{IsTrue, vec_len, vec_capacity};
 ghost use Rattle.winnow_stream.specs.Source.{width, first_offset};
 ghost use Rattle.winnow_stream.specs.Front.{is_offset};
 ghost use Rattle.winnow_stream.specs.Shortage.{offset_at};
 ghost use Rattle.winnow_attempt.specs.Settled.{NoneHeld, AreCounted, IsCallSettled};
 ghost use Rattle.winnow_attempt.specs.View.{held, first_width, call_look, seen_of, under};
-ghost use Rattle.winnow_run.specs.declared.search_script.SearchAnswer.TheVariants as search_answered;
+ghost use Rattle.winnow_run.specs.declared.search_script.SearchAnswer.TheVariants as
+    search_answered;
 
 use crate::Told;
 use crate::kept::Kept;
@@ -105,7 +107,8 @@ fn shown<T: Drop>(
 ) -> Seen
     requires { vec_len told.old < vec_capacity told.old }
     ensures seen { result ≡ record { definite = definite; place = place; marks = false } }
-    ensures items { told.new.items ≡ told.old.items ++ under piece (search_answered.Call answer) ∷ [] }
+    ensures items { told.new.items ≡ told.old.items ++ under piece (search_answered.Call answer)
+        ∷ [] }
     ensures len { vec_len told.new ≡ vec_len told.old + 1 }
     ensures capacity { vec_capacity told.old ≤ vec_capacity told.new }
 {
@@ -129,7 +132,7 @@ where
     rest.eof_offset() - later.eof_offset()
 }
 
-/// The place of the mark of that number, counted from 0, if it was made.
+/// Returns the place of the mark of that number, counted from 0, if it was made.
 #[tactic(auto, using(crate::proofs::lemmas::LookLemmas::marks_read))]
 pub fn mark_at(marks: &[usize], number: usize) -> Option<usize>
     ensures { result ≡ slice_get marks.now number }
@@ -168,7 +171,8 @@ where
     S::Slice: Drop,
     requires valid { S.valid rest }
     requires room { place + width (S.remaining rest) < 2 ^ 64 }
-    requires settled { IsCallSettled (held S.Token.code) call.now (S.remaining rest) passed.width passed.tokens }
+    requires settled { IsCallSettled (held S.Token.code) call.now (S.remaining rest) passed.width
+        passed.tokens }
     requires told_room { vec_len told.old < vec_capacity told.old }
     ensures seen { result ≡ seen_of (call_look
         (held S.Token.code) S.counts_missing place marks.now (S.remaining rest) call.now) }

@@ -86,7 +86,7 @@ where
     }
 }
 
-/// What a step is missing where `rest` remains, of which it has passed so much. It is `None` of a
+/// Returns what a step is missing where `rest` remains, of which it has passed so much. It is `None` of a
 /// step that looks for a token of a set that holds none; memory is refused only where something is
 /// missing.
 pub fn step_missing<S: Kept, L: AsBStr>(

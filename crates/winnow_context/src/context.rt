@@ -1,4 +1,5 @@
-ghost use Rattle.std.specs.Prelude.{◌≡◌, nat_eq, true, None, Some, Ok, refl, IfOk, OnOk, OnErr, option_map, string_bytes, ⊤};
+ghost use Rattle.std.specs.Prelude.{◌≡◌, nat_eq, true, None, Some, Ok, refl, IfOk, OnOk, OnErr};
+ghost use Rattle.std.specs.Prelude.{option_map, string_bytes, ⊤};
 ghost use Rattle.std.specs.Cmp.Lexicographic.{pointwise};
 ghost use Rattle.std.specs.Cmp.Rules.{comparing};
 ghost use Rattle.std.specs.Iterator.{AlwaysYields, IsFinite, ExtendsWithItems};
@@ -6,7 +7,8 @@ ghost use Rattle.std.specs.Option.{option_eq};
 ghost use Rattle.std.specs.Ordering.{on, eq_of_both};
 ghost use Rattle.std.proofs.Common.{rules};
 ghost use Rattle.winnow_context.specs.ContextDebug.{explanation_debug};
-ghost use Rattle.winnow_context.specs.Explanation.{Extends, KeepsAllButOne, pushed, caused_by, unexplained};
+ghost use Rattle.winnow_context.specs.Explanation.{Extends, KeepsAllButOne, pushed, caused_by};
+ghost use Rattle.winnow_context.specs.Explanation.{unexplained};
 
 use crate::ContextItems;
 use std::alloc::{AllocError, Global};
@@ -32,11 +34,12 @@ impl<C> Model for ContextError<C> {
 
     ghost Value = { Explanation C };
 
-    ghost view = { λ e. record { contexts = e.context.items; cause = option_map string_bytes e.cause } };
+    ghost view = { λ e. record
+        { contexts = e.context.items; cause = option_map string_bytes e.cause } };
 }
 
 impl<C: Drop> ContextError<C> {
-    /// The error with no context and no cause.
+    /// Returns the error with no context and no cause.
     pub fn new(alloc: Global) -> Self
         ensures { result ≡ unexplained }
     {
@@ -46,7 +49,7 @@ impl<C: Drop> ContextError<C> {
         }
     }
 
-    /// The error with a cause and no context.
+    /// Returns the error with a cause and no context.
     fn caused_by(alloc: Global, cause: String) -> Self
         ensures { result ≡ caused_by (string_bytes cause) }
     {
@@ -68,7 +71,8 @@ impl<C: Drop> ContextError<C> {
     /// Adds contexts in the order in which they come, which has an end. Where there is no memory for one, it is given up, and those
     /// that came before it stay.
     pub fn extend<U: IntoIterator<Item = C>>(&mut self, contexts: U) -> Result<(), AllocError>
-        requires { (it : U.IntoIter) → U.into_iter_gives contexts it → U.IntoIter.can_next it × IsFinite (U.IntoIter.remaining it) }
+        requires { (it : U.IntoIter) → U.into_iter_gives contexts it → U.IntoIter.can_next it
+            × IsFinite (U.IntoIter.remaining it) }
         ensures ran { ExtendsWithItems U.into_iter_gives U.IntoIter.next_gives Extends
             contexts self.old self.new result }
         ensures refused { OnErr result (KeepsAllButOne U.into_iter_gives U.IntoIter.next_gives
@@ -83,16 +87,17 @@ impl<C: Drop> ContextError<C> {
         Ok(())
     }
 
-    /// The contexts, in the order in which they were added.
+    /// Returns the contexts, in the order in which they were added.
     pub fn context<'s>(&'s self) -> ContextItems<'s, C>
         ensures left { result ≡ self.now.contexts }
         ensures ends { IsFinite (⟦<ContextItems<'s, C> as Iterator>⟧.remaining result) }
-        ensures items { AlwaysYields ⟦<ContextItems<'s, C> as Iterator>⟧.next_gives (λ x. x.now) result self.now.contexts }
+        ensures items { AlwaysYields ⟦<ContextItems<'s, C> as Iterator>⟧.next_gives (λ x. x.now)
+            result self.now.contexts }
     {
         ContextItems::new(self.context.as_slice())
     }
 
-    /// The text of what caused the error, if it was another's error.
+    /// Returns the text of what caused the error, if it was another's error.
     pub fn cause(&self) -> Option<&str>
         ensures { option_map (λ text. text.now) result ≡ self.now.cause }
     {
@@ -102,7 +107,7 @@ impl<C: Drop> ContextError<C> {
         }
     }
 
-    /// The same contexts and cause, where the clone of a context is that context.
+    /// Returns the same contexts and cause, where the clone of a context is that context.
     pub fn clone(&self) -> Result<Self, AllocError>
     where
         C: Clone,
@@ -235,7 +240,8 @@ impl<C: Drop> ErrorConvert<Self> for ContextError<C> {
 }
 
 impl<C: PartialEq> PartialEq for ContextError<C> {
-    ghost eq = { eq_of_both (on (λ e. e.contexts) (pointwise C.eq)) (on (λ e. e.cause) (option_eq (pointwise nat_eq))) };
+    ghost eq = { eq_of_both (on (λ e. e.contexts) (pointwise C.eq))
+        (on (λ e. e.cause) (option_eq (pointwise nat_eq))) };
 
     ghost laws = { Prim.search (comparing, rules) depth 9 };
 

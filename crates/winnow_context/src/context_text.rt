@@ -1,12 +1,13 @@
 ghost use Rattle.std.specs.Prelude.{◌≡◌, Some, option_map};
 ghost use Rattle.winnow_context.specs.Line.{line_output};
-ghost use Rattle.winnow_context.specs.ContextText.{first_label, expected, is_any, values_text, explanation_text};
+ghost use Rattle.winnow_context.specs.ContextText.{first_label, expected, is_any, values_text};
+ghost use Rattle.winnow_context.specs.ContextText.{explanation_text};
 
 use crate::{ContextError, StrContext};
 use std::fmt;
 use winnow_error::write_bare;
 
-/// The first label, if there is one.
+/// Returns the first label, if there is one.
 fn first_label(contexts: &[StrContext]) -> Option<&'static str>
     ensures { option_map (λ text. text.now) result ≡ first_label contexts.now }
 {
@@ -18,7 +19,7 @@ fn first_label(contexts: &[StrContext]) -> Option<&'static str>
     None
 }
 
-/// Whether some value was expected.
+/// Returns whether some value was expected.
 fn is_any_expected(contexts: &[StrContext]) -> bool
     ensures { result ≡ is_any (expected contexts.now) }
 {
@@ -58,7 +59,8 @@ struct Line<'a, T> {
 }
 
 impl<T: fmt::Display> fmt::Display for Line<'_, T> {
-    ghost output = { λ line. line_output line.is_later line.start.now (option_map T.output line.text) };
+    ghost output = { λ line.
+        line_output line.is_later line.start.now (option_map T.output line.text) };
 
     fn fmt<W: fmt::Write>(&self, f: &mut fmt::Formatter<W>) -> fmt::Result {
         let start = self.start;

@@ -1,7 +1,8 @@
 ghost use Rattle.std.specs.Prelude.{◌≡◌, Some};
 ghost use Rattle.winnow_context.specs.ContextText.{value_text, context_text, char_text};
 ghost use Rattle.winnow_context.specs.ContextDebug.{value_debug, context_debug};
-ghost use Rattle.winnow_context.specs.declared.str_context.StrContextValue.TheVariants.{CharLiteral, StringLiteral};
+ghost use Rattle.winnow_context.specs.declared.str_context.StrContextValue.TheVariants.{CharLiteral};
+ghost use Rattle.winnow_context.specs.declared.str_context.StrContextValue.TheVariants.{StringLiteral};
 
 use crate::variants::write_variant;
 use std::fmt;

@@ -1,4 +1,5 @@
-ghost use Rattle.std.specs.Prelude.{ℕ, ◌+◌, ◌<◌, ◌^◌, List, [], ◌∷◌, ◌++◌, length, Option, IfOk, OnOk, OnErr, ⊤};
+ghost use Rattle.std.specs.Prelude.{ℕ, ◌+◌, ◌<◌, ◌^◌, List, [], ◌∷◌, ◌++◌, length, Option, IfOk};
+ghost use Rattle.std.specs.Prelude.{OnOk, OnErr, ⊤};
 
 use std::alloc::{AllocError, Global};
 

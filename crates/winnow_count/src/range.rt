@@ -1,4 +1,4 @@
-ghost use Rattle.std.specs.Prelude.{◌≡◌, ◌-◌, Some, None, ⊤, MatchOption};
+ghost use Rattle.std.specs.Prelude.{◌-◌, Some, None, ⊤, MatchOption};
 ghost use Rattle.std.specs.declared.ops.Bound.TheVariants.{Included, Unbounded};
 ghost use Rattle.std.specs.Range.{range_inclusive_start, range_inclusive_end};
 ghost use Rattle.std.specs.Option.{option_map_or};

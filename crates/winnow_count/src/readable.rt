@@ -1,6 +1,7 @@
-ghost use Rattle.std.specs.Prelude.{◌≡◌, List, ℕ};
+ghost use Rattle.std.specs.Prelude.{List, ℕ};
 ghost use Rattle.std.specs.Int.{w8, w16, w32, w64, w128};
-ghost use Rattle.winnow_count.specs.Reading.{IsSomeExactly, ReadsUnsigned, ReadsSigned, ReadsBool, ReadsChar};
+ghost use Rattle.winnow_count.specs.Reading.{IsSomeExactly, ReadsUnsigned, ReadsSigned, ReadsBool};
+ghost use Rattle.winnow_count.specs.Reading.{ReadsChar};
 
 /// A type whose values are read from a text without memory: a whole-number type, `bool` or `char`.
 pub trait Readable: Sized {

@@ -11,7 +11,7 @@ pub trait AddContext<I: Stream, C>: Sized {
     // Whether `add_context` may be refused for want of memory.
     ghost add_context_refusable: { Type 0 };
 
-    /// The error, told that a parser that began at `token_start` was reading `context`.
+    /// Returns the error, told that a parser that began at `token_start` was reading `context`.
     fn add_context(
         self,
         alloc: Global,

@@ -11,7 +11,7 @@ pub trait AssociativeOr<I: Stream>: ParserError<I> {
     // The error of two.
     ghost joined: { Self → Self → Self };
 
-    /// What `or` answers of two alternatives, which is never refused.
+    /// Returns what `or` answers of two alternatives, which is never refused.
     fn join(self, alloc: Global, other: Self) -> Self
         ensures { result ≡ joined self other }
     {

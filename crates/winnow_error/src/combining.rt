@@ -24,8 +24,10 @@ pub fn combine<I: Stream, E: ParserError<I>>(
     tree: OrTree<ErrMode<E>>,
 ) -> Result<ErrMode<E>, AllocError>
     ensures bracketed { IfOk result (Bracketed (ModeOr E.or_gives) tree) }
-    ensures non_backtrack { (join : E → E → E) → HasNonBacktrack (leaves tree) → IfOk result (λ r. pick join (leaves tree) ≡ Some r) }
-    ensures associative { (join : E → E → E) → GivesOnly E.or_gives join → IsAssociative join → IfOk result (λ r. pick join (leaves tree) ≡ Some r) }
+    ensures non_backtrack { (join : E → E → E) → HasNonBacktrack (leaves tree)
+        → IfOk result (λ r. pick join (leaves tree) ≡ Some r) }
+    ensures associative { (join : E → E → E) → GivesOnly E.or_gives join → IsAssociative join
+        → IfOk result (λ r. pick join (leaves tree) ≡ Some r) }
     ensures err { OnErr result E.or_refusable }
 {
     join_tree::<I, E>(alloc, tree)

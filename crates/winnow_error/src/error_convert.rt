@@ -10,7 +10,7 @@ pub trait ErrorConvert<E>: Sized {
     // Whether `convert` may be refused for want of memory.
     ghost convert_refusable: { Type 0 };
 
-    /// The same error as an `E`.
+    /// Returns the same error as an `E`.
     fn convert(self, alloc: Global) -> Result<E, AllocError>
         ensures ok { IfOk result (convert_gives self) }
         ensures err { OnErr result convert_refusable };

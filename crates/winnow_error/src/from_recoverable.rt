@@ -7,7 +7,7 @@ pub trait FromRecoverableError<I: Stream, E>: Sized {
     // What is recorded of an error, by where the parser began, where the error came, and the input.
     ghost recovered: { I.Checkpoint → I.Checkpoint → I → E → Self };
 
-    /// What is recorded of an error from which a parser that began at `token_start` recovered.
+    /// Returns what is recorded of an error from which a parser that began at `token_start` recovered.
     fn from_recoverable_error(
         token_start: &I::Checkpoint,
         err_start: &I::Checkpoint,

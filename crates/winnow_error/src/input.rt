@@ -1,4 +1,5 @@
-ghost use Rattle.std.specs.Prelude.{◌≡◌, ◌++◌, true, None, Ok, Some, refl, codes, IfOk, string_bytes};
+ghost use Rattle.std.specs.Prelude.{◌≡◌, ◌++◌, true, None, Ok, Some, refl, codes, IfOk};
+ghost use Rattle.std.specs.Prelude.{string_bytes};
 ghost use Rattle.std.specs.Fmt.{◌++?◌};
 
 use crate::{
@@ -16,14 +17,14 @@ pub struct InputError<I> {
 }
 
 impl<I> InputError<I> {
-    /// The error at an input.
+    /// Returns the error at an input.
     pub fn at(input: I) -> Self
         ensures { result ≡ record { input = input } }
     {
         InputError { input }
     }
 
-    /// The error at what `op` makes of the input.
+    /// Returns the error at what `op` makes of the input.
     pub fn map_input<I2, F: Fn(I) -> I2>(self, op: F) -> InputError<I2>
     where
         F: Drop,
@@ -37,7 +38,7 @@ impl<I> InputError<I> {
 }
 
 impl InputError<&[u8]> {
-    /// The error with a copy of the bytes.
+    /// Returns the error with a copy of the bytes.
     pub fn into_owned(self, alloc: Global) -> Result<InputError<Vec<u8>>, AllocError>
         ensures { IfOk result (λ r. r.input.items ≡ self.entry.input.now) }
     {
@@ -48,7 +49,7 @@ impl InputError<&[u8]> {
 }
 
 impl InputError<&str> {
-    /// The error with a copy of the text.
+    /// Returns the error with a copy of the text.
     pub fn into_owned(self, alloc: Global) -> Result<InputError<String>, AllocError>
         ensures { IfOk result (λ r. string_bytes r.input ≡ self.entry.input.now) }
     {

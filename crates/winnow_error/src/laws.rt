@@ -1,6 +1,7 @@
 ghost use Rattle.std.specs.Prelude.{◌≡◌, IsSome};
 ghost use Rattle.winnow_error.specs.declared.combining.OrTree.{OrTree};
-ghost use Rattle.winnow_error.specs.Mode.{Mode, ModeOr, mode_cut, mode_backtrack, mode_joined, mode_needs};
+ghost use Rattle.winnow_error.specs.Mode.{Mode, ModeOr, mode_cut, mode_backtrack, mode_joined};
+ghost use Rattle.winnow_error.specs.Mode.{mode_needs};
 ghost use Rattle.winnow_error.specs.Or.{GivesOnly, IsAssociative};
 ghost use Rattle.winnow_error.specs.Pick.{leaves, HasNonBacktrack, CombineAlike};
 
@@ -24,6 +25,8 @@ pub fn or_law<I: Stream, E: AssociativeOr<I>>()
 /// The law of brackets: two trees with the same errors in the same order combine to the same error, where the inner `or` is an
 /// associative function, and whatever it is where some error is no `Backtrack`.
 pub fn bracket_law<I: Stream, E: ParserError<I>>()
-    ensures associative { (join : E → E → E) (s t : OrTree (Mode E)) → GivesOnly E.or_gives join → IsAssociative join → leaves s ≡ leaves t → CombineAlike (ModeOr E.or_gives) s t }
-    ensures non_backtrack { (s t : OrTree (Mode E)) → HasNonBacktrack (leaves s) → leaves s ≡ leaves t → CombineAlike (ModeOr E.or_gives) s t }
+    ensures associative { (join : E → E → E) (s t : OrTree (Mode E)) → GivesOnly E.or_gives join
+        → IsAssociative join → leaves s ≡ leaves t → CombineAlike (ModeOr E.or_gives) s t }
+    ensures non_backtrack { (s t : OrTree (Mode E)) → HasNonBacktrack (leaves s)
+        → leaves s ≡ leaves t → CombineAlike (ModeOr E.or_gives) s t }
 {}

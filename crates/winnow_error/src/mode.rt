@@ -1,8 +1,11 @@
 ghost use Rattle.std.specs.Prelude.{◌≡◌, is_some, IfOk, OnErr, IsNone, IsTrue};
-ghost use Rattle.winnow_error.specs.Mode.{mode_needs, mode_backtracks, mode_inner, mode_cut, mode_backtrack, mode_map, mode_joined, IsBacktrackOf, IsCutOf, IfInner, ModeMaps, ModeAppends, ModeOr};
+ghost use Rattle.winnow_error.specs.Mode.{mode_needs, mode_backtracks, mode_inner, mode_cut};
+ghost use Rattle.winnow_error.specs.Mode.{mode_backtrack, mode_map, mode_joined, IsBacktrackOf};
+ghost use Rattle.winnow_error.specs.Mode.{IsCutOf, IfInner, ModeMaps, ModeAppends, ModeOr};
 ghost use Rattle.winnow_error.specs.ModeText.{mode_text};
 ghost use Rattle.winnow_error.specs.declared.mode.ErrMode.TheVariants.{Incomplete};
-ghost use Rattle.winnow_error.specs.ModeLemmas.{mode_cut-cut, mode_backtrack-backtrack, ModeOr-joined, mode_joined-associative};
+ghost use Rattle.winnow_error.specs.ModeLemmas.{mode_cut-cut, mode_backtrack-backtrack};
+ghost use Rattle.winnow_error.specs.ModeLemmas.{ModeOr-joined, mode_joined-associative};
 
 use crate::{
     AddContext, AssociativeOr, ErrorConvert, FromExternalError, FromRecoverableError, InputError,
@@ -27,7 +30,7 @@ pub enum ErrMode<E, N = Needed> {
 }
 
 impl<E> ErrMode<E> {
-    /// Whether more input is needed.
+    /// Returns whether more input is needed.
     pub fn is_incomplete(&self) -> bool
         ensures { result ≡ is_some (mode_needs self.now) }
     {
@@ -54,7 +57,7 @@ impl<E> ErrMode<E> {
         }
     }
 
-    /// The same mode of what `f` makes of the inner error.
+    /// Returns the same mode of what `f` makes of the inner error.
     pub fn map<E2, F: FnOnce(E) -> E2>(self, f: F) -> ErrMode<E2>
     where
         F: Drop,
@@ -68,7 +71,7 @@ impl<E> ErrMode<E> {
         }
     }
 
-    /// The same mode of the converted inner error.
+    /// Returns the same mode of the converted inner error.
     pub fn convert<E2>(self, alloc: Global) -> Result<ErrMode<E2>, AllocError>
     where
         E: ErrorConvert<E2>,
@@ -82,7 +85,7 @@ impl<E> ErrMode<E> {
         }
     }
 
-    /// The inner error. `Incomplete` has none, and comes back.
+    /// Returns the inner error. `Incomplete` has none, and comes back.
     pub fn into_inner(self) -> Result<E, Self>
         ensures { result ≡ mode_inner self }
     {
@@ -95,7 +98,7 @@ impl<E> ErrMode<E> {
 }
 
 impl<I> ErrMode<InputError<I>> {
-    /// The same mode at what `f` makes of the input.
+    /// Returns the same mode at what `f` makes of the input.
     pub fn map_input<I2, F: FnOnce(I) -> I2>(self, f: F) -> ErrMode<InputError<I2>>
     where
         F: Drop,
@@ -123,7 +126,8 @@ impl<I: Stream, E: ParserError<I>> ParserError<I> for ErrMode<E> {
 
     ghost incomplete_gives = { λ _ needed e. e ≡ Incomplete needed };
 
-    ghost append_gives = { λ e input token_start. ModeAppends (λ a. E.append_gives a input token_start) e };
+    ghost append_gives = { λ e input token_start.
+        ModeAppends (λ a. E.append_gives a input token_start) e };
 
     ghost append_refusable = { E.append_refusable };
 
@@ -157,7 +161,8 @@ impl<I: Stream, E: ParserError<I>> ParserError<I> for ErrMode<E> {
     ) -> Result<Self, AllocError>
         requires valid { I.valid input.now }
         requires valid_checkpoint { I.valid_checkpoint token_start.now }
-        ensures ok { IfOk result (ModeAppends (λ a. E.append_gives a input.now token_start.now) self) }
+        ensures ok { IfOk result
+            (ModeAppends (λ a. E.append_gives a input.now token_start.now) self) }
         ensures err { OnErr result (IsTrue (mode_backtracks self) × E.append_refusable) }
     {
         match self {
@@ -171,7 +176,8 @@ impl<I: Stream, E: ParserError<I>> ParserError<I> for ErrMode<E> {
 
     fn or(self, alloc: Global, other: Self) -> Result<Self, AllocError>
         ensures ok { IfOk result (ModeOr E.or_gives self other) }
-        ensures err { OnErr result (IsTrue (mode_backtracks self) × IsTrue (mode_backtracks other) × E.or_refusable) }
+        ensures err { OnErr result (IsTrue (mode_backtracks self) × IsTrue (mode_backtracks other)
+            × E.or_refusable) }
     {
         match self {
             ErrMode::Incomplete(first) => Ok(ErrMode::Incomplete(first)),
@@ -237,7 +243,8 @@ impl<E> ModalError for ErrMode<E> {
 }
 
 impl<I: Stream, C: Drop, E: AddContext<I, C>> AddContext<I, C> for ErrMode<E> {
-    ghost add_context_gives = { λ e input token_start context. ModeMaps (λ a. E.add_context_gives a input token_start context) e };
+    ghost add_context_gives = { λ e input token_start context.
+        ModeMaps (λ a. E.add_context_gives a input token_start context) e };
 
     ghost add_context_refusable = { E.add_context_refusable };
 
@@ -250,7 +257,8 @@ impl<I: Stream, C: Drop, E: AddContext<I, C>> AddContext<I, C> for ErrMode<E> {
     ) -> Result<Self, AllocError>
         requires valid { I.valid input.now }
         requires valid_checkpoint { I.valid_checkpoint token_start.now }
-        ensures ok { IfOk result (ModeMaps (λ a. E.add_context_gives a input.now token_start.now context) self) }
+        ensures ok { IfOk result
+            (ModeMaps (λ a. E.add_context_gives a input.now token_start.now context) self) }
         ensures err { OnErr result (IsNone (mode_needs self) × E.add_context_refusable) }
     {
         match self {
@@ -271,7 +279,8 @@ impl<I: Stream, E, E2> FromRecoverableError<I, ErrMode<E2>> for ErrMode<E>
 where
     E: FromRecoverableError<I, E2>,
 {
-    ghost recovered = { λ token_start err_start input. mode_map (E.recovered token_start err_start input) };
+    ghost recovered = { λ token_start err_start input.
+        mode_map (E.recovered token_start err_start input) };
 
     fn from_recoverable_error(
         token_start: &I::Checkpoint,

@@ -43,19 +43,19 @@ pub trait ParserError<I: Stream>: Sized + Drop {
     // How much more input the parser wanted, if that is the error.
     ghost needs: { Self → Option Needed };
 
-    /// The error of a parser that failed at an input.
+    /// Returns the error of a parser that failed at an input.
     fn from_input(alloc: Global, input: &I) -> Self
         ensures { from_input_gives input.now result };
 
-    /// The error of a parser that was used wrongly, as `message` says.
+    /// Returns the error of a parser that was used wrongly, as `message` says.
     fn assert(alloc: Global, input: &I, message: &'static str) -> Self
         ensures { assert_gives input.now result };
 
-    /// The error of a parser that wanted more input.
+    /// Returns the error of a parser that wanted more input.
     fn incomplete(alloc: Global, input: &I, needed: Needed) -> Self
         ensures { incomplete_gives input.now needed result };
 
-    /// The error, told that a parser that began at `token_start` failed because of it.
+    /// Returns the error, told that a parser that began at `token_start` failed because of it.
     fn append(
         self,
         alloc: Global,
@@ -67,24 +67,24 @@ pub trait ParserError<I: Stream>: Sized + Drop {
         ensures ok { IfOk result (append_gives self input.now token_start.now) }
         ensures err { OnErr result append_refusable };
 
-    /// The error of two alternatives that both failed, this one first.
+    /// Returns the error of two alternatives that both failed, this one first.
     fn or(self, alloc: Global, other: Self) -> Result<Self, AllocError>
         ensures ok { IfOk result (or_gives self other) }
         ensures err { OnErr result or_refusable };
 
-    /// Whether another alternative may still be tried.
+    /// Returns whether another alternative may still be tried.
     fn is_backtrack(&self) -> bool
         ensures { result ≡ backtracks self.now };
 
-    /// The error without its mode; where there is none without it, the error comes back.
+    /// Returns the error without its mode; where there is none without it, the error comes back.
     fn into_inner(self) -> Result<Self::Inner, Self>
         ensures { result ≡ inner self };
 
-    /// How much more input the parser wanted, where that is the error.
+    /// Returns how much more input the parser wanted, where that is the error.
     fn needed(&self) -> Option<Needed>
         ensures { result ≡ needs self.now };
 
-    /// Whether the parser wanted more input.
+    /// Returns whether the parser wanted more input.
     fn is_incomplete(&self) -> bool
         ensures { result ≡ is_some (needs self.now) }
     {

@@ -1,4 +1,4 @@
-ghost use Rattle.std.specs.Prelude.{◌≡◌, IfOk, IsOk, OnErr, IfErr};
+ghost use Rattle.std.specs.Prelude.{◌≡◌, IfOk, IsOk, OnErr};
 
 use std::alloc::{AllocError, Global};
 use winnow_context::StrContext;

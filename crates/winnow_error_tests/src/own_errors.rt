@@ -79,7 +79,8 @@ impl<I: Stream> AssociativeOr<I> for Furthest {
 
     ghost or_never_refused = { λ never. never };
 
-    ghost joined_associative = { λ a b c. ap (λ n. record { 0 = n }) (max-associative a.0 b.0 c.0) };
+    ghost joined_associative = { λ a b c.
+        ap (λ n. record { 0 = n }) (max-associative a.0 b.0 c.0) };
 }
 
 /// How far two parsers came apart: an error whose `or` is not associative, so that brackets matter.

@@ -47,7 +47,8 @@ fn drop_front(kept: &mut String, n: usize)
 pub(crate) fn forget_text(kept: &mut String, n: usize)
     requires { IsTrue (is_offset (text_source (string_bytes kept.old)) n) }
     ensures bytes { string_bytes kept.new ≡ drop n (string_bytes kept.old) }
-    ensures source { text_source (string_bytes kept.new) ≡ back (text_source (string_bytes kept.old)) n }
+    ensures source { text_source (string_bytes kept.new)
+        ≡ back (text_source (string_bytes kept.old)) n }
 {
     drop_front(kept, n);
 }

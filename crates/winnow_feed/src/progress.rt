@@ -29,7 +29,8 @@ pub(crate) struct Progress<'k, T, L> {
 // Marks the place, where there is a mark to make and room for it.
 fn push_mark(marks: &mut Vec<usize>, at: usize, makes: bool)
     requires { vec_len marks.old < vec_capacity marks.old }
-    ensures items { marks.new.items ≡ (if makes then marks.old.items ++ at ∷ [] else marks.old.items) }
+    ensures items { marks.new.items
+        ≡ (if makes then marks.old.items ++ at ∷ [] else marks.old.items) }
     ensures len { vec_len marks.new ≤ vec_len marks.old + 1 }
     ensures capacity { vec_capacity marks.old ≤ vec_capacity marks.new }
 {

@@ -1,5 +1,6 @@
-ghost use Rattle.std.specs.Prelude.{◌≡◌, ◌<◌, ◌∷◌, [], ◌++◌, false, codes, IsTrue};
-ghost use Rattle.std.specs.Fmt.{WritesOnOk, WritesStyledOnOk, DisplaysOnOk, DisplaysStyledOnOk, formatter_spec, spec_alternate, digits, digit_glyph};
+ghost use Rattle.std.specs.Prelude.{◌<◌, ◌∷◌, [], ◌++◌, false, codes, IsTrue};
+ghost use Rattle.std.specs.Fmt.{WritesOnOk, WritesStyledOnOk, DisplaysOnOk, DisplaysStyledOnOk};
+ghost use Rattle.std.specs.Fmt.{formatter_spec, spec_alternate, digits, digit_glyph};
 ghost use Rattle.std.specs.List.{flat_map};
 ghost use Rattle.winnow_kinds.specs.Escapes.{escape, is_ascii, debug_text, styled_debug_text};
 

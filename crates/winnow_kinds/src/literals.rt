@@ -12,7 +12,7 @@ pub trait ByteLiteral {
     // The bytes that it stands for.
     ghost literal_bytes: { Self → List ℕ };
 
-    /// How it compares with the front of the bytes.
+    /// Returns how it compares with the front of the bytes.
     fn compare_with(self, bytes: &[u8]) -> CompareResult
         ensures { result ≡ comparison (literal_bytes self) bytes.now };
 }

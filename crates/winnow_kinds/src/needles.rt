@@ -13,7 +13,7 @@ pub trait ByteNeedles {
     // The bytes of each needle, in the order in which they are preferred at one place.
     ghost needle_bytes: { Self → List (List ℕ) };
 
-    /// The least place at which a needle stands in the bytes, up to the end of the first listed needle that stands there.
+    /// Returns the least place at which a needle stands in the bytes, up to the end of the first listed needle that stands there.
     fn find_in(self, bytes: &[u8]) -> Option<Range<usize>>
         ensures { result ≡ hit (needle_bytes self) bytes.now };
 }

@@ -1,8 +1,11 @@
-ghost use Rattle.std.specs.Prelude.{◌≡◌, ◌↔◌, ◌<◌, ◌≤◌, true, false, [], Some, nat_eq, refl, length, slice_get, slice_range, IfOk, IsTrue, ⊤};
+ghost use Rattle.std.specs.Prelude.{◌≡◌, ◌↔◌, ◌<◌, ◌≤◌, true, false, [], Some, nat_eq, refl};
+ghost use Rattle.std.specs.Prelude.{length, slice_get, slice_range, IfOk, IsTrue, ⊤};
 ghost use Rattle.std.specs.Cmp.{partial_equiv_from_equiv, on_per, on_equiv, on_po, on_total};
-ghost use Rattle.std.specs.Cmp.Lexicographic.{pointwise, slice_cmp, nat_list_eq_equiv, nat_list_cmp_total, texts_ties, texts_po};
+ghost use Rattle.std.specs.Cmp.Lexicographic.{pointwise, slice_cmp, nat_list_eq_equiv};
+ghost use Rattle.std.specs.Cmp.Lexicographic.{nat_list_cmp_total, texts_ties, texts_po};
 ghost use Rattle.std.specs.Cmp.Rules.{hashing};
-ghost use Rattle.std.specs.Fmt.{DisplaysOnOk, DisplaysStyledOnOk, formatter_spec, spec_alternate, spec_precision};
+ghost use Rattle.std.specs.Fmt.{DisplaysOnOk, DisplaysStyledOnOk, formatter_spec, spec_alternate};
+ghost use Rattle.std.specs.Fmt.{spec_precision};
 ghost use Rattle.std.specs.Hash as fed;
 ghost use Rattle.std.specs.Ordering.{nat_cmp};
 ghost use Rattle.std.specs.Str.Lossy.{utf8_lossy};
@@ -49,14 +52,14 @@ impl<'i> BStr<'i> {
         }
     }
 
-    /// The bytes that remain.
+    /// Returns the bytes that remain.
     pub fn inner(&self) -> &'i [u8]
         ensures { result.now ≡ bstr_contents self.now }
     {
         self.window.slice()
     }
 
-    /// The byte at a place.
+    /// Returns the byte at a place.
     pub fn at(&self, i: usize) -> u8
         requires { i < length (bstr_contents self.now) }
         ensures { slice_get (bstr_contents self.now) i ≡ Some result }
@@ -64,7 +67,7 @@ impl<'i> BStr<'i> {
         *self.window.at(i)
     }
 
-    /// The bytes from place `a` up to place `b`.
+    /// Returns the bytes from place `a` up to place `b`.
     pub fn slice(&self, a: usize, b: usize) -> Self
         requires ordered { a ≤ b }
         requires within { b ≤ length (bstr_contents self.now) }
@@ -75,35 +78,35 @@ impl<'i> BStr<'i> {
         }
     }
 
-    /// Whether these are the bytes.
+    /// Returns whether these are the bytes.
     pub fn eq_bytes(&self, bytes: &[u8]) -> bool
         ensures { IsTrue result ↔ (bstr_contents self.now ≡ bytes.now) }
     {
         self.inner() == bytes
     }
 
-    /// Whether these are the bytes of the text.
+    /// Returns whether these are the bytes of the text.
     pub fn eq_str(&self, text: &str) -> bool
         ensures { IsTrue result ↔ (bstr_contents self.now ≡ text.now) }
     {
         self.inner() == text.as_bytes()
     }
 
-    /// How these stand to the bytes in the order of the first byte that differs.
+    /// Returns how these stand to the bytes in the order of the first byte that differs.
     pub fn cmp_bytes(&self, bytes: &[u8]) -> Ordering
         ensures { result ≡ slice_cmp nat_cmp (bstr_contents self.now) bytes.now }
     {
         self.inner().cmp(bytes)
     }
 
-    /// How these stand to the bytes of the text in the order of the first byte that differs.
+    /// Returns how these stand to the bytes of the text in the order of the first byte that differs.
     pub fn cmp_str(&self, text: &str) -> Ordering
         ensures { result ≡ slice_cmp nat_cmp (bstr_contents self.now) text.now }
     {
         self.inner().cmp(text.as_bytes())
     }
 
-    /// A copy of the bytes.
+    /// Returns a copy of the bytes.
     pub fn to_vec(&self, alloc: Global) -> Result<Vec<u8>, AllocError>
         ensures { IfOk result (λ v. v.items ≡ bstr_contents self.now) }
     {

@@ -24,7 +24,7 @@ pub trait Compare<T>: Stream {
     // The width of a literal, where it stands in the stream.
     ghost literal_width: { T → ℕ };
 
-    /// How the literal compares with the front of the stream, which stays where it is. The width of an `Ok` is an offset, so
+    /// Returns how the literal compares with the front of the stream, which stays where it is. The width of an `Ok` is an offset, so
     /// that a slice may be taken up to it. Where the answer is `Incomplete`, what remains is less wide than the literal, and
     /// so much is lacking.
     fn compare(&self, t: T) -> CompareResult

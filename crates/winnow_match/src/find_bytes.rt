@@ -36,7 +36,8 @@ impl<'i, 'n> FindSlice<(&'n [u8], &'n [u8])> for &'i [u8] {
 
 #[tactic(auto, using(crate::proofs::lemmas::OffsetLemmas::source_answers))]
 impl<'i, 'n> FindSlice<(&'n [u8], &'n [u8], &'n [u8])> for &'i [u8] {
-    ghost found = { λ needles r. hit (needles.0.now ∷ needles.1.now ∷ needles.2.now ∷ []) (bytes_of r) };
+    ghost found = { λ needles r.
+        hit (needles.0.now ∷ needles.1.now ∷ needles.2.now ∷ []) (bytes_of r) };
 
     fn find_slice(&self, substr: (&'n [u8], &'n [u8], &'n [u8])) -> Option<Range<usize>> {
         find_needles(self, &Needles::Three(substr.0, substr.1, substr.2))
@@ -84,7 +85,8 @@ impl<'i, 'n> FindSlice<(&'n str, &'n str)> for &'i [u8] {
 
 #[tactic(auto, using(crate::proofs::lemmas::OffsetLemmas::source_answers))]
 impl<'i, 'n> FindSlice<(&'n str, &'n str, &'n str)> for &'i [u8] {
-    ghost found = { λ needles r. hit (needles.0.now ∷ needles.1.now ∷ needles.2.now ∷ []) (bytes_of r) };
+    ghost found = { λ needles r.
+        hit (needles.0.now ∷ needles.1.now ∷ needles.2.now ∷ []) (bytes_of r) };
 
     fn find_slice(&self, substr: (&'n str, &'n str, &'n str)) -> Option<Range<usize>> {
         find_needles(
@@ -127,7 +129,8 @@ impl<'i> FindSlice<(u8, u8)> for &'i [u8] {
 
 #[tactic(auto, using(crate::proofs::lemmas::OffsetLemmas::source_answers))]
 impl<'i> FindSlice<(u8, u8, u8)> for &'i [u8] {
-    ghost found = { λ bytes r. hit ((bytes.0 ∷ []) ∷ (bytes.1 ∷ []) ∷ (bytes.2 ∷ []) ∷ []) (bytes_of r) };
+    ghost found = { λ bytes r.
+        hit ((bytes.0 ∷ []) ∷ (bytes.1 ∷ []) ∷ (bytes.2 ∷ []) ∷ []) (bytes_of r) };
 
     fn find_slice(&self, substr: (u8, u8, u8)) -> Option<Range<usize>> {
         find_three_bytes(self, substr.0, substr.1, substr.2)
@@ -177,7 +180,8 @@ impl<'i> FindSlice<(char, char)> for &'i [u8] {
 /// The characters in their UTF-8 form.
 #[tactic(auto, using(crate::proofs::lemmas::OffsetLemmas::source_answers))]
 impl<'i> FindSlice<(char, char, char)> for &'i [u8] {
-    ghost found = { λ cs r. hit (encode_utf8 cs.0 ∷ encode_utf8 cs.1 ∷ encode_utf8 cs.2 ∷ []) (bytes_of r) };
+    ghost found = { λ cs r.
+        hit (encode_utf8 cs.0 ∷ encode_utf8 cs.1 ∷ encode_utf8 cs.2 ∷ []) (bytes_of r) };
 
     fn find_slice(&self, substr: (char, char, char)) -> Option<Range<usize>> {
         let mut first = [0; 4];

@@ -11,7 +11,7 @@ pub trait FindSlice<T>: Stream {
     // What the search finds in what remains.
     ghost found: { T → Source Self.Token → Option (range_declared.Range ℕ) };
 
-    /// The least place at which a needle stands, up to the end of the first listed needle that stands there. Places are
+    /// Returns the least place at which a needle stands, up to the end of the first listed needle that stands there. Places are
     /// counted from where the stream stands, and it stays there. An empty needle stands at once, at `0..0`. Both ends are
     /// offsets, and the end is no nearer than the start, so that what stands before the needle may be taken, and then the
     /// needle.

@@ -39,7 +39,8 @@ impl<'i, 'n> FindSlice<(&'n str, &'n str)> for &'i str {
 
 #[tactic(auto, using(crate::proofs::lemmas::OffsetLemmas::source_answers))]
 impl<'i, 'n> FindSlice<(&'n str, &'n str, &'n str)> for &'i str {
-    ghost found = { λ needles r. hit (needles.0.now ∷ needles.1.now ∷ needles.2.now ∷ []) (utf8_of r) };
+    ghost found = { λ needles r.
+        hit (needles.0.now ∷ needles.1.now ∷ needles.2.now ∷ []) (utf8_of r) };
 
     fn find_slice(&self, substr: (&'n str, &'n str, &'n str)) -> Option<Range<usize>> {
         find_needles(
@@ -101,7 +102,8 @@ impl<'i> FindSlice<(char, char)> for &'i str {
 
 #[tactic(auto, using(crate::proofs::lemmas::OffsetLemmas::source_answers))]
 impl<'i> FindSlice<(char, char, char)> for &'i str {
-    ghost found = { λ cs r. hit (encode_utf8 cs.0 ∷ encode_utf8 cs.1 ∷ encode_utf8 cs.2 ∷ []) (utf8_of r) };
+    ghost found = { λ cs r.
+        hit (encode_utf8 cs.0 ∷ encode_utf8 cs.1 ∷ encode_utf8 cs.2 ∷ []) (utf8_of r) };
 
     fn find_slice(&self, substr: (char, char, char)) -> Option<Range<usize>> {
         let mut first = [0; 4];

@@ -1,4 +1,5 @@
-ghost use Rattle.std.specs.Prelude.{◌≡◌, ℕ, ◌<◌, ◌≤◌, [], ◌∷◌, ◌++◌, List, false, length, slice_index, IfSome, MatchOption};
+ghost use Rattle.std.specs.Prelude.{◌≡◌, ℕ, ◌<◌, ◌≤◌, [], ◌∷◌, ◌++◌, List, false, length};
+ghost use Rattle.std.specs.Prelude.{slice_index, IfSome, MatchOption};
 ghost use Rattle.std.specs.List.{list_any};
 ghost use Rattle.memchr.specs.Find.{IsFirst, Nowhere, NoneBefore};
 ghost use Rattle.winnow_match.specs.Search.{hit, is_empty, needle_at, SomeStands, bytes_of_needles};
@@ -14,7 +15,7 @@ const NEAR_TRIES: usize = 4;
 // How many places the first window of a search for several needles has.
 const FIRST_WINDOW: usize = 256;
 
-/// The first place of the byte.
+/// Returns the first place of the byte.
 #[tactic(auto, using(crate::proofs::lemmas::SearchLemmas::single_bytes))]
 pub(crate) fn find_byte(input: &[u8], byte: u8) -> Option<Range<usize>>
     ensures { result ≡ hit ((byte ∷ []) ∷ []) input.now }
@@ -23,7 +24,7 @@ pub(crate) fn find_byte(input: &[u8], byte: u8) -> Option<Range<usize>>
     Some(at..at + 1)
 }
 
-/// The first place of one of two bytes.
+/// Returns the first place of one of two bytes.
 #[tactic(auto, using(crate::proofs::lemmas::SearchLemmas::single_bytes))]
 pub(crate) fn find_two_bytes(input: &[u8], a: u8, b: u8) -> Option<Range<usize>>
     ensures { result ≡ hit ((a ∷ []) ∷ (b ∷ []) ∷ []) input.now }
@@ -32,7 +33,7 @@ pub(crate) fn find_two_bytes(input: &[u8], a: u8, b: u8) -> Option<Range<usize>>
     Some(at..at + 1)
 }
 
-/// The first place of one of three bytes.
+/// Returns the first place of one of three bytes.
 #[tactic(auto, using(crate::proofs::lemmas::SearchLemmas::single_bytes))]
 pub(crate) fn find_three_bytes(input: &[u8], a: u8, b: u8, c: u8) -> Option<Range<usize>>
     ensures { result ≡ hit ((a ∷ []) ∷ (b ∷ []) ∷ (c ∷ []) ∷ []) input.now }
@@ -41,7 +42,7 @@ pub(crate) fn find_three_bytes(input: &[u8], a: u8, b: u8, c: u8) -> Option<Rang
     Some(at..at + 1)
 }
 
-/// The first hit of the needles.
+/// Returns the first hit of the needles.
 ///
 /// A near hit is found by the first byte, and a far one by a search of the whole needle. Several needles are sought in
 /// windows that grow, so that none is sought far past the first hit. It is inlined with the functions that match on the
@@ -119,7 +120,9 @@ fn first_byte(needle: &[u8]) -> u8
 #[inline(always)]
 fn next_first_byte(input: &[u8], needles: &Needles<&[u8]>) -> Option<usize>
     requires { list_any is_empty (bytes_of_needles needles.now) ≡ false }
-    ensures { MatchOption result (Nowhere (SomeStands (bytes_of_needles needles.now) input.now) 0 (length input.now)) (λ at. NoneBefore (SomeStands (bytes_of_needles needles.now) input.now) 0 (length input.now) at) }
+    ensures { MatchOption result
+        (Nowhere (SomeStands (bytes_of_needles needles.now) input.now) 0 (length input.now)) (λ at.
+        NoneBefore (SomeStands (bytes_of_needles needles.now) input.now) 0 (length input.now) at) }
 {
     match needles {
         Needles::One(a) => memchr(first_byte(a), input),
@@ -140,7 +143,8 @@ fn place_below(input: &[u8], needle: &[u8], limit: usize) -> Option<usize>
 // The first place below `limit` at which a needle stands: that of the needles before, or of this one if it stands sooner.
 fn sooner(found: Option<usize>, input: &[u8], needle: &[u8], limit: usize) -> Option<usize>
     requires { is_empty needle.now ≡ false }
-    ensures { (listed : List (List ℕ)) → IsFirst (SomeStands listed input.now) 0 limit found → IsFirst (SomeStands (listed ++ needle.now ∷ []) input.now) 0 limit result }
+    ensures { (listed : List (List ℕ)) → IsFirst (SomeStands listed input.now) 0 limit found
+        → IsFirst (SomeStands (listed ++ needle.now ∷ []) input.now) 0 limit result }
 {
     match found {
         Some(at) => Some(place_below(input, needle, at).unwrap_or(at)),
@@ -166,7 +170,8 @@ fn first_place_below(input: &[u8], needles: &Needles<&[u8]>, limit: usize) -> Op
 // The first place at which some needle stands, by windows that grow.
 fn place_by_windows(input: &[u8], needles: &Needles<&[u8]>) -> Option<usize>
     requires { list_any is_empty (bytes_of_needles needles.now) ≡ false }
-    ensures { IsFirst (SomeStands (bytes_of_needles needles.now) input.now) 0 (length input.now) result }
+    ensures { IsFirst (SomeStands (bytes_of_needles needles.now) input.now) 0 (length input.now)
+        result }
 {
     let mut passed = 0;
     let mut width = FIRST_WINDOW;
@@ -184,7 +189,8 @@ fn place_by_windows(input: &[u8], needles: &Needles<&[u8]>) -> Option<usize>
 #[inline(always)]
 fn far_place(input: &[u8], needles: &Needles<&[u8]>) -> Option<usize>
     requires { list_any is_empty (bytes_of_needles needles.now) ≡ false }
-    ensures { IsFirst (SomeStands (bytes_of_needles needles.now) input.now) 0 (length input.now) result }
+    ensures { IsFirst (SomeStands (bytes_of_needles needles.now) input.now) 0 (length input.now)
+        result }
 {
     match needles {
         Needles::One(a) => place_below(input, a, input.len()),

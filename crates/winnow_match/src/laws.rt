@@ -1,4 +1,5 @@
-ghost use Rattle.std.specs.Prelude.{◌≡◌, ℕ, ◌<◌, ◌↔◌, [], ◌++◌, List, length, Contains, IsFalse, IsTrue};
+ghost use Rattle.std.specs.Prelude.{◌≡◌, ℕ, ◌<◌, ◌↔◌, [], ◌++◌, List, length, Contains, IsFalse};
+ghost use Rattle.std.specs.Prelude.{IsTrue};
 ghost use Rattle.std.specs.Prelude.{◌==◌, ◌∷◌};
 ghost use Rattle.std.specs.Option.{option_map};
 ghost use Rattle.std.specs.declared.ops.Range as range_declared;
@@ -6,7 +7,8 @@ ghost use Rattle.winnow_stream.specs.Cursor.{places};
 ghost use Rattle.winnow_stream.specs.Source.{units, first_offset};
 ghost use Rattle.winnow_match.specs.Comparison.{comparison, IsFrontOf};
 ghost use Rattle.winnow_match.specs.Search.{hit, have_one_length, IsFirstHit, StandsNowhere};
-ghost use Rattle.winnow_match.specs.Stretch.{stretch_of, hit_is_definite, CanMove, IsStretch, NothingStretches};
+ghost use Rattle.winnow_match.specs.Stretch.{stretch_of, hit_is_definite, CanMove, IsStretch};
+ghost use Rattle.winnow_match.specs.Stretch.{NothingStretches};
 ghost use Rattle.winnow_match.specs.declared.compare.CompareResult.{CompareResult};
 ghost use Rattle.winnow_match.specs.declared.needles.Stretch as stretch_declared;
 
@@ -14,24 +16,36 @@ ghost use Rattle.winnow_match.specs.declared.needles.Stretch as stretch_declared
 /// a shorter front of it, and `Error` where neither goes on as the other. It does nothing when called: its contract is the
 /// law.
 pub fn compare_law()
-    ensures ok { (literal bytes : List ℕ) (n : ℕ) → ((comparison literal bytes ≡ CompareResult.Ok n) ↔ (IsFrontOf literal bytes × (n ≡ length literal))) }
-    ensures incomplete { (literal bytes : List ℕ) → ((comparison literal bytes ≡ CompareResult.Incomplete) ↔ (IsFrontOf bytes literal × (length bytes < length literal))) }
-    ensures error { (literal bytes : List ℕ) → ((comparison literal bytes ≡ CompareResult.Error) ↔ ((¬ IsFrontOf literal bytes) × (¬ IsFrontOf bytes literal))) }
+    ensures ok { (literal bytes : List ℕ) (n : ℕ)
+        → ((comparison literal bytes ≡ CompareResult.Ok n)
+        ↔ (IsFrontOf literal bytes × (n ≡ length literal))) }
+    ensures incomplete { (literal bytes : List ℕ)
+        → ((comparison literal bytes ≡ CompareResult.Incomplete)
+        ↔ (IsFrontOf bytes literal × (length bytes < length literal))) }
+    ensures error { (literal bytes : List ℕ)
+        → ((comparison literal bytes ≡ CompareResult.Error)
+        ↔ ((¬ IsFrontOf literal bytes) × (¬ IsFrontOf bytes literal))) }
 {}
 
 /// What a comparison decided stays under more input. It does nothing when called: its contract is the law.
 pub fn compare_more_law()
-    ensures ok { (literal bytes more : List ℕ) (n : ℕ) → comparison literal bytes ≡ CompareResult.Ok n → comparison literal (bytes ++ more) ≡ CompareResult.Ok n }
-    ensures error { (literal bytes more : List ℕ) → comparison literal bytes ≡ CompareResult.Error → comparison literal (bytes ++ more) ≡ CompareResult.Error }
+    ensures ok { (literal bytes more : List ℕ) (n : ℕ)
+        → comparison literal bytes ≡ CompareResult.Ok n
+        → comparison literal (bytes ++ more) ≡ CompareResult.Ok n }
+    ensures error { (literal bytes more : List ℕ) → comparison literal bytes ≡ CompareResult.Error
+        → comparison literal (bytes ++ more) ≡ CompareResult.Error }
 {}
 
 /// The law of search: an empty needle stands at once; else the answer is the least place at which some needle stands, to the
 /// end of the first listed that stands there, and `None` where none stands anywhere. It does nothing when called: its
 /// contract is the law.
 pub fn find_law()
-    ensures empty { (needles : List (List ℕ)) (bytes : List ℕ) → Contains needles [] → hit needles bytes ≡ Some (places 0 0) }
-    ensures some { (needles : List (List ℕ)) (bytes : List ℕ) (r : range_declared.Range ℕ) → ¬ Contains needles [] → ((hit needles bytes ≡ Some r) ↔ IsFirstHit needles bytes r) }
-    ensures none { (needles : List (List ℕ)) (bytes : List ℕ) → ¬ Contains needles [] → ((hit needles bytes ≡ None) ↔ StandsNowhere needles bytes) }
+    ensures empty { (needles : List (List ℕ)) (bytes : List ℕ) → Contains needles []
+        → hit needles bytes ≡ Some (places 0 0) }
+    ensures some { (needles : List (List ℕ)) (bytes : List ℕ) (r : range_declared.Range ℕ)
+        → ¬ Contains needles [] → ((hit needles bytes ≡ Some r) ↔ IsFirstHit needles bytes r) }
+    ensures none { (needles : List (List ℕ)) (bytes : List ℕ) → ¬ Contains needles []
+        → ((hit needles bytes ≡ None) ↔ StandsNowhere needles bytes) }
 {}
 
 /// The law of a byte that is searched for: it is found where the first token equal to it stands, one byte long. It does nothing when
@@ -44,7 +58,9 @@ pub fn byte_hit_law()
 /// Needles of one length, once found, are found at the same place under more input. It does nothing when called: its contract
 /// is the law.
 pub fn find_more_law()
-    ensures { (needles : List (List ℕ)) (bytes more : List ℕ) (r : range_declared.Range ℕ) → IsTrue (have_one_length needles) → hit needles bytes ≡ Some r → hit needles (bytes ++ more) ≡ Some r }
+    ensures { (needles : List (List ℕ)) (bytes more : List ℕ) (r : range_declared.Range ℕ)
+        → IsTrue (have_one_length needles) → hit needles bytes ≡ Some r
+        → hit needles (bytes ++ more) ≡ Some r }
 {}
 
 /// The law of definite hits: `None` is never definite, with an empty needle every hit is, and else a hit is definite exactly
@@ -52,17 +68,30 @@ pub fn find_more_law()
 /// hit of needles of one length is definite. A definite hit is the same under more input, and definite there. It does nothing
 /// when called: its contract is the law.
 pub fn definite_hit_law()
-    ensures none { (needles : List (List ℕ)) (bytes : List ℕ) → hit needles bytes ≡ None → IsFalse (hit_is_definite needles bytes) }
-    ensures empty { (needles : List (List ℕ)) (bytes : List ℕ) → Contains needles [] → IsTrue (hit_is_definite needles bytes) }
-    ensures some { (needles : List (List ℕ)) (bytes : List ℕ) (r : range_declared.Range ℕ) → ¬ Contains needles [] → (first : IsFirstHit needles bytes r) → (IsTrue (hit_is_definite needles bytes) ↔ NothingStretches needles bytes r first) }
-    ensures one_length { (needles : List (List ℕ)) (bytes : List ℕ) (r : range_declared.Range ℕ) → IsTrue (have_one_length needles) → hit needles bytes ≡ Some r → IsTrue (hit_is_definite needles bytes) }
-    ensures same { (needles : List (List ℕ)) (bytes more : List ℕ) → IsTrue (hit_is_definite needles bytes) → hit needles (bytes ++ more) ≡ hit needles bytes }
-    ensures stays { (needles : List (List ℕ)) (bytes more : List ℕ) → IsTrue (hit_is_definite needles bytes) → IsTrue (hit_is_definite needles (bytes ++ more)) }
+    ensures none { (needles : List (List ℕ)) (bytes : List ℕ) → hit needles bytes ≡ None
+        → IsFalse (hit_is_definite needles bytes) }
+    ensures empty { (needles : List (List ℕ)) (bytes : List ℕ) → Contains needles []
+        → IsTrue (hit_is_definite needles bytes) }
+    ensures some { (needles : List (List ℕ)) (bytes : List ℕ) (r : range_declared.Range ℕ)
+        → ¬ Contains needles [] → (first : IsFirstHit needles bytes r)
+        → (IsTrue (hit_is_definite needles bytes) ↔ NothingStretches needles bytes r first) }
+    ensures one_length { (needles : List (List ℕ)) (bytes : List ℕ) (r : range_declared.Range ℕ)
+        → IsTrue (have_one_length needles) → hit needles bytes ≡ Some r
+        → IsTrue (hit_is_definite needles bytes) }
+    ensures same { (needles : List (List ℕ)) (bytes more : List ℕ)
+        → IsTrue (hit_is_definite needles bytes) → hit needles (bytes ++ more) ≡ hit needles bytes }
+    ensures stays { (needles : List (List ℕ)) (bytes more : List ℕ)
+        → IsTrue (hit_is_definite needles bytes)
+        → IsTrue (hit_is_definite needles (bytes ++ more)) }
 {}
 
 /// The law of what stretches: nothing, where nothing can move the hit, and else the least place at which a needle can, with
 /// the first listed needle that can there. It does nothing when called: its contract is the law.
 pub fn stretch_law()
-    ensures none { (needles : List (List ℕ)) (bytes : List ℕ) (r : range_declared.Range ℕ) → ¬ Contains needles [] → hit needles bytes ≡ Some r → (stretch_of needles bytes ≡ None ↔ ((i q : ℕ) → ¬ CanMove needles bytes r i q)) }
-    ensures some { (needles : List (List ℕ)) (bytes : List ℕ) (r : range_declared.Range ℕ) (s : stretch_declared.Stretch) → ¬ Contains needles [] → hit needles bytes ≡ Some r → (stretch_of needles bytes ≡ Some s ↔ IsStretch needles bytes r s) }
+    ensures none { (needles : List (List ℕ)) (bytes : List ℕ) (r : range_declared.Range ℕ)
+        → ¬ Contains needles [] → hit needles bytes ≡ Some r
+        → (stretch_of needles bytes ≡ None ↔ ((i q : ℕ) → ¬ CanMove needles bytes r i q)) }
+    ensures some { (needles : List (List ℕ)) (bytes : List ℕ) (r : range_declared.Range ℕ)
+        (s : stretch_declared.Stretch) → ¬ Contains needles [] → hit needles bytes ≡ Some r
+        → (stretch_of needles bytes ≡ Some s ↔ IsStretch needles bytes r s) }
 {}

@@ -6,14 +6,14 @@ ghost use Rattle.winnow_parse_error.specs.ParseErrorText.{nth_line};
 use crate::position::line_start;
 use memchr::memchr;
 
-/// Whether there is a newline.
+/// Returns whether there is a newline.
 pub(crate) fn has_newline(bytes: &[u8]) -> bool
     ensures { result ≡ not (count_by is_newline bytes.now == 0) }
 {
     memchr(b'\n', bytes).is_some()
 }
 
-/// What stands in front of the first newline, or all of it.
+/// Returns what stands in front of the first newline, or all of it.
 fn first_line(bytes: &[u8]) -> &[u8]
     ensures { result.now ≡ before_first is_newline bytes.now }
 {
@@ -23,7 +23,7 @@ fn first_line(bytes: &[u8]) -> &[u8]
     }
 }
 
-/// The line where the offset stands, without its newline.
+/// Returns the line where the offset stands, without its newline.
 pub(crate) fn line_at(bytes: &[u8], offset: usize) -> &[u8]
     ensures { result.now ≡ nth_line bytes.now (line_of bytes.now offset) }
 {

@@ -30,7 +30,7 @@ impl<I, E> Model for ParseError<I, E> {
 }
 
 impl<I: Stream, E: ParserError<I>> ParseError<I, E> {
-    /// The error of a parse that began at `start`, and failed where the input stands. It holds the input as it stood at `start`.
+    /// Returns the error of a parse that began at `start`, and failed where the input stands. It holds the input as it stood at `start`.
     pub fn new(input: I, start: I::Checkpoint, inner: E) -> Self
         requires valid { I.valid input }
         requires valid_checkpoint { I.valid_checkpoint start }
@@ -53,21 +53,21 @@ impl<I: Stream, E: ParserError<I>> ParseError<I, E> {
 }
 
 impl<I, E> ParseError<I, E> {
-    /// The input as it stood where the parse began.
+    /// Returns the input as it stood where the parse began.
     pub fn input(&self) -> &I
         ensures { result.now ≡ self.now.input }
     {
         &self.input
     }
 
-    /// How far behind the start the error came.
+    /// Returns how far behind the start the error came.
     pub fn offset(&self) -> usize
         ensures { result ≡ self.now.offset }
     {
         self.offset
     }
 
-    /// The error itself.
+    /// Returns the error itself.
     pub fn inner(&self) -> &E
         ensures { result.now ≡ self.now.inner }
     {
@@ -76,7 +76,7 @@ impl<I, E> ParseError<I, E> {
 }
 
 impl<I: Drop, E> ParseError<I, E> {
-    /// The error itself, without its place.
+    /// Returns the error itself, without its place.
     pub fn into_inner(self) -> E
         ensures { result ≡ self.inner }
     {
@@ -85,7 +85,7 @@ impl<I: Drop, E> ParseError<I, E> {
 }
 
 impl<I: AsBStr, E> ParseError<I, E> {
-    /// The span of the character at the offset; it is empty at the end.
+    /// Returns the span of the character at the offset; it is empty at the end.
     pub fn char_span(&self) -> Range<usize>
         ensures { result ≡ char_span (I.text_bytes self.now.input) self.now.offset }
     {

@@ -1,11 +1,12 @@
 ghost use Rattle.std.specs.Prelude.{◌≡◌, ◌<◌, ◌≤◌, ℕ, suc, true, length, slice_index, count_by};
 ghost use Rattle.std.specs.Str.{chars};
-ghost use Rattle.winnow_parse_error.specs.Position.{is_newline, line_start, last_column, line_of, column_of};
+ghost use Rattle.winnow_parse_error.specs.Position.{is_newline, line_start, last_column, line_of};
+ghost use Rattle.winnow_parse_error.specs.Position.{column_of};
 
 use memchr::{memchr_iter, memrchr};
 use std::str;
 
-/// Where the line begins that goes on behind the bytes.
+/// Returns where the line begins that goes on behind the bytes.
 pub(crate) fn line_start(before: &[u8]) -> usize
     ensures start { result ≡ line_start before.now }
     ensures within { result ≤ length before.now }
@@ -34,7 +35,7 @@ fn count_chars(text: &str) -> usize
     text.chars().count()
 }
 
-/// The column of the last character of a part of a line, or of its last byte where it is no text.
+/// Returns the column of the last character of a part of a line, or of its last byte where it is no text.
 fn last_column(part: &[u8]) -> usize
     requires { 0 < length part.now }
     ensures column { result ≡ last_column part.now }

@@ -1,7 +1,9 @@
 ghost use Rattle.std.specs.Prelude.{◌≡◌, Some, length};
 ghost use Rattle.std.specs.Fmt.{◌++?◌, decimal};
 ghost use Rattle.winnow_parse_error.specs.Position.{line_of, column_of};
-ghost use Rattle.winnow_parse_error.specs.ParseErrorText.{spaces, line_text, heading_text, numbered_text, caret_text, place_text, pointer_text};
+ghost use Rattle.winnow_parse_error.specs.ParseErrorText.{spaces, line_text, heading_text};
+ghost use Rattle.winnow_parse_error.specs.ParseErrorText.{numbered_text, caret_text, place_text};
+ghost use Rattle.winnow_parse_error.specs.ParseErrorText.{pointer_text};
 
 use crate::ParseError;
 use crate::line::{has_newline, line_at};
@@ -25,7 +27,7 @@ impl fmt::Display for Spaces {
     }
 }
 
-/// How many digits a number has.
+/// Returns how many digits a number has.
 fn digit_count(number: u128) -> usize
     ensures { result ≡ length (decimal number) }
 {

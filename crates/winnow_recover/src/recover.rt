@@ -34,12 +34,13 @@ pub trait Recover<E>: Stream {
         ensures remains { Self.remaining self.new ≡ Self.remaining self.old }
         ensures valid { Self.valid self.old → Self.valid self.new };
 
-    /// Whether the type records errors at all.
+    /// Returns whether the type records errors at all.
     fn is_recovery_supported() -> bool
         ensures { result ≡ supports_recovery };
 
     // A type that records none refuses each.
-    ghost refuses_unsupported: { (s : Self) (e : E) → supports_recovery ≡ false → refuses s e ≡ true };
+    ghost refuses_unsupported: { (s : Self) (e : E) → supports_recovery ≡ false
+        → refuses s e ≡ true };
 
     // A stream that is the same is so to every call of `Stream`.
     ghost unchanged_keeps: { (s t : Self) → unchanged s t → Self.keeps s t };

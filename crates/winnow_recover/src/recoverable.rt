@@ -1,7 +1,8 @@
 ghost use Rattle.std.specs.Prelude.{◌≡◌, false, not, ◌||◌, is_some, [], refl, true, IsTrue};
 ghost use Rattle.std.proofs.Common.{◌∙◌, sym, subst};
 ghost use Rattle.winnow_stream.specs.Checkpoint.{checkpoint_inner};
-ghost use Rattle.winnow_recover.specs.Recovering.{recovering_input, recorded_errors, records_errors, IsSame, Records};
+ghost use Rattle.winnow_recover.specs.Recovering.{recovering_input, recorded_errors};
+ghost use Rattle.winnow_recover.specs.Recovering.{records_errors, IsSame, Records};
 
 use crate::{RecordError, Recover};
 use std::alloc::Global;
@@ -23,7 +24,7 @@ pub struct Recoverable<I, E> {
 }
 
 impl<I, E> Recoverable<I, E> {
-    /// The stream, with no error yet, which records each error that is not incomplete.
+    /// Returns the stream, with no error yet, which records each error that is not incomplete.
     pub fn new(alloc: Global, input: I) -> Self
         ensures input { recovering_input result ≡ input }
         ensures errors { recorded_errors result ≡ [] }
@@ -36,7 +37,7 @@ impl<I, E> Recoverable<I, E> {
         }
     }
 
-    /// The stream, which records no error.
+    /// Returns the stream, which records no error.
     pub fn unrecoverable(alloc: Global, input: I) -> Self
         ensures input { recovering_input result ≡ input }
         ensures errors { recorded_errors result ≡ [] }
@@ -49,14 +50,14 @@ impl<I, E> Recoverable<I, E> {
         }
     }
 
-    /// The stream inside.
+    /// Returns the stream inside.
     pub fn inner(&self) -> &I
         ensures { result.now ≡ recovering_input self.now }
     {
         &self.input
     }
 
-    /// The stream inside, and the errors in the order in which they were recorded.
+    /// Returns the stream inside, and the errors in the order in which they were recorded.
     pub fn into_parts(self) -> (I, Vec<E>)
         ensures input { result.0 ≡ recovering_input self }
         ensures errors { result.1.items ≡ recorded_errors self }
@@ -109,7 +110,8 @@ impl<I: Stream, E: Debug> Stream for Recoverable<I, E> {
 
     ghost counts_missing = { I.counts_missing };
 
-    ghost keeps = { λ s t. (recorded_errors s ≡ recorded_errors t) × (records_errors s ≡ records_errors t) × I.keeps s.input t.input };
+    ghost keeps = { λ s t. (recorded_errors s ≡ recorded_errors t)
+        × (records_errors s ≡ records_errors t) × I.keeps s.input t.input };
 
     ghost has_widths = { λ s. I.has_widths s.input };
 
@@ -125,7 +127,8 @@ impl<I: Stream, E: Debug> Stream for Recoverable<I, E> {
 
     ghost keeps_reflexive = { λ s. (refl, refl, I.keeps_reflexive s.input) };
 
-    ghost keeps_transitive = { λ s t u p q. (p.0 ∙ q.0, p.1 ∙ q.1, I.keeps_transitive s.input t.input u.input p.2 q.2) };
+    ghost keeps_transitive = { λ s t u p q.
+        (p.0 ∙ q.0, p.1 ∙ q.1, I.keeps_transitive s.input t.input u.input p.2 q.2) };
 
     fn iter_offsets(&self) -> I::IterOffsets {
         self.input.iter_offsets()
@@ -202,7 +205,9 @@ where
 
     ghost refuses_unsupported = { λ s e never. Prim.search rules };
 
-    ghost unchanged_keeps = { λ s t same. (sym same.1, sym same.2, subst (I.keeps s.input) (sym same.0) (I.keeps_reflexive s.input)) };
+    ghost unchanged_keeps = { λ s t same.
+        (sym same.1, sym same.2, subst (I.keeps s.input) (sym same.0) (I.keeps_reflexive s.input))
+        };
 
     // Refused comes before want of memory, and the place is there before the error is converted.
     fn record_err(

@@ -91,7 +91,8 @@ impl<I: StreamIsPartial, E> StreamIsPartial for Recoverable<I, E> {
 
     ghost expects_more = { λ s. I.expects_more s.input };
 
-    ghost same_but_mark = { λ s t. (recorded_errors s ≡ recorded_errors t) × (records_errors s ≡ records_errors t) × I.same_but_mark s.input t.input };
+    ghost same_but_mark = { λ s t. (recorded_errors s ≡ recorded_errors t)
+        × (records_errors s ≡ records_errors t) × I.same_but_mark s.input t.input };
 
     ghost mark_tells = { λ s t. I.mark_tells s.input t.input };
 

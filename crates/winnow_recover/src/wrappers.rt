@@ -17,7 +17,8 @@ impl<I: Recover<E> + Stream<Token = u8>, E> Recover<E> for Bits<I> {
 
     ghost refuses_unsupported = { λ _ _ _. refl };
 
-    ghost unchanged_keeps = { λ s t same. subst (λ u. I.keeps s.input u.input) (sym same) (I.keeps_reflexive s.input) };
+    ghost unchanged_keeps = { λ s t same.
+        subst (λ u. I.keeps s.input u.input) (sym same) (I.keeps_reflexive s.input) };
 
     fn record_err(
         &mut self,
@@ -46,7 +47,9 @@ where
 
     ghost refuses_unsupported = { λ _ _ _. refl };
 
-    ghost unchanged_keeps = { λ s t same. (ap (λ u. u.start) (sym same), subst (λ u. I.keeps s.input u.input) (sym same) (I.keeps_reflexive s.input)) };
+    ghost unchanged_keeps = { λ s t same.
+        (ap (λ u. u.start) (sym same), subst (λ u. I.keeps s.input u.input) (sym same)
+        (I.keeps_reflexive s.input)) };
 
     fn record_err(
         &mut self,
@@ -71,7 +74,9 @@ impl<I: Recover<E>, S: Debug, E> Recover<E> for Stateful<I, S> {
 
     ghost refuses_unsupported = { λ _ _ _. refl };
 
-    ghost unchanged_keeps = { λ s t same. (ap (λ u. u.state) (sym same), subst (λ u. I.keeps s.input u.input) (sym same) (I.keeps_reflexive s.input)) };
+    ghost unchanged_keeps = { λ s t same.
+        (ap (λ u. u.state) (sym same), subst (λ u. I.keeps s.input u.input) (sym same)
+        (I.keeps_reflexive s.input)) };
 
     fn record_err(
         &mut self,
@@ -96,7 +101,9 @@ impl<I: Recover<E>, E> Recover<E> for Partial<I> {
 
     ghost refuses_unsupported = { λ _ _ _. refl };
 
-    ghost unchanged_keeps = { λ s t same. (ap (λ u. u.partial) (sym same), subst (λ u. I.keeps s.input u.input) (sym same) (I.keeps_reflexive s.input)) };
+    ghost unchanged_keeps = { λ s t same.
+        (ap (λ u. u.partial) (sym same), subst (λ u. I.keeps s.input u.input) (sym same)
+        (I.keeps_reflexive s.input)) };
 
     fn record_err(
         &mut self,

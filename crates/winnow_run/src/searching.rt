@@ -1,7 +1,9 @@
 ghost use Rattle.std.specs.Prelude.{◌≡◌, ◌-◌, IfOk, OnErr, OnOk};
 ghost use Rattle.winnow_stream.specs.Source.{width};
 ghost use Rattle.winnow_stream.specs.Place.{place_behind};
-ghost use Rattle.winnow_run.specs.Searching.{rest_after_search, AreSearchAnswers, IsSearchReady, AreSearchReady, IsSearchInReach, AnswersSearchStep, StandsAfterSearchStep};
+ghost use Rattle.winnow_run.specs.Searching.{rest_after_search, AreSearchAnswers, IsSearchReady};
+ghost use Rattle.winnow_run.specs.Searching.{AreSearchReady, IsSearchInReach, AnswersSearchStep};
+ghost use Rattle.winnow_run.specs.Searching.{StandsAfterSearchStep};
 ghost use Rattle.winnow_run.specs.Standing.{stand, StandsSomewhere, StayPlaced};
 
 use crate::{Marks, Origin, SearchAnswer, SearchStep, answer_step};
@@ -26,7 +28,8 @@ where
     ensures answers { IfOk result (λ out.
         AreSearchAnswers C.tells S.is_slice S.counts_missing S.compared S.found
         (S.remaining s.old) script.now out.items) }
-    ensures remains { OnOk result (S.remaining s.new ≡ rest_after_search (S.remaining s.old) script.now) }
+    ensures remains { OnOk result
+        (S.remaining s.new ≡ rest_after_search (S.remaining s.old) script.now) }
     ensures place { OnOk result (S.place s.new
         ≡ place_behind (S.place s.old) (width (S.remaining s.old) - width (S.remaining s.new))) }
     ensures refused { OnErr result (S.remaining s.new ≡ S.remaining s.old) }
@@ -56,7 +59,8 @@ where
     ensures answers { IfOk result (λ out.
         AreSearchAnswers C.tells S.is_slice S.counts_missing S.compared S.found
         (S.remaining s.old) script.now out.items) }
-    ensures remains { OnOk result (S.remaining s.new ≡ rest_after_search (S.remaining s.old) script.now) }
+    ensures remains { OnOk result
+        (S.remaining s.new ≡ rest_after_search (S.remaining s.old) script.now) }
     ensures place { OnOk result (S.place s.new
         ≡ place_behind (S.place s.old) (width (S.remaining s.old) - width (S.remaining s.new))) }
     ensures valid { S.valid s.new }
@@ -90,8 +94,10 @@ where
     requires origin { S.valid_checkpoint origin.now.checkpoint }
     requires ready { IsSearchReady C.can_hold step.now }
     requires stands { StandsSomewhere (stand S.remained origin.now (S.remaining s.old) marks.old) }
-    requires reach { IsSearchInReach step.now (stand S.remained origin.now (S.remaining s.old) marks.old) }
-    ensures answer { IfOk result (AnswersSearchStep C.tells S.is_slice S.counts_missing S.compared S.found
+    requires reach { IsSearchInReach step.now
+        (stand S.remained origin.now (S.remaining s.old) marks.old) }
+    ensures answer { IfOk result
+        (AnswersSearchStep C.tells S.is_slice S.counts_missing S.compared S.found
         step.now (stand S.remained origin.now (S.remaining s.old) marks.old)) }
     ensures stands { OnOk result (StandsAfterSearchStep step.now
         (stand S.remained origin.now (S.remaining s.old) marks.old)

@@ -1,7 +1,8 @@
 ghost use Rattle.std.specs.Prelude.{◌≡◌, ◌≤◌, IfOk, IsOk, OnErr, OnOk};
 ghost use Rattle.winnow_run.specs.Marks.{room_of};
 ghost use Rattle.winnow_run.specs.Script.{IsReady};
-ghost use Rattle.winnow_run.specs.Standing.{stand, StandsSomewhere, IsInReach, TakesNoMemory, AnswersStep, StandsAfter, StayPlaced};
+ghost use Rattle.winnow_run.specs.Standing.{stand, StandsSomewhere, IsInReach, TakesNoMemory};
+ghost use Rattle.winnow_run.specs.Standing.{AnswersStep, StandsAfter, StayPlaced};
 
 use crate::{Answer, Marks, Origin, Step};
 use std::alloc::{AllocError, Global};
@@ -28,7 +29,8 @@ where
     requires origin { S.valid_checkpoint origin.now.checkpoint }
     requires ready { IsReady C.can_hold step.now }
     requires stands { StandsSomewhere (stand S.remained origin.now (S.remaining s.old) marks.old) }
-    requires reach { IsInReach step.now (stand S.remained origin.now (S.remaining s.old) marks.old) }
+    requires reach { IsInReach step.now
+        (stand S.remained origin.now (S.remaining s.old) marks.old) }
     ensures answer { IfOk result (AnswersStep C.tells S.is_slice S.counts_missing
         step.now (stand S.remained origin.now (S.remaining s.old) marks.old)) }
     ensures stands { OnOk result (StandsAfter step.now

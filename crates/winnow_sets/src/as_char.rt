@@ -1,5 +1,6 @@
 ghost use Rattle.std.specs.Prelude.{◌≡◌, ℕ};
-ghost use Rattle.std.specs.Char.{len_utf8, is_newline, is_ascii_alphabetic, is_ascii_alphanumeric, is_ascii_digit, is_ascii_hexdigit};
+ghost use Rattle.std.specs.Char.{len_utf8, is_newline, is_ascii_alphabetic, is_ascii_alphanumeric};
+ghost use Rattle.std.specs.Char.{is_ascii_digit, is_ascii_hexdigit};
 ghost use Rattle.winnow_sets.specs.Classes.{is_ascii_oct_digit, is_ascii_blank};
 
 /// A token that stands for a character. A byte stands for the character of its number, so `E9` for `é`.
@@ -10,50 +11,50 @@ pub trait AsChar: Sized {
     // The width of the token.
     ghost width: { Self → ℕ };
 
-    /// The character.
+    /// Returns the character.
     fn as_char(self) -> char
         ensures { result ≡ code self };
 
-    /// The width of the token: 1 for a byte, the length in UTF-8 for a character.
+    /// Returns the width of the token: 1 for a byte, the length in UTF-8 for a character.
     fn len(self) -> usize
         ensures { result ≡ width self };
 
-    /// Whether it is a letter of ASCII.
+    /// Returns whether it is a letter of ASCII.
     fn is_alpha(self) -> bool
         ensures { result ≡ is_ascii_alphabetic (code self) }
     {
         self.as_char().is_ascii_alphabetic()
     }
 
-    /// Whether it is a letter or a digit of ASCII.
+    /// Returns whether it is a letter or a digit of ASCII.
     fn is_alphanum(self) -> bool
         ensures { result ≡ is_ascii_alphanumeric (code self) }
     {
         self.as_char().is_ascii_alphanumeric()
     }
 
-    /// Whether it is one of `0` to `9`.
+    /// Returns whether it is one of `0` to `9`.
     fn is_dec_digit(self) -> bool
         ensures { result ≡ is_ascii_digit (code self) }
     {
         self.as_char().is_ascii_digit()
     }
 
-    /// Whether it is one of `0` to `9`, `a` to `f` and `A` to `F`.
+    /// Returns whether it is one of `0` to `9`, `a` to `f` and `A` to `F`.
     fn is_hex_digit(self) -> bool
         ensures { result ≡ is_ascii_hexdigit (code self) }
     {
         self.as_char().is_ascii_hexdigit()
     }
 
-    /// Whether it is one of `0` to `7`.
+    /// Returns whether it is one of `0` to `7`.
     fn is_oct_digit(self) -> bool
         ensures { result ≡ is_ascii_oct_digit (code self) }
     {
         matches!(self.as_char(), '0'..='7')
     }
 
-    /// Whether it is a space or a tab.
+    /// Returns whether it is a space or a tab.
     fn is_space(self) -> bool
         ensures { result ≡ is_ascii_blank (code self) }
     {
@@ -61,7 +62,7 @@ pub trait AsChar: Sized {
         c == ' ' || c == '\t'
     }
 
-    /// Whether it is a line feed.
+    /// Returns whether it is a line feed.
     fn is_newline(self) -> bool
         ensures { result ≡ is_newline (code self) }
     {

@@ -14,30 +14,32 @@ impl<'k> CharSet<'k> {
     ghost use Rattle.std.specs.Prelude.{◌≡◌, ◌≤◌, ℕ, false, IfNone, IfSome, IsTrue};
     ghost use Rattle.winnow_sets.specs.Sets.{char_ranges, in_ranges, least_of_first};
 
-    /// The set of these ranges.
+    /// Returns the set of these ranges.
     pub fn new(ranges: &'k [(char, char)]) -> Self
         ensures { char_ranges result ≡ ranges.now }
     {
         CharSet { ranges }
     }
 
-    /// A byte that the set holds: the least of the first range that holds one. `None` exactly where the set holds no byte.
+    /// Returns a byte that the set holds: the least of the first range that holds one. `None` exactly where the set holds no byte.
     #[tactic(auto, using(crate::proofs::lemmas::RangeLemmas::least_held, crate::proofs::lemmas::RangeLemmas::least_within, crate::proofs::lemmas::RangeLemmas::none_held))]
     pub fn any_byte(&self) -> Option<u8>
         ensures value { result ≡ least_of_first 255 (char_ranges self.now) }
         ensures held { IfSome result (λ b. IsTrue (in_ranges (char_ranges self.now) b)) }
-        ensures none { IfNone result ((b : ℕ) → b ≤ 255 → in_ranges (char_ranges self.now) b ≡ false) }
+        ensures none { IfNone result ((b : ℕ) → b ≤ 255
+            → in_ranges (char_ranges self.now) b ≡ false) }
     {
         let least = least_of(self.ranges, '\u{ff}')?;
         u8::try_from(least).ok()
     }
 
-    /// A character that the set holds: the least of the first range that holds one. `None` exactly where the set holds no character.
+    /// Returns a character that the set holds: the least of the first range that holds one. `None` exactly where the set holds no character.
     #[tactic(auto, using(crate::proofs::lemmas::RangeLemmas::least_held, crate::proofs::lemmas::RangeLemmas::none_held))]
     pub fn any_char(&self) -> Option<char>
         ensures value { result ≡ least_of_first 1114111 (char_ranges self.now) }
         ensures held { IfSome result (λ c. IsTrue (in_ranges (char_ranges self.now) c)) }
-        ensures none { IfNone result ((c : ℕ) → c ≤ 1114111 → in_ranges (char_ranges self.now) c ≡ false) }
+        ensures none { IfNone result ((c : ℕ) → c ≤ 1114111
+            → in_ranges (char_ranges self.now) c ≡ false) }
     {
         least_of(self.ranges, char::MAX)
     }

@@ -12,7 +12,7 @@ pub trait ContainsToken<T> {
     // What it may answer of a token.
     ghost tells: { Self → T → Bool → Type 0 };
 
-    /// Whether the token is in the set.
+    /// Returns whether the token is in the set.
     fn contains_token(&self, token: T) -> bool
         requires { can_hold self.now }
         ensures { tells self.now token result };

@@ -11,7 +11,7 @@ pub trait FixedSet<T>: ContainsToken<T> {
     // Whether it holds the token.
     ghost holds: { Self → T → Bool };
 
-    /// Whether the token is in the set.
+    /// Returns whether the token is in the set.
     fn holds_token(&self, token: T) -> bool
         requires { Self.can_hold self.now }
         ensures { result ≡ holds self.now token }

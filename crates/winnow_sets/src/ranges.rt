@@ -8,7 +8,8 @@ use std::ops::{Range, RangeFrom, RangeFull, RangeInclusive, RangeTo, RangeToIncl
 
 /// The characters from the first bound up to the second, which is not held.
 impl<T: AsChar, B: AsChar + Copy> ContainsToken<T> for Range<B> {
-    ghost tells = { λ range token b. b ≡ is_between (B.code range.start) (B.code range.end) (T.code token) };
+    ghost tells = { λ range token b.
+        b ≡ is_between (B.code range.start) (B.code range.end) (T.code token) };
 
     fn contains_token(&self, token: T) -> bool {
         let c = token.as_char();
@@ -18,7 +19,9 @@ impl<T: AsChar, B: AsChar + Copy> ContainsToken<T> for Range<B> {
 
 /// The characters from the first bound up to the second, both held.
 impl<T: AsChar, B: AsChar + Copy> ContainsToken<T> for RangeInclusive<B> {
-    ghost tells = { λ range token b. b ≡ is_in_range (B.code (range_inclusive_start range)) (B.code (range_inclusive_end range)) (T.code token) };
+    ghost tells = { λ range token b.
+        b ≡ is_in_range (B.code (range_inclusive_start range)) (B.code (range_inclusive_end range))
+        (T.code token) };
 
     fn contains_token(&self, token: T) -> bool {
         let c = token.as_char();

@@ -46,7 +46,8 @@ impl<
 > ContainsToken<T> for (A, B, C, D) {
     ghost can_hold = { λ s. A.can_hold s.0 × B.can_hold s.1 × C.can_hold s.2 × D.can_hold s.3 };
 
-    ghost tells = { λ s token. A.tells s.0 token ∪ B.tells s.1 token ∪ C.tells s.2 token ∪ D.tells s.3 token };
+    ghost tells = { λ s token. A.tells s.0 token ∪ B.tells s.1 token ∪ C.tells s.2 token ∪ D.tells
+        s.3 token };
 
     fn contains_token(&self, token: T) -> bool {
         self.0.contains_token(token)
@@ -65,9 +66,11 @@ impl<
     D: ContainsToken<T>,
     E: ContainsToken<T>,
 > ContainsToken<T> for (A, B, C, D, E) {
-    ghost can_hold = { λ s. A.can_hold s.0 × B.can_hold s.1 × C.can_hold s.2 × D.can_hold s.3 × E.can_hold s.4 };
+    ghost can_hold = { λ s. A.can_hold s.0 × B.can_hold s.1 × C.can_hold s.2 × D.can_hold s.3
+        × E.can_hold s.4 };
 
-    ghost tells = { λ s token. A.tells s.0 token ∪ B.tells s.1 token ∪ C.tells s.2 token ∪ D.tells s.3 token ∪ E.tells s.4 token };
+    ghost tells = { λ s token. A.tells s.0 token ∪ B.tells s.1 token ∪ C.tells s.2 token ∪ D.tells
+        s.3 token ∪ E.tells s.4 token };
 
     fn contains_token(&self, token: T) -> bool {
         self.0.contains_token(token)
@@ -88,9 +91,11 @@ impl<
     E: ContainsToken<T>,
     F: ContainsToken<T>,
 > ContainsToken<T> for (A, B, C, D, E, F) {
-    ghost can_hold = { λ s. A.can_hold s.0 × B.can_hold s.1 × C.can_hold s.2 × D.can_hold s.3 × E.can_hold s.4 × F.can_hold s.5 };
+    ghost can_hold = { λ s. A.can_hold s.0 × B.can_hold s.1 × C.can_hold s.2 × D.can_hold s.3
+        × E.can_hold s.4 × F.can_hold s.5 };
 
-    ghost tells = { λ s token. A.tells s.0 token ∪ B.tells s.1 token ∪ C.tells s.2 token ∪ D.tells s.3 token ∪ E.tells s.4 token ∪ F.tells s.5 token };
+    ghost tells = { λ s token. A.tells s.0 token ∪ B.tells s.1 token ∪ C.tells s.2 token ∪ D.tells
+        s.3 token ∪ E.tells s.4 token ∪ F.tells s.5 token };
 
     fn contains_token(&self, token: T) -> bool {
         self.0.contains_token(token)
@@ -113,9 +118,11 @@ impl<
     F: ContainsToken<T>,
     G: ContainsToken<T>,
 > ContainsToken<T> for (A, B, C, D, E, F, G) {
-    ghost can_hold = { λ s. A.can_hold s.0 × B.can_hold s.1 × C.can_hold s.2 × D.can_hold s.3 × E.can_hold s.4 × F.can_hold s.5 × G.can_hold s.6 };
+    ghost can_hold = { λ s. A.can_hold s.0 × B.can_hold s.1 × C.can_hold s.2 × D.can_hold s.3
+        × E.can_hold s.4 × F.can_hold s.5 × G.can_hold s.6 };
 
-    ghost tells = { λ s token. A.tells s.0 token ∪ B.tells s.1 token ∪ C.tells s.2 token ∪ D.tells s.3 token ∪ E.tells s.4 token ∪ F.tells s.5 token ∪ G.tells s.6 token };
+    ghost tells = { λ s token. A.tells s.0 token ∪ B.tells s.1 token ∪ C.tells s.2 token ∪ D.tells
+        s.3 token ∪ E.tells s.4 token ∪ F.tells s.5 token ∪ G.tells s.6 token };
 
     fn contains_token(&self, token: T) -> bool {
         self.0.contains_token(token)
@@ -140,9 +147,11 @@ impl<
     G: ContainsToken<T>,
     H: ContainsToken<T>,
 > ContainsToken<T> for (A, B, C, D, E, F, G, H) {
-    ghost can_hold = { λ s. A.can_hold s.0 × B.can_hold s.1 × C.can_hold s.2 × D.can_hold s.3 × E.can_hold s.4 × F.can_hold s.5 × G.can_hold s.6 × H.can_hold s.7 };
+    ghost can_hold = { λ s. A.can_hold s.0 × B.can_hold s.1 × C.can_hold s.2 × D.can_hold s.3
+        × E.can_hold s.4 × F.can_hold s.5 × G.can_hold s.6 × H.can_hold s.7 };
 
-    ghost tells = { λ s token. A.tells s.0 token ∪ B.tells s.1 token ∪ C.tells s.2 token ∪ D.tells s.3 token ∪ E.tells s.4 token ∪ F.tells s.5 token ∪ G.tells s.6 token ∪ H.tells s.7 token };
+    ghost tells = { λ s token. A.tells s.0 token ∪ B.tells s.1 token ∪ C.tells s.2 token ∪ D.tells
+        s.3 token ∪ E.tells s.4 token ∪ F.tells s.5 token ∪ G.tells s.6 token ∪ H.tells s.7 token };
 
     fn contains_token(&self, token: T) -> bool {
         self.0.contains_token(token)
@@ -169,9 +178,12 @@ impl<
     H: ContainsToken<T>,
     I: ContainsToken<T>,
 > ContainsToken<T> for (A, B, C, D, E, F, G, H, I) {
-    ghost can_hold = { λ s. A.can_hold s.0 × B.can_hold s.1 × C.can_hold s.2 × D.can_hold s.3 × E.can_hold s.4 × F.can_hold s.5 × G.can_hold s.6 × H.can_hold s.7 × I.can_hold s.8 };
+    ghost can_hold = { λ s. A.can_hold s.0 × B.can_hold s.1 × C.can_hold s.2 × D.can_hold s.3
+        × E.can_hold s.4 × F.can_hold s.5 × G.can_hold s.6 × H.can_hold s.7 × I.can_hold s.8 };
 
-    ghost tells = { λ s token. A.tells s.0 token ∪ B.tells s.1 token ∪ C.tells s.2 token ∪ D.tells s.3 token ∪ E.tells s.4 token ∪ F.tells s.5 token ∪ G.tells s.6 token ∪ H.tells s.7 token ∪ I.tells s.8 token };
+    ghost tells = { λ s token. A.tells s.0 token ∪ B.tells s.1 token ∪ C.tells s.2 token ∪ D.tells
+        s.3 token ∪ E.tells s.4 token ∪ F.tells s.5 token ∪ G.tells s.6 token ∪ H.tells s.7 token ∪
+        I.tells s.8 token };
 
     fn contains_token(&self, token: T) -> bool {
         self.0.contains_token(token)
@@ -200,9 +212,13 @@ impl<
     I: ContainsToken<T>,
     J: ContainsToken<T>,
 > ContainsToken<T> for (A, B, C, D, E, F, G, H, I, J) {
-    ghost can_hold = { λ s. A.can_hold s.0 × B.can_hold s.1 × C.can_hold s.2 × D.can_hold s.3 × E.can_hold s.4 × F.can_hold s.5 × G.can_hold s.6 × H.can_hold s.7 × I.can_hold s.8 × J.can_hold s.9 };
+    ghost can_hold = { λ s. A.can_hold s.0 × B.can_hold s.1 × C.can_hold s.2 × D.can_hold s.3
+        × E.can_hold s.4 × F.can_hold s.5 × G.can_hold s.6 × H.can_hold s.7 × I.can_hold s.8
+        × J.can_hold s.9 };
 
-    ghost tells = { λ s token. A.tells s.0 token ∪ B.tells s.1 token ∪ C.tells s.2 token ∪ D.tells s.3 token ∪ E.tells s.4 token ∪ F.tells s.5 token ∪ G.tells s.6 token ∪ H.tells s.7 token ∪ I.tells s.8 token ∪ J.tells s.9 token };
+    ghost tells = { λ s token. A.tells s.0 token ∪ B.tells s.1 token ∪ C.tells s.2 token ∪ D.tells
+        s.3 token ∪ E.tells s.4 token ∪ F.tells s.5 token ∪ G.tells s.6 token ∪ H.tells s.7 token ∪
+        I.tells s.8 token ∪ J.tells s.9 token };
 
     fn contains_token(&self, token: T) -> bool {
         self.0.contains_token(token)

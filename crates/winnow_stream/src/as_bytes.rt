@@ -4,7 +4,7 @@ ghost use Rattle.std.specs.Prelude.{◌≡◌, ℕ, List};
 pub trait AsBytes {
     ghost bytes: { Self → List ℕ };
 
-    /// The remaining bytes.
+    /// Returns the remaining bytes.
     fn as_bytes(&self) -> &[u8]
         ensures { result.now ≡ bytes self.now };
 }
@@ -13,7 +13,7 @@ pub trait AsBytes {
 pub trait AsBStr {
     ghost text_bytes: { Self → List ℕ };
 
-    /// The remaining bytes; of a text its UTF-8.
+    /// Returns the remaining bytes; of a text its UTF-8.
     fn as_bstr(&self) -> &[u8]
         ensures { result.now ≡ text_bytes self.now };
 }

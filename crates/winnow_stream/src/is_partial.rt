@@ -19,7 +19,7 @@ pub trait StreamIsPartial: Rest + Sized {
     // Two values agree in all but the mark.
     ghost same_but_mark: { Self → Self → Type 0 };
 
-    /// Marks that nothing follows, and answers the mark before.
+    /// Marks that nothing follows, and returns the mark before.
     fn complete(&mut self) -> Self::PartialState
         ensures old { result ≡ partial_state self.old }
         ensures complete { expects_more self.new ≡ false }
@@ -36,16 +36,17 @@ pub trait StreamIsPartial: Rest + Sized {
         ensures width { Self.rest_width self.new ≡ Self.rest_width self.old }
         ensures place { Self.place self.new ≡ Self.place self.old };
 
-    /// Whether the type has a mark.
+    /// Returns whether the type has a mark.
     fn is_partial_supported() -> bool
         ensures { result ≡ supports_partial };
 
-    /// Whether more may follow.
+    /// Returns whether more may follow.
     fn is_partial(&self) -> bool
         ensures { result ≡ expects_more self.now };
 
     // The mark alone says whether more may follow: what `restore_partial` sets again says it again.
-    ghost mark_tells: { (s t : Self) → partial_state s ≡ partial_state t → expects_more s ≡ expects_more t };
+    ghost mark_tells: { (s t : Self) → partial_state s ≡ partial_state t
+        → expects_more s ≡ expects_more t };
 
     // Where the type has no mark, nothing more may follow.
     ghost no_mark: { supports_partial ≡ false → (s : Self) → expects_more s ≡ false };

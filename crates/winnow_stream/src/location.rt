@@ -8,11 +8,11 @@ pub trait Location {
 
     ghost token_start: { Self → ℕ };
 
-    /// Where the last token that was taken ends.
+    /// Returns where the last token that was taken ends.
     fn previous_token_end(&self) -> usize
         ensures { result ≡ token_end self.now };
 
-    /// Where the next token starts.
+    /// Returns where the next token starts.
     fn current_token_start(&self) -> usize
         ensures { result ≡ token_start self.now };
 }

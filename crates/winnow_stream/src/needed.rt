@@ -13,7 +13,7 @@ pub enum Needed {
 }
 
 impl Needed {
-    /// `size` tokens more; `Unknown` for 0.
+    /// Returns `size` tokens more, or `Unknown` for 0.
     pub fn new(size: usize) -> Self
         ensures { result ≡ needed size }
     {
@@ -23,14 +23,14 @@ impl Needed {
         }
     }
 
-    /// Whether the number of tokens is known.
+    /// Returns whether the number of tokens is known.
     pub fn is_known(&self) -> bool
         ensures { result ≡ is_known self.now }
     {
         *self != Needed::Unknown
     }
 
-    /// The size that `f` makes of a known one. Where it makes 0 the answer is `Unknown`.
+    /// Returns the size that `f` makes of a known one. Where it makes 0 the answer is `Unknown`.
     pub fn map<F: Fn(NonZeroUsize) -> usize>(self, f: F) -> Self
     where
         F: Drop,

@@ -11,7 +11,7 @@ pub trait Offset<Start: Rest>: Rest {
     // Both may be asked for their width.
     ghost can_measure: { Self → Start → Type 0 } = { λ _ _. ⊤ };
 
-    /// The width that remained at `start`, less the width that remains. No more remains than at `start`.
+    /// Returns the width that remained at `start`, less the width that remains. No more remains than at `start`.
     fn offset_from(&self, start: &Start) -> usize
         requires measured { can_measure self.now start.now }
         requires no_wider { Self.rest_width self.now ≤ Start.rest_width start.now }

@@ -8,7 +8,7 @@ pub trait ScriptSet<T> {
     // What it may answer of a token.
     ghost tells: { Self → T → Bool → Type 0 };
 
-    /// Whether the token is in the set.
+    /// Returns whether the token is in the set.
     fn holds(&self, token: T) -> bool
         requires { can_hold self.now }
         ensures { tells self.now token result };

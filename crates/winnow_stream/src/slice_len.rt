@@ -8,7 +8,7 @@ pub trait SliceLen {
 
     ghost width_of: { Self → ℕ };
 
-    /// The width, in the offsets of the stream that the slice is from.
+    /// Returns the width, in the offsets of the stream that the slice is from.
     fn slice_len(&self) -> usize
         requires { has_width self.now }
         ensures { result ≡ width_of self.now };
@@ -65,7 +65,8 @@ impl SliceLen for char {
 /// The bits of a slice of bytes, from a place in its first byte, and those of a byte behind it that is not in the slice:
 /// what [`Stream::next_slice`](crate::Stream::next_slice) of a stream of bits answers.
 impl<S: SliceLen> SliceLen for (S, usize, usize) {
-    ghost has_width = { λ s. S.has_width s.0 × (s.1 ≤ 8 * S.width_of s.0 + s.2) × (8 * S.width_of s.0 + s.2 - s.1 < 2 ^ 64) };
+    ghost has_width = { λ s. S.has_width s.0 × (s.1 ≤ 8 * S.width_of s.0 + s.2)
+        × (8 * S.width_of s.0 + s.2 - s.1 < 2 ^ 64) };
 
     ghost width_of = { λ s. 8 * S.width_of s.0 + s.2 - s.1 };
 

@@ -1,6 +1,8 @@
-ghost use Rattle.std.specs.Prelude.{◌≡◌, ℕ, ◌-◌, ◌≤◌, Bool, [], Option, None, IsTrue, IfSome, take, drop};
+ghost use Rattle.std.specs.Prelude.{◌≡◌, ℕ, ◌-◌, ◌≤◌, Bool, [], Option, None, IsTrue, IfSome, take};
+ghost use Rattle.std.specs.Prelude.{drop};
 ghost use Rattle.std.specs.Iterator.{IsFinite, AlwaysYields, size};
-ghost use Rattle.winnow_stream.specs.Source.{Source, width, HasWidths, IsEndOf, Computes, first_token, FindsFirst, first_offset, offsets};
+ghost use Rattle.winnow_stream.specs.Source.{Source, width, HasWidths, IsEndOf, Computes};
+ghost use Rattle.winnow_stream.specs.Source.{first_token, FindsFirst, first_offset, offsets};
 ghost use Rattle.winnow_stream.specs.Front.{is_offset, back};
 ghost use Rattle.winnow_stream.specs.Place.{place_behind};
 ghost use Rattle.winnow_stream.specs.Fused.{IsFused};
@@ -63,21 +65,22 @@ pub trait Stream: Rest + Debug {
     // Two values agree in all that no call of `Stream` changes.
     ghost keeps: { Self → Self → Type 0 };
 
-    /// Each remaining token with its offset, in order. After its end the iterator gives nothing more.
+    /// Returns an iterator over the remaining tokens, each with its offset, in order. After its end it gives nothing more.
     fn iter_offsets(&self) -> Self::IterOffsets
         requires { valid self.now }
         ensures can { Self.IterOffsets.can_next result }
         ensures ends { IsFinite (Self.IterOffsets.remaining result) }
         ensures count { size (Self.IterOffsets.remaining result) ≤ width (remaining self.now) }
-        ensures items { AlwaysYields Self.IterOffsets.next_gives (λ x. x) result (offsets (remaining self.now)) }
+        ensures items { AlwaysYields Self.IterOffsets.next_gives (λ x. x) result
+            (offsets (remaining self.now)) }
         ensures fused { IsFused Self.IterOffsets.next_gives };
 
-    /// The width of what remains.
+    /// Returns the width of what remains.
     fn eof_offset(&self) -> usize
         requires { valid self.now }
         ensures { result ≡ width (remaining self.now) };
 
-    /// The first token, and moves past it; `None` at the end, where nothing moves.
+    /// Returns the first token and moves past it, or `None` at the end, where nothing moves.
     fn next_token(&mut self) -> Option<Self::Token>
         requires { valid self.old }
         ensures answer { result ≡ first_token (remaining self.old) }
@@ -87,12 +90,12 @@ pub trait Stream: Rest + Debug {
         ensures valid { valid self.new }
         ensures kept { keeps self.old self.new };
 
-    /// The first token; `None` at the end.
+    /// Returns the first token, or `None` at the end.
     fn peek_token(&self) -> Option<Self::Token>
         requires { valid self.now }
         ensures { result ≡ first_token (remaining self.now) };
 
-    /// The offset of the first token that satisfies the predicate. Where the predicate computes, it is the first that `holds` says;
+    /// Returns the offset of the first token that satisfies the predicate. Where the predicate computes, it is the first that `holds` says;
     /// one that may answer otherwise for the same token has answered true of the token behind that offset, and false of each before.
     final fn offset_for<P: Fn(Self::Token) -> bool>(&self, predicate: P) -> Option<usize>
         requires valid { valid self.now }
@@ -114,17 +117,17 @@ pub trait Stream: Rest + Debug {
         None
     }
 
-    /// The offset behind that many tokens, also exactly at the end; where fewer remain, the shortage.
+    /// Returns the offset behind that many tokens, also exactly at the end, or the shortage where fewer remain.
     fn offset_at(&self, tokens: usize) -> Result<usize, Needed>
         requires { valid self.now }
         ensures { result ≡ offset_at counts_missing (remaining self.now) tokens };
 
-    /// Whether some front of what remains has this width.
+    /// Returns whether some front of what remains has this width.
     fn is_offset(&self, offset: usize) -> bool
         requires { valid self.now }
         ensures { result ≡ is_offset (remaining self.now) offset };
 
-    /// The front of this width, and moves past it.
+    /// Returns the front of this width and moves past it.
     fn next_slice(&mut self, offset: usize) -> Self::Slice
         requires valid { valid self.old }
         requires offset { IsTrue (is_offset (remaining self.old) offset) }
@@ -134,13 +137,13 @@ pub trait Stream: Rest + Debug {
         ensures valid { valid self.new }
         ensures kept { keeps self.old self.new };
 
-    /// The front of this width.
+    /// Returns the front of this width.
     fn peek_slice(&self, offset: usize) -> Self::Slice
         requires valid { valid self.now }
         requires offset { IsTrue (is_offset (remaining self.now) offset) }
         ensures { is_slice result (remaining self.now) offset };
 
-    /// All that remains, and moves to the end.
+    /// Returns all that remains and moves to the end.
     fn finish(&mut self) -> Self::Slice
         requires { valid self.old }
         ensures answer { is_slice result (remaining self.old) (width (remaining self.old)) }
@@ -154,7 +157,7 @@ pub trait Stream: Rest + Debug {
         self.next_slice(end)
     }
 
-    /// All that remains.
+    /// Returns all that remains.
     fn peek_finish(&self) -> Self::Slice
         requires { valid self.now }
         ensures { is_slice result (remaining self.now) (width (remaining self.now)) }
@@ -162,7 +165,7 @@ pub trait Stream: Rest + Debug {
         self.peek_slice(self.eof_offset())
     }
 
-    /// Where the stream stands.
+    /// Returns where the stream stands.
     fn checkpoint(&self) -> Self::Checkpoint
         requires { valid self.now }
         ensures means { remained result ≡ remaining self.now }
@@ -178,7 +181,7 @@ pub trait Stream: Rest + Debug {
         ensures valid { valid self.new }
         ensures kept { keeps self.old self.new };
 
-    /// The width that was taken since a checkpoint.
+    /// Returns the width that was taken since a checkpoint.
     fn offset_since(&self, start: &Self::Checkpoint) -> usize
         requires valid { valid self.now }
         requires valid_checkpoint { valid_checkpoint start.now }
@@ -199,7 +202,8 @@ pub trait Stream: Rest + Debug {
     // What `Rest` says of a valid value, and of its checkpoints, is the width of the list.
     ghost rest_width_remaining: { (s : Self) → valid s → Self.rest_width s ≡ width (remaining s) };
 
-    ghost rest_width_remained: { (c : Self.Checkpoint) → valid_checkpoint c → Self.Checkpoint.rest_width c ≡ width (remained c) };
+    ghost rest_width_remained: { (c : Self.Checkpoint) → valid_checkpoint c
+        → Self.Checkpoint.rest_width c ≡ width (remained c) };
 
     // Two values with the same rest have the same list, and the second is valid if the first is.
     ghost same_rest_remaining: { (s t : Self) → Self.same_rest s t → remaining t ≡ remaining s };

@@ -22,7 +22,8 @@ pub(crate) fn width_of(text: &str) -> usize
 
 // The first character of a text, and what follows it.
 fn split_first_char(text: &str) -> Option<(char, &str)>
-    ensures { MatchOption result (text_source text.now ≡ []) (λ p. text_source text.now ≡ (p.0, len_utf8 p.0) ∷ text_source p.1.now) }
+    ensures { MatchOption result (text_source text.now ≡ []) (λ p.
+        text_source text.now ≡ (p.0, len_utf8 p.0) ∷ text_source p.1.now) }
 {
     let mut chars = text.chars();
     let first = chars.next()?;

@@ -11,7 +11,9 @@ pub trait UpdateSlice: Stream {
         requires valid { Self.valid self }
         requires valid_checkpoint { Self.valid_checkpoint at.now }
         requires is_front { IsSomeFront Self.is_slice inner (Self.remained at.now) }
-        ensures remains { (n : ℕ) → IsTrue (is_offset (Self.remained at.now) n) → Self.is_slice inner (Self.remained at.now) n → Self.remaining result ≡ front (Self.remained at.now) n }
+        ensures remains { (n : ℕ) → IsTrue (is_offset (Self.remained at.now) n)
+            → Self.is_slice inner (Self.remained at.now) n
+            → Self.remaining result ≡ front (Self.remained at.now) n }
         ensures place { Self.place result ≡ Self.Checkpoint.place at.now }
         ensures valid { Self.valid result }
         ensures kept { Self.keeps self result };

@@ -11,8 +11,13 @@ use winnow_base::stream::{Compare, CompareResult, FindSlice, SliceLen, front_law
 /// The literal, where the stream begins with it, and moves past it; else nothing moves.
 pub fn literal<S: Compare<T>, T>(input: &mut S, wanted: T) -> Option<S::Slice>
     requires { S.valid input.old }
-    ensures taken { IfSome result (λ slice. (n : ℕ) × ((S.compared wanted (S.remaining input.old) ≡ compared.Ok n) × (S.is_slice slice (S.remaining input.old) n × (S.remaining input.new ≡ back (S.remaining input.old) n)))) }
-    ensures refused { IfNone result (((n : ℕ) → ¬ (S.compared wanted (S.remaining input.old) ≡ compared.Ok n)) × (S.remaining input.new ≡ S.remaining input.old)) }
+    ensures taken { IfSome result (λ slice. (n : ℕ)
+        × ((S.compared wanted (S.remaining input.old) ≡ compared.Ok n)
+        × (S.is_slice slice (S.remaining input.old) n
+        × (S.remaining input.new ≡ back (S.remaining input.old) n)))) }
+    ensures refused { IfNone result
+        (((n : ℕ) → ¬ (S.compared wanted (S.remaining input.old) ≡ compared.Ok n))
+        × (S.remaining input.new ≡ S.remaining input.old)) }
     ensures valid { S.valid input.new }
     ensures kept { S.keeps input.old input.new }
 {
@@ -57,8 +62,12 @@ pub fn literal_or_lack<S: Compare<T>, T: SliceLen + Copy>(
 /// What stands before the first needle, and moves up to the needle; where none stands, nothing moves.
 pub fn take_until<S: FindSlice<T>, T>(input: &mut S, needle: T) -> Option<S::Slice>
     requires { S.valid input.old }
-    ensures taken { IfSome result (λ slice. (hit : range_declared.Range ℕ) × ((S.found needle (S.remaining input.old) ≡ Some hit) × (S.is_slice slice (S.remaining input.old) hit.start × (S.remaining input.new ≡ back (S.remaining input.old) hit.start)))) }
-    ensures refused { IfNone result ((S.found needle (S.remaining input.old) ≡ None) × (S.remaining input.new ≡ S.remaining input.old)) }
+    ensures taken { IfSome result (λ slice. (hit : range_declared.Range ℕ)
+        × ((S.found needle (S.remaining input.old) ≡ Some hit)
+        × (S.is_slice slice (S.remaining input.old) hit.start
+        × (S.remaining input.new ≡ back (S.remaining input.old) hit.start)))) }
+    ensures refused { IfNone result ((S.found needle (S.remaining input.old) ≡ None)
+        × (S.remaining input.new ≡ S.remaining input.old)) }
     ensures valid { S.valid input.new }
     ensures kept { S.keeps input.old input.new }
 {
@@ -69,8 +78,13 @@ pub fn take_until<S: FindSlice<T>, T>(input: &mut S, needle: T) -> Option<S::Sli
 /// What stands before the first needle, and the needle, and moves past it; where none stands, nothing moves.
 pub fn take_through<S: FindSlice<T>, T>(input: &mut S, needle: T) -> Option<(S::Slice, S::Slice)>
     requires { S.valid input.old }
-    ensures taken { IfSome result (λ taken. (hit : range_declared.Range ℕ) × ((S.found needle (S.remaining input.old) ≡ Some hit) × (S.is_slice taken.0 (S.remaining input.old) hit.start × (S.is_slice taken.1 (back (S.remaining input.old) hit.start) (hit.end - hit.start) × (S.remaining input.new ≡ back (S.remaining input.old) hit.end))))) }
-    ensures refused { IfNone result ((S.found needle (S.remaining input.old) ≡ None) × (S.remaining input.new ≡ S.remaining input.old)) }
+    ensures taken { IfSome result (λ taken. (hit : range_declared.Range ℕ)
+        × ((S.found needle (S.remaining input.old) ≡ Some hit)
+        × (S.is_slice taken.0 (S.remaining input.old) hit.start
+        × (S.is_slice taken.1 (back (S.remaining input.old) hit.start) (hit.end - hit.start)
+        × (S.remaining input.new ≡ back (S.remaining input.old) hit.end))))) }
+    ensures refused { IfNone result ((S.found needle (S.remaining input.old) ≡ None)
+        × (S.remaining input.new ≡ S.remaining input.old)) }
     ensures valid { S.valid input.new }
     ensures kept { S.keeps input.old input.new }
 {

@@ -1,10 +1,11 @@
-ghost use Rattle.std.specs.Prelude.{◌≡◌, ◌+◌, ◌*◌, ◌<◌, ◌^◌, false, length, refl, ⊤};
+ghost use Rattle.std.specs.Prelude.{◌≡◌, ◌+◌, ◌*◌, ◌<◌, ◌^◌, false, length, ⊤};
 ghost use Rattle.std.specs.Iterator.{at_most, YieldsFirst};
 ghost use Rattle.std.proofs.Common.{sym, ap, subst};
 ghost use Rattle.winnow_base.specs.Checkpoint.{checkpoint_inner};
 ghost use Rattle.winnow_base.specs.Source.{offsets_from};
 ghost use Rattle.winnow_base.specs.Front.{front};
-ghost use Rattle.winnow_stream_tests.specs.PairSource.{pair_source, width-pair_source, HasWidths-pair_source};
+ghost use Rattle.winnow_stream_tests.specs.PairSource.{pair_source, width-pair_source};
+ghost use Rattle.winnow_stream_tests.specs.PairSource.{HasWidths-pair_source};
 
 use winnow_base::stream::{Checkpoint, Needed, Rest, Stream};
 

@@ -8,7 +8,8 @@ use winnow_base::stream::Stream;
 /// that width.
 pub fn take_back<S: Stream>(s: &mut S, offset: usize) -> Option<(S::Slice, usize)>
     requires { S.valid s.old }
-    ensures slice { MatchOption result (¬ (IsTrue (is_offset (S.remaining s.old) offset))) (λ p. S.is_slice p.0 (S.remaining s.old) offset × (p.1 ≡ offset)) }
+    ensures slice { MatchOption result (¬ (IsTrue (is_offset (S.remaining s.old) offset))) (λ p.
+        S.is_slice p.0 (S.remaining s.old) offset × (p.1 ≡ offset)) }
     ensures remains { S.remaining s.new ≡ S.remaining s.old }
     ensures valid { S.valid s.new }
     ensures kept { S.keeps s.old s.new }

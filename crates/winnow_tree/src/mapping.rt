@@ -68,7 +68,7 @@ fn map_frames<I: Drop, J: Drop, C: Drop, O: Fn(I) -> Result<J, AllocError>>(
     Ok(mapped)
 }
 
-/// The tree with what `op` makes of each input, or out of memory where `op` or the tree finds none.
+/// Returns the tree with what `op` makes of each input, or out of memory where `op` or the tree finds none.
 fn map_tree<I: Drop, J: Drop, C: Drop, O: Fn(I) -> Result<J, AllocError>>(
     alloc: Global,
     tree: TreeError<I, C>,
@@ -101,7 +101,7 @@ fn map_tree<I: Drop, J: Drop, C: Drop, O: Fn(I) -> Result<J, AllocError>>(
 }
 
 impl<I: Drop, C: Drop> TreeError<I, C> {
-    /// The error with what `op` makes of each input.
+    /// Returns the error with what `op` makes of each input.
     pub fn map_input<J: Drop, O: Fn(I) -> J + Drop>(
         self,
         alloc: Global,
@@ -115,7 +115,7 @@ impl<I: Drop, C: Drop> TreeError<I, C> {
 }
 
 impl<C: Drop> TreeError<&[u8], C> {
-    /// The error with a copy of the bytes of each input.
+    /// Returns the error with a copy of the bytes of each input.
     pub fn into_owned(self, alloc: Global) -> Result<TreeError<Vec<u8>, C>, AllocError>
         ensures { IfOk result (λ r. TreeMaps (λ i j. j.items ≡ i.now) (tree_contents self.entry)
             (tree_contents r)) }
@@ -125,7 +125,7 @@ impl<C: Drop> TreeError<&[u8], C> {
 }
 
 impl<C: Drop> TreeError<&str, C> {
-    /// The error with a copy of the text of each input.
+    /// Returns the error with a copy of the text of each input.
     pub fn into_owned(self, alloc: Global) -> Result<TreeError<String, C>, AllocError>
         ensures { IfOk result (λ r. TreeMaps (λ i j. string_bytes j ≡ i.now)
             (tree_contents self.entry) (tree_contents r)) }

@@ -30,7 +30,7 @@ pub enum TreeErrorFrame<I, C> {
 }
 
 impl<I: Drop> TreeErrorBase<I> {
-    /// The error with what `op` makes of the input.
+    /// Returns the error with what `op` makes of the input.
     pub fn map_input<J, O: Fn(I) -> J + Drop>(self, op: O) -> TreeErrorBase<J>
         requires { O.pre op self.input }
         ensures input { O.post op self.input result.input }
@@ -45,7 +45,7 @@ impl<I: Drop> TreeErrorBase<I> {
 }
 
 impl TreeErrorBase<&[u8]> {
-    /// The error with a copy of the bytes.
+    /// Returns the error with a copy of the bytes.
     pub fn into_owned(self, alloc: Global) -> Result<TreeErrorBase<Vec<u8>>, AllocError>
         ensures input { IfOk result (λ r. r.input.items ≡ self.entry.input.now) }
         ensures cause { IfOk result (λ r. r.cause ≡ self.entry.cause) }
@@ -57,7 +57,7 @@ impl TreeErrorBase<&[u8]> {
 }
 
 impl TreeErrorBase<&str> {
-    /// The error with a copy of the text.
+    /// Returns the error with a copy of the text.
     pub fn into_owned(self, alloc: Global) -> Result<TreeErrorBase<String>, AllocError>
         ensures input { IfOk result (λ r. string_bytes r.input ≡ self.entry.input.now) }
         ensures cause { IfOk result (λ r. r.cause ≡ self.entry.cause) }
@@ -69,7 +69,7 @@ impl TreeErrorBase<&str> {
 }
 
 impl<I: Drop, C: Drop> TreeErrorContext<I, C> {
-    /// The same context with what `op` makes of the input.
+    /// Returns the same context with what `op` makes of the input.
     pub fn map_input<J, O: Fn(I) -> J + Drop>(self, op: O) -> TreeErrorContext<J, C>
         requires { O.pre op self.input }
         ensures input { O.post op self.input result.input }
@@ -84,7 +84,7 @@ impl<I: Drop, C: Drop> TreeErrorContext<I, C> {
 }
 
 impl<C: Drop> TreeErrorContext<&[u8], C> {
-    /// The same context with a copy of the bytes.
+    /// Returns the same context with a copy of the bytes.
     pub fn into_owned(self, alloc: Global) -> Result<TreeErrorContext<Vec<u8>, C>, AllocError>
         ensures input { IfOk result (λ r. r.input.items ≡ self.entry.input.now) }
         ensures context { IfOk result (λ r. r.context ≡ self.entry.context) }
@@ -96,7 +96,7 @@ impl<C: Drop> TreeErrorContext<&[u8], C> {
 }
 
 impl<C: Drop> TreeErrorContext<&str, C> {
-    /// The same context with a copy of the text.
+    /// Returns the same context with a copy of the text.
     pub fn into_owned(self, alloc: Global) -> Result<TreeErrorContext<String, C>, AllocError>
         ensures input { IfOk result (λ r. string_bytes r.input ≡ self.entry.input.now) }
         ensures context { IfOk result (λ r. r.context ≡ self.entry.context) }

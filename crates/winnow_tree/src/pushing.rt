@@ -1,11 +1,12 @@
 ghost use Rattle.std.specs.Prelude.{◌≡◌, IfOk, None, [], ◌∷◌};
-ghost use Rattle.winnow_tree.specs.TreeContents.{tree_contents, frame_contents, with_frame, kind, context, stack, PushedAt};
+ghost use Rattle.winnow_tree.specs.TreeContents.{tree_contents, frame_contents, with_frame, kind};
+ghost use Rattle.winnow_tree.specs.TreeContents.{context, stack, PushedAt};
 
 use crate::{TreeError, TreeErrorBase, TreeErrorContext, TreeErrorFrame};
 use std::alloc::{AllocError, Global};
 use winnow_stream::Stream;
 
-/// The error with one frame more, the outermost. It is inlined, so that an error that already is a
+/// Returns the error with one frame more, the outermost. It is inlined, so that an error that already is a
 /// stack is not moved once more than the push needs.
 #[inline(always)]
 fn push_frame<I: Drop, C: Drop>(
@@ -26,7 +27,7 @@ fn push_frame<I: Drop, C: Drop>(
     }
 }
 
-/// A stack of one frame over the error.
+/// Returns a stack of one frame over the error.
 fn over<I: Drop, C: Drop>(
     alloc: Global,
     error: TreeError<I, C>,
@@ -41,7 +42,7 @@ fn over<I: Drop, C: Drop>(
     Ok(TreeError::Stack { base, stack })
 }
 
-/// The error, told that a parser that began at `token_start` failed because of it.
+/// Returns the error, told that a parser that began at `token_start` failed because of it.
 #[inline(always)]
 pub(crate) fn push_kind<I: Stream + Copy, C: Drop>(
     alloc: Global,
@@ -63,7 +64,7 @@ pub(crate) fn push_kind<I: Stream + Copy, C: Drop>(
     push_frame(alloc, error, frame)
 }
 
-/// The error, told what a parser that began at `token_start` was reading.
+/// Returns the error, told what a parser that began at `token_start` was reading.
 #[inline(always)]
 pub(crate) fn push_context<I: Stream + Copy, C: Drop>(
     alloc: Global,

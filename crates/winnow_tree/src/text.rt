@@ -1,6 +1,7 @@
 ghost use Rattle.std.specs.Prelude.{◌≡◌, [], IfOk, IfSome, OnOk, string_bytes};
 ghost use Rattle.std.specs.Fmt.{AppendsText};
-ghost use Rattle.winnow_tree.specs.TreeText.{at_text, base_text, told_text, frame_text, frame_line, frames_text, tree_text};
+ghost use Rattle.winnow_tree.specs.TreeText.{at_text, base_text, told_text, frame_text, frame_line};
+ghost use Rattle.winnow_tree.specs.TreeText.{frames_text, tree_text};
 
 use crate::abbreviation::write_abbreviated;
 use crate::{TreeError, TreeErrorBase, TreeErrorContext, TreeErrorFrame};
@@ -121,7 +122,7 @@ fn write_tree<I: Display, C: Display>(
 }
 
 impl<I: Display> TreeErrorBase<I> {
-    /// The error in words: the cause, if there is one, and the front of the input.
+    /// Returns the error in words: the cause, if there is one, and the front of the input.
     pub fn text(&self, alloc: Global) -> Result<String, AllocError>
         ensures { IfOk result (λ s. IfSome (base_text I.output self.now)
             (λ text. string_bytes s ≡ text)) }
@@ -133,7 +134,7 @@ impl<I: Display> TreeErrorBase<I> {
 }
 
 impl<I: Display, C: Display> TreeErrorContext<I, C> {
-    /// What was being read, and the front of the input.
+    /// Returns what was being read, and the front of the input.
     pub fn text(&self, alloc: Global) -> Result<String, AllocError>
         ensures { IfOk result (λ s. IfSome (told_text I.output C.output self.now)
             (λ text. string_bytes s ≡ text)) }
@@ -145,7 +146,7 @@ impl<I: Display, C: Display> TreeErrorContext<I, C> {
 }
 
 impl<I: Display, C: Display> TreeError<I, C> {
-    /// The error as lines of text, each ended by a newline.
+    /// Returns the error as lines of text, each ended by a newline.
     pub fn text(&self, alloc: Global) -> Result<String, AllocError>
         ensures { IfOk result (λ s. IfSome (tree_text I.output C.output self.now [])
             (λ text. string_bytes s ≡ text)) }

@@ -1,10 +1,12 @@
-ghost use Rattle.std.specs.Prelude.{◌≡◌, ℕ, ◌+◌, ◌-◌, ◌*◌, ◌%◌, ◌^◌, ◌<◌, ◌≤◌, ◌&&◌, nat_eq, List, length};
+ghost use Rattle.std.specs.Prelude.{◌≡◌, ℕ, ◌+◌, ◌-◌, ◌*◌, ◌%◌, ◌^◌, ◌<◌, ◌≤◌, ◌&&◌, nat_eq, List};
+ghost use Rattle.std.specs.Prelude.{length};
 ghost use Rattle.winnow_stream.specs.Source.{Source, units, width};
 ghost use Rattle.winnow_stream.specs.Front.{front};
 ghost use Rattle.winnow_stream.specs.Checkpoint.{checkpoint_inner};
 ghost use Rattle.winnow_stream.specs.declared.checkpoint.Checkpoint.{Checkpoint};
 ghost use Rattle.winnow_views.specs.BitSource.{bits_from, IsBitSource, IsBitSlice};
-ghost use Rattle.winnow_views.specs.BitStream.{bits_input, bits_place, bytes_at, place_at, IsCounted};
+ghost use Rattle.winnow_views.specs.BitStream.{bits_input, bits_place, bytes_at, place_at};
+ghost use Rattle.winnow_views.specs.BitStream.{IsCounted};
 ghost use Rattle.winnow_views.specs.BitWidth.{SlicesHaveWidths};
 ghost use Rattle.winnow_views.specs.declared.bits.Bits.{Bits};
 ghost use Rattle.winnow_views.specs.declared.bits.BitPlace.{BitPlace};
@@ -16,15 +18,19 @@ use winnow_stream::{Checkpoint, SliceLen, Stream};
 /// there is a first byte that has it. It does nothing when called: its contract is the law.
 pub fn bit_source_law()
     ensures start { (bytes : List ℕ) → 8 * length bytes < 2 ^ 64 → IsBitSource (units bytes) 0 }
-    ensures inside { (bytes : List ℕ) (place : ℕ) → place < 8 → 0 < length bytes → 8 * length bytes - place < 2 ^ 64 → IsBitSource (units bytes) place }
+    ensures inside { (bytes : List ℕ) (place : ℕ) → place < 8 → 0 < length bytes
+        → 8 * length bytes - place < 2 ^ 64 → IsBitSource (units bytes) place }
 {}
 
 /// The law of places: the number of bits tells the place, and the bits of some whole bytes, from the place on, are a front of the
 /// bits. So the list that a slice of bits was taken from tells the two numbers of its triple, and the bits of its bytes from the place on
 /// are the first that were taken. It does nothing when called: its contract is the law.
 pub fn bit_place_law()
-    ensures place { (bytes : Source ℕ) (place : ℕ) → IsBitSource bytes place → (width (bits_from bytes place) + place) % 8 ≡ 0 }
-    ensures front { (bytes : Source ℕ) (place count : ℕ) → IsBitSource bytes place → count ≤ length bytes → bits_from (front bytes count) place ≡ front (bits_from bytes place) (8 * count - place) }
+    ensures place { (bytes : Source ℕ) (place : ℕ) → IsBitSource bytes place
+        → (width (bits_from bytes place) + place) % 8 ≡ 0 }
+    ensures front { (bytes : Source ℕ) (place count : ℕ) → IsBitSource bytes place
+        → count ≤ length bytes → bits_from (front bytes count) place
+        ≡ front (bits_from bytes place) (8 * count - place) }
 {}
 
 /// The law of checkpoints of bits: a valid one counts its bits, which is what measuring from one to another asks for. It does nothing
@@ -40,13 +46,16 @@ pub fn bit_checkpoint_law<I: Stream<Token = u8>>()
 pub fn bit_slice_law<I: Stream<Token = u8>>()
 where
     I::Slice: SliceLen,
-    ensures { SlicesHaveWidths I.is_slice I.Slice.has_width I.Slice.width_of → SlicesHaveWidths (IsBitSlice I.is_slice) ⟦<(I::Slice, usize, usize) as SliceLen>⟧.has_width ⟦<(I::Slice, usize, usize) as SliceLen>⟧.width_of }
+    ensures { SlicesHaveWidths I.is_slice I.Slice.has_width I.Slice.width_of
+        → SlicesHaveWidths (IsBitSlice I.is_slice) ⟦<(I::Slice, usize, usize) as
+        SliceLen>⟧.has_width ⟦<(I::Slice, usize, usize) as SliceLen>⟧.width_of }
 {}
 
 /// The law of slices of bytes, which [`bit_slice_law`] asks for: their length is the offset that they were taken at. It does nothing
 /// when called: its contract is the law.
 pub fn byte_slice_law()
-    ensures { SlicesHaveWidths ⟦<&'static [u8] as Stream>⟧.is_slice ⟦<&'static [u8] as SliceLen>⟧.has_width ⟦<&'static [u8] as SliceLen>⟧.width_of }
+    ensures { SlicesHaveWidths ⟦<&'static [u8] as Stream>⟧.is_slice ⟦<&'static [u8] as
+        SliceLen>⟧.has_width ⟦<&'static [u8] as SliceLen>⟧.width_of }
 {}
 
 /// The law of equality: bits are compared by the stream of bytes and the place, and checkpoints by the checkpoint of the bytes and the
@@ -54,6 +63,10 @@ pub fn byte_slice_law()
 pub fn bit_equality_law<I: Stream<Token = u8> + PartialEq>()
 where
     I::Checkpoint: PartialEq,
-    ensures bits { (s t : Bits I) → ⟦<Bits<I> as PartialEq>⟧.eq s t ≡ (I.eq (bits_input s) (bits_input t) && nat_eq (bits_place s) (bits_place t)) }
-    ensures places { (c d : Checkpoint (BitPlace I.Checkpoint) (Bits I)) → ⟦<Checkpoint<BitPlace<I::Checkpoint>, Bits<I>> as PartialEq>⟧.eq c d ≡ (I.Checkpoint.eq (bytes_at c) (bytes_at d) && nat_eq (place_at c) (place_at d)) }
+    ensures bits { (s t : Bits I)
+        → ⟦<Bits<I> as PartialEq>⟧.eq s t
+        ≡ (I.eq (bits_input s) (bits_input t) && nat_eq (bits_place s) (bits_place t)) }
+    ensures places { (c d : Checkpoint (BitPlace I.Checkpoint) (Bits I))
+        → ⟦<Checkpoint<BitPlace<I::Checkpoint>, Bits<I>> as PartialEq>⟧.eq c d
+        ≡ (I.Checkpoint.eq (bytes_at c) (bytes_at d) && nat_eq (place_at c) (place_at d)) }
 {}

@@ -43,7 +43,8 @@ pub(crate) fn is_set(byte: u8, bit: usize) -> bool
 impl<J: Iterator<Item = (usize, u8)>> Iterator for BitOffsets<J> {
     type Item = (usize, bool);
 
-    ghost can_next = { λ s. J.can_next s.bytes × IsFinite (J.remaining s.bytes) × (s.bit ≤ 8) × (s.place < 8) × (s.offset + bits_ahead (size (J.remaining s.bytes)) s < 2 ^ 64) };
+    ghost can_next = { λ s. J.can_next s.bytes × IsFinite (J.remaining s.bytes) × (s.bit ≤ 8)
+        × (s.place < 8) × (s.offset + bits_ahead (size (J.remaining s.bytes)) s < 2 ^ 64) };
 
     ghost next_gives = { BitStep J.next_gives };
 

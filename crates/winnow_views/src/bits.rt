@@ -1,12 +1,16 @@
-ghost use Rattle.std.specs.Prelude.{◌≡◌, ◌+◌, ◌-◌, ◌*◌, ◌/◌, ◌%◌, ◌<◌, true, [], take, drop, IsTrue, IfSome, IfNone};
+ghost use Rattle.std.specs.Prelude.{◌≡◌, ◌+◌, ◌-◌, ◌*◌, ◌/◌, ◌%◌, ◌<◌, true, [], take, drop};
+ghost use Rattle.std.specs.Prelude.{IsTrue, IfSome, IfNone};
 ghost use Rattle.winnow_stream.specs.Checkpoint.{checkpoint_inner};
 ghost use Rattle.winnow_stream.specs.Source.{first_token, width};
 ghost use Rattle.winnow_stream.specs.Front.{is_offset, back};
 ghost use Rattle.winnow_stream.specs.Place.{place_behind};
 ghost use Rattle.winnow_views.specs.BitSource.{IsBitSlice, IsBitSliceAt};
-ghost use Rattle.winnow_views.specs.BitStream.{bits_input, bits_place, bits_remaining, bits_remained, IsValidBits, IsValidPlace};
-ghost use Rattle.winnow_views.specs.BitStream.{bytes_at, place_at, whole_place, whole_place_at, IsCounted};
-ghost use Rattle.winnow_views.specs.BitLaws.{HasWidths-bits_from, rest_width-bits_from, bits_remaining-same, IsValidBits-same};
+ghost use Rattle.winnow_views.specs.BitStream.{bits_input, bits_place, bits_remaining};
+ghost use Rattle.winnow_views.specs.BitStream.{bits_remained, IsValidBits, IsValidPlace};
+ghost use Rattle.winnow_views.specs.BitStream.{bytes_at, place_at, whole_place, whole_place_at};
+ghost use Rattle.winnow_views.specs.BitStream.{IsCounted};
+ghost use Rattle.winnow_views.specs.BitLaws.{HasWidths-bits_from, rest_width-bits_from};
+ghost use Rattle.winnow_views.specs.BitLaws.{bits_remaining-same, IsValidBits-same};
 
 use crate::BitOffsets;
 use crate::bit_offsets::is_set;
@@ -27,7 +31,7 @@ pub struct Bits<I> {
 }
 
 impl<I> Bits<I> {
-    /// All bits of the bytes that remain.
+    /// Returns all bits of the bytes that remain.
     pub fn new(input: I) -> Self
         ensures input { bits_input result ≡ input }
         ensures place { bits_place result ≡ 0 }
@@ -35,7 +39,7 @@ impl<I> Bits<I> {
         Bits { input, place: 0 }
     }
 
-    /// The bits of the bytes that remain, but for that many of the first byte.
+    /// Returns the bits of the bytes that remain, but for that many of the first byte.
     pub fn at_place(input: I, place: usize) -> Self
         requires { place < 8 }
         ensures input { bits_input result ≡ input }
@@ -44,7 +48,7 @@ impl<I> Bits<I> {
         Bits { input, place }
     }
 
-    /// The stream of bytes, and how many bits of its first byte were taken.
+    /// Returns the stream of bytes, and how many bits of its first byte were taken.
     pub fn into_parts(self) -> (I, usize)
         ensures { result ≡ (bits_input self, bits_place self) }
     {
@@ -105,7 +109,8 @@ impl<I: Stream<Token = u8>> Stream for Bits<I> {
 
     ghost remained = { λ c. bits_remained I.remained (checkpoint_inner c) };
 
-    ghost valid_checkpoint = { λ c. IsValidPlace I.valid_checkpoint I.remained (checkpoint_inner c) };
+    ghost valid_checkpoint = { λ c.
+        IsValidPlace I.valid_checkpoint I.remained (checkpoint_inner c) };
 
     ghost is_slice = { IsBitSlice I.is_slice };
 
@@ -118,13 +123,20 @@ impl<I: Stream<Token = u8>> Stream for Bits<I> {
     ghost has_widths_remained = { λ c _. let b = checkpoint_inner c in
         HasWidths-bits_from (I.remained b.bytes) b.place };
 
-    ghost rest_width_remaining = { λ s v. rest_width-bits_from (I.remaining s.input) s.place (I.rest_width s.input) v.1.units (I.rest_width_remaining s.input v.0) };
+    ghost rest_width_remaining = { λ s v.
+        rest_width-bits_from (I.remaining s.input) s.place (I.rest_width s.input) v.1.units
+        (I.rest_width_remaining s.input v.0) };
 
-    ghost rest_width_remained = { λ c v. let b = checkpoint_inner c in rest_width-bits_from (I.remained b.bytes) b.place (I.Checkpoint.rest_width b.bytes) v.1.units (I.rest_width_remained b.bytes v.0) };
+    ghost rest_width_remained = { λ c v.
+        let b = checkpoint_inner c in rest_width-bits_from (I.remained b.bytes) b.place
+        (I.Checkpoint.rest_width b.bytes) v.1.units (I.rest_width_remained b.bytes v.0) };
 
-    ghost same_rest_remaining = { λ s t e. bits_remaining-same I.remaining s t (I.same_rest_remaining s.input t.input e.0) e.1 };
+    ghost same_rest_remaining = { λ s t e.
+        bits_remaining-same I.remaining s t (I.same_rest_remaining s.input t.input e.0) e.1 };
 
-    ghost same_rest_valid = { λ s t e v. IsValidBits-same I.valid I.remaining s t (I.same_rest_remaining s.input t.input e.0) (I.same_rest_valid s.input t.input e.0) e.1 v };
+    ghost same_rest_valid = { λ s t e v.
+        IsValidBits-same I.valid I.remaining s t (I.same_rest_remaining s.input t.input e.0)
+        (I.same_rest_valid s.input t.input e.0) e.1 v };
 
     ghost keeps_reflexive = { λ s. I.keeps_reflexive s.input };
 
@@ -145,7 +157,8 @@ impl<I: Stream<Token = u8>> Stream for Bits<I> {
         ensures place { IfSome result (λ _. bits_place self.new ≡ (bits_place self.old + 1) % 8) }
         ensures end { IfNone result (self.new ≡ self.old) }
         ensures answer { result ≡ first_token (bits_remaining I.remaining self.old) }
-        ensures remains { bits_remaining I.remaining self.new ≡ drop 1 (bits_remaining I.remaining self.old) }
+        ensures remains { bits_remaining I.remaining self.new
+            ≡ drop 1 (bits_remaining I.remaining self.old) }
         ensures whole { whole_place I.place self.new ≡ place_behind (whole_place I.place self.old)
             (width (take 1 (bits_remaining I.remaining self.old))) }
         ensures valid { IsValidBits I.valid I.remaining self.new }
@@ -180,12 +193,14 @@ impl<I: Stream<Token = u8>> Stream for Bits<I> {
     fn next_slice(&mut self, offset: usize) -> (I::Slice, usize, usize)
         requires valid { IsValidBits I.valid I.remaining self.old }
         requires offset { IsTrue (is_offset (bits_remaining I.remaining self.old) offset) }
-        ensures at { IsBitSliceAt I.is_slice result (I.remaining (bits_input self.old)) (bits_place self.old) offset }
+        ensures at { IsBitSliceAt I.is_slice result (I.remaining (bits_input self.old))
+            (bits_place self.old) offset }
         ensures place { bits_place self.new ≡ (offset + bits_place self.old) % 8 }
         ensures bytes { I.remaining (bits_input self.new)
             ≡ back (I.remaining (bits_input self.old)) ((offset + bits_place self.old) / 8) }
         ensures answer { IsBitSlice I.is_slice result (bits_remaining I.remaining self.old) offset }
-        ensures remains { bits_remaining I.remaining self.new ≡ back (bits_remaining I.remaining self.old) offset }
+        ensures remains { bits_remaining I.remaining self.new
+            ≡ back (bits_remaining I.remaining self.old) offset }
         ensures whole { whole_place I.place self.new
             ≡ place_behind (whole_place I.place self.old) offset }
         ensures valid { IsValidBits I.valid I.remaining self.new }
@@ -201,7 +216,8 @@ impl<I: Stream<Token = u8>> Stream for Bits<I> {
     fn peek_slice(&self, offset: usize) -> (I::Slice, usize, usize)
         requires valid { IsValidBits I.valid I.remaining self.now }
         requires offset { IsTrue (is_offset (bits_remaining I.remaining self.now) offset) }
-        ensures at { IsBitSliceAt I.is_slice result (I.remaining (bits_input self.now)) (bits_place self.now) offset }
+        ensures at { IsBitSliceAt I.is_slice result (I.remaining (bits_input self.now))
+            (bits_place self.now) offset }
         ensures answer { IsBitSlice I.is_slice result (bits_remaining I.remaining self.now) offset }
     {
         let (whole, rest) = whole_and_rest(offset, self.place);
@@ -210,10 +226,12 @@ impl<I: Stream<Token = u8>> Stream for Bits<I> {
 
     fn finish(&mut self) -> (I::Slice, usize, usize)
         requires { IsValidBits I.valid I.remaining self.old }
-        ensures at { IsBitSliceAt I.is_slice result (I.remaining (bits_input self.old)) (bits_place self.old) (width (bits_remaining I.remaining self.old)) }
+        ensures at { IsBitSliceAt I.is_slice result (I.remaining (bits_input self.old))
+            (bits_place self.old) (width (bits_remaining I.remaining self.old)) }
         ensures place { bits_place self.new ≡ 0 }
         ensures bytes { I.remaining (bits_input self.new) ≡ [] }
-        ensures answer { IsBitSlice I.is_slice result (bits_remaining I.remaining self.old) (width (bits_remaining I.remaining self.old)) }
+        ensures answer { IsBitSlice I.is_slice result (bits_remaining I.remaining self.old)
+            (width (bits_remaining I.remaining self.old)) }
         ensures remains { bits_remaining I.remaining self.new ≡ [] }
         ensures whole { whole_place I.place self.new ≡ place_behind (whole_place I.place self.old)
             (width (bits_remaining I.remaining self.old)) }
@@ -226,8 +244,10 @@ impl<I: Stream<Token = u8>> Stream for Bits<I> {
 
     fn peek_finish(&self) -> (I::Slice, usize, usize)
         requires { IsValidBits I.valid I.remaining self.now }
-        ensures at { IsBitSliceAt I.is_slice result (I.remaining (bits_input self.now)) (bits_place self.now) (width (bits_remaining I.remaining self.now)) }
-        ensures answer { IsBitSlice I.is_slice result (bits_remaining I.remaining self.now) (width (bits_remaining I.remaining self.now)) }
+        ensures at { IsBitSliceAt I.is_slice result (I.remaining (bits_input self.now))
+            (bits_place self.now) (width (bits_remaining I.remaining self.now)) }
+        ensures answer { IsBitSlice I.is_slice result (bits_remaining I.remaining self.now)
+            (width (bits_remaining I.remaining self.now)) }
     {
         self.peek_slice(self.eof_offset())
     }
@@ -236,7 +256,8 @@ impl<I: Stream<Token = u8>> Stream for Bits<I> {
         requires { IsValidBits I.valid I.remaining self.now }
         ensures bytes { I.remained (bytes_at result) ≡ I.remaining (bits_input self.now) }
         ensures place { place_at result ≡ bits_place self.now }
-        ensures means { bits_remained I.remained (checkpoint_inner result) ≡ bits_remaining I.remaining self.now }
+        ensures means { bits_remained I.remained (checkpoint_inner result)
+            ≡ bits_remaining I.remaining self.now }
         ensures whole { whole_place_at I.Checkpoint.place (checkpoint_inner result)
             ≡ whole_place I.place self.now }
         ensures valid { IsValidPlace I.valid_checkpoint I.remained (checkpoint_inner result) }
@@ -250,10 +271,12 @@ impl<I: Stream<Token = u8>> Stream for Bits<I> {
 
     fn reset(&mut self, checkpoint: &Checkpoint<BitPlace<I::Checkpoint>, Bits<I>>)
         requires valid { IsValidBits I.valid I.remaining self.old }
-        requires valid_checkpoint { IsValidPlace I.valid_checkpoint I.remained (checkpoint_inner checkpoint.now) }
+        requires valid_checkpoint
+            { IsValidPlace I.valid_checkpoint I.remained (checkpoint_inner checkpoint.now) }
         ensures bytes { I.remaining (bits_input self.new) ≡ I.remained (bytes_at checkpoint.now) }
         ensures place { bits_place self.new ≡ place_at checkpoint.now }
-        ensures remains { bits_remaining I.remaining self.new ≡ bits_remained I.remained (checkpoint_inner checkpoint.now) }
+        ensures remains { bits_remaining I.remaining self.new
+            ≡ bits_remained I.remained (checkpoint_inner checkpoint.now) }
         ensures whole { whole_place I.place self.new
             ≡ whole_place_at I.Checkpoint.place (checkpoint_inner checkpoint.now) }
         ensures valid { IsValidBits I.valid I.remaining self.new }
@@ -270,7 +293,8 @@ impl<I: Stream<Token = u8>> Stream for Bits<I> {
 }
 
 impl<I: Stream<Token = u8>> Offset<Bits<I>> for Bits<I> {
-    ghost can_measure = { λ s start. IsValidBits I.valid I.remaining s × IsValidBits I.valid I.remaining start };
+    ghost can_measure = { λ s start. IsValidBits I.valid I.remaining s
+        × IsValidBits I.valid I.remaining start };
 
     fn offset_from(&self, start: &Bits<I>) -> usize {
         start.eof_offset() - self.eof_offset()
@@ -278,7 +302,8 @@ impl<I: Stream<Token = u8>> Offset<Bits<I>> for Bits<I> {
 }
 
 impl<I: Stream<Token = u8>> Offset<Checkpoint<BitPlace<I::Checkpoint>, Bits<I>>> for Bits<I> {
-    ghost can_measure = { λ s start. IsValidBits I.valid I.remaining s × IsValidPlace I.valid_checkpoint I.remained (checkpoint_inner start) };
+    ghost can_measure = { λ s start. IsValidBits I.valid I.remaining s
+        × IsValidPlace I.valid_checkpoint I.remained (checkpoint_inner start) };
 
     fn offset_from(&self, start: &Checkpoint<BitPlace<I::Checkpoint>, Bits<I>>) -> usize {
         start.inner().count - self.eof_offset()

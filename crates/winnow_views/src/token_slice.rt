@@ -1,4 +1,5 @@
-ghost use Rattle.std.specs.Prelude.{◌≡◌, ◌+◌, true, [], Some, length, drop, min, reverse, IsTrue, refl, ⊤};
+ghost use Rattle.std.specs.Prelude.{◌≡◌, ◌+◌, true, [], Some, length, drop, min, reverse, IsTrue};
+ghost use Rattle.std.specs.Prelude.{refl, ⊤};
 ghost use Rattle.std.specs.Iterator.{AlwaysYields, IsFinite};
 ghost use Rattle.std.specs.Option.{option_copied};
 ghost use Rattle.std.proofs.Common.{sym, ap, ◌∙◌};
@@ -7,7 +8,9 @@ ghost use Rattle.winnow_stream.specs.Source.{first_token, width};
 ghost use Rattle.winnow_stream.specs.Front.{front, back, is_offset};
 ghost use Rattle.winnow_stream.specs.Units.{HasWidths-units};
 ghost use Rattle.winnow_views.specs.TokenSources.{tokens_of};
-ghost use Rattle.winnow_views.specs.TokenPlaces.{whole_of, rest_of, remaining_of, place_of, taken_of, remained_at, rest_at, place_at, width-remaining_in};
+ghost use Rattle.winnow_views.specs.TokenPlaces.{whole_of, rest_of, remaining_of, place_of};
+ghost use Rattle.winnow_views.specs.TokenPlaces.{taken_of, remained_at, rest_at, place_at};
+ghost use Rattle.winnow_views.specs.TokenPlaces.{width-remaining_in};
 ghost use Rattle.winnow_views.specs.TokenAnswers.{last_of, next_of};
 ghost use Rattle.winnow_views.specs.TokenPrevious.{left_of};
 
@@ -28,7 +31,7 @@ pub struct TokenSlice<'t, T> {
 }
 
 impl<'t, T> TokenSlice<'t, T> {
-    /// All of the list remains, and the place is 0.
+    /// Returns a stream of the whole list, of which all remains, at place 0.
     pub fn new(tokens: &'t [T]) -> Self
         ensures whole { whole_of result ≡ tokens.entry }
         ensures rest { rest_of result ≡ tokens.now }
@@ -43,7 +46,7 @@ impl<'t, T> TokenSlice<'t, T> {
         }
     }
 
-    /// What remains.
+    /// Returns what remains.
     pub fn as_slice(&self) -> &'t [T]
         ensures value { result.now ≡ rest_of self.now }
         ensures tokens { tokens_of T.row result ≡ remaining_of T.row self.now }
@@ -61,11 +64,12 @@ impl<'t, T> TokenSlice<'t, T> {
         *self = TokenSlice::new(self.whole);
     }
 
-    /// The tokens before the place, the last first.
+    /// Returns the tokens before the place, the last first.
     pub fn previous_tokens(&self) -> PreviousTokens<'t, T>
         ensures left { left_of result ≡ reverse (taken_of self.now) }
         ensures ends { IsFinite (⟦<PreviousTokens<'t, T> as Iterator>⟧.remaining result) }
-        ensures items { AlwaysYields ⟦<PreviousTokens<'t, T> as Iterator>⟧.next_gives (λ x. x.now) result (reverse (taken_of self.now)) }
+        ensures items { AlwaysYields ⟦<PreviousTokens<'t, T> as Iterator>⟧.next_gives (λ x. x.now)
+            result (reverse (taken_of self.now)) }
     {
         PreviousTokens::new(self.taken())
     }
@@ -200,7 +204,8 @@ impl<'t, T: Debug> Stream for TokenSlice<'t, T> {
     }
 
     fn finish(&mut self) -> &'t [T]
-        ensures answer { tokens_of T.row result ≡ front (remaining_of T.row self.old) (width (remaining_of T.row self.old)) }
+        ensures answer { tokens_of T.row result
+            ≡ front (remaining_of T.row self.old) (width (remaining_of T.row self.old)) }
         ensures remains { remaining_of T.row self.new ≡ [] }
         ensures rest { rest_of self.new ≡ [] }
         ensures kept { whole_of self.old ≡ whole_of self.new }

@@ -5,8 +5,10 @@ ghost use Rattle.std.specs.Fmt.{debug_list};
 ghost use Rattle.winnow_stream.specs.Source.{first_token};
 ghost use Rattle.winnow_stream.specs.Front.{is_offset, front, IsSomeFront};
 ghost use Rattle.winnow_views.specs.TokenSources.{tokens_of};
-ghost use Rattle.winnow_views.specs.TokenPlaces.{whole_of, rest_of, remaining_of, place_of, remained_at, place_at};
-ghost use Rattle.winnow_views.specs.TokenAnswers.{last_of, next_of, end_before, start_behind, first_comparison};
+ghost use Rattle.winnow_views.specs.TokenPlaces.{whole_of, rest_of, remaining_of, place_of};
+ghost use Rattle.winnow_views.specs.TokenPlaces.{remained_at, place_at};
+ghost use Rattle.winnow_views.specs.TokenAnswers.{last_of, next_of, end_before, start_behind};
+ghost use Rattle.winnow_views.specs.TokenAnswers.{first_comparison};
 
 use crate::{TokenSlice, TokenView};
 use std::fmt;
@@ -41,8 +43,11 @@ impl<'t, T: Debug> UpdateSlice for TokenSlice<'t, T> {
         inner: &'t [T],
         at: &Checkpoint<TokenView<'t, T>, TokenSlice<'t, T>>,
     ) -> Self
-        requires is_front { IsSomeFront (λ s r n. tokens_of T.row s ≡ front r n) inner (remained_at T.row at.now) }
-        ensures remains { (n : ℕ) → IsTrue (is_offset (remained_at T.row at.now) n) → tokens_of T.row inner.entry ≡ front (remained_at T.row at.now) n → remaining_of T.row result ≡ front (remained_at T.row at.now) n }
+        requires is_front { IsSomeFront (λ s r n. tokens_of T.row s ≡ front r n) inner
+            (remained_at T.row at.now) }
+        ensures remains { (n : ℕ) → IsTrue (is_offset (remained_at T.row at.now) n)
+            → tokens_of T.row inner.entry ≡ front (remained_at T.row at.now) n
+            → remaining_of T.row result ≡ front (remained_at T.row at.now) n }
         ensures rest { rest_of result ≡ inner.now }
         ensures kept { whole_of self.entry ≡ whole_of result }
         ensures place { place_of result ≡ place_at at.now }
@@ -137,9 +142,11 @@ impl<T: Debug + Eq + Drop> Compare<T> for TokenSlice<'_, T> {
 
 /// Two are equal where their whole lists are and what remains of them is, whatever their places.
 impl<T: PartialEq> PartialEq for TokenSlice<'_, T> {
-    ghost eq = { λ s t. pointwise T.eq (whole_of s).now (whole_of t).now && pointwise T.eq (rest_of s) (rest_of t) };
+    ghost eq = { λ s t. pointwise T.eq (whole_of s).now (whole_of t).now && pointwise T.eq
+        (rest_of s) (rest_of t) };
 
-    ghost laws = { and_per (on_per (λ s. (whole_of s).now) (lists_per T.laws)) (on_per rest_of (lists_per T.laws)) };
+    ghost laws = { and_per (on_per (λ s. (whole_of s).now) (lists_per T.laws))
+        (on_per rest_of (lists_per T.laws)) };
 
     fn eq(&self, other: &Self) -> bool {
         self.whole == other.whole && self.view == other.view
@@ -147,7 +154,8 @@ impl<T: PartialEq> PartialEq for TokenSlice<'_, T> {
 }
 
 impl<T: Eq> Eq for TokenSlice<'_, T> {
-    ghost laws = { and_equiv (on_equiv (λ s. (whole_of s).now) (lists_equiv T.Eq.laws)) (on_equiv rest_of (lists_equiv T.Eq.laws)) };
+    ghost laws = { and_equiv (on_equiv (λ s. (whole_of s).now) (lists_equiv T.Eq.laws))
+        (on_equiv rest_of (lists_equiv T.Eq.laws)) };
 }
 
 /// As a list of what remains.

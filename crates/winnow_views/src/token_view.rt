@@ -1,6 +1,8 @@
 ghost use Rattle.std.specs.Prelude.{◌≡◌, ⊤};
 ghost use Rattle.std.specs.Cmp.{on_per, on_equiv, on_po, on_total};
-ghost use Rattle.std.specs.Cmp.Lexicographic.{pointwise, slice_cmp, slice_partial_cmp, lists_per, lists_equiv, lists_po, lists_total, lists_agrees, lists_ties};
+ghost use Rattle.std.specs.Cmp.Lexicographic.{pointwise, slice_cmp, slice_partial_cmp, lists_per};
+ghost use Rattle.std.specs.Cmp.Lexicographic.{lists_equiv, lists_po, lists_total, lists_agrees};
+ghost use Rattle.std.specs.Cmp.Lexicographic.{lists_ties};
 ghost use Rattle.std.specs.Fmt.{debug_list};
 ghost use Rattle.winnow_views.specs.TokenPlaces.{rest_in};
 
@@ -59,7 +61,8 @@ impl<T: Ord> Ord for TokenView<'_, T> {
 
     ghost total = { on_total rest_in (lists_total T.total) };
 
-    ghost matches_partial_cmp = { λ s t. lists_agrees T.matches_partial_cmp (rest_in s) (rest_in t) };
+    ghost matches_partial_cmp = { λ s t.
+        lists_agrees T.matches_partial_cmp (rest_in s) (rest_in t) };
 
     ghost matches_eq = { λ s t. lists_ties T.cmp T.matches_eq (rest_in s) (rest_in t) };
 

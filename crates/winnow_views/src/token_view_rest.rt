@@ -5,7 +5,7 @@ use crate::TokenView;
 use winnow_stream::{Offset, Rest};
 
 impl<'t, T> TokenView<'t, T> {
-    /// What remains behind that many tokens.
+    /// Returns what remains behind that many tokens.
     #[tactic(auto, using(crate::proofs::lemmas::TokenLemmas::token_steps))]
     pub(crate) fn behind(self, tokens: usize) -> Self
         requires { tokens ≤ length (rest_in self) }

@@ -1,11 +1,12 @@
 ghost use Rattle.std.specs.Prelude.{◌≡◌, ◌+◌, ◌<◌, ◌≤◌, Some, length, take, drop, slice_get};
-ghost use Rattle.winnow_window.specs.Contents.{contents_of, start_of, slice_of, slice_behind, slice_before};
+ghost use Rattle.winnow_window.specs.Contents.{contents_of, start_of, slice_of, slice_behind};
+ghost use Rattle.winnow_window.specs.Contents.{slice_before};
 
 use crate::Window;
 
 #[tactic(auto, using(crate::proofs::lemmas::RangeLemmas::range_steps), unfolding(crate::specs::Contents::contents_of, crate::specs::Contents::address_of))]
 impl<'i, T> Window<'i, T> {
-    /// All of the slice.
+    /// Returns all of the slice.
     pub fn new(whole: &'i [T]) -> Self
         ensures slice { slice_of T.row result ≡ whole.entry }
         ensures contents { contents_of result ≡ whole.now }
@@ -18,7 +19,7 @@ impl<'i, T> Window<'i, T> {
         }
     }
 
-    /// The part.
+    /// Returns the part.
     pub fn slice(&self) -> &'i [T]
         ensures slice { result ≡ slice_of T.row self.now }
         ensures contents { result.now ≡ contents_of self.now }
@@ -26,7 +27,7 @@ impl<'i, T> Window<'i, T> {
         &self.whole[self.start..self.end]
     }
 
-    /// The element at a place of the part.
+    /// Returns the element at a place of the part.
     pub fn at(&self, place: usize) -> &'i T
         requires { place < length (contents_of self.now) }
         ensures { slice_get (contents_of self.now) place ≡ Some result.now }
@@ -34,24 +35,25 @@ impl<'i, T> Window<'i, T> {
         &self.slice()[place]
     }
 
-    /// How many elements the part has.
+    /// Returns how many elements the part has.
     pub fn len(&self) -> usize
         ensures { result ≡ length (contents_of self.now) }
     {
         self.end - self.start
     }
 
-    /// Where the part starts in the whole slice.
+    /// Returns where the part starts in the whole slice.
     pub fn start(&self) -> usize
         ensures { result ≡ start_of self.now }
     {
         self.start
     }
 
-    /// The part behind its first `count` elements.
+    /// Returns the part behind its first `count` elements.
     pub fn behind(self, count: usize) -> Self
         requires { count ≤ length (contents_of self) }
-        ensures slice { slice_of T.row result ≡ slice_behind T.row count (slice_of T.row self.entry) }
+        ensures slice { slice_of T.row result
+            ≡ slice_behind T.row count (slice_of T.row self.entry) }
         ensures contents { contents_of result ≡ drop count (contents_of self.entry) }
         ensures start { start_of result ≡ start_of self.entry + count }
     {
@@ -62,7 +64,7 @@ impl<'i, T> Window<'i, T> {
         }
     }
 
-    /// The first `count` elements of the part.
+    /// Returns the first `count` elements of the part.
     pub fn before(self, count: usize) -> Self
         requires { count ≤ length (contents_of self) }
         ensures slice { slice_of T.row result ≡ slice_before count (slice_of T.row self.entry) }

@@ -36,7 +36,7 @@ impl<C: Debug + Rest> Debug for Placed<C> {
 }
 
 impl<I: Stream<Checkpoint = C>, C: Rest + Copy + Debug> LocatingSlice<I, C> {
-    /// The stream at place 0: what remains of it is the whole input.
+    /// Returns the stream at place 0: what remains of it is the whole input.
     pub fn new(input: I) -> Self
         requires { I.valid input }
         ensures input { located_input result ≡ input }
@@ -69,7 +69,7 @@ impl<I: Stream<Checkpoint = C>, C: Rest + Copy + Debug> LocatingSlice<I, C> {
 }
 
 impl<I: Rest, C: Rest> LocatingSlice<I, C> {
-    /// The stream inside.
+    /// Returns the stream inside.
     pub fn inner(&self) -> &I
         ensures { result.now ≡ located_input self.now }
     {

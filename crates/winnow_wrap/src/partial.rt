@@ -22,7 +22,7 @@ pub struct Partial<I> {
 }
 
 impl<I> Partial<I> {
-    /// The stream with its mark set. The stream inside has none of its own.
+    /// Returns the stream with its mark set. The stream inside has none of its own.
     pub fn new(input: I) -> Self
     where
         I: StreamIsPartial,
@@ -36,7 +36,7 @@ impl<I> Partial<I> {
         }
     }
 
-    /// The stream inside.
+    /// Returns the stream inside.
     pub fn into_inner(self) -> I
         ensures { result ≡ unmarked self }
     {

@@ -6,7 +6,8 @@ ghost use Rattle.std.specs.String.{string_bytes};
 ghost use Rattle.std.specs.declared.borrow.CowStr.TheVariants.{Borrowed};
 ghost use Rattle.std.proofs.Common.{rules};
 ghost use Rattle.winnow_count.specs.Accumulation.{AppendsOwned, BecomesOrAppends, CowUnchanged};
-ghost use Rattle.winnow_count.specs.AccumulationLaws.{cow_appends_taken, cow_becomes_taken, cow_characters_taken, cow_stays};
+ghost use Rattle.winnow_count.specs.AccumulationLaws.{cow_appends_taken, cow_becomes_taken};
+ghost use Rattle.winnow_count.specs.AccumulationLaws.{cow_characters_taken, cow_stays};
 
 use crate::Accumulate;
 use std::alloc::{AllocError, Global};

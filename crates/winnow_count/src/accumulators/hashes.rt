@@ -3,8 +3,10 @@ ghost use Rattle.std.specs.HashMap as map;
 ghost use Rattle.std.specs.HashSet as set;
 ghost use Rattle.std.proofs.Common.{rules};
 ghost use Rattle.winnow_count.specs.Accumulation.{HasKeys, HasLastValues, room_of};
-ghost use Rattle.winnow_count.specs.AccumulationLaws.{hash_map_starts, hash_map_stays, hash_map_taken};
-ghost use Rattle.winnow_count.specs.AccumulationLaws.{hash_set_starts, hash_set_stays, hash_set_taken};
+ghost use Rattle.winnow_count.specs.AccumulationLaws.{hash_map_starts, hash_map_stays};
+ghost use Rattle.winnow_count.specs.AccumulationLaws.{hash_map_taken};
+ghost use Rattle.winnow_count.specs.AccumulationLaws.{hash_set_starts, hash_set_stays};
+ghost use Rattle.winnow_count.specs.AccumulationLaws.{hash_set_taken};
 
 use super::room;
 use crate::Accumulate;

@@ -4,8 +4,10 @@ ghost use Rattle.std.specs.BTreeSet as set;
 ghost use Rattle.std.specs.Ordering.{eq_by_cmp};
 ghost use Rattle.std.proofs.Common.{rules};
 ghost use Rattle.winnow_count.specs.Accumulation.{HasKeys, HasLastValues};
-ghost use Rattle.winnow_count.specs.AccumulationLaws.{tree_map_starts, tree_map_stays, tree_map_taken};
-ghost use Rattle.winnow_count.specs.AccumulationLaws.{tree_set_starts, tree_set_stays, tree_set_taken};
+ghost use Rattle.winnow_count.specs.AccumulationLaws.{tree_map_starts, tree_map_stays};
+ghost use Rattle.winnow_count.specs.AccumulationLaws.{tree_map_taken};
+ghost use Rattle.winnow_count.specs.AccumulationLaws.{tree_set_starts, tree_set_stays};
+ghost use Rattle.winnow_count.specs.AccumulationLaws.{tree_set_taken};
 
 use crate::Accumulate;
 use std::alloc::{AllocError, Global};
