@@ -286,7 +286,7 @@ impl StreamIsPartial for Bytes<'_> {
 }
 
 /// As the bytes are compared.
-#[tactic(auto, using(winnow_match::proofs::lemmas::OffsetLemmas::source_answers))]
+#[tactic(auto, using(winnow_match::proofs::lemmas::AnswerLemmas::source_answers))]
 impl<T: ByteLiteral> Compare<T> for Bytes<'_> {
     ghost compared = { λ literal r. comparison (T.literal_bytes literal) (bytes_of r) };
 
@@ -298,7 +298,7 @@ impl<T: ByteLiteral> Compare<T> for Bytes<'_> {
 }
 
 /// As the bytes are searched.
-#[tactic(auto, using(winnow_match::proofs::lemmas::OffsetLemmas::source_answers))]
+#[tactic(auto, using(winnow_match::proofs::lemmas::AnswerLemmas::source_answers))]
 impl<T: ByteNeedles> FindSlice<T> for Bytes<'_> {
     ghost found = { λ needles r. hit (T.needle_bytes needles) (bytes_of r) };
 

@@ -1,2 +1,2 @@
 pub mod ContextTextLemmas
-pub mod LineLemmas
+pub mod ContextLineLemmas

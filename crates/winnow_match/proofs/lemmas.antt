@@ -1,10 +1,10 @@
 pub mod ByteLemmas
 pub mod ComparisonLemmas
-pub mod FrontLemmas
+pub mod ByteFrontLemmas
 pub mod SearchLemmas
 pub mod HitLemmas
 pub mod StretchLemmas
 pub mod MoveLemmas
 pub mod TailLemmas
 pub mod RuleLemmas
-pub mod OffsetLemmas
+pub mod AnswerLemmas

@@ -7,7 +7,7 @@ ghost use Rattle.winnow_match.specs.declared.compare.CompareResult.{CompareResul
 use crate::{Compare, CompareResult};
 
 // Whether the prefix is a front of the input. `==` is quicker on short slices than `starts_with`.
-#[tactic(auto, using(crate::proofs::lemmas::FrontLemmas::front_tests))]
+#[tactic(auto, using(crate::proofs::lemmas::ByteFrontLemmas::front_tests))]
 pub(crate) fn begins_with(input: &[u8], prefix: &[u8]) -> bool
     ensures value { result ≡ is_front prefix.now input.now }
     ensures fits { IsTrue result → length prefix.now ≤ length input.now }
@@ -48,7 +48,7 @@ fn compare_whole(input: &[u8], literal: &[u8]) -> CompareResult
     }
 }
 
-#[tactic(auto, using(crate::proofs::lemmas::OffsetLemmas::source_answers))]
+#[tactic(auto, using(crate::proofs::lemmas::AnswerLemmas::source_answers))]
 impl<'i, 'l> Compare<&'l [u8]> for &'i [u8] {
     ghost compared = { λ literal r. comparison literal.now (bytes_of r) };
 
@@ -59,7 +59,7 @@ impl<'i, 'l> Compare<&'l [u8]> for &'i [u8] {
     }
 }
 
-#[tactic(auto, using(crate::proofs::lemmas::OffsetLemmas::source_answers))]
+#[tactic(auto, using(crate::proofs::lemmas::AnswerLemmas::source_answers))]
 impl<'i, const LEN: usize> Compare<[u8; LEN]> for &'i [u8] {
     ghost compared = { λ literal r. comparison literal (bytes_of r) };
 
@@ -70,7 +70,7 @@ impl<'i, const LEN: usize> Compare<[u8; LEN]> for &'i [u8] {
     }
 }
 
-#[tactic(auto, using(crate::proofs::lemmas::OffsetLemmas::source_answers))]
+#[tactic(auto, using(crate::proofs::lemmas::AnswerLemmas::source_answers))]
 impl<'i, 'l, const LEN: usize> Compare<&'l [u8; LEN]> for &'i [u8] {
     ghost compared = { λ literal r. comparison literal.now (bytes_of r) };
 
@@ -81,7 +81,7 @@ impl<'i, 'l, const LEN: usize> Compare<&'l [u8; LEN]> for &'i [u8] {
     }
 }
 
-#[tactic(auto, using(crate::proofs::lemmas::OffsetLemmas::source_answers))]
+#[tactic(auto, using(crate::proofs::lemmas::AnswerLemmas::source_answers))]
 impl<'i, 'l> Compare<&'l str> for &'i [u8] {
     ghost compared = { λ literal r. comparison literal.now (bytes_of r) };
 
@@ -92,7 +92,7 @@ impl<'i, 'l> Compare<&'l str> for &'i [u8] {
     }
 }
 
-#[tactic(auto, using(crate::proofs::lemmas::OffsetLemmas::source_answers))]
+#[tactic(auto, using(crate::proofs::lemmas::AnswerLemmas::source_answers))]
 impl<'i> Compare<u8> for &'i [u8] {
     ghost compared = { λ literal r. comparison (literal ∷ []) (bytes_of r) };
 
@@ -104,7 +104,7 @@ impl<'i> Compare<u8> for &'i [u8] {
 }
 
 /// The character in its UTF-8 form.
-#[tactic(auto, using(crate::proofs::lemmas::OffsetLemmas::source_answers))]
+#[tactic(auto, using(crate::proofs::lemmas::AnswerLemmas::source_answers))]
 impl<'i> Compare<char> for &'i [u8] {
     ghost compared = { λ literal r. comparison (encode_utf8 literal) (bytes_of r) };
 

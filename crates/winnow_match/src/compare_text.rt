@@ -6,7 +6,7 @@ ghost use Rattle.winnow_match.specs.Comparison.{comparison};
 use crate::compare_bytes::compare_front;
 use crate::{Compare, CompareResult};
 
-#[tactic(auto, using(crate::proofs::lemmas::OffsetLemmas::source_answers))]
+#[tactic(auto, using(crate::proofs::lemmas::AnswerLemmas::source_answers))]
 impl<'i, 'l> Compare<&'l str> for &'i str {
     ghost compared = { λ literal r. comparison literal.now (utf8_of r) };
 
@@ -17,7 +17,7 @@ impl<'i, 'l> Compare<&'l str> for &'i str {
     }
 }
 
-#[tactic(auto, using(crate::proofs::lemmas::OffsetLemmas::source_answers))]
+#[tactic(auto, using(crate::proofs::lemmas::AnswerLemmas::source_answers))]
 impl<'i> Compare<char> for &'i str {
     ghost compared = { λ literal r. comparison (encode_utf8 literal) (utf8_of r) };
 

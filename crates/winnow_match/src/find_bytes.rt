@@ -7,7 +7,7 @@ use crate::finding::{find_byte, find_needles, find_three_bytes, find_two_bytes};
 use crate::{FindSlice, Needles};
 use std::ops::Range;
 
-#[tactic(auto, using(crate::proofs::lemmas::OffsetLemmas::source_answers))]
+#[tactic(auto, using(crate::proofs::lemmas::AnswerLemmas::source_answers))]
 impl<'i, 'n> FindSlice<&'n [u8]> for &'i [u8] {
     ghost found = { λ needle r. hit (needle.now ∷ []) (bytes_of r) };
 
@@ -16,7 +16,7 @@ impl<'i, 'n> FindSlice<&'n [u8]> for &'i [u8] {
     }
 }
 
-#[tactic(auto, using(crate::proofs::lemmas::OffsetLemmas::source_answers))]
+#[tactic(auto, using(crate::proofs::lemmas::AnswerLemmas::source_answers))]
 impl<'i, 'n> FindSlice<(&'n [u8],)> for &'i [u8] {
     ghost found = { λ needles r. hit (needles.0.now ∷ []) (bytes_of r) };
 
@@ -25,7 +25,7 @@ impl<'i, 'n> FindSlice<(&'n [u8],)> for &'i [u8] {
     }
 }
 
-#[tactic(auto, using(crate::proofs::lemmas::OffsetLemmas::source_answers))]
+#[tactic(auto, using(crate::proofs::lemmas::AnswerLemmas::source_answers))]
 impl<'i, 'n> FindSlice<(&'n [u8], &'n [u8])> for &'i [u8] {
     ghost found = { λ needles r. hit (needles.0.now ∷ needles.1.now ∷ []) (bytes_of r) };
 
@@ -34,7 +34,7 @@ impl<'i, 'n> FindSlice<(&'n [u8], &'n [u8])> for &'i [u8] {
     }
 }
 
-#[tactic(auto, using(crate::proofs::lemmas::OffsetLemmas::source_answers))]
+#[tactic(auto, using(crate::proofs::lemmas::AnswerLemmas::source_answers))]
 impl<'i, 'n> FindSlice<(&'n [u8], &'n [u8], &'n [u8])> for &'i [u8] {
     ghost found = { λ needles r.
         hit (needles.0.now ∷ needles.1.now ∷ needles.2.now ∷ []) (bytes_of r) };
@@ -44,7 +44,7 @@ impl<'i, 'n> FindSlice<(&'n [u8], &'n [u8], &'n [u8])> for &'i [u8] {
     }
 }
 
-#[tactic(auto, using(crate::proofs::lemmas::OffsetLemmas::source_answers))]
+#[tactic(auto, using(crate::proofs::lemmas::AnswerLemmas::source_answers))]
 impl<'i, 'n> FindSlice<Needles<&'n [u8]>> for &'i [u8] {
     ghost found = { λ needles r. hit (bytes_of_needles needles) (bytes_of r) };
 
@@ -53,7 +53,7 @@ impl<'i, 'n> FindSlice<Needles<&'n [u8]>> for &'i [u8] {
     }
 }
 
-#[tactic(auto, using(crate::proofs::lemmas::OffsetLemmas::source_answers))]
+#[tactic(auto, using(crate::proofs::lemmas::AnswerLemmas::source_answers))]
 impl<'i, 'n> FindSlice<&'n str> for &'i [u8] {
     ghost found = { λ needle r. hit (needle.now ∷ []) (bytes_of r) };
 
@@ -62,7 +62,7 @@ impl<'i, 'n> FindSlice<&'n str> for &'i [u8] {
     }
 }
 
-#[tactic(auto, using(crate::proofs::lemmas::OffsetLemmas::source_answers))]
+#[tactic(auto, using(crate::proofs::lemmas::AnswerLemmas::source_answers))]
 impl<'i, 'n> FindSlice<(&'n str,)> for &'i [u8] {
     ghost found = { λ needles r. hit (needles.0.now ∷ []) (bytes_of r) };
 
@@ -71,7 +71,7 @@ impl<'i, 'n> FindSlice<(&'n str,)> for &'i [u8] {
     }
 }
 
-#[tactic(auto, using(crate::proofs::lemmas::OffsetLemmas::source_answers))]
+#[tactic(auto, using(crate::proofs::lemmas::AnswerLemmas::source_answers))]
 impl<'i, 'n> FindSlice<(&'n str, &'n str)> for &'i [u8] {
     ghost found = { λ needles r. hit (needles.0.now ∷ needles.1.now ∷ []) (bytes_of r) };
 
@@ -83,7 +83,7 @@ impl<'i, 'n> FindSlice<(&'n str, &'n str)> for &'i [u8] {
     }
 }
 
-#[tactic(auto, using(crate::proofs::lemmas::OffsetLemmas::source_answers))]
+#[tactic(auto, using(crate::proofs::lemmas::AnswerLemmas::source_answers))]
 impl<'i, 'n> FindSlice<(&'n str, &'n str, &'n str)> for &'i [u8] {
     ghost found = { λ needles r.
         hit (needles.0.now ∷ needles.1.now ∷ needles.2.now ∷ []) (bytes_of r) };
@@ -100,7 +100,7 @@ impl<'i, 'n> FindSlice<(&'n str, &'n str, &'n str)> for &'i [u8] {
     }
 }
 
-#[tactic(auto, using(crate::proofs::lemmas::OffsetLemmas::source_answers))]
+#[tactic(auto, using(crate::proofs::lemmas::AnswerLemmas::source_answers))]
 impl<'i> FindSlice<u8> for &'i [u8] {
     ghost found = { λ byte r. hit ((byte ∷ []) ∷ []) (bytes_of r) };
 
@@ -109,7 +109,7 @@ impl<'i> FindSlice<u8> for &'i [u8] {
     }
 }
 
-#[tactic(auto, using(crate::proofs::lemmas::OffsetLemmas::source_answers))]
+#[tactic(auto, using(crate::proofs::lemmas::AnswerLemmas::source_answers))]
 impl<'i> FindSlice<(u8,)> for &'i [u8] {
     ghost found = { λ bytes r. hit ((bytes.0 ∷ []) ∷ []) (bytes_of r) };
 
@@ -118,7 +118,7 @@ impl<'i> FindSlice<(u8,)> for &'i [u8] {
     }
 }
 
-#[tactic(auto, using(crate::proofs::lemmas::OffsetLemmas::source_answers))]
+#[tactic(auto, using(crate::proofs::lemmas::AnswerLemmas::source_answers))]
 impl<'i> FindSlice<(u8, u8)> for &'i [u8] {
     ghost found = { λ bytes r. hit ((bytes.0 ∷ []) ∷ (bytes.1 ∷ []) ∷ []) (bytes_of r) };
 
@@ -127,7 +127,7 @@ impl<'i> FindSlice<(u8, u8)> for &'i [u8] {
     }
 }
 
-#[tactic(auto, using(crate::proofs::lemmas::OffsetLemmas::source_answers))]
+#[tactic(auto, using(crate::proofs::lemmas::AnswerLemmas::source_answers))]
 impl<'i> FindSlice<(u8, u8, u8)> for &'i [u8] {
     ghost found = { λ bytes r.
         hit ((bytes.0 ∷ []) ∷ (bytes.1 ∷ []) ∷ (bytes.2 ∷ []) ∷ []) (bytes_of r) };
@@ -138,7 +138,7 @@ impl<'i> FindSlice<(u8, u8, u8)> for &'i [u8] {
 }
 
 /// The character in its UTF-8 form.
-#[tactic(auto, using(crate::proofs::lemmas::OffsetLemmas::source_answers))]
+#[tactic(auto, using(crate::proofs::lemmas::AnswerLemmas::source_answers))]
 impl<'i> FindSlice<char> for &'i [u8] {
     ghost found = { λ c r. hit (encode_utf8 c ∷ []) (bytes_of r) };
 
@@ -152,7 +152,7 @@ impl<'i> FindSlice<char> for &'i [u8] {
 }
 
 /// The character in its UTF-8 form.
-#[tactic(auto, using(crate::proofs::lemmas::OffsetLemmas::source_answers))]
+#[tactic(auto, using(crate::proofs::lemmas::AnswerLemmas::source_answers))]
 impl<'i> FindSlice<(char,)> for &'i [u8] {
     ghost found = { λ cs r. hit (encode_utf8 cs.0 ∷ []) (bytes_of r) };
 
@@ -164,7 +164,7 @@ impl<'i> FindSlice<(char,)> for &'i [u8] {
 }
 
 /// The characters in their UTF-8 form.
-#[tactic(auto, using(crate::proofs::lemmas::OffsetLemmas::source_answers))]
+#[tactic(auto, using(crate::proofs::lemmas::AnswerLemmas::source_answers))]
 impl<'i> FindSlice<(char, char)> for &'i [u8] {
     ghost found = { λ cs r. hit (encode_utf8 cs.0 ∷ encode_utf8 cs.1 ∷ []) (bytes_of r) };
 
@@ -178,7 +178,7 @@ impl<'i> FindSlice<(char, char)> for &'i [u8] {
 }
 
 /// The characters in their UTF-8 form.
-#[tactic(auto, using(crate::proofs::lemmas::OffsetLemmas::source_answers))]
+#[tactic(auto, using(crate::proofs::lemmas::AnswerLemmas::source_answers))]
 impl<'i> FindSlice<(char, char, char)> for &'i [u8] {
     ghost found = { λ cs r.
         hit (encode_utf8 cs.0 ∷ encode_utf8 cs.1 ∷ encode_utf8 cs.2 ∷ []) (bytes_of r) };

@@ -7,7 +7,7 @@ use crate::finding::find_needles;
 use crate::{FindSlice, Needles};
 use std::ops::Range;
 
-#[tactic(auto, using(crate::proofs::lemmas::OffsetLemmas::source_answers))]
+#[tactic(auto, using(crate::proofs::lemmas::AnswerLemmas::source_answers))]
 impl<'i, 'n> FindSlice<&'n str> for &'i str {
     ghost found = { λ needle r. hit (needle.now ∷ []) (utf8_of r) };
 
@@ -16,7 +16,7 @@ impl<'i, 'n> FindSlice<&'n str> for &'i str {
     }
 }
 
-#[tactic(auto, using(crate::proofs::lemmas::OffsetLemmas::source_answers))]
+#[tactic(auto, using(crate::proofs::lemmas::AnswerLemmas::source_answers))]
 impl<'i, 'n> FindSlice<(&'n str,)> for &'i str {
     ghost found = { λ needles r. hit (needles.0.now ∷ []) (utf8_of r) };
 
@@ -25,7 +25,7 @@ impl<'i, 'n> FindSlice<(&'n str,)> for &'i str {
     }
 }
 
-#[tactic(auto, using(crate::proofs::lemmas::OffsetLemmas::source_answers))]
+#[tactic(auto, using(crate::proofs::lemmas::AnswerLemmas::source_answers))]
 impl<'i, 'n> FindSlice<(&'n str, &'n str)> for &'i str {
     ghost found = { λ needles r. hit (needles.0.now ∷ needles.1.now ∷ []) (utf8_of r) };
 
@@ -37,7 +37,7 @@ impl<'i, 'n> FindSlice<(&'n str, &'n str)> for &'i str {
     }
 }
 
-#[tactic(auto, using(crate::proofs::lemmas::OffsetLemmas::source_answers))]
+#[tactic(auto, using(crate::proofs::lemmas::AnswerLemmas::source_answers))]
 impl<'i, 'n> FindSlice<(&'n str, &'n str, &'n str)> for &'i str {
     ghost found = { λ needles r.
         hit (needles.0.now ∷ needles.1.now ∷ needles.2.now ∷ []) (utf8_of r) };
@@ -54,7 +54,7 @@ impl<'i, 'n> FindSlice<(&'n str, &'n str, &'n str)> for &'i str {
     }
 }
 
-#[tactic(auto, using(crate::proofs::lemmas::OffsetLemmas::source_answers))]
+#[tactic(auto, using(crate::proofs::lemmas::AnswerLemmas::source_answers))]
 impl<'i, 'n> FindSlice<Needles<&'n str>> for &'i str {
     ghost found = { λ needles r. hit (bytes_of_needles needles) (utf8_of r) };
 
@@ -63,7 +63,7 @@ impl<'i, 'n> FindSlice<Needles<&'n str>> for &'i str {
     }
 }
 
-#[tactic(auto, using(crate::proofs::lemmas::OffsetLemmas::source_answers))]
+#[tactic(auto, using(crate::proofs::lemmas::AnswerLemmas::source_answers))]
 impl<'i> FindSlice<char> for &'i str {
     ghost found = { λ c r. hit (encode_utf8 c ∷ []) (utf8_of r) };
 
@@ -76,7 +76,7 @@ impl<'i> FindSlice<char> for &'i str {
     }
 }
 
-#[tactic(auto, using(crate::proofs::lemmas::OffsetLemmas::source_answers))]
+#[tactic(auto, using(crate::proofs::lemmas::AnswerLemmas::source_answers))]
 impl<'i> FindSlice<(char,)> for &'i str {
     ghost found = { λ cs r. hit (encode_utf8 cs.0 ∷ []) (utf8_of r) };
 
@@ -87,7 +87,7 @@ impl<'i> FindSlice<(char,)> for &'i str {
     }
 }
 
-#[tactic(auto, using(crate::proofs::lemmas::OffsetLemmas::source_answers))]
+#[tactic(auto, using(crate::proofs::lemmas::AnswerLemmas::source_answers))]
 impl<'i> FindSlice<(char, char)> for &'i str {
     ghost found = { λ cs r. hit (encode_utf8 cs.0 ∷ encode_utf8 cs.1 ∷ []) (utf8_of r) };
 
@@ -100,7 +100,7 @@ impl<'i> FindSlice<(char, char)> for &'i str {
     }
 }
 
-#[tactic(auto, using(crate::proofs::lemmas::OffsetLemmas::source_answers))]
+#[tactic(auto, using(crate::proofs::lemmas::AnswerLemmas::source_answers))]
 impl<'i> FindSlice<(char, char, char)> for &'i str {
     ghost found = { λ cs r.
         hit (encode_utf8 cs.0 ∷ encode_utf8 cs.1 ∷ encode_utf8 cs.2 ∷ []) (utf8_of r) };

@@ -265,7 +265,7 @@ fn near_and_far_hits(rt: HostRuntime) -> Result<(), Fail> {
 }
 
 // What could move the hit of the needles, where there is one.
-#[tactic(auto, using(winnow_match::proofs::lemmas::OffsetLemmas::source_answers))]
+#[tactic(auto, using(winnow_match::proofs::lemmas::AnswerLemmas::source_answers))]
 fn moved_by(input: &[u8], needles: Needles<&[u8]>) -> Option<Option<Stretch>> {
     let hit = input.find_slice(needles)?;
     Some(stretch(input, &needles, &hit))

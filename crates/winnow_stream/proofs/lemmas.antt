@@ -2,9 +2,9 @@ pub mod FrontLemmas
 pub mod FusedLemmas
 pub mod HeldLemmas
 pub mod IndexLemmas
-pub mod MissingLemmas
+pub mod LackLemmas
 pub mod OffsetLemmas
-pub mod SearchLemmas
+pub mod FirstTokenLemmas
 pub mod ShortageLemmas
 pub mod TextLemmas
 pub mod UnitLemmas

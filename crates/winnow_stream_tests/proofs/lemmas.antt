@@ -1,1 +1,1 @@
-pub mod PairLemmas
+pub mod WidthTwoLemmas

@@ -55,7 +55,7 @@ impl<'a> Rest for Pairs<'a> {
     ghost rest_width = { λ s. 2 * length s.rest.now };
 }
 
-#[tactic(auto, using(crate::proofs::lemmas::PairLemmas::pair_steps))]
+#[tactic(auto, using(crate::proofs::lemmas::WidthTwoLemmas::pair_steps))]
 impl<'a> Stream for Pairs<'a> {
     type Token = u16;
 

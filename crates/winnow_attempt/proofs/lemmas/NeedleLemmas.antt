@@ -9,7 +9,7 @@ use Rattle.winnow_stream.specs.Cursor.{places}
 use Rattle.winnow_match.specs.Search.{is_empty, needle_of, hit, Stands}
 use Rattle.winnow_match.specs.declared.needles.Stretch.{Stretch}
 use Rattle.winnow_match.specs.Stretch.{stretch_of, hit_is_definite, Stretches, CanMove}
-use Rattle.winnow_match.proofs.lemmas.FrontLemmas.{is_front-IsFrontOf, front_rest, length-front}
+use Rattle.winnow_match.proofs.lemmas.ByteFrontLemmas.{is_front-IsFrontOf, front_rest, length-front}
 use Rattle.winnow_match.proofs.lemmas.HitLemmas.{none-says}
 use Rattle.winnow_match.proofs.lemmas.StretchLemmas.{none-or-some}
 use Rattle.winnow_match.proofs.lemmas.MoveLemmas.{first, fits, inside, stands-before, none-contained, stretch-some, hit-empty, stretch-first, stretch-empty, definite-from}

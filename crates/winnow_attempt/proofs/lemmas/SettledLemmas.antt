@@ -19,7 +19,7 @@ use Rattle.winnow_match.specs.declared.compare.CompareResult.TheVariants as comp
 use Rattle.winnow_match.specs.Bytes.{written}
 use Rattle.winnow_match.specs.Comparison.{is_front, comparison}
 use Rattle.winnow_match.specs.Search.{is_empty, needle_at, needle_list, hit_or, first_hit, hit}
-use Rattle.winnow_match.proofs.lemmas.FrontLemmas.{is_front-more}
+use Rattle.winnow_match.proofs.lemmas.ByteFrontLemmas.{is_front-more}
 use Rattle.winnow_match.proofs.lemmas.HitLemmas.{first_hit-nowhere}
 use Rattle.winnow_stream.specs.declared.needed.Needed.{Needed}
 use Rattle.winnow_run.specs.declared.search_script.SearchStep.{SearchStep}

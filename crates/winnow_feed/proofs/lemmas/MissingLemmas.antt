@@ -21,7 +21,7 @@ use Rattle.winnow_match.specs.declared.compare.CompareResult.TheVariants as comp
 use Rattle.winnow_match.specs.declared.needles.Needles.{Needles}
 use Rattle.winnow_match.specs.declared.needles.Needles.TheVariants.{One, Two, Three}
 use Rattle.winnow_match.proofs.lemmas.ComparisonLemmas.{ok-says, incomplete-says}
-use Rattle.winnow_match.proofs.lemmas.FrontLemmas.{front_rest, is_front-IsFrontOf}
+use Rattle.winnow_match.proofs.lemmas.ByteFrontLemmas.{front_rest, is_front-IsFrontOf}
 use Rattle.winnow_sets.specs.declared.char_set.CharSet.{CharSet}
 use Rattle.winnow_sets.specs.Sets.{char_ranges, least_of_first}
 use Rattle.winnow_sets.proofs.lemmas.RangeLemmas.{least_held}

@@ -14,7 +14,7 @@ use Rattle.winnow_match.specs.Search.{is_empty, needle_of, hit}
 use Rattle.winnow_match.specs.declared.needles.Stretch.{Stretch}
 use Rattle.winnow_match.specs.Stretch.{stretch_of, Stretches}
 use Rattle.winnow_match.proofs.lemmas.ByteLemmas.{utf8_of-char_source}
-use Rattle.winnow_match.proofs.lemmas.FrontLemmas.{front_rest, is_front-IsFrontOf, length-front}
+use Rattle.winnow_match.proofs.lemmas.ByteFrontLemmas.{front_rest, is_front-IsFrontOf, length-front}
 use Rattle.winnow_match.proofs.lemmas.StretchLemmas.{none-or-some}
 use Rattle.winnow_match.proofs.lemmas.MoveLemmas.{inside, stretch-some, stretch-first, stretch-empty}
 use Rattle.winnow_attempt.specs.Missing.{needle_missing}

@@ -3,7 +3,7 @@ use Rattle.std.proofs.Common.{◌≡◌, ◌↔◌, ℕ, ◌≤◌, ◌<◌, Boo
 use Rattle.std.proofs.lemmas.Bool.{cases_lt, false_from_ne_true, false≢true}
 use Rattle.winnow_match.specs.declared.compare.CompareResult.TheVariants as compared
 use Rattle.winnow_match.specs.Comparison.{is_front, IsFrontOf, comparison}
-use Rattle.winnow_match.proofs.lemmas.FrontLemmas.{is_front-long, is_front-whole, is_front-append, is_front-more, is_front-shorter, is_front-both, length-front, no_front, IsFrontOf-is_front, is_front-IsFrontOf}
+use Rattle.winnow_match.proofs.lemmas.ByteFrontLemmas.{is_front-long, is_front-whole, is_front-append, is_front-more, is_front-shorter, is_front-both, length-front, no_front, IsFrontOf-is_front, is_front-IsFrontOf}
 
 module _ (literal bytes : List ℕ) where
   pub comparison-ok : is_front literal bytes ≡ true → compared.Ok (length literal) ≡ comparison literal bytes

@@ -11,7 +11,7 @@ use Rattle.winnow_stream.specs.Source.{units, offsets_from, first_held, first_of
 use Rattle.winnow_stream.specs.Cursor.{places}
 use Rattle.winnow_match.specs.Comparison.{is_front}
 use Rattle.winnow_match.specs.Search.{is_empty, needle_at, SomeStands, Stands, needle_of, IsFirstHit, StandsNowhere, hit_or, first_hit, hit}
-use Rattle.winnow_match.proofs.lemmas.FrontLemmas.{IsFrontOf-is_front, is_front-IsFrontOf, no_front}
+use Rattle.winnow_match.proofs.lemmas.ByteFrontLemmas.{IsFrontOf-is_front, is_front-IsFrontOf, no_front}
 use Rattle.winnow_match.proofs.lemmas.SearchLemmas.{hit-some, hit-none, none-parts, SomeStands-within}
 
 -- ---- an empty needle

@@ -9,7 +9,7 @@ use Rattle.std.proofs.lemmas.List.{drop-append-le, length-append, append_assoc}
 use Rattle.winnow_stream.specs.Cursor.{places}
 use Rattle.winnow_match.specs.Comparison.{is_front}
 use Rattle.winnow_match.specs.Search.{is_empty, needle_at, needle_of, hit, Stands, IsFirstHit}
-use Rattle.winnow_match.proofs.lemmas.FrontLemmas.{IsFrontOf-is_front, is_front-IsFrontOf, no_front, is_front-more, length-front, is_front-append, is_front-both, is_front-long}
+use Rattle.winnow_match.proofs.lemmas.ByteFrontLemmas.{IsFrontOf-is_front, is_front-IsFrontOf, no_front, is_front-more, length-front, is_front-append, is_front-both, is_front-long}
 use Rattle.winnow_match.proofs.lemmas.HitLemmas.{no-needle, needle_at-nowhere, some-says}
 use Rattle.winnow_match.specs.declared.needles.Stretch.{Stretch}
 use Rattle.winnow_match.specs.Stretch.{stretching, first_stretch, stretch_of, hit_is_definite, Stretches, CanMove, IsStretch}

@@ -6,7 +6,7 @@ use Rattle.std.specs.declared.ops.Range.{Range}
 use Rattle.std.proofs.lemmas.Bool.{cases_lt}
 use Rattle.winnow_stream.specs.Cursor.{places}
 use Rattle.winnow_match.specs.Search.{is_empty, needle_of, hit, Stands, IsFirstHit}
-use Rattle.winnow_match.proofs.lemmas.FrontLemmas.{is_front-IsFrontOf, length-front}
+use Rattle.winnow_match.proofs.lemmas.ByteFrontLemmas.{is_front-IsFrontOf, length-front}
 use Rattle.winnow_match.proofs.lemmas.HitLemmas.{none-empty, some-says}
 use Rattle.winnow_match.specs.declared.needles.Stretch.{Stretch}
 use Rattle.winnow_match.specs.Stretch.{stretch_of, hit_is_definite, Stretches, CanMove, IsStretch, NothingStretches}

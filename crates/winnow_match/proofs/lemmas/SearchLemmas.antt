@@ -10,7 +10,7 @@ use Rattle.memchr.specs.Find.{IsFirst, IsFirstByte, Passes, is_byte, is_byte2, i
 use Rattle.winnow_stream.specs.Cursor.{places}
 use Rattle.winnow_match.specs.Comparison.{is_front}
 use Rattle.winnow_match.specs.Search.{is_empty, needle_at, SomeStands, first_hit, hit}
-use Rattle.winnow_match.proofs.lemmas.FrontLemmas.{length-front, is_front-append, front_rest}
+use Rattle.winnow_match.proofs.lemmas.ByteFrontLemmas.{length-front, is_front-append, front_rest}
 
 pub nonempty-length : (xs : List ℕ) → is_empty xs ≡ false → 0 < length xs
 nonempty-length [] h = absurd (false≢true (sym h))

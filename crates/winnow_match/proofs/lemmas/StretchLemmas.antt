@@ -5,7 +5,7 @@ use Rattle.std.proofs.lemmas.Bool.{and_parts, and_from, cases_Bool, ltb-true, lt
 use Rattle.std.proofs.lemmas.Option.{same_Some, none-some}
 use Rattle.winnow_match.specs.Comparison.{is_front, IsFrontOf}
 use Rattle.winnow_match.specs.Search.{needle_at, needle_of}
-use Rattle.winnow_match.proofs.lemmas.FrontLemmas.{IsFrontOf-is_front, is_front-IsFrontOf}
+use Rattle.winnow_match.proofs.lemmas.ByteFrontLemmas.{IsFrontOf-is_front, is_front-IsFrontOf}
 use Rattle.winnow_match.proofs.lemmas.HitLemmas.{below-suc}
 use Rattle.winnow_match.specs.declared.needles.Stretch.{Stretch}
 use Rattle.winnow_match.specs.Stretch.{stretches, stretching, stretch_or, first_stretch}

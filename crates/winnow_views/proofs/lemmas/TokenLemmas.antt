@@ -15,8 +15,8 @@ use Rattle.winnow_stream.proofs.lemmas.UnitLemmas.{length-units, is_offset-units
 use Rattle.std.proofs.lemmas.Bool.Decides.{nat_tests}
 use Rattle.std.proofs.lemmas.List.{drop-map, drop_all}
 use Rattle.winnow_window.specs.Contents.{slice_before}
-use Rattle.winnow_window.proofs.lemmas.FrontLemmas.{take-front}
-use Rattle.winnow_window.proofs.lemmas.FrontLemmas.{le-from_front as le-from_units}
+use Rattle.winnow_window.proofs.lemmas.WindowLemmas.{take-front}
+use Rattle.winnow_window.proofs.lemmas.WindowLemmas.{le-from_front as le-from_units}
 use Rattle.winnow_views.specs.TokenSources.{references, tokens_of, length-references, width-tokens_of}
 
 -- references to a part of the list: those of the whole at its places

@@ -1,7 +1,7 @@
 use Rattle.std.proofs.Common.{◌≡◌, ◌||◌, Some, ap, sym, subst, ◌∙◌}
 use Rattle.std.specs.Fmt.{DisplaysOnOk, DisplaysStyledOnOk}
 use Rattle.winnow_context.specs.ContextText.{first_label, expected, is_any, values_text, explanation_text}
-use Rattle.winnow_context.proofs.lemmas.LineLemmas.{printed-explanation}
+use Rattle.winnow_context.proofs.lemmas.ContextLineLemmas.{printed-explanation}
 use Rattle.winnow_context.proofs.context_text.ContextErrorStrContextDisplay.fmt.Goals.{then-is_labelled, else-is_labelled}
 use Rattle.winnow_context.proofs.context_text.ContextErrorStrContextDisplay.fmt.Given
 use Rattle.winnow_context.proofs.context_text.ContextErrorStrContextDisplay.fmt.Goals as goal

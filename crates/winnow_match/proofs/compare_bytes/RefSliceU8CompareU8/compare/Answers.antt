@@ -1,5 +1,5 @@
 use Rattle.std.proofs.Common.{[], ◌∷◌}
-use Rattle.winnow_match.proofs.lemmas.OffsetLemmas.{EndsAtOffset-bytes}
+use Rattle.winnow_match.proofs.lemmas.AnswerLemmas.{EndsAtOffset-bytes}
 use Rattle.winnow_match.proofs.compare_bytes.RefSliceU8CompareU8.compare.Goals as goal
 
 pub returns-clause-offset : goal.returns-clause-offset

@@ -1,6 +1,6 @@
 use Rattle.std.proofs.Common.{sym, ◌∙◌, ap}
 use Rattle.winnow_stream.specs.Source.{first_held}
-use Rattle.winnow_stream.proofs.lemmas.SearchLemmas.{ahead, ahead-next, left_with-next, held-hit, held-miss, refused_same, none_refused, refused_more, refused_all, accepted}
+use Rattle.winnow_stream.proofs.lemmas.FirstTokenLemmas.{ahead, ahead-next, left_with-next, held-hit, held-miss, refused_same, none_refused, refused_more, refused_all, accepted}
 use Rattle.winnow_stream.proofs.lemmas.OffsetLemmas.{is_offset-accepted}
 use Rattle.winnow_stream.proofs.stream.Stream.offset_for.Goals as goal
 use Rattle.winnow_stream.proofs.stream.Stream.offset_for.Given as given

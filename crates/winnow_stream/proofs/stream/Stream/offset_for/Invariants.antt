@@ -1,6 +1,6 @@
 use Rattle.std.proofs.Common.{◌≡◌, Bool, List, ℕ}
 use Rattle.winnow_stream.specs.Source.{first_held, offsets}
-use Rattle.winnow_stream.proofs.lemmas.SearchLemmas.{ahead, Gave, HasRefused, left_with}
+use Rattle.winnow_stream.proofs.lemmas.FirstTokenLemmas.{ahead, Gave, HasRefused, left_with}
 use Rattle.winnow_stream.proofs.stream.Stream.offset_for.Given as goal
 
 abbrev pub invariant-loop-next : goal.invariant-loop-next

@@ -4,7 +4,7 @@ use Rattle.winnow_stream.specs.Source.{width}
 use Rattle.winnow_stream.specs.Text.{text_source}
 use Rattle.winnow_stream.proofs.lemmas.ShortageLemmas.{offset_at-fits, offset_at-silent}
 use Rattle.std.specs.Prelude.{false}
-use Rattle.winnow_stream.proofs.lemmas.SearchLemmas.{length-offsets, offsets-at}
+use Rattle.winnow_stream.proofs.lemmas.FirstTokenLemmas.{length-offsets, offsets-at}
 use Rattle.winnow_stream.proofs.lemmas.IndexLemmas.{indices-road}
 use Rattle.winnow_stream.proofs.texts.RefStrStream.offset_at.Goals as goal
 

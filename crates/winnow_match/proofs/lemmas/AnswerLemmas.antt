@@ -22,7 +22,7 @@ use Rattle.winnow_match.specs.Comparison.{is_front, comparison, EndsAtOffset, Ag
 use Rattle.winnow_match.specs.Search.{is_empty, needle_of, hit, first_hit, AreOffsets, AreTexts}
 use Rattle.winnow_match.proofs.lemmas.ByteLemmas.{bytes_of-units, utf8_of-text_source}
 use Rattle.winnow_match.proofs.lemmas.ComparisonLemmas.{shorter-front}
-use Rattle.winnow_match.proofs.lemmas.FrontLemmas.{length-front, front_rest, is_front-IsFrontOf}
+use Rattle.winnow_match.proofs.lemmas.ByteFrontLemmas.{length-front, front_rest, is_front-IsFrontOf}
 use Rattle.winnow_match.proofs.lemmas.SearchLemmas.{nonempty-length}
 use Rattle.winnow_match.proofs.lemmas.HitLemmas.{hit-IsFirstHit}
 
