@@ -1,2 +1,2 @@
-pub mod RangeLemmas
+pub mod PartLemmas
 pub mod WindowLemmas

@@ -4,7 +4,7 @@ ghost use Rattle.winnow_window.specs.Contents.{slice_before};
 
 use crate::Window;
 
-#[tactic(auto, using(crate::proofs::lemmas::RangeLemmas::range_steps), unfolding(crate::specs::Contents::contents_of, crate::specs::Contents::address_of))]
+#[tactic(auto, using(crate::proofs::lemmas::PartLemmas::range_steps), unfolding(crate::specs::Contents::contents_of, crate::specs::Contents::address_of))]
 impl<'i, T> Window<'i, T> {
     /// Returns all of the slice.
     pub fn new(whole: &'i [T]) -> Self
