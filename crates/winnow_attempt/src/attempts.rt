@@ -37,6 +37,7 @@ fn is_decided_now(compared: &CompareResult) -> bool
 }
 
 /// Looks at a step, from what it has passed on, and tells its answer under the piece.
+#[inline(always)]
 pub(crate) fn look<S: Kept, L: AsBStr>(
     step: &SearchStep<CharSet, L>,
     rest: S,
@@ -199,6 +200,7 @@ fn waits_to_the_end<L>(step: &SearchStep<CharSet, L>) -> bool
 /// Attempts a step where `rest` remains, from what it has passed on. Its answer is told under the
 /// piece, where it is definite or no more may follow; else the step waits, and nothing is told.
 #[tactic(auto, using(crate::proofs::lemmas::PassedLemmas::attempted))]
+#[inline(always)]
 pub fn attempt_step<S: Kept, L: AsBStr>(
     step: &SearchStep<CharSet, L>,
     rest: S,

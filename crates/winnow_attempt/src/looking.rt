@@ -155,8 +155,10 @@ fn has_offset<S: Stream>(rest: &S, offset: usize) -> bool
 }
 
 /// Looks at a call, from what it has passed on, and tells its answer under the piece.
-// Each case tells its own answer: one that is handed on is copied through memory at each hand.
+// Each case tells its own answer, and all is compiled into the loop over the steps: what is handed on is copied through memory at
+// each hand.
 #[tactic(auto, using(crate::proofs::lemmas::LookLemmas::looks))]
+#[inline(always)]
 pub(crate) fn look_call<S: Kept>(
     call: &Step<CharSet>,
     rest: S,

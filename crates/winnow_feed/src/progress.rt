@@ -44,6 +44,7 @@ fn push_mark(marks: &mut Vec<usize>, at: usize, makes: bool)
 
 /// Attempts the next step over what is kept, and returns whether it came through. Its answer is
 /// told under that piece.
+#[inline(always)]
 pub(crate) fn attempt_next<S: Kept, L: AsBStr>(
     progress: &mut Progress<S::Token, L>,
     kept: S,

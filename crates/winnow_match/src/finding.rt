@@ -13,7 +13,7 @@ use std::ops::Range;
 const NEAR_TRIES: usize = 4;
 
 // How many places the first window of a search for several needles has.
-const FIRST_WINDOW: usize = 256;
+const FIRST_WINDOW: usize = 2048;
 
 /// Returns the first place of the byte.
 #[tactic(auto, using(crate::proofs::lemmas::SearchLemmas::single_bytes))]
