@@ -66,7 +66,11 @@ pub(crate) fn compare_from(literal: &[u8], bytes: &[u8], passed: usize) -> Compa
 
 /// Returns the first place of a needle in the bytes, where none stands before `passed`.
 #[inline(always)]
-pub(crate) fn find_from(needles: &Needles<&[u8]>, bytes: &[u8], passed: usize) -> Option<Range<usize>>
+pub(crate) fn find_from(
+    needles: &Needles<&[u8]>,
+    bytes: &[u8],
+    passed: usize,
+) -> Option<Range<usize>>
     requires { NoneStands (bytes_of_needles needles.now) bytes.now passed }
     ensures { result ≡ hit (bytes_of_needles needles.now) bytes.now }
 {
@@ -79,7 +83,11 @@ pub(crate) fn find_from(needles: &Needles<&[u8]>, bytes: &[u8], passed: usize) -
 /// Returns whether something was found, and no further input can move it.
 #[tactic(auto, using(crate::proofs::lemmas::PassedLemmas::found_hits))]
 #[inline(always)]
-pub(crate) fn stays_found(needles: &Needles<&[u8]>, bytes: &[u8], found: &Option<Range<usize>>) -> bool
+pub(crate) fn stays_found(
+    needles: &Needles<&[u8]>,
+    bytes: &[u8],
+    found: &Option<Range<usize>>,
+) -> bool
     requires { found.now ≡ hit (bytes_of_needles needles.now) bytes.now }
     ensures { result ≡ hit_is_definite (bytes_of_needles needles.now) bytes.now }
 {
@@ -92,7 +100,11 @@ pub(crate) fn stays_found(needles: &Needles<&[u8]>, bytes: &[u8], found: &Option
 /// Returns a place before which no needle stands, whatever follows, where what was found may still move:
 /// that of the needle that could come to stand there.
 #[tactic(auto, using(crate::proofs::lemmas::PassedLemmas::found_hits))]
-pub(crate) fn searched(needles: &Needles<&[u8]>, bytes: &[u8], found: &Option<Range<usize>>) -> usize
+pub(crate) fn searched(
+    needles: &Needles<&[u8]>,
+    bytes: &[u8],
+    found: &Option<Range<usize>>,
+) -> usize
     requires { found.now ≡ hit (bytes_of_needles needles.now) bytes.now }
     ensures { NoneStands (bytes_of_needles needles.now) bytes.now result }
 {

@@ -48,7 +48,7 @@ pub fn input_error_law<I: Stream + Copy, C: Drop>()
         → r ≡ b }
     ensures joined { (a b : InputError I) → ⟦<InputError<I> as AssociativeOr<I>>⟧.joined a b ≡ b }
     ensures recovered { (start place : I.Checkpoint) (input : I) (e : InputError I)
-    → ⟦<InputError<I> as FromRecoverableError<I, InputError<I>>>⟧.recovered start place input e
+        → ⟦<InputError<I> as FromRecoverableError<I, InputError<I>>>⟧.recovered start place input e
         ≡ e }
     ensures backtracks { (e : InputError I) → ⟦<InputError<I> as ParserError<I>>⟧.backtracks e
         ≡ true }
@@ -83,7 +83,7 @@ pub fn context_error_law<I: Stream, C: Drop + PartialEq>()
     ensures joined { (a b : Explanation C) → ⟦<ContextError<C> as AssociativeOr<I>>⟧.joined a b
         ≡ b }
     ensures recovered { (start place : I.Checkpoint) (input : I) (e : Explanation C)
-    → ⟦<ContextError<C> as FromRecoverableError<I, ContextError<C>>>⟧.recovered start place input e
+        → ⟦<ContextError<C> as FromRecoverableError<I, ContextError<C>>>⟧.recovered start place input e
         ≡ e }
     ensures backtracks { (e : Explanation C) → ⟦<ContextError<C> as ParserError<I>>⟧.backtracks e
         ≡ true }

@@ -206,8 +206,7 @@ where
     ghost refuses_unsupported = { λ s e never. Prim.search rules };
 
     ghost unchanged_keeps = { λ s t same.
-        (sym same.1, sym same.2, subst (I.keeps s.input) (sym same.0) (I.keeps_reflexive s.input))
-        };
+        (sym same.1, sym same.2, subst (I.keeps s.input) (sym same.0) (I.keeps_reflexive s.input)) };
 
     // Refused comes before want of memory, and the place is there before the error is converted.
     fn record_err(

@@ -47,9 +47,11 @@ where
 
     ghost refuses_unsupported = { λ _ _ _. refl };
 
-    ghost unchanged_keeps = { λ s t same.
-        (ap (λ u. u.start) (sym same), subst (λ u. I.keeps s.input u.input) (sym same)
-        (I.keeps_reflexive s.input)) };
+    ghost unchanged_keeps = { λ s t same. (
+      ap (λ u. u.start) (sym same),
+      subst (λ u. I.keeps s.input u.input) (sym same)
+          (I.keeps_reflexive s.input),
+    ) };
 
     fn record_err(
         &mut self,
@@ -74,9 +76,11 @@ impl<I: Recover<E>, S: Debug, E> Recover<E> for Stateful<I, S> {
 
     ghost refuses_unsupported = { λ _ _ _. refl };
 
-    ghost unchanged_keeps = { λ s t same.
-        (ap (λ u. u.state) (sym same), subst (λ u. I.keeps s.input u.input) (sym same)
-        (I.keeps_reflexive s.input)) };
+    ghost unchanged_keeps = { λ s t same. (
+      ap (λ u. u.state) (sym same),
+      subst (λ u. I.keeps s.input u.input) (sym same)
+          (I.keeps_reflexive s.input),
+    ) };
 
     fn record_err(
         &mut self,
@@ -101,9 +105,11 @@ impl<I: Recover<E>, E> Recover<E> for Partial<I> {
 
     ghost refuses_unsupported = { λ _ _ _. refl };
 
-    ghost unchanged_keeps = { λ s t same.
-        (ap (λ u. u.partial) (sym same), subst (λ u. I.keeps s.input u.input) (sym same)
-        (I.keeps_reflexive s.input)) };
+    ghost unchanged_keeps = { λ s t same. (
+      ap (λ u. u.partial) (sym same),
+      subst (λ u. I.keeps s.input u.input) (sym same)
+          (I.keeps_reflexive s.input),
+    ) };
 
     fn record_err(
         &mut self,

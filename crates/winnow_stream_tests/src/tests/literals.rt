@@ -46,7 +46,10 @@ fn bytes_are_taken_by_what_they_hold(rt: HostRuntime) {
 fn what_lacks_of_a_literal_is_told(rt: HostRuntime) {
     let mut input: &[u8] = b"ab";
     let taken: &[u8] = b"a";
-    assert_eq!(rt; literal_or_lack(&mut input, b"abcd".as_slice()), Err(Some(Needed::new(2))));
+    assert_eq!(rt;
+        literal_or_lack(&mut input, b"abcd".as_slice()),
+        Err(Some(Needed::new(2)))
+    );
     assert_eq!(rt; literal_or_lack(&mut input, b"b".as_slice()), Err(None));
     assert_eq!(rt; literal_or_lack(&mut input, b"a".as_slice()), Ok(taken));
 }
