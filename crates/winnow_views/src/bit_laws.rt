@@ -47,13 +47,17 @@ pub fn bit_slice_law<I: Stream<Token = u8>>()
 where
     I::Slice: SliceLen,
     ensures { SlicesHaveWidths I.is_slice I.Slice.has_width I.Slice.width_of
-        → SlicesHaveWidths (IsBitSlice I.is_slice) ⟦<(I::Slice, usize, usize) as SliceLen>⟧.has_width ⟦<(I::Slice, usize, usize) as SliceLen>⟧.width_of }
+        → SlicesHaveWidths (IsBitSlice I.is_slice)
+        ⟦<(I::Slice, usize, usize) as SliceLen>⟧.has_width
+        ⟦<(I::Slice, usize, usize) as SliceLen>⟧.width_of }
 {}
 
 /// The law of slices of bytes, which [`bit_slice_law`] asks for: their length is the offset that they were taken at. It does nothing
 /// when called: its contract is the law.
 pub fn byte_slice_law()
-    ensures { SlicesHaveWidths ⟦<&'static [u8] as Stream>⟧.is_slice ⟦<&'static [u8] as SliceLen>⟧.has_width ⟦<&'static [u8] as SliceLen>⟧.width_of }
+    ensures { SlicesHaveWidths ⟦<&'static [u8] as Stream>⟧.is_slice
+        ⟦<&'static [u8] as SliceLen>⟧.has_width
+        ⟦<&'static [u8] as SliceLen>⟧.width_of }
 {}
 
 /// The law of equality: bits are compared by the stream of bytes and the place, and checkpoints by the checkpoint of the bytes and the

@@ -271,7 +271,8 @@ impl<I: Stream<Token = u8>> Stream for Bits<I> {
 
     fn reset(&mut self, checkpoint: &Checkpoint<BitPlace<I::Checkpoint>, Bits<I>>)
         requires valid { IsValidBits I.valid I.remaining self.old }
-        requires valid_checkpoint { IsValidPlace I.valid_checkpoint I.remained (checkpoint_inner checkpoint.now) }
+        requires valid_checkpoint { IsValidPlace I.valid_checkpoint I.remained
+            (checkpoint_inner checkpoint.now) }
         ensures bytes { I.remaining (bits_input self.new) ≡ I.remained (bytes_at checkpoint.now) }
         ensures place { bits_place self.new ≡ place_at checkpoint.now }
         ensures remains { bits_remaining I.remaining self.new
