@@ -56,6 +56,7 @@ pub use Rattle.winnow_parse_error.specs.CharSpan
 pub use Rattle.winnow_parse_error.specs.Failure
 pub use Rattle.winnow_parse_error.specs.ParseErrorText
 pub use Rattle.winnow_wrap.specs.Mark
+pub use Rattle.winnow_wrap.specs.Located
 pub use Rattle.winnow_recover.specs.Recording
 pub use Rattle.winnow_recover.specs.Recovering
 pub use Rattle.winnow_feed.specs.Inputs

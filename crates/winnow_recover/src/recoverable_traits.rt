@@ -133,8 +133,11 @@ impl<I: FindSlice<T>, E: Debug, T> FindSlice<T> for Recoverable<I, E> {
     }
 }
 
+/// As the stream inside, under the options of a hole too.
 impl<I: fmt::Display, E> fmt::Display for Recoverable<I, E> {
     ghost output = { λ s. I.output s.input };
+
+    ghost styled_output = { λ s. I.styled_output s.input };
 
     fn fmt<W: fmt::Write>(&self, f: &mut fmt::Formatter<W>) -> fmt::Result {
         self.input.fmt(f)

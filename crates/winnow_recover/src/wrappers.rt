@@ -1,6 +1,8 @@
 //! Wrappers that record nothing, also round a stream that does: only the outermost `Recoverable` is asked.
 ghost use Rattle.std.specs.Prelude.{true, false, refl};
 ghost use Rattle.std.proofs.Common.{sym, ap, subst};
+ghost use Rattle.winnow_wrap.specs.Located.{located_input, located_start};
+ghost use Rattle.winnow_wrap.specs.Mark.{unmarked, mark};
 
 use crate::{RecordError, Recover};
 use std::fmt::Debug;
@@ -48,9 +50,9 @@ where
     ghost refuses_unsupported = { λ _ _ _. refl };
 
     ghost unchanged_keeps = { λ s t same. (
-      ap (λ u. u.start) (sym same),
-      subst (λ u. I.keeps s.input u.input) (sym same)
-          (I.keeps_reflexive s.input),
+      ap located_start (sym same),
+      subst (λ u. I.keeps (located_input s) (located_input u)) (sym same)
+          (I.keeps_reflexive (located_input s)),
     ) };
 
     fn record_err(
@@ -78,8 +80,7 @@ impl<I: Recover<E>, S: Debug, E> Recover<E> for Stateful<I, S> {
 
     ghost unchanged_keeps = { λ s t same. (
       ap (λ u. u.state) (sym same),
-      subst (λ u. I.keeps s.input u.input) (sym same)
-          (I.keeps_reflexive s.input),
+      subst (λ u. I.keeps s.input u.input) (sym same) (I.keeps_reflexive s.input),
     ) };
 
     fn record_err(
@@ -106,9 +107,9 @@ impl<I: Recover<E>, E> Recover<E> for Partial<I> {
     ghost refuses_unsupported = { λ _ _ _. refl };
 
     ghost unchanged_keeps = { λ s t same. (
-      ap (λ u. u.partial) (sym same),
-      subst (λ u. I.keeps s.input u.input) (sym same)
-          (I.keeps_reflexive s.input),
+      ap mark (sym same),
+      subst (λ u. I.keeps (unmarked s) (unmarked u)) (sym same)
+          (I.keeps_reflexive (unmarked s)),
     ) };
 
     fn record_err(
