@@ -244,6 +244,23 @@ fn contents_of_text(rt: HostRuntime) -> Result<(), Fail> {
     Ok(())
 }
 
+// The same bytes at another place of another slice.
+#[test]
+fn places_are_no_part_of_a_text(rt: HostRuntime) {
+    let (mut rest, whole) = (BStr::new(b"xab"), BStr::new(b"ab"));
+    let _ = rest.next_token();
+    let (place, start) = (rest.checkpoint(), whole.checkpoint());
+    assert_eq!(rt;
+        (
+            rest == whole,
+            hash_of(&rest) == hash_of(&whole),
+            place == start,
+            place.cmp(&start)
+        ),
+        (true, true, true, Ordering::Equal)
+    );
+}
+
 #[test]
 fn there_is_no_mark(rt: HostRuntime) {
     let (mut text, mut bytes) = (BStr::new(b"ab"), Bytes::new(b"cd"));
