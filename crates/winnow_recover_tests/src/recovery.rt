@@ -119,6 +119,24 @@ fn reset_leaves_what_was_recorded(rt: HostRuntime) -> Result<(), Fail> {
     Ok(())
 }
 
+// How many errors stand in the list once so many were recorded; `None` where one was not.
+fn recorded_times(alloc: Global, times: usize) -> Option<usize> {
+    let mut s: Recoverable<&str, Mode> = Recoverable::new(alloc, "ab");
+    for _ in 0..times {
+        let recorded: Result<(), RecordError<Mode>> = recover_here(&mut s, Cut(EmptyError));
+        recorded.ok()?;
+    }
+    Some(s.into_parts().1.len())
+}
+
+// That memory is found where it is there, no clause can say.
+#[test]
+fn none_a_few_and_many_are_recorded(rt: HostRuntime) {
+    for times in [0, 3, 20_000] {
+        assert_eq!(rt; recorded_times(rt.alloc(), times), Some(times));
+    }
+}
+
 // What a stream that records no error answers to two of them, and its errors then.
 fn refused_all<I: Stream + Drop>(alloc: Global, input: I) -> Result<String, AllocError>
 where
