@@ -15,7 +15,7 @@ pub fn compare_bits(room: &mut Room, random: usize) -> Result<usize, String> {
         compare_case(room, input, place, script, width)
     };
     let scripts = short_scripts();
-    for input in words(&BYTES).into_iter().filter(|word| word.len() < 3) {
+    for input in words(&BYTES, 2) {
         for place in 0..places(&input) {
             for (width, script) in scripts.iter().enumerate() {
                 compare(&input, place, script, width)?;

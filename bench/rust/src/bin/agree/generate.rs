@@ -7,6 +7,9 @@ use winnow_bench::script::Step;
 /// Bytes that end and begin the ranges of UTF-8, leads and continuations, and some that never stand there.
 pub const BYTES: [u8; 11] = [0x00, b'\n', b'a', 0x7f, 0x80, 0xa9, 0xbf, 0xc3, 0xe2, 0xf0, 0xff];
 
+/// A newline and a letter, and bytes that end and begin the ranges of UTF-8: every part of a character is damaged somehow in four of them.
+pub const DAMAGED: [u8; 11] = [0x00, b'\n', b'A', 0x80, 0xbf, 0xc2, 0xe0, 0xed, 0xf0, 0xf4, 0xff];
+
 /// Characters of each width, the first and the last among them.
 pub const CHARS: [char; 12] = ['\0', '\n', 'a', '\u{7f}', '\u{80}', 'é', '\u{7ff}', '\u{800}', '€', '\u{ffff}', '\u{10000}', '\u{10ffff}'];
 
@@ -15,8 +18,8 @@ const HUGE: [usize; 3] = [1 << 32, usize::MAX - 1, usize::MAX];
 
 /// Each input of up to three bytes or characters, with each short script.
 pub fn short_cases() -> impl Iterator<Item = Case> {
-    let bytes = words(&BYTES).into_iter().map(Input::Bytes);
-    let texts = words(&CHARS).into_iter().map(|chars| Input::Text(chars.into_iter().collect()));
+    let bytes = words(&BYTES, 3).into_iter().map(Input::Bytes);
+    let texts = words(&CHARS, 3).into_iter().map(|chars| Input::Text(chars.into_iter().collect()));
     let scripts = short_scripts();
     bytes.chain(texts).flat_map(move |input| {
         let case = move |(width, script): (usize, &Vec<Step>)| Case { input: input.clone(), script: script.clone(), width };
@@ -24,11 +27,11 @@ pub fn short_cases() -> impl Iterator<Item = Case> {
     })
 }
 
-// All words of up to three letters, the shortest first.
-pub fn words<L: Copy>(letters: &[L]) -> Vec<Vec<L>> {
+/// All words of up to so many letters, the shortest first.
+pub fn words<L: Copy>(letters: &[L], longest: usize) -> Vec<Vec<L>> {
     let mut all = vec![Vec::new()];
     let mut last = all.clone();
-    for _ in 0..3 {
+    for _ in 0..longest {
         last = last.iter().flat_map(|word| letters.iter().map(move |letter| [word.as_slice(), &[*letter]].concat())).collect();
         all.extend(last.iter().cloned());
     }
@@ -54,7 +57,12 @@ pub fn short_scripts() -> Vec<Vec<Step>> {
 
 /// So many cases, the same ones at each call.
 pub fn random_cases(count: usize) -> impl Iterator<Item = Case> {
-    let mut random = Random::new(7);
+    cases_from(7, count)
+}
+
+/// So many cases from a seed.
+pub fn cases_from(seed: u64, count: usize) -> impl Iterator<Item = Case> {
+    let mut random = Random::new(seed);
     (0..count).map(move |number| {
         let text = random_text(&mut random);
         let input = if number % 2 == 0 { Input::Text(text) } else { Input::Bytes(damaged(&mut random, text.into_bytes())) };

@@ -9,6 +9,7 @@ mod case;
 mod count_cases;
 mod error_cases;
 mod generate;
+mod jobs;
 mod piece_cases;
 #[cfg(winnow_hooks)]
 mod place_cases;
@@ -18,61 +19,36 @@ mod shrink;
 mod text_cases;
 mod tree_cases;
 
-use case::Case;
+use jobs::Wanted;
+use std::env;
 use std::process::ExitCode;
 use std::time::Instant;
 use winnow_bench::ours::Room;
 use winnow_bench::theirs;
 
-const RANDOM_CASES: usize = 100_000;
-
 fn main() -> ExitCode {
     let start = Instant::now();
+    let Some(wanted) = Wanted::read(env::args().skip(1)) else {
+        println!("usage: bench/agree [--scripts N] [--seed N]");
+        return ExitCode::from(2);
+    };
     let mut room = Room::new();
     if let Some(size) = (0..1000).chain([usize::MAX - 1, usize::MAX]).find(|size| room.needed(*size) != Some(theirs::needed(*size))) {
         println!("a shortage of {size}: ours {:?}, Rust {:?}", room.needed(size), theirs::needed(size));
         return ExitCode::FAILURE;
     }
-    let compared = match more(&mut room) {
+    let compared = match jobs::run(&jobs::all(&wanted)) {
         Ok(compared) => compared,
         Err(difference) => {
             println!("{difference}");
             return ExitCode::FAILURE;
         }
     };
-    let mut count = 0;
-    let mut differs = |case: &Case| {
-        count += 1;
-        case.differs(&mut room)
-    };
-    let found = generate::short_cases().chain(generate::random_cases(RANDOM_CASES)).find(&mut differs);
-    if let Some(case) = found {
-        println!("{}", shrink::smallest(case, &mut room).told(&mut room));
-        return ExitCode::FAILURE;
-    }
-    let others: Vec<String> = compared.iter().map(|(name, count)| format!("{count} {name}")).collect();
-    println!("agree: {count} cases, {}, and no difference, in {:.1} s", others.join(", "), start.elapsed().as_secs_f64());
     if cfg!(not(winnow_hooks)) {
         println!("agree: parse errors and positions are left out, since this copy of the crate hands them out to nobody (bench/README.md)");
     }
+    let counts: Vec<String> = compared.iter().map(|(kind, count)| format!("{count} {kind}")).collect();
+    println!("agree: {}, and no difference, in {:.1} s", counts.join(", "), start.elapsed().as_secs_f64());
+    println!("agree: {} of the scripts in pieces look random, from seed {}", wanted.scripts, wanted.seed);
     ExitCode::SUCCESS
-}
-
-// How many cases of each further kind were compared, or the first difference.
-fn more(room: &mut Room) -> Result<Vec<(&'static str, usize)>, String> {
-    Ok(vec![
-        ("of bits", bit_cases::compare_bits(room, RANDOM_CASES)?),
-        ("searches", search_cases::compare_searches(room, RANDOM_CASES)?),
-        ("sets", search_cases::compare_sets(room)?),
-        ("texts", error_cases::compare_errors(room, RANDOM_CASES)?),
-        ("ranges", count_cases::compare_ranges(room)?),
-        ("readings", count_cases::compare_readings(room, RANDOM_CASES)?),
-        ("lists gathered", count_cases::compare_accumulators(room, RANDOM_CASES)?),
-        ("runs that search", search_run_cases::compare_search_runs(room, RANDOM_CASES)?),
-        ("scripts in pieces", piece_cases::compare_pieces(room, RANDOM_CASES)?),
-        ("texts of bytes", text_cases::compare_byte_texts(room)?),
-        ("trees", tree_cases::compare_trees(room, RANDOM_CASES)?),
-        #[cfg(winnow_hooks)]
-        ("places", place_cases::compare_places(room, RANDOM_CASES)?),
-    ])
 }

@@ -2,7 +2,8 @@
 //! each piece those are out, and those bytes are kept, that a loop over `Partial` finds.
 
 use crate::case::{Case, Input};
-use crate::generate::{BYTES, CHARS, random_cases, words};
+use crate::generate::{BYTES, CHARS, cases_from, words};
+use crate::search_run_cases::random_literals;
 use std::fmt::Debug;
 use winnow::error::Needed;
 use winnow::stream::CompareResult;
@@ -13,52 +14,55 @@ use winnow_bench::their_feeds::{Kind, Out, out_after};
 use winnow_bench::their_search_runs::{Searched, tell_run};
 use winnow_bench::theirs::{Number, Weigh};
 
-/// Literals are parts of these.
+/// Literals of the short scripts are parts of these.
 const LITERALS: &str = "aé\n\0a€aé";
 
-/// How many scripts were compared, or the first that differs.
-pub fn compare_pieces(room: &mut Room, random: usize) -> Result<usize, String> {
+/// How many short scripts were compared, or the first that differs.
+pub fn compare_short_pieces(room: &mut Room) -> Result<usize, String> {
     let mut count = 0;
-    let mut compare = |input: &Input, script: &[RawStep], cuts: &[u64]| {
-        count += 1;
-        compare_input(room, input, script, cuts)
-    };
-    let bytes = words(&[BYTES[1], BYTES[2], BYTES[7], BYTES[5]]).into_iter().map(Input::Bytes);
-    let texts = words(&CHARS[1..6]).into_iter().map(|chars| Input::Text(chars.into_iter().collect()));
+    let bytes = words(&[BYTES[1], BYTES[2], BYTES[7], BYTES[5]], 3).into_iter().map(Input::Bytes);
+    let texts = words(&CHARS[1..6], 3).into_iter().map(|chars| Input::Text(chars.into_iter().collect()));
     for input in bytes.chain(texts) {
         let cuts = all_cuts(&input);
         for script in short_scripts() {
             for cuts in &cuts {
-                compare(&input, &script, cuts)?;
+                count += 1;
+                compare_input(room, &input, LITERALS, &script, cuts)?;
             }
         }
-    }
-    let mut numbers = Random::new(37);
-    for Case { input, script, .. } in random_cases(random) {
-        let script: Vec<RawStep> = script.into_iter().flat_map(|step| random_steps(&mut numbers, step)).collect();
-        let cuts = random_cuts(&mut numbers, &input);
-        compare(&input, &script, &cuts)?;
     }
     Ok(count)
 }
 
-fn compare_input(room: &mut Room, input: &Input, script: &[RawStep], cuts: &[u64]) -> Result<(), String> {
+/// So many scripts that look random, on inputs cut at places that do: how many were compared, or the first that differs.
+pub fn compare_random_pieces(room: &mut Room, scripts: usize, seed: u64) -> Result<usize, String> {
+    let mut numbers = Random::new(seed);
+    for Case { input, script, .. } in cases_from(numbers.next(), scripts) {
+        let script: Vec<RawStep> = script.into_iter().flat_map(|step| random_steps(&mut numbers, step)).collect();
+        let literals = random_literals(&mut numbers, &input);
+        let cuts = random_cuts(&mut numbers, &input);
+        compare_input(room, &input, &literals, &script, &cuts)?;
+    }
+    Ok(scripts)
+}
+
+fn compare_input(room: &mut Room, input: &Input, literals: &str, script: &[RawStep], cuts: &[u64]) -> Result<(), String> {
     let differs = match input {
         Input::Bytes(bytes) => {
-            let (bytes, literals) = (bytes.as_slice(), LITERALS.as_bytes());
+            let (bytes, literals) = (bytes.as_slice(), literals.as_bytes());
             let ours = room.piece_answers_bytes(bytes, literals, script, cuts).map(<[u64]>::to_vec);
             compare_kind(bytes, literals, script, cuts, ours, room.search_answers_bytes(bytes, literals, script))
         }
         Input::Text(text) => {
-            let ours = room.piece_answers_text(text, LITERALS, script, cuts).map(<[u64]>::to_vec);
-            compare_kind(text.as_str(), LITERALS, script, cuts, ours, room.search_answers_text(text, LITERALS, script))
+            let ours = room.piece_answers_text(text, literals, script, cuts).map(<[u64]>::to_vec);
+            compare_kind(text.as_str(), literals, script, cuts, ours, room.search_answers_text(text, literals, script))
         }
     };
     let input = match input {
         Input::Bytes(bytes) => format!("bytes {bytes:02x?}"),
         Input::Text(text) => format!("text {text:?}"),
     };
-    differs.map_err(|differs| format!("{input}, pieces that end at {cuts:?}, literals of {LITERALS:?}, {script:?}:\n{differs}"))
+    differs.map_err(|differs| format!("{input}, pieces that end at {cuts:?}, literals of {literals:?}, {script:?}:\n{differs}"))
 }
 
 fn compare_kind<'k, L>(

@@ -1,12 +1,10 @@
-//! Parse errors, positions and spans: at every offset of every short input, damaged ones too, and of inputs that look random.
+//! Parse errors, positions and spans: at every offset of every short input, of every damaged sequence of up to four bytes, alone and
+//! between lines of text, and of inputs that look random.
 
 use crate::case::{Case, Input};
-use crate::generate::{CHARS, random_cases, words};
+use crate::generate::{CHARS, DAMAGED, random_cases, words};
 use winnow_bench::ours::Room;
 use winnow_bench::their_parse_errors as theirs;
-
-/// Newlines, and bytes that end and begin the ranges of UTF-8.
-const BYTES: [u8; 11] = [0x00, b'\n', b'A', 0x80, 0xbf, 0xc2, 0xe0, 0xed, 0xf0, 0xf4, 0xff];
 
 /// Offsets behind the end.
 const BEHIND: usize = 3;
@@ -18,11 +16,11 @@ pub fn compare_places(room: &mut Room, random: usize) -> Result<usize, String> {
         count += width(input) + 1 + BEHIND;
         (0..=width(input) + BEHIND).try_for_each(|place| compare_place(room, input, place))
     };
-    for word in words(&BYTES) {
+    for word in words(&DAMAGED, 4) {
         compare(&Input::Bytes(word.clone()))?;
         compare(&Input::Bytes([b"a\n\xc3\xa9", word.as_slice(), b"\xe2\x82\xac\nb"].concat()))?;
     }
-    for word in words(&CHARS) {
+    for word in words(&CHARS, 3) {
         compare(&Input::Text(word.into_iter().collect()))?;
     }
     for Case { input, .. } in random_cases(random) {

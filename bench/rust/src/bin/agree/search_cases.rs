@@ -23,10 +23,9 @@ pub fn compare_searches(room: &mut Room, random: usize) -> Result<usize, String>
         let found = smallest(room, input, needles);
         Err(told(room, found))
     };
-    let short = |all: Vec<Vec<u8>>| all.into_iter().filter(|word| word.len() < 3).collect::<Vec<_>>();
     // A few letters are enough here: two needles and the input share them.
-    let needles = short(words(&BYTES[1..4]));
-    for input in words(&[BYTES[1], BYTES[2], BYTES[5], BYTES[7]]) {
+    let needles = words(&BYTES[1..4], 2);
+    for input in words(&[BYTES[1], BYTES[2], BYTES[5], BYTES[7]], 3) {
         let input = Input::Bytes(input);
         for a in &needles {
             for b in &needles {
@@ -35,8 +34,8 @@ pub fn compare_searches(room: &mut Room, random: usize) -> Result<usize, String>
             }
         }
     }
-    let texts: Vec<String> = words(&CHARS[1..6]).into_iter().filter(|word| word.len() < 3).map(|word| word.into_iter().collect()).collect();
-    for input in words(&CHARS[1..6]) {
+    let texts: Vec<String> = words(&CHARS[1..6], 2).into_iter().map(|word| word.into_iter().collect()).collect();
+    for input in words(&CHARS[1..6], 3) {
         let input = Input::Text(input.into_iter().collect());
         for a in &texts {
             for b in &texts {

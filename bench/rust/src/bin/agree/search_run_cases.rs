@@ -2,7 +2,6 @@
 
 use crate::case::{Case, Input};
 use crate::generate::{BYTES, CHARS, random_cases, words};
-use std::str::from_utf8;
 use winnow_bench::inputs::Random;
 use winnow_bench::ours::Room;
 use winnow_bench::script::{COMPARE, FIND, RawStep, Step};
@@ -18,8 +17,8 @@ pub fn compare_search_runs(room: &mut Room, random: usize) -> Result<usize, Stri
         count += 1;
         compare_run(room, input, literals, script)
     };
-    let bytes = words(&BYTES).into_iter().map(Input::Bytes);
-    let texts = words(&CHARS).into_iter().map(|chars| Input::Text(chars.into_iter().collect()));
+    let bytes = words(&BYTES, 3).into_iter().map(Input::Bytes);
+    let texts = words(&CHARS, 3).into_iter().map(|chars| Input::Text(chars.into_iter().collect()));
     let scripts = short_scripts();
     for input in bytes.chain(texts) {
         for script in &scripts {
@@ -69,10 +68,10 @@ fn short_scripts() -> Vec<Vec<RawStep>> {
     moves.into_iter().map(|moves| moves.into_iter().map(RawStep::from).chain(searches.iter().copied()).collect()).collect()
 }
 
-// A part of the input where it is a text, and a few characters more.
-fn random_literals(random: &mut Random, input: &Input) -> String {
+/// A part of the input that is a text, and a few characters more.
+pub fn random_literals(random: &mut Random, input: &Input) -> String {
     let text = match input {
-        Input::Bytes(bytes) => from_utf8(bytes).unwrap_or("aé"),
+        Input::Bytes(bytes) => bytes.utf8_chunks().map(|chunk| chunk.valid()).max_by_key(|text| text.len()).unwrap_or("aé"),
         Input::Text(text) => text.as_str(),
     };
     let start = random.below(text.chars().count() as u64 + 1) as usize;

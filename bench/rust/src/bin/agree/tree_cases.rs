@@ -22,7 +22,7 @@ pub fn compare_trees(room: &mut Room, random: usize) -> Result<usize, String> {
         Input::Bytes(b"damaged \xe2\x82 \xff in its first line".to_vec()),
     ];
     let all: Vec<RawStep> = (0..5).flat_map(|kind| [(0, 0), (2, 1), (9, 2)].map(|(width, word)| RawStep::new(kind, width, word))).collect();
-    for steps in words(&all) {
+    for steps in words(&all, 3) {
         let steps: Vec<RawStep> = [RawStep::new(0, 0, 0)].into_iter().chain(steps).collect();
         for input in &inputs {
             compare(input, &steps)?;
