@@ -16,7 +16,8 @@ kind_word TextPieces = codes "text-pieces"
 
 -- the bytes that a line of this name tells: the name, a space, and the word of the bytes
 abbrev pub TellsNamed : {L : Type 0} → (L → List ℕ) → List ℕ → List ℕ → L → Type 0
-TellsNamed bytes name line literal = (first_word line ≡ name) × TellsBytes (later_words line) (bytes literal)
+TellsNamed bytes name line literal =
+    (first_word line ≡ name) × TellsBytes (later_words line) (bytes literal)
 
 -- a line of a kind of pieces tells this: a piece, or the word by which it asks what is waited for
 module _ {L : Type 0} (bytes : L → List ℕ) where

@@ -15,12 +15,16 @@ module _ {L M : Type 0} (bytes : L → List ℕ) (lent_bytes : M → List ℕ) w
   abbrev pub AreSameNeedles : Needles L → Needles M → Type 0
   AreSameNeedles (One a) (One x) = lent_bytes x ≡ bytes a
   AreSameNeedles (Two a b) (Two x y) = (lent_bytes x ≡ bytes a) × (lent_bytes y ≡ bytes b)
-  AreSameNeedles (Three a b c) (Three x y z) = (lent_bytes x ≡ bytes a) × (lent_bytes y ≡ bytes b) × (lent_bytes z ≡ bytes c)
+  AreSameNeedles (Three a b c) (Three x y z) =
+      (lent_bytes x ≡ bytes a) × (lent_bytes y ≡ bytes b) × (lent_bytes z ≡ bytes c)
   AreSameNeedles _ _ = ⊥
 
   -- the same step
   abbrev pub IsSameStep : ScriptStep L → SearchStep CharSet M → Type 0
   IsSameStep (Call call) lent = lent ≡ search.Call call
-  IsSameStep (First ranges) lent = (set : CharSet) × (char_ranges set ≡ ranges.items) × (lent ≡ search.Call (step.First set))
-  IsSameStep (Compare literal) lent = (same : M) × (lent_bytes same ≡ bytes literal) × (lent ≡ search.Compare same)
-  IsSameStep (Find needles) lent = (same : Needles M) × AreSameNeedles needles same × (lent ≡ search.Find same)
+  IsSameStep (First ranges) lent =
+      (set : CharSet) × (char_ranges set ≡ ranges.items) × (lent ≡ search.Call (step.First set))
+  IsSameStep (Compare literal) lent =
+      (same : M) × (lent_bytes same ≡ bytes literal) × (lent ≡ search.Compare same)
+  IsSameStep (Find needles) lent =
+      (same : Needles M) × AreSameNeedles needles same × (lent ≡ search.Find same)

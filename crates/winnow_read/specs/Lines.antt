@@ -11,4 +11,5 @@ reach lines = lines.number + length lines.rest.now
 module _ {T : Type 0} (Tells : List ℕ → T → Type 0) where
   abbrev pub AreLines : List ℕ → List T → List ℕ → Type 0
   AreLines text [] rest = text ≡ rest
-  AreLines text (item ∷ items) rest = Tells (first_line text) item × AreLines (rest_lines text) items rest
+  AreLines text (item ∷ items) rest =
+      Tells (first_line text) item × AreLines (rest_lines text) items rest

@@ -9,4 +9,5 @@ IsHexWord word = (2 ≤ length word) × (length word % 2 ≡ 0) × AllPass is_he
 
 -- the word tells these bytes: none for `-`, and else those of its digits
 abbrev pub TellsBytes : List ℕ → List ℕ → Type 0
-TellsBytes word bytes = ((word ≡ codes "-") × (bytes ≡ [])) ⊎ (IsHexWord word × (decode_of word ≡ Ok bytes))
+TellsBytes word bytes =
+    ((word ≡ codes "-") × (bytes ≡ [])) ⊎ (IsHexWord word × (decode_of word ≡ Ok bytes))

@@ -24,19 +24,24 @@ plain_calls =
 -- the calls of a word and a number
 abbrev pub numbered_calls : ℕ → List (List ℕ × Step CharSet)
 numbered_calls number =
-    (codes "take", step.Take number) ∷ (codes "look", step.Look number) ∷ (codes "at", step.At number)
-    ∷ (codes "is", step.IsOffset number) ∷ (codes "reset", step.Reset number) ∷ (codes "since", step.Since number) ∷ []
+    (codes "take", step.Take number) ∷ (codes "look", step.Look number)
+    ∷ (codes "at", step.At number) ∷ (codes "is", step.IsOffset number)
+    ∷ (codes "reset", step.Reset number) ∷ (codes "since", step.Since number) ∷ []
 
 -- the call that a line tells: by the whole line, or by its first word and the number behind it
 abbrev pub TellsCall : List ℕ → Step CharSet → Type 0
 TellsCall line call =
     (entry plain_calls line ≡ Some call)
-    ⊎ ((number : ℕ) × TellsNumber (later_words line) number × (entry (numbered_calls number) (first_word line) ≡ Some call))
+    ⊎ ((number : ℕ) × TellsNumber (later_words line) number
+      × (entry (numbered_calls number) (first_word line) ≡ Some call))
 
 -- the step that a line tells, whose literals have these bytes
 module _ {L : Type 0} (bytes : L → List ℕ) where
   abbrev pub TellsStep : List ℕ → ScriptStep L → Type 0
   TellsStep line (Call call) = TellsCall line call
-  TellsStep line (First ranges) = (first_word line ≡ codes "first") × TellsRanges (later_words line) ranges.items
-  TellsStep line (Compare literal) = (first_word line ≡ codes "compare") × TellsBytes (later_words line) (bytes literal)
-  TellsStep line (Find needles) = (first_word line ≡ codes "find") × TellsNeedles bytes (later_words line) needles
+  TellsStep line (First ranges) =
+      (first_word line ≡ codes "first") × TellsRanges (later_words line) ranges.items
+  TellsStep line (Compare literal) =
+      (first_word line ≡ codes "compare") × TellsBytes (later_words line) (bytes literal)
+  TellsStep line (Find needles) =
+      (first_word line ≡ codes "find") × TellsNeedles bytes (later_words line) needles

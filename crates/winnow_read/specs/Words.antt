@@ -40,7 +40,9 @@ TellsRanges word ranges =
 module _ {L : Type 0} (bytes : L → List ℕ) where
   abbrev pub TellsNeedles : List ℕ → Needles L → Type 0
   TellsNeedles words (One a) = TellsBytes words (bytes a)
-  TellsNeedles words (Two a b) = TellsBytes (first_word words) (bytes a) × TellsBytes (later_words words) (bytes b)
+  TellsNeedles words (Two a b) =
+      TellsBytes (first_word words) (bytes a) × TellsBytes (later_words words) (bytes b)
   TellsNeedles words (Three a b c) =
-      TellsBytes (first_word words) (bytes a) × TellsBytes (first_word (later_words words)) (bytes b)
+      TellsBytes (first_word words) (bytes a)
+      × TellsBytes (first_word (later_words words)) (bytes b)
       × TellsBytes (later_words (later_words words)) (bytes c)

@@ -23,7 +23,8 @@ pub fn read_fed_lines<L: Contents>(
     alloc: Global,
     lines: &mut Lines,
 ) -> Result<Vec<FedLine<L>>, ScriptFault>
-    ensures told { IfOk result (λ told. AreLines (TellsFed L.bytes) lines.old.rest.now told.items []) }
+    ensures told { IfOk result (λ told.
+        AreLines (TellsFed L.bytes) lines.old.rest.now told.items []) }
     ensures first { IfOk result (λ told. BeginsWithPiece told.items) }
     ensures short { IfOk result (λ told.
         sum_by (piece_length L.bytes) told.items ≤ length lines.old.rest.now) }

@@ -43,10 +43,12 @@ impl<'i> Lines<'i> {
 
     /// The next line without its newline; `None` where there is none, or it is not UTF-8.
     pub fn next_line(&mut self) -> Option<&'i str>
-        ensures found { IsSome result ↔ ((0 < length self.old.rest.now) × IsUtf8 (first_line self.old.rest.now)) }
+        ensures found { IsSome result
+            ↔ ((0 < length self.old.rest.now) × IsUtf8 (first_line self.old.rest.now)) }
         ensures line { IfSome result (λ line. line.now ≡ first_line self.old.rest.now) }
         ensures rest { self.new.rest.now ≡ rest_lines self.old.rest.now }
-        ensures number { self.new.number ≡ self.old.number + (if length self.old.rest.now == 0 then 0 else 1) }
+        ensures number { self.new.number
+            ≡ self.old.number + (if length self.old.rest.now == 0 then 0 else 1) }
     {
         if self.rest.is_empty() {
             return None;

@@ -7,7 +7,8 @@ use std::alloc::{AllocError, Global};
 /// The bytes of a word: none for `-`, and else those of its hexadecimal digits, an even number of them and at least
 /// two, in either case. `None` for any other word.
 pub fn literal(alloc: Global, word: &[u8]) -> Result<Option<Vec<u8>>, AllocError>
-    ensures found { IfOk result (λ found. IsSome found ↔ ((word.now ≡ codes "-") ⊎ IsHexWord word.now)) }
+    ensures found { IfOk result (λ found.
+        IsSome found ↔ ((word.now ≡ codes "-") ⊎ IsHexWord word.now)) }
     ensures bytes { IfOk result (λ found. IfSome found (λ bytes. TellsBytes word.now bytes.items)) }
 {
     if word.is_empty() {

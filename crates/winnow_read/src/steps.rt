@@ -44,9 +44,11 @@ fn next_step<'s, L: Contents>(
     alloc: Global,
     lines: &mut Lines,
 ) -> Result<Option<ScriptStep<'s, L>>, AllocError>
-    ensures step { IfOk result (λ found. IfSome found (TellsStep L.bytes (first_line lines.old.rest.now))) }
+    ensures step { IfOk result (λ found.
+        IfSome found (TellsStep L.bytes (first_line lines.old.rest.now))) }
     ensures rest { lines.new.rest.now ≡ rest_lines lines.old.rest.now }
-    ensures shorter { IfOk result (λ found. IsSome found → length lines.new.rest.now < length lines.old.rest.now) }
+    ensures shorter { IfOk result (λ found.
+        IsSome found → length lines.new.rest.now < length lines.old.rest.now) }
     ensures reach { reach lines.new ≤ reach lines.old }
 {
     match lines.next_line() {

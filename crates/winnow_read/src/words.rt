@@ -20,7 +20,8 @@ pub fn split_word(words: &str) -> Option<(&str, &str)>
 
 /// The number that decimal digits write, if it fits.
 pub fn read_number(word: &str) -> Option<usize>
-    ensures { SomeIff result (IsNumeral 10 word.now × (digits_value 10 word.now < 2 ^ 64)) (digits_value 10 word.now) }
+    ensures { SomeIff result (IsNumeral 10 word.now × (digits_value 10 word.now < 2 ^ 64))
+        (digits_value 10 word.now) }
 {
     // `parse` would take a sign.
     if word.starts_with('+') {
@@ -96,7 +97,8 @@ fn read_range(word: &str) -> Option<(char, char)>
 
 // The character whose number decimal digits write.
 fn read_char(word: &str) -> Option<char>
-    ensures { SomeIff result (IsNumeral 10 word.now × IsScalar (digits_value 10 word.now)) (digits_value 10 word.now) }
+    ensures { SomeIff result (IsNumeral 10 word.now × IsScalar (digits_value 10 word.now))
+        (digits_value 10 word.now) }
 {
     let number = read_number(word)?;
     char::from_u32(u32::try_from(number).ok()?)

@@ -72,7 +72,8 @@ pub fn answer(rt: &(impl Input + Print + AllocGlobal)) -> Result<(), Failure> {
 /// The bytes of a reader to its end, if they are not too many.
 pub fn read_input<R: Read + Drop>(alloc: Global, reader: R) -> Result<Vec<u8>, Failure>
     ensures within { IfOk result (λ input. vec_len input ≤ MAX_INPUT) }
-    ensures whole { IfOk result (λ input. IfSome (R.remaining reader) (λ bytes. input.items ≡ bytes)) }
+    ensures whole { IfOk result (λ input.
+        IfSome (R.remaining reader) (λ bytes. input.items ≡ bytes)) }
 {
     let mut input = Vec::new(alloc);
     // One byte past the limit shows that there are too many.
