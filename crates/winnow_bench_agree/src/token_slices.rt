@@ -1,6 +1,4 @@
 //! The answers over a slice of tokens, each token a byte.
-ghost use Rattle.std.specs.Prelude.{IsTrue};
-ghost use Rattle.winnow_stream.specs.Front.{is_offset};
 
 use std::alloc::{AllocError, Global};
 use winnow_bench_common::{RawStep, Tell, hand_out, steps_of, tell_all, tell_run};

@@ -45,7 +45,8 @@ impl ScriptSet<char> for Numbers {
 }
 
 impl ScriptSet<bool> for Numbers {
-    ghost tells = { λ s t b. b ≡ (nat_le s.first (if t then 1 else 0) && nat_le (if t then 1 else 0) s.last) };
+    ghost tells = { λ s t b.
+        b ≡ (nat_le s.first (if t then 1 else 0) && nat_le (if t then 1 else 0) s.last) };
 
     fn holds(&self, token: bool) -> bool {
         self.has(u64::from(token))

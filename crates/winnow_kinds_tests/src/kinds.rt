@@ -34,7 +34,8 @@ fn complete_both<'i>(text: &mut BStr<'i>, bytes: &mut Bytes<'i>)
     ensures text { text.old ≡ text.new }
     ensures bytes { bytes.old ≡ bytes.new }
     ensures same_text { (s t : BStr) → ⟦<BStr<'i> as StreamIsPartial>⟧.same_but_mark s t → s ≡ t }
-    ensures same_bytes { (s t : Bytes) → ⟦<Bytes<'i> as StreamIsPartial>⟧.same_but_mark s t → s ≡ t }
+    ensures same_bytes { (s t : Bytes) → ⟦<Bytes<'i> as StreamIsPartial>⟧.same_but_mark s t
+        → s ≡ t }
 {
     text.complete();
     text.restore_partial(());

@@ -20,7 +20,8 @@ fn text_shown(alloc: Global, s: &BStr) -> Result<String, AllocError>
 }
 
 fn text_debugged(alloc: Global, s: &BStr) -> Result<String, AllocError>
-    ensures { IfOk result (λ t. IfSome (debug_text (bstr_contents s.now)) (λ text. string_bytes t ≡ text)) }
+    ensures { IfOk result (λ t.
+        IfSome (debug_text (bstr_contents s.now)) (λ text. string_bytes t ≡ text)) }
 {
     format!(in alloc; "{s:?}")
 }

@@ -33,7 +33,7 @@ abbrev pub TellsCall : List ℕ → Step CharSet → Type 0
 TellsCall line call =
     (entry plain_calls line ≡ Some call)
     ⊎ ((number : ℕ) × TellsNumber (later_words line) number
-      × (entry (numbered_calls number) (first_word line) ≡ Some call))
+    × (entry (numbered_calls number) (first_word line) ≡ Some call))
 
 -- the step that a line tells, whose literals have these bytes
 module _ {L : Type 0} (bytes : L → List ℕ) where

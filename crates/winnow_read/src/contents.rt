@@ -9,7 +9,7 @@ pub trait Contents: Sized + Drop {
     // Which bytes it can have.
     ghost IsContents: { List ℕ → Type 0 };
 
-    /// The contents of these bytes, if there are such.
+    /// Returns the contents of these bytes, if there are such.
     fn from_bytes(given: Vec<u8>) -> Option<Self>
         ensures found { IsSome result ↔ IsContents given.items }
         ensures bytes { IfSome result (λ found. bytes found ≡ given.items) };
@@ -46,7 +46,7 @@ pub trait Lend<'k>: Contents {
     // Its bytes.
     ghost lent_bytes: { Self.Lent → List ℕ };
 
-    /// The same bytes, lent.
+    /// Returns the same bytes, lent.
     fn lend(&'k self) -> Self::Lent
         ensures { lent_bytes result ≡ Self.bytes self.now };
 }

@@ -1,4 +1,5 @@
-ghost use Rattle.std.specs.Prelude.{◌≡◌, ◌≢◌, ◌<◌, ◌≤◌, [], IfErr, IfOk, IsTrue, OnOk, length, sum_by};
+ghost use Rattle.std.specs.Prelude.{◌≡◌, ◌≢◌, ◌<◌, ◌≤◌, [], IfErr, IfOk, IsTrue, OnOk, length};
+ghost use Rattle.std.specs.Prelude.{sum_by};
 ghost use Rattle.winnow_read.specs.Fault.{IsWithin};
 ghost use Rattle.winnow_read.specs.Inputs.{TellsFed, BeginsWithPiece, piece_length};
 ghost use Rattle.winnow_read.specs.Lines.{reach, AreLines};
@@ -18,7 +19,7 @@ pub enum FedLine<L> {
     Waits,
 }
 
-/// What the lines to the end tell: pieces, one each, and behind the first of them also lines that ask what is waited for.
+/// Returns what the lines to the end tell: pieces, one each, and behind the first of them also lines that ask what is waited for.
 pub fn read_fed_lines<L: Contents>(
     alloc: Global,
     lines: &mut Lines,

@@ -1,4 +1,5 @@
-ghost use Rattle.std.specs.Prelude.{◌≡◌, ◌<◌, ◌≤◌, [], ◌∷◌, codes, IfErr, IfOk, IfSome, OnOk, length};
+ghost use Rattle.std.specs.Prelude.{◌≡◌, ◌<◌, ◌≤◌, [], ◌∷◌, codes, IfErr, IfOk, IfSome, OnOk};
+ghost use Rattle.std.specs.Prelude.{length};
 ghost use Rattle.winnow_read.specs.Fault.{IsWithin};
 ghost use Rattle.winnow_read.specs.Inputs.{kind_word, TellsNamed};
 ghost use Rattle.winnow_read.specs.Lines.{reach, AreLines};
@@ -19,7 +20,7 @@ pub enum Kind {
     TextPieces,
 }
 
-/// The kind that the first line tells.
+/// Returns the kind that the first line tells.
 pub fn read_kind(lines: &mut Lines) -> Result<Kind, ScriptFault>
     ensures kind { IfOk result (λ kind. first_line lines.old.rest.now ≡ kind_word kind) }
     ensures rest { lines.new.rest.now ≡ rest_lines lines.old.rest.now }
@@ -45,7 +46,7 @@ fn kind_of(word: &str) -> Option<Kind>
     }
 }
 
-/// The input that the last line tells.
+/// Returns the input that the last line tells.
 pub fn read_input<L: Contents>(alloc: Global, lines: &mut Lines) -> Result<L, ScriptFault>
     ensures input { IfOk result (λ input.
         AreLines (TellsNamed L.bytes (codes "input")) lines.old.rest.now (input ∷ []) []) }
@@ -58,7 +59,7 @@ pub fn read_input<L: Contents>(alloc: Global, lines: &mut Lines) -> Result<L, Sc
     Ok(input)
 }
 
-/// What the next line tells, which has to be this word, a space and a literal.
+/// Returns what the next line tells, which has to be this word, a space and a literal.
 pub fn read_line<L: Contents>(
     alloc: Global,
     lines: &mut Lines,

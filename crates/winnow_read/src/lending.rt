@@ -1,4 +1,4 @@
-ghost use Rattle.std.specs.Prelude.{◌≡◌, IfOk};
+ghost use Rattle.std.specs.Prelude.{IfOk};
 ghost use Rattle.std.specs.List.{AllZip};
 ghost use Rattle.winnow_read.specs.Lending.{AreSameNeedles, IsSameStep};
 
@@ -9,7 +9,7 @@ use winnow_match::Needles;
 use winnow_run::{SearchStep, Step};
 use winnow_sets::CharSet;
 
-/// The steps of a script, as a run takes them.
+/// Returns the steps of a script, as a run takes them.
 pub fn lend_steps<'k, L: Lend<'k>>(
     alloc: Global,
     steps: &'k [ScriptStep<'k, L>],

@@ -1,4 +1,5 @@
-ghost use Rattle.std.specs.Prelude.{◌≡◌, ◌↔◌, ◌+◌, ◌^◌, ◌<◌, ◌≤◌, ◌==◌, if◌then◌else◌, length, IsTrue, IsSome, IfSome, position};
+ghost use Rattle.std.specs.Prelude.{◌≡◌, ◌↔◌, ◌+◌, ◌^◌, ◌<◌, ◌≤◌, ◌==◌, if◌then◌else◌, length};
+ghost use Rattle.std.specs.Prelude.{IsTrue, IsSome, IfSome, position};
 ghost use Rattle.std.specs.Str.{IsUtf8};
 ghost use Rattle.winnow_read.specs.Newline.{is_newline, first_line, rest_lines};
 
@@ -16,7 +17,7 @@ pub struct Lines<'i> {
 }
 
 impl<'i> Lines<'i> {
-    /// All lines of an input.
+    /// Returns all lines of an input.
     pub fn new(input: &'i [u8]) -> Self
         ensures rest { result.rest.now ≡ input.now }
         ensures number { result.number ≡ 1 }
@@ -27,21 +28,21 @@ impl<'i> Lines<'i> {
         }
     }
 
-    /// Whether no line is left.
+    /// Returns whether no line is left.
     pub fn is_empty(&self) -> bool
         ensures { IsTrue result ↔ (length self.now.rest.now ≡ 0) }
     {
         self.rest.is_empty()
     }
 
-    /// The fault of the next line, which may be missing.
+    /// Returns the fault of the next line, which may be missing.
     pub fn fault(&self) -> ScriptFault
         ensures { result ≡ ScriptFault.Line self.now.number }
     {
         ScriptFault::Line(self.number)
     }
 
-    /// The next line without its newline; `None` where there is none, or it is not UTF-8.
+    /// Returns the next line without its newline; `None` where there is none, or it is not UTF-8.
     pub fn next_line(&mut self) -> Option<&'i str>
         ensures found { IsSome result
             ↔ ((0 < length self.old.rest.now) × IsUtf8 (first_line self.old.rest.now)) }

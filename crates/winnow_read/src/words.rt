@@ -3,14 +3,15 @@ ghost use Rattle.std.specs.Char.{IsScalar};
 ghost use Rattle.std.specs.Option.{SomeIff};
 ghost use Rattle.std.specs.Str.Parse.{IsNumeral, digits_value};
 ghost use Rattle.winnow_read.specs.Literal.{TellsBytes};
-ghost use Rattle.winnow_read.specs.Words.{first_word, later_words, TellsRange, TellsRanges, TellsNeedles};
+ghost use Rattle.winnow_read.specs.Words.{first_word, later_words, TellsRange, TellsRanges};
+ghost use Rattle.winnow_read.specs.Words.{TellsNeedles};
 
 use crate::contents::Contents;
 use crate::literals::literal;
 use std::alloc::{AllocError, Global};
 use winnow_match::Needles;
 
-/// The first word, and the words behind its space; `None` where there is no space.
+/// Returns the first word, and the words behind its space; `None` where there is no space.
 pub fn split_word(words: &str) -> Option<(&str, &str)>
     ensures first { IfSome result (λ parts. parts.0.now ≡ first_word words.now) }
     ensures later { IfSome result (λ parts. parts.1.now ≡ later_words words.now) }
@@ -18,7 +19,7 @@ pub fn split_word(words: &str) -> Option<(&str, &str)>
     words.split_once(' ')
 }
 
-/// The number that decimal digits write, if it fits.
+/// Returns the number that decimal digits write, if it fits.
 pub fn read_number(word: &str) -> Option<usize>
     ensures { SomeIff result (IsNumeral 10 word.now × (digits_value 10 word.now < 2 ^ 64))
         (digits_value 10 word.now) }
@@ -30,7 +31,7 @@ pub fn read_number(word: &str) -> Option<usize>
     word.parse().ok()
 }
 
-/// The literal whose bytes a word tells, if it tells any and they are one.
+/// Returns the literal whose bytes a word tells, if it tells any and they are one.
 pub fn read_literal<L: Contents>(alloc: Global, word: &str) -> Result<Option<L>, AllocError>
     ensures { IfOk result (λ found. IfSome found (λ read. TellsBytes word.now (L.bytes read))) }
 {
@@ -40,7 +41,7 @@ pub fn read_literal<L: Contents>(alloc: Global, word: &str) -> Result<Option<L>,
     }
 }
 
-/// The needles that one to three words tell.
+/// Returns the needles that one to three words tell.
 pub fn read_needles<L: Contents>(
     alloc: Global,
     words: &str,
@@ -71,7 +72,7 @@ pub fn read_needles<L: Contents>(
     }
 }
 
-/// The ranges that a word tells: none for `-`, and else those between its commas.
+/// Returns the ranges that a word tells: none for `-`, and else those between its commas.
 pub fn read_ranges(alloc: Global, word: &str) -> Result<Option<Vec<(char, char)>>, AllocError>
     ensures { IfOk result (λ found. IfSome found (λ ranges. TellsRanges word.now ranges.items)) }
 {

@@ -1,7 +1,8 @@
 ghost use Rattle.std.specs.Prelude.{◌≡◌, OnOk, OnErr, Err, false, [], ◌∷◌, ◌++◌};
 ghost use Rattle.winnow_recover.specs.declared.record_error.RecordError.TheVariants.{Refused};
 ghost use Rattle.winnow_recover.specs.declared.recoverable.Recoverable.{Recoverable};
-ghost use Rattle.winnow_recover.specs.Recovering.{recovering_input, recorded_errors, records_errors, IsSame, Records};
+ghost use Rattle.winnow_recover.specs.Recovering.{recovering_input, recorded_errors};
+ghost use Rattle.winnow_recover.specs.Recovering.{records_errors, IsSame, Records};
 ghost use Rattle.winnow_stream.specs.declared.checkpoint.Checkpoint.{Checkpoint};
 
 use std::alloc::{AllocError, Global};
@@ -69,20 +70,35 @@ where
     I: Stream,
     E: ParserError<Recoverable<I, R>>,
     R: FromRecoverableError<Recoverable<I, R>, E> + Debug,
-    ensures recorded { (s t : Recoverable I R) (start at : Checkpoint I.Checkpoint (Recoverable I R)) (e : E) → ⟦<Recoverable<I, R> as Recover<E>>⟧.records s start at e t → Records R.recovered s start at e t }
-    ensures unchanged { (s t : Recoverable I R) → ⟦<Recoverable<I, R> as Recover<E>>⟧.unchanged s t → IsSame s t }
-    ensures errors_kept { (s t : Recoverable I R) → ⟦<Recoverable<I, R> as Stream>⟧.keeps s t → recorded_errors s ≡ recorded_errors t }
-    ensures kind_kept { (s t : Recoverable I R) → ⟦<Recoverable<I, R> as Stream>⟧.keeps s t → records_errors s ≡ records_errors t }
-    ensures kept { (s t : Recoverable I R) → ⟦<Recoverable<I, R> as Stream>⟧.keeps s t → I.keeps s.input t.input }
+    ensures recorded { (s t : Recoverable I R)
+        (start at : Checkpoint I.Checkpoint (Recoverable I R)) (e : E)
+        → ⟦<Recoverable<I, R> as Recover<E>>⟧.records s start at e t
+        → Records R.recovered s start at e t }
+    ensures unchanged { (s t : Recoverable I R) → ⟦<Recoverable<I, R> as Recover<E>>⟧.unchanged s t
+        → IsSame s t }
+    ensures errors_kept { (s t : Recoverable I R) → ⟦<Recoverable<I, R> as Stream>⟧.keeps s t
+        → recorded_errors s ≡ recorded_errors t }
+    ensures kind_kept { (s t : Recoverable I R) → ⟦<Recoverable<I, R> as Stream>⟧.keeps s t
+        → records_errors s ≡ records_errors t }
+    ensures kept { (s t : Recoverable I R) → ⟦<Recoverable<I, R> as Stream>⟧.keeps s t
+        → I.keeps s.input t.input }
 {}
 
 // So it is with the calls that are passed on.
 fn passed_on_law<I: StreamIsPartial + Display, E>()
-    ensures errors_stay { (s t : Recoverable I E) → ⟦<Recoverable<I, E> as StreamIsPartial>⟧.same_but_mark s t → recorded_errors s ≡ recorded_errors t }
-    ensures kind_stays { (s t : Recoverable I E) → ⟦<Recoverable<I, E> as StreamIsPartial>⟧.same_but_mark s t → records_errors s ≡ records_errors t }
-    ensures inside_stays { (s t : Recoverable I E) → ⟦<Recoverable<I, E> as StreamIsPartial>⟧.same_but_mark s t → I.same_but_mark s.input t.input }
-    ensures text { (s : Recoverable I E) → ⟦<Recoverable<I, E> as Display>⟧.output s ≡ I.output s.input }
-    ensures inside { (s : Recoverable I E) (t : I) → ⟦<Recoverable<I, E> as Deref>⟧.deref_gives s t → t ≡ s.input }
+    ensures errors_stay { (s t : Recoverable I E)
+        → ⟦<Recoverable<I, E> as StreamIsPartial>⟧.same_but_mark s t
+        → recorded_errors s ≡ recorded_errors t }
+    ensures kind_stays { (s t : Recoverable I E)
+        → ⟦<Recoverable<I, E> as StreamIsPartial>⟧.same_but_mark s t
+        → records_errors s ≡ records_errors t }
+    ensures inside_stays { (s t : Recoverable I E)
+        → ⟦<Recoverable<I, E> as StreamIsPartial>⟧.same_but_mark s t
+        → I.same_but_mark s.input t.input }
+    ensures text { (s : Recoverable I E)
+        → ⟦<Recoverable<I, E> as Display>⟧.output s ≡ I.output s.input }
+    ensures inside { (s : Recoverable I E) (t : I) → ⟦<Recoverable<I, E> as Deref>⟧.deref_gives s t
+        → t ≡ s.input }
 {}
 
 // They do nothing: that each is called shows that it can be.

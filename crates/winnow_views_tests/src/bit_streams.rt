@@ -172,7 +172,8 @@ fn token_width<S: Stream + Offset<S::Checkpoint>>(s: &mut S) -> usize
 where
     S::Token: Drop,
     requires valid { S.valid s.old }
-    requires measured { (t : S) (c : S.Checkpoint) → S.valid t → S.valid_checkpoint c → S.can_measure t c }
+    requires measured { (t : S) (c : S.Checkpoint) → S.valid t → S.valid_checkpoint c
+        → S.can_measure t c }
 {
     let start = s.checkpoint();
     let _ = s.next_token();

@@ -104,7 +104,8 @@ fn located<S: Location>(s: &S) -> (usize, usize) {
 // There is no mark: they stay as they are, and what agrees in all but the mark is the same.
 fn complete_tokens<'t, T>(s: &mut TokenSlice<'t, T>)
     ensures kept { s.old ≡ s.new }
-    ensures same { (s t : TokenSlice T) → ⟦<TokenSlice<'t, T> as StreamIsPartial>⟧.same_but_mark s t → s ≡ t }
+    ensures same { (s t : TokenSlice T) → ⟦<TokenSlice<'t, T> as StreamIsPartial>⟧.same_but_mark s t
+        → s ≡ t }
 {
     s.complete();
     s.restore_partial(());

@@ -80,7 +80,8 @@ fn complete_inside<I: Stream, S: Debug>(
     ensures before { result.0 ≡ mark s.old.input.input }
     ensures cleared { (mark s.new.input.input ≡ false) × (result.1 ≡ false) }
     ensures input { unmarked s.new.input.input ≡ unmarked s.old.input.input }
-    ensures kept { (s.old.state ≡ s.new.state) × (s.old.input.start ≡ s.new.input.start) × (s.old.input.place ≡ s.new.input.place) }
+    ensures kept { (s.old.state ≡ s.new.state) × (s.old.input.start ≡ s.new.input.start)
+        × (s.old.input.place ≡ s.new.input.place) }
 {
     (s.complete(), s.is_partial())
 }
@@ -89,8 +90,10 @@ fn complete_inside<I: Stream, S: Debug>(
 fn complete_plain<'i>(bytes: &mut &'i [u8], text: &mut &'i str)
     ensures bytes { bytes.old ≡ bytes.new }
     ensures text { text.old ≡ text.new }
-    ensures same_bytes { (s t : Bor (List ℕ)) → ⟦<&'i [u8] as StreamIsPartial>⟧.same_but_mark s t → s ≡ t }
-    ensures same_text { (s t : Bor (List ℕ)) → ⟦<&'i str as StreamIsPartial>⟧.same_but_mark s t → s ≡ t }
+    ensures same_bytes { (s t : Bor (List ℕ)) → ⟦<&'i [u8] as StreamIsPartial>⟧.same_but_mark s t
+        → s ≡ t }
+    ensures same_text { (s t : Bor (List ℕ)) → ⟦<&'i str as StreamIsPartial>⟧.same_but_mark s t
+        → s ≡ t }
 {
     bytes.complete();
     bytes.restore_partial(());
@@ -118,7 +121,8 @@ fn cloned<T: Clone>(value: &T) -> Result<T, AllocError>
 fn order_of<I: Stream + Ord>(s: &LocatingSlice<I>, t: &LocatingSlice<I>) -> Ordering
 where
     I::Checkpoint: Ord,
-    ensures { result ≡ then_cmp (on (λ v. v.start) I.Checkpoint.cmp) (on (λ v. v.input) I.cmp) s.now t.now }
+    ensures { result ≡ then_cmp (on (λ v. v.start) I.Checkpoint.cmp) (on (λ v. v.input) I.cmp) s.now
+        t.now }
 {
     s.cmp(t)
 }
@@ -139,8 +143,10 @@ fn order_of_places<I: Stream>(
 ) -> (bool, Ordering)
 where
     I::Checkpoint: Ord,
-    ensures equal { result.0 ≡ I.Checkpoint.eq (checkpoint_inner s.now).inner (checkpoint_inner t.now).inner }
-    ensures order { result.1 ≡ I.Checkpoint.cmp (checkpoint_inner s.now).inner (checkpoint_inner t.now).inner }
+    ensures equal { result.0 ≡ I.Checkpoint.eq (checkpoint_inner s.now).inner
+        (checkpoint_inner t.now).inner }
+    ensures order { result.1 ≡ I.Checkpoint.cmp (checkpoint_inner s.now).inner
+        (checkpoint_inner t.now).inner }
 {
     (s == t, s.cmp(t))
 }
@@ -154,7 +160,8 @@ fn is_same_state<I: PartialEq, S: PartialEq>(s: &Stateful<I, S>, t: &Stateful<I,
 
 // Whether the streams inside and the marks are equal.
 fn is_same_marked<I: PartialEq>(s: &Partial<I>, t: &Partial<I>) -> bool
-    ensures { result ≡ (I.eq (unmarked s.now) (unmarked t.now) && ⟦<bool as PartialEq>⟧.eq (mark s.now) (mark t.now)) }
+    ensures { result ≡ (I.eq (unmarked s.now) (unmarked t.now) && ⟦<bool as PartialEq>⟧.eq
+        (mark s.now) (mark t.now)) }
 {
     s == t
 }
