@@ -1,1 +1,3 @@
 mod FedPieceLemmas
+mod GivenLemmas
+mod ReportLemmas

@@ -2,3 +2,7 @@
 pub use Rattle.winnow_read.specs.Fault
 pub use Rattle.winnow_read.specs.Literal
 pub use Rattle.winnow_read.specs.declared.fault.ScriptFault
+-- And of those that it prints.
+pub mod AnswerLines
+pub mod ReportLines
+pub mod ScriptLines

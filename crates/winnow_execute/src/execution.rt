@@ -1,9 +1,15 @@
-ghost use Rattle.std.specs.Prelude.{◌+◌, ◌<◌, ◌^◌, IfErr, length, string_bytes, sum_by};
+ghost use Rattle.std.specs.Prelude.{◌≡◌, ◌+◌, ◌<◌, ◌^◌, [], IfErr, IfOk, length, string_bytes, sum_by};
+ghost use Rattle.winnow_base.specs.Inputs.{byte_input, text_input};
+ghost use Rattle.winnow_base.specs.Searching.{AreSearchAnswers};
+ghost use Rattle.winnow_execute.specs.AnswerLines.{item_words, answer_lines};
+ghost use Rattle.winnow_execute.specs.ReportLines.{Prints};
+ghost use Rattle.winnow_execute.specs.ScriptLines.{HoldsNumber, PrintsAs, PrintsScript};
 ghost use Rattle.winnow_read.specs.Fault.{IsWithin};
 ghost use Rattle.winnow_read.specs.Inputs.{piece_length};
 ghost use Rattle.winnow_read.specs.Lines.{reach};
+ghost use Rattle.winnow_read.specs.declared.inputs.Kind.TheVariants as kinds;
 
-use crate::printing::{PushWords, push_answer};
+use crate::printing::{PushWords, push_answers};
 use crate::report::Report;
 use std::alloc::{AllocError, Global};
 use winnow_base::stream::{
@@ -19,20 +25,33 @@ use winnow_read::{
 ///
 /// The whole text is read first. Its first faulty or missing line is the fault, unless memory runs out before it.
 pub fn execute(alloc: Global, input: &[u8]) -> Result<Vec<u8>, ScriptFault>
-    ensures { IfErr result (IsWithin (1 + length input.now)) }
+    ensures printed { IfOk result (λ printed. PrintsScript input.now printed.items) }
+    ensures err { IfErr result (IsWithin (1 + length input.now)) }
 {
     let mut lines = Lines::new(input);
-    let answers = match read_kind(&mut lines)? {
-        Kind::Bytes => execute_bytes(alloc, &mut lines)?,
-        Kind::Text => execute_text(alloc, &mut lines)?,
-        Kind::BytePieces => execute_byte_pieces(alloc, &mut lines)?,
-        Kind::TextPieces => execute_text_pieces(alloc, &mut lines)?,
-    };
-    Ok(answers.into_bytes())
+    let kind = read_kind(&mut lines)?;
+    let printed = execute_as(alloc, kind, &mut lines)?;
+    Ok(printed.into_bytes())
+}
+
+// What a script of this kind prints, of which the line of the kind is read.
+fn execute_as(alloc: Global, kind: Kind, lines: &mut Lines) -> Result<String, ScriptFault>
+    ensures printed { IfOk result (λ text.
+        PrintsAs kind lines.old.rest.now (string_bytes text)) }
+    ensures err { IfErr result (IsWithin (reach lines.old)) }
+{
+    match kind {
+        Kind::Bytes => execute_bytes(alloc, lines),
+        Kind::Text => execute_text(alloc, lines),
+        Kind::BytePieces => execute_byte_pieces(alloc, lines),
+        Kind::TextPieces => execute_text_pieces(alloc, lines),
+    }
 }
 
 fn execute_bytes(alloc: Global, lines: &mut Lines) -> Result<String, ScriptFault>
-    ensures { IfErr result (IsWithin (reach lines.old)) }
+    ensures printed { IfOk result (λ text.
+        PrintsAs kinds.Bytes lines.old.rest.now (string_bytes text)) }
+    ensures err { IfErr result (IsWithin (reach lines.old)) }
 {
     let steps: Vec<ScriptStep<'_, Vec<u8>>> = read_steps(alloc, lines)?;
     let input: Vec<u8> = read_input(alloc, lines)?;
@@ -41,7 +60,9 @@ fn execute_bytes(alloc: Global, lines: &mut Lines) -> Result<String, ScriptFault
 }
 
 fn execute_text(alloc: Global, lines: &mut Lines) -> Result<String, ScriptFault>
-    ensures { IfErr result (IsWithin (reach lines.old)) }
+    ensures printed { IfOk result (λ text.
+        PrintsAs kinds.Text lines.old.rest.now (string_bytes text)) }
+    ensures err { IfErr result (IsWithin (reach lines.old)) }
 {
     let steps: Vec<ScriptStep<'_, String>> = read_steps(alloc, lines)?;
     let input: String = read_input(alloc, lines)?;
@@ -50,7 +71,9 @@ fn execute_text(alloc: Global, lines: &mut Lines) -> Result<String, ScriptFault>
 }
 
 fn execute_byte_pieces(alloc: Global, lines: &mut Lines) -> Result<String, ScriptFault>
-    ensures { IfErr result (IsWithin (reach lines.old)) }
+    ensures printed { IfOk result (λ text.
+        PrintsAs kinds.BytePieces lines.old.rest.now (string_bytes text)) }
+    ensures err { IfErr result (IsWithin (reach lines.old)) }
 {
     let steps: Vec<ScriptStep<'_, Vec<u8>>> = read_steps(alloc, lines)?;
     let fed: Vec<FedLine<Vec<u8>>> = read_fed_lines(alloc, lines)?;
@@ -65,13 +88,15 @@ fn run_byte_lines(
     lines: &[FedLine<Vec<u8>>],
 ) -> Result<String, AllocError>
     requires { sum_by (piece_length (λ piece. piece.items)) lines.now < 2 ^ 64 }
+    ensures { IfOk result (λ text. Prints byte_input steps.now (λ piece. piece.items) [] 0 lines.now
+        (string_bytes text)) }
 {
     let mut feed = ByteFeed::new(alloc, steps)?;
     let mut report = Report::new(alloc);
     for line in lines {
         match line {
             FedLine::Piece(piece) => {
-                feed.feed(piece)?;
+                feed.feed(piece.as_slice())?;
                 report.count_piece();
             }
             FedLine::Waits => {
@@ -85,7 +110,9 @@ fn run_byte_lines(
 }
 
 fn execute_text_pieces(alloc: Global, lines: &mut Lines) -> Result<String, ScriptFault>
-    ensures { IfErr result (IsWithin (reach lines.old)) }
+    ensures printed { IfOk result (λ text.
+        PrintsAs kinds.TextPieces lines.old.rest.now (string_bytes text)) }
+    ensures err { IfErr result (IsWithin (reach lines.old)) }
 {
     let steps: Vec<ScriptStep<'_, String>> = read_steps(alloc, lines)?;
     let fed: Vec<FedLine<String>> = read_fed_lines(alloc, lines)?;
@@ -100,13 +127,15 @@ fn run_text_lines(
     lines: &[FedLine<String>],
 ) -> Result<String, AllocError>
     requires { sum_by (piece_length string_bytes) lines.now < 2 ^ 64 }
+    ensures { IfOk result (λ text. Prints text_input steps.now string_bytes [] 0 lines.now
+        (string_bytes text)) }
 {
     let mut feed = TextFeed::new(alloc, steps)?;
     let mut report = Report::new(alloc);
     for line in lines {
         match line {
             FedLine::Piece(piece) => {
-                feed.feed(piece)?;
+                feed.feed(piece.as_str())?;
                 report.count_piece();
             }
             FedLine::Waits => {
@@ -129,11 +158,14 @@ where
     S::Token: AsChar + Copy,
     S::Slice: PushWords + Drop,
     requires { S.valid stream }
+    ensures { IfOk result (λ text. (given : _)
+        × AreSearchAnswers (HoldsNumber S.Token.code) S.is_slice S.counts_missing S.compared S.found
+        (S.remaining stream) steps.now given
+        × (string_bytes text
+        ≡ answer_lines S.Token.code S.Slice.words (λ v. item_words S.Token.code v.items) given)) }
 {
     let answers = run_search(alloc, &mut stream, steps)?;
     let mut text = String::new(alloc);
-    for answer in &answers {
-        push_answer(&mut text, answer)?;
-    }
+    push_answers(&mut text, &answers)?;
     Ok(text)
 }

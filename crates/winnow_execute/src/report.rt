@@ -1,3 +1,7 @@
+ghost use Rattle.std.specs.Prelude.{◌≡◌, ◌++◌, ◌+◌, [], drop, length, min, string_bytes, OnOk};
+ghost use Rattle.winnow_base.specs.Telling.{capped};
+ghost use Rattle.winnow_execute.specs.ReportLines.{told_lines, waiting_line};
+
 use crate::printing::{PushWords, push_told};
 use std::alloc::{AllocError, Global};
 use winnow_base::stream::{AsChar, Told, Waiting};
@@ -12,7 +16,11 @@ pub struct Report {
 
 impl Report {
     /// No line.
-    pub fn new(alloc: Global) -> Self {
+    pub fn new(alloc: Global) -> Self
+        ensures text { string_bytes result.text ≡ [] }
+        ensures answers { result.answers ≡ 0 }
+        ensures pieces { result.pieces ≡ 0 }
+    {
         Report {
             text: String::new(alloc),
             answers: 0,
@@ -21,17 +29,23 @@ impl Report {
     }
 
     /// Counts one more piece.
-    pub fn count_piece(&mut self) {
+    pub fn count_piece(&mut self)
+        ensures text { self.new.text ≡ self.old.text }
+        ensures answers { self.new.answers ≡ self.old.answers }
+        ensures pieces { self.new.pieces ≡ capped (self.old.pieces + 1) }
+    {
         self.pieces = self.pieces.saturating_add(1);
     }
 
     /// Adds the lines of those answers that none has told yet.
-    pub fn push_answers<T: AsChar + Copy>(
-        &mut self,
-        answers: &[Told<T>],
-    ) -> Result<(), AllocError> {
-        for told in answers.iter().skip(self.answers) {
-            push_told(&mut self.text, told)?;
+    pub fn push_answers<T: AsChar + Copy>(&mut self, answers: &[Told<T>]) -> Result<(), AllocError>
+        ensures text { OnOk result (string_bytes self.new.text
+            ≡ string_bytes self.old.text ++ told_lines T.code (drop self.old.answers answers.now)) }
+        ensures answers { OnOk result (self.new.answers ≡ length answers.now) }
+        ensures pieces { self.new.pieces ≡ self.old.pieces }
+    {
+        if let Some(further) = answers.get(self.answers..) {
+            push_all_told(&mut self.text, further)?;
         }
         self.answers = answers.len();
         Ok(())
@@ -41,7 +55,12 @@ impl Report {
     pub fn push_waiting<P: PushWords + Drop>(
         &mut self,
         waiting: Waiting<P>,
-    ) -> Result<(), AllocError> {
+    ) -> Result<(), AllocError>
+        ensures text { OnOk result (string_bytes self.new.text
+            ≡ string_bytes self.old.text ++ waiting_line P.words self.old.pieces waiting) }
+        ensures answers { self.new.answers ≡ self.old.answers }
+        ensures pieces { self.new.pieces ≡ self.old.pieces }
+    {
         let pieces = self.pieces;
         write!(self.text, "{pieces} waits")?;
         match waiting {
@@ -54,7 +73,20 @@ impl Report {
     }
 
     /// The lines, as text.
-    pub fn into_text(self) -> String {
+    pub fn into_text(self) -> String
+        ensures { result ≡ self.text }
+    {
         self.text
     }
+}
+
+// Adds the line of each answer, in order.
+fn push_all_told<T: AsChar + Copy>(text: &mut String, answers: &[Told<T>]) -> Result<(), AllocError>
+    ensures { OnOk result (string_bytes text.new
+        ≡ string_bytes text.old ++ told_lines T.code answers.now) }
+{
+    for told in answers {
+        push_told(text, told)?;
+    }
+    Ok(())
 }

@@ -1,11 +1,8 @@
-use Rattle.std.proofs.Common.{◌≡◌, ℕ, List, length, string_bytes, sum_by, take}
-use Rattle.winnow_base.specs.Inputs.{text_input, joined}
-use Rattle.winnow_base.specs.Feeding.{Fits}
-use Rattle.winnow_read.specs.Inputs.{piece_length}
+use Rattle.std.proofs.Common.{string_bytes}
+use Rattle.winnow_base.specs.Inputs.{text_input}
+use Rattle.winnow_execute.proofs.ReportLemmas.{HasPrinted}
 use Rattle.winnow_execute.proofs.execution.run_text_lines.Given as goal
 
--- the pieces so far were fed
 abbrev pub invariant-loop-line : goal.invariant-loop-line
 invariant-loop-line l =
-    (pieces : List (List ℕ)) × Fits text_input l.feed pieces
-    × (length (joined pieces) ≡ sum_by (piece_length string_bytes) (take l.line-index l.lines))
+    HasPrinted text_input l.steps string_bytes l.lines l.line-index l.feed l.report.answers l.report.pieces (string_bytes l.report.text)

@@ -1,0 +1,83 @@
+-- The lines that a script of lines prints.
+use Rattle.std.specs.Prelude.{◌≡◌, ℕ, Bool, List, [], ◌∷◌, codes, String, string_bytes}
+use Rattle.std.specs.Borrow.{Bor}
+use Rattle.std.specs.Global.{Vec, Global}
+use Rattle.std.specs.List.{AllZip}
+use Rattle.std.specs.declared.ops.Range.{Range}
+use Rattle.winnow_attempt.specs.View.{held}
+use Rattle.winnow_base.specs.Bytes.{written}
+use Rattle.winnow_base.specs.CharSet.{CharSet}
+use Rattle.winnow_base.specs.Definite.{PieceKind, kind_of}
+use Rattle.winnow_base.specs.Front.{part}
+use Rattle.winnow_base.specs.Inputs.{PieceStep, InputKind, byte_input, text_input}
+use Rattle.winnow_base.specs.Searching.{search_answers}
+use Rattle.winnow_base.specs.Source.{Source, offsets}
+use Rattle.winnow_read.specs.Inputs.{kind_word, TellsNamed, TellsFed}
+use Rattle.winnow_read.specs.Lending.{IsSameStep}
+use Rattle.winnow_read.specs.Lines.{AreLines}
+use Rattle.winnow_read.specs.Newline.{first_line, rest_lines}
+use Rattle.winnow_read.specs.Steps.{TellsStep}
+use Rattle.winnow_read.specs.declared.fed_lines.FedLine.{FedLine}
+use Rattle.winnow_read.specs.declared.inputs.Kind.{Kind}
+use Rattle.winnow_read.specs.declared.inputs.Kind.TheVariants.{Bytes, Text, BytePieces, TextPieces}
+use Rattle.winnow_read.specs.declared.steps.ScriptStep.{ScriptStep}
+use Rattle.winnow_execute.specs.AnswerLines.{bytes_word, item_words, answer_lines}
+use Rattle.winnow_execute.specs.ReportLines.{Prints}
+
+-- a set answers of a token whether it holds the token's number
+abbrev pub HoldsNumber : {T : Type 0} → (T → ℕ) → CharSet → T → Bool → Type 0
+HoldsNumber code set token answer = answer ≡ held code set token
+
+-- the word of the slice at a place of a list, and the words of the items there
+module _ (kind : PieceKind ℕ CharSet (Bor (List ℕ))) (all : Source ℕ) where
+  abbrev pub slice_word : Range ℕ → List ℕ
+  slice_word place = bytes_word (written kind.write (part all place))
+
+  abbrev pub listed_words : Range ℕ → List ℕ
+  listed_words place = item_words (λ t. t) (offsets (part all place))
+
+  -- the lines of the answers that a script gives on the list
+  abbrev pub whole_lines : List PieceStep → List ℕ
+  whole_lines script =
+      answer_lines (λ t. t) slice_word listed_words (search_answers (kind_of kind) all script)
+
+-- literals are told as values of L, and lent for a run
+module _ {L : Type 0} (bytes : L → List ℕ) where
+  -- the first lines of a text tell the steps of this script, and leave the rest
+  abbrev pub TellsScript : List ℕ → List PieceStep → List ℕ → Type 0
+  TellsScript text script rest =
+      (steps : List (ScriptStep L)) × AreLines (TellsStep bytes) text steps rest
+      × AllZip (IsSameStep bytes (λ lent. lent.now)) steps script
+
+  -- the text tells a script and one input, and these are the lines of its answers there
+  abbrev pub PrintsWhole : InputKind → List ℕ → List ℕ → Type 0
+  PrintsWhole i text printed =
+      (script : List PieceStep) × (rest : List ℕ) × (input : L) × TellsScript text script rest
+      × AreLines (TellsNamed bytes (codes "input")) rest (input ∷ []) []
+      × (printed ≡ whole_lines i.pieces (i.source (bytes input)) script)
+
+  -- the text tells a script and the lines of pieces, and these are the lines that they print
+  abbrev pub PrintsPieces : InputKind → List ℕ → List ℕ → Type 0
+  PrintsPieces i text printed =
+      (script : List PieceStep) × (rest : List ℕ) × (lines : List (FedLine L))
+      × TellsScript text script rest × AreLines (TellsFed bytes) rest lines []
+      × Prints i script bytes [] 0 lines printed
+
+-- the bytes of literals and inputs that a script owns
+abbrev pub owned_bytes : Vec ℕ → List ℕ
+owned_bytes bytes = bytes.items
+
+abbrev pub owned_text : String Global → List ℕ
+owned_text text = string_bytes text
+
+-- what a text prints behind the line of its kind
+abbrev pub PrintsAs : Kind → List ℕ → List ℕ → Type 0
+PrintsAs Bytes text printed = PrintsWhole owned_bytes byte_input text printed
+PrintsAs Text text printed = PrintsWhole owned_text text_input text printed
+PrintsAs BytePieces text printed = PrintsPieces owned_bytes byte_input text printed
+PrintsAs TextPieces text printed = PrintsPieces owned_text text_input text printed
+
+-- what a text prints whose first line tells the kind
+abbrev pub PrintsScript : List ℕ → List ℕ → Type 0
+PrintsScript text printed =
+    (kind : Kind) × (first_line text ≡ kind_word kind) × PrintsAs kind (rest_lines text) printed
