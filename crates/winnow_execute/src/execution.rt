@@ -1,4 +1,5 @@
-ghost use Rattle.std.specs.Prelude.{◌≡◌, ◌+◌, ◌<◌, ◌^◌, [], IfErr, IfOk, length, string_bytes, sum_by};
+ghost use Rattle.std.specs.Prelude.{◌≡◌, ◌+◌, ◌<◌, ◌^◌, [], IfErr, IfOk, length, string_bytes};
+ghost use Rattle.std.specs.Prelude.{sum_by};
 ghost use Rattle.winnow_base.specs.Inputs.{byte_input, text_input};
 ghost use Rattle.winnow_base.specs.Searching.{AreSearchAnswers};
 ghost use Rattle.winnow_execute.specs.AnswerLines.{item_words, answer_lines};

@@ -2,7 +2,8 @@ ghost use Rattle.std.specs.Prelude.{◌≡◌, ◌++◌, ℕ, List, codes, strin
 ghost use Rattle.winnow_base.specs.Bytes.{utf8_of};
 ghost use Rattle.winnow_base.specs.Text.{text_source};
 ghost use Rattle.winnow_execute.specs.AnswerLines.{bytes_word, place_word, item_words, token_words};
-ghost use Rattle.winnow_execute.specs.AnswerLines.{at_words, offset_words, compared_words, hit_words};
+ghost use Rattle.winnow_execute.specs.AnswerLines.{at_words, offset_words, compared_words};
+ghost use Rattle.winnow_execute.specs.AnswerLines.{hit_words};
 ghost use Rattle.winnow_execute.specs.AnswerLines.{line, call_words, answer_line, answer_lines};
 ghost use Rattle.winnow_execute.specs.ReportLines.{told_line};
 

@@ -15,7 +15,7 @@ pub struct Report {
 }
 
 impl Report {
-    /// No line.
+    /// Returns no line.
     pub fn new(alloc: Global) -> Self
         ensures text { string_bytes result.text ≡ [] }
         ensures answers { result.answers ≡ 0 }
@@ -72,7 +72,7 @@ impl Report {
         self.text.push('\n')
     }
 
-    /// The lines, as text.
+    /// Returns the lines, as text.
     pub fn into_text(self) -> String
         ensures { result ≡ self.text }
     {
