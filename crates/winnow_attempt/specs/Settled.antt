@@ -20,7 +20,7 @@ pub record NoneHeld {T : Type 0} (holds : T → Bool) (r : Source T) (n : ℕ) :
   pub none : first_offset holds (front r n) ≡ None
 
 -- `Find`: a place before which no needle stands, whatever follows
-pub record NoneStands (needles : List (List ℕ)) (bytes : List ℕ) (n : ℕ) : Type 0 where
+pub record NoneOccurs (needles : List (List ℕ)) (bytes : List ℕ) (n : ℕ) : Type 0 where
   pub within : n ≤ length bytes
   pub none : (m : List ℕ) (i : ℕ) → i < n → needle_at needles (drop i (bytes ++ m)) ≡ None
 
@@ -47,7 +47,7 @@ module _ {T C L : Type 0} (k : PieceKind T C L) where
   abbrev pub IsSettled : SearchStep C L → Source T → ℕ → ℕ → Type 0
   IsSettled (step.Call s) r n tokens = IsCallSettled k.holds s r n tokens
   IsSettled (step.Compare literal) r n tokens = AreSame (k.literal literal) (written k.write r) n
-  IsSettled (step.Find needles) r n tokens = NoneStands (needle_list k.literal needles) (written k.write r) n
+  IsSettled (step.Find needles) r n tokens = NoneOccurs (needle_list k.literal needles) (written k.write r) n
 
 -- ---- an answer that was found from n on, as the answer of the whole
 

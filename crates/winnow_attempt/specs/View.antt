@@ -4,7 +4,7 @@ use Rattle.std.specs.Prelude.{◌≡◌, ℕ, ◌+◌, ◌-◌, nat_le, Bool, tr
 use Rattle.winnow_stream.specs.Source.{Source, width, first_token, first_offset}
 use Rattle.winnow_stream.specs.Front.{front_count, is_offset}
 use Rattle.winnow_stream.specs.Shortage.{offset_at}
-use Rattle.winnow_stream.specs.Cursor.{places}
+use Rattle.winnow_stream.specs.Span.{span}
 use Rattle.winnow_run.specs.Script.{PlacedAnswer, slice_answer, reset_answer}
 use Rattle.winnow_run.specs.declared.script.Step.{Step}
 use Rattle.winnow_run.specs.declared.script.Step.TheVariants as call
@@ -43,13 +43,13 @@ module _ {T C : Type 0} (holds : C → T → Bool) (counts_missing : Bool) (at :
   call_view call.Peek = answer.Token (first_token r)
   call_view (call.Take n) = slice_answer at n (front_count r n)
   call_view (call.Look n) = slice_answer at n (front_count r n)
-  call_view call.Finish = answer.Slice (places at (width r))
-  call_view call.PeekFinish = answer.Slice (places at (width r))
+  call_view call.Finish = answer.Slice (span at (width r))
+  call_view call.PeekFinish = answer.Slice (span at (width r))
   call_view call.Eof = answer.Offset (width r)
   call_view (call.At n) = answer.At (offset_at counts_missing r n)
   call_view (call.IsOffset n) = answer.Flag (is_offset r n)
   call_view (call.First c) = answer.First (first_offset (holds c) r)
-  call_view call.Each = answer.Items (places at (width r))
+  call_view call.Each = answer.Items (span at (width r))
   call_view call.Mark = answer.Marked (length marks)
   call_view (call.Reset k) = reset_answer (slice_get marks k)
   call_view (call.Since k) = since_view at (slice_get marks k)

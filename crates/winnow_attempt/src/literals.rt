@@ -2,7 +2,7 @@ ghost use Rattle.std.specs.Prelude.{◌≡◌, ◌≤◌, false, length, drop, I
 ghost use Rattle.winnow_match.specs.Comparison.{comparison};
 ghost use Rattle.winnow_match.specs.Search.{hit, needle_list, bytes_of_needles};
 ghost use Rattle.winnow_match.specs.Stretch.{hit_is_definite};
-ghost use Rattle.winnow_attempt.specs.Settled.{AreSame, NoneStands};
+ghost use Rattle.winnow_attempt.specs.Settled.{AreSame, NoneOccurs};
 
 use std::ops::Range;
 use winnow_match::{Compare, CompareResult, FindSlice, Needles, stretch};
@@ -71,7 +71,7 @@ pub(crate) fn find_from(
     bytes: &[u8],
     passed: usize,
 ) -> Option<Range<usize>>
-    requires { NoneStands (bytes_of_needles needles.now) bytes.now passed }
+    requires { NoneOccurs (bytes_of_needles needles.now) bytes.now passed }
     ensures { result ≡ hit (bytes_of_needles needles.now) bytes.now }
 {
     match find_all(needles, behind(bytes, passed)) {
@@ -106,7 +106,7 @@ pub(crate) fn searched(
     found: &Option<Range<usize>>,
 ) -> usize
     requires { found.now ≡ hit (bytes_of_needles needles.now) bytes.now }
-    ensures { NoneStands (bytes_of_needles needles.now) bytes.now result }
+    ensures { NoneOccurs (bytes_of_needles needles.now) bytes.now result }
 {
     match found {
         Some(hit) => match stretch(bytes, needles, hit) {

@@ -1,7 +1,7 @@
 ghost use Rattle.std.specs.Prelude.{◌≡◌, ◌<◌, drop, option_map};
 ghost use Rattle.std.specs.Prelude.{IfOk, OnErr, IsSome};
 ghost use Rattle.winnow_match.specs.Search.{bytes_of_needles, needle_of};
-ghost use Rattle.winnow_attempt.specs.Settled.{IsSettled, NoneStands};
+ghost use Rattle.winnow_attempt.specs.Settled.{IsSettled, NoneOccurs};
 ghost use Rattle.winnow_attempt.specs.View.{piece_kind};
 ghost use Rattle.winnow_attempt.specs.Missing.{letters, needle_missing, call_missing, missing};
 
@@ -46,7 +46,7 @@ fn needle_of<'n>(needles: &Needles<&'n [u8]>, number: usize) -> &'n [u8]
 
 // What a search is missing, where no needle stands before `passed`.
 fn needle_missing<'n>(needles: &Needles<&'n [u8]>, bytes: &[u8], passed: usize) -> &'n [u8]
-    requires { NoneStands (bytes_of_needles needles.now) bytes.now passed }
+    requires { NoneOccurs (bytes_of_needles needles.now) bytes.now passed }
     ensures { result.now ≡ needle_missing (bytes_of_needles needles.now) bytes.now }
 {
     match find_from(needles, bytes, passed) {

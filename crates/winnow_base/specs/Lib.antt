@@ -1,12 +1,14 @@
 -- What contracts name, from each of the crates that this one passes on.
 pub use Rattle.winnow_stream.specs.Source
 pub use Rattle.winnow_stream.specs.Front
+pub use Rattle.winnow_stream.specs.SliceWidths
 pub use Rattle.winnow_stream.specs.Place
 pub use Rattle.winnow_stream.specs.Fused
 pub use Rattle.winnow_stream.specs.Shortage
 pub use Rattle.winnow_stream.specs.Units
 pub use Rattle.winnow_stream.specs.Text
 pub use Rattle.winnow_stream.specs.Checkpoint
+pub use Rattle.winnow_stream.specs.Span
 pub use Rattle.winnow_stream.specs.Cursor
 pub use Rattle.winnow_sets.specs.Classes
 pub use Rattle.winnow_sets.specs.Sets
@@ -17,7 +19,7 @@ pub use Rattle.winnow_match.specs.Search
 pub use Rattle.winnow_match.specs.Stretch
 pub use Rattle.winnow_run.specs.Marks
 pub use Rattle.winnow_run.specs.Script
-pub use Rattle.winnow_run.specs.Standing
+pub use Rattle.winnow_run.specs.RunState
 pub use Rattle.winnow_run.specs.Searching
 pub use Rattle.winnow_run.specs.Definite
 pub use Rattle.winnow_count.specs.Accumulation
@@ -37,7 +39,6 @@ pub use Rattle.winnow_views.specs.TokenAnswers
 pub use Rattle.winnow_views.specs.BitSource
 pub use Rattle.winnow_views.specs.BitStream
 pub use Rattle.winnow_views.specs.BitSteps
-pub use Rattle.winnow_views.specs.BitWidth
 pub use Rattle.winnow_views.specs.BitLaws
 pub use Rattle.winnow_error.specs.Mode
 pub use Rattle.winnow_error.specs.ModeText

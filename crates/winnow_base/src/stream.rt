@@ -25,8 +25,9 @@ pub use winnow_sets::{
 };
 pub use winnow_stream::{
     AsBStr, AsBytes, Checkpoint, Location, Needed, NoSet, Offset, Rest, ScriptSet, SliceLen,
-    SliceOffsets, Str, Stream, StreamIsPartial, UpdateSlice, checkpoint_equality_law, first_law,
-    front_law, held_law, offset_law, shortage_law, slice_law, span_law, taken_law, text_slice_law,
+    SliceOffsets, Str, Stream, StreamIsPartial, UpdateSlice, byte_slice_law,
+    checkpoint_equality_law, first_law, front_law, held_law, offset_law, shortage_law, slice_law,
+    span_law, taken_law, text_slice_law,
 };
 pub use winnow_views::{PreviousTokens, TokenOffsets, TokenSlice, TokenView, token_equality_law};
 pub use winnow_wrap::{

@@ -17,7 +17,7 @@ where
     S::Token: Number + Drop,
     S::Slice: Weigh + Drop,
     requires valid { S.valid s.old }
-    requires ready { AreReady C.can_hold script.now }
+    requires ready { AreReady C.askable script.now }
 {
     let mut sum = 0;
     for _ in 0..rounds {

@@ -20,7 +20,7 @@ where
     S::Token: Number + Drop,
     S::Slice: Weigh + Drop,
     requires valid { S.valid s.old }
-    requires ready { AreSearchReady C.can_hold script.now }
+    requires ready { AreSearchReady C.askable script.now }
 {
     let mut sum = 0;
     for _ in 0..rounds {

@@ -59,7 +59,7 @@ where
     S::Token: Drop,
     S::Slice: Weigh + Drop,
     requires valid { S.valid s.old }
-    requires set { C.can_hold ends.now }
+    requires set { C.askable ends.now }
 {
     let mut sum = 0;
     while let Some(offset) = s.offset_for(|token| ends.contains_token(token)) {
@@ -77,7 +77,7 @@ where
 /// The offset of the first token of a set, or the greatest number where there is none.
 pub fn find_set<S: Stream, C: ContainsToken<S::Token>>(s: &S, wanted: &C) -> u64
     requires valid { S.valid s.now }
-    requires set { C.can_hold wanted.now }
+    requires set { C.askable wanted.now }
 {
     s.offset_for(|token| wanted.contains_token(token))
         .unwrap_or(usize::MAX) as u64

@@ -7,8 +7,10 @@ ghost use Rattle.winnow_views.specs.BitStream.{bits_input, bits_place};
 
 use std::alloc::{AllocError, Global};
 use winnow_bench_common::{Tell, hand_out, tell_all};
-use winnow_stream::{AsBStr, Needed, Offset, SliceLen, Stream, StreamIsPartial, UpdateSlice};
-use winnow_views::{Bits, bit_slice_law, byte_slice_law};
+use winnow_stream::{
+    AsBStr, Needed, Offset, SliceLen, Stream, StreamIsPartial, UpdateSlice, byte_slice_law,
+};
+use winnow_views::{Bits, bit_slice_law};
 
 /// What the small traits answer of bytes, and of what remains behind its front of that width; nothing where there is no such front.
 pub fn tell_bytes(alloc: Global, start: &[u8], width: usize) -> Result<Vec<u64>, AllocError> {

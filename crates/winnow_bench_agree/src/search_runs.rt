@@ -19,7 +19,7 @@ where
     S::Token: Tell + Drop,
     S::Slice: Tell + Drop,
     requires valid { S.valid s.old }
-    requires ready { AreSearchReady C.can_hold script.now }
+    requires ready { AreSearchReady C.askable script.now }
 {
     let answers = run_search(alloc, s, script)?;
     let mut told = Vec::new(alloc);

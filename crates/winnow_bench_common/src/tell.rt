@@ -82,7 +82,7 @@ where
     S::Token: Tell + Drop,
     S::Slice: Tell + Drop,
     requires valid { S.valid s.old }
-    requires ready { AreReady C.can_hold script.now }
+    requires ready { AreReady C.askable script.now }
 {
     let answers = run(alloc, s, script)?;
     let mut told = Vec::new(alloc);

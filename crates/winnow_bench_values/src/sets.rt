@@ -138,7 +138,7 @@ fn tell_set<T, C: ContainsToken<T> + Drop>(
     set: C,
     token: T,
 ) -> Result<(), AllocError>
-    requires { C.can_hold set }
+    requires { C.askable set }
 {
     tell_all(told, &[u64::from(set.contains_token(token))])
 }

@@ -11,7 +11,7 @@ ghost use Rattle.std.proofs.Common.{rules, sym, ap};
 ghost use Rattle.winnow_stream.specs.Checkpoint.{checkpoint_inner};
 ghost use Rattle.winnow_stream.specs.Source.{units};
 ghost use Rattle.winnow_stream.specs.Front.{front};
-ghost use Rattle.winnow_stream.specs.Units.{HasWidths-units, width-units};
+ghost use Rattle.winnow_stream.specs.Units.{HasPositiveWidths-units, width-units};
 ghost use Rattle.winnow_match.specs.Bytes.{bytes_of};
 ghost use Rattle.winnow_match.specs.Comparison.{comparison};
 ghost use Rattle.winnow_match.specs.Search.{hit};
@@ -152,9 +152,10 @@ impl<'i> Stream for Bytes<'i> {
 
     ghost keeps = { λ _ _. ⊤ };
 
-    ghost has_widths = { λ s _. HasWidths-units (bytes_contents s) };
+    ghost positive_widths = { λ s _. HasPositiveWidths-units (bytes_contents s) };
 
-    ghost has_widths_remained = { λ c _. HasWidths-units (bytes_contents (checkpoint_inner c)) };
+    ghost positive_widths_remained = { λ c _.
+        HasPositiveWidths-units (bytes_contents (checkpoint_inner c)) };
 
     ghost rest_width_remaining = { λ s _. sym (width-units (bytes_contents s)) };
 

@@ -149,6 +149,16 @@ fn steps_on_pieces(rt: HostRuntime) -> Result<(), Fail> {
                 "byte-pieces\nfind 616263 62\npiece 6162\npiece 63\n",
                 "2 find 0..3\n",
             ),
+            (
+                "a mark that an earlier piece made",
+                "byte-pieces\nmark\nnext\nnext\nreset 0\nnext\nfinish\npiece 61\npiece 62\npiece 63\n",
+                "1 mark 0\n1 token 97\n2 token 98\n2 done\n2 token 97\nend slice 1..3\n",
+            ),
+            (
+                "a mark that the cursor is before",
+                "byte-pieces\nmark\nnext\nmark\nreset 0\nsince 1\nreset 1\nnext\npiece 61\npiece 62\n",
+                "1 mark 0\n1 token 97\n1 mark 1\n1 done\n1 later mark\n1 done\n2 token 98\n",
+            ),
             ("no step", "text-pieces\npiece c3a9\n", ""),
         ],
     )

@@ -1,6 +1,6 @@
 -- What a run over pieces has stored, against the joined input.
 use Rattle.std.specs.Prelude.{◌≡◌, ℕ, ◌+◌, ◌-◌, ◌≤◌, Bool, true, false, nat_lt, if◌then◌else◌, List, ◌++◌, map, length, drop, Option, Some, slice_get}
-use Rattle.winnow_stream.specs.Source.{Source, HasWidths}
+use Rattle.winnow_stream.specs.Source.{Source, HasPositiveWidths}
 use Rattle.winnow_stream.specs.Front.{back}
 use Rattle.winnow_stream.specs.Cursor.{Cursor, start, rest, place}
 use Rattle.winnow_sets.specs.declared.char_set.CharSet.{CharSet}
@@ -28,7 +28,7 @@ answers_told p = map (λ t. t.answer) p.told.items
 -- the run stands for the joined input `all`, of which these tokens are kept: the answers out are definite and lead to the cursor,
 -- all that the steps that are left can reach is kept, and the next step has passed what it says
 pub record Stands {T L : Type 0} (strict : Bool) (k : PieceKind T CharSet L) (all kept : Source T) (p : Progress T L) : Type 0 where
-  pub widths : HasWidths all
+  pub widths : HasPositiveWidths all
   pub at : Cursor
   pub reaches : Reaches strict k all start p.script.now (answers_told p) at
   pub here : p.place ≡ place all at.index

@@ -13,7 +13,7 @@ ghost use Rattle.std.proofs.Common.{rules, sym, ap};
 ghost use Rattle.winnow_stream.specs.Checkpoint.{checkpoint_inner};
 ghost use Rattle.winnow_stream.specs.Source.{units};
 ghost use Rattle.winnow_stream.specs.Front.{front};
-ghost use Rattle.winnow_stream.specs.Units.{HasWidths-units, width-units};
+ghost use Rattle.winnow_stream.specs.Units.{HasPositiveWidths-units, width-units};
 ghost use Rattle.winnow_match.specs.Bytes.{bytes_of};
 ghost use Rattle.winnow_match.specs.Comparison.{comparison};
 ghost use Rattle.winnow_match.specs.Search.{hit};
@@ -142,9 +142,10 @@ impl<'i> Stream for BStr<'i> {
 
     ghost keeps = { λ _ _. ⊤ };
 
-    ghost has_widths = { λ s _. HasWidths-units (bstr_contents s) };
+    ghost positive_widths = { λ s _. HasPositiveWidths-units (bstr_contents s) };
 
-    ghost has_widths_remained = { λ c _. HasWidths-units (bstr_contents (checkpoint_inner c)) };
+    ghost positive_widths_remained = { λ c _.
+        HasPositiveWidths-units (bstr_contents (checkpoint_inner c)) };
 
     ghost rest_width_remaining = { λ s _. sym (width-units (bstr_contents s)) };
 

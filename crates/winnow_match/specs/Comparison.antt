@@ -6,20 +6,20 @@ use Rattle.winnow_match.specs.declared.compare.CompareResult.{CompareResult}
 use Rattle.winnow_match.specs.declared.compare.CompareResult.TheVariants as compared
 
 -- p is a front of xs
-abbrev pub is_front : List ℕ → List ℕ → Bool
-is_front [] xs = true
-is_front (x ∷ p) [] = false
-is_front (x ∷ p) (y ∷ xs) = x == y && is_front p xs
+abbrev pub is_prefix : List ℕ → List ℕ → Bool
+is_prefix [] xs = true
+is_prefix (x ∷ p) [] = false
+is_prefix (x ∷ p) (y ∷ xs) = x == y && is_prefix p xs
 
 -- the same as a fact: xs is p followed by something
-abbrev pub IsFrontOf : List ℕ → List ℕ → Type 0
-IsFrontOf p xs = (rest : List ℕ) × (xs ≡ p ++ rest)
+abbrev pub IsPrefixOf : List ℕ → List ℕ → Type 0
+IsPrefixOf p xs = (rest : List ℕ) × (xs ≡ p ++ rest)
 
 -- the literal is a front of the bytes, or they are a shorter front of it, or they differ at some place
 abbrev pub comparison : List ℕ → List ℕ → CompareResult
 comparison literal bytes =
-    if is_front literal bytes then compared.Ok (length literal)
-    else (if is_front bytes literal then compared.Incomplete else compared.Error)
+    if is_prefix literal bytes then compared.Ok (length literal)
+    else (if is_prefix bytes literal then compared.Incomplete else compared.Error)
 
 -- where a literal stands at the front of r, it ends at an offset of r
 abbrev pub EndsAtOffset : {T : Type 0} → CompareResult → Source T → Type 0

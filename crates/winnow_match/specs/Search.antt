@@ -6,8 +6,8 @@ use Rattle.std.specs.Str.{IsUtf8}
 use Rattle.std.specs.declared.ops.Range.{Range}
 use Rattle.winnow_stream.specs.Source.{Source}
 use Rattle.winnow_stream.specs.Front.{is_offset}
-use Rattle.winnow_stream.specs.Cursor.{places}
-use Rattle.winnow_match.specs.Comparison.{is_front, IsFrontOf}
+use Rattle.winnow_stream.specs.Span.{span}
+use Rattle.winnow_match.specs.Comparison.{is_prefix, IsPrefixOf}
 use Rattle.winnow_match.specs.declared.needles.Needles.{Needles}
 use Rattle.winnow_match.specs.declared.needles.Needles.TheVariants.{One, Two, Three}
 
@@ -18,15 +18,15 @@ is_empty (x ∷ xs) = false
 -- the length of the first listed needle that is a front of the bytes
 abbrev pub needle_at : List (List ℕ) → List ℕ → Option ℕ
 needle_at [] bytes = None
-needle_at (needle ∷ needles) bytes = if is_front needle bytes then Some (length needle) else needle_at needles bytes
+needle_at (needle ∷ needles) bytes = if is_prefix needle bytes then Some (length needle) else needle_at needles bytes
 
 -- some needle stands in the bytes from place k on
-abbrev pub SomeStands : List (List ℕ) → List ℕ → ℕ → Type 0
-SomeStands needles bytes k = IsTrue (is_some (needle_at needles (drop k bytes)))
+abbrev pub SomeOccurs : List (List ℕ) → List ℕ → ℕ → Type 0
+SomeOccurs needles bytes k = IsTrue (is_some (needle_at needles (drop k bytes)))
 
 -- a needle of that length stands here, or else the hit is a later one
 abbrev pub hit_or : ℕ → Option ℕ → Option (Range ℕ) → Option (Range ℕ)
-hit_or at (Some n) later = Some (places at n)
+hit_or at (Some n) later = Some (span at n)
 hit_or at None later = later
 
 -- the least place at which a needle stands, counted from `at`, to the end of the first listed that stands there
@@ -36,7 +36,7 @@ first_hit needles at (y ∷ bytes) = hit_or at (needle_at needles (y ∷ bytes))
 
 -- what a search finds: an empty needle stands at once
 abbrev pub hit : List (List ℕ) → List ℕ → Option (Range ℕ)
-hit needles bytes = if list_any is_empty needles then Some (places 0 0) else first_hit needles 0 bytes
+hit needles bytes = if list_any is_empty needles then Some (span 0 0) else first_hit needles 0 bytes
 
 -- needles as data, as a list of their bytes
 abbrev pub needle_list : {L : Type 0} → (L → List ℕ) → Needles L → List (List ℕ)
@@ -54,8 +54,8 @@ AreTexts [] = ⊤
 AreTexts (needle ∷ needles) = IsUtf8 needle × AreTexts needles
 
 -- this needle stands in the bytes from place k on
-abbrev pub Stands : List ℕ → List ℕ → ℕ → Type 0
-Stands needle bytes k = IsFrontOf needle (drop k bytes)
+abbrev pub Occurs : List ℕ → List ℕ → ℕ → Type 0
+Occurs needle bytes k = IsPrefixOf needle (drop k bytes)
 
 -- the needle of that number, counted from 0
 abbrev pub needle_of : List (List ℕ) → ℕ → List ℕ
@@ -65,14 +65,14 @@ needle_of needles i = slice_index_or needles i []
 pub record IsFirstHit (needles : List (List ℕ)) (bytes : List ℕ) (r : Range ℕ) : Type 0 where
   pub index : ℕ
   pub listed : index < length needles
-  pub stands : Stands (needle_of needles index) bytes r.start
+  pub stands : Occurs (needle_of needles index) bytes r.start
   pub whole : r.end ≡ r.start + length (needle_of needles index)
-  pub first_listed : (i : ℕ) → i < index → ¬ Stands (needle_of needles i) bytes r.start
-  pub first_place : (i k : ℕ) → i < length needles → k < r.start → ¬ Stands (needle_of needles i) bytes k
+  pub first_listed : (i : ℕ) → i < index → ¬ Occurs (needle_of needles i) bytes r.start
+  pub first_place : (i k : ℕ) → i < length needles → k < r.start → ¬ Occurs (needle_of needles i) bytes k
 
 -- no needle stands anywhere
-abbrev pub StandsNowhere : List (List ℕ) → List ℕ → Type 0
-StandsNowhere needles bytes = (i k : ℕ) → i < length needles → ¬ Stands (needle_of needles i) bytes k
+abbrev pub OccursNowhere : List (List ℕ) → List ℕ → Type 0
+OccursNowhere needles bytes = (i k : ℕ) → i < length needles → ¬ Occurs (needle_of needles i) bytes k
 
 -- each needle has that length
 abbrev pub have_length : ℕ → List (List ℕ) → Bool

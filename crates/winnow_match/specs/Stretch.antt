@@ -2,13 +2,13 @@
 use Rattle.std.specs.Prelude.{◌≡◌, ℕ, ◌+◌, ◌<◌, ◌≤◌, ◌⊎◌, nat_lt, max, Bool, ◌&&◌, not, if◌then◌else◌, List, [], ◌∷◌, length, drop, Option, None, Some, is_some, option_map}
 use Rattle.std.specs.List.{list_any}
 use Rattle.std.specs.declared.ops.Range.{Range}
-use Rattle.winnow_match.specs.Comparison.{is_front, IsFrontOf}
-use Rattle.winnow_match.specs.Search.{is_empty, needle_at, needle_of, hit, Stands, IsFirstHit}
+use Rattle.winnow_match.specs.Comparison.{is_prefix, IsPrefixOf}
+use Rattle.winnow_match.specs.Search.{is_empty, needle_at, needle_of, hit, Occurs, IsFirstHit}
 use Rattle.winnow_match.specs.declared.needles.Stretch.{Stretch}
 
 -- the bytes are a front of the needle, and shorter
 abbrev pub stretches : List ℕ → List ℕ → Bool
-stretches needle bytes = is_front bytes needle && nat_lt (length bytes) (length needle)
+stretches needle bytes = is_prefix bytes needle && nat_lt (length bytes) (length needle)
 
 -- no needle, where the first stands here; else its number 0, where it stretches here, and else the later one's
 abbrev pub stretching_or : Bool → Bool → Option ℕ → Option ℕ
@@ -17,7 +17,7 @@ stretching_or stands stretches later = if stands then None else (if stretches th
 -- the number of the first listed needle that stretches here, where none listed before it stands here
 abbrev pub stretching : List (List ℕ) → List ℕ → Option ℕ
 stretching [] bytes = None
-stretching (needle ∷ needles) bytes = stretching_or (is_front needle bytes) (stretches needle bytes) (stretching needles bytes)
+stretching (needle ∷ needles) bytes = stretching_or (is_prefix needle bytes) (stretches needle bytes) (stretching needles bytes)
 
 -- a needle stretches here, or one stands here and ends the search, or else a later place is the first
 abbrev pub stretch_or : ℕ → Option ℕ → Option ℕ → Option Stretch → Option Stretch
@@ -40,13 +40,13 @@ hit_is_definite needles bytes = is_some (hit needles bytes) && not (is_some (str
 
 -- the same as facts: the bytes end inside the needle that begins at place q
 abbrev pub Stretches : List ℕ → List ℕ → ℕ → Type 0
-Stretches needle bytes q = IsFrontOf (drop q bytes) needle × (length (drop q bytes) < length needle)
+Stretches needle bytes q = IsPrefixOf (drop q bytes) needle × (length (drop q bytes) < length needle)
 
 -- needle i stretches at place q, before the hit or at the hit and listed before each needle that stands there
 pub record CanMove (needles : List (List ℕ)) (bytes : List ℕ) (r : Range ℕ) (i q : ℕ) : Type 0 where
   pub listed : i < length needles
   pub stretches : Stretches (needle_of needles i) bytes q
-  pub first : (q < r.start) ⊎ ((q ≡ r.start) × ((j : ℕ) → j < i → ¬ Stands (needle_of needles j) bytes q))
+  pub first : (q < r.start) ⊎ ((q ≡ r.start) × ((j : ℕ) → j < i → ¬ Occurs (needle_of needles j) bytes q))
 
 -- s is the least place at which a needle could move the hit, and the first listed there
 pub record IsStretch (needles : List (List ℕ)) (bytes : List ℕ) (r : Range ℕ) (s : Stretch) : Type 0 where

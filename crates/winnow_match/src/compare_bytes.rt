@@ -1,7 +1,7 @@
 ghost use Rattle.std.specs.Prelude.{◌≡◌, ◌≤◌, [], ◌∷◌, length, IsTrue};
 ghost use Rattle.std.specs.Char.{encode_utf8};
 ghost use Rattle.winnow_match.specs.Bytes.{bytes_of};
-ghost use Rattle.winnow_match.specs.Comparison.{is_front, comparison};
+ghost use Rattle.winnow_match.specs.Comparison.{is_prefix, comparison};
 ghost use Rattle.winnow_match.specs.declared.compare.CompareResult.{CompareResult};
 
 use crate::{Compare, CompareResult};
@@ -9,7 +9,7 @@ use crate::{Compare, CompareResult};
 // Whether the prefix is a front of the input. `==` is quicker on short slices than `starts_with`.
 #[tactic(auto, using(crate::proofs::lemmas::ByteFrontLemmas::front_tests))]
 pub(crate) fn begins_with(input: &[u8], prefix: &[u8]) -> bool
-    ensures value { result ≡ is_front prefix.now input.now }
+    ensures value { result ≡ is_prefix prefix.now input.now }
     ensures fits { IsTrue result → length prefix.now ≤ length input.now }
 {
     prefix.len() <= input.len() && prefix == &input[..prefix.len()]

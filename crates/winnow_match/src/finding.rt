@@ -2,7 +2,7 @@ ghost use Rattle.std.specs.Prelude.{◌≡◌, ℕ, ◌<◌, ◌≤◌, [], ◌�
 ghost use Rattle.std.specs.Prelude.{slice_index, IfSome, MatchOption};
 ghost use Rattle.std.specs.List.{list_any};
 ghost use Rattle.memchr.specs.Find.{IsFirst, Nowhere, NoneBefore};
-ghost use Rattle.winnow_match.specs.Search.{hit, is_empty, needle_at, SomeStands, bytes_of_needles};
+ghost use Rattle.winnow_match.specs.Search.{hit, is_empty, needle_at, SomeOccurs, bytes_of_needles};
 
 use crate::Needles;
 use crate::compare_bytes::begins_with;
@@ -121,8 +121,8 @@ fn first_byte(needle: &[u8]) -> u8
 fn next_first_byte(input: &[u8], needles: &Needles<&[u8]>) -> Option<usize>
     requires { list_any is_empty (bytes_of_needles needles.now) ≡ false }
     ensures { MatchOption result
-        (Nowhere (SomeStands (bytes_of_needles needles.now) input.now) 0 (length input.now)) (λ at.
-        NoneBefore (SomeStands (bytes_of_needles needles.now) input.now) 0 (length input.now) at) }
+        (Nowhere (SomeOccurs (bytes_of_needles needles.now) input.now) 0 (length input.now)) (λ at.
+        NoneBefore (SomeOccurs (bytes_of_needles needles.now) input.now) 0 (length input.now) at) }
 {
     match needles {
         Needles::One(a) => memchr(first_byte(a), input),
@@ -134,7 +134,7 @@ fn next_first_byte(input: &[u8], needles: &Needles<&[u8]>) -> Option<usize>
 // The first place below `limit` at which the needle stands.
 fn place_below(input: &[u8], needle: &[u8], limit: usize) -> Option<usize>
     requires { is_empty needle.now ≡ false }
-    ensures { IsFirst (SomeStands (needle.now ∷ []) input.now) 0 limit result }
+    ensures { IsFirst (SomeOccurs (needle.now ∷ []) input.now) 0 limit result }
 {
     let reach = limit.saturating_add(needle.len() - 1);
     memmem::find(&input[..reach.min(input.len())], needle)
@@ -143,8 +143,8 @@ fn place_below(input: &[u8], needle: &[u8], limit: usize) -> Option<usize>
 // The first place below `limit` at which a needle stands: that of the needles before, or of this one if it stands sooner.
 fn sooner(found: Option<usize>, input: &[u8], needle: &[u8], limit: usize) -> Option<usize>
     requires { is_empty needle.now ≡ false }
-    ensures { (listed : List (List ℕ)) → IsFirst (SomeStands listed input.now) 0 limit found
-        → IsFirst (SomeStands (listed ++ needle.now ∷ []) input.now) 0 limit result }
+    ensures { (listed : List (List ℕ)) → IsFirst (SomeOccurs listed input.now) 0 limit found
+        → IsFirst (SomeOccurs (listed ++ needle.now ∷ []) input.now) 0 limit result }
 {
     match found {
         Some(at) => Some(place_below(input, needle, at).unwrap_or(at)),
@@ -155,7 +155,7 @@ fn sooner(found: Option<usize>, input: &[u8], needle: &[u8], limit: usize) -> Op
 // The first place below `limit` at which some needle stands.
 fn first_place_below(input: &[u8], needles: &Needles<&[u8]>, limit: usize) -> Option<usize>
     requires { list_any is_empty (bytes_of_needles needles.now) ≡ false }
-    ensures { IsFirst (SomeStands (bytes_of_needles needles.now) input.now) 0 limit result }
+    ensures { IsFirst (SomeOccurs (bytes_of_needles needles.now) input.now) 0 limit result }
 {
     match needles {
         Needles::One(a) => place_below(input, a, limit),
@@ -170,7 +170,7 @@ fn first_place_below(input: &[u8], needles: &Needles<&[u8]>, limit: usize) -> Op
 // The first place at which some needle stands, by windows that grow.
 fn place_by_windows(input: &[u8], needles: &Needles<&[u8]>) -> Option<usize>
     requires { list_any is_empty (bytes_of_needles needles.now) ≡ false }
-    ensures { IsFirst (SomeStands (bytes_of_needles needles.now) input.now) 0 (length input.now)
+    ensures { IsFirst (SomeOccurs (bytes_of_needles needles.now) input.now) 0 (length input.now)
         result }
 {
     let mut passed = 0;
@@ -189,7 +189,7 @@ fn place_by_windows(input: &[u8], needles: &Needles<&[u8]>) -> Option<usize>
 #[inline(always)]
 fn far_place(input: &[u8], needles: &Needles<&[u8]>) -> Option<usize>
     requires { list_any is_empty (bytes_of_needles needles.now) ≡ false }
-    ensures { IsFirst (SomeStands (bytes_of_needles needles.now) input.now) 0 (length input.now)
+    ensures { IsFirst (SomeOccurs (bytes_of_needles needles.now) input.now) 0 (length input.now)
         result }
 {
     match needles {

@@ -3,10 +3,10 @@ ghost use Rattle.std.specs.Prelude.{IsTrue};
 ghost use Rattle.std.specs.Prelude.{◌==◌, ◌∷◌};
 ghost use Rattle.std.specs.Option.{option_map};
 ghost use Rattle.std.specs.declared.ops.Range as range_declared;
-ghost use Rattle.winnow_stream.specs.Cursor.{places};
+ghost use Rattle.winnow_stream.specs.Span.{span};
 ghost use Rattle.winnow_stream.specs.Source.{units, first_offset};
-ghost use Rattle.winnow_match.specs.Comparison.{comparison, IsFrontOf};
-ghost use Rattle.winnow_match.specs.Search.{hit, have_one_length, IsFirstHit, StandsNowhere};
+ghost use Rattle.winnow_match.specs.Comparison.{comparison, IsPrefixOf};
+ghost use Rattle.winnow_match.specs.Search.{hit, have_one_length, IsFirstHit, OccursNowhere};
 ghost use Rattle.winnow_match.specs.Stretch.{stretch_of, hit_is_definite, CanMove, IsStretch};
 ghost use Rattle.winnow_match.specs.Stretch.{NothingStretches};
 ghost use Rattle.winnow_match.specs.declared.compare.CompareResult.{CompareResult};
@@ -18,13 +18,13 @@ ghost use Rattle.winnow_match.specs.declared.needles.Stretch as stretch_declared
 pub fn compare_law()
     ensures ok { (literal bytes : List ℕ) (n : ℕ)
         → ((comparison literal bytes ≡ CompareResult.Ok n)
-        ↔ (IsFrontOf literal bytes × (n ≡ length literal))) }
+        ↔ (IsPrefixOf literal bytes × (n ≡ length literal))) }
     ensures incomplete { (literal bytes : List ℕ)
         → ((comparison literal bytes ≡ CompareResult.Incomplete)
-        ↔ (IsFrontOf bytes literal × (length bytes < length literal))) }
+        ↔ (IsPrefixOf bytes literal × (length bytes < length literal))) }
     ensures error { (literal bytes : List ℕ)
         → ((comparison literal bytes ≡ CompareResult.Error)
-        ↔ ((¬ IsFrontOf literal bytes) × (¬ IsFrontOf bytes literal))) }
+        ↔ ((¬ IsPrefixOf literal bytes) × (¬ IsPrefixOf bytes literal))) }
 {}
 
 /// What a comparison decided stays under more input. It does nothing when called: its contract is the law.
@@ -41,18 +41,18 @@ pub fn compare_more_law()
 /// contract is the law.
 pub fn find_law()
     ensures empty { (needles : List (List ℕ)) (bytes : List ℕ) → Contains needles []
-        → hit needles bytes ≡ Some (places 0 0) }
+        → hit needles bytes ≡ Some (span 0 0) }
     ensures some { (needles : List (List ℕ)) (bytes : List ℕ) (r : range_declared.Range ℕ)
         → ¬ Contains needles [] → ((hit needles bytes ≡ Some r) ↔ IsFirstHit needles bytes r) }
     ensures none { (needles : List (List ℕ)) (bytes : List ℕ) → ¬ Contains needles []
-        → ((hit needles bytes ≡ None) ↔ StandsNowhere needles bytes) }
+        → ((hit needles bytes ≡ None) ↔ OccursNowhere needles bytes) }
 {}
 
 /// The law of a byte that is searched for: it is found where the first token equal to it stands, one byte long. It does nothing when
 /// called: its contract is the law.
 pub fn byte_hit_law()
     ensures { (byte : ℕ) (bytes : List ℕ) → hit ((byte ∷ []) ∷ []) bytes
-        ≡ option_map (λ n. places n 1) (first_offset (λ x. byte == x) (units bytes)) }
+        ≡ option_map (λ n. span n 1) (first_offset (λ x. byte == x) (units bytes)) }
 {}
 
 /// Needles of one length, once found, are found at the same place under more input. It does nothing when called: its contract

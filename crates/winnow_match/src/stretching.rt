@@ -1,5 +1,5 @@
 ghost use Rattle.std.specs.Prelude.{◌≡◌, ◌↔◌, ◌≤◌, IfSome, IsNone, IsTrue};
-ghost use Rattle.winnow_match.specs.Comparison.{is_front};
+ghost use Rattle.winnow_match.specs.Comparison.{is_prefix};
 ghost use Rattle.winnow_match.specs.Search.{bytes_of_needles};
 ghost use Rattle.winnow_match.specs.Stretch.{IsHit, hit_is_definite, stretch_of};
 ghost use Rattle.winnow_match.specs.Stretch.{stretches, stretching, stretching_or};
@@ -38,7 +38,7 @@ pub fn stretch(input: &[u8], needles: &Needles<&[u8]>, hit: &Range<usize>) -> Op
 fn listed(input: &[u8], needle: &[u8], later: Option<usize>) -> Option<usize>
     requires { IfSome later (λ i. i ≤ 2) }
     ensures { result ≡ stretching_or
-        (is_front needle.now input.now) (stretches needle.now input.now) later }
+        (is_prefix needle.now input.now) (stretches needle.now input.now) later }
 {
     if begins_with(input, needle) {
         None

@@ -10,7 +10,7 @@ use winnow_test_helpers::debugged;
 
 // A set asked through its bound.
 fn holds<T, S: ContainsToken<T> + Drop>(set: S, token: T) -> bool
-    requires { S.can_hold set }
+    requires { S.askable set }
     ensures { S.tells set token result }
 {
     set.contains_token(token)
@@ -18,7 +18,7 @@ fn holds<T, S: ContainsToken<T> + Drop>(set: S, token: T) -> bool
 
 // A set of a script asked through its bound.
 fn script_holds<T, S: ScriptSet<T> + Drop>(set: S, token: T) -> bool
-    requires { S.can_hold set }
+    requires { S.askable set }
     ensures { S.tells set token result }
 {
     set.holds(token)
@@ -34,7 +34,7 @@ where
     S::Token: Drop,
     S::Slice: Drop,
     requires valid { S.valid s.old }
-    requires ready { AreReady C.can_hold script.now }
+    requires ready { AreReady C.askable script.now }
     ensures valid { S.valid s.new }
     ensures kept { S.keeps s.old s.new }
 {

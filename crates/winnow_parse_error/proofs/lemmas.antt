@@ -1,4 +1,4 @@
 pub mod DigitLemmas
-pub mod LineLemmas
+pub mod NthLineLemmas
 pub mod PositionLemmas
 pub mod SpanLemmas

@@ -1,5 +1,5 @@
 pub mod FedLemmas
 pub mod LengthLemmas
-pub mod LineLemmas
+pub mod ScriptLineLemmas
 pub mod OptionLemmas
 pub mod ZipLemmas

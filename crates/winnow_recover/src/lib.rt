@@ -5,7 +5,6 @@ mod plain;
 mod record_error;
 mod recover;
 mod recoverable;
-mod recoverable_traits;
 mod wrappers;
 
 pub use record_error::RecordError;

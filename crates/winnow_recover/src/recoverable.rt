@@ -8,9 +8,13 @@ use crate::{RecordError, Recover};
 use std::alloc::Global;
 use std::fmt;
 use std::fmt::Debug;
-use std::ops::Deref;
+use std::ops::{Deref, Range};
 use winnow_error::{FromRecoverableError, ParserError};
-use winnow_stream::{Checkpoint, Needed, Rest, Stream};
+use winnow_match::{Compare, CompareResult, FindSlice};
+use winnow_stream::{
+    AsBStr, AsBytes, Checkpoint, Location, Needed, Offset, Rest, SliceLen, Stream, StreamIsPartial,
+    UpdateSlice,
+};
 
 /// A stream with a list of the errors from which a parser recovered. No call of `Stream` changes the list.
 ///
@@ -74,7 +78,7 @@ impl<I, E> Recoverable<I, E> {
 impl<I, E> Deref for Recoverable<I, E> {
     type Target = I;
 
-    ghost deref_gives = { λ s t. t ≡ s.input };
+    ghost deref_gives = { λ s t. t ≡ (recovering_input s) };
 
     fn deref(&self) -> &I {
         &self.input
@@ -82,11 +86,11 @@ impl<I, E> Deref for Recoverable<I, E> {
 }
 
 impl<I: Rest, E> Rest for Recoverable<I, E> {
-    ghost rest_width = { λ s. I.rest_width s.input };
+    ghost rest_width = { λ s. I.rest_width (recovering_input s) };
 
-    ghost same_rest = { λ s t. I.same_rest s.input t.input };
+    ghost same_rest = { λ s t. I.same_rest (recovering_input s) (recovering_input t) };
 
-    ghost place = { λ s. I.place s.input };
+    ghost place = { λ s. I.place (recovering_input s) };
 }
 
 impl<I: Stream, E: Debug> Stream for Recoverable<I, E> {
@@ -98,9 +102,9 @@ impl<I: Stream, E: Debug> Stream for Recoverable<I, E> {
 
     type Checkpoint = Checkpoint<I::Checkpoint, Self>;
 
-    ghost remaining = { λ s. I.remaining s.input };
+    ghost remaining = { λ s. I.remaining (recovering_input s) };
 
-    ghost valid = { λ s. I.valid s.input };
+    ghost valid = { λ s. I.valid (recovering_input s) };
 
     ghost remained = { λ c. I.remained (checkpoint_inner c) };
 
@@ -113,19 +117,20 @@ impl<I: Stream, E: Debug> Stream for Recoverable<I, E> {
     ghost keeps = { λ s t. (recorded_errors s ≡ recorded_errors t)
         × (records_errors s ≡ records_errors t) × I.keeps s.input t.input };
 
-    ghost has_widths = { λ s. I.has_widths s.input };
+    ghost positive_widths = { λ s. I.positive_widths (recovering_input s) };
 
-    ghost has_widths_remained = { λ c. I.has_widths_remained (checkpoint_inner c) };
+    ghost positive_widths_remained = { λ c. I.positive_widths_remained (checkpoint_inner c) };
 
-    ghost rest_width_remaining = { λ s. I.rest_width_remaining s.input };
+    ghost rest_width_remaining = { λ s. I.rest_width_remaining (recovering_input s) };
 
     ghost rest_width_remained = { λ c. I.rest_width_remained (checkpoint_inner c) };
 
-    ghost same_rest_remaining = { λ s t. I.same_rest_remaining s.input t.input };
+    ghost same_rest_remaining = { λ s t.
+        I.same_rest_remaining (recovering_input s) (recovering_input t) };
 
-    ghost same_rest_valid = { λ s t. I.same_rest_valid s.input t.input };
+    ghost same_rest_valid = { λ s t. I.same_rest_valid (recovering_input s) (recovering_input t) };
 
-    ghost keeps_reflexive = { λ s. (refl, refl, I.keeps_reflexive s.input) };
+    ghost keeps_reflexive = { λ s. (refl, refl, I.keeps_reflexive (recovering_input s)) };
 
     ghost keeps_transitive = { λ s t u p q.
         (p.0 ∙ q.0, p.1 ∙ q.1, I.keeps_transitive s.input t.input u.input p.2 q.2) };
@@ -228,5 +233,138 @@ where
 
     fn is_recovery_supported() -> bool {
         true
+    }
+}
+
+impl<I: Offset<I>, E> Offset<Self> for Recoverable<I, E> {
+    ghost can_measure = { λ s start. I.can_measure (recovering_input s) (recovering_input start) };
+
+    fn offset_from(&self, start: &Self) -> usize {
+        self.input.offset_from(&start.input)
+    }
+}
+
+impl<I: Offset<C>, E, C: Rest> Offset<Checkpoint<C, Self>> for Recoverable<I, E> {
+    ghost can_measure = { λ s start. I.can_measure (recovering_input s) (checkpoint_inner start) };
+
+    fn offset_from(&self, start: &Checkpoint<C, Self>) -> usize {
+        self.input.offset_from(start.inner())
+    }
+}
+
+impl<I: SliceLen, E> SliceLen for Recoverable<I, E> {
+    ghost has_width = { λ s. I.has_width (recovering_input s) };
+
+    ghost width_of = { λ s. I.width_of (recovering_input s) };
+
+    fn slice_len(&self) -> usize {
+        self.input.slice_len()
+    }
+}
+
+impl<I: UpdateSlice, E: Debug> UpdateSlice for Recoverable<I, E> {
+    fn update_slice(self, inner: I::Slice, at: &Checkpoint<I::Checkpoint, Self>) -> Self {
+        let Recoverable {
+            input,
+            errors,
+            is_recoverable,
+        } = self;
+        Recoverable {
+            input: input.update_slice(inner, at.inner()),
+            errors,
+            is_recoverable,
+        }
+    }
+}
+
+impl<I: Location, E> Location for Recoverable<I, E> {
+    ghost token_end = { λ s. I.token_end (recovering_input s) };
+
+    ghost token_start = { λ s. I.token_start (recovering_input s) };
+
+    fn previous_token_end(&self) -> usize {
+        self.input.previous_token_end()
+    }
+
+    fn current_token_start(&self) -> usize {
+        self.input.current_token_start()
+    }
+}
+
+impl<I: AsBytes, E> AsBytes for Recoverable<I, E> {
+    ghost bytes = { λ s. I.bytes (recovering_input s) };
+
+    fn as_bytes(&self) -> &[u8] {
+        self.input.as_bytes()
+    }
+}
+
+impl<I: AsBStr, E> AsBStr for Recoverable<I, E> {
+    ghost text_bytes = { λ s. I.text_bytes (recovering_input s) };
+
+    fn as_bstr(&self) -> &[u8] {
+        self.input.as_bstr()
+    }
+}
+
+impl<I: StreamIsPartial, E> StreamIsPartial for Recoverable<I, E> {
+    type PartialState = I::PartialState;
+
+    ghost supports_partial = { I.supports_partial };
+
+    ghost partial_state = { λ s. I.partial_state (recovering_input s) };
+
+    ghost expects_more = { λ s. I.expects_more (recovering_input s) };
+
+    ghost same_but_mark = { λ s t. (recorded_errors s ≡ recorded_errors t)
+        × (records_errors s ≡ records_errors t) × I.same_but_mark s.input t.input };
+
+    ghost mark_tells = { λ s t. I.mark_tells (recovering_input s) (recovering_input t) };
+
+    ghost no_mark = { λ unsupported s. I.no_mark unsupported (recovering_input s) };
+
+    fn complete(&mut self) -> I::PartialState {
+        self.input.complete()
+    }
+
+    fn restore_partial(&mut self, state: I::PartialState) {
+        self.input.restore_partial(state)
+    }
+
+    fn is_partial_supported() -> bool {
+        I::is_partial_supported()
+    }
+
+    fn is_partial(&self) -> bool {
+        self.input.is_partial()
+    }
+}
+
+impl<I: Compare<T>, E: Debug, T> Compare<T> for Recoverable<I, E> {
+    ghost compared = { I.compared };
+
+    ghost literal_width = { I.literal_width };
+
+    fn compare(&self, t: T) -> CompareResult {
+        self.input.compare(t)
+    }
+}
+
+impl<I: FindSlice<T>, E: Debug, T> FindSlice<T> for Recoverable<I, E> {
+    ghost found = { I.found };
+
+    fn find_slice(&self, substr: T) -> Option<Range<usize>> {
+        self.input.find_slice(substr)
+    }
+}
+
+/// As the stream inside, under the options of a hole too.
+impl<I: fmt::Display, E> fmt::Display for Recoverable<I, E> {
+    ghost output = { λ s. I.output (recovering_input s) };
+
+    ghost styled_output = { λ s. I.styled_output (recovering_input s) };
+
+    fn fmt<W: fmt::Write>(&self, f: &mut fmt::Formatter<W>) -> fmt::Result {
+        self.input.fmt(f)
     }
 }

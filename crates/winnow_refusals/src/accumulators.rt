@@ -1,3 +1,4 @@
+use crate::cases::tell;
 use std::alloc::{AllocError, Global};
 use std::borrow::CowStr;
 use std::collections::{BTreeMap, BTreeSet, HashMap, HashSet, VecDeque};
@@ -13,10 +14,11 @@ const TEXT: &str = "abcdefghijklmnopqr";
 
 const TEXTS: [&str; 6] = ["abc", "def", "ghi", "jkl", "mno", "pqr"];
 
-// Takes item after item, from an accumulator with room for one. Refused, it holds the items from before.
+// Takes item after item, from an accumulator with room for one. Refused, it holds the items from before, and takes the equal one.
 fn gather<A: Accumulate<T> + Drop, T: Drop, F: Fn(&A, usize) -> bool + Drop>(
     alloc: Global,
     items: Vec<T>,
+    equals: Vec<T>,
     holds_first: F,
 ) -> Result<bool, AllocError>
     requires can { (a : A) → A.can_accumulate a }
@@ -24,25 +26,39 @@ fn gather<A: Accumulate<T> + Drop, T: Drop, F: Fn(&A, usize) -> bool + Drop>(
 {
     let total = items.len();
     let mut all = A::initial(alloc, Some(1))?;
-    for (count, item) in items.into_iter().enumerate() {
-        if let Err(refused) = all.accumulate(alloc, item) {
-            return if holds_first(&all, count) {
-                Err(refused)
-            } else {
-                Ok(false)
-            };
+    let mut refused = false;
+    for (count, (item, equal)) in items.into_iter().zip(equals).enumerate() {
+        if all.accumulate(alloc, item).is_ok() {
+            continue;
+        }
+        refused = true;
+        if !holds_first(&all, count) || all.accumulate(alloc, equal).is_err() {
+            return Ok(false);
         }
     }
-    Ok(holds_first(&all, total))
+    tell(refused, holds_first(&all, total))
 }
 
+// These are pushed one by one: what collects them makes room as their count is told, and does without where it is refused.
 fn numbers(alloc: Global) -> Result<Vec<usize>, AllocError> {
-    (0..NUMBERS).collect(alloc)
+    let mut numbers = Vec::new(alloc);
+    for number in 0..NUMBERS {
+        numbers.push(number)?;
+    }
+    Ok(numbers)
 }
 
 // Each number beside itself.
 fn pairs(alloc: Global) -> Result<Vec<(usize, usize)>, AllocError> {
-    (0..NUMBERS).map(|number| (number, number)).collect(alloc)
+    let mut pairs = Vec::new(alloc);
+    for number in 0..NUMBERS {
+        pairs.push((number, number))?;
+    }
+    Ok(pairs)
+}
+
+fn pieces(alloc: Global) -> Result<Vec<&'static [usize]>, AllocError> {
+    Vec::from_slice(alloc, &PIECES)
 }
 
 fn borrowed(alloc: Global) -> Result<Vec<&'static str>, AllocError> {
@@ -66,92 +82,119 @@ fn cows(alloc: Global) -> Result<Vec<CowStr<'static, Global>>, AllocError> {
 }
 
 fn characters(alloc: Global) -> Result<Vec<char>, AllocError> {
-    TEXT.chars().collect(alloc)
+    let mut characters = Vec::new(alloc);
+    for character in TEXT.chars() {
+        characters.push(character)?;
+    }
+    Ok(characters)
 }
 
 // Whether it is the front of the text of so many bytes.
-fn is_front(text: &str, width: usize) -> bool {
+fn is_prefix(text: &str, width: usize) -> bool {
     TEXT.as_bytes().get(..width) == Some(text.as_bytes())
 }
 
 fn has_characters(text: &String, count: usize) -> bool {
-    is_front(text.as_str(), count)
+    is_prefix(text.as_str(), count)
 }
 
 fn has_texts(text: &String, count: usize) -> bool {
-    is_front(text.as_str(), count.saturating_mul(3))
+    is_prefix(text.as_str(), count.saturating_mul(3))
 }
 
 fn has_characters_owned(text: &CowStr<'static, Global>, count: usize) -> bool {
-    matches!(text, CowStr::Owned(_)) == (count > 0) && is_front(text.as_str(), count)
+    matches!(text, CowStr::Owned(_)) == (count > 0) && is_prefix(text.as_str(), count)
 }
 
 // The first text stays borrowed.
 fn has_texts_borrowed(text: &CowStr<'static, Global>, count: usize) -> bool {
     matches!(text, CowStr::Owned(_)) == (count > 1)
-        && is_front(text.as_str(), count.saturating_mul(3))
+        && is_prefix(text.as_str(), count.saturating_mul(3))
 }
 
 fn has_texts_owned(text: &CowStr<'static, Global>, count: usize) -> bool {
     matches!(text, CowStr::Owned(_)) == (count > 0)
-        && is_front(text.as_str(), count.saturating_mul(3))
+        && is_prefix(text.as_str(), count.saturating_mul(3))
 }
 
 pub fn vector_of_items(alloc: Global) -> Result<bool, AllocError> {
-    gather(alloc, numbers(alloc)?, |all: &Vec<usize>, count| {
-        all.iter().copied().eq(0..count)
-    })
+    gather(
+        alloc,
+        numbers(alloc)?,
+        numbers(alloc)?,
+        |all: &Vec<usize>, count| { all.iter().copied().eq(0..count) },
+    )
 }
 
 pub fn vector_of_slices(alloc: Global) -> Result<bool, AllocError> {
-    let pieces = Vec::from_slice(alloc, &PIECES)?;
-    gather(alloc, pieces, |all: &Vec<usize>, count| {
-        all.iter().copied().eq(0..count.saturating_mul(2))
-    })
+    gather(
+        alloc,
+        pieces(alloc)?,
+        pieces(alloc)?,
+        |all: &Vec<usize>, count| { all.iter().copied().eq(0..count.saturating_mul(2)) },
+    )
 }
 
 pub fn queue_of_slices(alloc: Global) -> Result<bool, AllocError> {
-    let pieces = Vec::from_slice(alloc, &PIECES)?;
-    gather(alloc, pieces, |all: &VecDeque<usize>, count| {
-        all.iter().copied().eq(0..count.saturating_mul(2))
-    })
+    gather(
+        alloc,
+        pieces(alloc)?,
+        pieces(alloc)?,
+        |all: &VecDeque<usize>, count| { all.iter().copied().eq(0..count.saturating_mul(2)) },
+    )
 }
 
 pub fn text_of_characters(alloc: Global) -> Result<bool, AllocError> {
-    gather(alloc, characters(alloc)?, has_characters)
+    gather(
+        alloc,
+        characters(alloc)?,
+        characters(alloc)?,
+        has_characters,
+    )
 }
 
 pub fn text_of_texts(alloc: Global) -> Result<bool, AllocError> {
-    gather(alloc, borrowed(alloc)?, has_texts)
+    gather(alloc, borrowed(alloc)?, borrowed(alloc)?, has_texts)
 }
 
 pub fn text_of_cows(alloc: Global) -> Result<bool, AllocError> {
-    gather(alloc, cows(alloc)?, has_texts)
+    gather(alloc, cows(alloc)?, cows(alloc)?, has_texts)
 }
 
 pub fn text_of_strings(alloc: Global) -> Result<bool, AllocError> {
-    gather(alloc, owned(alloc)?, has_texts)
+    gather(alloc, owned(alloc)?, owned(alloc)?, has_texts)
 }
 
 pub fn cow_of_characters(alloc: Global) -> Result<bool, AllocError> {
-    gather(alloc, characters(alloc)?, has_characters_owned)
+    gather(
+        alloc,
+        characters(alloc)?,
+        characters(alloc)?,
+        has_characters_owned,
+    )
 }
 
 pub fn cow_of_texts(alloc: Global) -> Result<bool, AllocError> {
-    gather(alloc, borrowed(alloc)?, has_texts_borrowed)
+    gather(
+        alloc,
+        borrowed(alloc)?,
+        borrowed(alloc)?,
+        has_texts_borrowed,
+    )
 }
 
 pub fn cow_of_cows(alloc: Global) -> Result<bool, AllocError> {
-    gather(alloc, cows(alloc)?, has_texts_borrowed)
+    gather(alloc, cows(alloc)?, cows(alloc)?, has_texts_borrowed)
 }
 
 pub fn cow_of_strings(alloc: Global) -> Result<bool, AllocError> {
-    gather(alloc, owned(alloc)?, has_texts_owned)
+    gather(alloc, owned(alloc)?, owned(alloc)?, has_texts_owned)
 }
 
 pub fn tree_map(alloc: Global) -> Result<bool, AllocError> {
     gather(
         alloc,
+        pairs(alloc)?,
         pairs(alloc)?,
         |all: &BTreeMap<usize, usize>, count| {
             all.len() == count && (0..count).all(|number| all.get(&number) == Some(&number))
@@ -160,19 +203,32 @@ pub fn tree_map(alloc: Global) -> Result<bool, AllocError> {
 }
 
 pub fn hash_map(alloc: Global) -> Result<bool, AllocError> {
-    gather(alloc, pairs(alloc)?, |all: &HashMap<usize, usize>, count| {
-        all.len() == count && (0..count).all(|number| all.get(&number) == Some(&number))
-    })
+    gather(
+        alloc,
+        pairs(alloc)?,
+        pairs(alloc)?,
+        |all: &HashMap<usize, usize>, count| {
+            all.len() == count && (0..count).all(|number| all.get(&number) == Some(&number))
+        },
+    )
 }
 
 pub fn tree_set(alloc: Global) -> Result<bool, AllocError> {
-    gather(alloc, numbers(alloc)?, |all: &BTreeSet<usize>, count| {
-        all.iter().copied().eq(0..count)
-    })
+    gather(
+        alloc,
+        numbers(alloc)?,
+        numbers(alloc)?,
+        |all: &BTreeSet<usize>, count| { all.iter().copied().eq(0..count) },
+    )
 }
 
 pub fn hash_set(alloc: Global) -> Result<bool, AllocError> {
-    gather(alloc, numbers(alloc)?, |all: &HashSet<usize>, count| {
-        all.len() == count && (0..count).all(|number| all.contains(&number))
-    })
+    gather(
+        alloc,
+        numbers(alloc)?,
+        numbers(alloc)?,
+        |all: &HashSet<usize>, count| {
+            all.len() == count && (0..count).all(|number| all.contains(&number))
+        },
+    )
 }

@@ -1,11 +1,22 @@
-use crate::{accumulators, alternatives, errors, feeds, kinds, recovery, scripts, trees, waiting};
+use crate::{
+    accumulators, alternatives, errors, feeds, kinds, recovery, scripts, trees, waiting, words,
+};
 use std::alloc::{AllocError, Global};
 
-/// A case by its name: whether it went as it should, or was refused memory and left the state that it should.
+/// A case by its name: whether it went as it should. It is an `Err` where it was refused memory, and the rest of it went so.
 pub type Case = (&'static str, Result<bool, AllocError>);
 
+/// What a case says in which a call may have been refused and was then made again, on the state that the refusal left.
+pub fn tell(refused: bool, right: bool) -> Result<bool, AllocError> {
+    if refused && right {
+        Err(AllocError)
+    } else {
+        Ok(right)
+    }
+}
+
 /// Each case, made once.
-pub fn all(alloc: Global) -> [Case; 39] {
+pub fn all(alloc: Global) -> [Case; 41] {
     [
         ("run", scripts::run_script(alloc)),
         ("run_and_reset", scripts::look_ahead(alloc)),
@@ -17,7 +28,9 @@ pub fn all(alloc: Global) -> [Case; 39] {
         ("into_owned", errors::into_owned(alloc)),
         ("convert", errors::convert(alloc)),
         ("append and combine", alternatives::combine_three(alloc)),
-        ("to_vec", kinds::to_vec(alloc)),
+        ("to_vec of BStr", kinds::text_to_vec(alloc)),
+        ("to_vec of Bytes", kinds::bytes_to_vec(alloc)),
+        ("literal", words::read_literal(alloc)),
         ("record_err", recovery::record_err(alloc)),
         ("Vec of items", accumulators::vector_of_items(alloc)),
         ("Vec of slices", accumulators::vector_of_slices(alloc)),

@@ -2,6 +2,7 @@ ghost use Rattle.std.specs.Prelude.{◌≡◌, ⊤};
 ghost use Rattle.winnow_context.specs.Explanation.{pushed, unexplained};
 ghost use Rattle.winnow_context.specs.declared.str_context.StrContext.TheVariants.{Label};
 
+use crate::cases::tell;
 use std::alloc::{AllocError, Global};
 use winnow_context::StrContext::Label;
 use winnow_context::{ContextError, StrContext};
@@ -28,23 +29,26 @@ fn tells_first(error: &Told, count: usize) -> bool {
 // An error with the first three labels.
 fn made(alloc: Global) -> Result<Told, AllocError> {
     let mut error = Told::new(alloc);
-    error.extend([Label("a"), Label("b"), Label("c")])?;
+    error.push(Label("a"))?;
+    error.push(Label("b"))?;
+    error.push(Label("c"))?;
     Ok(error)
 }
 
-/// Pushes, of which some grow. Refused, the contexts are those from before.
+/// Pushes, of which some grow. Refused, the contexts are those from before, and take the same one.
 pub fn push(alloc: Global) -> Result<bool, AllocError> {
     let mut error = Told::new(alloc);
+    let mut refused = false;
     for (count, label) in LABELS.iter().enumerate() {
-        if let Err(refused) = error.push(Label(*label)) {
-            return if tells_first(&error, count) {
-                Err(refused)
-            } else {
-                Ok(false)
-            };
+        if error.push(Label(*label)).is_ok() {
+            continue;
+        }
+        refused = true;
+        if !tells_first(&error, count) || error.push(Label(*label)).is_err() {
+            return Ok(false);
         }
     }
-    Ok(tells_first(&error, LABELS.len()))
+    tell(refused, tells_first(&error, LABELS.len()))
 }
 
 // A label as a context.
@@ -55,30 +59,52 @@ fn context(index: usize) -> Option<StrContext> {
     }
 }
 
-/// Contexts of an iterator that cannot say how many it has, so that their room grows more than once. Refused, all that came stay but
-/// the last.
-pub fn extend(alloc: Global) -> Result<bool, AllocError> {
-    let mut error = Told::new(alloc);
-    let mut left = 0..LABELS.len();
-    if let Err(refused) = error.extend(left.by_ref().filter_map(context)) {
-        let count = error.context().count();
-        return if left.start.saturating_sub(count) == 1 && tells_first(&error, count) {
-            Err(refused)
+// Whether the contexts are the first `count` labels, and then the last three.
+fn tells_then_last(error: &Told, count: usize) -> bool {
+    let mut told: usize = 0;
+    for context in error.context() {
+        let index = if told < count {
+            told
         } else {
-            Ok(false)
+            (told - count).saturating_add(3)
         };
+        match LABELS.get(index) {
+            Some(label) if *context == Label(*label) => told = told.saturating_add(1),
+            _ => return false,
+        }
     }
-    Ok(tells_first(&error, LABELS.len()))
+    told == count.saturating_add(3)
 }
 
-/// A clone. Refused, its source is as it was.
-pub fn clone(alloc: Global) -> Result<bool, AllocError> {
-    let error = made(alloc)?;
-    let copy = error.clone();
-    if !tells_first(&error, 3) {
+/// Three contexts behind three others, of an iterator that cannot say how many it has, so that their room grows amid them. Refused, the
+/// contexts from before stay, and those that came before the refused one; the same three come behind them.
+pub fn extend(alloc: Global) -> Result<bool, AllocError> {
+    let mut error = made(alloc)?;
+    let mut came = 3..LABELS.len();
+    if error.extend(came.by_ref().filter_map(context)).is_ok() {
+        return Ok(tells_first(&error, LABELS.len()));
+    }
+    let count = error.context().count();
+    if came.start.saturating_sub(count) != 1 || !tells_first(&error, count) {
         return Ok(false);
     }
-    Ok(tells_first(&copy?, 3))
+    let again = error.extend((3..LABELS.len()).filter_map(context));
+    tell(true, again.is_ok() && tells_then_last(&error, count))
+}
+
+// Whether a clone has the first three labels.
+fn clones(error: &Told) -> Result<bool, AllocError> {
+    Ok(tells_first(&error.clone()?, 3))
+}
+
+/// A clone. Refused, its source is as it was, and is cloned.
+pub fn clone(alloc: Global) -> Result<bool, AllocError> {
+    let error = made(alloc)?;
+    match clones(&error) {
+        Ok(right) => Ok(right && tells_first(&error, 3)),
+        Err(_) if !tells_first(&error, 3) => Ok(false),
+        Err(_) => tell(true, clones(&error).unwrap_or(false)),
+    }
 }
 
 /// A context added to an error, which a refusal gives up.

@@ -1,3 +1,4 @@
+use crate::cases::tell;
 use std::alloc::{AllocError, Global};
 use std::ops::Range;
 use std::str;
@@ -57,7 +58,7 @@ fn are_first<T: PartialEq>(out: &[Told<T>], all: &[Told<T>]) -> bool {
     }
 }
 
-// Feeds a piece, again where memory is refused; whether the feed was as it was then.
+// Feeds a piece. Refused, the feed is as it was, and takes the same piece.
 fn feed_again(feed: &mut ByteFeed, piece: &[u8], all: &[Told<u8>]) -> Result<bool, AllocError> {
     if feed.fed() > MOST || piece.len() > MOST {
         return Ok(false);
@@ -67,8 +68,7 @@ fn feed_again(feed: &mut ByteFeed, piece: &[u8], all: &[Told<u8>]) -> Result<boo
         return Ok(true);
     }
     let kept = counts(feed) == before && are_first(feed.answers(), all);
-    feed.feed(piece)?;
-    Ok(kept)
+    tell(true, kept && feed.feed(piece).is_ok())
 }
 
 fn feed_text_again(
@@ -84,8 +84,7 @@ fn feed_text_again(
         return Ok(true);
     }
     let kept = text_counts(feed) == before && are_first(feed.answers(), all);
-    feed.feed(piece)?;
-    Ok(kept)
+    tell(true, kept && feed.feed(piece).is_ok())
 }
 
 // Whether these are all answers, and the final place.
@@ -101,13 +100,16 @@ pub fn feed_bytes(alloc: Global) -> Result<bool, AllocError> {
 
 fn feed_pieces(alloc: Global, pieces: &[&[u8]], wanted: &[Told<u8>]) -> Result<bool, AllocError> {
     let mut feed = ByteFeed::new(alloc, &BYTES)?;
+    let mut refused = false;
     for piece in pieces {
-        if !feed_again(&mut feed, *piece, wanted)? {
-            return Ok(false);
+        match feed_again(&mut feed, *piece, wanted) {
+            Ok(true) => {}
+            Ok(false) => return Ok(false),
+            Err(_) => refused = true,
         }
     }
     let waits = feed.answers().len() == 3 && feed.held() == LONG - 1;
-    Ok(waits && is_finished(&feed.end(), wanted))
+    tell(refused, waits && is_finished(&feed.end(), wanted))
 }
 
 /// A feed of text. Refused, it is as it was, and takes the same piece again.
@@ -121,13 +123,16 @@ pub fn feed_text(alloc: Global) -> Result<bool, AllocError> {
 
 fn feed_texts(alloc: Global, pieces: &[&str], wanted: &[Told<char>]) -> Result<bool, AllocError> {
     let mut feed = TextFeed::new(alloc, &TEXTS)?;
+    let mut refused = false;
     for piece in pieces {
-        if !feed_text_again(&mut feed, *piece, wanted)? {
-            return Ok(false);
+        match feed_text_again(&mut feed, *piece, wanted) {
+            Ok(true) => {}
+            Ok(false) => return Ok(false),
+            Err(_) => refused = true,
         }
     }
     let waits = feed.answers().len() == 3 && feed.held() == LONG - 1;
-    Ok(waits && is_finished(&feed.end(), wanted))
+    tell(refused, waits && is_finished(&feed.end(), wanted))
 }
 
 /// The same pieces of bytes at once.

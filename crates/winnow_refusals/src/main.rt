@@ -1,7 +1,8 @@
 //! Calls that grow, each with its answer checked and the state that a refusal leaves.
 //!
-//! Run with the Nth allocation refused, for each N in turn (`refusals/run` does so), it must print the same lines: a call that is
-//! refused answers so, leaves what its contract says, and answers rightly when made again.
+//! Run with the Nth allocation refused, for each N in turn (`refusals/run` does so), it must print the same lines but the last: a call
+//! that is refused answers so, leaves what its contract says, and answers rightly when made again on what it left. The last line says
+//! how many cases met a refusal.
 //!
 //! With two numbers, it feeds so many pieces of that length and does nothing else, so that its requests for memory can be counted.
 #![tactic(auto)]
@@ -16,6 +17,7 @@ mod recovery;
 mod scripts;
 mod trees;
 mod waiting;
+mod words;
 
 use cases::{Case, all};
 use std::alloc::{AllocError, Global};
@@ -24,16 +26,22 @@ use std::{env, io};
 fn main(rt: HostRuntime) -> io::Result<()> {
     let alloc: Global = rt.alloc();
     // The arguments take memory too.
-    let mut words = env::args(&rt).or_else(|_| env::args(&rt))?;
+    let given = env::args(&rt);
+    let without = usize::from(given.is_err());
+    let mut words = given.or_else(|_| env::args(&rt))?;
     if let (Some(length), Some(pieces)) = (words.nth(1), words.next()) {
         let (length, pieces) = (length.parse().unwrap_or(0), pieces.parse().unwrap_or(0));
         let drained = outcome(feeds::drain(alloc, length, pieces), Err(AllocError));
         return println!(rt; "drain: {drained}");
     }
-    report(&rt, &all(alloc), &all(alloc))
+    let first = all(alloc);
+    let refused = first.iter().filter(|case| case.1.is_err()).count();
+    let again = if refused == 0 { first } else { all(alloc) };
+    report(&rt, &first, &again)?;
+    println!(rt; "refused: {}", refused.saturating_add(without))
 }
 
-// Says how each case went, made twice.
+// Says how each case went, and how it went again where it was refused memory.
 fn report(rt: &impl Print, first: &[Case], again: &[Case]) -> io::Result<()> {
     for ((name, first), (_, again)) in first.iter().zip(again) {
         println!(rt; "{name}: {}", outcome(*first, *again))?;
@@ -41,7 +49,7 @@ fn report(rt: &impl Print, first: &[Case], again: &[Case]) -> io::Result<()> {
     Ok(())
 }
 
-// Where the first was refused memory and left the state that it should, the second counts.
+// Where the first was refused memory and the rest of it went as it should, the second counts.
 fn outcome(first: Result<bool, AllocError>, again: Result<bool, AllocError>) -> &'static str {
     match first.or(again) {
         Ok(true) => "ok",

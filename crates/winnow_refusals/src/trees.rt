@@ -1,3 +1,4 @@
+use crate::cases::tell;
 use std::alloc::{AllocError, Global};
 use std::fmt::Display;
 use winnow_context::StrContext;
@@ -58,18 +59,12 @@ pub fn or(alloc: Global) -> Result<bool, AllocError> {
     prints(alloc, &error, ALTERNATIVES)
 }
 
-/// The text of an error. Refused, the error is as it was.
+/// The text of an error. Refused, the error is as it was, and has the same text.
 pub fn text(alloc: Global) -> Result<bool, AllocError> {
     let error = alternatives(alloc)?;
     match prints(alloc, &error, ALTERNATIVES) {
-        Ok(told) => Ok(told),
-        Err(refused) => {
-            if prints(alloc, &error, ALTERNATIVES)? {
-                Err(refused)
-            } else {
-                Ok(false)
-            }
-        }
+        Ok(right) => Ok(right),
+        Err(_) => tell(true, prints(alloc, &error, ALTERNATIVES).unwrap_or(false)),
     }
 }
 

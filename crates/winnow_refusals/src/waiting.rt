@@ -1,3 +1,4 @@
+use crate::cases::tell;
 use std::alloc::{AllocError, Global};
 use winnow_feed::{ByteFeed, TextFeed, Waiting};
 use winnow_run::SearchStep;
@@ -23,6 +24,12 @@ fn text_counts(feed: &TextFeed) -> (usize, usize, u64, usize) {
     (feed.fed(), feed.held(), feed.tried(), out)
 }
 
+// Whether it waits for what is missing of the literal.
+fn waits(feed: &ByteFeed) -> Result<bool, AllocError> {
+    let waiting = feed.waits_for()?;
+    Ok(matches!(waiting, Waiting::Until(more) if more.as_slice() == b"cd".as_slice()))
+}
+
 /// What a feed of bytes waits for. Refused, the feed is as it was, and answers when it is asked
 /// again.
 pub fn wait_for_bytes(alloc: Global) -> Result<bool, AllocError> {
@@ -32,12 +39,16 @@ pub fn wait_for_bytes(alloc: Global) -> Result<bool, AllocError> {
     }
     feed.feed(b"ab")?;
     let before = counts(&feed);
-    let waiting = match feed.waits_for() {
-        Ok(waiting) => waiting,
-        Err(_) if counts(&feed) != before => return Ok(false),
-        Err(_) => feed.waits_for()?,
-    };
-    Ok(matches!(waiting, Waiting::Until(more) if more.as_slice() == b"cd".as_slice()))
+    match waits(&feed) {
+        Ok(right) => Ok(right),
+        Err(_) if counts(&feed) != before => Ok(false),
+        Err(_) => tell(true, waits(&feed).unwrap_or(false)),
+    }
+}
+
+fn text_waits(feed: &TextFeed) -> Result<bool, AllocError> {
+    let waiting = feed.waits_for()?;
+    Ok(matches!(waiting, Waiting::Until(more) if more.as_str() == "cd"))
 }
 
 /// What a feed of text waits for.
@@ -48,10 +59,9 @@ pub fn wait_for_text(alloc: Global) -> Result<bool, AllocError> {
     }
     feed.feed("ab")?;
     let before = text_counts(&feed);
-    let waiting = match feed.waits_for() {
-        Ok(waiting) => waiting,
-        Err(_) if text_counts(&feed) != before => return Ok(false),
-        Err(_) => feed.waits_for()?,
-    };
-    Ok(matches!(waiting, Waiting::Until(more) if more.as_str() == "cd"))
+    match text_waits(&feed) {
+        Ok(right) => Ok(right),
+        Err(_) if text_counts(&feed) != before => Ok(false),
+        Err(_) => tell(true, text_waits(&feed).unwrap_or(false)),
+    }
 }

@@ -3,4 +3,4 @@ pub mod PairLemmas
 pub mod PlaceLemmas
 pub mod ScriptLemmas
 pub mod StepLemmas
-pub mod TurnLemmas
+pub mod AnswerStepLemmas

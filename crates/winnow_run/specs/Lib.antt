@@ -1,5 +1,5 @@
 pub mod Marks
 pub mod Script
-pub mod Standing
+pub mod RunState
 pub mod Searching
 pub mod Definite

@@ -6,7 +6,8 @@ use Rattle.std.specs.declared.ops.Range.{Range}
 use Rattle.winnow_stream.specs.Source.{Source, width, first_token, first_offset, offsets, Computes}
 use Rattle.winnow_stream.specs.Front.{front_count, is_offset, back, part}
 use Rattle.winnow_stream.specs.Shortage.{offset_at}
-use Rattle.winnow_stream.specs.Cursor.{Cursor, start, rest, place, places, answers_from, cursor_after}
+use Rattle.winnow_stream.specs.Cursor.{Cursor, start, rest, place, answers_from, cursor_after}
+use Rattle.winnow_stream.specs.Span.{span}
 use Rattle.winnow_stream.specs.declared.needed.Needed.{Needed}
 use Rattle.winnow_run.specs.declared.script.Step.{Step}
 use Rattle.winnow_run.specs.declared.script.Step.TheVariants as step
@@ -20,7 +21,7 @@ PlacedAnswer T = Answer T (Range ℕ) (Range ℕ) Needed
 -- the slice of width n from place a on, if that is the width of a front
 abbrev pub slice_answer : {T : Type 0} → ℕ → ℕ → Option ℕ → PlacedAnswer T
 slice_answer a n None = answer.BadOffset
-slice_answer a n (Some count) = answer.Slice (places a n)
+slice_answer a n (Some count) = answer.Slice (span a n)
 
 -- going back to a mark
 abbrev pub reset_answer : {T : Type 0} → Option ℕ → PlacedAnswer T
@@ -39,13 +40,13 @@ module _ {C T : Type 0} (holds : C → T → Bool) (counts_missing : Bool) (all 
   step_answer step.Peek at = answer.Token (first_token (rest all at))
   step_answer (step.Take n) at = slice_answer (place all at.index) n (front_count (rest all at) n)
   step_answer (step.Look n) at = slice_answer (place all at.index) n (front_count (rest all at) n)
-  step_answer step.Finish at = answer.Slice (places (place all at.index) (width (rest all at)))
-  step_answer step.PeekFinish at = answer.Slice (places (place all at.index) (width (rest all at)))
+  step_answer step.Finish at = answer.Slice (span (place all at.index) (width (rest all at)))
+  step_answer step.PeekFinish at = answer.Slice (span (place all at.index) (width (rest all at)))
   step_answer step.Eof at = answer.Offset (width (rest all at))
   step_answer (step.At n) at = answer.At (offset_at counts_missing (rest all at) n)
   step_answer (step.IsOffset n) at = answer.Flag (is_offset (rest all at) n)
   step_answer (step.First c) at = answer.First (first_offset (holds c) (rest all at))
-  step_answer step.Each at = answer.Items (places (place all at.index) (width (rest all at)))
+  step_answer step.Each at = answer.Items (span (place all at.index) (width (rest all at)))
   step_answer step.Mark at = answer.Marked (length at.marks)
   step_answer (step.Reset k) at = reset_answer (slice_get at.marks k)
   step_answer (step.Since k) at = since_answer all at.index (slice_get at.marks k)

@@ -8,7 +8,7 @@ use Rattle.winnow_stream.specs.declared.needed.Needed.{Needed}
 use Rattle.winnow_stream.specs.Source.{Source}
 use Rattle.winnow_stream.specs.Cursor.{Cursor, start, rest, answers_from, cursor_after}
 use Rattle.winnow_run.specs.Script.{step_answer, step_next, StandsFor, SetComputes, AreGiven, IsReady}
-use Rattle.winnow_run.specs.Standing.{Stand, StandsAt, IsInReach}
+use Rattle.winnow_run.specs.RunState.{RunState, StandsAt, IsInReach}
 use Rattle.winnow_match.specs.declared.compare.CompareResult.{CompareResult}
 use Rattle.winnow_match.specs.declared.needles.Needles.{Needles}
 use Rattle.winnow_run.specs.declared.search_script.SearchStep.{SearchStep}
@@ -91,16 +91,16 @@ abbrev pub rest_after_search : {C T L : Type 0} → Source T → List (SearchSte
 rest_after_search all script = rest all (search_cursor all script)
 
 -- the mark that a step goes back to, if there is one, is not before the origin
-abbrev pub IsSearchInReach : {C T L : Type 0} → SearchStep C L → Stand T → Type 0
+abbrev pub IsSearchInReach : {C T L : Type 0} → SearchStep C L → RunState T → Type 0
 IsSearchInReach (step.Call call) here = IsInReach call here
 IsSearchInReach (step.Compare literal) here = ⊤
 IsSearchInReach (step.Find needles) here = ⊤
 
 -- the answer is the step's, at whatever cursor the run stands
-abbrev pub AnswersSearchStep : {C T S L : Type 0} → (C → T → Bool → Type 0) → (S → Source T → ℕ → Type 0) → Bool → (L → Source T → CompareResult) → (Needles L → Source T → Option (Range ℕ)) → SearchStep C L → Stand T → SearchAnswer T S (Vec (ℕ × T)) → Type 0
+abbrev pub AnswersSearchStep : {C T S L : Type 0} → (C → T → Bool → Type 0) → (S → Source T → ℕ → Type 0) → Bool → (L → Source T → CompareResult) → (Needles L → Source T → Option (Range ℕ)) → SearchStep C L → RunState T → SearchAnswer T S (Vec (ℕ × T)) → Type 0
 AnswersSearchStep {C} {T} tells is_slice counts_missing compared found step here given =
     (all : Source T) (at : Cursor) → StandsAt here all at → IsSearchAnswer tells is_slice counts_missing compared found all step at given
 
 -- after the step the run stands where the step leaves the cursor, whatever cursor it stood at
-abbrev pub StandsAfterSearchStep : {C T L : Type 0} → SearchStep C L → Stand T → Stand T → Type 0
+abbrev pub StandsAfterSearchStep : {C T L : Type 0} → SearchStep C L → RunState T → RunState T → Type 0
 StandsAfterSearchStep {C} {T} step here there = (all : Source T) (at : Cursor) → StandsAt here all at → StandsAt there all (search_next all step at)

@@ -21,7 +21,7 @@ where
     S::Token: Drop,
     S::Slice: Drop,
     requires valid { S.valid s.old }
-    requires ready { AreReady C.can_hold script.now }
+    requires ready { AreReady C.askable script.now }
     ensures answers { IfOk result (λ out.
         AreAnswers C.tells S.is_slice S.counts_missing (S.remaining s.old) script.now out.items) }
     ensures remains { OnOk result (S.remaining s.new ≡ rest_after (S.remaining s.old) script.now) }
@@ -50,7 +50,7 @@ where
     S::Token: Drop,
     S::Slice: Drop,
     requires valid { S.valid s.old }
-    requires ready { AreReady C.can_hold script.now }
+    requires ready { AreReady C.askable script.now }
     ensures answers { IfOk result (λ out.
         AreAnswers C.tells S.is_slice S.counts_missing (S.remaining s.old) script.now out.items) }
     ensures remains { OnOk result (S.remaining s.new ≡ rest_after (S.remaining s.old) script.now) }

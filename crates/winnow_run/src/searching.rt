@@ -4,7 +4,7 @@ ghost use Rattle.winnow_stream.specs.Place.{place_behind};
 ghost use Rattle.winnow_run.specs.Searching.{rest_after_search, AreSearchAnswers, IsSearchReady};
 ghost use Rattle.winnow_run.specs.Searching.{AreSearchReady, IsSearchInReach, AnswersSearchStep};
 ghost use Rattle.winnow_run.specs.Searching.{StandsAfterSearchStep};
-ghost use Rattle.winnow_run.specs.Standing.{stand, StandsSomewhere, StayPlaced};
+ghost use Rattle.winnow_run.specs.RunState.{run_state, StandsSomewhere, StayPlaced};
 
 use crate::{Marks, Origin, SearchAnswer, SearchStep, answer_step};
 use std::alloc::{AllocError, Global};
@@ -24,7 +24,7 @@ where
     S::Token: Drop,
     S::Slice: Drop,
     requires valid { S.valid s.old }
-    requires ready { AreSearchReady C.can_hold script.now }
+    requires ready { AreSearchReady C.askable script.now }
     ensures answers { IfOk result (λ out.
         AreSearchAnswers C.tells S.is_slice S.counts_missing S.compared S.found
         (S.remaining s.old) script.now out.items) }
@@ -55,7 +55,7 @@ where
     S::Token: Drop,
     S::Slice: Drop,
     requires valid { S.valid s.old }
-    requires ready { AreSearchReady C.can_hold script.now }
+    requires ready { AreSearchReady C.askable script.now }
     ensures answers { IfOk result (λ out.
         AreSearchAnswers C.tells S.is_slice S.counts_missing S.compared S.found
         (S.remaining s.old) script.now out.items) }
@@ -92,19 +92,20 @@ where
     S::Slice: Drop,
     requires valid { S.valid s.old }
     requires origin { S.valid_checkpoint origin.now.checkpoint }
-    requires ready { IsSearchReady C.can_hold step.now }
-    requires stands { StandsSomewhere (stand S.remained origin.now (S.remaining s.old) marks.old) }
+    requires ready { IsSearchReady C.askable step.now }
+    requires stands { StandsSomewhere
+        (run_state S.remained origin.now (S.remaining s.old) marks.old) }
     requires reach { IsSearchInReach step.now
-        (stand S.remained origin.now (S.remaining s.old) marks.old) }
+        (run_state S.remained origin.now (S.remaining s.old) marks.old) }
     ensures answer { IfOk result
         (AnswersSearchStep C.tells S.is_slice S.counts_missing S.compared S.found
-        step.now (stand S.remained origin.now (S.remaining s.old) marks.old)) }
+        step.now (run_state S.remained origin.now (S.remaining s.old) marks.old)) }
     ensures stands { OnOk result (StandsAfterSearchStep step.now
-        (stand S.remained origin.now (S.remaining s.old) marks.old)
-        (stand S.remained origin.now (S.remaining s.new) marks.new)) }
+        (run_state S.remained origin.now (S.remaining s.old) marks.old)
+        (run_state S.remained origin.now (S.remaining s.new) marks.new)) }
     ensures place { StayPlaced (S.Checkpoint.place origin.now.checkpoint)
-        (stand S.remained origin.now (S.remaining s.old) marks.old) (S.place s.old)
-        (stand S.remained origin.now (S.remaining s.new) marks.new) (S.place s.new) }
+        (run_state S.remained origin.now (S.remaining s.old) marks.old) (S.place s.old)
+        (run_state S.remained origin.now (S.remaining s.new) marks.new) (S.place s.new) }
     ensures valid { S.valid s.new }
     ensures kept { S.keeps s.old s.new }
 {

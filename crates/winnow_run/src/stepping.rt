@@ -1,8 +1,8 @@
 ghost use Rattle.std.specs.Prelude.{◌≡◌, ◌≤◌, IfOk, IsOk, OnErr, OnOk};
 ghost use Rattle.winnow_run.specs.Marks.{room_of};
 ghost use Rattle.winnow_run.specs.Script.{IsReady};
-ghost use Rattle.winnow_run.specs.Standing.{stand, StandsSomewhere, IsInReach, TakesNoMemory};
-ghost use Rattle.winnow_run.specs.Standing.{AnswersStep, StandsAfter, StayPlaced};
+ghost use Rattle.winnow_run.specs.RunState.{run_state, StandsSomewhere, IsInReach, TakesNoMemory};
+ghost use Rattle.winnow_run.specs.RunState.{AnswersStep, StandsAfter, StayPlaced};
 
 use crate::{Answer, Marks, Origin, Step};
 use std::alloc::{AllocError, Global};
@@ -27,20 +27,21 @@ where
     S::Slice: Drop,
     requires valid { S.valid s.old }
     requires origin { S.valid_checkpoint origin.now.checkpoint }
-    requires ready { IsReady C.can_hold step.now }
-    requires stands { StandsSomewhere (stand S.remained origin.now (S.remaining s.old) marks.old) }
+    requires ready { IsReady C.askable step.now }
+    requires stands { StandsSomewhere
+        (run_state S.remained origin.now (S.remaining s.old) marks.old) }
     requires reach { IsInReach step.now
-        (stand S.remained origin.now (S.remaining s.old) marks.old) }
+        (run_state S.remained origin.now (S.remaining s.old) marks.old) }
     ensures answer { IfOk result (AnswersStep C.tells S.is_slice S.counts_missing
-        step.now (stand S.remained origin.now (S.remaining s.old) marks.old)) }
+        step.now (run_state S.remained origin.now (S.remaining s.old) marks.old)) }
     ensures stands { OnOk result (StandsAfter step.now
-        (stand S.remained origin.now (S.remaining s.old) marks.old)
-        (stand S.remained origin.now (S.remaining s.new) marks.new)) }
+        (run_state S.remained origin.now (S.remaining s.old) marks.old)
+        (run_state S.remained origin.now (S.remaining s.new) marks.new)) }
     ensures place { StayPlaced (S.Checkpoint.place origin.now.checkpoint)
-        (stand S.remained origin.now (S.remaining s.old) marks.old) (S.place s.old)
-        (stand S.remained origin.now (S.remaining s.new) marks.new) (S.place s.new) }
-    ensures refused { OnErr result (stand S.remained origin.now (S.remaining s.new) marks.new
-        ≡ stand S.remained origin.now (S.remaining s.old) marks.old) }
+        (run_state S.remained origin.now (S.remaining s.old) marks.old) (S.place s.old)
+        (run_state S.remained origin.now (S.remaining s.new) marks.new) (S.place s.new) }
+    ensures refused { OnErr result (run_state S.remained origin.now (S.remaining s.new) marks.new
+        ≡ run_state S.remained origin.now (S.remaining s.old) marks.old) }
     ensures sure { TakesNoMemory step.now marks.old → IsOk result }
     ensures room { room_of marks.old ≤ room_of marks.new }
     ensures valid { S.valid s.new }

@@ -16,7 +16,7 @@ impl<F> Debug for Where<F> {
 }
 
 impl<T, F: Fn(T) -> bool> ContainsToken<T> for Where<F> {
-    ghost can_hold = { λ set. F.IsAlwaysCallable set.0 };
+    ghost askable = { λ set. F.IsAlwaysCallable set.0 };
 
     ghost tells = { λ set. F.post set.0 };
 
@@ -26,7 +26,7 @@ impl<T, F: Fn(T) -> bool> ContainsToken<T> for Where<F> {
 }
 
 impl<T, F: Fn(T) -> bool> ScriptSet<T> for Where<F> {
-    ghost can_hold = { λ set. F.IsAlwaysCallable set.0 };
+    ghost askable = { λ set. F.IsAlwaysCallable set.0 };
 
     ghost tells = { λ set. F.post set.0 };
 

@@ -7,14 +7,14 @@ use crate::AsChar;
 /// A byte in a set stands for the character of its number, and so does a byte that is asked for.
 pub trait ContainsToken<T> {
     // Whether the set may be asked.
-    ghost can_hold: { Self → Type 0 } = { λ _. ⊤ };
+    ghost askable: { Self → Type 0 } = { λ _. ⊤ };
 
     // What it may answer of a token.
     ghost tells: { Self → T → Bool → Type 0 };
 
     /// Returns whether the token is in the set.
     fn contains_token(&self, token: T) -> bool
-        requires { can_hold self.now }
+        requires { askable self.now }
         ensures { tells self.now token result };
 }
 

@@ -13,7 +13,7 @@ pub trait FixedSet<T>: ContainsToken<T> {
 
     /// Returns whether the token is in the set.
     fn holds_token(&self, token: T) -> bool
-        requires { Self.can_hold self.now }
+        requires { Self.askable self.now }
         ensures { result ≡ holds self.now token }
     {
         self.contains_token(token)

@@ -4,7 +4,7 @@ use crate::ContainsToken;
 
 /// What the set holds.
 impl<T: Copy, A: ContainsToken<T>> ContainsToken<T> for (A,) {
-    ghost can_hold = { λ s. A.can_hold s.0 };
+    ghost askable = { λ s. A.askable s.0 };
 
     ghost tells = { λ s token. A.tells s.0 token };
 
@@ -15,7 +15,7 @@ impl<T: Copy, A: ContainsToken<T>> ContainsToken<T> for (A,) {
 
 /// What one of the sets holds.
 impl<T: Copy, A: ContainsToken<T>, B: ContainsToken<T>> ContainsToken<T> for (A, B) {
-    ghost can_hold = { λ s. A.can_hold s.0 × B.can_hold s.1 };
+    ghost askable = { λ s. A.askable s.0 × B.askable s.1 };
 
     ghost tells = { λ s token. A.tells s.0 token ∪ B.tells s.1 token };
 
@@ -27,7 +27,7 @@ impl<T: Copy, A: ContainsToken<T>, B: ContainsToken<T>> ContainsToken<T> for (A,
 /// What one of the sets holds.
 impl<T: Copy, A: ContainsToken<T>, B: ContainsToken<T>, C: ContainsToken<T>> ContainsToken<T>
     for (A, B, C) {
-    ghost can_hold = { λ s. A.can_hold s.0 × B.can_hold s.1 × C.can_hold s.2 };
+    ghost askable = { λ s. A.askable s.0 × B.askable s.1 × C.askable s.2 };
 
     ghost tells = { λ s token. A.tells s.0 token ∪ B.tells s.1 token ∪ C.tells s.2 token };
 
@@ -44,7 +44,7 @@ impl<
     C: ContainsToken<T>,
     D: ContainsToken<T>,
 > ContainsToken<T> for (A, B, C, D) {
-    ghost can_hold = { λ s. A.can_hold s.0 × B.can_hold s.1 × C.can_hold s.2 × D.can_hold s.3 };
+    ghost askable = { λ s. A.askable s.0 × B.askable s.1 × C.askable s.2 × D.askable s.3 };
 
     ghost tells = { λ s token. A.tells s.0 token ∪ B.tells s.1 token ∪ C.tells s.2 token ∪ D.tells
         s.3 token };
@@ -66,8 +66,8 @@ impl<
     D: ContainsToken<T>,
     E: ContainsToken<T>,
 > ContainsToken<T> for (A, B, C, D, E) {
-    ghost can_hold = { λ s. A.can_hold s.0 × B.can_hold s.1 × C.can_hold s.2 × D.can_hold s.3
-        × E.can_hold s.4 };
+    ghost askable = { λ s. A.askable s.0 × B.askable s.1 × C.askable s.2 × D.askable s.3
+        × E.askable s.4 };
 
     ghost tells = { λ s token. A.tells s.0 token ∪ B.tells s.1 token ∪ C.tells s.2 token ∪ D.tells
         s.3 token ∪ E.tells s.4 token };
@@ -91,8 +91,8 @@ impl<
     E: ContainsToken<T>,
     F: ContainsToken<T>,
 > ContainsToken<T> for (A, B, C, D, E, F) {
-    ghost can_hold = { λ s. A.can_hold s.0 × B.can_hold s.1 × C.can_hold s.2 × D.can_hold s.3
-        × E.can_hold s.4 × F.can_hold s.5 };
+    ghost askable = { λ s. A.askable s.0 × B.askable s.1 × C.askable s.2 × D.askable s.3
+        × E.askable s.4 × F.askable s.5 };
 
     ghost tells = { λ s token. A.tells s.0 token ∪ B.tells s.1 token ∪ C.tells s.2 token ∪ D.tells
         s.3 token ∪ E.tells s.4 token ∪ F.tells s.5 token };
@@ -118,8 +118,8 @@ impl<
     F: ContainsToken<T>,
     G: ContainsToken<T>,
 > ContainsToken<T> for (A, B, C, D, E, F, G) {
-    ghost can_hold = { λ s. A.can_hold s.0 × B.can_hold s.1 × C.can_hold s.2 × D.can_hold s.3
-        × E.can_hold s.4 × F.can_hold s.5 × G.can_hold s.6 };
+    ghost askable = { λ s. A.askable s.0 × B.askable s.1 × C.askable s.2 × D.askable s.3
+        × E.askable s.4 × F.askable s.5 × G.askable s.6 };
 
     ghost tells = { λ s token. A.tells s.0 token ∪ B.tells s.1 token ∪ C.tells s.2 token ∪ D.tells
         s.3 token ∪ E.tells s.4 token ∪ F.tells s.5 token ∪ G.tells s.6 token };
@@ -147,8 +147,8 @@ impl<
     G: ContainsToken<T>,
     H: ContainsToken<T>,
 > ContainsToken<T> for (A, B, C, D, E, F, G, H) {
-    ghost can_hold = { λ s. A.can_hold s.0 × B.can_hold s.1 × C.can_hold s.2 × D.can_hold s.3
-        × E.can_hold s.4 × F.can_hold s.5 × G.can_hold s.6 × H.can_hold s.7 };
+    ghost askable = { λ s. A.askable s.0 × B.askable s.1 × C.askable s.2 × D.askable s.3
+        × E.askable s.4 × F.askable s.5 × G.askable s.6 × H.askable s.7 };
 
     ghost tells = { λ s token. A.tells s.0 token ∪ B.tells s.1 token ∪ C.tells s.2 token ∪ D.tells
         s.3 token ∪ E.tells s.4 token ∪ F.tells s.5 token ∪ G.tells s.6 token ∪ H.tells s.7 token };
@@ -178,8 +178,8 @@ impl<
     H: ContainsToken<T>,
     I: ContainsToken<T>,
 > ContainsToken<T> for (A, B, C, D, E, F, G, H, I) {
-    ghost can_hold = { λ s. A.can_hold s.0 × B.can_hold s.1 × C.can_hold s.2 × D.can_hold s.3
-        × E.can_hold s.4 × F.can_hold s.5 × G.can_hold s.6 × H.can_hold s.7 × I.can_hold s.8 };
+    ghost askable = { λ s. A.askable s.0 × B.askable s.1 × C.askable s.2 × D.askable s.3
+        × E.askable s.4 × F.askable s.5 × G.askable s.6 × H.askable s.7 × I.askable s.8 };
 
     ghost tells = { λ s token. A.tells s.0 token ∪ B.tells s.1 token ∪ C.tells s.2 token ∪ D.tells
         s.3 token ∪ E.tells s.4 token ∪ F.tells s.5 token ∪ G.tells s.6 token ∪ H.tells s.7 token ∪
@@ -212,9 +212,9 @@ impl<
     I: ContainsToken<T>,
     J: ContainsToken<T>,
 > ContainsToken<T> for (A, B, C, D, E, F, G, H, I, J) {
-    ghost can_hold = { λ s. A.can_hold s.0 × B.can_hold s.1 × C.can_hold s.2 × D.can_hold s.3
-        × E.can_hold s.4 × F.can_hold s.5 × G.can_hold s.6 × H.can_hold s.7 × I.can_hold s.8
-        × J.can_hold s.9 };
+    ghost askable = { λ s. A.askable s.0 × B.askable s.1 × C.askable s.2 × D.askable s.3
+        × E.askable s.4 × F.askable s.5 × G.askable s.6 × H.askable s.7 × I.askable s.8
+        × J.askable s.9 };
 
     ghost tells = { λ s token. A.tells s.0 token ∪ B.tells s.1 token ∪ C.tells s.2 token ∪ D.tells
         s.3 token ∪ E.tells s.4 token ∪ F.tells s.5 token ∪ G.tells s.6 token ∪ H.tells s.7 token ∪

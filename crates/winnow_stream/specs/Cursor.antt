@@ -1,6 +1,5 @@
 -- A cursor on one list, and scripts of steps of any kind over it.
-use Rattle.std.specs.Prelude.{ℕ, ◌+◌, List, [], ◌∷◌, take, drop}
-use Rattle.std.specs.declared.ops.Range.{Range}
+use Rattle.std.specs.Prelude.{ℕ, List, [], ◌∷◌, take, drop}
 use Rattle.winnow_stream.specs.Source.{Source, width}
 
 -- how many tokens stand before the cursor, and before each mark in the order in which they were made
@@ -19,10 +18,6 @@ rest all at = drop at.index all
 -- the place of the token of that index: the width of the tokens before it
 abbrev pub place : {T : Type 0} → Source T → ℕ → ℕ
 place all i = width (take i all)
-
--- the part of width n from place a on
-abbrev pub places : ℕ → ℕ → Range ℕ
-places a n = record { start = a; end = a + n }
 
 -- a script answers step by step: each step answers at the cursor, and moves it
 module _ {S A : Type 0} (tells : S → Cursor → A) (moves : S → Cursor → Cursor) where

@@ -1,9 +1,11 @@
 pub mod Source
 pub mod Front
+pub mod SliceWidths
 pub mod Place
 pub mod Fused
 pub mod Shortage
 pub mod Units
 pub mod Text
 pub mod Checkpoint
+pub mod Span
 pub mod Cursor

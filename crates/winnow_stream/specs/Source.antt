@@ -14,9 +14,9 @@ width [] = 0
 width (x ∷ xs) = x.1 + width xs
 
 -- each width is at least 1
-abbrev pub HasWidths : {T : Type 0} → Source T → Type 0
-HasWidths [] = ⊤
-HasWidths (x ∷ xs) = (1 ≤ x.1) × HasWidths xs
+abbrev pub HasPositiveWidths : {T : Type 0} → Source T → Type 0
+HasPositiveWidths [] = ⊤
+HasPositiveWidths (x ∷ xs) = (1 ≤ x.1) × HasPositiveWidths xs
 
 -- r is what is left of the whole behind some of its tokens
 abbrev pub IsEndOf : {T : Type 0} → Source T → Source T → Type 0

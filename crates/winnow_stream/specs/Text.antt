@@ -3,7 +3,7 @@ use Rattle.std.specs.Prelude.{ℕ, List, [], ◌∷◌, map}
 use Rattle.std.specs.Char.{len_utf8}
 use Rattle.std.specs.Str.{chars}
 use Rattle.std.proofs.lemmas.Str.{len_utf8_bounds}
-use Rattle.winnow_stream.specs.Source.{Source, HasWidths}
+use Rattle.winnow_stream.specs.Source.{Source, HasPositiveWidths}
 
 -- characters with their widths
 abbrev pub char_source : List ℕ → Source ℕ
@@ -13,6 +13,6 @@ char_source cs = map (λ c. (c, len_utf8 c)) cs
 abbrev pub text_source : List ℕ → Source ℕ
 text_source bytes = char_source (chars bytes)
 
-pub HasWidths-char_source : (cs : List ℕ) → HasWidths (char_source cs)
-HasWidths-char_source [] = tt
-HasWidths-char_source (c ∷ cs) = ((len_utf8_bounds c).0, HasWidths-char_source cs)
+pub HasPositiveWidths-char_source : (cs : List ℕ) → HasPositiveWidths (char_source cs)
+HasPositiveWidths-char_source [] = tt
+HasPositiveWidths-char_source (c ∷ cs) = ((len_utf8_bounds c).0, HasPositiveWidths-char_source cs)

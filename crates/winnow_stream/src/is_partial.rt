@@ -44,7 +44,7 @@ pub trait StreamIsPartial: Rest + Sized {
     fn is_partial(&self) -> bool
         ensures { result ≡ expects_more self.now };
 
-    // The mark alone says whether more may follow: what `restore_partial` sets again says it again.
+    // The mark alone says whether more may follow: restoring it restores that.
     ghost mark_tells: { (s t : Self) → partial_state s ≡ partial_state t
         → expects_more s ≡ expects_more t };
 

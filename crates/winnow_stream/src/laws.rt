@@ -7,21 +7,22 @@ ghost use Rattle.std.specs.Cmp.Lexicographic.{pointwise, slice_cmp};
 ghost use Rattle.std.specs.Ordering.{nat_cmp};
 ghost use Rattle.winnow_stream.specs.Checkpoint.{checkpoint_inner};
 ghost use Rattle.winnow_stream.specs.declared.checkpoint.Checkpoint.{Checkpoint};
-ghost use Rattle.winnow_stream.specs.Source.{Source, units, width, HasWidths, first_token};
+ghost use Rattle.winnow_stream.specs.Source.{Source, units, width, HasPositiveWidths, first_token};
 ghost use Rattle.winnow_stream.specs.Source.{first_offset};
 ghost use Rattle.winnow_stream.specs.Source.{FindsFirst, held_front, HoldsAll};
 ghost use Rattle.winnow_stream.specs.Front.{HasFront, is_offset, front, back};
 ghost use Rattle.winnow_stream.specs.Place.{place_behind, TellsPlace};
+ghost use Rattle.winnow_stream.specs.SliceWidths.{SlicesHaveWidths};
 ghost use Rattle.winnow_stream.specs.Shortage.{needed, offset_at};
 
 use crate::{Checkpoint, Location, SliceLen, Stream};
 
-/// The law of fronts: an offset is valid exactly where some front has that width, what is taken has that width, and what is
-/// taken followed by what remains is what was there, so that the widths of both sum to the whole width. Behind a front the offsets
-/// are those further on, less its width, and going on from there leaves what going there at once would leave. It does nothing when
-/// called: its contract is the law.
+/// The law of fronts: an offset is valid exactly where some front has that width. What is taken has that width, and what is taken
+/// followed by what remains is what was there, so the widths of both sum to the whole width. Behind a front the valid offsets are those
+/// further on, less its width, and taking two fronts in a row leaves what taking both at once leaves. It does nothing when called: its
+/// contract is the law.
 pub fn front_law<T>()
-    ensures offset { (r : Source T) (n : ℕ) → HasWidths r
+    ensures offset { (r : Source T) (n : ℕ) → HasPositiveWidths r
         → (IsTrue (is_offset r n) ↔ HasFront r n) }
     ensures width { (r : Source T) (n : ℕ) → IsTrue (is_offset r n) → width (front r n) ≡ n }
     ensures whole { (r : Source T) (n : ℕ) → front r n ++ back r n ≡ r }
@@ -35,11 +36,11 @@ pub fn front_law<T>()
 /// The law of offsets: what `offset_at`, `offset_for` and `eof_offset` answer is a valid offset. It does nothing when called: its
 /// contract is the law.
 pub fn offset_law<T>()
-    ensures at { (counts_missing : Bool) (r : Source T) (n w : ℕ) → HasWidths r
+    ensures at { (counts_missing : Bool) (r : Source T) (n w : ℕ) → HasPositiveWidths r
         → offset_at counts_missing r n ≡ Ok w → IsTrue (is_offset r w) }
-    ensures first { (holds : T → Bool) (r : Source T) (w : ℕ) → HasWidths r
+    ensures first { (holds : T → Bool) (r : Source T) (w : ℕ) → HasPositiveWidths r
         → first_offset holds r ≡ Some w → IsTrue (is_offset r w) }
-    ensures end { (r : Source T) → HasWidths r → IsTrue (is_offset r (width r)) }
+    ensures end { (r : Source T) → HasPositiveWidths r → IsTrue (is_offset r (width r)) }
 {}
 
 /// The law of a counted shortage: a stream that refuses for k tokens still refuses with fewer than k more, for those that
@@ -55,16 +56,16 @@ pub fn shortage_law<T>()
 /// rest; an offset that `offset_at` answers is such a width; and the front of the whole width is everything. So `offset_at(n)` and
 /// then `next_slice` takes n tokens, and `finish` takes all. It does nothing when called: its contract is the law.
 pub fn taken_law<T>()
-    ensures front { (r : Source T) (k : ℕ) → HasWidths r → k ≤ length r
+    ensures front { (r : Source T) (k : ℕ) → HasPositiveWidths r → k ≤ length r
         → front r (width (take k r)) ≡ take k r }
-    ensures back { (r : Source T) (k : ℕ) → HasWidths r → k ≤ length r
+    ensures back { (r : Source T) (k : ℕ) → HasPositiveWidths r → k ≤ length r
         → back r (width (take k r)) ≡ drop k r }
     ensures fits { (counts_missing : Bool) (r : Source T) (n w : ℕ)
         → offset_at counts_missing r n ≡ Ok w → n ≤ length r }
     ensures at { (counts_missing : Bool) (r : Source T) (n w : ℕ)
         → offset_at counts_missing r n ≡ Ok w → w ≡ width (take n r) }
-    ensures whole { (r : Source T) → HasWidths r → front r (width r) ≡ r }
-    ensures end { (r : Source T) → HasWidths r → back r (width r) ≡ [] }
+    ensures whole { (r : Source T) → HasPositiveWidths r → front r (width r) ≡ r }
+    ensures end { (r : Source T) → HasPositiveWidths r → back r (width r) ≡ [] }
 {}
 
 /// The law of the first token that is held: `first_offset` is the offset of a token that is held, before which none is, or `None`
@@ -80,11 +81,11 @@ pub fn first_law<T>()
 pub fn held_law<T>()
     ensures width { (holds : T → Bool) (r : Source T)
         → unwrap_or (first_offset (λ x. not (holds x)) r) (width r) ≡ width (held_front holds r) }
-    ensures offset { (holds : T → Bool) (r : Source T) → HasWidths r
+    ensures offset { (holds : T → Bool) (r : Source T) → HasPositiveWidths r
         → IsTrue (is_offset r (width (held_front holds r))) }
     ensures front { (holds : T → Bool) (r : Source T)
         → take (length (held_front holds r)) r ≡ held_front holds r }
-    ensures back { (holds : T → Bool) (r : Source T) → HasWidths r
+    ensures back { (holds : T → Bool) (r : Source T) → HasPositiveWidths r
         → back r (width (held_front holds r)) ≡ drop (length (held_front holds r)) r }
     ensures held { (holds : T → Bool) (r : Source T) → HoldsAll holds (held_front holds r) }
     ensures next { (holds : T → Bool) (r : Source T) (x : T)
@@ -110,6 +111,14 @@ pub fn slice_law<T>()
         → front (units xs) n ≡ units (take n xs) }
     ensures back { (xs : List T) (n : ℕ) → n ≤ length xs
         → back (units xs) n ≡ units (drop n xs) }
+{}
+
+/// The law of slices of bytes: the length of one is the offset that it was taken at, which the law of slices of bits asks for. It does
+/// nothing when called: its contract is the law.
+pub fn byte_slice_law()
+    ensures { SlicesHaveWidths ⟦<&'static [u8] as Stream>⟧.is_slice
+        ⟦<&'static [u8] as SliceLen>⟧.has_width
+        ⟦<&'static [u8] as SliceLen>⟧.width_of }
 {}
 
 /// The law of slices of a text: the length of one is the offset that it was taken at. It does nothing when called: its contract is

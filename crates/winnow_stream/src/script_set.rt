@@ -3,14 +3,14 @@ ghost use Rattle.std.specs.Prelude.{◌≡◌, Bool, false, ⊤};
 /// A set of tokens that a script can name.
 pub trait ScriptSet<T> {
     // Whether the set may be asked.
-    ghost can_hold: { Self → Type 0 } = { λ _. ⊤ };
+    ghost askable: { Self → Type 0 } = { λ _. ⊤ };
 
     // What it may answer of a token.
     ghost tells: { Self → T → Bool → Type 0 };
 
     /// Returns whether the token is in the set.
     fn holds(&self, token: T) -> bool
-        requires { can_hold self.now }
+        requires { askable self.now }
         ensures { tells self.now token result };
 }
 

@@ -5,7 +5,7 @@ ghost use Rattle.std.proofs.Common.{sym, ap};
 ghost use Rattle.winnow_stream.specs.Checkpoint.{checkpoint_inner};
 ghost use Rattle.winnow_stream.specs.Source.{units, offsets_from};
 ghost use Rattle.winnow_stream.specs.Front.{front};
-ghost use Rattle.winnow_stream.specs.Units.{HasWidths-units, width-units};
+ghost use Rattle.winnow_stream.specs.Units.{HasPositiveWidths-units, width-units};
 
 use crate::{Checkpoint, Needed, Rest, Stream};
 use std::fmt::Debug;
@@ -73,9 +73,9 @@ impl<'i, T: Copy + Debug> Stream for &'i [T] {
 
     ghost keeps = { λ _ _. ⊤ };
 
-    ghost has_widths = { λ s _. HasWidths-units s.now };
+    ghost positive_widths = { λ s _. HasPositiveWidths-units s.now };
 
-    ghost has_widths_remained = { λ c _. HasWidths-units (checkpoint_inner c).now };
+    ghost positive_widths_remained = { λ c _. HasPositiveWidths-units (checkpoint_inner c).now };
 
     ghost rest_width_remaining = { λ s _. sym (width-units s.now) };
 

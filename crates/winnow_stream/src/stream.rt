@@ -1,7 +1,7 @@
 ghost use Rattle.std.specs.Prelude.{◌≡◌, ℕ, ◌-◌, ◌≤◌, Bool, [], Option, None, IsTrue, IfSome, take};
 ghost use Rattle.std.specs.Prelude.{drop};
 ghost use Rattle.std.specs.Iterator.{IsFinite, AlwaysYields, size};
-ghost use Rattle.winnow_stream.specs.Source.{Source, width, HasWidths, IsEndOf, Computes};
+ghost use Rattle.winnow_stream.specs.Source.{Source, width, HasPositiveWidths, IsEndOf, Computes};
 ghost use Rattle.winnow_stream.specs.Source.{first_token, FindsFirst, first_offset, offsets};
 ghost use Rattle.winnow_stream.specs.Front.{is_offset, back};
 ghost use Rattle.winnow_stream.specs.Place.{place_behind};
@@ -194,10 +194,10 @@ pub trait Stream: Rest + Debug {
     }
 
     // Each token that remains of a valid value has a width of at least 1, and each that remained at a valid checkpoint.
-    ghost has_widths: { (s : Self) → valid s → HasWidths (remaining s) };
+    ghost positive_widths: { (s : Self) → valid s → HasPositiveWidths (remaining s) };
 
-    ghost has_widths_remained: { (c : Self.Checkpoint) → valid_checkpoint c
-        → HasWidths (remained c) };
+    ghost positive_widths_remained: { (c : Self.Checkpoint) → valid_checkpoint c
+        → HasPositiveWidths (remained c) };
 
     // What `Rest` says of a valid value, and of its checkpoints, is the width of the list.
     ghost rest_width_remaining: { (s : Self) → valid s → Self.rest_width s ≡ width (remaining s) };

@@ -5,7 +5,7 @@ ghost use Rattle.std.proofs.Common.{sym, ap};
 ghost use Rattle.winnow_stream.specs.Checkpoint.{checkpoint_inner};
 ghost use Rattle.winnow_stream.specs.Source.{width};
 ghost use Rattle.winnow_stream.specs.Front.{front, back, is_offset};
-ghost use Rattle.winnow_stream.specs.Text.{text_source, HasWidths-char_source};
+ghost use Rattle.winnow_stream.specs.Text.{text_source, HasPositiveWidths-char_source};
 
 use crate::{Checkpoint, Needed, Rest, Stream};
 use std::str::CharIndices;
@@ -67,9 +67,10 @@ impl<'i> Stream for &'i str {
 
     ghost keeps = { λ _ _. ⊤ };
 
-    ghost has_widths = { λ s _. HasWidths-char_source (chars s.now) };
+    ghost positive_widths = { λ s _. HasPositiveWidths-char_source (chars s.now) };
 
-    ghost has_widths_remained = { λ c _. HasWidths-char_source (chars (checkpoint_inner c).now) };
+    ghost positive_widths_remained = { λ c _.
+        HasPositiveWidths-char_source (chars (checkpoint_inner c).now) };
 
     ghost rest_width_remaining = { λ s _. refl };
 

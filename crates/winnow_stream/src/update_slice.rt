@@ -10,7 +10,7 @@ pub trait UpdateSlice: Stream {
     fn update_slice(self, inner: Self::Slice, at: &Self::Checkpoint) -> Self
         requires valid { Self.valid self }
         requires valid_checkpoint { Self.valid_checkpoint at.now }
-        requires is_front { IsSomeFront Self.is_slice inner (Self.remained at.now) }
+        requires is_prefix { IsSomeFront Self.is_slice inner (Self.remained at.now) }
         ensures remains { (n : ℕ) → IsTrue (is_offset (Self.remained at.now) n)
             → Self.is_slice inner (Self.remained at.now) n
             → Self.remaining result ≡ front (Self.remained at.now) n }

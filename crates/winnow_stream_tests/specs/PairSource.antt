@@ -1,6 +1,6 @@
 -- A list of code units as a source: each is a token of width 2.
 use Rattle.std.proofs.Common.{◌≡◌, ◌*◌, List, [], ◌∷◌, length, map, refl, arith}
-use Rattle.winnow_stream.specs.Source.{Source, width, HasWidths}
+use Rattle.winnow_stream.specs.Source.{Source, width, HasPositiveWidths}
 
 abbrev pub pair_source : {T : Type 0} → List T → Source T
 pair_source xs = map (λ x. (x, 2)) xs
@@ -9,6 +9,6 @@ pub width-pair_source : {T : Type 0} (xs : List T) → width (pair_source xs) �
 width-pair_source [] = refl
 width-pair_source (x ∷ xs) = let e = width-pair_source xs in omega (arith, e)
 
-pub HasWidths-pair_source : {T : Type 0} (xs : List T) → HasWidths (pair_source xs)
-HasWidths-pair_source [] = tt
-HasWidths-pair_source (x ∷ xs) = (omega arith, HasWidths-pair_source xs)
+pub HasPositiveWidths-pair_source : {T : Type 0} (xs : List T) → HasPositiveWidths (pair_source xs)
+HasPositiveWidths-pair_source [] = tt
+HasPositiveWidths-pair_source (x ∷ xs) = (omega arith, HasPositiveWidths-pair_source xs)

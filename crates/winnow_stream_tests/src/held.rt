@@ -6,7 +6,7 @@ use winnow_base::stream::{FixedSet, Stream, held_law};
 /// The tokens up to the first that the set does not hold, and moves past them.
 pub fn take_while<S: Stream, C: FixedSet<S::Token>>(input: &mut S, set: &C) -> S::Slice
     requires valid { S.valid input.old }
-    requires set { C.can_hold set.now }
+    requires set { C.askable set.now }
     ensures slice { S.is_slice result (S.remaining input.old)
         (width (held_front (C.holds set.now) (S.remaining input.old))) }
     ensures behind { S.remaining input.new
@@ -27,7 +27,7 @@ pub fn take_while<S: Stream, C: FixedSet<S::Token>>(input: &mut S, set: &C) -> S
 // The width of the tokens up to the first that the set does not hold.
 fn held_offset<S: Stream, C: FixedSet<S::Token>>(input: &S, set: &C) -> usize
     requires valid { S.valid input.now }
-    requires set { C.can_hold set.now }
+    requires set { C.askable set.now }
     ensures { result ≡ width (held_front (C.holds set.now) (S.remaining input.now)) }
 {
     held_law::<S::Token>();
@@ -37,7 +37,7 @@ fn held_offset<S: Stream, C: FixedSet<S::Token>>(input: &S, set: &C) -> usize
 // The offset of the first token that the set does not hold.
 fn first_other<S: Stream, C: FixedSet<S::Token>>(input: &S, set: &C) -> Option<usize>
     requires valid { S.valid input.now }
-    requires set { C.can_hold set.now }
+    requires set { C.askable set.now }
     ensures { result ≡ first_offset (λ token. not (C.holds set.now token)) (S.remaining input.now) }
 {
     input.offset_for(|token| !set.holds_token(token))

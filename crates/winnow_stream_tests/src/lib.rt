@@ -3,15 +3,15 @@
 #![tactic(auto)]
 
 #[cfg(test)]
+mod byte_reader;
+#[cfg(test)]
 mod fields;
 #[cfg(test)]
 mod held;
 #[cfg(test)]
-mod listed;
-#[cfg(test)]
 mod literals;
 #[cfg(test)]
-mod pairs;
+mod pair_reader;
 #[cfg(test)]
 mod spans;
 #[cfg(test)]

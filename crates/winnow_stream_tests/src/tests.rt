@@ -3,6 +3,6 @@ mod fields;
 mod literals;
 mod own_streams;
 mod scripts;
-mod small_parts;
+mod small_traits;
 mod spans;
 mod texts;

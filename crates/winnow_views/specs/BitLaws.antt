@@ -2,8 +2,8 @@
 use Rattle.std.specs.Prelude.{◌≡◌, ℕ, ◌-◌, ◌*◌, List, [], ◌∷◌, length, map, drop, refl}
 use Rattle.std.proofs.Common.{arith, ap, ap₂, sym, ◌∙◌}
 use Rattle.std.proofs.lemmas.List.{length-drop, length-map}
-use Rattle.winnow_stream.specs.Source.{Source, units, width, HasWidths}
-use Rattle.winnow_stream.specs.Units.{width-units, HasWidths-units}
+use Rattle.winnow_stream.specs.Source.{Source, units, width, HasPositiveWidths}
+use Rattle.winnow_stream.specs.Units.{width-units, HasPositiveWidths-units}
 use Rattle.winnow_views.specs.declared.bits.Bits.{Bits}
 use Rattle.winnow_views.specs.BitSource.{HasUnits, bits_of, bits_from}
 use Rattle.winnow_views.specs.BitStream.{bits_remaining, IsValidBits}
@@ -26,8 +26,8 @@ length-bits_past bytes place = omega (arith, length-drop place (bits_of bytes), 
 pub width-bits_from : (bytes : List (ℕ × ℕ)) (place : ℕ) → width (bits_from bytes place) ≡ 8 * length bytes - place
 width-bits_from bytes place = width-units (drop place (bits_of bytes)) ∙ length-bits_past bytes place
 
-pub HasWidths-bits_from : (bytes : List (ℕ × ℕ)) (place : ℕ) → HasWidths (bits_from bytes place)
-HasWidths-bits_from bytes place = HasWidths-units (drop place (bits_of bytes))
+pub HasPositiveWidths-bits_from : (bytes : List (ℕ × ℕ)) (place : ℕ) → HasPositiveWidths (bits_from bytes place)
+HasPositiveWidths-bits_from bytes place = HasPositiveWidths-units (drop place (bits_of bytes))
 
 pub rest_width-bits_from : (bytes : List (ℕ × ℕ)) (place rest_width : ℕ) → HasUnits bytes → rest_width ≡ width bytes → 8 * rest_width - place ≡ width (bits_from bytes place)
 rest_width-bits_from bytes place rest_width h e = omega (arith, e, width-HasUnits bytes h, width-bits_from bytes place)

@@ -6,5 +6,4 @@ pub mod TokenAnswers
 pub mod BitSource
 pub mod BitStream
 pub mod BitSteps
-pub mod BitWidth
 pub mod BitLaws

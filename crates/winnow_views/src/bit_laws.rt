@@ -7,7 +7,7 @@ ghost use Rattle.winnow_stream.specs.declared.checkpoint.Checkpoint.{Checkpoint}
 ghost use Rattle.winnow_views.specs.BitSource.{bits_from, IsBitSource, IsBitSlice};
 ghost use Rattle.winnow_views.specs.BitStream.{bits_input, bits_place, bytes_at, place_at};
 ghost use Rattle.winnow_views.specs.BitStream.{IsCounted};
-ghost use Rattle.winnow_views.specs.BitWidth.{SlicesHaveWidths};
+ghost use Rattle.winnow_stream.specs.SliceWidths.{SlicesHaveWidths};
 ghost use Rattle.winnow_views.specs.declared.bits.Bits.{Bits};
 ghost use Rattle.winnow_views.specs.declared.bits.BitPlace.{BitPlace};
 
@@ -42,7 +42,7 @@ pub fn bit_checkpoint_law<I: Stream<Token = u8>>()
 {}
 
 /// The law of slices of bits: where the length of each slice of the stream of bytes is the offset that it was taken at, so is that of
-/// each slice of its bits. It does nothing when called: its contract is the law.
+/// each slice of its bits (`byte_slice_law` says the first of slices). It does nothing when called: its contract is the law.
 pub fn bit_slice_law<I: Stream<Token = u8>>()
 where
     I::Slice: SliceLen,
@@ -50,14 +50,6 @@ where
         → SlicesHaveWidths (IsBitSlice I.is_slice)
         ⟦<(I::Slice, usize, usize) as SliceLen>⟧.has_width
         ⟦<(I::Slice, usize, usize) as SliceLen>⟧.width_of }
-{}
-
-/// The law of slices of bytes, which [`bit_slice_law`] asks for: their length is the offset that they were taken at. It does nothing
-/// when called: its contract is the law.
-pub fn byte_slice_law()
-    ensures { SlicesHaveWidths ⟦<&'static [u8] as Stream>⟧.is_slice
-        ⟦<&'static [u8] as SliceLen>⟧.has_width
-        ⟦<&'static [u8] as SliceLen>⟧.width_of }
 {}
 
 /// The law of equality: bits are compared by the stream of bytes and the place, and checkpoints by the checkpoint of the bytes and the

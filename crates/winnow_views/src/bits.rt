@@ -9,7 +9,7 @@ ghost use Rattle.winnow_views.specs.BitStream.{bits_input, bits_place, bits_rema
 ghost use Rattle.winnow_views.specs.BitStream.{bits_remained, IsValidBits, IsValidPlace};
 ghost use Rattle.winnow_views.specs.BitStream.{bytes_at, place_at, whole_place, whole_place_at};
 ghost use Rattle.winnow_views.specs.BitStream.{IsCounted};
-ghost use Rattle.winnow_views.specs.BitLaws.{HasWidths-bits_from, rest_width-bits_from};
+ghost use Rattle.winnow_views.specs.BitLaws.{HasPositiveWidths-bits_from, rest_width-bits_from};
 ghost use Rattle.winnow_views.specs.BitLaws.{bits_remaining-same, IsValidBits-same};
 
 use crate::BitOffsets;
@@ -118,10 +118,10 @@ impl<I: Stream<Token = u8>> Stream for Bits<I> {
 
     ghost keeps = { λ s t. I.keeps s.input t.input };
 
-    ghost has_widths = { λ s _. HasWidths-bits_from (I.remaining s.input) s.place };
+    ghost positive_widths = { λ s _. HasPositiveWidths-bits_from (I.remaining s.input) s.place };
 
-    ghost has_widths_remained = { λ c _. let b = checkpoint_inner c in
-        HasWidths-bits_from (I.remained b.bytes) b.place };
+    ghost positive_widths_remained = { λ c _. let b = checkpoint_inner c in
+        HasPositiveWidths-bits_from (I.remained b.bytes) b.place };
 
     ghost rest_width_remaining = { λ s v.
         rest_width-bits_from (I.remaining s.input) s.place (I.rest_width s.input) v.1.units

@@ -9,13 +9,10 @@ mod previous_tokens;
 mod token_laws;
 mod token_offsets;
 mod token_slice;
-mod token_slice_traits;
 mod token_view;
-mod token_view_rest;
 
 pub use bit_laws::{
     bit_checkpoint_law, bit_equality_law, bit_place_law, bit_slice_law, bit_source_law,
-    byte_slice_law,
 };
 pub use bit_offsets::BitOffsets;
 pub use bits::{BitPlace, Bits};

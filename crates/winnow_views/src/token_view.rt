@@ -1,15 +1,16 @@
-ghost use Rattle.std.specs.Prelude.{◌≡◌, ⊤};
+ghost use Rattle.std.specs.Prelude.{◌≡◌, ⊤, ◌+◌, ◌≤◌, Some, drop, length};
 ghost use Rattle.std.specs.Cmp.{on_per, on_equiv, on_po, on_total};
 ghost use Rattle.std.specs.Cmp.Lexicographic.{pointwise, slice_cmp, slice_partial_cmp, lists_per};
 ghost use Rattle.std.specs.Cmp.Lexicographic.{lists_equiv, lists_po, lists_total, lists_agrees};
 ghost use Rattle.std.specs.Cmp.Lexicographic.{lists_ties};
 ghost use Rattle.std.specs.Fmt.{debug_list};
-ghost use Rattle.winnow_views.specs.TokenPlaces.{rest_in};
+ghost use Rattle.winnow_views.specs.TokenPlaces.{rest_in, remaining_in, place_in};
 
 use std::alloc::AllocError;
 use std::cmp::Ordering;
 use std::fmt;
 use std::fmt::Debug;
+use winnow_stream::{Offset, Rest};
 use winnow_window::Window;
 
 /// What remains of a [`TokenSlice`](crate::TokenSlice), and its place in the whole list, which is where it starts there: what a
@@ -77,5 +78,32 @@ impl<T: Debug> Debug for TokenView<'_, T> {
 
     fn fmt<W: fmt::Write>(&self, f: &mut fmt::Formatter<W>) -> fmt::Result {
         self.window.slice().fmt(f)
+    }
+}
+
+impl<'t, T> TokenView<'t, T> {
+    /// Returns what remains behind that many tokens.
+    #[tactic(auto, using(crate::proofs::lemmas::TokenLemmas::token_steps))]
+    pub(crate) fn behind(self, tokens: usize) -> Self
+        requires { tokens ≤ length (rest_in self) }
+        ensures remains { remaining_in T.row result ≡ drop tokens (remaining_in T.row self.entry) }
+        ensures rest { rest_in result ≡ drop tokens (rest_in self.entry) }
+        ensures place { place_in result ≡ place_in self.entry + tokens }
+    {
+        TokenView {
+            window: self.window.behind(tokens),
+        }
+    }
+}
+
+impl<T> Rest for TokenView<'_, T> {
+    ghost rest_width = { λ s. length (rest_in s) };
+
+    ghost place = { λ s. Some (place_in s) };
+}
+
+impl<'t, T> Offset<TokenView<'t, T>> for TokenView<'t, T> {
+    fn offset_from(&self, start: &TokenView<'t, T>) -> usize {
+        start.window.len() - self.window.len()
     }
 }

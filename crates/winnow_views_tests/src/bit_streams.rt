@@ -2,17 +2,16 @@ ghost use Rattle.std.specs.Prelude.{◌≡◌, IfSome};
 ghost use Rattle.winnow_stream.specs.Source.{units};
 ghost use Rattle.winnow_views.specs.BitStream.{bits_input, bits_place, IsValidBits};
 ghost use Rattle.winnow_views.specs.BitSource.{IsBitSource};
-ghost use Rattle.winnow_views.specs.BitWidth.{SlicesHaveWidths};
+ghost use Rattle.winnow_stream.specs.SliceWidths.{SlicesHaveWidths};
 
 use std::alloc::{AllocError, Global};
 use std::test::Fail;
 use winnow_run::Step;
 use winnow_run::Step::{At, Each, Eof, Finish, Look, Mark, Next, Peek, Reset, Since, Take};
-use winnow_stream::{NoSet, Offset, SliceLen, Stream, StreamIsPartial};
+use winnow_stream::{NoSet, Offset, SliceLen, Stream, StreamIsPartial, byte_slice_law};
 use winnow_test_helpers::{Traced, marks, tell, width_from};
 use winnow_views::{
-    Bits, bit_equality_law, bit_place_law, bit_slice_law, bit_source_law, byte_slice_law,
-    token_equality_law,
+    Bits, bit_equality_law, bit_place_law, bit_slice_law, bit_source_law, token_equality_law,
 };
 
 // The bits of bytes from a place on; `None` where they may not be streamed.
@@ -222,6 +221,19 @@ fn places_of_bits(rt: HostRuntime) {
 fn traces_print_what_remains(rt: HostRuntime) -> Result<(), Fail> {
     let trace = format!(in rt.alloc(); "{}", Traced(Bits::new(b"ab".as_slice())))?;
     assert_eq!(rt; trace.as_str(), "Bits { input: [97, 98], place: 0 }");
+    Ok(())
+}
+
+#[test]
+fn debug_texts_under_options(rt: HostRuntime) -> Result<(), Fail> {
+    let bits = Bits::at_place(b"ab".as_slice(), 1);
+    let told = format!(in rt.alloc(); "{bits:#?}\n{bits:>6?}\n{bits:.1?}")?;
+    assert_eq!(rt;
+        told.as_str(),
+        "Bits {\n    input: [\n        97,\n        98,\n    ],\n    place: 1,\n}\n\
+         Bits { input: [    97,     98], place:      1 }\n\
+         Bits { input: [97, 98], place: 1 }"
+    );
     Ok(())
 }
 

@@ -1,11 +1,11 @@
 ghost use Rattle.std.specs.Prelude.{◌≡◌, ◌≤◌, IfSome};
 ghost use Rattle.winnow_views.specs.BitStream.{IsValidBits};
-ghost use Rattle.winnow_views.specs.BitWidth.{SlicesHaveWidths};
+ghost use Rattle.winnow_stream.specs.SliceWidths.{SlicesHaveWidths};
 
 use winnow_bytes::Bytes;
 use winnow_kinds::BStr;
-use winnow_stream::{Offset, SliceLen, Stream, StreamIsPartial};
-use winnow_views::{Bits, bit_checkpoint_law, bit_slice_law, bit_source_law, byte_slice_law};
+use winnow_stream::{Offset, SliceLen, Stream, StreamIsPartial, byte_slice_law};
+use winnow_views::{Bits, bit_checkpoint_law, bit_slice_law, bit_source_law};
 use winnow_wrap::{LocatingSlice, Partial};
 
 // The length of the slice of that many bits, which is their number.

@@ -1,6 +1,9 @@
 ghost use Rattle.std.specs.Prelude.{◌≡◌};
-ghost use Rattle.winnow_views.specs.TokenPlaces.{whole_of};
+ghost use Rattle.std.specs.Fmt.{debug_list};
+ghost use Rattle.winnow_stream.specs.declared.checkpoint.Checkpoint.{Checkpoint};
+ghost use Rattle.winnow_views.specs.TokenPlaces.{whole_of, rest_of, rest_in, rest_at};
 ghost use Rattle.winnow_views.specs.declared.token_slice.TokenSlice.{TokenSlice};
+ghost use Rattle.winnow_views.specs.declared.token_view.TokenView.{TokenView};
 
 use std::alloc::{AllocError, Global};
 use std::fmt::Debug;
@@ -9,9 +12,9 @@ use std::test::Fail;
 use winnow_match::CompareResult;
 use winnow_run::Step::{At, Each, Finish, Mark, Next, Peek, Reset, Since, Take};
 use winnow_run::{Step, run};
-use winnow_stream::{Location, NoSet, Stream, StreamIsPartial, UpdateSlice};
-use winnow_test_helpers::{Traced, compares, marks, told, width, width_from};
-use winnow_views::TokenSlice;
+use winnow_stream::{Checkpoint, Location, NoSet, Stream, StreamIsPartial, UpdateSlice};
+use winnow_test_helpers::{Traced, compares, debugged, marks, told, width, width_from};
+use winnow_views::{TokenSlice, TokenView};
 
 // A token that is not `Copy`, with its place in the input of the lexer.
 #[derive(Debug, Drop, PartialEq, Eq)]
@@ -110,6 +113,17 @@ fn complete_tokens<'t, T>(s: &mut TokenSlice<'t, T>)
     s.complete();
     s.restore_partial(());
 }
+
+// What the members say that tell debug texts, spelled out: tokens, a checkpoint of them and what it holds are a list of what remains.
+fn debug_texts<'t, T: Debug + 't>()
+    ensures tokens { (s : TokenSlice T) → ⟦<TokenSlice<'t, T> as Debug>⟧.debug_output s
+        ≡ debug_list T.debug_output (rest_of s) }
+    ensures view { (v : TokenView T) → ⟦<TokenView<'t, T> as Debug>⟧.debug_output v
+        ≡ debug_list T.debug_output (rest_in v) }
+    ensures checkpoint { (c : Checkpoint (TokenView T) (TokenSlice T))
+        → ⟦<Checkpoint<TokenView<'t, T>, TokenSlice<'t, T>> as Debug>⟧.debug_output c
+        ≡ debug_list T.debug_output (rest_at c) }
+{}
 
 #[test]
 fn a_window_has_the_place_where_it_begins(rt: HostRuntime) -> Result<(), Fail> {
@@ -249,6 +263,49 @@ fn equality_is_that_of_the_tokens(rt: HostRuntime) {
         ],
         [true, false, false, true, true]
     );
+}
+
+// Two windows over equal lists of which the same remains are equal, also where one starts further on.
+#[test]
+fn places_are_no_part_of_equality(rt: HostRuntime) -> Result<(), Fail> {
+    let start = TokenSlice::new(&[7, 7]);
+    let mut later = start;
+    let _ = later.next_token();
+    assert!(rt; start != later, "the rest differs");
+    let first = window(start, 1).ok_or("two tokens remain")?;
+    let second = window(later, 1).ok_or("a token remains")?;
+    shows(&rt, rt.alloc(), &first, "[7] after []")?;
+    shows(&rt, rt.alloc(), &second, "[7] after [7]")?;
+    assert!(rt; first == second, "the place alone differs");
+    assert!(rt;
+        first.checkpoint() == second.checkpoint(),
+        "so do checkpoints"
+    );
+    Ok(())
+}
+
+// The debug texts of tokens, of a checkpoint, and of what it holds.
+#[test]
+fn debug_texts_are_lists_of_what_remains(rt: HostRuntime) -> Result<(), Fail> {
+    debug_texts::<u8>();
+    let mut tokens = TokenSlice::new(b"abc");
+    let _ = tokens.next_token();
+    let place = tokens.checkpoint();
+    assert_eq!(rt; debugged(rt.alloc(), &tokens)?.as_str(), "[98, 99]");
+    assert_eq!(rt; debugged(rt.alloc(), &place)?.as_str(), "[98, 99]");
+    assert_eq!(rt; debugged(rt.alloc(), place.inner())?.as_str(), "[98, 99]");
+    Ok(())
+}
+
+#[test]
+fn debug_texts_under_options(rt: HostRuntime) -> Result<(), Fail> {
+    let tokens = TokenSlice::new(b"ab");
+    let told = format!(in rt.alloc(); "{tokens:#?} {tokens:>6?} {tokens:.1?}")?;
+    assert_eq!(rt;
+        told.as_str(),
+        "[\n    97,\n    98,\n] [    97,     98] [97, 98]"
+    );
+    Ok(())
 }
 
 #[test]

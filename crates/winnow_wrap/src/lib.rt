@@ -7,7 +7,6 @@
 mod laws;
 mod located;
 mod locating;
-mod locating_traits;
 mod partial;
 mod stateful;
 

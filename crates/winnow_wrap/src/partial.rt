@@ -88,9 +88,9 @@ impl<I: Stream> Stream for Partial<I> {
 
     ghost keeps = { λ s t. (mark s ≡ mark t) × I.keeps (unmarked s) (unmarked t) };
 
-    ghost has_widths = { λ s v. I.has_widths (unmarked s) v };
+    ghost positive_widths = { λ s v. I.positive_widths (unmarked s) v };
 
-    ghost has_widths_remained = { λ c v. I.has_widths_remained (checkpoint_inner c) v };
+    ghost positive_widths_remained = { λ c v. I.positive_widths_remained (checkpoint_inner c) v };
 
     ghost rest_width_remaining = { λ s v. I.rest_width_remaining (unmarked s) v };
 

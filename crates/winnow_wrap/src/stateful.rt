@@ -64,9 +64,9 @@ impl<I: Stream, S: Debug> Stream for Stateful<I, S> {
 
     ghost keeps = { λ s t. (s.state ≡ t.state) × I.keeps s.input t.input };
 
-    ghost has_widths = { λ s v. I.has_widths s.input v };
+    ghost positive_widths = { λ s v. I.positive_widths s.input v };
 
-    ghost has_widths_remained = { λ c v. I.has_widths_remained (checkpoint_inner c) v };
+    ghost positive_widths_remained = { λ c v. I.positive_widths_remained (checkpoint_inner c) v };
 
     ghost rest_width_remaining = { λ s v. I.rest_width_remaining s.input v };
 

@@ -4,4 +4,6 @@
 #[cfg(test)]
 mod nests;
 #[cfg(test)]
+mod texts;
+#[cfg(test)]
 mod wrappers;

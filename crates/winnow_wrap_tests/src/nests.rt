@@ -140,3 +140,85 @@ fn a_trace_through_four_wrappers(rt: HostRuntime) -> Result<(), Fail> {
     assert_eq!(rt; traced(rt.alloc(), "ab")?.as_str(), "\"ab\"");
     Ok(())
 }
+
+type FiveStates<I> = Stateful<Stateful<Stateful<Stateful<Stateful<I, u8>, u8>, u8>, u8>, u8>;
+
+// Five states round a stream.
+fn five_states<I: Stream>(input: I) -> FiveStates<I>
+    requires { I.valid input }
+    ensures { ⟦<FiveStates<I> as Stream>⟧.valid result }
+{
+    let two = Stateful {
+        input: Stateful { input, state: 1 },
+        state: 2,
+    };
+    Stateful {
+        input: Stateful {
+            input: Stateful {
+                input: two,
+                state: 3,
+            },
+            state: 4,
+        },
+        state: 5,
+    }
+}
+
+// A script leaves each of five states as it was, whatever it takes.
+fn tell_through_states<I: Stream>(
+    alloc: Global,
+    s: &mut FiveStates<I>,
+    script: &[Step<NoSet>],
+) -> Result<String, AllocError>
+where
+    I::Token: Drop,
+    I::Slice: Drop,
+    requires { ⟦<FiveStates<I> as Stream>⟧.valid s.old }
+    ensures valid { ⟦<FiveStates<I> as Stream>⟧.valid s.new }
+    ensures fifth { s.old.state ≡ s.new.state }
+    ensures fourth { s.old.input.state ≡ s.new.input.state }
+    ensures third { s.old.input.input.state ≡ s.new.input.input.state }
+    ensures second { s.old.input.input.input.state ≡ s.new.input.input.input.state }
+    ensures first { s.old.input.input.input.input.state ≡ s.new.input.input.input.input.state }
+{
+    tell(alloc, s, script)
+}
+
+// What a script answers through five states, and the states that it leaves, the innermost first.
+fn told_through_states<I: Stream + Drop>(
+    alloc: Global,
+    input: I,
+) -> Result<(String, [u8; 5]), AllocError>
+where
+    I::Token: Drop,
+    I::Slice: Drop,
+    requires { I.valid input }
+{
+    let mut s = five_states(input);
+    let answers = tell_through_states(alloc, &mut s, &SCRIPT)?;
+    let Stateful {
+        input: four,
+        state: fifth,
+    } = s;
+    let Stateful {
+        input: three,
+        state: fourth,
+    } = four;
+    let Stateful {
+        input: two,
+        state: third,
+    } = three;
+    let (first, second) = (two.input.state, two.state);
+    Ok((answers, [first, second, third, fourth, fifth]))
+}
+
+#[test]
+fn a_script_leaves_five_states_as_they_were(rt: HostRuntime) -> Result<(), Fail> {
+    let plain = told(rt.alloc(), "aéb", &SCRIPT)?;
+    let (answers, states) = told_through_states(rt.alloc(), "aéb")?;
+    assert_eq!(rt;
+        (answers.as_str(), states),
+        (plain.as_str(), [1, 2, 3, 4, 5])
+    );
+    Ok(())
+}

@@ -14,9 +14,9 @@ use Rattle.winnow_match.specs.Comparison.{comparison}
 use Rattle.winnow_match.specs.Search.{hit, AreOffsets}
 use Rattle.winnow_match.proofs.lemmas.ByteLemmas.{bytes_of-units}
 use Rattle.winnow_match.proofs.lemmas.ComparisonLemmas.{front-from_ok}
-use Rattle.winnow_attempt.specs.Settled.{AreSame, NoneStands, shifted, longer}
+use Rattle.winnow_attempt.specs.Settled.{AreSame, NoneOccurs, shifted, longer}
 use Rattle.winnow_attempt.specs.View.{first_width}
-use Rattle.winnow_attempt.proofs.lemmas.SettledLemmas.{AreSame-on, NoneStands-on}
+use Rattle.winnow_attempt.proofs.lemmas.SettledLemmas.{AreSame-on, NoneOccurs-on}
 
 pub first_width-is : {T : Type 0} (r : Source T) → width r - width (drop 1 r) ≡ first_width r
 first_width-is [] = refl
@@ -53,9 +53,9 @@ module _ (literal bytes l b : List ℕ) (n : ℕ) (same : AreSame literal bytes 
   pub same-error : comparison l b ≡ compared.Error → compared.Error ≡ comparison literal bytes
   same-error h = sym (going ∙ ap (longer n) h)
 
-module _ (needles : List (List ℕ)) (bytes b : List ℕ) (n : ℕ) (none : NoneStands needles bytes n) (eb : b ≡ drop n bytes) where
+module _ (needles : List (List ℕ)) (bytes b : List ℕ) (n : ℕ) (none : NoneOccurs needles bytes n) (eb : b ≡ drop n bytes) where
   hits : hit needles bytes ≡ shifted n (hit needles b)
-  hits = rw eb (NoneStands-on needles bytes n none)
+  hits = rw eb (NoneOccurs-on needles bytes n none)
 
   pub hit-later : (p : Range ℕ) → hit needles b ≡ Some p → Some (record { start = n + p.start; end = n + p.end }) ≡ hit needles bytes
   hit-later p h = sym (hits ∙ ap (shifted n) h)

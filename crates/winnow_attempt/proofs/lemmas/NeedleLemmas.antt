@@ -5,11 +5,11 @@ use Rattle.std.specs.declared.ops.Range.{Range}
 use Rattle.std.proofs.lemmas.Bool.{false≢true, cases_Bool, cases_lt}
 use Rattle.std.proofs.lemmas.Option.{none-some}
 use Rattle.std.proofs.lemmas.List.{drop_all, drop-append-le, append-nil}
-use Rattle.winnow_stream.specs.Cursor.{places}
-use Rattle.winnow_match.specs.Search.{is_empty, needle_of, hit, Stands}
+use Rattle.winnow_stream.specs.Span.{span}
+use Rattle.winnow_match.specs.Search.{is_empty, needle_of, hit, Occurs}
 use Rattle.winnow_match.specs.declared.needles.Stretch.{Stretch}
 use Rattle.winnow_match.specs.Stretch.{stretch_of, hit_is_definite, Stretches, CanMove}
-use Rattle.winnow_match.proofs.lemmas.ByteFrontLemmas.{is_front-IsFrontOf, front_rest, length-front}
+use Rattle.winnow_match.proofs.lemmas.ByteFrontLemmas.{is_prefix-IsPrefixOf, front_rest, length-front}
 use Rattle.winnow_match.proofs.lemmas.HitLemmas.{none-says}
 use Rattle.winnow_match.proofs.lemmas.StretchLemmas.{none-or-some}
 use Rattle.winnow_match.proofs.lemmas.MoveLemmas.{first, fits, inside, stands-before, none-contained, stretch-some, hit-empty, stretch-first, stretch-empty, definite-from}
@@ -20,9 +20,9 @@ module _ (n b : List ℕ) (q : ℕ) (within : q ≤ length b) (s : Stretches n b
   rest-is : drop q b ++ drop (length b - q) n ≡ n
   rest-is =
       let e : length b - q ≡ length (drop q b) = omega (arith, length-drop q b) in
-      ap (λ k. drop q b ++ drop k n) e ∙ sym (front_rest (drop q b) n (is_front-IsFrontOf (drop q b) n s.0))
+      ap (λ k. drop q b ++ drop k n) e ∙ sym (front_rest (drop q b) n (is_prefix-IsPrefixOf (drop q b) n s.0))
 
-  stands-rest : Stands n (b ++ drop (length b - q) n) q
+  stands-rest : Occurs n (b ++ drop (length b - q) n) q
   stands-rest = ([], drop-append-le q b (drop (length b - q) n) within ∙ rest-is ∙ sym (append-nil n))
 
 module _ (ls : List (List ℕ)) (b : List ℕ) (some : list_any is_empty ls ≡ false) (r : Range ℕ) (h : hit ls b ≡ Some r) (i q : ℕ) (c : CanMove ls b r i q) where
@@ -30,7 +30,7 @@ module _ (ls : List (List ℕ)) (b : List ℕ) (some : list_any is_empty ls ≡ 
   it = needle_of ls i
 
   -- the hit moves: by place, or by length where the place stays
-  moves : (m : List ℕ) → Stands (needle_of ls i) (b ++ m) q → ¬ (hit ls (b ++ m) ≡ Some r)
+  moves : (m : List ℕ) → Occurs (needle_of ls i) (b ++ m) q → ¬ (hit ls (b ++ m) ≡ Some r)
   moves m s g =
       let old = first ls b some r h in
       let new = first ls (b ++ m) some r g in
@@ -38,20 +38,20 @@ module _ (ls : List (List ℕ)) (b : List ℕ) (some : list_any is_empty ls ≡ 
       elim c.first [
         | inl l ↦ new.first_place i q c.listed l s
         | inr f ↦
-            let same : Stands (needle_of ls i) (b ++ m) r.start = subst (Stands (needle_of ls i) (b ++ m)) f.0 s in
+            let same : Occurs (needle_of ls i) (b ++ m) r.start = subst (Occurs (needle_of ls i) (b ++ m)) f.0 s in
             let low : new.index ≤ i = elim (cases_lt i new.index) [ inl l ↦ absurd (new.first_listed i l same) | inr l ↦ l ] in
-            let absent : ¬ Stands (needle_of ls new.index) b q =
+            let absent : ¬ Occurs (needle_of ls new.index) b q =
             λ t. elim (cases_lt new.index i) [
               | inl l ↦ f.1 new.index l t
               | inr l ↦
                   let e : new.index ≡ i = omega (arith, l, low) in
-                  let u : Stands (needle_of ls i) b q = subst (λ j. Stands (needle_of ls j) b q) e t in
-                  let long = length-front (needle_of ls i) (drop q b) (is_front-IsFrontOf (needle_of ls i) (drop q b) u) in
+                  let u : Occurs (needle_of ls i) b q = subst (λ j. Occurs (needle_of ls j) b q) e t in
+                  let long = length-front (needle_of ls i) (drop q b) (is_prefix-IsPrefixOf (needle_of ls i) (drop q b) u) in
                   omega (arith, long, c.stretches.1)
             ]
             in
             elim (stands-before (needle_of ls new.index) b m r.start reach new.stands) [
-              | inl t ↦ absent (subst (Stands (needle_of ls new.index) b) (sym f.0) t)
+              | inl t ↦ absent (subst (Occurs (needle_of ls new.index) b) (sym f.0) t)
               | inr t ↦ omega (arith, t.1, fits ls b some r h, old.whole, new.whole)
             ]
       ]
@@ -59,7 +59,7 @@ module _ (ls : List (List ℕ)) (b : List ℕ) (some : list_any is_empty ls ≡ 
 none-moves : (ls : List (List ℕ)) (b : List ℕ) → 0 < length ls → hit ls b ≡ None → ¬ (hit ls (b ++ needle_of ls 0) ≡ None)
 none-moves ls b l h g =
     elim (cases_Bool (list_any is_empty ls)) [
-      | inl e ↦ none-some (places 0 0) (sym h ∙ hit-empty ls b e)
+      | inl e ↦ none-some (span 0 0) (sym h ∙ hit-empty ls b e)
       | inr e ↦
           let nowhere = (none-says ls (b ++ needle_of ls 0) (none-contained ls b e)).0 g in
           let at : drop (length b) (b ++ needle_of ls 0) ≡ needle_of ls 0 ++ [] = drop-append-le (length b) b (needle_of ls 0) (omega arith) ∙ ap (λ xs. xs ++ needle_of ls 0) (drop_all (length b) b (omega arith)) ∙ sym (append-nil (needle_of ls 0)) in
@@ -83,7 +83,7 @@ needle-changes ls b l d g =
               let t = stretch-some ls b p e.0 e.1 s (sym (stretch-first ls b p) ∙ f.1) in
               let w = inside ls b p e.0 e.1 in
               let within : s.place ≤ length b = elim t.can_move.first [ inl k ↦ omega (arith, k, w) | inr k ↦ omega (arith, k.0, w) ] in
-              let stands : Stands (needle_of ls s.needle) (b ++ m) s.place = stands-rest (needle_of ls s.needle) b s.place within t.can_move.stretches in
+              let stands : Occurs (needle_of ls s.needle) (b ++ m) s.place = stands-rest (needle_of ls s.needle) b s.place within t.can_move.stretches in
               moves ls b p e.0 e.1 s.needle s.place t.can_move m stands (ap (λ x. hit ls (b ++ x)) (sym c) ∙ g ∙ e.1)
         ]
       ]

@@ -4,7 +4,7 @@ use Rattle.std.proofs.lemmas.List.{take_at}
 use Rattle.std.specs.Prelude.{is_some, is_ok}
 use Rattle.std.specs.declared.ops.Range.{Range}
 use Rattle.std.proofs.lemmas.Bool.{le-leb, leb-false, and_from}
-use Rattle.winnow_stream.specs.Source.{Source, width, HasWidths, first_token, first_offset}
+use Rattle.winnow_stream.specs.Source.{Source, width, HasPositiveWidths, first_token, first_offset}
 use Rattle.winnow_stream.specs.Front.{count_to, back}
 use Rattle.winnow_stream.specs.Shortage.{shortage, offset_at}
 use Rattle.winnow_stream.proofs.lemmas.FrontLemmas.{count_to-le, is_offset-whole, count_to-place}
@@ -23,14 +23,14 @@ use Rattle.winnow_run.specs.declared.search_script.SearchStep.{SearchStep}
 use Rattle.winnow_run.specs.declared.search_script.SearchStep.TheVariants as step
 use Rattle.winnow_attempt.specs.View.{never_definite, look_of}
 use Rattle.winnow_run.specs.Definite.{PieceKind, is_definite, is_decided}
-use Rattle.winnow_attempt.specs.Settled.{NoneHeld, NoneStands, AreSame, AreCounted}
-use Rattle.winnow_attempt.proofs.lemmas.SettledLemmas.{NoneHeld-whole, NoneStands-searched, have_most}
+use Rattle.winnow_attempt.specs.Settled.{NoneHeld, NoneOccurs, AreSame, AreCounted}
+use Rattle.winnow_attempt.proofs.lemmas.SettledLemmas.{NoneHeld-whole, NoneOccurs-searched, have_most}
 
 none_of : {A : Type 0} (o : Option A) → is_some o ≡ false → o ≡ None
 none_of None h = refl
 none_of (Some x) h = absurd (cc)
 
-pub first-passed : {T : Type 0} (holds : T → Bool) (r : Source T) → HasWidths r → is_some (first_offset holds r) ≡ false → NoneHeld holds r (width r)
+pub first-passed : {T : Type 0} (holds : T → Bool) (r : Source T) → HasPositiveWidths r → is_some (first_offset holds r) ≡ false → NoneHeld holds r (width r)
 first-passed holds r w h = NoneHeld-whole holds r w (none_of (first_offset holds r) h)
 
 short : (b : Bool) (w : ℕ) (e : Needed) → is_ok (cond b (Ok w) (Err e)) ≡ false → b ≡ false
@@ -42,7 +42,7 @@ at-short counts_missing r asked h =
     let e = short (leb asked (length r)) (width (take asked r)) (shortage counts_missing (asked - length r)) h in
     omega (arith, leb-false asked (length r) e)
 
-pub counted-whole : {T : Type 0} (asked : ℕ) (r : Source T) (n count total : ℕ) → HasWidths r → AreCounted asked r n count → length r ≤ asked → total ≡ count + length (back r n) → AreCounted asked r (width r) total
+pub counted-whole : {T : Type 0} (asked : ℕ) (r : Source T) (n count total : ℕ) → HasPositiveWidths r → AreCounted asked r n count → length r ≤ asked → total ≡ count + length (back r n) → AreCounted asked r (width r) total
 counted-whole asked r n count total w h l e =
     let whole : width (take (length r) r) ≡ width r = ap width (take_all (length r) r (omega arith)) in
     let k : count_to r (width r) ≡ length r = subst (λ m. count_to r m ≡ length r) whole (count_to-place r (length r) w (omega arith)) in
@@ -71,17 +71,17 @@ most-longest w [] l = refl
 most-longest w (x ∷ ls) l = and_from _ _ (le-leb (length x) w (omega (arith, l))) (most-longest w ls (omega (arith, l)))
 
 module _ (ls : List (List ℕ)) (bs : List ℕ) where
-  pub searched-none : (m : ℕ) → m ≡ longest ls → None ≡ hit ls bs → NoneStands ls bs (length bs - (m - 1))
-  searched-none m e none = NoneStands-searched (m - 1) ls bs (most-longest (m - 1 + 1) ls (omega (arith, e))) (sym none)
+  pub searched-none : (m : ℕ) → m ≡ longest ls → None ≡ hit ls bs → NoneOccurs ls bs (length bs - (m - 1))
+  searched-none m e none = NoneOccurs-searched (m - 1) ls bs (most-longest (m - 1 + 1) ls (omega (arith, e))) (sym none)
 
-  pub searched-hit : (r : Range ℕ) (s : Stretch) → Some r ≡ hit ls bs → Some s ≡ stretch_of ls bs → NoneStands ls bs s.place
+  pub searched-hit : (r : Range ℕ) (s : Stretch) → Some r ≡ hit ls bs → Some s ≡ stretch_of ls bs → NoneOccurs ls bs s.place
   searched-hit r s h e = record { within = stretch-within ls bs r s (sym h) (sym e); none = λ m i l. none-before_stretch ls bs r s (sym h) (sym e) m i l }
 
 pub ruleset found_hits = (none-definite)
 
 pub ruleset passes = (first-passed, at-short, same-whole)
 
-pub length-width : {T : Type 0} (r : Source T) → HasWidths r → length r ≤ width r
+pub length-width : {T : Type 0} (r : Source T) → HasPositiveWidths r → length r ≤ width r
 length-width [] h = omega arith
 length-width (x ∷ r) h = omega (arith, h.0, length-width r h.1)
 

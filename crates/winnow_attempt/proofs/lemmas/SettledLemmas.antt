@@ -7,25 +7,25 @@ use Rattle.std.proofs.lemmas.Bool.{cases_Bool, false≢true, leb-true, and_parts
 use Rattle.std.proofs.lemmas.Bool.Decides.{nat_tests}
 use Rattle.std.proofs.lemmas.List.{take-append-le, drop-append-le, length-append, append_assoc, append-nil}
 use Rattle.std.proofs.lemmas.Option.{none-some}
-use Rattle.winnow_stream.specs.Source.{Source, width, HasWidths, first_held, first_offset, offsets_from}
+use Rattle.winnow_stream.specs.Source.{Source, width, HasPositiveWidths, first_held, first_offset, offsets_from}
 use Rattle.winnow_stream.specs.Front.{front_count, is_offset, count_to, front, back}
 use Rattle.winnow_stream.specs.Shortage.{shortage, offset_at}
-use Rattle.winnow_stream.specs.Cursor.{places}
+use Rattle.winnow_stream.specs.Span.{span}
 use Rattle.winnow_run.specs.declared.script.Step.TheVariants as call
-use Rattle.winnow_stream.proofs.lemmas.FrontLemmas.{count_to-le, width-front, width-back, is_offset-whole, front-whole, HasWidths-drop}
+use Rattle.winnow_stream.proofs.lemmas.FrontLemmas.{count_to-le, width-front, width-back, is_offset-whole, front-whole, HasPositiveWidths-drop}
 use Rattle.winnow_stream.proofs.lemmas.OffsetLemmas.{is_offset-offset_at, is_offset-first_offset}
 use Rattle.winnow_match.specs.declared.compare.CompareResult.{CompareResult}
 use Rattle.winnow_match.specs.declared.compare.CompareResult.TheVariants as compared
 use Rattle.winnow_match.specs.Bytes.{written}
-use Rattle.winnow_match.specs.Comparison.{is_front, comparison}
+use Rattle.winnow_match.specs.Comparison.{is_prefix, comparison}
 use Rattle.winnow_match.specs.Search.{is_empty, needle_at, needle_list, hit_or, first_hit, hit}
-use Rattle.winnow_match.proofs.lemmas.ByteFrontLemmas.{is_front-more}
+use Rattle.winnow_match.proofs.lemmas.ByteFrontLemmas.{is_prefix-more}
 use Rattle.winnow_match.proofs.lemmas.HitLemmas.{first_hit-nowhere}
 use Rattle.winnow_stream.specs.declared.needed.Needed.{Needed}
 use Rattle.winnow_run.specs.declared.search_script.SearchStep.{SearchStep}
 use Rattle.winnow_run.specs.declared.search_script.SearchStep.TheVariants as step
 use Rattle.winnow_run.specs.Definite.{PieceKind}
-use Rattle.winnow_attempt.specs.Settled.{NoneHeld, NoneStands, AreSame, AreCounted, IsSettled, shifted, longer, further}
+use Rattle.winnow_attempt.specs.Settled.{NoneHeld, NoneOccurs, AreSame, AreCounted, IsSettled, shifted, longer, further}
 use Rattle.winnow_run.proofs.lemmas.MoreLemmas.{front_count-more, written-append}
 
 -- ---- fronts under more input
@@ -74,7 +74,7 @@ NoneHeld-on holds r n h =
     let z : 0 + width (front r n) ≡ n + 0 = omega arith in
     ap (first_offset holds) (sym split) ∙ e ∙ ap (λ k. first_held holds (offsets_from k (back r n))) z ∙ first_held-shift holds n 0 (back r n)
 
-pub NoneHeld-whole : {T : Type 0} (holds : T → Bool) (r : Source T) → HasWidths r → first_offset holds r ≡ None → NoneHeld holds r (width r)
+pub NoneHeld-whole : {T : Type 0} (holds : T → Bool) (r : Source T) → HasPositiveWidths r → first_offset holds r ≡ None → NoneHeld holds r (width r)
 NoneHeld-whole holds r w h = record { offset = is_offset-whole r w; none = ap (first_offset holds) (front-whole r w) ∙ h }
 
 pub NoneHeld-none : {T : Type 0} (holds : T → Bool) (r : Source T) → NoneHeld holds r 0
@@ -108,7 +108,7 @@ empty-stands : (ls : List (List ℕ)) (bs : List ℕ) → list_any is_empty ls �
 empty-stands [] bs h e = false≢true h
 empty-stands ([] ∷ ls) bs h e = none-some 0 (sym e)
 empty-stands ((x ∷ l) ∷ ls) bs h e =
-    elim (cases_Bool (is_front (x ∷ l) bs)) [
+    elim (cases_Bool (is_prefix (x ∷ l) bs)) [
       | inl f ↦ none-some (length (x ∷ l)) (sym (rw f at e))
       | inr f ↦ empty-stands ls bs h (rw f at e)
     ]
@@ -121,15 +121,15 @@ shifted-none (Some p) =
     let P : ℕ → ℕ → Option (Range ℕ) = λ a b. Some (record { start = a; end = b }) in
     ap (λ a. P a (0 + p.end)) s ∙ ap (P p.start) e
 
-pub NoneStands-more : (ls : List (List ℕ)) (bs more : List ℕ) (n : ℕ) → NoneStands ls bs n → NoneStands ls (bs ++ more) n
-NoneStands-more ls bs more n h = record {
+pub NoneOccurs-more : (ls : List (List ℕ)) (bs more : List ℕ) (n : ℕ) → NoneOccurs ls bs n → NoneOccurs ls (bs ++ more) n
+NoneOccurs-more ls bs more n h = record {
   within = omega (arith, h.within, length-append bs more);
   none = λ m i l. ap (λ xs. needle_at ls (drop i xs)) (append_assoc bs more m) ∙ h.none (more ++ m) i l;
 }
 
-pub NoneStands-on : (ls : List (List ℕ)) (bs : List ℕ) (n : ℕ) → NoneStands ls bs n → hit ls bs ≡ shifted n (hit ls (drop n bs))
-NoneStands-on ls bs zero h = sym (shifted-none (hit ls bs))
-NoneStands-on ls bs (suc n) h =
+pub NoneOccurs-on : (ls : List (List ℕ)) (bs : List ℕ) (n : ℕ) → NoneOccurs ls bs n → hit ls bs ≡ shifted n (hit ls (drop n bs))
+NoneOccurs-on ls bs zero h = sym (shifted-none (hit ls bs))
+NoneOccurs-on ls bs (suc n) h =
     let none : (i : ℕ) → i < suc n → needle_at ls (drop i bs) ≡ None = λ i l. ap (λ xs. needle_at ls (drop i xs)) (sym (append-nil bs)) ∙ h.none [] i l in
     elim (cases_Bool (list_any is_empty ls)) [
       | inl e ↦ absurd (empty-stands ls bs e (none 0 (omega arith)))
@@ -147,12 +147,12 @@ needle_at-more : (w : ℕ) (ls : List (List ℕ)) (bs m : List ℕ) → have_mos
 needle_at-more w [] bs m h l = refl
 needle_at-more w (x ∷ ls) bs m h l =
     let parts = and_parts (leb (length x) w) (have_most w ls) h in
-    rw (is_front-more x bs m (omega (arith, leb-true (length x) w parts.0)), needle_at-more w ls bs m parts.1 l)
+    rw (is_prefix-more x bs m (omega (arith, leb-true (length x) w parts.0)), needle_at-more w ls bs m parts.1 l)
 
 -- a search that found nothing has passed all but the last places, where a needle may begin
-pub NoneStands-searched : (w : ℕ) (ls : List (List ℕ)) (bs : List ℕ) → have_most (w + 1) ls ≡ true → hit ls bs ≡ None → NoneStands ls bs (length bs - w)
-NoneStands-searched w ls bs h none =
-    let some : list_any is_empty ls ≡ false = elim (cases_Bool (list_any is_empty ls)) [ inl e ↦ absurd (none-some (places 0 0) (sym (rw e at none))) | inr e ↦ e ] in
+pub NoneOccurs-searched : (w : ℕ) (ls : List (List ℕ)) (bs : List ℕ) → have_most (w + 1) ls ≡ true → hit ls bs ≡ None → NoneOccurs ls bs (length bs - w)
+NoneOccurs-searched w ls bs h none =
+    let some : list_any is_empty ls ≡ false = elim (cases_Bool (list_any is_empty ls)) [ inl e ↦ absurd (none-some (span 0 0) (sym (rw e at none))) | inr e ↦ e ] in
     let nowhere : first_hit ls 0 bs ≡ None = rw some at none in
     record {
       within = omega arith;
@@ -161,8 +161,8 @@ NoneStands-searched w ls bs h none =
           ap (needle_at ls) d ∙ needle_at-more (w + 1) ls (drop i bs) m h (omega (arith, length-drop i bs)) ∙ first_hit-nowhere ls bs 0 nowhere i (omega arith);
     }
 
-pub NoneStands-none : (ls : List (List ℕ)) (bs : List ℕ) → NoneStands ls bs 0
-NoneStands-none ls bs = record { within = omega arith; none = λ m i l. absurd (omega arith) }
+pub NoneOccurs-none : (ls : List (List ℕ)) (bs : List ℕ) → NoneOccurs ls bs 0
+NoneOccurs-none ls bs = record { within = omega arith; none = λ m i l. absurd (omega arith) }
 
 -- ---- `Compare`
 
@@ -184,7 +184,7 @@ longer-cond n false false = refl
 comparison-cons : (x : ℕ) (l b : List ℕ) → comparison (x ∷ l) (x ∷ b) ≡ longer 1 (comparison l b)
 comparison-cons x l b =
     let same : (x == x) ≡ true = grind (arith, nat_tests) in
-    rw same (sym (longer-cond (length l) (is_front l b) (is_front b l)))
+    rw same (sym (longer-cond (length l) (is_prefix l b) (is_prefix b l)))
 
 pub AreSame-on : (n : ℕ) (l b : List ℕ) → AreSame l b n → comparison l b ≡ longer n (comparison (drop n l) (drop n b))
 AreSame-on zero l b h = sym (longer-none (comparison l b))
@@ -241,15 +241,15 @@ AreSame-none literal bytes = record { within = omega arith; fits = omega arith; 
 
 -- ---- what was found behind fits
 
-pub first-fits : {T : Type 0} (holds : T → Bool) (r : Source T) (n o : ℕ) → HasWidths r → is_offset r n ≡ true → first_offset holds (back r n) ≡ Some o → n + o ≤ width r
+pub first-fits : {T : Type 0} (holds : T → Bool) (r : Source T) (n o : ℕ) → HasPositiveWidths r → is_offset r n ≡ true → first_offset holds (back r n) ≡ Some o → n + o ≤ width r
 first-fits holds r n o w h e =
     let b = back r n in
-    omega (arith, width-back r n h, width-back b o (is_offset-first_offset holds b o (HasWidths-drop (count_to r n) r w) e))
+    omega (arith, width-back r n h, width-back b o (is_offset-first_offset holds b o (HasPositiveWidths-drop (count_to r n) r w) e))
 
-pub offset_at-fits : {T : Type 0} (counts_missing : Bool) (r : Source T) (n i o : ℕ) → HasWidths r → is_offset r n ≡ true → offset_at counts_missing (back r n) i ≡ Ok o → n + o ≤ width r
+pub offset_at-fits : {T : Type 0} (counts_missing : Bool) (r : Source T) (n i o : ℕ) → HasPositiveWidths r → is_offset r n ≡ true → offset_at counts_missing (back r n) i ≡ Ok o → n + o ≤ width r
 offset_at-fits counts_missing r n i o w h e =
     let b = back r n in
-    omega (arith, width-back r n h, width-back b o (is_offset-offset_at counts_missing b i o (HasWidths-drop (count_to r n) r w) e))
+    omega (arith, width-back r n h, width-back b o (is_offset-offset_at counts_missing b i o (HasPositiveWidths-drop (count_to r n) r w) e))
 
 -- ---- all of them
 
@@ -257,7 +257,7 @@ pub settled-more : (T C L : Type 0) (k : PieceKind T C L) (s : SearchStep C L) (
 settled-more T C L k (step.Call (call.First c)) r more n tokens h = NoneHeld-more (k.holds c) r more n h
 settled-more T C L k (step.Call (call.At asked)) r more n tokens h = AreCounted-more asked r more n tokens h
 settled-more T C L k (step.Compare l) r more n tokens h = rw (written-append k.write r more) (AreSame-more (k.literal l) (written k.write r) (written k.write more) n h)
-settled-more T C L k (step.Find ns) r more n tokens h = rw (written-append k.write r more) (NoneStands-more (needle_list k.literal ns) (written k.write r) (written k.write more) n h)
+settled-more T C L k (step.Find ns) r more n tokens h = rw (written-append k.write r more) (NoneOccurs-more (needle_list k.literal ns) (written k.write r) (written k.write more) n h)
 settled-more T C L k (step.Call call.Next) r more n tokens h = tt
 settled-more T C L k (step.Call call.Peek) r more n tokens h = tt
 settled-more T C L k (step.Call (call.Take i)) r more n tokens h = tt

@@ -4,7 +4,7 @@ use Rattle.std.specs.Prelude.{unwrap_or, slice_get, option_map}
 use Rattle.std.specs.List.{AllByRecursion}
 use Rattle.std.proofs.lemmas.Bool.{cases_Bool, cases_lt, le-leb, lt-leb}
 use Rattle.std.proofs.lemmas.List.{length-map, map-append}
-use Rattle.winnow_stream.specs.Source.{Source, width, HasWidths}
+use Rattle.winnow_stream.specs.Source.{Source, width, HasPositiveWidths}
 use Rattle.winnow_stream.specs.Front.{front_count, is_offset, count_to}
 use Rattle.winnow_stream.specs.Cursor.{Cursor, rest, place}
 use Rattle.winnow_run.specs.Script.{since_answer, reset_answer, step_answer}
@@ -62,7 +62,7 @@ reset-same : {T : Type 0} (f : ℕ → ℕ) (o : Option ℕ) → reset_answer {T
 reset-same f None = refl
 reset-same f (Some m) = refl
 
-since-same : {T : Type 0} (all : Source T) (i m : ℕ) → HasWidths all → i ≤ length all → m ≤ length all → since_view {T = T} (place all i) (Some (place all m)) ≡ since_answer all i (Some m)
+since-same : {T : Type 0} (all : Source T) (i m : ℕ) → HasPositiveWidths all → i ≤ length all → m ≤ length all → since_view {T = T} (place all i) (Some (place all m)) ≡ since_answer all i (Some m)
 since-same all i m w hi hm =
     let a = width-take_drop all i in
     let b = width-take_drop all m in
@@ -74,12 +74,12 @@ since-same all i m w hi hm =
           rw (le-leb (place all m) (place all i) (omega arith), le-leb m i l) (ap (λ n. answer.Offset n) e)
     ]
 
-since-marked : {T : Type 0} (all : Source T) (i : ℕ) (marks : List ℕ) (k : ℕ) → HasWidths all → i ≤ length all → AllByRecursion (λ m. m ≤ length all) marks → since_view {T = T} (place all i) (slice_get (map (place all) marks) k) ≡ since_answer all i (slice_get marks k)
+since-marked : {T : Type 0} (all : Source T) (i : ℕ) (marks : List ℕ) (k : ℕ) → HasPositiveWidths all → i ≤ length all → AllByRecursion (λ m. m ≤ length all) marks → since_view {T = T} (place all i) (slice_get (map (place all) marks) k) ≡ since_answer all i (slice_get marks k)
 since-marked all i [] k w hi h = refl
 since-marked all i (m ∷ marks) zero w hi h = since-same all i m w hi h.0
 since-marked all i (m ∷ marks) (suc k) w hi h = since-marked all i marks k w hi h.1
 
-module _ {T C L : Type 0} (k : PieceKind T C L) (all : Source T) (at : Cursor) (w : HasWidths all) (inside : Inside all at) where
+module _ {T C L : Type 0} (k : PieceKind T C L) (all : Source T) (at : Cursor) (w : HasPositiveWidths all) (inside : Inside all at) where
   call-view : (s : Step C) → call_view k.holds k.counts_missing (place all at.index) (map (place all) at.marks) (rest all at) s ≡ step_answer k.holds k.counts_missing all s at
   call-view call.Next = refl
   call-view call.Peek = refl

@@ -1,7 +1,7 @@
 -- An offset that a call found is valid, and fewer tokens remain behind it.
 use Rattle.std.proofs.Common.{◌≡◌, ℕ, suc, ◌+◌, ◌-◌, ◌<◌, ◌≤◌, ◌⊎◌, inl, inr, Bool, true, false, cond, [], ◌∷◌, length, take, drop, Option, Some, Ok, Err, refl, ◌∙◌, ap, arith, leb-true, length-drop}
 use Rattle.std.specs.Prelude.{nat_le, is_some}
-use Rattle.winnow_stream.specs.Source.{Source, width, HasWidths, first_held, first_offset, offsets_from}
+use Rattle.winnow_stream.specs.Source.{Source, width, HasPositiveWidths, first_held, first_offset, offsets_from}
 use Rattle.winnow_stream.specs.Front.{is_offset, back}
 use Rattle.winnow_stream.specs.Shortage.{offset_at, shortage}
 use Rattle.winnow_stream.proofs.lemmas.FrontLemmas.{front_count-place, back-place}
@@ -22,12 +22,12 @@ module _ {T : Type 0} where
       let c = Ok-cond (nat_le n (length r)) k (width (take n r)) (shortage counts_missing (n - length r)) h in
       (leb-true n (length r) c.0, c.1)
 
-  pub offset_at-valid : (counts_missing : Bool) (r : Source T) (n k : ℕ) → HasWidths r → Ok k ≡ offset_at counts_missing r n → is_offset r k ≡ true
+  pub offset_at-valid : (counts_missing : Bool) (r : Source T) (n k : ℕ) → HasPositiveWidths r → Ok k ≡ offset_at counts_missing r n → is_offset r k ≡ true
   offset_at-valid counts_missing r n k w h =
       let p = offset_at-place counts_missing r n k h in
       rw p.1 (ap is_some (front_count-place r n w p.0))
 
-  pub offset_at-fewer : (counts_missing : Bool) (r : Source T) (n k : ℕ) → HasWidths r → 0 < n → Ok k ≡ offset_at counts_missing r n → length (back r k) < length r
+  pub offset_at-fewer : (counts_missing : Bool) (r : Source T) (n k : ℕ) → HasPositiveWidths r → 0 < n → Ok k ≡ offset_at counts_missing r n → length (back r k) < length r
   offset_at-fewer counts_missing r n k w l h =
       let p = offset_at-place counts_missing r n k h in
       rw p.1 (rw (back-place r n w p.0) (omega (arith, length-drop n r, p.0, l)))
@@ -41,13 +41,13 @@ module _ {T : Type 0} where
         | inr e ↦ let p = held-place q xs (n + x.1) k e in (suc p.0, (omega (arith, p.1.0), p.1.1 ∙ omega arith))
       ]
 
-  pub first_offset-valid : (q : T → Bool) (r : Source T) (k : ℕ) → HasWidths r → Some k ≡ first_offset q r → is_offset r k ≡ true
+  pub first_offset-valid : (q : T → Bool) (r : Source T) (k : ℕ) → HasPositiveWidths r → Some k ≡ first_offset q r → is_offset r k ≡ true
   first_offset-valid q r k w h =
       let p = held-place q r 0 k h in
       let e : k ≡ width (take p.0 r) = p.1.1 ∙ omega arith in
       rw e (ap is_some (front_count-place r p.0 w (omega (arith, p.1.0))))
 
-  pub first_offset-fewer : (q : T → Bool) (r : Source T) (k : ℕ) → HasWidths r → Some k ≡ first_offset q r → length (drop 1 (back r k)) < length r
+  pub first_offset-fewer : (q : T → Bool) (r : Source T) (k : ℕ) → HasPositiveWidths r → Some k ≡ first_offset q r → length (drop 1 (back r k)) < length r
   first_offset-fewer q r k w h =
       let p = held-place q r 0 k h in
       let e : k ≡ width (take p.0 r) = p.1.1 ∙ omega arith in

@@ -64,30 +64,30 @@ pick-leaves gives join only h (Both' p left q right) r w =
     pick-append join h (leaves left) (leaves right) ∙ ap (λ o. option_joined join o (pick join (leaves right))) (pick-leaves gives join only h left w.0 w.1.1.0) ∙ ap (option_joined join (Some w.0)) (pick-leaves gives join only h right w.1.0 w.1.1.1) ∙ ap Some (sym (ModeOr-joined gives join only w.0 w.1.0 r w.1.1.2))
 
 -- the error, if it is no `Backtrack`
-abbrev hard_of : {E : Type 0} → Mode E → Option (Mode E)
-hard_of (Incomplete n) = Some (Incomplete n)
-hard_of (Cut e) = Some (Cut e)
-hard_of (Backtrack e) = None
+abbrev non_backtrack_of : {E : Type 0} → Mode E → Option (Mode E)
+non_backtrack_of (Incomplete n) = Some (Incomplete n)
+non_backtrack_of (Cut e) = Some (Cut e)
+non_backtrack_of (Backtrack e) = None
 
 -- the first `Incomplete`, else the first `Cut`
-abbrev first_hard : {E : Type 0} → List (Mode E) → Option (Mode E)
-first_hard es = first_of (first_needed es) (first_cut es) None
+abbrev first_non_backtrack : {E : Type 0} → List (Mode E) → Option (Mode E)
+first_non_backtrack es = first_of (first_needed es) (first_cut es) None
 
-abbrev hard_joined : {E : Type 0} → Option (Mode E) → Option (Mode E) → Option (Mode E)
-hard_joined None y = y
-hard_joined (Some (Incomplete n)) y = Some (Incomplete n)
-hard_joined (Some (Cut e)) (Some (Incomplete n)) = Some (Incomplete n)
-hard_joined (Some (Cut e)) (Some (Cut d)) = Some (Cut e)
-hard_joined (Some (Cut e)) (Some (Backtrack d)) = Some (Cut e)
-hard_joined (Some (Cut e)) None = Some (Cut e)
-hard_joined (Some (Backtrack e)) y = y
+abbrev non_backtrack_joined : {E : Type 0} → Option (Mode E) → Option (Mode E) → Option (Mode E)
+non_backtrack_joined None y = y
+non_backtrack_joined (Some (Incomplete n)) y = Some (Incomplete n)
+non_backtrack_joined (Some (Cut e)) (Some (Incomplete n)) = Some (Incomplete n)
+non_backtrack_joined (Some (Cut e)) (Some (Cut d)) = Some (Cut e)
+non_backtrack_joined (Some (Cut e)) (Some (Backtrack d)) = Some (Cut e)
+non_backtrack_joined (Some (Cut e)) None = Some (Cut e)
+non_backtrack_joined (Some (Backtrack e)) y = y
 
-first_of-hard : {E : Type 0} (i i' : Option Needed) (c c' : Option E) → hard_joined (first_of i c None) (first_of i' c' None) ≡ first_of (option_or i i') (option_or c c') None
-first_of-hard (Some n) i' c c' = refl
-first_of-hard None (Some n) (Some e) c' = refl
-first_of-hard None None (Some e) (Some d) = refl
-first_of-hard None None (Some e) None = refl
-first_of-hard None i' None c' = refl
+first_of-non_backtrack : {E : Type 0} (i i' : Option Needed) (c c' : Option E) → non_backtrack_joined (first_of i c None) (first_of i' c' None) ≡ first_of (option_or i i') (option_or c c') None
+first_of-non_backtrack (Some n) i' c c' = refl
+first_of-non_backtrack None (Some n) (Some e) c' = refl
+first_of-non_backtrack None None (Some e) (Some d) = refl
+first_of-non_backtrack None None (Some e) None = refl
+first_of-non_backtrack None i' None c' = refl
 
 first_needed-append : {E : Type 0} (xs ys : List (Mode E)) → first_needed (xs ++ ys) ≡ option_or (first_needed xs) (first_needed ys)
 first_needed-append [] ys = refl
@@ -101,58 +101,58 @@ first_cut-append (Incomplete n ∷ xs) ys = first_cut-append xs ys
 first_cut-append (Backtrack e ∷ xs) ys = first_cut-append xs ys
 first_cut-append (Cut e ∷ xs) ys = refl
 
-first_hard-append : {E : Type 0} (xs ys : List (Mode E)) → first_hard (xs ++ ys) ≡ hard_joined (first_hard xs) (first_hard ys)
-first_hard-append xs ys =
-    ap (λ i. first_of i (first_cut (xs ++ ys)) None) (first_needed-append xs ys) ∙ ap (λ c. first_of (option_or (first_needed xs) (first_needed ys)) c None) (first_cut-append xs ys) ∙ sym (first_of-hard (first_needed xs) (first_needed ys) (first_cut xs) (first_cut ys))
+first_non_backtrack-append : {E : Type 0} (xs ys : List (Mode E)) → first_non_backtrack (xs ++ ys) ≡ non_backtrack_joined (first_non_backtrack xs) (first_non_backtrack ys)
+first_non_backtrack-append xs ys =
+    ap (λ i. first_of i (first_cut (xs ++ ys)) None) (first_needed-append xs ys) ∙ ap (λ c. first_of (option_or (first_needed xs) (first_needed ys)) c None) (first_cut-append xs ys) ∙ sym (first_of-non_backtrack (first_needed xs) (first_needed ys) (first_cut xs) (first_cut ys))
 
-first_hard-one : {E : Type 0} (e : Mode E) → first_hard (e ∷ []) ≡ hard_of e
-first_hard-one (Incomplete n) = refl
-first_hard-one (Cut e) = refl
-first_hard-one (Backtrack e) = refl
+first_non_backtrack-one : {E : Type 0} (e : Mode E) → first_non_backtrack (e ∷ []) ≡ non_backtrack_of e
+first_non_backtrack-one (Incomplete n) = refl
+first_non_backtrack-one (Cut e) = refl
+first_non_backtrack-one (Backtrack e) = refl
 
-hard_of-joined : {E : Type 0} (gives : E → E → E → Type 0) (a b r : Mode E) → ModeOr gives a b r → hard_of r ≡ hard_joined (hard_of a) (hard_of b)
-hard_of-joined gives (Backtrack a) (Backtrack b) (Backtrack r) w = refl
-hard_of-joined gives (Backtrack a) (Backtrack b) (Incomplete n) w = absurd w
-hard_of-joined gives (Backtrack a) (Backtrack b) (Cut r) w = absurd w
-hard_of-joined gives (Backtrack a) (Incomplete n) r w = ap hard_of w
-hard_of-joined gives (Backtrack a) (Cut b) r w = ap hard_of w
-hard_of-joined gives (Incomplete n) b r w = ap hard_of w
-hard_of-joined gives (Cut a) (Incomplete n) r w = ap hard_of w
-hard_of-joined gives (Cut a) (Backtrack b) r w = ap hard_of w
-hard_of-joined gives (Cut a) (Cut b) r w = ap hard_of w
+non_backtrack_of-joined : {E : Type 0} (gives : E → E → E → Type 0) (a b r : Mode E) → ModeOr gives a b r → non_backtrack_of r ≡ non_backtrack_joined (non_backtrack_of a) (non_backtrack_of b)
+non_backtrack_of-joined gives (Backtrack a) (Backtrack b) (Backtrack r) w = refl
+non_backtrack_of-joined gives (Backtrack a) (Backtrack b) (Incomplete n) w = absurd w
+non_backtrack_of-joined gives (Backtrack a) (Backtrack b) (Cut r) w = absurd w
+non_backtrack_of-joined gives (Backtrack a) (Incomplete n) r w = ap non_backtrack_of w
+non_backtrack_of-joined gives (Backtrack a) (Cut b) r w = ap non_backtrack_of w
+non_backtrack_of-joined gives (Incomplete n) b r w = ap non_backtrack_of w
+non_backtrack_of-joined gives (Cut a) (Incomplete n) r w = ap non_backtrack_of w
+non_backtrack_of-joined gives (Cut a) (Backtrack b) r w = ap non_backtrack_of w
+non_backtrack_of-joined gives (Cut a) (Cut b) r w = ap non_backtrack_of w
 
-first_hard-leaves : {E : Type 0} (gives : E → E → E → Type 0) (t : OrTree (Mode E)) (r : Mode E) → Bracketed (ModeOr gives) t r → first_hard (leaves t) ≡ hard_of r
-first_hard-leaves gives (One e) r w = first_hard-one e ∙ ap hard_of (sym w)
-first_hard-leaves gives (Both' p left q right) r w =
-    first_hard-append (leaves left) (leaves right) ∙ ap (λ o. hard_joined o (first_hard (leaves right))) (first_hard-leaves gives left w.0 w.1.1.0) ∙ ap (hard_joined (hard_of w.0)) (first_hard-leaves gives right w.1.0 w.1.1.1) ∙ sym (hard_of-joined gives w.0 w.1.0 r w.1.1.2)
+first_non_backtrack-leaves : {E : Type 0} (gives : E → E → E → Type 0) (t : OrTree (Mode E)) (r : Mode E) → Bracketed (ModeOr gives) t r → first_non_backtrack (leaves t) ≡ non_backtrack_of r
+first_non_backtrack-leaves gives (One e) r w = first_non_backtrack-one e ∙ ap non_backtrack_of (sym w)
+first_non_backtrack-leaves gives (Both' p left q right) r w =
+    first_non_backtrack-append (leaves left) (leaves right) ∙ ap (λ o. non_backtrack_joined o (first_non_backtrack (leaves right))) (first_non_backtrack-leaves gives left w.0 w.1.1.0) ∙ ap (non_backtrack_joined (non_backtrack_of w.0)) (first_non_backtrack-leaves gives right w.1.0 w.1.1.1) ∙ sym (non_backtrack_of-joined gives w.0 w.1.0 r w.1.1.2)
 
-HasNonBacktrack-first_hard : {E : Type 0} (es : List (Mode E)) → HasNonBacktrack es → IsSome (first_hard es)
-HasNonBacktrack-first_hard [] h = absurd h
-HasNonBacktrack-first_hard (Incomplete n ∷ es) h = refl
-HasNonBacktrack-first_hard (Backtrack e ∷ es) h = HasNonBacktrack-first_hard es h
-HasNonBacktrack-first_hard (Cut e ∷ es) h = with_cut (first_needed es)
+HasNonBacktrack-first_non_backtrack : {E : Type 0} (es : List (Mode E)) → HasNonBacktrack es → IsSome (first_non_backtrack es)
+HasNonBacktrack-first_non_backtrack [] h = absurd h
+HasNonBacktrack-first_non_backtrack (Incomplete n ∷ es) h = refl
+HasNonBacktrack-first_non_backtrack (Backtrack e ∷ es) h = HasNonBacktrack-first_non_backtrack es h
+HasNonBacktrack-first_non_backtrack (Cut e ∷ es) h = with_cut (first_needed es)
   where
     with_cut : (i : Option Needed) → IsSome (first_of i (Some e) None)
     with_cut (Some n) = refl
     with_cut None = refl
 
--- what is picked of a list with a hard error does not depend on how inner errors are joined
+-- what is picked of a list with a non_backtrack error does not depend on how inner errors are joined
 first_of-some : {E : Type 0} (i : Option Needed) (c b : Option E) → IsSome (first_of i c None) → first_of i c b ≡ first_of i c None
 first_of-some (Some n) c b h = refl
 first_of-some None (Some e) b h = refl
 first_of-some None None b h = cc
 
-hard_of-some : {E : Type 0} (r : Mode E) → IsSome (hard_of r) → hard_of r ≡ Some r
-hard_of-some (Incomplete n) h = refl
-hard_of-some (Cut e) h = refl
-hard_of-some (Backtrack e) h = cc
+non_backtrack_of-some : {E : Type 0} (r : Mode E) → IsSome (non_backtrack_of r) → non_backtrack_of r ≡ Some r
+non_backtrack_of-some (Incomplete n) h = refl
+non_backtrack_of-some (Cut e) h = refl
+non_backtrack_of-some (Backtrack e) h = cc
 
 -- where some leaf is no `Backtrack`, the tree's error is the pick of its leaves, whatever the inner `or`
 pub pick-non_backtrack : {E : Type 0} (gives : E → E → E → Type 0) (join : E → E → E) (t : OrTree (Mode E)) (r : Mode E) → HasNonBacktrack (leaves t) → Bracketed (ModeOr gives) t r → pick join (leaves t) ≡ Some r
 pick-non_backtrack gives join t r h w =
-    let some = HasNonBacktrack-first_hard (leaves t) h in
-    let is_hard = first_hard-leaves gives t r w in
-    first_of-some (first_needed (leaves t)) (first_cut (leaves t)) (join_all join (backtracked (leaves t))) some ∙ is_hard ∙ hard_of-some r (subst IsSome is_hard some)
+    let some = HasNonBacktrack-first_non_backtrack (leaves t) h in
+    let is_hard = first_non_backtrack-leaves gives t r w in
+    first_of-some (first_needed (leaves t)) (first_cut (leaves t)) (join_all join (backtracked (leaves t))) some ∙ is_hard ∙ non_backtrack_of-some r (subst IsSome is_hard some)
 
 -- two errors that are picked of the same list are one
 pick-same : {E : Type 0} (join : E → E → E) (xs ys : List (Mode E)) (a b : Mode E) → xs ≡ ys → pick join xs ≡ Some a → pick join ys ≡ Some b → a ≡ b

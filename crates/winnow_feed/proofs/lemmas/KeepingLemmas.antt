@@ -4,11 +4,11 @@ use Rattle.std.specs.Prelude.{slice_get, unwrap_or, is_some}
 use Rattle.std.specs.List.{AllByRecursion}
 use Rattle.std.proofs.lemmas.Bool.{cases_lt}
 use Rattle.std.proofs.lemmas.List.{drop-drop, take-append-le, drop-append-le, length-append, drop_all}
-use Rattle.winnow_stream.specs.Source.{Source, width, HasWidths}
+use Rattle.winnow_stream.specs.Source.{Source, width, HasPositiveWidths}
 use Rattle.winnow_stream.specs.Front.{is_offset, back}
 use Rattle.winnow_stream.specs.Cursor.{Cursor, start, rest, place}
 use Rattle.winnow_run.specs.declared.script.Step.TheVariants as call
-use Rattle.winnow_stream.proofs.lemmas.FrontLemmas.{front_count-place, back-place, HasWidths-drop, width-take_drop}
+use Rattle.winnow_stream.proofs.lemmas.FrontLemmas.{front_count-place, back-place, HasPositiveWidths-drop, width-take_drop}
 use Rattle.winnow_sets.specs.declared.char_set.CharSet.{CharSet}
 use Rattle.winnow_run.specs.declared.search_script.SearchStep.{SearchStep}
 use Rattle.winnow_run.specs.declared.search_script.SearchStep.TheVariants as step
@@ -107,9 +107,9 @@ places-more all more (m ∷ marks) h =
     let e : place all m ≡ place (all ++ more) m = ap width (sym (take-append-le m all more h.0)) in
     rw (e, places-more all more marks h.1) refl
 
-HasWidths-append : {T : Type 0} (all more : Source T) → HasWidths all → HasWidths more → HasWidths (all ++ more)
-HasWidths-append [] more h g = g
-HasWidths-append (x ∷ all) more h g = (h.0, HasWidths-append all more h.1 g)
+HasPositiveWidths-append : {T : Type 0} (all more : Source T) → HasPositiveWidths all → HasPositiveWidths more → HasPositiveWidths (all ++ more)
+HasPositiveWidths-append [] more h g = g
+HasPositiveWidths-append (x ∷ all) more h g = (h.0, HasPositiveWidths-append all more h.1 g)
 
 module _ {T L : Type 0} (k : PieceKind T CharSet L) (all kept : Source T) (p : Progress T L) (h : Stands true k all kept p) where
   pub stands-inside : Inside all h.at
@@ -122,11 +122,11 @@ module _ {T L : Type 0} (k : PieceKind T CharSet L) (all kept : Source T) (p : P
   needed-more more [] = omega (arith, length-append all more)
   needed-more more (s ∷ steps) = omega arith
 
-  pub Stands-more : (more : Source T) → HasWidths more → Stands true k (all ++ more) (kept ++ more) p
+  pub Stands-more : (more : Source T) → HasPositiveWidths more → Stands true k (all ++ more) (kept ++ more) p
   Stands-more more w =
       let i = stands-inside in
       record {
-        widths = HasWidths-append all more h.widths w;
+        widths = HasPositiveWidths-append all more h.widths w;
         at = h.at;
         reaches = Reaches-more k all more start h.at p.script.now (answers_told p) (start-inside all) h.reaches;
         here = h.here ∙ ap width (sym (take-append-le h.at.index all more i.index));
@@ -141,7 +141,7 @@ module _ {T L : Type 0} (k : PieceKind T CharSet L) (all kept : Source T) (p : P
       }
 
   -- a piece behind the last answer, of which nothing is kept
-  pub Stands-skips : (more : Source T) → HasWidths more → steps_left p ≡ [] → (q : Progress T L) (t : Source T) → t ≡ [] → q.script ≡ p.script → q.told ≡ p.told → q.place ≡ p.place → q.marks ≡ p.marks → q.passed ≡ p.passed → q.base ≡ place all (length all) + width more → Stands true k (all ++ more) t q
+  pub Stands-skips : (more : Source T) → HasPositiveWidths more → steps_left p ≡ [] → (q : Progress T L) (t : Source T) → t ≡ [] → q.script ≡ p.script → q.told ≡ p.told → q.place ≡ p.place → q.marks ≡ p.marks → q.passed ≡ p.passed → q.base ≡ place all (length all) + width more → Stands true k (all ++ more) t q
   Stands-skips more w none q t gone script told here marks passed based =
       let m = Stands-more more w in
       let len = length-append all more in
@@ -172,7 +172,7 @@ module _ {T L : Type 0} (k : PieceKind T CharSet L) (all kept : Source T) (p : P
   kept-back n l m =
       let f = far n l in
       let e : place all n - p.base ≡ width (take (n - h.first) kept) = omega arith in
-      let w : HasWidths kept = subst HasWidths (sym h.is_kept) (HasWidths-drop h.first all h.widths) in
+      let w : HasPositiveWidths kept = subst HasPositiveWidths (sym h.is_kept) (HasPositiveWidths-drop h.first all h.widths) in
       let len : n - h.first ≤ length kept = omega (arith, ap length h.is_kept, length-drop h.first all) in
       let s : h.first + (n - h.first) ≡ n = omega arith in
       ap (back kept) e ∙ back-place kept (n - h.first) w len ∙ ap (drop (n - h.first)) h.is_kept ∙ drop-drop (n - h.first) h.first all ∙ ap (λ i. drop i all) s
@@ -181,7 +181,7 @@ module _ {T L : Type 0} (k : PieceKind T CharSet L) (all kept : Source T) (p : P
   kept-is_offset n l m =
       let f = far n l in
       let e : place all n - p.base ≡ width (take (n - h.first) kept) = omega arith in
-      let w : HasWidths kept = subst HasWidths (sym h.is_kept) (HasWidths-drop h.first all h.widths) in
+      let w : HasPositiveWidths kept = subst HasPositiveWidths (sym h.is_kept) (HasPositiveWidths-drop h.first all h.widths) in
       let len : n - h.first ≤ length kept = omega (arith, ap length h.is_kept, length-drop h.first all) in
       subst (λ v. is_offset kept v ≡ true) (sym e) (ap is_some (front_count-place kept (n - h.first) w len))
 

@@ -8,11 +8,12 @@ use Rattle.std.proofs.lemmas.Option.{none-some, same_Some}
 use Rattle.std.proofs.lemmas.List.{length-append, append-nil, take-append-le}
 use Rattle.winnow_stream.specs.declared.needed.Needed.{Needed}
 use Rattle.winnow_stream.specs.declared.needed.Needed.TheVariants.{Unknown, Size}
-use Rattle.winnow_stream.specs.Source.{Source, width, HasWidths, first_token, first_held, first_offset, offsets_from}
+use Rattle.winnow_stream.specs.Source.{Source, width, HasPositiveWidths, first_token, first_held, first_offset, offsets_from}
 use Rattle.winnow_stream.specs.Front.{front_count, is_offset, count_to, front}
 use Rattle.winnow_stream.specs.Shortage.{needed, offset_at}
-use Rattle.winnow_stream.specs.Cursor.{Cursor, rest, place, places}
-use Rattle.winnow_stream.proofs.lemmas.FrontLemmas.{width-front, width-take_drop, is_offset-whole, HasWidths-drop}
+use Rattle.winnow_stream.specs.Cursor.{Cursor, rest, place}
+use Rattle.winnow_stream.specs.Span.{span}
+use Rattle.winnow_stream.proofs.lemmas.FrontLemmas.{width-front, width-take_drop, is_offset-whole, HasPositiveWidths-drop}
 use Rattle.winnow_match.specs.Bytes.{written}
 use Rattle.winnow_match.specs.Comparison.{comparison}
 use Rattle.winnow_match.specs.Search.{hit, needle_list}
@@ -21,7 +22,7 @@ use Rattle.winnow_match.specs.declared.compare.CompareResult.TheVariants as comp
 use Rattle.winnow_match.specs.declared.needles.Needles.{Needles}
 use Rattle.winnow_match.specs.declared.needles.Needles.TheVariants.{One, Two, Three}
 use Rattle.winnow_match.proofs.lemmas.ComparisonLemmas.{ok-says, incomplete-says}
-use Rattle.winnow_match.proofs.lemmas.ByteFrontLemmas.{front_rest, is_front-IsFrontOf}
+use Rattle.winnow_match.proofs.lemmas.ByteFrontLemmas.{front_rest, is_prefix-IsPrefixOf}
 use Rattle.winnow_sets.specs.declared.char_set.CharSet.{CharSet}
 use Rattle.winnow_sets.specs.Sets.{char_ranges, least_of_first}
 use Rattle.winnow_sets.proofs.lemmas.RangeLemmas.{least_held}
@@ -56,7 +57,7 @@ module _ {T : Type 0} (r : Source T) (n : ℕ) where
   offset-short : width r < n → is_offset r n ≡ false
   offset-short l = elim (cases_Bool (is_offset r n)) [ inl e ↦ absurd (omega (arith, l, width-front r n e, width-front_le)) | inr e ↦ e ]
 
-offset-full : {T : Type 0} (r : Source T) (n : ℕ) → HasWidths r → width r ≡ n → is_offset r n ≡ true
+offset-full : {T : Type 0} (r : Source T) (n : ℕ) → HasPositiveWidths r → width r ≡ n → is_offset r n ≡ true
 offset-full r n h e = subst (λ k. is_offset r k ≡ true) e (is_offset-whole r h)
 
 slice-apart : {T : Type 0} (a b n : ℕ) (o p : Option ℕ) → is_some o ≡ true → is_some p ≡ false → ¬ (slice_answer {T = T} a n o ≡ slice_answer {T = T} b n p)
@@ -95,7 +96,7 @@ comparison-changes : (l b : List ℕ) → is_decided (comparison l b) ≡ false 
 comparison-changes l b h e =
     let i = incomplete-from (comparison l b) h in
     let f = ((incomplete-says l b).0 i).0 in
-    let whole : b ++ drop (length b) l ≡ l = sym (front_rest b l (is_front-IsFrontOf b l f)) in
+    let whole : b ++ drop (length b) l ≡ l = sym (front_rest b l (is_prefix-IsPrefixOf b l f)) in
     let ok : comparison l (b ++ drop (length b) l) ≡ compared.Ok (length l) = (ok-says l (b ++ drop (length b) l) (length l)).1 (([], whole ∙ sym (append-nil l)), refl) in
     let apart : ◌≡◌ {A = CompareResult} (compared.Ok (length l)) compared.Incomplete = sym ok ∙ e ∙ i in
     cc
@@ -162,9 +163,9 @@ compared-parts a b e = cc
 hit-parts : (a b : Option (Range ℕ)) → ◌≡◌ {A = PlacedSearchAnswer ℕ} (search_answered.Hit a) (search_answered.Hit b) → a ≡ b
 hit-parts a b e = cc
 
-HasWidths-both : {T : Type 0} (r m : Source T) → HasWidths r → HasWidths m → HasWidths (r ++ m)
-HasWidths-both [] m h g = g
-HasWidths-both (x ∷ r) m h g = (h.0, HasWidths-both r m h.1 g)
+HasPositiveWidths-both : {T : Type 0} (r m : Source T) → HasPositiveWidths r → HasPositiveWidths m → HasPositiveWidths (r ++ m)
+HasPositiveWidths-both [] m h g = g
+HasPositiveWidths-both (x ∷ r) m h g = (h.0, HasPositiveWidths-both r m h.1 g)
 
 place-more : {T : Type 0} (all m : Source T) (n : ℕ) → n ≤ length all → place (all ++ m) n ≡ place all n
 place-more all m n h = ap width (take-append-le n all m h)
@@ -189,20 +190,20 @@ module _ (i : InputKind) (law : IsInput i) (spelling : IsSpelling i) (J : List �
   width-more : (n : ℕ) → width (more (letters n)) ≡ width r + n
   width-more n = ap width (more-is (letters n)) ∙ width-append r (i.source (letters n)) ∙ ap (λ k. width r + k) (spelling.letters_width n)
 
-  widths-more : (m : List ℕ) → HasWidths (r ++ i.source m)
-  widths-more m = HasWidths-both r (i.source m) (HasWidths-drop at.index (i.source J) (law.widths J)) (law.widths m)
+  widths-more : (m : List ℕ) → HasPositiveWidths (r ++ i.source m)
+  widths-more m = HasPositiveWidths-both r (i.source m) (HasPositiveWidths-drop at.index (i.source J) (law.widths J)) (law.widths m)
 
   full : (n : ℕ) → width r < n → is_offset (more (letters (n - width r))) n ≡ true
   full n l =
       let m : List ℕ = letters (n - width r) in
-      offset-full (more m) n (subst HasWidths (sym (more-is m)) (widths-more m)) (omega (arith, l, width-more (n - width r)))
+      offset-full (more m) n (subst HasPositiveWidths (sym (more-is m)) (widths-more m)) (omega (arith, l, width-more (n - width r)))
 
   token-differs : is_some (first_token r) ≡ false → ¬ (◌≡◌ {A = PlacedAnswer ℕ} (answer.Token (first_token (more (letters 1)))) (answer.Token (first_token r)))
   token-differs h e =
       let one : 0 < length (i.source (letters 1)) = omega (arith, spelling.letters_length 1) in
       token-changes r (i.source (letters 1)) h one (sym (ap first_token (more-is (letters 1))) ∙ token-parts (first_token (more (letters 1))) (first_token r) e)
 
-  end-differs : (a b : ℕ) → a ≡ b → ¬ (places a (width (more (letters 1))) ≡ places b (width r))
+  end-differs : (a b : ℕ) → a ≡ b → ¬ (span a (width (more (letters 1))) ≡ span b (width r))
   end-differs a b same e =
       let f : a + width (more (letters 1)) ≡ b + width r = ap (λ (x : Range ℕ). x.end) e in
       omega (arith, f, same, width-more 1)

@@ -14,7 +14,7 @@ use Rattle.winnow_match.proofs.lemmas.ByteLemmas.{bytes_of-units, utf8_of-text_s
 use Rattle.winnow_sets.specs.declared.char_set.CharSet.{CharSet}
 use Rattle.winnow_sets.specs.Sets.{char_ranges, in_ranges}
 use Rattle.winnow_feed.specs.Inputs.{InputKind, byte_input, text_input}
-use Rattle.winnow_match.specs.Comparison.{IsFrontOf}
+use Rattle.winnow_match.specs.Comparison.{IsPrefixOf}
 use Rattle.winnow_attempt.specs.Missing.{letters, needle_missing}
 use Rattle.winnow_feed.proofs.lemmas.TextRestLemmas.{text-drop, rest-text, needle-text}
 
@@ -30,7 +30,7 @@ pub record IsSpelling (i : InputKind) : Type 0 where
   pub holds_is : (set : CharSet) (t : ℕ) → i.pieces.holds set t ≡ in_ranges (char_ranges set) t
   pub tokens : (bytes : List ℕ) → AllByRecursion (λ byte. byte ≤ 255) bytes → i.valid bytes ≡ true → AllByRecursion (λ (x : ℕ × ℕ). i.is_token x.0 ≡ true) (i.source bytes)
   pub rest_valid : (bytes : List ℕ) (n : ℕ) → i.valid bytes ≡ true → i.valid (written i.pieces.write (drop n (i.source bytes))) ≡ true
-  pub literal_valid : (l b : List ℕ) → i.valid l ≡ true → i.valid b ≡ true → IsFrontOf b l → i.valid (drop (length b) l) ≡ true
+  pub literal_valid : (l b : List ℕ) → i.valid l ≡ true → i.valid b ≡ true → IsPrefixOf b l → i.valid (drop (length b) l) ≡ true
   pub needle_valid : (ls : List (List ℕ)) (b : List ℕ) → 0 < length ls → AllByRecursion (λ needle. i.valid needle ≡ true) ls → i.valid b ≡ true → i.valid (needle_missing ls b) ≡ true
 
 -- ---- bytes

@@ -3,11 +3,11 @@ use Rattle.std.proofs.Common.{◌≡◌, ℕ, zero, suc, ◌+◌, ◌-◌, ◌�
 use Rattle.std.specs.Prelude.{slice_get, is_some}
 use Rattle.std.proofs.lemmas.List.{drop-drop, length-map, length-append, map-append, append_assoc, append-nil}
 use Rattle.std.proofs.lemmas.Option.{same_Some, slice_get-get_or}
-use Rattle.winnow_stream.specs.Source.{Source, width, HasWidths}
+use Rattle.winnow_stream.specs.Source.{Source, width, HasPositiveWidths}
 use Rattle.winnow_stream.specs.Front.{is_offset, back}
 use Rattle.winnow_stream.specs.Cursor.{start, rest, place}
 use Rattle.winnow_run.specs.declared.script.Step.TheVariants as call
-use Rattle.winnow_stream.proofs.lemmas.FrontLemmas.{front_count-place, back-place, HasWidths-drop, width-take_drop}
+use Rattle.winnow_stream.proofs.lemmas.FrontLemmas.{front_count-place, back-place, HasPositiveWidths-drop, width-take_drop}
 use Rattle.winnow_sets.specs.declared.char_set.CharSet.{CharSet}
 use Rattle.winnow_match.specs.Bytes.{written}
 use Rattle.winnow_match.specs.Search.{needle_list}
@@ -22,7 +22,7 @@ use Rattle.winnow_feed.specs.Reach.{least_index, needed_from}
 use Rattle.winnow_attempt.specs.View.{under}
 use Rattle.winnow_feed.specs.Standing.{Stands, Tells, next_step, steps_left, answers_told}
 use Rattle.winnow_run.proofs.lemmas.StepLemmas.{Inside, start-inside}
-use Rattle.winnow_attempt.proofs.lemmas.SettledLemmas.{width-split, NoneHeld-none, NoneStands-none, AreCounted-none, AreSame-none}
+use Rattle.winnow_attempt.proofs.lemmas.SettledLemmas.{width-split, NoneHeld-none, NoneOccurs-none, AreCounted-none, AreSame-none}
 use Rattle.winnow_attempt.proofs.lemmas.ViewLemmas.{view-answer, view-place, view-marks}
 use Rattle.winnow_feed.proofs.lemmas.ReachLemmas.{Reaches-inside, Reaches-push, least-at, never_back}
 
@@ -51,7 +51,7 @@ none-passed k (step.Call call.Mark) r = tt
 none-passed k (step.Call (call.Reset n)) r = tt
 none-passed k (step.Call (call.Since n)) r = tt
 none-passed k (step.Compare l) r = AreSame-none (k.literal l) (written k.write r)
-none-passed k (step.Find ns) r = NoneStands-none (needle_list k.literal ns) (written k.write r)
+none-passed k (step.Find ns) r = NoneOccurs-none (needle_list k.literal ns) (written k.write r)
 
 -- a run that differs in what it counts alone
 pub Stands-same : {T L : Type 0} (strict : Bool) (k : PieceKind T CharSet L) (all kept : Source T) (p : Progress T L) → Stands strict k all kept p → (q : Progress T L) → q.script ≡ p.script → q.told.items ≡ p.told.items → q.place ≡ p.place → q.marks ≡ p.marks → q.passed ≡ p.passed → q.base ≡ p.base → Stands strict k all kept q
@@ -104,8 +104,8 @@ module _ {T L : Type 0} (strict : Bool) (k : PieceKind T CharSet L) (all kept : 
   away : p.place - p.base ≡ width (take (h.at.index - h.first) kept)
   away = let f = far in let e : p.place - p.base ≡ width (take (h.at.index - h.first) (drop h.first all)) = omega arith in e ∙ ap (λ r. width (take (h.at.index - h.first) r)) (sym h.is_kept)
 
-  wide : HasWidths kept
-  wide = subst HasWidths (sym h.is_kept) (HasWidths-drop h.first all h.widths)
+  wide : HasPositiveWidths kept
+  wide = subst HasPositiveWidths (sym h.is_kept) (HasPositiveWidths-drop h.first all h.widths)
 
   fits : h.at.index - h.first ≤ length kept
   fits = let i = inside.index in omega (arith, ap length h.is_kept, length-drop h.first all)

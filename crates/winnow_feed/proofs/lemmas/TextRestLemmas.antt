@@ -9,12 +9,12 @@ use Rattle.std.proofs.lemmas.List.{get_or-drop, take_at, drop-map}
 use Rattle.std.proofs.lemmas.Str.{IsUtf8-nil, IsUtf8-drop, IsUtf8-from_is_utf8, is_utf8-from_IsUtf8, IsCharBoundary-start, IsCharBoundary-from_take, scalars-chars}
 use Rattle.winnow_stream.specs.Text.{text_source}
 use Rattle.winnow_match.specs.Bytes.{written}
-use Rattle.winnow_match.specs.Comparison.{IsFrontOf}
+use Rattle.winnow_match.specs.Comparison.{IsPrefixOf}
 use Rattle.winnow_match.specs.Search.{is_empty, needle_of, hit}
 use Rattle.winnow_match.specs.declared.needles.Stretch.{Stretch}
 use Rattle.winnow_match.specs.Stretch.{stretch_of, Stretches}
 use Rattle.winnow_match.proofs.lemmas.ByteLemmas.{utf8_of-char_source}
-use Rattle.winnow_match.proofs.lemmas.ByteFrontLemmas.{front_rest, is_front-IsFrontOf, length-front}
+use Rattle.winnow_match.proofs.lemmas.ByteFrontLemmas.{front_rest, is_prefix-IsPrefixOf, length-front}
 use Rattle.winnow_match.proofs.lemmas.StretchLemmas.{none-or-some}
 use Rattle.winnow_match.proofs.lemmas.MoveLemmas.{inside, stretch-some, stretch-first, stretch-empty}
 use Rattle.winnow_attempt.specs.Missing.{needle_missing}
@@ -32,16 +32,16 @@ text-drop bytes n v =
     let e = ap (written encode_utf8) (drop-map (λ c. let x : ℕ × ℕ = (c, len_utf8 c) in x) n cs) in
     is_utf8-from_IsUtf8 (written encode_utf8 (drop n (text_source bytes))) (drop n cs, (scalars-drop n cs scalars, sym (utf8_of-char_source (drop n cs)) ∙ sym e))
 
-rest-boundary : (l b : List ℕ) → IsUtf8 l → IsUtf8 b → IsFrontOf b l → IsCharBoundary l (length b)
+rest-boundary : (l b : List ℕ) → IsUtf8 l → IsUtf8 b → IsPrefixOf b l → IsCharBoundary l (length b)
 rest-boundary l b u v f =
-    let h = is_front-IsFrontOf b l f in
+    let h = is_prefix-IsPrefixOf b l f in
     let e : take (length b) l ≡ b = ap (take (length b)) (front_rest b l h) ∙ take_at b (drop (length b) l) (length b) refl in
     IsCharBoundary-from_take l (length b) u (length-front b l h) (subst IsUtf8 (sym e) v)
 
-rest-utf8 : (l b : List ℕ) → IsUtf8 l → IsUtf8 b → IsFrontOf b l → IsUtf8 (drop (length b) l)
+rest-utf8 : (l b : List ℕ) → IsUtf8 l → IsUtf8 b → IsPrefixOf b l → IsUtf8 (drop (length b) l)
 rest-utf8 l b u v f = IsUtf8-drop l (length b) u (rest-boundary l b u v f)
 
-pub rest-text : (l b : List ℕ) → is_utf8 l ≡ true → is_utf8 b ≡ true → IsFrontOf b l → is_utf8 (drop (length b) l) ≡ true
+pub rest-text : (l b : List ℕ) → is_utf8 l ≡ true → is_utf8 b ≡ true → IsPrefixOf b l → is_utf8 (drop (length b) l) ≡ true
 rest-text l b u v f = is_utf8-from_IsUtf8 (drop (length b) l) (rest-utf8 l b (IsUtf8-from_is_utf8 l u) (IsUtf8-from_is_utf8 b v) f)
 
 first-of : (xs ys : List ℕ) → 0 < length xs → get_or (xs ++ ys) 0 0 ≡ get_or xs 0 0

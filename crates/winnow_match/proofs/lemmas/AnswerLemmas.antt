@@ -13,26 +13,26 @@ use Rattle.winnow_stream.specs.Source.{Source, units, width}
 use Rattle.winnow_stream.specs.Units.{width-units}
 use Rattle.winnow_stream.specs.Front.{is_offset}
 use Rattle.winnow_stream.specs.Text.{text_source}
-use Rattle.winnow_stream.specs.Cursor.{places}
+use Rattle.winnow_stream.specs.Span.{span}
 use Rattle.winnow_stream.proofs.lemmas.UnitLemmas.{is_offset-units}
 use Rattle.winnow_stream.proofs.lemmas.TextLemmas.{is_offset-from_boundary, width-text_source}
 use Rattle.winnow_match.specs.declared.compare.CompareResult.{CompareResult}
 use Rattle.winnow_match.specs.declared.compare.CompareResult.TheVariants as compared
-use Rattle.winnow_match.specs.Comparison.{is_front, comparison, EndsAtOffset, AgreesWithWidth}
+use Rattle.winnow_match.specs.Comparison.{is_prefix, comparison, EndsAtOffset, AgreesWithWidth}
 use Rattle.winnow_match.specs.Search.{is_empty, needle_of, hit, first_hit, AreOffsets, AreTexts}
 use Rattle.winnow_match.proofs.lemmas.ByteLemmas.{bytes_of-units, utf8_of-text_source}
 use Rattle.winnow_match.proofs.lemmas.ComparisonLemmas.{shorter-front}
-use Rattle.winnow_match.proofs.lemmas.ByteFrontLemmas.{length-front, front_rest, is_front-IsFrontOf}
+use Rattle.winnow_match.proofs.lemmas.ByteFrontLemmas.{length-front, front_rest, is_prefix-IsPrefixOf}
 use Rattle.winnow_match.proofs.lemmas.SearchLemmas.{nonempty-length}
 use Rattle.winnow_match.proofs.lemmas.HitLemmas.{hit-IsFirstHit}
 
 -- ---- a text at a place of a text
 
-take-front : (l bs : List ℕ) → is_front l bs ≡ true → take (length l) bs ≡ l
+take-front : (l bs : List ℕ) → is_prefix l bs ≡ true → take (length l) bs ≡ l
 take-front l bs h = ap (take (length l)) (front_rest l bs h) ∙ take_at l (drop (length l) bs) (length l) refl
 
 -- it begins with the first byte of a character
-boundary-start : (l bs : List ℕ) (k : ℕ) → IsUtf8 l → is_empty l ≡ false → is_front l (drop k bs) ≡ true → IsCharBoundary bs k
+boundary-start : (l bs : List ℕ) (k : ℕ) → IsUtf8 l → is_empty l ≡ false → is_prefix l (drop k bs) ≡ true → IsCharBoundary bs k
 boundary-start [] bs k u some h = absurd (false≢true (sym some))
 boundary-start (x ∷ l) bs k u some h =
     let e : drop k bs ≡ x ∷ (l ++ drop (length (x ∷ l)) (drop k bs)) = front_rest (x ∷ l) (drop k bs) h in
@@ -42,7 +42,7 @@ boundary-start (x ∷ l) bs k u some h =
     (omega (arith, n, length-drop k bs), λ m a. let f = first.1 (omega arith) (omega (arith, a, here)) in omega (arith, f, here))
 
 -- and ends with the last byte of one
-boundary-end : (l bs : List ℕ) (k : ℕ) → IsUtf8 bs → IsUtf8 l → IsCharBoundary bs k → is_front l (drop k bs) ≡ true → IsCharBoundary bs (k + length l)
+boundary-end : (l bs : List ℕ) (k : ℕ) → IsUtf8 bs → IsUtf8 l → IsCharBoundary bs k → is_prefix l (drop k bs) ≡ true → IsCharBoundary bs (k + length l)
 boundary-end l bs k v u b h =
     let whole = subst IsUtf8 (sym (take-front l (drop k bs) h)) u in
     IsCharBoundary-from_rest bs k (length l) b.0
@@ -67,22 +67,22 @@ module _ (literal bytes : List ℕ) (result : CompareResult) (is : result ≡ co
   pub EndsAtOffset-bytes : EndsAtOffset result (units bytes)
   EndsAtOffset-bytes =
       let P : CompareResult → Type 0 = λ x. EndsAtOffset x (units bytes) in
-      subst P (sym is) (comparison-ends (units bytes) (is_front literal bytes) (is_front bytes literal) (length literal) (λ h. is_offset-le bytes (length literal) (length-front literal bytes h)))
+      subst P (sym is) (comparison-ends (units bytes) (is_prefix literal bytes) (is_prefix bytes literal) (length literal) (λ h. is_offset-le bytes (length literal) (length-front literal bytes h)))
 
   pub EndsAtOffset-text : IsUtf8 bytes → IsUtf8 literal → EndsAtOffset result (text_source bytes)
   EndsAtOffset-text v u =
       let P : CompareResult → Type 0 = λ x. EndsAtOffset x (text_source bytes) in
-      let ends : is_front literal bytes ≡ true → is_offset (text_source bytes) (length literal) ≡ true =
+      let ends : is_prefix literal bytes ≡ true → is_offset (text_source bytes) (length literal) ≡ true =
       λ h.
       is_offset-from_boundary bytes (length literal) v
       (subst (IsCharBoundary bytes) {x = 0 + length literal} {y = length literal} (omega arith) (boundary-end literal bytes 0 v u (IsCharBoundary-start bytes v) h))
       in
-      subst P (sym is) (comparison-ends (text_source bytes) (is_front literal bytes) (is_front bytes literal) (length literal) ends)
+      subst P (sym is) (comparison-ends (text_source bytes) (is_prefix literal bytes) (is_prefix bytes literal) (length literal) ends)
 
   agrees : {T : Type 0} (r : Source T) → width r ≡ length bytes → AgreesWithWidth result (length literal) r
   agrees r w =
       let P : CompareResult → Type 0 = λ x. AgreesWithWidth x (length literal) r in
-      subst P (sym is) (comparison-agrees r (is_front literal bytes) (is_front bytes literal) (length literal) (λ h g. let l = shorter-front literal bytes h g in omega (arith, w, l)))
+      subst P (sym is) (comparison-agrees r (is_prefix literal bytes) (is_prefix bytes literal) (length literal) (λ h g. let l = shorter-front literal bytes h g in omega (arith, w, l)))
 
   pub AgreesWithWidth-bytes : AgreesWithWidth result (length literal) (units bytes)
   AgreesWithWidth-bytes = agrees (units bytes) (width-units bytes)
@@ -103,18 +103,18 @@ text-needle (n ∷ ls) zero h l = h.0
 text-needle (n ∷ ls) (suc i) h l = text-needle ls i h.1 (omega (arith, l))
 
 -- what holds of 0, and where each needle begins and ends, holds where a hit begins and ends; and it ends no nearer than it begins
-module _ (P : ℕ → Type 0) (ls : List (List ℕ)) (bytes : List ℕ) (start : P 0) (ends : (i k : ℕ) → i < length ls → is_empty (needle_of ls i) ≡ false → is_front (needle_of ls i) (drop k bytes) ≡ true → P k × P (k + length (needle_of ls i))) where
+module _ (P : ℕ → Type 0) (ls : List (List ℕ)) (bytes : List ℕ) (start : P 0) (ends : (i k : ℕ) → i < length ls → is_empty (needle_of ls i) ≡ false → is_prefix (needle_of ls i) (drop k bytes) ≡ true → P k × P (k + length (needle_of ls i))) where
   hit-ends : (r : Range ℕ) → hit ls bytes ≡ Some r → (r.start ≤ r.end) × (P r.start × P r.end)
   hit-ends r h =
       elim (cases_Bool (list_any is_empty ls)) [
         | inl e ↦
-            let g : cond (list_any is_empty ls) (Some (places 0 0)) (first_hit ls 0 bytes) ≡ Some r = h in
-            let same : places 0 0 ≡ r = same_Some (places 0 0) r (rw e at g) in
+            let g : cond (list_any is_empty ls) (Some (span 0 0)) (first_hit ls 0 bytes) ≡ Some r = h in
+            let same : span 0 0 ≡ r = same_Some (span 0 0) r (rw e at g) in
             let Q : Range ℕ → Type 0 = λ q. (q.start ≤ q.end) × (P q.start × P q.end) in
             subst Q same (omega arith, (start, start))
         | inr e ↦
             let f = hit-IsFirstHit ls bytes e r h in
-            let p = ends f.index r.start f.listed (nonempty-needle ls f.index e f.listed) (is_front-IsFrontOf (needle_of ls f.index) (drop r.start bytes) f.stands) in
+            let p = ends f.index r.start f.listed (nonempty-needle ls f.index e f.listed) (is_prefix-IsPrefixOf (needle_of ls f.index) (drop r.start bytes) f.stands) in
             (omega (arith, f.whole), (p.0, subst P (sym f.whole) p.1))
       ]
 

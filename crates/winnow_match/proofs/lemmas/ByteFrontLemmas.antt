@@ -4,82 +4,82 @@ use Rattle.std.specs.Prelude.{nat_eq}
 use Rattle.std.specs.Cmp.Lexicographic.{pointwise}
 use Rattle.std.proofs.lemmas.Bool.{and_parts, false≢true, false_from_ne_true}
 use Rattle.std.proofs.lemmas.Bool.Decides.{nat_tests}
-use Rattle.winnow_match.specs.Comparison.{is_front, IsFrontOf}
+use Rattle.winnow_match.specs.Comparison.{is_prefix, IsPrefixOf}
 
 -- `p == &xs[..p.len()]`
-pub front-test : (p xs : List ℕ) → pointwise nat_eq p (take (length p) xs) ≡ is_front p xs
+pub front-test : (p xs : List ℕ) → pointwise nat_eq p (take (length p) xs) ≡ is_prefix p xs
 front-test [] xs = refl
 front-test (x ∷ p) [] = refl
 front-test (x ∷ p) (y ∷ xs) = ap (λ b. (x == y) && b) (front-test p xs)
 
-pub length-front : (p xs : List ℕ) → is_front p xs ≡ true → length p ≤ length xs
+pub length-front : (p xs : List ℕ) → is_prefix p xs ≡ true → length p ≤ length xs
 length-front [] xs h = omega arith
 length-front (x ∷ p) [] h = absurd (false≢true h)
-length-front (x ∷ p) (y ∷ xs) h = let l = length-front p xs (and_parts (x == y) (is_front p xs) h).1 in omega (arith, l)
+length-front (x ∷ p) (y ∷ xs) h = let l = length-front p xs (and_parts (x == y) (is_prefix p xs) h).1 in omega (arith, l)
 
 -- a longer list is no front
-pub is_front-long : (p xs : List ℕ) → length xs < length p → is_front p xs ≡ false
-is_front-long p xs l = false_from_ne_true (is_front p xs) (λ h. let m = length-front p xs h in omega (arith, l, m))
+pub is_prefix-long : (p xs : List ℕ) → length xs < length p → is_prefix p xs ≡ false
+is_prefix-long p xs l = false_from_ne_true (is_prefix p xs) (λ h. let m = length-front p xs h in omega (arith, l, m))
 
 -- a front as long as the whole is the whole
-pub is_front-whole : (p xs : List ℕ) → is_front p xs ≡ true → length xs ≤ length p → is_front xs p ≡ true
-is_front-whole [] [] h l = refl
-is_front-whole [] (y ∷ xs) h l = absurd (omega (arith, l))
-is_front-whole (x ∷ p) [] h l = refl
-is_front-whole (x ∷ p) (y ∷ xs) h l =
-    let parts = and_parts (x == y) (is_front p xs) h in
-    let e = is_front-whole p xs parts.1 (omega (arith, l)) in
+pub is_prefix-whole : (p xs : List ℕ) → is_prefix p xs ≡ true → length xs ≤ length p → is_prefix xs p ≡ true
+is_prefix-whole [] [] h l = refl
+is_prefix-whole [] (y ∷ xs) h l = absurd (omega (arith, l))
+is_prefix-whole (x ∷ p) [] h l = refl
+is_prefix-whole (x ∷ p) (y ∷ xs) h l =
+    let parts = and_parts (x == y) (is_prefix p xs) h in
+    let e = is_prefix-whole p xs parts.1 (omega (arith, l)) in
     let s : (y == x) ≡ true = grind (arith, nat_tests, parts.0) in
     rw (s, e) refl
 
-pub is_front-append : (p rest : List ℕ) → is_front p (p ++ rest) ≡ true
-is_front-append [] rest = refl
-is_front-append (x ∷ p) rest =
+pub is_prefix-append : (p rest : List ℕ) → is_prefix p (p ++ rest) ≡ true
+is_prefix-append [] rest = refl
+is_prefix-append (x ∷ p) rest =
     let same : (x == x) ≡ true = grind (arith, nat_tests) in
-    rw (same, is_front-append p rest) refl
+    rw (same, is_prefix-append p rest) refl
 
 -- what follows a front
-pub front_rest : (p xs : List ℕ) → is_front p xs ≡ true → xs ≡ p ++ drop (length p) xs
+pub front_rest : (p xs : List ℕ) → is_prefix p xs ≡ true → xs ≡ p ++ drop (length p) xs
 front_rest [] xs h = refl
 front_rest (x ∷ p) [] h = absurd (false≢true h)
 front_rest (x ∷ p) (y ∷ xs) h =
-    let parts = and_parts (x == y) (is_front p xs) h in
+    let parts = and_parts (x == y) (is_prefix p xs) h in
     let e : y ≡ x = grind (arith, nat_tests, parts.0) in
     ap (λ z. z ∷ xs) e ∙ ap (λ zs. x ∷ zs) (front_rest p xs parts.1)
 
 -- the test and the fact
-pub IsFrontOf-is_front : (p xs : List ℕ) → is_front p xs ≡ true → IsFrontOf p xs
-IsFrontOf-is_front p xs h = (drop (length p) xs, front_rest p xs h)
+pub IsPrefixOf-is_prefix : (p xs : List ℕ) → is_prefix p xs ≡ true → IsPrefixOf p xs
+IsPrefixOf-is_prefix p xs h = (drop (length p) xs, front_rest p xs h)
 
-pub is_front-IsFrontOf : (p xs : List ℕ) → IsFrontOf p xs → is_front p xs ≡ true
-is_front-IsFrontOf p xs f = ap (is_front p) f.1 ∙ is_front-append p f.0
+pub is_prefix-IsPrefixOf : (p xs : List ℕ) → IsPrefixOf p xs → is_prefix p xs ≡ true
+is_prefix-IsPrefixOf p xs f = ap (is_prefix p) f.1 ∙ is_prefix-append p f.0
 
-pub no_front : (p xs : List ℕ) → ¬ IsFrontOf p xs → is_front p xs ≡ false
-no_front p xs n = false_from_ne_true (is_front p xs) (λ h. n (IsFrontOf-is_front p xs h))
+pub no_front : (p xs : List ℕ) → ¬ IsPrefixOf p xs → is_prefix p xs ≡ false
+no_front p xs n = false_from_ne_true (is_prefix p xs) (λ h. n (IsPrefixOf-is_prefix p xs h))
 
 -- more behind a list that is as long as p
-pub is_front-more : (p xs more : List ℕ) → length p ≤ length xs → is_front p (xs ++ more) ≡ is_front p xs
-is_front-more [] xs more l = refl
-is_front-more (x ∷ p) [] more l = absurd (omega (arith, l))
-is_front-more (x ∷ p) (y ∷ xs) more l = ap (λ b. (x == y) && b) (is_front-more p xs more (omega (arith, l)))
+pub is_prefix-more : (p xs more : List ℕ) → length p ≤ length xs → is_prefix p (xs ++ more) ≡ is_prefix p xs
+is_prefix-more [] xs more l = refl
+is_prefix-more (x ∷ p) [] more l = absurd (omega (arith, l))
+is_prefix-more (x ∷ p) (y ∷ xs) more l = ap (λ b. (x == y) && b) (is_prefix-more p xs more (omega (arith, l)))
 
 -- a shorter front
-pub is_front-shorter : (p q xs : List ℕ) → is_front (p ++ q) xs ≡ true → is_front p xs ≡ true
-is_front-shorter [] q xs h = refl
-is_front-shorter (x ∷ p) q [] h = absurd (false≢true h)
-is_front-shorter (x ∷ p) q (y ∷ xs) h =
-    let parts = and_parts (x == y) (is_front (p ++ q) xs) h in
-    rw (parts.0, is_front-shorter p q xs parts.1) refl
+pub is_prefix-shorter : (p q xs : List ℕ) → is_prefix (p ++ q) xs ≡ true → is_prefix p xs ≡ true
+is_prefix-shorter [] q xs h = refl
+is_prefix-shorter (x ∷ p) q [] h = absurd (false≢true h)
+is_prefix-shorter (x ∷ p) q (y ∷ xs) h =
+    let parts = and_parts (x == y) (is_prefix (p ++ q) xs) h in
+    rw (parts.0, is_prefix-shorter p q xs parts.1) refl
 
 -- of two fronts of one list the shorter is a front of the other
-pub is_front-both : (p q xs : List ℕ) → is_front p xs ≡ true → is_front q xs ≡ true → length q ≤ length p → is_front q p ≡ true
-is_front-both p [] xs h g l = refl
-is_front-both [] (z ∷ q) xs h g l = absurd (omega (arith, l))
-is_front-both (x ∷ p) (z ∷ q) [] h g l = absurd (false≢true h)
-is_front-both (x ∷ p) (z ∷ q) (y ∷ xs) h g l =
-    let first = and_parts (x == y) (is_front p xs) h in
-    let second = and_parts (z == y) (is_front q xs) g in
+pub is_prefix-both : (p q xs : List ℕ) → is_prefix p xs ≡ true → is_prefix q xs ≡ true → length q ≤ length p → is_prefix q p ≡ true
+is_prefix-both p [] xs h g l = refl
+is_prefix-both [] (z ∷ q) xs h g l = absurd (omega (arith, l))
+is_prefix-both (x ∷ p) (z ∷ q) [] h g l = absurd (false≢true h)
+is_prefix-both (x ∷ p) (z ∷ q) (y ∷ xs) h g l =
+    let first = and_parts (x == y) (is_prefix p xs) h in
+    let second = and_parts (z == y) (is_prefix q xs) g in
     let same : (z == x) ≡ true = grind (arith, nat_tests, first.0, second.0) in
-    rw (same, is_front-both p q xs first.1 second.1 (omega (arith, l))) refl
+    rw (same, is_prefix-both p q xs first.1 second.1 (omega (arith, l))) refl
 
-pub ruleset front_tests = (front-test, is_front-long)
+pub ruleset front_tests = (front-test, is_prefix-long)

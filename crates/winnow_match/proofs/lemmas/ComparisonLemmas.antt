@@ -2,23 +2,23 @@
 use Rattle.std.proofs.Common.{◌≡◌, ◌↔◌, ℕ, ◌≤◌, ◌<◌, Bool, true, false, cond, List, ◌++◌, length, refl, ap, sym, ◌∙◌, arith, inl, inr}
 use Rattle.std.proofs.lemmas.Bool.{cases_lt, false_from_ne_true, false≢true}
 use Rattle.winnow_match.specs.declared.compare.CompareResult.TheVariants as compared
-use Rattle.winnow_match.specs.Comparison.{is_front, IsFrontOf, comparison}
-use Rattle.winnow_match.proofs.lemmas.ByteFrontLemmas.{is_front-long, is_front-whole, is_front-append, is_front-more, is_front-shorter, is_front-both, length-front, no_front, IsFrontOf-is_front, is_front-IsFrontOf}
+use Rattle.winnow_match.specs.Comparison.{is_prefix, IsPrefixOf, comparison}
+use Rattle.winnow_match.proofs.lemmas.ByteFrontLemmas.{is_prefix-long, is_prefix-whole, is_prefix-append, is_prefix-more, is_prefix-shorter, is_prefix-both, length-front, no_front, IsPrefixOf-is_prefix, is_prefix-IsPrefixOf}
 
 module _ (literal bytes : List ℕ) where
-  pub comparison-ok : is_front literal bytes ≡ true → compared.Ok (length literal) ≡ comparison literal bytes
+  pub comparison-ok : is_prefix literal bytes ≡ true → compared.Ok (length literal) ≡ comparison literal bytes
   comparison-ok h = rw h refl
 
-  pub comparison-incomplete : length bytes < length literal → is_front bytes literal ≡ true → compared.Incomplete ≡ comparison literal bytes
-  comparison-incomplete l h = let n = is_front-long literal bytes l in rw (n, h) refl
+  pub comparison-incomplete : length bytes < length literal → is_prefix bytes literal ≡ true → compared.Incomplete ≡ comparison literal bytes
+  comparison-incomplete l h = let n = is_prefix-long literal bytes l in rw (n, h) refl
 
   -- two lists, neither of which is a front of the other
-  pub comparison-error : is_front literal bytes ≡ false → is_front bytes literal ≡ false → compared.Error ≡ comparison literal bytes
+  pub comparison-error : is_prefix literal bytes ≡ false → is_prefix bytes literal ≡ false → compared.Error ≡ comparison literal bytes
   comparison-error h g = rw (h, g) refl
 
-  pub comparison-differs : length literal ≤ length bytes → is_front literal bytes ≡ false → compared.Error ≡ comparison literal bytes
+  pub comparison-differs : length literal ≤ length bytes → is_prefix literal bytes ≡ false → compared.Error ≡ comparison literal bytes
   comparison-differs l h =
-      comparison-error h (false_from_ne_true (is_front bytes literal) (λ g. false≢true (sym h ∙ is_front-whole bytes literal g l)))
+      comparison-error h (false_from_ne_true (is_prefix bytes literal) (λ g. false≢true (sym h ∙ is_prefix-whole bytes literal g l)))
 
 pub ruleset comparisons = (comparison-ok, comparison-incomplete, comparison-differs, comparison-error)
 
@@ -40,39 +40,39 @@ error-parts false true m h = absurd (cc)
 error-parts false false m h = (refl, refl)
 
 module _ (literal bytes : List ℕ) where
-  pub front-from_ok : (n : ℕ) → comparison literal bytes ≡ compared.Ok n → (is_front literal bytes ≡ true) × (n ≡ length literal)
-  front-from_ok n h = ok-parts (is_front literal bytes) (is_front bytes literal) (length literal) n h
+  pub front-from_ok : (n : ℕ) → comparison literal bytes ≡ compared.Ok n → (is_prefix literal bytes ≡ true) × (n ≡ length literal)
+  front-from_ok n h = ok-parts (is_prefix literal bytes) (is_prefix bytes literal) (length literal) n h
 
-  pub fronts-from_error : comparison literal bytes ≡ compared.Error → (is_front literal bytes ≡ false) × (is_front bytes literal ≡ false)
-  fronts-from_error h = error-parts (is_front literal bytes) (is_front bytes literal) (length literal) h
+  pub fronts-from_error : comparison literal bytes ≡ compared.Error → (is_prefix literal bytes ≡ false) × (is_prefix bytes literal ≡ false)
+  fronts-from_error h = error-parts (is_prefix literal bytes) (is_prefix bytes literal) (length literal) h
 
-  pub ok-says : (n : ℕ) → comparison literal bytes ≡ compared.Ok n ↔ (IsFrontOf literal bytes × (n ≡ length literal))
+  pub ok-says : (n : ℕ) → comparison literal bytes ≡ compared.Ok n ↔ (IsPrefixOf literal bytes × (n ≡ length literal))
   ok-says n = (
-    λ h. let parts = front-from_ok n h in (IsFrontOf-is_front literal bytes parts.0, parts.1),
-    λ f. sym (comparison-ok literal bytes (is_front-IsFrontOf literal bytes f.0)) ∙ ap compared.Ok (sym f.1),
+    λ h. let parts = front-from_ok n h in (IsPrefixOf-is_prefix literal bytes parts.0, parts.1),
+    λ f. sym (comparison-ok literal bytes (is_prefix-IsPrefixOf literal bytes f.0)) ∙ ap compared.Ok (sym f.1),
   )
 
   -- bytes that do not begin with the literal, but with which it begins, are shorter
-  pub shorter-front : is_front literal bytes ≡ false → is_front bytes literal ≡ true → length bytes < length literal
+  pub shorter-front : is_prefix literal bytes ≡ false → is_prefix bytes literal ≡ true → length bytes < length literal
   shorter-front h g =
       elim (cases_lt (length bytes) (length literal)) [
         | inl l ↦ l
-        | inr l ↦ absurd (false≢true (sym h ∙ is_front-whole bytes literal g l))
+        | inr l ↦ absurd (false≢true (sym h ∙ is_prefix-whole bytes literal g l))
       ]
 
-  pub incomplete-says : comparison literal bytes ≡ compared.Incomplete ↔ (IsFrontOf bytes literal × (length bytes < length literal))
+  pub incomplete-says : comparison literal bytes ≡ compared.Incomplete ↔ (IsPrefixOf bytes literal × (length bytes < length literal))
   incomplete-says = (
     λ h.
-        let parts = incomplete-parts (is_front literal bytes) (is_front bytes literal) (length literal) h in
-        (IsFrontOf-is_front bytes literal parts.1, shorter-front parts.0 parts.1),
-    λ f. sym (comparison-incomplete literal bytes f.1 (is_front-IsFrontOf bytes literal f.0)),
+        let parts = incomplete-parts (is_prefix literal bytes) (is_prefix bytes literal) (length literal) h in
+        (IsPrefixOf-is_prefix bytes literal parts.1, shorter-front parts.0 parts.1),
+    λ f. sym (comparison-incomplete literal bytes f.1 (is_prefix-IsPrefixOf bytes literal f.0)),
   )
 
-  pub error-says : comparison literal bytes ≡ compared.Error ↔ ((¬ IsFrontOf literal bytes) × (¬ IsFrontOf bytes literal))
+  pub error-says : comparison literal bytes ≡ compared.Error ↔ ((¬ IsPrefixOf literal bytes) × (¬ IsPrefixOf bytes literal))
   error-says = (
     λ h.
         let parts = fronts-from_error h in
-        (λ f. false≢true (sym parts.0 ∙ is_front-IsFrontOf literal bytes f), λ f. false≢true (sym parts.1 ∙ is_front-IsFrontOf bytes literal f)),
+        (λ f. false≢true (sym parts.0 ∙ is_prefix-IsPrefixOf literal bytes f), λ f. false≢true (sym parts.1 ∙ is_prefix-IsPrefixOf bytes literal f)),
     λ f. sym (comparison-error literal bytes (no_front literal bytes f.0) (no_front bytes literal f.1)),
   )
 
@@ -81,19 +81,19 @@ module _ (literal bytes : List ℕ) where
   pub ok-more : (more : List ℕ) (n : ℕ) → comparison literal bytes ≡ compared.Ok n → comparison literal (bytes ++ more) ≡ compared.Ok n
   ok-more more n h =
       let parts = front-from_ok n h in
-      let f = is_front-more literal bytes more (length-front literal bytes parts.0) ∙ parts.0 in
+      let f = is_prefix-more literal bytes more (length-front literal bytes parts.0) ∙ parts.0 in
       sym (comparison-ok literal (bytes ++ more) f) ∙ ap compared.Ok (sym parts.1)
 
   pub error-more : (more : List ℕ) → comparison literal bytes ≡ compared.Error → comparison literal (bytes ++ more) ≡ compared.Error
   error-more more h =
       let parts = fronts-from_error h in
       let all = bytes ++ more in
-      let first : is_front literal all ≡ false =
-      false_from_ne_true (is_front literal all) (λ f.
+      let first : is_prefix literal all ≡ false =
+      false_from_ne_true (is_prefix literal all) (λ f.
       elim (cases_lt (length bytes) (length literal)) [
-        | inl l ↦ false≢true (sym parts.1 ∙ is_front-both literal bytes all f (is_front-append bytes more) (omega (arith, l)))
-        | inr l ↦ false≢true (sym parts.0 ∙ sym (is_front-more literal bytes more l) ∙ f)
+        | inl l ↦ false≢true (sym parts.1 ∙ is_prefix-both literal bytes all f (is_prefix-append bytes more) (omega (arith, l)))
+        | inr l ↦ false≢true (sym parts.0 ∙ sym (is_prefix-more literal bytes more l) ∙ f)
       ])
       in
-      let second : is_front all literal ≡ false = false_from_ne_true (is_front all literal) (λ f. false≢true (sym parts.1 ∙ is_front-shorter bytes more literal f)) in
+      let second : is_prefix all literal ≡ false = false_from_ne_true (is_prefix all literal) (λ f. false≢true (sym parts.1 ∙ is_prefix-shorter bytes more literal f)) in
       sym (comparison-error literal all first second)

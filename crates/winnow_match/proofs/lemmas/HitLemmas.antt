@@ -8,11 +8,11 @@ use Rattle.std.proofs.lemmas.Bool.{or_cases, false≢true, false_from_ne_true, c
 use Rattle.std.proofs.lemmas.Option.{same_Some, none-some}
 use Rattle.memchr.specs.Find.{Nowhere}
 use Rattle.winnow_stream.specs.Source.{units, offsets_from, first_held, first_offset}
-use Rattle.winnow_stream.specs.Cursor.{places}
-use Rattle.winnow_match.specs.Comparison.{is_front}
-use Rattle.winnow_match.specs.Search.{is_empty, needle_at, SomeStands, Stands, needle_of, IsFirstHit, StandsNowhere, hit_or, first_hit, hit}
-use Rattle.winnow_match.proofs.lemmas.ByteFrontLemmas.{IsFrontOf-is_front, is_front-IsFrontOf, no_front}
-use Rattle.winnow_match.proofs.lemmas.SearchLemmas.{hit-some, hit-none, none-parts, SomeStands-within}
+use Rattle.winnow_stream.specs.Span.{span}
+use Rattle.winnow_match.specs.Comparison.{is_prefix}
+use Rattle.winnow_match.specs.Search.{is_empty, needle_at, SomeOccurs, Occurs, needle_of, IsFirstHit, OccursNowhere, hit_or, first_hit, hit}
+use Rattle.winnow_match.proofs.lemmas.ByteFrontLemmas.{IsPrefixOf-is_prefix, is_prefix-IsPrefixOf, no_front}
+use Rattle.winnow_match.proofs.lemmas.SearchLemmas.{hit-some, hit-none, none-parts, SomeOccurs-within}
 
 -- ---- an empty needle
 
@@ -35,59 +35,59 @@ none-empty ls n = false_from_ne_true (list_any is_empty ls) (λ h. n (some-empty
 
 record IsFirstListed (ls : List (List ℕ)) (xs : List ℕ) (i : ℕ) : Type 0 where
   listed : i < length ls
-  front : is_front (needle_of ls i) xs ≡ true
-  before : (j : ℕ) → j < i → is_front (needle_of ls j) xs ≡ false
+  front : is_prefix (needle_of ls i) xs ≡ true
+  before : (j : ℕ) → j < i → is_prefix (needle_of ls j) xs ≡ false
 
 pub below-suc : (P : ℕ → Type 0) (i : ℕ) → P zero → ((j : ℕ) → j < i → P (suc j)) → (j : ℕ) → j < suc i → P j
 below-suc P i here later zero l = here
 below-suc P i here later (suc j) l = later j (omega (arith, l))
 
-IsFirstListed-next : (n : List ℕ) (ls : List (List ℕ)) (xs : List ℕ) (i : ℕ) → is_front n xs ≡ false → IsFirstListed ls xs i → IsFirstListed (n ∷ ls) xs (suc i)
+IsFirstListed-next : (n : List ℕ) (ls : List (List ℕ)) (xs : List ℕ) (i : ℕ) → is_prefix n xs ≡ false → IsFirstListed ls xs i → IsFirstListed (n ∷ ls) xs (suc i)
 IsFirstListed-next n ls xs i f h =
     record {
       listed = omega (arith, h.listed);
       front = h.front;
-      before = below-suc (λ j. is_front (needle_of (n ∷ ls) j) xs ≡ false) i f h.before;
+      before = below-suc (λ j. is_prefix (needle_of (n ∷ ls) j) xs ≡ false) i f h.before;
     }
 
 first-listed : (ls : List (List ℕ)) (xs : List ℕ) (m : ℕ) → needle_at ls xs ≡ Some m → (i : ℕ) × (IsFirstListed ls xs i) × (m ≡ length (needle_of ls i))
 first-listed [] xs m h = absurd (none-some m h)
 first-listed (n ∷ ls) xs m h =
-    elim (cases_Bool (is_front n xs)) [
+    elim (cases_Bool (is_prefix n xs)) [
       | inl f ↦
-          let e : cond (is_front n xs) (Some (length n)) (needle_at ls xs) ≡ Some m = h in
+          let e : cond (is_prefix n xs) (Some (length n)) (needle_at ls xs) ≡ Some m = h in
           (0, record { listed = omega arith; front = f; before = λ j l. absurd (omega (arith, l)) }, sym (same_Some (length n) m (rw f at e)))
       | inr f ↦
-          let e : cond (is_front n xs) (Some (length n)) (needle_at ls xs) ≡ Some m = h in
+          let e : cond (is_prefix n xs) (Some (length n)) (needle_at ls xs) ≡ Some m = h in
           let later = first-listed ls xs m (rw f at e) in
           (suc later.0, IsFirstListed-next n ls xs later.0 f later.1, later.2)
     ]
 
 needle_at-first : (ls : List (List ℕ)) (xs : List ℕ) (i : ℕ) → IsFirstListed ls xs i → needle_at ls xs ≡ Some (length (needle_of ls i))
 needle_at-first [] xs i h = absurd (omega (arith, h.listed))
-needle_at-first (n ∷ ls) xs zero h = let f : is_front n xs ≡ true = h.front in rw f refl
+needle_at-first (n ∷ ls) xs zero h = let f : is_prefix n xs ≡ true = h.front in rw f refl
 needle_at-first (n ∷ ls) xs (suc i) h =
-    let f : is_front n xs ≡ false = h.before 0 (omega arith) in
+    let f : is_prefix n xs ≡ false = h.before 0 (omega arith) in
     let later : IsFirstListed ls xs i = record { listed = omega (arith, h.listed); front = h.front; before = λ j l. h.before (suc j) (omega (arith, l)) } in
     rw f (needle_at-first ls xs i later)
 
-pub no-needle : (ls : List (List ℕ)) (xs : List ℕ) → needle_at ls xs ≡ None → (i : ℕ) → i < length ls → is_front (needle_of ls i) xs ≡ false
+pub no-needle : (ls : List (List ℕ)) (xs : List ℕ) → needle_at ls xs ≡ None → (i : ℕ) → i < length ls → is_prefix (needle_of ls i) xs ≡ false
 no-needle [] xs h i l = absurd (omega (arith, l))
 no-needle (n ∷ ls) xs h i l =
-    elim (cases_Bool (is_front n xs)) [
+    elim (cases_Bool (is_prefix n xs)) [
       | inl f ↦
-          let e : cond (is_front n xs) (Some (length n)) (needle_at ls xs) ≡ None = h in
+          let e : cond (is_prefix n xs) (Some (length n)) (needle_at ls xs) ≡ None = h in
           absurd (none-some (length n) (sym (rw f at e)))
       | inr f ↦
-          let e : cond (is_front n xs) (Some (length n)) (needle_at ls xs) ≡ None = h in
+          let e : cond (is_prefix n xs) (Some (length n)) (needle_at ls xs) ≡ None = h in
           let later : needle_at ls xs ≡ None = rw f at e in
-          below-suc (λ j. is_front (needle_of (n ∷ ls) j) xs ≡ false) (length ls) f (λ j k. no-needle ls xs later j k) i l
+          below-suc (λ j. is_prefix (needle_of (n ∷ ls) j) xs ≡ false) (length ls) f (λ j k. no-needle ls xs later j k) i l
     ]
 
-pub needle_at-nowhere : (ls : List (List ℕ)) (xs : List ℕ) → ((i : ℕ) → i < length ls → is_front (needle_of ls i) xs ≡ false) → needle_at ls xs ≡ None
+pub needle_at-nowhere : (ls : List (List ℕ)) (xs : List ℕ) → ((i : ℕ) → i < length ls → is_prefix (needle_of ls i) xs ≡ false) → needle_at ls xs ≡ None
 needle_at-nowhere [] xs h = refl
 needle_at-nowhere (n ∷ ls) xs h =
-    let f : is_front n xs ≡ false = h 0 (omega arith) in
+    let f : is_prefix n xs ≡ false = h 0 (omega arith) in
     rw f (needle_at-nowhere ls xs (λ i l. h (suc i) (omega (arith, l))))
 
 -- ---- the first hit
@@ -99,7 +99,7 @@ some-or-none (Some n) = inr (n, refl)
 record IsHitAt (ls : List (List ℕ)) (bytes : List ℕ) (base : ℕ) (r : Range ℕ) : Type 0 where
   place : ℕ
   len : ℕ
-  is : r ≡ places (base + place) len
+  is : r ≡ span (base + place) len
   here : needle_at ls (drop place bytes) ≡ Some len
   before : (k : ℕ) → k < place → needle_at ls (drop k bytes) ≡ None
 
@@ -117,7 +117,7 @@ first_hit-hit ls (y ∷ bytes) base r h =
           record {
             place = suc later.place;
             len = later.len;
-            is = later.is ∙ ap (λ k. places k later.len) (omega arith);
+            is = later.is ∙ ap (λ k. span k later.len) (omega arith);
             here = later.here;
             before = below-suc (λ k. needle_at ls (drop k (y ∷ bytes)) ≡ None) later.place e later.before;
           }
@@ -126,7 +126,7 @@ first_hit-hit ls (y ∷ bytes) base r h =
           record {
             place = 0;
             len = e.0;
-            is = sym (same_Some (places base e.0) r (rw e.1 at g)) ∙ ap (λ k. places k e.0) (omega arith);
+            is = sym (same_Some (span base e.0) r (rw e.1 at g)) ∙ ap (λ k. span k e.0) (omega arith);
             here = e.1;
             before = λ k l. absurd (omega (arith, l));
           }
@@ -141,33 +141,33 @@ first_hit-nowhere ls (y ∷ bytes) base h k l =
           below-suc (λ j. needle_at ls (drop j (y ∷ bytes)) ≡ None) (length bytes) e later k l
       | inr e ↦
           let g : hit_or base (needle_at ls (y ∷ bytes)) (first_hit ls (base + 1) bytes) ≡ None = h in
-          absurd (none-some (places base e.0) (sym (rw e.1 at g)))
+          absurd (none-some (span base e.0) (sym (rw e.1 at g)))
     ]
 
 module _ (ls : List (List ℕ)) (bytes : List ℕ) (some : list_any is_empty ls ≡ false) where
   hit-first_hit : (o : Option (Range ℕ)) → hit ls bytes ≡ o → first_hit ls 0 bytes ≡ o
-  hit-first_hit o h = let g : cond (list_any is_empty ls) (Some (places 0 0)) (first_hit ls 0 bytes) ≡ o = h in rw some at g
+  hit-first_hit o h = let g : cond (list_any is_empty ls) (Some (span 0 0)) (first_hit ls 0 bytes) ≡ o = h in rw some at g
 
-  IsFirstHit-at : (q n : ℕ) → needle_at ls (drop q bytes) ≡ Some n → ((k : ℕ) → k < q → needle_at ls (drop k bytes) ≡ None) → IsFirstHit ls bytes (places q n)
+  IsFirstHit-at : (q n : ℕ) → needle_at ls (drop q bytes) ≡ Some n → ((k : ℕ) → k < q → needle_at ls (drop k bytes) ≡ None) → IsFirstHit ls bytes (span q n)
   IsFirstHit-at q n e before =
       let f = first-listed ls (drop q bytes) n e in
       record {
         index = f.0;
         listed = f.1.listed;
-        stands = IsFrontOf-is_front (needle_of ls f.0) (drop q bytes) f.1.front;
+        stands = IsPrefixOf-is_prefix (needle_of ls f.0) (drop q bytes) f.1.front;
         whole = ap (λ m. q + m) f.2;
-        first_listed = λ i l s. false≢true (sym (f.1.before i l) ∙ is_front-IsFrontOf (needle_of ls i) (drop q bytes) s);
-        first_place = λ i k l low s. false≢true (sym (no-needle ls (drop k bytes) (before k low) i l) ∙ is_front-IsFrontOf (needle_of ls i) (drop k bytes) s);
+        first_listed = λ i l s. false≢true (sym (f.1.before i l) ∙ is_prefix-IsPrefixOf (needle_of ls i) (drop q bytes) s);
+        first_place = λ i k l low s. false≢true (sym (no-needle ls (drop k bytes) (before k low) i l) ∙ is_prefix-IsPrefixOf (needle_of ls i) (drop k bytes) s);
       }
 
   pub hit-IsFirstHit : (r : Range ℕ) → hit ls bytes ≡ Some r → IsFirstHit ls bytes r
   hit-IsFirstHit r h =
       let t = first_hit-hit ls bytes 0 r (hit-first_hit (Some r) h) in
-      let e : r ≡ places t.place t.len = t.is ∙ ap (λ k. places k t.len) (omega arith) in
+      let e : r ≡ span t.place t.len = t.is ∙ ap (λ k. span k t.len) (omega arith) in
       subst (IsFirstHit ls bytes) (sym e) (IsFirstHit-at t.place t.len t.here t.before)
 
   -- no needle is listed that stands at k
-  none-here : (k : ℕ) → ((i : ℕ) → i < length ls → ¬ Stands (needle_of ls i) bytes k) → ¬ SomeStands ls bytes k
+  none-here : (k : ℕ) → ((i : ℕ) → i < length ls → ¬ Occurs (needle_of ls i) bytes k) → ¬ SomeOccurs ls bytes k
   none-here k none s =
       let e = needle_at-nowhere ls (drop k bytes) (λ i l. no_front (needle_of ls i) (drop k bytes) (none i l)) in
       false≢true (sym (ap is_some e) ∙ s)
@@ -178,43 +178,43 @@ module _ (ls : List (List ℕ)) (bytes : List ℕ) (some : list_any is_empty ls 
       let first : IsFirstListed ls (drop r.start bytes) h.index =
       record {
         listed = h.listed;
-        front = is_front-IsFrontOf (needle_of ls h.index) (drop r.start bytes) h.stands;
+        front = is_prefix-IsPrefixOf (needle_of ls h.index) (drop r.start bytes) h.stands;
         before = λ j l. no_front (needle_of ls j) (drop r.start bytes) (h.first_listed j l);
       }
       in
-      let before : Nowhere (SomeStands ls bytes) 0 r.start = λ k low high. none-here k (λ i l. h.first_place i k l high) in
-      let e : r ≡ places r.start n = ap (λ m. let q : Range ℕ = record { start = r.start; end = m } in q) h.whole in
+      let before : Nowhere (SomeOccurs ls bytes) 0 r.start = λ k low high. none-here k (λ i l. h.first_place i k l high) in
+      let e : r ≡ span r.start n = ap (λ m. let q : Range ℕ = record { start = r.start; end = m } in q) h.whole in
       sym (hit-some ls bytes r.start n some before (needle_at-first ls (drop r.start bytes) h.index first)) ∙ ap Some (sym e)
 
-  hit-StandsNowhere : hit ls bytes ≡ None → StandsNowhere ls bytes
-  hit-StandsNowhere h i k l s =
+  hit-OccursNowhere : hit ls bytes ≡ None → OccursNowhere ls bytes
+  hit-OccursNowhere h i k l s =
       let none : needle_at ls (drop k bytes) ≡ None =
       none-parts (needle_at ls (drop k bytes)) (λ t.
-      false≢true (sym (ap is_some (first_hit-nowhere ls bytes 0 (hit-first_hit None h) k (SomeStands-within ls bytes k some t))) ∙ t))
+      false≢true (sym (ap is_some (first_hit-nowhere ls bytes 0 (hit-first_hit None h) k (SomeOccurs-within ls bytes k some t))) ∙ t))
       in
-      false≢true (sym (no-needle ls (drop k bytes) none i l) ∙ is_front-IsFrontOf (needle_of ls i) (drop k bytes) s)
+      false≢true (sym (no-needle ls (drop k bytes) none i l) ∙ is_prefix-IsPrefixOf (needle_of ls i) (drop k bytes) s)
 
-  StandsNowhere-hit : StandsNowhere ls bytes → hit ls bytes ≡ None
-  StandsNowhere-hit h = sym (hit-none ls bytes some (λ k low high. none-here k (λ i l. h i k l)))
+  OccursNowhere-hit : OccursNowhere ls bytes → hit ls bytes ≡ None
+  OccursNowhere-hit h = sym (hit-none ls bytes some (λ k low high. none-here k (λ i l. h i k l)))
 
 module _ (ls : List (List ℕ)) (bytes : List ℕ) (some : ¬ Contains ls []) where
   pub some-says : (r : Range ℕ) → hit ls bytes ≡ Some r ↔ IsFirstHit ls bytes r
   some-says r = let none = none-empty ls some in (hit-IsFirstHit ls bytes none r, IsFirstHit-hit ls bytes none r)
 
-  pub none-says : hit ls bytes ≡ None ↔ StandsNowhere ls bytes
-  none-says = let none = none-empty ls some in (hit-StandsNowhere ls bytes none, StandsNowhere-hit ls bytes none)
+  pub none-says : hit ls bytes ≡ None ↔ OccursNowhere ls bytes
+  none-says = let none = none-empty ls some in (hit-OccursNowhere ls bytes none, OccursNowhere-hit ls bytes none)
 
 -- ---- one byte
 
-byte-later : (base : ℕ) (b : Bool) (later : Option ℕ) → hit_or base (if b && true then Some 1 else None) (option_map (λ n. places n 1) later) ≡ option_map (λ n. places n 1) (cond b (Some base) later)
+byte-later : (base : ℕ) (b : Bool) (later : Option ℕ) → hit_or base (if b && true then Some 1 else None) (option_map (λ n. span n 1) later) ≡ option_map (λ n. span n 1) (cond b (Some base) later)
 byte-later base true later = refl
 byte-later base false later = refl
 
-first_hit-byte : (byte base : ℕ) (bytes : List ℕ) → first_hit ((byte ∷ []) ∷ []) base bytes ≡ option_map (λ n. places n 1) (first_held (λ x. byte == x) (offsets_from base (units bytes)))
+first_hit-byte : (byte base : ℕ) (bytes : List ℕ) → first_hit ((byte ∷ []) ∷ []) base bytes ≡ option_map (λ n. span n 1) (first_held (λ x. byte == x) (offsets_from base (units bytes)))
 first_hit-byte byte base [] = refl
 first_hit-byte byte base (y ∷ bytes) =
     ap (hit_or base (needle_at ((byte ∷ []) ∷ []) (y ∷ bytes))) (first_hit-byte byte (base + 1) bytes)
     ∙ byte-later base (byte == y) (first_held (λ x. byte == x) (offsets_from (base + 1) (units bytes)))
 
-pub hit-byte : (byte : ℕ) (bytes : List ℕ) → hit ((byte ∷ []) ∷ []) bytes ≡ option_map (λ n. places n 1) (first_offset (λ x. byte == x) (units bytes))
+pub hit-byte : (byte : ℕ) (bytes : List ℕ) → hit ((byte ∷ []) ∷ []) bytes ≡ option_map (λ n. span n 1) (first_offset (λ x. byte == x) (units bytes))
 hit-byte byte bytes = first_hit-byte byte 0 bytes

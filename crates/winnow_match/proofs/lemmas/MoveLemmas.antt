@@ -6,10 +6,10 @@ use Rattle.std.specs.declared.ops.Range.{Range}
 use Rattle.std.proofs.lemmas.Bool.{and_parts, and_from, or_right, or_left, false≢true, false_from_ne_true, cases_Bool, cases_lt}
 use Rattle.std.proofs.lemmas.Option.{none-some}
 use Rattle.std.proofs.lemmas.List.{drop-append-le, length-append, append_assoc}
-use Rattle.winnow_stream.specs.Cursor.{places}
-use Rattle.winnow_match.specs.Comparison.{is_front}
-use Rattle.winnow_match.specs.Search.{is_empty, needle_at, needle_of, hit, Stands, IsFirstHit}
-use Rattle.winnow_match.proofs.lemmas.ByteFrontLemmas.{IsFrontOf-is_front, is_front-IsFrontOf, no_front, is_front-more, length-front, is_front-append, is_front-both, is_front-long}
+use Rattle.winnow_stream.specs.Span.{span}
+use Rattle.winnow_match.specs.Comparison.{is_prefix}
+use Rattle.winnow_match.specs.Search.{is_empty, needle_at, needle_of, hit, Occurs, IsFirstHit}
+use Rattle.winnow_match.proofs.lemmas.ByteFrontLemmas.{IsPrefixOf-is_prefix, is_prefix-IsPrefixOf, no_front, is_prefix-more, length-front, is_prefix-append, is_prefix-both, is_prefix-long}
 use Rattle.winnow_match.proofs.lemmas.HitLemmas.{no-needle, needle_at-nowhere, some-says}
 use Rattle.winnow_match.specs.declared.needles.Stretch.{Stretch}
 use Rattle.winnow_match.specs.Stretch.{stretching, first_stretch, stretch_of, hit_is_definite, Stretches, CanMove, IsStretch}
@@ -29,17 +29,17 @@ nonempty (x ∷ xs) h = omega arith
 -- ---- one needle under more input
 
 module _ (n b m : List ℕ) (q : ℕ) where
-  stands-later : q ≤ length b → Stands n b q → Stands n (b ++ m) q
+  stands-later : q ≤ length b → Occurs n b q → Occurs n (b ++ m) q
   stands-later l s = (s.0 ++ m, drop-append-le q b m l ∙ ap (λ xs. xs ++ m) s.1 ∙ append_assoc n s.0 m)
 
   -- a needle that stands under more input stood before, or the bytes ended inside it
-  pub stands-before : q ≤ length b → Stands n (b ++ m) q → Stands n b q ⊎ Stretches n b q
+  pub stands-before : q ≤ length b → Occurs n (b ++ m) q → Occurs n b q ⊎ Stretches n b q
   stands-before l s =
       let xs : List ℕ = drop q b in
-      let f : is_front n (xs ++ m) ≡ true = ap (is_front n) (sym (drop-append-le q b m l)) ∙ is_front-IsFrontOf n (drop q (b ++ m)) s in
+      let f : is_prefix n (xs ++ m) ≡ true = ap (is_prefix n) (sym (drop-append-le q b m l)) ∙ is_prefix-IsPrefixOf n (drop q (b ++ m)) s in
       elim (cases_lt (length xs) (length n)) [
-        | inl k ↦ inr (IsFrontOf-is_front xs n (is_front-both n xs (xs ++ m) f (is_front-append xs m) (omega (arith, k))), k)
-        | inr k ↦ inl (IsFrontOf-is_front n xs (sym (is_front-more n xs m k) ∙ f))
+        | inl k ↦ inr (IsPrefixOf-is_prefix xs n (is_prefix-both n xs (xs ++ m) f (is_prefix-append xs m) (omega (arith, k))), k)
+        | inr k ↦ inl (IsPrefixOf-is_prefix n xs (sym (is_prefix-more n xs m k) ∙ f))
       ]
 
   stretches-before : q ≤ length b → Stretches n (b ++ m) q → Stretches n b q
@@ -63,7 +63,7 @@ module _ (ls : List (List ℕ)) (bytes : List ℕ) (some : list_any is_empty ls 
     has-byte = nonempty (needle_of ls first.index) (λ e. false≢true (sym some ∙ empty-at ls first.index first.listed e))
 
     pub fits : length (needle_of ls first.index) ≤ length (drop r.start bytes)
-    fits = length-front (needle_of ls first.index) (drop r.start bytes) (is_front-IsFrontOf (needle_of ls first.index) (drop r.start bytes) first.stands)
+    fits = length-front (needle_of ls first.index) (drop r.start bytes) (is_prefix-IsPrefixOf (needle_of ls first.index) (drop r.start bytes) first.stands)
 
     pub inside : r.start < length bytes
     inside = omega (arith, has-byte, fits, length-drop r.start bytes)
@@ -71,7 +71,7 @@ module _ (ls : List (List ℕ)) (bytes : List ℕ) (some : list_any is_empty ls 
     pub absent-before : (k : ℕ) → k < r.start → needle_at ls (drop k bytes) ≡ None
     absent-before k l = needle_at-nowhere ls (drop k bytes) (λ i m. no_front (needle_of ls i) (drop k bytes) (first.first_place i k m l))
 
-    no-front : (i k : ℕ) → i < length ls → needle_at ls (drop k bytes) ≡ None → is_front (needle_of ls i) (drop k bytes) ≡ false
+    no-front : (i k : ℕ) → i < length ls → needle_at ls (drop k bytes) ≡ None → is_prefix (needle_of ls i) (drop k bytes) ≡ false
     no-front i k l e = no-needle ls (drop k bytes) e i l
 
     -- where nothing stretches that could move it
@@ -79,14 +79,14 @@ module _ (ls : List (List ℕ)) (bytes : List ℕ) (some : list_any is_empty ls 
     stretch-none e i q c =
         let within : q ≤ r.start = elim c.first [ inl l ↦ omega (arith, l) | inr s ↦ omega (arith, s.0) ] in
         let none : stretching ls (drop q bytes) ≡ None = first_stretch-none ls bytes 0 e q (omega (arith, within, inside)) (λ k l. absent-before k (omega (arith, l, within))) in
-        let absent : (j : ℕ) → j < suc i → is_front (needle_of ls j) (drop q bytes) ≡ false =
+        let absent : (j : ℕ) → j < suc i → is_prefix (needle_of ls j) (drop q bytes) ≡ false =
         λ j l. elim c.first [
           | inl s ↦ no_front (needle_of ls j) (drop q bytes) (first.first_place j q (omega (arith, l, c.listed)) s)
           | inr s ↦ elim (cases_lt j i) [
             | inl k ↦ no_front (needle_of ls j) (drop q bytes) (s.1 j k)
             | inr k ↦
                 let e : i ≡ j = omega (arith, l, k) in
-                subst (λ t. is_front (needle_of ls t) (drop q bytes) ≡ false) e (is_front-long (needle_of ls i) (drop q bytes) c.stretches.1)
+                subst (λ t. is_prefix (needle_of ls t) (drop q bytes) ≡ false) e (is_prefix-long (needle_of ls i) (drop q bytes) c.stretches.1)
           ]
         ]
         in
@@ -102,7 +102,7 @@ module _ (ls : List (List ℕ)) (bytes : List ℕ) (some : list_any is_empty ls 
         elim (cases_lt r.start s.place) [
           | inl l ↦
               let none = no-front first.index r.start first.listed (t.absent r.start (omega (arith, l, at))) in
-              absurd (false≢true (sym none ∙ is_front-IsFrontOf (needle_of ls first.index) (drop r.start bytes) first.stands))
+              absurd (false≢true (sym none ∙ is_prefix-IsPrefixOf (needle_of ls first.index) (drop r.start bytes) first.stands))
           | inr l ↦ l
         ]
         in
@@ -115,7 +115,7 @@ module _ (ls : List (List ℕ)) (bytes : List ℕ) (some : list_any is_empty ls 
                     elim (cases_lt s.place r.start) [
                       | inl l ↦ inl l
                       | inr l ↦
-                          inr (omega (arith, l, within), λ j k st. false≢true (sym (u.absent j k) ∙ is_front-IsFrontOf (needle_of ls j) (drop s.place bytes) st))
+                          inr (omega (arith, l, within), λ j k st. false≢true (sym (u.absent j k) ∙ is_prefix-IsPrefixOf (needle_of ls j) (drop s.place bytes) st))
                     ];
               };
           least = λ i q c.
@@ -138,7 +138,7 @@ module _ (ls : List (List ℕ)) (bytes : List ℕ) (some : list_any is_empty ls 
 -- ---- the hit that is definite
 
 module _ (ls : List (List ℕ)) (b : List ℕ) where
-  pub hit-empty : list_any is_empty ls ≡ true → hit ls b ≡ Some (places 0 0)
+  pub hit-empty : list_any is_empty ls ≡ true → hit ls b ≡ Some (span 0 0)
   hit-empty e = rw e refl
 
   pub stretch-empty : list_any is_empty ls ≡ true → stretch_of ls b ≡ None
@@ -203,7 +203,7 @@ pub find-stable : (ls : List (List ℕ)) (b m : List ℕ) → hit_is_definite ls
 find-stable ls b m d =
     let p = definite-parts ls b d in
     elim (cases_Bool (list_any is_empty ls)) [
-      | inl e ↦ (hit-empty ls (b ++ m) e ∙ sym (hit-empty ls b e), definite-from ls (b ++ m) (places 0 0) (hit-empty ls (b ++ m) e) (stretch-empty ls (b ++ m) e))
+      | inl e ↦ (hit-empty ls (b ++ m) e ∙ sym (hit-empty ls b e), definite-from ls (b ++ m) (span 0 0) (hit-empty ls (b ++ m) e) (stretch-empty ls (b ++ m) e))
       | inr e ↦
           let r = p.0.0 in
           let still = stretch-none ls b e r p.0.1 (sym (stretch-first ls b e) ∙ p.1) in
@@ -223,7 +223,7 @@ pub stands-some : (ls : List (List ℕ)) (b : List ℕ) (some : list_any is_empt
 stands-some ls b some r h =
     let f = first ls b some r h in
     elim (none-or-some (needle_at ls (drop r.start b))) [
-      | inl e ↦ absurd (false≢true (sym (no-needle ls (drop r.start b) e f.index f.listed) ∙ is_front-IsFrontOf (needle_of ls f.index) (drop r.start b) f.stands))
+      | inl e ↦ absurd (false≢true (sym (no-needle ls (drop r.start b) e f.index f.listed) ∙ is_prefix-IsPrefixOf (needle_of ls f.index) (drop r.start b) f.stands))
       | inr e ↦ e
     ]
 

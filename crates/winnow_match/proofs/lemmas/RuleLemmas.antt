@@ -4,9 +4,9 @@ use Rattle.std.specs.Prelude.{Contains}
 use Rattle.std.specs.List.{list_any}
 use Rattle.std.specs.declared.ops.Range.{Range}
 use Rattle.std.proofs.lemmas.Bool.{cases_lt}
-use Rattle.winnow_stream.specs.Cursor.{places}
-use Rattle.winnow_match.specs.Search.{is_empty, needle_of, hit, Stands, IsFirstHit}
-use Rattle.winnow_match.proofs.lemmas.ByteFrontLemmas.{is_front-IsFrontOf, length-front}
+use Rattle.winnow_stream.specs.Span.{span}
+use Rattle.winnow_match.specs.Search.{is_empty, needle_of, hit, Occurs, IsFirstHit}
+use Rattle.winnow_match.proofs.lemmas.ByteFrontLemmas.{is_prefix-IsPrefixOf, length-front}
 use Rattle.winnow_match.proofs.lemmas.HitLemmas.{none-empty, some-says}
 use Rattle.winnow_match.specs.declared.needles.Stretch.{Stretch}
 use Rattle.winnow_match.specs.Stretch.{stretch_of, hit_is_definite, Stretches, CanMove, IsStretch, NothingStretches}
@@ -14,7 +14,7 @@ use Rattle.winnow_match.proofs.lemmas.StretchLemmas.{none-or-some}
 use Rattle.winnow_match.proofs.lemmas.MoveLemmas.{empty-at, stretch-none, stretch-some, stretch-first, stretch-empty, hit-empty, definite-parts, definite-from}
 
 pub empty-definite : (ls : List (List ℕ)) (b : List ℕ) → Contains ls [] → hit_is_definite ls b ≡ true
-empty-definite ls b c = let e = empty-at ls c.0 c.1 c.2 in definite-from ls b (places 0 0) (hit-empty ls b e) (stretch-empty ls b e)
+empty-definite ls b c = let e = empty-at ls c.0 c.1 c.2 in definite-from ls b (span 0 0) (hit-empty ls b e) (stretch-empty ls b e)
 
 -- ---- what can move the hit, by the number of the needle that stands
 
@@ -27,7 +27,7 @@ module _ (ls : List (List ℕ)) (b : List ℕ) (r : Range ℕ) (f : IsFirstHit l
         first =
             elim w [
               | inl k ↦ inl k
-              | inr k ↦ inr (k.0, λ j m t. f.first_listed j (omega (arith, m, k.1)) (subst (Stands (needle_of ls j) b) k.0 t))
+              | inr k ↦ inr (k.0, λ j m t. f.first_listed j (omega (arith, m, k.1)) (subst (Occurs (needle_of ls j) b) k.0 t))
             ];
       }
 
@@ -38,13 +38,13 @@ module _ (ls : List (List ℕ)) (b : List ℕ) (r : Range ℕ) (f : IsFirstHit l
         | inr k ↦ elim (cases_lt i f.index) [
           | inl l ↦ inr (k.0, l)
           | inr l ↦
-              let here : Stands (needle_of ls f.index) b q = subst (Stands (needle_of ls f.index) b) (sym k.0) f.stands in
+              let here : Occurs (needle_of ls f.index) b q = subst (Occurs (needle_of ls f.index) b) (sym k.0) f.stands in
               elim (cases_lt f.index i) [
                 | inl m ↦ absurd (k.1 f.index m here)
                 | inr m ↦
                     let same : f.index ≡ i = omega (arith, l, m) in
-                    let there : Stands (needle_of ls i) b q = subst (λ j. Stands (needle_of ls j) b q) same here in
-                    let long = length-front (needle_of ls i) (drop q b) (is_front-IsFrontOf (needle_of ls i) (drop q b) there) in
+                    let there : Occurs (needle_of ls i) b q = subst (λ j. Occurs (needle_of ls j) b q) same here in
+                    let long = length-front (needle_of ls i) (drop q b) (is_prefix-IsPrefixOf (needle_of ls i) (drop q b) there) in
                     absurd (omega (arith, long, c.stretches.1))
               ]
         ]

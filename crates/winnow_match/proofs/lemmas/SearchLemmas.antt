@@ -7,10 +7,10 @@ use Rattle.std.proofs.lemmas.Bool.Decides.{nat_tests}
 use Rattle.std.proofs.lemmas.List.{drop-drop, drop_all, drop_more, get_or-take, get_or-drop}
 use Rattle.std.proofs.lemmas.List.Prefix.{at_from_reads, at_reads}
 use Rattle.memchr.specs.Find.{IsFirst, IsFirstByte, Passes, is_byte, is_byte2, is_byte3, Nowhere, NoneBefore, OccursAt, FindsNeedle}
-use Rattle.winnow_stream.specs.Cursor.{places}
-use Rattle.winnow_match.specs.Comparison.{is_front}
-use Rattle.winnow_match.specs.Search.{is_empty, needle_at, SomeStands, first_hit, hit}
-use Rattle.winnow_match.proofs.lemmas.ByteFrontLemmas.{length-front, is_front-append, front_rest}
+use Rattle.winnow_stream.specs.Span.{span}
+use Rattle.winnow_match.specs.Comparison.{is_prefix}
+use Rattle.winnow_match.specs.Search.{is_empty, needle_at, SomeOccurs, first_hit, hit}
+use Rattle.winnow_match.proofs.lemmas.ByteFrontLemmas.{length-front, is_prefix-append, front_rest}
 
 pub nonempty-length : (xs : List ℕ) → is_empty xs ≡ false → 0 < length xs
 nonempty-length [] h = absurd (false≢true (sym h))
@@ -26,67 +26,67 @@ or-step : (b : Bool) (m : ℕ) (o p : Option ℕ) (f : Bool) → is_some p ≡ (
 or-step true m o p f h = refl
 or-step false m o p f h = h
 
-pub needle_at-one : (n xs : List ℕ) → is_some (needle_at (n ∷ []) xs) ≡ is_front n xs
-needle_at-one n xs = some-cond (is_front n xs) (length n)
+pub needle_at-one : (n xs : List ℕ) → is_some (needle_at (n ∷ []) xs) ≡ is_prefix n xs
+needle_at-one n xs = some-cond (is_prefix n xs) (length n)
 
-pub needle_at-append : (ls : List (List ℕ)) (n xs : List ℕ) → is_some (needle_at (ls ++ n ∷ []) xs) ≡ (is_some (needle_at ls xs) || is_front n xs)
+pub needle_at-append : (ls : List (List ℕ)) (n xs : List ℕ) → is_some (needle_at (ls ++ n ∷ []) xs) ≡ (is_some (needle_at ls xs) || is_prefix n xs)
 needle_at-append [] n xs = needle_at-one n xs
-needle_at-append (l ∷ ls) n xs = or-step (is_front l xs) (length l) (needle_at ls xs) (needle_at (ls ++ n ∷ []) xs) (is_front n xs) (needle_at-append ls n xs)
+needle_at-append (l ∷ ls) n xs = or-step (is_prefix l xs) (length l) (needle_at ls xs) (needle_at (ls ++ n ∷ []) xs) (is_prefix n xs) (needle_at-append ls n xs)
 
 module _ (ls : List (List ℕ)) (n bytes : List ℕ) (k : ℕ) where
-  pub SomeStands-split : SomeStands (ls ++ n ∷ []) bytes k → SomeStands ls bytes k ⊎ SomeStands (n ∷ []) bytes k
-  SomeStands-split s =
-      elim (or_cases (is_some (needle_at ls (drop k bytes))) (is_front n (drop k bytes)) (sym (needle_at-append ls n (drop k bytes)) ∙ s)) [
+  pub SomeOccurs-split : SomeOccurs (ls ++ n ∷ []) bytes k → SomeOccurs ls bytes k ⊎ SomeOccurs (n ∷ []) bytes k
+  SomeOccurs-split s =
+      elim (or_cases (is_some (needle_at ls (drop k bytes))) (is_prefix n (drop k bytes)) (sym (needle_at-append ls n (drop k bytes)) ∙ s)) [
         | inl h ↦ inl h
         | inr h ↦ inr (needle_at-one n (drop k bytes) ∙ h)
       ]
 
-  pub SomeStands-left : SomeStands ls bytes k → SomeStands (ls ++ n ∷ []) bytes k
-  SomeStands-left s = needle_at-append ls n (drop k bytes) ∙ or_left _ (is_front n (drop k bytes)) s
+  pub SomeOccurs-left : SomeOccurs ls bytes k → SomeOccurs (ls ++ n ∷ []) bytes k
+  SomeOccurs-left s = needle_at-append ls n (drop k bytes) ∙ or_left _ (is_prefix n (drop k bytes)) s
 
-  pub SomeStands-right : SomeStands (n ∷ []) bytes k → SomeStands (ls ++ n ∷ []) bytes k
-  SomeStands-right s =
+  pub SomeOccurs-right : SomeOccurs (n ∷ []) bytes k → SomeOccurs (ls ++ n ∷ []) bytes k
+  SomeOccurs-right s =
       needle_at-append ls n (drop k bytes) ∙ or_right (is_some (needle_at ls (drop k bytes))) _ (sym (needle_at-one n (drop k bytes)) ∙ s)
 
-Nowhere-append : (ls : List (List ℕ)) (n bytes : List ℕ) (j : ℕ) → Nowhere (SomeStands ls bytes) 0 j → Nowhere (SomeStands (n ∷ []) bytes) 0 j → Nowhere (SomeStands (ls ++ n ∷ []) bytes) 0 j
-Nowhere-append ls n bytes j f g k low high s = elim (SomeStands-split ls n bytes k s) [ inl h ↦ f k low high h | inr h ↦ g k low high h ]
+Nowhere-append : (ls : List (List ℕ)) (n bytes : List ℕ) (j : ℕ) → Nowhere (SomeOccurs ls bytes) 0 j → Nowhere (SomeOccurs (n ∷ []) bytes) 0 j → Nowhere (SomeOccurs (ls ++ n ∷ []) bytes) 0 j
+Nowhere-append ls n bytes j f g k low high s = elim (SomeOccurs-split ls n bytes k s) [ inl h ↦ f k low high h | inr h ↦ g k low high h ]
 
 pub Nowhere-less : (P : ℕ → Type 0) (i j m : ℕ) → m ≤ j → Nowhere P i j → Nowhere P i m
 Nowhere-less P i j m l f k low high = f k low (omega arith)
 
 -- one more needle, sought up to the place that the others gave
-pub sooner-some : (ls : List (List ℕ)) (n bytes : List ℕ) (limit at : ℕ) (r : Option ℕ) → IsFirst (SomeStands ls bytes) 0 limit (Some at) → IsFirst (SomeStands (n ∷ []) bytes) 0 at r → IsFirst (SomeStands (ls ++ n ∷ []) bytes) 0 limit (Some (unwrap_or r at))
+pub sooner-some : (ls : List (List ℕ)) (n bytes : List ℕ) (limit at : ℕ) (r : Option ℕ) → IsFirst (SomeOccurs ls bytes) 0 limit (Some at) → IsFirst (SomeOccurs (n ∷ []) bytes) 0 at r → IsFirst (SomeOccurs (ls ++ n ∷ []) bytes) 0 limit (Some (unwrap_or r at))
 sooner-some ls n bytes limit at None f g =
-    (record { low = f.0.low; high = f.0.high; before = Nowhere-append ls n bytes at f.0.before g }, SomeStands-left ls n bytes at f.1)
+    (record { low = f.0.low; high = f.0.high; before = Nowhere-append ls n bytes at f.0.before g }, SomeOccurs-left ls n bytes at f.1)
 sooner-some ls n bytes limit at (Some j) f g =
-    let first : Nowhere (SomeStands ls bytes) 0 j = Nowhere-less (SomeStands ls bytes) 0 at j (omega (arith, g.0.high)) f.0.before in
-    (record { low = g.0.low; high = omega (arith, g.0.high, f.0.high); before = Nowhere-append ls n bytes j first g.0.before }, SomeStands-right ls n bytes j g.1)
+    let first : Nowhere (SomeOccurs ls bytes) 0 j = Nowhere-less (SomeOccurs ls bytes) 0 at j (omega (arith, g.0.high)) f.0.before in
+    (record { low = g.0.low; high = omega (arith, g.0.high, f.0.high); before = Nowhere-append ls n bytes j first g.0.before }, SomeOccurs-right ls n bytes j g.1)
 
-pub sooner-none : (ls : List (List ℕ)) (n bytes : List ℕ) (limit : ℕ) (r : Option ℕ) → IsFirst (SomeStands ls bytes) 0 limit None → IsFirst (SomeStands (n ∷ []) bytes) 0 limit r → IsFirst (SomeStands (ls ++ n ∷ []) bytes) 0 limit r
+pub sooner-none : (ls : List (List ℕ)) (n bytes : List ℕ) (limit : ℕ) (r : Option ℕ) → IsFirst (SomeOccurs ls bytes) 0 limit None → IsFirst (SomeOccurs (n ∷ []) bytes) 0 limit r → IsFirst (SomeOccurs (ls ++ n ∷ []) bytes) 0 limit r
 sooner-none ls n bytes limit None f g = Nowhere-append ls n bytes limit f g
 sooner-none ls n bytes limit (Some j) f g =
-    let first : Nowhere (SomeStands ls bytes) 0 j = Nowhere-less (SomeStands ls bytes) 0 limit j (omega (arith, g.0.high)) f in
-    (record { low = g.0.low; high = g.0.high; before = Nowhere-append ls n bytes j first g.0.before }, SomeStands-right ls n bytes j g.1)
+    let first : Nowhere (SomeOccurs ls bytes) 0 j = Nowhere-less (SomeOccurs ls bytes) 0 limit j (omega (arith, g.0.high)) f in
+    (record { low = g.0.low; high = g.0.high; before = Nowhere-append ls n bytes j first g.0.before }, SomeOccurs-right ls n bytes j g.1)
 
 -- ---- one needle in a front of the bytes
 
 module _ (bytes n : List ℕ) (k : ℕ) where
-  SomeStands-fits : is_empty n ≡ false → SomeStands (n ∷ []) bytes k → k + length n ≤ length bytes
-  SomeStands-fits some s =
+  SomeOccurs-fits : is_empty n ≡ false → SomeOccurs (n ∷ []) bytes k → k + length n ≤ length bytes
+  SomeOccurs-fits some s =
       let f = length-front n (drop k bytes) (sym (needle_at-one n (drop k bytes)) ∙ s) in
       let l = nonempty-length n some in
       omega (arith, f, l, length-drop k bytes)
 
   module _ (reach : ℕ) (short : reach ≤ length bytes) where
-    SomeStands-occurs : OccursAt (take reach bytes) n k → SomeStands (n ∷ []) bytes k
-    SomeStands-occurs o =
+    SomeOccurs-occurs : OccursAt (take reach bytes) n k → SomeOccurs (n ∷ []) bytes k
+    SomeOccurs-occurs o =
         let fits : k + length n ≤ reach = omega (arith, o.fits, length-take reach bytes) in
         let reads : (i : ℕ) → i < length n → get_or bytes (k + i) 0 ≡ get_or n i 0 = λ i l. sym (get_or-take reach bytes (k + i) 0 (omega (arith, l, fits))) ∙ o.reads i l in
         let e : drop k bytes ≡ n ++ drop (k + length n) bytes = at_from_reads 0 bytes n k (omega (arith, fits, short)) reads in
-        needle_at-one n (drop k bytes) ∙ ap (is_front n) e ∙ is_front-append n (drop (k + length n) bytes)
+        needle_at-one n (drop k bytes) ∙ ap (is_prefix n) e ∙ is_prefix-append n (drop (k + length n) bytes)
 
-    occurs-SomeStands : k + length n ≤ reach → SomeStands (n ∷ []) bytes k → OccursAt (take reach bytes) n k
-    occurs-SomeStands fits s =
+    occurs-SomeOccurs : k + length n ≤ reach → SomeOccurs (n ∷ []) bytes k → OccursAt (take reach bytes) n k
+    occurs-SomeOccurs fits s =
         let e : drop k bytes ≡ n ++ drop (length n) (drop k bytes) = front_rest n (drop k bytes) (sym (needle_at-one n (drop k bytes)) ∙ s) in
         record {
           fits = omega (arith, fits, short, length-take reach bytes);
@@ -94,39 +94,39 @@ module _ (bytes n : List ℕ) (k : ℕ) where
         }
 
 -- the search goes as far as a needle reaches that begins below the limit
-pub place-below : (bytes n : List ℕ) (limit reach : ℕ) (r : Option ℕ) → is_empty n ≡ false → reach ≡ min (limit + (length n - 1)) (length bytes) → FindsNeedle (take reach bytes) n 0 r → IsFirst (SomeStands (n ∷ []) bytes) 0 limit r
+pub place-below : (bytes n : List ℕ) (limit reach : ℕ) (r : Option ℕ) → is_empty n ≡ false → reach ≡ min (limit + (length n - 1)) (length bytes) → FindsNeedle (take reach bytes) n 0 r → IsFirst (SomeOccurs (n ∷ []) bytes) 0 limit r
 place-below bytes n limit reach None some e f =
     let l = nonempty-length n some in
     let short : reach ≤ length bytes = omega (arith, e) in
     λ k low high s.
-    let fits = SomeStands-fits bytes n k some s in
-    f k low (omega (arith, e, l, fits, high, length-take reach bytes)) (occurs-SomeStands bytes n k reach short (omega (arith, e, l, fits, high)) s)
+    let fits = SomeOccurs-fits bytes n k some s in
+    f k low (omega (arith, e, l, fits, high, length-take reach bytes)) (occurs-SomeOccurs bytes n k reach short (omega (arith, e, l, fits, high)) s)
 place-below bytes n limit reach (Some at) some e f =
     let l = nonempty-length n some in
     let short : reach ≤ length bytes = omega (arith, e) in
     let below : at < limit = omega (arith, e, l, f.1.fits, length-take reach bytes) in
-    let none : Nowhere (SomeStands (n ∷ []) bytes) 0 at =
-    λ k low high s. f.0.before k low high (occurs-SomeStands bytes n k reach short (omega (arith, e, l, SomeStands-fits bytes n k some s, high, below)) s)
+    let none : Nowhere (SomeOccurs (n ∷ []) bytes) 0 at =
+    λ k low high s. f.0.before k low high (occurs-SomeOccurs bytes n k reach short (omega (arith, e, l, SomeOccurs-fits bytes n k some s, high, below)) s)
     in
-    (record { low = omega arith; high = below; before = none }, SomeStands-occurs bytes n at reach short f.1)
+    (record { low = omega arith; high = below; before = none }, SomeOccurs-occurs bytes n at reach short f.1)
 
 -- ---- what remains behind some bytes
 
 module _ (ls : List (List ℕ)) (bytes : List ℕ) where
-  pub SomeStands-shift : (p k : ℕ) → SomeStands ls (drop p bytes) k → SomeStands ls bytes (p + k)
-  SomeStands-shift p k s = sym (ap (λ xs. is_some (needle_at ls xs)) (drop-drop k p bytes)) ∙ s
+  pub SomeOccurs-shift : (p k : ℕ) → SomeOccurs ls (drop p bytes) k → SomeOccurs ls bytes (p + k)
+  SomeOccurs-shift p k s = sym (ap (λ xs. is_some (needle_at ls xs)) (drop-drop k p bytes)) ∙ s
 
-  pub SomeStands-unshift : (p k : ℕ) → p ≤ k → SomeStands ls bytes k → SomeStands ls (drop p bytes) (k - p)
-  SomeStands-unshift p k l s =
+  pub SomeOccurs-unshift : (p k : ℕ) → p ≤ k → SomeOccurs ls bytes k → SomeOccurs ls (drop p bytes) (k - p)
+  SomeOccurs-unshift p k l s =
       let e : drop (k - p) (drop p bytes) ≡ drop k bytes = drop-drop (k - p) p bytes ∙ ap (λ m. drop m bytes) (omega (arith, l)) in
       ap (λ xs. is_some (needle_at ls xs)) e ∙ s
 
   -- no needle stands below p, nor in the next places
-  pub Nowhere-more : (p m : ℕ) → Nowhere (SomeStands ls bytes) 0 p → Nowhere (SomeStands ls (drop p bytes)) 0 m → Nowhere (SomeStands ls bytes) 0 (p + m)
+  pub Nowhere-more : (p m : ℕ) → Nowhere (SomeOccurs ls bytes) 0 p → Nowhere (SomeOccurs ls (drop p bytes)) 0 m → Nowhere (SomeOccurs ls bytes) 0 (p + m)
   Nowhere-more p m f g k low high s =
       elim (cases_lt k p) [
         | inl l ↦ f k low l s
-        | inr l ↦ g (k - p) (omega arith) (omega (arith, l, high)) (SomeStands-unshift p k l s)
+        | inr l ↦ g (k - p) (omega arith) (omega (arith, l, high)) (SomeOccurs-unshift p k l s)
       ]
 
 pub needle_at-nil : (ls : List (List ℕ)) → list_any is_empty ls ≡ false → needle_at ls [] ≡ None
@@ -134,18 +134,18 @@ needle_at-nil [] h = refl
 needle_at-nil ([] ∷ ls) h = absurd (false≢true (sym h))
 needle_at-nil ((x ∷ l) ∷ ls) h = needle_at-nil ls h
 
-pub SomeStands-within : (ls : List (List ℕ)) (bytes : List ℕ) (k : ℕ) → list_any is_empty ls ≡ false → SomeStands ls bytes k → k < length bytes
-SomeStands-within ls bytes k some s =
+pub SomeOccurs-within : (ls : List (List ℕ)) (bytes : List ℕ) (k : ℕ) → list_any is_empty ls ≡ false → SomeOccurs ls bytes k → k < length bytes
+SomeOccurs-within ls bytes k some s =
     elim (cases_lt k (length bytes)) [
       | inl l ↦ l
       | inr l ↦ absurd (false≢true (sym (ap is_some (ap (needle_at ls) (drop_all k bytes l) ∙ needle_at-nil ls some)) ∙ s))
     ]
 
 -- the first place behind those that were passed
-pub first-behind : (ls : List (List ℕ)) (bytes : List ℕ) (p m : ℕ) (at : ℕ) → list_any is_empty ls ≡ false → Nowhere (SomeStands ls bytes) 0 p → IsFirst (SomeStands ls (drop p bytes)) 0 m (Some at) → IsFirst (SomeStands ls bytes) 0 (length bytes) (Some (p + at))
+pub first-behind : (ls : List (List ℕ)) (bytes : List ℕ) (p m : ℕ) (at : ℕ) → list_any is_empty ls ≡ false → Nowhere (SomeOccurs ls bytes) 0 p → IsFirst (SomeOccurs ls (drop p bytes)) 0 m (Some at) → IsFirst (SomeOccurs ls bytes) 0 (length bytes) (Some (p + at))
 first-behind ls bytes p m at some f g =
-    let s : SomeStands ls bytes (p + at) = SomeStands-shift ls bytes p at g.1 in
-    (record { low = omega arith; high = SomeStands-within ls bytes (p + at) some s; before = Nowhere-more ls bytes p at f g.0.before }, s)
+    let s : SomeOccurs ls bytes (p + at) = SomeOccurs-shift ls bytes p at g.1 in
+    (record { low = omega arith; high = SomeOccurs-within ls bytes (p + at) some s; before = Nowhere-more ls bytes p at f g.0.before }, s)
 
 -- ---- the hit
 
@@ -153,28 +153,28 @@ pub none-parts : (o : Option ℕ) → ¬ (is_some o ≡ true) → o ≡ None
 none-parts None h = refl
 none-parts (Some n) h = absurd (h refl)
 
-pub first_hit-some : (ls : List (List ℕ)) (bytes : List ℕ) (base q n : ℕ) → Nowhere (SomeStands ls bytes) 0 q → q < length bytes → needle_at ls (drop q bytes) ≡ Some n → first_hit ls base bytes ≡ Some (places (base + q) n)
+pub first_hit-some : (ls : List (List ℕ)) (bytes : List ℕ) (base q n : ℕ) → Nowhere (SomeOccurs ls bytes) 0 q → q < length bytes → needle_at ls (drop q bytes) ≡ Some n → first_hit ls base bytes ≡ Some (span (base + q) n)
 first_hit-some ls [] base q n none l e = absurd (omega (arith, l))
-first_hit-some ls (y ∷ bytes) base zero n none l e = rw e (ap (λ k. Some (places k n)) (omega arith))
+first_hit-some ls (y ∷ bytes) base zero n none l e = rw e (ap (λ k. Some (span k n)) (omega arith))
 first_hit-some ls (y ∷ bytes) base (suc q) n none l e =
     let here : needle_at ls (y ∷ bytes) ≡ None = none-parts (needle_at ls (y ∷ bytes)) (none 0 (omega arith) (omega arith)) in
-    let later : Nowhere (SomeStands ls bytes) 0 q = λ k low high s. none (suc k) (omega arith) (omega (arith, high)) s in
-    rw here (first_hit-some ls bytes (base + 1) q n later (omega (arith, l)) e ∙ ap (λ k. Some (places k n)) (omega arith))
+    let later : Nowhere (SomeOccurs ls bytes) 0 q = λ k low high s. none (suc k) (omega arith) (omega (arith, high)) s in
+    rw here (first_hit-some ls bytes (base + 1) q n later (omega (arith, l)) e ∙ ap (λ k. Some (span k n)) (omega arith))
 
-pub first_hit-none : (ls : List (List ℕ)) (bytes : List ℕ) (base : ℕ) → Nowhere (SomeStands ls bytes) 0 (length bytes) → first_hit ls base bytes ≡ None
+pub first_hit-none : (ls : List (List ℕ)) (bytes : List ℕ) (base : ℕ) → Nowhere (SomeOccurs ls bytes) 0 (length bytes) → first_hit ls base bytes ≡ None
 first_hit-none ls [] base none = refl
 first_hit-none ls (y ∷ bytes) base none =
     let here : needle_at ls (y ∷ bytes) ≡ None = none-parts (needle_at ls (y ∷ bytes)) (none 0 (omega arith) (omega arith)) in
-    let later : Nowhere (SomeStands ls bytes) 0 (length bytes) = λ k low high s. none (suc k) (omega arith) (omega (arith, high)) s in
+    let later : Nowhere (SomeOccurs ls bytes) 0 (length bytes) = λ k low high s. none (suc k) (omega arith) (omega (arith, high)) s in
     rw here (first_hit-none ls bytes (base + 1) later)
 
 module _ (ls : List (List ℕ)) (bytes : List ℕ) where
-  pub hit-some : (q n : ℕ) → list_any is_empty ls ≡ false → Nowhere (SomeStands ls bytes) 0 q → needle_at ls (drop q bytes) ≡ Some n → Some (places q n) ≡ hit ls bytes
+  pub hit-some : (q n : ℕ) → list_any is_empty ls ≡ false → Nowhere (SomeOccurs ls bytes) 0 q → needle_at ls (drop q bytes) ≡ Some n → Some (span q n) ≡ hit ls bytes
   hit-some q n some none e =
-      let l = SomeStands-within ls bytes q some (ap is_some e) in
-      rw some (sym (first_hit-some ls bytes 0 q n none l e ∙ ap (λ k. Some (places k n)) (omega arith)))
+      let l = SomeOccurs-within ls bytes q some (ap is_some e) in
+      rw some (sym (first_hit-some ls bytes 0 q n none l e ∙ ap (λ k. Some (span k n)) (omega arith)))
 
-  pub hit-none : list_any is_empty ls ≡ false → Nowhere (SomeStands ls bytes) 0 (length bytes) → None ≡ hit ls bytes
+  pub hit-none : list_any is_empty ls ≡ false → Nowhere (SomeOccurs ls bytes) 0 (length bytes) → None ≡ hit ls bytes
   hit-none some none = rw some (sym (first_hit-none ls bytes 0 none))
 
 -- ---- first bytes
@@ -184,29 +184,29 @@ abbrev pub BeginWith : (ℕ → Bool) → List (List ℕ) → Type 0
 BeginWith test [] = ⊤
 BeginWith test (n ∷ ls) = ((is_empty n ≡ false) × (test (slice_index n 0) ≡ true)) × BeginWith test ls
 
-first-byte : (n xs : List ℕ) → is_empty n ≡ false → is_front n xs ≡ true → slice_index n 0 ≡ slice_index xs 0
+first-byte : (n xs : List ℕ) → is_empty n ≡ false → is_prefix n xs ≡ true → slice_index n 0 ≡ slice_index xs 0
 first-byte [] xs some h = absurd (false≢true (sym some))
 first-byte (x ∷ n) [] some h = absurd (false≢true h)
-first-byte (x ∷ n) (y ∷ xs) some h = grind (arith, nat_tests, and_parts (x == y) (is_front n xs) h)
+first-byte (x ∷ n) (y ∷ xs) some h = grind (arith, nat_tests, and_parts (x == y) (is_prefix n xs) h)
 
 first-passes : (test : ℕ → Bool) (ls : List (List ℕ)) (xs : List ℕ) → BeginWith test ls → is_some (needle_at ls xs) ≡ true → test (slice_index xs 0) ≡ true
 first-passes test [] xs w h = absurd (false≢true h)
 first-passes test (n ∷ ls) xs w h =
-    elim (cases_Bool (is_front n xs)) [
+    elim (cases_Bool (is_prefix n xs)) [
       | inl f ↦ ap test (sym (first-byte n xs w.0.0 f)) ∙ w.0.1
-      | inr f ↦ first-passes test ls xs w.1 (let g : is_some (cond (is_front n xs) (Some (length n)) (needle_at ls xs)) ≡ true = h in rw f at g)
+      | inr f ↦ first-passes test ls xs w.1 (let g : is_some (cond (is_prefix n xs) (Some (length n)) (needle_at ls xs)) ≡ true = h in rw f at g)
     ]
 
-pub Passes-SomeStands : (test : ℕ → Bool) (ls : List (List ℕ)) (bytes : List ℕ) (k : ℕ) → BeginWith test ls → SomeStands ls bytes k → Passes test bytes k
-Passes-SomeStands test ls bytes k w s =
+pub Passes-SomeOccurs : (test : ℕ → Bool) (ls : List (List ℕ)) (bytes : List ℕ) (k : ℕ) → BeginWith test ls → SomeOccurs ls bytes k → Passes test bytes k
+Passes-SomeOccurs test ls bytes k w s =
     let e : get_or (drop k bytes) 0 0 ≡ get_or bytes k 0 = get_or-drop k bytes 0 0 ∙ ap (λ m. get_or bytes m 0) (omega arith) in
     sym (ap test e) ∙ first-passes test ls (drop k bytes) w s
 
 -- no needle stands before the first byte that passes
-pub next-first : (test : ℕ → Bool) (ls : List (List ℕ)) (bytes : List ℕ) (r : Option ℕ) → BeginWith test ls → IsFirstByte test bytes r → MatchOption r (Nowhere (SomeStands ls bytes) 0 (length bytes)) (λ at. NoneBefore (SomeStands ls bytes) 0 (length bytes) at)
-next-first test ls bytes None w f = λ k low high s. f k low high (Passes-SomeStands test ls bytes k w s)
+pub next-first : (test : ℕ → Bool) (ls : List (List ℕ)) (bytes : List ℕ) (r : Option ℕ) → BeginWith test ls → IsFirstByte test bytes r → MatchOption r (Nowhere (SomeOccurs ls bytes) 0 (length bytes)) (λ at. NoneBefore (SomeOccurs ls bytes) 0 (length bytes) at)
+next-first test ls bytes None w f = λ k low high s. f k low high (Passes-SomeOccurs test ls bytes k w s)
 next-first test ls bytes (Some at) w f =
-    record { low = f.0.low; high = f.0.high; before = λ k low high s. f.0.before k low high (Passes-SomeStands test ls bytes k w s) }
+    record { low = f.0.low; high = f.0.high; before = λ k low high s. f.0.before k low high (Passes-SomeOccurs test ls bytes k w s) }
 
 -- the first bytes of one, two and three needles
 module _ (ls : List (List ℕ)) (some : list_any is_empty ls ≡ false) where
@@ -235,16 +235,16 @@ module _ (ls : List (List ℕ)) (some : list_any is_empty ls ≡ false) where
 
 -- ---- the hit of a search that has passed p places
 
-module _ (ls : List (List ℕ)) (bytes : List ℕ) (p : ℕ) (some : list_any is_empty ls ≡ false) (passed : Nowhere (SomeStands ls bytes) 0 p) where
-  pub hit-nowhere : p ≤ length bytes → Nowhere (SomeStands ls (drop p bytes)) 0 (length (drop p bytes)) → None ≡ hit ls bytes
+module _ (ls : List (List ℕ)) (bytes : List ℕ) (p : ℕ) (some : list_any is_empty ls ≡ false) (passed : Nowhere (SomeOccurs ls bytes) 0 p) where
+  pub hit-nowhere : p ≤ length bytes → Nowhere (SomeOccurs ls (drop p bytes)) 0 (length (drop p bytes)) → None ≡ hit ls bytes
   hit-nowhere l none =
       let m : ℕ = length (drop p bytes) in
-      hit-none ls bytes some (Nowhere-less (SomeStands ls bytes) 0 (p + m) (length bytes) (omega (arith, l, length-drop p bytes)) (Nowhere-more ls bytes p m passed none))
+      hit-none ls bytes some (Nowhere-less (SomeOccurs ls bytes) 0 (p + m) (length bytes) (omega (arith, l, length-drop p bytes)) (Nowhere-more ls bytes p m passed none))
 
-  pub hit-behind : (k m n : ℕ) → NoneBefore (SomeStands ls (drop p bytes)) 0 m k → Some n ≡ needle_at ls (drop (p + k) bytes) → Some (places (p + k) n) ≡ hit ls bytes
+  pub hit-behind : (k m n : ℕ) → NoneBefore (SomeOccurs ls (drop p bytes)) 0 m k → Some n ≡ needle_at ls (drop (p + k) bytes) → Some (span (p + k) n) ≡ hit ls bytes
   hit-behind k m n none e = hit-some ls bytes (p + k) n some (Nowhere-more ls bytes p k passed none.before) (sym e)
 
-  pub pass-one : (k m : ℕ) → NoneBefore (SomeStands ls (drop p bytes)) 0 m k → None ≡ needle_at ls (drop (p + k) bytes) → Nowhere (SomeStands ls bytes) 0 (p + k + 1)
+  pub pass-one : (k m : ℕ) → NoneBefore (SomeOccurs ls (drop p bytes)) 0 m k → None ≡ needle_at ls (drop (p + k) bytes) → Nowhere (SomeOccurs ls bytes) 0 (p + k + 1)
   pass-one k m none e i low high s =
       elim (cases_lt i (p + k)) [
         | inl l ↦ Nowhere-more ls bytes p k passed none.before i low l s
@@ -264,12 +264,12 @@ module _ (test : ℕ → Bool) (ls : List (List ℕ)) (bytes : List ℕ) (tests 
   needle_at-byte : (k : ℕ) → k < length bytes → needle_at ls (drop k bytes) ≡ cond (test (get_or bytes k 0)) (Some 1) None
   needle_at-byte k l = ap (needle_at ls) (drop_more bytes k 0 l) ∙ tests (get_or bytes k 0) (drop (k + 1) bytes)
 
-  passes-from_Stands : (k : ℕ) → k < length bytes → SomeStands ls bytes k → Passes test bytes k
+  passes-from_Stands : (k : ℕ) → k < length bytes → SomeOccurs ls bytes k → Passes test bytes k
   passes-from_Stands k l s = sym (some-cond (test (get_or bytes k 0)) 1) ∙ sym (ap is_some (needle_at-byte k l)) ∙ s
 
-  byte-hit : (at : ℕ) → list_any is_empty ls ≡ false → IsFirstByte test bytes (Some at) → Some (places at 1) ≡ hit ls bytes
+  byte-hit : (at : ℕ) → list_any is_empty ls ≡ false → IsFirstByte test bytes (Some at) → Some (span at 1) ≡ hit ls bytes
   byte-hit at some f =
-      let none : Nowhere (SomeStands ls bytes) 0 at = λ k low high s. f.0.before k low high (passes-from_Stands k (omega (arith, high, f.0.high)) s) in
+      let none : Nowhere (SomeOccurs ls bytes) 0 at = λ k low high s. f.0.before k low high (passes-from_Stands k (omega (arith, high, f.0.high)) s) in
       hit-some ls bytes at 1 some none (needle_at-byte at f.0.high ∙ ap (λ b. cond b (Some 1) None) f.1)
 
   byte-none : list_any is_empty ls ≡ false → IsFirstByte test bytes None → None ≡ hit ls bytes
@@ -285,13 +285,13 @@ three-tests : (a b c : ℕ) → TestsFor (is_byte3 a b c) ((a ∷ []) ∷ (b ∷
 three-tests a b c y ys = grind (arith, nat_tests)
 
 module _ (bytes : List ℕ) (at a : ℕ) where
-  pub byte-some_one : IsFirstByte (is_byte a) bytes (Some at) → Some (places at 1) ≡ hit ((a ∷ []) ∷ []) bytes
+  pub byte-some_one : IsFirstByte (is_byte a) bytes (Some at) → Some (span at 1) ≡ hit ((a ∷ []) ∷ []) bytes
   byte-some_one f = byte-hit (is_byte a) ((a ∷ []) ∷ []) bytes (one-tests a) at refl f
 
-  pub byte-some_two : (b : ℕ) → IsFirstByte (is_byte2 a b) bytes (Some at) → Some (places at 1) ≡ hit ((a ∷ []) ∷ (b ∷ []) ∷ []) bytes
+  pub byte-some_two : (b : ℕ) → IsFirstByte (is_byte2 a b) bytes (Some at) → Some (span at 1) ≡ hit ((a ∷ []) ∷ (b ∷ []) ∷ []) bytes
   byte-some_two b f = byte-hit (is_byte2 a b) ((a ∷ []) ∷ (b ∷ []) ∷ []) bytes (two-tests a b) at refl f
 
-  pub byte-some_three : (b c : ℕ) → IsFirstByte (is_byte3 a b c) bytes (Some at) → Some (places at 1) ≡ hit ((a ∷ []) ∷ (b ∷ []) ∷ (c ∷ []) ∷ []) bytes
+  pub byte-some_three : (b c : ℕ) → IsFirstByte (is_byte3 a b c) bytes (Some at) → Some (span at 1) ≡ hit ((a ∷ []) ∷ (b ∷ []) ∷ (c ∷ []) ∷ []) bytes
   byte-some_three b c f = byte-hit (is_byte3 a b c) ((a ∷ []) ∷ (b ∷ []) ∷ (c ∷ []) ∷ []) bytes (three-tests a b c) at refl f
 
 module _ (bytes : List ℕ) (a : ℕ) where

@@ -3,9 +3,9 @@ use Rattle.std.proofs.Common.{◌≡◌, ℕ, zero, suc, ◌+◌, ◌<◌, ◌�
 use Rattle.std.specs.Prelude.{nat_lt, option_map}
 use Rattle.std.proofs.lemmas.Bool.{and_parts, and_from, cases_Bool, ltb-true, lt-ltb}
 use Rattle.std.proofs.lemmas.Option.{same_Some, none-some}
-use Rattle.winnow_match.specs.Comparison.{is_front, IsFrontOf}
+use Rattle.winnow_match.specs.Comparison.{is_prefix, IsPrefixOf}
 use Rattle.winnow_match.specs.Search.{needle_at, needle_of}
-use Rattle.winnow_match.proofs.lemmas.ByteFrontLemmas.{IsFrontOf-is_front, is_front-IsFrontOf}
+use Rattle.winnow_match.proofs.lemmas.ByteFrontLemmas.{IsPrefixOf-is_prefix, is_prefix-IsPrefixOf}
 use Rattle.winnow_match.proofs.lemmas.HitLemmas.{below-suc}
 use Rattle.winnow_match.specs.declared.needles.Stretch.{Stretch}
 use Rattle.winnow_match.specs.Stretch.{stretches, stretching, stretch_or, first_stretch}
@@ -25,26 +25,26 @@ mapped-none (Some j) h = absurd (none-some (j + 1) (sym h))
 -- ---- one needle
 
 module _ (n xs : List ℕ) where
-  pub stretches-parts : stretches n xs ≡ true → IsFrontOf xs n × (length xs < length n)
+  pub stretches-parts : stretches n xs ≡ true → IsPrefixOf xs n × (length xs < length n)
   stretches-parts h =
-      let p = and_parts (is_front xs n) (nat_lt (length xs) (length n)) h in (IsFrontOf-is_front xs n p.0, ltb-true (length xs) (length n) p.1)
+      let p = and_parts (is_prefix xs n) (nat_lt (length xs) (length n)) h in (IsPrefixOf-is_prefix xs n p.0, ltb-true (length xs) (length n) p.1)
 
-  pub stretches-from : IsFrontOf xs n × (length xs < length n) → stretches n xs ≡ true
-  stretches-from f = and_from (is_front xs n) (nat_lt (length xs) (length n)) (is_front-IsFrontOf xs n f.0) (lt-ltb (length xs) (length n) f.1)
+  pub stretches-from : IsPrefixOf xs n × (length xs < length n) → stretches n xs ≡ true
+  stretches-from f = and_from (is_prefix xs n) (nat_lt (length xs) (length n)) (is_prefix-IsPrefixOf xs n f.0) (lt-ltb (length xs) (length n) f.1)
 
 -- ---- the first listed needle that stretches
 
 pub record IsFirstStretching (ls : List (List ℕ)) (xs : List ℕ) (i : ℕ) : Type 0 where
   pub listed : i < length ls
   pub stretched : stretches (needle_of ls i) xs ≡ true
-  pub absent : (j : ℕ) → j < i → is_front (needle_of ls j) xs ≡ false
+  pub absent : (j : ℕ) → j < i → is_prefix (needle_of ls j) xs ≡ false
   pub before : (j : ℕ) → j < i → stretches (needle_of ls j) xs ≡ false
 
 pub stretching-some : (ls : List (List ℕ)) (xs : List ℕ) (i : ℕ) → stretching ls xs ≡ Some i → IsFirstStretching ls xs i
 stretching-some [] xs i h = absurd (none-some i h)
 stretching-some (n ∷ ls) xs i h =
-    let e : cond (is_front n xs) None (cond (stretches n xs) (Some 0) (option_map (λ k. k + 1) (stretching ls xs))) ≡ Some i = h in
-    elim (cases_Bool (is_front n xs)) [
+    let e : cond (is_prefix n xs) None (cond (stretches n xs) (Some 0) (option_map (λ k. k + 1) (stretching ls xs))) ≡ Some i = h in
+    elim (cases_Bool (is_prefix n xs)) [
       | inl f ↦ absurd (none-some i (rw f at e))
       | inr f ↦ elim (cases_Bool (stretches n xs)) [
         | inl g ↦
@@ -58,22 +58,22 @@ stretching-some (n ∷ ls) xs i h =
             (record {
               listed = omega (arith, s.listed);
               stretched = s.stretched;
-              absent = below-suc (λ j. is_front (needle_of (n ∷ ls) j) xs ≡ false) later.0 f s.absent;
+              absent = below-suc (λ j. is_prefix (needle_of (n ∷ ls) j) xs ≡ false) later.0 f s.absent;
               before = below-suc (λ j. stretches (needle_of (n ∷ ls) j) xs ≡ false) later.0 g s.before;
             })
       ]
     ]
 
-later-none : (n : List ℕ) (ls : List (List ℕ)) (xs : List ℕ) → stretches n xs ≡ false → ((i : ℕ) → i < length ls → ((j : ℕ) → j < suc i → is_front (needle_of ls j) xs ≡ false) → stretches (needle_of ls i) xs ≡ false) → (i : ℕ) → i < length (n ∷ ls) → ((j : ℕ) → j < suc i → is_front (needle_of (n ∷ ls) j) xs ≡ false) → stretches (needle_of (n ∷ ls) i) xs ≡ false
+later-none : (n : List ℕ) (ls : List (List ℕ)) (xs : List ℕ) → stretches n xs ≡ false → ((i : ℕ) → i < length ls → ((j : ℕ) → j < suc i → is_prefix (needle_of ls j) xs ≡ false) → stretches (needle_of ls i) xs ≡ false) → (i : ℕ) → i < length (n ∷ ls) → ((j : ℕ) → j < suc i → is_prefix (needle_of (n ∷ ls) j) xs ≡ false) → stretches (needle_of (n ∷ ls) i) xs ≡ false
 later-none n ls xs g f zero l absent = g
 later-none n ls xs g f (suc i) l absent = f i (omega (arith, l)) (λ j k. absent (suc j) (omega (arith, k)))
 
 -- none stretches that is listed before each one that stands
-pub stretching-none : (ls : List (List ℕ)) (xs : List ℕ) → stretching ls xs ≡ None → (i : ℕ) → i < length ls → ((j : ℕ) → j < suc i → is_front (needle_of ls j) xs ≡ false) → stretches (needle_of ls i) xs ≡ false
+pub stretching-none : (ls : List (List ℕ)) (xs : List ℕ) → stretching ls xs ≡ None → (i : ℕ) → i < length ls → ((j : ℕ) → j < suc i → is_prefix (needle_of ls j) xs ≡ false) → stretches (needle_of ls i) xs ≡ false
 stretching-none [] xs h i l absent = absurd (omega (arith, l))
 stretching-none (n ∷ ls) xs h i l absent =
-    let e : cond (is_front n xs) None (cond (stretches n xs) (Some 0) (option_map (λ k. k + 1) (stretching ls xs))) ≡ None = h in
-    let f : is_front n xs ≡ false = absent 0 (omega arith) in
+    let e : cond (is_prefix n xs) None (cond (stretches n xs) (Some 0) (option_map (λ k. k + 1) (stretching ls xs))) ≡ None = h in
+    let f : is_prefix n xs ≡ false = absent 0 (omega arith) in
     elim (cases_Bool (stretches n xs)) [
       | inl g ↦ absurd (none-some 0 (sym (rw (f, g) at e)))
       | inr g ↦

@@ -5,7 +5,7 @@ use Rattle.std.specs.List.{list_any}
 use Rattle.std.specs.declared.ops.Range.{Range}
 use Rattle.std.proofs.lemmas.Bool.{and_right, and_parts, and_from, eqb-true, eq-eqb, false≢true, cases_Bool, cases_lt, le-ltb}
 use Rattle.std.proofs.lemmas.Option.{none-some}
-use Rattle.winnow_match.specs.Comparison.{is_front}
+use Rattle.winnow_match.specs.Comparison.{is_prefix}
 use Rattle.winnow_match.specs.Search.{is_empty, needle_at, needle_of, hit, have_length, have_one_length}
 use Rattle.winnow_match.specs.declared.needles.Stretch.{Stretch}
 use Rattle.winnow_match.specs.Stretch.{stretches, stretching_or, stretching, first_stretch, stretch_of, hit_is_definite, longest}
@@ -25,7 +25,7 @@ stretching_or-later false b o h e = rw (h, e) refl
 stretching-long : (ls : List (List ℕ)) (xs : List ℕ) → longest ls ≤ length xs → stretching ls xs ≡ None
 stretching-long [] xs l = refl
 stretching-long (n ∷ ls) xs l =
-    stretching_or-later (is_front n xs) (stretches n xs) (stretching ls xs) (and_right (is_front xs n) _ (le-ltb (length xs) (length n) (omega (arith, l)))) (stretching-long ls xs (omega (arith, l)))
+    stretching_or-later (is_prefix n xs) (stretches n xs) (stretching ls xs) (and_right (is_prefix xs n) _ (le-ltb (length xs) (length n) (omega (arith, l)))) (stretching-long ls xs (omega (arith, l)))
 
 first_stretch-at : (ls : List (List ℕ)) (bytes : List ℕ) (base q i : ℕ) → q < length bytes → ((k : ℕ) → k < q → stretching ls (drop k bytes) ≡ None) → ((k : ℕ) → k < q → needle_at ls (drop k bytes) ≡ None) → stretching ls (drop q bytes) ≡ Some i → first_stretch ls base bytes ≡ Some (record { needle = i; place = base + q })
 first_stretch-at ls [] base q i l before absent e = absurd (omega (arith, l))

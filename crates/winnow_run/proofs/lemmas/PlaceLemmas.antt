@@ -1,7 +1,7 @@
 -- Places of a cursor: the width that a later place leaves.
 use Rattle.std.proofs.Common.{◌≡◌, ℕ, zero, suc, ◌+◌, ◌≤◌, ◌<◌, min, List, [], ◌∷◌, length, drop, sym, ◌∙◌, arith}
 use Rattle.std.proofs.lemmas.List.{drop-drop, drop_min}
-use Rattle.winnow_stream.specs.Source.{width, HasWidths}
+use Rattle.winnow_stream.specs.Source.{width, HasPositiveWidths}
 use Rattle.winnow_stream.proofs.lemmas.FrontLemmas.{width-take_drop}
 
 module _ {A : Type 0} where
@@ -9,7 +9,7 @@ module _ {A : Type 0} where
   drop-next r i = drop-drop 1 i r ∙ sym (drop_min (i + 1) r)
 
   -- fewer tokens are wider: a later place leaves less
-  pub width-later : (r : List (A × ℕ)) (i j : ℕ) → HasWidths r → i < j → j ≤ length r → width (drop j r) < width (drop i r)
+  pub width-later : (r : List (A × ℕ)) (i j : ℕ) → HasPositiveWidths r → i < j → j ≤ length r → width (drop j r) < width (drop i r)
   width-later [] i j h l k = absurd (omega arith)
   width-later (x ∷ xs) i zero h l k = absurd (omega arith)
   width-later (x ∷ xs) zero (suc j) h l k = let e = width-take_drop xs j in omega (arith, e, h.0)

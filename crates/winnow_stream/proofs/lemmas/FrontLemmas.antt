@@ -4,7 +4,7 @@ use Rattle.std.specs.Prelude.{nat_le, option_map, is_some, unwrap_or}
 use Rattle.std.proofs.lemmas.Bool.{and_parts}
 use Rattle.std.proofs.lemmas.Bool.Decides.{nat_tests, eqb_tells}
 use Rattle.std.proofs.lemmas.List.{append-nil, drop_all, drop-drop}
-use Rattle.winnow_stream.specs.Source.{width, HasWidths, IsEndOf}
+use Rattle.winnow_stream.specs.Source.{width, HasPositiveWidths, IsEndOf}
 use Rattle.winnow_stream.specs.Front.{HasFront, front_count, is_offset, count_to, front, back}
 
 offset-parts : (b c : Bool) (o : Option ℕ) → is_some (cond b (Some 0) (cond c (option_map (λ k. k + 1) o) None)) ≡ cond b true (c && is_some o)
@@ -62,7 +62,7 @@ module _ {A : Type 0} where
   front_count-missing r n h = none-parts (front_count r n) h
 
   -- the width of some tokens at the front
-  pub front_count-seam : (xs ys : List (A × ℕ)) → HasWidths xs → front_count (xs ++ ys) (width xs) ≡ Some (length xs)
+  pub front_count-seam : (xs ys : List (A × ℕ)) → HasPositiveWidths xs → front_count (xs ++ ys) (width xs) ≡ Some (length xs)
   front_count-seam [] [] h = refl
   front_count-seam [] (y ∷ ys) h = refl
   front_count-seam (x ∷ xs) ys h =
@@ -72,14 +72,14 @@ module _ {A : Type 0} where
       let d : nat_le x.1 (x.1 + w) ≡ true = grind (arith, nat_tests) in
       rw a (rw d (rw b (rw (front_count-seam xs ys h.1) (ap Some (omega arith)))))
 
-  pub is_offset-seam : (xs ys : List (A × ℕ)) → HasWidths xs → is_offset (xs ++ ys) (width xs) ≡ true
+  pub is_offset-seam : (xs ys : List (A × ℕ)) → HasPositiveWidths xs → is_offset (xs ++ ys) (width xs) ≡ true
   is_offset-seam xs ys h = ap is_some (front_count-seam xs ys h)
 
-  pub count_to-seam : (xs ys : List (A × ℕ)) → HasWidths xs → count_to (xs ++ ys) (width xs) ≡ length xs
+  pub count_to-seam : (xs ys : List (A × ℕ)) → HasPositiveWidths xs → count_to (xs ++ ys) (width xs) ≡ length xs
   count_to-seam xs ys h = ap (λ o. unwrap_or o 0) (front_count-seam xs ys h)
 
   -- the width of the first i tokens
-  pub front_count-place : (r : List (A × ℕ)) (i : ℕ) → HasWidths r → i ≤ length r → front_count r (width (take i r)) ≡ Some i
+  pub front_count-place : (r : List (A × ℕ)) (i : ℕ) → HasPositiveWidths r → i ≤ length r → front_count r (width (take i r)) ≡ Some i
   front_count-place [] zero h l = refl
   front_count-place [] (suc i) h l = absurd (omega arith)
   front_count-place (x ∷ xs) zero h l = refl
@@ -90,7 +90,7 @@ module _ {A : Type 0} where
       let d : nat_le x.1 (x.1 + w) ≡ true = grind (arith, nat_tests) in
       rw a (rw d (rw b (rw (front_count-place xs i h.1 (omega arith)) (ap Some (omega arith)))))
 
-  pub count_to-place : (r : List (A × ℕ)) (i : ℕ) → HasWidths r → i ≤ length r → count_to r (width (take i r)) ≡ i
+  pub count_to-place : (r : List (A × ℕ)) (i : ℕ) → HasPositiveWidths r → i ≤ length r → count_to r (width (take i r)) ≡ i
   count_to-place r i h l = ap (λ o. unwrap_or o 0) (front_count-place r i h l)
 
   pub count_to-le : (r : List (A × ℕ)) (n : ℕ) → count_to r n ≤ length r
@@ -132,19 +132,19 @@ module _ {A : Type 0} where
   width-end r whole e = omega (arith, ap width e.1, width-drop_le whole e.0)
 
   -- the whole is the front of its width
-  pub is_offset-whole : (r : List (A × ℕ)) → HasWidths r → is_offset r (width r) ≡ true
+  pub is_offset-whole : (r : List (A × ℕ)) → HasPositiveWidths r → is_offset r (width r) ≡ true
   is_offset-whole r h = subst (λ xs. is_offset xs (width r) ≡ true) (append-nil r) (is_offset-seam r [] h)
 
-  pub back-whole : (r : List (A × ℕ)) → HasWidths r → back r (width r) ≡ []
+  pub back-whole : (r : List (A × ℕ)) → HasPositiveWidths r → back r (width r) ≡ []
   back-whole r h =
       let e : count_to r (width r) ≡ length r = subst (λ xs. count_to xs (width r) ≡ length r) (append-nil r) (count_to-seam r [] h) in
       ap (λ n. drop n r) e ∙ drop_all (length r) r (omega arith)
 
   -- where a cursor stands on a source
-  pub back-place : (r : List (A × ℕ)) (i : ℕ) → HasWidths r → i ≤ length r → back r (width (take i r)) ≡ drop i r
+  pub back-place : (r : List (A × ℕ)) (i : ℕ) → HasPositiveWidths r → i ≤ length r → back r (width (take i r)) ≡ drop i r
   back-place r i h l = ap (λ n. drop n r) (count_to-place r i h l)
 
-  pub front-place : (r : List (A × ℕ)) (i : ℕ) → HasWidths r → i ≤ length r → front r (width (take i r)) ≡ take i r
+  pub front-place : (r : List (A × ℕ)) (i : ℕ) → HasPositiveWidths r → i ≤ length r → front r (width (take i r)) ≡ take i r
   front-place r i h l = ap (λ n. take n r) (count_to-place r i h l)
 
   pub back-drop : (r : List (A × ℕ)) (i n : ℕ) → back (drop i r) n ≡ drop (i + count_to (drop i r) n) r
@@ -154,7 +154,7 @@ module _ {A : Type 0} where
   within-back r i n h = omega (arith, count_to-le (drop i r) n, length-drop i r)
 
   -- the whole is its own front
-  pub front-whole : (r : List (A × ℕ)) → HasWidths r → front r (width r) ≡ r
+  pub front-whole : (r : List (A × ℕ)) → HasPositiveWidths r → front r (width r) ≡ r
   front-whole r h =
       let e : count_to r (width r) ≡ length r = subst (λ xs. count_to xs (width r) ≡ length r) (append-nil r) (count_to-seam r [] h) in
       ap (λ n. take n r) e ∙ take_all (length r) r (omega arith)
@@ -163,13 +163,13 @@ module _ {A : Type 0} where
   pub HasFront-is_offset : (r : List (A × ℕ)) (n : ℕ) → is_offset r n ≡ true → HasFront r n
   HasFront-is_offset r n h = (count_to r n, (count_to-le r n, width-front r n h))
 
-  pub is_offset-HasFront : (r : List (A × ℕ)) (n : ℕ) → HasWidths r → HasFront r n → is_offset r n ≡ true
+  pub is_offset-HasFront : (r : List (A × ℕ)) (n : ℕ) → HasPositiveWidths r → HasFront r n → is_offset r n ≡ true
   is_offset-HasFront r n w f = subst (λ m. is_offset r m ≡ true) f.1.1 (ap is_some (front_count-place r f.0 w f.1.0))
 
-  pub HasWidths-drop : (k : ℕ) (r : List (A × ℕ)) → HasWidths r → HasWidths (drop k r)
-  HasWidths-drop zero r h = h
-  HasWidths-drop (suc k) [] h = h
-  HasWidths-drop (suc k) (x ∷ xs) h = HasWidths-drop k xs h.1
+  pub HasPositiveWidths-drop : (k : ℕ) (r : List (A × ℕ)) → HasPositiveWidths r → HasPositiveWidths (drop k r)
+  HasPositiveWidths-drop zero r h = h
+  HasPositiveWidths-drop (suc k) [] h = h
+  HasPositiveWidths-drop (suc k) (x ∷ xs) h = HasPositiveWidths-drop k xs h.1
 
   -- the tokens up to a further offset: those up to the nearer one, and then those from there on
   front_count-on : (r : List (A × ℕ)) (a b : ℕ) → is_offset r a ≡ true → a ≤ b → front_count r b ≡ option_map (λ k. count_to r a + k) (front_count (back r a) (b - a))

@@ -2,7 +2,7 @@
 use Rattle.std.proofs.Common.{◌≡◌, ℕ, ◌+◌, ◌≤◌, Bool, true, false, cond, List, [], ◌∷◌, length, take, drop, Option, Some, refl, ap, sym, ◌∙◌, arith}
 use Rattle.std.specs.Prelude.{not, unwrap_or}
 use Rattle.std.proofs.lemmas.Option.{none-some, same_Some}
-use Rattle.winnow_stream.specs.Source.{width, HasWidths, first_token, first_held, offsets_from, held_front, HoldsAll}
+use Rattle.winnow_stream.specs.Source.{width, HasPositiveWidths, first_token, first_held, offsets_from, held_front, HoldsAll}
 use Rattle.winnow_stream.specs.Front.{is_offset, back}
 use Rattle.winnow_stream.proofs.lemmas.FrontLemmas.{is_offset-HasFront, back-place}
 
@@ -48,8 +48,8 @@ module _ {A : Type 0} (holds : A → Bool) where
   length-held_front [] = omega arith
   length-held_front (x ∷ xs) = length-step (holds x.0) x xs (held_front holds xs) (length-held_front xs)
 
-  pub is_offset-held_front : (r : List (A × ℕ)) → HasWidths r → is_offset r (width (held_front holds r)) ≡ true
+  pub is_offset-held_front : (r : List (A × ℕ)) → HasPositiveWidths r → is_offset r (width (held_front holds r)) ≡ true
   is_offset-held_front r h = is_offset-HasFront r _ h (length (held_front holds r), (length-held_front r, ap width (take-held_front r)))
 
-  pub back-held_front : (r : List (A × ℕ)) → HasWidths r → back r (width (held_front holds r)) ≡ drop (length (held_front holds r)) r
+  pub back-held_front : (r : List (A × ℕ)) → HasPositiveWidths r → back r (width (held_front holds r)) ≡ drop (length (held_front holds r)) r
   back-held_front r h = ap (λ t. back r (width t)) (sym (take-held_front r)) ∙ back-place r (length (held_front holds r)) h (length-held_front r)

@@ -3,7 +3,7 @@ use Rattle.std.proofs.Common.{◌≡◌, ℕ, zero, suc, ◌+◌, ◌≤◌, Boo
 use Rattle.std.specs.Prelude.{◌⊎◌, Option, is_some}
 use Rattle.std.proofs.lemmas.Bool.Decides.{leb_tells}
 use Rattle.winnow_stream.specs.declared.needed.Needed.{Needed}
-use Rattle.winnow_stream.specs.Source.{width, HasWidths, RefusesAll, AcceptsFirst, FindsFirst, first_held, first_offset, first_token, offsets_from}
+use Rattle.winnow_stream.specs.Source.{width, HasPositiveWidths, RefusesAll, AcceptsFirst, FindsFirst, first_held, first_offset, first_token, offsets_from}
 use Rattle.winnow_stream.specs.Front.{is_offset}
 use Rattle.winnow_stream.specs.Shortage.{offset_at}
 use Rattle.winnow_stream.proofs.lemmas.FrontLemmas.{front_count-place}
@@ -22,7 +22,7 @@ bool_cases true = inl refl
 bool_cases false = inr refl
 
 module _ {A : Type 0} where
-  pub is_offset-offset_at : (counts_missing : Bool) (r : List (A × ℕ)) (n w : ℕ) → HasWidths r → offset_at counts_missing r n ≡ Ok w → is_offset r w ≡ true
+  pub is_offset-offset_at : (counts_missing : Bool) (r : List (A × ℕ)) (n w : ℕ) → HasPositiveWidths r → offset_at counts_missing r n ≡ Ok w → is_offset r w ≡ true
   is_offset-offset_at counts_missing r n w h e =
       elim (leb_tells n (length r)) [
         | inl fits ↦
@@ -42,7 +42,7 @@ module _ {A : Type 0} where
             (suc later.0, (omega (arith, later.1.0), omega (arith, later.1.1)))
       ]
 
-  pub is_offset-first_offset : (holds : A → Bool) (r : List (A × ℕ)) (w : ℕ) → HasWidths r → first_offset holds r ≡ Some w → is_offset r w ≡ true
+  pub is_offset-first_offset : (holds : A → Bool) (r : List (A × ℕ)) (w : ℕ) → HasPositiveWidths r → first_offset holds r ≡ Some w → is_offset r w ≡ true
   is_offset-first_offset holds r w h e =
       let at = place-first_held holds r 0 w e in
       subst (λ m. is_offset r m ≡ true) (sym (zero-add _) ∙ at.1.1) (ap is_some (front_count-place r at.0 h at.1.0))
@@ -97,6 +97,6 @@ module _ {A : Type 0} where
   within-first (y ∷ ys) (suc k) x e = let l = within-first ys k x e in omega (arith, l)
 
   -- a token that a test accepts stands at a valid offset
-  pub is_offset-accepted : (answers : A → Bool → Type 0) (r : List (A × ℕ)) (w : ℕ) → HasWidths r → AcceptsFirst answers r w → is_offset r w ≡ true
+  pub is_offset-accepted : (answers : A → Bool → Type 0) (r : List (A × ℕ)) (w : ℕ) → HasPositiveWidths r → AcceptsFirst answers r w → is_offset r w ≡ true
   is_offset-accepted answers r w h (k, (at, refused, (x, (e, a)))) =
       subst (λ m. is_offset r m ≡ true) (sym at) (ap is_some (front_count-place r k h (within-first r k x e)))

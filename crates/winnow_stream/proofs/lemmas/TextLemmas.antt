@@ -10,7 +10,7 @@ use Rattle.std.proofs.lemmas.List.{take-map, map-append, nil_from_length}
 use Rattle.std.proofs.lemmas.Str.{length-encode, encodes-chars, scalars-chars, chars_past_char, chars-nil, chars-append, IsUtf8-take, IsCharBoundary-at_seam, encodes-append}
 use Rattle.winnow_stream.specs.Source.{width}
 use Rattle.winnow_stream.specs.Front.{is_offset, count_to, front, back}
-use Rattle.winnow_stream.specs.Text.{char_source, text_source, HasWidths-char_source}
+use Rattle.winnow_stream.specs.Text.{char_source, text_source, HasPositiveWidths-char_source}
 use Rattle.winnow_stream.proofs.lemmas.FrontLemmas.{is_offset-seam, count_to-seam, width-front}
 
 pub width-char_source : (cs : List ℕ) → width (char_source cs) ≡ length (encode_utf8_all cs)
@@ -36,11 +36,11 @@ width-cut bs n u b = width-text_source (take n bs) (IsUtf8-take bs n u b) ∙ om
 
 pub is_offset-from_boundary : (bs : List ℕ) (n : ℕ) → IsUtf8 bs → IsCharBoundary bs n → is_offset (text_source bs) n ≡ true
 is_offset-from_boundary bs n u b =
-    rw (text_source-cut bs n u b) (subst (λ m. is_offset (text_source (take n bs) ++ text_source (drop n bs)) m ≡ true) (width-cut bs n u b) (is_offset-seam (text_source (take n bs)) (text_source (drop n bs)) (HasWidths-char_source (chars (take n bs)))))
+    rw (text_source-cut bs n u b) (subst (λ m. is_offset (text_source (take n bs) ++ text_source (drop n bs)) m ≡ true) (width-cut bs n u b) (is_offset-seam (text_source (take n bs)) (text_source (drop n bs)) (HasPositiveWidths-char_source (chars (take n bs)))))
 
 pub count_to-cut : (bs : List ℕ) (n : ℕ) → IsUtf8 bs → IsCharBoundary bs n → count_to (text_source bs) n ≡ length (text_source (take n bs))
 count_to-cut bs n u b =
-    rw (text_source-cut bs n u b) (subst (λ m. count_to (text_source (take n bs) ++ text_source (drop n bs)) m ≡ length (text_source (take n bs))) (width-cut bs n u b) (count_to-seam (text_source (take n bs)) (text_source (drop n bs)) (HasWidths-char_source (chars (take n bs)))))
+    rw (text_source-cut bs n u b) (subst (λ m. count_to (text_source (take n bs) ++ text_source (drop n bs)) m ≡ length (text_source (take n bs))) (width-cut bs n u b) (count_to-seam (text_source (take n bs)) (text_source (drop n bs)) (HasPositiveWidths-char_source (chars (take n bs)))))
 
 pub front-cut : (bs : List ℕ) (n : ℕ) → IsUtf8 bs → IsCharBoundary bs n → text_source (take n bs) ≡ front (text_source bs) n
 front-cut bs n u b =

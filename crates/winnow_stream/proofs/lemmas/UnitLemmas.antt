@@ -6,11 +6,11 @@ use Rattle.std.specs.Prelude.{Ok, Err, Some, None, cond, is_some}
 use Rattle.std.specs.Int.NonZero.{non_zero_usize_get}
 use Rattle.std.specs.declared.num.NonZeroUsize.{NonZeroUsize}
 use Rattle.winnow_stream.specs.declared.needed.Needed.TheVariants.{Size}
-use Rattle.winnow_stream.specs.Source.{units, width}
+use Rattle.winnow_stream.specs.Source.{Source, units, width}
 use Rattle.winnow_stream.specs.Front.{is_offset, count_to, front, back}
 use Rattle.winnow_stream.specs.Shortage.{offset_at}
 use Rattle.winnow_stream.specs.Units.{width-units}
-use Rattle.winnow_stream.proofs.lemmas.FrontLemmas.{is_offset-cons, count_to-cons}
+use Rattle.winnow_stream.proofs.lemmas.FrontLemmas.{is_offset-cons, count_to-cons, width-front}
 use Rattle.winnow_stream.proofs.lemmas.ShortageLemmas.{offset_at-short, offset_at-fits}
 
 pub length-units : {A : Type 0} (xs : List A) → length (units xs) ≡ length xs
@@ -35,6 +35,10 @@ le-from_is_offset xs n h = grind (arith, nat_tests, is_offset-units xs n)
 
 pub is_offset-from_le : {A : Type 0} (xs : List A) (n : ℕ) → n ≤ length xs → IsTrue (is_offset (units xs) n)
 is_offset-from_le xs n h = is_offset-units xs n ∙ grind (arith, nat_tests)
+
+-- units that are a front are as many as its width
+pub length-front_units : {A : Type 0} (xs : List A) (r : Source A) (n : ℕ) → IsTrue (is_offset r n) → units xs ≡ front r n → length xs ≡ n
+length-front_units xs r n o e = sym (width-units xs) ∙ ap width e ∙ width-front r n o
 
 -- the elements of tokens
 abbrev elements : {A : Type 0} → List (A × ℕ) → List A

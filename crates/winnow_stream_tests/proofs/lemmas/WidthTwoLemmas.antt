@@ -9,7 +9,7 @@ use Rattle.winnow_stream.specs.Front.{is_offset, count_to, front, back}
 use Rattle.winnow_stream.specs.Shortage.{offset_at}
 use Rattle.winnow_stream.proofs.lemmas.FrontLemmas.{front_count-place, count_to-le, width-front, front-whole}
 use Rattle.winnow_stream.proofs.lemmas.ShortageLemmas.{offset_at-fits, offset_at-silent}
-use Rattle.winnow_stream_tests.specs.PairSource.{pair_source, width-pair_source, HasWidths-pair_source}
+use Rattle.winnow_stream_tests.specs.PairSource.{pair_source, width-pair_source, HasPositiveWidths-pair_source}
 
 not_true : (b : Bool) → (b ≡ true → ⊥) → b ≡ false
 not_true true h = absurd (h refl)
@@ -25,7 +25,7 @@ module _ {T : Type 0} (xs : List T) where
 
   pub is_offset-double : (k : ℕ) → k ≤ length xs → is_offset (pair_source xs) (2 * k) ≡ true
   is_offset-double k h =
-      subst (λ n. is_offset (pair_source xs) n ≡ true) (width-take_pairs k h) (ap is_some (front_count-place (pair_source xs) k (HasWidths-pair_source xs) (omega (arith, length-pair_source))))
+      subst (λ n. is_offset (pair_source xs) n ≡ true) (width-take_pairs k h) (ap is_some (front_count-place (pair_source xs) k (HasPositiveWidths-pair_source xs) (omega (arith, length-pair_source))))
 
   -- an offset is twice a number of tokens
   pub double-from_is_offset : (n : ℕ) → is_offset (pair_source xs) n ≡ true → (2 * count_to (pair_source xs) n ≡ n) × (count_to (pair_source xs) n ≤ length xs)
@@ -58,7 +58,7 @@ module _ {T : Type 0} (xs : List T) where
   pair_source-drop n h = rw (half-count n h) (sym (drop-map (λ x. (x, 2)) (count_to (pair_source xs) n) xs))
 
   pub pair_source-whole : pair_source xs ≡ front (pair_source xs) (width (pair_source xs))
-  pair_source-whole = sym (front-whole (pair_source xs) (HasWidths-pair_source xs))
+  pair_source-whole = sym (front-whole (pair_source xs) (HasPositiveWidths-pair_source xs))
 
   pub offset_at-pairs_fit : (n : ℕ) → n ≤ length xs → Ok (2 * n) ≡ offset_at false (pair_source xs) n
   offset_at-pairs_fit n h = offset_at-fits (pair_source xs) n false (2 * n) (omega (arith, length-pair_source)) (sym (width-take_pairs n h))

@@ -1,5 +1,5 @@
+use crate::byte_reader::ByteReader;
 use crate::fields::field;
-use crate::listed::Listed;
 use winnow_base::stream::{Needed, Stream};
 
 // Two fields, one after the other.
@@ -17,7 +17,7 @@ fn a_field_is_taken_or_nothing_is(rt: HostRuntime) {
         [Ok(b"ab".as_slice()), Err(Needed::new(2))]
     );
     assert_eq!(rt; input, b"\x03c".as_slice());
-    let mut input = Listed::new(b"\x00");
+    let mut input = ByteReader::new(b"\x00");
     assert_eq!(rt;
         two_fields(&mut input),
         [Ok(b"".as_slice()), Err(Needed::new(1))]

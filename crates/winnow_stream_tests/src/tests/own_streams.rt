@@ -1,5 +1,5 @@
-use crate::listed::Listed;
-use crate::pairs::Pairs;
+use crate::byte_reader::ByteReader;
+use crate::pair_reader::PairReader;
 use crate::walks::{look_back, take_back};
 use std::alloc::Global;
 use std::test::Fail;
@@ -10,7 +10,7 @@ use winnow_test_helpers::told;
 
 #[test]
 fn a_list_stream_looks_back(rt: HostRuntime) {
-    let mut s = Listed::new(&[1, 2, 3, 4]);
+    let mut s = ByteReader::new(&[1, 2, 3, 4]);
     assert_eq!(rt; look_back(&mut s), 2);
     assert_eq!(rt; s.peek_token(), Some(3));
     assert_eq!(rt; s.whole().len(), 4);
@@ -18,7 +18,7 @@ fn a_list_stream_looks_back(rt: HostRuntime) {
 
 #[test]
 fn a_list_stream_runs_a_script(rt: HostRuntime) -> Result<(), Fail> {
-    let mut s = Listed::new(b"abc");
+    let mut s = ByteReader::new(b"abc");
     assert_eq!(rt; take_back(&mut s, 2).map(|p| p.1), Some(2));
     assert_eq!(rt; take_back(&mut s, 4).map(|p| p.1), None);
     assert_eq!(rt; s.offset_for(|token| token == b'c'), Some(2));
@@ -33,9 +33,9 @@ fn a_list_stream_runs_a_script(rt: HostRuntime) -> Result<(), Fail> {
 // Offsets in bytes over tokens of two bytes: what counts tokens and what counts widths part here.
 #[test]
 fn a_stream_of_wider_tokens_runs_a_script(rt: HostRuntime) -> Result<(), Fail> {
-    let mut s = Pairs::new(&[10, 20, 30]);
+    let mut s = PairReader::new(&[10, 20, 30]);
     assert_eq!(rt; look_back(&mut s), 4);
-    let s = Pairs::new(&[10, 20, 30]);
+    let s = PairReader::new(&[10, 20, 30]);
     for (script, answers) in [
         (
             [At(2), At(4), IsOffset(3), IsOffset(4)],
@@ -43,7 +43,7 @@ fn a_stream_of_wider_tokens_runs_a_script(rt: HostRuntime) -> Result<(), Fail> {
         ),
         (
             [Mark, Take(3), Take(4), Since(0)],
-            "[Marked(0), BadOffset, Slice(Pairs { rest: [10, 20] }), Offset(4)]",
+            "[Marked(0), BadOffset, Slice(PairReader { rest: [10, 20] }), Offset(4)]",
         ),
         (
             [Next, Each, Eof, Next],
@@ -51,7 +51,7 @@ fn a_stream_of_wider_tokens_runs_a_script(rt: HostRuntime) -> Result<(), Fail> {
         ),
         (
             [Mark, Next, Reset(0), Look(2)],
-            "[Marked(0), Token(Some(10)), Done, Slice(Pairs { rest: [10] })]",
+            "[Marked(0), Token(Some(10)), Done, Slice(PairReader { rest: [10] })]",
         ),
     ] {
         assert_eq!(rt; told(rt.alloc(), s, &script)?.as_str(), answers);
@@ -67,9 +67,9 @@ fn kind<S: Stream, E: ParserError<S> + Drop>(alloc: Global, input: &S) -> (bool,
 
 #[test]
 fn an_error_is_made_at_a_stream_of_ones_own(rt: HostRuntime) {
-    let s = Listed::new(&[1, 2]);
+    let s = ByteReader::new(&[1, 2]);
     assert_eq!(rt;
-        kind::<Listed, ContextError<StrContext>>(rt.alloc(), &s),
+        kind::<ByteReader, ContextError<StrContext>>(rt.alloc(), &s),
         (true, false)
     );
 }

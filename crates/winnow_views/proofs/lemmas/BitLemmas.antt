@@ -10,11 +10,10 @@ use Rattle.winnow_stream.specs.Front.{is_offset, count_to, front, back}
 use Rattle.winnow_stream.specs.Place.{place_behind}
 use Rattle.winnow_stream.specs.Shortage.{offset_at}
 use Rattle.winnow_stream.specs.Units.{width-units}
-use Rattle.winnow_stream.proofs.lemmas.FrontLemmas.{width-front}
 use Rattle.winnow_stream.proofs.lemmas.UnitLemmas.{length-units, is_offset-units, count_to-units, le-from_is_offset, units-take, units-drop, offset_at-units_short, offset_at-units_fits}
 use Rattle.winnow_views.specs.BitSource.{HasUnits, bit_of, byte_bits, bits_of, bits_from, IsBitSource, IsBitSlice}
 use Rattle.winnow_views.specs.BitStream.{place_in_bits}
-use Rattle.winnow_views.specs.BitWidth.{SlicesHaveWidths}
+use Rattle.winnow_stream.specs.SliceWidths.{SlicesHaveWidths}
 use Rattle.winnow_views.specs.BitLaws.{units-HasUnits, width-HasUnits, length-bits_past, width-bits_from}
 
 -- ---- how many bits there are
@@ -172,9 +171,6 @@ IsBitSource-units bytes place below at_end fits = record {
   at_end = λ e. at_end (sym (length-units bytes) ∙ ap length e);
   fits = omega (arith, fits, width-bits_from (units bytes) place, length-units bytes);
 }
-
-pub length-front_units : (xs : List ℕ) (r : Source ℕ) (n : ℕ) → IsTrue (is_offset r n) → units xs ≡ front r n → length xs ≡ n
-length-front_units xs r n o e = sym (width-units xs) ∙ ap width e ∙ width-front r n o
 
 -- a slice of bits is as long as the offset that it was taken at, where a slice of bytes is
 module _ {S : Type 0} (is_slice : S → Source ℕ → ℕ → Type 0) (has_width : S → Type 0) (width_of : S → ℕ) (known : SlicesHaveWidths is_slice has_width width_of) where

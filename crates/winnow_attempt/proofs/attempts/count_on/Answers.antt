@@ -9,4 +9,4 @@ returns g c =
     let r = g.S.Stream.remaining c.args.rest in
     let total : c.args.passed.tokens + c.tokens_left.result ≡ c.args.passed.tokens + length (back r c.args.passed.width) = ap (λ n. c.args.passed.tokens + n) (c.tokens_left.ensures ∙ ap length c.next_slice.ensures.remains) in
     subst (λ n. AreCounted c.args.asked r n (c.args.passed.tokens + c.tokens_left.result)) (sym c.eof_offset.ensures)
-    (counted-whole c.args.asked r c.args.passed.width c.args.passed.tokens (c.args.passed.tokens + c.tokens_left.result) (g.met.S.Stream.has_widths _ c.requires.valid) c.requires.passed c.requires.waits total)
+    (counted-whole c.args.asked r c.args.passed.width c.args.passed.tokens (c.args.passed.tokens + c.tokens_left.result) (g.met.S.Stream.positive_widths _ c.requires.valid) c.requires.passed c.requires.waits total)

@@ -7,5 +7,5 @@ pub overflow_add-tokens : goal.overflow_add-tokens
 overflow_add-tokens g c =
     let r = g.S.Stream.remaining c.loop-tokens.later in
     let some = one-left r (sym (ap is_some c.next_token.ensures.answer) ∙ sym c.is_some.ensures ∙ c.if-is_some.true) in
-    let most = length-width (g.S.Stream.remaining c.args.rest) (g.met.S.Stream.has_widths _ c.requires) in
+    let most = length-width (g.S.Stream.remaining c.args.rest) (g.met.S.Stream.positive_widths _ c.requires) in
     omega (arith, some, most)

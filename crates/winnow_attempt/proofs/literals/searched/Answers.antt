@@ -1,6 +1,6 @@
 use Rattle.std.proofs.Common.{◌≡◌, ◌-◌, length, ◌∙◌, sym, subst, arith}
 use Rattle.winnow_match.specs.Search.{bytes_of_needles}
-use Rattle.winnow_attempt.specs.Settled.{NoneStands}
+use Rattle.winnow_attempt.specs.Settled.{NoneOccurs}
 use Rattle.winnow_attempt.proofs.lemmas.PassedLemmas.{searched-none, searched-hit}
 use Rattle.winnow_attempt.proofs.literals.searched.Goals as goal
 
@@ -12,4 +12,4 @@ returns-in-None c =
     let ls = bytes_of_needles c.args.needles.now in
     let bs = c.args.bytes.now in
     let e : c.saturating_sub-in-None.result ≡ length bs - (c.longest.result - 1) = omega (arith, c.saturating_sub-in-None.ensures, c.saturating_sub.ensures) in
-    subst (NoneStands ls bs) (sym e) (searched-none ls bs c.longest.result c.longest.ensures (sym c.in-None.is ∙ c.requires))
+    subst (NoneOccurs ls bs) (sym e) (searched-none ls bs c.longest.result c.longest.ensures (sym c.in-None.is ∙ c.requires))

@@ -10,7 +10,7 @@ overflow_add-result g c =
     let holds = held g.S.Token.AsChar.code c.args.set.now in
     let r = g.S.Stream.remaining c.args.rest in
     let found = sym (ap (first_offset holds) c.next_slice.ensures.remains) ∙ sym c.first_in.ensures ∙ c.in-Some.is in
-    let fits = first-fits holds r c.args.passed c.in-Some.offset (g.met.S.Stream.has_widths _ c.requires.valid) c.requires.passed.offset found in
+    let fits = first-fits holds r c.args.passed c.in-Some.offset (g.met.S.Stream.positive_widths _ c.requires.valid) c.requires.passed.offset found in
     omega (arith, fits)
 
 pub returns-in-Some : goal.returns-in-Some

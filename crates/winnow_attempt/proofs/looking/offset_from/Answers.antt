@@ -10,7 +10,7 @@ overflow_add-result g c =
     let i : ℕ = c.args.asked - c.args.counted in
     let counts = g.S.Stream.counts_missing in
     let found = sym (ap (λ x. offset_at counts x i) c.next_slice.ensures.remains) ∙ sym c.offset_at.ensures ∙ c.in-Ok.is in
-    let fits = offset_at-fits counts r c.args.passed i c.in-Ok.offset (g.met.S.Stream.has_widths _ c.requires.valid) c.requires.passed.offset found in
+    let fits = offset_at-fits counts r c.args.passed i c.in-Ok.offset (g.met.S.Stream.positive_widths _ c.requires.valid) c.requires.passed.offset found in
     omega (arith, fits)
 
 pub returns-in-Ok : goal.returns-in-Ok

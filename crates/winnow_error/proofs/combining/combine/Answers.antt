@@ -3,8 +3,8 @@ use Rattle.winnow_error.proofs.lemmas.PickLemmas.{pick-leaves, pick-non_backtrac
 use Rattle.winnow_error.proofs.combining.combine.Goals as goal
 
 pub returns-clause-non_backtrack : goal.returns-clause-non_backtrack
-returns-clause-non_backtrack g c = λ join hard.
-    IfOk-weaker _ _ _ (λ r w. pick-non_backtrack g.E.ParserError.or_gives join c.args.tree r hard w) c.join_tree.ensures.bracketed
+returns-clause-non_backtrack g c = λ join non_backtrack.
+    IfOk-weaker _ _ _ (λ r w. pick-non_backtrack g.E.ParserError.or_gives join c.args.tree r non_backtrack w) c.join_tree.ensures.bracketed
 
 pub returns-clause-associative : goal.returns-clause-associative
 returns-clause-associative g c = λ join only associative.

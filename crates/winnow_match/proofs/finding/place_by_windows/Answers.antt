@@ -1,6 +1,6 @@
 use Rattle.std.proofs.Common.{arith, ◌+◌}
 use Rattle.std.proofs.lemmas.List.{take_rest}
-use Rattle.winnow_match.specs.Search.{SomeStands, bytes_of_needles}
+use Rattle.winnow_match.specs.Search.{SomeOccurs, bytes_of_needles}
 use Rattle.winnow_match.proofs.lemmas.SearchLemmas.{first-behind, Nowhere-more, Nowhere-less}
 use Rattle.winnow_match.proofs.finding.place_by_windows.Goals as goal
 
@@ -14,4 +14,4 @@ loop-passed-preserved c =
     let ls = bytes_of_needles c.args.needles.now in
     let none = rw (take_rest c.args.input.now c.loop-passed.passed) at c.in_default.ensures in
     let past = Nowhere-more ls c.args.input.now c.loop-passed.passed c.loop-passed.width c.loop-passed.invariant.1 none in
-    (omega arith, Nowhere-less (SomeStands ls c.args.input.now) 0 (c.loop-passed.passed + c.loop-passed.width) c.saturating_add-passed.result (omega arith) past)
+    (omega arith, Nowhere-less (SomeOccurs ls c.args.input.now) 0 (c.loop-passed.passed + c.loop-passed.width) c.saturating_add-passed.result (omega arith) past)

@@ -1,4 +1,4 @@
-use Rattle.winnow_parse_error.proofs.lemmas.LineLemmas.{before_first-at, before_first-all}
+use Rattle.winnow_parse_error.proofs.lemmas.NthLineLemmas.{before_first-at, before_first-all}
 use Rattle.winnow_parse_error.proofs.line.first_line.Goals as goal
 
 pub returns-in-Some : goal.returns-in-Some

@@ -1,5 +1,5 @@
 use Rattle.std.proofs.Common.{◌∙◌}
-use Rattle.winnow_parse_error.proofs.lemmas.LineLemmas.{is_some-newline}
+use Rattle.winnow_parse_error.proofs.lemmas.NthLineLemmas.{is_some-newline}
 use Rattle.winnow_parse_error.proofs.line.has_newline.Goals as goal
 
 pub returns : goal.returns

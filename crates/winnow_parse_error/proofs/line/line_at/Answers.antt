@@ -4,7 +4,7 @@ use Rattle.std.specs.List.{before_first}
 use Rattle.std.proofs.lemmas.List.{take_all}
 use Rattle.winnow_parse_error.specs.Position.{is_newline}
 use Rattle.winnow_parse_error.specs.ParseErrorText.{nth_line}
-use Rattle.winnow_parse_error.proofs.lemmas.LineLemmas.{nth_line-at}
+use Rattle.winnow_parse_error.proofs.lemmas.NthLineLemmas.{nth_line-at}
 use Rattle.winnow_parse_error.proofs.line.line_at.Goals as goal
 
 pub returns : goal.returns

@@ -3,7 +3,7 @@ use Rattle.std.specs.Prelude.{◌==◌}
 use Rattle.winnow_read.specs.Inputs.{TellsFed}
 use Rattle.winnow_read.proofs.FedLemmas.{BeginsWithPiece-push}
 use Rattle.winnow_read.proofs.LengthLemmas.{length-AreLines}
-use Rattle.winnow_read.proofs.LineLemmas.{AreLines-push}
+use Rattle.winnow_read.proofs.ScriptLineLemmas.{AreLines-push}
 use Rattle.winnow_read.proofs.fed_lines.read_fed_lines.Goals as goal
 
 pub loop-alloc-preserved : goal.loop-alloc-preserved

@@ -1,5 +1,5 @@
 use Rattle.std.proofs.Common.{◌∙◌, refl, sym}
-use Rattle.winnow_read.proofs.LineLemmas.{empty_of_length}
+use Rattle.winnow_read.proofs.ScriptLineLemmas.{empty_of_length}
 use Rattle.winnow_read.proofs.inputs.read_input.Goals as goal
 
 pub returns : goal.returns

@@ -1,6 +1,6 @@
 use Rattle.std.proofs.Common.{arith, refl}
 use Rattle.winnow_read.specs.Steps.{TellsStep}
-use Rattle.winnow_read.proofs.LineLemmas.{AreLines-push}
+use Rattle.winnow_read.proofs.ScriptLineLemmas.{AreLines-push}
 use Rattle.winnow_read.proofs.steps.read_steps.Goals as goal
 
 pub loop-steps-preserved : goal.loop-steps-preserved

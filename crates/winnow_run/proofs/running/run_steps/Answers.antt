@@ -6,7 +6,7 @@ use Rattle.winnow_stream.specs.Source.{width}
 use Rattle.winnow_stream.specs.Cursor.{start}
 use Rattle.winnow_stream.specs.Place.{place_behind}
 use Rattle.winnow_run.specs.Script.{step_next, IsReady, IsAnswer}
-use Rattle.winnow_run.proofs.lemmas.TurnLemmas.{behind-none}
+use Rattle.winnow_run.proofs.lemmas.AnswerStepLemmas.{behind-none}
 use Rattle.winnow_run.proofs.lemmas.ScriptLemmas.{cursor-append, AreGiven-append}
 use Rattle.winnow_run.proofs.running.run_steps.Goals as goal
 
@@ -27,7 +27,7 @@ loop-step-init g c =
         behind-none _ (c.new-origin.result.end - width (g.S.Stream.remaining c.args.s.now)) (omega (arith, end)),
       );
       stands = record {
-        widths = g.met.S.Stream.has_widths _ c.requires.valid;
+        widths = g.met.S.Stream.positive_widths _ c.requires.valid;
         rest = refl;
         within = omega arith;
         marks = rw c.new-marks.ensures tt;
@@ -42,7 +42,7 @@ loop-step-init g c =
 
 pub answer_step-requires-clause-ready : goal.answer_step-requires-clause-ready
 answer_step-requires-clause-ready g c =
-    All-head (IsReady g.C.ScriptSet.can_hold) c.in-Some.step.now c.in-Some.later.now (subst (All (IsReady g.C.ScriptSet.can_hold)) c.in-Some.ensures.cases.0 c.loop-step.invariant.ready)
+    All-head (IsReady g.C.ScriptSet.askable) c.in-Some.step.now c.in-Some.later.now (subst (All (IsReady g.C.ScriptSet.askable)) c.in-Some.ensures.cases.0 c.loop-step.invariant.ready)
 
 pub returns-in_err-answer-clause-kept : goal.returns-in_err-answer-clause-kept
 returns-in_err-answer-clause-kept g c = g.met.S.Stream.keeps_transitive _ _ _ c.loop-step.invariant.kept c.answer_step.ensures.kept
@@ -61,7 +61,7 @@ loop-step-preserved g c =
       base = i.base;
       placed = c.answer_step.ensures.place _ i.placed;
       kept = g.met.S.Stream.keeps_transitive _ _ _ i.kept c.answer_step.ensures.kept;
-      ready = All-tail (IsReady g.C.ScriptSet.can_hold) c.in-Some.step.now c.in-Some.later.now (subst (All (IsReady g.C.ScriptSet.can_hold)) e i.ready);
+      ready = All-tail (IsReady g.C.ScriptSet.askable) c.in-Some.step.now c.in-Some.later.now (subst (All (IsReady g.C.ScriptSet.askable)) e i.ready);
       done = i.done ++ c.in-Some.step.now ∷ [];
       split = i.split ∙ ap (λ xs. i.done ++ xs) e ∙ sym (append_assoc i.done (c.in-Some.step.now ∷ []) c.in-Some.later.now);
       stands = rw (cursor-append (step_next all) i.done c.in-Some.step.now start) (c.in_ok-answer.ensures.stands _ _ i.stands);

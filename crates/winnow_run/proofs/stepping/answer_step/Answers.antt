@@ -6,7 +6,7 @@ use Rattle.winnow_stream.specs.Front.{back}
 use Rattle.winnow_stream.specs.Place.{place_behind}
 use Rattle.std.proofs.lemmas.Iterator.{YieldsList, items_from_collect}
 use Rattle.winnow_stream.proofs.lemmas.FrontLemmas.{width-take_drop, width-back}
-use Rattle.winnow_run.proofs.lemmas.TurnLemmas.{slice-front, slice-whole, items-place, count-marks, taken, not-taken, end-later, place-here, mark-found, mark-missing, later-mark, earlier-mark, mark-width, mark-offset, placed-on, placed-reset, stands-next, stands-take, stands-not_taken, stands-mark, stands-reset, stands-unmarked}
+use Rattle.winnow_run.proofs.lemmas.AnswerStepLemmas.{slice-front, slice-whole, items-place, count-marks, taken, not-taken, end-later, place-here, mark-found, mark-missing, later-mark, earlier-mark, mark-width, mark-offset, placed-on, placed-reset, stands-next, stands-take, stands-not_taken, stands-mark, stands-reset, stands-unmarked}
 use Rattle.winnow_run.proofs.stepping.answer_step.Goals as goal
 
 pub overflow_sub-origin : goal.overflow_sub-origin

@@ -20,7 +20,7 @@ pub returns-then-predicate-clause-offset : goal.returns-then-predicate-clause-of
 returns-then-predicate-clause-offset g c =
     let i = c.loop-next.invariant in
     let first = accepted (given.P-post g c.args.predicate) _ (c.in-Some.offset, c.in-Some.token) i.0 (rw c.in-Some.is at i.1.2) (rw (← sym c.if-predicate.true) at c.predicate.ensures) in
-    is_offset-accepted (given.P-post g c.args.predicate) _ _ (g.met.Self.Stream.has_widths _ c.requires.valid) first
+    is_offset-accepted (given.P-post g c.args.predicate) _ _ (g.met.Self.Stream.positive_widths _ c.requires.valid) first
 
 pub returns-then-predicate-clause-computed : goal.returns-then-predicate-clause-computed
 returns-then-predicate-clause-computed g c = λ q h.

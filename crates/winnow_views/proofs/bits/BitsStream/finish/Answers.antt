@@ -1,7 +1,7 @@
 use Rattle.std.proofs.Common.{◌∙◌, ◌+◌, ◌/◌, ap}
 use Rattle.winnow_stream.specs.Front.{back}
 use Rattle.winnow_stream.proofs.lemmas.FrontLemmas.{back-whole}
-use Rattle.winnow_views.specs.BitLaws.{HasWidths-bits_from}
+use Rattle.winnow_views.specs.BitLaws.{HasPositiveWidths-bits_from}
 use Rattle.winnow_views.specs.BitStream.{bits_remaining}
 use Rattle.winnow_views.proofs.lemmas.BitLemmas.{width-bits_whole}
 use Rattle.winnow_views.proofs.bits.BitsStream.finish.Goals as goal
@@ -11,7 +11,7 @@ returns-clause-remains g c =
     let r = bits_remaining g.I.Stream.remaining c.args.self.now in
     c.next_slice.ensures.remains
     ∙ ap (back r) c.eof_offset-end.ensures
-    ∙ back-whole r (HasWidths-bits_from (g.I.Stream.remaining c.args.self.now.input) c.args.self.now.place)
+    ∙ back-whole r (HasPositiveWidths-bits_from (g.I.Stream.remaining c.args.self.now.input) c.args.self.now.place)
 
 pub returns-clause-bytes : goal.returns-clause-bytes
 returns-clause-bytes g c =
@@ -20,4 +20,4 @@ returns-clause-bytes g c =
     c.next_slice.ensures.bytes
     ∙ ap (λ n. back bytes ((n + place) / 8)) c.eof_offset-end.ensures
     ∙ ap (back bytes) (width-bits_whole bytes place c.requires.1)
-    ∙ back-whole bytes (g.met.I.Stream.has_widths _ c.requires.0)
+    ∙ back-whole bytes (g.met.I.Stream.positive_widths _ c.requires.0)

@@ -1,0 +1,53 @@
+ghost use Rattle.std.specs.Prelude.{◌≡◌};
+
+use crate::wanted::Wanted;
+use std::alloc::{AllocError, Global};
+use winnow_base::error::{ContextError, FromRecoverableError, ParseError, StrContext};
+use winnow_base::stream::{Location, Stream};
+
+/// What is recorded of a line that is no setting: where in the input it ceased to be one, and what was wanted there.
+#[derive(Debug, Drop)]
+pub struct Fault {
+    /// The place in the input
+    pub offset: usize,
+    /// What was wanted
+    pub error: ContextError<Wanted>,
+}
+
+impl<I: Stream + Location> FromRecoverableError<I, ContextError<Wanted>> for Fault {
+    ghost recovered = { λ _ _ input error. record
+        { offset = I.token_start input; error = error } };
+
+    fn from_recoverable_error(
+        _token_start: &I::Checkpoint,
+        _err_start: &I::Checkpoint,
+        input: &I,
+        error: ContextError<Wanted>,
+    ) -> Self {
+        Fault {
+            offset: input.current_token_start(),
+            error,
+        }
+    }
+}
+
+impl Fault {
+    /// Returns the error that tells the line and the column in the text, and shows that line.
+    pub fn located<'t>(
+        &self,
+        alloc: Global,
+        text: &'t str,
+    ) -> Result<ParseError<&'t str, ContextError<StrContext>>, AllocError> {
+        let mut error = ContextError::new(alloc);
+        error.push(StrContext::Label("setting"))?;
+        for wanted in self.error.context() {
+            error.push(wanted.as_context())?;
+        }
+        let mut input = text;
+        let start = input.checkpoint();
+        if input.is_offset(self.offset) {
+            let _ = input.next_slice(self.offset);
+        }
+        Ok(ParseError::new(input, start, error))
+    }
+}

@@ -1,0 +1,82 @@
+-- Where a run stands, and what one step of its script answers and leaves there.
+use Rattle.std.specs.Prelude.{◌≡◌, ℕ, ◌-◌, ◌≤◌, Bool, Option, List, length, drop, slice_get, IfSome, ⊤}
+use Rattle.std.specs.List.{AllZip}
+use Rattle.std.specs.Global.{Vec}
+use Rattle.winnow_stream.specs.Source.{Source, width, HasPositiveWidths}
+use Rattle.winnow_stream.specs.Cursor.{Cursor, place}
+use Rattle.winnow_stream.specs.Place.{place_behind}
+use Rattle.winnow_stream.specs.declared.needed.Needed.{Needed}
+use Rattle.winnow_run.specs.Marks.{places_of, HasRoom}
+use Rattle.winnow_run.specs.Script.{step_next, IsAnswer}
+use Rattle.winnow_run.specs.declared.marks.Marks.{Marks}
+use Rattle.winnow_run.specs.declared.marks.Origin.{Origin}
+use Rattle.winnow_run.specs.declared.script.Answer.{Answer}
+use Rattle.winnow_run.specs.declared.script.Step.{Step}
+use Rattle.winnow_run.specs.declared.script.Step.TheVariants as step
+
+-- where a run stands: what remained at its origin, the places of the origin and of the end, what remains, and the places of its marks
+pub record RunState (T : Type 0) : Type 0 where
+  pub origin : Source T
+  pub base : ℕ
+  pub end : ℕ
+  pub rest : Source T
+  pub marks : List ℕ
+
+-- where a stream and its marks stand
+abbrev pub run_state : {T K : Type 0} → (K → Source T) → Origin K → Source T → Marks → RunState T
+run_state remained origin rest marks = record {
+  origin = remained origin.checkpoint;
+  base = origin.place;
+  end = origin.end;
+  rest = rest;
+  marks = places_of marks;
+}
+
+-- the place of a mark with i tokens before it
+pub record IsMarkAt {T : Type 0} (all : Source T) (mark : ℕ) (i : ℕ) : Type 0 where
+  pub is : mark ≡ place all i
+  pub within : i ≤ length all
+
+-- a run that stands here stands at this cursor of this list
+pub record StandsAt {T : Type 0} (here : RunState T) (all : Source T) (at : Cursor) : Type 0 where
+  pub widths : HasPositiveWidths all
+  pub rest : here.rest ≡ drop at.index all
+  pub within : at.index ≤ length all
+  pub marks : AllZip (IsMarkAt all) here.marks at.marks
+  pub end : here.end ≡ width all
+  pub first : ℕ
+  pub base : here.base ≡ place all first
+  pub origin : here.origin ≡ drop first all
+  pub first_within : first ≤ length all
+
+-- a run stands at some cursor of some list
+abbrev pub StandsSomewhere : {T : Type 0} → RunState T → Type 0
+StandsSomewhere {T} here = (all : Source T) × (at : Cursor) × StandsAt here all at
+
+-- the step takes no memory: it lists no items, and there is room for the mark that it makes
+abbrev pub TakesNoMemory : {C : Type 0} → Step C → Marks → Type 0
+TakesNoMemory step.Each marks = ⊥
+TakesNoMemory step.Mark marks = HasRoom marks
+TakesNoMemory _ marks = ⊤
+
+-- the mark that a step goes back to, if there is one, is not before the origin
+abbrev pub IsInReach : {C T : Type 0} → Step C → RunState T → Type 0
+IsInReach (step.Reset k) here = IfSome (slice_get here.marks k) (λ mark. here.base ≤ mark)
+IsInReach _ here = ⊤
+
+-- the answer is the step's, at whatever cursor the run stands
+abbrev pub AnswersStep : {C T S : Type 0} → (C → T → Bool → Type 0) → (S → Source T → ℕ → Type 0) → Bool → Step C → RunState T → Answer T S (Vec (ℕ × T)) Needed → Type 0
+AnswersStep {C} {T} tells is_slice counts_missing step here given =
+    (all : Source T) (at : Cursor) → StandsAt here all at → IsAnswer tells is_slice counts_missing all step at given
+
+-- after the step the run stands where the step leaves the cursor, whatever cursor it stood at
+abbrev pub StandsAfter : {C T : Type 0} → Step C → RunState T → RunState T → Type 0
+StandsAfter {C} {T} step here there = (all : Source T) (at : Cursor) → StandsAt here all at → StandsAt there all (step_next all step at)
+
+-- in the whole input, the origin and the stream are as far behind the place of the list's start as the run says
+abbrev pub ArePlaced : {T : Type 0} → Option ℕ → RunState T → Option ℕ → Option ℕ → Type 0
+ArePlaced whole here origin place = (origin ≡ place_behind whole here.base) × (place ≡ place_behind whole (here.end - width here.rest))
+
+-- so they are after a step, if they were before it
+abbrev pub StayPlaced : {T : Type 0} → Option ℕ → RunState T → Option ℕ → RunState T → Option ℕ → Type 0
+StayPlaced origin here from there to = (whole : Option ℕ) → ArePlaced whole here origin from → ArePlaced whole there origin to

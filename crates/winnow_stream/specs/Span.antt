@@ -1,0 +1,7 @@
+-- Parts of an input as ranges of places.
+use Rattle.std.specs.Prelude.{ℕ, ◌+◌}
+use Rattle.std.specs.declared.ops.Range.{Range}
+
+-- the part of width n from place a on
+abbrev pub span : ℕ → ℕ → Range ℕ
+span a n = record { start = a; end = a + n }
