@@ -31,7 +31,7 @@ impl Kind {
 }
 
 impl ContainsToken<u8> for Kind {
-    ghost tells = { λ kind byte b. b ≡ goes_on kind byte };
+    ghost may_answer = { λ kind byte b. b ≡ goes_on kind byte };
 
     fn contains_token(&self, byte: u8) -> bool {
         match self {
@@ -62,7 +62,7 @@ impl fmt::Display for Kind {
 pub struct Blank;
 
 impl ContainsToken<u8> for Blank {
-    ghost tells = { λ _ byte b. b ≡ is_blank byte };
+    ghost may_answer = { λ _ byte b. b ≡ is_blank byte };
 
     fn contains_token(&self, byte: u8) -> bool {
         byte == b' ' || byte == b'\t' || byte == b'\n' || byte == b'\r'

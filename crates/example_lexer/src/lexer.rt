@@ -1,6 +1,6 @@
 ghost use Rattle.std.specs.Prelude.{◌≡◌, IfSome, IfNone, IfOk, All};
 ghost use Rattle.winnow_base.specs.Source.{units, HoldsAll};
-ghost use Rattle.winnow_base.specs.Place.{TellsPlace};
+ghost use Rattle.winnow_base.specs.Location.{IsLocation};
 ghost use Rattle.example_lexer.specs.Kinds.{is_blank};
 ghost use Rattle.example_lexer.specs.Tokens.{IsNext, AreTokens, StandsIn};
 
@@ -15,7 +15,7 @@ pub fn next_lexeme<S: Stream<Token = u8> + Location>(input: &mut S) -> Option<To
 where
     S::Slice: Drop,
     requires valid { S.valid input.old }
-    requires located { TellsPlace S.place S.token_end S.token_start }
+    requires located { IsLocation S.location S.token_end S.token_start }
     ensures next { IfSome result (λ token. IsNext (S.remaining input.old)
         (S.token_start input.old) token (S.remaining input.new)) }
     ensures place { IfSome result (λ token. S.token_start input.new ≡ token.span.end) }
@@ -52,7 +52,7 @@ pub fn lex<S: Stream<Token = u8> + Location + Drop>(
 where
     S::Slice: Drop,
     requires valid { S.valid input }
-    requires located { TellsPlace S.place S.token_end S.token_start }
+    requires located { IsLocation S.location S.token_end S.token_start }
     ensures { IfOk result (λ tokens.
         AreTokens (S.remaining input) (S.token_start input) tokens.items) }
 {

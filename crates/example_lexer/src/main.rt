@@ -1,6 +1,6 @@
 //! A lexer that knows where each token stands: names, numbers, and other bytes, with blanks between them.
 //!
-//! It lexes any stream of bytes that knows its place, and what it promises is what a reader of the tokens wants to know: the text of
+//! It lexes any stream of bytes that knows its location, and what it promises is what a reader of the tokens wants to know: the text of
 //! each is of its kind, stands where its span says, and goes on as far as it can, and nothing is skipped but blanks. `kind` says which
 //! bytes make which tokens, as sets of the library; `skip` moves a stream past what a set holds; and `lexer` puts them together.
 #![tactic(auto)]

@@ -1,6 +1,6 @@
 ghost use Rattle.std.specs.Prelude.{◌≡◌, not, drop, length};
 ghost use Rattle.winnow_base.specs.Source.{width, first_offset, held_front};
-ghost use Rattle.winnow_base.specs.Place.{place_behind};
+ghost use Rattle.winnow_base.specs.Location.{location_behind};
 
 use winnow_base::stream::{FixedSet, Stream, held_law};
 
@@ -13,7 +13,7 @@ where
     ensures behind { S.remaining input.new
         ≡ drop (length (held_front (C.holds set.now) (S.remaining input.old)))
         (S.remaining input.old) }
-    ensures place { S.place input.new ≡ place_behind (S.place input.old)
+    ensures location { S.location input.new ≡ location_behind (S.location input.old)
         (width (held_front (C.holds set.now) (S.remaining input.old))) }
     ensures valid { S.valid input.new }
     ensures kept { S.keeps input.old input.new }

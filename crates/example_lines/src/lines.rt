@@ -3,12 +3,14 @@ ghost use Rattle.example_lines.specs.Lines.{first_end, IsFed, IsNextLine};
 
 use std::alloc::{AllocError, Global};
 use std::marker::Model;
-use winnow_base::stream::{ByteFeed, CharSet, Needles, SearchAnswer, SearchStep};
-use winnow_base::stream::{definite_hit_law, find_law};
+use winnow_base::stream::{
+    ByteFeed, CharSet, Needles, SearchAnswer, SearchStep, definite_hit_law, find_law,
+};
 
 /// What a feed runs: it looks for the end of a line.
-static SCRIPT: [SearchStep<CharSet<'static>, &'static [u8]>; 1] =
-    [SearchStep::Find(Needles::One(b"\r\n"))];
+static SCRIPT: [SearchStep<CharSet<'static>, &'static [u8]>; 1] = [SearchStep::Find(Needles::One(
+    b"\r\n",
+))];
 
 /// A reader of lines from input that comes in pieces.
 ///
@@ -89,7 +91,10 @@ impl Lines {
         let alloc = *self.bytes.allocator();
         let mut behind = Lines::new(alloc)?;
         behind.push(&self.bytes[width + 2..])?;
-        let Lines { bytes: mut line, .. } = std::mem::replace(self, behind);
+        let Lines {
+            bytes: mut line,
+            ..
+        } = std::mem::replace(self, behind);
         line.truncate(width);
         Ok(Some(line))
     }

@@ -17,7 +17,7 @@ pub enum Part {
 }
 
 impl ContainsToken<char> for Part {
-    ghost tells = { λ part c b. b ≡ is_in part c };
+    ghost may_answer = { λ part c b. b ≡ is_in part c };
 
     fn contains_token(&self, c: char) -> bool {
         match self {

@@ -1,5 +1,5 @@
 ghost use Rattle.std.specs.Prelude.{◌≡◌, ◌+◌, ◌++◌, ◌∷◌, [], IfOk, OnOk, IsTrue, length};
-ghost use Rattle.winnow_base.specs.Recovering.{recovering_input, recorded_errors, records_errors};
+ghost use Rattle.winnow_base.specs.Recovering.{recoverable_inner, recorded_errors, records_errors};
 ghost use Rattle.example_settings.specs.Lines.{behind_line, line_count, IsAccounted};
 ghost use Rattle.example_settings.specs.declared.fault.Fault.{Fault};
 
@@ -19,13 +19,13 @@ pub fn read_settings<I: Stream<Token = char> + Location>(
 ) -> Result<Vec<Setting<I::Slice>>, AllocError>
 where
     I::Slice: Drop,
-    requires valid { I.valid (recovering_input input.old) }
+    requires valid { I.valid (recoverable_inner input.old) }
     requires records { IsTrue (records_errors input.old) }
     ensures every { IfOk result (λ settings.
         length settings.items + length (recorded_errors input.new)
         ≡ length (recorded_errors input.old)
-        + line_count (I.remaining (recovering_input input.old))) }
-    ensures end { IfOk result (λ _. I.remaining (recovering_input input.new) ≡ []) }
+        + line_count (I.remaining (recoverable_inner input.old))) }
+    ensures end { IfOk result (λ _. I.remaining (recoverable_inner input.new) ≡ []) }
 {
     let mut settings = Vec::new(alloc);
     'lines: while input.eof_offset() > 0 {
@@ -43,13 +43,13 @@ pub fn read_line<I: Stream<Token = char> + Location>(
 ) -> Result<Option<Setting<I::Slice>>, AllocError>
 where
     I::Slice: Drop,
-    requires valid { I.valid (recovering_input input.old) }
+    requires valid { I.valid (recoverable_inner input.old) }
     requires records { IsTrue (records_errors input.old) }
-    ensures behind { IfOk result (λ _. I.remaining (recovering_input input.new)
-        ≡ behind_line (I.remaining (recovering_input input.old))) }
+    ensures behind { IfOk result (λ _. I.remaining (recoverable_inner input.new)
+        ≡ behind_line (I.remaining (recoverable_inner input.old))) }
     ensures accounted { IfOk result (λ found.
         IsAccounted found (recorded_errors input.old) (recorded_errors input.new)) }
-    ensures valid { I.valid (recovering_input input.new) }
+    ensures valid { I.valid (recoverable_inner input.new) }
     ensures records { IsTrue (records_errors input.new) }
 {
     let start = input.checkpoint();
@@ -72,11 +72,11 @@ fn record<I: Stream<Token = char> + Location>(
     start: &<Recoverable<I, Fault> as Stream>::Checkpoint,
     wanted: Wanted,
 ) -> Result<(), AllocError>
-    requires valid { I.valid (recovering_input input.old) }
+    requires valid { I.valid (recoverable_inner input.old) }
     requires records { IsTrue (records_errors input.old) }
     ensures recorded { OnOk result ((error : Fault)
         × (recorded_errors input.new ≡ recorded_errors input.old ++ error ∷ [])) }
-    ensures input { recovering_input input.new ≡ recovering_input input.old }
+    ensures input { recoverable_inner input.new ≡ recoverable_inner input.old }
     ensures records { IsTrue (records_errors input.new) }
 {
     let mut error = ContextError::new(alloc);

@@ -11,7 +11,7 @@ use winnow_sets::CharSet;
 use winnow_stream::{Stream, StreamIsPartial};
 use winnow_wrap::Partial;
 
-/// What a feed has kept of its input: a stream whose bytes can be read, with a mark that says
+/// What a feed has kept of its input: a stream whose bytes can be read, with a flag that says
 /// whether more may follow.
 pub trait Kept: Stream + StreamIsPartial + Copy {
     // The bytes of a token.
@@ -40,8 +40,8 @@ pub trait Kept: Stream + StreamIsPartial + Copy {
         ensures { result
             ≡ (if Self.counts_missing then 1 else asked - length (Self.remaining self.now)) };
 
-    // A call of the stream leaves the mark.
-    ghost keeps_mark: { (s t : Self) → Self.keeps s t → Self.expects_more t ≡ Self.expects_more s };
+    // A call of the stream leaves the flag.
+    ghost keeps_flag: { (s t : Self) → Self.keeps s t → Self.expects_more t ≡ Self.expects_more s };
 }
 
 #[tactic(auto, using(winnow_match::proofs::lemmas::ByteLemmas::source_bytes))]
@@ -52,7 +52,7 @@ impl<'b> Kept for Partial<&'b [u8]> {
 
     ghost spell = { λ byte. byte ∷ [] };
 
-    ghost keeps_mark = { λ s t kept. sym kept.0 };
+    ghost keeps_flag = { λ s t kept. sym kept.0 };
 
     fn bytes(&self) -> &[u8] {
         (*self).into_inner()
@@ -78,7 +78,7 @@ impl<'b> Kept for Partial<&'b str> {
 
     ghost spell = { encode_utf8 };
 
-    ghost keeps_mark = { λ s t kept. sym kept.0 };
+    ghost keeps_flag = { λ s t kept. sym kept.0 };
 
     fn bytes(&self) -> &[u8] {
         (*self).into_inner().as_bytes()

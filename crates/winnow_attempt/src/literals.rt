@@ -5,7 +5,7 @@ ghost use Rattle.winnow_match.specs.Stretch.{hit_is_definite};
 ghost use Rattle.winnow_attempt.specs.Settled.{AreSame, NoneOccurs};
 
 use std::ops::Range;
-use winnow_match::{Compare, CompareResult, FindSlice, Needles, stretch};
+use winnow_match::{Compare, CompareResult, FindSlice, Needles, find_far, stretch};
 use winnow_stream::AsBStr;
 
 /// Returns the needles as bytes.
@@ -38,13 +38,19 @@ fn compare_all(literal: &[u8], bytes: &[u8]) -> CompareResult
     bytes.compare(literal)
 }
 
-// The first place of a needle in the bytes.
+// From how many bytes on a search that goes on tries no near place first.
+const FAR: usize = 256;
+
+// The first place of a needle in the bytes, of a search that begins there or goes on.
 #[tactic(auto, using(crate::proofs::lemmas::LookLemmas::hits_fit))]
 #[inline(always)]
-fn find_all(needles: &Needles<&[u8]>, bytes: &[u8]) -> Option<Range<usize>>
+fn find_all(needles: &Needles<&[u8]>, bytes: &[u8], goes_on: bool) -> Option<Range<usize>>
     ensures value { result ≡ hit (bytes_of_needles needles.now) bytes.now }
     ensures fits { IfSome result (λ p. (p.start ≤ p.end) × (p.end ≤ length bytes.now)) }
 {
+    if goes_on && FAR <= bytes.len() {
+        return find_far(bytes, needles);
+    }
     match needles {
         Needles::One(a) => bytes.find_slice(*a),
         Needles::Two(a, b) => bytes.find_slice((*a, *b)),
@@ -74,7 +80,7 @@ pub(crate) fn find_from(
     requires { NoneOccurs (bytes_of_needles needles.now) bytes.now passed }
     ensures { result ≡ hit (bytes_of_needles needles.now) bytes.now }
 {
-    match find_all(needles, behind(bytes, passed)) {
+    match find_all(needles, behind(bytes, passed), 0 < passed) {
         Some(places) => Some(passed + places.start..passed + places.end),
         None => None,
     }

@@ -2,7 +2,7 @@
 pub use Rattle.winnow_stream.specs.Source
 pub use Rattle.winnow_stream.specs.Front
 pub use Rattle.winnow_stream.specs.SliceWidths
-pub use Rattle.winnow_stream.specs.Place
+pub use Rattle.winnow_stream.specs.Location
 pub use Rattle.winnow_stream.specs.Fused
 pub use Rattle.winnow_stream.specs.Shortage
 pub use Rattle.winnow_stream.specs.Units
@@ -56,7 +56,7 @@ pub use Rattle.winnow_parse_error.specs.Position
 pub use Rattle.winnow_parse_error.specs.CharSpan
 pub use Rattle.winnow_parse_error.specs.Failure
 pub use Rattle.winnow_parse_error.specs.ParseErrorText
-pub use Rattle.winnow_wrap.specs.Mark
+pub use Rattle.winnow_wrap.specs.Flag
 pub use Rattle.winnow_wrap.specs.Located
 pub use Rattle.winnow_recover.specs.Recording
 pub use Rattle.winnow_recover.specs.Recovering
@@ -66,8 +66,13 @@ pub use Rattle.winnow_feed.specs.Reach
 pub use Rattle.winnow_feed.specs.Feeding
 pub use Rattle.winnow_attempt.specs.Missing
 pub use Rattle.winnow_feed.specs.Waits
--- The types of a script, with their variants.
+-- The types of a script and of its answers, with their variants.
 pub use Rattle.winnow_match.specs.declared.needles.Needles
 pub use Rattle.winnow_sets.specs.declared.char_set.CharSet
 pub use Rattle.winnow_run.specs.declared.script.Step
 pub use Rattle.winnow_run.specs.declared.search_script.SearchStep
+pub use Rattle.winnow_run.specs.declared.script.Answer
+pub use Rattle.winnow_run.specs.declared.search_script.SearchAnswer
+pub use Rattle.winnow_attempt.specs.declared.told.Told
+pub use Rattle.winnow_feed.specs.declared.finished.Finished
+pub use Rattle.winnow_feed.specs.declared.waiting.Waiting

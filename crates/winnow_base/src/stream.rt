@@ -31,6 +31,6 @@ pub use winnow_stream::{
 };
 pub use winnow_views::{PreviousTokens, TokenOffsets, TokenSlice, TokenView, token_equality_law};
 pub use winnow_wrap::{
-    LocatingSlice, Partial, Placed, Stateful, located_equality_law, located_order_law,
-    marked_equality_law, marked_order_law, stateful_equality_law,
+    LocatingSlice, Partial, Placed, Stateful, flagged_equality_law, flagged_order_law,
+    located_equality_law, located_order_law, stateful_equality_law,
 };

@@ -21,7 +21,7 @@ fn drain_wrapped<I: Stream + StreamIsPartial + Copy>(input: I, stop: u64) -> u64
 where
     I::Token: Number + Drop,
     requires valid { I.valid input }
-    requires unmarked { I.supports_partial ≡ false }
+    requires no_flag { I.supports_partial ≡ false }
 {
     let mut s = wrap(input);
     drain(&mut s, stop)
@@ -40,7 +40,7 @@ fn take_all_wrapped<I: Stream + StreamIsPartial + Copy>(input: I, tokens: u64) -
 where
     I::Slice: Weigh + Drop,
     requires valid { I.valid input }
-    requires unmarked { I.supports_partial ≡ false }
+    requires no_flag { I.supports_partial ≡ false }
 {
     let mut s = wrap(input);
     take_all(&mut s, tokens as usize)

@@ -3,7 +3,7 @@ ghost use Rattle.std.specs.Prelude.{◌≤◌, IsTrue};
 ghost use Rattle.winnow_stream.specs.Source.{units};
 ghost use Rattle.winnow_stream.specs.Front.{is_offset};
 ghost use Rattle.winnow_views.specs.BitSource.{IsBitSource};
-ghost use Rattle.winnow_views.specs.BitStream.{bits_input, bits_place};
+ghost use Rattle.winnow_views.specs.BitStream.{bits_inner, bits_place};
 
 use std::alloc::{AllocError, Global};
 use winnow_bench_common::{Tell, hand_out, tell_all};
@@ -70,7 +70,7 @@ pub fn tell_text(alloc: Global, start: &str, width: usize) -> Result<Vec<u64>, A
 
 /// What the small traits answer of bits, and of what remains behind their front of that width; nothing where there is no such front.
 pub fn tell_bits(alloc: Global, start: Bits<&[u8]>, width: usize) -> Result<Vec<u64>, AllocError>
-    requires { IsBitSource (units (bits_input start).now) (bits_place start) }
+    requires { IsBitSource (units (bits_inner start).now) (bits_place start) }
 {
     let mut told = Vec::new(alloc);
     if !start.is_offset(width) {
@@ -114,7 +114,7 @@ fn tell_flags(told: &mut Vec<u64>, first: bool, second: bool) -> Result<(), Allo
     tell_all(told, &[u64::from(first), u64::from(second)])
 }
 
-// The mark, before and after it is cleared and set again.
+// The flag, before and after it is cleared and set again.
 fn tell_mark<S: StreamIsPartial>(told: &mut Vec<u64>, s: &mut S) -> Result<(), AllocError> {
     tell_flags(told, S::is_partial_supported(), s.is_partial())?;
     let state = s.complete();
@@ -123,7 +123,7 @@ fn tell_mark<S: StreamIsPartial>(told: &mut Vec<u64>, s: &mut S) -> Result<(), A
     tell_flags(told, is_partial, s.is_partial())
 }
 
-// The mark, and the bytes that remain.
+// The flag, and the bytes that remain.
 fn tell_partial<S: StreamIsPartial + AsBStr + Drop>(
     told: &mut Vec<u64>,
     s: S,

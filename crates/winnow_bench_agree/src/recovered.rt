@@ -2,7 +2,7 @@
 ghost use Rattle.std.specs.Prelude.{IsTrue};
 ghost use Rattle.std.specs.Str.{IsUtf8};
 ghost use Rattle.winnow_stream.specs.Front.{is_offset};
-ghost use Rattle.winnow_recover.specs.Recovering.{recovering_input};
+ghost use Rattle.winnow_recover.specs.Recovering.{recoverable_inner};
 
 use std::alloc::{AllocError, Global};
 use winnow_bench_common::{RawStep, Tell, hand_out, steps_of, tell_all, tell_run, text};
@@ -92,8 +92,8 @@ where
     I: UpdateSlice + Location + StreamIsPartial + AsBStr + Drop,
     I::Token: Drop,
     I::Slice: Drop,
-    requires valid { I.valid (recovering_input s) }
-    requires width { IsTrue (is_offset (I.remaining (recovering_input s)) width) }
+    requires valid { I.valid (recoverable_inner s) }
+    requires width { IsTrue (is_offset (I.remaining (recoverable_inner s)) width) }
 {
     let mut s = s;
     let at = s.checkpoint();

@@ -36,7 +36,7 @@ where
     I::Token: Tell + Drop,
     I::Slice: Tell + Drop,
     requires valid { I.valid input }
-    requires unmarked { I.supports_partial ≡ false }
+    requires no_flag { I.supports_partial ≡ false }
 {
     let s = wrap(input);
     if !s.is_offset(width) {
@@ -45,7 +45,7 @@ where
     tell_wrapped(alloc, s, width)
 }
 
-// The places behind a front, in its window, and behind a reset out of it, with the mark cleared between.
+// The places behind a front, in its window, and behind a reset out of it, with the flag cleared between.
 fn tell_wrapped<S>(alloc: Global, s: S, width: usize) -> Result<Vec<u64>, AllocError>
 where
     S: UpdateSlice + Location + StreamIsPartial + AsBStr + Drop,
@@ -74,7 +74,7 @@ where
     Ok(told)
 }
 
-// The place, the mark, and the bytes that remain.
+// The place, the flag, and the bytes that remain.
 fn tell_stream<S: Location + StreamIsPartial + AsBStr>(
     told: &mut Vec<u64>,
     s: &S,

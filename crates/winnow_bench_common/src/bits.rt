@@ -2,13 +2,13 @@
 ghost use Rattle.std.specs.Prelude.{IfSome};
 ghost use Rattle.winnow_stream.specs.Source.{units};
 ghost use Rattle.winnow_views.specs.BitSource.{IsBitSource};
-ghost use Rattle.winnow_views.specs.BitStream.{bits_input, bits_place};
+ghost use Rattle.winnow_views.specs.BitStream.{bits_inner, bits_place};
 
 use winnow_views::{Bits, bit_source_law};
 
 /// The bits of bytes from a place on; `None` where no byte has the place, or there are too many.
 pub fn bits_at(input: &[u8], place: u64) -> Option<Bits<&[u8]>>
-    ensures { IfSome result (λ s. IsBitSource (units (bits_input s).now) (bits_place s)) }
+    ensures { IfSome result (λ s. IsBitSource (units (bits_inner s).now) (bits_place s)) }
 {
     if input.len() >= 1 << 60 || place > 7 {
         return None;

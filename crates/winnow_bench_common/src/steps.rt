@@ -21,7 +21,7 @@ impl Numbers {
 }
 
 impl ScriptSet<u8> for Numbers {
-    ghost tells = { λ s t b. b ≡ (nat_le s.first t && nat_le t s.last) };
+    ghost may_answer = { λ s t b. b ≡ (nat_le s.first t && nat_le t s.last) };
 
     fn holds(&self, token: u8) -> bool {
         self.has(u64::from(token))
@@ -29,7 +29,7 @@ impl ScriptSet<u8> for Numbers {
 }
 
 impl ScriptSet<&u8> for Numbers {
-    ghost tells = { λ s t b. b ≡ (nat_le s.first t.now && nat_le t.now s.last) };
+    ghost may_answer = { λ s t b. b ≡ (nat_le s.first t.now && nat_le t.now s.last) };
 
     fn holds(&self, token: &u8) -> bool {
         self.has(u64::from(*token))
@@ -37,7 +37,7 @@ impl ScriptSet<&u8> for Numbers {
 }
 
 impl ScriptSet<char> for Numbers {
-    ghost tells = { λ s t b. b ≡ (nat_le s.first t && nat_le t s.last) };
+    ghost may_answer = { λ s t b. b ≡ (nat_le s.first t && nat_le t s.last) };
 
     fn holds(&self, token: char) -> bool {
         self.has(u64::from(u32::from(token)))
@@ -45,7 +45,7 @@ impl ScriptSet<char> for Numbers {
 }
 
 impl ScriptSet<bool> for Numbers {
-    ghost tells = { λ s t b.
+    ghost may_answer = { λ s t b.
         b ≡ (nat_le s.first (if t then 1 else 0) && nat_le (if t then 1 else 0) s.last) };
 
     fn holds(&self, token: bool) -> bool {

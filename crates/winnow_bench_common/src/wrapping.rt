@@ -10,7 +10,7 @@ pub type Wrapped<I> = Partial<Stateful<LocatingSlice<I>, u64>>;
 /// Wraps an input three times.
 pub fn wrap<I: Stream + StreamIsPartial>(input: I) -> Wrapped<I>
     requires valid { I.valid input }
-    requires unmarked { I.supports_partial ≡ false }
+    requires no_flag { I.supports_partial ≡ false }
     ensures { ⟦<Wrapped<I> as Stream>⟧.valid result }
 {
     Partial::new(Stateful {

@@ -264,11 +264,11 @@ impl StreamIsPartial for Bytes<'_> {
 
     ghost expects_more = { λ _. false };
 
-    ghost same_but_mark = { λ s t. s ≡ t };
+    ghost same_but_flag = { λ s t. s ≡ t };
 
-    ghost mark_tells = { λ _ _ _. refl };
+    ghost flag_decides = { λ _ _ _. refl };
 
-    ghost no_mark = { λ _ _. refl };
+    ghost no_flag = { λ _ _. refl };
 
     fn complete(&mut self) {}
 

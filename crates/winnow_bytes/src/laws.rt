@@ -16,7 +16,7 @@ use winnow_stream::Checkpoint;
 pub fn bytes_equality_law()
     ensures values { (s t : Bytes)
         → IsTrue (⟦<Bytes<'static> as PartialEq>⟧.eq s t) ↔ (bytes_contents s ≡ bytes_contents t) }
-    ensures places { (c d : Checkpoint Bytes Bytes)
+    ensures checkpoints { (c d : Checkpoint Bytes Bytes)
         → IsTrue (⟦<Checkpoint<Bytes<'static>, Bytes<'static>> as PartialEq>⟧.eq c d)
         ↔ (bytes_contents (checkpoint_inner c) ≡ bytes_contents (checkpoint_inner d)) }
 {}
@@ -27,7 +27,7 @@ pub fn bytes_order_law()
     ensures values { (s t : Bytes)
         → ⟦<Bytes<'static> as Ord>⟧.cmp s t
         ≡ slice_cmp nat_cmp (bytes_contents s) (bytes_contents t) }
-    ensures places { (c d : Checkpoint Bytes Bytes)
+    ensures checkpoints { (c d : Checkpoint Bytes Bytes)
         → ⟦<Checkpoint<Bytes<'static>, Bytes<'static>> as Ord>⟧.cmp c d
         ≡ slice_cmp nat_cmp (bytes_contents (checkpoint_inner c))
         (bytes_contents (checkpoint_inner d)) }

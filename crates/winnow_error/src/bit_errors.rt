@@ -1,7 +1,7 @@
 //! An error at bits as one at their bytes, and back. It takes no memory.
 
 ghost use Rattle.std.specs.Prelude.{◌≡◌};
-ghost use Rattle.winnow_views.specs.BitStream.{bits_input, bits_place};
+ghost use Rattle.winnow_views.specs.BitStream.{bits_inner, bits_place};
 
 use crate::{ErrorConvert, InputError};
 use std::alloc::{AllocError, Global};
@@ -9,7 +9,7 @@ use winnow_views::Bits;
 
 /// The input becomes all of its bits.
 impl<I> ErrorConvert<InputError<Bits<I>>> for InputError<I> {
-    ghost convert_gives = { λ e r. (bits_input r.input ≡ e.input) × (bits_place r.input ≡ 0) };
+    ghost convert_gives = { λ e r. (bits_inner r.input ≡ e.input) × (bits_place r.input ≡ 0) };
 
     ghost convert_refusable = { ⊥ };
 
@@ -20,7 +20,7 @@ impl<I> ErrorConvert<InputError<Bits<I>>> for InputError<I> {
 
 /// The input becomes its bytes, the one whose bits were read in part among them.
 impl<I: Drop> ErrorConvert<InputError<I>> for InputError<Bits<I>> {
-    ghost convert_gives = { λ e r. r.input ≡ bits_input e.input };
+    ghost convert_gives = { λ e r. r.input ≡ bits_inner e.input };
 
     ghost convert_refusable = { ⊥ };
 

@@ -59,9 +59,9 @@ module _ {S : Type 0} (k : PieceKind ℕ CharSet (Bor (List ℕ))) (all : Source
   line-given (search.Compared c) given e = rw e refl
   line-given (search.Hit o) given e = rw e refl
 
-  module _ (tells : CharSet → ℕ → Bool → Type 0) (computes : (s : PieceStep) → SearchComputes tells k.holds s) where
+  module _ (may_answer : CharSet → ℕ → Bool → Type 0) (computes : (s : PieceStep) → SearchComputes may_answer k.holds s) where
     pub lines-given : (script : List PieceStep) (at : Cursor) (given : List (SearchAnswer ℕ S (Vec (ℕ × ℕ))))
-        → AreGiven (IsSearchAnswer tells is_slice k.counts_missing (λ literal r. comparison (k.literal literal) (written k.write r)) (λ needles r. hit (needle_list k.literal needles) (written k.write r)) all) (search_next all) script at given
+        → AreGiven (IsSearchAnswer may_answer is_slice k.counts_missing (λ literal r. comparison (k.literal literal) (written k.write r)) (λ needles r. hit (needle_list k.literal needles) (written k.write r)) all) (search_next all) script at given
         → answer_lines (λ t. t) words (λ v. item_words (λ t. t) v.items) given ≡ answer_lines (λ t. t) (slice_word k all) (listed_words k all) (answers_from (search_answer (kind_of k) all) (search_next all) script at)
     lines-given [] at [] are = refl
     lines-given [] at (g ∷ given) are = absurd are

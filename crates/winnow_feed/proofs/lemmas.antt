@@ -6,7 +6,7 @@ pub mod NamingLemmas
 pub mod PieceLemmas
 pub mod ReachLemmas
 pub mod SpellingLemmas
-pub mod StandingLemmas
+pub mod JoinedInputLemmas
 pub mod TellingLemmas
 pub mod TextRestLemmas
 pub mod WaitingLemmas

@@ -10,7 +10,7 @@ use Rattle.winnow_feed.specs.declared.progress.Progress.{Progress}
 use Rattle.winnow_run.specs.Searching.{search_next}
 use Rattle.winnow_feed.specs.Inputs.{PieceStep, InputKind, joined}
 use Rattle.winnow_feed.specs.Reach.{needed_from, least_marks}
-use Rattle.winnow_feed.specs.Standing.{Stands, IsAtRest, KeepsLeast}
+use Rattle.winnow_feed.specs.JoinedInput.{IsRunOver, IsAtRest, KeepsLeast}
 use Rattle.winnow_feed.specs.Telling.{capped, out_on, told_of, tried_of, told_to_end, last_place}
 
 -- what a feed stores: how far the script has come, and the bytes that are kept
@@ -45,17 +45,17 @@ module _ (i : InputKind) where
   held_after script (p ∷ pieces) = held_of script (joined (p ∷ pieces))
 
   -- the feed stores what this joined input left, and no more of it than the steps that are left need
-  pub record StandsFor (f : FeedState) (input : List ℕ) : Type 0 where
+  pub record HoldsInput (f : FeedState) (input : List ℕ) : Type 0 where
     pub is_input : i.valid input ≡ true
     pub is_kept : i.valid f.kept ≡ true
-    pub stands : Stands true i.pieces (i.source input) (i.source f.kept) f.run
+    pub stands : IsRunOver true i.pieces (i.source input) (i.source f.kept) f.run
     pub least : KeepsLeast (bytes_fed f) f.run
 
   -- once a piece was fed no step that is left is definite, there is room for every answer and mark, the places fit, and the
   -- marks that steps name are known
   pub record IsSound (f : FeedState) (named : List ℕ) : Type 0 where
     pub input : List ℕ
-    pub stands : StandsFor f input
+    pub stands : HoldsInput f input
     pub rests : 0 < f.run.pieces → IsAtRest i.pieces (i.source input) f.run
     pub told_room : length f.run.script.now ≤ vec_capacity f.run.told
     pub mark_room : length f.run.script.now ≤ vec_capacity f.run.marks
@@ -67,7 +67,7 @@ module _ (i : InputKind) where
   -- the feed fits these pieces: it stands for them joined, no step that is left is definite, and what was told and tried is theirs
   pub record Fits (f : FeedState) (pieces : List (List ℕ)) : Type 0 where
     pub are_pieces : AllByRecursion (λ piece. i.valid piece ≡ true) pieces
-    pub stands : StandsFor f (joined pieces)
+    pub stands : HoldsInput f (joined pieces)
     pub rests : 0 < length pieces → IsAtRest i.pieces (i.source (joined pieces)) f.run
     pub told : f.run.told.items ≡ told_of i (script_of f) pieces
     pub count : f.run.pieces ≡ capped (length pieces)

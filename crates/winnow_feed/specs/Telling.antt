@@ -1,4 +1,4 @@
--- What a script over pieces tells: which answers are out after them, and under which numbers.
+-- What a script over pieces lets out: which answers are out after them, and under which numbers.
 use Rattle.std.specs.Prelude.{ℕ, ◌+◌, min, Bool, nat_lt, if◌then◌else◌, List, [], ◌∷◌, ◌++◌, length, drop, map, Option, None, Some}
 use Rattle.winnow_stream.specs.Cursor.{place}
 use Rattle.winnow_attempt.specs.declared.told.Told.{Told}

@@ -16,19 +16,19 @@ use Rattle.winnow_feed.specs.declared.waiting.Waiting.{Waiting}
 use Rattle.winnow_feed.specs.declared.waiting.Waiting.TheVariants as waiting
 use Rattle.winnow_feed.specs.Inputs.{PieceStep, InputKind, joined}
 use Rattle.winnow_attempt.specs.Missing.{missing}
-use Rattle.winnow_feed.specs.Standing.{Stands, next_step}
+use Rattle.winnow_feed.specs.JoinedInput.{IsRunOver, next_step}
 use Rattle.winnow_feed.specs.Telling.{out_on, told_of}
 use Rattle.winnow_feed.specs.Feeding.{FeedState, Fits, script_of}
 
 -- whatever joined input the run stands for, this is what its next step is missing there
-abbrev pub TellsMissing : {T L : Type 0} → PieceKind T CharSet L → ℕ → (ℕ → List ℕ) → Source T → Progress T L → Option (List ℕ) → Type 0
-TellsMissing {T} {L} k greatest spell kept p told =
-    (all : Source T) (stands : Stands true k all kept p) (s : SearchStep CharSet L) → next_step p ≡ Some s → told ≡ missing k greatest spell (rest all stands.at) s
+abbrev pub GivesMissing : {T L : Type 0} → PieceKind T CharSet L → ℕ → (ℕ → List ℕ) → Source T → Progress T L → Option (List ℕ) → Type 0
+GivesMissing {T} {L} k greatest spell kept p told =
+    (all : Source T) (stands : IsRunOver true k all kept p) (s : SearchStep CharSet L) → next_step p ≡ Some s → told ≡ missing k greatest spell (rest all stands.at) s
 
 -- and it is something
 abbrev pub MissesSome : {T L : Type 0} → PieceKind T CharSet L → ℕ → (ℕ → List ℕ) → Source T → Progress T L → Type 0
 MissesSome {T} {L} k greatest spell kept p =
-    (all : Source T) (stands : Stands true k all kept p) (s : SearchStep CharSet L) → next_step p ≡ Some s → IsSome (missing k greatest spell (rest all stands.at) s)
+    (all : Source T) (stands : IsRunOver true k all kept p) (s : SearchStep CharSet L) → next_step p ≡ Some s → IsSome (missing k greatest spell (rest all stands.at) s)
 
 -- what a step names is of the kind: its literals are inputs, and the first range of its set that holds a token begins with one
 abbrev pub IsSpelt : InputKind → PieceStep → Type 0
@@ -83,8 +83,8 @@ module _ (i : InputKind) (script : List PieceStep) where
   MissesMore pieces = (0 < length pieces) × ((s : PieceStep) × (waiting_step (joined pieces) ≡ Some s) × IsSome (missing_on (joined pieces) s))
 
 -- what a feed waits for, whatever pieces it fits
-abbrev pub TellsWaiting : {P : Type 0} → InputKind → (P → List ℕ) → FeedState → Waiting P → Type 0
-TellsWaiting i bytes f waiting = (pieces : List (List ℕ)) → Fits i f pieces → WaitsFor i (script_of f) bytes pieces waiting
+abbrev pub GivesWaiting : {P : Type 0} → InputKind → (P → List ℕ) → FeedState → Waiting P → Type 0
+GivesWaiting i bytes f waiting = (pieces : List (List ℕ)) → Fits i f pieces → WaitsFor i (script_of f) bytes pieces waiting
 
 -- whatever pieces it fits, a step waits that is missing something
 abbrev pub WantsMore : InputKind → FeedState → Type 0

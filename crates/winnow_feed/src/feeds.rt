@@ -44,7 +44,7 @@ impl<'k> ByteFeed<'k> {
     ghost use Rattle.winnow_feed.specs.Telling.{told_of, tried_of};
     ghost use Rattle.winnow_feed.specs.Feeding.{Fits, FitsWith, LetsOut, IsAnswered, Finishes};
     ghost use Rattle.winnow_feed.specs.Feeding.{held_after, bytes_fed, script_of};
-    ghost use Rattle.winnow_feed.specs.Waits.{TellsWaiting, WantsMore};
+    ghost use Rattle.winnow_feed.specs.Waits.{GivesWaiting, WantsMore};
 
     /// Returns a feed that was fed nothing. It has room for every answer and mark, so that
     /// `feed` takes memory for bytes alone.
@@ -140,7 +140,7 @@ impl<'k> ByteFeed<'k> {
     /// Returns what the feed waits for: an input with which behind what was fed the next step
     /// answers otherwise, unless there is none. Memory is taken for that alone.
     pub fn waits_for(&self) -> Result<Waiting<Vec<u8>>, AllocError>
-        ensures waits { IfOk result (TellsWaiting byte_input (λ more. more.items) self.now) }
+        ensures waits { IfOk result (GivesWaiting byte_input (λ more. more.items) self.now) }
         ensures refused { OnErr result (WantsMore byte_input self.now) }
     {
         if self.run.pieces == 0 {

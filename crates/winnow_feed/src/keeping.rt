@@ -4,8 +4,8 @@ ghost use Rattle.winnow_stream.specs.Source.{width};
 ghost use Rattle.winnow_stream.specs.Front.{is_offset};
 ghost use Rattle.winnow_attempt.specs.View.{piece_kind};
 ghost use Rattle.winnow_feed.specs.Reach.{named_place, least_place, needed_place, least_marks};
-ghost use Rattle.winnow_feed.specs.Standing.{IsStanding, TakesIn, KeepsLeast, KeepsNeeded};
-ghost use Rattle.winnow_feed.specs.Standing.{Tells, Tries, steps_left};
+ghost use Rattle.winnow_feed.specs.JoinedInput.{IsRun, TakesIn, KeepsLeast, KeepsNeeded};
+ghost use Rattle.winnow_feed.specs.JoinedInput.{AddsAnswers, Tries, steps_left};
 ghost use Rattle.winnow_feed.specs.Telling.{capped};
 
 use crate::progress::{Progress, advance};
@@ -95,7 +95,7 @@ where
     requires mark_room { length progress.old.script.now ≤ vec_capacity progress.old.marks }
     requires marks { vec_len progress.old.marks ≤ vec_len progress.old.told }
     requires counted { progress.old.tried < 2 ^ 64 }
-    requires stands { IsStanding true
+    requires stands { IsRun true
         (piece_kind S.Token.code S.counts_missing S.write L.text_bytes)
         (S.remaining kept)
         progress.old }
@@ -110,7 +110,7 @@ where
     ensures least { KeepsLeast (progress.old.base + width (S.remaining kept)) progress.new }
     ensures script { progress.new.script ≡ progress.old.script }
     ensures pieces { progress.new.pieces ≡ capped (progress.old.pieces + 1) }
-    ensures tells { Tells (Some progress.new.pieces) progress.old progress.new }
+    ensures adds { AddsAnswers (Some progress.new.pieces) progress.old progress.new }
     ensures tried { Tries progress.old progress.new }
     ensures told { vec_len progress.old.told ≤ vec_len progress.new.told }
     ensures told_room { vec_capacity progress.old.told ≤ vec_capacity progress.new.told }

@@ -1,7 +1,7 @@
 ghost use Rattle.std.specs.Prelude.{◌<◌, true, length, vec_len, option_map, IfOk, OnErr};
 ghost use Rattle.winnow_attempt.specs.View.{piece_kind};
-ghost use Rattle.winnow_feed.specs.Standing.{IsStanding};
-ghost use Rattle.winnow_feed.specs.Waits.{TellsMissing, MissesSome};
+ghost use Rattle.winnow_feed.specs.JoinedInput.{IsRun};
+ghost use Rattle.winnow_feed.specs.Waits.{GivesMissing, MissesSome};
 
 use crate::progress::Progress;
 use std::alloc::{AllocError, Global};
@@ -21,11 +21,11 @@ where
     S::Slice: Drop,
     requires valid { S.valid kept }
     requires left { vec_len progress.now.told < length progress.now.script.now }
-    requires stands { IsStanding true
+    requires stands { IsRun true
         (piece_kind S.Token.code S.counts_missing S.write L.text_bytes)
         (S.remaining kept)
         progress.now }
-    ensures told { IfOk result (λ more. TellsMissing
+    ensures told { IfOk result (λ more. GivesMissing
         (piece_kind S.Token.code S.counts_missing S.write L.text_bytes)
         S.greatest S.spell (S.remaining kept) progress.now
         (option_map (λ bytes. bytes.items) more)) }

@@ -2,8 +2,8 @@ ghost use Rattle.std.specs.Prelude.{◌≡◌, ◌+◌, ◌≤◌, ◌<◌, ◌^
 ghost use Rattle.std.specs.Prelude.{IsTrue, vec_len, vec_capacity, if◌then◌else◌};
 ghost use Rattle.winnow_stream.specs.Source.{width};
 ghost use Rattle.winnow_attempt.specs.View.{piece_kind};
-ghost use Rattle.winnow_feed.specs.Standing.{IsStanding, KeepsStanding, StandsAtRest};
-ghost use Rattle.winnow_feed.specs.Standing.{ComesToRest, Tells, Tries, StandsStill};
+ghost use Rattle.winnow_feed.specs.JoinedInput.{IsRun, KeepsRun, KeepsRunAtRest};
+ghost use Rattle.winnow_feed.specs.JoinedInput.{ComesToRest, AddsAnswers, Tries, StaysWithoutAnswer};
 ghost use Rattle.winnow_feed.specs.Telling.{capped};
 ghost use Rattle.winnow_attempt.specs.View.{under};
 
@@ -59,11 +59,11 @@ where
     requires told_room { length progress.old.script.now ≤ vec_capacity progress.old.told }
     requires mark_room { length progress.old.script.now ≤ vec_capacity progress.old.marks }
     requires marks { vec_len progress.old.marks ≤ vec_len progress.old.told }
-    requires stands { IsStanding (S.expects_more kept)
+    requires stands { IsRun (S.expects_more kept)
         (piece_kind S.Token.code S.counts_missing S.write L.text_bytes)
         (S.remaining kept)
         progress.old }
-    ensures stands { KeepsStanding (S.expects_more kept)
+    ensures stands { KeepsRun (S.expects_more kept)
         (piece_kind S.Token.code S.counts_missing S.write L.text_bytes)
         (S.remaining kept)
         progress.old progress.new }
@@ -76,10 +76,10 @@ where
     ensures base { progress.new.base ≡ progress.old.base }
     ensures pieces { progress.new.pieces ≡ progress.old.pieces }
     ensures tried { progress.new.tried ≡ capped (progress.old.tried + 1) }
-    ensures tells { Tells piece progress.old progress.new }
+    ensures adds { AddsAnswers piece progress.old progress.new }
     ensures came { IsTrue result → vec_len progress.new.told ≡ vec_len progress.old.told + 1 }
     ensures same { result ≡ false → vec_len progress.new.told ≡ vec_len progress.old.told }
-    ensures still { StandsStill progress.old progress.new }
+    ensures still { StaysWithoutAnswer progress.old progress.new }
     ensures told_room { vec_capacity progress.old.told ≤ vec_capacity progress.new.told }
     ensures mark_room { vec_capacity progress.old.marks ≤ vec_capacity progress.new.marks }
     ensures marks { vec_len progress.new.marks ≤ vec_len progress.new.told }
@@ -130,11 +130,11 @@ where
     requires mark_room { length progress.old.script.now ≤ vec_capacity progress.old.marks }
     requires marks { vec_len progress.old.marks ≤ vec_len progress.old.told }
     requires counted { progress.old.tried < 2 ^ 64 }
-    requires stands { IsStanding (S.expects_more kept)
+    requires stands { IsRun (S.expects_more kept)
         (piece_kind S.Token.code S.counts_missing S.write L.text_bytes)
         (S.remaining kept)
         progress.old }
-    ensures stands { StandsAtRest (S.expects_more kept)
+    ensures stands { KeepsRunAtRest (S.expects_more kept)
         (piece_kind S.Token.code S.counts_missing S.write L.text_bytes)
         (S.remaining kept)
         progress.old progress.new }
@@ -143,9 +143,9 @@ where
     ensures script { progress.new.script ≡ progress.old.script }
     ensures base { progress.new.base ≡ progress.old.base }
     ensures pieces { progress.new.pieces ≡ progress.old.pieces }
-    ensures tells { Tells piece progress.old progress.new }
+    ensures adds { AddsAnswers piece progress.old progress.new }
     ensures tried { Tries progress.old progress.new }
-    ensures still { StandsStill progress.old progress.new }
+    ensures still { StaysWithoutAnswer progress.old progress.new }
     ensures told { vec_len progress.old.told ≤ vec_len progress.new.told }
     ensures told_room { vec_capacity progress.old.told ≤ vec_capacity progress.new.told }
     ensures mark_room { vec_capacity progress.old.marks ≤ vec_capacity progress.new.marks }

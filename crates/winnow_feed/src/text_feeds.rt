@@ -47,7 +47,7 @@ impl<'k> TextFeed<'k> {
     ghost use Rattle.winnow_feed.specs.Feeding.{Fits, FitsWith, LetsOut, IsAnswered, Finishes};
     ghost use Rattle.winnow_feed.specs.Feeding.{held_after, bytes_fed, script_of};
     ghost use Rattle.std.specs.String.{string_bytes};
-    ghost use Rattle.winnow_feed.specs.Waits.{TellsWaiting, WantsMore};
+    ghost use Rattle.winnow_feed.specs.Waits.{GivesWaiting, WantsMore};
 
     /// Returns a feed that was fed nothing. It has room for every answer and mark, so that
     /// `feed` takes memory for bytes alone.
@@ -139,7 +139,7 @@ impl<'k> TextFeed<'k> {
     /// Returns what the feed waits for: an input with which behind what was fed the next step
     /// answers otherwise, unless there is none. Memory is taken for that alone.
     pub fn waits_for(&self) -> Result<Waiting<String>, AllocError>
-        ensures waits { IfOk result (TellsWaiting text_input string_bytes self.now) }
+        ensures waits { IfOk result (GivesWaiting text_input string_bytes self.now) }
         ensures refused { OnErr result (WantsMore text_input self.now) }
     {
         if self.run.pieces == 0 {

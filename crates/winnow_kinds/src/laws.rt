@@ -16,7 +16,7 @@ use winnow_stream::Checkpoint;
 pub fn text_equality_law()
     ensures values { (s t : BStr)
         → IsTrue (⟦<BStr<'static> as PartialEq>⟧.eq s t) ↔ (bstr_contents s ≡ bstr_contents t) }
-    ensures places { (c d : Checkpoint BStr BStr)
+    ensures checkpoints { (c d : Checkpoint BStr BStr)
         → IsTrue (⟦<Checkpoint<BStr<'static>, BStr<'static>> as PartialEq>⟧.eq c d)
         ↔ (bstr_contents (checkpoint_inner c) ≡ bstr_contents (checkpoint_inner d)) }
 {}
@@ -27,7 +27,7 @@ pub fn text_order_law()
     ensures values { (s t : BStr)
         → ⟦<BStr<'static> as Ord>⟧.cmp s t
         ≡ slice_cmp nat_cmp (bstr_contents s) (bstr_contents t) }
-    ensures places { (c d : Checkpoint BStr BStr)
+    ensures checkpoints { (c d : Checkpoint BStr BStr)
         → ⟦<Checkpoint<BStr<'static>, BStr<'static>> as Ord>⟧.cmp c d
         ≡ slice_cmp nat_cmp (bstr_contents (checkpoint_inner c))
         (bstr_contents (checkpoint_inner d)) }

@@ -14,7 +14,7 @@ use winnow_match::{Compare, CompareResult, Needles};
 use winnow_run::Step;
 use winnow_run::Step::{At, Each, Finish, IsOffset, Look, Mark, Next, Peek, Reset, Since, Take};
 use winnow_stream::{AsBStr, AsBytes, Checkpoint, NoSet, Stream, StreamIsPartial, UpdateSlice};
-use winnow_test_helpers::{Traced, compares, finds, hits, marks, told, width, width_from};
+use winnow_test_helpers::{Traced, compares, finds, flags, hits, told, width, width_from};
 
 // Each of these makes its call through a bound.
 
@@ -29,12 +29,12 @@ fn first_of_window<S: UpdateSlice + Copy>(stream: S, width: usize) -> Option<S::
     window.next_token()
 }
 
-// Neither has a mark: they stay as they are, and what agrees in all but the mark is the same.
+// Neither has a flag: they stay as they are, and what agrees in all but the flag is the same.
 fn complete_both<'i>(text: &mut BStr<'i>, bytes: &mut Bytes<'i>)
     ensures text { text.old ≡ text.new }
     ensures bytes { bytes.old ≡ bytes.new }
-    ensures same_text { (s t : BStr) → ⟦<BStr<'i> as StreamIsPartial>⟧.same_but_mark s t → s ≡ t }
-    ensures same_bytes { (s t : Bytes) → ⟦<Bytes<'i> as StreamIsPartial>⟧.same_but_mark s t
+    ensures same_text { (s t : BStr) → ⟦<BStr<'i> as StreamIsPartial>⟧.same_but_flag s t → s ≡ t }
+    ensures same_bytes { (s t : Bytes) → ⟦<Bytes<'i> as StreamIsPartial>⟧.same_but_flag s t
         → s ≡ t }
 {
     text.complete();
@@ -216,7 +216,7 @@ fn small_traits_of_text(rt: HostRuntime) {
     let firsts = [first_of_window(rest, 1), first_of_window(rest, 3)];
     assert_eq!(rt; firsts, [Some(b'b'), None]);
     assert_eq!(rt;
-        (marks(&mut { rest }), as_bstr_of(&rest)),
+        (flags(&mut { rest }), as_bstr_of(&rest)),
         ([false; 4], &b"bc"[..])
     );
 }
@@ -263,7 +263,7 @@ fn places_are_no_part_of_a_text(rt: HostRuntime) {
 }
 
 #[test]
-fn there_is_no_mark(rt: HostRuntime) {
+fn there_is_no_flag(rt: HostRuntime) {
     let (mut text, mut bytes) = (BStr::new(b"ab"), Bytes::new(b"cd"));
     complete_both(&mut text, &mut bytes);
     assert!(rt; text.eq_bytes(b"ab") && bytes.eq_bytes(b"cd"));
@@ -283,7 +283,7 @@ fn small_traits_of_bytes(rt: HostRuntime) {
     let firsts = [first_of_window(rest, 1), first_of_window(rest, 3)];
     assert_eq!(rt; firsts, [Some(b'b'), None]);
     assert_eq!(rt;
-        (marks(&mut { rest }), as_bytes_of(&rest)),
+        (flags(&mut { rest }), as_bytes_of(&rest)),
         ([false; 4], &b"bc"[..])
     );
 }

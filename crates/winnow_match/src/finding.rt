@@ -67,6 +67,22 @@ pub(crate) fn find_needles(input: &[u8], needles: &Needles<&[u8]>) -> Option<Ran
     Some(at..at + length)
 }
 
+/// Returns the first hit of the needles, as [`FindSlice::find_slice`](crate::FindSlice::find_slice) does over bytes.
+///
+/// It is for engines whose search goes on in bytes that came later: a hit is expected far, so no place is tried by its first
+/// byte before the searches of whole needles, which cost some 30 ns to set up.
+#[inline(always)]
+pub fn find_far(input: &[u8], needles: &Needles<&[u8]>) -> Option<Range<usize>>
+    ensures { result ≡ hit (bytes_of_needles needles.now) input.now }
+{
+    if has_empty(needles) {
+        return Some(0..0);
+    }
+    let at = far_place(input, needles)?;
+    let length = front_needle(&input[at..], needles)?;
+    Some(at..at + length)
+}
+
 // Whether some needle is empty.
 #[inline(always)]
 pub(crate) fn has_empty(needles: &Needles<&[u8]>) -> bool

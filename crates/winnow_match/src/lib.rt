@@ -17,6 +17,7 @@ mod stretching;
 
 pub use compare::{Compare, CompareResult};
 pub use find_slice::FindSlice;
+pub use finding::find_far;
 pub use laws::{
     byte_hit_law, compare_law, compare_more_law, definite_hit_law, find_law, find_more_law,
     stretch_law,

@@ -11,7 +11,7 @@ use winnow_test_helpers::debugged;
 // A set asked through its bound.
 fn holds<T, S: ContainsToken<T> + Drop>(set: S, token: T) -> bool
     requires { S.askable set }
-    ensures { S.tells set token result }
+    ensures { S.may_answer set token result }
 {
     set.contains_token(token)
 }
@@ -19,7 +19,7 @@ fn holds<T, S: ContainsToken<T> + Drop>(set: S, token: T) -> bool
 // A set of a script asked through its bound.
 fn script_holds<T, S: ScriptSet<T> + Drop>(set: S, token: T) -> bool
     requires { S.askable set }
-    ensures { S.tells set token result }
+    ensures { S.may_answer set token result }
 {
     set.holds(token)
 }

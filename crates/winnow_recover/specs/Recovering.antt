@@ -4,8 +4,8 @@ use Rattle.winnow_recover.specs.declared.recoverable.Recoverable.{Recoverable}
 
 module _ {I E : Type 0} where
   -- the stream inside
-  abbrev pub recovering_input : Recoverable I E → I
-  recovering_input s = s.input
+  abbrev pub recoverable_inner : Recoverable I E → I
+  recoverable_inner s = s.input
 
   -- the errors recorded so far, in their order
   abbrev pub recorded_errors : Recoverable I E → List E

@@ -1,7 +1,7 @@
 ghost use Rattle.std.specs.Prelude.{◌≡◌, false, not, ◌||◌, is_some, [], refl, true, IsTrue};
 ghost use Rattle.std.proofs.Common.{◌∙◌, sym, subst};
 ghost use Rattle.winnow_stream.specs.Checkpoint.{checkpoint_inner};
-ghost use Rattle.winnow_recover.specs.Recovering.{recovering_input, recorded_errors};
+ghost use Rattle.winnow_recover.specs.Recovering.{recoverable_inner, recorded_errors};
 ghost use Rattle.winnow_recover.specs.Recovering.{records_errors, IsSame, Records};
 
 use crate::{RecordError, Recover};
@@ -30,7 +30,7 @@ pub struct Recoverable<I, E> {
 impl<I, E> Recoverable<I, E> {
     /// Returns the stream, with no error yet, which records each error that is not incomplete.
     pub fn new(alloc: Global, input: I) -> Self
-        ensures input { recovering_input result ≡ input }
+        ensures input { recoverable_inner result ≡ input }
         ensures errors { recorded_errors result ≡ [] }
         ensures records { IsTrue (records_errors result) }
     {
@@ -43,7 +43,7 @@ impl<I, E> Recoverable<I, E> {
 
     /// Returns the stream, which records no error.
     pub fn unrecoverable(alloc: Global, input: I) -> Self
-        ensures input { recovering_input result ≡ input }
+        ensures input { recoverable_inner result ≡ input }
         ensures errors { recorded_errors result ≡ [] }
         ensures refuses { records_errors result ≡ false }
     {
@@ -56,14 +56,14 @@ impl<I, E> Recoverable<I, E> {
 
     /// Returns the stream inside.
     pub fn inner(&self) -> &I
-        ensures { result.now ≡ recovering_input self.now }
+        ensures { result.now ≡ recoverable_inner self.now }
     {
         &self.input
     }
 
     /// Returns the stream inside, and the errors in the order in which they were recorded.
     pub fn into_parts(self) -> (I, Vec<E>)
-        ensures input { result.0 ≡ recovering_input self }
+        ensures input { result.0 ≡ recoverable_inner self }
         ensures errors { result.1.items ≡ recorded_errors self }
     {
         let Recoverable {
@@ -78,7 +78,7 @@ impl<I, E> Recoverable<I, E> {
 impl<I, E> Deref for Recoverable<I, E> {
     type Target = I;
 
-    ghost deref_gives = { λ s t. t ≡ (recovering_input s) };
+    ghost deref_gives = { λ s t. t ≡ (recoverable_inner s) };
 
     fn deref(&self) -> &I {
         &self.input
@@ -86,11 +86,11 @@ impl<I, E> Deref for Recoverable<I, E> {
 }
 
 impl<I: Rest, E> Rest for Recoverable<I, E> {
-    ghost rest_width = { λ s. I.rest_width (recovering_input s) };
+    ghost rest_width = { λ s. I.rest_width (recoverable_inner s) };
 
-    ghost same_rest = { λ s t. I.same_rest (recovering_input s) (recovering_input t) };
+    ghost same_rest = { λ s t. I.same_rest (recoverable_inner s) (recoverable_inner t) };
 
-    ghost place = { λ s. I.place (recovering_input s) };
+    ghost location = { λ s. I.location (recoverable_inner s) };
 }
 
 impl<I: Stream, E: Debug> Stream for Recoverable<I, E> {
@@ -102,9 +102,9 @@ impl<I: Stream, E: Debug> Stream for Recoverable<I, E> {
 
     type Checkpoint = Checkpoint<I::Checkpoint, Self>;
 
-    ghost remaining = { λ s. I.remaining (recovering_input s) };
+    ghost remaining = { λ s. I.remaining (recoverable_inner s) };
 
-    ghost valid = { λ s. I.valid (recovering_input s) };
+    ghost valid = { λ s. I.valid (recoverable_inner s) };
 
     ghost remained = { λ c. I.remained (checkpoint_inner c) };
 
@@ -117,20 +117,20 @@ impl<I: Stream, E: Debug> Stream for Recoverable<I, E> {
     ghost keeps = { λ s t. (recorded_errors s ≡ recorded_errors t)
         × (records_errors s ≡ records_errors t) × I.keeps s.input t.input };
 
-    ghost positive_widths = { λ s. I.positive_widths (recovering_input s) };
+    ghost positive_widths = { λ s. I.positive_widths (recoverable_inner s) };
 
     ghost positive_widths_remained = { λ c. I.positive_widths_remained (checkpoint_inner c) };
 
-    ghost rest_width_remaining = { λ s. I.rest_width_remaining (recovering_input s) };
+    ghost rest_width_remaining = { λ s. I.rest_width_remaining (recoverable_inner s) };
 
     ghost rest_width_remained = { λ c. I.rest_width_remained (checkpoint_inner c) };
 
     ghost same_rest_remaining = { λ s t.
-        I.same_rest_remaining (recovering_input s) (recovering_input t) };
+        I.same_rest_remaining (recoverable_inner s) (recoverable_inner t) };
 
-    ghost same_rest_valid = { λ s t. I.same_rest_valid (recovering_input s) (recovering_input t) };
+    ghost same_rest_valid = { λ s t. I.same_rest_valid (recoverable_inner s) (recoverable_inner t) };
 
-    ghost keeps_reflexive = { λ s. (refl, refl, I.keeps_reflexive (recovering_input s)) };
+    ghost keeps_reflexive = { λ s. (refl, refl, I.keeps_reflexive (recoverable_inner s)) };
 
     ghost keeps_transitive = { λ s t u p q.
         (p.0 ∙ q.0, p.1 ∙ q.1, I.keeps_transitive s.input t.input u.input p.2 q.2) };
@@ -237,7 +237,7 @@ where
 }
 
 impl<I: Offset<I>, E> Offset<Self> for Recoverable<I, E> {
-    ghost can_measure = { λ s start. I.can_measure (recovering_input s) (recovering_input start) };
+    ghost can_measure = { λ s start. I.can_measure (recoverable_inner s) (recoverable_inner start) };
 
     fn offset_from(&self, start: &Self) -> usize {
         self.input.offset_from(&start.input)
@@ -245,7 +245,7 @@ impl<I: Offset<I>, E> Offset<Self> for Recoverable<I, E> {
 }
 
 impl<I: Offset<C>, E, C: Rest> Offset<Checkpoint<C, Self>> for Recoverable<I, E> {
-    ghost can_measure = { λ s start. I.can_measure (recovering_input s) (checkpoint_inner start) };
+    ghost can_measure = { λ s start. I.can_measure (recoverable_inner s) (checkpoint_inner start) };
 
     fn offset_from(&self, start: &Checkpoint<C, Self>) -> usize {
         self.input.offset_from(start.inner())
@@ -253,9 +253,9 @@ impl<I: Offset<C>, E, C: Rest> Offset<Checkpoint<C, Self>> for Recoverable<I, E>
 }
 
 impl<I: SliceLen, E> SliceLen for Recoverable<I, E> {
-    ghost has_width = { λ s. I.has_width (recovering_input s) };
+    ghost has_width = { λ s. I.has_width (recoverable_inner s) };
 
-    ghost width_of = { λ s. I.width_of (recovering_input s) };
+    ghost width_of = { λ s. I.width_of (recoverable_inner s) };
 
     fn slice_len(&self) -> usize {
         self.input.slice_len()
@@ -278,9 +278,9 @@ impl<I: UpdateSlice, E: Debug> UpdateSlice for Recoverable<I, E> {
 }
 
 impl<I: Location, E> Location for Recoverable<I, E> {
-    ghost token_end = { λ s. I.token_end (recovering_input s) };
+    ghost token_end = { λ s. I.token_end (recoverable_inner s) };
 
-    ghost token_start = { λ s. I.token_start (recovering_input s) };
+    ghost token_start = { λ s. I.token_start (recoverable_inner s) };
 
     fn previous_token_end(&self) -> usize {
         self.input.previous_token_end()
@@ -292,7 +292,7 @@ impl<I: Location, E> Location for Recoverable<I, E> {
 }
 
 impl<I: AsBytes, E> AsBytes for Recoverable<I, E> {
-    ghost bytes = { λ s. I.bytes (recovering_input s) };
+    ghost bytes = { λ s. I.bytes (recoverable_inner s) };
 
     fn as_bytes(&self) -> &[u8] {
         self.input.as_bytes()
@@ -300,7 +300,7 @@ impl<I: AsBytes, E> AsBytes for Recoverable<I, E> {
 }
 
 impl<I: AsBStr, E> AsBStr for Recoverable<I, E> {
-    ghost text_bytes = { λ s. I.text_bytes (recovering_input s) };
+    ghost text_bytes = { λ s. I.text_bytes (recoverable_inner s) };
 
     fn as_bstr(&self) -> &[u8] {
         self.input.as_bstr()
@@ -312,16 +312,16 @@ impl<I: StreamIsPartial, E> StreamIsPartial for Recoverable<I, E> {
 
     ghost supports_partial = { I.supports_partial };
 
-    ghost partial_state = { λ s. I.partial_state (recovering_input s) };
+    ghost partial_state = { λ s. I.partial_state (recoverable_inner s) };
 
-    ghost expects_more = { λ s. I.expects_more (recovering_input s) };
+    ghost expects_more = { λ s. I.expects_more (recoverable_inner s) };
 
-    ghost same_but_mark = { λ s t. (recorded_errors s ≡ recorded_errors t)
-        × (records_errors s ≡ records_errors t) × I.same_but_mark s.input t.input };
+    ghost same_but_flag = { λ s t. (recorded_errors s ≡ recorded_errors t)
+        × (records_errors s ≡ records_errors t) × I.same_but_flag s.input t.input };
 
-    ghost mark_tells = { λ s t. I.mark_tells (recovering_input s) (recovering_input t) };
+    ghost flag_decides = { λ s t. I.flag_decides (recoverable_inner s) (recoverable_inner t) };
 
-    ghost no_mark = { λ unsupported s. I.no_mark unsupported (recovering_input s) };
+    ghost no_flag = { λ unsupported s. I.no_flag unsupported (recoverable_inner s) };
 
     fn complete(&mut self) -> I::PartialState {
         self.input.complete()
@@ -360,9 +360,9 @@ impl<I: FindSlice<T>, E: Debug, T> FindSlice<T> for Recoverable<I, E> {
 
 /// As the stream inside, under the options of a hole too.
 impl<I: fmt::Display, E> fmt::Display for Recoverable<I, E> {
-    ghost output = { λ s. I.output (recovering_input s) };
+    ghost output = { λ s. I.output (recoverable_inner s) };
 
-    ghost styled_output = { λ s. I.styled_output (recovering_input s) };
+    ghost styled_output = { λ s. I.styled_output (recoverable_inner s) };
 
     fn fmt<W: fmt::Write>(&self, f: &mut fmt::Formatter<W>) -> fmt::Result {
         self.input.fmt(f)

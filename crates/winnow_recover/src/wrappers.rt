@@ -1,8 +1,8 @@
 //! Wrappers that record nothing, also round a stream that does: only the outermost `Recoverable` is asked.
 ghost use Rattle.std.specs.Prelude.{true, false, refl};
 ghost use Rattle.std.proofs.Common.{sym, ap, subst};
-ghost use Rattle.winnow_wrap.specs.Located.{located_input, located_start};
-ghost use Rattle.winnow_wrap.specs.Mark.{unmarked, mark};
+ghost use Rattle.winnow_wrap.specs.Located.{locating_inner, located_start};
+ghost use Rattle.winnow_wrap.specs.Flag.{partial_inner, flag};
 
 use crate::{RecordError, Recover};
 use std::fmt::Debug;
@@ -51,8 +51,8 @@ where
 
     ghost unchanged_keeps = { λ s t same. (
       ap located_start (sym same),
-      subst (λ u. I.keeps (located_input s) (located_input u)) (sym same)
-          (I.keeps_reflexive (located_input s)),
+      subst (λ u. I.keeps (locating_inner s) (locating_inner u)) (sym same)
+          (I.keeps_reflexive (locating_inner s)),
     ) };
 
     fn record_err(
@@ -107,9 +107,9 @@ impl<I: Recover<E>, E> Recover<E> for Partial<I> {
     ghost refuses_unsupported = { λ _ _ _. refl };
 
     ghost unchanged_keeps = { λ s t same. (
-      ap mark (sym same),
-      subst (λ u. I.keeps (unmarked s) (unmarked u)) (sym same)
-          (I.keeps_reflexive (unmarked s)),
+      ap flag (sym same),
+      subst (λ u. I.keeps (partial_inner s) (partial_inner u)) (sym same)
+          (I.keeps_reflexive (partial_inner s)),
     ) };
 
     fn record_err(

@@ -1,7 +1,7 @@
 ghost use Rattle.std.specs.Prelude.{◌≡◌, OnOk, OnErr, Err, false, [], ◌∷◌, ◌++◌};
 ghost use Rattle.winnow_recover.specs.declared.record_error.RecordError.TheVariants.{Refused};
 ghost use Rattle.winnow_recover.specs.declared.recoverable.Recoverable.{Recoverable};
-ghost use Rattle.winnow_recover.specs.Recovering.{recovering_input, recorded_errors};
+ghost use Rattle.winnow_recover.specs.Recovering.{recoverable_inner, recorded_errors};
 ghost use Rattle.winnow_recover.specs.Recovering.{records_errors, IsSame, Records};
 ghost use Rattle.winnow_stream.specs.declared.checkpoint.Checkpoint.{Checkpoint};
 
@@ -18,7 +18,7 @@ use winnow_recover::{RecordError, Recover, Recoverable};
 use winnow_stream::{
     AsBStr, AsBytes, Location, Needed, Offset, SliceLen, Stream, StreamIsPartial, UpdateSlice,
 };
-use winnow_test_helpers::{marks, seen, width_from};
+use winnow_test_helpers::{flags, seen, width_from};
 use winnow_views::{Bits, TokenSlice, bit_source_law};
 use winnow_wrap::{LocatingSlice, Partial, Stateful};
 
@@ -53,10 +53,10 @@ where
     I: Stream,
     E: ParserError<Recoverable<I, R>>,
     R: FromRecoverableError<Recoverable<I, R>, E> + Debug,
-    requires { I.valid (recovering_input s.old) }
+    requires { I.valid (recoverable_inner s.old) }
     ensures ok { OnOk result ((e : R) × (recorded_errors s.new ≡ recorded_errors s.old ++ e ∷ [])) }
     ensures err { OnErr result (recorded_errors s.new ≡ recorded_errors s.old) }
-    ensures input { recovering_input s.new ≡ recovering_input s.old }
+    ensures input { recoverable_inner s.new ≡ recoverable_inner s.old }
     ensures kind { records_errors s.new ≡ records_errors s.old }
 {
     let here = s.checkpoint();
@@ -87,14 +87,14 @@ where
 // So it is with the calls that are passed on.
 fn passed_on_law<I: StreamIsPartial + Display, E>()
     ensures errors_stay { (s t : Recoverable I E)
-        → ⟦<Recoverable<I, E> as StreamIsPartial>⟧.same_but_mark s t
+        → ⟦<Recoverable<I, E> as StreamIsPartial>⟧.same_but_flag s t
         → recorded_errors s ≡ recorded_errors t }
     ensures kind_stays { (s t : Recoverable I E)
-        → ⟦<Recoverable<I, E> as StreamIsPartial>⟧.same_but_mark s t
+        → ⟦<Recoverable<I, E> as StreamIsPartial>⟧.same_but_flag s t
         → records_errors s ≡ records_errors t }
     ensures inside_stays { (s t : Recoverable I E)
-        → ⟦<Recoverable<I, E> as StreamIsPartial>⟧.same_but_mark s t
-        → I.same_but_mark s.input t.input }
+        → ⟦<Recoverable<I, E> as StreamIsPartial>⟧.same_but_flag s t
+        → I.same_but_flag s.input t.input }
     ensures text { (s : Recoverable I E)
         → ⟦<Recoverable<I, E> as Display>⟧.output s ≡ I.output s.input }
     ensures inside { (s : Recoverable I E) (t : I) → ⟦<Recoverable<I, E> as Deref>⟧.deref_gives s t
@@ -203,10 +203,10 @@ fn plain_streams_refuse(rt: HostRuntime) {
     );
 }
 
-// Whether a state, a place and a mark round a stream that records refuse its errors.
+// Whether a state, a place and a flag round a stream that records refuse its errors.
 fn wrappers_refuse<I: Stream + StreamIsPartial + Drop>(alloc: Global, input: I) -> [bool; 3]
     requires valid { I.valid input }
-    requires unmarked { I.supports_partial ≡ false }
+    requires no_flag { I.supports_partial ≡ false }
 {
     let inside: Recoverable<I, Mode> = Recoverable::new(alloc, input);
     let mut s = Stateful {
@@ -215,8 +215,8 @@ fn wrappers_refuse<I: Stream + StreamIsPartial + Drop>(alloc: Global, input: I) 
     };
     let mode: Mode = Backtrack(EmptyError);
     let (state, place) = (refuses(&mut s, mode), refuses(&mut s.input, mode));
-    let mut marked = Partial::new(s);
-    [state, place, refuses(&mut marked, mode)]
+    let mut flagged = Partial::new(s);
+    [state, place, refuses(&mut flagged, mode)]
 }
 
 // Whether a state round a stream that records refuses its error, and how many errors were recorded.
@@ -248,7 +248,7 @@ fn wrappers_refuse_also_round_one_that_records(rt: HostRuntime) {
             refuses(&mut Bits::new(inside), mode)
         ),
         ([true; 3], (true, 0), true),
-        "a state, a place, a mark; a state; bits"
+        "a state, a place, a flag; a state; bits"
     );
 }
 
@@ -304,7 +304,7 @@ fn every_call_is_passed_on(rt: HostRuntime) -> Result<(), Fail> {
         (
             searched(alloc, "abcd"),
             window_inside(alloc, "abcd", 2),
-            marks(&mut s)
+            flags(&mut s)
         ),
         (
             (CompareResult::Error, Some(2..3)),

@@ -4,7 +4,7 @@ use Rattle.std.specs.List.{AllZip}
 use Rattle.std.specs.Global.{Vec}
 use Rattle.winnow_stream.specs.Source.{Source, width, HasPositiveWidths}
 use Rattle.winnow_stream.specs.Cursor.{Cursor, place}
-use Rattle.winnow_stream.specs.Place.{place_behind}
+use Rattle.winnow_stream.specs.Location.{location_behind}
 use Rattle.winnow_stream.specs.declared.needed.Needed.{Needed}
 use Rattle.winnow_run.specs.Marks.{places_of, HasRoom}
 use Rattle.winnow_run.specs.Script.{step_next, IsAnswer}
@@ -66,17 +66,17 @@ IsInReach _ here = ⊤
 
 -- the answer is the step's, at whatever cursor the run stands
 abbrev pub AnswersStep : {C T S : Type 0} → (C → T → Bool → Type 0) → (S → Source T → ℕ → Type 0) → Bool → Step C → RunState T → Answer T S (Vec (ℕ × T)) Needed → Type 0
-AnswersStep {C} {T} tells is_slice counts_missing step here given =
-    (all : Source T) (at : Cursor) → StandsAt here all at → IsAnswer tells is_slice counts_missing all step at given
+AnswersStep {C} {T} may_answer is_slice counts_missing step here given =
+    (all : Source T) (at : Cursor) → StandsAt here all at → IsAnswer may_answer is_slice counts_missing all step at given
 
 -- after the step the run stands where the step leaves the cursor, whatever cursor it stood at
 abbrev pub StandsAfter : {C T : Type 0} → Step C → RunState T → RunState T → Type 0
 StandsAfter {C} {T} step here there = (all : Source T) (at : Cursor) → StandsAt here all at → StandsAt there all (step_next all step at)
 
 -- in the whole input, the origin and the stream are as far behind the place of the list's start as the run says
-abbrev pub ArePlaced : {T : Type 0} → Option ℕ → RunState T → Option ℕ → Option ℕ → Type 0
-ArePlaced whole here origin place = (origin ≡ place_behind whole here.base) × (place ≡ place_behind whole (here.end - width here.rest))
+abbrev pub AreLocated : {T : Type 0} → Option ℕ → RunState T → Option ℕ → Option ℕ → Type 0
+AreLocated whole here origin place = (origin ≡ location_behind whole here.base) × (place ≡ location_behind whole (here.end - width here.rest))
 
 -- so they are after a step, if they were before it
-abbrev pub StayPlaced : {T : Type 0} → Option ℕ → RunState T → Option ℕ → RunState T → Option ℕ → Type 0
-StayPlaced origin here from there to = (whole : Option ℕ) → ArePlaced whole here origin from → ArePlaced whole there origin to
+abbrev pub StayLocated : {T : Type 0} → Option ℕ → RunState T → Option ℕ → RunState T → Option ℕ → Type 0
+StayLocated origin here from there to = (whole : Option ℕ) → AreLocated whole here origin from → AreLocated whole there origin to

@@ -87,12 +87,12 @@ module _ {T S : Type 0} (is_slice : S → Source T → ℕ → Type 0) (all : So
 
 -- `holds` is what the set that a step names, if any, answers
 abbrev pub SetComputes : {C T : Type 0} → (C → T → Bool → Type 0) → (C → T → Bool) → Step C → Type 0
-SetComputes tells holds (step.First c) = Computes (tells c) (holds c)
-SetComputes tells holds _ = ⊤
+SetComputes may_answer holds (step.First c) = Computes (may_answer c) (holds c)
+SetComputes may_answer holds _ = ⊤
 
 -- `holds` is what each set answers that a script names
 abbrev pub SetsCompute : {C T : Type 0} → (C → T → Bool → Type 0) → (C → T → Bool) → List (Step C) → Type 0
-SetsCompute tells holds script = All (SetComputes tells holds) script
+SetsCompute may_answer holds script = All (SetComputes may_answer holds) script
 
 -- each step was given an answer, in order, at the cursor that the steps before it left
 module _ {S G : Type 0} (IsGiven : S → Cursor → G → Type 0) (moves : S → Cursor → Cursor) where
@@ -104,13 +104,13 @@ module _ {S G : Type 0} (IsGiven : S → Cursor → G → Type 0) (moves : S →
 
 -- an answer that was given stands for the one that the step tells of, whatever the set holds that it names
 abbrev pub IsAnswer : {C T S : Type 0} → (C → T → Bool → Type 0) → (S → Source T → ℕ → Type 0) → Bool → Source T → Step C → Cursor → Answer T S (Vec (ℕ × T)) Needed → Type 0
-IsAnswer {C} {T} tells is_slice counts_missing all step at given =
-    (holds : C → T → Bool) → SetComputes tells holds step → StandsFor is_slice all (step_answer holds counts_missing all step at) given
+IsAnswer {C} {T} may_answer is_slice counts_missing all step at given =
+    (holds : C → T → Bool) → SetComputes may_answer holds step → StandsFor is_slice all (step_answer holds counts_missing all step at) given
 
 -- so does each answer of a script; one over a set that does not compute leaves the others as they are
 abbrev pub AreAnswers : {C T S : Type 0} → (C → T → Bool → Type 0) → (S → Source T → ℕ → Type 0) → Bool → Source T → List (Step C) → List (Answer T S (Vec (ℕ × T)) Needed) → Type 0
-AreAnswers tells is_slice counts_missing all script given =
-    AreGiven (IsAnswer tells is_slice counts_missing all) (step_next all) script start given
+AreAnswers may_answer is_slice counts_missing all script given =
+    AreGiven (IsAnswer may_answer is_slice counts_missing all) (step_next all) script start given
 
 -- the set that a step names, if any, may be asked
 abbrev pub IsReady : {C : Type 0} → (C → Type 0) → Step C → Type 0

@@ -58,9 +58,9 @@ module _ {T S : Type 0} (is_slice : S → Source T → ℕ → Type 0) (all : So
 
 -- `holds` is what the set that a step names, if any, answers
 abbrev pub SearchComputes : {C T L : Type 0} → (C → T → Bool → Type 0) → (C → T → Bool) → SearchStep C L → Type 0
-SearchComputes tells holds (step.Call call) = SetComputes tells holds call
-SearchComputes tells holds (step.Compare literal) = ⊤
-SearchComputes tells holds (step.Find needles) = ⊤
+SearchComputes may_answer holds (step.Call call) = SetComputes may_answer holds call
+SearchComputes may_answer holds (step.Compare literal) = ⊤
+SearchComputes may_answer holds (step.Find needles) = ⊤
 
 -- the set that a step names, if any, may be asked
 abbrev pub IsSearchReady : {C L : Type 0} → (C → Type 0) → SearchStep C L → Type 0
@@ -78,13 +78,13 @@ stream_kind holds counts_missing compared found = record { holds = holds; counts
 
 -- an answer that was given stands for the one that the step tells of, whatever the set holds that it names
 abbrev pub IsSearchAnswer : {C T S L : Type 0} → (C → T → Bool → Type 0) → (S → Source T → ℕ → Type 0) → Bool → (L → Source T → CompareResult) → (Needles L → Source T → Option (Range ℕ)) → Source T → SearchStep C L → Cursor → SearchAnswer T S (Vec (ℕ × T)) → Type 0
-IsSearchAnswer {C} {T} tells is_slice counts_missing compared found all step at given =
-    (holds : C → T → Bool) → SearchComputes tells holds step → SearchStandsFor is_slice all (search_answer (stream_kind holds counts_missing compared found) all step at) given
+IsSearchAnswer {C} {T} may_answer is_slice counts_missing compared found all step at given =
+    (holds : C → T → Bool) → SearchComputes may_answer holds step → SearchStandsFor is_slice all (search_answer (stream_kind holds counts_missing compared found) all step at) given
 
 -- so does each answer of a script; one over a set that does not compute leaves the others as they are
 abbrev pub AreSearchAnswers : {C T S L : Type 0} → (C → T → Bool → Type 0) → (S → Source T → ℕ → Type 0) → Bool → (L → Source T → CompareResult) → (Needles L → Source T → Option (Range ℕ)) → Source T → List (SearchStep C L) → List (SearchAnswer T S (Vec (ℕ × T))) → Type 0
-AreSearchAnswers tells is_slice counts_missing compared found all script given =
-    AreGiven (IsSearchAnswer tells is_slice counts_missing compared found all) (search_next all) script start given
+AreSearchAnswers may_answer is_slice counts_missing compared found all script given =
+    AreGiven (IsSearchAnswer may_answer is_slice counts_missing compared found all) (search_next all) script start given
 
 -- what a script leaves of a list
 abbrev pub rest_after_search : {C T L : Type 0} → Source T → List (SearchStep C L) → Source T
@@ -98,8 +98,8 @@ IsSearchInReach (step.Find needles) here = ⊤
 
 -- the answer is the step's, at whatever cursor the run stands
 abbrev pub AnswersSearchStep : {C T S L : Type 0} → (C → T → Bool → Type 0) → (S → Source T → ℕ → Type 0) → Bool → (L → Source T → CompareResult) → (Needles L → Source T → Option (Range ℕ)) → SearchStep C L → RunState T → SearchAnswer T S (Vec (ℕ × T)) → Type 0
-AnswersSearchStep {C} {T} tells is_slice counts_missing compared found step here given =
-    (all : Source T) (at : Cursor) → StandsAt here all at → IsSearchAnswer tells is_slice counts_missing compared found all step at given
+AnswersSearchStep {C} {T} may_answer is_slice counts_missing compared found step here given =
+    (all : Source T) (at : Cursor) → StandsAt here all at → IsSearchAnswer may_answer is_slice counts_missing compared found all step at given
 
 -- after the step the run stands where the step leaves the cursor, whatever cursor it stood at
 abbrev pub StandsAfterSearchStep : {C T L : Type 0} → SearchStep C L → RunState T → RunState T → Type 0

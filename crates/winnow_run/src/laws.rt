@@ -21,9 +21,9 @@ where
     requires valid { S.valid s.old }
     requires ready { AreReady C.askable script.now }
     ensures answers { IfOk result (λ out.
-        AreAnswers C.tells S.is_slice S.counts_missing (S.remaining s.old) script.now out.items) }
+        AreAnswers C.may_answer S.is_slice S.counts_missing (S.remaining s.old) script.now out.items) }
     ensures remains { S.remaining s.new ≡ S.remaining s.old }
-    ensures place { S.place s.new ≡ S.place s.old }
+    ensures location { S.location s.new ≡ S.location s.old }
     ensures valid { S.valid s.new }
     ensures kept { S.keeps s.old s.new }
 {
@@ -36,8 +36,8 @@ where
 /// The law of a whole script: where every set that it names computes, the answers that [`run`] gives are, one by one, those of the
 /// script. It does nothing when called: its contract is the law.
 pub fn answers_law<S: Stream, C: ScriptSet<S::Token>>()
-    ensures { (holds : _) (all : _) (script : _) (out : _) → SetsCompute C.tells holds script
-        → AreAnswers C.tells S.is_slice S.counts_missing all script out
+    ensures { (holds : _) (all : _) (script : _) (out : _) → SetsCompute C.may_answer holds script
+        → AreAnswers C.may_answer S.is_slice S.counts_missing all script out
         → AllZip (StandsFor S.is_slice all) (answers holds S.counts_missing all script) out }
 {}
 

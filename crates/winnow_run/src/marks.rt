@@ -80,7 +80,7 @@ impl<K> Origin<K> {
         requires fits { width (S.remaining s.now) ≤ end }
         ensures means { S.remained result.checkpoint ≡ S.remaining s.now }
         ensures valid { S.valid_checkpoint result.checkpoint }
-        ensures located { K.place result.checkpoint ≡ S.place s.now }
+        ensures located { K.location result.checkpoint ≡ S.location s.now }
         ensures place { result.place ≡ end - width (S.remaining s.now) }
         ensures end { result.end ≡ end }
     {

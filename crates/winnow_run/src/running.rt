@@ -1,6 +1,6 @@
 ghost use Rattle.std.specs.Prelude.{◌≡◌, ◌-◌, IfOk, OnErr, OnOk};
 ghost use Rattle.winnow_stream.specs.Source.{width};
-ghost use Rattle.winnow_stream.specs.Place.{place_behind};
+ghost use Rattle.winnow_stream.specs.Location.{location_behind};
 ghost use Rattle.winnow_run.specs.Script.{rest_after, AreAnswers, AreReady};
 
 use crate::{Answer, Marks, Origin, Step, answer_step};
@@ -23,12 +23,13 @@ where
     requires valid { S.valid s.old }
     requires ready { AreReady C.askable script.now }
     ensures answers { IfOk result (λ out.
-        AreAnswers C.tells S.is_slice S.counts_missing (S.remaining s.old) script.now out.items) }
+        AreAnswers C.may_answer S.is_slice S.counts_missing (S.remaining s.old) script.now out.items) }
     ensures remains { OnOk result (S.remaining s.new ≡ rest_after (S.remaining s.old) script.now) }
-    ensures place { OnOk result (S.place s.new
-        ≡ place_behind (S.place s.old) (width (S.remaining s.old) - width (S.remaining s.new))) }
+    ensures location { OnOk result (S.location s.new
+        ≡ location_behind (S.location s.old)
+        (width (S.remaining s.old) - width (S.remaining s.new))) }
     ensures refused { OnErr result (S.remaining s.new ≡ S.remaining s.old) }
-    ensures stays { OnErr result (S.place s.new ≡ S.place s.old) }
+    ensures stays { OnErr result (S.location s.new ≡ S.location s.old) }
     ensures valid { S.valid s.new }
     ensures kept { S.keeps s.old s.new }
 {
@@ -52,10 +53,11 @@ where
     requires valid { S.valid s.old }
     requires ready { AreReady C.askable script.now }
     ensures answers { IfOk result (λ out.
-        AreAnswers C.tells S.is_slice S.counts_missing (S.remaining s.old) script.now out.items) }
+        AreAnswers C.may_answer S.is_slice S.counts_missing (S.remaining s.old) script.now out.items) }
     ensures remains { OnOk result (S.remaining s.new ≡ rest_after (S.remaining s.old) script.now) }
-    ensures place { OnOk result (S.place s.new
-        ≡ place_behind (S.place s.old) (width (S.remaining s.old) - width (S.remaining s.new))) }
+    ensures location { OnOk result (S.location s.new
+        ≡ location_behind (S.location s.old)
+        (width (S.remaining s.old) - width (S.remaining s.new))) }
     ensures valid { S.valid s.new }
     ensures kept { S.keeps s.old s.new }
 {

@@ -1,10 +1,10 @@
 ghost use Rattle.std.specs.Prelude.{◌≡◌, ◌-◌, IfOk, OnErr, OnOk};
 ghost use Rattle.winnow_stream.specs.Source.{width};
-ghost use Rattle.winnow_stream.specs.Place.{place_behind};
+ghost use Rattle.winnow_stream.specs.Location.{location_behind};
 ghost use Rattle.winnow_run.specs.Searching.{rest_after_search, AreSearchAnswers, IsSearchReady};
 ghost use Rattle.winnow_run.specs.Searching.{AreSearchReady, IsSearchInReach, AnswersSearchStep};
 ghost use Rattle.winnow_run.specs.Searching.{StandsAfterSearchStep};
-ghost use Rattle.winnow_run.specs.RunState.{run_state, StandsSomewhere, StayPlaced};
+ghost use Rattle.winnow_run.specs.RunState.{run_state, StandsSomewhere, StayLocated};
 
 use crate::{Marks, Origin, SearchAnswer, SearchStep, answer_step};
 use std::alloc::{AllocError, Global};
@@ -26,14 +26,15 @@ where
     requires valid { S.valid s.old }
     requires ready { AreSearchReady C.askable script.now }
     ensures answers { IfOk result (λ out.
-        AreSearchAnswers C.tells S.is_slice S.counts_missing S.compared S.found
+        AreSearchAnswers C.may_answer S.is_slice S.counts_missing S.compared S.found
         (S.remaining s.old) script.now out.items) }
     ensures remains { OnOk result
         (S.remaining s.new ≡ rest_after_search (S.remaining s.old) script.now) }
-    ensures place { OnOk result (S.place s.new
-        ≡ place_behind (S.place s.old) (width (S.remaining s.old) - width (S.remaining s.new))) }
+    ensures location { OnOk result (S.location s.new
+        ≡ location_behind (S.location s.old)
+        (width (S.remaining s.old) - width (S.remaining s.new))) }
     ensures refused { OnErr result (S.remaining s.new ≡ S.remaining s.old) }
-    ensures stays { OnErr result (S.place s.new ≡ S.place s.old) }
+    ensures stays { OnErr result (S.location s.new ≡ S.location s.old) }
     ensures valid { S.valid s.new }
     ensures kept { S.keeps s.old s.new }
 {
@@ -57,12 +58,13 @@ where
     requires valid { S.valid s.old }
     requires ready { AreSearchReady C.askable script.now }
     ensures answers { IfOk result (λ out.
-        AreSearchAnswers C.tells S.is_slice S.counts_missing S.compared S.found
+        AreSearchAnswers C.may_answer S.is_slice S.counts_missing S.compared S.found
         (S.remaining s.old) script.now out.items) }
     ensures remains { OnOk result
         (S.remaining s.new ≡ rest_after_search (S.remaining s.old) script.now) }
-    ensures place { OnOk result (S.place s.new
-        ≡ place_behind (S.place s.old) (width (S.remaining s.old) - width (S.remaining s.new))) }
+    ensures location { OnOk result (S.location s.new
+        ≡ location_behind (S.location s.old)
+        (width (S.remaining s.old) - width (S.remaining s.new))) }
     ensures valid { S.valid s.new }
     ensures kept { S.keeps s.old s.new }
 {
@@ -98,14 +100,14 @@ where
     requires reach { IsSearchInReach step.now
         (run_state S.remained origin.now (S.remaining s.old) marks.old) }
     ensures answer { IfOk result
-        (AnswersSearchStep C.tells S.is_slice S.counts_missing S.compared S.found
+        (AnswersSearchStep C.may_answer S.is_slice S.counts_missing S.compared S.found
         step.now (run_state S.remained origin.now (S.remaining s.old) marks.old)) }
     ensures stands { OnOk result (StandsAfterSearchStep step.now
         (run_state S.remained origin.now (S.remaining s.old) marks.old)
         (run_state S.remained origin.now (S.remaining s.new) marks.new)) }
-    ensures place { StayPlaced (S.Checkpoint.place origin.now.checkpoint)
-        (run_state S.remained origin.now (S.remaining s.old) marks.old) (S.place s.old)
-        (run_state S.remained origin.now (S.remaining s.new) marks.new) (S.place s.new) }
+    ensures location { StayLocated (S.Checkpoint.location origin.now.checkpoint)
+        (run_state S.remained origin.now (S.remaining s.old) marks.old) (S.location s.old)
+        (run_state S.remained origin.now (S.remaining s.new) marks.new) (S.location s.new) }
     ensures valid { S.valid s.new }
     ensures kept { S.keeps s.old s.new }
 {

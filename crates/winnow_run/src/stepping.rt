@@ -2,7 +2,7 @@ ghost use Rattle.std.specs.Prelude.{◌≡◌, ◌≤◌, IfOk, IsOk, OnErr, OnO
 ghost use Rattle.winnow_run.specs.Marks.{room_of};
 ghost use Rattle.winnow_run.specs.Script.{IsReady};
 ghost use Rattle.winnow_run.specs.RunState.{run_state, StandsSomewhere, IsInReach, TakesNoMemory};
-ghost use Rattle.winnow_run.specs.RunState.{AnswersStep, StandsAfter, StayPlaced};
+ghost use Rattle.winnow_run.specs.RunState.{AnswersStep, StandsAfter, StayLocated};
 
 use crate::{Answer, Marks, Origin, Step};
 use std::alloc::{AllocError, Global};
@@ -32,14 +32,14 @@ where
         (run_state S.remained origin.now (S.remaining s.old) marks.old) }
     requires reach { IsInReach step.now
         (run_state S.remained origin.now (S.remaining s.old) marks.old) }
-    ensures answer { IfOk result (AnswersStep C.tells S.is_slice S.counts_missing
+    ensures answer { IfOk result (AnswersStep C.may_answer S.is_slice S.counts_missing
         step.now (run_state S.remained origin.now (S.remaining s.old) marks.old)) }
     ensures stands { OnOk result (StandsAfter step.now
         (run_state S.remained origin.now (S.remaining s.old) marks.old)
         (run_state S.remained origin.now (S.remaining s.new) marks.new)) }
-    ensures place { StayPlaced (S.Checkpoint.place origin.now.checkpoint)
-        (run_state S.remained origin.now (S.remaining s.old) marks.old) (S.place s.old)
-        (run_state S.remained origin.now (S.remaining s.new) marks.new) (S.place s.new) }
+    ensures location { StayLocated (S.Checkpoint.location origin.now.checkpoint)
+        (run_state S.remained origin.now (S.remaining s.old) marks.old) (S.location s.old)
+        (run_state S.remained origin.now (S.remaining s.new) marks.new) (S.location s.new) }
     ensures refused { OnErr result (run_state S.remained origin.now (S.remaining s.new) marks.new
         ≡ run_state S.remained origin.now (S.remaining s.old) marks.old) }
     ensures sure { TakesNoMemory step.now marks.old → IsOk result }

@@ -63,7 +63,7 @@ fn is_in_ranges(ranges: &[(char, char)], c: char) -> bool
 }
 
 impl<T: AsChar> ContainsToken<T> for CharSet<'_> {
-    ghost tells = { λ set token b. b ≡ in_ranges (char_ranges set) (T.code token) };
+    ghost may_answer = { λ set token b. b ≡ in_ranges (char_ranges set) (T.code token) };
 
     fn contains_token(&self, token: T) -> bool {
         is_in_ranges(self.ranges, token.as_char())
@@ -71,7 +71,7 @@ impl<T: AsChar> ContainsToken<T> for CharSet<'_> {
 }
 
 impl<T: AsChar> ScriptSet<T> for CharSet<'_> {
-    ghost tells = { λ set token b. b ≡ in_ranges (char_ranges set) (T.code token) };
+    ghost may_answer = { λ set token b. b ≡ in_ranges (char_ranges set) (T.code token) };
 
     fn holds(&self, token: T) -> bool {
         self.contains_token(token)

@@ -18,7 +18,7 @@ impl<F> Debug for Where<F> {
 impl<T, F: Fn(T) -> bool> ContainsToken<T> for Where<F> {
     ghost askable = { λ set. F.IsAlwaysCallable set.0 };
 
-    ghost tells = { λ set. F.post set.0 };
+    ghost may_answer = { λ set. F.post set.0 };
 
     fn contains_token(&self, token: T) -> bool {
         (self.0)(token)
@@ -28,7 +28,7 @@ impl<T, F: Fn(T) -> bool> ContainsToken<T> for Where<F> {
 impl<T, F: Fn(T) -> bool> ScriptSet<T> for Where<F> {
     ghost askable = { λ set. F.IsAlwaysCallable set.0 };
 
-    ghost tells = { λ set. F.post set.0 };
+    ghost may_answer = { λ set. F.post set.0 };
 
     fn holds(&self, token: T) -> bool {
         (self.0)(token)

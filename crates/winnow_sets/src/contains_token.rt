@@ -10,17 +10,17 @@ pub trait ContainsToken<T> {
     ghost askable: { Self → Type 0 } = { λ _. ⊤ };
 
     // What it may answer of a token.
-    ghost tells: { Self → T → Bool → Type 0 };
+    ghost may_answer: { Self → T → Bool → Type 0 };
 
     /// Returns whether the token is in the set.
     fn contains_token(&self, token: T) -> bool
         requires { askable self.now }
-        ensures { tells self.now token result };
+        ensures { may_answer self.now token result };
 }
 
 /// The one byte.
 impl ContainsToken<u8> for u8 {
-    ghost tells = { λ byte token b. b ≡ (byte == token) };
+    ghost may_answer = { λ byte token b. b ≡ (byte == token) };
 
     fn contains_token(&self, token: u8) -> bool {
         *self == token
@@ -28,7 +28,7 @@ impl ContainsToken<u8> for u8 {
 }
 
 impl ContainsToken<&u8> for u8 {
-    ghost tells = { λ byte token b. b ≡ (byte == token.now) };
+    ghost may_answer = { λ byte token b. b ≡ (byte == token.now) };
 
     fn contains_token(&self, token: &u8) -> bool {
         *self == *token
@@ -36,7 +36,7 @@ impl ContainsToken<&u8> for u8 {
 }
 
 impl ContainsToken<char> for u8 {
-    ghost tells = { λ byte token b. b ≡ (byte == token) };
+    ghost may_answer = { λ byte token b. b ≡ (byte == token) };
 
     fn contains_token(&self, token: char) -> bool {
         self.as_char() == token
@@ -44,7 +44,7 @@ impl ContainsToken<char> for u8 {
 }
 
 impl ContainsToken<&char> for u8 {
-    ghost tells = { λ byte token b. b ≡ (byte == token.now) };
+    ghost may_answer = { λ byte token b. b ≡ (byte == token.now) };
 
     fn contains_token(&self, token: &char) -> bool {
         self.as_char() == *token
@@ -53,7 +53,7 @@ impl ContainsToken<&char> for u8 {
 
 /// The one character.
 impl<T: AsChar> ContainsToken<T> for char {
-    ghost tells = { λ c token b. b ≡ (c == T.code token) };
+    ghost may_answer = { λ c token b. b ≡ (c == T.code token) };
 
     fn contains_token(&self, token: T) -> bool {
         *self == token.as_char()
@@ -62,7 +62,7 @@ impl<T: AsChar> ContainsToken<T> for char {
 
 /// No token.
 impl<T: Drop> ContainsToken<T> for () {
-    ghost tells = { λ _ _ b. b ≡ false };
+    ghost may_answer = { λ _ _ b. b ≡ false };
 
     fn contains_token(&self, _token: T) -> bool {
         false

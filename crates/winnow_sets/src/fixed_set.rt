@@ -21,7 +21,7 @@ pub trait FixedSet<T>: ContainsToken<T> {
 
     // It answers nothing else.
     ghost answers_only: { (set : Self) (token : T)
-        → AnswersOnly (Self.tells set token) (holds set token) };
+        → AnswersOnly (Self.may_answer set token) (holds set token) };
 }
 
 /// The one byte.

@@ -6,17 +6,18 @@ use crate::ContainsToken;
 /// The law of unions: where each of two sets has one answer of a token, so has their union, and it is `true` where one of
 /// the two is. It does nothing when called: its contract is the law.
 pub fn union_law<T, A: ContainsToken<T>, B: ContainsToken<T>>()
-    ensures { (a : A) (b : B) (token : T) (p q : Bool) → AnswersOnly (A.tells a token) p
-        → AnswersOnly (B.tells b token) q
-        → AnswersOnly (A.tells a token ∪ B.tells b token) (p || q) }
+    ensures { (a : A) (b : B) (token : T) (p q : Bool) → AnswersOnly (A.may_answer a token) p
+        → AnswersOnly (B.may_answer b token) q
+        → AnswersOnly (A.may_answer a token ∪ B.may_answer b token) (p || q) }
 {}
 
 /// The law of unions of three sets, as [`union_law`]. It does nothing when called: its contract is the law.
 pub fn union_of_three_law<T, A: ContainsToken<T>, B: ContainsToken<T>, C: ContainsToken<T>>()
     ensures { (a : A) (b : B) (c : C) (token : T) (p q r : Bool)
-        → AnswersOnly (A.tells a token) p → AnswersOnly (B.tells b token) q
-        → AnswersOnly (C.tells c token) r
-        → AnswersOnly (A.tells a token ∪ B.tells b token ∪ C.tells c token) (p || q || r) }
+        → AnswersOnly (A.may_answer a token) p → AnswersOnly (B.may_answer b token) q
+        → AnswersOnly (C.may_answer c token) r
+        → AnswersOnly (A.may_answer a token ∪ B.may_answer b token ∪ C.may_answer c token)
+        (p || q || r) }
 {}
 
 /// The law of unions of four sets, as [`union_law`]. It does nothing when called: its contract is the law.
@@ -28,8 +29,9 @@ pub fn union_of_four_law<
     D: ContainsToken<T>,
 >()
     ensures { (a : A) (b : B) (c : C) (d : D) (token : T) (p q r s : Bool)
-        → AnswersOnly (A.tells a token) p → AnswersOnly (B.tells b token) q
-        → AnswersOnly (C.tells c token) r → AnswersOnly (D.tells d token) s
-        → AnswersOnly (A.tells a token ∪ B.tells b token ∪ C.tells c token ∪ D.tells d token)
+        → AnswersOnly (A.may_answer a token) p → AnswersOnly (B.may_answer b token) q
+        → AnswersOnly (C.may_answer c token) r → AnswersOnly (D.may_answer d token) s
+        → AnswersOnly (A.may_answer a token ∪ B.may_answer b token ∪ C.may_answer c token
+        ∪ D.may_answer d token)
         (p || q || r || s) }
 {}

@@ -12,7 +12,7 @@ fn has_byte_for(bytes: &[u8], c: char) -> bool
 
 /// The bytes of the slice.
 impl<T: AsChar> ContainsToken<T> for &[u8] {
-    ghost tells = { λ bytes token b. b ≡ is_one_of bytes.now (T.code token) };
+    ghost may_answer = { λ bytes token b. b ≡ is_one_of bytes.now (T.code token) };
 
     fn contains_token(&self, token: T) -> bool {
         has_byte_for(self, token.as_char())
@@ -21,7 +21,7 @@ impl<T: AsChar> ContainsToken<T> for &[u8] {
 
 /// The characters of the slice.
 impl<T: AsChar> ContainsToken<T> for &[char] {
-    ghost tells = { λ chars token b. b ≡ is_one_of chars.now (T.code token) };
+    ghost may_answer = { λ chars token b. b ≡ is_one_of chars.now (T.code token) };
 
     fn contains_token(&self, token: T) -> bool {
         self.contains(&token.as_char())
@@ -30,7 +30,7 @@ impl<T: AsChar> ContainsToken<T> for &[char] {
 
 /// The bytes of the array.
 impl<T: AsChar, const LEN: usize> ContainsToken<T> for [u8; LEN] {
-    ghost tells = { λ bytes token b. b ≡ is_one_of bytes (T.code token) };
+    ghost may_answer = { λ bytes token b. b ≡ is_one_of bytes (T.code token) };
 
     fn contains_token(&self, token: T) -> bool {
         has_byte_for(self, token.as_char())
@@ -39,7 +39,7 @@ impl<T: AsChar, const LEN: usize> ContainsToken<T> for [u8; LEN] {
 
 /// The characters of the array.
 impl<T: AsChar, const LEN: usize> ContainsToken<T> for [char; LEN] {
-    ghost tells = { λ chars token b. b ≡ is_one_of chars (T.code token) };
+    ghost may_answer = { λ chars token b. b ≡ is_one_of chars (T.code token) };
 
     fn contains_token(&self, token: T) -> bool {
         self.contains(&token.as_char())
@@ -48,7 +48,7 @@ impl<T: AsChar, const LEN: usize> ContainsToken<T> for [char; LEN] {
 
 /// The bytes of the array.
 impl<T: AsChar, const LEN: usize> ContainsToken<T> for &[u8; LEN] {
-    ghost tells = { λ bytes token b. b ≡ is_one_of bytes.now (T.code token) };
+    ghost may_answer = { λ bytes token b. b ≡ is_one_of bytes.now (T.code token) };
 
     fn contains_token(&self, token: T) -> bool {
         has_byte_for(*self, token.as_char())
@@ -57,7 +57,7 @@ impl<T: AsChar, const LEN: usize> ContainsToken<T> for &[u8; LEN] {
 
 /// The characters of the array.
 impl<T: AsChar, const LEN: usize> ContainsToken<T> for &[char; LEN] {
-    ghost tells = { λ chars token b. b ≡ is_one_of chars.now (T.code token) };
+    ghost may_answer = { λ chars token b. b ≡ is_one_of chars.now (T.code token) };
 
     fn contains_token(&self, token: T) -> bool {
         self.contains(&token.as_char())

@@ -8,7 +8,7 @@ use std::ops::{Range, RangeFrom, RangeFull, RangeInclusive, RangeTo, RangeToIncl
 
 /// The characters from the first bound up to the second, which is not held.
 impl<T: AsChar, B: AsChar + Copy> ContainsToken<T> for Range<B> {
-    ghost tells = { λ range token b.
+    ghost may_answer = { λ range token b.
         b ≡ is_between (B.code range.start) (B.code range.end) (T.code token) };
 
     fn contains_token(&self, token: T) -> bool {
@@ -19,7 +19,7 @@ impl<T: AsChar, B: AsChar + Copy> ContainsToken<T> for Range<B> {
 
 /// The characters from the first bound up to the second, both held.
 impl<T: AsChar, B: AsChar + Copy> ContainsToken<T> for RangeInclusive<B> {
-    ghost tells = { λ range token b.
+    ghost may_answer = { λ range token b.
         b ≡ is_in_range (B.code (range_inclusive_start range)) (B.code (range_inclusive_end range))
         (T.code token) };
 
@@ -31,7 +31,7 @@ impl<T: AsChar, B: AsChar + Copy> ContainsToken<T> for RangeInclusive<B> {
 
 /// The bound, and the characters past it.
 impl<T: AsChar, B: AsChar + Copy> ContainsToken<T> for RangeFrom<B> {
-    ghost tells = { λ range token b. b ≡ nat_le (B.code range.start) (T.code token) };
+    ghost may_answer = { λ range token b. b ≡ nat_le (B.code range.start) (T.code token) };
 
     fn contains_token(&self, token: T) -> bool {
         self.start.as_char() <= token.as_char()
@@ -40,7 +40,7 @@ impl<T: AsChar, B: AsChar + Copy> ContainsToken<T> for RangeFrom<B> {
 
 /// The characters before the bound.
 impl<T: AsChar, B: AsChar + Copy> ContainsToken<T> for RangeTo<B> {
-    ghost tells = { λ range token b. b ≡ nat_lt (T.code token) (B.code range.end) };
+    ghost may_answer = { λ range token b. b ≡ nat_lt (T.code token) (B.code range.end) };
 
     fn contains_token(&self, token: T) -> bool {
         token.as_char() < self.end.as_char()
@@ -49,7 +49,7 @@ impl<T: AsChar, B: AsChar + Copy> ContainsToken<T> for RangeTo<B> {
 
 /// The bound, and the characters before it.
 impl<T: AsChar, B: AsChar + Copy> ContainsToken<T> for RangeToInclusive<B> {
-    ghost tells = { λ range token b. b ≡ nat_le (T.code token) (B.code range.end) };
+    ghost may_answer = { λ range token b. b ≡ nat_le (T.code token) (B.code range.end) };
 
     fn contains_token(&self, token: T) -> bool {
         token.as_char() <= self.end.as_char()
@@ -58,7 +58,7 @@ impl<T: AsChar, B: AsChar + Copy> ContainsToken<T> for RangeToInclusive<B> {
 
 /// Every token.
 impl<T: AsChar + Drop> ContainsToken<T> for RangeFull {
-    ghost tells = { λ _ _ b. b ≡ true };
+    ghost may_answer = { λ _ _ b. b ≡ true };
 
     fn contains_token(&self, _token: T) -> bool {
         true

@@ -6,7 +6,7 @@ use crate::ContainsToken;
 impl<T: Copy, A: ContainsToken<T>> ContainsToken<T> for (A,) {
     ghost askable = { λ s. A.askable s.0 };
 
-    ghost tells = { λ s token. A.tells s.0 token };
+    ghost may_answer = { λ s token. A.may_answer s.0 token };
 
     fn contains_token(&self, token: T) -> bool {
         self.0.contains_token(token)
@@ -17,7 +17,7 @@ impl<T: Copy, A: ContainsToken<T>> ContainsToken<T> for (A,) {
 impl<T: Copy, A: ContainsToken<T>, B: ContainsToken<T>> ContainsToken<T> for (A, B) {
     ghost askable = { λ s. A.askable s.0 × B.askable s.1 };
 
-    ghost tells = { λ s token. A.tells s.0 token ∪ B.tells s.1 token };
+    ghost may_answer = { λ s token. A.may_answer s.0 token ∪ B.may_answer s.1 token };
 
     fn contains_token(&self, token: T) -> bool {
         self.0.contains_token(token) || self.1.contains_token(token)
@@ -29,7 +29,8 @@ impl<T: Copy, A: ContainsToken<T>, B: ContainsToken<T>, C: ContainsToken<T>> Con
     for (A, B, C) {
     ghost askable = { λ s. A.askable s.0 × B.askable s.1 × C.askable s.2 };
 
-    ghost tells = { λ s token. A.tells s.0 token ∪ B.tells s.1 token ∪ C.tells s.2 token };
+    ghost may_answer = { λ s token. A.may_answer s.0 token ∪ B.may_answer s.1 token
+        ∪ C.may_answer s.2 token };
 
     fn contains_token(&self, token: T) -> bool {
         self.0.contains_token(token) || self.1.contains_token(token) || self.2.contains_token(token)
@@ -46,8 +47,8 @@ impl<
 > ContainsToken<T> for (A, B, C, D) {
     ghost askable = { λ s. A.askable s.0 × B.askable s.1 × C.askable s.2 × D.askable s.3 };
 
-    ghost tells = { λ s token. A.tells s.0 token ∪ B.tells s.1 token ∪ C.tells s.2 token ∪ D.tells
-        s.3 token };
+    ghost may_answer = { λ s token. A.may_answer s.0 token ∪ B.may_answer s.1 token
+        ∪ C.may_answer s.2 token ∪ D.may_answer s.3 token };
 
     fn contains_token(&self, token: T) -> bool {
         self.0.contains_token(token)
@@ -69,8 +70,8 @@ impl<
     ghost askable = { λ s. A.askable s.0 × B.askable s.1 × C.askable s.2 × D.askable s.3
         × E.askable s.4 };
 
-    ghost tells = { λ s token. A.tells s.0 token ∪ B.tells s.1 token ∪ C.tells s.2 token ∪ D.tells
-        s.3 token ∪ E.tells s.4 token };
+    ghost may_answer = { λ s token. A.may_answer s.0 token ∪ B.may_answer s.1 token
+        ∪ C.may_answer s.2 token ∪ D.may_answer s.3 token ∪ E.may_answer s.4 token };
 
     fn contains_token(&self, token: T) -> bool {
         self.0.contains_token(token)
@@ -94,8 +95,9 @@ impl<
     ghost askable = { λ s. A.askable s.0 × B.askable s.1 × C.askable s.2 × D.askable s.3
         × E.askable s.4 × F.askable s.5 };
 
-    ghost tells = { λ s token. A.tells s.0 token ∪ B.tells s.1 token ∪ C.tells s.2 token ∪ D.tells
-        s.3 token ∪ E.tells s.4 token ∪ F.tells s.5 token };
+    ghost may_answer = { λ s token. A.may_answer s.0 token ∪ B.may_answer s.1 token
+        ∪ C.may_answer s.2 token ∪ D.may_answer s.3 token ∪ E.may_answer s.4 token
+        ∪ F.may_answer s.5 token };
 
     fn contains_token(&self, token: T) -> bool {
         self.0.contains_token(token)
@@ -121,8 +123,9 @@ impl<
     ghost askable = { λ s. A.askable s.0 × B.askable s.1 × C.askable s.2 × D.askable s.3
         × E.askable s.4 × F.askable s.5 × G.askable s.6 };
 
-    ghost tells = { λ s token. A.tells s.0 token ∪ B.tells s.1 token ∪ C.tells s.2 token ∪ D.tells
-        s.3 token ∪ E.tells s.4 token ∪ F.tells s.5 token ∪ G.tells s.6 token };
+    ghost may_answer = { λ s token. A.may_answer s.0 token ∪ B.may_answer s.1 token
+        ∪ C.may_answer s.2 token ∪ D.may_answer s.3 token ∪ E.may_answer s.4 token
+        ∪ F.may_answer s.5 token ∪ G.may_answer s.6 token };
 
     fn contains_token(&self, token: T) -> bool {
         self.0.contains_token(token)
@@ -150,8 +153,9 @@ impl<
     ghost askable = { λ s. A.askable s.0 × B.askable s.1 × C.askable s.2 × D.askable s.3
         × E.askable s.4 × F.askable s.5 × G.askable s.6 × H.askable s.7 };
 
-    ghost tells = { λ s token. A.tells s.0 token ∪ B.tells s.1 token ∪ C.tells s.2 token ∪ D.tells
-        s.3 token ∪ E.tells s.4 token ∪ F.tells s.5 token ∪ G.tells s.6 token ∪ H.tells s.7 token };
+    ghost may_answer = { λ s token. A.may_answer s.0 token ∪ B.may_answer s.1 token
+        ∪ C.may_answer s.2 token ∪ D.may_answer s.3 token ∪ E.may_answer s.4 token
+        ∪ F.may_answer s.5 token ∪ G.may_answer s.6 token ∪ H.may_answer s.7 token };
 
     fn contains_token(&self, token: T) -> bool {
         self.0.contains_token(token)
@@ -181,9 +185,10 @@ impl<
     ghost askable = { λ s. A.askable s.0 × B.askable s.1 × C.askable s.2 × D.askable s.3
         × E.askable s.4 × F.askable s.5 × G.askable s.6 × H.askable s.7 × I.askable s.8 };
 
-    ghost tells = { λ s token. A.tells s.0 token ∪ B.tells s.1 token ∪ C.tells s.2 token ∪ D.tells
-        s.3 token ∪ E.tells s.4 token ∪ F.tells s.5 token ∪ G.tells s.6 token ∪ H.tells s.7 token ∪
-        I.tells s.8 token };
+    ghost may_answer = { λ s token. A.may_answer s.0 token ∪ B.may_answer s.1 token
+        ∪ C.may_answer s.2 token ∪ D.may_answer s.3 token ∪ E.may_answer s.4 token
+        ∪ F.may_answer s.5 token ∪ G.may_answer s.6 token ∪ H.may_answer s.7 token
+        ∪ I.may_answer s.8 token };
 
     fn contains_token(&self, token: T) -> bool {
         self.0.contains_token(token)
@@ -216,9 +221,10 @@ impl<
         × E.askable s.4 × F.askable s.5 × G.askable s.6 × H.askable s.7 × I.askable s.8
         × J.askable s.9 };
 
-    ghost tells = { λ s token. A.tells s.0 token ∪ B.tells s.1 token ∪ C.tells s.2 token ∪ D.tells
-        s.3 token ∪ E.tells s.4 token ∪ F.tells s.5 token ∪ G.tells s.6 token ∪ H.tells s.7 token ∪
-        I.tells s.8 token ∪ J.tells s.9 token };
+    ghost may_answer = { λ s token. A.may_answer s.0 token ∪ B.may_answer s.1 token
+        ∪ C.may_answer s.2 token ∪ D.may_answer s.3 token ∪ E.may_answer s.4 token
+        ∪ F.may_answer s.5 token ∪ G.may_answer s.6 token ∪ H.may_answer s.7 token
+        ∪ I.may_answer s.8 token ∪ J.may_answer s.9 token };
 
     fn contains_token(&self, token: T) -> bool {
         self.0.contains_token(token)

@@ -20,10 +20,10 @@ abbrev pub place : {T : Type 0} → Source T → ℕ → ℕ
 place all i = width (take i all)
 
 -- a script answers step by step: each step answers at the cursor, and moves it
-module _ {S A : Type 0} (tells : S → Cursor → A) (moves : S → Cursor → Cursor) where
+module _ {S A : Type 0} (answer_at : S → Cursor → A) (moves : S → Cursor → Cursor) where
   abbrev pub answers_from : List S → Cursor → List A
   answers_from [] at = []
-  answers_from (s ∷ ss) at = tells s at ∷ answers_from ss (moves s at)
+  answers_from (s ∷ ss) at = answer_at s at ∷ answers_from ss (moves s at)
 
 -- where a script leaves the cursor
 module _ {S : Type 0} (moves : S → Cursor → Cursor) where

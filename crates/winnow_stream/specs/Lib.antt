@@ -1,7 +1,7 @@
 pub mod Source
 pub mod Front
 pub mod SliceWidths
-pub mod Place
+pub mod Location
 pub mod Fused
 pub mod Shortage
 pub mod Units

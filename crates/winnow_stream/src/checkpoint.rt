@@ -38,7 +38,7 @@ impl<T, S> Checkpoint<T, S> {
 impl<T: Rest, S> Rest for Checkpoint<T, S> {
     ghost rest_width = { λ c. T.rest_width (checkpoint_inner c) };
 
-    ghost place = { λ c. T.place (checkpoint_inner c) };
+    ghost location = { λ c. T.location (checkpoint_inner c) };
 }
 
 /// As what it holds.

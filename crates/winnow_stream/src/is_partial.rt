@@ -2,41 +2,41 @@ ghost use Rattle.std.specs.Prelude.{◌≡◌, Bool, false, refl};
 
 use crate::Rest;
 
-/// Whether more input may follow what remains. Only `Partial` has a mark for it; every other stream answers for the one
-/// inside, and a plain one has no mark.
+/// Whether more input may follow what remains. Only `Partial` has a flag for it; every other stream answers for the one
+/// inside, and a plain one has no flag.
 pub trait StreamIsPartial: Rest + Sized {
     /// What `complete` hands out, for `restore_partial` to set again.
     type PartialState;
 
-    // Whether the type has a mark.
+    // Whether the type has a flag.
     ghost supports_partial: { Bool };
 
-    // The mark, and whether it says that more may follow.
+    // The flag, and whether it says that more may follow.
     ghost partial_state: { Self → Self.PartialState };
 
     ghost expects_more: { Self → Bool };
 
-    // Two values agree in all but the mark.
-    ghost same_but_mark: { Self → Self → Type 0 };
+    // Two values agree in all but the flag.
+    ghost same_but_flag: { Self → Self → Type 0 };
 
-    /// Marks that nothing follows, and returns the mark before.
+    /// Notes that nothing follows, and returns the flag before.
     fn complete(&mut self) -> Self::PartialState
         ensures old { result ≡ partial_state self.old }
         ensures complete { expects_more self.new ≡ false }
-        ensures same { same_but_mark self.old self.new }
+        ensures same { same_but_flag self.old self.new }
         ensures rest { Self.same_rest self.old self.new }
         ensures width { Self.rest_width self.new ≡ Self.rest_width self.old }
-        ensures place { Self.place self.new ≡ Self.place self.old };
+        ensures location { Self.location self.new ≡ Self.location self.old };
 
-    /// Sets the mark to what `complete` answered.
+    /// Sets the flag to what `complete` answered.
     fn restore_partial(&mut self, state: Self::PartialState)
         ensures set { partial_state self.new ≡ state }
-        ensures same { same_but_mark self.old self.new }
+        ensures same { same_but_flag self.old self.new }
         ensures rest { Self.same_rest self.old self.new }
         ensures width { Self.rest_width self.new ≡ Self.rest_width self.old }
-        ensures place { Self.place self.new ≡ Self.place self.old };
+        ensures location { Self.location self.new ≡ Self.location self.old };
 
-    /// Returns whether the type has a mark.
+    /// Returns whether the type has a flag.
     fn is_partial_supported() -> bool
         ensures { result ≡ supports_partial };
 
@@ -44,12 +44,12 @@ pub trait StreamIsPartial: Rest + Sized {
     fn is_partial(&self) -> bool
         ensures { result ≡ expects_more self.now };
 
-    // The mark alone says whether more may follow: restoring it restores that.
-    ghost mark_tells: { (s t : Self) → partial_state s ≡ partial_state t
+    // The flag alone says whether more may follow: restoring it restores that.
+    ghost flag_decides: { (s t : Self) → partial_state s ≡ partial_state t
         → expects_more s ≡ expects_more t };
 
-    // Where the type has no mark, nothing more may follow.
-    ghost no_mark: { supports_partial ≡ false → (s : Self) → expects_more s ≡ false };
+    // Where the type has no flag, nothing more may follow.
+    ghost no_flag: { supports_partial ≡ false → (s : Self) → expects_more s ≡ false };
 }
 
 impl<T> StreamIsPartial for &[T] {
@@ -61,11 +61,11 @@ impl<T> StreamIsPartial for &[T] {
 
     ghost expects_more = { λ _. false };
 
-    ghost same_but_mark = { λ s t. s ≡ t };
+    ghost same_but_flag = { λ s t. s ≡ t };
 
-    ghost mark_tells = { λ _ _ _. refl };
+    ghost flag_decides = { λ _ _ _. refl };
 
-    ghost no_mark = { λ _ _. refl };
+    ghost no_flag = { λ _ _. refl };
 
     fn complete(&mut self) {}
 
@@ -89,11 +89,11 @@ impl StreamIsPartial for &str {
 
     ghost expects_more = { λ _. false };
 
-    ghost same_but_mark = { λ s t. s ≡ t };
+    ghost same_but_flag = { λ s t. s ≡ t };
 
-    ghost mark_tells = { λ _ _ _. refl };
+    ghost flag_decides = { λ _ _ _. refl };
 
-    ghost no_mark = { λ _ _. refl };
+    ghost no_flag = { λ _ _. refl };
 
     fn complete(&mut self) {}
 

@@ -11,7 +11,7 @@ ghost use Rattle.winnow_stream.specs.Source.{Source, units, width, HasPositiveWi
 ghost use Rattle.winnow_stream.specs.Source.{first_offset};
 ghost use Rattle.winnow_stream.specs.Source.{FindsFirst, held_front, HoldsAll};
 ghost use Rattle.winnow_stream.specs.Front.{HasFront, is_offset, front, back};
-ghost use Rattle.winnow_stream.specs.Place.{place_behind, TellsPlace};
+ghost use Rattle.winnow_stream.specs.Location.{location_behind, IsLocation};
 ghost use Rattle.winnow_stream.specs.SliceWidths.{SlicesHaveWidths};
 ghost use Rattle.winnow_stream.specs.Shortage.{needed, offset_at};
 
@@ -92,13 +92,13 @@ pub fn held_law<T>()
         → first_token (drop (length (held_front holds r)) r) ≡ Some x → holds x ≡ false }
 {}
 
-/// The law of spans: where a stream's location is its place, the location behind a width is the location before it and that width. It
+/// The law of spans: where the numbers of `Location` are a stream's location, those behind a width are those before it and that width. It
 /// does nothing when called: its contract is the law.
 pub fn span_law<S: Stream + Location>()
-    ensures end { TellsPlace S.place S.token_end S.token_start → (s t : S) (n : ℕ)
-        → S.place t ≡ place_behind (S.place s) n → S.token_end t ≡ S.token_start s + n }
-    ensures start { TellsPlace S.place S.token_end S.token_start → (s t : S) (n : ℕ)
-        → S.place t ≡ place_behind (S.place s) n → S.token_start t ≡ S.token_start s + n }
+    ensures end { IsLocation S.location S.token_end S.token_start → (s t : S) (n : ℕ)
+        → S.location t ≡ location_behind (S.location s) n → S.token_end t ≡ S.token_start s + n }
+    ensures start { IsLocation S.location S.token_end S.token_start → (s t : S) (n : ℕ)
+        → S.location t ≡ location_behind (S.location s) n → S.token_start t ≡ S.token_start s + n }
 {}
 
 /// The law of plain slices: their tokens tell their elements, the valid offsets are those up to their length, and a front and what

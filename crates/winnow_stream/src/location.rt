@@ -1,8 +1,8 @@
 ghost use Rattle.std.specs.Prelude.{◌≡◌, ℕ};
 
-/// A place in the whole input, in its offsets: what spans and messages are made of.
+/// A location in the whole input, in its offsets: what spans and messages are made of.
 ///
-/// Where a stream's location is the place that it keeps, each call moves it on by what it takes: [`span_law`](crate::span_law).
+/// Where both are the location that a stream keeps, each call moves them on by what it takes: [`span_law`](crate::span_law).
 pub trait Location {
     ghost token_end: { Self → ℕ };
 

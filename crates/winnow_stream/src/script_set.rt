@@ -6,12 +6,12 @@ pub trait ScriptSet<T> {
     ghost askable: { Self → Type 0 } = { λ _. ⊤ };
 
     // What it may answer of a token.
-    ghost tells: { Self → T → Bool → Type 0 };
+    ghost may_answer: { Self → T → Bool → Type 0 };
 
     /// Returns whether the token is in the set.
     fn holds(&self, token: T) -> bool
         requires { askable self.now }
-        ensures { tells self.now token result };
+        ensures { may_answer self.now token result };
 }
 
 /// The set that holds no token, for scripts that name none.
@@ -19,7 +19,7 @@ pub trait ScriptSet<T> {
 pub struct NoSet;
 
 impl<T: Drop> ScriptSet<T> for NoSet {
-    ghost tells = { λ _ _ b. b ≡ false };
+    ghost may_answer = { λ _ _ b. b ≡ false };
 
     fn holds(&self, _token: T) -> bool {
         false

@@ -4,7 +4,7 @@ ghost use Rattle.std.specs.Iterator.{IsFinite, AlwaysYields, size};
 ghost use Rattle.winnow_stream.specs.Source.{Source, width, HasPositiveWidths, IsEndOf, Computes};
 ghost use Rattle.winnow_stream.specs.Source.{first_token, FindsFirst, first_offset, offsets};
 ghost use Rattle.winnow_stream.specs.Front.{is_offset, back};
-ghost use Rattle.winnow_stream.specs.Place.{place_behind};
+ghost use Rattle.winnow_stream.specs.Location.{location_behind};
 ghost use Rattle.winnow_stream.specs.Fused.{IsFused};
 ghost use Rattle.winnow_stream.specs.Shortage.{offset_at};
 
@@ -20,12 +20,12 @@ pub trait Rest {
     // The width of what remains; of a checkpoint, of what remained there.
     ghost rest_width: { Self → ℕ };
 
-    // Two values that no call of `Stream` tells apart by what remains. Only a type with a mark for partial input needs more
+    // Two values that no call of `Stream` tells apart by what remains. Only a type with a flag for partial input needs more
     // than equality.
     ghost same_rest: { Self → Self → Type 0 } = { λ s t. s ≡ t };
 
-    // Where it stands in the whole input, in its offsets, or stood; `None` where it keeps no place.
-    ghost place: { Self → Option ℕ } = { λ _. None };
+    // Where it stands in the whole input, in its offsets, or stood; `None` where it keeps no location.
+    ghost location: { Self → Option ℕ } = { λ _. None };
 }
 
 /// A list of tokens with widths, of which calls take the front.
@@ -85,8 +85,8 @@ pub trait Stream: Rest + Debug {
         requires { valid self.old }
         ensures answer { result ≡ first_token (remaining self.old) }
         ensures remains { remaining self.new ≡ drop 1 (remaining self.old) }
-        ensures place { Self.place self.new
-            ≡ place_behind (Self.place self.old) (width (take 1 (remaining self.old))) }
+        ensures location { Self.location self.new
+            ≡ location_behind (Self.location self.old) (width (take 1 (remaining self.old))) }
         ensures valid { valid self.new }
         ensures kept { keeps self.old self.new };
 
@@ -133,7 +133,8 @@ pub trait Stream: Rest + Debug {
         requires offset { IsTrue (is_offset (remaining self.old) offset) }
         ensures answer { is_slice result (remaining self.old) offset }
         ensures remains { remaining self.new ≡ back (remaining self.old) offset }
-        ensures place { Self.place self.new ≡ place_behind (Self.place self.old) offset }
+        ensures location { Self.location self.new
+            ≡ location_behind (Self.location self.old) offset }
         ensures valid { valid self.new }
         ensures kept { keeps self.old self.new };
 
@@ -148,8 +149,8 @@ pub trait Stream: Rest + Debug {
         requires { valid self.old }
         ensures answer { is_slice result (remaining self.old) (width (remaining self.old)) }
         ensures remains { remaining self.new ≡ [] }
-        ensures place { Self.place self.new
-            ≡ place_behind (Self.place self.old) (width (remaining self.old)) }
+        ensures location { Self.location self.new
+            ≡ location_behind (Self.location self.old) (width (remaining self.old)) }
         ensures valid { valid self.new }
         ensures kept { keeps self.old self.new }
     {
@@ -169,7 +170,7 @@ pub trait Stream: Rest + Debug {
     fn checkpoint(&self) -> Self::Checkpoint
         requires { valid self.now }
         ensures means { remained result ≡ remaining self.now }
-        ensures place { Self.Checkpoint.place result ≡ Self.place self.now }
+        ensures location { Self.Checkpoint.location result ≡ Self.location self.now }
         ensures valid { valid_checkpoint result };
 
     /// Goes back, or forward, to a checkpoint: what remained there remains, and what is kept stays.
@@ -177,7 +178,7 @@ pub trait Stream: Rest + Debug {
         requires valid { valid self.old }
         requires valid_checkpoint { valid_checkpoint checkpoint.now }
         ensures remains { remaining self.new ≡ remained checkpoint.now }
-        ensures place { Self.place self.new ≡ Self.Checkpoint.place checkpoint.now }
+        ensures location { Self.location self.new ≡ Self.Checkpoint.location checkpoint.now }
         ensures valid { valid self.new }
         ensures kept { keeps self.old self.new };
 

@@ -14,7 +14,7 @@ pub trait UpdateSlice: Stream {
         ensures remains { (n : ℕ) → IsTrue (is_offset (Self.remained at.now) n)
             → Self.is_slice inner (Self.remained at.now) n
             → Self.remaining result ≡ front (Self.remained at.now) n }
-        ensures place { Self.place result ≡ Self.Checkpoint.place at.now }
+        ensures location { Self.location result ≡ Self.Checkpoint.location at.now }
         ensures valid { Self.valid result }
         ensures kept { Self.keeps self result };
 }

@@ -1,7 +1,7 @@
 ghost use Rattle.std.specs.Prelude.{◌≡◌, ◌+◌, IfOk, OnErr, take};
 ghost use Rattle.winnow_base.specs.Source.{width};
 ghost use Rattle.winnow_base.specs.Front.{back};
-ghost use Rattle.winnow_base.specs.Place.{TellsPlace};
+ghost use Rattle.winnow_base.specs.Location.{IsLocation};
 
 use std::ops::Range;
 use winnow_base::stream::{Location, Needed, Stream, offset_law, span_law, taken_law};
@@ -12,7 +12,7 @@ pub fn spanned<S: Stream + Location>(
     tokens: usize,
 ) -> Result<(S::Slice, Range<usize>), Needed>
     requires valid { S.valid input.old }
-    requires located { TellsPlace S.place S.token_end S.token_start }
+    requires located { IsLocation S.location S.token_end S.token_start }
     ensures slice { IfOk result (λ taken. S.is_slice taken.0 (S.remaining input.old)
         (width (take tokens (S.remaining input.old)))) }
     ensures start { IfOk result (λ taken. taken.1.start ≡ S.token_start input.old) }

@@ -32,8 +32,8 @@ pub fn window_of<S: UpdateSlice>(mut s: S, offset: usize) -> S
     s.update_slice(slice, &start)
 }
 
-/// Whether the type has a mark, what it says, and what it says once it is cleared and once it is set again.
-pub fn marks<S: StreamIsPartial>(s: &mut S) -> [bool; 4] {
+/// Whether the type has a flag, what it says, and what it says once it is cleared and once it is set again.
+pub fn flags<S: StreamIsPartial>(s: &mut S) -> [bool; 4] {
     let before = s.is_partial();
     let state = s.complete();
     let cleared = s.is_partial();

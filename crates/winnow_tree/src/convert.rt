@@ -1,5 +1,5 @@
 ghost use Rattle.std.specs.Prelude.{◌≡◌, ⊤};
-ghost use Rattle.winnow_views.specs.BitStream.{bits_input, bits_place};
+ghost use Rattle.winnow_views.specs.BitStream.{bits_inner, bits_place};
 ghost use Rattle.winnow_tree.specs.TreeContents.{tree_contents};
 ghost use Rattle.winnow_tree.specs.Maps.{TreeMaps};
 
@@ -10,7 +10,7 @@ use winnow_views::Bits;
 
 /// Each input becomes all of its bits.
 impl<I: Drop, C: Drop> ErrorConvert<TreeError<Bits<I>, C>> for TreeError<I, C> {
-    ghost convert_gives = { λ e r. TreeMaps (λ i j. (bits_input j ≡ i) × (bits_place j ≡ 0))
+    ghost convert_gives = { λ e r. TreeMaps (λ i j. (bits_inner j ≡ i) × (bits_place j ≡ 0))
         (tree_contents e) (tree_contents r) };
 
     ghost convert_refusable = { ⊤ };
@@ -19,7 +19,7 @@ impl<I: Drop, C: Drop> ErrorConvert<TreeError<Bits<I>, C>> for TreeError<I, C> {
         self.map_input(
             alloc,
             |input: I| -> Bits<I>
-                ensures { (bits_input result ≡ input) × (bits_place result ≡ 0) }
+                ensures { (bits_inner result ≡ input) × (bits_place result ≡ 0) }
             { Bits::new(input) },
         )
     }
@@ -27,7 +27,7 @@ impl<I: Drop, C: Drop> ErrorConvert<TreeError<Bits<I>, C>> for TreeError<I, C> {
 
 /// Each input becomes its bytes, the one whose bits were read in part among them.
 impl<I: Drop, C: Drop> ErrorConvert<TreeError<I, C>> for TreeError<Bits<I>, C> {
-    ghost convert_gives = { λ e r. TreeMaps (λ i j. j ≡ bits_input i) (tree_contents e)
+    ghost convert_gives = { λ e r. TreeMaps (λ i j. j ≡ bits_inner i) (tree_contents e)
         (tree_contents r) };
 
     ghost convert_refusable = { ⊤ };
@@ -36,7 +36,7 @@ impl<I: Drop, C: Drop> ErrorConvert<TreeError<I, C>> for TreeError<Bits<I>, C> {
         self.map_input(
             alloc,
             |bits: Bits<I>| -> I
-                ensures { result ≡ bits_input bits }
+                ensures { result ≡ bits_inner bits }
             {
                 let (input, _place) = bits.into_parts();
                 input

@@ -8,14 +8,14 @@ use Rattle.winnow_views.specs.declared.bits.BitPlace.{BitPlace}
 use Rattle.winnow_views.specs.BitSource.{bits_from, IsBitSource}
 
 -- the bits before a place in a byte, by the bytes before that byte
-abbrev pub place_in_bits : Option ℕ → ℕ → Option ℕ
-place_in_bits None place = None
-place_in_bits (Some bytes) place = Some (8 * bytes + place)
+abbrev pub location_in_bits : Option ℕ → ℕ → Option ℕ
+location_in_bits None place = None
+location_in_bits (Some bytes) place = Some (8 * bytes + place)
 
 module _ {I : Type 0} where
   -- the stream of bytes, and the place in its first byte
-  abbrev pub bits_input : Bits I → I
-  bits_input s = s.input
+  abbrev pub bits_inner : Bits I → I
+  bits_inner s = s.input
 
   abbrev pub bits_place : Bits I → ℕ
   bits_place s = s.place
@@ -29,8 +29,8 @@ module _ {I : Type 0} where
   IsValidBits valid remaining s = valid s.input × IsBitSource (remaining s.input) s.place
 
   -- where it stands in the whole input, in bits
-  abbrev pub whole_place : (I → Option ℕ) → Bits I → Option ℕ
-  whole_place place s = place_in_bits (place s.input) s.place
+  abbrev pub bits_location : (I → Option ℕ) → Bits I → Option ℕ
+  bits_location place s = location_in_bits (place s.input) s.place
 
 -- the same of a checkpoint, which also has the number of bits
 module _ {C : Type 0} where
@@ -40,8 +40,8 @@ module _ {C : Type 0} where
   abbrev pub IsValidPlace : (C → Type 0) → (C → Source ℕ) → BitPlace C → Type 0
   IsValidPlace valid remained c = valid c.bytes × IsBitSource (remained c.bytes) c.place × (c.count ≡ width (bits_remained remained c))
 
-  abbrev pub whole_place_at : (C → Option ℕ) → BitPlace C → Option ℕ
-  whole_place_at place c = place_in_bits (place c.bytes) c.place
+  abbrev pub bits_location_at : (C → Option ℕ) → BitPlace C → Option ℕ
+  bits_location_at place c = location_in_bits (place c.bytes) c.place
 
   -- its number of bits is that of its bytes from its place on, as it is where it is valid
   abbrev pub IsCounted : (C → ℕ) → BitPlace C → Type 0

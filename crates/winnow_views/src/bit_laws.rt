@@ -5,7 +5,7 @@ ghost use Rattle.winnow_stream.specs.Front.{front};
 ghost use Rattle.winnow_stream.specs.Checkpoint.{checkpoint_inner};
 ghost use Rattle.winnow_stream.specs.declared.checkpoint.Checkpoint.{Checkpoint};
 ghost use Rattle.winnow_views.specs.BitSource.{bits_from, IsBitSource, IsBitSlice};
-ghost use Rattle.winnow_views.specs.BitStream.{bits_input, bits_place, bytes_at, place_at};
+ghost use Rattle.winnow_views.specs.BitStream.{bits_inner, bits_place, bytes_at, place_at};
 ghost use Rattle.winnow_views.specs.BitStream.{IsCounted};
 ghost use Rattle.winnow_stream.specs.SliceWidths.{SlicesHaveWidths};
 ghost use Rattle.winnow_views.specs.declared.bits.Bits.{Bits};
@@ -59,8 +59,8 @@ where
     I::Checkpoint: PartialEq,
     ensures bits { (s t : Bits I)
         → ⟦<Bits<I> as PartialEq>⟧.eq s t
-        ≡ (I.eq (bits_input s) (bits_input t) && nat_eq (bits_place s) (bits_place t)) }
-    ensures places { (c d : Checkpoint (BitPlace I.Checkpoint) (Bits I))
+        ≡ (I.eq (bits_inner s) (bits_inner t) && nat_eq (bits_place s) (bits_place t)) }
+    ensures checkpoints { (c d : Checkpoint (BitPlace I.Checkpoint) (Bits I))
         → ⟦<Checkpoint<BitPlace<I::Checkpoint>, Bits<I>> as PartialEq>⟧.eq c d
         ≡ (I.Checkpoint.eq (bytes_at c) (bytes_at d) && nat_eq (place_at c) (place_at d)) }
 {}

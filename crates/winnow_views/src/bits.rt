@@ -3,11 +3,11 @@ ghost use Rattle.std.specs.Prelude.{IsTrue, IfSome, IfNone};
 ghost use Rattle.winnow_stream.specs.Checkpoint.{checkpoint_inner};
 ghost use Rattle.winnow_stream.specs.Source.{first_token, width};
 ghost use Rattle.winnow_stream.specs.Front.{is_offset, back};
-ghost use Rattle.winnow_stream.specs.Place.{place_behind};
+ghost use Rattle.winnow_stream.specs.Location.{location_behind};
 ghost use Rattle.winnow_views.specs.BitSource.{IsBitSlice, IsBitSliceAt};
-ghost use Rattle.winnow_views.specs.BitStream.{bits_input, bits_place, bits_remaining};
+ghost use Rattle.winnow_views.specs.BitStream.{bits_inner, bits_place, bits_remaining};
 ghost use Rattle.winnow_views.specs.BitStream.{bits_remained, IsValidBits, IsValidPlace};
-ghost use Rattle.winnow_views.specs.BitStream.{bytes_at, place_at, whole_place, whole_place_at};
+ghost use Rattle.winnow_views.specs.BitStream.{bytes_at, place_at, bits_location, bits_location_at};
 ghost use Rattle.winnow_views.specs.BitStream.{IsCounted};
 ghost use Rattle.winnow_views.specs.BitLaws.{HasPositiveWidths-bits_from, rest_width-bits_from};
 ghost use Rattle.winnow_views.specs.BitLaws.{bits_remaining-same, IsValidBits-same};
@@ -33,7 +33,7 @@ pub struct Bits<I> {
 impl<I> Bits<I> {
     /// Returns all bits of the bytes that remain.
     pub fn new(input: I) -> Self
-        ensures input { bits_input result ≡ input }
+        ensures input { bits_inner result ≡ input }
         ensures place { bits_place result ≡ 0 }
     {
         Bits { input, place: 0 }
@@ -42,7 +42,7 @@ impl<I> Bits<I> {
     /// Returns the bits of the bytes that remain, but for that many of the first byte.
     pub fn at_place(input: I, place: usize) -> Self
         requires { place < 8 }
-        ensures input { bits_input result ≡ input }
+        ensures input { bits_inner result ≡ input }
         ensures place { bits_place result ≡ place }
     {
         Bits { input, place }
@@ -50,7 +50,7 @@ impl<I> Bits<I> {
 
     /// Returns the stream of bytes, and how many bits of its first byte were taken.
     pub fn into_parts(self) -> (I, usize)
-        ensures { result ≡ (bits_input self, bits_place self) }
+        ensures { result ≡ (bits_inner self, bits_place self) }
     {
         let Bits { input, place } = self;
         (input, place)
@@ -81,7 +81,7 @@ fn whole_and_rest(bits: usize, place: usize) -> (usize, usize)
 impl<C: Rest> Rest for BitPlace<C> {
     ghost rest_width = { λ c. 8 * C.rest_width c.bytes - c.place };
 
-    ghost place = { whole_place_at C.place };
+    ghost location = { bits_location_at C.location };
 }
 
 impl<I: Rest> Rest for Bits<I> {
@@ -89,7 +89,7 @@ impl<I: Rest> Rest for Bits<I> {
 
     ghost same_rest = { λ s t. I.same_rest s.input t.input × (s.place ≡ t.place) };
 
-    ghost place = { whole_place I.place };
+    ghost location = { bits_location I.location };
 }
 
 /// Each bit has width 1, and a shortage says how many bits are missing. What the stream of bytes keeps is kept.
@@ -152,17 +152,18 @@ impl<I: Stream<Token = u8>> Stream for Bits<I> {
 
     fn next_token(&mut self) -> Option<bool>
         requires { IsValidBits I.valid I.remaining self.old }
-        ensures bytes { IfSome result (λ _. I.remaining (bits_input self.new)
-            ≡ drop ((bits_place self.old + 1) / 8) (I.remaining (bits_input self.old))) }
+        ensures bytes { IfSome result (λ _. I.remaining (bits_inner self.new)
+            ≡ drop ((bits_place self.old + 1) / 8) (I.remaining (bits_inner self.old))) }
         ensures place { IfSome result (λ _. bits_place self.new ≡ (bits_place self.old + 1) % 8) }
         ensures end { IfNone result (self.new ≡ self.old) }
         ensures answer { result ≡ first_token (bits_remaining I.remaining self.old) }
         ensures remains { bits_remaining I.remaining self.new
             ≡ drop 1 (bits_remaining I.remaining self.old) }
-        ensures whole { whole_place I.place self.new ≡ place_behind (whole_place I.place self.old)
+        ensures location { bits_location I.location self.new
+            ≡ location_behind (bits_location I.location self.old)
             (width (take 1 (bits_remaining I.remaining self.old))) }
         ensures valid { IsValidBits I.valid I.remaining self.new }
-        ensures kept { I.keeps (bits_input self.old) (bits_input self.new) }
+        ensures kept { I.keeps (bits_inner self.old) (bits_inner self.new) }
     {
         let bit = self.peek_token()?;
         if self.place < 7 {
@@ -193,18 +194,18 @@ impl<I: Stream<Token = u8>> Stream for Bits<I> {
     fn next_slice(&mut self, offset: usize) -> (I::Slice, usize, usize)
         requires valid { IsValidBits I.valid I.remaining self.old }
         requires offset { IsTrue (is_offset (bits_remaining I.remaining self.old) offset) }
-        ensures at { IsBitSliceAt I.is_slice result (I.remaining (bits_input self.old))
+        ensures at { IsBitSliceAt I.is_slice result (I.remaining (bits_inner self.old))
             (bits_place self.old) offset }
         ensures place { bits_place self.new ≡ (offset + bits_place self.old) % 8 }
-        ensures bytes { I.remaining (bits_input self.new)
-            ≡ back (I.remaining (bits_input self.old)) ((offset + bits_place self.old) / 8) }
+        ensures bytes { I.remaining (bits_inner self.new)
+            ≡ back (I.remaining (bits_inner self.old)) ((offset + bits_place self.old) / 8) }
         ensures answer { IsBitSlice I.is_slice result (bits_remaining I.remaining self.old) offset }
         ensures remains { bits_remaining I.remaining self.new
             ≡ back (bits_remaining I.remaining self.old) offset }
-        ensures whole { whole_place I.place self.new
-            ≡ place_behind (whole_place I.place self.old) offset }
+        ensures location { bits_location I.location self.new
+            ≡ location_behind (bits_location I.location self.old) offset }
         ensures valid { IsValidBits I.valid I.remaining self.new }
-        ensures kept { I.keeps (bits_input self.old) (bits_input self.new) }
+        ensures kept { I.keeps (bits_inner self.old) (bits_inner self.new) }
     {
         let place = self.place;
         let (whole, rest) = whole_and_rest(offset, place);
@@ -216,7 +217,7 @@ impl<I: Stream<Token = u8>> Stream for Bits<I> {
     fn peek_slice(&self, offset: usize) -> (I::Slice, usize, usize)
         requires valid { IsValidBits I.valid I.remaining self.now }
         requires offset { IsTrue (is_offset (bits_remaining I.remaining self.now) offset) }
-        ensures at { IsBitSliceAt I.is_slice result (I.remaining (bits_input self.now))
+        ensures at { IsBitSliceAt I.is_slice result (I.remaining (bits_inner self.now))
             (bits_place self.now) offset }
         ensures answer { IsBitSlice I.is_slice result (bits_remaining I.remaining self.now) offset }
     {
@@ -226,17 +227,18 @@ impl<I: Stream<Token = u8>> Stream for Bits<I> {
 
     fn finish(&mut self) -> (I::Slice, usize, usize)
         requires { IsValidBits I.valid I.remaining self.old }
-        ensures at { IsBitSliceAt I.is_slice result (I.remaining (bits_input self.old))
+        ensures at { IsBitSliceAt I.is_slice result (I.remaining (bits_inner self.old))
             (bits_place self.old) (width (bits_remaining I.remaining self.old)) }
         ensures place { bits_place self.new ≡ 0 }
-        ensures bytes { I.remaining (bits_input self.new) ≡ [] }
+        ensures bytes { I.remaining (bits_inner self.new) ≡ [] }
         ensures answer { IsBitSlice I.is_slice result (bits_remaining I.remaining self.old)
             (width (bits_remaining I.remaining self.old)) }
         ensures remains { bits_remaining I.remaining self.new ≡ [] }
-        ensures whole { whole_place I.place self.new ≡ place_behind (whole_place I.place self.old)
+        ensures location { bits_location I.location self.new
+            ≡ location_behind (bits_location I.location self.old)
             (width (bits_remaining I.remaining self.old)) }
         ensures valid { IsValidBits I.valid I.remaining self.new }
-        ensures kept { I.keeps (bits_input self.old) (bits_input self.new) }
+        ensures kept { I.keeps (bits_inner self.old) (bits_inner self.new) }
     {
         let end = self.eof_offset();
         self.next_slice(end)
@@ -244,7 +246,7 @@ impl<I: Stream<Token = u8>> Stream for Bits<I> {
 
     fn peek_finish(&self) -> (I::Slice, usize, usize)
         requires { IsValidBits I.valid I.remaining self.now }
-        ensures at { IsBitSliceAt I.is_slice result (I.remaining (bits_input self.now))
+        ensures at { IsBitSliceAt I.is_slice result (I.remaining (bits_inner self.now))
             (bits_place self.now) (width (bits_remaining I.remaining self.now)) }
         ensures answer { IsBitSlice I.is_slice result (bits_remaining I.remaining self.now)
             (width (bits_remaining I.remaining self.now)) }
@@ -254,12 +256,12 @@ impl<I: Stream<Token = u8>> Stream for Bits<I> {
 
     fn checkpoint(&self) -> Checkpoint<BitPlace<I::Checkpoint>, Bits<I>>
         requires { IsValidBits I.valid I.remaining self.now }
-        ensures bytes { I.remained (bytes_at result) ≡ I.remaining (bits_input self.now) }
+        ensures bytes { I.remained (bytes_at result) ≡ I.remaining (bits_inner self.now) }
         ensures place { place_at result ≡ bits_place self.now }
         ensures means { bits_remained I.remained (checkpoint_inner result)
             ≡ bits_remaining I.remaining self.now }
-        ensures whole { whole_place_at I.Checkpoint.place (checkpoint_inner result)
-            ≡ whole_place I.place self.now }
+        ensures location { bits_location_at I.Checkpoint.location (checkpoint_inner result)
+            ≡ bits_location I.location self.now }
         ensures valid { IsValidPlace I.valid_checkpoint I.remained (checkpoint_inner result) }
     {
         Checkpoint::new(BitPlace {
@@ -273,14 +275,14 @@ impl<I: Stream<Token = u8>> Stream for Bits<I> {
         requires valid { IsValidBits I.valid I.remaining self.old }
         requires valid_checkpoint { IsValidPlace I.valid_checkpoint I.remained
             (checkpoint_inner checkpoint.now) }
-        ensures bytes { I.remaining (bits_input self.new) ≡ I.remained (bytes_at checkpoint.now) }
+        ensures bytes { I.remaining (bits_inner self.new) ≡ I.remained (bytes_at checkpoint.now) }
         ensures place { bits_place self.new ≡ place_at checkpoint.now }
         ensures remains { bits_remaining I.remaining self.new
             ≡ bits_remained I.remained (checkpoint_inner checkpoint.now) }
-        ensures whole { whole_place I.place self.new
-            ≡ whole_place_at I.Checkpoint.place (checkpoint_inner checkpoint.now) }
+        ensures location { bits_location I.location self.new
+            ≡ bits_location_at I.Checkpoint.location (checkpoint_inner checkpoint.now) }
         ensures valid { IsValidBits I.valid I.remaining self.new }
-        ensures kept { I.keeps (bits_input self.old) (bits_input self.new) }
+        ensures kept { I.keeps (bits_inner self.old) (bits_inner self.new) }
     {
         let start = checkpoint.inner();
         self.input.reset(&start.bytes);
@@ -329,11 +331,11 @@ impl<I: StreamIsPartial> StreamIsPartial for Bits<I> {
 
     ghost expects_more = { λ s. I.expects_more s.input };
 
-    ghost same_but_mark = { λ s t. I.same_but_mark s.input t.input × (s.place ≡ t.place) };
+    ghost same_but_flag = { λ s t. I.same_but_flag s.input t.input × (s.place ≡ t.place) };
 
-    ghost mark_tells = { λ s t. I.mark_tells s.input t.input };
+    ghost flag_decides = { λ s t. I.flag_decides s.input t.input };
 
-    ghost no_mark = { λ unsupported s. I.no_mark unsupported s.input };
+    ghost no_flag = { λ unsupported s. I.no_flag unsupported s.input };
 
     fn complete(&mut self) -> I::PartialState {
         self.input.complete()

@@ -15,7 +15,7 @@ pub fn token_equality_law<'t, T: Ord + 't>()
         → ⟦<TokenSlice<'t, T> as PartialEq>⟧.eq s t
         ≡ (pointwise T.eq (whole_of s).now (whole_of t).now && pointwise T.eq (rest_of s)
         (rest_of t)) }
-    ensures places { (c d : Checkpoint (TokenView T) (TokenSlice T))
+    ensures checkpoints { (c d : Checkpoint (TokenView T) (TokenSlice T))
         → ⟦<Checkpoint<TokenView<'t, T>, TokenSlice<'t, T>> as PartialEq>⟧.eq c d
         ≡ pointwise T.eq (rest_at c) (rest_at d) }
     ensures order { (c d : Checkpoint (TokenView T) (TokenSlice T))

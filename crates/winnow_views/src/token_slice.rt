@@ -108,7 +108,7 @@ impl<'t, T> TokenSlice<'t, T> {
 impl<T> Rest for TokenSlice<'_, T> {
     ghost rest_width = { λ s. length (rest_of s) };
 
-    ghost place = { λ s. Some (place_of s) };
+    ghost location = { λ s. Some (place_of s) };
 }
 
 #[tactic(auto, using(crate::proofs::lemmas::TokenLemmas::token_steps))]
@@ -319,7 +319,7 @@ impl<T: Location> Location for TokenSlice<'_, T> {
     }
 }
 
-/// A list of tokens has no mark.
+/// A list of tokens has no flag.
 impl<T> StreamIsPartial for TokenSlice<'_, T> {
     type PartialState = ();
 
@@ -329,11 +329,11 @@ impl<T> StreamIsPartial for TokenSlice<'_, T> {
 
     ghost expects_more = { λ _. false };
 
-    ghost same_but_mark = { λ s t. s ≡ t };
+    ghost same_but_flag = { λ s t. s ≡ t };
 
-    ghost mark_tells = { λ _ _ _. refl };
+    ghost flag_decides = { λ _ _ _. refl };
 
-    ghost no_mark = { λ _ _. refl };
+    ghost no_flag = { λ _ _. refl };
 
     fn complete(&mut self) {}
 

@@ -99,7 +99,7 @@ impl<'t, T> TokenView<'t, T> {
 impl<T> Rest for TokenView<'_, T> {
     ghost rest_width = { λ s. length (rest_in s) };
 
-    ghost place = { λ s. Some (place_in s) };
+    ghost location = { λ s. Some (place_in s) };
 }
 
 impl<'t, T> Offset<TokenView<'t, T>> for TokenView<'t, T> {

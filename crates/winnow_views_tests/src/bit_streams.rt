@@ -1,6 +1,6 @@
 ghost use Rattle.std.specs.Prelude.{◌≡◌, IfSome};
 ghost use Rattle.winnow_stream.specs.Source.{units};
-ghost use Rattle.winnow_views.specs.BitStream.{bits_input, bits_place, IsValidBits};
+ghost use Rattle.winnow_views.specs.BitStream.{bits_inner, bits_place, IsValidBits};
 ghost use Rattle.winnow_views.specs.BitSource.{IsBitSource};
 ghost use Rattle.winnow_stream.specs.SliceWidths.{SlicesHaveWidths};
 
@@ -9,14 +9,14 @@ use std::test::Fail;
 use winnow_run::Step;
 use winnow_run::Step::{At, Each, Eof, Finish, Look, Mark, Next, Peek, Reset, Since, Take};
 use winnow_stream::{NoSet, Offset, SliceLen, Stream, StreamIsPartial, byte_slice_law};
-use winnow_test_helpers::{Traced, marks, tell, width_from};
+use winnow_test_helpers::{Traced, flags, tell, width_from};
 use winnow_views::{
     Bits, bit_equality_law, bit_place_law, bit_slice_law, bit_source_law, token_equality_law,
 };
 
 // The bits of bytes from a place on; `None` where they may not be streamed.
 fn bits_at(bytes: &[u8], place: usize) -> Option<Bits<&[u8]>>
-    ensures { IfSome result (λ s. IsBitSource (units (bits_input s).now) (bits_place s)) }
+    ensures { IfSome result (λ s. IsBitSource (units (bits_inner s).now) (bits_place s)) }
 {
     if bytes.len() > 100 || place > 7 {
         return None;
@@ -41,7 +41,7 @@ where
     I::Slice: Drop,
     requires { IsValidBits I.valid I.remaining s.old }
     ensures valid { IsValidBits I.valid I.remaining s.new }
-    ensures kept { I.keeps (bits_input s.old) (bits_input s.new) }
+    ensures kept { I.keeps (bits_inner s.old) (bits_inner s.new) }
 {
     tell(alloc, s, script)
 }
@@ -188,10 +188,10 @@ fn place_of<I: Stream<Token = u8>>(s: &Bits<I>) -> usize
     (8 - s.eof_offset() % 8) % 8
 }
 
-// Clearing the mark of the stream of bytes changes nothing else.
+// Clearing the flag of the stream of bytes changes nothing else.
 fn complete_bits<I: StreamIsPartial>(s: &mut Bits<I>) -> I::PartialState
-    ensures before { result ≡ I.partial_state (bits_input s.old) }
-    ensures bytes { I.same_but_mark (bits_input s.old) (bits_input s.new) }
+    ensures before { result ≡ I.partial_state (bits_inner s.old) }
+    ensures bytes { I.same_but_flag (bits_inner s.old) (bits_inner s.new) }
     ensures place { bits_place s.old ≡ bits_place s.new }
 {
     s.complete()
@@ -208,7 +208,7 @@ fn places_of_bits(rt: HostRuntime) {
     assert!(rt; end.checkpoint() != start.checkpoint());
     assert!(rt; start.checkpoint() == Bits::new(bytes).checkpoint());
     assert_eq!(rt; width_from(&Bits::at_place(bytes, 5), &start), 5);
-    assert_eq!(rt; marks(&mut end), [false; 4]);
+    assert_eq!(rt; flags(&mut end), [false; 4]);
     complete_bits(&mut end);
     let mut rest = Bits::at_place(bytes, 5);
     assert_eq!(rt; (place_of(&start), place_of(&rest)), (0, 5));

@@ -61,7 +61,7 @@ fn checkpoints_of_bits_are_measured(rt: HostRuntime) {
 }
 
 #[test]
-fn bits_have_the_mark_of_their_bytes(rt: HostRuntime) {
+fn bits_have_the_flag_of_their_bytes(rt: HostRuntime) {
     let mut bits = Bits::new(Partial::new(BStr::new(b"\xab")));
     let before = bits.is_partial();
     let state = bits.complete();

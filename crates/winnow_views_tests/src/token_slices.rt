@@ -13,7 +13,7 @@ use winnow_match::CompareResult;
 use winnow_run::Step::{At, Each, Finish, Mark, Next, Peek, Reset, Since, Take};
 use winnow_run::{Step, run};
 use winnow_stream::{Checkpoint, Location, NoSet, Stream, StreamIsPartial, UpdateSlice};
-use winnow_test_helpers::{Traced, compares, debugged, marks, told, width, width_from};
+use winnow_test_helpers::{Traced, compares, debugged, flags, told, width, width_from};
 use winnow_views::{TokenSlice, TokenView};
 
 // A token that is not `Copy`, with its place in the input of the lexer.
@@ -104,10 +104,10 @@ fn located<S: Location>(s: &S) -> (usize, usize) {
     (s.previous_token_end(), s.current_token_start())
 }
 
-// There is no mark: they stay as they are, and what agrees in all but the mark is the same.
+// There is no flag: they stay as they are, and what agrees in all but the flag is the same.
 fn complete_tokens<'t, T>(s: &mut TokenSlice<'t, T>)
     ensures kept { s.old ≡ s.new }
-    ensures same { (s t : TokenSlice T) → ⟦<TokenSlice<'t, T> as StreamIsPartial>⟧.same_but_mark s t
+    ensures same { (s t : TokenSlice T) → ⟦<TokenSlice<'t, T> as StreamIsPartial>⟧.same_but_flag s t
         → s ≡ t }
 {
     s.complete();
@@ -239,7 +239,7 @@ fn widths_are_numbers_of_tokens(rt: HostRuntime) {
         width_from(&tokens.checkpoint(), &start.checkpoint()),
         width(&tokens),
     ];
-    let marked = marks(&mut tokens);
+    let marked = flags(&mut tokens);
     complete_tokens(&mut tokens);
     assert_eq!(rt;
         (widths, marked, tokens.as_slice()),

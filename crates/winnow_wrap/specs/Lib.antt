@@ -1,2 +1,2 @@
-pub mod Mark
+pub mod Flag
 pub mod Located

@@ -1,4 +1,4 @@
--- What a stream that knows its place holds, and a checkpoint of it. Contracts name these, and never a field.
+-- What a stream that knows its location holds, and a checkpoint of it. Contracts name these, and never a field.
 use Rattle.std.specs.Prelude.{◌≡◌, ℕ}
 use Rattle.winnow_stream.specs.Checkpoint.{checkpoint_inner}
 use Rattle.winnow_stream.specs.declared.checkpoint.Checkpoint.{Checkpoint}
@@ -8,33 +8,33 @@ use Rattle.winnow_wrap.specs.declared.located.Placed.{Placed}
 
 module _ {I C : Type 0} {i : Ghosts I} {c : Ghosts C} where
   -- the stream inside
-  abbrev pub located_input : LocatingSlice I C i c → I
-  located_input s = s.input
+  abbrev pub locating_inner : LocatingSlice I C i c → I
+  locating_inner s = s.input
 
   -- where the whole input starts: the checkpoint of the stream inside that was taken there
   abbrev pub located_start : LocatingSlice I C i c → C
   located_start s = s.start
 
-  -- the place
-  abbrev pub located_place : LocatingSlice I C i c → ℕ
-  located_place s = s.place
+  -- the location
+  abbrev pub location_of : LocatingSlice I C i c → ℕ
+  location_of s = s.location
 
   -- both may be used
   abbrev pub IsValidLocated : (I → Type 0) → (C → Type 0) → LocatingSlice I C i c → Type 0
-  IsValidLocated valid valid_checkpoint s = valid (located_input s) × valid_checkpoint (located_start s)
+  IsValidLocated valid valid_checkpoint s = valid (locating_inner s) × valid_checkpoint (located_start s)
 
   -- the start stays, and what no call changes inside
   abbrev pub KeepsLocated : (I → I → Type 0) → LocatingSlice I C i c → LocatingSlice I C i c → Type 0
-  KeepsLocated keeps s t = (located_start s ≡ located_start t) × keeps (located_input s) (located_input t)
+  KeepsLocated keeps s t = (located_start s ≡ located_start t) × keeps (locating_inner s) (locating_inner t)
 
 module _ {C : Type 0} {g : Ghosts C} where
   -- the checkpoint of the stream inside
   abbrev pub placed_inner : Placed C g → C
   placed_inner c = c.inner
 
-  -- the place
-  abbrev pub placed_at : Placed C g → ℕ
-  placed_at c = c.place
+  -- the location
+  abbrev pub placed_location : Placed C g → ℕ
+  placed_location c = c.location
 
 -- the same of a checkpoint
 module _ {C S : Type 0} {g : Ghosts C} where
@@ -42,4 +42,4 @@ module _ {C S : Type 0} {g : Ghosts C} where
   inner_at c = placed_inner (checkpoint_inner c)
 
   abbrev pub location_at : Checkpoint (Placed C g) S → ℕ
-  location_at c = placed_at (checkpoint_inner c)
+  location_at c = placed_location (checkpoint_inner c)

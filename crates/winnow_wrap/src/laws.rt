@@ -2,8 +2,8 @@ ghost use Rattle.std.specs.Prelude.{◌≡◌, ◌&&◌};
 ghost use Rattle.std.specs.Ordering.{on, then_cmp, bool_cmp};
 ghost use Rattle.winnow_stream.specs.Checkpoint.{checkpoint_inner};
 ghost use Rattle.winnow_stream.specs.declared.checkpoint.Checkpoint.{Checkpoint};
-ghost use Rattle.winnow_wrap.specs.Located.{located_input, located_start, inner_at};
-ghost use Rattle.winnow_wrap.specs.Mark.{unmarked, mark};
+ghost use Rattle.winnow_wrap.specs.Located.{locating_inner, located_start, inner_at};
+ghost use Rattle.winnow_wrap.specs.Flag.{partial_inner, flag};
 ghost use Rattle.winnow_wrap.specs.declared.located.LocatingSlice.{LocatingSlice};
 ghost use Rattle.winnow_wrap.specs.declared.located.Placed.{Placed};
 ghost use Rattle.winnow_wrap.specs.declared.partial.Partial.{Partial};
@@ -12,7 +12,7 @@ ghost use Rattle.winnow_wrap.specs.declared.stateful.Stateful.{Stateful};
 use crate::{LocatingSlice, Partial, Placed, Stateful};
 use winnow_stream::{Checkpoint, Stream};
 
-/// The law of equality: streams that know their place are compared by where the whole input starts and by the stream inside, and
+/// The law of equality: streams that know their location are compared by where the whole input starts and by the stream inside, and
 /// checkpoints by that of the stream inside, wherever they stand. It does nothing when called: its contract is the law.
 pub fn located_equality_law<I: Stream + PartialEq>()
 where
@@ -20,50 +20,50 @@ where
     ensures streams { (s t : LocatingSlice I I.Checkpoint I.Rest I.Checkpoint.Rest)
         → ⟦<LocatingSlice<I> as PartialEq>⟧.eq s t
         ≡ (I.Checkpoint.eq (located_start s) (located_start t)
-        && I.eq (located_input s) (located_input t)) }
-    ensures places { (c d : Checkpoint (Placed I.Checkpoint I.Checkpoint.Rest)
+        && I.eq (locating_inner s) (locating_inner t)) }
+    ensures checkpoints { (c d : Checkpoint (Placed I.Checkpoint I.Checkpoint.Rest)
         (LocatingSlice I I.Checkpoint I.Rest I.Checkpoint.Rest))
         → ⟦<Checkpoint<Placed<I::Checkpoint>, LocatingSlice<I>> as PartialEq>⟧.eq c d
         ≡ I.Checkpoint.eq (inner_at c) (inner_at d) }
 {}
 
-/// The law of order: streams that know their place stand to each other as the starts of the whole input do, and where these are
+/// The law of order: streams that know their location stand to each other as the starts of the whole input do, and where these are
 /// equal as the streams inside; checkpoints as those of the stream inside. It does nothing when called: its contract is the law.
 pub fn located_order_law<I: Stream + Ord>()
 where
     I::Checkpoint: Ord,
     ensures streams { (s t : LocatingSlice I I.Checkpoint I.Rest I.Checkpoint.Rest)
         → ⟦<LocatingSlice<I> as Ord>⟧.cmp s t
-        ≡ then_cmp (on located_start I.Checkpoint.cmp) (on located_input I.cmp) s t }
-    ensures places { (c d : Checkpoint (Placed I.Checkpoint I.Checkpoint.Rest)
+        ≡ then_cmp (on located_start I.Checkpoint.cmp) (on locating_inner I.cmp) s t }
+    ensures checkpoints { (c d : Checkpoint (Placed I.Checkpoint I.Checkpoint.Rest)
         (LocatingSlice I I.Checkpoint I.Rest I.Checkpoint.Rest))
         → ⟦<Checkpoint<Placed<I::Checkpoint>, LocatingSlice<I>> as Ord>⟧.cmp c d
         ≡ I.Checkpoint.cmp (inner_at c) (inner_at d) }
 {}
 
-/// The law of equality: streams with a mark are compared by the stream inside and the mark, and checkpoints by that of the stream
+/// The law of equality: streams with a flag are compared by the stream inside and the flag, and checkpoints by that of the stream
 /// inside. It does nothing when called: its contract is the law.
-pub fn marked_equality_law<I: Stream + PartialEq>()
+pub fn flagged_equality_law<I: Stream + PartialEq>()
 where
     I::Checkpoint: PartialEq,
     ensures streams { (s t : Partial I)
         → ⟦<Partial<I> as PartialEq>⟧.eq s t
-        ≡ (I.eq (unmarked s) (unmarked t) && ⟦<bool as PartialEq>⟧.eq (mark s) (mark t)) }
-    ensures places { (c d : Checkpoint I.Checkpoint (Partial I))
+        ≡ (I.eq (partial_inner s) (partial_inner t) && ⟦<bool as PartialEq>⟧.eq (flag s) (flag t)) }
+    ensures checkpoints { (c d : Checkpoint I.Checkpoint (Partial I))
         → ⟦<Checkpoint<I::Checkpoint, Partial<I>> as PartialEq>⟧.eq c d
         ≡ I.Checkpoint.eq (checkpoint_inner c) (checkpoint_inner d) }
 {}
 
-/// The law of order: streams with a mark stand to each other as the streams inside do, and where these are equal as the marks, of
+/// The law of order: streams with a flag stand to each other as the streams inside do, and where these are equal as the flags, of
 /// which the one that is set is the greater; checkpoints as those of the stream inside. It does nothing when called: its contract is
 /// the law.
-pub fn marked_order_law<I: Stream + Ord>()
+pub fn flagged_order_law<I: Stream + Ord>()
 where
     I::Checkpoint: Ord,
     ensures streams { (s t : Partial I)
         → ⟦<Partial<I> as Ord>⟧.cmp s t
-        ≡ then_cmp (on unmarked I.cmp) (on mark bool_cmp) s t }
-    ensures places { (c d : Checkpoint I.Checkpoint (Partial I))
+        ≡ then_cmp (on partial_inner I.cmp) (on flag bool_cmp) s t }
+    ensures checkpoints { (c d : Checkpoint I.Checkpoint (Partial I))
         → ⟦<Checkpoint<I::Checkpoint, Partial<I>> as Ord>⟧.cmp c d
         ≡ I.Checkpoint.cmp (checkpoint_inner c) (checkpoint_inner d) }
 {}
@@ -76,7 +76,7 @@ where
     ensures streams { (s t : Stateful I S)
         → ⟦<Stateful<I, S> as PartialEq>⟧.eq s t
         ≡ (I.eq s.input t.input && S.eq s.state t.state) }
-    ensures places { (c d : Checkpoint I.Checkpoint (Stateful I S))
+    ensures checkpoints { (c d : Checkpoint I.Checkpoint (Stateful I S))
         → ⟦<Checkpoint<I::Checkpoint, Stateful<I, S>> as PartialEq>⟧.eq c d
         ≡ I.Checkpoint.eq (checkpoint_inner c) (checkpoint_inner d) }
 {}

@@ -1,6 +1,6 @@
 //! Wrappers round streams: what a parser carries along with its input.
 //!
-//! [`LocatingSlice`] knows its place in the whole input, [`Stateful`] carries a state, [`Partial`] a mark that more input may
+//! [`LocatingSlice`] knows its location in the whole input, [`Stateful`] carries a state, [`Partial`] a flag that more input may
 //! follow. Each meets the whole of `Stream` from the stream inside alone, so they nest as one likes over any stream.
 #![tactic(auto)]
 
@@ -11,7 +11,7 @@ mod partial;
 mod stateful;
 
 pub use laws::{
-    located_equality_law, located_order_law, marked_equality_law, marked_order_law,
+    flagged_equality_law, flagged_order_law, located_equality_law, located_order_law,
     stateful_equality_law,
 };
 pub use located::{LocatingSlice, Placed};

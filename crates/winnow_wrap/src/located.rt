@@ -3,9 +3,9 @@ ghost use Rattle.std.specs.Prelude.{◌≡◌, ◌+◌, ◌<◌, ◌^◌, ⊤};
 use std::alloc::AllocError;
 use winnow_stream::{Rest, Stream};
 
-/// A stream that knows its place in the whole input: where a token starts and ends, for spans and messages.
+/// A stream that knows its location in the whole input: where a token starts and ends, for spans and messages.
 ///
-/// The place is 0 at first and moves by the width that is taken. In a window, which `update_slice` makes, it is the place in
+/// The location is 0 at first and moves by the width that is taken. In a window, which `update_slice` makes, it is the location in
 /// the whole input still. Two of them are compared by the whole input, and then by what remains.
 ///
 /// `C` is always the checkpoint of `I`: write `LocatingSlice<I>`.
@@ -15,19 +15,19 @@ pub struct LocatingSlice<I: Rest, C: Rest = <I as Stream>::Checkpoint> {
     pub(crate) start: C,
     pub(crate) input: I,
     #[derive_where(skip(EqHashOrd))]
-    pub(crate) place: usize,
-    ghost fits: { place + I.rest_width input < 2 ^ 64 },
+    pub(crate) location: usize,
+    ghost fits: { location + I.rest_width input < 2 ^ 64 },
     ghost start_fits: { C.rest_width start < 2 ^ 64 },
 }
 
-/// What a checkpoint of a [`LocatingSlice`] holds: that of the stream inside, and the place.
+/// What a checkpoint of a [`LocatingSlice`] holds: that of the stream inside, and the location.
 #[derive(Drop)]
 #[derive_where(PartialEq, Eq, PartialOrd, Ord; C)]
 pub struct Placed<C: Rest> {
     pub(crate) inner: C,
     #[derive_where(skip(EqHashOrd))]
-    pub(crate) place: usize,
-    ghost fits: { place + C.rest_width inner < 2 ^ 64 },
+    pub(crate) location: usize,
+    ghost fits: { location + C.rest_width inner < 2 ^ 64 },
 }
 
 impl<I: Rest + Copy, C: Rest + Copy> Clone for LocatingSlice<I, C> {

@@ -2,8 +2,8 @@ ghost use Rattle.std.specs.Prelude.{◌≡◌, ◌+◌, [], Some, take, drop, Is
 ghost use Rattle.std.proofs.Common.{◌∙◌, subst};
 ghost use Rattle.winnow_stream.specs.Source.{width, first_token};
 ghost use Rattle.winnow_stream.specs.Front.{is_offset, back, front, IsSomeFront};
-ghost use Rattle.winnow_wrap.specs.Located.{located_input, located_start, located_place};
-ghost use Rattle.winnow_wrap.specs.Located.{IsValidLocated, KeepsLocated, placed_inner, placed_at};
+ghost use Rattle.winnow_wrap.specs.Located.{locating_inner, located_start, location_of};
+ghost use Rattle.winnow_wrap.specs.Located.{IsValidLocated, KeepsLocated, placed_inner, placed_location};
 ghost use Rattle.winnow_wrap.specs.Located.{inner_at, location_at};
 
 use crate::{LocatingSlice, Placed};
@@ -19,7 +19,7 @@ use winnow_stream::{
 impl<C: Rest> Rest for Placed<C> {
     ghost rest_width = { λ c. C.rest_width (placed_inner c) };
 
-    ghost place = { λ c. Some (placed_at c) };
+    ghost location = { λ c. Some (placed_location c) };
 }
 
 impl<C: Offset<C>> Offset<Placed<C>> for Placed<C> {
@@ -40,42 +40,42 @@ impl<C: Debug + Rest> Debug for Placed<C> {
 }
 
 impl<I: Stream<Checkpoint = C>, C: Rest + Copy + Debug> LocatingSlice<I, C> {
-    /// Returns the stream at place 0: what remains of it is the whole input.
+    /// Returns the stream at location 0: what remains of it is the whole input.
     pub fn new(input: I) -> Self
         requires { I.valid input }
-        ensures input { located_input result ≡ input }
+        ensures input { locating_inner result ≡ input }
         ensures start { I.remained (located_start result) ≡ I.remaining input }
         ensures valid { IsValidLocated I.valid I.valid_checkpoint result }
-        ensures place { located_place result ≡ 0 }
+        ensures location { location_of result ≡ 0 }
     {
         let start = input.checkpoint();
-        // That its width is a `usize` is why a place fits one.
+        // That its width is a `usize` is why a location fits one.
         let _whole = input.eof_offset();
         LocatingSlice {
             start,
             input,
-            place: 0,
+            location: 0,
         }
     }
 
-    /// Goes back to the whole input, also out of a window: the place is 0.
+    /// Goes back to the whole input, also out of a window: the location is 0.
     pub fn reset_to_start(&mut self)
         requires { IsValidLocated I.valid I.valid_checkpoint self.old }
-        ensures remains { I.remaining (located_input self.new)
+        ensures remains { I.remaining (locating_inner self.new)
             ≡ I.remained (located_start self.old) }
         ensures valid { IsValidLocated I.valid I.valid_checkpoint self.new }
         ensures kept { KeepsLocated I.keeps self.old self.new }
-        ensures place { located_place self.new ≡ 0 }
+        ensures location { location_of self.new ≡ 0 }
     {
         self.input.reset(&self.start);
-        self.place = 0;
+        self.location = 0;
     }
 }
 
 impl<I: Rest, C: Rest> LocatingSlice<I, C> {
     /// Returns the stream inside.
     pub fn inner(&self) -> &I
-        ensures { result.now ≡ located_input self.now }
+        ensures { result.now ≡ locating_inner self.now }
     {
         &self.input
     }
@@ -84,7 +84,7 @@ impl<I: Rest, C: Rest> LocatingSlice<I, C> {
 impl<I: Rest, C: Rest> Deref for LocatingSlice<I, C> {
     type Target = I;
 
-    ghost deref_gives = { λ s t. t ≡ located_input s };
+    ghost deref_gives = { λ s t. t ≡ locating_inner s };
 
     fn deref(&self) -> &I {
         &self.input
@@ -92,16 +92,16 @@ impl<I: Rest, C: Rest> Deref for LocatingSlice<I, C> {
 }
 
 impl<I: Rest, C: Rest> Rest for LocatingSlice<I, C> {
-    ghost rest_width = { λ s. I.rest_width (located_input s) };
+    ghost rest_width = { λ s. I.rest_width (locating_inner s) };
 
     ghost same_rest = { λ s t. (located_start s ≡ located_start t)
-        × (located_place s ≡ located_place t)
-        × I.same_rest (located_input s) (located_input t) };
+        × (location_of s ≡ location_of t)
+        × I.same_rest (locating_inner s) (locating_inner t) };
 
-    ghost place = { λ s. Some (located_place s) };
+    ghost location = { λ s. Some (location_of s) };
 }
 
-/// What remains is what remains inside, and the start is kept. Each call says what becomes of the place.
+/// What remains is what remains inside, and the start is kept. Each call says what becomes of the location.
 impl<I: Stream<Checkpoint = C>, C: Rest + Copy + Debug> Stream for LocatingSlice<I, C> {
     type Token = I::Token;
 
@@ -111,7 +111,7 @@ impl<I: Stream<Checkpoint = C>, C: Rest + Copy + Debug> Stream for LocatingSlice
 
     type Checkpoint = Checkpoint<Placed<C>, Self>;
 
-    ghost remaining = { λ s. I.remaining (located_input s) };
+    ghost remaining = { λ s. I.remaining (locating_inner s) };
 
     ghost valid = { IsValidLocated I.valid I.valid_checkpoint };
 
@@ -125,27 +125,27 @@ impl<I: Stream<Checkpoint = C>, C: Rest + Copy + Debug> Stream for LocatingSlice
 
     ghost keeps = { KeepsLocated I.keeps };
 
-    ghost positive_widths = { λ s v. I.positive_widths (located_input s) v.0 };
+    ghost positive_widths = { λ s v. I.positive_widths (locating_inner s) v.0 };
 
     ghost positive_widths_remained = { λ c v. I.positive_widths_remained (inner_at c) v };
 
-    ghost rest_width_remaining = { λ s v. I.rest_width_remaining (located_input s) v.0 };
+    ghost rest_width_remaining = { λ s v. I.rest_width_remaining (locating_inner s) v.0 };
 
     ghost rest_width_remained = { λ c v. I.rest_width_remained (inner_at c) v };
 
     ghost same_rest_remaining = { λ s t e.
-        I.same_rest_remaining (located_input s) (located_input t) e.2 };
+        I.same_rest_remaining (locating_inner s) (locating_inner t) e.2 };
 
     ghost same_rest_valid = { λ s t e v. (
-      I.same_rest_valid (located_input s) (located_input t) e.2 v.0,
+      I.same_rest_valid (locating_inner s) (locating_inner t) e.2 v.0,
       subst I.valid_checkpoint e.0 v.1,
     ) };
 
-    ghost keeps_reflexive = { λ s. (refl, I.keeps_reflexive (located_input s)) };
+    ghost keeps_reflexive = { λ s. (refl, I.keeps_reflexive (locating_inner s)) };
 
     ghost keeps_transitive = { λ s t u p q. (
       p.0 ∙ q.0,
-      I.keeps_transitive (located_input s) (located_input t) (located_input u) p.1 q.1,
+      I.keeps_transitive (locating_inner s) (locating_inner t) (locating_inner u) p.1 q.1,
     ) };
 
     fn iter_offsets(&self) -> I::IterOffsets {
@@ -158,17 +158,17 @@ impl<I: Stream<Checkpoint = C>, C: Rest + Copy + Debug> Stream for LocatingSlice
 
     fn next_token(&mut self) -> Option<I::Token>
         requires { IsValidLocated I.valid I.valid_checkpoint self.old }
-        ensures answer { result ≡ first_token (I.remaining (located_input self.old)) }
-        ensures remains { I.remaining (located_input self.new)
-            ≡ drop 1 (I.remaining (located_input self.old)) }
+        ensures answer { result ≡ first_token (I.remaining (locating_inner self.old)) }
+        ensures remains { I.remaining (locating_inner self.new)
+            ≡ drop 1 (I.remaining (locating_inner self.old)) }
         ensures valid { IsValidLocated I.valid I.valid_checkpoint self.new }
         ensures kept { KeepsLocated I.keeps self.old self.new }
-        ensures place { located_place self.new
-            ≡ located_place self.old + width (take 1 (I.remaining (located_input self.old))) }
+        ensures location { location_of self.new
+            ≡ location_of self.old + width (take 1 (I.remaining (locating_inner self.old))) }
     {
         let before = self.input.eof_offset();
         let token = self.input.next_token();
-        self.place += before - self.input.eof_offset();
+        self.location += before - self.input.eof_offset();
         token
     }
 
@@ -186,16 +186,16 @@ impl<I: Stream<Checkpoint = C>, C: Rest + Copy + Debug> Stream for LocatingSlice
 
     fn next_slice(&mut self, offset: usize) -> I::Slice
         requires valid { IsValidLocated I.valid I.valid_checkpoint self.old }
-        requires offset { IsTrue (is_offset (I.remaining (located_input self.old)) offset) }
-        ensures answer { I.is_slice result (I.remaining (located_input self.old)) offset }
-        ensures remains { I.remaining (located_input self.new)
-            ≡ back (I.remaining (located_input self.old)) offset }
+        requires offset { IsTrue (is_offset (I.remaining (locating_inner self.old)) offset) }
+        ensures answer { I.is_slice result (I.remaining (locating_inner self.old)) offset }
+        ensures remains { I.remaining (locating_inner self.new)
+            ≡ back (I.remaining (locating_inner self.old)) offset }
         ensures valid { IsValidLocated I.valid I.valid_checkpoint self.new }
         ensures kept { KeepsLocated I.keeps self.old self.new }
-        ensures place { located_place self.new ≡ located_place self.old + offset }
+        ensures location { location_of self.new ≡ location_of self.old + offset }
     {
         let slice = self.input.next_slice(offset);
-        self.place += offset;
+        self.location += offset;
         slice
     }
 
@@ -205,17 +205,17 @@ impl<I: Stream<Checkpoint = C>, C: Rest + Copy + Debug> Stream for LocatingSlice
 
     fn finish(&mut self) -> I::Slice
         requires { IsValidLocated I.valid I.valid_checkpoint self.old }
-        ensures answer { I.is_slice result (I.remaining (located_input self.old))
-            (width (I.remaining (located_input self.old))) }
-        ensures remains { I.remaining (located_input self.new) ≡ [] }
+        ensures answer { I.is_slice result (I.remaining (locating_inner self.old))
+            (width (I.remaining (locating_inner self.old))) }
+        ensures remains { I.remaining (locating_inner self.new) ≡ [] }
         ensures valid { IsValidLocated I.valid I.valid_checkpoint self.new }
         ensures kept { KeepsLocated I.keeps self.old self.new }
-        ensures place { located_place self.new
-            ≡ located_place self.old + width (I.remaining (located_input self.old)) }
+        ensures location { location_of self.new
+            ≡ location_of self.old + width (I.remaining (locating_inner self.old)) }
     {
         let taken = self.input.eof_offset();
         let slice = self.input.finish();
-        self.place += taken;
+        self.location += taken;
         slice
     }
 
@@ -225,28 +225,28 @@ impl<I: Stream<Checkpoint = C>, C: Rest + Copy + Debug> Stream for LocatingSlice
 
     fn checkpoint(&self) -> Checkpoint<Placed<C>, Self>
         requires { IsValidLocated I.valid I.valid_checkpoint self.now }
-        ensures means { I.remained (inner_at result) ≡ I.remaining (located_input self.now) }
+        ensures means { I.remained (inner_at result) ≡ I.remaining (locating_inner self.now) }
         ensures valid { I.valid_checkpoint (inner_at result) }
-        ensures place { location_at result ≡ located_place self.now }
+        ensures location { location_at result ≡ location_of self.now }
     {
         Checkpoint::new(Placed {
             inner: self.input.checkpoint(),
-            place: self.place,
+            location: self.location,
         })
     }
 
     fn reset(&mut self, checkpoint: &Checkpoint<Placed<C>, Self>)
         requires valid { IsValidLocated I.valid I.valid_checkpoint self.old }
         requires valid_checkpoint { I.valid_checkpoint (inner_at checkpoint.now) }
-        ensures remains { I.remaining (located_input self.new)
+        ensures remains { I.remaining (locating_inner self.new)
             ≡ I.remained (inner_at checkpoint.now) }
         ensures valid { IsValidLocated I.valid I.valid_checkpoint self.new }
         ensures kept { KeepsLocated I.keeps self.old self.new }
-        ensures place { located_place self.new ≡ location_at checkpoint.now }
+        ensures location { location_of self.new ≡ location_at checkpoint.now }
     {
         let placed = checkpoint.inner();
         self.input.reset(&placed.inner);
-        self.place = placed.place;
+        self.location = placed.location;
     }
 
     fn offset_since(&self, start: &Checkpoint<Placed<C>, Self>) -> usize {
@@ -259,7 +259,7 @@ impl<I: Stream<Checkpoint = C>, C: Rest + Copy + Debug> Stream for LocatingSlice
 }
 
 impl<I: Offset<I>, C: Rest> Offset<LocatingSlice<I, C>> for LocatingSlice<I, C> {
-    ghost can_measure = { λ s start. I.can_measure (located_input s) (located_input start) };
+    ghost can_measure = { λ s start. I.can_measure (locating_inner s) (locating_inner start) };
 
     fn offset_from(&self, start: &LocatingSlice<I, C>) -> usize {
         self.input.offset_from(&start.input)
@@ -268,7 +268,7 @@ impl<I: Offset<I>, C: Rest> Offset<LocatingSlice<I, C>> for LocatingSlice<I, C> 
 
 impl<I: Offset<C>, C: Rest> Offset<Checkpoint<Placed<C>, LocatingSlice<I, C>>>
     for LocatingSlice<I, C> {
-    ghost can_measure = { λ s c. I.can_measure (located_input s) (inner_at c) };
+    ghost can_measure = { λ s c. I.can_measure (locating_inner s) (inner_at c) };
 
     fn offset_from(&self, start: &Checkpoint<Placed<C>, LocatingSlice<I, C>>) -> usize {
         self.input.offset_from(&start.inner().inner)
@@ -276,9 +276,9 @@ impl<I: Offset<C>, C: Rest> Offset<Checkpoint<Placed<C>, LocatingSlice<I, C>>>
 }
 
 impl<I: SliceLen + Rest, C: Rest> SliceLen for LocatingSlice<I, C> {
-    ghost has_width = { λ s. I.has_width (located_input s) };
+    ghost has_width = { λ s. I.has_width (locating_inner s) };
 
-    ghost width_of = { λ s. I.width_of (located_input s) };
+    ghost width_of = { λ s. I.width_of (locating_inner s) };
 
     fn slice_len(&self) -> usize {
         self.input.slice_len()
@@ -293,41 +293,41 @@ impl<I: UpdateSlice + Stream<Checkpoint = C>, C: Rest + Copy + Debug> UpdateSlic
         requires is_prefix { IsSomeFront I.is_slice inner (I.remained (inner_at at.now)) }
         ensures remains { (n : ℕ) → IsTrue (is_offset (I.remained (inner_at at.now)) n)
             → I.is_slice inner (I.remained (inner_at at.now)) n
-            → I.remaining (located_input result) ≡ front (I.remained (inner_at at.now)) n }
+            → I.remaining (locating_inner result) ≡ front (I.remained (inner_at at.now)) n }
         ensures valid { IsValidLocated I.valid I.valid_checkpoint result }
         ensures kept { KeepsLocated I.keeps self result }
-        ensures place { located_place result ≡ location_at at.now }
+        ensures location { location_of result ≡ location_at at.now }
     {
         let LocatingSlice {
             start,
             input,
-            place: _,
+            location: _,
         } = self;
         let placed = at.inner();
         LocatingSlice {
             start,
             input: input.update_slice(inner, &placed.inner),
-            place: placed.place,
+            location: placed.location,
         }
     }
 }
 
 impl<I: Rest, C: Rest> Location for LocatingSlice<I, C> {
-    ghost token_end = { located_place };
+    ghost token_end = { location_of };
 
-    ghost token_start = { located_place };
+    ghost token_start = { location_of };
 
     fn previous_token_end(&self) -> usize {
-        self.place
+        self.location
     }
 
     fn current_token_start(&self) -> usize {
-        self.place
+        self.location
     }
 }
 
 impl<I: AsBytes + Rest, C: Rest> AsBytes for LocatingSlice<I, C> {
-    ghost bytes = { λ s. I.bytes (located_input s) };
+    ghost bytes = { λ s. I.bytes (locating_inner s) };
 
     fn as_bytes(&self) -> &[u8] {
         self.input.as_bytes()
@@ -335,7 +335,7 @@ impl<I: AsBytes + Rest, C: Rest> AsBytes for LocatingSlice<I, C> {
 }
 
 impl<I: AsBStr + Rest, C: Rest> AsBStr for LocatingSlice<I, C> {
-    ghost text_bytes = { λ s. I.text_bytes (located_input s) };
+    ghost text_bytes = { λ s. I.text_bytes (locating_inner s) };
 
     fn as_bstr(&self) -> &[u8] {
         self.input.as_bstr()
@@ -347,17 +347,17 @@ impl<I: StreamIsPartial, C: Rest> StreamIsPartial for LocatingSlice<I, C> {
 
     ghost supports_partial = { I.supports_partial };
 
-    ghost partial_state = { λ s. I.partial_state (located_input s) };
+    ghost partial_state = { λ s. I.partial_state (locating_inner s) };
 
-    ghost expects_more = { λ s. I.expects_more (located_input s) };
+    ghost expects_more = { λ s. I.expects_more (locating_inner s) };
 
-    ghost same_but_mark = { λ s t. (located_start s ≡ located_start t)
-        × (located_place s ≡ located_place t)
-        × I.same_but_mark (located_input s) (located_input t) };
+    ghost same_but_flag = { λ s t. (located_start s ≡ located_start t)
+        × (location_of s ≡ location_of t)
+        × I.same_but_flag (locating_inner s) (locating_inner t) };
 
-    ghost mark_tells = { λ s t. I.mark_tells (located_input s) (located_input t) };
+    ghost flag_decides = { λ s t. I.flag_decides (locating_inner s) (locating_inner t) };
 
-    ghost no_mark = { λ unsupported s. I.no_mark unsupported (located_input s) };
+    ghost no_flag = { λ unsupported s. I.no_flag unsupported (locating_inner s) };
 
     fn complete(&mut self) -> I::PartialState {
         self.input.complete()
@@ -398,9 +398,9 @@ impl<I: FindSlice<T> + Stream<Checkpoint = C>, C: Rest + Copy + Debug, T> FindSl
 
 /// As the stream inside, under the options of a hole too.
 impl<I: Display + Rest, C: Rest> Display for LocatingSlice<I, C> {
-    ghost output = { λ s. I.output (located_input s) };
+    ghost output = { λ s. I.output (locating_inner s) };
 
-    ghost styled_output = { λ s. I.styled_output (located_input s) };
+    ghost styled_output = { λ s. I.styled_output (locating_inner s) };
 
     fn fmt<W: fmt::Write>(&self, f: &mut fmt::Formatter<W>) -> fmt::Result {
         Display::fmt(&self.input, f)
@@ -409,7 +409,7 @@ impl<I: Display + Rest, C: Rest> Display for LocatingSlice<I, C> {
 
 /// As the stream inside.
 impl<I: Debug + Rest, C: Rest> Debug for LocatingSlice<I, C> {
-    ghost debug_output = { λ s. I.debug_output (located_input s) };
+    ghost debug_output = { λ s. I.debug_output (locating_inner s) };
 
     fn fmt<W: fmt::Write>(&self, f: &mut fmt::Formatter<W>) -> fmt::Result {
         self.input.fmt(f)

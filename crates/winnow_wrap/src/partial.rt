@@ -1,7 +1,7 @@
 ghost use Rattle.std.specs.Prelude.{◌≡◌, true, false, refl};
 ghost use Rattle.std.proofs.Common.{◌∙◌, sym, ap, subst, true≢false};
 ghost use Rattle.winnow_stream.specs.Checkpoint.{checkpoint_inner};
-ghost use Rattle.winnow_wrap.specs.Mark.{unmarked, mark};
+ghost use Rattle.winnow_wrap.specs.Flag.{partial_inner, flag};
 
 use std::fmt;
 use std::fmt::Display;
@@ -12,7 +12,7 @@ use winnow_stream::{
     UpdateSlice,
 };
 
-/// A stream with a mark that more input may follow. The mark starts set, `complete` clears it, and `reset` leaves it.
+/// A stream with a flag that more input may follow. The flag starts set, `complete` clears it, and `reset` leaves it.
 ///
 /// At the end of what remains, a parser asks `is_partial`: where more may follow, it answers that it needs more.
 #[derive(Clone, Copy, Debug, Drop, PartialEq, Eq, PartialOrd, Ord)]
@@ -22,13 +22,13 @@ pub struct Partial<I> {
 }
 
 impl<I> Partial<I> {
-    /// Returns the stream with its mark set. The stream inside has none of its own.
+    /// Returns the stream with its flag set. The stream inside has none of its own.
     pub fn new(input: I) -> Self
     where
         I: StreamIsPartial,
         requires { I.supports_partial ≡ false }
-        ensures input { unmarked result ≡ input }
-        ensures mark { mark result ≡ true }
+        ensures input { partial_inner result ≡ input }
+        ensures flag { flag result ≡ true }
     {
         Partial {
             input,
@@ -38,7 +38,7 @@ impl<I> Partial<I> {
 
     /// Returns the stream inside.
     pub fn into_inner(self) -> I
-        ensures { result ≡ unmarked self }
+        ensures { result ≡ partial_inner self }
     {
         let Partial { input, partial: _ } = self;
         input
@@ -48,7 +48,7 @@ impl<I> Partial<I> {
 impl<I> Deref for Partial<I> {
     type Target = I;
 
-    ghost deref_gives = { λ s t. t ≡ unmarked s };
+    ghost deref_gives = { λ s t. t ≡ partial_inner s };
 
     fn deref(&self) -> &I {
         &self.input
@@ -56,15 +56,15 @@ impl<I> Deref for Partial<I> {
 }
 
 impl<I: Rest> Rest for Partial<I> {
-    ghost rest_width = { λ s. I.rest_width (unmarked s) };
+    ghost rest_width = { λ s. I.rest_width (partial_inner s) };
 
-    // The mark is no part of what remains.
-    ghost same_rest = { λ s t. unmarked s ≡ unmarked t };
+    // The flag is no part of what remains.
+    ghost same_rest = { λ s t. partial_inner s ≡ partial_inner t };
 
-    ghost place = { λ s. I.place (unmarked s) };
+    ghost location = { λ s. I.location (partial_inner s) };
 }
 
-/// What remains is what remains inside, and the mark is kept.
+/// What remains is what remains inside, and the flag is kept.
 impl<I: Stream> Stream for Partial<I> {
     type Token = I::Token;
 
@@ -74,9 +74,9 @@ impl<I: Stream> Stream for Partial<I> {
 
     type Checkpoint = Checkpoint<I::Checkpoint, Self>;
 
-    ghost remaining = { λ s. I.remaining (unmarked s) };
+    ghost remaining = { λ s. I.remaining (partial_inner s) };
 
-    ghost valid = { λ s. I.valid (unmarked s) };
+    ghost valid = { λ s. I.valid (partial_inner s) };
 
     ghost remained = { λ c. I.remained (checkpoint_inner c) };
 
@@ -86,13 +86,13 @@ impl<I: Stream> Stream for Partial<I> {
 
     ghost counts_missing = { I.counts_missing };
 
-    ghost keeps = { λ s t. (mark s ≡ mark t) × I.keeps (unmarked s) (unmarked t) };
+    ghost keeps = { λ s t. (flag s ≡ flag t) × I.keeps (partial_inner s) (partial_inner t) };
 
-    ghost positive_widths = { λ s v. I.positive_widths (unmarked s) v };
+    ghost positive_widths = { λ s v. I.positive_widths (partial_inner s) v };
 
     ghost positive_widths_remained = { λ c v. I.positive_widths_remained (checkpoint_inner c) v };
 
-    ghost rest_width_remaining = { λ s v. I.rest_width_remaining (unmarked s) v };
+    ghost rest_width_remaining = { λ s v. I.rest_width_remaining (partial_inner s) v };
 
     ghost rest_width_remained = { λ c v. I.rest_width_remained (checkpoint_inner c) v };
 
@@ -100,11 +100,11 @@ impl<I: Stream> Stream for Partial<I> {
 
     ghost same_rest_valid = { λ s t e v. subst I.valid e v };
 
-    ghost keeps_reflexive = { λ s. (refl, I.keeps_reflexive (unmarked s)) };
+    ghost keeps_reflexive = { λ s. (refl, I.keeps_reflexive (partial_inner s)) };
 
     ghost keeps_transitive = { λ s t u p q. (
       p.0 ∙ q.0,
-      I.keeps_transitive (unmarked s) (unmarked t) (unmarked u) p.1 q.1,
+      I.keeps_transitive (partial_inner s) (partial_inner t) (partial_inner u) p.1 q.1,
     ) };
 
     fn iter_offsets(&self) -> I::IterOffsets {
@@ -165,7 +165,7 @@ impl<I: Stream> Stream for Partial<I> {
 }
 
 impl<I: Offset<I>> Offset<Partial<I>> for Partial<I> {
-    ghost can_measure = { λ s start. I.can_measure (unmarked s) (unmarked start) };
+    ghost can_measure = { λ s start. I.can_measure (partial_inner s) (partial_inner start) };
 
     fn offset_from(&self, start: &Partial<I>) -> usize {
         self.input.offset_from(&start.input)
@@ -173,7 +173,7 @@ impl<I: Offset<I>> Offset<Partial<I>> for Partial<I> {
 }
 
 impl<I: Offset<C>, C: Rest> Offset<Checkpoint<C, Partial<I>>> for Partial<I> {
-    ghost can_measure = { λ s c. I.can_measure (unmarked s) (checkpoint_inner c) };
+    ghost can_measure = { λ s c. I.can_measure (partial_inner s) (checkpoint_inner c) };
 
     fn offset_from(&self, start: &Checkpoint<C, Partial<I>>) -> usize {
         self.input.offset_from(start.inner())
@@ -181,9 +181,9 @@ impl<I: Offset<C>, C: Rest> Offset<Checkpoint<C, Partial<I>>> for Partial<I> {
 }
 
 impl<I: SliceLen> SliceLen for Partial<I> {
-    ghost has_width = { λ s. I.has_width (unmarked s) };
+    ghost has_width = { λ s. I.has_width (partial_inner s) };
 
-    ghost width_of = { λ s. I.width_of (unmarked s) };
+    ghost width_of = { λ s. I.width_of (partial_inner s) };
 
     fn slice_len(&self) -> usize {
         self.input.slice_len()
@@ -201,9 +201,9 @@ impl<I: UpdateSlice> UpdateSlice for Partial<I> {
 }
 
 impl<I: Location> Location for Partial<I> {
-    ghost token_end = { λ s. I.token_end (unmarked s) };
+    ghost token_end = { λ s. I.token_end (partial_inner s) };
 
-    ghost token_start = { λ s. I.token_start (unmarked s) };
+    ghost token_start = { λ s. I.token_start (partial_inner s) };
 
     fn previous_token_end(&self) -> usize {
         self.input.previous_token_end()
@@ -215,7 +215,7 @@ impl<I: Location> Location for Partial<I> {
 }
 
 impl<I: AsBytes> AsBytes for Partial<I> {
-    ghost bytes = { λ s. I.bytes (unmarked s) };
+    ghost bytes = { λ s. I.bytes (partial_inner s) };
 
     fn as_bytes(&self) -> &[u8] {
         self.input.as_bytes()
@@ -223,7 +223,7 @@ impl<I: AsBytes> AsBytes for Partial<I> {
 }
 
 impl<I: AsBStr> AsBStr for Partial<I> {
-    ghost text_bytes = { λ s. I.text_bytes (unmarked s) };
+    ghost text_bytes = { λ s. I.text_bytes (partial_inner s) };
 
     fn as_bstr(&self) -> &[u8] {
         self.input.as_bstr()
@@ -235,20 +235,20 @@ impl<I: Rest> StreamIsPartial for Partial<I> {
 
     ghost supports_partial = { true };
 
-    ghost partial_state = { mark };
+    ghost partial_state = { flag };
 
-    ghost expects_more = { mark };
+    ghost expects_more = { flag };
 
-    ghost same_but_mark = { λ s t. unmarked s ≡ unmarked t };
+    ghost same_but_flag = { λ s t. partial_inner s ≡ partial_inner t };
 
-    ghost mark_tells = { λ _ _ same. same };
+    ghost flag_decides = { λ _ _ same. same };
 
-    ghost no_mark = { λ unsupported _. absurd (true≢false unsupported) };
+    ghost no_flag = { λ unsupported _. absurd (true≢false unsupported) };
 
     fn complete(&mut self) -> bool {
-        let mark = self.partial;
+        let flag = self.partial;
         self.partial = false;
-        mark
+        flag
     }
 
     fn restore_partial(&mut self, state: bool) {
@@ -284,9 +284,9 @@ impl<I: FindSlice<T>, T> FindSlice<T> for Partial<I> {
 
 /// As the stream inside, under the options of a hole too.
 impl<I: Display> Display for Partial<I> {
-    ghost output = { λ s. I.output (unmarked s) };
+    ghost output = { λ s. I.output (partial_inner s) };
 
-    ghost styled_output = { λ s. I.styled_output (unmarked s) };
+    ghost styled_output = { λ s. I.styled_output (partial_inner s) };
 
     fn fmt<W: fmt::Write>(&self, f: &mut fmt::Formatter<W>) -> fmt::Result {
         self.input.fmt(f)

@@ -37,7 +37,7 @@ impl<I: Rest, S> Rest for Stateful<I, S> {
 
     ghost same_rest = { λ s t. I.same_rest s.input t.input };
 
-    ghost place = { λ s. I.place s.input };
+    ghost location = { λ s. I.location s.input };
 }
 
 /// What remains is what remains inside, and the state is kept.
@@ -215,11 +215,11 @@ impl<I: StreamIsPartial, S> StreamIsPartial for Stateful<I, S> {
 
     ghost expects_more = { λ s. I.expects_more s.input };
 
-    ghost same_but_mark = { λ s t. (s.state ≡ t.state) × I.same_but_mark s.input t.input };
+    ghost same_but_flag = { λ s t. (s.state ≡ t.state) × I.same_but_flag s.input t.input };
 
-    ghost mark_tells = { λ s t. I.mark_tells s.input t.input };
+    ghost flag_decides = { λ s t. I.flag_decides s.input t.input };
 
-    ghost no_mark = { λ unsupported s. I.no_mark unsupported s.input };
+    ghost no_flag = { λ unsupported s. I.no_flag unsupported s.input };
 
     fn complete(&mut self) -> I::PartialState {
         self.input.complete()

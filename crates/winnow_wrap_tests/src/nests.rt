@@ -18,7 +18,7 @@ type Mode = ErrMode<EmptyError>;
 
 const SCRIPT: [Step<NoSet>; 8] = [Next, Mark, Take(1), Since(0), Reset(0), At(9), Peek, Each];
 
-// A recorded error, and what a script through four wrappers answers and leaves: the mark, the state, the place, and what stands
+// A recorded error, and what a script through four wrappers answers and leaves: the flag, the state, the place, and what stands
 // inside them.
 fn told_inside<I: Stream + StreamIsPartial + Drop>(
     alloc: Global,
@@ -29,7 +29,7 @@ where
     I::Token: Drop,
     I::Slice: Drop,
     requires valid { I.valid input }
-    requires unmarked { I.supports_partial ≡ false }
+    requires no_flag { I.supports_partial ≡ false }
 {
     let mut inside: Recoverable<I, Mode> = Recoverable::new(alloc, input);
     let start = inside.checkpoint();
@@ -39,9 +39,9 @@ where
         state: 7u32,
     });
     let answers = tell(alloc, &mut s, script)?;
-    let (mark, place) = (s.is_partial(), s.current_token_start());
+    let (flag, place) = (s.is_partial(), s.current_token_start());
     let Stateful { input, state } = s.into_inner();
-    format!(in alloc; "{recorded:?} {answers} {mark} {state} {place} {input:?}")
+    format!(in alloc; "{recorded:?} {answers} {flag} {state} {place} {input:?}")
 }
 
 #[test]
@@ -66,7 +66,7 @@ where
     I::Token: Drop,
     I::Slice: Drop,
     requires valid { I.valid input }
-    requires unmarked { I.supports_partial ≡ false }
+    requires no_flag { I.supports_partial ≡ false }
 {
     let inside = Partial::new(Stateful { input, state: 7u32 });
     let nest: Recoverable<_, Mode> = Recoverable::new(alloc, LocatingSlice::new(inside));
@@ -82,7 +82,7 @@ where
     I::Token: Drop,
     I::Slice: Drop,
     requires valid { I.valid input }
-    requires unmarked { I.supports_partial ≡ false }
+    requires no_flag { I.supports_partial ≡ false }
 {
     let inside: Recoverable<I, Mode> = Recoverable::unrecoverable(alloc, input);
     let nest = Stateful {
@@ -102,7 +102,7 @@ where
     I::Token: Drop,
     I::Slice: Drop,
     requires valid { I.valid input }
-    requires unmarked { I.supports_partial ≡ false }
+    requires no_flag { I.supports_partial ≡ false }
 {
     let plain = told(alloc, input, &SCRIPT)?;
     let (first, second) = (
@@ -125,7 +125,7 @@ fn every_nest_answers_as_the_stream_inside(rt: HostRuntime) -> Result<(), Fail> 
 fn traced<I: Stream + StreamIsPartial + Drop>(alloc: Global, input: I) -> Result<String, AllocError>
 where
     requires valid { I.valid input }
-    requires unmarked { I.supports_partial ≡ false }
+    requires no_flag { I.supports_partial ≡ false }
 {
     let inside = Partial::new(Stateful {
         input: LocatingSlice::new(input),

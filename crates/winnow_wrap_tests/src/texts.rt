@@ -1,8 +1,8 @@
 ghost use Rattle.std.specs.Prelude.{◌≡◌, false};
-ghost use Rattle.winnow_recover.specs.Recovering.{recovering_input};
+ghost use Rattle.winnow_recover.specs.Recovering.{recoverable_inner};
 ghost use Rattle.winnow_recover.specs.declared.recoverable.Recoverable.{Recoverable};
-ghost use Rattle.winnow_wrap.specs.Located.{located_input};
-ghost use Rattle.winnow_wrap.specs.Mark.{unmarked};
+ghost use Rattle.winnow_wrap.specs.Located.{locating_inner};
+ghost use Rattle.winnow_wrap.specs.Flag.{partial_inner};
 ghost use Rattle.winnow_wrap.specs.declared.located.LocatingSlice.{LocatingSlice};
 ghost use Rattle.winnow_wrap.specs.declared.partial.Partial.{Partial};
 ghost use Rattle.winnow_wrap.specs.declared.stateful.Stateful.{Stateful};
@@ -24,23 +24,23 @@ type Mode = ErrMode<EmptyError>;
 // Generic code promises what they say and no more, so a member that says less is refused here.
 fn text_law<I: Stream + Display, S, E>()
     ensures located { (s : LocatingSlice I I.Checkpoint I.Rest I.Checkpoint.Rest)
-        → ⟦<LocatingSlice<I> as Display>⟧.output s ≡ I.output (located_input s) }
+        → ⟦<LocatingSlice<I> as Display>⟧.output s ≡ I.output (locating_inner s) }
     ensures located_styled { (s : LocatingSlice I I.Checkpoint I.Rest I.Checkpoint.Rest) (spec : _)
         → ⟦<LocatingSlice<I> as Display>⟧.styled_output s spec
-        ≡ I.styled_output (located_input s) spec }
+        ≡ I.styled_output (locating_inner s) spec }
     ensures located_debug { (s : LocatingSlice I I.Checkpoint I.Rest I.Checkpoint.Rest)
-        → ⟦<LocatingSlice<I> as Debug>⟧.debug_output s ≡ I.debug_output (located_input s) }
-    ensures marked { (s : Partial I)
-        → ⟦<Partial<I> as Display>⟧.output s ≡ I.output (unmarked s) }
-    ensures marked_styled { (s : Partial I) (spec : _)
-        → ⟦<Partial<I> as Display>⟧.styled_output s spec ≡ I.styled_output (unmarked s) spec }
+        → ⟦<LocatingSlice<I> as Debug>⟧.debug_output s ≡ I.debug_output (locating_inner s) }
+    ensures flagged { (s : Partial I)
+        → ⟦<Partial<I> as Display>⟧.output s ≡ I.output (partial_inner s) }
+    ensures flagged_styled { (s : Partial I) (spec : _)
+        → ⟦<Partial<I> as Display>⟧.styled_output s spec ≡ I.styled_output (partial_inner s) spec }
     ensures stateful { (s : Stateful I S)
         → ⟦<Stateful<I, S> as Display>⟧.output s ≡ I.output s.input }
     ensures stateful_styled { (s : Stateful I S) (spec : _)
         → ⟦<Stateful<I, S> as Display>⟧.styled_output s spec ≡ I.styled_output s.input spec }
     ensures recording_styled { (s : Recoverable I E) (spec : _)
         → ⟦<Recoverable<I, E> as Display>⟧.styled_output s spec
-        ≡ I.styled_output (recovering_input s) spec }
+        ≡ I.styled_output (recoverable_inner s) spec }
 {}
 
 // It does nothing: that it is called shows that it can be.
@@ -63,15 +63,15 @@ fn wrappers_print<I: Stream + StreamIsPartial + Display + Copy>(
 ) -> Result<(), AllocError>
 where
     requires valid { I.valid input }
-    requires unmarked { I.supports_partial ≡ false }
+    requires no_flag { I.supports_partial ≡ false }
 {
     let located = printed(alloc, &LocatingSlice::new(input))?;
-    let marked = printed(alloc, &Partial::new(input))?;
+    let flagged = printed(alloc, &Partial::new(input))?;
     let stateful = printed(alloc, &Stateful { input, state: 7u32 })?;
     let recording: Recoverable<I, Mode> = Recoverable::new(alloc, input);
     let recording = printed(alloc, &recording)?;
     assert_eq!(rt; located.as_str(), wanted, "a place");
-    assert_eq!(rt; marked.as_str(), wanted, "a mark");
+    assert_eq!(rt; flagged.as_str(), wanted, "a flag");
     assert_eq!(rt; stateful.as_str(), wanted, "a state");
     assert_eq!(rt; recording.as_str(), wanted, "recorded errors");
     Ok(())

@@ -3,7 +3,7 @@ ghost use Rattle.std.specs.Borrow.{Bor};
 ghost use Rattle.std.specs.Ordering.{on, then_cmp};
 ghost use Rattle.winnow_stream.specs.Checkpoint.{checkpoint_inner};
 ghost use Rattle.winnow_stream.specs.Source.{first_token};
-ghost use Rattle.winnow_wrap.specs.Mark.{unmarked, mark};
+ghost use Rattle.winnow_wrap.specs.Flag.{partial_inner, flag};
 
 use std::alloc::{AllocError, Global};
 use std::cmp::Ordering;
@@ -14,7 +14,7 @@ use std::test::Fail;
 use winnow_match::{Compare, CompareResult, FindSlice};
 use winnow_run::Step;
 use winnow_stream::{AsBytes, Checkpoint, Location, NoSet, Stream, StreamIsPartial, UpdateSlice};
-use winnow_test_helpers::{compares, debugged, finds, marks, seen, tell, width_from, window_of};
+use winnow_test_helpers::{compares, debugged, finds, flags, seen, tell, width_from, window_of};
 use winnow_wrap::{LocatingSlice, Partial, Placed, Stateful};
 
 type Nest<I> = Partial<Stateful<LocatingSlice<I>, u32>>;
@@ -22,7 +22,7 @@ type Nest<I> = Partial<Stateful<LocatingSlice<I>, u32>>;
 // Three wrappers round a stream.
 fn nest<I: Stream + StreamIsPartial>(input: I) -> Nest<I>
     requires valid { I.valid input }
-    requires unmarked { I.supports_partial ≡ false }
+    requires no_flag { I.supports_partial ≡ false }
     ensures { ⟦<Nest<I> as Stream>⟧.valid result }
 {
     Partial::new(Stateful {
@@ -31,7 +31,7 @@ fn nest<I: Stream + StreamIsPartial>(input: I) -> Nest<I>
     })
 }
 
-// A script leaves the mark, the state and the whole input as they were, whatever it takes.
+// A script leaves the flag, the state and the whole input as they were, whatever it takes.
 fn told_nest<I: Stream>(
     alloc: Global,
     s: &mut Nest<I>,
@@ -42,9 +42,9 @@ where
     I::Slice: Drop,
     requires { ⟦<Nest<I> as Stream>⟧.valid s.old }
     ensures valid { ⟦<Nest<I> as Stream>⟧.valid s.new }
-    ensures mark { mark s.old ≡ mark s.new }
-    ensures state { (unmarked s.old).state ≡ (unmarked s.new).state }
-    ensures start { (unmarked s.old).input.start ≡ (unmarked s.new).input.start }
+    ensures flag { flag s.old ≡ flag s.new }
+    ensures state { (partial_inner s.old).state ≡ (partial_inner s.new).state }
+    ensures start { (partial_inner s.old).input.start ≡ (partial_inner s.new).input.start }
 {
     tell(alloc, s, script)
 }
@@ -58,7 +58,7 @@ fn checkpoint_of<S: Stream>(s: &S) -> S::Checkpoint
     s.checkpoint()
 }
 
-// The first token with the mark cleared, which is set again: generic code may go on, since the rest stays the same.
+// The first token with the flag cleared, which is set again: generic code may go on, since the rest stays the same.
 fn peek_complete<S: Stream + StreamIsPartial>(s: &mut S) -> (bool, Option<S::Token>)
     requires { S.valid s.old }
     ensures cleared { result.0 ≡ false }
@@ -73,26 +73,26 @@ fn peek_complete<S: Stream + StreamIsPartial>(s: &mut S) -> (bool, Option<S::Tok
     (is_partial, token)
 }
 
-// Clearing a mark that is inside changes nothing else.
+// Clearing a flag that is inside changes nothing else.
 fn complete_inside<I: Stream, S: Debug>(
     s: &mut Stateful<LocatingSlice<Partial<I>>, S>,
 ) -> (bool, bool)
-    ensures before { result.0 ≡ mark s.old.input.input }
-    ensures cleared { (mark s.new.input.input ≡ false) × (result.1 ≡ false) }
-    ensures input { unmarked s.new.input.input ≡ unmarked s.old.input.input }
+    ensures before { result.0 ≡ flag s.old.input.input }
+    ensures cleared { (flag s.new.input.input ≡ false) × (result.1 ≡ false) }
+    ensures input { partial_inner s.new.input.input ≡ partial_inner s.old.input.input }
     ensures kept { (s.old.state ≡ s.new.state) × (s.old.input.start ≡ s.new.input.start)
-        × (s.old.input.place ≡ s.new.input.place) }
+        × (s.old.input.location ≡ s.new.input.location) }
 {
     (s.complete(), s.is_partial())
 }
 
-// A plain stream has no mark: it stays as it is, and what agrees in all but the mark is the same.
+// A plain stream has no flag: it stays as it is, and what agrees in all but the flag is the same.
 fn complete_plain<'i>(bytes: &mut &'i [u8], text: &mut &'i str)
     ensures bytes { bytes.old ≡ bytes.new }
     ensures text { text.old ≡ text.new }
-    ensures same_bytes { (s t : Bor (List ℕ)) → ⟦<&'i [u8] as StreamIsPartial>⟧.same_but_mark s t
+    ensures same_bytes { (s t : Bor (List ℕ)) → ⟦<&'i [u8] as StreamIsPartial>⟧.same_but_flag s t
         → s ≡ t }
-    ensures same_text { (s t : Bor (List ℕ)) → ⟦<&'i str as StreamIsPartial>⟧.same_but_mark s t
+    ensures same_text { (s t : Bor (List ℕ)) → ⟦<&'i str as StreamIsPartial>⟧.same_but_flag s t
         → s ≡ t }
 {
     bytes.complete();
@@ -103,7 +103,7 @@ fn complete_plain<'i>(bytes: &mut &'i [u8], text: &mut &'i str)
 
 // The stream inside three wrappers.
 fn inside<I: Stream, S>(s: &Partial<Stateful<LocatingSlice<I>, S>>) -> &I
-    ensures { result.now ≡ (unmarked s.now).input.input }
+    ensures { result.now ≡ (partial_inner s.now).input.input }
 {
     &****s
 }
@@ -158,29 +158,29 @@ fn is_same_state<I: PartialEq, S: PartialEq>(s: &Stateful<I, S>, t: &Stateful<I,
     s == t
 }
 
-// Whether the streams inside and the marks are equal.
-fn is_same_marked<I: PartialEq>(s: &Partial<I>, t: &Partial<I>) -> bool
-    ensures { result ≡ (I.eq (unmarked s.now) (unmarked t.now) && ⟦<bool as PartialEq>⟧.eq
-        (mark s.now) (mark t.now)) }
+// Whether the streams inside and the flags are equal.
+fn is_same_flagged<I: PartialEq>(s: &Partial<I>, t: &Partial<I>) -> bool
+    ensures { result ≡ (I.eq (partial_inner s.now) (partial_inner t.now) && ⟦<bool as PartialEq>⟧.eq
+        (flag s.now) (flag t.now)) }
 {
     s == t
 }
 
-// The order of the streams inside, and then that of the marks.
-fn marked_order<I: Ord>(s: &Partial<I>, t: &Partial<I>) -> Ordering
-    ensures { result ≡ then_cmp (on unmarked I.cmp) (on mark ⟦<bool as Ord>⟧.cmp) s.now t.now }
+// The order of the streams inside, and then that of the flags.
+fn flagged_order<I: Ord>(s: &Partial<I>, t: &Partial<I>) -> Ordering
+    ensures { result ≡ then_cmp (on partial_inner I.cmp) (on flag ⟦<bool as Ord>⟧.cmp) s.now t.now }
 {
     s.cmp(t)
 }
 
-// Whether the type has a mark.
+// Whether the type has a flag.
 fn supports<S: StreamIsPartial>(_s: &S) -> bool
     ensures { result ≡ S.supports_partial }
 {
     S::is_partial_supported()
 }
 
-// Where the type has no mark, nothing more may follow.
+// Where the type has no flag, nothing more may follow.
 fn awaits<S: StreamIsPartial>(s: &S) -> bool
     requires { S.supports_partial ≡ false }
     ensures { result ≡ false }
@@ -204,7 +204,7 @@ fn window_of_nest<I: Stream + StreamIsPartial + UpdateSlice + Drop>(
 where
     I::Token: Drop,
     requires valid { I.valid input }
-    requires unmarked { I.supports_partial ≡ false }
+    requires no_flag { I.supports_partial ≡ false }
 {
     let mut s = nest(input);
     let _ = s.next_token();
@@ -243,32 +243,32 @@ fn a_window_starts_anew_as_the_whole(rt: HostRuntime) {
 }
 
 #[test]
-fn the_mark_is_no_part_of_a_checkpoint(rt: HostRuntime) {
+fn the_flag_is_no_part_of_a_checkpoint(rt: HostRuntime) {
     let mut partial = Partial::new(b"".as_slice());
     let start = partial.checkpoint();
-    let marked = marks(&mut partial);
+    let flagged = flags(&mut partial);
     let state = partial.complete();
     partial.reset(&start);
     assert_eq!(rt;
-        (marked, [state, partial.is_partial()]),
+        (flagged, [state, partial.is_partial()]),
         ([true, true, false, true], [true, false])
     );
 }
 
-// Whether the types have a mark: a place and a state round one, a place round one, a mark round both, and both alone; and whether
+// Whether the types have a flag: a place and a state round one, a place round one, a flag round both, and both alone; and whether
 // the last awaits more.
 fn supported<I: Stream + StreamIsPartial + Copy>(input: I) -> [bool; 5]
     requires valid { I.valid input }
-    requires unmarked { I.supports_partial ≡ false }
+    requires no_flag { I.supports_partial ≡ false }
 {
-    let marked = Stateful {
+    let flagged = Stateful {
         input: LocatingSlice::new(Partial::new(input)),
         state: 7,
     };
     let plain = nest(input).into_inner();
     [
-        supports(&marked),
-        supports(&marked.input),
+        supports(&flagged),
+        supports(&flagged.input),
         supports(&nest(input)),
         supports(&plain),
         awaits(&plain),
@@ -276,7 +276,7 @@ fn supported<I: Stream + StreamIsPartial + Copy>(input: I) -> [bool; 5]
 }
 
 #[test]
-fn a_mark_inside_two_wrappers(rt: HostRuntime) {
+fn a_flag_inside_two_wrappers(rt: HostRuntime) {
     let mut s = Stateful {
         input: LocatingSlice::new(Partial::new("ab")),
         state: 7,
@@ -292,7 +292,7 @@ fn a_mark_inside_two_wrappers(rt: HostRuntime) {
 }
 
 #[test]
-fn a_plain_stream_has_no_mark(rt: HostRuntime) {
+fn a_plain_stream_has_no_flag(rt: HostRuntime) {
     let (mut bytes, mut text) = (b"ab".as_slice(), "cd");
     complete_plain(&mut bytes, &mut text);
     assert_eq!(rt; (bytes, text), (b"ab".as_slice(), "cd"));
@@ -303,7 +303,7 @@ fn rest_of<I: Stream>(alloc: Global, s: &Nest<I>) -> Result<String, AllocError> 
     debugged(alloc, inside(s))
 }
 
-// What a script answers through three wrappers, and what it leaves: the place, the state, the mark, the rest, and that of a clone.
+// What a script answers through three wrappers, and what it leaves: the place, the state, the flag, the rest, and that of a clone.
 fn told_and_left<I: Stream + StreamIsPartial + Copy>(
     alloc: Global,
     input: I,
@@ -313,14 +313,14 @@ where
     I::Token: Drop,
     I::Slice: Drop,
     requires valid { I.valid input }
-    requires unmarked { I.supports_partial ≡ false }
+    requires no_flag { I.supports_partial ≡ false }
 {
     let mut s = nest(input);
     let answers = told_nest(alloc, &mut s, script)?;
-    let (place, mark, state) = (place(&s), s.is_partial(), s.state);
+    let (place, flag, state) = (place(&s), s.is_partial(), s.state);
     let rest = rest_of(alloc, &s)?;
     let copied = rest_of(alloc, &cloned(&s)?)?;
-    format!(in alloc; "{answers} {place:?} {state} {mark} {rest} {copied}")
+    format!(in alloc; "{answers} {place:?} {state} {flag} {rest} {copied}")
 }
 
 #[test]
@@ -347,7 +347,7 @@ fn asked<I>(input: I) -> (CompareResult, Option<Range<usize>>)
 where
     I: Compare<&'static str> + FindSlice<char> + StreamIsPartial + Copy,
     requires valid { I.valid input }
-    requires unmarked { I.supports_partial ≡ false }
+    requires no_flag { I.supports_partial ≡ false }
 {
     (compares(nest(input), "abc"), finds(nest(input), 'b'))
 }
@@ -464,7 +464,7 @@ fn equal_windows_may_have_other_places(rt: HostRuntime) {
 }
 
 #[test]
-fn marks_and_states_are_compared(rt: HostRuntime) {
+fn flags_and_states_are_compared(rt: HostRuntime) {
     let (set, mut clear) = (Partial::new("ab"), Partial::new("ab"));
     let _ = clear.complete();
     let counted = Stateful {
@@ -473,16 +473,16 @@ fn marks_and_states_are_compared(rt: HostRuntime) {
     };
     assert_eq!(rt;
         [
-            is_same_marked(&set, &set),
-            is_same_marked(&set, &clear),
+            is_same_flagged(&set, &set),
+            is_same_flagged(&set, &clear),
             is_same_state(&counted, &Stateful::default())
         ],
         [true, false, true]
     );
     assert_eq!(rt;
         [
-            marked_order(&clear, &set),
-            marked_order(&Partial::new("a"), &clear)
+            flagged_order(&clear, &set),
+            flagged_order(&Partial::new("a"), &clear)
         ],
         [Ordering::Less; 2]
     );

@@ -69,11 +69,11 @@ end-told definite literal is (p ∷ pieces) =
     let bytes = bytes_of (units all) in
     let script = step.Find (One literal) ∷ [] in
     told-once (piece_of byte_input script (p ∷ pieces)) (hit_answer (hit needles bytes)) (hit_is_definite needles bytes)
-        ∙ hit-out (hit needles bytes) (hit_is_definite needles bytes)
-          (λ none. ap (λ o. is_some o && not (is_some (stretch_of needles bytes))) none)
-          (λ r some. definite needles bytes r refl some)
-        ∙ ap (λ l. option_map (λ r. hit_answer (Some r)) (hit (l ∷ []) bytes)) is
-        ∙ ap (λ b. option_map (λ r. hit_answer (Some r)) (hit (line_end ∷ []) b)) (bytes_of-units all)
+    ∙ hit-out (hit needles bytes) (hit_is_definite needles bytes)
+    (λ none. ap (λ o. is_some o && not (is_some (stretch_of needles bytes))) none)
+    (λ r some. definite needles bytes r refl some)
+    ∙ ap (λ l. option_map (λ r. hit_answer (Some r)) (hit (l ∷ []) bytes)) is
+    ∙ ap (λ b. option_map (λ r. hit_answer (Some r)) (hit (line_end ∷ []) b)) (bytes_of-units all)
 
 pub first-told : HitsAreDefinite → (f : FeedState) (bytes : List ℕ) (fed : IsFed f bytes)
     → option_map (λ t. t.answer) (slice_get (told_of byte_input (script_of f) fed.pieces) 0) ≡ option_map (λ r. hit_answer (Some r)) (hit (line_end ∷ []) bytes)

@@ -14,14 +14,14 @@ use Rattle.winnow_run.specs.Definite.{kind_of, out, is_definite}
 use Rattle.winnow_run.specs.Searching.{search_next, search_answers, search_cursor}
 use Rattle.winnow_feed.specs.Inputs.{InputKind, joined}
 use Rattle.winnow_feed.specs.Reach.{needed_place, needed_from}
-use Rattle.winnow_feed.specs.Standing.{Stands, IsAtRest, KeepsLeast, TakesIn, Tells, Tries, next_step, steps_left, answers_told}
+use Rattle.winnow_feed.specs.JoinedInput.{IsRunOver, IsAtRest, KeepsLeast, TakesIn, AddsAnswers, Tries, next_step, steps_left, answers_out}
 use Rattle.winnow_feed.specs.Telling.{capped, out_on, is_waiting, told_of, waits, tried_of, all_answers}
 use Rattle.winnow_attempt.specs.View.{under}
-use Rattle.winnow_feed.specs.Feeding.{FeedState, Fits, StandsFor, Finishes, held_after, script_of, bytes_fed}
+use Rattle.winnow_feed.specs.Feeding.{FeedState, Fits, HoldsInput, Finishes, held_after, script_of, bytes_fed}
 use Rattle.winnow_feed.proofs.lemmas.InputLemmas.{IsInput, joined-push}
 use Rattle.winnow_feed.proofs.lemmas.TellingLemmas.{AreInputs, answers_of, answers-under, told_of-push, waits-push}
-use Rattle.winnow_feed.proofs.lemmas.StandingLemmas.{rest-back, none-passed}
-use Rattle.winnow_feed.proofs.lemmas.KeepingLemmas.{Stands-more, Stands-skips, place-kept, fed-is, end-is, needed-none, needed-done, needed-same_end}
+use Rattle.winnow_feed.proofs.lemmas.JoinedInputLemmas.{rest-back, none-passed}
+use Rattle.winnow_feed.proofs.lemmas.KeepingLemmas.{IsRunOver-more, IsRunOver-skips, place-kept, fed-is, end-is, needed-none, needed-done, needed-same_end}
 use Rattle.winnow_feed.proofs.lemmas.ReachLemmas.{Reaches-out, Reaches-cursor, Reaches-all}
 
 abbrev Run : Type 0
@@ -33,10 +33,10 @@ no_length (x ∷ xs) e = absurd (omega arith)
 
 module _ (i : InputKind) (law : IsInput i) where
   -- a piece behind what is kept
-  pub grow : (J piece xs : List ℕ) (f : FeedState) → i.valid piece ≡ true → xs ≡ f.kept ++ piece → StandsFor i f J → Stands true i.pieces (i.source (J ++ piece)) (i.source xs) f.run
+  pub grow : (J piece xs : List ℕ) (f : FeedState) → i.valid piece ≡ true → xs ≡ f.kept ++ piece → HoldsInput i f J → IsRunOver true i.pieces (i.source (J ++ piece)) (i.source xs) f.run
   grow J piece xs f v e h =
       rw (law.split J piece h.is_input, e, law.split f.kept piece h.is_kept)
-      (Stands-more i.pieces (i.source J) (i.source f.kept) f.run h.stands (i.source piece) (law.widths piece))
+      (IsRunOver-more i.pieces (i.source J) (i.source f.kept) f.run h.stands (i.source piece) (law.widths piece))
 
   -- where a step is left, the end of the input is no matter
   pub least-anywhere : (f : FeedState) → KeepsLeast (bytes_fed f) f.run → length f.run.told.items < length f.run.script.now → (end : ℕ) → KeepsLeast end f.run
@@ -50,7 +50,7 @@ module _ (i : InputKind) (law : IsInput i) where
     taken-fed : i.valid old.kept ≡ true → bytes_fed new ≡ old.run.base + width (i.source xs)
     taken-fed w = omega (arith, base, width-back (i.source xs) unneeded offset, ap width left, law.width_is new.kept v)
 
-    pub taken : (J : List ℕ) → StandsFor i old J → StandsFor i new (J ++ piece) × IsAtRest i.pieces (i.source (J ++ piece)) new.run
+    pub taken : (J : List ℕ) → HoldsInput i old J → HoldsInput i new (J ++ piece) × IsAtRest i.pieces (i.source (J ++ piece)) new.run
     taken J h =
         let after = takes (i.source (J ++ piece)) (grow J piece xs old u joins h) in (
           record {
@@ -62,13 +62,13 @@ module _ (i : InputKind) (law : IsInput i) where
           after.1,
         )
 
-    pub taken-room : (J : List ℕ) → StandsFor i old J → bytes_fed new ≡ bytes_fed old + length piece
+    pub taken-room : (J : List ℕ) → HoldsInput i old J → bytes_fed new ≡ bytes_fed old + length piece
     taken-room J h = omega (arith, taken-fed h.is_kept, whole h.is_kept)
 
-  pub fed : (J : List ℕ) (f : FeedState) → StandsFor i f J → f.run.base + length f.kept ≡ length J
+  pub fed : (J : List ℕ) (f : FeedState) → HoldsInput i f J → f.run.base + length f.kept ≡ length J
   fed J f h = omega (arith, fed-is i.pieces (i.source J) (i.source f.kept) f.run h.stands, law.width_is J h.is_input, law.width_is f.kept h.is_kept)
 
-  pub new-stands : (run : Run) (kept : List ℕ) → run.told.items ≡ [] → run.marks.items ≡ [] → kept ≡ [] → run.place ≡ 0 → run.base ≡ 0 → run.passed.width ≡ 0 → run.passed.tokens ≡ 0 → StandsFor i (record { run = run; kept = kept }) []
+  pub new-stands : (run : Run) (kept : List ℕ) → run.told.items ≡ [] → run.marks.items ≡ [] → kept ≡ [] → run.place ≡ 0 → run.base ≡ 0 → run.passed.width ≡ 0 → run.passed.tokens ≡ 0 → HoldsInput i (record { run = run; kept = kept }) []
   new-stands run kept told marks none here base w t =
       record {
         is_input = law.empty;
@@ -89,9 +89,9 @@ module _ (i : InputKind) (law : IsInput i) where
       }
 
   -- the answers that a run at rest has given are those that are out
-  pub out-is : (all kept : Source ℕ) (run : Run) → Stands true i.pieces all kept run → IsAtRest i.pieces all run → out i.pieces all run.script.now ≡ answers_told run
+  pub out-is : (all kept : Source ℕ) (run : Run) → IsRunOver true i.pieces all kept run → IsAtRest i.pieces all run → out i.pieces all run.script.now ≡ answers_out run
   out-is all kept run h rests =
-      Reaches-out i.pieces all start h.at run.script.now (answers_told run) h.reaches (λ x e.
+      Reaches-out i.pieces all start h.at run.script.now (answers_out run) h.reaches (λ x e.
       let next : next_step run ≡ Some x = ap (slice_get run.script.now) (sym (length-map run.told.items (λ t. t.answer))) ∙ e in
       ap (is_definite i.pieces x) (sym (rest-back true i.pieces all kept run h x next)) ∙ rests x next)
 
@@ -104,7 +104,7 @@ module _ (i : InputKind) (law : IsInput i) where
       let s = h.stands.stands in
       let count : length (out i.pieces all f.run.script.now) ≡ length f.run.told.items = ap length (out-is all (i.source f.kept) f.run s (h.rests (omega arith))) ∙ length-map f.run.told.items (λ t. t.answer) in
       let at : cursor_after (search_next all) (take (length f.run.told.items) f.run.script.now) start ≡ s.at =
-      ap (λ n. cursor_after (search_next all) (take n f.run.script.now) start) (sym (length-map f.run.told.items (λ t. t.answer))) ∙ Reaches-cursor true i.pieces all start s.at f.run.script.now (answers_told f.run) s.reaches
+      ap (λ n. cursor_after (search_next all) (take n f.run.script.now) start) (sym (length-map f.run.told.items (λ t. t.answer))) ∙ Reaches-cursor true i.pieces all start s.at f.run.script.now (answers_out f.run) s.reaches
       in
       let needed = needed_from all (steps_left f.run) s.at in
       let base : f.run.base ≡ place all needed = h.stands.least ∙ place-kept i.pieces all (i.source f.kept) f.run s (bytes_fed f) (omega (arith, law.width_is f.kept h.stands.is_kept)) in
@@ -112,7 +112,7 @@ module _ (i : InputKind) (law : IsInput i) where
       rw (count, at) e
 
   -- a piece behind the last answer is not kept
-  pub skips : (f : FeedState) (J piece : List ℕ) (q : Run) → i.valid piece ≡ true → StandsFor i f J → length f.run.script.now ≤ length f.run.told.items → q.script ≡ f.run.script → q.told ≡ f.run.told → q.place ≡ f.run.place → q.marks ≡ f.run.marks → q.passed ≡ f.run.passed → q.base ≡ f.run.base + length piece → StandsFor i (record { run = q; kept = f.kept }) (J ++ piece)
+  pub skips : (f : FeedState) (J piece : List ℕ) (q : Run) → i.valid piece ≡ true → HoldsInput i f J → length f.run.script.now ≤ length f.run.told.items → q.script ≡ f.run.script → q.told ≡ f.run.told → q.place ≡ f.run.place → q.marks ≡ f.run.marks → q.passed ≡ f.run.passed → q.base ≡ f.run.base + length piece → HoldsInput i (record { run = q; kept = f.kept }) (J ++ piece)
   skips f J piece q v h done script told here marks passed base =
       let none : steps_left f.run ≡ [] = needed-done f.run done in
       let gone : length f.kept ≡ 0 = omega (arith, h.least, ap (needed_place (bytes_fed f) f.run.place f.run.marks.items) none) in
@@ -124,7 +124,7 @@ module _ (i : InputKind) (law : IsInput i) where
       record {
         is_input = law.joins J piece h.is_input v;
         is_kept = h.is_kept;
-        stands = rw (law.split J piece h.is_input) (Stands-skips i.pieces (i.source J) (i.source f.kept) f.run h.stands (i.source piece) (law.widths piece) none q (i.source f.kept) nothing script told here marks passed (base ∙ omega (arith, fed_is, ap width nothing, law.width_is piece v)));
+        stands = rw (law.split J piece h.is_input) (IsRunOver-skips i.pieces (i.source J) (i.source f.kept) f.run h.stands (i.source piece) (law.widths piece) none q (i.source f.kept) nothing script told here marks passed (base ∙ omega (arith, fed_is, ap width nothing, law.width_is piece v)));
         least = omega (arith, base, gone, ap (needed_place (q.base + length f.kept) q.place q.marks.items) over);
       }
 
@@ -133,21 +133,21 @@ module _ (i : InputKind) (law : IsInput i) where
   AreInputs-push (q ∷ pieces) p us u = (us.0, AreInputs-push pieces p us.1 u)
 
   -- one feed that came through, against the pieces
-  pub Fits-fed : (old new : FeedState) (pieces : List (List ℕ)) (p : List ℕ) → Fits i old pieces → i.valid p ≡ true → new.run.script ≡ old.run.script → StandsFor i new (joined pieces ++ p) → IsAtRest i.pieces (i.source (joined pieces ++ p)) new.run → Tells (Some new.run.pieces) old.run new.run → new.run.pieces ≡ capped (old.run.pieces + 1) → Tries old.run new.run → Fits i new (pieces ++ p ∷ [])
-  Fits-fed old new pieces p fits u script stands rests tells number tried =
+  pub Fits-fed : (old new : FeedState) (pieces : List (List ℕ)) (p : List ℕ) → Fits i old pieces → i.valid p ≡ true → new.run.script ≡ old.run.script → HoldsInput i new (joined pieces ++ p) → IsAtRest i.pieces (i.source (joined pieces ++ p)) new.run → AddsAnswers (Some new.run.pieces) old.run new.run → new.run.pieces ≡ capped (old.run.pieces + 1) → Tries old.run new.run → Fits i new (pieces ++ p ∷ [])
+  Fits-fed old new pieces p fits u script stands rests adds number tried =
       let J = joined pieces ++ p in
       let steps = script_of new in
       let words : script_of new ≡ script_of old = ap (λ s. s.now) script in
-      let all : out_on i steps J ≡ answers_told new.run = out-is (i.source J) (i.source new.kept) new.run stands.stands rests in
-      let parts : answers_told new.run ≡ answers_told old.run ++ tells.more = ap answers_of tells.told ∙ map-append (λ t. t.answer) old.run.told.items (map (under (Some new.run.pieces)) tells.more) ∙ ap (λ x. answers_told old.run ++ x) (answers-under (Some new.run.pieces) tells.more) in
+      let all : out_on i steps J ≡ answers_out new.run = out-is (i.source J) (i.source new.kept) new.run stands.stands rests in
+      let parts : answers_out new.run ≡ answers_out old.run ++ adds.more = ap answers_of adds.told ∙ map-append (λ t. t.answer) old.run.told.items (map (under (Some new.run.pieces)) adds.more) ∙ ap (λ x. answers_out old.run ++ x) (answers-under (Some new.run.pieces) adds.more) in
       let old_told : old.run.told.items ≡ told_of i steps pieces = fits.told ∙ ap (λ s. told_of i s pieces) (sym words) in
-      let push = told_of-push i law steps pieces p tells.more fits.are_pieces (all ∙ parts ∙ ap (λ x. answers_of x ++ tells.more) old_told) in
+      let push = told_of-push i law steps pieces p adds.more fits.are_pieces (all ∙ parts ∙ ap (λ x. answers_of x ++ adds.more) old_told) in
       let is_number : new.run.pieces ≡ capped (length pieces + 1) = number ∙ ap (λ n. capped (n + 1)) fits.count ∙ omega arith in
-      let told : new.run.told.items ≡ told_of i steps (pieces ++ p ∷ []) = tells.told ∙ ap (λ n. old.run.told.items ++ map (under (Some n)) tells.more) is_number ∙ ap (λ x. x ++ map (under (Some (capped (length pieces + 1)))) tells.more) old_told ∙ sym push in
+      let told : new.run.told.items ≡ told_of i steps (pieces ++ p ∷ []) = adds.told ∙ ap (λ n. old.run.told.items ++ map (under (Some n)) adds.more) is_number ∙ ap (λ x. x ++ map (under (Some (capped (length pieces + 1)))) adds.more) old_told ∙ sym push in
       let waiting : is_waiting i steps J ≡ ltb (length new.run.told.items) (length steps) = ap (λ x. ltb (length x) (length steps)) all ∙ ap (λ n. ltb n (length steps)) (length-map new.run.told.items (λ t. t.answer)) in
       let w : waits i steps [] (pieces ++ p ∷ []) ≡ waits i steps [] pieces + cond (ltb (length new.run.told.items) (length steps)) 1 0 = waits-push i steps [] pieces p ∙ ap (λ b. waits i steps [] pieces + cond b 1 0) waiting in
       let old_tried : old.run.tried ≡ capped (length (told_of i steps pieces) + waits i steps [] pieces) = fits.tried ∙ ap (λ s. tried_of i s pieces) (sym words) in
-      let lens : length new.run.told.items ≡ length old.run.told.items + length tells.more = ap length tells.told ∙ length-append old.run.told.items (map (under (Some new.run.pieces)) tells.more) ∙ ap (λ n. length old.run.told.items + n) (length-map tells.more (under (Some new.run.pieces))) in
+      let lens : length new.run.told.items ≡ length old.run.told.items + length adds.more = ap length adds.told ∙ length-append old.run.told.items (map (under (Some new.run.pieces)) adds.more) ∙ ap (λ n. length old.run.told.items + n) (length-map adds.more (under (Some new.run.pieces))) in
       record {
         are_pieces = AreInputs-push pieces p fits.are_pieces u;
         stands = rw (joined-push pieces p) stands;
@@ -158,7 +158,7 @@ module _ (i : InputKind) (law : IsInput i) where
       }
 
   -- and one behind the last answer
-  pub Fits-skipped : (old new : FeedState) (pieces : List (List ℕ)) (p : List ℕ) → Fits i old pieces → i.valid p ≡ true → length old.run.script.now ≤ length old.run.told.items → new.run.script ≡ old.run.script → new.run.told ≡ old.run.told → StandsFor i new (joined pieces ++ p) → new.run.pieces ≡ capped (old.run.pieces + 1) → new.run.tried ≡ old.run.tried → Fits i new (pieces ++ p ∷ [])
+  pub Fits-skipped : (old new : FeedState) (pieces : List (List ℕ)) (p : List ℕ) → Fits i old pieces → i.valid p ≡ true → length old.run.script.now ≤ length old.run.told.items → new.run.script ≡ old.run.script → new.run.told ≡ old.run.told → HoldsInput i new (joined pieces ++ p) → new.run.pieces ≡ capped (old.run.pieces + 1) → new.run.tried ≡ old.run.tried → Fits i new (pieces ++ p ∷ [])
   Fits-skipped old new pieces p fits u done script told stands number tried =
       let over : length new.run.script.now ≤ length new.run.told.items = rw (script, told) done in
       Fits-fed old new pieces p fits u script stands
@@ -173,26 +173,26 @@ module _ (i : InputKind) (law : IsInput i) where
       omega (arith, e, now, ap length before.told)
 
 -- a run that has answered every step has all answers, and stands at the last place
-module _ (i : InputKind) (J : List ℕ) (kept : Source ℕ) (run : Run) (h : Stands false i.pieces (i.source J) kept run) (done : length run.script.now ≤ length run.told.items) where
-  ended : (answers_told run ≡ search_answers (kind_of i.pieces) (i.source J) run.script.now) × (h.at ≡ search_cursor (i.source J) run.script.now)
-  ended = Reaches-all false i.pieces (i.source J) start h.at run.script.now (answers_told run) h.reaches (omega (arith, done, length-map run.told.items (λ t. t.answer)))
+module _ (i : InputKind) (J : List ℕ) (kept : Source ℕ) (run : Run) (h : IsRunOver false i.pieces (i.source J) kept run) (done : length run.script.now ≤ length run.told.items) where
+  ended : (answers_out run ≡ search_answers (kind_of i.pieces) (i.source J) run.script.now) × (h.at ≡ search_cursor (i.source J) run.script.now)
+  ended = Reaches-all false i.pieces (i.source J) start h.at run.script.now (answers_out run) h.reaches (omega (arith, done, length-map run.told.items (λ t. t.answer)))
 
-  pub end-answers : answers_told run ≡ search_answers (kind_of i.pieces) (i.source J) run.script.now
+  pub end-answers : answers_out run ≡ search_answers (kind_of i.pieces) (i.source J) run.script.now
   end-answers = ended.0
 
   pub end-place : run.place ≡ place (i.source J) (search_cursor (i.source J) run.script.now).index
   end-place = h.here ∙ ap (λ at. place (i.source J) at.index) ended.1
 
-module _ (i : InputKind) (old : FeedState) (pieces : List (List ℕ)) (kept : Source ℕ) (run : Run) (fits : Fits i old pieces) (h : Stands false i.pieces (i.source (joined pieces)) kept run) (tells : Tells None old.run run) (script : run.script ≡ old.run.script) (done : length run.script.now ≤ length run.told.items) where
+module _ (i : InputKind) (old : FeedState) (pieces : List (List ℕ)) (kept : Source ℕ) (run : Run) (fits : Fits i old pieces) (h : IsRunOver false i.pieces (i.source (joined pieces)) kept run) (adds : AddsAnswers None old.run run) (script : run.script ≡ old.run.script) (done : length run.script.now ≤ length run.told.items) where
   pub finished : (all : Finished ℕ) → all.told ≡ run.told → all.place ≡ run.place → Finishes i (script_of old) pieces all
   finished all is_told is_place =
       let words : run.script.now ≡ script_of old = ap (λ s. s.now) script in
       let told = told_of i (script_of old) pieces in
-      let len : length told ≡ length (answers_told old.run) = ap length (sym fits.told) ∙ sym (length-map old.run.told.items (λ t. t.answer)) in
-      let parts : answers_told run ≡ answers_told old.run ++ tells.more = ap answers_of tells.told ∙ map-append (λ t. t.answer) old.run.told.items (map (under None) tells.more) ∙ ap (λ x. answers_told old.run ++ x) (answers-under None tells.more) in
-      let whole : all_answers i (script_of old) pieces ≡ answers_told old.run ++ tells.more = ap (λ s. all_answers i s pieces) (sym words) ∙ sym (end-answers i (joined pieces) kept run h done) ∙ parts in
-      let rest_is : drop (length told) (all_answers i (script_of old) pieces) ≡ tells.more = ap (drop (length told)) whole ∙ drop_at (answers_told old.run) tells.more (length told) (sym len) in
+      let len : length told ≡ length (answers_out old.run) = ap length (sym fits.told) ∙ sym (length-map old.run.told.items (λ t. t.answer)) in
+      let parts : answers_out run ≡ answers_out old.run ++ adds.more = ap answers_of adds.told ∙ map-append (λ t. t.answer) old.run.told.items (map (under None) adds.more) ∙ ap (λ x. answers_out old.run ++ x) (answers-under None adds.more) in
+      let whole : all_answers i (script_of old) pieces ≡ answers_out old.run ++ adds.more = ap (λ s. all_answers i s pieces) (sym words) ∙ sym (end-answers i (joined pieces) kept run h done) ∙ parts in
+      let rest_is : drop (length told) (all_answers i (script_of old) pieces) ≡ adds.more = ap (drop (length told)) whole ∙ drop_at (answers_out old.run) adds.more (length told) (sym len) in
       record {
-        answers = ap (λ t. t.items) is_told ∙ tells.told ∙ ap (λ t. t ++ map (under None) tells.more) fits.told ∙ ap (λ x. told ++ map (under None) x) (sym rest_is);
+        answers = ap (λ t. t.items) is_told ∙ adds.told ∙ ap (λ t. t ++ map (under None) adds.more) fits.told ∙ ap (λ x. told ++ map (under None) x) (sym rest_is);
         cursor = is_place ∙ end-place i (joined pieces) kept run h done ∙ ap (λ s. place (i.source (joined pieces)) (search_cursor (i.source (joined pieces)) s).index) words;
       }

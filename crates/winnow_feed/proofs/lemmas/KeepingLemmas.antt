@@ -15,7 +15,7 @@ use Rattle.winnow_run.specs.declared.search_script.SearchStep.TheVariants as ste
 use Rattle.winnow_feed.specs.declared.progress.Progress.{Progress}
 use Rattle.winnow_run.specs.Definite.{PieceKind}
 use Rattle.winnow_feed.specs.Reach.{named_index, least_index, needed_from, named_place, least_place, needed_place}
-use Rattle.winnow_feed.specs.Standing.{Stands, StandsStill, KeepsLeast, steps_left, answers_told}
+use Rattle.winnow_feed.specs.JoinedInput.{IsRunOver, StaysWithoutAnswer, KeepsLeast, steps_left, answers_out}
 use Rattle.winnow_run.proofs.lemmas.StepLemmas.{Inside, start-inside}
 use Rattle.winnow_attempt.proofs.lemmas.SettledLemmas.{width-split, settled-more}
 use Rattle.winnow_attempt.proofs.lemmas.ViewLemmas.{marked, reset-place}
@@ -111,9 +111,9 @@ HasPositiveWidths-append : {T : Type 0} (all more : Source T) → HasPositiveWid
 HasPositiveWidths-append [] more h g = g
 HasPositiveWidths-append (x ∷ all) more h g = (h.0, HasPositiveWidths-append all more h.1 g)
 
-module _ {T L : Type 0} (k : PieceKind T CharSet L) (all kept : Source T) (p : Progress T L) (h : Stands true k all kept p) where
+module _ {T L : Type 0} (k : PieceKind T CharSet L) (all kept : Source T) (p : Progress T L) (h : IsRunOver true k all kept p) where
   pub stands-inside : Inside all h.at
-  stands-inside = Reaches-inside k true all start h.at p.script.now (answers_told p) (start-inside all) h.reaches
+  stands-inside = Reaches-inside k true all start h.at p.script.now (answers_out p) (start-inside all) h.reaches
 
   pub first-within : h.first ≤ length all
   first-within = let i = stands-inside.index in omega (arith, h.reached, needed-within all h.at (steps_left p) i)
@@ -122,13 +122,13 @@ module _ {T L : Type 0} (k : PieceKind T CharSet L) (all kept : Source T) (p : P
   needed-more more [] = omega (arith, length-append all more)
   needed-more more (s ∷ steps) = omega arith
 
-  pub Stands-more : (more : Source T) → HasPositiveWidths more → Stands true k (all ++ more) (kept ++ more) p
-  Stands-more more w =
+  pub IsRunOver-more : (more : Source T) → HasPositiveWidths more → IsRunOver true k (all ++ more) (kept ++ more) p
+  IsRunOver-more more w =
       let i = stands-inside in
       record {
         widths = HasPositiveWidths-append all more h.widths w;
         at = h.at;
-        reaches = Reaches-more k all more start h.at p.script.now (answers_told p) (start-inside all) h.reaches;
+        reaches = Reaches-more k all more start h.at p.script.now (answers_out p) (start-inside all) h.reaches;
         here = h.here ∙ ap width (sym (take-append-le h.at.index all more i.index));
         marked = h.marked ∙ places-more all more h.at.marks i.marks;
         first = h.first;
@@ -141,9 +141,9 @@ module _ {T L : Type 0} (k : PieceKind T CharSet L) (all kept : Source T) (p : P
       }
 
   -- a piece behind the last answer, of which nothing is kept
-  pub Stands-skips : (more : Source T) → HasPositiveWidths more → steps_left p ≡ [] → (q : Progress T L) (t : Source T) → t ≡ [] → q.script ≡ p.script → q.told ≡ p.told → q.place ≡ p.place → q.marks ≡ p.marks → q.passed ≡ p.passed → q.base ≡ place all (length all) + width more → Stands true k (all ++ more) t q
-  Stands-skips more w none q t gone script told here marks passed based =
-      let m = Stands-more more w in
+  pub IsRunOver-skips : (more : Source T) → HasPositiveWidths more → steps_left p ≡ [] → (q : Progress T L) (t : Source T) → t ≡ [] → q.script ≡ p.script → q.told ≡ p.told → q.place ≡ p.place → q.marks ≡ p.marks → q.passed ≡ p.passed → q.base ≡ place all (length all) + width more → IsRunOver true k (all ++ more) t q
+  IsRunOver-skips more w none q t gone script told here marks passed based =
+      let m = IsRunOver-more more w in
       let len = length-append all more in
       record {
         widths = m.widths;
@@ -198,8 +198,8 @@ module _ {T L : Type 0} (k : PieceKind T CharSet L) (all kept : Source T) (p : P
   fed-is = omega (arith, h.based, ap width h.is_kept, width-take_drop all h.first)
 
   -- what is dropped before the place that is needed leaves what is needed
-  pub Stands-forgets : (q : Progress T L) (t : Source T) (least : ℕ) → least ≡ place all (needed_from all (steps_left p) h.at) → t ≡ back kept (least - p.base) → q.script ≡ p.script → q.told ≡ p.told → q.place ≡ p.place → q.marks ≡ p.marks → q.passed ≡ p.passed → q.base ≡ least → Stands true k all t q
-  Stands-forgets q t least is left script told here marks passed based =
+  pub IsRunOver-forgets : (q : Progress T L) (t : Source T) (least : ℕ) → least ≡ place all (needed_from all (steps_left p) h.at) → t ≡ back kept (least - p.base) → q.script ≡ p.script → q.told ≡ p.told → q.place ≡ p.place → q.marks ≡ p.marks → q.passed ≡ p.passed → q.base ≡ least → IsRunOver true k all t q
+  IsRunOver-forgets q t least is left script told here marks passed based =
       let n = needed_from all (steps_left p) h.at in
       let e : t ≡ drop n all = left ∙ ap (λ m. back kept (m - p.base)) is ∙ kept-back n h.reached (needed-within all h.at (steps_left p) stands-inside.index) in
       record {
@@ -227,19 +227,19 @@ module _ {T L : Type 0} (k : PieceKind T CharSet L) (all kept : Source T) (p : P
     pub unneeded-offset : is_offset kept (least - p.base) ≡ true
     unneeded-offset = subst (λ n. is_offset kept (n - p.base) ≡ true) (sym least-is) least-offset
 
-    pub Stands-needed : (q : Progress T L) → q.script ≡ p.script → q.told ≡ p.told → q.place ≡ p.place → q.marks ≡ p.marks → q.passed ≡ p.passed → q.base ≡ least → Stands true k all (back kept (least - p.base)) q
-    Stands-needed q script told here marks passed based = Stands-forgets q (back kept (least - p.base)) least least-is refl script told here marks passed based
+    pub IsRunOver-needed : (q : Progress T L) → q.script ≡ p.script → q.told ≡ p.told → q.place ≡ p.place → q.marks ≡ p.marks → q.passed ≡ p.passed → q.base ≡ least → IsRunOver true k all (back kept (least - p.base)) q
+    IsRunOver-needed q script told here marks passed based = IsRunOver-forgets q (back kept (least - p.base)) least least-is refl script told here marks passed based
 
 -- where nothing came out, no more is needed than before
-pub least-still : {T L : Type 0} (p q : Progress T L) (end : ℕ) → KeepsLeast end p → q.script ≡ p.script → q.base ≡ p.base → StandsStill p q → length q.told.items ≡ length p.told.items → KeepsLeast end q
+pub least-still : {T L : Type 0} (p q : Progress T L) (end : ℕ) → KeepsLeast end p → q.script ≡ p.script → q.base ≡ p.base → StaysWithoutAnswer p q → length q.told.items ≡ length p.told.items → KeepsLeast end q
 least-still p q end least script base still same = let s = still same in rw (base, s.0, s.1, script, same) least
 
 -- what stands for the joined input stands for it where indefinite answers count too
-pub Stands-loose : {T L : Type 0} (k : PieceKind T CharSet L) (all kept : Source T) (p : Progress T L) → Stands true k all kept p → Stands false k all kept p
-Stands-loose k all kept p h = record {
+pub IsRunOver-loose : {T L : Type 0} (k : PieceKind T CharSet L) (all kept : Source T) (p : Progress T L) → IsRunOver true k all kept p → IsRunOver false k all kept p
+IsRunOver-loose k all kept p h = record {
   widths = h.widths;
   at = h.at;
-  reaches = Reaches-loose k all start h.at p.script.now (answers_told p) h.reaches;
+  reaches = Reaches-loose k all start h.at p.script.now (answers_out p) h.reaches;
   here = h.here;
   marked = h.marked;
   first = h.first;

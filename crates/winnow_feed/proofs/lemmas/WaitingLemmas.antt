@@ -22,14 +22,14 @@ use Rattle.winnow_run.proofs.lemmas.StepLemmas.{Inside, start-inside, rest-more}
 use Rattle.winnow_feed.specs.declared.progress.Progress.{Progress}
 use Rattle.winnow_feed.specs.Inputs.{PieceStep, InputKind, byte_input, joined}
 use Rattle.winnow_feed.specs.Reach.{Reaches}
-use Rattle.winnow_feed.specs.Standing.{Stands, IsAtRest, next_step, answers_told}
-use Rattle.winnow_feed.specs.Feeding.{FeedState, StandsFor, Fits, script_of}
+use Rattle.winnow_feed.specs.JoinedInput.{IsRunOver, IsAtRest, next_step, answers_out}
+use Rattle.winnow_feed.specs.Feeding.{FeedState, HoldsInput, Fits, script_of}
 use Rattle.winnow_attempt.specs.Missing.{missing}
-use Rattle.winnow_feed.specs.Waits.{TellsMissing, MissesSome, IsSpelt, answer_on, waiting_number, waiting_step, waiting_rest, missing_on, IsMissing, WaitsToEnd, MissesMore}
+use Rattle.winnow_feed.specs.Waits.{GivesMissing, MissesSome, IsSpelt, answer_on, waiting_number, waiting_step, waiting_rest, missing_on, IsMissing, WaitsToEnd, MissesMore}
 use Rattle.winnow_feed.proofs.lemmas.InputLemmas.{IsInput}
 use Rattle.winnow_feed.proofs.lemmas.SpellingLemmas.{IsSpelling}
 use Rattle.winnow_feed.proofs.lemmas.ReachLemmas.{Reaches-cursor, Reaches-more}
-use Rattle.winnow_feed.proofs.lemmas.StandingLemmas.{rest-back}
+use Rattle.winnow_feed.proofs.lemmas.JoinedInputLemmas.{rest-back}
 use Rattle.winnow_feed.proofs.lemmas.KeepingLemmas.{stands-inside}
 use Rattle.winnow_feed.proofs.lemmas.FeedLemmas.{out-is}
 use Rattle.winnow_feed.proofs.lemmas.MissingLemmas.{step-changes, missing-valid, first-never}
@@ -45,11 +45,11 @@ at-exists (x ∷ xs) (suc n) l = at-exists xs n (omega arith)
 
 -- ---- what a step is missing where the kept input remains is what it is missing on the joined one
 
-module _ {T L : Type 0} (k : PieceKind T CharSet L) (greatest : ℕ) (spell : ℕ → List ℕ) (kept : Source T) (p : Progress T L) (x : SearchStep CharSet L) (next : next_step p ≡ Some x) (r : Source T) (is : (all : Source T) (h : Stands true k all kept p) → r ≡ rest all h.at) where
-  missing-same : (all : Source T) (h : Stands true k all kept p) (s : SearchStep CharSet L) → next_step p ≡ Some s → missing k greatest spell r x ≡ missing k greatest spell (rest all h.at) s
+module _ {T L : Type 0} (k : PieceKind T CharSet L) (greatest : ℕ) (spell : ℕ → List ℕ) (kept : Source T) (p : Progress T L) (x : SearchStep CharSet L) (next : next_step p ≡ Some x) (r : Source T) (is : (all : Source T) (h : IsRunOver true k all kept p) → r ≡ rest all h.at) where
+  missing-same : (all : Source T) (h : IsRunOver true k all kept p) (s : SearchStep CharSet L) → next_step p ≡ Some s → missing k greatest spell r x ≡ missing k greatest spell (rest all h.at) s
   missing-same all h s e = ap (λ b. missing k greatest spell b x) (is all h) ∙ ap (missing k greatest spell (rest all h.at)) (same_Some x s (sym next ∙ e))
 
-  pub ok-missing : {A E : Type 0} (bytes : A → List ℕ) (result : Result (Option A) E) → IfOk result (λ m. option_map bytes m ≡ missing k greatest spell r x) → IfOk result (λ m. TellsMissing k greatest spell kept p (option_map bytes m))
+  pub ok-missing : {A E : Type 0} (bytes : A → List ℕ) (result : Result (Option A) E) → IfOk result (λ m. option_map bytes m ≡ missing k greatest spell r x) → IfOk result (λ m. GivesMissing k greatest spell kept p (option_map bytes m))
   ok-missing bytes (Ok m) e = λ all h s n. e ∙ missing-same all h s n
   ok-missing bytes (Err f) e = tt
 
@@ -72,7 +72,7 @@ next-exists p l = at-exists p.script.now (length p.told.items) l
 pub next-spelt : (i : InputKind) (p : Progress ℕ (Bor (List ℕ))) (n : ℕ) (d : PieceStep) → n ≡ length p.told.items → n < length p.script.now → IsSpelt i (get_or p.script.now n d) → (s : PieceStep) × (next_step p ≡ Some s) × IsSpelt i s
 next-spelt i p n d e l spelt = (get_or p.script.now n d, ap (slice_get p.script.now) (sym e) ∙ slice_get-get_or p.script.now n d l, spelt)
 
-module _ (i : InputKind) (law : IsInput i) (spelling : IsSpelling i) (f : FeedState) (J : List ℕ) (h : StandsFor i f J) (rests : IsAtRest i.pieces (i.source J) f.run) (s : PieceStep) (next : next_step f.run ≡ Some s) where
+module _ (i : InputKind) (law : IsInput i) (spelling : IsSpelling i) (f : FeedState) (J : List ℕ) (h : HoldsInput i f J) (rests : IsAtRest i.pieces (i.source J) f.run) (s : PieceStep) (next : next_step f.run ≡ Some s) where
   pub inside : Inside (i.source J) h.stands.at
   inside = stands-inside i.pieces (i.source J) (i.source f.kept) f.run h.stands
 
@@ -92,16 +92,16 @@ module _ (i : InputKind) (law : IsInput i) (spelling : IsSpelling i) (f : FeedSt
   abbrev all : Source ℕ
   all = i.source (joined pieces)
 
-  abbrev st : Stands true i.pieces (i.source (joined pieces)) (i.source f.kept) f.run
+  abbrev st : IsRunOver true i.pieces (i.source (joined pieces)) (i.source f.kept) f.run
   st = h.stands.stands
 
-  told-length : length (answers_told f.run) ≡ length f.run.told.items
+  told-length : length (answers_out f.run) ≡ length f.run.told.items
   told-length = length-map f.run.told.items (λ t. t.answer)
 
-  number-is : waiting_number i (script_of f) J ≡ length (answers_told f.run)
+  number-is : waiting_number i (script_of f) J ≡ length (answers_out f.run)
   number-is = ap length (out-is i law all (i.source f.kept) f.run st (h.rests some))
 
-  next-told : slice_get f.run.script.now (length (answers_told f.run)) ≡ Some s
+  next-told : slice_get f.run.script.now (length (answers_out f.run)) ≡ Some s
   next-told = ap (slice_get f.run.script.now) told-length ∙ next
 
   pub step-is : waiting_step i (script_of f) J ≡ Some s
@@ -110,7 +110,7 @@ module _ (i : InputKind) (law : IsInput i) (spelling : IsSpelling i) (f : FeedSt
   pub rest-is : waiting_rest i (script_of f) J ≡ rest all st.at
   rest-is =
       ap (λ n. rest all (cursor_after (search_next all) (take n f.run.script.now) start)) number-is
-      ∙ ap (rest all) (Reaches-cursor true i.pieces all start st.at f.run.script.now (answers_told f.run) st.reaches)
+      ∙ ap (rest all) (Reaches-cursor true i.pieces all start st.at f.run.script.now (answers_out f.run) st.reaches)
 
   pub missing-is : missing_on i (script_of f) J s ≡ missing i.pieces i.greatest i.pieces.write (rest all st.at) s
   missing-is = ap (λ r. missing i.pieces i.greatest i.pieces.write r s) rest-is
@@ -124,15 +124,15 @@ module _ (i : InputKind) (law : IsInput i) (spelling : IsSpelling i) (f : FeedSt
   answer-is : answer_on i (script_of f) (waiting_number i (script_of f) J) J ≡ Some (search_answer (kind_of i.pieces) all s st.at)
   answer-is =
       ap (slice_get (answers_from (search_answer (kind_of i.pieces) all) (search_next all) f.run.script.now start)) number-is
-      ∙ reached-answer true i.pieces all start st.at f.run.script.now (answers_told f.run) s st.reaches next-told
+      ∙ reached-answer true i.pieces all start st.at f.run.script.now (answers_out f.run) s st.reaches next-told
 
   -- the answers that are out are those of any longer input
   answer-more : (m : List ℕ) → answer_on i (script_of f) (waiting_number i (script_of f) J) (J ++ m) ≡ Some (search_answer (kind_of i.pieces) (all ++ i.source m) s st.at)
   answer-more m =
-      let longer = Reaches-more i.pieces all (i.source m) start st.at f.run.script.now (answers_told f.run) (start-inside all) st.reaches in
+      let longer = Reaches-more i.pieces all (i.source m) start st.at f.run.script.now (answers_out f.run) (start-inside all) st.reaches in
       ap (λ src. slice_get (answers_from (search_answer (kind_of i.pieces) src) (search_next src) f.run.script.now start) (waiting_number i (script_of f) J)) (law.split J m h.stands.is_input)
       ∙ ap (slice_get (answers_from (search_answer (kind_of i.pieces) (all ++ i.source m)) (search_next (all ++ i.source m)) f.run.script.now start)) number-is
-      ∙ reached-answer true i.pieces (all ++ i.source m) start st.at f.run.script.now (answers_told f.run) s longer next-told
+      ∙ reached-answer true i.pieces (all ++ i.source m) start st.at f.run.script.now (answers_out f.run) s longer next-told
 
   pub is-missing : (m : List ℕ) → IsSpelt i s → Some m ≡ missing i.pieces i.greatest i.pieces.write (rest all st.at) s → IsMissing i (script_of f) J m
   is-missing m u e =

@@ -11,19 +11,19 @@ use Rattle.winnow_stream.specs.Cursor.{Cursor, rest, place}
 use Rattle.winnow_stream.specs.Span.{span}
 use Rattle.winnow_stream.proofs.lemmas.FrontLemmas.{back-place, front-whole, HasPositiveWidths-drop, back-drop, within-back, front_count-found, front_count-missing, front_count-place, width-take_drop}
 use Rattle.winnow_run.specs.Script.{step_next}
-use Rattle.winnow_stream.specs.Place.{place_behind}
-use Rattle.winnow_run.specs.RunState.{RunState, StandsAt, IsMarkAt, ArePlaced}
+use Rattle.winnow_stream.specs.Location.{location_behind}
+use Rattle.winnow_run.specs.RunState.{RunState, StandsAt, IsMarkAt, AreLocated}
 use Rattle.winnow_run.specs.declared.script.Step.TheVariants.{Next, Take, Mark, Reset}
 use Rattle.winnow_run.proofs.lemmas.PlaceLemmas.{drop-next, width-later, width-antitone}
 use Rattle.winnow_run.proofs.lemmas.PairLemmas.{AllZip-more, AllZip-found, AllZip-missing}
 
 -- ---- places in the whole input
 
-pub behind-none : (whole : Option ℕ) (n : ℕ) → n ≡ 0 → whole ≡ place_behind whole n
+pub behind-none : (whole : Option ℕ) (n : ℕ) → n ≡ 0 → whole ≡ location_behind whole n
 behind-none None n e = refl
 behind-none (Some p) n e = let f : p ≡ p + n = omega (arith, e) in ap Some f
 
-behind-on : (whole : Option ℕ) (n w m : ℕ) → n + w ≡ m → place_behind (place_behind whole n) w ≡ place_behind whole m
+behind-on : (whole : Option ℕ) (n w m : ℕ) → n + w ≡ m → location_behind (location_behind whole n) w ≡ location_behind whole m
 behind-on None n w m e = refl
 behind-on (Some p) n w m e = let f : p + n + w ≡ p + m = omega (arith, e) in ap Some f
 
@@ -121,17 +121,17 @@ module _ {T : Type 0} (here : RunState T) (all : Source T) (at : Cursor) (h : St
       (back-place (drop h.first all) (i - h.first) (HasPositiveWidths-drop h.first all h.widths) (origin-within m i f l) ∙ origin-drop i (origin-before m i f l))
 
   -- where each step that moves leaves the stream in the whole input
-  pub placed-on : (whole origin from to : Option ℕ) (t : Source T) (w : ℕ) → w + width t ≡ width here.rest → to ≡ place_behind from w → ArePlaced whole here origin from → ArePlaced whole (record here { rest = t }) origin to
+  pub placed-on : (whole origin from to : Option ℕ) (t : Source T) (w : ℕ) → w + width t ≡ width here.rest → to ≡ location_behind from w → AreLocated whole here origin from → AreLocated whole (record here { rest = t }) origin to
   placed-on whole origin from to t w e p q =
-      (q.0, p ∙ ap (λ v. place_behind v w) q.1 ∙ behind-on whole (here.end - width here.rest) w (here.end - width t) (omega (arith, e, end-later)))
+      (q.0, p ∙ ap (λ v. location_behind v w) q.1 ∙ behind-on whole (here.end - width here.rest) w (here.end - width t) (omega (arith, e, end-later)))
 
-  pub placed-reset : (whole origin from to : Option ℕ) (t : Source T) (k m : ℕ) → slice_get here.marks k ≡ Some m → here.base ≤ m → t ≡ back here.origin (m - here.base) → to ≡ place_behind origin (m - here.base) → ArePlaced whole here origin from → ArePlaced whole (record here { rest = t }) origin to
+  pub placed-reset : (whole origin from to : Option ℕ) (t : Source T) (k m : ℕ) → slice_get here.marks k ≡ Some m → here.base ≤ m → t ≡ back here.origin (m - here.base) → to ≡ location_behind origin (m - here.base) → AreLocated whole here origin from → AreLocated whole (record here { rest = t }) origin to
   placed-reset whole origin from to t k m f l e p q =
       let g = mark-found k m f in
       let there : width t ≡ width (drop g.0 all) = ap width (e ∙ mark-back m g.0 g.1.1 l) in
       let is : m ≡ place all g.0 = g.1.1.is in
       let left : here.end - width t ≡ m = omega (arith, there, is, h.end, width-take_drop all g.0) in
-      (q.0, p ∙ ap (λ v. place_behind v (m - here.base)) q.0 ∙ behind-on whole here.base (m - here.base) m (omega (arith, l)) ∙ ap (place_behind whole) (sym left))
+      (q.0, p ∙ ap (λ v. location_behind v (m - here.base)) q.0 ∙ behind-on whole here.base (m - here.base) m (omega (arith, l)) ∙ ap (location_behind whole) (sym left))
 
   -- where each step that moves, or marks, leaves the run
   pub stands-moved : (i : ℕ) (t : Source T) → t ≡ drop i all → i ≤ length all → StandsAt (record here { rest = t }) all (record at { index = i })

@@ -18,8 +18,8 @@ module _ {S G : Type 0} (IsGiven : S → Cursor → G → Type 0) (moves : S →
   AreGiven-append (y ∷ xs) at (b ∷ gs) x g h r = (h.0, AreGiven-append xs (moves y at) gs x g h.1 r)
 
 -- where each step's answer is told, the answers are those of the script
-module _ {S A G : Type 0} (IsGiven : S → Cursor → G → Type 0) (tells : S → Cursor → A) (moves : S → Cursor → Cursor) (For : A → G → Type 0) (Can : S → Type 0) (each : (s : S) (at : Cursor) (g : G) → Can s → IsGiven s at g → For (tells s at) g) where
-  pub AreGiven-answers : (xs : List S) (at : Cursor) (gs : List G) → All Can xs → AreGiven IsGiven moves xs at gs → AllZip For (answers_from tells moves xs at) gs
+module _ {S A G : Type 0} (IsGiven : S → Cursor → G → Type 0) (answer_at : S → Cursor → A) (moves : S → Cursor → Cursor) (For : A → G → Type 0) (Can : S → Type 0) (each : (s : S) (at : Cursor) (g : G) → Can s → IsGiven s at g → For (answer_at s at) g) where
+  pub AreGiven-answers : (xs : List S) (at : Cursor) (gs : List G) → All Can xs → AreGiven IsGiven moves xs at gs → AllZip For (answers_from answer_at moves xs at) gs
   AreGiven-answers [] at [] c h = tt
   AreGiven-answers [] at (g ∷ gs) c h = absurd h
   AreGiven-answers (x ∷ xs) at [] c h = absurd h

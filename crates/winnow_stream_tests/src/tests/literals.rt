@@ -88,7 +88,7 @@ where
     I: Compare<char> + Compare<&'static str> + FindSlice<&'static str>,
     I: FindSlice<(&'static str, &'static str)> + FindSlice<char> + StreamIsPartial + Copy,
     requires valid { I.valid inner }
-    requires unmarked { I.supports_partial ≡ false }
+    requires no_flag { I.supports_partial ≡ false }
 {
     let mut input = Partial::new(LocatingSlice::new(inner));
     take_text(&mut input)

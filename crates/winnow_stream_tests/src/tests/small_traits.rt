@@ -56,7 +56,7 @@ fn widths_between_places_of_bytes(rt: HostRuntime) {
 }
 
 #[test]
-fn widths_windows_marks_and_bytes_through_their_bounds(rt: HostRuntime) {
+fn widths_windows_flags_and_bytes_through_their_bounds(rt: HostRuntime) {
     let (bytes, text): (&[u8], &str) = (b"abc", "aß");
     assert_eq!(rt;
         [

@@ -20,7 +20,7 @@ fn at<'i>(alloc: Global, input: &'i str) -> Tree<'i> {
 }
 
 // Asserts the text of a tree.
-fn tells<I: Display>(
+fn prints<I: Display>(
     rt: &impl Abort,
     alloc: Global,
     tree: &TreeError<I, StrContext>,
@@ -45,13 +45,13 @@ fn from_right(alloc: Global) -> Result<Tree<'static>, AllocError> {
 #[test]
 fn or_puts_an_earlier_error_behind_a_later_alt(rt: HostRuntime) -> Result<(), Fail> {
     let alloc = rt.alloc();
-    tells(
+    prints(
         &rt,
         alloc,
         &from_left(alloc)?,
         "during one of:\n   at '1'\n   at '2'\n   at '3'\n",
     )?;
-    tells(
+    prints(
         &rt,
         alloc,
         &from_right(alloc)?,
@@ -80,13 +80,13 @@ fn caused_and_appended(alloc: Global) -> Result<Tree<'static>, AllocError> {
 #[test]
 fn texts_of_trees(rt: HostRuntime) -> Result<(), Fail> {
     let alloc = rt.alloc();
-    tells(
+    prints(
         &rt,
         alloc,
         &beside_told(alloc)?,
         "during one of:\n   at 'abc'\n   at 'x...'\n    0: invalid number at 'x...'\n",
     )?;
-    tells(
+    prints(
         &rt,
         alloc,
         &caused_and_appended(alloc)?,
@@ -105,7 +105,7 @@ fn inputs_are_told_by_their_front(rt: HostRuntime) -> Result<(), Fail> {
         ("", " at ''\n"),
     ];
     for (input, wanted) in rows {
-        tells(&rt, alloc, &at(alloc, input), wanted)?;
+        prints(&rt, alloc, &at(alloc, input), wanted)?;
     }
     Ok(())
 }
@@ -121,14 +121,14 @@ fn owned(alloc: Global) -> Result<TreeError<String, StrContext>, AllocError> {
 #[test]
 fn inputs_are_owned_and_mapped(rt: HostRuntime) -> Result<(), Fail> {
     let alloc = rt.alloc();
-    tells(
+    prints(
         &rt,
         alloc,
         &owned(alloc)?,
         " at 'ab'\n  0:  at 'ab'\n  1: invalid x at 'ab'\n",
     )?;
     let widths = owned(alloc)?.map_input(alloc, |text: String| text.len())?;
-    tells(
+    prints(
         &rt,
         alloc,
         &widths,
@@ -154,7 +154,7 @@ fn brackets_keep_the_entries(rt: HostRuntime) -> Result<(), Fail> {
     let Backtrack(error) = combined(alloc)? else {
         return Err(Fail::from("no backtrack"));
     };
-    tells(
+    prints(
         &rt,
         alloc,
         &error,

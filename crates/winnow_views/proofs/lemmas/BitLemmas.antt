@@ -7,12 +7,12 @@ use Rattle.std.specs.declared.num.NonZeroUsize.{NonZeroUsize}
 use Rattle.winnow_stream.specs.declared.needed.Needed.TheVariants.{Size}
 use Rattle.winnow_stream.specs.Source.{Source, units, width, first_token}
 use Rattle.winnow_stream.specs.Front.{is_offset, count_to, front, back}
-use Rattle.winnow_stream.specs.Place.{place_behind}
+use Rattle.winnow_stream.specs.Location.{location_behind}
 use Rattle.winnow_stream.specs.Shortage.{offset_at}
 use Rattle.winnow_stream.specs.Units.{width-units}
 use Rattle.winnow_stream.proofs.lemmas.UnitLemmas.{length-units, is_offset-units, count_to-units, le-from_is_offset, units-take, units-drop, offset_at-units_short, offset_at-units_fits}
 use Rattle.winnow_views.specs.BitSource.{HasUnits, bit_of, byte_bits, bits_of, bits_from, IsBitSource, IsBitSlice}
-use Rattle.winnow_views.specs.BitStream.{place_in_bits}
+use Rattle.winnow_views.specs.BitStream.{location_in_bits}
 use Rattle.winnow_stream.specs.SliceWidths.{SlicesHaveWidths}
 use Rattle.winnow_views.specs.BitLaws.{units-HasUnits, width-HasUnits, length-bits_past, width-bits_from}
 
@@ -69,12 +69,12 @@ width-first_bit : (bits : List Bool) (b : Bool) → Some b ≡ first_token (unit
 width-first_bit [] b e = absurd (cc)
 width-first_bit (x ∷ xs) b e = refl
 
-one-behind : (bytes : Option ℕ) (place n : ℕ) → n ≡ 1 → place_in_bits bytes (place + 1) ≡ place_behind (place_in_bits bytes place) n
+one-behind : (bytes : Option ℕ) (place n : ℕ) → n ≡ 1 → location_in_bits bytes (place + 1) ≡ location_behind (location_in_bits bytes place) n
 one-behind None place n e = refl
 one-behind (Some bytes) place n e = let f : 8 * bytes + (place + 1) ≡ 8 * bytes + place + n = omega (arith, e) in ap Some f
 
-pub place_in_bits-next : (at : Option ℕ) (bytes : List (ℕ × ℕ)) (place : ℕ) (b : Bool) → Some b ≡ first_token (bits_from bytes place) → place_in_bits at (place + 1) ≡ place_behind (place_in_bits at place) (width (take 1 (bits_from bytes place)))
-place_in_bits-next at bytes place b e = one-behind at place _ (width-first_bit (drop place (bits_of bytes)) b e)
+pub location_in_bits-next : (at : Option ℕ) (bytes : List (ℕ × ℕ)) (place : ℕ) (b : Bool) → Some b ≡ first_token (bits_from bytes place) → location_in_bits at (place + 1) ≡ location_behind (location_in_bits at place) (width (take 1 (bits_from bytes place)))
+location_in_bits-next at bytes place b e = one-behind at place _ (width-first_bit (drop place (bits_of bytes)) b e)
 
 -- ---- slices
 
@@ -154,9 +154,9 @@ module _ (bytes left : List (ℕ × ℕ)) (place n whole rest : ℕ) (h : IsBitS
       }
 
 -- where a slice of n bits leaves a stream of bits in the whole input
-pub place_in_bits-behind : (bytes : Option ℕ) (place n whole rest : ℕ) → whole ≡ (n + place) / 8 → rest ≡ (n + place) % 8 → place_in_bits (place_behind bytes whole) rest ≡ place_behind (place_in_bits bytes place) n
-place_in_bits-behind None place n whole rest w r = refl
-place_in_bits-behind (Some bytes) place n whole rest w r = let e : 8 * (bytes + whole) + rest ≡ 8 * bytes + place + n = omega (arith, w, r) in ap Some e
+pub location_in_bits-behind : (bytes : Option ℕ) (place n whole rest : ℕ) → whole ≡ (n + place) / 8 → rest ≡ (n + place) % 8 → location_in_bits (location_behind bytes whole) rest ≡ location_behind (location_in_bits bytes place) n
+location_in_bits-behind None place n whole rest w r = refl
+location_in_bits-behind (Some bytes) place n whole rest w r = let e : 8 * (bytes + whole) + rest ≡ 8 * bytes + place + n = omega (arith, w, r) in ap Some e
 
 -- ---- laws
 

@@ -21,9 +21,9 @@ returns-clause-next g c =
     let on = goes_on c.of-kind.result in
     let first = c.in_ok-next_token.field-0 in
     let some : first_token behind ≡ Some first = sym c.in_ok-next_token.ensures.answer in
-    let starts = c.span_law.ensures.start c.requires.located c.args.input.now c.skip_while.new.input _ c.skip_while.ensures.place in
-    let one = c.span_law.ensures.start c.requires.located c.skip_while.new.input c.next_token.new.self _ c.next_token.ensures.place in
-    let ends = c.span_law.ensures.end c.requires.located c.next_token.new.self c.skip_while-2.new.input _ c.skip_while-2.ensures.place in
+    let starts = c.span_law.ensures.start c.requires.located c.args.input.now c.skip_while.new.input _ c.skip_while.ensures.location in
+    let one = c.span_law.ensures.start c.requires.located c.skip_while.new.input c.next_token.new.self _ c.next_token.ensures.location in
+    let ends = c.span_law.ensures.end c.requires.located c.next_token.new.self c.skip_while-2.new.input _ c.skip_while-2.ensures.location in
     IsNext-parts ahead (held_front is_blank ahead) behind (held_front on later) rest (g.S.Location.token_start c.args.input.now) first _
     (held-split is_blank ahead behind (c.held_law.ensures.front is_blank ahead) c.skip_while.ensures.behind)
     (c.held_law.ensures.held is_blank ahead)

@@ -14,10 +14,10 @@ loop-i-preserved g c =
     let piece : List ℕ = (get_or pieces i none).now in
     let before : List ℕ = joined (pieces_in (take i pieces)) in
     let more : joined (pieces_in (take (i + 1) pieces)) ≡ before ++ piece =
-        ap joined (taken-more pieces i none c.loop-i-test.true) ∙ joined-push (pieces_in (take i pieces)) piece in
+    ap joined (taken-more pieces i none c.loop-i-test.true) ∙ joined-push (pieces_in (take i pieces)) piece in
     let held = Splits-more c.find_more_law.ensures (lines_in c.loop-i.lines.items) before c.loop-i.reader piece c.loop-i.invariant.split in
     let pushed : Splits (before ++ piece) (lines_in c.loop-i.lines.items) c.push.new.self =
-        subst (λ rest. Splits (before ++ piece) (lines_in c.loop-i.lines.items) rest) (sym c.in_ok-push.ensures.pushed) held in
+    subst (λ rest. Splits (before ++ piece) (lines_in c.loop-i.lines.items) rest) (sym c.in_ok-push.ensures.pushed) held in
     record {
       split = subst (λ b. Splits b (lines_in c.take_lines.new.lines.items) c.take_lines.new.reader) (sym more) (c.in_ok-take_lines.ensures.split (before ++ piece) pushed);
       all = c.in_ok-take_lines.ensures.all;

@@ -12,5 +12,5 @@ loop-reader-preserved c = λ bytes splits.
     let next : IsNextLine c.loop-reader.reader c.in-Some.line.items rest = rw c.in-Some.is at c.in_ok-line.ensures.line in
     let pushes : List (Vec ℕ) → List (Vec ℕ) = λ lines. lines ++ c.in-Some.line ∷ [] in
     let lines : lines_in c.push.new.self.items ≡ lines_in before ++ c.in-Some.line.items ∷ [] =
-        ap lines_in (c.in-Ok.ensures.items ∙ ap pushes c.reserve.ensures.items) ∙ map-append (λ (line : Vec ℕ). line.items) before (c.in-Some.line ∷ []) in
+    ap lines_in (c.in-Ok.ensures.items ∙ ap pushes c.reserve.ensures.items) ∙ map-append (λ (line : Vec ℕ). line.items) before (c.in-Some.line ∷ []) in
     subst (λ ls. Splits bytes ls rest) (sym lines) (Splits-line (lines_in before) bytes c.loop-reader.reader c.in-Some.line.items rest (c.loop-reader.invariant bytes splits) next)

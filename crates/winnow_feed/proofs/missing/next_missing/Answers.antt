@@ -1,7 +1,7 @@
 use Rattle.std.proofs.Common.{sym, ◌∙◌, arith, subst}
 use Rattle.winnow_attempt.specs.View.{piece_kind}
 use Rattle.winnow_attempt.specs.Settled.{IsSettled}
-use Rattle.winnow_feed.proofs.lemmas.StandingLemmas.{next-is, base-le, kept-offset, kept-rest}
+use Rattle.winnow_feed.proofs.lemmas.JoinedInputLemmas.{next-is, base-le, kept-offset, kept-rest}
 use Rattle.winnow_feed.proofs.lemmas.WaitingLemmas.{ok-missing, err-missing}
 use Rattle.winnow_feed.proofs.missing.next_missing.Goals as goal
 

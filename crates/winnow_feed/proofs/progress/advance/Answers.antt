@@ -1,7 +1,7 @@
 use Rattle.std.proofs.Common.{◌+◌, ◌≡◌, ◌≤◌, ◌<◌, sym, ap, ◌∙◌, arith, length, refl}
 use Rattle.std.proofs.lemmas.Bool.{false≢true, lt-ltb, le-ltb}
 use Rattle.std.proofs.lemmas.Option.{slice_get_within}
-use Rattle.winnow_feed.proofs.lemmas.StandingLemmas.{Tells-none, Tells-more}
+use Rattle.winnow_feed.proofs.lemmas.JoinedInputLemmas.{AddsAnswers-none, AddsAnswers-more}
 use Rattle.winnow_feed.proofs.progress.advance.Goals as goal
 
 pub returns-then-not-attempt_next-clause-stands : goal.returns-then-not-attempt_next-clause-stands
@@ -19,7 +19,7 @@ loop-progress-preserved g c =
     let grew : length c.attempt_next.new.progress.told.items ≡ length c.loop-progress.progress.told.items + 1 = omega (arith, e.came c.if-not-attempt_next.false, c.loop-progress.progress.told.ok.0, c.attempt_next.new.progress.told.ok.0) in
     record {
       stands = λ all h. e.stands all (i.stands all h);
-      tells = Tells-more _ _ _ _ i.tells e.tells;
+      adds = AddsAnswers-more _ _ _ _ i.adds e.adds;
       tried = omega (arith, e.tried, i.tried, i.told, grew);
       still = λ same. absurd (omega (arith, same, i.told, c.loop-progress.progress.told.ok.0, c.args.progress.now.told.ok.0, grew));
       script = e.script ∙ i.script;
@@ -37,7 +37,7 @@ returns-clause-stands g c = λ all h. (c.loop-progress.invariant.stands all h, �
 pub loop-progress-init : goal.loop-progress-init
 loop-progress-init g c = record {
   stands = λ all h. h;
-  tells = Tells-none _ _ _ refl;
+  adds = AddsAnswers-none _ _ _ refl;
   tried = omega (arith, c.requires.counted);
   still = λ same. (refl, refl);
   script = refl;
@@ -52,10 +52,10 @@ loop-progress-init g c = record {
 pub attempt_next-requires-clause-stands : goal.attempt_next-requires-clause-stands
 attempt_next-requires-clause-stands g c = (c.requires.stands.0, c.loop-progress.invariant.stands _ c.requires.stands.1)
 
-pub returns-then-not-attempt_next-clause-tells : goal.returns-then-not-attempt_next-clause-tells
-returns-then-not-attempt_next-clause-tells g c =
+pub returns-then-not-attempt_next-clause-adds : goal.returns-then-not-attempt_next-clause-adds
+returns-then-not-attempt_next-clause-adds g c =
     let i = c.loop-progress.invariant in
-    Tells-more _ _ _ _ i.tells c.attempt_next.ensures.tells
+    AddsAnswers-more _ _ _ _ i.adds c.attempt_next.ensures.adds
 
 pub returns-then-not-attempt_next-clause-tried : goal.returns-then-not-attempt_next-clause-tried
 returns-then-not-attempt_next-clause-tried g c =

@@ -1,16 +1,16 @@
 use Rattle.std.proofs.Common.{◌≡◌, ◌+◌, ◌≤◌, ◌-◌, length, vec_len, vec_capacity}
 use Rattle.winnow_stream.specs.Source.{Source}
 use Rattle.winnow_attempt.specs.View.{piece_kind}
-use Rattle.winnow_feed.specs.Standing.{Stands, Tells, StandsStill}
+use Rattle.winnow_feed.specs.JoinedInput.{IsRunOver, AddsAnswers, StaysWithoutAnswer}
 use Rattle.winnow_feed.specs.Telling.{capped}
 use Rattle.winnow_feed.proofs.progress.advance.Given as goal
 
 abbrev pub invariant-loop-progress : goal.invariant-loop-progress
 invariant-loop-progress g l = record {
-  stands : (all : Source _) → Stands (g.S.StreamIsPartial.expects_more l.kept) (piece_kind g.S.Token.AsChar.code g.S.Stream.counts_missing g.S.Kept.write g.L.AsBStr.text_bytes) all (g.S.Stream.remaining l.kept) l.initial.progress → Stands (g.S.StreamIsPartial.expects_more l.kept) (piece_kind g.S.Token.AsChar.code g.S.Stream.counts_missing g.S.Kept.write g.L.AsBStr.text_bytes) all (g.S.Stream.remaining l.kept) l.progress;
-  tells : Tells l.piece l.initial.progress l.progress;
+  stands : (all : Source _) → IsRunOver (g.S.StreamIsPartial.expects_more l.kept) (piece_kind g.S.Token.AsChar.code g.S.Stream.counts_missing g.S.Kept.write g.L.AsBStr.text_bytes) all (g.S.Stream.remaining l.kept) l.initial.progress → IsRunOver (g.S.StreamIsPartial.expects_more l.kept) (piece_kind g.S.Token.AsChar.code g.S.Stream.counts_missing g.S.Kept.write g.L.AsBStr.text_bytes) all (g.S.Stream.remaining l.kept) l.progress;
+  adds : AddsAnswers l.piece l.initial.progress l.progress;
   tried : l.progress.tried ≡ capped (l.initial.progress.tried + (length l.progress.told.items - length l.initial.progress.told.items));
-  still : StandsStill l.initial.progress l.progress;
+  still : StaysWithoutAnswer l.initial.progress l.progress;
   script : l.progress.script ≡ l.initial.progress.script;
   base : l.progress.base ≡ l.initial.progress.base;
   pieces : l.progress.pieces ≡ l.initial.progress.pieces;

@@ -8,7 +8,7 @@ use Rattle.winnow_run.specs.Definite.{is_definite}
 use Rattle.winnow_attempt.specs.Settled.{IsSettled}
 use Rattle.winnow_attempt.specs.View.{look_of}
 use Rattle.winnow_attempt.specs.View.{under}
-use Rattle.winnow_feed.proofs.lemmas.StandingLemmas.{next-is, base-le, kept-offset, kept-rest, kept-room, rest-back, Stands-waits, Stands-answered, Tells-none}
+use Rattle.winnow_feed.proofs.lemmas.JoinedInputLemmas.{next-is, base-le, kept-offset, kept-rest, kept-room, rest-back, IsRunOver-waits, IsRunOver-answered, AddsAnswers-none}
 use Rattle.winnow_feed.proofs.progress.attempt_next.Goals as goal
 
 pub overflow_sub-progress : goal.overflow_sub-progress
@@ -42,10 +42,10 @@ returns-in-Waits-clause-stands g c = λ all h.
     let k = piece_kind g.S.Token.AsChar.code g.S.Stream.counts_missing g.S.Kept.write g.L.AsBStr.text_bytes in
     let e = c.next_slice.ensures.remains ∙ kept-rest _ _ _ _ _ h _ next in
     let settled = subst (λ r. IsSettled k c.index-script-len.result r c.in-Waits.passed.width c.in-Waits.passed.tokens) e c.in-Waits.ensures.attempts.2 in
-    Stands-waits _ _ _ _ _ h _ next _ refl c.in-Waits.ensures.attempts.3 refl refl refl settled
+    IsRunOver-waits _ _ _ _ _ h _ next _ refl c.in-Waits.ensures.attempts.3 refl refl refl settled
 
 pub returns-in-Waits-clause-more : goal.returns-in-Waits-clause-more
-returns-in-Waits-clause-more g c = λ _. sym (g.met.S.Kept.keeps_mark _ _ c.next_slice.ensures.kept) ∙ c.in-Waits.ensures.attempts.0
+returns-in-Waits-clause-more g c = λ _. sym (g.met.S.Kept.keeps_flag _ _ c.next_slice.ensures.kept) ∙ c.in-Waits.ensures.attempts.0
 
 pub returns-in-Waits-clause-waits : goal.returns-in-Waits-clause-waits
 returns-in-Waits-clause-waits g c = λ _ all h s is.
@@ -64,19 +64,19 @@ returns-in-Answered-clause-stands g c = λ all h.
     let step = c.index-script-len.result in
     let p = c.args.progress.now in
     let e = c.next_slice.ensures.remains ∙ kept-rest _ _ _ _ _ h _ next in
-    let mark = g.met.S.Kept.keeps_mark _ _ c.next_slice.ensures.kept in
+    let mark = g.met.S.Kept.keeps_flag _ _ c.next_slice.ensures.kept in
     let seen = look_of k p.place c.deref.result.now (g.S.Stream.remaining c.next_slice.new.self) step in
     let look = ap (λ ms. look_of k p.place ms (g.S.Stream.remaining c.next_slice.new.self) step) c.deref.ensures.value
     ∙ ap (λ r. look_of k p.place p.marks.items r step) e in
     let is = c.in-Answered.ensures.attempts.1 in
     let marks = c.push_mark.ensures.items ∙ ap (λ s. cond s.marks (p.marks.items ++ p.place ∷ []) p.marks.items) is in
-    Stands-answered _ _ _ _ _ h _ next _ c.args.piece seen (λ more. sym (ap (is_definite k step) e) ∙ c.in-Answered.ensures.attempts.0 (mark ∙ more)) look refl refl c.in-Answered.ensures.attempts.2 (ap (λ s. s.place) is) marks refl refl
+    IsRunOver-answered _ _ _ _ _ h _ next _ c.args.piece seen (λ more. sym (ap (is_definite k step) e) ∙ c.in-Answered.ensures.attempts.0 (mark ∙ more)) look refl refl c.in-Answered.ensures.attempts.2 (ap (λ s. s.place) is) marks refl refl
 
-pub returns-in-Waits-clause-tells : goal.returns-in-Waits-clause-tells
-returns-in-Waits-clause-tells g c = Tells-none _ _ _ c.in-Waits.ensures.attempts.3
+pub returns-in-Waits-clause-adds : goal.returns-in-Waits-clause-adds
+returns-in-Waits-clause-adds g c = AddsAnswers-none _ _ _ c.in-Waits.ensures.attempts.3
 
-pub returns-in-Answered-clause-tells : goal.returns-in-Answered-clause-tells
-returns-in-Answered-clause-tells g c =
+pub returns-in-Answered-clause-adds : goal.returns-in-Answered-clause-adds
+returns-in-Answered-clause-adds g c =
     let k = piece_kind g.S.Token.AsChar.code g.S.Stream.counts_missing g.S.Kept.write g.L.AsBStr.text_bytes in
     let seen = look_of k c.args.progress.now.place c.deref.result.now (g.S.Stream.remaining c.next_slice.new.self) c.index-script-len.result in
     record { more = seen.answer ∷ []; told = c.in-Answered.ensures.attempts.2 }

@@ -4,7 +4,7 @@ use Rattle.std.proofs.lemmas.List.Elements.{All-head, All-tail}
 use Rattle.std.specs.List.{All}
 use Rattle.winnow_stream.specs.Source.{width}
 use Rattle.winnow_stream.specs.Cursor.{start}
-use Rattle.winnow_stream.specs.Place.{place_behind}
+use Rattle.winnow_stream.specs.Location.{location_behind}
 use Rattle.winnow_run.specs.Script.{step_next, IsReady, IsAnswer}
 use Rattle.winnow_run.proofs.lemmas.AnswerStepLemmas.{behind-none}
 use Rattle.winnow_run.proofs.lemmas.ScriptLemmas.{cursor-append, AreGiven-append}
@@ -59,7 +59,7 @@ loop-step-preserved g c =
       valid = c.answer_step.ensures.valid;
       origin = i.origin;
       base = i.base;
-      placed = c.answer_step.ensures.place _ i.placed;
+      placed = c.answer_step.ensures.location _ i.placed;
       kept = g.met.S.Stream.keeps_transitive _ _ _ i.kept c.answer_step.ensures.kept;
       ready = All-tail (IsReady g.C.ScriptSet.askable) c.in-Some.step.now c.in-Some.later.now (subst (All (IsReady g.C.ScriptSet.askable)) e i.ready);
       done = i.done ++ c.in-Some.step.now ∷ [];
@@ -67,7 +67,7 @@ loop-step-preserved g c =
       stands = rw (cursor-append (step_next all) i.done c.in-Some.step.now start) (c.in_ok-answer.ensures.stands _ _ i.stands);
       answers =
           rw c.in_ok-push.ensures.items
-          (AreGiven-append (IsAnswer g.C.ScriptSet.tells g.S.Stream.is_slice g.S.Stream.counts_missing all) (step_next all) i.done start _ c.in-Some.step.now _ i.answers (c.in_ok-answer.ensures.answer _ _ i.stands));
+          (AreGiven-append (IsAnswer g.C.ScriptSet.may_answer g.S.Stream.is_slice g.S.Stream.counts_missing all) (step_next all) i.done start _ c.in-Some.step.now _ i.answers (c.in_ok-answer.ensures.answer _ _ i.stands));
     }
 
 pub returns-clause-answers : goal.returns-clause-answers
@@ -82,7 +82,7 @@ returns-clause-remains g c =
     let e : c.args.script.now ≡ i.done = i.split ∙ ap (λ xs. i.done ++ xs) (nil_from_length _ c.in_default.ensures.cases) ∙ append-nil i.done in
     rw e i.stands.rest
 
-pub returns-clause-place : goal.returns-clause-place
-returns-clause-place g c =
+pub returns-clause-location : goal.returns-clause-place
+returns-clause-location g c =
     let i = c.loop-step.invariant in
-    i.placed.1 ∙ ap (λ n. place_behind (g.S.Rest.place c.args.s.now) (n - width (g.S.Stream.remaining c.loop-step.s))) i.stands.end
+    i.placed.1 ∙ ap (λ n. location_behind (g.S.Rest.location c.args.s.now) (n - width (g.S.Stream.remaining c.loop-step.s))) i.stands.end

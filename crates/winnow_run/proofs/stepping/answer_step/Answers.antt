@@ -3,7 +3,7 @@ use Rattle.winnow_run.specs.declared.script.Answer.TheVariants.{Marked, Offset}
 use Rattle.std.specs.declared.alloc.AllocError.{AllocError}
 use Rattle.winnow_stream.specs.Source.{offsets, width}
 use Rattle.winnow_stream.specs.Front.{back}
-use Rattle.winnow_stream.specs.Place.{place_behind}
+use Rattle.winnow_stream.specs.Location.{location_behind}
 use Rattle.std.proofs.lemmas.Iterator.{YieldsList, items_from_collect}
 use Rattle.winnow_stream.proofs.lemmas.FrontLemmas.{width-take_drop, width-back}
 use Rattle.winnow_run.proofs.lemmas.AnswerStepLemmas.{slice-front, slice-whole, items-place, count-marks, taken, not-taken, end-later, place-here, mark-found, mark-missing, later-mark, earlier-mark, mark-width, mark-offset, placed-on, placed-reset, stands-next, stands-take, stands-not_taken, stands-mark, stands-reset, stands-unmarked}
@@ -123,30 +123,30 @@ pub returns-in-None-place-clause-answer : goal.returns-in-None-place-clause-answ
 returns-in-None-place-clause-answer g c = λ all cur h q p.
     rw c.in-Since.is (rw (mark-missing _ all cur h c.in-Since.number (sym c.place-in-Since.ensures ∙ c.in-None-place.is)) refl)
 
-pub returns-in-Next-clause-place : goal.returns-in-Next-clause-place
-returns-in-Next-clause-place g c = λ whole q.
+pub returns-in-Next-clause-location : goal.returns-in-Next-clause-place
+returns-in-Next-clause-location g c = λ whole q.
     let s = c.requires.stands in
     let r = g.S.Stream.remaining c.args.s.now in
-    placed-on _ _ _ s.2 whole _ _ _ _ _ (omega (arith, ap width c.next_token.ensures.remains, width-take_drop r 1)) c.next_token.ensures.place q
+    placed-on _ _ _ s.2 whole _ _ _ _ _ (omega (arith, ap width c.next_token.ensures.remains, width-take_drop r 1)) c.next_token.ensures.location q
 
-pub returns-then-is_offset-clause-place : goal.returns-then-is_offset-clause-place
-returns-then-is_offset-clause-place g c = λ whole q.
+pub returns-then-is_offset-clause-location : goal.returns-then-is_offset-clause-place
+returns-then-is_offset-clause-location g c = λ whole q.
     let s = c.requires.stands in
     let r = g.S.Stream.remaining c.args.s.now in
-    placed-on _ _ _ s.2 whole _ _ _ _ _ (omega (arith, ap width c.next_slice.ensures.remains, width-back r c.in-Take.offset (sym c.is_offset.ensures ∙ c.if-is_offset.true))) c.next_slice.ensures.place q
+    placed-on _ _ _ s.2 whole _ _ _ _ _ (omega (arith, ap width c.next_slice.ensures.remains, width-back r c.in-Take.offset (sym c.is_offset.ensures ∙ c.if-is_offset.true))) c.next_slice.ensures.location q
 
-pub returns-in-Finish-clause-place : goal.returns-in-Finish-clause-place
-returns-in-Finish-clause-place g c = λ whole q.
+pub returns-in-Finish-clause-location : goal.returns-in-Finish-clause-place
+returns-in-Finish-clause-location g c = λ whole q.
     let s = c.requires.stands in
-    placed-on _ _ _ s.2 whole _ _ _ _ _ (omega (arith, ap width c.finish.ensures.remains)) c.finish.ensures.place q
+    placed-on _ _ _ s.2 whole _ _ _ _ _ (omega (arith, ap width c.finish.ensures.remains)) c.finish.ensures.location q
 
-pub returns-in-Some-clause-place : goal.returns-in-Some-clause-place
-returns-in-Some-clause-place g c = λ whole q.
+pub returns-in-Some-clause-location : goal.returns-in-Some-clause-place
+returns-in-Some-clause-location g c = λ whole q.
     let s = c.requires.stands in
     let f = sym c.place.ensures ∙ c.in-Some.is in
     let r = rw c.in-Reset.is at c.requires.reach in
     let l : c.args.origin.now.place ≤ c.in-Some.place = rw f at r in
     let n = c.in-Some.place - c.args.origin.now.place in
     let e = c.next_slice-in-Some.ensures.remains ∙ ap (λ x. back x n) c.reset.ensures.remains in
-    let p = c.next_slice-in-Some.ensures.place ∙ ap (λ v. place_behind v n) c.reset.ensures.place in
+    let p = c.next_slice-in-Some.ensures.location ∙ ap (λ v. location_behind v n) c.reset.ensures.location in
     placed-reset _ _ _ s.2 whole _ _ _ _ c.in-Reset.number c.in-Some.place f l e p q

@@ -33,9 +33,9 @@ returns-clause-line c =
     let same : c.line.inside.bytes.items ≡ bytes = cc in
     let line : c.truncate.new.self.items ≡ take n bytes = c.truncate.ensures.items ∙ ap (take n) same in
     let behind : c.replace.new.dest ≡ drop (n + 2) bytes =
-        c.replace.ensures.after
-            ∙ c.in_ok-push.ensures.pushed
-            ∙ ap (λ b. b ++ take (length c.deref.result.now - (n + 2)) (drop (n + 2) c.deref.result.now)) c.in_ok-behind.ensures
-            ∙ take_all (length c.deref.result.now - (n + 2)) (drop (n + 2) c.deref.result.now) (omega (arith, length-drop (n + 2) c.deref.result.now))
-            ∙ ap (drop (n + 2)) c.deref.ensures.value in
+    c.replace.ensures.after
+    ∙ c.in_ok-push.ensures.pushed
+    ∙ ap (λ b. b ++ take (length c.deref.result.now - (n + 2)) (drop (n + 2) c.deref.result.now)) c.in_ok-behind.ensures
+    ∙ take_all (length c.deref.result.now - (n + 2)) (drop (n + 2) c.deref.result.now) (omega (arith, length-drop (n + 2) c.deref.result.now))
+    ∙ ap (drop (n + 2)) c.deref.ensures.value in
     rw (line, behind, ← c.self.view_is) (s.1, ends ∙ ap Some (sym (length-take-le n bytes (omega (arith, s.0)))))

@@ -66,7 +66,7 @@ returns-clause-fits c = λ pieces h.
     let is = c.new.ensures.input in
     let left = c.forget_bytes.ensures.source ∙ ap (λ x. back (units x) c.take_in-unneeded.result) (sym c.as_slice.ensures.value) in
     let after = taken byte_input bytes-input old new c.args.piece.now c.as_slice.result.now c.take_in-unneeded.result refl refl (c.as_slice.ensures.value ∙ c.in_ok-extend_from_slice.ensures.items) left (rw is at t.offset) t.base (rw is at t.least) (rw is at t.stands) (joined pieces) before.stands in
-    Fits-fed byte_input bytes-input old new pieces c.args.piece.now before refl t.script after.0 after.1 t.tells t.pieces t.tried
+    Fits-fed byte_input bytes-input old new pieces c.args.piece.now before refl t.script after.0 after.1 t.adds t.pieces t.tried
 
 pub returns-clause-came : goal.returns-clause-came
 returns-clause-came c = λ pieces h.

@@ -4,7 +4,7 @@ use Rattle.winnow_stream.specs.Text.{text_source}
 use Rattle.winnow_stream.proofs.lemmas.TextLemmas.{width-text_source}
 use Rattle.winnow_feed.specs.Inputs.{text_input, text_kind, joined}
 use Rattle.winnow_feed.specs.Feeding.{FeedState}
-use Rattle.winnow_feed.proofs.lemmas.KeepingLemmas.{Stands-loose}
+use Rattle.winnow_feed.proofs.lemmas.KeepingLemmas.{IsRunOver-loose}
 use Rattle.winnow_feed.proofs.lemmas.FeedLemmas.{finished}
 use Rattle.winnow_feed.proofs.text_feeds.TextFeed.end.Goals as goal
 
@@ -20,7 +20,7 @@ pub advance-requires-clause-stands : goal.advance-requires-clause-stands
 advance-requires-clause-stands c =
     let i = c.self.invariant in
     let is = sym c.complete.ensures.same ∙ c.new-rest.ensures.input in
-    rw (c.complete.ensures.complete, is, c.as_str.ensures.value) (text_source i.input, Stands-loose text_kind (text_source i.input) (text_source (string_bytes c.self.inside.kept)) c.self.inside.run i.stands.stands)
+    rw (c.complete.ensures.complete, is, c.as_str.ensures.value) (text_source i.input, IsRunOver-loose text_kind (text_source i.input) (text_source (string_bytes c.self.inside.kept)) c.self.inside.run i.stands.stands)
 
 pub returns : goal.returns
 returns c = λ pieces h.
@@ -28,7 +28,7 @@ returns c = λ pieces h.
     let before = rw (← c.self.view_is) at h in
     let is = sym c.complete.ensures.same ∙ c.new-rest.ensures.input in
     let a = c.advance.ensures in
-    let loose = Stands-loose text_kind (text_source (joined pieces)) (text_source (string_bytes c.self.inside.kept)) c.self.inside.run before.stands.stands in
+    let loose = IsRunOver-loose text_kind (text_source (joined pieces)) (text_source (string_bytes c.self.inside.kept)) c.self.inside.run before.stands.stands in
     let after = (rw (c.complete.ensures.complete, is, c.as_str.ensures.value) at a.stands) (text_source (joined pieces)) loose in
     let done : length c.advance.new.progress.script.now ≤ length c.advance.new.progress.told.items = omega (arith, a.done c.complete.ensures.complete, c.advance.new.progress.told.ok.0) in
-    rw (← c.self.view_is) (finished text_input old pieces (text_source (string_bytes c.self.inside.kept)) c.advance.new.progress before after.0 a.tells a.script done _ refl refl)
+    rw (← c.self.view_is) (finished text_input old pieces (text_source (string_bytes c.self.inside.kept)) c.advance.new.progress before after.0 a.adds a.script done _ refl refl)

@@ -68,7 +68,7 @@ returns-clause-fits c = λ pieces h.
     let is = c.new.ensures.input in
     let left = c.forget_text.ensures.source ∙ ap (λ x. back (text_source x) c.take_in-unneeded.result) (sym c.as_str.ensures.value) in
     let after = taken text_input texts-input old new c.args.piece.now c.as_str.result.now c.take_in-unneeded.result (is_utf8-from_IsUtf8 c.args.piece.now c.utf8.piece) (is_utf8-from_IsUtf8 _ (IsUtf8-string_bytes c.forget_text.new.kept)) (c.as_str.ensures.value ∙ c.in_ok-push_str.ensures.bytes) left (rw is at t.offset) t.base (rw is at t.least) (rw is at t.stands) (joined pieces) before.stands in
-    Fits-fed text_input texts-input old new pieces c.args.piece.now before (is_utf8-from_IsUtf8 c.args.piece.now c.utf8.piece) t.script after.0 after.1 t.tells t.pieces t.tried
+    Fits-fed text_input texts-input old new pieces c.args.piece.now before (is_utf8-from_IsUtf8 c.args.piece.now c.utf8.piece) t.script after.0 after.1 t.adds t.pieces t.tried
 
 pub returns-clause-came : goal.returns-clause-came
 returns-clause-came c = λ pieces h.

@@ -11,7 +11,7 @@ next_token-tells g x c =
     record {
       answer = c.ensures.answer;
       remains = c.ensures.remains;
-      place = place-first (type_size g.row.T) rest.ref_ptr rest.now _ _ c.ensures.place;
+      location = place-first (type_size g.row.T) rest.ref_ptr rest.now _ _ c.ensures.place;
       valid = tt;
       kept = c.ensures.kept;
     }
@@ -20,7 +20,7 @@ pub next_slice-tells : goal.next_slice-tells
 next_slice-tells g x c = record {
   answer = c.ensures.answer;
   remains = c.ensures.remains;
-  place = ap Some c.ensures.place;
+  location = ap Some c.ensures.place;
   valid = tt;
   kept = c.ensures.kept;
 }
@@ -31,7 +31,7 @@ finish-tells g x c =
     record {
       answer = c.ensures.answer;
       remains = c.ensures.remains;
-      place = place-all (type_size g.row.T) rest.ref_ptr rest.now _ _ c.ensures.place;
+      location = place-all (type_size g.row.T) rest.ref_ptr rest.now _ _ c.ensures.place;
       valid = tt;
       kept = c.ensures.kept;
     }
@@ -39,14 +39,14 @@ finish-tells g x c =
 pub checkpoint-tells : goal.checkpoint-tells
 checkpoint-tells g x c = record {
   means = c.ensures.means;
-  place = ap Some c.ensures.place;
+  location = ap Some c.ensures.place;
   valid = tt;
 }
 
 pub reset-tells : goal.reset-tells
 reset-tells g x c = record {
   remains = c.ensures.remains;
-  place = ap Some c.ensures.place;
+  location = ap Some c.ensures.place;
   valid = tt;
   kept = c.ensures.kept;
 }

@@ -20,7 +20,7 @@ use Rattle.winnow_attempt.specs.Settled.{IsSettled}
 use Rattle.winnow_attempt.specs.View.{Look, look_of}
 use Rattle.winnow_feed.specs.Reach.{least_index, needed_from}
 use Rattle.winnow_attempt.specs.View.{under}
-use Rattle.winnow_feed.specs.Standing.{Stands, Tells, next_step, steps_left, answers_told}
+use Rattle.winnow_feed.specs.JoinedInput.{IsRunOver, AddsAnswers, next_step, steps_left, answers_out}
 use Rattle.winnow_run.proofs.lemmas.StepLemmas.{Inside, start-inside}
 use Rattle.winnow_attempt.proofs.lemmas.SettledLemmas.{width-split, NoneHeld-none, NoneOccurs-none, AreCounted-none, AreSame-none}
 use Rattle.winnow_attempt.proofs.lemmas.ViewLemmas.{view-answer, view-place, view-marks}
@@ -54,8 +54,8 @@ none-passed k (step.Compare l) r = AreSame-none (k.literal l) (written k.write r
 none-passed k (step.Find ns) r = NoneOccurs-none (needle_list k.literal ns) (written k.write r)
 
 -- a run that differs in what it counts alone
-pub Stands-same : {T L : Type 0} (strict : Bool) (k : PieceKind T CharSet L) (all kept : Source T) (p : Progress T L) → Stands strict k all kept p → (q : Progress T L) → q.script ≡ p.script → q.told.items ≡ p.told.items → q.place ≡ p.place → q.marks ≡ p.marks → q.passed ≡ p.passed → q.base ≡ p.base → Stands strict k all kept q
-Stands-same strict k all kept p h q script told here marks passed base = record {
+pub IsRunOver-same : {T L : Type 0} (strict : Bool) (k : PieceKind T CharSet L) (all kept : Source T) (p : Progress T L) → IsRunOver strict k all kept p → (q : Progress T L) → q.script ≡ p.script → q.told.items ≡ p.told.items → q.place ≡ p.place → q.marks ≡ p.marks → q.passed ≡ p.passed → q.base ≡ p.base → IsRunOver strict k all kept q
+IsRunOver-same strict k all kept p h q script told here marks passed base = record {
   widths = h.widths;
   at = h.at;
   reaches = rw (script, told) h.reaches;
@@ -70,18 +70,18 @@ Stands-same strict k all kept p h q script told here marks passed base = record 
 
 -- ---- what was told
 
-pub Tells-none : {T L : Type 0} (piece : Option ℕ) (p q : Progress T L) → q.told.items ≡ p.told.items → Tells piece p q
-Tells-none piece p q e = record { more = []; told = e ∙ sym (append-nil p.told.items) }
+pub AddsAnswers-none : {T L : Type 0} (piece : Option ℕ) (p q : Progress T L) → q.told.items ≡ p.told.items → AddsAnswers piece p q
+AddsAnswers-none piece p q e = record { more = []; told = e ∙ sym (append-nil p.told.items) }
 
-pub Tells-more : {T L : Type 0} (piece : Option ℕ) (p q r : Progress T L) → Tells piece p q → Tells piece q r → Tells piece p r
-Tells-more piece p q r h g = record {
+pub AddsAnswers-more : {T L : Type 0} (piece : Option ℕ) (p q r : Progress T L) → AddsAnswers piece p q → AddsAnswers piece q r → AddsAnswers piece p r
+AddsAnswers-more piece p q r h g = record {
   more = h.more ++ g.more;
   told = g.told ∙ ap (λ t. t ++ map (under piece) g.more) h.told ∙ append_assoc p.told.items (map (under piece) h.more) (map (under piece) g.more) ∙ ap (λ t. p.told.items ++ t) (sym (map-append (under piece) h.more g.more));
 }
 
-module _ {T L : Type 0} (strict : Bool) (k : PieceKind T CharSet L) (all kept : Source T) (p : Progress T L) (h : Stands strict k all kept p) (x : SearchStep CharSet L) (next : next_step p ≡ Some x) where
+module _ {T L : Type 0} (strict : Bool) (k : PieceKind T CharSet L) (all kept : Source T) (p : Progress T L) (h : IsRunOver strict k all kept p) (x : SearchStep CharSet L) (next : next_step p ≡ Some x) where
   pub inside : Inside all h.at
-  inside = Reaches-inside k strict all start h.at p.script.now (answers_told p) (start-inside all) h.reaches
+  inside = Reaches-inside k strict all start h.at p.script.now (answers_out p) (start-inside all) h.reaches
 
   left : steps_left p ≡ x ∷ drop (suc (length p.told.items)) p.script.now
   left = drop-at p.script.now (length p.told.items) x next
@@ -128,8 +128,8 @@ module _ {T L : Type 0} (strict : Bool) (k : PieceKind T CharSet L) (all kept : 
 
   -- ---- an attempt that waits
 
-  pub Stands-waits : (q : Progress T L) → q.script ≡ p.script → q.told.items ≡ p.told.items → q.place ≡ p.place → q.marks ≡ p.marks → q.base ≡ p.base → IsSettled k x (rest all h.at) q.passed.width q.passed.tokens → Stands strict k all kept q
-  Stands-waits q script told here marks base settled =
+  pub IsRunOver-waits : (q : Progress T L) → q.script ≡ p.script → q.told.items ≡ p.told.items → q.place ≡ p.place → q.marks ≡ p.marks → q.base ≡ p.base → IsSettled k x (rest all h.at) q.passed.width q.passed.tokens → IsRunOver strict k all kept q
+  IsRunOver-waits q script told here marks base settled =
       let same : next_step q ≡ Some x = rw (script, told) next in
       record {
         widths = h.widths;
@@ -146,20 +146,20 @@ module _ {T L : Type 0} (strict : Bool) (k : PieceKind T CharSet L) (all kept : 
 
   -- ---- an attempt that came through
 
-  pub Stands-answered : (q : Progress T L) (piece : Option ℕ) (look : Look T) → (strict ≡ true → is_definite k x (rest all h.at) ≡ true) → look ≡ look_of k p.place p.marks.items (rest all h.at) x → q.script ≡ p.script → q.base ≡ p.base
-      → q.told.items ≡ p.told.items ++ record { piece = piece; answer = look.answer } ∷ [] → q.place ≡ look.place → q.marks.items ≡ cond look.marks (p.marks.items ++ p.place ∷ []) p.marks.items → q.passed.width ≡ 0 → q.passed.tokens ≡ 0 → Stands strict k all kept q
-  Stands-answered q piece look definite is script base told here marks width_none tokens_none =
+  pub IsRunOver-answered : (q : Progress T L) (piece : Option ℕ) (look : Look T) → (strict ≡ true → is_definite k x (rest all h.at) ≡ true) → look ≡ look_of k p.place p.marks.items (rest all h.at) x → q.script ≡ p.script → q.base ≡ p.base
+      → q.told.items ≡ p.told.items ++ record { piece = piece; answer = look.answer } ∷ [] → q.place ≡ look.place → q.marks.items ≡ cond look.marks (p.marks.items ++ p.place ∷ []) p.marks.items → q.passed.width ≡ 0 → q.passed.tokens ≡ 0 → IsRunOver strict k all kept q
+  IsRunOver-answered q piece look definite is script base told here marks width_none tokens_none =
       let seen : look ≡ look_of k (place all h.at.index) (map (place all) h.at.marks) (rest all h.at) x = is ∙ ap (λ n. look_of k n p.marks.items (rest all h.at) x) h.here ∙ ap (λ ms. look_of k (place all h.at.index) ms (rest all h.at) x) h.marked in
       let answer : look.answer ≡ search_answer (kind_of k) all x h.at = ap (λ l. l.answer) seen ∙ view-answer k all h.at h.widths inside x in
       let place_is : look.place ≡ place all (search_next all x h.at).index = ap (λ l. l.place) seen ∙ view-place k all h.at h.widths inside x in
       let marks_is : cond look.marks (map (place all) h.at.marks ++ place all h.at.index ∷ []) (map (place all) h.at.marks) ≡ map (place all) (search_next all x h.at).marks =
       ap (λ l. cond l.marks (map (place all) h.at.marks ++ place all h.at.index ∷ []) (map (place all) h.at.marks)) seen ∙ view-marks k all h.at h.widths inside x
       in
-      let len : length (answers_told p) ≡ length p.told.items = length-map p.told.items (λ t. t.answer) in
-      let next_at : slice_get p.script.now (length (answers_told p)) ≡ Some x = ap (slice_get p.script.now) len ∙ next in
-      let pushed = Reaches-push k strict all start h.at p.script.now (answers_told p) x h.reaches next_at definite in
-      let told_is : answers_told q ≡ answers_told p ++ search_answer (kind_of k) all x h.at ∷ [] =
-      ap (map (λ t. t.answer)) told ∙ map-append (λ t. t.answer) p.told.items (record { piece = piece; answer = look.answer } ∷ []) ∙ ap (λ a. answers_told p ++ a ∷ []) answer
+      let len : length (answers_out p) ≡ length p.told.items = length-map p.told.items (λ t. t.answer) in
+      let next_at : slice_get p.script.now (length (answers_out p)) ≡ Some x = ap (slice_get p.script.now) len ∙ next in
+      let pushed = Reaches-push k strict all start h.at p.script.now (answers_out p) x h.reaches next_at definite in
+      let told_is : answers_out q ≡ answers_out p ++ search_answer (kind_of k) all x h.at ∷ [] =
+      ap (map (λ t. t.answer)) told ∙ map-append (λ t. t.answer) p.told.items (record { piece = piece; answer = look.answer } ∷ []) ∙ ap (λ a. answers_out p ++ a ∷ []) answer
       in
       let count : length q.told.items ≡ suc (length p.told.items) = ap length told ∙ length-append p.told.items (record { piece = piece; answer = look.answer } ∷ []) ∙ omega arith in
       let later = drop (suc (length p.told.items)) p.script.now in

@@ -22,15 +22,15 @@ abbrev pub steps_left : {T L : Type 0} → Progress T L → List (SearchStep Cha
 steps_left p = drop (length p.told.items) p.script.now
 
 -- the answers that are out, as they were given
-abbrev pub answers_told : {T L : Type 0} → Progress T L → List (PlacedSearchAnswer T)
-answers_told p = map (λ t. t.answer) p.told.items
+abbrev pub answers_out : {T L : Type 0} → Progress T L → List (PlacedSearchAnswer T)
+answers_out p = map (λ t. t.answer) p.told.items
 
 -- the run stands for the joined input `all`, of which these tokens are kept: the answers out are definite and lead to the cursor,
 -- all that the steps that are left can reach is kept, and the next step has passed what it says
-pub record Stands {T L : Type 0} (strict : Bool) (k : PieceKind T CharSet L) (all kept : Source T) (p : Progress T L) : Type 0 where
+pub record IsRunOver {T L : Type 0} (strict : Bool) (k : PieceKind T CharSet L) (all kept : Source T) (p : Progress T L) : Type 0 where
   pub widths : HasPositiveWidths all
   pub at : Cursor
-  pub reaches : Reaches strict k all start p.script.now (answers_told p) at
+  pub reaches : Reaches strict k all start p.script.now (answers_out p) at
   pub here : p.place ≡ place all at.index
   pub marked : p.marks.items ≡ map (place all) at.marks
   pub first : ℕ
@@ -44,20 +44,20 @@ abbrev pub IsAtRest : {T L : Type 0} → PieceKind T CharSet L → Source T → 
 IsAtRest {T} {L} k all p = (s : SearchStep CharSet L) → next_step p ≡ Some s → is_definite k s (back all p.place) ≡ false
 
 -- the run stands for some joined input
-abbrev pub IsStanding : {T L : Type 0} → Bool → PieceKind T CharSet L → Source T → Progress T L → Type 0
-IsStanding {T} strict k kept p = (all : Source T) × Stands strict k all kept p
+abbrev pub IsRun : {T L : Type 0} → Bool → PieceKind T CharSet L → Source T → Progress T L → Type 0
+IsRun {T} strict k kept p = (all : Source T) × IsRunOver strict k all kept p
 
 -- whatever joined input the run stood for, it stands for
-abbrev pub KeepsStanding : {T L : Type 0} → Bool → PieceKind T CharSet L → Source T → Progress T L → Progress T L → Type 0
-KeepsStanding {T} strict k kept old new = (all : Source T) → Stands strict k all kept old → Stands strict k all kept new
+abbrev pub KeepsRun : {T L : Type 0} → Bool → PieceKind T CharSet L → Source T → Progress T L → Progress T L → Type 0
+KeepsRun {T} strict k kept old new = (all : Source T) → IsRunOver strict k all kept old → IsRunOver strict k all kept new
 
 -- and there its next step waits
 abbrev pub ComesToRest : {T L : Type 0} → Bool → PieceKind T CharSet L → Source T → Progress T L → Progress T L → Type 0
-ComesToRest {T} strict k kept old new = (all : Source T) → Stands strict k all kept old → IsAtRest k all new
+ComesToRest {T} strict k kept old new = (all : Source T) → IsRunOver strict k all kept old → IsAtRest k all new
 
 -- the run stands for what it stood for, and its next step waits, if one is left
-abbrev pub StandsAtRest : {T L : Type 0} → Bool → PieceKind T CharSet L → Source T → Progress T L → Progress T L → Type 0
-StandsAtRest {T} strict k kept old new = (all : Source T) → Stands strict k all kept old → Stands strict k all kept new × IsAtRest k all new
+abbrev pub KeepsRunAtRest : {T L : Type 0} → Bool → PieceKind T CharSet L → Source T → Progress T L → Progress T L → Type 0
+KeepsRunAtRest {T} strict k kept old new = (all : Source T) → IsRunOver strict k all kept old → IsRunOver strict k all kept new × IsAtRest k all new
 
 -- all that is kept of an input that ends at `end` the steps that are left need
 abbrev pub KeepsLeast : {T L : Type 0} → ℕ → Progress T L → Type 0
@@ -69,10 +69,10 @@ KeepsNeeded before end p = length p.told.items ≡ before → KeepsLeast end p
 
 -- the same with a front of that width dropped
 abbrev pub TakesIn : {T L : Type 0} → PieceKind T CharSet L → Source T → ℕ → Progress T L → Progress T L → Type 0
-TakesIn {T} k kept unneeded old new = (all : Source T) → Stands true k all kept old → Stands true k all (back kept unneeded) new × IsAtRest k all new
+TakesIn {T} k kept unneeded old new = (all : Source T) → IsRunOver true k all kept old → IsRunOver true k all (back kept unneeded) new × IsAtRest k all new
 
 -- the answers that were told since, all under one number or under none
-pub record Tells {T L : Type 0} (piece : Option ℕ) (old new : Progress T L) : Type 0 where
+pub record AddsAnswers {T L : Type 0} (piece : Option ℕ) (old new : Progress T L) : Type 0 where
   pub more : List (PlacedSearchAnswer T)
   pub told : new.told.items ≡ old.told.items ++ map (under piece) more
 
@@ -82,5 +82,5 @@ Tries old new =
     new.tried ≡ capped (old.tried + (length new.told.items - length old.told.items) + (if nat_lt (length new.told.items) (length new.script.now) then 1 else 0))
 
 -- where nothing was told, the cursor and the marks are where they were
-abbrev pub StandsStill : {T L : Type 0} → Progress T L → Progress T L → Type 0
-StandsStill old new = length new.told.items ≡ length old.told.items → (new.place ≡ old.place) × (new.marks ≡ old.marks)
+abbrev pub StaysWithoutAnswer : {T L : Type 0} → Progress T L → Progress T L → Type 0
+StaysWithoutAnswer old new = length new.told.items ≡ length old.told.items → (new.place ≡ old.place) × (new.marks ≡ old.marks)

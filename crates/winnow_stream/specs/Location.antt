@@ -1,0 +1,11 @@
+-- The location of a stream in the whole input, in its offsets, where it keeps one.
+use Rattle.std.specs.Prelude.{◌≡◌, ℕ, ◌+◌, Option, Some, None}
+
+-- the location behind a width; where none is kept, there is none
+abbrev pub location_behind : Option ℕ → ℕ → Option ℕ
+location_behind None n = None
+location_behind (Some location) n = Some (location + n)
+
+-- the last token ended at the location, and the next one starts there
+abbrev pub IsLocation : {S : Type 0} → (S → Option ℕ) → (S → ℕ) → (S → ℕ) → Type 0
+IsLocation {S} location ends starts = (s : S) → (location s ≡ Some (ends s)) × (location s ≡ Some (starts s))
