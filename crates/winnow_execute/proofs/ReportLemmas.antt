@@ -5,7 +5,7 @@ use Rattle.winnow_attempt.specs.declared.told.Told.{Told}
 use Rattle.winnow_base.specs.Feeding.{FeedState, Fits, FitsWith, Finishes, answers_in, script_of}
 use Rattle.winnow_base.specs.Inputs.{InputKind, PieceStep, joined}
 use Rattle.winnow_base.specs.Telling.{capped, told_of}
-use Rattle.winnow_base.specs.Waits.{WaitsFor, TellsWaiting}
+use Rattle.winnow_base.specs.Waits.{WaitsFor, GivesWaiting}
 use Rattle.winnow_feed.specs.declared.finished.Finished.{Finished}
 use Rattle.winnow_feed.specs.declared.waiting.Waiting.{Waiting}
 use Rattle.winnow_read.specs.Inputs.{piece_length}
@@ -56,7 +56,7 @@ module _ {L : Type 0} (i : InputKind) (script : List PieceStep) (bytes : L → L
 
     -- what is waited for is told, behind the answers that are out
     pub printed-waits : (f : FeedState) (n count : ℕ) (text : List ℕ) (answers : List (Told ℕ)) (waiting : Waiting L) → HasPrinted k f n count text
-        → line ≡ Waits → ((pieces : List (List ℕ)) → Fits i f pieces → answers ≡ told_of i (script_of f) pieces) → TellsWaiting i bytes f waiting
+        → line ≡ Waits → ((pieces : List (List ℕ)) → Fits i f pieces → answers ≡ told_of i (script_of f) pieces) → GivesWaiting i bytes f waiting
         → HasPrinted (k + 1) f (length answers) count ((text ++ told_lines (λ t. t) (drop n answers)) ++ waiting_line (λ more. bytes_word (bytes more)) count waiting)
     printed-waits f n count text answers waiting before asks out waits =
         let told : answers ≡ told_of i script before.pieces = rw (← before.script_is) (out before.pieces before.fits) in

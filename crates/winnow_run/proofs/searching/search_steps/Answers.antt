@@ -82,7 +82,7 @@ returns-clause-remains g c =
     let e : c.args.script.now ≡ i.done = i.split ∙ ap (λ xs. i.done ++ xs) (nil_from_length _ c.in_default.ensures.cases) ∙ append-nil i.done in
     rw e i.stands.rest
 
-pub returns-clause-location : goal.returns-clause-place
+pub returns-clause-location : goal.returns-clause-location
 returns-clause-location g c =
     let i = c.loop-step.invariant in
     i.placed.1 ∙ ap (λ n. location_behind (g.S.Rest.location c.args.s.now) (n - width (g.S.Stream.remaining c.loop-step.s))) i.stands.end

@@ -123,24 +123,24 @@ pub returns-in-None-place-clause-answer : goal.returns-in-None-place-clause-answ
 returns-in-None-place-clause-answer g c = λ all cur h q p.
     rw c.in-Since.is (rw (mark-missing _ all cur h c.in-Since.number (sym c.place-in-Since.ensures ∙ c.in-None-place.is)) refl)
 
-pub returns-in-Next-clause-location : goal.returns-in-Next-clause-place
+pub returns-in-Next-clause-location : goal.returns-in-Next-clause-location
 returns-in-Next-clause-location g c = λ whole q.
     let s = c.requires.stands in
     let r = g.S.Stream.remaining c.args.s.now in
     placed-on _ _ _ s.2 whole _ _ _ _ _ (omega (arith, ap width c.next_token.ensures.remains, width-take_drop r 1)) c.next_token.ensures.location q
 
-pub returns-then-is_offset-clause-location : goal.returns-then-is_offset-clause-place
+pub returns-then-is_offset-clause-location : goal.returns-then-is_offset-clause-location
 returns-then-is_offset-clause-location g c = λ whole q.
     let s = c.requires.stands in
     let r = g.S.Stream.remaining c.args.s.now in
     placed-on _ _ _ s.2 whole _ _ _ _ _ (omega (arith, ap width c.next_slice.ensures.remains, width-back r c.in-Take.offset (sym c.is_offset.ensures ∙ c.if-is_offset.true))) c.next_slice.ensures.location q
 
-pub returns-in-Finish-clause-location : goal.returns-in-Finish-clause-place
+pub returns-in-Finish-clause-location : goal.returns-in-Finish-clause-location
 returns-in-Finish-clause-location g c = λ whole q.
     let s = c.requires.stands in
     placed-on _ _ _ s.2 whole _ _ _ _ _ (omega (arith, ap width c.finish.ensures.remains)) c.finish.ensures.location q
 
-pub returns-in-Some-clause-location : goal.returns-in-Some-clause-place
+pub returns-in-Some-clause-location : goal.returns-in-Some-clause-location
 returns-in-Some-clause-location g c = λ whole q.
     let s = c.requires.stands in
     let f = sym c.place.ensures ∙ c.in-Some.is in

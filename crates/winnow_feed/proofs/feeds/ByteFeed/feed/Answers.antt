@@ -17,7 +17,7 @@ take_in-unneeded-requires-clause-room c =
     rw c.new.ensures.input (omega (arith, width-units c.as_slice.result.now, ap length e, length-append c.self.inside.kept.items c.args.piece.now, ap bytes_fed c.self.view_is, c.requires))
 
 pub take_in-unneeded-requires-clause-more : goal.take_in-unneeded-requires-clause-more
-take_in-unneeded-requires-clause-more c = c.new.ensures.mark
+take_in-unneeded-requires-clause-more c = c.new.ensures.flag
 
 pub take_in-unneeded-requires-clause-counted : goal.take_in-unneeded-requires-clause-counted
 take_in-unneeded-requires-clause-counted c = c.self.invariant.counted
