@@ -5,7 +5,7 @@ use winnow_base::stream::{
     Needed, Stream, checkpoint_equality_law, first_law, front_law, offset_law, shortage_law,
     slice_law, taken_law, text_slice_law,
 };
-use winnow_test_helpers::{Traced, debugged, marks, shown, width, width_from, window_of};
+use winnow_test_helpers::{Traced, debugged, flags, shown, width, width_from, window_of};
 
 #[test]
 fn a_need_is_known_or_not_and_is_mapped(rt: HostRuntime) {
@@ -76,7 +76,7 @@ fn widths_windows_flags_and_bytes_through_their_bounds(rt: HostRuntime) {
         (b"ab".as_slice(), "a")
     );
     let (mut bytes, mut text) = (bytes, text);
-    assert_eq!(rt; [marks(&mut bytes), marks(&mut text)], [[false; 4]; 2]);
+    assert_eq!(rt; [flags(&mut bytes), flags(&mut text)], [[false; 4]; 2]);
 }
 
 #[test]
