@@ -83,8 +83,8 @@ pub fn context_error_law<I: Stream, C: Drop + PartialEq>()
     ensures joined { (a b : Explanation C) → ⟦<ContextError<C> as AssociativeOr<I>>⟧.joined a b
         ≡ b }
     ensures recovered { (start place : I.Checkpoint) (input : I) (e : Explanation C)
-        → ⟦<ContextError<C> as FromRecoverableError<I, ContextError<C>>>⟧.recovered start place input e
-        ≡ e }
+        → ⟦<ContextError<C> as FromRecoverableError<I, ContextError<C>>>⟧.recovered start place
+        input e ≡ e }
     ensures backtracks { (e : Explanation C) → ⟦<ContextError<C> as ParserError<I>>⟧.backtracks e
         ≡ true }
     ensures inner { (e : Explanation C) → ⟦<ContextError<C> as ParserError<I>>⟧.inner e ≡ Ok e }

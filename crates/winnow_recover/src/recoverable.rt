@@ -128,7 +128,8 @@ impl<I: Stream, E: Debug> Stream for Recoverable<I, E> {
     ghost same_rest_remaining = { λ s t.
         I.same_rest_remaining (recoverable_inner s) (recoverable_inner t) };
 
-    ghost same_rest_valid = { λ s t. I.same_rest_valid (recoverable_inner s) (recoverable_inner t) };
+    ghost same_rest_valid = { λ s t.
+        I.same_rest_valid (recoverable_inner s) (recoverable_inner t) };
 
     ghost keeps_reflexive = { λ s. (refl, refl, I.keeps_reflexive (recoverable_inner s)) };
 
@@ -237,7 +238,8 @@ where
 }
 
 impl<I: Offset<I>, E> Offset<Self> for Recoverable<I, E> {
-    ghost can_measure = { λ s start. I.can_measure (recoverable_inner s) (recoverable_inner start) };
+    ghost can_measure = { λ s start.
+        I.can_measure (recoverable_inner s) (recoverable_inner start) };
 
     fn offset_from(&self, start: &Self) -> usize {
         self.input.offset_from(&start.input)
