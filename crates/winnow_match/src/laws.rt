@@ -1,6 +1,6 @@
 ghost use Rattle.std.specs.Prelude.{◌≡◌, ℕ, ◌<◌, ◌↔◌, [], ◌++◌, List, length, Contains, IsFalse};
-ghost use Rattle.std.specs.Prelude.{IsTrue};
-ghost use Rattle.std.specs.Prelude.{◌==◌, ◌∷◌};
+ghost use Rattle.std.specs.Prelude.{IsTrue, take, drop};
+ghost use Rattle.std.specs.Prelude.{◌==◌, ◌∷◌, ◌+◌, ◌≤◌};
 ghost use Rattle.std.specs.Option.{option_map};
 ghost use Rattle.std.specs.declared.ops.Range as range_declared;
 ghost use Rattle.winnow_stream.specs.Span.{span};
@@ -37,8 +37,8 @@ pub fn compare_more_law()
 {}
 
 /// The law of search: an empty needle stands at once; else the answer is the least place at which some needle stands, to the
-/// end of the first listed that stands there, and `None` where none stands anywhere. It does nothing when called: its
-/// contract is the law.
+/// end of the first listed that stands there, and `None` where none stands anywhere. Where one needle alone is searched for, the bytes
+/// are those before the hit, the needle, and those behind the hit. It does nothing when called: its contract is the law.
 pub fn find_law()
     ensures empty { (needles : List (List ℕ)) (bytes : List ℕ) → Contains needles []
         → hit needles bytes ≡ Some (span 0 0) }
@@ -46,6 +46,10 @@ pub fn find_law()
         → ¬ Contains needles [] → ((hit needles bytes ≡ Some r) ↔ IsFirstHit needles bytes r) }
     ensures none { (needles : List (List ℕ)) (bytes : List ℕ) → ¬ Contains needles []
         → ((hit needles bytes ≡ None) ↔ OccursNowhere needles bytes) }
+    ensures one { (needle bytes : List ℕ) (r : range_declared.Range ℕ)
+        → hit (needle ∷ []) bytes ≡ Some r
+        → (r.end ≡ r.start + length needle) × (r.end ≤ length bytes)
+        × (bytes ≡ take r.start bytes ++ needle ++ drop r.end bytes) }
 {}
 
 /// The law of a byte that is searched for: it is found where the first token equal to it stands, one byte long. It does nothing when

@@ -5,6 +5,7 @@ ghost use Rattle.std.specs.Prelude.{length, take, drop};
 ghost use Rattle.std.specs.Borrow.{Bor};
 ghost use Rattle.std.specs.Cmp.Lexicographic.{pointwise, slice_cmp};
 ghost use Rattle.std.specs.Ordering.{nat_cmp};
+ghost use Rattle.std.specs.Str.{IsUtf8};
 ghost use Rattle.winnow_stream.specs.Checkpoint.{checkpoint_inner};
 ghost use Rattle.winnow_stream.specs.declared.checkpoint.Checkpoint.{Checkpoint};
 ghost use Rattle.winnow_stream.specs.Source.{Source, units, width, HasPositiveWidths, first_token};
@@ -14,6 +15,7 @@ ghost use Rattle.winnow_stream.specs.Front.{HasFront, is_offset, front, back};
 ghost use Rattle.winnow_stream.specs.Location.{location_behind, IsLocation};
 ghost use Rattle.winnow_stream.specs.SliceWidths.{SlicesHaveWidths};
 ghost use Rattle.winnow_stream.specs.Shortage.{needed, offset_at};
+ghost use Rattle.winnow_stream.specs.Text.{text_source};
 
 use crate::{Checkpoint, Location, SliceLen, Stream};
 
@@ -54,7 +56,8 @@ pub fn shortage_law<T>()
 
 /// The law of tokens that are taken: the front of the width of the first k tokens is those k tokens, and what follows it is the
 /// rest; an offset that `offset_at` answers is such a width; and the front of the whole width is everything. So `offset_at(n)` and
-/// then `next_slice` takes n tokens, and `finish` takes all. It does nothing when called: its contract is the law.
+/// then `next_slice` takes n tokens, and `finish` takes all. Where no width remains, no token does. It does nothing when called: its
+/// contract is the law.
 pub fn taken_law<T>()
     ensures front { (r : Source T) (k : ℕ) → HasPositiveWidths r → k ≤ length r
         → front r (width (take k r)) ≡ take k r }
@@ -66,6 +69,7 @@ pub fn taken_law<T>()
         → offset_at counts_missing r n ≡ Ok w → w ≡ width (take n r) }
     ensures whole { (r : Source T) → HasPositiveWidths r → front r (width r) ≡ r }
     ensures end { (r : Source T) → HasPositiveWidths r → back r (width r) ≡ [] }
+    ensures none { (r : Source T) → HasPositiveWidths r → width r ≡ 0 → r ≡ [] }
 {}
 
 /// The law of the first token that is held: `first_offset` is the offset of a token that is held, before which none is, or `None`
@@ -76,8 +80,9 @@ pub fn first_law<T>()
 {}
 
 /// The law of a front of tokens that are held: the offset of the first token that is not held, or else the whole width, is the width of
-/// the tokens up to there. It is an offset, all of them are held, and the token behind them, if there is one, is not. It does nothing
-/// when called: its contract is the law.
+/// the tokens up to there. It is an offset, all of them are held, and the token behind them, if there is one, is not; if there is none,
+/// every token is held. They and what follows them are what was there. Where another set holds all that this set holds, taking over this
+/// set and then over the other leaves what taking over the other alone leaves. It does nothing when called: its contract is the law.
 pub fn held_law<T>()
     ensures width { (holds : T → Bool) (r : Source T)
         → unwrap_or (first_offset (λ x. not (holds x)) r) (width r) ≡ width (held_front holds r) }
@@ -90,6 +95,14 @@ pub fn held_law<T>()
     ensures held { (holds : T → Bool) (r : Source T) → HoldsAll holds (held_front holds r) }
     ensures next { (holds : T → Bool) (r : Source T) (x : T)
         → first_token (drop (length (held_front holds r)) r) ≡ Some x → holds x ≡ false }
+    ensures whole { (holds : T → Bool) (r : Source T)
+        → held_front holds r ++ drop (length (held_front holds r)) r ≡ r }
+    ensures all { (holds : T → Bool) (r : Source T)
+        → first_token (drop (length (held_front holds r)) r) ≡ None → HoldsAll holds r }
+    ensures further { (holds also : T → Bool) (r : Source T)
+        → ((x : T) → holds x ≡ true → also x ≡ true)
+        → let rest = drop (length (held_front holds r)) r in
+        drop (length (held_front also rest)) rest ≡ drop (length (held_front also r)) r }
 {}
 
 /// The law of spans: where the numbers of `Location` are a stream's location, those behind a width are those before it and that width. It
@@ -129,22 +142,33 @@ pub fn text_slice_law(slice: &str)
         → ⟦<&'static str as SliceLen>⟧.width_of slice.entry ≡ n }
 {}
 
-/// The law of equality and order: checkpoints of slices are compared by the elements that remained there, those of texts by their
-/// bytes, and of bytes and texts they are equal exactly where the same remained. It does nothing when called: its contract is the law.
-pub fn checkpoint_equality_law<'t, T: Ord + 't>()
+/// The law of texts: the characters of a text determine its bytes, so two texts of which the same remains are equal. It does nothing when
+/// called: its contract is the law.
+pub fn text_law()
+    ensures { (a b : List ℕ) → IsUtf8 a → IsUtf8 b → text_source a ≡ text_source b → a ≡ b }
+{}
+
+/// The law of equality: checkpoints of slices are equal where the elements that remained there are, and those of bytes and texts are
+/// equal exactly where the same remained. It does nothing when called: its contract is the law.
+pub fn checkpoint_equality_law<'t, T: PartialEq + 't>()
     ensures slices { (c d : Checkpoint (Bor (List T)) (Bor (List T)))
         → ⟦<Checkpoint<&'t [T], &'t [T]> as PartialEq>⟧.eq c d
         ≡ pointwise T.eq (checkpoint_inner c).now (checkpoint_inner d).now }
-    ensures order { (c d : Checkpoint (Bor (List T)) (Bor (List T)))
-        → ⟦<Checkpoint<&'t [T], &'t [T]> as Ord>⟧.cmp c d
-        ≡ slice_cmp T.cmp (checkpoint_inner c).now (checkpoint_inner d).now }
     ensures bytes { (c d : Checkpoint (Bor (List ℕ)) (Bor (List ℕ)))
         → IsTrue (⟦<Checkpoint<&'static [u8], &'static [u8]> as PartialEq>⟧.eq c d)
         ↔ ((checkpoint_inner c).now ≡ (checkpoint_inner d).now) }
     ensures texts { (c d : Checkpoint (Bor (List ℕ)) (Bor (List ℕ)))
         → IsTrue (⟦<Checkpoint<&'static str, &'static str> as PartialEq>⟧.eq c d)
         ↔ ((checkpoint_inner c).now ≡ (checkpoint_inner d).now) }
-    ensures text_order { (c d : Checkpoint (Bor (List ℕ)) (Bor (List ℕ)))
+{}
+
+/// The law of order: checkpoints of slices are ordered by the elements that remained there, and those of texts by their bytes. It does
+/// nothing when called: its contract is the law.
+pub fn checkpoint_order_law<'t, T: Ord + 't>()
+    ensures slices { (c d : Checkpoint (Bor (List T)) (Bor (List T)))
+        → ⟦<Checkpoint<&'t [T], &'t [T]> as Ord>⟧.cmp c d
+        ≡ slice_cmp T.cmp (checkpoint_inner c).now (checkpoint_inner d).now }
+    ensures texts { (c d : Checkpoint (Bor (List ℕ)) (Bor (List ℕ)))
         → ⟦<Checkpoint<&'static str, &'static str> as Ord>⟧.cmp c d
         ≡ slice_cmp nat_cmp (checkpoint_inner c).now (checkpoint_inner d).now }
 {}

@@ -17,7 +17,7 @@ pub use bit_laws::{
 pub use bit_offsets::BitOffsets;
 pub use bits::{BitPlace, Bits};
 pub use previous_tokens::PreviousTokens;
-pub use token_laws::token_equality_law;
+pub use token_laws::{token_compare_law, token_equality_law, token_order_law};
 pub use token_offsets::TokenOffsets;
 pub use token_slice::TokenSlice;
 pub use token_view::TokenView;

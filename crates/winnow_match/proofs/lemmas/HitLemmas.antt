@@ -1,10 +1,12 @@
 -- Searches as facts: which needle stands where, and what more input leaves as it was.
-use Rattle.std.proofs.Common.{◌≡◌, ℕ, zero, suc, ◌+◌, ◌<◌, ◌==◌, ◌⊎◌, ◌↔◌, true, false, cond, List, [], ◌∷◌, length, drop, Option, Some, None, refl, ap, sym, ◌∙◌, arith, subst, inl, inr}
+use Rattle.std.proofs.Common.{◌≡◌, ℕ, zero, suc, ◌+◌, ◌≤◌, ◌<◌, ◌==◌, ◌⊎◌, ◌↔◌, true, false, cond, List, [], ◌∷◌, ◌++◌, length, take, drop, Option, Some, None, refl, ap, sym, ◌∙◌, arith, subst, inl, inr, length-append, length-drop, append_assoc}
+use Rattle.std.proofs.Math.Seq.{drop-append_seam}
 use Rattle.std.specs.Prelude.{is_some, Contains, Bool, ◌&&◌, if◌then◌else◌}
 use Rattle.std.specs.Option.{option_map}
 use Rattle.std.specs.List.{list_any}
 use Rattle.std.specs.declared.ops.Range.{Range}
 use Rattle.std.proofs.lemmas.Bool.{or_cases, false≢true, false_from_ne_true, cases_Bool}
+use Rattle.std.proofs.lemmas.List.{take-append-drop, drop-drop}
 use Rattle.std.proofs.lemmas.Option.{same_Some, none-some}
 use Rattle.memchr.specs.Find.{Nowhere}
 use Rattle.winnow_stream.specs.Source.{units, offsets_from, first_held, first_offset}
@@ -218,3 +220,31 @@ first_hit-byte byte base (y ∷ bytes) =
 
 pub hit-byte : (byte : ℕ) (bytes : List ℕ) → hit ((byte ∷ []) ∷ []) bytes ≡ option_map (λ n. span n 1) (first_offset (λ x. byte == x) (units bytes))
 hit-byte byte bytes = first_hit-byte byte 0 bytes
+
+-- ---- one needle
+
+-- the bytes are those before it, the needle, and those behind it
+abbrev SplitsAt : List ℕ → List ℕ → Range ℕ → Type 0
+SplitsAt needle bytes r = (r.end ≡ r.start + length needle) × (r.end ≤ length bytes) × (bytes ≡ take r.start bytes ++ needle ++ drop r.end bytes)
+
+splits : (needle bytes rest : List ℕ) (n : ℕ) → 0 < length needle → drop n bytes ≡ needle ++ rest → SplitsAt needle bytes (span n (length needle))
+splits needle bytes rest n some h =
+    let behind : drop (n + length needle) bytes ≡ rest = sym (drop-drop (length needle) n bytes) ∙ ap (drop (length needle)) h ∙ drop-append_seam needle rest in (
+      refl,
+      omega (arith, some, ap length h, length-append needle rest, length-drop n bytes),
+      sym (take-append-drop n bytes)
+          ∙ ap (λ d. take n bytes ++ d) (h ∙ ap (λ t. needle ++ t) (sym behind))
+          ∙ sym (append_assoc (take n bytes) needle (drop (n + length needle) bytes)),
+    )
+
+pub hit-splits : (needle bytes : List ℕ) (r : Range ℕ) → hit (needle ∷ []) bytes ≡ Some r → SplitsAt needle bytes r
+hit-splits [] bytes r h = subst (SplitsAt [] bytes) (same_Some (span 0 0) r h) (refl, omega arith, refl)
+hit-splits (x ∷ xs) bytes r h =
+    let needle : List ℕ = x ∷ xs in
+    let first = hit-IsFirstHit (needle ∷ []) bytes refl r h in
+    let index : first.index ≡ 0 = omega (arith, first.listed) in
+    let is : needle_of (needle ∷ []) first.index ≡ needle = ap (needle_of (needle ∷ [])) index in
+    let e : r ≡ span r.start (length needle) =
+    ap (λ m. let q : Range ℕ = record { start = r.start; end = m } in q) (first.whole ∙ ap (λ l. r.start + length l) is)
+    in
+    subst (SplitsAt needle bytes) (sym e) (splits needle bytes first.stands.0 r.start (omega arith) (first.stands.1 ∙ ap (λ l. l ++ first.stands.0) is))

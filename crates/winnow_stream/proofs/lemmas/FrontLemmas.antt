@@ -203,3 +203,8 @@ module _ {A : Type 0} where
       let f : front_count (back r a) (b - a) ≡ Some (count_to (back r a) (b - a)) = front_count-found (back r a) (b - a) (is_offset-on r a b h l ∙ g) in
       let e : count_to r b ≡ count_to r a + count_to (back r a) (b - a) = ap (λ o. unwrap_or o 0) (front_count-on r a b h l ∙ ap (option_map (λ k. count_to r a + k)) f) in
       drop-drop (count_to (back r a) (b - a)) (count_to r a) r ∙ ap (λ n. drop n r) (sym e)
+
+-- where no width is left, nothing is
+pub nil_from_width : {A : Type 0} (r : List (A × ℕ)) → HasPositiveWidths r → width r ≡ 0 → r ≡ []
+nil_from_width [] h e = refl
+nil_from_width (x ∷ xs) h e = absurd (omega (arith, h.0, e))

@@ -1,5 +1,5 @@
 -- The tokens up to the first that a set does not hold.
-use Rattle.std.proofs.Common.{◌≡◌, ℕ, ◌+◌, ◌≤◌, Bool, true, false, cond, List, [], ◌∷◌, length, take, drop, Option, Some, refl, ap, sym, ◌∙◌, arith}
+use Rattle.std.proofs.Common.{◌≡◌, ℕ, ◌+◌, ◌≤◌, Bool, true, false, cond, List, [], ◌∷◌, length, take, drop, ◌++◌, Option, Some, None, refl, ap, sym, ◌∙◌, arith, take-append-drop}
 use Rattle.std.specs.Prelude.{not, unwrap_or}
 use Rattle.std.proofs.lemmas.Option.{none-some, same_Some}
 use Rattle.winnow_stream.specs.Source.{width, HasPositiveWidths, first_token, first_held, offsets_from, held_front, HoldsAll}
@@ -53,3 +53,35 @@ module _ {A : Type 0} (holds : A → Bool) where
 
   pub back-held_front : (r : List (A × ℕ)) → HasPositiveWidths r → back r (width (held_front holds r)) ≡ drop (length (held_front holds r)) r
   back-held_front r h = ap (λ t. back r (width t)) (sym (take-held_front r)) ∙ back-place r (length (held_front holds r)) h (length-held_front r)
+
+  -- what is held, and what stands behind it
+  pub append-held_front : (r : List (A × ℕ)) → held_front holds r ++ drop (length (held_front holds r)) r ≡ r
+  append-held_front r =
+      let n : ℕ = length (held_front holds r) in
+      ap (λ t. t ++ drop n r) (sym (take-held_front r)) ∙ take-append-drop n r
+
+  all-step : (b : Bool) (x : A × ℕ) (xs front : List (A × ℕ)) → holds x.0 ≡ b → (first_token (drop (length front) xs) ≡ None → HoldsAll holds xs) → first_token (drop (length (cond b (x ∷ front) [])) (x ∷ xs)) ≡ None → HoldsAll holds (x ∷ xs)
+  all-step true x xs front e later h = (e, later h)
+  all-step false x xs front e later h = absurd (none-some _ (sym h))
+
+  -- where nothing stands behind it, it is all
+  pub all-held_front : (r : List (A × ℕ)) → first_token (drop (length (held_front holds r)) r) ≡ None → HoldsAll holds r
+  all-held_front [] h = tt
+  all-held_front (x ∷ xs) h = all-step (holds x.0) x xs (held_front holds xs) refl (all-held_front xs) h
+
+-- what stands behind the tokens of a set
+abbrev behind : {A : Type 0} → (A → Bool) → List (A × ℕ) → List (A × ℕ)
+behind holds r = drop (length (held_front holds r)) r
+
+-- a set that holds no more than another
+module _ {A : Type 0} (holds also : A → Bool) (within : (x : A) → holds x ≡ true → also x ≡ true) where
+  behind-cons : (x : A × ℕ) (xs : List (A × ℕ)) → also x.0 ≡ true → behind also (x ∷ xs) ≡ behind also xs
+  behind-cons x xs e = ap (λ b. drop (length (cond b (x ∷ held_front also xs) [])) (x ∷ xs)) e
+
+  further-step : (b : Bool) (x : A × ℕ) (xs front : List (A × ℕ)) → holds x.0 ≡ b → behind also (drop (length front) xs) ≡ behind also xs → behind also (drop (length (cond b (x ∷ front) [])) (x ∷ xs)) ≡ behind also (x ∷ xs)
+  further-step true x xs front h e = e ∙ sym (behind-cons x xs (within x.0 h))
+  further-step false x xs front h e = refl
+
+  pub behind-held_front : (r : List (A × ℕ)) → behind also (behind holds r) ≡ behind also r
+  behind-held_front [] = refl
+  behind-held_front (x ∷ xs) = further-step (holds x.0) x xs (held_front holds xs) refl (behind-held_front xs)

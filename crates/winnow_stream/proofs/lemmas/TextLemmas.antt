@@ -76,3 +76,19 @@ first-text_source bs rest c u e = ap char_source (chars_past_char bs rest c u e)
 pub is_offset-decides : (bs : List ℕ) (n : ℕ) (b : Bool) → IsUtf8 bs → (b ≡ true ↔ IsCharBoundary bs n) → b ≡ is_offset (text_source bs) n
 is_offset-decides bs n b u d =
     same_from_decides b (is_offset (text_source bs) n) (d.0, d.1) (boundary-from_is_offset bs n u, is_offset-from_boundary bs n u)
+
+-- ---- a text is known by its characters
+
+-- the characters of tokens
+abbrev characters : List (ℕ × ℕ) → List ℕ
+characters [] = []
+characters (x ∷ xs) = x.0 ∷ characters xs
+
+characters-char_source : (cs : List ℕ) → characters (char_source cs) ≡ cs
+characters-char_source [] = refl
+characters-char_source (c ∷ cs) = ap (λ ds. c ∷ ds) (characters-char_source cs)
+
+pub text_source-same : (xs ys : List ℕ) → IsUtf8 xs → IsUtf8 ys → text_source xs ≡ text_source ys → xs ≡ ys
+text_source-same xs ys u v e =
+    let same : chars xs ≡ chars ys = sym (characters-char_source (chars xs)) ∙ ap characters e ∙ characters-char_source (chars ys) in
+    sym (encodes-chars xs u) ∙ ap encode_utf8_all same ∙ encodes-chars ys v

@@ -1,6 +1,5 @@
 -- Tokens of width 1: a list that is a front of another is so many of its elements.
-use Rattle.std.proofs.Common.{◌≡◌, ℕ, ◌≤◌, List, length, take, drop, IsTrue, ap, sym, ◌∙◌, arith, length-take-le}
-use Rattle.std.proofs.lemmas.List.{drop-map}
+use Rattle.std.proofs.Common.{◌≡◌, ℕ, ◌≤◌, List, length, take, IsTrue, ap, sym, ◌∙◌, arith, length-take-le}
 use Rattle.winnow_stream.specs.Source.{units}
 use Rattle.winnow_stream.specs.Front.{is_offset, front}
 use Rattle.winnow_stream.proofs.lemmas.UnitLemmas.{le-from_is_offset, units-take, units-same}
@@ -22,7 +21,3 @@ module _ {T : Type 0} (xs ys : List T) (n : ℕ) (h : IsTrue (is_offset (units y
   -- and these are the elements
   pub take-front : take (length xs) ys ≡ xs
   take-front = ap (λ k. take k ys) count ∙ sym same
-
--- moving on leaves the tokens behind
-pub units-behind : {T : Type 0} (xs : List T) (n : ℕ) → units (drop n xs) ≡ drop n (units xs)
-units-behind xs n = sym (drop-map (λ x. (x, 1)) n xs)

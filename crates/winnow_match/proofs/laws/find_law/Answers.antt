@@ -1,4 +1,4 @@
-use Rattle.winnow_match.proofs.lemmas.HitLemmas.{some-says, none-says}
+use Rattle.winnow_match.proofs.lemmas.HitLemmas.{some-says, none-says, hit-splits}
 use Rattle.winnow_match.proofs.laws.find_law.Goals as goal
 
 pub returns-clause-some : goal.returns-clause-some
@@ -6,3 +6,6 @@ returns-clause-some c = λ needles bytes r some. some-says needles bytes some r
 
 pub returns-clause-none : goal.returns-clause-none
 returns-clause-none c = none-says
+
+pub returns-clause-one : goal.returns-clause-one
+returns-clause-one c = hit-splits

@@ -1,7 +1,7 @@
 use Rattle.std.proofs.Common.{ap, sym, ◌∙◌, zero-add}
 use Rattle.std.specs.Prelude.{not, unwrap_or}
 use Rattle.winnow_stream.specs.Source.{width, first_offset, held_front}
-use Rattle.winnow_stream.proofs.lemmas.HeldLemmas.{width-held_front, is_offset-held_front, take-held_front, back-held_front, HoldsAll-held_front, next-held_front}
+use Rattle.winnow_stream.proofs.lemmas.HeldLemmas.{width-held_front, is_offset-held_front, take-held_front, back-held_front, HoldsAll-held_front, next-held_front, append-held_front, all-held_front, behind-held_front}
 use Rattle.winnow_stream.proofs.laws.held_law.Goals as goal
 
 pub returns-clause-width : goal.returns-clause-width
@@ -22,3 +22,12 @@ returns-clause-held g c = λ holds r. HoldsAll-held_front holds r
 
 pub returns-clause-next : goal.returns-clause-next
 returns-clause-next g c = λ holds r x e. next-held_front holds r x e
+
+pub returns-clause-whole : goal.returns-clause-whole
+returns-clause-whole g c = λ holds r. append-held_front holds r
+
+pub returns-clause-all : goal.returns-clause-all
+returns-clause-all g c = λ holds r e. all-held_front holds r e
+
+pub returns-clause-further : goal.returns-clause-further
+returns-clause-further g c = λ holds also r within. behind-held_front holds also within r

@@ -1,4 +1,4 @@
-use Rattle.winnow_stream.proofs.lemmas.FrontLemmas.{front-place, back-place, front-whole, back-whole}
+use Rattle.winnow_stream.proofs.lemmas.FrontLemmas.{front-place, back-place, front-whole, back-whole, nil_from_width}
 use Rattle.winnow_stream.proofs.lemmas.OffsetLemmas.{offset_at-within, offset_at-place}
 use Rattle.winnow_stream.proofs.laws.taken_law.Goals as goal
 
@@ -19,3 +19,6 @@ returns-clause-whole g c = λ r h. front-whole r h
 
 pub returns-clause-end : goal.returns-clause-end
 returns-clause-end g c = λ r h. back-whole r h
+
+pub returns-clause-none : goal.returns-clause-none
+returns-clause-none g c = λ r h e. nil_from_width r h e
