@@ -37,6 +37,7 @@ impl<I: Stream, E: ParserError<I>> ParseError<I, E> {
         requires is_end { IsEndOf (I.remaining input) (I.remained start) }
         ensures offset { result.offset ≡ width (I.remained start) - width (I.remaining input) }
         ensures remaining { I.remaining result.input ≡ I.remained start }
+        ensures location { I.location result.input ≡ I.Checkpoint.location start }
         ensures valid { I.valid result.input }
         ensures kept { I.keeps input result.input }
         ensures inner { result.inner ≡ inner }

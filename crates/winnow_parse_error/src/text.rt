@@ -9,6 +9,7 @@ use crate::ParseError;
 use crate::line::{has_newline, line_at};
 use crate::position::translate_position;
 use std::fmt;
+use winnow_error::write_bare;
 use winnow_kinds::BStr;
 use winnow_stream::AsBStr;
 
@@ -160,9 +161,12 @@ impl fmt::Display for Pointer<'_> {
 }
 
 /// Bytes without a newline are printed with a caret below the offset, and others with the line and the column, and that line
-/// alone; then comes the error. What is damaged prints as U+FFFD, as a [`BStr`] prints it.
+/// alone; then comes the error. What is damaged prints as U+FFFD, as a [`BStr`] prints it. No option changes the text.
 impl<I: AsBStr, E: fmt::Display> fmt::Display for ParseError<I, E> {
     ghost output = { λ e.
+        Some (pointer_text (I.text_bytes e.input) e.offset) ++? E.output e.inner };
+
+    ghost styled_output = { λ e _.
         Some (pointer_text (I.text_bytes e.input) e.offset) ++? E.output e.inner };
 
     fn fmt<W: fmt::Write>(&self, f: &mut fmt::Formatter<W>) -> fmt::Result {
@@ -171,6 +175,6 @@ impl<I: AsBStr, E: fmt::Display> fmt::Display for ParseError<I, E> {
             offset: self.offset(),
         };
         let inner = self.inner();
-        write!(f, "{pointer}{inner}")
+        write_bare(f, format_args!("{pointer}{inner}"))
     }
 }

@@ -47,6 +47,6 @@ with_frame f (base i c) = stack (base i c) (f ∷ [])
 with_frame f (stack t fs) = stack t (fs ++ f ∷ [])
 with_frame f (alt ts) = stack (alt ts) (f ∷ [])
 
--- r has one frame more than a tree, at the input as it stood where `there` remained
-abbrev pub PushedAt : {I C S : Type 0} → (I → S) → (I → Type 0) → (I → I → Type 0) → I → S → (I → Frame I C) → Tree I C → TreeError I C → Type 0
-PushedAt {I} remaining valid keeps input there frame t r = (at : I) × ((remaining at ≡ there) × valid at × keeps input at × (tree_contents r ≡ with_frame (frame at) t))
+-- r has one frame more than a tree, at the input as it stood where `there` remained, at the location `there_location`
+abbrev pub PushedAt : {I C S L : Type 0} → (I → S) → (I → L) → (I → Type 0) → (I → I → Type 0) → I → S → L → (I → Frame I C) → Tree I C → TreeError I C → Type 0
+PushedAt {I} remaining location valid keeps input there there_location frame t r = (at : I) × ((remaining at ≡ there) × (location at ≡ there_location) × valid at × keeps input at × (tree_contents r ≡ with_frame (frame at) t))

@@ -1,7 +1,11 @@
-ghost use Rattle.std.specs.Prelude.{◌≡◌, ◌++◌, ◌∷◌, List, All, IsSome, IsNone, IsPermutation};
-ghost use Rattle.std.specs.List.{FoldsTo};
+ghost use Rattle.std.specs.Prelude.{◌≡◌, ◌++◌, ◌∷◌, List, All, IsTrue, IsSome, IsNone};
+ghost use Rattle.std.specs.Prelude.{IsPermutation};
+ghost use Rattle.std.specs.List.{FoldsTo, flat_map};
+ghost use Rattle.winnow_error.specs.declared.combining.OrTree.{OrTree};
+ghost use Rattle.winnow_error.specs.Mode.{Mode, ModeOr, IsBacktrackOf, mode_backtracks};
+ghost use Rattle.winnow_error.specs.Pick.{Bracketed, leaves, backtracked};
 ghost use Rattle.winnow_tree.specs.declared.tree.TreeError.{TreeError};
-ghost use Rattle.winnow_tree.specs.Entries.{alternatives, entries};
+ghost use Rattle.winnow_tree.specs.Entries.{TreeOr, alternatives, entries};
 
 use crate::TreeError;
 use winnow_error::ParserError;
@@ -19,4 +23,14 @@ pub fn tree_or_law<I: Stream + Copy, C: Drop>()
         → All (λ e. IsNone (alternatives e)) (a ∷ bs)
         → FoldsTo (⟦<TreeError<I, C> as ParserError<I>>⟧.or_gives) a bs r
         → entries r ≡ a ∷ bs }
+{}
+
+/// The law of brackets: however the errors of alternatives are bracketed, if each is a `Backtrack`, what `or` makes of them is one
+/// too, and has each entry as often as all of them have it together. Nothing is done when it is called: its contract is the law.
+pub fn tree_bracket_law<I: Stream + Copy, C: Drop>()
+    ensures { (tree : OrTree (Mode (TreeError I C))) (r : Mode (TreeError I C))
+        → All (λ m. IsTrue (mode_backtracks m)) (leaves tree)
+        → Bracketed (ModeOr TreeOr) tree r
+        → IsBacktrackOf (λ e. IsPermutation (entries e)
+        (flat_map entries (backtracked (leaves tree)))) r }
 {}

@@ -13,6 +13,6 @@ mod text;
 mod tree;
 
 pub use combining::combine_trees;
-pub use laws::tree_or_law;
+pub use laws::{tree_bracket_law, tree_or_law};
 pub use parts::{TreeErrorBase, TreeErrorContext, TreeErrorFrame};
 pub use tree::TreeError;

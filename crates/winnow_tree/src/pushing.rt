@@ -52,8 +52,9 @@ pub(crate) fn push_kind<I: Stream + Copy, C: Drop>(
 ) -> Result<TreeError<I, C>, AllocError>
     requires valid { I.valid input.now }
     requires valid_checkpoint { I.valid_checkpoint token_start.now }
-    ensures { IfOk result (PushedAt I.remaining I.valid I.keeps input.now
-        (I.remained token_start.now) (λ at. kind at None) (tree_contents error)) }
+    ensures { IfOk result (PushedAt I.remaining I.location I.valid I.keeps input.now
+        (I.remained token_start.now) (I.Checkpoint.location token_start.now)
+        (λ at. kind at None) (tree_contents error)) }
 {
     let mut at = *input;
     at.reset(token_start);
@@ -75,8 +76,9 @@ pub(crate) fn push_context<I: Stream + Copy, C: Drop>(
 ) -> Result<TreeError<I, C>, AllocError>
     requires valid { I.valid input.now }
     requires valid_checkpoint { I.valid_checkpoint token_start.now }
-    ensures { IfOk result (PushedAt I.remaining I.valid I.keeps input.now
-        (I.remained token_start.now) (λ at. context at about) (tree_contents error)) }
+    ensures { IfOk result (PushedAt I.remaining I.location I.valid I.keeps input.now
+        (I.remained token_start.now) (I.Checkpoint.location token_start.now)
+        (λ at. context at about) (tree_contents error)) }
 {
     let mut at = *input;
     at.reset(token_start);

@@ -36,8 +36,9 @@ impl<I: Stream + Copy, C: Drop> ParserError<I> for TreeError<I, C> {
 
     ghost incomplete_gives = { λ input _ e. IsBase input None e };
 
-    ghost append_gives = { λ e input start. PushedAt I.remaining I.valid I.keeps input
-        (I.remained start) (λ at. kind at None) (tree_contents e) };
+    ghost append_gives = { λ e input start. PushedAt I.remaining I.location I.valid I.keeps
+        input (I.remained start) (I.Checkpoint.location start) (λ at. kind at None)
+        (tree_contents e) };
 
     ghost append_refusable = { ⊤ };
 
@@ -99,8 +100,9 @@ impl<I: Stream + Copy, C: Drop> ParserError<I> for TreeError<I, C> {
 }
 
 impl<I: Stream + Copy, C: Drop> AddContext<I, C> for TreeError<I, C> {
-    ghost add_context_gives = { λ e input start about. PushedAt I.remaining I.valid I.keeps input
-        (I.remained start) (λ at. context at about) (tree_contents e) };
+    ghost add_context_gives = { λ e input start about. PushedAt I.remaining I.location I.valid
+        I.keeps input (I.remained start) (I.Checkpoint.location start)
+        (λ at. context at about) (tree_contents e) };
 
     ghost add_context_refusable = { ⊤ };
 

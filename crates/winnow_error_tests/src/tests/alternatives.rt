@@ -147,6 +147,45 @@ fn needs_more() -> ErrMode<ContextError<StrContext>> {
     Incomplete(Needed::Unknown)
 }
 
+type Leaves = OrTree<ErrMode<InputError<&'static [u8]>>>;
+
+// An error at so many bytes, at most 200.
+fn leaf(length: usize) -> Leaves {
+    let bytes = [0; 200].as_slice();
+    let input = bytes.get(..length).unwrap_or(bytes);
+    OrTree::One(Backtrack(InputError { input }))
+}
+
+// 200 of them, bracketed from the left.
+fn many_from_left(alloc: Global) -> Result<Leaves, AllocError> {
+    let mut tree = leaf(1);
+    for length in 1..200usize {
+        tree = both(alloc, tree, leaf(length + 1))?;
+    }
+    Ok(tree)
+}
+
+// The same, bracketed from the right.
+fn many_from_right(alloc: Global) -> Result<Leaves, AllocError> {
+    let mut tree = leaf(200);
+    for length in 1..200usize {
+        tree = both(alloc, leaf(200 - length), tree)?;
+    }
+    Ok(tree)
+}
+
+#[test]
+fn two_hundred_alternatives_combine_alike(rt: HostRuntime) -> Result<(), Fail> {
+    let alloc = rt.alloc();
+    let left = join_all::<&[u8], InputError<&[u8]>>(alloc, many_from_left(alloc)?);
+    let right = join_all::<&[u8], InputError<&[u8]>>(alloc, many_from_right(alloc)?);
+    let last = Backtrack(InputError {
+        input: [0; 200].as_slice(),
+    });
+    assert_eq!(rt; [left, right], [last; 2]);
+    Ok(())
+}
+
 // Brackets matter where every error may be tried again, and only there.
 #[test]
 fn an_or_that_is_not_associative(rt: HostRuntime) -> Result<(), Fail> {

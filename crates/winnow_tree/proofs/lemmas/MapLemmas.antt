@@ -2,14 +2,12 @@ use Rattle.std.specs.Prelude.{Result, IfOk}
 use Rattle.std.proofs.lemmas.Result.{IfOk-weaker}
 use Rattle.std.proofs.Common.{◌≡◌, List, [], ◌∷◌, ◌++◌, map, refl, ap, sym, subst, ◌∙◌}
 use Rattle.std.specs.List.{AllZip}
-use Rattle.std.specs.Prelude.{string_bytes, option_map}
 use Rattle.std.specs.declared.vec.Vec.{Vec}
 use Rattle.std.specs.declared.boxed.Box.{Box}
 use Rattle.std.specs.declared.alloc.Global.{Global}
-use Rattle.winnow_tree.specs.declared.parts.TreeErrorBase.{TreeErrorBase}
 use Rattle.winnow_tree.specs.declared.parts.TreeErrorFrame.{TreeErrorFrame}
 use Rattle.winnow_tree.specs.declared.tree.TreeError.{TreeError, fold-roll-TreeError}
-use Rattle.winnow_tree.specs.declared.tree.TreeError.TheVariants.{Base, rolls-Base, Stack, rolls-Stack, Alt, rolls-Alt}
+use Rattle.winnow_tree.specs.declared.tree.TreeError.TheVariants.{Stack, rolls-Stack, Alt, rolls-Alt}
 use Rattle.winnow_tree.specs.TreeContents.{Tree, Trees, Frame, none, more, kind, context, base, stack, alt, trees_of, tree_contents, layer_contents, frame_contents, with_frame}
 use Rattle.winnow_tree.specs.Maps.{FrameMaps, TreeMaps, TreesMap}
 

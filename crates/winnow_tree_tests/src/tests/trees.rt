@@ -10,7 +10,7 @@ use winnow_error::{
     AddContext, ErrMode, ErrorConvert, FromExternalError, InputError, OrTree, ParserError,
 };
 use winnow_stream::Stream;
-use winnow_tree::{TreeError, combine_trees};
+use winnow_tree::{TreeError, combine_trees, tree_bracket_law, tree_or_law};
 use winnow_views::Bits;
 
 type Tree<'i> = TreeError<&'i str, StrContext>;
@@ -221,6 +221,13 @@ fn two_hundred_alternatives(rt: HostRuntime) -> Result<(), Fail> {
     let left = has_all(alloc, many_from_left(alloc)?)?;
     assert_eq!(rt; [left, has_all(alloc, many_from_right(alloc)?)?], [true; 2]);
     Ok(())
+}
+
+// Laws do nothing: that each is called here shows that it can be.
+#[test]
+fn laws_of_trees(_rt: HostRuntime) {
+    tree_or_law::<&str, StrContext>();
+    tree_bracket_law::<&str, StrContext>();
 }
 
 #[test]
