@@ -25,7 +25,8 @@ pub trait Accumulate<T>: Sized {
     // Whether it asks for memory, which may be refused.
     ghost refusable: { Type 0 } = { ⊤ };
 
-    /// Returns an empty accumulator. It has room for the items that `capacity` says will come, but for no more than 1,024.
+    /// Returns an empty accumulator. A vector, a queue and a hashed map or set have room for `capacity` elements, and a `String` has
+    /// room for that many bytes, but for no more than 1,024. The other kinds make no room.
     fn initial(alloc: Global, capacity: Option<usize>) -> Result<Self, AllocError>
         ensures empty { IfOk result (starts capacity) }
         ensures refused { OnErr result refusable };

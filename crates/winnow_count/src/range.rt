@@ -1,9 +1,11 @@
-ghost use Rattle.std.specs.Prelude.{◌-◌, Some, None, ⊤, MatchOption};
+ghost use Rattle.std.specs.Prelude.{◌≡◌, ◌-◌, Some, None, ⊤, MatchOption, IfOk};
 ghost use Rattle.std.specs.declared.ops.Bound.TheVariants.{Included, Unbounded};
 ghost use Rattle.std.specs.Range.{range_inclusive_start, range_inclusive_end};
 ghost use Rattle.std.specs.Option.{option_map_or};
+ghost use Rattle.std.specs.Fmt.InlineText.{inline_text};
 ghost use Rattle.winnow_count.specs.CountRange.{HasCounts, least_count, greatest_count, range_text};
 
+use std::fmt::{InlineText, Write};
 use std::ops::{Bound, RangeBounds};
 use std::{fmt, ops};
 
@@ -15,6 +17,23 @@ use std::{fmt, ops};
 pub struct Range {
     least: usize,
     greatest: Option<usize>,
+}
+
+impl Range {
+    // What it prints, made apart from the formatter, whose options must not reach the counts. Two counts have at most 20 digits each,
+    // so they fit with the `..=` between them.
+    fn text(&self) -> Result<InlineText<43>, fmt::Error>
+        ensures { IfOk result (λ text. inline_text text ≡ range_text self.now) }
+    {
+        let mut text: InlineText<43> = InlineText::new();
+        let least = self.least;
+        match self.greatest {
+            None => write!(text, "{least}..")?,
+            Some(greatest) if greatest == least => write!(text, "{least}")?,
+            Some(greatest) => write!(text, "{least}..={greatest}")?,
+        }
+        Ok(text)
+    }
 }
 
 /// Exactly this count.
@@ -116,17 +135,15 @@ impl RangeBounds<usize> for Range {
 }
 
 /// Prints the least count; then nothing if the greatest is the same, `..=` and the greatest if it is another, `..` if there is
-/// none.
+/// none. No option of a hole changes the text.
 impl fmt::Display for Range {
     ghost output = { λ range. Some (range_text range) };
 
+    ghost styled_output = { λ range _. Some (range_text range) };
+
     fn fmt<W: fmt::Write>(&self, f: &mut fmt::Formatter<W>) -> fmt::Result {
-        let least = self.least;
-        match self.greatest {
-            None => write!(f, "{least}.."),
-            Some(greatest) if greatest == least => write!(f, "{least}"),
-            Some(greatest) => write!(f, "{least}..={greatest}"),
-        }
+        let text = self.text()?;
+        f.write_str(text.as_str())
     }
 }
 

@@ -18,6 +18,13 @@ fn debug(alloc: Global, range: &Range) -> Result<String, AllocError>
     format!(in alloc; "{range:?}")
 }
 
+// Under a width, a fill and a precision, which change nothing.
+fn padded(alloc: Global, range: &Range) -> Result<String, AllocError>
+    ensures { IfOk result (λ text. string_bytes text ≡ range_text range.now) }
+{
+    format!(in alloc; "{range:*>9.1}")
+}
+
 // Made through the bound.
 fn range_of<C: Into<Range>>(counts: C) -> Range
     ensures { C.converts counts result }
@@ -42,10 +49,19 @@ fn a_range_prints_its_counts(rt: HostRuntime) -> Result<(), Fail> {
         (range_of(..), "0.."),
         (range_of(2..=2), "2"),
         (range_of(..=3), "0..=3"),
+        (
+            range_of(usize::MAX - 1..=usize::MAX),
+            "18446744073709551614..=18446744073709551615",
+        ),
     ];
     for (range, want) in table {
         let alloc = rt.alloc();
         assert_eq!(rt; display(alloc, &range)?.as_str(), want, "printed");
+        assert_eq!(rt;
+            padded(alloc, &range)?.as_str(),
+            want,
+            "printed under options"
+        );
         assert_eq!(rt;
             debug(alloc, &range)?.as_str(),
             want,

@@ -11,12 +11,6 @@ use winnow_stream::Checkpoint;
 use winnow_views::{TokenSlice, TokenView};
 
 impl<'i, T: Copy + Debug, E> Recover<E> for &'i [T] {
-    ghost refuses = { λ _ _. true };
-
-    ghost records = { λ _ _ _ _ _. ⊥ };
-
-    ghost supports_recovery = { false };
-
     ghost refuses_unsupported = { λ _ _ _. refl };
 
     ghost unchanged_keeps = { λ _ _ _. tt };
@@ -36,12 +30,6 @@ impl<'i, T: Copy + Debug, E> Recover<E> for &'i [T] {
 }
 
 impl<'i, E> Recover<E> for &'i str {
-    ghost refuses = { λ _ _. true };
-
-    ghost records = { λ _ _ _ _ _. ⊥ };
-
-    ghost supports_recovery = { false };
-
     ghost refuses_unsupported = { λ _ _ _. refl };
 
     ghost unchanged_keeps = { λ _ _ _. tt };
@@ -64,12 +52,6 @@ impl<'i, E> Recover<E> for &'i str {
 }
 
 impl<'i, E> Recover<E> for BStr<'i> {
-    ghost refuses = { λ _ _. true };
-
-    ghost records = { λ _ _ _ _ _. ⊥ };
-
-    ghost supports_recovery = { false };
-
     ghost refuses_unsupported = { λ _ _ _. refl };
 
     ghost unchanged_keeps = { λ _ _ _. tt };
@@ -92,12 +74,6 @@ impl<'i, E> Recover<E> for BStr<'i> {
 }
 
 impl<'i, E> Recover<E> for Bytes<'i> {
-    ghost refuses = { λ _ _. true };
-
-    ghost records = { λ _ _ _ _ _. ⊥ };
-
-    ghost supports_recovery = { false };
-
     ghost refuses_unsupported = { λ _ _ _. refl };
 
     ghost unchanged_keeps = { λ _ _ _. tt };
@@ -120,12 +96,6 @@ impl<'i, E> Recover<E> for Bytes<'i> {
 }
 
 impl<'t, T: Debug, E> Recover<E> for TokenSlice<'t, T> {
-    ghost refuses = { λ _ _. true };
-
-    ghost records = { λ _ _ _ _ _. ⊥ };
-
-    ghost supports_recovery = { false };
-
     ghost refuses_unsupported = { λ _ _ _. refl };
 
     ghost unchanged_keeps = { λ s t same. ap whole_of (sym same) };

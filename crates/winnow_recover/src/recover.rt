@@ -8,16 +8,17 @@ use winnow_stream::Stream;
 /// [`Recoverable`](crate::Recoverable) refuse each error.
 pub trait Recover<E>: Stream {
     // Whether an error is refused.
-    ghost refuses: { Self → E → Bool };
+    ghost refuses: { Self → E → Bool } = { λ _ _. true };
 
     // The streams that recording an error makes, by where the parser began and where the error came.
-    ghost records: { Self → Self.Checkpoint → Self.Checkpoint → E → Self → Type 0 };
+    ghost records: { Self → Self.Checkpoint → Self.Checkpoint → E → Self
+        → Type 0 } = { λ _ _ _ _ _. ⊥ };
 
     // The streams that are the same, but for room in memory.
     ghost unchanged: { Self → Self → Type 0 } = { λ s t. t ≡ s };
 
     // Whether the type records errors at all.
-    ghost supports_recovery: { Bool };
+    ghost supports_recovery: { Bool } = { false };
 
     /// Records an error of a parser that began at `token_start` and failed at `err_start`.
     ///
@@ -32,6 +33,7 @@ pub trait Recover<E>: Stream {
         ensures ok { OnOk result (records self.old token_start.now err_start.now err self.new) }
         ensures err { OnErr result (unchanged self.old self.new) }
         ensures remains { Self.remaining self.new ≡ Self.remaining self.old }
+        ensures location { Self.location self.new ≡ Self.location self.old }
         ensures valid { Self.valid self.old → Self.valid self.new };
 
     /// Returns whether the type records errors at all.

@@ -11,12 +11,6 @@ use winnow_views::{BitPlace, Bits};
 use winnow_wrap::{LocatingSlice, Partial, Placed, Stateful};
 
 impl<I: Recover<E> + Stream<Token = u8>, E> Recover<E> for Bits<I> {
-    ghost refuses = { λ _ _. true };
-
-    ghost records = { λ _ _ _ _ _. ⊥ };
-
-    ghost supports_recovery = { false };
-
     ghost refuses_unsupported = { λ _ _ _. refl };
 
     ghost unchanged_keeps = { λ s t same.
@@ -41,12 +35,6 @@ where
     I: Recover<E> + Stream<Checkpoint = C>,
     C: Rest + Copy + Debug,
 {
-    ghost refuses = { λ _ _. true };
-
-    ghost records = { λ _ _ _ _ _. ⊥ };
-
-    ghost supports_recovery = { false };
-
     ghost refuses_unsupported = { λ _ _ _. refl };
 
     ghost unchanged_keeps = { λ s t same. (
@@ -70,12 +58,6 @@ where
 }
 
 impl<I: Recover<E>, S: Debug, E> Recover<E> for Stateful<I, S> {
-    ghost refuses = { λ _ _. true };
-
-    ghost records = { λ _ _ _ _ _. ⊥ };
-
-    ghost supports_recovery = { false };
-
     ghost refuses_unsupported = { λ _ _ _. refl };
 
     ghost unchanged_keeps = { λ s t same. (
@@ -98,12 +80,6 @@ impl<I: Recover<E>, S: Debug, E> Recover<E> for Stateful<I, S> {
 }
 
 impl<I: Recover<E>, E> Recover<E> for Partial<I> {
-    ghost refuses = { λ _ _. true };
-
-    ghost records = { λ _ _ _ _ _. ⊥ };
-
-    ghost supports_recovery = { false };
-
     ghost refuses_unsupported = { λ _ _ _. refl };
 
     ghost unchanged_keeps = { λ s t same. (

@@ -20,7 +20,7 @@ const TEXTS: [TextStep<'static>; 4] = [Call(Next), Call(Next), Call(Peek), Call(
 const LONG: usize = 65_536;
 
 // No place comes near what a `usize` holds.
-const MOST: usize = 1_000_000;
+pub(crate) const MOST: usize = 1_000_000;
 
 // The answers over an `a`, nothing, and that many times `b`.
 fn answers<T>(a: T, b: T, again: T) -> [Told<T>; 4] {
@@ -40,12 +40,12 @@ fn told<T>(piece: Option<u64>, answer: Answer<T, Range<usize>, Range<usize>>) ->
 }
 
 // What a feed says of its bytes, its attempts and its answers.
-fn counts(feed: &ByteFeed) -> (usize, usize, u64, usize) {
+pub(crate) fn counts(feed: &ByteFeed) -> (usize, usize, u64, usize) {
     let out = feed.answers().len();
     (feed.fed(), feed.held(), feed.tried(), out)
 }
 
-fn text_counts(feed: &TextFeed) -> (usize, usize, u64, usize) {
+pub(crate) fn text_counts(feed: &TextFeed) -> (usize, usize, u64, usize) {
     let out = feed.answers().len();
     (feed.fed(), feed.held(), feed.tried(), out)
 }

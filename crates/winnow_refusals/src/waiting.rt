@@ -1,4 +1,5 @@
 use crate::cases::tell;
+use crate::feeds::{MOST, counts, text_counts};
 use std::alloc::{AllocError, Global};
 use winnow_feed::{ByteFeed, TextFeed, Waiting};
 use winnow_run::SearchStep;
@@ -9,20 +10,6 @@ use winnow_sets::CharSet;
 const BYTES: [SearchStep<CharSet<'static>, &[u8]>; 2] = [Call(Next), Compare(b"bcd")];
 
 const TEXTS: [SearchStep<CharSet<'static>, &str>; 2] = [Call(Next), Compare("bcd")];
-
-// No place comes near what a `usize` holds.
-const MOST: usize = 1_000_000;
-
-// What a feed says of its bytes, its attempts and its answers.
-fn counts(feed: &ByteFeed) -> (usize, usize, u64, usize) {
-    let out = feed.answers().len();
-    (feed.fed(), feed.held(), feed.tried(), out)
-}
-
-fn text_counts(feed: &TextFeed) -> (usize, usize, u64, usize) {
-    let out = feed.answers().len();
-    (feed.fed(), feed.held(), feed.tried(), out)
-}
 
 // Whether it waits for what is missing of the literal.
 fn waits(feed: &ByteFeed) -> Result<bool, AllocError> {

@@ -80,3 +80,22 @@ where
         → ⟦<Checkpoint<I::Checkpoint, Stateful<I, S>> as PartialEq>⟧.eq c d
         ≡ I.Checkpoint.eq (checkpoint_inner c) (checkpoint_inner d) }
 {}
+
+/// The law of equality: checkpoints of a wrapper are compared by what they hold alone, which is a checkpoint of the stream inside,
+/// and beside it the location where the wrapper keeps one. It does nothing when called: its contract is the law.
+pub fn wrapper_checkpoint_equality_law<T: PartialEq, S>()
+    ensures { (c d : Checkpoint T S)
+        → ⟦<Checkpoint<T, S> as PartialEq>⟧.eq c d
+        ≡ T.eq (checkpoint_inner c) (checkpoint_inner d) }
+{}
+
+/// The law of order: checkpoints of a wrapper stand to each other as what they hold does. It does nothing when called: its contract is
+/// the law.
+pub fn wrapper_checkpoint_order_law<T: Ord, S>()
+    ensures partial { (c d : Checkpoint T S)
+        → ⟦<Checkpoint<T, S> as PartialOrd>⟧.partial_cmp c d
+        ≡ T.partial_cmp (checkpoint_inner c) (checkpoint_inner d) }
+    ensures total { (c d : Checkpoint T S)
+        → ⟦<Checkpoint<T, S> as Ord>⟧.cmp c d
+        ≡ T.cmp (checkpoint_inner c) (checkpoint_inner d) }
+{}

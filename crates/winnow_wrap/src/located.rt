@@ -6,7 +6,7 @@ use winnow_stream::{Rest, Stream};
 /// A stream that knows its location in the whole input: where a token starts and ends, for spans and messages.
 ///
 /// The location is 0 at first and moves by the width that is taken. In a window, which `update_slice` makes, it is the location in
-/// the whole input still. Two of them are compared by the whole input, and then by what remains.
+/// the whole input still. Two of them are compared by the checkpoints of their starts, and then by the streams inside.
 ///
 /// `C` is always the checkpoint of `I`: write `LocatingSlice<I>`.
 #[derive(Drop)]

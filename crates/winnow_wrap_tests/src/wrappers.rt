@@ -226,19 +226,29 @@ fn the_place_in_a_window_is_that_in_the_whole(rt: HostRuntime) {
 
 #[test]
 fn a_window_starts_anew_as_the_whole(rt: HostRuntime) {
-    let mut located = LocatingSlice::new("abcdef");
+    let mut located = LocatingSlice::new("abcde");
+    let _ = located.next_token();
     let _ = located.next_token();
     let at = located.checkpoint();
     assert!(rt; located.is_offset(3));
     let slice = located.next_slice(3);
     let behind = place(&located);
     let mut window = located.update_slice(slice, &at);
-    let _ = window.next_token();
+    let (front, start) = (window.peek_finish(), place(&window));
+    let token = window.next_token();
     let inside = place(&window);
     window.reset_to_start();
     assert_eq!(rt;
-        (slice, *window.inner(), [behind, inside, place(&window)]),
-        ("bcd", "abcdef", [(4, 4), (2, 2), (0, 0)])
+        (
+            (slice, front, token),
+            *window.inner(),
+            [behind, start, inside, place(&window)]
+        ),
+        (
+            ("cde", "cde", Some('c')),
+            "abcde",
+            [(5, 5), (2, 2), (3, 3), (0, 0)]
+        )
     );
 }
 
