@@ -1,8 +1,13 @@
 -- What a script over pieces lets out: which answers are out after them, and under which numbers.
-use Rattle.std.specs.Prelude.{ℕ, ◌+◌, min, Bool, nat_lt, if◌then◌else◌, List, [], ◌∷◌, ◌++◌, length, drop, map, Option, None, Some}
+use Rattle.std.specs.Prelude.{◌≡◌, ℕ, ◌+◌, min, Bool, nat_lt, if◌then◌else◌, List, [], ◌∷◌, ◌++◌, length, drop, map, Option, None, Some, option_map, slice_get}
+use Rattle.std.specs.Borrow.{Bor}
 use Rattle.winnow_stream.specs.Cursor.{place}
+use Rattle.winnow_match.specs.Search.{hit}
+use Rattle.winnow_match.specs.declared.needles.Needles.TheVariants.{One}
 use Rattle.winnow_attempt.specs.declared.told.Told.{Told}
 use Rattle.winnow_attempt.specs.View.{under}
+use Rattle.winnow_run.specs.declared.search_script.SearchStep.TheVariants as step
+use Rattle.winnow_run.specs.declared.search_script.SearchAnswer.TheVariants as answer
 use Rattle.winnow_run.specs.Searching.{PlacedSearchAnswer, search_answers, search_cursor}
 use Rattle.winnow_run.specs.Definite.{kind_of, out}
 use Rattle.winnow_feed.specs.Inputs.{PieceStep, InputKind, joined}
@@ -43,6 +48,15 @@ module _ (i : InputKind) (script : List PieceStep) where
   told_of [] = []
   told_of (p ∷ pieces) = numbered (piece_of (p ∷ pieces)) 0 (out_on (joined (p ∷ pieces)))
 
+  -- one piece more takes nothing back: what it lets out stands behind what was told, under the number of that piece
+  pub record TellsMore (pieces : List (List ℕ)) (piece : List ℕ) : Type 0 where
+    pub later : List (PlacedSearchAnswer ℕ)
+    pub told : told_of (pieces ++ piece ∷ []) ≡ told_of pieces ++ map (under (Some (capped (length (pieces ++ piece ∷ []))))) later
+
+  -- the first answer that is out after these pieces
+  abbrev pub first_told : List (List ℕ) → Option (PlacedSearchAnswer ℕ)
+  first_told pieces = option_map (λ t. t.answer) (slice_get (told_of pieces) 0)
+
   -- on how many nonempty fronts of the pieces, behind what is joined already, a step waits
   abbrev pub waits : List ℕ → List (List ℕ) → ℕ
   waits before [] = 0
@@ -62,3 +76,8 @@ module _ (i : InputKind) (script : List PieceStep) where
   -- those that were out, as they stood, and then the rest, which only the end lets out
   abbrev pub told_to_end : List (List ℕ) → List (Told ℕ)
   told_to_end pieces = told_of pieces ++ map (under None) (drop (length (told_of pieces)) (all_answers pieces))
+
+-- what is told of a search for one literal is its hit in the pieces joined, once there is one
+abbrev pub TellsHit : InputKind → Bor (List ℕ) → List (List ℕ) → Type 0
+TellsHit i literal pieces =
+    first_told i (step.Find (One literal) ∷ []) pieces ≡ option_map (λ r. answer.Hit (Some r)) (hit (literal.now ∷ []) (joined pieces))

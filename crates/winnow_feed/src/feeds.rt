@@ -47,13 +47,14 @@ impl<'k> ByteFeed<'k> {
     ghost use Rattle.winnow_feed.specs.Waits.{GivesWaiting, WantsMore};
 
     /// Returns a feed that was fed nothing. It has room for every answer and mark, so that
-    /// `feed` takes memory for bytes alone.
+    /// `feed` takes memory for bytes alone; no clause says so.
     pub fn new(
         alloc: Global,
         script: &'k [SearchStep<CharSet<'k>, &'k [u8]>],
     ) -> Result<Self, AllocError>
         ensures fits { IfOk result (λ feed. Fits byte_input feed []) }
         ensures script { IfOk result (λ feed. script_of feed ≡ script.entry.now) }
+        ensures none { IfOk result (λ feed. bytes_fed feed ≡ 0) }
     {
         let told = Vec::with_capacity(alloc, script.len())?;
         let marks = Vec::with_capacity(alloc, script.len())?;
@@ -117,6 +118,7 @@ impl<'k> ByteFeed<'k> {
         ensures fits { OnOk result (FitsWith byte_input self.old piece.now self.new) }
         ensures came { IfOk result (LetsOut byte_input self.old piece.now) }
         ensures script { script_of self.new ≡ script_of self.old }
+        ensures grows { OnOk result (bytes_fed self.new ≡ bytes_fed self.old + length piece.now) }
         ensures refused { OnErr result (self.new ≡ self.old) }
         ensures empty { piece.now ≡ [] → IsOk result }
         ensures answered { IsAnswered byte_input self.old → IsOk result }

@@ -16,6 +16,7 @@ mod buffers;
 mod feeds;
 mod finished;
 mod keeping;
+mod laws;
 mod missing;
 mod naming;
 mod progress;
@@ -26,6 +27,7 @@ mod waiting;
 
 pub use feeds::ByteFeed;
 pub use finished::Finished;
+pub use laws::{one_search_law, told_law};
 pub use runs::{run_pieces, run_pieces_text};
 pub use text_feeds::TextFeed;
 pub use waiting::Waiting;

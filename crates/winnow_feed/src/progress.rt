@@ -5,7 +5,6 @@ ghost use Rattle.winnow_attempt.specs.View.{piece_kind};
 ghost use Rattle.winnow_feed.specs.JoinedInput.{IsRun, KeepsRun, KeepsRunAtRest};
 ghost use Rattle.winnow_feed.specs.JoinedInput.{ComesToRest, AddsAnswers, Tries, StaysWithoutAnswer};
 ghost use Rattle.winnow_feed.specs.Telling.{capped};
-ghost use Rattle.winnow_attempt.specs.View.{under};
 
 use winnow_attempt::{Attempt, Kept, Passed, Told, attempt_step};
 use winnow_run::SearchStep;

@@ -1,3 +1,4 @@
+use crate::pieces::told_bytes;
 use std::alloc::{AllocError, Global};
 use std::test::Fail;
 use winnow_base::stream::Step::{Each, Finish, First, Mark, Next, Peek, Reset, Since, Take};
@@ -37,6 +38,12 @@ fn a_mark_is_kept_for_its_reset(rt: HostRuntime) -> Result<(), Fail> {
     assert_eq!(rt; line.as_str(), "0; 4 3 5; 3 0 8; 0 0 8");
     assert_eq!(rt; feed.fed(), 6);
     assert_eq!(rt; feed.answers().len(), 7);
+    assert_eq!(rt;
+        told_bytes(rt.alloc(), &feed.end())?.as_str(),
+        "1 Call(Marked(0)); 1 Call(Token(Some(97))); 1 Call(Token(Some(98))); \
+         1 Call(Token(Some(99))); 2 Call(Token(Some(100))); 2 Call(Done); \
+         2 Call(Token(Some(97))); at 0"
+    );
     Ok(())
 }
 
@@ -56,6 +63,11 @@ fn a_mark_that_no_step_names_is_not(rt: HostRuntime) -> Result<(), Fail> {
     let finished = feed.end();
     assert_eq!(rt; finished.answers().len(), 6);
     assert_eq!(rt; finished.cursor(), 4);
+    assert_eq!(rt;
+        told_bytes(rt.alloc(), &finished)?.as_str(),
+        "1 Call(Token(Some(97))); 1 Call(Token(Some(98))); 1 Call(Marked(0)); \
+         2 Call(Token(Some(99))); 2 Call(Offset(1)); 0 Call(Slice(3..4)); at 4"
+    );
     Ok(())
 }
 

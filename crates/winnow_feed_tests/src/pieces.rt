@@ -2,7 +2,8 @@ use std::alloc::{AllocError, Global};
 use std::test::Fail;
 use winnow_base::stream::Step::{At, Each, Eof, Finish, Next, Peek, Take};
 use winnow_base::stream::{
-    ByteFeed, CharSet, Finished, Needles, SearchStep, run_pieces, run_pieces_text,
+    ByteFeed, CharSet, Finished, Needles, SearchStep, one_search_law, run_pieces, run_pieces_text,
+    told_law,
 };
 
 type ByteStep<'k> = SearchStep<CharSet<'k>, &'k [u8]>;
@@ -10,7 +11,7 @@ type ByteStep<'k> = SearchStep<CharSet<'k>, &'k [u8]>;
 type TextStep<'k> = SearchStep<CharSet<'k>, &'k str>;
 
 // Each answer with the number of its piece, or 0 at the end, and then the final place.
-fn told_bytes(alloc: Global, finished: &Finished<u8>) -> Result<String, AllocError> {
+pub(crate) fn told_bytes(alloc: Global, finished: &Finished<u8>) -> Result<String, AllocError> {
     let mut line = String::new(alloc);
     for told in finished.answers() {
         let piece = told.piece.unwrap_or(0);
@@ -174,4 +175,10 @@ fn as_many_answers_as_steps(rt: HostRuntime) -> Result<(), Fail> {
         );
     }
     Ok(())
+}
+
+#[test]
+fn the_laws_can_be_called() {
+    told_law();
+    one_search_law();
 }

@@ -1,6 +1,6 @@
 -- A feed, from what its run does.
 use Rattle.std.proofs.Common.{◌≡◌, ℕ, ◌+◌, ◌≤◌, ◌<◌, cond, ltb, List, [], ◌∷◌, ◌++◌, length, take, drop, map, true, false, refl, sym, ap, ◌∙◌, arith, None, Some, Bor, length-drop}
-use Rattle.std.proofs.lemmas.List.{map-append, append-nil, length-append, length-map, drop_at}
+use Rattle.std.proofs.lemmas.List.{nil_from_length, map-append, append-nil, length-append, length-map, drop_at}
 use Rattle.std.proofs.lemmas.Bool.{le-ltb}
 use Rattle.std.proofs.lemmas.Option.{slice_get_within}
 use Rattle.std.specs.Prelude.{slice_get}
@@ -26,10 +26,6 @@ use Rattle.winnow_feed.proofs.lemmas.ReachLemmas.{Reaches-out, Reaches-cursor, R
 
 abbrev Run : Type 0
 Run = Progress ℕ (Bor (List ℕ))
-
-no_length : (xs : List ℕ) → length xs ≡ 0 → xs ≡ []
-no_length [] e = refl
-no_length (x ∷ xs) e = absurd (omega arith)
 
 module _ (i : InputKind) (law : IsInput i) where
   -- a piece behind what is kept
@@ -116,7 +112,7 @@ module _ (i : InputKind) (law : IsInput i) where
   skips f J piece q v h done script told here marks passed base =
       let none : steps_left f.run ≡ [] = needed-done f.run done in
       let gone : length f.kept ≡ 0 = omega (arith, h.least, ap (needed_place (bytes_fed f) f.run.place f.run.marks.items) none) in
-      let is_nil : f.kept ≡ [] = no_length f.kept gone in
+      let is_nil : f.kept ≡ [] = nil_from_length f.kept gone in
       let nothing : i.source f.kept ≡ [] = ap i.source is_nil ∙ law.nothing in
       let over : steps_left q ≡ [] = rw (script, told) none in
       let fed_is = end-is i.pieces (i.source J) (i.source f.kept) f.run h.stands in

@@ -16,6 +16,7 @@ use Rattle.winnow_feed.specs.declared.progress.Progress.{Progress}
 use Rattle.winnow_run.specs.Definite.{PieceKind}
 use Rattle.winnow_feed.specs.Reach.{named_index, least_index, needed_from, named_place, least_place, needed_place}
 use Rattle.winnow_feed.specs.JoinedInput.{IsRunOver, StaysWithoutAnswer, KeepsLeast, steps_left, answers_out}
+use Rattle.winnow_run.proofs.lemmas.MoreLemmas.{width-append}
 use Rattle.winnow_run.proofs.lemmas.StepLemmas.{Inside, start-inside}
 use Rattle.winnow_attempt.proofs.lemmas.SettledLemmas.{width-split, settled-more}
 use Rattle.winnow_attempt.proofs.lemmas.ViewLemmas.{marked, reset-place}
@@ -24,8 +25,6 @@ use Rattle.winnow_feed.proofs.lemmas.ReachLemmas.{Reaches-inside, Reaches-more, 
 pub least-step : {C L : Type 0} (at : ℕ) (marks : List ℕ) (least : ℕ) (s : ℕ) (steps : List (SearchStep C L)) → least_place at marks (min least s) steps ≡ min s (least_place at marks least steps)
 least-step at marks least s [] = omega arith
 least-step at marks least s (x ∷ steps) = let e = least-step at marks least s steps in omega (arith, e)
-
-pub ruleset least_steps = (least-step)
 
 -- ---- places and indices
 
@@ -95,10 +94,6 @@ needed-done p done = drop_all (length p.told.items) p.script.now done
 place-end : {T : Type 0} (all : Source T) → place all (length all) ≡ width all
 place-end all = omega (arith, width-take_drop all (length all), ap width (drop_all (length all) all (omega arith)))
 
-width-append : {T : Type 0} (all more : Source T) → width (all ++ more) ≡ width all + width more
-width-append [] more = omega arith
-width-append (x ∷ all) more = omega (arith, width-append all more)
-
 -- ---- more input behind
 
 places-more : {T : Type 0} (all more : Source T) (marks : List ℕ) → AllByRecursion (λ m. m ≤ length all) marks → map (place all) marks ≡ map (place (all ++ more)) marks
@@ -107,7 +102,7 @@ places-more all more (m ∷ marks) h =
     let e : place all m ≡ place (all ++ more) m = ap width (sym (take-append-le m all more h.0)) in
     rw (e, places-more all more marks h.1) refl
 
-HasPositiveWidths-append : {T : Type 0} (all more : Source T) → HasPositiveWidths all → HasPositiveWidths more → HasPositiveWidths (all ++ more)
+pub HasPositiveWidths-append : {T : Type 0} (all more : Source T) → HasPositiveWidths all → HasPositiveWidths more → HasPositiveWidths (all ++ more)
 HasPositiveWidths-append [] more h g = g
 HasPositiveWidths-append (x ∷ all) more h g = (h.0, HasPositiveWidths-append all more h.1 g)
 

@@ -40,6 +40,7 @@ use Rattle.winnow_feed.specs.Inputs.{PieceStep, InputKind}
 use Rattle.winnow_attempt.specs.Missing.{letters, needle_missing, call_missing, missing}
 use Rattle.winnow_feed.specs.Waits.{IsSpelt}
 use Rattle.winnow_feed.proofs.lemmas.InputLemmas.{IsInput}
+use Rattle.winnow_feed.proofs.lemmas.KeepingLemmas.{HasPositiveWidths-append}
 use Rattle.winnow_feed.proofs.lemmas.SpellingLemmas.{IsSpelling}
 use Rattle.winnow_attempt.proofs.lemmas.NeedleLemmas.{needle-changes}
 
@@ -163,10 +164,6 @@ compared-parts a b e = cc
 hit-parts : (a b : Option (Range ℕ)) → ◌≡◌ {A = PlacedSearchAnswer ℕ} (search_answered.Hit a) (search_answered.Hit b) → a ≡ b
 hit-parts a b e = cc
 
-HasPositiveWidths-both : {T : Type 0} (r m : Source T) → HasPositiveWidths r → HasPositiveWidths m → HasPositiveWidths (r ++ m)
-HasPositiveWidths-both [] m h g = g
-HasPositiveWidths-both (x ∷ r) m h g = (h.0, HasPositiveWidths-both r m h.1 g)
-
 place-more : {T : Type 0} (all m : Source T) (n : ℕ) → n ≤ length all → place (all ++ m) n ≡ place all n
 place-more all m n h = ap width (take-append-le n all m h)
 
@@ -191,7 +188,7 @@ module _ (i : InputKind) (law : IsInput i) (spelling : IsSpelling i) (J : List �
   width-more n = ap width (more-is (letters n)) ∙ width-append r (i.source (letters n)) ∙ ap (λ k. width r + k) (spelling.letters_width n)
 
   widths-more : (m : List ℕ) → HasPositiveWidths (r ++ i.source m)
-  widths-more m = HasPositiveWidths-both r (i.source m) (HasPositiveWidths-drop at.index (i.source J) (law.widths J)) (law.widths m)
+  widths-more m = HasPositiveWidths-append r (i.source m) (HasPositiveWidths-drop at.index (i.source J) (law.widths J)) (law.widths m)
 
   full : (n : ℕ) → width r < n → is_offset (more (letters (n - width r))) n ≡ true
   full n l =
@@ -264,9 +261,6 @@ module _ (i : InputKind) (law : IsInput i) (spelling : IsSpelling i) (J : List �
     call-changes (call.Since k) h u is = absurd (false≢true (sym h))
 
     -- ---- one step
-
-    bytes : List ℕ
-    bytes = written i.pieces.write r
 
     bytes-are : i.valid m ≡ true → written i.pieces.write (more m) ≡ written i.pieces.write r ++ m
     bytes-are v = ap (written i.pieces.write) (more-is m) ∙ written-append i.pieces.write r (i.source m) ∙ ap (λ xs. written i.pieces.write r ++ xs) (spelling.spells m v)

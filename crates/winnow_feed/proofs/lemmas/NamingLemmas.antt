@@ -1,8 +1,6 @@
 -- Which marks the steps that are left name: where none that is made, the walk over them may end.
-use Rattle.std.proofs.Common.{◌≡◌, ℕ, zero, suc, ◌+◌, ◌≤◌, ◌<◌, ◌-◌, List, [], ◌∷◌, length, take, drop, length-drop, take_all, get_or, refl, sym, ap, ◌∙◌, arith}
+use Rattle.std.proofs.Common.{◌≡◌, ℕ, zero, suc, ◌≤◌, ◌<◌, ◌-◌, List, [], ◌∷◌, length, take, drop, length-drop, take_all, get_or, refl, sym, ap, ◌∙◌, arith}
 use Rattle.std.specs.Prelude.{slice_get, unwrap_or}
-use Rattle.std.proofs.Math.ListN.{set}
-use Rattle.std.proofs.lemmas.List.{drop-set}
 use Rattle.std.proofs.lemmas.Option.{slice_get_past}
 use Rattle.winnow_run.specs.declared.script.Step.TheVariants as call
 use Rattle.winnow_run.specs.declared.search_script.SearchStep.{SearchStep}

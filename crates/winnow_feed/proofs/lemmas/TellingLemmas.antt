@@ -1,46 +1,61 @@
--- What one piece more lets out: lists, fronts and what is out alone.
-use Rattle.std.proofs.Common.{◌≡◌, ℕ, suc, ◌+◌, ◌≤◌, ◌<◌, Bool, true, false, cond, List, [], ◌∷◌, ◌++◌, length, map, Option, Some, refl, sym, ap, ◌∙◌, arith, inl, inr}
+-- What one piece more lets out, and what the end does: lists, fronts and what is out alone.
+use Rattle.std.proofs.Common.{◌≡◌, ℕ, suc, ◌+◌, ◌≤◌, ◌<◌, Bool, true, false, cond, List, [], ◌∷◌, ◌++◌, length, drop, map, Option, None, Some, refl, sym, ap, ◌∙◌, arith, inl, inr}
 use Rattle.std.specs.List.{AllByRecursion, take_while}
 use Rattle.std.proofs.lemmas.Bool.{cases_Bool, false≢true, ltb-true, lt-ltb, le-ltb}
-use Rattle.std.proofs.lemmas.List.{length-append, append_assoc, append-nil, length-map}
+use Rattle.std.proofs.lemmas.List.{length-append, append_assoc, append-nil, length-map, map-append}
 use Rattle.winnow_stream.specs.Source.{Source}
 use Rattle.winnow_stream.specs.Cursor.{Cursor, start, rest, answers_from}
 use Rattle.winnow_run.specs.declared.search_script.SearchStep.{SearchStep}
-use Rattle.winnow_run.specs.Searching.{PlacedSearchAnswer, search_next}
-use Rattle.winnow_run.specs.Definite.{PieceKind, is_definite, judged, out}
+use Rattle.winnow_run.specs.Searching.{PlacedSearchAnswer, search_answer, search_answers, search_next}
+use Rattle.winnow_run.specs.Definite.{PieceKind, kind_of, is_definite, judged, out}
 use Rattle.winnow_run.proofs.lemmas.StepLemmas.{Inside, step-more, step-inside, start-inside}
 use Rattle.winnow_attempt.specs.declared.told.Told.{Told}
-use Rattle.winnow_feed.specs.Inputs.{PieceStep, InputKind, joined}
-use Rattle.winnow_feed.specs.Telling.{capped, shortest_front, numbered, out_on, lets_out, is_waiting, piece_of, told_of, waits}
+use Rattle.winnow_feed.specs.Inputs.{PieceStep, InputKind, byte_input, joined}
+use Rattle.winnow_feed.specs.Telling.{capped, shortest_front, numbered, out_on, lets_out, is_waiting, piece_of, told_of, TellsMore, waits, all_answers, told_to_end}
 use Rattle.winnow_attempt.specs.View.{under}
 use Rattle.winnow_feed.proofs.lemmas.InputLemmas.{IsInput, joined-push}
 use Rattle.winnow_feed.proofs.lemmas.ReachLemmas.{take_while-stop, take_while-go}
 
 module _ {T C L : Type 0} (k : PieceKind T C L) (all more : Source T) where
-  -- more input lets no fewer answers out
-  out_from-grows : (s : Cursor) (steps : List (SearchStep C L)) → Inside all s → length (take_while (λ a. a.1) (answers_from (judged k all) (search_next all) steps s)) ≤ length (take_while (λ a. a.1) (answers_from (judged k (all ++ more)) (search_next (all ++ more)) steps s))
-  out_from-grows s [] inside = omega arith
-  out_from-grows s (x ∷ steps) inside =
+  -- the answers that are out are the first of those that are out with more input
+  out_from-more : (s : Cursor) (steps : List (SearchStep C L)) → Inside all s → (later : List (PlacedSearchAnswer T)) × (map (λ a. a.0) (take_while (λ a. a.1) (answers_from (judged k (all ++ more)) (search_next (all ++ more)) steps s)) ≡ map (λ a. a.0) (take_while (λ a. a.1) (answers_from (judged k all) (search_next all) steps s)) ++ later)
+  out_from-more s [] inside = ([], refl)
+  out_from-more s (x ∷ steps) inside =
       elim (cases_Bool (is_definite k x (rest all s))) [
         | inl e ↦
             let e2 = step-more k all more s inside x e in
-            let ih = out_from-grows (search_next all x s) steps (step-inside all s inside x) in
+            let ih = out_from-more (search_next all x s) steps (step-inside all s inside x) in
             let here = take_while-go (λ a. a.1) (judged k all x s) (answers_from (judged k all) (search_next all) steps (search_next all x s)) e in
             let there = take_while-go (λ a. a.1) (judged k (all ++ more) x s) (answers_from (judged k (all ++ more)) (search_next (all ++ more)) steps (search_next (all ++ more) x s)) e2.2 in
-            let next = ap (λ t. length (take_while (λ a. a.1) (answers_from (judged k (all ++ more)) (search_next (all ++ more)) steps t))) e2.1 in
-            let a = ap length here in let b = ap length there in omega arith
-        | inr e ↦ let here = ap length (take_while-stop (λ a. a.1) (judged k all x s) (answers_from (judged k all) (search_next all) steps (search_next all x s)) e) in omega arith
+            let next = ap (λ t. map (λ a. a.0) (take_while (λ a. a.1) (answers_from (judged k (all ++ more)) (search_next (all ++ more)) steps t))) e2.1 in (
+              ih.0,
+              ap (map (λ a. a.0)) there
+                  ∙ ap (λ a. a ∷ map (λ a. a.0) (take_while (λ a. a.1) (answers_from (judged k (all ++ more)) (search_next (all ++ more)) steps (search_next (all ++ more) x s)))) e2.0
+                  ∙ ap (λ r. search_answer (kind_of k) all x s ∷ r) (next ∙ ih.1)
+                  ∙ ap (λ r. map (λ a. a.0) r ++ ih.0) (sym here),
+            )
+        | inr e ↦
+            let here = take_while-stop (λ a. a.1) (judged k all x s) (answers_from (judged k all) (search_next all) steps (search_next all x s)) e in (
+              map (λ a. a.0) (take_while (λ a. a.1) (answers_from (judged k (all ++ more)) (search_next (all ++ more)) (x ∷ steps) s)),
+              ap (λ r. map (λ a. a.0) r ++ map (λ a. a.0) (take_while (λ a. a.1) (answers_from (judged k (all ++ more)) (search_next (all ++ more)) (x ∷ steps) s))) (sym here),
+            )
       ]
 
-  pub out-grows : (script : List (SearchStep C L)) → length (out k all script) ≤ length (out k (all ++ more) script)
-  out-grows script =
-      let e = out_from-grows start script (start-inside all) in
-      omega (arith, e, length-map (take_while (λ a. a.1) (answers_from (judged k all) (search_next all) script start)) (λ a. a.0), length-map (take_while (λ a. a.1) (answers_from (judged k (all ++ more)) (search_next (all ++ more)) script start)) (λ a. a.0))
+  out-more : (script : List (SearchStep C L)) → (later : List (PlacedSearchAnswer T)) × (out k (all ++ more) script ≡ out k all script ++ later)
+  out-more script = out_from-more start script (start-inside all)
 
 -- ---- fronts
 
 abbrev pub AreInputs : (List ℕ → Bool) → List (List ℕ) → Type 0
 AreInputs valid pieces = AllByRecursion (λ piece. valid piece ≡ true) pieces
+
+pub are-bytes : (pieces : List (List ℕ)) → AreInputs byte_input.valid pieces
+are-bytes [] = tt
+are-bytes (p ∷ pieces) = (refl, are-bytes pieces)
+
+pub AreInputs-joined : (i : InputKind) → IsInput i → (pieces : List (List ℕ)) → AreInputs i.valid pieces → i.valid (joined pieces) ≡ true
+AreInputs-joined i law [] us = law.empty
+AreInputs-joined i law (p ∷ pieces) us = law.joins p (joined pieces) us.0 (AreInputs-joined i law pieces us.1)
 
 module _ (valid : List ℕ → Bool) (joins : (xs ys : List ℕ) → valid xs ≡ true → valid ys ≡ true → valid (xs ++ ys) ≡ true) (test : List ℕ → Bool) (grows : (xs ys : List ℕ) → valid xs ≡ true → test xs ≡ true → test (xs ++ ys) ≡ true) where
   -- what a front of the pieces passes is found there
@@ -106,12 +121,16 @@ waits-push i script J [] p = rw (append-nil J) (omega arith)
 waits-push i script J (q ∷ pieces) p = let ih = waits-push i script (J ++ q) pieces p in rw (← append_assoc J q (joined pieces)) (omega (arith, ih))
 
 module _ (i : InputKind) (law : IsInput i) (script : List PieceStep) where
+  out_on-more : (J M : List ℕ) → i.valid J ≡ true → (later : List (PlacedSearchAnswer ℕ)) × (out_on i script (J ++ M) ≡ out_on i script J ++ later)
+  out_on-more J M u =
+      let grows = out-more i.pieces (i.source J) (i.source M) script in
+      (grows.0, ap (λ r. out i.pieces r script) (law.split J M u) ∙ grows.1)
+
   lets_out-more : (k : ℕ) (J M : List ℕ) → i.valid J ≡ true → lets_out i script k J ≡ true → lets_out i script k (J ++ M) ≡ true
   lets_out-more k J M u h =
       let less = ltb-true k (length (out_on i script J)) h in
-      let grows = out-grows i.pieces (i.source J) (i.source M) script in
-      let same = ap (λ r. length (out i.pieces r script)) (law.split J M u) in
-      lt-ltb k (length (out_on i script (J ++ M))) (omega arith)
+      let grows = out_on-more J M u in
+      lt-ltb k (length (out_on i script (J ++ M))) (omega (arith, ap length grows.1, length-append (out_on i script J) grows.0))
 
   -- what is told after one piece more, where the answers that were out are a front of it
   pub told_of-push : (pieces : List (List ℕ)) (p : List ℕ) (more : List (PlacedSearchAnswer ℕ)) → AreInputs i.valid pieces → out_on i script (joined pieces ++ p) ≡ answers_of (told_of i script pieces) ++ more → told_of i script (pieces ++ p ∷ []) ≡ told_of i script pieces ++ map (under (Some (capped (length pieces + 1)))) more
@@ -132,3 +151,50 @@ module _ (i : InputKind) (law : IsInput i) (script : List PieceStep) where
       found_last i.valid law.joins (lets_out i script n) (lets_out-more n) [] all p law.empty us (λ _. le-ltb n _ (omega arith)) (lt-ltb n _ (omega (arith, ap length h, length-append (answers_of (told_of i script all)) more, ap length before))) in
       ap (numbered (piece_of i script (all ++ p ∷ [])) 0) split ∙ numbered-append (piece_of i script (all ++ p ∷ [])) 0 gs more
       ∙ rw (numbered-same (piece_of i script (all ++ p ∷ [])) (piece_of i script all) 0 gs early, numbered-one (piece_of i script (all ++ p ∷ [])) (length all + 1) (0 + length gs) more late) refl
+
+  -- nothing that was told is taken back
+  pub told_of-more : (pieces : List (List ℕ)) (p : List ℕ) → AreInputs i.valid pieces → TellsMore i script pieces p
+  told_of-more [] p us = record { later = out_on i script p; told = told_of-push [] p (out_on i script p) us refl }
+  told_of-more (q ∷ pieces) p us =
+      let all = q ∷ pieces in
+      let grows = out_on-more (joined all) p (AreInputs-joined i law all us) in
+      let n : length all + 1 ≡ length (all ++ p ∷ []) = sym (length-append all (p ∷ [])) in
+      record {
+        later = grows.0;
+        told = told_of-push all p grows.0 us (grows.1 ∙ ap (λ x. x ++ grows.0) (sym (answers-told_of i script q pieces))) ∙ ap (λ n. told_of i script all ++ map (under (Some (capped n))) grows.0) n;
+      }
+
+-- ---- the end
+
+front-rest : {A : Type 0} (xs : List (A × Bool)) → map (λ a. a.0) (take_while (λ a. a.1) xs) ++ drop (length (map {B = A} (λ a. a.0) (take_while (λ a. a.1) xs))) (map (λ a. a.0) xs) ≡ map (λ a. a.0) xs
+front-rest [] = refl
+front-rest (x ∷ xs) =
+    elim (cases_Bool x.1) [
+      | inl e ↦ rw (take_while-go (λ a. a.1) x xs e) (ap (λ r. x.0 ∷ r) (front-rest xs))
+      | inr e ↦ rw (take_while-stop (λ a. a.1) x xs e) refl
+    ]
+
+module _ {T C L : Type 0} (k : PieceKind T C L) (all : Source T) where
+  answers-judged : (s : Cursor) (steps : List (SearchStep C L)) → map (λ a. a.0) (answers_from (judged k all) (search_next all) steps s) ≡ answers_from (search_answer (kind_of k) all) (search_next all) steps s
+  answers-judged s [] = refl
+  answers-judged s (x ∷ steps) = ap (λ r. search_answer (kind_of k) all x s ∷ r) (answers-judged (search_next all x s) steps)
+
+  -- the answers that are out, and those behind them, are all
+  out-rest : (script : List (SearchStep C L)) → out k all script ++ drop (length (out k all script)) (search_answers (kind_of k) all script) ≡ search_answers (kind_of k) all script
+  out-rest script =
+      let same = answers-judged start script in
+      ap (λ r. out k all script ++ drop (length (out k all script)) r) (sym same) ∙ front-rest (answers_from (judged k all) (search_next all) script start) ∙ same
+
+-- what is told to the end are all answers
+pub answers-told_to_end : (i : InputKind) (script : List PieceStep) (pieces : List (List ℕ)) → answers_of (told_to_end i script pieces) ≡ all_answers i script pieces
+answers-told_to_end i script [] = answers-under None (all_answers i script [])
+answers-told_to_end i script (p ∷ pieces) =
+    let told = told_of i script (p ∷ pieces) in
+    let all = all_answers i script (p ∷ pieces) in
+    let before = answers-told_of i script p pieces in
+    let count : length told ≡ length (out_on i script (joined (p ∷ pieces))) = sym (length-map told (λ t. t.answer)) ∙ ap length before in
+    map-append (λ t. t.answer) told (map (under None) (drop (length told) all))
+    ∙ ap (λ x. answers_of told ++ x) (answers-under None (drop (length told) all))
+    ∙ ap (λ x. x ++ drop (length told) all) before
+    ∙ ap (λ n. out_on i script (joined (p ∷ pieces)) ++ drop n all) count
+    ∙ out-rest i.pieces (i.source (joined (p ∷ pieces))) script

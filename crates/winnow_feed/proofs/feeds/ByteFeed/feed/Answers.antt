@@ -1,4 +1,4 @@
-use Rattle.std.proofs.Common.{◌≤◌, ◌++◌, ap, ◌∙◌, length, sym, arith, refl}
+use Rattle.std.proofs.Common.{◌≤◌, ◌+◌, ◌++◌, ap, ◌∙◌, length, sym, arith, refl}
 use Rattle.std.proofs.lemmas.List.{length-append}
 use Rattle.std.proofs.lemmas.Option.{slice_get_within}
 use Rattle.winnow_stream.specs.Front.{back}
@@ -76,6 +76,16 @@ returns-clause-came c = λ pieces h.
     let t = c.take_in-unneeded.ensures in
     let told = c.take_in-unneeded.new.progress.told.ok.0 in
     rw (← c.self.view_is) (came-out byte_input bytes-input old new pieces c.args.piece.now _ before (returns-clause-fits c pieces h) t.script (omega (arith, c.len.ensures, c.len-before.ensures, t.told, c.self.inside.run.told.ok.0, told)))
+
+pub returns-clause-grows : goal.returns-clause-grows
+returns-clause-grows c =
+    let i = c.self.invariant in
+    let old : FeedState = record { run = c.self.inside.run; kept = c.self.inside.kept.items } in
+    let new : FeedState = record { run = c.take_in-unneeded.new.progress; kept = c.forget_bytes.new.kept.items } in
+    let t = c.take_in-unneeded.ensures in
+    let is = c.new.ensures.input in
+    let left = c.forget_bytes.ensures.source ∙ ap (λ x. back (units x) c.take_in-unneeded.result) (sym c.as_slice.ensures.value) in
+    taken-room byte_input bytes-input old new c.args.piece.now c.as_slice.result.now c.take_in-unneeded.result refl refl (c.as_slice.ensures.value ∙ c.in_ok-extend_from_slice.ensures.items) left (rw is at t.offset) t.base (rw is at t.least) (rw is at t.stands) i.input i.stands ∙ ap (λ f. bytes_fed f + length c.args.piece.now) c.self.view_is
 
 pub invariant_of-self : goal.invariant_of-self
 invariant_of-self c =

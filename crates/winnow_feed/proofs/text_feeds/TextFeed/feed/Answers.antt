@@ -1,4 +1,4 @@
-use Rattle.std.proofs.Common.{◌≤◌, ◌++◌, ap, ◌∙◌, length, sym, arith, refl}
+use Rattle.std.proofs.Common.{◌≤◌, ◌+◌, ◌++◌, ap, ◌∙◌, length, sym, arith, refl}
 use Rattle.std.proofs.lemmas.List.{length-append}
 use Rattle.std.proofs.lemmas.Option.{slice_get_within}
 use Rattle.winnow_stream.specs.Front.{back}
@@ -78,6 +78,16 @@ returns-clause-came c = λ pieces h.
     let t = c.take_in-unneeded.ensures in
     let told = c.take_in-unneeded.new.progress.told.ok.0 in
     rw (← c.self.view_is) (came-out text_input texts-input old new pieces c.args.piece.now _ before (returns-clause-fits c pieces h) t.script (omega (arith, c.len.ensures, c.len-before.ensures, t.told, c.self.inside.run.told.ok.0, told)))
+
+pub returns-clause-grows : goal.returns-clause-grows
+returns-clause-grows c =
+    let i = c.self.invariant in
+    let old : FeedState = record { run = c.self.inside.run; kept = (string_bytes c.self.inside.kept) } in
+    let new : FeedState = record { run = c.take_in-unneeded.new.progress; kept = string_bytes c.forget_text.new.kept } in
+    let t = c.take_in-unneeded.ensures in
+    let is = c.new.ensures.input in
+    let left = c.forget_text.ensures.source ∙ ap (λ x. back (text_source x) c.take_in-unneeded.result) (sym c.as_str.ensures.value) in
+    taken-room text_input texts-input old new c.args.piece.now c.as_str.result.now c.take_in-unneeded.result (is_utf8-from_IsUtf8 c.args.piece.now c.utf8.piece) (is_utf8-from_IsUtf8 _ (IsUtf8-string_bytes c.forget_text.new.kept)) (c.as_str.ensures.value ∙ c.in_ok-push_str.ensures.bytes) left (rw is at t.offset) t.base (rw is at t.least) (rw is at t.stands) i.input i.stands ∙ ap (λ f. bytes_fed f + length c.args.piece.now) c.self.view_is
 
 pub invariant_of-self : goal.invariant_of-self
 invariant_of-self c =
