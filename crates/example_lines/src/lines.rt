@@ -4,7 +4,7 @@ ghost use Rattle.example_lines.specs.Lines.{first_end, IsFed, IsNextLine};
 use std::alloc::{AllocError, Global};
 use std::marker::Model;
 use winnow_base::stream::{
-    ByteFeed, CharSet, Needles, SearchAnswer, SearchStep, definite_hit_law, find_law,
+    ByteFeed, CharSet, Needles, SearchAnswer, SearchStep, find_law, one_search_law,
 };
 
 /// What a feed runs: it looks for the end of a line.
@@ -37,7 +37,7 @@ impl Model for Lines {
 fn end_in(feed: &ByteFeed) -> Option<usize>
     ensures { (bytes : List ℕ) → IsFed feed.now bytes → result ≡ first_end bytes }
 {
-    definite_hit_law();
+    one_search_law();
     match feed.answers().first() {
         Some(told) => match &told.answer {
             SearchAnswer::Hit(Some(place)) => Some(place.start),

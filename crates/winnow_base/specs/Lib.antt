@@ -46,6 +46,7 @@ pub use Rattle.winnow_error.specs.Or
 pub use Rattle.winnow_error.specs.Pick
 pub use Rattle.winnow_context.specs.Explanation
 pub use Rattle.winnow_context.specs.ContextText
+pub use Rattle.winnow_context.specs.ContextDebug
 pub use Rattle.winnow_context.specs.Line
 pub use Rattle.winnow_tree.specs.TreeContents
 pub use Rattle.winnow_tree.specs.Maps
@@ -63,7 +64,10 @@ pub use Rattle.winnow_recover.specs.Recovering
 pub use Rattle.winnow_feed.specs.Inputs
 pub use Rattle.winnow_feed.specs.Telling
 pub use Rattle.winnow_feed.specs.Reach
+pub use Rattle.winnow_feed.specs.JoinedInput
 pub use Rattle.winnow_feed.specs.Feeding
+pub use Rattle.winnow_attempt.specs.View
+pub use Rattle.winnow_attempt.specs.Settled
 pub use Rattle.winnow_attempt.specs.Missing
 pub use Rattle.winnow_feed.specs.Waits
 -- The types of a script and of its answers, with their variants.
@@ -76,3 +80,15 @@ pub use Rattle.winnow_run.specs.declared.search_script.SearchAnswer
 pub use Rattle.winnow_attempt.specs.declared.told.Told
 pub use Rattle.winnow_feed.specs.declared.finished.Finished
 pub use Rattle.winnow_feed.specs.declared.waiting.Waiting
+-- The types that other answers and errors are, with their variants.
+pub use Rattle.winnow_stream.specs.declared.needed.Needed
+pub use Rattle.winnow_match.specs.declared.compare.CompareResult
+pub use Rattle.winnow_error.specs.declared.mode.ErrMode
+pub use Rattle.winnow_error.specs.declared.combining.OrTree
+pub use Rattle.winnow_context.specs.declared.str_context.StrContext
+pub use Rattle.winnow_context.specs.declared.str_context.StrContextValue
+pub use Rattle.winnow_tree.specs.declared.tree.TreeError
+pub use Rattle.winnow_tree.specs.declared.parts.TreeErrorFrame
+pub use Rattle.winnow_tree.specs.declared.parts.TreeErrorBase
+pub use Rattle.winnow_tree.specs.declared.parts.TreeErrorContext
+pub use Rattle.winnow_recover.specs.declared.record_error.RecordError

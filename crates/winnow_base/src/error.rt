@@ -9,5 +9,6 @@ pub use winnow_error::{
 pub use winnow_parse_error::{ParseError, char_span_law, translate_position};
 pub use winnow_stream::Needed;
 pub use winnow_tree::{
-    TreeError, TreeErrorBase, TreeErrorContext, TreeErrorFrame, combine_trees, tree_or_law,
+    TreeError, TreeErrorBase, TreeErrorContext, TreeErrorFrame, combine_trees, tree_bracket_law,
+    tree_or_law,
 };

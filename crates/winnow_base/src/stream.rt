@@ -6,7 +6,10 @@ pub use winnow_bytes::{
 pub use winnow_count::{
     Accumulate, ParseSlice, Range, Readable, ToUsize, accumulate_all, range_law,
 };
-pub use winnow_feed::{ByteFeed, Finished, TextFeed, Told, Waiting, run_pieces, run_pieces_text};
+pub use winnow_feed::{
+    ByteFeed, Finished, TextFeed, Told, Waiting, one_search_law, run_pieces, run_pieces_text,
+    told_law,
+};
 pub use winnow_kinds::{
     BStr, ByteLiteral, ByteNeedles, text_equality_law, text_hash_law, text_order_law,
 };
@@ -23,14 +26,19 @@ pub use winnow_sets::{
     AsChar, CharSet, ContainsToken, FixedSet, Where, union_law, union_of_four_law,
     union_of_three_law,
 };
+// `Stream` with its laws, the streams that see their input as something else, and the wrappers.
 pub use winnow_stream::{
     AsBStr, AsBytes, Checkpoint, Location, Needed, NoSet, Offset, Rest, ScriptSet, SliceLen,
     SliceOffsets, Str, Stream, StreamIsPartial, UpdateSlice, byte_slice_law,
-    checkpoint_equality_law, first_law, front_law, held_law, offset_law, shortage_law, slice_law,
-    span_law, taken_law, text_slice_law,
+    checkpoint_equality_law, checkpoint_order_law, first_law, front_law, held_law, offset_law,
+    shortage_law, slice_law, span_law, taken_law, text_law, text_slice_law,
 };
-pub use winnow_views::{PreviousTokens, TokenOffsets, TokenSlice, TokenView, token_equality_law};
+pub use winnow_views::{
+    PreviousTokens, TokenOffsets, TokenSlice, TokenView, token_compare_law, token_equality_law,
+    token_order_law,
+};
 pub use winnow_wrap::{
     LocatingSlice, Partial, Placed, Stateful, flagged_equality_law, flagged_order_law,
     located_equality_law, located_order_law, stateful_equality_law,
+    wrapper_checkpoint_equality_law, wrapper_checkpoint_order_law,
 };

@@ -24,7 +24,8 @@ use winnow_read::{
 
 /// Runs the script of these lines, and gives its answers as lines.
 ///
-/// The whole text is read first. Its first faulty or missing line is the fault, unless memory runs out before it.
+/// The whole text is read first. Its first faulty or missing line is the fault, unless memory runs out before it; the contract
+/// promises only a line from 1 to one past the number of bytes.
 pub fn execute(alloc: Global, input: &[u8]) -> Result<Vec<u8>, ScriptFault>
     ensures printed { IfOk result (λ printed. PrintsScript input.now printed.items) }
     ensures err { IfErr result (IsWithin (1 + length input.now)) }

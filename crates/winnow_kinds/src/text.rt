@@ -311,7 +311,7 @@ impl fmt::Display for BStr<'_> {
 }
 
 /// The escaped bytes in double quotes, each as the character of its number; `{:#?}` leaves the quotes out, and no other option of a hole
-/// changes the text.
+/// changes the text. The contract promises it of ASCII bytes alone.
 impl fmt::Debug for BStr<'_> {
     ghost debug_output = { λ s. debug_text (bstr_contents s) };
 

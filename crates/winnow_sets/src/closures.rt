@@ -5,7 +5,7 @@ use winnow_stream::ScriptSet;
 
 /// A closure as a set: the tokens of which it answers `true`.
 ///
-/// The closure may always be called. What it answers is what its own contract says.
+/// The closure must always be callable. What it answers is what its own contract says.
 #[derive(Clone, Copy, Drop)]
 pub struct Where<F>(pub F);
 

@@ -9,8 +9,9 @@ use winnow_error::{
 };
 use winnow_kinds::BStr;
 use winnow_match::{Compare, CompareResult, FindSlice, Needles};
+use winnow_parse_error::ParseError;
 use winnow_recover::{RecordError, Recover, Recoverable};
-use winnow_run::{Answer, Step};
+use winnow_run::{Answer, SearchStep, Step};
 use winnow_sets::{AsChar, CharSet, ContainsToken, FixedSet, Where};
 use winnow_stream::{
     AsBStr, AsBytes, Location, Needed, NoSet, Offset, ScriptSet, SliceLen, Stream, StreamIsPartial,
@@ -306,12 +307,15 @@ fn values_derive_what_is_listed() {
     is_value::<Stateful<&'static str, u8>>();
     is_value::<LocatingSlice<&'static str>>();
     is_value::<Partial<&'static str>>();
+    is_value::<winnow_count::Range>();
+    is_value::<ParseError<&'static str, EmptyError>>();
     is_compared::<CompareResult>();
     is_compared::<StrContext>();
     is_compared::<StrContextValue>();
     is_compared::<Answer<u8, &'static [u8], bool>>();
     is_compared::<RecordError<EmptyError>>();
     is_copied::<Step<NoSet>>();
+    is_copied::<SearchStep<NoSet, &'static str>>();
     is_copied::<Needles<&'static str>>();
     is_copied::<CharSet<'static>>();
     is_ordered::<BStr<'static>>();
@@ -341,4 +345,5 @@ fn texts_are_printed_where_it_is_listed() {
     is_printed::<ContextError<StrContext>>();
     is_printed::<StrContext>();
     is_printed::<StrContextValue>();
+    is_printed::<winnow_count::Range>();
 }

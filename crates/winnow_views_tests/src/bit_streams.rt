@@ -11,7 +11,8 @@ use winnow_run::Step::{At, Each, Eof, Finish, Look, Mark, Next, Peek, Reset, Sin
 use winnow_stream::{NoSet, Offset, SliceLen, Stream, StreamIsPartial, byte_slice_law};
 use winnow_test_helpers::{Traced, flags, tell, width_from};
 use winnow_views::{
-    Bits, bit_equality_law, bit_place_law, bit_slice_law, bit_source_law, token_equality_law,
+    Bits, bit_equality_law, bit_place_law, bit_slice_law, bit_source_law, token_compare_law,
+    token_equality_law, token_order_law,
 };
 
 // The bits of bytes from a place on; `None` where they may not be streamed.
@@ -239,7 +240,9 @@ fn debug_texts_under_options(rt: HostRuntime) -> Result<(), Fail> {
 
 // They do nothing: that each is called shows that it can be.
 #[test]
-fn laws_of_equality(_rt: HostRuntime) {
+fn the_laws_can_be_called(_rt: HostRuntime) {
     bit_equality_law::<&[u8]>();
     token_equality_law::<u8>();
+    token_order_law::<u8>();
+    token_compare_law::<u8>();
 }

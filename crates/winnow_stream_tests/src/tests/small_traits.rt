@@ -2,8 +2,8 @@ use crate::byte_reader::ByteReader;
 use crate::pair_reader::PairReader;
 use std::test::Fail;
 use winnow_base::stream::{
-    Needed, Stream, checkpoint_equality_law, first_law, front_law, offset_law, shortage_law,
-    slice_law, taken_law, text_slice_law,
+    Needed, Stream, checkpoint_equality_law, checkpoint_order_law, first_law, front_law,
+    offset_law, shortage_law, slice_law, taken_law, text_law, text_slice_law,
 };
 use winnow_test_helpers::{Traced, debugged, flags, shown, width, width_from, window_of};
 
@@ -118,9 +118,11 @@ fn the_laws_can_be_called() {
     front_law::<u8>();
     offset_law::<char>();
     checkpoint_equality_law::<u8>();
+    checkpoint_order_law::<u8>();
     taken_law::<u8>();
     first_law::<char>();
     shortage_law::<u8>();
     slice_law::<u8>();
     text_slice_law("é1");
+    text_law();
 }
