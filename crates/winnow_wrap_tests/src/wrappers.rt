@@ -15,7 +15,11 @@ use winnow_match::{Compare, CompareResult, FindSlice};
 use winnow_run::Step;
 use winnow_stream::{AsBytes, Checkpoint, Location, NoSet, Stream, StreamIsPartial, UpdateSlice};
 use winnow_test_helpers::{compares, debugged, finds, flags, seen, tell, width_from, window_of};
-use winnow_wrap::{LocatingSlice, Partial, Placed, Stateful};
+use winnow_wrap::{
+    LocatingSlice, Partial, Placed, Stateful, flagged_equality_law, flagged_order_law,
+    located_equality_law, located_order_law, stateful_equality_law,
+    wrapper_checkpoint_equality_law, wrapper_checkpoint_order_law,
+};
 
 type Nest<I> = Partial<Stateful<LocatingSlice<I>, u32>>;
 
@@ -496,4 +500,16 @@ fn flags_and_states_are_compared(rt: HostRuntime) {
         ],
         [Ordering::Less; 2]
     );
+}
+
+// Laws do nothing: that each is called here shows that it can be.
+#[test]
+fn the_laws_can_be_called(_rt: HostRuntime) {
+    located_equality_law::<&str>();
+    located_order_law::<&str>();
+    flagged_equality_law::<&str>();
+    flagged_order_law::<&str>();
+    stateful_equality_law::<&str, u32>();
+    wrapper_checkpoint_equality_law::<Checkpoint<&str, &str>, Stateful<&str, u32>>();
+    wrapper_checkpoint_order_law::<Checkpoint<&str, &str>, Partial<&str>>();
 }
