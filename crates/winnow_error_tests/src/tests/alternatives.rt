@@ -84,6 +84,28 @@ fn alternatives_combine_alike_however_bracketed(rt: HostRuntime) -> Result<(), F
 }
 
 #[test]
+fn four_alternatives_combine_to_what_lacks_input(rt: HostRuntime) -> Result<(), Fail> {
+    let alloc = rt.alloc();
+    let (a, b, c) = (Backtrack(at("a")), Cut(at("b")), Cut(at("c")));
+    let three = Incomplete(Needed::new(3));
+    let first = both(alloc, OrTree::One(a), OrTree::One(b))?;
+    let last = both(alloc, OrTree::One(three), OrTree::One(c))?;
+    let left = both(
+        alloc,
+        both(alloc, first, OrTree::One(three))?,
+        OrTree::One(c),
+    )?;
+    let right = both(alloc, OrTree::One(a), both(alloc, OrTree::One(b), last)?)?;
+    let combined = [
+        combine::<Str<'static>, Place>(alloc, left)?,
+        combine::<Str<'static>, Place>(alloc, right)?,
+    ];
+    assert_eq!(rt; combined, [three; 2]);
+    combine_to(&rt, alloc, &[a, b, c], [b; 2])?;
+    Ok(())
+}
+
+#[test]
 fn an_associative_or_of_ones_own(rt: HostRuntime) -> Result<(), Fail> {
     let (one, two, five) = (Furthest(1), Furthest(2), Furthest(5));
     for (errors, want) in [
