@@ -9,7 +9,7 @@ use crate::setting::{Setting, read_setting};
 use crate::wanted::Wanted;
 use std::alloc::{AllocError, Global};
 use winnow_base::error::ContextError;
-use winnow_base::stream::{Location, Recover, Recoverable, Stream};
+use winnow_base::stream::{Location, Recover, Recoverable, Stream, taken_law};
 
 /// Reads each line that is left: the settings come back, and of each line that is none an error is recorded, so that every line is
 /// accounted for.
@@ -27,6 +27,7 @@ where
         + line_count (I.remaining (recoverable_inner input.old))) }
     ensures end { IfOk result (λ _. I.remaining (recoverable_inner input.new) ≡ []) }
 {
+    taken_law::<char>();
     let mut settings = Vec::new(alloc);
     'lines: while input.eof_offset() > 0 {
         if let Some(setting) = read_line(alloc, input)? {

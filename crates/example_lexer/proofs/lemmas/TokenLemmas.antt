@@ -1,9 +1,8 @@
--- The next token of a stream: it is found, and less is left behind it.
-use Rattle.std.proofs.Common.{◌≡◌, ℕ, ◌+◌, ◌<◌, Bool, false, List, [], ◌∷◌, ◌++◌, Option, Some, None, length, drop, take, refl, ap, sym, ◌∙◌, subst, arith, append_assoc, length-append}
+-- The next token of a stream, from its parts.
+use Rattle.std.proofs.Common.{◌≡◌, ℕ, ◌+◌, ◌<◌, false, List, [], ◌∷◌, ◌++◌, Option, Some, None, length, drop, take, ap, sym, ◌∙◌, arith, append_assoc}
 use Rattle.std.specs.Prelude.{IfNone}
-use Rattle.std.proofs.lemmas.List.{append-nil, take-append-drop}
 use Rattle.std.proofs.lemmas.Option.{none-some, same_Some}
-use Rattle.winnow_base.specs.Source.{Source, width, first_token, held_front, HoldsAll}
+use Rattle.winnow_base.specs.Source.{Source, width, first_token, HoldsAll}
 use Rattle.example_lexer.specs.Kinds.{is_blank, kind_of, goes_on}
 use Rattle.example_lexer.specs.Tokens.{IsText, EndsBefore, IsNext}
 use Rattle.example_lexer.specs.declared.token.Token.{Token}
@@ -27,23 +26,6 @@ IsNext-parts ahead blanks (x ∷ xs) more rest place first token whole skipped s
 pub length-text : (text : Source ℕ) (token : Token) → IsText token.kind text → 0 < length text
 length-text [] token h = absurd h
 length-text (x ∷ xs) token h = omega arith
-
-pub shorter : (ahead rest : Source ℕ) (place : ℕ) (token : Token) → IsNext ahead place token rest → length rest < length ahead
-shorter ahead rest place token next = omega (arith, ap length next.whole, length-append (next.blanks ++ next.text) rest, length-append next.blanks next.text, length-text next.text token next.kind)
-
--- what a set holds, and what stands behind it
-pub held-split : (holds : ℕ → Bool) (r behind : Source ℕ) → take (length (held_front holds r)) r ≡ held_front holds r → behind ≡ drop (length (held_front holds r)) r → r ≡ held_front holds r ++ behind
-held-split holds r behind front e =
-    let n : ℕ = length (held_front holds r) in
-    sym (take-append-drop n r) ∙ ap (λ t. t ++ drop n r) front ∙ ap (λ t. held_front holds r ++ t) (sym e)
-
-first-none : (r : Source ℕ) → first_token r ≡ None → r ≡ []
-first-none [] e = refl
-first-none (x ∷ xs) e = absurd (none-some _ (sym e))
-
--- where nothing stands behind it, it is all
-pub held-whole : (holds : ℕ → Bool) (r behind : Source ℕ) → r ≡ held_front holds r ++ behind → first_token behind ≡ None → HoldsAll holds (held_front holds r) → HoldsAll holds r
-held-whole holds r behind whole none held = subst (HoldsAll holds) (sym (whole ∙ ap (λ t. held_front holds r ++ t) (first-none behind none) ∙ append-nil (held_front holds r))) held
 
 pub IfNone-any : {T : Type 0} {P : Type 0} (o : Option T) → P → IfNone o P
 IfNone-any None p = p

@@ -3,38 +3,18 @@ use Rattle.std.proofs.Common.{◌≡◌, ℕ, ◌+◌, ◌<◌, Bool, true, fals
 use Rattle.std.proofs.lemmas.List.{length_push}
 use Rattle.std.specs.Prelude.{not}
 use Rattle.std.proofs.lemmas.Bool.Decides.{nat_tests}
-use Rattle.std.proofs.lemmas.Option.{none-some, same_Some}
-use Rattle.winnow_base.specs.Source.{Source, width, HasPositiveWidths, first_token, held_front}
+use Rattle.std.proofs.lemmas.Option.{none-some}
+use Rattle.winnow_base.specs.Source.{Source, width, held_front}
 use Rattle.example_settings.specs.Parts.{is_newline, is_in}
 use Rattle.example_settings.specs.Lines.{behind_line, lines_from, line_count, IsAccounted}
 use Rattle.example_settings.specs.declared.part.Part.{Part}
 use Rattle.example_settings.specs.declared.part.Part.TheVariants.{Key, Blank, Line}
 
--- a character that ends no line
-behind_line-cons : (x : ℕ × ℕ) (xs : Source ℕ) → is_in Line x.0 ≡ true → behind_line (x ∷ xs) ≡ behind_line xs
-behind_line-cons x xs e = ap (λ b. drop 1 (drop (length (cond b (x ∷ held_front (is_in Line) xs) [])) (x ∷ xs))) e
-
-held-step : (b : Bool) (x : ℕ × ℕ) (xs front : Source ℕ) → (b ≡ true → is_in Line x.0 ≡ true) → behind_line (drop (length front) xs) ≡ behind_line xs → behind_line (drop (length (cond b (x ∷ front) [])) (x ∷ xs)) ≡ behind_line (x ∷ xs)
-held-step true x xs front within e = e ∙ sym (behind_line-cons x xs (within refl))
-held-step false x xs front within e = refl
-
-held-stays : (holds : ℕ → Bool) → ((c : ℕ) → holds c ≡ true → is_in Line c ≡ true) → (r : Source ℕ) → behind_line (drop (length (held_front holds r)) r) ≡ behind_line r
-held-stays holds within [] = refl
-held-stays holds within (x ∷ xs) = held-step (holds x.0) x xs (held_front holds xs) (within x.0) (held-stays holds within xs)
-
-in-line : (part : Part) (c : ℕ) → is_in part c ≡ true → is_in Line c ≡ true
+-- what may stand in a part may stand on a line
+pub in-line : (part : Part) (c : ℕ) → is_in part c ≡ true → is_in Line c ≡ true
 in-line Key c h = grind (arith, nat_tests, h)
 in-line Blank c h = grind (arith, nat_tests, h)
 in-line Line c h = h
-
--- the characters of a part
-pub part-stays : (part : Part) (r : Source ℕ) → behind_line (drop (length (held_front (is_in part) r)) r) ≡ behind_line r
-part-stays part r = held-stays (is_in part) (in-line part) r
-
--- one character
-pub token-stays : (r : Source ℕ) (c : ℕ) → first_token r ≡ Some c → is_in Line c ≡ true → behind_line (drop 1 r) ≡ behind_line r
-token-stays [] c first e = absurd (none-some _ first)
-token-stays (x ∷ xs) c first e = sym (behind_line-cons x xs (ap (is_in Line) (same_Some _ _ first) ∙ e))
 
 count-step : (b : Bool) (x : ℕ × ℕ) (xs : Source ℕ) → lines_from true xs ≡ 1 + line_count (behind_line xs) → cond b (1 + lines_from false xs) (lines_from true xs) ≡ 1 + line_count (drop 1 (drop (length (cond (not b) (x ∷ held_front (is_in Line) xs) [])) (x ∷ xs)))
 count-step true x xs e = refl
@@ -55,11 +35,6 @@ length-behind [] h = absurd (omega arith)
 length-behind (x ∷ xs) h =
     let n : ℕ = length (held_front (is_in Line) (x ∷ xs)) in
     omega (arith, length-drop 1 (drop n (x ∷ xs)), length-drop n (x ∷ xs))
-
--- where no width is left, nothing is
-pub no-width : (r : Source ℕ) → HasPositiveWidths r → width r ≡ 0 → r ≡ []
-no-width [] h e = refl
-no-width (x ∷ xs) h e = absurd (omega (arith, h.0, e))
 
 -- one error more
 pub one-more : {T E : Type 0} (found : Option T) (before after : List E) → found ≡ None → IsAccounted found before after → length after ≡ length before + 1

@@ -3,7 +3,7 @@ use Rattle.std.proofs.lemmas.List.{length_push}
 use Rattle.winnow_base.specs.Source.{width}
 use Rattle.winnow_base.specs.Recovering.{recoverable_inner, recorded_errors}
 use Rattle.example_settings.specs.Lines.{line_count}
-use Rattle.example_settings.proofs.lemmas.LineLemmas.{line_count-behind, length-behind, no-width, one-more, none-more}
+use Rattle.example_settings.proofs.lemmas.LineLemmas.{line_count-behind, length-behind, one-more, none-more}
 use Rattle.example_settings.proofs.reader.read_settings.Goals as goal
 
 pub lines-smaller-in-Continue-branch-3 : goal.lines-smaller-in-Continue-branch-3
@@ -45,11 +45,11 @@ pub returns-clause-every : goal.returns-clause-every
 returns-clause-every g c =
     let r = g.I.Stream.remaining (recoverable_inner c.lines.input) in
     let none : width r ≡ 0 = omega (arith, c.lines-test.false, c.eof_offset.ensures) in
-    let end : r ≡ [] = no-width r (g.met.I.Stream.positive_widths _ c.lines.invariant.valid) none in
+    let end : r ≡ [] = c.taken_law.ensures.none r (g.met.I.Stream.positive_widths _ c.lines.invariant.valid) none in
     omega (arith, c.lines.invariant.every, ap line_count end)
 
 pub returns-clause-end : goal.returns-clause-end
 returns-clause-end g c =
     let r = g.I.Stream.remaining (recoverable_inner c.lines.input) in
     let none : width r ≡ 0 = omega (arith, c.lines-test.false, c.eof_offset.ensures) in
-    no-width r (g.met.I.Stream.positive_widths _ c.lines.invariant.valid) none
+    c.taken_law.ensures.none r (g.met.I.Stream.positive_widths _ c.lines.invariant.valid) none
