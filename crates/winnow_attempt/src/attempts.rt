@@ -12,7 +12,7 @@ use crate::Told;
 use crate::kept::Kept;
 use crate::literals::{compare_from, find_from, needle_bytes, searched, stays_found};
 use crate::looking::{Passed, Seen, look_call, tell};
-use winnow_match::CompareResult;
+use winnow_match::{CompareResult, Finders};
 use winnow_run::{PieceAnswer, SearchAnswer, SearchStep, Step};
 use winnow_sets::{AsChar, CharSet};
 use winnow_stream::{AsBStr, Stream, StreamIsPartial};
@@ -38,12 +38,13 @@ fn is_decided_now(compared: &CompareResult) -> bool
 
 /// Looks at a step, from what it has passed on, and tells its answer under the piece.
 #[inline(always)]
-pub(crate) fn look<S: Kept, L: AsBStr>(
-    step: &SearchStep<CharSet, L>,
+pub(crate) fn look<'k, S: Kept, L: AsBStr>(
+    step: &'k SearchStep<CharSet<'k>, L>,
     rest: S,
     place: usize,
     marks: &[usize],
     passed: Passed,
+    finders: &mut Option<Finders<'k>>,
     told: &mut Vec<Told<S::Token>>,
     piece: Option<u64>,
 ) -> Seen
@@ -79,7 +80,7 @@ where
         }
         SearchStep::Find(needles) => {
             let needles = needle_bytes(needles);
-            let found = find_from(&needles, rest.bytes(), passed.width);
+            let found = find_from(&needles, rest.bytes(), passed.width, finders);
             let definite = stays_found(&needles, rest.bytes(), &found);
             tell(told, piece, SearchAnswer::Hit(found));
             Seen {
@@ -199,14 +200,17 @@ fn waits_to_the_end<L>(step: &SearchStep<CharSet, L>) -> bool
 
 /// Attempts a step where `rest` remains, from what it has passed on. Its answer is told under the
 /// piece, where it is definite or no more may follow; else the step waits, and nothing is told.
+/// A search that goes on leaves what it has set up in `finders`, whatever they were for: no answer
+/// depends on them.
 #[tactic(auto, using(crate::proofs::lemmas::PassedLemmas::attempted))]
 #[inline(always)]
-pub fn attempt_step<S: Kept, L: AsBStr>(
-    step: &SearchStep<CharSet, L>,
+pub fn attempt_step<'k, S: Kept, L: AsBStr>(
+    step: &'k SearchStep<CharSet<'k>, L>,
     rest: S,
     place: usize,
     marks: &[usize],
     passed: Passed,
+    finders: &mut Option<Finders<'k>>,
     told: &mut Vec<Told<S::Token>>,
     piece: Option<u64>,
 ) -> Attempt
@@ -229,7 +233,7 @@ where
     if partial && waits_to_the_end(step) {
         return Attempt::Waits(passed);
     }
-    let seen = look(step, rest, place, marks, passed, told, piece);
+    let seen = look(step, rest, place, marks, passed, finders, told, piece);
     if seen.definite || !partial {
         Attempt::Answered(seen)
     } else {

@@ -5,7 +5,7 @@ ghost use Rattle.winnow_match.specs.Stretch.{hit_is_definite};
 ghost use Rattle.winnow_attempt.specs.Settled.{AreSame, NoneOccurs};
 
 use std::ops::Range;
-use winnow_match::{Compare, CompareResult, FindSlice, Needles, find_far, stretch};
+use winnow_match::{Compare, CompareResult, FindSlice, Finders, Needles, stretch};
 use winnow_stream::AsBStr;
 
 /// Returns the needles as bytes.
@@ -38,18 +38,54 @@ fn compare_all(literal: &[u8], bytes: &[u8]) -> CompareResult
     bytes.compare(literal)
 }
 
-// From how many bytes on a search that goes on tries no near place first.
+// From how many bytes on a search that goes on is set up once, and kept for the pieces to come.
 const FAR: usize = 256;
+
+// The first place of a needle in the bytes, by searches that are set up here and kept.
+#[inline(never)]
+fn find_set_up<'n>(
+    needles: &Needles<&'n [u8]>,
+    bytes: &[u8],
+    finders: &mut Option<Finders<'n>>,
+) -> Option<Range<usize>>
+    ensures { result ≡ hit (bytes_of_needles needles.now) bytes.now }
+{
+    let made = Finders::new(needles);
+    let found = made.find(bytes);
+    *finders = Some(made);
+    found
+}
+
+// The same, by searches that an earlier piece set up, where they are for these needles.
+fn find_far<'n>(
+    needles: &Needles<&'n [u8]>,
+    bytes: &[u8],
+    finders: &mut Option<Finders<'n>>,
+) -> Option<Range<usize>>
+    ensures { result ≡ hit (bytes_of_needles needles.now) bytes.now }
+{
+    if let Some(kept) = finders {
+        if kept.are_for(needles) {
+            return kept.find(bytes);
+        }
+    }
+    find_set_up(needles, bytes, finders)
+}
 
 // The first place of a needle in the bytes, of a search that begins there or goes on.
 #[tactic(auto, using(crate::proofs::lemmas::LookLemmas::hits_fit))]
 #[inline(always)]
-fn find_all(needles: &Needles<&[u8]>, bytes: &[u8], goes_on: bool) -> Option<Range<usize>>
+fn find_all<'n>(
+    needles: &Needles<&'n [u8]>,
+    bytes: &[u8],
+    goes_on: bool,
+    finders: &mut Option<Finders<'n>>,
+) -> Option<Range<usize>>
     ensures value { result ≡ hit (bytes_of_needles needles.now) bytes.now }
     ensures fits { IfSome result (λ p. (p.start ≤ p.end) × (p.end ≤ length bytes.now)) }
 {
     if goes_on && FAR <= bytes.len() {
-        return find_far(bytes, needles);
+        return find_far(needles, bytes, finders);
     }
     match needles {
         Needles::One(a) => bytes.find_slice(*a),
@@ -70,17 +106,19 @@ pub(crate) fn compare_from(literal: &[u8], bytes: &[u8], passed: usize) -> Compa
     }
 }
 
-/// Returns the first place of a needle in the bytes, where none stands before `passed`.
+/// Returns the first place of a needle in the bytes, where none stands before `passed`. A search that goes on uses the
+/// finders if they are for its needles, or else makes them so.
 #[inline(always)]
-pub(crate) fn find_from(
-    needles: &Needles<&[u8]>,
+pub(crate) fn find_from<'n>(
+    needles: &Needles<&'n [u8]>,
     bytes: &[u8],
     passed: usize,
+    finders: &mut Option<Finders<'n>>,
 ) -> Option<Range<usize>>
     requires { NoneOccurs (bytes_of_needles needles.now) bytes.now passed }
     ensures { result ≡ hit (bytes_of_needles needles.now) bytes.now }
 {
-    match find_all(needles, behind(bytes, passed), 0 < passed) {
+    match find_all(needles, behind(bytes, passed), 0 < passed, finders) {
         Some(places) => Some(passed + places.start..passed + places.end),
         None => None,
     }

@@ -49,7 +49,7 @@ fn needle_missing<'n>(needles: &Needles<&'n [u8]>, bytes: &[u8], passed: usize) 
     requires { NoneOccurs (bytes_of_needles needles.now) bytes.now passed }
     ensures { result.now ≡ needle_missing (bytes_of_needles needles.now) bytes.now }
 {
-    match find_from(needles, bytes, passed) {
+    match find_from(needles, bytes, passed, &mut None) {
         None => needle_of(needles, 0),
         Some(hit) => match stretch(bytes, needles, &hit) {
             None => &[],

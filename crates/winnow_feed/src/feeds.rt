@@ -7,6 +7,7 @@ use crate::{Finished, Told, Waiting};
 use std::alloc::{AllocError, Global};
 use std::marker::Model;
 use winnow_attempt::Passed;
+use winnow_match::Finders;
 use winnow_run::SearchStep;
 use winnow_sets::CharSet;
 use winnow_stream::StreamIsPartial;
@@ -23,6 +24,8 @@ pub struct ByteFeed<'k> {
     kept: Vec<u8>,
     // From each step on, the least number of a mark that is still named.
     named: Vec<usize>,
+    // The searches that the last step to wait for a hit far off has set up.
+    finders: Option<Finders<'k>>,
 }
 
 impl<'k> Model for ByteFeed<'k> {
@@ -75,6 +78,7 @@ impl<'k> ByteFeed<'k> {
             },
             kept: Vec::new(alloc),
             named,
+            finders: None,
         })
     }
 
@@ -132,6 +136,7 @@ impl<'k> ByteFeed<'k> {
         self.kept.extend_from_slice(piece)?;
         let unneeded = take_in(
             &mut self.run,
+            &mut self.finders,
             &self.named,
             Partial::new(self.kept.as_slice()),
         );
@@ -163,10 +168,15 @@ impl<'k> ByteFeed<'k> {
         ensures { (pieces : List (List ℕ)) → Fits byte_input self.entry pieces
             → Finishes byte_input (script_of self.entry) pieces result }
     {
-        let ByteFeed { mut run, kept, .. } = self;
+        let ByteFeed {
+            mut run,
+            kept,
+            mut finders,
+            ..
+        } = self;
         let mut rest = Partial::new(kept.as_slice());
         rest.complete();
-        advance(&mut run, rest, None);
+        advance(&mut run, &mut finders, rest, None);
         let Progress { told, place, .. } = run;
         Finished { told, place }
     }

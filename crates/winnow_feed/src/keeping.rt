@@ -10,6 +10,7 @@ ghost use Rattle.winnow_feed.specs.Telling.{capped};
 
 use crate::progress::{Progress, advance};
 use winnow_attempt::{Kept, mark_at};
+use winnow_match::Finders;
 use winnow_run::{SearchStep, Step};
 use winnow_sets::{AsChar, CharSet};
 use winnow_stream::{AsBStr, Stream, StreamIsPartial};
@@ -79,8 +80,9 @@ fn place_needed<T, L>(
 
 /// Takes in a piece at the end of what is kept: tells what no further input can change, and
 /// returns the width of the front that no step left can reach, which is then to be dropped.
-pub(crate) fn take_in<S: Kept, L: AsBStr>(
-    progress: &mut Progress<S::Token, L>,
+pub(crate) fn take_in<'k, S: Kept, L: AsBStr>(
+    progress: &mut Progress<'k, S::Token, L>,
+    finders: &mut Option<Finders<'k>>,
     named: &[usize],
     kept: S,
 ) -> usize
@@ -120,7 +122,7 @@ where
     let before = progress.told.len();
     progress.pieces = progress.pieces.saturating_add(1);
     let piece = Some(progress.pieces);
-    advance(progress, kept, piece);
+    advance(progress, finders, kept, piece);
     let end = progress.base + kept.eof_offset();
     let least = place_needed(progress, named, before, end);
     let unneeded = least - progress.base;

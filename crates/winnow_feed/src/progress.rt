@@ -7,6 +7,7 @@ ghost use Rattle.winnow_feed.specs.JoinedInput.{ComesToRest, AddsAnswers, Tries,
 ghost use Rattle.winnow_feed.specs.Telling.{capped};
 
 use winnow_attempt::{Attempt, Kept, Passed, Told, attempt_step};
+use winnow_match::Finders;
 use winnow_run::SearchStep;
 use winnow_sets::{AsChar, CharSet};
 use winnow_stream::{AsBStr, Stream, StreamIsPartial};
@@ -44,8 +45,9 @@ fn push_mark(marks: &mut Vec<usize>, at: usize, makes: bool)
 /// Attempts the next step over what is kept, and returns whether it came through. Its answer is
 /// told under that piece.
 #[inline(always)]
-pub(crate) fn attempt_next<S: Kept, L: AsBStr>(
-    progress: &mut Progress<S::Token, L>,
+pub(crate) fn attempt_next<'k, S: Kept, L: AsBStr>(
+    progress: &mut Progress<'k, S::Token, L>,
+    finders: &mut Option<Finders<'k>>,
     kept: S,
     piece: Option<u64>,
 ) -> bool
@@ -94,6 +96,7 @@ where
         progress.place,
         &progress.marks,
         progress.passed,
+        finders,
         &mut progress.told,
         piece,
     ) {
@@ -115,8 +118,9 @@ where
 
 /// Attempts steps over what is kept, until one waits or none is left. Where no more may follow,
 /// none waits.
-pub(crate) fn advance<S: Kept, L: AsBStr>(
-    progress: &mut Progress<S::Token, L>,
+pub(crate) fn advance<'k, S: Kept, L: AsBStr>(
+    progress: &mut Progress<'k, S::Token, L>,
+    finders: &mut Option<Finders<'k>>,
     kept: S,
     piece: Option<u64>,
 )
@@ -151,7 +155,7 @@ where
     ensures marks { vec_len progress.new.marks ≤ vec_len progress.new.told }
 {
     while progress.told.len() < progress.script.len() {
-        if !attempt_next(progress, kept, piece) {
+        if !attempt_next(progress, finders, kept, piece) {
             return;
         }
     }

@@ -8,6 +8,7 @@ use crate::{Finished, Told, Waiting};
 use std::alloc::{AllocError, Global};
 use std::marker::Model;
 use winnow_attempt::Passed;
+use winnow_match::Finders;
 use winnow_run::SearchStep;
 use winnow_sets::CharSet;
 use winnow_stream::StreamIsPartial;
@@ -24,6 +25,8 @@ pub struct TextFeed<'k> {
     kept: String,
     // From each step on, the least number of a mark that is still named.
     named: Vec<usize>,
+    // The searches that the last step to wait for a hit far off has set up.
+    finders: Option<Finders<'k>>,
 }
 
 impl<'k> Model for TextFeed<'k> {
@@ -78,6 +81,7 @@ impl<'k> TextFeed<'k> {
             },
             kept: String::new(alloc),
             named,
+            finders: None,
         })
     }
 
@@ -133,7 +137,12 @@ impl<'k> TextFeed<'k> {
             return Ok(0);
         }
         self.kept.push_str(piece)?;
-        let unneeded = take_in(&mut self.run, &self.named, Partial::new(self.kept.as_str()));
+        let unneeded = take_in(
+            &mut self.run,
+            &mut self.finders,
+            &self.named,
+            Partial::new(self.kept.as_str()),
+        );
         forget_text(&mut self.kept, unneeded);
         Ok(self.run.told.len() - before)
     }
@@ -168,10 +177,15 @@ impl<'k> TextFeed<'k> {
         ensures { (pieces : List (List ℕ)) → Fits text_input self.entry pieces
             → Finishes text_input (script_of self.entry) pieces result }
     {
-        let TextFeed { mut run, kept, .. } = self;
+        let TextFeed {
+            mut run,
+            kept,
+            mut finders,
+            ..
+        } = self;
         let mut rest = Partial::new(kept.as_str());
         rest.complete();
-        advance(&mut run, rest, None);
+        advance(&mut run, &mut finders, rest, None);
         let Progress { told, place, .. } = run;
         Finished { told, place }
     }

@@ -6,14 +6,13 @@ ghost use Rattle.winnow_match.specs.Search.{hit, is_empty, needle_at, SomeOccurs
 
 use crate::Needles;
 use crate::compare_bytes::begins_with;
-use memchr::{memchr, memchr2, memchr3, memmem};
+use crate::finders::{Finders, place_below};
+use memchr::memmem::Finder;
+use memchr::{memchr, memchr2, memchr3};
 use std::ops::Range;
 
 // How many places are tried by their first byte, before a search that has to be set up.
 const NEAR_TRIES: usize = 4;
-
-// How many places the first window of a search for several needles has.
-const FIRST_WINDOW: usize = 2048;
 
 /// Returns the first place of the byte.
 #[tactic(auto, using(crate::proofs::lemmas::SearchLemmas::single_bytes))]
@@ -67,22 +66,6 @@ pub(crate) fn find_needles(input: &[u8], needles: &Needles<&[u8]>) -> Option<Ran
     Some(at..at + length)
 }
 
-/// Returns the first hit of the needles, as [`FindSlice::find_slice`](crate::FindSlice::find_slice) does over bytes.
-///
-/// It is for engines whose search goes on in bytes that came later: a hit is expected far, so no place is tried by its first
-/// byte before the searches of whole needles, which cost some 30 ns to set up.
-#[inline(always)]
-pub fn find_far(input: &[u8], needles: &Needles<&[u8]>) -> Option<Range<usize>>
-    ensures { result ≡ hit (bytes_of_needles needles.now) input.now }
-{
-    if has_empty(needles) {
-        return Some(0..0);
-    }
-    let at = far_place(input, needles)?;
-    let length = front_needle(&input[at..], needles)?;
-    Some(at..at + length)
-}
-
 // Whether some needle is empty.
 #[inline(always)]
 pub(crate) fn has_empty(needles: &Needles<&[u8]>) -> bool
@@ -110,7 +93,7 @@ fn front_length(input: &[u8], needle: &[u8]) -> Option<usize>
 
 // The length of the first listed needle with which the input begins.
 #[inline(always)]
-fn front_needle(input: &[u8], needles: &Needles<&[u8]>) -> Option<usize>
+pub(crate) fn front_needle(input: &[u8], needles: &Needles<&[u8]>) -> Option<usize>
     ensures value { result ≡ needle_at (bytes_of_needles needles.now) input.now }
     ensures fits { IfSome result (λ n. n ≤ length input.now) }
 {
@@ -147,60 +130,6 @@ fn next_first_byte(input: &[u8], needles: &Needles<&[u8]>) -> Option<usize>
     }
 }
 
-// The first place below `limit` at which the needle stands.
-fn place_below(input: &[u8], needle: &[u8], limit: usize) -> Option<usize>
-    requires { is_empty needle.now ≡ false }
-    ensures { IsFirst (SomeOccurs (needle.now ∷ []) input.now) 0 limit result }
-{
-    let reach = limit.saturating_add(needle.len() - 1);
-    memmem::find(&input[..reach.min(input.len())], needle)
-}
-
-// The first place below `limit` at which a needle stands: that of the needles before, or of this one if it stands sooner.
-fn sooner(found: Option<usize>, input: &[u8], needle: &[u8], limit: usize) -> Option<usize>
-    requires { is_empty needle.now ≡ false }
-    ensures { (listed : List (List ℕ)) → IsFirst (SomeOccurs listed input.now) 0 limit found
-        → IsFirst (SomeOccurs (listed ++ needle.now ∷ []) input.now) 0 limit result }
-{
-    match found {
-        Some(at) => Some(place_below(input, needle, at).unwrap_or(at)),
-        None => place_below(input, needle, limit),
-    }
-}
-
-// The first place below `limit` at which some needle stands.
-fn first_place_below(input: &[u8], needles: &Needles<&[u8]>, limit: usize) -> Option<usize>
-    requires { list_any is_empty (bytes_of_needles needles.now) ≡ false }
-    ensures { IsFirst (SomeOccurs (bytes_of_needles needles.now) input.now) 0 limit result }
-{
-    match needles {
-        Needles::One(a) => place_below(input, a, limit),
-        Needles::Two(a, b) => sooner(place_below(input, a, limit), input, b, limit),
-        Needles::Three(a, b, c) => {
-            let first = sooner(place_below(input, a, limit), input, b, limit);
-            sooner(first, input, c, limit)
-        }
-    }
-}
-
-// The first place at which some needle stands, by windows that grow.
-fn place_by_windows(input: &[u8], needles: &Needles<&[u8]>) -> Option<usize>
-    requires { list_any is_empty (bytes_of_needles needles.now) ≡ false }
-    ensures { IsFirst (SomeOccurs (bytes_of_needles needles.now) input.now) 0 (length input.now)
-        result }
-{
-    let mut passed = 0;
-    let mut width = FIRST_WINDOW;
-    while passed < input.len() {
-        if let Some(at) = first_place_below(&input[passed..], needles, width) {
-            return Some(passed + at);
-        }
-        passed = passed.saturating_add(width);
-        width = width.saturating_mul(2);
-    }
-    None
-}
-
 // The first place at which some needle stands, by searches that have to be set up.
 #[inline(always)]
 fn far_place(input: &[u8], needles: &Needles<&[u8]>) -> Option<usize>
@@ -209,7 +138,7 @@ fn far_place(input: &[u8], needles: &Needles<&[u8]>) -> Option<usize>
         result }
 {
     match needles {
-        Needles::One(a) => place_below(input, a, input.len()),
-        _ => place_by_windows(input, needles),
+        Needles::One(a) => place_below(input, &Finder::new(a), input.len()),
+        _ => Finders::new(needles).place(input),
     }
 }

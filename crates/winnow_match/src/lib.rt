@@ -10,6 +10,7 @@ mod compare_text;
 mod find_bytes;
 mod find_slice;
 mod find_text;
+mod finders;
 mod finding;
 mod laws;
 mod needles;
@@ -17,7 +18,7 @@ mod stretching;
 
 pub use compare::{Compare, CompareResult};
 pub use find_slice::FindSlice;
-pub use finding::find_far;
+pub use finders::Finders;
 pub use laws::{
     byte_hit_law, compare_law, compare_more_law, definite_hit_law, find_law, find_more_law,
     stretch_law,

@@ -7,7 +7,7 @@ use winnow_bench::script::{COMPARE, FIND, FIND_AS_LONG, RawStep, Step};
 use winnow_bench::{our_feeds as ours, our_searches, their_feeds as theirs, their_search_runs};
 
 /// How long pieces are, and what part of the bytes that wait the Rust loop has time for.
-const CUTS: [(usize, &str, usize); 4] = [(64 << 10, "64 KB", 1), (1 << 10, "1 KB", 4), (16, "16 bytes", 32), (1, "1 byte", 128)];
+const CUTS: [(usize, &str, usize); 4] = [(64 << 10, "64 KB", 1), (1 << 10, "1 KB", 1), (16, "16 bytes", 32), (1, "1 byte", 128)];
 
 /// A piece that is longer than any input.
 const WHOLE: usize = usize::MAX;
@@ -20,9 +20,13 @@ const ABSENT: &str = "key:a-b:two-x:y";
 /// Needles of 4, 5 and 6 bytes that stand in no run of the letter `a`, and begin at each place of it.
 const BEGUN: &str = "aaabaaaabaaaaab";
 
+/// How long a needle is that is found nowhere, but for its last byte a front of the text.
+const LONG: usize = 1 << 10;
+
 /// How wide a line of the long run is, how many a script goes through, and how long a piece is.
 const LINE: usize = 61;
 const LINES: usize = 1000;
+const PERIOD: usize = LINE << 14;
 const PIECE: usize = 64 << 10;
 
 pub struct Pieces {
@@ -33,19 +37,23 @@ pub struct Pieces {
     mixed: String,
     /// The ASCII text and one character more, which a comparison waits for
     literal: String,
-    /// Where pieces of the mixed text end, for each cut
+    /// Where pieces of the mixed text end, for each cut, and where the whole does
     cuts: Vec<Vec<u64>>,
+    whole_cut: [u64; 1],
     /// Steps that wait to the end, by their names
     waiting: Vec<(&'static str, RawStep)>,
     /// A run of the letter `a`, and the search of needles that begin at each place of it
     begun: Vec<u8>,
     find_begun: RawStep,
+    /// A long needle, and the search for it
+    long: String,
+    find_long: RawStep,
     at: [RawStep; 1],
     compare: Vec<RawStep>,
-    /// Lines that begin again behind their end, the script of a thousand of them, and how many pieces there are
+    /// Lines that begin again behind their end, the script of a thousand of them, and how long the run is
     lines: Vec<u8>,
     line_script: Vec<RawStep>,
-    pieces: usize,
+    long_run: usize,
 }
 
 impl Pieces {
@@ -53,13 +61,13 @@ impl Pieces {
         let ascii = front(&ascii_text(waiting), waiting).to_owned();
         let mixed = front(&mixed_text(waiting), waiting).to_owned();
         let literal = format!("{ascii}:");
-        let period = LINE << 14;
-        let mut lines = lines_of(LINE, period);
+        let mut lines = lines_of(LINE, PERIOD);
         lines.extend_from_within(..PIECE);
         let first_needle = |kind| RawStep::search(kind, 0, 4);
         Pieces {
             seeded: seeded(script),
             script: piece_script(STEPS, script),
+            whole_cut: [mixed.len() as u64],
             cuts: CUTS.iter().map(|(piece, _, part)| cuts_of(front(&mixed, waiting / part), *piece)).collect(),
             waiting: vec![
                 ("Find of one needle", first_needle(FIND[0])),
@@ -69,6 +77,8 @@ impl Pieces {
             ],
             begun: vec![b'a'; waiting / 4],
             find_begun: first_needle(FIND[2]),
+            long: format!("{}:", front(&ascii, LONG - 1)),
+            find_long: RawStep::search(FIND[0], 0, LONG),
             at: [RawStep::from(Step::At(usize::MAX))],
             compare: CUTS.iter().map(|(_, _, part)| RawStep::search(COMPARE, 0, waiting / part + 1)).collect(),
             ascii,
@@ -76,7 +86,7 @@ impl Pieces {
             literal,
             lines,
             line_script: (0..LINES).flat_map(line_steps).collect(),
-            pieces: long / PIECE,
+            long_run: long,
         }
     }
 }
@@ -120,26 +130,44 @@ pub fn piece_rows(pieces: &Pieces) -> Vec<Row<'_>> {
         let on = On { name: "mixed text", input, units: mixed.len(), calls: 1 };
         rows.push(on.row(&waits("At", mixed.len(), name), 0, ours::feed_text, theirs::feed_text).fed());
     }
-    for (step, raw) in &pieces.waiting {
-        rows.push(waiting_row(&waits_whole(step, pieces.ascii.len()), pieces.ascii.as_bytes(), ABSENT, raw, WHOLE));
-    }
+    rows.extend(whole_rows(pieces));
+    rows.extend(long_rows(pieces));
     rows.extend(begun_rows(pieces));
-    let input = (pieces.lines.as_slice(), b"\n".as_slice(), pieces.line_script.as_slice(), PIECE as u64);
-    let on = On { name: "bytes", input, units: pieces.pieces * PIECE, calls: 1 };
-    let name = format!("lines, {} in pieces of 64 KB, scripts of 1,000", size(pieces.pieces * PIECE));
-    rows.push(on.row(&name, pieces.pieces as u64, ours::feed_lines, theirs::feed_lines).fed());
-    rows.push(whole_lines_row(pieces));
+    rows.extend(line_rows(pieces));
     rows
 }
 
-// The script of a thousand lines over those lines, as often as they are many.
-fn whole_lines_row(pieces: &Pieces) -> Row<'_> {
-    let lines = &pieces.lines[..LINE * LINES];
-    let rounds = pieces.pieces * PIECE / lines.len();
-    let input = (lines, b"\n".as_slice(), pieces.line_script.as_slice());
-    let on = On { name: "bytes", input, units: rounds * lines.len(), calls: 1 };
-    let name = format!("lines, {}, each 1,000 whole", size(rounds * lines.len()));
-    on.row(&name, rounds as u64, our_searches::run_search, their_search_runs::run_rounds).fed()
+// The steps that wait, where the input comes in one piece.
+fn whole_rows(pieces: &Pieces) -> Vec<Row<'_>> {
+    let (ascii, mixed) = (&pieces.ascii, &pieces.mixed);
+    let mut rows = Vec::new();
+    for (step, raw) in &pieces.waiting {
+        rows.push(waiting_row(&waits_whole(step, ascii.len()), ascii.as_bytes(), ABSENT, raw, WHOLE));
+    }
+    let compare = waits_whole("Compare of a literal as long", ascii.len());
+    rows.push(waiting_row(&compare, ascii.as_bytes(), &pieces.literal, &pieces.compare[0], WHOLE));
+    let input = (mixed.as_str(), "", pieces.at.as_slice(), pieces.whole_cut.as_slice());
+    let on = On { name: "mixed text", input, units: mixed.len(), calls: 1 };
+    rows.push(on.row(&waits_whole("At", mixed.len()), 0, ours::feed_text, theirs::feed_text).fed());
+    rows
+}
+
+// Scripts of a thousand lines: over pieces, over pieces that are those lines, and by `run_search`, as often as they are many.
+fn line_rows(pieces: &Pieces) -> [Row<'_>; 3] {
+    let whole = LINE * LINES;
+    let fed = |piece: usize, name: &str| {
+        let (made, count) = (&pieces.lines[..PERIOD + piece], pieces.long_run / piece);
+        let input = (made, b"\n".as_slice(), pieces.line_script.as_slice(), piece as u64);
+        let on = On { name: "bytes", input, units: count * piece, calls: 1 };
+        let name = format!("lines, {} in pieces of {name}, scripts of 1,000", size(count * piece));
+        on.row(&name, count as u64, ours::feed_lines, theirs::feed_lines).fed()
+    };
+    let rounds = pieces.long_run / whole;
+    let input = (&pieces.lines[..whole], b"\n".as_slice(), pieces.line_script.as_slice());
+    let on = On { name: "bytes", input, units: rounds * whole, calls: 1 };
+    let name = format!("lines, {}, each 1,000 whole", size(rounds * whole));
+    let run = on.row(&name, rounds as u64, our_searches::run_search, their_search_runs::run_rounds).fed();
+    [fed(PIECE, "64 KB"), fed(whole, "1,000 lines"), run]
 }
 
 // One script over the whole, and in pieces.
@@ -153,6 +181,15 @@ fn script_rows(pieces: &Pieces) -> Vec<Row<'_>> {
         let name = format!("script of 10,000 steps, {length} in pieces of {name}");
         rows.push(on.row(&name, piece as u64, ours::feed_bytes, theirs::feed_bytes).fed());
     }
+    rows
+}
+
+// A search of one long needle, over pieces and over the whole.
+fn long_rows(pieces: &Pieces) -> Vec<Row<'_>> {
+    let (step, input) = ("Find of a needle of 1 KB", pieces.ascii.as_bytes());
+    let row = |name: String, piece| waiting_row(&name, input, &pieces.long, &pieces.find_long, piece);
+    let mut rows: Vec<Row> = CUTS[..2].iter().map(|(length, name, _)| row(waits(step, input.len(), name), *length)).collect();
+    rows.push(row(waits_whole(step, input.len()), WHOLE));
     rows
 }
 

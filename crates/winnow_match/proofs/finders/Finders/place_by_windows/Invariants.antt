@@ -1,10 +1,10 @@
 use Rattle.std.proofs.Common.{◌<◌, ◌-◌, length}
 use Rattle.memchr.specs.Find.{Nowhere}
-use Rattle.winnow_match.specs.Search.{SomeOccurs, bytes_of_needles}
-use Rattle.winnow_match.proofs.finding.place_by_windows.Given as goal
+use Rattle.winnow_match.specs.Search.{SomeOccurs}
+use Rattle.winnow_match.proofs.finders.Finders.place_by_windows.Given as goal
 
 abbrev pub invariant-loop-passed : goal.invariant-loop-passed
-invariant-loop-passed l = (0 < l.width) × Nowhere (SomeOccurs (bytes_of_needles l.needles) l.input) 0 l.passed
+invariant-loop-passed l = (0 < l.width) × Nowhere (SomeOccurs l.self l.input) 0 l.passed
 
 abbrev pub decreases-loop-passed : goal.decreases-loop-passed
 decreases-loop-passed l = length l.input - l.passed

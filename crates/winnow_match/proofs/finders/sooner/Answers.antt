@@ -1,5 +1,5 @@
 use Rattle.winnow_match.proofs.lemmas.SearchLemmas.{sooner-some, sooner-none}
-use Rattle.winnow_match.proofs.finding.sooner.Goals as goal
+use Rattle.winnow_match.proofs.finders.sooner.Goals as goal
 
 pub returns-in-Some : goal.returns-in-Some
 returns-in-Some c = λ listed first.
