@@ -1,12 +1,11 @@
 -- What a feed tells that looks for the end of a line, and where the bytes split there.
-use Rattle.std.proofs.Common.{◌≡◌, ℕ, zero, suc, ◌+◌, ◌≤◌, ◌<◌, List, [], ◌∷◌, ◌++◌, length, get_or, take, drop, refl, sym, ap, ◌∙◌, arith}
-use Rattle.std.specs.Prelude.{Option, None, Some, option_map, ◌↔◌, Contains}
-use Rattle.std.specs.List.{slice_index_or}
+use Rattle.std.proofs.Common.{◌≡◌, ℕ, ◌+◌, ◌≤◌, ◌<◌, List, [], ◌∷◌, ◌++◌, length, get_or, take, drop, refl, sym, ap, ◌∙◌, arith}
+use Rattle.std.specs.Prelude.{Option, None, Some, option_map}
 use Rattle.std.specs.Borrow.{Bor}
 use Rattle.std.specs.declared.ops.Range.{Range}
 use Rattle.std.proofs.lemmas.Option.{none-some, same_Some}
-use Rattle.std.proofs.lemmas.List.{take_more, map-append, append_assoc, append-nil, take-append-drop, drop-drop, length-drop}
-use Rattle.winnow_base.specs.Search.{hit, needle_of, IsFirstHit}
+use Rattle.std.proofs.lemmas.List.{take_more, map-append, append_assoc, append-nil}
+use Rattle.winnow_base.specs.Search.{hit}
 use Rattle.winnow_base.specs.Searching.{PlacedSearchAnswer}
 use Rattle.winnow_base.specs.Inputs.{byte_input, joined, pieces_in}
 use Rattle.winnow_base.specs.Feeding.{FeedState, script_of}
@@ -19,8 +18,9 @@ use Rattle.example_lines.specs.Lines.{line_end, first_end, IsFed}
 abbrev pub HitsAreTold : Type 0
 HitsAreTold = (literal : Bor (List ℕ)) (pieces : List (List ℕ)) → (literal.now ≡ [] → 0 < length pieces) → TellsHit byte_input literal pieces
 
-abbrev pub HitsAreFirst : Type 0
-HitsAreFirst = (needles : List (List ℕ)) (bytes : List ℕ) (r : Range ℕ) → ¬ Contains needles [] → (hit needles bytes ≡ Some r) ↔ IsFirstHit needles bytes r
+abbrev pub HitsSplit : Type 0
+HitsSplit = (needle bytes : List ℕ) (r : Range ℕ) → hit (needle ∷ []) bytes ≡ Some r
+    → (r.end ≡ r.start + length needle) × (r.end ≤ length bytes) × (bytes ≡ take r.start bytes ++ needle ++ drop r.end bytes)
 
 -- ---- pieces
 
@@ -56,25 +56,15 @@ no-hit (Some q) e = absurd (none-some (hit_answer (Some q)) (sym e))
 
 -- ---- where the bytes split
 
-spread : (bytes rest : List ℕ) (n : ℕ) → drop n bytes ≡ line_end ++ rest → (n + 2 ≤ length bytes) × (bytes ≡ take n bytes ++ line_end ++ drop (n + 2) bytes)
-spread bytes rest n h =
-    let behind : drop (n + 2) bytes ≡ rest = sym (drop-drop 2 n bytes) ∙ ap (drop 2) h in
-    (omega (arith, ap length h, length-drop n bytes), sym (take-append-drop n bytes) ∙ ap (λ d. take n bytes ++ d) (h ∙ ap (λ r. line_end ++ r) (sym behind)) ∙ sym (append_assoc (take n bytes) line_end (drop (n + 2) bytes)))
-
 some_start : (h : Option (Range ℕ)) (n : ℕ) → option_map (λ p. p.start) h ≡ Some n → (r : Range ℕ) × (h ≡ Some r) × (r.start ≡ n)
 some_start None n e = absurd (none-some n e)
 some_start (Some r) n e = (r, refl, same_Some r.start n e)
 
-no-empty : (k : ℕ) → k < 1 → slice_index_or (line_end ∷ []) k [] ≡ [] → ⊥
-no-empty zero l e = omega (arith, ap length e)
-no-empty (suc k) l e = omega (arith, l)
-
-needle-is : (k : ℕ) → k < 1 → needle_of (line_end ∷ []) k ≡ line_end
-needle-is zero l = refl
-needle-is (suc k) l = absurd (omega (arith, l))
-
-pub end-splits : HitsAreFirst → (bytes : List ℕ) (n : ℕ) → first_end bytes ≡ Some n → (n + 2 ≤ length bytes) × (bytes ≡ take n bytes ++ line_end ++ drop (n + 2) bytes)
+pub end-splits : HitsSplit → (bytes : List ℕ) (n : ℕ) → first_end bytes ≡ Some n → (n + 2 ≤ length bytes) × (bytes ≡ take n bytes ++ line_end ++ drop (n + 2) bytes)
 end-splits law bytes n e =
     let s = some_start (hit (line_end ∷ []) bytes) n e in
-    let first = (law (line_end ∷ []) bytes s.0 (λ c. no-empty c.0 c.1 c.2)).0 s.1 in
-    spread bytes first.stands.0 n (ap (λ k. drop k bytes) (sym s.2) ∙ first.stands.1 ∙ ap (λ l. l ++ first.stands.0) (needle-is first.index first.listed))
+    let split = law line_end bytes s.0 s.1 in
+    let ends : s.0.end ≡ n + 2 = split.0 ∙ ap (λ k. k + 2) s.2 in (
+      omega (arith, ends, split.1),
+      split.2 ∙ ap (λ k. take k bytes ++ line_end ++ drop s.0.end bytes) s.2 ∙ ap (λ k. take n bytes ++ line_end ++ drop k bytes) ends,
+    )

@@ -7,17 +7,17 @@ use Rattle.example_lines.proofs.lines.Lines.next_line.Goals as goal
 
 pub overflow_add-width : goal.overflow_add-width
 overflow_add-width c =
-    let s = end-splits c.find_law.ensures.some c.self.inside.bytes.items c.in-Some.width (sym (c.in-Some.ensures c.self.inside.bytes.items c.self.invariant)) in
+    let s = end-splits c.find_law.ensures.one c.self.inside.bytes.items c.in-Some.width (sym (c.in-Some.ensures c.self.inside.bytes.items c.self.invariant)) in
     omega (arith, s.0, c.self.inside.bytes.small, c.self.inside.bytes.ok.0)
 
 pub slice_bounds-push-count : goal.slice_bounds-push-count
 slice_bounds-push-count c =
-    let s = end-splits c.find_law.ensures.some c.self.inside.bytes.items c.in-Some.width (sym (c.in-Some.ensures c.self.inside.bytes.items c.self.invariant)) in
+    let s = end-splits c.find_law.ensures.one c.self.inside.bytes.items c.in-Some.width (sym (c.in-Some.ensures c.self.inside.bytes.items c.self.invariant)) in
     omega (arith, s.0, ap length c.deref.ensures.value)
 
 pub slice_bounds-push-start : goal.slice_bounds-push-start
 slice_bounds-push-start c =
-    let s = end-splits c.find_law.ensures.some c.self.inside.bytes.items c.in-Some.width (sym (c.in-Some.ensures c.self.inside.bytes.items c.self.invariant)) in
+    let s = end-splits c.find_law.ensures.one c.self.inside.bytes.items c.in-Some.width (sym (c.in-Some.ensures c.self.inside.bytes.items c.self.invariant)) in
     let within : c.in-Some.width + 2 ≤ length c.deref.result.now = omega (arith, s.0, ap length c.deref.ensures.value) in
     omega (arith, within)
 
@@ -26,7 +26,7 @@ returns-clause-line c =
     let n = c.in-Some.width in
     let bytes = c.self.inside.bytes.items in
     let ends : first_end bytes ≡ Some n = sym (c.in-Some.ensures bytes c.self.invariant) in
-    let s = end-splits c.find_law.ensures.some bytes n ends in
+    let s = end-splits c.find_law.ensures.one bytes n ends in
     let whole = c.self.view_is in
     let all = c.replace.ensures.value in
     let view = c.line.view_is in
