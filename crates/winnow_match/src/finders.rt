@@ -1,4 +1,4 @@
-ghost use Rattle.std.specs.Prelude.{◌≡◌, ℕ, [], ◌∷◌, ◌++◌, List, false, length, IsTrue};
+ghost use Rattle.std.specs.Prelude.{◌≡◌, ◌↔◌, ℕ, [], ◌∷◌, ◌++◌, List, false, length, IsTrue};
 ghost use Rattle.std.specs.List.{list_any};
 ghost use Rattle.memchr.specs.Find.{IsFirst};
 ghost use Rattle.winnow_match.specs.Search.{hit, is_empty, SomeOccurs, bytes_of_needles};
@@ -49,7 +49,7 @@ impl<'n> Finders<'n> {
 
     /// Returns whether they are for these needles, listed in this order.
     pub fn are_for(&self, needles: &Needles<&[u8]>) -> bool
-        ensures { IsTrue result → self.now ≡ bytes_of_needles needles.now }
+        ensures { IsTrue result ↔ self.now ≡ bytes_of_needles needles.now }
     {
         match (&self.listed, needles) {
             (Needles::One(a), Needles::One(x)) => a.needle() == *x,
