@@ -1,7 +1,7 @@
-ghost use Rattle.std.specs.Prelude.{◌≡◌, not, drop, length, IfSome};
-ghost use Rattle.winnow_base.specs.Source.{width, first_offset, held_front};
+ghost use Rattle.std.specs.Prelude.{◌≡◌, not, [], IfSome, IfNone};
+ghost use Rattle.winnow_base.specs.Source.{width, first_offset};
 ghost use Rattle.example_settings.specs.Parts.{is_in};
-ghost use Rattle.example_settings.specs.Lines.{behind_line};
+ghost use Rattle.example_settings.specs.Lines.{IsPart, ahead, behind, behind_line, end_location};
 
 use winnow_base::stream::{ContainsToken, FixedSet, Stream, held_law};
 
@@ -39,12 +39,12 @@ pub fn take_part<S: Stream<Token = char>>(input: &mut S, part: Part) -> Option<S
 where
     S::Slice: Drop,
     requires { S.valid input.old }
-    ensures slice { IfSome result (λ slice. S.is_slice slice (S.remaining input.old)
-        (width (held_front (is_in part) (S.remaining input.old)))) }
-    ensures behind { S.remaining input.new
-        ≡ drop (length (held_front (is_in part) (S.remaining input.old)))
-        (S.remaining input.old) }
+    ensures some { IfSome result (λ slice. IsPart S.is_slice part (S.remaining input.old) slice) }
+    ensures none { IfNone result (ahead part (S.remaining input.old) ≡ []) }
+    ensures behind { S.remaining input.new ≡ behind part (S.remaining input.old) }
     ensures line { behind_line (S.remaining input.new) ≡ behind_line (S.remaining input.old) }
+    ensures end { end_location (S.location input.new) (S.remaining input.new)
+        ≡ end_location (S.location input.old) (S.remaining input.old) }
     ensures valid { S.valid input.new }
     ensures kept { S.keeps input.old input.new }
 {
@@ -57,7 +57,7 @@ where
 // The width of the characters of the part that stand ahead.
 fn held_offset<S: Stream<Token = char>>(input: &S, part: Part) -> usize
     requires { S.valid input.now }
-    ensures { result ≡ width (held_front (is_in part) (S.remaining input.now)) }
+    ensures { result ≡ width (ahead part (S.remaining input.now)) }
 {
     held_law::<char>();
     first_other(input, part).unwrap_or(input.eof_offset())

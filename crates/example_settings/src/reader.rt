@@ -1,6 +1,7 @@
-ghost use Rattle.std.specs.Prelude.{◌≡◌, ◌+◌, ◌++◌, ◌∷◌, [], IfOk, OnOk, IsTrue, length};
+ghost use Rattle.std.specs.Prelude.{◌≡◌, ◌++◌, ◌∷◌, [], Some, IfOk, OnOk, IsTrue};
+ghost use Rattle.winnow_base.specs.Location.{IsLocation};
 ghost use Rattle.winnow_base.specs.Recovering.{recoverable_inner, recorded_errors, records_errors};
-ghost use Rattle.example_settings.specs.Lines.{behind_line, line_count, IsAccounted};
+ghost use Rattle.example_settings.specs.Lines.{AreRead, IsRead, behind_line, end_location};
 ghost use Rattle.example_settings.specs.declared.fault.Fault.{Fault};
 
 use crate::fault::Fault;
@@ -11,8 +12,8 @@ use std::alloc::{AllocError, Global};
 use winnow_base::error::ContextError;
 use winnow_base::stream::{Location, Recover, Recoverable, Stream, taken_law};
 
-/// Reads each line that is left: the settings come back, and of each line that is none an error is recorded, so that every line is
-/// accounted for.
+/// Reads each line that is left: the settings come back, and of each line that is none a fault is recorded, which says what was wanted and
+/// where. So every line is accounted for.
 pub fn read_settings<I: Stream<Token = char> + Location>(
     alloc: Global,
     input: &mut Recoverable<I, Fault>,
@@ -20,11 +21,11 @@ pub fn read_settings<I: Stream<Token = char> + Location>(
 where
     I::Slice: Drop,
     requires valid { I.valid (recoverable_inner input.old) }
+    requires located { IsLocation I.location I.token_end I.token_start }
     requires records { IsTrue (records_errors input.old) }
-    ensures every { IfOk result (λ settings.
-        length settings.items + length (recorded_errors input.new)
-        ≡ length (recorded_errors input.old)
-        + line_count (I.remaining (recoverable_inner input.old))) }
+    ensures read { IfOk result (λ settings. let at = recoverable_inner input.old in
+        AreRead I.is_slice (end_location (I.location at) (I.remaining at)) (I.remaining at)
+        settings.items (recorded_errors input.old) (recorded_errors input.new) []) }
     ensures end { IfOk result (λ _. I.remaining (recoverable_inner input.new) ≡ []) }
 {
     taken_law::<char>();
@@ -37,7 +38,7 @@ where
     Ok(settings)
 }
 
-/// Reads one line and moves behind it. Where it is no setting, an error is recorded, and `None` comes back.
+/// Reads one line and moves behind it. Where it is no setting, its fault is recorded, and `None` comes back.
 pub fn read_line<I: Stream<Token = char> + Location>(
     alloc: Global,
     input: &mut Recoverable<I, Fault>,
@@ -45,11 +46,16 @@ pub fn read_line<I: Stream<Token = char> + Location>(
 where
     I::Slice: Drop,
     requires valid { I.valid (recoverable_inner input.old) }
+    requires located { IsLocation I.location I.token_end I.token_start }
     requires records { IsTrue (records_errors input.old) }
+    ensures read { IfOk result (λ found. let at = recoverable_inner input.old in
+        IsRead I.is_slice (end_location (I.location at) (I.remaining at)) (I.remaining at)
+        found (recorded_errors input.old) (recorded_errors input.new)) }
     ensures behind { IfOk result (λ _. I.remaining (recoverable_inner input.new)
         ≡ behind_line (I.remaining (recoverable_inner input.old))) }
-    ensures accounted { IfOk result (λ found.
-        IsAccounted found (recorded_errors input.old) (recorded_errors input.new)) }
+    ensures end { let at = recoverable_inner input.new in let from = recoverable_inner input.old in
+        end_location (I.location at) (I.remaining at)
+        ≡ end_location (I.location from) (I.remaining from) }
     ensures valid { I.valid (recoverable_inner input.new) }
     ensures records { IsTrue (records_errors input.new) }
 {
@@ -74,9 +80,12 @@ fn record<I: Stream<Token = char> + Location>(
     wanted: Wanted,
 ) -> Result<(), AllocError>
     requires valid { I.valid (recoverable_inner input.old) }
+    requires located { IsLocation I.location I.token_end I.token_start }
     requires records { IsTrue (records_errors input.old) }
-    ensures recorded { OnOk result ((error : Fault)
-        × (recorded_errors input.new ≡ recorded_errors input.old ++ error ∷ [])) }
+    ensures recorded { OnOk result ((fault : Fault)
+        × (fault.error.contexts ≡ wanted ∷ [])
+        × (I.location (recoverable_inner input.old) ≡ Some fault.offset)
+        × (recorded_errors input.new ≡ recorded_errors input.old ++ fault ∷ [])) }
     ensures input { recoverable_inner input.new ≡ recoverable_inner input.old }
     ensures records { IsTrue (records_errors input.new) }
 {

@@ -1,12 +1,10 @@
--- What stays on a line, and what reading one leaves.
-use Rattle.std.proofs.Common.{◌≡◌, ℕ, ◌+◌, ◌<◌, Bool, true, false, cond, List, [], ◌∷◌, Option, Some, None, length, drop, refl, ap, sym, ◌∙◌, arith, length-drop}
-use Rattle.std.proofs.lemmas.List.{length_push}
-use Rattle.std.specs.Prelude.{not}
+-- What stays on a line, and where the input ends.
+use Rattle.std.proofs.Common.{◌≡◌, ◌≢◌, ℕ, zero, suc, ◌+◌, ◌<◌, ◌≤◌, Bool, true, false, cond, [], ◌∷◌, Option, Some, None, length, drop, take, refl, ap, sym, ◌∙◌, arith, length-drop}
 use Rattle.std.proofs.lemmas.Bool.Decides.{nat_tests}
-use Rattle.std.proofs.lemmas.Option.{none-some}
-use Rattle.winnow_base.specs.Source.{Source, width, held_front}
-use Rattle.example_settings.specs.Parts.{is_newline, is_in}
-use Rattle.example_settings.specs.Lines.{behind_line, lines_from, line_count, IsAccounted}
+use Rattle.winnow_base.specs.Source.{Source, HasPositiveWidths, width}
+use Rattle.winnow_base.specs.Location.{location_behind}
+use Rattle.example_settings.specs.Parts.{is_in}
+use Rattle.example_settings.specs.Lines.{ahead, behind, behind_line, end_location}
 use Rattle.example_settings.specs.declared.part.Part.{Part}
 use Rattle.example_settings.specs.declared.part.Part.TheVariants.{Key, Blank, Line}
 
@@ -16,32 +14,38 @@ in-line Key c h = grind (arith, nat_tests, h)
 in-line Blank c h = grind (arith, nat_tests, h)
 in-line Line c h = h
 
-count-step : (b : Bool) (x : ℕ × ℕ) (xs : Source ℕ) → lines_from true xs ≡ 1 + line_count (behind_line xs) → cond b (1 + lines_from false xs) (lines_from true xs) ≡ 1 + line_count (drop 1 (drop (length (cond (not b) (x ∷ held_front (is_in Line) xs) [])) (x ∷ xs)))
-count-step true x xs e = refl
-count-step false x xs e = e
-
-count-started : (r : Source ℕ) → lines_from true r ≡ 1 + line_count (behind_line r)
-count-started [] = refl
-count-started (x ∷ xs) = count-step (is_newline x.0) x xs (count-started xs)
-
--- a line is one of them
-pub line_count-behind : (r : Source ℕ) → 0 < width r → line_count r ≡ 1 + line_count (behind_line r)
-line_count-behind [] h = absurd (omega arith)
-line_count-behind (x ∷ xs) h = count-step (is_newline x.0) x xs (count-started xs)
-
--- and takes at least one character
-pub length-behind : (r : Source ℕ) → 0 < width r → length (behind_line r) < length r
-length-behind [] h = absurd (omega arith)
-length-behind (x ∷ xs) h =
-    let n : ℕ = length (held_front (is_in Line) (x ∷ xs)) in
+-- a line takes at least one character
+pub length-behind_line : (r : Source ℕ) → 0 < width r → length (behind_line r) < length r
+length-behind_line [] h = absurd (omega arith)
+length-behind_line (x ∷ xs) h =
+    let n : ℕ = length (ahead Line (x ∷ xs)) in
     omega (arith, length-drop 1 (drop n (x ∷ xs)), length-drop n (x ∷ xs))
 
--- one error more
-pub one-more : {T E : Type 0} (found : Option T) (before after : List E) → found ≡ None → IsAccounted found before after → length after ≡ length before + 1
-one-more None before after e h = ap length h.1 ∙ length_push before h.0
-one-more (Some x) before after e h = absurd (none-some _ (sym e))
+-- where there is a width, there is a character
+pub some-wide : (r : Source ℕ) → 0 < width r → r ≢ []
+some-wide r some e = absurd (omega (arith, some, ap width e))
 
--- or as many as before
-pub none-more : {T E : Type 0} (found : Option T) (setting : T) (before after : List E) → found ≡ Some setting → IsAccounted found before after → length after ≡ length before
-none-more None setting before after e h = absurd (none-some _ e)
-none-more (Some x) setting before after e h = ap length h
+none-wide : (b : Bool) (x : ℕ × ℕ) (xs : Source ℕ) → 1 ≤ x.1 → width (cond b (x ∷ xs) []) ≡ 0 → cond b (x ∷ xs) [] ≡ []
+none-wide true x xs wide none = absurd (omega (arith, wide, none))
+none-wide false x xs wide none = refl
+
+-- where no width is held, nothing is
+pub ahead-none : (part : Part) (r : Source ℕ) → HasPositiveWidths r → width (ahead part r) ≡ 0 → ahead part r ≡ []
+ahead-none part [] wide none = refl
+ahead-none part (x ∷ xs) wide none = none-wide (is_in part x.0) x (ahead part xs) wide.0 none
+
+width-split : (k : ℕ) (r : Source ℕ) → width (take k r) + width (drop k r) ≡ width r
+width-split zero r = omega (arith)
+width-split (suc k) [] = refl
+width-split (suc k) (x ∷ xs) = omega (arith, width-split k xs)
+
+-- moving on leaves the end of the input where it is
+pub end-behind : (location : Option ℕ) (k : ℕ) (r : Source ℕ) → end_location (location_behind location (width (take k r))) (drop k r) ≡ end_location location r
+end-behind None k r = refl
+end-behind (Some n) k r = ap Some (omega (arith, width-split k r))
+
+-- so does moving over a part
+pub end-part : (part : Part) (r rest : Source ℕ) (from to : Option ℕ) (n : ℕ) → rest ≡ behind part r → to ≡ location_behind from n → n ≡ width (ahead part r) → take (length (ahead part r)) r ≡ ahead part r → end_location to rest ≡ end_location from r
+end-part part r rest from to n moved on wide front =
+    let k = length (ahead part r) in
+    ap (λ t. end_location to t) moved ∙ ap (λ l. end_location l (drop k r)) (on ∙ ap (location_behind from) (wide ∙ ap width (sym front))) ∙ end-behind from k r
