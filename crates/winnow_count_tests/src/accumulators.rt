@@ -60,7 +60,12 @@ fn texts(rt: HostRuntime) -> Result<(), Fail> {
 #[test]
 fn cows(rt: HostRuntime) -> Result<(), Fail> {
     let alloc = rt.alloc();
-    let mut cow: CowStr<'_, Global> = gathered(alloc, ["", "ab"])?;
+    let mut cow: CowStr<'_, Global> = gathered(alloc, [""])?;
+    assert!(rt;
+        matches!(&cow, CowStr::Borrowed("")),
+        "a first text that is empty"
+    );
+    cow.accumulate(alloc, "ab")?;
     assert!(rt;
         matches!(&cow, CowStr::Borrowed("ab")),
         "the first text that is not empty is borrowed"

@@ -130,6 +130,15 @@ fn each_step_waits_in_turn(rt: HostRuntime) -> Result<(), Fail> {
 }
 
 #[test]
+fn what_is_waited_for_is_compared_by_its_parts(rt: HostRuntime) -> Result<(), Fail> {
+    let until = |text| String::from_str(rt.alloc(), text).map(Waiting::Until);
+    assert!(rt; until("ab")? == until("ab")? && until("ab")? != until("a")?);
+    let none: Waiting<String> = Waiting::NotWaiting;
+    assert!(rt; none == Waiting::NotWaiting && none != Waiting::ToEnd && none != until("")?);
+    Ok(())
+}
+
+#[test]
 fn a_set_that_holds_no_token_waits_to_the_end(rt: HostRuntime) -> Result<(), Fail> {
     let script: [ByteStep; 1] = [SearchStep::Call(First(CharSet::new(&[('\u{100}', '\u{12c}')])))];
     let line = waits(rt.alloc(), &script, &[b"a"])?;

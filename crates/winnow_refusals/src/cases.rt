@@ -16,7 +16,7 @@ pub fn tell(refused: bool, right: bool) -> Result<bool, AllocError> {
 }
 
 /// Each case, made once.
-pub fn all(alloc: Global) -> [Case; 41] {
+pub fn all(alloc: Global) -> [Case; 42] {
     [
         ("run", scripts::run_script(alloc)),
         ("run_and_reset", scripts::look_ahead(alloc)),
@@ -56,6 +56,7 @@ pub fn all(alloc: Global) -> [Case; 41] {
         ("tree append", trees::append(alloc)),
         ("tree or", trees::or(alloc)),
         ("tree text", trees::text(alloc)),
+        ("tree parts", trees::parts(alloc)),
         ("tree map_input", trees::map_input(alloc)),
         ("tree convert", trees::convert(alloc)),
         ("tree combine", trees::combine(alloc)),

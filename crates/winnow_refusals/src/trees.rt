@@ -6,7 +6,7 @@ use winnow_context::StrContext::Label;
 use winnow_error::ErrMode::Backtrack;
 use winnow_error::{AddContext, ErrMode, ErrorConvert, OrTree, ParserError};
 use winnow_stream::Stream;
-use winnow_tree::{TreeError, combine_trees};
+use winnow_tree::{TreeError, TreeErrorBase, TreeErrorContext, combine_trees};
 use winnow_views::Bits;
 
 type Tree<'i> = TreeError<&'i str, StrContext>;
@@ -65,6 +65,35 @@ pub fn text(alloc: Global) -> Result<bool, AllocError> {
     match prints(alloc, &error, ALTERNATIVES) {
         Ok(right) => Ok(right),
         Err(_) => tell(true, prints(alloc, &error, ALTERNATIVES).unwrap_or(false)),
+    }
+}
+
+// The text of what a parser failed at, and of what it was reading, made of inputs that were copied.
+fn part_texts(
+    alloc: Global,
+    base: &TreeErrorBase<String>,
+    context: &TreeErrorContext<String, StrContext>,
+) -> Result<bool, AllocError> {
+    let base = base.text(alloc)?;
+    let context = context.text(alloc)?;
+    Ok(base.as_str() == " at '12x'" && context.as_str() == "invalid a at '12x'")
+}
+
+/// The parts of an error with copies of their inputs, and their texts. Refused a text, the parts are as they were.
+pub fn parts(alloc: Global) -> Result<bool, AllocError> {
+    let base = TreeErrorBase {
+        input: INPUT,
+        cause: None,
+    };
+    let context = TreeErrorContext {
+        input: INPUT,
+        context: Label("a"),
+    };
+    let base = base.into_owned(alloc)?;
+    let context = context.into_owned(alloc)?;
+    match part_texts(alloc, &base, &context) {
+        Ok(right) => Ok(right),
+        Err(_) => tell(true, part_texts(alloc, &base, &context).unwrap_or(false)),
     }
 }
 
