@@ -1,9 +1,11 @@
-ghost use Rattle.std.specs.Prelude.{◌≡◌};
+ghost use Rattle.std.specs.Prelude.{◌≡◌, IfOk, IsTrue, IsFalse};
+ghost use Rattle.winnow_base.specs.Front.{is_offset};
+ghost use Rattle.winnow_base.specs.Text.{text_source};
 
 use crate::wanted::Wanted;
 use std::alloc::{AllocError, Global};
 use winnow_base::error::{ContextError, FromRecoverableError, ParseError, StrContext};
-use winnow_base::stream::{Location, Stream};
+use winnow_base::stream::{Location, Stream, front_law};
 
 /// What is recorded of a line that is no setting: where in the input it ceased to be one, and what was wanted there.
 #[derive(Debug, Drop)]
@@ -32,12 +34,20 @@ impl<I: Stream + Location> FromRecoverableError<I, ContextError<Wanted>> for Fau
 }
 
 impl Fault {
-    /// Returns the error that tells the line and the column in the text, and shows that line.
+    /// Returns the error that tells the line and the column in the text, and shows that line. If the place is none of the text's offsets,
+    /// the error is at the text's start.
     pub fn located<'t>(
         &self,
         alloc: Global,
         text: &'t str,
-    ) -> Result<ParseError<&'t str, ContextError<StrContext>>, AllocError> {
+    ) -> Result<ParseError<&'t str, ContextError<StrContext>>, AllocError>
+        ensures text { IfOk result (λ error. text_source error.input.now ≡ text_source text.now) }
+        ensures place { IfOk result (λ error. IsTrue (is_offset (text_source text.now) self.now.offset)
+            → error.offset ≡ self.now.offset) }
+        ensures start { IfOk result (λ error. IsFalse (is_offset (text_source text.now) self.now.offset)
+            → error.offset ≡ 0) }
+    {
+        front_law::<char>();
         let mut error = ContextError::new(alloc);
         error.push(StrContext::Label("setting"))?;
         for wanted in self.error.context() {
