@@ -42,10 +42,11 @@ impl Fault {
         text: &'t str,
     ) -> Result<ParseError<&'t str, ContextError<StrContext>>, AllocError>
         ensures text { IfOk result (λ error. text_source error.input.now ≡ text_source text.now) }
-        ensures place { IfOk result (λ error. IsTrue (is_offset (text_source text.now) self.now.offset)
+        ensures place { IfOk result (λ error.
+            IsTrue (is_offset (text_source text.now) self.now.offset)
             → error.offset ≡ self.now.offset) }
-        ensures start { IfOk result (λ error. IsFalse (is_offset (text_source text.now) self.now.offset)
-            → error.offset ≡ 0) }
+        ensures start { IfOk result (λ error.
+            IsFalse (is_offset (text_source text.now) self.now.offset) → error.offset ≡ 0) }
     {
         front_law::<char>();
         let mut error = ContextError::new(alloc);
