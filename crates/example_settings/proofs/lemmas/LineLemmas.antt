@@ -1,7 +1,7 @@
 -- What stays on a line, and where the input ends.
-use Rattle.std.proofs.Common.{◌≡◌, ◌≢◌, ℕ, zero, suc, ◌+◌, ◌<◌, ◌≤◌, Bool, true, false, cond, [], ◌∷◌, Option, Some, None, length, drop, take, refl, ap, sym, ◌∙◌, arith, length-drop}
+use Rattle.std.proofs.Common.{◌≡◌, ◌≢◌, ℕ, zero, suc, ◌+◌, ◌<◌, true, [], ◌∷◌, Option, Some, None, length, drop, take, refl, ap, sym, ◌∙◌, arith, length-drop}
 use Rattle.std.proofs.lemmas.Bool.Decides.{nat_tests}
-use Rattle.winnow_base.specs.Source.{Source, HasPositiveWidths, width}
+use Rattle.winnow_base.specs.Source.{Source, width}
 use Rattle.winnow_base.specs.Location.{location_behind}
 use Rattle.example_settings.specs.Parts.{is_in}
 use Rattle.example_settings.specs.Lines.{ahead, behind, behind_line, end_location}
@@ -24,15 +24,6 @@ length-behind_line (x ∷ xs) h =
 -- where there is a width, there is a character
 pub some-wide : (r : Source ℕ) → 0 < width r → r ≢ []
 some-wide r some e = absurd (omega (arith, some, ap width e))
-
-none-wide : (b : Bool) (x : ℕ × ℕ) (xs : Source ℕ) → 1 ≤ x.1 → width (cond b (x ∷ xs) []) ≡ 0 → cond b (x ∷ xs) [] ≡ []
-none-wide true x xs wide none = absurd (omega (arith, wide, none))
-none-wide false x xs wide none = refl
-
--- where no width is held, nothing is
-pub ahead-none : (part : Part) (r : Source ℕ) → HasPositiveWidths r → width (ahead part r) ≡ 0 → ahead part r ≡ []
-ahead-none part [] wide none = refl
-ahead-none part (x ∷ xs) wide none = none-wide (is_in part x.0) x (ahead part xs) wide.0 none
 
 width-split : (k : ℕ) (r : Source ℕ) → width (take k r) + width (drop k r) ≡ width r
 width-split zero r = omega (arith)
