@@ -1,6 +1,10 @@
 -- What lines tell of pieces and of questions what is waited for.
-use Rattle.std.proofs.Common.{◌≡◌, ◌≢◌, List, [], ◌∷◌, ◌++◌, refl}
-use Rattle.winnow_read.specs.Inputs.{BeginsWithPiece}
+use Rattle.std.proofs.Common.{◌≡◌, ◌≢◌, ◌+◌, ℕ, Bool, true, List, [], ◌∷◌, ◌++◌, length, refl}
+use Rattle.winnow_read.specs.FaultyLines.{FaultsFed}
+use Rattle.winnow_read.specs.Inputs.{TellsFed, BeginsWithPiece}
+use Rattle.winnow_read.specs.Lines.{AreLines}
+use Rattle.winnow_read.specs.Newline.{first_line}
+use Rattle.winnow_read.specs.Reading.{IsFaulty}
 use Rattle.winnow_read.specs.declared.fed_lines.FedLine.{FedLine}
 use Rattle.winnow_read.specs.declared.fed_lines.FedLine.TheVariants.{Piece, Waits}
 
@@ -11,3 +15,19 @@ BeginsWithPiece-push [] Waits begins first = first refl refl
 BeginsWithPiece-push [] (Piece p) begins first = tt
 BeginsWithPiece-push (Waits ∷ lines) line begins first = absurd begins
 BeginsWithPiece-push (Piece p ∷ lines) line begins first = tt
+
+-- what may follow nothing is a piece
+pub BeginsWithPiece-first : {L : Type 0} (lines : List (FedLine L)) (line : FedLine L)
+    → BeginsWithPiece (lines ++ line ∷ []) → lines ≡ [] → line ≢ Waits
+BeginsWithPiece-first [] Waits begins none is = begins
+BeginsWithPiece-first [] (Piece p) begins none is = cc is
+BeginsWithPiece-first (x ∷ lines) line begins none is = cc none
+
+module _ {L : Type 0} (bytes : L → List ℕ) where
+  -- a line is left behind some that tell pieces and questions, and tells nothing that may follow
+  pub FaultsFed-line : (first : ℕ) (text : List ℕ) (told : List (FedLine L)) (rest : List ℕ) (is_first : Bool) (k : ℕ) → AreLines (TellsFed bytes) text told rest → BeginsWithPiece told → rest ≢ []
+      → (is_first ≡ true → told ≡ [])
+      → IsFaulty (λ line item. TellsFed bytes line item × (is_first ≡ true → item ≢ Waits)) (first_line rest) → k ≡ first + length told
+      → FaultsFed bytes first text k
+  FaultsFed-line first text told rest is_first k lines begins left empty_of none number =
+      (told, rest, lines, begins, left, (λ utf8 item next. none utf8 item (next.0, λ is. BeginsWithPiece-first told item next.1 (empty_of is))), number)

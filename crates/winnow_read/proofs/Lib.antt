@@ -3,3 +3,7 @@ pub mod LengthLemmas
 pub mod ScriptLineLemmas
 pub mod OptionLemmas
 pub mod ZipLemmas
+mod WordLemmas
+mod RangeLemmas
+mod StepLemmas
+pub mod FaultLemmas

@@ -10,7 +10,7 @@ AreLines-push Tells text [] rest item e told = (rw e told, ap rest_lines e)
 AreLines-push Tells text (x ∷ items) rest item lines told =
     (lines.0, AreLines-push Tells (rest_lines text) items rest item lines.1 told)
 
--- a text of no bytes
-pub empty_of_length : (text : List ℕ) → length text ≡ 0 → text ≡ []
+-- a list of no elements
+pub empty_of_length : {T : Type 0} (items : List T) → length items ≡ 0 → items ≡ []
 empty_of_length [] e = refl
 empty_of_length (x ∷ xs) e = absurd (omega (arith, e))

@@ -3,10 +3,14 @@ use Rattle.std.specs.Prelude.{ℕ, ◌≤◌, List, ◌++◌, codes, decimal, �
 use Rattle.winnow_read.specs.declared.fault.ScriptFault.{ScriptFault}
 use Rattle.winnow_read.specs.declared.fault.ScriptFault.TheVariants.{Line, OutOfMemory}
 
+-- a line of whose number this holds, or memory
+abbrev pub IsLineWhere : (ℕ → Type 0) → ScriptFault → Type 0
+IsLineWhere Holds (Line k) = Holds k
+IsLineWhere Holds OutOfMemory = ⊤
+
 -- a line from 1 to n, or memory
 abbrev pub IsWithin : ℕ → ScriptFault → Type 0
-IsWithin n (Line k) = (1 ≤ k) × (k ≤ n)
-IsWithin n OutOfMemory = ⊤
+IsWithin n fault = IsLineWhere (λ k. (1 ≤ k) × (k ≤ n)) fault
 
 abbrev pub fault_text : ScriptFault → List ℕ
 fault_text (Line k) = codes "line " ++ decimal k ++ codes ": faulty"

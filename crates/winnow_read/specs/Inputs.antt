@@ -14,6 +14,10 @@ kind_word Text = codes "text"
 kind_word BytePieces = codes "byte-pieces"
 kind_word TextPieces = codes "text-pieces"
 
+-- the line is the word of this kind
+abbrev pub TellsKind : List ℕ → Kind → Type 0
+TellsKind line kind = line ≡ kind_word kind
+
 -- the bytes that a line of this name tells: the name, a space, and the word of the bytes
 abbrev pub TellsNamed : {L : Type 0} → (L → List ℕ) → List ℕ → List ℕ → L → Type 0
 TellsNamed bytes name line literal =

@@ -1,3 +1,4 @@
+pub mod Reading
 pub mod Literal
 pub mod Fault
 pub mod Newline
@@ -6,3 +7,4 @@ pub mod Words
 pub mod Steps
 pub mod Inputs
 pub mod Lending
+pub mod FaultyLines

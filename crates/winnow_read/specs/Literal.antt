@@ -11,3 +11,7 @@ IsHexWord word = (2 ≤ length word) × (length word % 2 ≡ 0) × AllPass is_he
 abbrev pub TellsBytes : List ℕ → List ℕ → Type 0
 TellsBytes word bytes =
     ((word ≡ codes "-") × (bytes ≡ [])) ⊎ (IsHexWord word × (decode_of word ≡ Ok bytes))
+
+-- the word tells the literal of these bytes
+abbrev pub TellsLiteral : {L : Type 0} → (L → List ℕ) → List ℕ → L → Type 0
+TellsLiteral bytes word literal = TellsBytes word (bytes literal)

@@ -1,6 +1,7 @@
 -- The words of a line, and what each tells.
-use Rattle.std.specs.Prelude.{◌≡◌, ◌⊎◌, ◌==◌, Bool, ℕ, List, [], ◌++◌, codes}
-use Rattle.std.specs.List.{before_first, after_first, slice_split, AllZip}
+use Rattle.std.specs.Prelude.{◌≡◌, ◌⊎◌, ◌==◌, ◌^◌, ◌<◌, Bool, ℕ, List, [], ◌++◌, codes, length}
+use Rattle.std.specs.Char.{IsScalar}
+use Rattle.std.specs.List.{before_first, after_first, position_or_len, slice_split, AllZip}
 use Rattle.std.specs.Str.Parse.{IsNumeral, digits_value}
 use Rattle.winnow_match.specs.declared.needles.Needles.{Needles}
 use Rattle.winnow_match.specs.declared.needles.Needles.TheVariants.{One, Two, Three}
@@ -20,15 +21,24 @@ first_word line = before_first is_space line
 abbrev pub later_words : List ℕ → List ℕ
 later_words line = after_first is_space line
 
--- the word tells this number, by decimal digits
-abbrev pub TellsNumber : List ℕ → ℕ → Type 0
-TellsNumber word number = IsNumeral 10 word × (digits_value 10 word ≡ number)
+-- a space stands in the line
+abbrev pub HasSpace : List ℕ → Type 0
+HasSpace line = position_or_len is_space line < length line
 
--- the word tells these two numbers, with two dots between them
+-- the word tells this number, by decimal digits; greater numbers than fit are not told
+abbrev pub TellsNumber : List ℕ → ℕ → Type 0
+TellsNumber word number =
+    IsNumeral 10 word × (digits_value 10 word ≡ number) × (number < 2 ^ 64)
+
+-- the word tells this character, by its number
+abbrev pub TellsChar : List ℕ → ℕ → Type 0
+TellsChar word number = TellsNumber word number × IsScalar number
+
+-- the word tells these two characters, with two dots between them
 abbrev pub TellsRange : List ℕ → ℕ × ℕ → Type 0
 TellsRange word range =
     (low : List ℕ) × (high : List ℕ) × (word ≡ low ++ codes ".." ++ high)
-    × TellsNumber low range.0 × TellsNumber high range.1
+    × TellsChar low range.0 × TellsChar high range.1
 
 -- the word tells these ranges: none for `-`, and else those between its commas
 abbrev pub TellsRanges : List ℕ → List (ℕ × ℕ) → Type 0

@@ -1,5 +1,6 @@
 ghost use Rattle.std.specs.Prelude.{◌≡◌, ◌↔◌, ℕ, List, ⊤, string_bytes, IsSome, IfSome};
 ghost use Rattle.std.specs.Str.{IsUtf8};
+ghost use Rattle.std.proofs.lemmas.Str.{IsUtf8-string_bytes};
 
 /// What literals and inputs hold: bytes, or text.
 pub trait Contents: Sized + Drop {
@@ -13,12 +14,17 @@ pub trait Contents: Sized + Drop {
     fn from_bytes(given: Vec<u8>) -> Option<Self>
         ensures found { IsSome result ↔ IsContents given.items }
         ensures bytes { IfSome result (λ found. bytes found ≡ given.items) };
+
+    // Contents have bytes that they can have.
+    ghost contents_law: { (contents : Self) → IsContents (bytes contents) };
 }
 
 impl Contents for Vec<u8> {
     ghost bytes = { λ contents. contents.items };
 
     ghost IsContents = { λ _. ⊤ };
+
+    ghost contents_law = { λ _. tt };
 
     fn from_bytes(given: Vec<u8>) -> Option<Self> {
         Some(given)
@@ -29,6 +35,8 @@ impl Contents for String {
     ghost bytes = { string_bytes };
 
     ghost IsContents = { IsUtf8 };
+
+    ghost contents_law = { IsUtf8-string_bytes };
 
     fn from_bytes(given: Vec<u8>) -> Option<Self> {
         match String::from_utf8(given) {

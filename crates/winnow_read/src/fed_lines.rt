@@ -1,9 +1,11 @@
-ghost use Rattle.std.specs.Prelude.{◌≡◌, ◌≢◌, ◌<◌, ◌≤◌, [], IfErr, IfOk, IsTrue, OnOk, length};
-ghost use Rattle.std.specs.Prelude.{sum_by};
-ghost use Rattle.winnow_read.specs.Fault.{IsWithin};
+ghost use Rattle.std.specs.Prelude.{◌≡◌, ◌≢◌, ◌+◌, ◌<◌, ◌≤◌, [], IfErr, IfOk, IsTrue, OnOk};
+ghost use Rattle.std.specs.Prelude.{length, sum_by};
+ghost use Rattle.winnow_read.specs.Fault.{IsLineWhere, IsWithin};
+ghost use Rattle.winnow_read.specs.FaultyLines.{FaultsFed};
 ghost use Rattle.winnow_read.specs.Inputs.{TellsFed, BeginsWithPiece, piece_length};
 ghost use Rattle.winnow_read.specs.Lines.{reach, AreLines};
 ghost use Rattle.winnow_read.specs.Newline.{first_line, rest_lines};
+ghost use Rattle.winnow_read.specs.Reading.{IsFaulty};
 ghost use Rattle.winnow_read.specs.declared.fed_lines.FedLine.TheVariants.{Waits};
 
 use crate::ScriptFault;
@@ -29,6 +31,8 @@ pub fn read_fed_lines<L: Contents>(
     ensures first { IfOk result (λ told. BeginsWithPiece told.items) }
     ensures short { IfOk result (λ told.
         sum_by (piece_length L.bytes) told.items ≤ length lines.old.rest.now) }
+    ensures fault { IfErr result (IsLineWhere
+        (FaultsFed L.bytes lines.old.number lines.old.rest.now)) }
     ensures err { IfErr result (IsWithin (reach lines.old)) }
 {
     let mut told = Vec::new(alloc);
@@ -49,7 +53,11 @@ fn read_fed_line<L: Contents>(
     ensures first { IsTrue is_first → IfOk result (λ line. line ≢ Waits) }
     ensures rest { OnOk result (lines.new.rest.now ≡ rest_lines lines.old.rest.now) }
     ensures shorter { OnOk result (length lines.new.rest.now < length lines.old.rest.now) }
+    ensures number { OnOk result (lines.new.number ≡ lines.old.number + 1) }
     ensures reach { reach lines.new ≤ reach lines.old }
+    ensures fault { IfErr result (IsLineWhere (λ k. (k ≡ lines.old.number)
+        × IsFaulty (λ line told. TellsFed L.bytes line told × (IsTrue is_first → told ≢ Waits))
+        (first_line lines.old.rest.now))) }
     ensures err { IfErr result (IsWithin (reach lines.old)) }
 {
     let mut ahead = *lines;

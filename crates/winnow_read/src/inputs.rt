@@ -1,9 +1,11 @@
-ghost use Rattle.std.specs.Prelude.{◌≡◌, ◌<◌, ◌≤◌, [], ◌∷◌, codes, IfErr, IfOk, IfSome, OnOk};
+ghost use Rattle.std.specs.Prelude.{◌≡◌, ◌+◌, ◌<◌, ◌≤◌, [], ◌∷◌, codes, IfErr, IfOk, OnOk};
 ghost use Rattle.std.specs.Prelude.{length};
-ghost use Rattle.winnow_read.specs.Fault.{IsWithin};
-ghost use Rattle.winnow_read.specs.Inputs.{kind_word, TellsNamed};
+ghost use Rattle.winnow_read.specs.Fault.{IsLineWhere, IsWithin};
+ghost use Rattle.winnow_read.specs.FaultyLines.{FaultsInput};
+ghost use Rattle.winnow_read.specs.Inputs.{TellsKind, TellsNamed};
 ghost use Rattle.winnow_read.specs.Lines.{reach, AreLines};
 ghost use Rattle.winnow_read.specs.Newline.{first_line, rest_lines};
+ghost use Rattle.winnow_read.specs.Reading.{IsFaulty, IsReading};
 
 use crate::ScriptFault;
 use crate::contents::Contents;
@@ -20,11 +22,14 @@ pub enum Kind {
     TextPieces,
 }
 
-/// Returns the kind that the first line tells.
+/// Returns the kind that the next line tells.
 pub fn read_kind(lines: &mut Lines) -> Result<Kind, ScriptFault>
-    ensures kind { IfOk result (λ kind. first_line lines.old.rest.now ≡ kind_word kind) }
+    ensures kind { IfOk result (TellsKind (first_line lines.old.rest.now)) }
     ensures rest { lines.new.rest.now ≡ rest_lines lines.old.rest.now }
+    ensures number { OnOk result (lines.new.number ≡ lines.old.number + 1) }
     ensures reach { reach lines.new ≤ reach lines.old }
+    ensures fault { IfErr result (IsLineWhere (λ k.
+        (k ≡ lines.old.number) × IsFaulty TellsKind (first_line lines.old.rest.now))) }
     ensures err { IfErr result (IsWithin (reach lines.old)) }
 {
     let fault = lines.fault();
@@ -35,7 +40,7 @@ pub fn read_kind(lines: &mut Lines) -> Result<Kind, ScriptFault>
 }
 
 fn kind_of(word: &str) -> Option<Kind>
-    ensures { IfSome result (λ kind. word.now ≡ kind_word kind) }
+    ensures { IsReading TellsKind word.now result }
 {
     match word {
         "bytes" => Some(Kind::Bytes),
@@ -50,6 +55,8 @@ fn kind_of(word: &str) -> Option<Kind>
 pub fn read_input<L: Contents>(alloc: Global, lines: &mut Lines) -> Result<L, ScriptFault>
     ensures input { IfOk result (λ input.
         AreLines (TellsNamed L.bytes (codes "input")) lines.old.rest.now (input ∷ []) []) }
+    ensures fault { IfErr result (IsLineWhere
+        (FaultsInput L.bytes lines.old.number lines.old.rest.now)) }
     ensures err { IfErr result (IsWithin (reach lines.old)) }
 {
     let input = read_line(alloc, lines, "input")?;
@@ -68,7 +75,10 @@ pub fn read_line<L: Contents>(
     ensures told { IfOk result (TellsNamed L.bytes name.now (first_line lines.old.rest.now)) }
     ensures rest { lines.new.rest.now ≡ rest_lines lines.old.rest.now }
     ensures shorter { OnOk result (length lines.new.rest.now < length lines.old.rest.now) }
+    ensures number { OnOk result (lines.new.number ≡ lines.old.number + 1) }
     ensures reach { reach lines.new ≤ reach lines.old }
+    ensures fault { IfErr result (IsLineWhere (λ k. (k ≡ lines.old.number)
+        × IsFaulty (TellsNamed L.bytes name.now) (first_line lines.old.rest.now))) }
     ensures err { IfErr result (IsWithin (reach lines.old)) }
 {
     let fault = lines.fault();

@@ -1,6 +1,7 @@
-ghost use Rattle.std.specs.Prelude.{◌≡◌, ◌<◌, ◌≤◌, IfOk, IfSome, IsSome, length};
+ghost use Rattle.std.specs.Prelude.{◌≡◌, ◌+◌, ◌<◌, ◌≤◌, IfOk, IsSome, MatchOption, OnOk, length};
 ghost use Rattle.winnow_read.specs.Lines.{reach, AreLines};
 ghost use Rattle.winnow_read.specs.Newline.{first_line, rest_lines};
+ghost use Rattle.winnow_read.specs.Reading.{IsFaulty, IsReading};
 ghost use Rattle.winnow_read.specs.Steps.{entry, plain_calls, numbered_calls, TellsCall, TellsStep};
 
 use crate::contents::Contents;
@@ -28,6 +29,10 @@ pub fn read_steps<'s, L: Contents>(
 ) -> Result<Vec<ScriptStep<'s, L>>, AllocError>
     ensures steps { IfOk result (λ steps.
         AreLines (TellsStep L.bytes) lines.old.rest.now steps.items lines.new.rest.now) }
+    ensures stops { OnOk result
+        (IsFaulty (TellsStep L.bytes) (first_line lines.new.rest.now)) }
+    ensures number { IfOk result (λ steps.
+        lines.new.number ≡ lines.old.number + length steps.items) }
     ensures reach { reach lines.new ≤ reach lines.old }
 {
     let mut steps = Vec::new(alloc);
@@ -44,11 +49,14 @@ fn next_step<'s, L: Contents>(
     alloc: Global,
     lines: &mut Lines,
 ) -> Result<Option<ScriptStep<'s, L>>, AllocError>
-    ensures step { IfOk result (λ found.
-        IfSome found (TellsStep L.bytes (first_line lines.old.rest.now))) }
+    ensures step { IfOk result (λ found. MatchOption found
+        (IsFaulty (TellsStep L.bytes) (first_line lines.old.rest.now))
+        (TellsStep L.bytes (first_line lines.old.rest.now))) }
     ensures rest { lines.new.rest.now ≡ rest_lines lines.old.rest.now }
     ensures shorter { IfOk result (λ found.
         IsSome found → length lines.new.rest.now < length lines.old.rest.now) }
+    ensures number { IfOk result (λ found.
+        IsSome found → lines.new.number ≡ lines.old.number + 1) }
     ensures reach { reach lines.new ≤ reach lines.old }
 {
     match lines.next_line() {
@@ -61,21 +69,24 @@ fn read_step<'s, L: Contents>(
     alloc: Global,
     line: &str,
 ) -> Result<Option<ScriptStep<'s, L>>, AllocError>
-    ensures { IfOk result (λ found. IfSome found (TellsStep L.bytes line.now)) }
+    ensures { IfOk result (IsReading (TellsStep L.bytes) line.now) }
 {
     if let Some(call) = read_call(line) {
         return Ok(Some(ScriptStep::Call(call)));
     }
-    match split_word(line) {
-        Some(("first", word)) => match read_ranges(alloc, word)? {
+    let Some((name, words)) = split_word(line) else {
+        return Ok(None);
+    };
+    match name {
+        "first" => match read_ranges(alloc, words)? {
             Some(ranges) => Ok(Some(ScriptStep::First(ranges))),
             None => Ok(None),
         },
-        Some(("compare", word)) => match read_literal(alloc, word)? {
+        "compare" => match read_literal(alloc, words)? {
             Some(literal) => Ok(Some(ScriptStep::Compare(literal))),
             None => Ok(None),
         },
-        Some(("find", words)) => match read_needles(alloc, words)? {
+        "find" => match read_needles(alloc, words)? {
             Some(needles) => Ok(Some(ScriptStep::Find(needles))),
             None => Ok(None),
         },
@@ -85,7 +96,7 @@ fn read_step<'s, L: Contents>(
 
 // The call that names no set, by a word, or by a word and a number.
 fn read_call<'s>(line: &str) -> Option<Step<CharSet<'s>>>
-    ensures { IfSome result (TellsCall line.now) }
+    ensures { IsReading TellsCall line.now result }
 {
     match split_word(line) {
         Some((name, word)) => numbered_call(name, read_number(word)?),

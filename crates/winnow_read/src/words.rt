@@ -1,10 +1,11 @@
-ghost use Rattle.std.specs.Prelude.{◌≡◌, ◌^◌, ◌<◌, IfOk, IfSome};
+ghost use Rattle.std.specs.Prelude.{◌≡◌, ◌↔◌, ◌^◌, ◌<◌, IfOk, IfSome, IsSome};
 ghost use Rattle.std.specs.Char.{IsScalar};
 ghost use Rattle.std.specs.Option.{SomeIff};
 ghost use Rattle.std.specs.Str.Parse.{IsNumeral, digits_value};
-ghost use Rattle.winnow_read.specs.Literal.{TellsBytes};
-ghost use Rattle.winnow_read.specs.Words.{first_word, later_words, TellsRange, TellsRanges};
-ghost use Rattle.winnow_read.specs.Words.{TellsNeedles};
+ghost use Rattle.winnow_read.specs.Literal.{TellsLiteral};
+ghost use Rattle.winnow_read.specs.Reading.{IsReading};
+ghost use Rattle.winnow_read.specs.Words.{first_word, later_words, HasSpace, TellsRange};
+ghost use Rattle.winnow_read.specs.Words.{TellsRanges, TellsNeedles};
 
 use crate::contents::Contents;
 use crate::literals::literal;
@@ -13,6 +14,7 @@ use winnow_match::Needles;
 
 /// Returns the first word, and the words behind its space; `None` where there is no space.
 pub fn split_word(words: &str) -> Option<(&str, &str)>
+    ensures found { IsSome result ↔ HasSpace words.now }
     ensures first { IfSome result (λ parts. parts.0.now ≡ first_word words.now) }
     ensures later { IfSome result (λ parts. parts.1.now ≡ later_words words.now) }
 {
@@ -31,9 +33,9 @@ pub fn read_number(word: &str) -> Option<usize>
     word.parse().ok()
 }
 
-/// Returns the literal whose bytes a word tells, if it tells any and they are one.
+/// Returns the literal whose bytes a word tells; `None` where it tells none, or bytes that are no literal.
 pub fn read_literal<L: Contents>(alloc: Global, word: &str) -> Result<Option<L>, AllocError>
-    ensures { IfOk result (λ found. IfSome found (λ read. TellsBytes word.now (L.bytes read))) }
+    ensures { IfOk result (IsReading (TellsLiteral L.bytes) word.now) }
 {
     match literal(alloc, word.as_bytes())? {
         Some(bytes) => Ok(L::from_bytes(bytes)),
@@ -41,12 +43,12 @@ pub fn read_literal<L: Contents>(alloc: Global, word: &str) -> Result<Option<L>,
     }
 }
 
-/// Returns the needles that one to three words tell.
+/// Returns the needles that one to three words tell; `None` where they tell none.
 pub fn read_needles<L: Contents>(
     alloc: Global,
     words: &str,
 ) -> Result<Option<Needles<L>>, AllocError>
-    ensures { IfOk result (λ found. IfSome found (TellsNeedles L.bytes words.now)) }
+    ensures { IfOk result (IsReading (TellsNeedles L.bytes) words.now) }
 {
     let Some((first, later)) = split_word(words) else {
         return match read_literal(alloc, words)? {
@@ -72,9 +74,9 @@ pub fn read_needles<L: Contents>(
     }
 }
 
-/// Returns the ranges that a word tells: none for `-`, and else those between its commas.
+/// Returns the ranges that a word tells, none for `-`, and else those between its commas; `None` where it tells no ranges.
 pub fn read_ranges(alloc: Global, word: &str) -> Result<Option<Vec<(char, char)>>, AllocError>
-    ensures { IfOk result (λ found. IfSome found (λ ranges. TellsRanges word.now ranges.items)) }
+    ensures { IfOk result (IsReading (λ told ranges. TellsRanges told ranges.items) word.now) }
 {
     let mut ranges = Vec::new(alloc);
     if word == "-" {
@@ -90,7 +92,7 @@ pub fn read_ranges(alloc: Global, word: &str) -> Result<Option<Vec<(char, char)>
 }
 
 fn read_range(word: &str) -> Option<(char, char)>
-    ensures { IfSome result (TellsRange word.now) }
+    ensures { IsReading TellsRange word.now result }
 {
     let (low, high) = word.split_once("..")?;
     Some((read_char(low)?, read_char(high)?))

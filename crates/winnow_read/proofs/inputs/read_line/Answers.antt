@@ -1,16 +1,23 @@
-use Rattle.std.proofs.Common.{◌∙◌, ap, sym}
+use Rattle.std.proofs.Common.{◌≡◌, ◌∙◌, ap, refl, sym}
 use Rattle.std.proofs.lemmas.Bool.Decides.{Decides-eqb}
 use Rattle.std.proofs.lemmas.Slice.Eq.{slice_eq-Decides}
+use Rattle.winnow_read.specs.Newline.{first_line}
 use Rattle.winnow_read.specs.Words.{first_word}
-use Rattle.winnow_read.proofs.OptionLemmas.{IfOk-result_ok}
+use Rattle.winnow_read.proofs.WordLemmas.{TellsNamed-alone}
 use Rattle.winnow_read.proofs.inputs.read_line.Goals as goal
+use Rattle.winnow_read.proofs.inputs.read_line.Goals.{in_default-split_word-via-in-Some-split_word+else-eq, in_default-split_word-via-in_default-split_word}
 
--- the first word was compared with the name, and the later ones were read
-pub returns-in_ok-read_literal-in-Some-split_word-clause-told : goal.returns-in_ok-read_literal-in-Some-split_word-clause-told
-returns-in_ok-read_literal-in-Some-split_word-clause-told g c =
-    let line = c.in-Some.ensures.line in
-    let words = c.in-Some-split_word.ensures in
-    let named = (slice_eq-Decides Decides-eqb _ _ _ c.eq.ensures).0 c.if-eq.true in
-    let first = ap first_word (sym line) ∙ sym words.first ∙ named in
-    let read = rw (words.later, line) at c.in_ok-read_literal-in-Some-split_word.ensures in
-    IfOk-result_ok c.ok_or.result _ _ (λ literal told. (first, told)) (rw c.ok_or.ensures.ok_part at read)
+-- another first word, or no word behind it
+pub returns-in_default-split_word-clause-fault : goal.returns-in_default-split_word-clause-fault
+returns-in_default-split_word-clause-fault g c =
+    let line : c.in-Some.line.now ≡ first_line c.args.lines.now.rest.now = c.in-Some.ensures.line in
+    rw c.fault-fault.ensures (
+      refl,
+      λ utf8. elim c.in_default-split_word.branch [
+        | in_default-split_word-via-in-Some-split_word+else-eq w ↦
+            λ literal told. cc (sym ((slice_eq-Decides Decides-eqb _ _ _ w.eq.ensures).1 (w.in-Some-split_word.ensures.first ∙ ap first_word line ∙ told.0)) ∙ w.if-eq.false)
+        | in_default-split_word-via-in_default-split_word w ↦
+            let alone = rw (w.in_default-split_word.is, line) at c.split_word.ensures.found in
+            TellsNamed-alone g.L.Contents.bytes c.args.name.now (first_line c.args.lines.now.rest.now) (λ spaced. cc (alone.1 spaced))
+      ],
+    )

@@ -1,4 +1,4 @@
-use Rattle.std.proofs.Common.{arith, refl}
+use Rattle.std.proofs.Common.{[], ◌∷◌, length, length-append, ap, arith, refl}
 use Rattle.winnow_read.specs.Steps.{TellsStep}
 use Rattle.winnow_read.proofs.ScriptLineLemmas.{AreLines-push}
 use Rattle.winnow_read.proofs.steps.read_steps.Goals as goal
@@ -11,6 +11,11 @@ loop-steps-preserved g c =
     let more = AreLines-push (TellsStep g.L.Contents.bytes) _ _ _ _ c.loop-steps.invariant.steps told in
     record {
       steps = rw (c.in_ok-push.ensures.items, line.rest, same) more;
+      number = omega (arith, c.loop-steps.invariant.number, (rw (c.in-Some.is, same) at line.number) refl, ap length c.in_ok-push.ensures.items, length-append c.loop-steps.steps.items (c.in-Some.step ∷ []));
       reach = omega (arith, c.loop-steps.invariant.reach, rw same at line.reach);
       ahead = refl;
     }
+
+-- the line that stands next tells no step
+pub returns-clause-stops : goal.returns-clause-stops
+returns-clause-stops g c = rw (c.in_default.is, c.loop-steps.invariant.ahead) at c.in_ok-step.ensures.step

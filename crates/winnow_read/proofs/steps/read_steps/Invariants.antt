@@ -1,4 +1,4 @@
-use Rattle.std.proofs.Common.{◌≡◌, ◌≤◌, length}
+use Rattle.std.proofs.Common.{◌≡◌, ◌+◌, ◌≤◌, length}
 use Rattle.winnow_read.specs.Lines.{reach, AreLines}
 use Rattle.winnow_read.specs.Steps.{TellsStep}
 use Rattle.winnow_read.proofs.steps.read_steps.Given as goal
@@ -6,6 +6,7 @@ use Rattle.winnow_read.proofs.steps.read_steps.Given as goal
 abbrev pub invariant-loop-steps : goal.invariant-loop-steps
 invariant-loop-steps g l = record {
   steps : AreLines (TellsStep g.L.Contents.bytes) l.fn.lines.rest.now l.steps.items l.lines.rest.now;
+  number : l.lines.number ≡ l.fn.lines.number + length l.steps.items;
   reach : reach l.lines ≤ reach l.fn.lines;
   ahead : l.ahead ≡ l.lines;
 }
