@@ -6,3 +6,4 @@ pub use Rattle.winnow_read.specs.declared.fault.ScriptFault
 pub mod AnswerLines
 pub mod ReportLines
 pub mod ScriptLines
+pub mod FaultyScripts

@@ -3,9 +3,10 @@ ghost use Rattle.std.specs.Prelude.{sum_by};
 ghost use Rattle.winnow_base.specs.Inputs.{byte_input, text_input};
 ghost use Rattle.winnow_base.specs.Searching.{AreSearchAnswers};
 ghost use Rattle.winnow_execute.specs.AnswerLines.{item_words, answer_lines};
+ghost use Rattle.winnow_execute.specs.FaultyScripts.{FaultsAs, FaultsScript};
 ghost use Rattle.winnow_execute.specs.ReportLines.{Prints};
 ghost use Rattle.winnow_execute.specs.ScriptLines.{HoldsNumber, PrintsAs, PrintsScript};
-ghost use Rattle.winnow_read.specs.Fault.{IsWithin};
+ghost use Rattle.winnow_read.specs.Fault.{IsLineWhere, IsWithin};
 ghost use Rattle.winnow_read.specs.Inputs.{piece_length};
 ghost use Rattle.winnow_read.specs.Lines.{reach};
 ghost use Rattle.winnow_read.specs.declared.inputs.Kind.TheVariants as kinds;
@@ -24,10 +25,10 @@ use winnow_read::{
 
 /// Runs the script of these lines, and gives its answers as lines.
 ///
-/// The whole text is read first. Its first faulty or missing line is the fault, unless memory runs out before it; the contract
-/// promises only a line from 1 to one past the number of bytes.
+/// The whole text is read first. Where it is no script, the fault is its first faulty or missing line, unless memory runs out first.
 pub fn execute(alloc: Global, input: &[u8]) -> Result<Vec<u8>, ScriptFault>
     ensures printed { IfOk result (λ printed. PrintsScript input.now printed.items) }
+    ensures fault { IfErr result (IsLineWhere (FaultsScript input.now)) }
     ensures err { IfErr result (IsWithin (1 + length input.now)) }
 {
     let mut lines = Lines::new(input);
@@ -40,6 +41,8 @@ pub fn execute(alloc: Global, input: &[u8]) -> Result<Vec<u8>, ScriptFault>
 fn execute_as(alloc: Global, kind: Kind, lines: &mut Lines) -> Result<String, ScriptFault>
     ensures printed { IfOk result (λ text.
         PrintsAs kind lines.old.rest.now (string_bytes text)) }
+    ensures fault { IfErr result (IsLineWhere
+        (FaultsAs kind lines.old.number lines.old.rest.now)) }
     ensures err { IfErr result (IsWithin (reach lines.old)) }
 {
     match kind {
@@ -53,6 +56,8 @@ fn execute_as(alloc: Global, kind: Kind, lines: &mut Lines) -> Result<String, Sc
 fn execute_bytes(alloc: Global, lines: &mut Lines) -> Result<String, ScriptFault>
     ensures printed { IfOk result (λ text.
         PrintsAs kinds.Bytes lines.old.rest.now (string_bytes text)) }
+    ensures fault { IfErr result (IsLineWhere
+        (FaultsAs kinds.Bytes lines.old.number lines.old.rest.now)) }
     ensures err { IfErr result (IsWithin (reach lines.old)) }
 {
     let steps: Vec<ScriptStep<'_, Vec<u8>>> = read_steps(alloc, lines)?;
@@ -64,6 +69,8 @@ fn execute_bytes(alloc: Global, lines: &mut Lines) -> Result<String, ScriptFault
 fn execute_text(alloc: Global, lines: &mut Lines) -> Result<String, ScriptFault>
     ensures printed { IfOk result (λ text.
         PrintsAs kinds.Text lines.old.rest.now (string_bytes text)) }
+    ensures fault { IfErr result (IsLineWhere
+        (FaultsAs kinds.Text lines.old.number lines.old.rest.now)) }
     ensures err { IfErr result (IsWithin (reach lines.old)) }
 {
     let steps: Vec<ScriptStep<'_, String>> = read_steps(alloc, lines)?;
@@ -75,6 +82,8 @@ fn execute_text(alloc: Global, lines: &mut Lines) -> Result<String, ScriptFault>
 fn execute_byte_pieces(alloc: Global, lines: &mut Lines) -> Result<String, ScriptFault>
     ensures printed { IfOk result (λ text.
         PrintsAs kinds.BytePieces lines.old.rest.now (string_bytes text)) }
+    ensures fault { IfErr result (IsLineWhere
+        (FaultsAs kinds.BytePieces lines.old.number lines.old.rest.now)) }
     ensures err { IfErr result (IsWithin (reach lines.old)) }
 {
     let steps: Vec<ScriptStep<'_, Vec<u8>>> = read_steps(alloc, lines)?;
@@ -114,6 +123,8 @@ fn run_byte_lines(
 fn execute_text_pieces(alloc: Global, lines: &mut Lines) -> Result<String, ScriptFault>
     ensures printed { IfOk result (λ text.
         PrintsAs kinds.TextPieces lines.old.rest.now (string_bytes text)) }
+    ensures fault { IfErr result (IsLineWhere
+        (FaultsAs kinds.TextPieces lines.old.number lines.old.rest.now)) }
     ensures err { IfErr result (IsWithin (reach lines.old)) }
 {
     let steps: Vec<ScriptStep<'_, String>> = read_steps(alloc, lines)?;

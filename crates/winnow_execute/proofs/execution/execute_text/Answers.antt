@@ -1,4 +1,5 @@
 use Rattle.std.proofs.Common.{◌∙◌, string_bytes}
+use Rattle.winnow_read.proofs.FaultLemmas.{IfErr-handed, IsLineWhere-more}
 use Rattle.winnow_execute.proofs.GivenLemmas.{text_lines-given}
 use Rattle.winnow_execute.proofs.execution.execute_text.Goals as goal
 
@@ -15,3 +16,10 @@ returns-clause-printed c =
       c.in_ok-input.ensures.input,
       given.2 ∙ text_lines-given (string_bytes c.in_ok-input.input) script given.0 given.1,
     )
+
+-- what is behind the steps is no input
+pub returns-in_err-input-clause-fault : goal.returns-in_err-input-clause-fault
+returns-in_err-input-clause-fault c =
+    let steps = c.in_ok-steps.ensures in
+    IfErr-handed _ c.from_residual-in_err-input.result c.in_err-input.field-0.0 c.from_residual-in_err-input.ensures.1
+    (IsLineWhere-more _ _ c.in_err-input.field-0.0 (λ k fault. (c.in_ok-steps.steps.items, c.read_steps.new.lines.rest.now, steps.steps, steps.stops, rw steps.number at fault)) c.in_err-input.ensures.fault)

@@ -1,0 +1,24 @@
+-- Which line of a script of lines is the first that is faulty or missing.
+use Rattle.std.specs.Prelude.{◌≡◌, ◌⊎◌, ℕ, List}
+use Rattle.winnow_read.specs.FaultyLines.{FaultsInput, FaultsFed, FaultsBehindSteps}
+use Rattle.winnow_read.specs.Inputs.{kind_word, TellsKind}
+use Rattle.winnow_read.specs.Newline.{first_line, rest_lines}
+use Rattle.winnow_read.specs.Reading.{IsFaulty}
+use Rattle.winnow_read.specs.declared.inputs.Kind.{Kind}
+use Rattle.winnow_read.specs.declared.inputs.Kind.TheVariants.{Bytes, Text, BytePieces, TextPieces}
+use Rattle.winnow_execute.specs.ScriptLines.{owned_bytes, owned_text}
+
+-- of a text behind the line of its kind, whose first line has this number, line k
+abbrev pub FaultsAs : Kind → ℕ → List ℕ → ℕ → Type 0
+FaultsAs Bytes first text k =
+    FaultsBehindSteps owned_bytes (FaultsInput owned_bytes) first text k
+FaultsAs Text first text k = FaultsBehindSteps owned_text (FaultsInput owned_text) first text k
+FaultsAs BytePieces first text k =
+    FaultsBehindSteps owned_bytes (FaultsFed owned_bytes) first text k
+FaultsAs TextPieces first text k = FaultsBehindSteps owned_text (FaultsFed owned_text) first text k
+
+-- of a whole text, line k
+abbrev pub FaultsScript : List ℕ → ℕ → Type 0
+FaultsScript text k =
+    ((k ≡ 1) × IsFaulty TellsKind (first_line text))
+    ⊎ ((kind : Kind) × (first_line text ≡ kind_word kind) × FaultsAs kind 2 (rest_lines text) k)
