@@ -3,7 +3,7 @@ use Rattle.std.specs.Prelude.{◌≡◌, ◌⊎◌, ℕ, List}
 use Rattle.winnow_read.specs.FaultyLines.{FaultsInput, FaultsFed, FaultsBehindSteps}
 use Rattle.winnow_read.specs.Inputs.{kind_word, TellsKind}
 use Rattle.winnow_read.specs.Newline.{first_line, rest_lines}
-use Rattle.winnow_read.specs.Reading.{IsFaulty}
+use Rattle.winnow_read.specs.Reading.{TellsNothing}
 use Rattle.winnow_read.specs.declared.inputs.Kind.{Kind}
 use Rattle.winnow_read.specs.declared.inputs.Kind.TheVariants.{Bytes, Text, BytePieces, TextPieces}
 use Rattle.winnow_execute.specs.ScriptLines.{owned_bytes, owned_text}
@@ -20,5 +20,5 @@ FaultsAs TextPieces first text k = FaultsBehindSteps owned_text (FaultsFed owned
 -- of a whole text, line k
 abbrev pub FaultsScript : List ℕ → ℕ → Type 0
 FaultsScript text k =
-    ((k ≡ 1) × IsFaulty TellsKind (first_line text))
+    ((k ≡ 1) × TellsNothing TellsKind (first_line text))
     ⊎ ((kind : Kind) × (first_line text ≡ kind_word kind) × FaultsAs kind 2 (rest_lines text) k)

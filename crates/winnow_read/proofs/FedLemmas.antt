@@ -4,7 +4,7 @@ use Rattle.winnow_read.specs.FaultyLines.{FaultsFed}
 use Rattle.winnow_read.specs.Inputs.{TellsFed, BeginsWithPiece}
 use Rattle.winnow_read.specs.Lines.{AreLines}
 use Rattle.winnow_read.specs.Newline.{first_line}
-use Rattle.winnow_read.specs.Reading.{IsFaulty}
+use Rattle.winnow_read.specs.Reading.{TellsNothing}
 use Rattle.winnow_read.specs.declared.fed_lines.FedLine.{FedLine}
 use Rattle.winnow_read.specs.declared.fed_lines.FedLine.TheVariants.{Piece, Waits}
 
@@ -27,7 +27,7 @@ module _ {L : Type 0} (bytes : L → List ℕ) where
   -- a line is left behind some that tell pieces and questions, and tells nothing that may follow
   pub FaultsFed-line : (first : ℕ) (text : List ℕ) (told : List (FedLine L)) (rest : List ℕ) (is_first : Bool) (k : ℕ) → AreLines (TellsFed bytes) text told rest → BeginsWithPiece told → rest ≢ []
       → (is_first ≡ true → told ≡ [])
-      → IsFaulty (λ line item. TellsFed bytes line item × (is_first ≡ true → item ≢ Waits)) (first_line rest) → k ≡ first + length told
+      → TellsNothing (λ line item. TellsFed bytes line item × (is_first ≡ true → item ≢ Waits)) (first_line rest) → k ≡ first + length told
       → FaultsFed bytes first text k
   FaultsFed-line first text told rest is_first k lines begins left empty_of none number =
-      (told, rest, lines, begins, left, (λ utf8 item next. none utf8 item (next.0, λ is. BeginsWithPiece-first told item next.1 (empty_of is))), number)
+      (told, rest, lines, begins, left, (λ item next. none item (next.0, λ is. BeginsWithPiece-first told item next.1 (empty_of is))), number)

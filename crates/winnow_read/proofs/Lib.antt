@@ -6,4 +6,5 @@ pub mod ZipLemmas
 mod WordLemmas
 mod RangeLemmas
 mod StepLemmas
+mod UnreadLemmas
 pub mod FaultLemmas

@@ -3,7 +3,7 @@ use Rattle.std.specs.Prelude.{◌≡◌, ◌≢◌, ◌⊎◌, ℕ, ◌+◌, Lis
 use Rattle.winnow_read.specs.Inputs.{TellsNamed, TellsFed, BeginsWithPiece}
 use Rattle.winnow_read.specs.Lines.{AreLines}
 use Rattle.winnow_read.specs.Newline.{first_line, rest_lines}
-use Rattle.winnow_read.specs.Reading.{IsFaulty}
+use Rattle.winnow_read.specs.Reading.{TellsNothing}
 use Rattle.winnow_read.specs.Steps.{TellsStep}
 use Rattle.winnow_read.specs.declared.fed_lines.FedLine.{FedLine}
 use Rattle.winnow_read.specs.declared.steps.ScriptStep.{ScriptStep}
@@ -12,14 +12,14 @@ module _ {L : Type 0} (bytes : L → List ℕ) where
   -- the text is not an input alone: its first line tells none, or tells one and a line stands behind it
   abbrev pub FaultsInput : ℕ → List ℕ → ℕ → Type 0
   FaultsInput first text k =
-      ((k ≡ first) × IsFaulty (TellsNamed bytes (codes "input")) (first_line text))
+      ((k ≡ first) × TellsNothing (TellsNamed bytes (codes "input")) (first_line text))
       ⊎ ((k ≡ first + 1) × (rest_lines text ≢ [])
       × ((input : L) × TellsNamed bytes (codes "input") (first_line text) input))
 
   -- behind lines that tell this, the next one tells nothing that may follow
   abbrev pub EndsFed : List (FedLine L) → List ℕ → Type 0
   EndsFed told line =
-      IsFaulty (λ next item. TellsFed bytes next item × BeginsWithPiece (told ++ item ∷ [])) line
+      TellsNothing (λ next item. TellsFed bytes next item × BeginsWithPiece (told ++ item ∷ [])) line
 
   -- the text is not lines of pieces to its end: a line is left behind those that are, and tells nothing that may follow
   abbrev pub FaultsFed : ℕ → List ℕ → ℕ → Type 0
@@ -32,4 +32,4 @@ module _ {L : Type 0} (bytes : L → List ℕ) where
   abbrev pub FaultsBehindSteps : (ℕ → List ℕ → ℕ → Type 0) → ℕ → List ℕ → ℕ → Type 0
   FaultsBehindSteps Faults first text k =
       (steps : List (ScriptStep L)) × (rest : List ℕ) × AreLines (TellsStep bytes) text steps rest
-      × IsFaulty (TellsStep bytes) (first_line rest) × Faults (first + length steps) rest k
+      × TellsNothing (TellsStep bytes) (first_line rest) × Faults (first + length steps) rest k

@@ -1,6 +1,5 @@
 -- What is read of words that may tell nothing.
 use Rattle.std.specs.Prelude.{ℕ, List, Option, MatchOption}
-use Rattle.std.specs.Str.{IsUtf8}
 
 module _ {T : Type 0} (Tells : List ℕ → T → Type 0) where
   -- the words tell nothing
@@ -10,7 +9,3 @@ module _ {T : Type 0} (Tells : List ℕ → T → Type 0) where
   -- what is read of words: what they tell, or nothing where they tell nothing
   abbrev pub IsReading : List ℕ → Option T → Type 0
   IsReading words found = MatchOption found (TellsNothing words) (Tells words)
-
-  -- a line that is no UTF-8 or tells nothing
-  abbrev pub IsFaulty : List ℕ → Type 0
-  IsFaulty line = IsUtf8 line → TellsNothing line

@@ -5,7 +5,7 @@ ghost use Rattle.winnow_read.specs.FaultyLines.{FaultsFed};
 ghost use Rattle.winnow_read.specs.Inputs.{TellsFed, BeginsWithPiece, piece_length};
 ghost use Rattle.winnow_read.specs.Lines.{reach, AreLines};
 ghost use Rattle.winnow_read.specs.Newline.{first_line, rest_lines};
-ghost use Rattle.winnow_read.specs.Reading.{IsFaulty};
+ghost use Rattle.winnow_read.specs.Reading.{TellsNothing};
 ghost use Rattle.winnow_read.specs.declared.fed_lines.FedLine.TheVariants.{Waits};
 
 use crate::ScriptFault;
@@ -56,7 +56,7 @@ fn read_fed_line<L: Contents>(
     ensures number { OnOk result (lines.new.number ≡ lines.old.number + 1) }
     ensures reach { reach lines.new ≤ reach lines.old }
     ensures fault { IfErr result (IsLineWhere (λ k. (k ≡ lines.old.number)
-        × IsFaulty (λ line told. TellsFed L.bytes line told × (IsTrue is_first → told ≢ Waits))
+        × TellsNothing (λ line told. TellsFed L.bytes line told × (IsTrue is_first → told ≢ Waits))
         (first_line lines.old.rest.now))) }
     ensures err { IfErr result (IsWithin (reach lines.old)) }
 {

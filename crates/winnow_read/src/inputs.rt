@@ -5,7 +5,7 @@ ghost use Rattle.winnow_read.specs.FaultyLines.{FaultsInput};
 ghost use Rattle.winnow_read.specs.Inputs.{TellsKind, TellsNamed};
 ghost use Rattle.winnow_read.specs.Lines.{reach, AreLines};
 ghost use Rattle.winnow_read.specs.Newline.{first_line, rest_lines};
-ghost use Rattle.winnow_read.specs.Reading.{IsFaulty, IsReading};
+ghost use Rattle.winnow_read.specs.Reading.{IsReading, TellsNothing};
 
 use crate::ScriptFault;
 use crate::contents::Contents;
@@ -29,7 +29,7 @@ pub fn read_kind(lines: &mut Lines) -> Result<Kind, ScriptFault>
     ensures number { OnOk result (lines.new.number ≡ lines.old.number + 1) }
     ensures reach { reach lines.new ≤ reach lines.old }
     ensures fault { IfErr result (IsLineWhere (λ k.
-        (k ≡ lines.old.number) × IsFaulty TellsKind (first_line lines.old.rest.now))) }
+        (k ≡ lines.old.number) × TellsNothing TellsKind (first_line lines.old.rest.now))) }
     ensures err { IfErr result (IsWithin (reach lines.old)) }
 {
     let fault = lines.fault();
@@ -78,7 +78,7 @@ pub fn read_line<L: Contents>(
     ensures number { OnOk result (lines.new.number ≡ lines.old.number + 1) }
     ensures reach { reach lines.new ≤ reach lines.old }
     ensures fault { IfErr result (IsLineWhere (λ k. (k ≡ lines.old.number)
-        × IsFaulty (TellsNamed L.bytes name.now) (first_line lines.old.rest.now))) }
+        × TellsNothing (TellsNamed L.bytes name.now) (first_line lines.old.rest.now))) }
     ensures err { IfErr result (IsWithin (reach lines.old)) }
 {
     let fault = lines.fault();

@@ -1,7 +1,7 @@
-ghost use Rattle.std.specs.Prelude.{◌≡◌, ◌+◌, ◌<◌, ◌≤◌, IfOk, IsSome, MatchOption, OnOk, length};
+ghost use Rattle.std.specs.Prelude.{◌≡◌, ◌+◌, ◌<◌, ◌≤◌, IfOk, IsSome, OnOk, length};
 ghost use Rattle.winnow_read.specs.Lines.{reach, AreLines};
 ghost use Rattle.winnow_read.specs.Newline.{first_line, rest_lines};
-ghost use Rattle.winnow_read.specs.Reading.{IsFaulty, IsReading};
+ghost use Rattle.winnow_read.specs.Reading.{IsReading, TellsNothing};
 ghost use Rattle.winnow_read.specs.Steps.{entry, plain_calls, numbered_calls, TellsCall, TellsStep};
 
 use crate::contents::Contents;
@@ -30,7 +30,7 @@ pub fn read_steps<'s, L: Contents>(
     ensures steps { IfOk result (λ steps.
         AreLines (TellsStep L.bytes) lines.old.rest.now steps.items lines.new.rest.now) }
     ensures stops { OnOk result
-        (IsFaulty (TellsStep L.bytes) (first_line lines.new.rest.now)) }
+        (TellsNothing (TellsStep L.bytes) (first_line lines.new.rest.now)) }
     ensures number { IfOk result (λ steps.
         lines.new.number ≡ lines.old.number + length steps.items) }
     ensures reach { reach lines.new ≤ reach lines.old }
@@ -49,9 +49,8 @@ fn next_step<'s, L: Contents>(
     alloc: Global,
     lines: &mut Lines,
 ) -> Result<Option<ScriptStep<'s, L>>, AllocError>
-    ensures step { IfOk result (λ found. MatchOption found
-        (IsFaulty (TellsStep L.bytes) (first_line lines.old.rest.now))
-        (TellsStep L.bytes (first_line lines.old.rest.now))) }
+    ensures step { IfOk result
+        (IsReading (TellsStep L.bytes) (first_line lines.old.rest.now)) }
     ensures rest { lines.new.rest.now ≡ rest_lines lines.old.rest.now }
     ensures shorter { IfOk result (λ found.
         IsSome found → length lines.new.rest.now < length lines.old.rest.now) }

@@ -1,0 +1,22 @@
+use Rattle.std.proofs.Common.{[], ap, arith, length, refl}
+use Rattle.winnow_read.specs.Inputs.{TellsKind}
+use Rattle.winnow_read.specs.Reading.{TellsNothing}
+use Rattle.winnow_read.specs.declared.inputs.Kind.TheVariants.{Bytes, Text, BytePieces, TextPieces}
+use Rattle.winnow_read.proofs.UnreadLemmas.{TellsKind-text, TellsNothing-unread}
+use Rattle.winnow_read.proofs.inputs.read_kind.Goals as goal
+
+-- an empty line
+TellsKind-filled : TellsNothing TellsKind []
+TellsKind-filled Bytes told = omega (arith, ap length told)
+TellsKind-filled Text told = omega (arith, ap length told)
+TellsKind-filled BytePieces told = omega (arith, ap length told)
+TellsKind-filled TextPieces told = omega (arith, ap length told)
+
+-- no line, or no text
+pub returns-in_default-clause-fault : goal.returns-in_default-clause-fault
+returns-in_default-clause-fault c =
+    let text = c.args.lines.now.rest.now in
+    rw c.fault-fault.ensures (
+      refl,
+      TellsNothing-unread TellsKind text (λ read. cc (rw c.in_default.is at c.next_line.ensures.found.1 read)) (TellsKind-text _) TellsKind-filled,
+    )
