@@ -1,3 +1,4 @@
+use crate::feeding::{ByteStep, TextStep, feed_bytes, feed_text};
 use std::alloc::{AllocError, Global};
 use std::fmt::Debug;
 use std::test::Fail;
@@ -12,21 +13,6 @@ fn answers_of<T: Debug>(alloc: Global, finished: &Finished<T>) -> Result<String,
         line = format!(in alloc; "{line}{answer:?}; ")?;
     }
     format!(in alloc; "{line}at {}", finished.cursor())
-}
-
-// A place has to fit: no piece here is long.
-fn feed_bytes(feed: &mut ByteFeed, piece: &[u8]) -> Result<(), AllocError> {
-    if feed.fed() < 1_000 && piece.len() < 1_000 {
-        feed.feed(piece)?;
-    }
-    Ok(())
-}
-
-fn feed_text(feed: &mut TextFeed, piece: &str) -> Result<(), AllocError> {
-    if feed.fed() < 1_000 && piece.len() < 1_000 {
-        feed.feed(piece)?;
-    }
-    Ok(())
 }
 
 // Cuts the bytes behind the first, second and so on where the bits of `cut` say so, from the lowest on; with an empty piece before
@@ -76,10 +62,33 @@ fn feed_text_cut(
     Ok(())
 }
 
+// Cuts as the case says: its lowest bit is whether empty pieces come too, and the others are the cuts.
+fn answers_cut(
+    alloc: Global,
+    script: &[ByteStep],
+    bytes: &[u8],
+    case: u32,
+) -> Result<String, AllocError> {
+    let mut feed = ByteFeed::new(alloc, script)?;
+    feed_cut(&mut feed, bytes, case / 2, case % 2 == 1)?;
+    answers_of(alloc, &feed.end())
+}
+
+fn text_answers_cut(
+    alloc: Global,
+    script: &[TextStep],
+    text: &str,
+    case: u32,
+) -> Result<String, AllocError> {
+    let mut feed = TextFeed::new(alloc, script)?;
+    feed_text_cut(&mut feed, text, case / 2, case % 2 == 1)?;
+    answers_of(alloc, &feed.end())
+}
+
 #[test]
 fn bytes_answer_the_same_however_they_are_cut(rt: HostRuntime) -> Result<(), Fail> {
     let d = [('d', 'd')];
-    let script: [SearchStep<CharSet, &[u8]>; 12] = [
+    let script: [ByteStep; 12] = [
         SearchStep::Call(Mark),
         SearchStep::Call(Take(2)),
         SearchStep::Call(Mark),
@@ -94,10 +103,8 @@ fn bytes_answer_the_same_however_they_are_cut(rt: HostRuntime) -> Result<(), Fai
         SearchStep::Call(Finish),
     ];
     for case in 0..64 {
-        let mut feed = ByteFeed::new(rt.alloc(), &script)?;
-        feed_cut(&mut feed, b"abcabd", case / 2, case % 2 == 1)?;
         assert_eq!(rt;
-            answers_of(rt.alloc(), &feed.end())?.as_str(),
+            answers_cut(rt.alloc(), &script, b"abcabd", case)?.as_str(),
             "Call(Marked(0)); Call(Slice(0..2)); Call(Marked(1)); Compared(Ok(1)); Hit(Some(1..4)); Call(Done); Hit(Some(1..4)); \
              Call(Done); Call(Offset(2)); Call(First(Some(3))); Call(At(Ok(3))); Call(Slice(2..6)); at 6",
             "{case}"
@@ -109,7 +116,7 @@ fn bytes_answer_the_same_however_they_are_cut(rt: HostRuntime) -> Result<(), Fai
 #[test]
 fn text_answers_the_same_however_it_is_cut(rt: HostRuntime) -> Result<(), Fail> {
     let digits = [('0', '9')];
-    let script: [SearchStep<CharSet, &str>; 12] = [
+    let script: [TextStep; 12] = [
         SearchStep::Call(Mark),
         SearchStep::Call(Take(1)),
         SearchStep::Call(Mark),
@@ -124,10 +131,8 @@ fn text_answers_the_same_however_it_is_cut(rt: HostRuntime) -> Result<(), Fail> 
         SearchStep::Call(Finish),
     ];
     for case in 0..16 {
-        let mut feed = TextFeed::new(rt.alloc(), &script)?;
-        feed_text_cut(&mut feed, "aé1ß", case / 2, case % 2 == 1)?;
         assert_eq!(rt;
-            answers_of(rt.alloc(), &feed.end())?.as_str(),
+            text_answers_cut(rt.alloc(), &script, "aé1ß", case)?.as_str(),
             "Call(Marked(0)); Call(Slice(0..1)); Call(Marked(1)); Compared(Ok(2)); Hit(Some(3..5)); Call(Done); Hit(Some(1..4)); \
              Call(Done); Call(Offset(1)); Call(First(Some(2))); Call(At(Ok(3))); Call(Slice(1..6)); at 6",
             "{case}"

@@ -1,30 +1,12 @@
-use crate::pieces::told_bytes;
+use crate::feeding::{ByteStep, TextStep, fed_bytes, feed_bytes, feed_text};
 use std::alloc::{AllocError, Global};
 use std::test::Fail;
 use winnow_base::stream::Step::{Each, Finish, First, Mark, Next, Peek, Reset, Since, Take};
 use winnow_base::stream::{ByteFeed, CharSet, Needles, SearchStep, TextFeed};
 
-type ByteStep<'k> = SearchStep<CharSet<'k>, &'k [u8]>;
-
-type TextStep<'k> = SearchStep<CharSet<'k>, &'k str>;
-
-// After each piece: how many answers came out, how many bytes are kept, and how many steps were attempted so far.
-fn fed(alloc: Global, feed: &mut ByteFeed, pieces: &[&[u8]]) -> Result<String, AllocError> {
-    let mut line = format!(in alloc; "{}", feed.held())?;
-    for piece in pieces {
-        // A place has to fit: no piece here is long.
-        if feed.fed() > 1_000_000 || piece.len() > 1_000_000 {
-            return Ok(line);
-        }
-        let came = feed.feed(piece)?;
-        line = format!(in alloc; "{line}; {came} {} {}", feed.held(), feed.tried())?;
-    }
-    Ok(line)
-}
-
 #[test]
-fn a_mark_is_kept_for_its_reset(rt: HostRuntime) -> Result<(), Fail> {
-    let script: [ByteStep; 7] = [
+fn a_mark_is_kept_while_a_step_names_it(rt: HostRuntime) -> Result<(), Fail> {
+    let to_its_reset: [ByteStep; 7] = [
         SearchStep::Call(Mark),
         SearchStep::Call(Next),
         SearchStep::Call(Next),
@@ -33,23 +15,7 @@ fn a_mark_is_kept_for_its_reset(rt: HostRuntime) -> Result<(), Fail> {
         SearchStep::Call(Reset(0)),
         SearchStep::Call(Peek),
     ];
-    let mut feed = ByteFeed::new(rt.alloc(), &script)?;
-    let line = fed(rt.alloc(), &mut feed, &[b"abc", b"de", b"f"])?;
-    assert_eq!(rt; line.as_str(), "0; 4 3 5; 3 0 8; 0 0 8");
-    assert_eq!(rt; feed.fed(), 6);
-    assert_eq!(rt; feed.answers().len(), 7);
-    assert_eq!(rt;
-        told_bytes(rt.alloc(), &feed.end())?.as_str(),
-        "1 Call(Marked(0)); 1 Call(Token(Some(97))); 1 Call(Token(Some(98))); \
-         1 Call(Token(Some(99))); 2 Call(Token(Some(100))); 2 Call(Done); \
-         2 Call(Token(Some(97))); at 0"
-    );
-    Ok(())
-}
-
-#[test]
-fn a_mark_that_no_step_names_is_not(rt: HostRuntime) -> Result<(), Fail> {
-    let script: [ByteStep; 6] = [
+    let never_reset: [ByteStep; 6] = [
         SearchStep::Call(Next),
         SearchStep::Call(Next),
         SearchStep::Call(Mark),
@@ -57,23 +23,7 @@ fn a_mark_that_no_step_names_is_not(rt: HostRuntime) -> Result<(), Fail> {
         SearchStep::Call(Since(0)),
         SearchStep::Call(Finish),
     ];
-    let mut feed = ByteFeed::new(rt.alloc(), &script)?;
-    let line = fed(rt.alloc(), &mut feed, &[b"ab", b"cd"])?;
-    assert_eq!(rt; line.as_str(), "0; 3 0 4; 2 1 7");
-    let finished = feed.end();
-    assert_eq!(rt; finished.answers().len(), 6);
-    assert_eq!(rt; finished.cursor(), 4);
-    assert_eq!(rt;
-        told_bytes(rt.alloc(), &finished)?.as_str(),
-        "1 Call(Token(Some(97))); 1 Call(Token(Some(98))); 1 Call(Marked(0)); \
-         2 Call(Token(Some(99))); 2 Call(Offset(1)); 0 Call(Slice(3..4)); at 4"
-    );
-    Ok(())
-}
-
-#[test]
-fn a_mark_is_dropped_once_it_was_gone_back_to(rt: HostRuntime) -> Result<(), Fail> {
-    let script: [ByteStep; 6] = [
+    let gone_back_to: [ByteStep; 6] = [
         SearchStep::Call(Mark),
         SearchStep::Call(Next),
         SearchStep::Call(Next),
@@ -81,9 +31,38 @@ fn a_mark_is_dropped_once_it_was_gone_back_to(rt: HostRuntime) -> Result<(), Fai
         SearchStep::Call(Next),
         SearchStep::Call(Finish),
     ];
-    let mut feed = ByteFeed::new(rt.alloc(), &script)?;
-    let line = fed(rt.alloc(), &mut feed, &[b"a", b"b", b"c"])?;
-    assert_eq!(rt; line.as_str(), "0; 2 1 3; 3 1 7; 0 2 8");
+    let table: [(&[ByteStep], &[&[u8]], &str, &str); 3] = [
+        (
+            &to_its_reset,
+            &[b"abc", b"de", b"f"],
+            "0; 4 3 5; 3 0 8; 0 0 8; of 6 7",
+            "1 Call(Marked(0)); 1 Call(Token(Some(97))); 1 Call(Token(Some(98))); \
+             1 Call(Token(Some(99))); 2 Call(Token(Some(100))); 2 Call(Done); \
+             2 Call(Token(Some(97))); at 0",
+        ),
+        (
+            &never_reset,
+            &[b"ab", b"cd"],
+            "0; 3 0 4; 2 1 7; of 4 5",
+            "1 Call(Token(Some(97))); 1 Call(Token(Some(98))); 1 Call(Marked(0)); \
+             2 Call(Token(Some(99))); 2 Call(Offset(1)); 0 Call(Slice(3..4)); at 4",
+        ),
+        (
+            &gone_back_to,
+            &[b"a", b"b", b"c"],
+            "0; 2 1 3; 3 1 7; 0 2 8; of 3 5",
+            "1 Call(Marked(0)); 1 Call(Token(Some(97))); 2 Call(Token(Some(98))); 2 Call(Done); \
+             2 Call(Token(Some(97))); 0 Call(Slice(1..3)); at 3",
+        ),
+    ];
+    for (script, pieces, kept, told) in table {
+        let (line, answers) = fed_bytes(rt.alloc(), script, pieces)?;
+        assert_eq!(rt;
+            (line.as_str(), answers.as_str()),
+            (kept, told),
+            "{script:?}"
+        );
+    }
     Ok(())
 }
 
@@ -95,11 +74,24 @@ fn a_waiting_step_is_attempted_once_a_piece(rt: HostRuntime) -> Result<(), Fail>
         SearchStep::Compare(b"cd"),
         SearchStep::Call(Each),
     ];
-    let mut feed = ByteFeed::new(rt.alloc(), &script)?;
-    let line = fed(rt.alloc(), &mut feed, &[b"ab", b"c", b"de"])?;
-    assert_eq!(rt; line.as_str(), "0; 1 1 2; 1 0 4; 1 2 6");
-    assert_eq!(rt; feed.fed(), 5);
+    let (line, answers) = fed_bytes(rt.alloc(), &script, &[b"ab", b"c", b"de"])?;
+    assert_eq!(rt;
+        (line.as_str(), answers.as_str()),
+        (
+            "0; 1 1 2; 1 0 4; 1 2 6; of 5 3",
+            "1 Call(Token(Some(97))); 2 Call(Slice(1..3)); 3 Compared(Error); 0 Call(Items(3..5)); at 3"
+        )
+    );
     Ok(())
+}
+
+// How many bytes are kept of so many pieces of one `a`.
+fn held_of(alloc: Global, script: &[ByteStep], count: u32) -> Result<usize, AllocError> {
+    let mut feed = ByteFeed::new(alloc, script)?;
+    for _ in 0..count {
+        feed_bytes(&mut feed, b"a")?;
+    }
+    Ok(feed.held())
 }
 
 // Each byte is looked at once: a feed that went back to the cursor, or copied what it keeps, would not end.
@@ -111,29 +103,35 @@ fn many_small_pieces(rt: HostRuntime) -> Result<(), Fail> {
         [SearchStep::Find(Needles::Two(b"aaab", b"aac"))],
     ];
     for script in &scripts {
-        let mut feed = ByteFeed::new(rt.alloc(), script)?;
-        for _ in 0..400_000 {
-            let room = feed.fed() < 1_000_000;
-            assert!(rt; room);
-            feed.feed(b"a")?;
-        }
-        assert_eq!(rt; feed.held(), 400_000);
+        assert_eq!(rt;
+            held_of(rt.alloc(), script, 400_000)?,
+            400_000,
+            "{script:?}"
+        );
     }
     Ok(())
+}
+
+// How many bytes are kept of the pieces, how many steps were attempted, how many answers are out, and the final place.
+fn kept_text(
+    alloc: Global,
+    script: &[TextStep],
+    pieces: &[&str],
+) -> Result<(usize, u64, usize, usize), AllocError> {
+    let mut feed = TextFeed::new(alloc, script)?;
+    for piece in pieces {
+        feed_text(&mut feed, piece)?;
+    }
+    let (held, tried, out) = (feed.held(), feed.tried(), feed.answers().len());
+    Ok((held, tried, out, feed.end().cursor()))
 }
 
 #[test]
 fn text_is_kept_by_whole_characters(rt: HostRuntime) -> Result<(), Fail> {
     let script: [TextStep; 2] = [SearchStep::Call(Next), SearchStep::Find(Needles::One("éa"))];
-    let mut feed = TextFeed::new(rt.alloc(), &script)?;
-    for piece in ["é", "é", "a"] {
-        let room = feed.fed() < 1_000;
-        assert!(rt; room);
-        feed.feed(piece)?;
-    }
-    assert_eq!(rt; feed.held(), 0);
-    assert_eq!(rt; feed.tried(), 4);
-    assert_eq!(rt; feed.answers().len(), 2);
-    assert_eq!(rt; feed.end().cursor(), 2);
+    assert_eq!(rt;
+        kept_text(rt.alloc(), &script, &["é", "é", "a"])?,
+        (0, 4, 2, 2)
+    );
     Ok(())
 }

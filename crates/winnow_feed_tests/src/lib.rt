@@ -4,6 +4,8 @@
 #[cfg(test)]
 mod cuts;
 #[cfg(test)]
+mod feeding;
+#[cfg(test)]
 mod held;
 #[cfg(test)]
 mod pieces;

@@ -1,48 +1,10 @@
+use crate::feeding::{ByteStep, TextStep, fed_bytes, told};
 use std::alloc::{AllocError, Global};
 use std::test::Fail;
 use winnow_base::stream::Step::{At, Each, Eof, Finish, Next, Peek, Take};
 use winnow_base::stream::{
-    ByteFeed, CharSet, Finished, Needles, SearchStep, one_search_law, run_pieces, run_pieces_text,
-    told_law,
+    Needles, SearchStep, one_search_law, run_pieces, run_pieces_text, told_law,
 };
-
-type ByteStep<'k> = SearchStep<CharSet<'k>, &'k [u8]>;
-
-type TextStep<'k> = SearchStep<CharSet<'k>, &'k str>;
-
-// Each answer with the number of its piece, or 0 at the end, and then the final place.
-pub(crate) fn told_bytes(alloc: Global, finished: &Finished<u8>) -> Result<String, AllocError> {
-    let mut line = String::new(alloc);
-    for told in finished.answers() {
-        let piece = told.piece.unwrap_or(0);
-        let answer = &told.answer;
-        line = format!(in alloc; "{line}{piece} {answer:?}; ")?;
-    }
-    format!(in alloc; "{line}at {}", finished.cursor())
-}
-
-// The same, of a script that is fed each piece.
-fn fed_bytes(alloc: Global, script: &[ByteStep], pieces: &[&[u8]]) -> Result<String, AllocError> {
-    let mut feed = ByteFeed::new(alloc, script)?;
-    for piece in pieces {
-        // A place has to fit: no piece here is long.
-        if feed.fed() > 1_000_000 || piece.len() > 1_000_000 {
-            return Ok(String::new(alloc));
-        }
-        feed.feed(piece)?;
-    }
-    told_bytes(alloc, &feed.end())
-}
-
-fn told_text(alloc: Global, finished: &Finished<char>) -> Result<String, AllocError> {
-    let mut line = String::new(alloc);
-    for told in finished.answers() {
-        let piece = told.piece.unwrap_or(0);
-        let answer = &told.answer;
-        line = format!(in alloc; "{line}{piece} {answer:?}; ")?;
-    }
-    format!(in alloc; "{line}at {}", finished.cursor())
-}
 
 #[test]
 fn an_empty_piece_lets_nothing_out(rt: HostRuntime) -> Result<(), Fail> {
@@ -53,10 +15,20 @@ fn an_empty_piece_lets_nothing_out(rt: HostRuntime) -> Result<(), Fail> {
     ];
     let finished = run_pieces(rt.alloc(), &script, &[b"a", b"", b"b"])?;
     assert_eq!(rt;
-        told_bytes(rt.alloc(), &finished)?.as_str(),
+        told(rt.alloc(), &finished)?.as_str(),
         "1 Call(Token(Some(97))); 3 Call(Token(Some(98))); 0 Call(Token(None)); at 2"
     );
     Ok(())
+}
+
+// What is told of one search.
+fn searched(
+    alloc: Global,
+    needles: Needles<&[u8]>,
+    pieces: &[&[u8]],
+) -> Result<String, AllocError> {
+    let (_, answers) = fed_bytes(alloc, &[SearchStep::Find(needles)], pieces)?;
+    Ok(answers)
 }
 
 #[test]
@@ -104,9 +76,8 @@ fn a_hit_waits_while_a_needle_could_move_it(rt: HostRuntime) -> Result<(), Fail>
         ),
     ];
     for (needles, pieces, want) in table {
-        let script: [ByteStep; 1] = [SearchStep::Find(needles)];
-        let told = fed_bytes(rt.alloc(), &script, &pieces)?;
-        assert_eq!(rt; told.as_str(), want, "{needles:?}");
+        let answers = searched(rt.alloc(), needles, &pieces)?;
+        assert_eq!(rt; answers.as_str(), want, "{needles:?}");
     }
     Ok(())
 }
@@ -116,12 +87,12 @@ fn what_runs_to_the_end_waits_for_it(rt: HostRuntime) -> Result<(), Fail> {
     let script: [ByteStep; 2] = [SearchStep::Call(Finish), SearchStep::Call(Eof)];
     let finished = run_pieces(rt.alloc(), &script, &[b"ab", b"c"])?;
     assert_eq!(rt;
-        told_bytes(rt.alloc(), &finished)?.as_str(),
+        told(rt.alloc(), &finished)?.as_str(),
         "0 Call(Slice(0..3)); 0 Call(Offset(0)); at 3"
     );
     let none = run_pieces(rt.alloc(), &script, &[])?;
     assert_eq!(rt;
-        told_bytes(rt.alloc(), &none)?.as_str(),
+        told(rt.alloc(), &none)?.as_str(),
         "0 Call(Slice(0..0)); 0 Call(Offset(0)); at 0"
     );
     Ok(())
@@ -137,7 +108,7 @@ fn slices_are_places_in_the_joined_input(rt: HostRuntime) -> Result<(), Fail> {
     ];
     let finished = run_pieces(rt.alloc(), &script, &[b"ab", b"c", b"de"])?;
     assert_eq!(rt;
-        told_bytes(rt.alloc(), &finished)?.as_str(),
+        told(rt.alloc(), &finished)?.as_str(),
         "1 Call(Token(Some(97))); 2 Call(Slice(1..3)); 3 Compared(Error); 0 Call(Items(3..5)); at 3"
     );
     Ok(())
@@ -152,7 +123,7 @@ fn text_in_pieces(rt: HostRuntime) -> Result<(), Fail> {
     ];
     let finished = run_pieces_text(rt.alloc(), &script, &["é", "1"])?;
     assert_eq!(rt;
-        told_text(rt.alloc(), &finished)?.as_str(),
+        told(rt.alloc(), &finished)?.as_str(),
         "2 Call(At(Ok(3))); 2 Call(BadOffset); 0 Call(Offset(3)); at 0"
     );
     Ok(())

@@ -1,13 +1,10 @@
+use crate::feeding::{ByteStep, TextStep, feed_bytes, feed_text};
 use std::alloc::{AllocError, Global};
 use std::test::Fail;
 use winnow_base::stream::Step::{
     At, Each, Eof, Finish, First, IsOffset, Look, Next, Peek, PeekFinish, Take,
 };
 use winnow_base::stream::{ByteFeed, CharSet, Needles, SearchStep, TextFeed, Waiting};
-
-type ByteStep<'k> = SearchStep<CharSet<'k>, &'k [u8]>;
-
-type TextStep<'k> = SearchStep<CharSet<'k>, &'k str>;
 
 // What is missing, or in words what is waited for.
 fn in_words(alloc: Global, waiting: Waiting<Vec<u8>>) -> Result<String, AllocError> {
@@ -28,34 +25,55 @@ fn text_in_words(alloc: Global, waiting: Waiting<String>) -> Result<String, Allo
     }
 }
 
-// What is waited for before the first piece, and after each.
-fn waits(alloc: Global, script: &[ByteStep], pieces: &[&[u8]]) -> Result<String, AllocError> {
-    let mut feed = ByteFeed::new(alloc, script)?;
-    let mut line = in_words(alloc, feed.waits_for()?)?;
+fn waits_for(alloc: Global, feed: &ByteFeed) -> Result<String, AllocError> {
+    in_words(alloc, feed.waits_for()?)
+}
+
+fn text_waits_for(alloc: Global, feed: &TextFeed) -> Result<String, AllocError> {
+    text_in_words(alloc, feed.waits_for()?)
+}
+
+fn waits_after(alloc: Global, feed: &mut ByteFeed, piece: &[u8]) -> Result<String, AllocError> {
+    feed_bytes(feed, piece)?;
+    waits_for(alloc, feed)
+}
+
+fn text_waits_after(alloc: Global, feed: &mut TextFeed, piece: &str) -> Result<String, AllocError> {
+    feed_text(feed, piece)?;
+    text_waits_for(alloc, feed)
+}
+
+// What the feed waits for, and then what after each piece.
+fn all_waits(alloc: Global, feed: &mut ByteFeed, pieces: &[&[u8]]) -> Result<String, AllocError> {
+    let mut line = waits_for(alloc, feed)?;
     for piece in pieces {
-        // A place has to fit: no piece here is long.
-        if feed.fed() > 1_000_000 || piece.len() > 1_000_000 {
-            return Ok(line);
-        }
-        feed.feed(piece)?;
-        let waiting = in_words(alloc, feed.waits_for()?)?;
+        let waiting = waits_after(alloc, feed, piece)?;
         line = format!(in alloc; "{line} {waiting}")?;
     }
     Ok(line)
 }
 
-fn text_waits(alloc: Global, script: &[TextStep], pieces: &[&str]) -> Result<String, AllocError> {
-    let mut feed = TextFeed::new(alloc, script)?;
-    let mut line = text_in_words(alloc, feed.waits_for()?)?;
+fn all_text_waits(
+    alloc: Global,
+    feed: &mut TextFeed,
+    pieces: &[&str],
+) -> Result<String, AllocError> {
+    let mut line = text_waits_for(alloc, feed)?;
     for piece in pieces {
-        if feed.fed() > 1_000_000 || piece.len() > 1_000_000 {
-            return Ok(line);
-        }
-        feed.feed(piece)?;
-        let waiting = text_in_words(alloc, feed.waits_for()?)?;
+        let waiting = text_waits_after(alloc, feed, piece)?;
         line = format!(in alloc; "{line} {waiting}")?;
     }
     Ok(line)
+}
+
+fn waits(alloc: Global, script: &[ByteStep], pieces: &[&[u8]]) -> Result<String, AllocError> {
+    let mut feed = ByteFeed::new(alloc, script)?;
+    all_waits(alloc, &mut feed, pieces)
+}
+
+fn text_waits(alloc: Global, script: &[TextStep], pieces: &[&str]) -> Result<String, AllocError> {
+    let mut feed = TextFeed::new(alloc, script)?;
+    all_text_waits(alloc, &mut feed, pieces)
 }
 
 // The first range is reversed, and the second holds no byte.
@@ -149,19 +167,48 @@ fn a_set_that_holds_no_token_waits_to_the_end(rt: HostRuntime) -> Result<(), Fai
     Ok(())
 }
 
+// After two bytes: whether memory for what is missing is refused, how much was fed and is kept, how many steps were attempted, and
+// how many answers are out.
+fn after_two_bytes(
+    alloc: Global,
+    script: &[ByteStep],
+) -> Result<(bool, usize, usize, u64, usize), AllocError> {
+    let mut feed = ByteFeed::new(alloc, script)?;
+    feed_bytes(&mut feed, b"ab")?;
+    let refused = waits_for(alloc, &feed).is_err();
+    Ok((
+        refused,
+        feed.fed(),
+        feed.held(),
+        feed.tried(),
+        feed.answers().len(),
+    ))
+}
+
+fn after_two_characters(
+    alloc: Global,
+    script: &[TextStep],
+) -> Result<(bool, usize, usize, u64, usize), AllocError> {
+    let mut feed = TextFeed::new(alloc, script)?;
+    feed_text(&mut feed, "ab")?;
+    let refused = text_waits_for(alloc, &feed).is_err();
+    Ok((
+        refused,
+        feed.fed(),
+        feed.held(),
+        feed.tried(),
+        feed.answers().len(),
+    ))
+}
+
 #[test]
 fn what_is_too_long_is_refused(rt: HostRuntime) -> Result<(), Fail> {
     let script: [ByteStep; 2] = [SearchStep::Call(Next), SearchStep::Call(Take(usize::MAX))];
-    let mut feed = ByteFeed::new(rt.alloc(), &script)?;
-    feed.feed(b"ab")?;
-    assert!(rt; feed.waits_for().is_err());
-    assert_eq!(rt; (feed.fed(), feed.held(), feed.tried()), (2, 1, 2));
-    assert_eq!(rt; feed.answers().len(), 1);
+    assert_eq!(rt; after_two_bytes(rt.alloc(), &script)?, (true, 2, 1, 2, 1));
     let script: [TextStep; 2] = [SearchStep::Call(Next), SearchStep::Call(Take(usize::MAX))];
-    let mut feed = TextFeed::new(rt.alloc(), &script)?;
-    feed.feed("ab")?;
-    assert!(rt; feed.waits_for().is_err());
-    assert_eq!(rt; (feed.fed(), feed.held(), feed.tried()), (2, 1, 2));
-    assert_eq!(rt; feed.answers().len(), 1);
+    assert_eq!(rt;
+        after_two_characters(rt.alloc(), &script)?,
+        (true, 2, 1, 2, 1)
+    );
     Ok(())
 }
