@@ -2,6 +2,10 @@
 #![tactic(auto)]
 
 #[cfg(test)]
+mod comparisons;
+#[cfg(test)]
+mod fixtures;
+#[cfg(test)]
 mod nests;
 #[cfg(test)]
 mod texts;

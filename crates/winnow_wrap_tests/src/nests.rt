@@ -1,12 +1,11 @@
 ghost use Rattle.std.specs.Prelude.{◌≡◌, false};
 
+use crate::fixtures::{Mode, nest, recording, told_nest};
 use std::alloc::{AllocError, Global};
 use std::process::Abort;
 use std::test::Fail;
-use winnow_error::ErrMode::Backtrack;
-use winnow_error::{EmptyError, ErrMode};
 use winnow_kinds::BStr;
-use winnow_recover::{Recover, Recoverable};
+use winnow_recover::Recoverable;
 use winnow_run::Step;
 use winnow_run::Step::{At, Each, Mark, Next, Peek, Reset, Since, Take};
 use winnow_stream::{Location, NoSet, Stream, StreamIsPartial};
@@ -14,50 +13,53 @@ use winnow_test_helpers::{Traced, shown, tell, told};
 use winnow_views::{Bits, TokenSlice, bit_source_law};
 use winnow_wrap::{LocatingSlice, Partial, Stateful};
 
-type Mode = ErrMode<EmptyError>;
-
 const SCRIPT: [Step<NoSet>; 8] = [Next, Mark, Take(1), Since(0), Reset(0), At(9), Peek, Each];
 
-// A recorded error, and what a script through four wrappers answers and leaves: the flag, the state, the place, and what stands
-// inside them.
+// What a script through three wrappers answers and leaves: the flag, the state, the place, and what stands inside them.
 fn told_inside<I: Stream + StreamIsPartial + Drop>(
     alloc: Global,
-    input: I,
+    inside: I,
     script: &[Step<NoSet>],
 ) -> Result<String, AllocError>
 where
     I::Token: Drop,
     I::Slice: Drop,
-    requires valid { I.valid input }
+    requires valid { I.valid inside }
     requires no_flag { I.supports_partial ≡ false }
 {
-    let mut inside: Recoverable<I, Mode> = Recoverable::new(alloc, input);
-    let start = inside.checkpoint();
-    let recorded = inside.record_err(&start, &start, Backtrack(EmptyError));
-    let mut s = Partial::new(Stateful {
-        input: LocatingSlice::new(inside),
-        state: 7u32,
-    });
-    let answers = tell(alloc, &mut s, script)?;
+    let mut s = nest(inside);
+    let answers = told_nest(alloc, &mut s, script)?;
     let (flag, place) = (s.is_partial(), s.current_token_start());
     let Stateful { input, state } = s.into_inner();
-    format!(in alloc; "{recorded:?} {answers} {flag} {state} {place} {input:?}")
+    format!(in alloc; "{answers} {flag} {state} {place} {input:?}")
 }
 
 #[test]
 fn bits_under_four_wrappers(rt: HostRuntime) -> Result<(), Fail> {
     bit_source_law();
     let script = [Next, Mark, Take(3), Since(0), Reset(0), Peek];
-    let told = told_inside(rt.alloc(), Bits::new(b"\xAB".as_slice()), &script)?;
+    let inside = recording(&rt, rt.alloc(), Bits::new(b"\xAB".as_slice()));
+    let told = told_inside(rt.alloc(), inside, &script)?;
     assert_eq!(rt;
         told.as_str(),
-        "Ok(()) [Token(Some(true)), Marked(0), Slice(([], 1, 4)), Offset(3), Done, Token(Some(true))] true 7 1 \
+        "[Token(Some(true)), Marked(0), Slice(([], 1, 4)), Offset(3), Done, Token(Some(true))] true 7 1 \
         Recoverable { input: Bits { input: [171], place: 1 }, errors: [Backtrack(EmptyError)], is_recoverable: true }"
     );
     Ok(())
 }
 
-// What a script answers through four wrappers, the stream that records outermost.
+// What a script answers through a place and a stream that records round it.
+fn told_in_place_and_record<S: Stream + Drop>(alloc: Global, s: S) -> Result<String, AllocError>
+where
+    S::Token: Drop,
+    S::Slice: Drop,
+    requires { S.valid s }
+{
+    let nest: Recoverable<_, Mode> = Recoverable::new(alloc, LocatingSlice::new(s));
+    told(alloc, nest, &SCRIPT)
+}
+
+// What it answers through four wrappers, the stream that records outermost.
 fn told_in_record<I: Stream + StreamIsPartial + Drop>(
     alloc: Global,
     input: I,
@@ -68,12 +70,28 @@ where
     requires valid { I.valid input }
     requires no_flag { I.supports_partial ≡ false }
 {
-    let inside = Partial::new(Stateful { input, state: 7u32 });
-    let nest: Recoverable<_, Mode> = Recoverable::new(alloc, LocatingSlice::new(inside));
+    told_in_place_and_record(alloc, Partial::new(Stateful { input, state: 7u32 }))
+}
+
+// What it answers through a flag and a state round it.
+fn told_in_flag_and_state<S: Stream + StreamIsPartial + Drop>(
+    alloc: Global,
+    s: S,
+) -> Result<String, AllocError>
+where
+    S::Token: Drop,
+    S::Slice: Drop,
+    requires valid { S.valid s }
+    requires no_flag { S.supports_partial ≡ false }
+{
+    let nest = Stateful {
+        input: Partial::new(s),
+        state: 7u32,
+    };
     told(alloc, nest, &SCRIPT)
 }
 
-// The same, with that stream innermost, and no recovery.
+// What it answers through four wrappers, the stream that records innermost, and no recovery.
 fn told_round_record<I: Stream + StreamIsPartial + Drop>(
     alloc: Global,
     input: I,
@@ -85,11 +103,7 @@ where
     requires no_flag { I.supports_partial ≡ false }
 {
     let inside: Recoverable<I, Mode> = Recoverable::unrecoverable(alloc, input);
-    let nest = Stateful {
-        input: Partial::new(LocatingSlice::new(inside)),
-        state: 7u32,
-    };
-    told(alloc, nest, &SCRIPT)
+    told_in_flag_and_state(alloc, LocatingSlice::new(inside))
 }
 
 // Asserts that a script answers as on the stream inside, in two orders of the wrappers.
@@ -127,12 +141,8 @@ where
     requires valid { I.valid input }
     requires no_flag { I.supports_partial ≡ false }
 {
-    let inside = Partial::new(Stateful {
-        input: LocatingSlice::new(input),
-        state: 7u32,
-    });
-    let nest: Recoverable<_, Mode> = Recoverable::new(alloc, inside);
-    shown(alloc, &Traced(nest))
+    let recording: Recoverable<_, Mode> = Recoverable::new(alloc, nest(input));
+    shown(alloc, &Traced(recording))
 }
 
 #[test]

@@ -7,18 +7,15 @@ ghost use Rattle.winnow_wrap.specs.declared.located.LocatingSlice.{LocatingSlice
 ghost use Rattle.winnow_wrap.specs.declared.partial.Partial.{Partial};
 ghost use Rattle.winnow_wrap.specs.declared.stateful.Stateful.{Stateful};
 
+use crate::fixtures::{Mode, recording};
 use std::alloc::{AllocError, Global};
 use std::fmt::{Debug, Display};
 use std::process::Abort;
 use std::test::Fail;
-use winnow_error::ErrMode::Backtrack;
-use winnow_error::{EmptyError, ErrMode};
 use winnow_kinds::BStr;
-use winnow_recover::{Recover, Recoverable};
+use winnow_recover::Recoverable;
 use winnow_stream::{Stream, StreamIsPartial};
 use winnow_wrap::{LocatingSlice, Partial, Stateful};
-
-type Mode = ErrMode<EmptyError>;
 
 // What the members say that tell texts, spelled out: each wrapper prints as the stream inside, whatever the options of a hole are.
 // Generic code promises what they say and no more, so a member that says less is refused here.
@@ -49,9 +46,17 @@ fn law_of_texts(_rt: HostRuntime) {
     text_law::<&str, u32, Mode>();
 }
 
-// The text without options, under `#`, with a width, and with a precision.
-fn printed<T: Display>(alloc: Global, value: &T) -> Result<String, AllocError> {
-    format!(in alloc; "{value}|{value:#}|{value:>6}|{value:.2}")
+// Asserts the text without options, under `#`, with a width, and with a precision.
+fn prints<T: Display>(
+    rt: &impl Abort,
+    alloc: Global,
+    value: &T,
+    wanted: &str,
+    wrapper: &str,
+) -> Result<(), AllocError> {
+    let printed = format!(in alloc; "{value}|{value:#}|{value:>6}|{value:.2}")?;
+    assert_eq!(rt; printed.as_str(), wanted, "{wrapper}");
+    Ok(())
 }
 
 // Asserts what each wrapper round a stream prints.
@@ -65,16 +70,12 @@ where
     requires valid { I.valid input }
     requires no_flag { I.supports_partial ≡ false }
 {
-    let located = printed(alloc, &LocatingSlice::new(input))?;
-    let flagged = printed(alloc, &Partial::new(input))?;
-    let stateful = printed(alloc, &Stateful { input, state: 7u32 })?;
+    let stateful = Stateful { input, state: 7u32 };
     let recording: Recoverable<I, Mode> = Recoverable::new(alloc, input);
-    let recording = printed(alloc, &recording)?;
-    assert_eq!(rt; located.as_str(), wanted, "a place");
-    assert_eq!(rt; flagged.as_str(), wanted, "a flag");
-    assert_eq!(rt; stateful.as_str(), wanted, "a state");
-    assert_eq!(rt; recording.as_str(), wanted, "recorded errors");
-    Ok(())
+    prints(rt, alloc, &LocatingSlice::new(input), wanted, "a place")?;
+    prints(rt, alloc, &Partial::new(input), wanted, "a flag")?;
+    prints(rt, alloc, &stateful, wanted, "a state")?;
+    prints(rt, alloc, &recording, wanted, "recorded errors")
 }
 
 // A text is padded and cut, and one of bytes is cut alone.
@@ -90,46 +91,30 @@ fn debugs<T: Debug>(
     rt: &impl Abort,
     alloc: Global,
     value: &T,
-    wanted: [&str; 3],
+    wanted: &str,
 ) -> Result<(), AllocError> {
-    let pretty = format!(in alloc; "{value:#?}")?;
-    let wide = format!(in alloc; "{value:>6?}")?;
-    let cut = format!(in alloc; "{value:.2?}")?;
-    assert_eq!(rt; [pretty.as_str(), wide.as_str(), cut.as_str()], wanted);
+    let printed = format!(in alloc; "{value:#?}|{value:>6?}|{value:.2?}")?;
+    assert_eq!(rt; printed.as_str(), wanted);
     Ok(())
-}
-
-// Asserts those of a stream that recorded an error.
-fn recording_debugs<I: Stream + Drop>(
-    rt: &impl Abort,
-    alloc: Global,
-    input: I,
-    wanted: [&str; 3],
-) -> Result<(), AllocError>
-where
-    requires { I.valid input }
-{
-    let mut s: Recoverable<I, Mode> = Recoverable::new(alloc, input);
-    let start = s.checkpoint();
-    let recorded = s.record_err(&start, &start, Backtrack(EmptyError));
-    assert!(rt; recorded.is_ok());
-    debugs(rt, alloc, &s, wanted)
 }
 
 // As derives of Rust print them.
 #[test]
 fn debug_texts_under_options(rt: HostRuntime) -> Result<(), Fail> {
     let alloc = rt.alloc();
-    debugs(&rt, alloc, &LocatingSlice::new("ab"), ["\"ab\""; 3])?;
+    debugs(
+        &rt,
+        alloc,
+        &LocatingSlice::new("ab"),
+        "\"ab\"|\"ab\"|\"ab\"",
+    )?;
     debugs(
         &rt,
         alloc,
         &Partial::new("ab"),
-        [
-            "Partial {\n    input: \"ab\",\n    partial: true,\n}",
-            "Partial { input: \"ab\", partial:   true }",
-            "Partial { input: \"ab\", partial: tr }",
-        ],
+        "Partial {\n    input: \"ab\",\n    partial: true,\n}\
+        |Partial { input: \"ab\", partial:   true }\
+        |Partial { input: \"ab\", partial: tr }",
     )?;
     debugs(
         &rt,
@@ -138,22 +123,18 @@ fn debug_texts_under_options(rt: HostRuntime) -> Result<(), Fail> {
             input: "ab",
             state: 7u32,
         },
-        [
-            "Stateful {\n    input: \"ab\",\n    state: 7,\n}",
-            "Stateful { input: \"ab\", state:      7 }",
-            "Stateful { input: \"ab\", state: 7 }",
-        ],
+        "Stateful {\n    input: \"ab\",\n    state: 7,\n}\
+        |Stateful { input: \"ab\", state:      7 }\
+        |Stateful { input: \"ab\", state: 7 }",
     )?;
-    recording_debugs(
+    debugs(
         &rt,
         alloc,
-        "ab",
-        [
-            "Recoverable {\n    input: \"ab\",\n    errors: [\n        Backtrack(\n            EmptyError,\n        ),\n    ],\n    \
-            is_recoverable: true,\n}",
-            "Recoverable { input: \"ab\", errors: [Backtrack(EmptyError)], is_recoverable:   true }",
-            "Recoverable { input: \"ab\", errors: [Backtrack(EmptyError)], is_recoverable: tr }",
-        ],
+        &recording(&rt, alloc, "ab"),
+        "Recoverable {\n    input: \"ab\",\n    errors: [\n        Backtrack(\n            EmptyError,\n        ),\n    ],\n    \
+        is_recoverable: true,\n}\
+        |Recoverable { input: \"ab\", errors: [Backtrack(EmptyError)], is_recoverable:   true }\
+        |Recoverable { input: \"ab\", errors: [Backtrack(EmptyError)], is_recoverable: tr }",
     )?;
     Ok(())
 }

@@ -1,0 +1,149 @@
+ghost use Rattle.std.specs.Prelude.{◌≡◌, ◌&&◌};
+ghost use Rattle.std.specs.Ordering.{on, then_cmp};
+ghost use Rattle.winnow_stream.specs.Checkpoint.{checkpoint_inner};
+ghost use Rattle.winnow_wrap.specs.Flag.{partial_inner, flag};
+
+use crate::fixtures::place;
+use std::cmp::Ordering;
+use winnow_stream::{Checkpoint, Stream, StreamIsPartial};
+use winnow_test_helpers::window_of;
+use winnow_wrap::{
+    LocatingSlice, Partial, Placed, Stateful, flagged_equality_law, flagged_order_law,
+    located_equality_law, located_order_law, stateful_equality_law,
+    wrapper_checkpoint_equality_law, wrapper_checkpoint_order_law,
+};
+
+// The order of the starts, and then that of the streams inside.
+fn order_of<I: Stream + Ord>(s: &LocatingSlice<I>, t: &LocatingSlice<I>) -> Ordering
+where
+    I::Checkpoint: Ord,
+    ensures { result ≡ then_cmp (on (λ v. v.start) I.Checkpoint.cmp) (on (λ v. v.input) I.cmp) s.now
+        t.now }
+{
+    s.cmp(t)
+}
+
+// Whether the starts and the streams inside are equal, wherever they stand.
+fn is_same<I: Stream + PartialEq>(s: &LocatingSlice<I>, t: &LocatingSlice<I>) -> bool
+where
+    I::Checkpoint: PartialEq,
+    ensures { result ≡ (I.Checkpoint.eq s.now.start t.now.start && I.eq s.now.input t.now.input) }
+{
+    s == t
+}
+
+// Whether two places are equal, and their order: those of the checkpoints inside, wherever they are.
+fn order_of_places<I: Stream>(
+    s: &Checkpoint<Placed<I::Checkpoint>, LocatingSlice<I>>,
+    t: &Checkpoint<Placed<I::Checkpoint>, LocatingSlice<I>>,
+) -> (bool, Ordering)
+where
+    I::Checkpoint: Ord,
+    ensures equal { result.0 ≡ I.Checkpoint.eq (checkpoint_inner s.now).inner
+        (checkpoint_inner t.now).inner }
+    ensures order { result.1 ≡ I.Checkpoint.cmp (checkpoint_inner s.now).inner
+        (checkpoint_inner t.now).inner }
+{
+    (s == t, s.cmp(t))
+}
+
+// Whether the streams inside and the states are equal.
+fn is_same_state<I: PartialEq, S: PartialEq>(s: &Stateful<I, S>, t: &Stateful<I, S>) -> bool
+    ensures { result ≡ (I.eq s.now.input t.now.input && S.eq s.now.state t.now.state) }
+{
+    s == t
+}
+
+// Whether the streams inside and the flags are equal.
+fn is_same_flagged<I: PartialEq>(s: &Partial<I>, t: &Partial<I>) -> bool
+    ensures { result ≡ (I.eq (partial_inner s.now) (partial_inner t.now) && ⟦<bool as PartialEq>⟧.eq
+        (flag s.now) (flag t.now)) }
+{
+    s == t
+}
+
+// The order of the streams inside, and then that of the flags.
+fn flagged_order<I: Ord>(s: &Partial<I>, t: &Partial<I>) -> Ordering
+    ensures { result ≡ then_cmp (on partial_inner I.cmp) (on flag ⟦<bool as Ord>⟧.cmp) s.now t.now }
+{
+    s.cmp(t)
+}
+
+// Whether a place further on is the same, is greater, and is the same again once it is reset, each with its checkpoint.
+fn compared_places<I: Stream + Ord + Copy>(input: I) -> [bool; 5]
+where
+    I::Checkpoint: Ord,
+    I::Token: Drop,
+    requires { I.valid input }
+{
+    let (located, mut later) = (LocatingSlice::new(input), LocatingSlice::new(input));
+    let start = located.checkpoint();
+    let same = [later == located, later.checkpoint() == start];
+    let _ = later.next_token();
+    let further = [later > located, later.checkpoint() > start];
+    later.reset(&start);
+    [same[0], same[1], further[0], further[1], later == located]
+}
+
+#[test]
+fn places_are_compared_by_what_they_hold(rt: HostRuntime) {
+    // The start counts before what remains, and the place not at all.
+    let mut later = LocatingSlice::new("ab");
+    let _ = later.next_token();
+    let order = order_of(&later, &LocatingSlice::new("ac"));
+    assert_eq!(rt; (compared_places("ab"), order), ([true; 5], Ordering::Less));
+}
+
+#[test]
+fn equal_windows_may_have_other_places(rt: HostRuntime) {
+    let (first, mut second) = (LocatingSlice::new("abab"), LocatingSlice::new("abab"));
+    assert!(rt; first.is_offset(2) && second.is_offset(2));
+    let _ = second.next_slice(2);
+    let is_same_rest = is_same(&first, &second);
+    assert!(rt; second.is_offset(2));
+    let (first, second) = (window_of(first, 2), window_of(second, 2));
+    assert_eq!(rt;
+        (
+            [is_same_rest, is_same(&first, &second)],
+            [place(&first), place(&second)],
+            order_of_places::<&str>(&first.checkpoint(), &second.checkpoint())
+        ),
+        ([false, true], [(0, 0), (2, 2)], (true, Ordering::Equal))
+    );
+}
+
+#[test]
+fn flags_and_states_are_compared(rt: HostRuntime) {
+    let (set, mut clear) = (Partial::new("ab"), Partial::new("ab"));
+    let _ = clear.complete();
+    let counted = Stateful {
+        input: "",
+        state: 0,
+    };
+    assert_eq!(rt;
+        (
+            [
+                is_same_flagged(&set, &set),
+                is_same_flagged(&set, &clear),
+                is_same_state(&counted, &Stateful::default())
+            ],
+            [
+                flagged_order(&clear, &set),
+                flagged_order(&Partial::new("a"), &clear)
+            ]
+        ),
+        ([true, false, true], [Ordering::Less; 2])
+    );
+}
+
+// Laws do nothing: that each is called here shows that it can be.
+#[test]
+fn the_laws_can_be_called(_rt: HostRuntime) {
+    located_equality_law::<&str>();
+    located_order_law::<&str>();
+    flagged_equality_law::<&str>();
+    flagged_order_law::<&str>();
+    stateful_equality_law::<&str, u32>();
+    wrapper_checkpoint_equality_law::<Checkpoint<&str, &str>, Stateful<&str, u32>>();
+    wrapper_checkpoint_order_law::<Checkpoint<&str, &str>, Partial<&str>>();
+}
