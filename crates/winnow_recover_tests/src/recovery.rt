@@ -101,26 +101,33 @@ fn passed_on_law<I: StreamIsPartial + Display, E>()
         → t ≡ s.input }
 {}
 
-// They do nothing: that each is called shows that it can be.
+// Laws do nothing: that each is called shows that it can be. `refused_all` calls the other.
 #[test]
 fn laws_of_members(_rt: HostRuntime) {
-    recovery_law::<&str, Mode, Mode>();
     passed_on_law::<&str, Mode>();
 }
 
-// Records an error behind a token, goes back, and records one that is incomplete: what the calls answered, the token ahead, and
-// what stands inside at the end.
-fn recorded_and_reset<I: Stream + Drop>(alloc: Global, input: I) -> Result<String, AllocError>
+// Records an error behind a token, goes back, and records another: what the calls answered, the token ahead, and what stands
+// inside at the end.
+fn recorded_and_reset<I, E, R>(
+    alloc: Global,
+    input: I,
+    first: E,
+    second: E,
+) -> Result<String, AllocError>
 where
+    I: Stream + Drop,
     I::Token: Drop,
+    E: ParserError<Recoverable<I, R>> + Debug,
+    R: FromRecoverableError<Recoverable<I, R>, E> + Debug + Drop,
     requires { I.valid input }
 {
-    let mut s: Recoverable<I, Mode> = Recoverable::new(alloc, input);
+    let mut s: Recoverable<I, R> = Recoverable::new(alloc, input);
     let before = s.checkpoint();
     let token = s.next_token();
-    let first: Result<(), RecordError<Mode>> = recorded(&mut s, Backtrack(EmptyError));
+    let first = recorded(&mut s, first);
     s.reset(&before);
-    let second: Result<(), RecordError<Mode>> = recorded(&mut s, Incomplete(Needed::Unknown));
+    let second = recorded(&mut s, second);
     let ahead = s.peek_token();
     let (input, errors) = s.into_parts();
     format!(in alloc; "{token:?} {first:?}, {second:?} {ahead:?}, {input:?} {errors:?}")
@@ -128,8 +135,15 @@ where
 
 #[test]
 fn reset_leaves_what_was_recorded(rt: HostRuntime) -> Result<(), Fail> {
+    let incomplete = Incomplete(Needed::Unknown);
+    let text = recorded_and_reset::<&str, Mode, Mode>(
+        rt.alloc(),
+        "abc",
+        Backtrack(EmptyError),
+        incomplete,
+    )?;
     assert_eq!(rt;
-        recorded_and_reset(rt.alloc(), "abc")?.as_str(),
+        text.as_str(),
         "Some('a') Ok(()), Err(Refused(Incomplete(Unknown))) Some('a'), \"abc\" [Backtrack(EmptyError)]"
     );
     Ok(())
@@ -153,23 +167,35 @@ fn none_a_few_and_many_are_recorded(rt: HostRuntime) {
     }
 }
 
-// What a stream that records no error answers to two of them, and its errors then.
-fn refused_all<I: Stream + Drop>(alloc: Global, input: I) -> Result<String, AllocError>
+// What a stream that records no error answers to two of them, its errors then, and whether its type records any.
+fn refused_all<I, E, R>(alloc: Global, input: I, first: E, second: E) -> Result<String, AllocError>
 where
+    I: Stream + Drop,
+    E: ParserError<Recoverable<I, R>> + Debug,
+    R: FromRecoverableError<Recoverable<I, R>, E> + Debug + Drop,
     requires { I.valid input }
 {
-    let mut s: Recoverable<I, Mode> = Recoverable::unrecoverable(alloc, input);
-    let failed: Result<(), RecordError<Mode>> = recover_here(&mut s, Backtrack(EmptyError));
-    let cut_short = recover_here(&mut s, Incomplete(Needed::Unknown));
+    let mut s: Recoverable<I, R> = Recoverable::unrecoverable(alloc, input);
+    let failed = recover_here(&mut s, first);
+    let cut_short = recover_here(&mut s, second);
     let (_, errors) = s.into_parts();
-    let is_supported = <Recoverable<I, Mode> as Recover<Mode>>::is_recovery_supported();
+    let is_supported = <Recoverable<I, R> as Recover<E>>::is_recovery_supported();
+    recovery_law::<I, E, R>();
     format!(in alloc; "{failed:?}, {cut_short:?}, {errors:?} {is_supported}")
 }
 
 #[test]
 fn unrecoverable_records_nothing(rt: HostRuntime) -> Result<(), Fail> {
+    let bytes: &[u8] = b"ab";
+    let incomplete = Incomplete(Needed::Unknown);
+    let text = refused_all::<&[u8], Mode, Mode>(
+        rt.alloc(),
+        bytes,
+        Backtrack(EmptyError),
+        incomplete,
+    )?;
     assert_eq!(rt;
-        refused_all(rt.alloc(), b"ab".as_slice())?.as_str(),
+        text.as_str(),
         "Err(Refused(Backtrack(EmptyError))), Err(Refused(Incomplete(Unknown))), [] true"
     );
     Ok(())
@@ -203,49 +229,45 @@ fn plain_streams_refuse(rt: HostRuntime) {
     );
 }
 
-// Whether a state, a place and a flag round a stream that records refuse its errors.
-fn wrappers_refuse<I: Stream + StreamIsPartial + Drop>(alloc: Global, input: I) -> [bool; 3]
-    requires valid { I.valid input }
+// Whether a state, a place and a flag round a stream refuse an error. Whether a state alone round another stream refuses one, and
+// that stream then.
+fn wrappers_refuse<I, E>(inside: I, err: E, alone: I, by_state: E) -> ([bool; 3], bool, I)
+where
+    I: Recover<E> + StreamIsPartial + Drop,
+    E: Copy + PartialEq,
+    requires inside { I.valid inside }
+    requires alone { I.valid alone }
     requires no_flag { I.supports_partial ≡ false }
 {
-    let inside: Recoverable<I, Mode> = Recoverable::new(alloc, input);
     let mut s = Stateful {
         input: LocatingSlice::new(inside),
         state: 7u32,
     };
-    let mode: Mode = Backtrack(EmptyError);
-    let (state, place) = (refuses(&mut s, mode), refuses(&mut s.input, mode));
+    let (state, place) = (refuses(&mut s, err), refuses(&mut s.input, err));
     let mut flagged = Partial::new(s);
-    [state, place, refuses(&mut flagged, mode)]
-}
-
-// Whether a state round a stream that records refuses its error, and how many errors were recorded.
-fn recorded_inside<I: Stream + Drop>(alloc: Global, input: I) -> (bool, usize)
-    requires { I.valid input }
-{
-    let inside: Recoverable<I, Mode> = Recoverable::new(alloc, input);
+    let refused = [state, place, refuses(&mut flagged, err)];
     let mut s = Stateful {
-        input: inside,
+        input: alone,
         state: 7u32,
     };
-    let mode: Mode = Cut(EmptyError);
-    let is_refused = refuses(&mut s, mode);
-    let Stateful { input, state: _ } = s;
-    let (_, errors) = input.into_parts();
-    (is_refused, errors.len())
+    let is_refused = refuses(&mut s, by_state);
+    (refused, is_refused, s.input)
 }
 
 #[test]
 fn wrappers_refuse_also_round_one_that_records(rt: HostRuntime) {
     bit_source_law();
     let alloc = rt.alloc();
-    let inside: Recoverable<&[u8], Mode> = Recoverable::new(alloc, b"ab");
-    let mode: Mode = Backtrack(EmptyError);
+    let (text, alone) = (Recoverable::new(alloc, "ab"), Recoverable::new(alloc, "ab"));
+    let bytes: Recoverable<&[u8], Mode> = Recoverable::new(alloc, b"ab");
+    let (mode, by_state): (Mode, Mode) = (Backtrack(EmptyError), Cut(EmptyError));
+    let (refused, is_refused, alone) = wrappers_refuse(text, mode, alone, by_state);
+    let (_, errors): (&str, Vec<Mode>) = alone.into_parts();
     assert_eq!(rt;
         (
-            wrappers_refuse(alloc, "ab"),
-            recorded_inside(alloc, "ab"),
-            refuses(&mut Bits::new(inside), mode)
+            refused,
+            (is_refused, errors.len()),
+            refuses(&mut Bits::new(bytes), mode)
         ),
         ([true; 3], (true, 0), true),
         "a state, a place, a flag; a state; bits"
@@ -253,14 +275,12 @@ fn wrappers_refuse_also_round_one_that_records(rt: HostRuntime) {
 }
 
 // A comparison and a search, which are passed on.
-fn searched<I: Compare<&'static str> + FindSlice<char> + Drop>(
-    alloc: Global,
-    input: I,
-) -> (CompareResult, Option<Range<usize>>)
-    requires { I.valid input }
+fn searched<S>(stream: &S) -> (CompareResult, Option<Range<usize>>)
+where
+    S: Compare<&'static str> + FindSlice<char>,
+    requires { S.valid stream.now }
 {
-    let s: Recoverable<I, Mode> = Recoverable::new(alloc, input);
-    (s.compare("abd"), s.find_slice('c'))
+    (stream.compare("abd"), stream.find_slice('c'))
 }
 
 // What the calls that change nothing answer, and the stream inside by both ways to it.
@@ -301,11 +321,7 @@ fn every_call_is_passed_on(rt: HostRuntime) -> Result<(), Fail> {
     let alloc = rt.alloc();
     let mut s: Recoverable<&str, Mode> = Recoverable::new(alloc, "abcd");
     assert_eq!(rt;
-        (
-            searched(alloc, "abcd"),
-            window_inside(alloc, "abcd", 2),
-            flags(&mut s)
-        ),
+        (searched(&s), window_inside(alloc, "abcd", 2), flags(&mut s)),
         (
             (CompareResult::Error, Some(2..3)),
             Some(("ab", "ab", 2)),
@@ -330,17 +346,23 @@ fn place_and_bytes<S: Location + AsBytes>(s: &S) -> ((usize, usize), &[u8])
     )
 }
 
+type Placed<'i> = Recoverable<LocatingSlice<&'i [u8]>, Mode>;
+
+// The width from a stream to what is left of it, and the one from where it stands.
+fn widths(alloc: Global) -> (usize, usize) {
+    let bytes: &[u8] = b"abc";
+    let s: Placed = Recoverable::new(alloc, LocatingSlice::new(bytes));
+    let rest: Placed = Recoverable::new(alloc, LocatingSlice::new(&bytes[2..]));
+    (width_from(&rest, &s), s.offset_from(&s.checkpoint()))
+}
+
 #[test]
 fn places_and_widths_are_passed_on(rt: HostRuntime) {
     let bytes: &[u8] = b"abc";
-    let mut s: Recoverable<_, Mode> = Recoverable::new(rt.alloc(), LocatingSlice::new(bytes));
-    let rest: Recoverable<_, Mode> = Recoverable::new(rt.alloc(), LocatingSlice::new(&bytes[2..]));
-    let width = width_from(&rest, &s);
-    let start = s.checkpoint();
-    let none = s.offset_from(&start);
+    let mut s: Placed = Recoverable::new(rt.alloc(), LocatingSlice::new(bytes));
     let _ = s.next_token();
     assert_eq!(rt;
-        (width, none, place_and_bytes(&s)),
-        (2, 0, ((1, 1), &bytes[1..]))
+        (widths(rt.alloc()), place_and_bytes(&s)),
+        ((2, 0), ((1, 1), &bytes[1..]))
     );
 }
