@@ -21,35 +21,47 @@ fn both<E: Drop>(
     Ok(OrTree::Both(Box::new(alloc, left)?, Box::new(alloc, right)?))
 }
 
-// Three errors combined, bracketed from the left.
-fn from_left<E: ParserError<Str<'static>> + Copy>(
-    alloc: Global,
-    errors: &[ErrMode<E>; 3],
-) -> Result<ErrMode<E>, AllocError> {
-    let [first, second, third] = errors;
-    let pair = both(alloc, OrTree::One(*first), OrTree::One(*second))?;
-    combine::<Str<'static>, E>(alloc, both(alloc, pair, OrTree::One(*third))?)
+// Errors, bracketed from the left.
+fn from_left<E: Copy>(alloc: Global, first: E, rest: &[E]) -> Result<OrTree<E>, AllocError> {
+    let mut tree = OrTree::One(first);
+    for error in rest {
+        tree = both(alloc, tree, OrTree::One(*error))?;
+    }
+    Ok(tree)
 }
 
 // The same, bracketed from the right.
-fn from_right<E: ParserError<Str<'static>> + Copy>(
-    alloc: Global,
-    errors: &[ErrMode<E>; 3],
-) -> Result<ErrMode<E>, AllocError> {
-    let [first, second, third] = errors;
-    let pair = both(alloc, OrTree::One(*second), OrTree::One(*third))?;
-    combine::<Str<'static>, E>(alloc, both(alloc, OrTree::One(*first), pair)?)
+fn from_right<E: Copy>(alloc: Global, front: &[E], last: E) -> Result<OrTree<E>, AllocError> {
+    let mut tree = OrTree::One(last);
+    for error in front.iter().rev() {
+        tree = both(alloc, OrTree::One(*error), tree)?;
+    }
+    Ok(tree)
 }
 
-// Asserts what three errors combine to, bracketed from the left and from the right.
+// What errors combine to, bracketed from the left and from the right. No errors combine to none.
+fn combined<E: ParserError<Str<'static>> + Copy>(
+    alloc: Global,
+    errors: &[ErrMode<E>],
+) -> Result<Option<[ErrMode<E>; 2]>, AllocError> {
+    let (Some(first), Some(last)) = (errors.first(), errors.last()) else {
+        return Ok(None);
+    };
+    let left = from_left(alloc, *first, &errors[1..])?;
+    let left = combine::<Str<'static>, E>(alloc, left)?;
+    let right = from_right(alloc, &errors[..errors.len() - 1], *last)?;
+    let right = combine::<Str<'static>, E>(alloc, right)?;
+    Ok(Some([left, right]))
+}
+
+// Asserts what errors combine to, bracketed from the left and from the right.
 fn combine_to<E: ParserError<Str<'static>> + Copy + Debug + PartialEq>(
     rt: &impl Abort,
     alloc: Global,
-    errors: &[ErrMode<E>; 3],
+    errors: &[ErrMode<E>],
     wanted: [ErrMode<E>; 2],
 ) -> Result<(), AllocError> {
-    let combined = [from_left(alloc, errors)?, from_right(alloc, errors)?];
-    assert_eq!(rt; combined, wanted, "{errors:?}");
+    assert_eq!(rt; combined(alloc, errors)?, Some(wanted), "{errors:?}");
     Ok(())
 }
 
@@ -68,40 +80,19 @@ fn at(input: &'static str) -> Place {
 fn alternatives_combine_alike_however_bracketed(rt: HostRuntime) -> Result<(), Fail> {
     let (a, b, c) = (at("a"), at("b"), at("c"));
     let (three, more) = (Incomplete(Needed::new(3)), Incomplete(Needed::Unknown));
-    for (errors, want) in [
-        ([Backtrack(a), three, Cut(c)], three),
-        ([Cut(b), three, Backtrack(a)], three),
-        ([Cut(a), more, three], more),
-        ([Backtrack(a), Cut(b), Cut(c)], Cut(b)),
-        ([Backtrack(a), Backtrack(b), Cut(c)], Cut(c)),
-        ([Backtrack(a), Backtrack(b), Backtrack(c)], Backtrack(c)),
-    ] {
-        combine_to(&rt, rt.alloc(), &errors, [want; 2])?;
-    }
-    let one = combine::<Str<'static>, Place>(rt.alloc(), OrTree::One(Backtrack(a)))?;
-    assert_eq!(rt; one, Backtrack(a));
-    Ok(())
-}
-
-#[test]
-fn four_alternatives_combine_to_what_lacks_input(rt: HostRuntime) -> Result<(), Fail> {
-    let alloc = rt.alloc();
-    let (a, b, c) = (Backtrack(at("a")), Cut(at("b")), Cut(at("c")));
-    let three = Incomplete(Needed::new(3));
-    let first = both(alloc, OrTree::One(a), OrTree::One(b))?;
-    let last = both(alloc, OrTree::One(three), OrTree::One(c))?;
-    let left = both(
-        alloc,
-        both(alloc, first, OrTree::One(three))?,
-        OrTree::One(c),
-    )?;
-    let right = both(alloc, OrTree::One(a), both(alloc, OrTree::One(b), last)?)?;
-    let combined = [
-        combine::<Str<'static>, Place>(alloc, left)?,
-        combine::<Str<'static>, Place>(alloc, right)?,
+    let table: [(&[ErrMode<Place>], ErrMode<Place>); 8] = [
+        (&[Backtrack(a), three, Cut(c)], three),
+        (&[Cut(b), three, Backtrack(a)], three),
+        (&[Cut(a), more, three], more),
+        (&[Backtrack(a), Cut(b), Cut(c)], Cut(b)),
+        (&[Backtrack(a), Backtrack(b), Cut(c)], Cut(c)),
+        (&[Backtrack(a), Backtrack(b), Backtrack(c)], Backtrack(c)),
+        (&[Backtrack(a)], Backtrack(a)),
+        (&[Backtrack(a), Cut(b), three, Cut(c)], three),
     ];
-    assert_eq!(rt; combined, [three; 2]);
-    combine_to(&rt, alloc, &[a, b, c], [b; 2])?;
+    for (errors, want) in table {
+        combine_to(&rt, rt.alloc(), errors, [want; 2])?;
+    }
     Ok(())
 }
 
@@ -115,7 +106,7 @@ fn an_associative_or_of_ones_own(rt: HostRuntime) -> Result<(), Fail> {
         ),
         ([Backtrack(five), Cut(one), Backtrack(two)], Cut(one)),
     ] {
-        combine_to(&rt, rt.alloc(), &errors, [want; 2])?;
+        combine_to(&rt, rt.alloc(), errors.as_slice(), [want; 2])?;
     }
     Ok(())
 }
@@ -124,49 +115,55 @@ fn an_associative_or_of_ones_own(rt: HostRuntime) -> Result<(), Fail> {
 fn join_to<E: AssociativeOr<Str<'static>> + Drop + Debug>(
     rt: &impl Abort,
     alloc: Global,
-    errors: [ErrMode<E>; 2],
+    first: ErrMode<E>,
+    second: ErrMode<E>,
     want: &str,
 ) -> Result<(), AllocError> {
-    let [first, second] = errors;
     let tree = both(alloc, OrTree::One(first), OrTree::One(second))?;
     debugs(rt, alloc, &join_all::<Str<'static>, E>(alloc, tree), want)
 }
 
 #[test]
-fn errors_under_an_associative_or_are_joined(rt: HostRuntime) -> Result<(), Fail> {
+fn errors_at_inputs_are_joined(rt: HostRuntime) -> Result<(), Fail> {
+    let (a, b) = (Backtrack(at("a")), Backtrack(at("b")));
+    let want = "Backtrack(InputError { input: \"b\" })";
+    join_to(&rt, rt.alloc(), a, b, want)?;
+    Ok(())
+}
+
+#[test]
+fn errors_that_tell_nothing_are_joined(rt: HostRuntime) -> Result<(), Fail> {
     let alloc = rt.alloc();
-    let (b, needs) = (at("b"), Incomplete(Needed::new(3)));
+    let (again, cut) = (Backtrack(EmptyError), Cut(EmptyError));
+    join_to(&rt, alloc, again, cut, "Cut(EmptyError)")?;
+    join_to(&rt, alloc, Cut(()), Backtrack(()), "Cut(())")?;
+    Ok(())
+}
+
+#[test]
+fn modes_are_joined(rt: HostRuntime) -> Result<(), Fail> {
+    let (cut, needs) = (Cut(at("b")), Incomplete(Needed::new(3)));
     join_to(
         &rt,
-        alloc,
-        [Backtrack(at("a")), Backtrack(b)],
-        "Backtrack(InputError { input: \"b\" })",
-    )?;
-    join_to(
-        &rt,
-        alloc,
-        [Backtrack(EmptyError), Cut(EmptyError)],
-        "Cut(EmptyError)",
-    )?;
-    join_to(&rt, alloc, [Cut(()), Backtrack(())], "Cut(())")?;
-    join_to(
-        &rt,
-        alloc,
-        [Backtrack(Cut(b)), Backtrack(needs)],
+        rt.alloc(),
+        Backtrack(cut),
+        Backtrack(needs),
         "Backtrack(Incomplete(Size(3)))",
-    )?;
-    let context: ContextError<StrContext> = ContextError::new(alloc);
-    join_to(
-        &rt,
-        alloc,
-        [Backtrack(context), needs_more()],
-        "Incomplete(Unknown)",
     )?;
     Ok(())
 }
 
-fn needs_more() -> ErrMode<ContextError<StrContext>> {
-    Incomplete(Needed::Unknown)
+#[test]
+fn errors_with_contexts_are_joined(rt: HostRuntime) -> Result<(), Fail> {
+    let context: ContextError<StrContext> = ContextError::new(rt.alloc());
+    join_to(
+        &rt,
+        rt.alloc(),
+        Backtrack(context),
+        Incomplete(Needed::Unknown),
+        "Incomplete(Unknown)",
+    )?;
+    Ok(())
 }
 
 type Leaves = OrTree<ErrMode<InputError<&'static [u8]>>>;
@@ -196,11 +193,16 @@ fn many_from_right(alloc: Global) -> Result<Leaves, AllocError> {
     Ok(tree)
 }
 
+// What they are joined to.
+fn join_leaves(alloc: Global, leaves: Leaves) -> ErrMode<InputError<&'static [u8]>> {
+    join_all::<&[u8], InputError<&[u8]>>(alloc, leaves)
+}
+
 #[test]
 fn two_hundred_alternatives_combine_alike(rt: HostRuntime) -> Result<(), Fail> {
     let alloc = rt.alloc();
-    let left = join_all::<&[u8], InputError<&[u8]>>(alloc, many_from_left(alloc)?);
-    let right = join_all::<&[u8], InputError<&[u8]>>(alloc, many_from_right(alloc)?);
+    let left = join_leaves(alloc, many_from_left(alloc)?);
+    let right = join_leaves(alloc, many_from_right(alloc)?);
     let last = Backtrack(InputError {
         input: [0; 200].as_slice(),
     });
@@ -219,7 +221,7 @@ fn an_or_that_is_not_associative(rt: HostRuntime) -> Result<(), Fail> {
         ),
         ([Backtrack(one), Backtrack(two), Cut(four)], [Cut(four); 2]),
     ] {
-        combine_to(&rt, rt.alloc(), &errors, wanted)?;
+        combine_to(&rt, rt.alloc(), errors.as_slice(), wanted)?;
     }
     Ok(())
 }

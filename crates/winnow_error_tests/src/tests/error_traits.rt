@@ -32,6 +32,11 @@ const PLAIN: [(bool, bool); 3] = [(true, false), (true, false), (true, false)];
 
 const MODAL: [(bool, bool); 3] = [(true, false), (false, false), (false, true)];
 
+// The debug text of a value that is not needed any more.
+fn debug_text<T: Debug + Drop>(alloc: Global, value: T) -> Result<String, AllocError> {
+    debugged(alloc, &value)
+}
+
 // Asserts what generic code makes of an error type: how errors are made in three ways, the inner error of two alternatives, and
 // what the last of three alternatives is, which was another's error, was told a context elsewhere, and was recovered from.
 fn makes<I: Stream + Copy, E>(
@@ -50,8 +55,8 @@ where
     requires elsewhere { I.valid elsewhere }
 {
     let made = kinds::<I, E>(alloc, &input);
-    let inner = debugged(alloc, &fail_twice::<I, E>(alloc, &input)?)?;
-    let last = debugged(alloc, &tell_last::<I, E>(alloc, &input, &elsewhere)?)?;
+    let inner = debug_text(alloc, fail_twice::<I, E>(alloc, &input)?)?;
+    let last = debug_text(alloc, tell_last::<I, E>(alloc, &input, &elsewhere)?)?;
     assert_eq!(rt;
         (made, (inner.as_str(), last.as_str())),
         (kinds_wanted, wanted)
@@ -60,84 +65,86 @@ where
 }
 
 #[test]
-fn errors_are_made_joined_and_told(rt: HostRuntime) -> Result<(), Fail> {
-    let alloc = rt.alloc();
-    makes::<Text, EmptyError>(
-        &rt,
-        alloc,
-        "12x",
-        "",
-        PLAIN,
-        ("Some(EmptyError)", "EmptyError"),
-    )?;
-    makes::<Text, ()>(&rt, alloc, "12x", "", PLAIN, ("Some(())", "()"))?;
-    makes::<Bytes, InputError<Bytes>>(
-        &rt,
-        alloc,
-        b"1",
-        b"",
-        PLAIN,
-        (
-            "Some(InputError { input: [49] })",
-            "InputError { input: [49] }",
-        ),
-    )?;
-    makes::<Text, ErrMode<InputError<Text>>>(
-        &rt,
-        alloc,
-        "12x",
-        "",
-        MODAL,
-        (
-            "Some(InputError { input: \"12x\" })",
-            "Backtrack(InputError { input: \"12x\" })",
-        ),
-    )?;
-    makes::<Text, Told>(
-        &rt,
-        alloc,
-        "12x",
-        "",
-        PLAIN,
-        (
-            "Some(ContextError { context: [], cause: None })",
-            "ContextError { context: [Label(\"number\")], cause: Some(\"bad digit\") }",
-        ),
-    )?;
-    makes::<Text, ErrMode<Told>>(
-        &rt,
-        alloc,
-        "12x",
-        "",
-        MODAL,
-        (
-            "Some(ContextError { context: [], cause: None })",
-            "Backtrack(ContextError { context: [Label(\"number\")], cause: Some(\"bad digit\") })",
-        ),
-    )?;
+fn empty_errors_are_made_joined_and_told(rt: HostRuntime) -> Result<(), Fail> {
+    let wanted = ("Some(EmptyError)", "EmptyError");
+    makes::<Text, EmptyError>(&rt, rt.alloc(), "12x", "", PLAIN, wanted)?;
+    Ok(())
+}
+
+#[test]
+fn units_are_made_joined_and_told(rt: HostRuntime) -> Result<(), Fail> {
+    let wanted = ("Some(())", "()");
+    makes::<Text, ()>(&rt, rt.alloc(), "12x", "", PLAIN, wanted)?;
+    Ok(())
+}
+
+#[test]
+fn errors_at_bytes_are_made_joined_and_told(rt: HostRuntime) -> Result<(), Fail> {
+    let wanted = (
+        "Some(InputError { input: [49] })",
+        "InputError { input: [49] }",
+    );
+    makes::<Bytes, InputError<Bytes>>(&rt, rt.alloc(), b"1", b"", PLAIN, wanted)?;
+    Ok(())
+}
+
+#[test]
+fn modes_of_errors_at_texts_are_made_joined_and_told(rt: HostRuntime) -> Result<(), Fail> {
+    let wanted = (
+        "Some(InputError { input: \"12x\" })",
+        "Backtrack(InputError { input: \"12x\" })",
+    );
+    makes::<Text, ErrMode<InputError<Text>>>(&rt, rt.alloc(), "12x", "", MODAL, wanted)?;
+    Ok(())
+}
+
+#[test]
+fn errors_with_contexts_are_made_joined_and_told(rt: HostRuntime) -> Result<(), Fail> {
+    let wanted = (
+        "Some(ContextError { context: [], cause: None })",
+        "ContextError { context: [Label(\"number\")], cause: Some(\"bad digit\") }",
+    );
+    makes::<Text, Told>(&rt, rt.alloc(), "12x", "", PLAIN, wanted)?;
+    Ok(())
+}
+
+#[test]
+fn modes_of_errors_with_contexts_are_made_joined_and_told(rt: HostRuntime) -> Result<(), Fail> {
+    let wanted = (
+        "Some(ContextError { context: [], cause: None })",
+        "Backtrack(ContextError { context: [Label(\"number\")], cause: Some(\"bad digit\") })",
+    );
+    makes::<Text, ErrMode<Told>>(&rt, rt.alloc(), "12x", "", MODAL, wanted)?;
     Ok(())
 }
 
 #[test]
 fn an_associative_or_of_ones_own_joins_three(rt: HostRuntime) -> Result<(), Fail> {
-    let alloc = rt.alloc();
     let (one, four, two) = (Furthest(1), Furthest(4), Furthest(2));
-    let last = or_three::<Bytes, Furthest>(alloc, one, four, two)?;
-    let cut = join_three::<Bytes, ErrMode<Furthest>>(alloc, Backtrack(one), Cut(two), Cut(four));
-    assert_eq!(rt;
-        [Backtrack(last), cut, cut_and_back(Cut(four))],
-        [Backtrack(four), Cut(two), Backtrack(four)]
-    );
+    let last = or_three::<Bytes, Furthest>(rt.alloc(), one, four, two)?;
+    assert_eq!(rt; last, four);
     Ok(())
 }
 
 #[test]
-fn modes_stay_when_told_or_recorded(rt: HostRuntime) -> Result<(), Fail> {
+fn modes_of_an_error_of_ones_own_join_three(rt: HostRuntime) {
+    let (one, four, two) = (Backtrack(Furthest(1)), Cut(Furthest(4)), Cut(Furthest(2)));
+    let cut = join_three::<Bytes, ErrMode<Furthest>>(rt.alloc(), one, two, four);
+    assert_eq!(rt; [cut, cut_and_back(four)], [two, Backtrack(Furthest(4))]);
+}
+
+#[test]
+fn a_mode_stays_when_told(rt: HostRuntime) -> Result<(), Fail> {
     let more: ErrMode<EmptyError> = Incomplete(Needed::Unknown);
     let told = in_context::<Text, StrContext, _>(rt.alloc(), more, &"12x", Label("number"))?;
-    let recorded = recover_at::<Text, _, ErrMode<EmptyError>>(&"12x", Cut(EmptyError));
-    assert_eq!(rt; [told, recorded], [more, Cut(EmptyError)]);
+    assert_eq!(rt; told, more);
     Ok(())
+}
+
+#[test]
+fn a_mode_stays_when_recorded(rt: HostRuntime) {
+    let recorded = recover_at::<Text, _, ErrMode<EmptyError>>(&"12x", Cut(EmptyError));
+    assert_eq!(rt; recorded, Cut(EmptyError));
 }
 
 // Whether an error that becomes its own type stays.
@@ -167,18 +174,42 @@ fn errors_are_converted(rt: HostRuntime) -> Result<(), Fail> {
 
 // Laws do nothing: that each is called here shows that it can be.
 #[test]
-fn laws_of_errors(_rt: HostRuntime) {
+fn laws_of_alternatives(_rt: HostRuntime) {
     mode_law::<u8>();
     or_law::<Text, Furthest>();
     bracket_law::<Text, Furthest>();
+}
+
+#[test]
+fn laws_of_plain_errors(_rt: HostRuntime) {
     input_error_law::<Text, StrContext>();
-    context_error_law::<Text, StrContext>();
     empty_error_law::<Text, StrContext>();
+}
+
+#[test]
+fn laws_of_errors_with_contexts(_rt: HostRuntime) {
+    context_error_law::<Text, StrContext>();
+}
+
+#[test]
+fn laws_of_modes(_rt: HostRuntime) {
     err_mode_law::<Text, Told>();
+}
+
+#[test]
+fn laws_of_modes_that_are_joined(_rt: HostRuntime) {
     err_mode_joined_law::<Text, Told, Told>();
+}
+
+#[test]
+fn laws_of_modes_that_are_told_and_converted(_rt: HostRuntime) {
     err_mode_context_law::<Text, StrContext, Told>();
     err_mode_cause_law::<Text, String, Told>();
     err_mode_convert_law::<Labelled, Told>();
+}
+
+#[test]
+fn laws_of_texts(_rt: HostRuntime) {
     error_text_law::<Text, EmptyError>();
     bare_text_law::<Text, EmptyError>();
     debug_text_law::<Text, StrContext>();

@@ -6,13 +6,19 @@ use std::test::Fail;
 use winnow_context::ContextError;
 use winnow_error::InputError;
 
-// The number of contexts of an error that is told `count` contexts one by one, then at once, then as a parser tells them.
-fn told_thrice(alloc: Global, count: u16) -> Result<usize, AllocError> {
+// An error that is told `count` contexts one by one, and then as many at once.
+fn told_twice(alloc: Global, count: u16) -> Result<ContextError<u16>, AllocError> {
     let mut error: ContextError<u16> = ContextError::new(alloc);
     for number in 0..count {
         error.push(number)?;
     }
     error.extend(0..count)?;
+    Ok(error)
+}
+
+// The number of its contexts once it is also told as many as a parser tells them.
+fn told_thrice(alloc: Global, count: u16) -> Result<usize, AllocError> {
+    let mut error = told_twice(alloc, count)?;
     for number in 0..count {
         error = in_context(alloc, error, &"12x", number)?;
     }

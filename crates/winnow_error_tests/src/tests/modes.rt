@@ -30,20 +30,19 @@ fn modes_change_and_stay(rt: HostRuntime) {
         [short, Cut(1), Cut(1), short, Backtrack(1), Backtrack(1)]
     );
     assert_eq!(rt;
-        [
-            more.into_inner(),
-            Backtrack(1).into_inner(),
-            Cut(2).into_inner()
-        ],
-        [Err(more), Ok(1), Ok(2)]
-    );
-    assert_eq!(rt;
-        [
-            short.is_incomplete(),
-            Backtrack(1).is_incomplete(),
-            Cut(1).is_incomplete()
-        ],
-        [true, false, false]
+        (
+            [
+                more.into_inner(),
+                Backtrack(1).into_inner(),
+                Cut(2).into_inner()
+            ],
+            [
+                short.is_incomplete(),
+                Backtrack(1).is_incomplete(),
+                Cut(1).is_incomplete()
+            ]
+        ),
+        ([Err(more), Ok(1), Ok(2)], [true, false, false])
     );
 }
 
@@ -71,8 +70,7 @@ fn an_error_at_an_input(rt: HostRuntime) -> Result<(), Fail> {
 }
 
 #[test]
-fn texts(rt: HostRuntime) -> Result<(), Fail> {
-    let alloc = rt.alloc();
+fn texts_of_modes(rt: HostRuntime) -> Result<(), Fail> {
     let cases: [(ErrMode<u8>, &str); 4] = [
         (Incomplete(Needed::new(3)), "Parsing requires 3 more data"),
         (Incomplete(Needed::Unknown), "Parsing requires more data"),
@@ -80,8 +78,14 @@ fn texts(rt: HostRuntime) -> Result<(), Fail> {
         (Cut(2), "Parsing Failure: 2"),
     ];
     for (error, text) in cases {
-        prints(&rt, alloc, &error, text)?;
+        prints(&rt, rt.alloc(), &error, text)?;
     }
+    Ok(())
+}
+
+#[test]
+fn texts_of_errors(rt: HostRuntime) -> Result<(), Fail> {
+    let alloc = rt.alloc();
     prints(
         &rt,
         alloc,

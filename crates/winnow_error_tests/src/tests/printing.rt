@@ -3,6 +3,16 @@ use std::fmt::{Debug, Display};
 use std::process::Abort;
 use winnow_test_helpers::debugged;
 
+// The printed text, with no options and with three.
+fn printed<T: Display>(alloc: Global, value: &T) -> Result<String, AllocError> {
+    format!(in alloc; "{value} {value:#} {value:>60} {value:.3}")
+}
+
+// The text so many times.
+fn four_times(alloc: Global, text: &str) -> Result<String, AllocError> {
+    format!(in alloc; "{text} {text} {text} {text}")
+}
+
 /// Asserts the printed text, which is the same whatever the options of the hole are.
 pub fn prints<T: Display>(
     rt: &impl Abort,
@@ -10,9 +20,8 @@ pub fn prints<T: Display>(
     value: &T,
     wanted: &str,
 ) -> Result<(), AllocError> {
-    let printed = format!(in alloc; "{value} {value:#} {value:>60} {value:.3}")?;
-    let all_wanted = format!(in alloc; "{wanted} {wanted} {wanted} {wanted}")?;
-    assert_eq!(rt; printed.as_str(), all_wanted.as_str());
+    let all_wanted = four_times(alloc, wanted)?;
+    assert_eq!(rt; printed(alloc, value)?.as_str(), all_wanted.as_str());
     Ok(())
 }
 
@@ -27,6 +36,11 @@ pub fn debugs<T: Debug>(
     Ok(())
 }
 
+// The debug text under `#` and with a width.
+fn debugged_under_options<T: Debug>(alloc: Global, value: &T) -> Result<String, AllocError> {
+    format!(in alloc; "{value:#?}\n{value:5?}")
+}
+
 /// Asserts the debug text under `#`, and with a width, which reaches the parts alone.
 pub fn debugs_under_options<T: Debug>(
     rt: &impl Abort,
@@ -34,9 +48,6 @@ pub fn debugs_under_options<T: Debug>(
     value: &T,
     wanted: &str,
 ) -> Result<(), AllocError> {
-    assert_eq!(rt;
-        format!(in alloc; "{value:#?}\n{value:5?}")?.as_str(),
-        wanted
-    );
+    assert_eq!(rt; debugged_under_options(alloc, value)?.as_str(), wanted);
     Ok(())
 }
