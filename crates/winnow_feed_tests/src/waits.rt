@@ -167,6 +167,14 @@ fn a_set_that_holds_no_token_waits_to_the_end(rt: HostRuntime) -> Result<(), Fai
     Ok(())
 }
 
+fn is_refused(feed: &ByteFeed) -> bool {
+    feed.waits_for().is_err()
+}
+
+fn is_text_refused(feed: &TextFeed) -> bool {
+    feed.waits_for().is_err()
+}
+
 // After two bytes: whether memory for what is missing is refused, how much was fed and is kept, how many steps were attempted, and
 // how many answers are out.
 fn after_two_bytes(
@@ -175,7 +183,7 @@ fn after_two_bytes(
 ) -> Result<(bool, usize, usize, u64, usize), AllocError> {
     let mut feed = ByteFeed::new(alloc, script)?;
     feed_bytes(&mut feed, b"ab")?;
-    let refused = waits_for(alloc, &feed).is_err();
+    let refused = is_refused(&feed);
     Ok((
         refused,
         feed.fed(),
@@ -191,7 +199,7 @@ fn after_two_characters(
 ) -> Result<(bool, usize, usize, u64, usize), AllocError> {
     let mut feed = TextFeed::new(alloc, script)?;
     feed_text(&mut feed, "ab")?;
-    let refused = text_waits_for(alloc, &feed).is_err();
+    let refused = is_text_refused(&feed);
     Ok((
         refused,
         feed.fed(),
