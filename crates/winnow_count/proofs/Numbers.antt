@@ -1,6 +1,9 @@
 -- What std's `parse` answers of a text is what it reads as.
 use Rattle.std.proofs.Common.{◌≡◌, ◌≢◌, ℕ, ◌<◌, ◌^◌, inl, inr, Bool, true, false, List, [], ◌∷◌, drop, cond, Some, unwrap_or, Result, Ok, Err, ℤ, pos, neg_ℤ, FitsSigned, refl, sym, ap, ◌∙◌, subst, arith, rules}
-use Rattle.std.specs.Str.Parse.{IsNumeral, digits_value, without_leading_plus, starts_with_minus, signed_digits_value, ParsesUnsigned, ParsesSigned}
+use Rattle.std.specs.Str.{IsUtf8}
+use Rattle.std.proofs.lemmas.Str.{IsUtf8-from_ascii}
+use Rattle.std.proofs.lemmas.Fmt.{IsAscii-from_digits}
+use Rattle.std.specs.Str.Parse.{AllDigits, IsNumeral, digits_value, without_leading_plus, starts_with_minus, signed_digits_value, ParsesUnsigned, ParsesSigned}
 use Rattle.std.specs.Result.{result_ok}
 use Rattle.std.proofs.lemmas.Str.Parse.{digit_from_value, without_leading_plus_none, without_leading_plus_plus}
 use Rattle.std.proofs.lemmas.Bool.Decides.{eqb_tells}
@@ -34,6 +37,25 @@ unsigned_reading bits text (Err e) h = λ v. (
   λ e. absurd (search rules),
   λ reads. (let w = from_upward text v reads.0 in absurd (h (w.0, subst (λ k. k < 2 ^ bits) (sym w.1) reads.1))),
 )
+
+-- what std reads as digits after a plus is one number
+unsigned_only : (text : List ℕ) (m n : ℕ) → WritesUpward text m → WritesUpward text n → m ≡ n
+unsigned_only text m n one other = sym (from_upward text m one).1 ∙ (from_upward text n other).1
+
+-- digits, and digits after a sign, are ASCII, and so they are text
+IsUtf8-from_sign : (sign : ℕ) (ds : List ℕ) → sign < 128 → AllDigits 10 ds → IsUtf8 (sign ∷ ds)
+IsUtf8-from_sign sign ds below digits = IsUtf8-from_ascii (sign ∷ ds) (λ i. grind (arith, IsAscii-from_digits ds digits))
+
+IsUtf8-from_upward : (text : List ℕ) (n : ℕ) → WritesUpward text n → IsUtf8 text
+IsUtf8-from_upward text n (inl w) = IsUtf8-from_ascii text (IsAscii-from_digits text w.0.1)
+IsUtf8-from_upward text n (inr (ds, is, w)) = subst IsUtf8 (sym is) (IsUtf8-from_sign 43 ds (omega arith) w.0.1)
+
+-- the law of numbers as text
+pub unsigned_law : (bits m n : ℕ) (text : List ℕ) → ReadsUnsigned bits text m → ReadsUnsigned bits text n → m ≡ n
+unsigned_law bits m n text one other = unsigned_only text m n one.0 other.0
+
+pub unsigned_text : (bits n : ℕ) (text : List ℕ) → ReadsUnsigned bits text n → IsUtf8 text
+unsigned_text bits n text reads = IsUtf8-from_upward text n reads.0
 
 -- what std says of a text with a minus first or not
 abbrev SaysSigned : Bool → List ℕ → ℤ → Type 0
@@ -70,3 +92,11 @@ signed_reading width text (Err e) h = λ v. (
   λ e. absurd (search rules),
   λ reads. (let w = from_signed text v reads.0 in absurd (h (w.0, subst (FitsSigned width) (sym w.1) reads.1))),
 )
+
+-- the law of signed numbers as text
+pub signed_law : (width : Width) (y z : ℤ) (text : List ℕ) → ReadsSigned width text y → ReadsSigned width text z → y ≡ z
+signed_law width y z text one other = sym (from_signed text y one.0).1 ∙ (from_signed text z other.0).1
+
+pub signed_text : (width : Width) (z : ℤ) (text : List ℕ) → ReadsSigned width text z → IsUtf8 text
+signed_text width z text ((n, inl (up, is)), fits) = IsUtf8-from_upward text n up
+signed_text width z text ((n, inr ((ds, first, w), is)), fits) = subst IsUtf8 (sym first) (IsUtf8-from_sign 45 ds (omega arith) w.0.1)

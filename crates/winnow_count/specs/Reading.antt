@@ -1,6 +1,7 @@
 -- What a text reads as: a number, a `bool` or a character.
 use Rattle.std.specs.Prelude.{◌≡◌, ℕ, ◌<◌, ◌^◌, ◌↔◌, ◌⊎◌, Bool, List, ◌∷◌, Option, Some, if◌then◌else◌, codes, encode_utf8, ℤ, pos, neg_ℤ, FitsSigned}
 use Rattle.std.specs.Char.{IsScalar}
+use Rattle.std.specs.Str.{IsUtf8}
 use Rattle.std.specs.Str.Parse.{IsNumeral, digits_value}
 use mir.Syntax.{Width}
 
@@ -40,3 +41,7 @@ ReadsBool text b = text ≡ (if b then codes "true" else codes "false")
 -- one character, and it is c
 abbrev pub ReadsChar : List ℕ → ℕ → Type 0
 ReadsChar text c = IsScalar c × (text ≡ encode_utf8 c)
+
+-- a slice reads as a value exactly where its bytes are text that reads as it
+abbrev pub ReadsBytes : {S R : Type 0} → (S → R → Type 0) → (S → List ℕ) → (List ℕ → R → Type 0) → Type 0
+ReadsBytes {S} {R} reads bytes reading = (s : S) (v : R) → reads s v ↔ (IsUtf8 (bytes s) × reading (bytes s) v)

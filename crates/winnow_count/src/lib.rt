@@ -7,6 +7,7 @@
 
 mod accumulate;
 mod accumulators;
+mod number_laws;
 mod parse_slice;
 mod range;
 mod range_laws;
@@ -14,6 +15,7 @@ mod readable;
 mod to_usize;
 
 pub use accumulate::{Accumulate, accumulate_all};
+pub use number_laws::{number_law, parse_slice_law};
 pub use parse_slice::ParseSlice;
 pub use range::Range;
 pub use range_laws::range_law;
