@@ -207,6 +207,11 @@ impl<'i> Stream for BStr<'i> {
     fn offset_since(&self, start: &Checkpoint<BStr<'i>, BStr<'i>>) -> usize {
         start.inner().window.len() - self.window.len()
     }
+
+    /// Prints the text with its escapes, and without quotes.
+    fn trace<W: fmt::Write>(&self, f: &mut fmt::Formatter<W>) -> fmt::Result {
+        write!(f, "{self:#?}")
+    }
 }
 
 impl<'i> Offset<BStr<'i>> for BStr<'i> {

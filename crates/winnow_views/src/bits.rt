@@ -14,6 +14,7 @@ ghost use Rattle.winnow_views.specs.BitLaws.{bits_remaining-same, IsValidBits-sa
 
 use crate::BitOffsets;
 use crate::bit_offsets::is_set;
+use std::fmt;
 use std::num::NonZeroUsize;
 use winnow_stream::{Checkpoint, Needed, Offset, Rest, Stream, StreamIsPartial};
 
@@ -291,6 +292,11 @@ impl<I: Stream<Token = u8>> Stream for Bits<I> {
 
     fn offset_since(&self, start: &Checkpoint<BitPlace<I::Checkpoint>, Bits<I>>) -> usize {
         start.inner().count - self.eof_offset()
+    }
+
+    /// Prints the bytes and the place, each field on a line of its own.
+    fn trace<W: fmt::Write>(&self, f: &mut fmt::Formatter<W>) -> fmt::Result {
+        write!(f, "{self:#?}")
     }
 }
 
