@@ -1,3 +1,4 @@
+pub mod CharacterLemmas
 pub mod DigitLemmas
 pub mod NthLineLemmas
 pub mod PositionLemmas

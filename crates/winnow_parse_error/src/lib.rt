@@ -9,6 +9,6 @@ mod parse_error;
 mod position;
 mod text;
 
-pub use laws::char_span_law;
+pub use laws::{char_span_law, parse_error_equality_law};
 pub use parse_error::ParseError;
 pub use position::translate_position;
