@@ -4,3 +4,4 @@ pub mod Telling
 pub mod JoinedInput
 pub mod Feeding
 pub mod Waits
+pub mod SameWaiting

@@ -1,9 +1,15 @@
-ghost use Rattle.std.specs.Prelude.{◌≡◌, ℕ, ◌<◌, [], List, length, map, true};
+ghost use Rattle.std.specs.Prelude.{◌≡◌, ℕ, ◌+◌, ◌<◌, [], ◌∷◌, ◌++◌, List, length, take, get_or};
+ghost use Rattle.std.specs.Prelude.{map, true};
 ghost use Rattle.std.specs.List.{AllByRecursion};
 ghost use Rattle.std.specs.Borrow.{Bor};
 ghost use Rattle.std.specs.Str.{is_utf8};
 ghost use Rattle.winnow_feed.specs.Inputs.{InputKind, PieceStep, byte_input, text_input};
+ghost use Rattle.winnow_feed.specs.Inputs.{joined, pieces_in};
 ghost use Rattle.winnow_feed.specs.Telling.{TellsHit, TellsMore, all_answers, told_to_end};
+ghost use Rattle.winnow_feed.specs.SameWaiting.{same_waiting};
+ghost use Rattle.winnow_feed.specs.declared.waiting.Waiting.{Waiting};
+
+use crate::Waiting;
 
 /// The law of what a feed has told: one piece more takes nothing back, and what it lets out stands
 /// behind what was told, under the number of that piece; the answers told by the end are those of
@@ -29,4 +35,21 @@ pub fn one_search_law()
     ensures text { (literal : Bor (List ℕ)) (pieces : List (List ℕ))
         → AllByRecursion (λ bytes. is_utf8 bytes ≡ true) pieces
         → (literal.now ≡ [] → 0 < length pieces) → TellsHit text_input literal pieces }
+{}
+
+/// The law of joined pieces: one piece more stands at the end of what the pieces are joined. It does nothing when called: its contract
+/// is the law.
+pub fn pieces_law()
+    ensures joined { (pieces : List (List ℕ)) (piece : List ℕ)
+        → joined (pieces ++ piece ∷ []) ≡ joined pieces ++ piece }
+    ensures taken { (pieces : List (Bor (List ℕ))) (i : ℕ) (other : Bor (List ℕ))
+        → i < length pieces
+        → pieces_in (take (i + 1) pieces)
+        ≡ pieces_in (take i pieces) ++ (get_or pieces i other).now ∷ [] }
+{}
+
+/// The law of equality: two answers to what a feed waits for are equal where they are of one kind, and what they wait for is equal. It
+/// does nothing when called: its contract is the law.
+pub fn waiting_equality_law<P: PartialEq>()
+    ensures { (s t : Waiting P) → ⟦<Waiting<P> as PartialEq>⟧.eq s t ≡ same_waiting P.eq s t }
 {}

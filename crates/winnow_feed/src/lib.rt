@@ -27,8 +27,8 @@ mod waiting;
 
 pub use feeds::ByteFeed;
 pub use finished::Finished;
-pub use laws::{one_search_law, told_law};
+pub use laws::{one_search_law, pieces_law, told_law, waiting_equality_law};
 pub use runs::{run_pieces, run_pieces_text};
 pub use text_feeds::TextFeed;
 pub use waiting::Waiting;
-pub use winnow_attempt::Told;
+pub use winnow_attempt::{Told, told_equality_law};

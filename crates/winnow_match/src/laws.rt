@@ -12,6 +12,8 @@ ghost use Rattle.winnow_match.specs.Stretch.{NothingStretches};
 ghost use Rattle.winnow_match.specs.declared.compare.CompareResult.{CompareResult};
 ghost use Rattle.winnow_match.specs.declared.needles.Stretch as stretch_declared;
 
+use crate::Stretch;
+
 /// The law of comparison: it answers `Ok` where the bytes are the literal followed by something, `Incomplete` where they are
 /// a shorter front of it, and `Error` where neither goes on as the other. It does nothing when called: its contract is the
 /// law.
@@ -98,4 +100,11 @@ pub fn stretch_law()
     ensures some { (needles : List (List ℕ)) (bytes : List ℕ) (r : range_declared.Range ℕ)
         (s : stretch_declared.Stretch) → ¬ Contains needles [] → hit needles bytes ≡ Some r
         → (stretch_of needles bytes ≡ Some s ↔ IsStretch needles bytes r s) }
+{}
+
+/// The law of equality: two stretches are equal exactly where both their needles and their places are. It does nothing when called: its contract
+/// is the law.
+pub fn stretch_equality_law()
+    ensures { (s t : stretch_declared.Stretch) → IsTrue (⟦<Stretch as PartialEq>⟧.eq s t)
+        ↔ (s ≡ t) }
 {}

@@ -21,7 +21,7 @@ pub use find_slice::FindSlice;
 pub use finders::Finders;
 pub use laws::{
     byte_hit_law, compare_law, compare_more_law, definite_hit_law, find_law, find_more_law,
-    stretch_law,
+    stretch_equality_law, stretch_law,
 };
 pub use needles::{Needles, Stretch};
 pub use stretching::stretch;
