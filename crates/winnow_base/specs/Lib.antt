@@ -2,7 +2,9 @@
 pub use Rattle.winnow_stream.specs.Source
 pub use Rattle.winnow_stream.specs.Front
 pub use Rattle.winnow_stream.specs.SliceWidths
+pub use Rattle.winnow_stream.specs.SliceBytes
 pub use Rattle.winnow_stream.specs.Location
+pub use Rattle.winnow_stream.specs.Moving
 pub use Rattle.winnow_stream.specs.Fused
 pub use Rattle.winnow_stream.specs.Shortage
 pub use Rattle.winnow_stream.specs.Units
@@ -70,6 +72,7 @@ pub use Rattle.winnow_attempt.specs.View
 pub use Rattle.winnow_attempt.specs.Settled
 pub use Rattle.winnow_attempt.specs.Missing
 pub use Rattle.winnow_feed.specs.Waits
+pub use Rattle.winnow_feed.specs.SameWaiting
 -- The types of a script and of its answers, with their variants.
 pub use Rattle.winnow_match.specs.declared.needles.Needles
 pub use Rattle.winnow_sets.specs.declared.char_set.CharSet

@@ -4,12 +4,13 @@ ghost use Rattle.std.specs.Cmp.Lexicographic.{slice_cmp};
 ghost use Rattle.std.specs.Ordering.{nat_cmp};
 ghost use Rattle.winnow_stream.specs.Checkpoint.{checkpoint_inner};
 ghost use Rattle.winnow_stream.specs.declared.checkpoint.Checkpoint.{Checkpoint};
+ghost use Rattle.winnow_stream.specs.SliceBytes.{SlicesHaveBytes};
 ghost use Rattle.winnow_bytes.specs.ByteContents.{bytes_contents};
 ghost use Rattle.winnow_bytes.specs.declared.bytes.Bytes.{Bytes};
 
 use crate::Bytes;
 use std::hash::Hash;
-use winnow_stream::Checkpoint;
+use winnow_stream::{AsBytes, Checkpoint, Stream};
 
 /// The law of equality: two values are equal exactly where they have the same contents, and two checkpoints where the same contents
 /// remained. It does nothing when called: its contract is the law.
@@ -37,4 +38,10 @@ pub fn bytes_order_law()
 pub fn bytes_hash_law()
     ensures { (s : Bytes) (bytes : Bor (List ℕ)) → bytes.now ≡ bytes_contents s
         → ⟦<Bytes<'static> as Hash>⟧.hash_input s ≡ ⟦<&'static [u8] as Hash>⟧.hash_input bytes }
+{}
+
+/// The law of slices of a `Bytes`: they have the bytes that were taken. It does nothing when called: its contract is the law.
+pub fn bytes_slice_law()
+    ensures { SlicesHaveBytes ⟦<Bytes<'static> as Stream>⟧.is_slice
+        ⟦<&'static [u8] as AsBytes>⟧.bytes }
 {}

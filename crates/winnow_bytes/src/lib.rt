@@ -8,4 +8,4 @@ mod laws;
 
 pub use bytes::Bytes;
 pub use hex::{LowerBytes, UpperBytes};
-pub use laws::{bytes_equality_law, bytes_hash_law, bytes_order_law};
+pub use laws::{bytes_equality_law, bytes_hash_law, bytes_order_law, bytes_slice_law};

@@ -13,7 +13,7 @@ mod text;
 
 pub use digits::hex_digit;
 pub use escapes::write_escaped;
-pub use laws::{text_equality_law, text_hash_law, text_order_law};
+pub use laws::{bstr_slice_law, text_equality_law, text_hash_law, text_order_law};
 pub use literals::ByteLiteral;
 pub use needles::ByteNeedles;
 pub use text::BStr;

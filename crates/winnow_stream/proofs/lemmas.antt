@@ -3,6 +3,7 @@ pub mod FusedLemmas
 pub mod HeldLemmas
 pub mod IndexLemmas
 pub mod LackLemmas
+pub mod MovingLemmas
 pub mod OffsetLemmas
 pub mod FirstTokenLemmas
 pub mod ShortageLemmas

@@ -1,7 +1,9 @@
 pub mod Source
 pub mod Front
 pub mod SliceWidths
+pub mod SliceBytes
 pub mod Location
+pub mod Moving
 pub mod Fused
 pub mod Shortage
 pub mod Units

@@ -1,5 +1,5 @@
 ghost use Rattle.std.specs.Prelude.{◌≡◌, ℕ, ◌++◌, ◌+◌, ◌-◌, ◌≤◌, ◌<◌, ◌↔◌, Bool, true, false, List};
-ghost use Rattle.std.specs.Prelude.{[]};
+ghost use Rattle.std.specs.Prelude.{[], Option};
 ghost use Rattle.std.specs.Prelude.{Ok, Err, Some, None, IsOk, IsTrue, not, unwrap_or};
 ghost use Rattle.std.specs.Prelude.{length, take, drop};
 ghost use Rattle.std.specs.Borrow.{Bor};
@@ -9,20 +9,22 @@ ghost use Rattle.std.specs.Str.{IsUtf8};
 ghost use Rattle.winnow_stream.specs.Checkpoint.{checkpoint_inner};
 ghost use Rattle.winnow_stream.specs.declared.checkpoint.Checkpoint.{Checkpoint};
 ghost use Rattle.winnow_stream.specs.Source.{Source, units, width, HasPositiveWidths, first_token};
-ghost use Rattle.winnow_stream.specs.Source.{first_offset};
+ghost use Rattle.winnow_stream.specs.Source.{first_offset, IsEndOf};
 ghost use Rattle.winnow_stream.specs.Source.{FindsFirst, held_front, HoldsAll};
 ghost use Rattle.winnow_stream.specs.Front.{HasFront, is_offset, front, back};
 ghost use Rattle.winnow_stream.specs.Location.{location_behind, IsLocation};
+ghost use Rattle.winnow_stream.specs.Moving.{MovesOn};
 ghost use Rattle.winnow_stream.specs.SliceWidths.{SlicesHaveWidths};
+ghost use Rattle.winnow_stream.specs.SliceBytes.{SlicesHaveBytes, SlicesHaveText};
 ghost use Rattle.winnow_stream.specs.Shortage.{needed, offset_at};
 ghost use Rattle.winnow_stream.specs.Text.{text_source};
 
-use crate::{Checkpoint, Location, SliceLen, Stream};
+use crate::{AsBStr, AsBytes, Checkpoint, Location, SliceLen, Stream};
 
 /// The law of fronts: an offset is valid exactly where some front has that width. What is taken has that width, and what is taken
 /// followed by what remains is what was there, so the widths of both sum to the whole width. Behind a front the valid offsets are those
-/// further on, less its width, and taking two fronts in a row leaves what taking both at once leaves. It does nothing when called: its
-/// contract is the law.
+/// further on, less its width, and taking two fronts in a row leaves what taking both at once leaves. The width of two lists in a row is the
+/// sum of theirs. It does nothing when called: its contract is the law.
 pub fn front_law<T>()
     ensures offset { (r : Source T) (n : ℕ) → HasPositiveWidths r
         → (IsTrue (is_offset r n) ↔ HasFront r n) }
@@ -33,6 +35,22 @@ pub fn front_law<T>()
         → is_offset (back r m) (n - m) ≡ is_offset r n }
     ensures on { (r : Source T) (m n : ℕ) → IsTrue (is_offset r m) → IsTrue (is_offset r n) → m ≤ n
         → back (back r m) (n - m) ≡ back r n }
+    ensures append { (p q : Source T) → width (p ++ q) ≡ width p + width q }
+{}
+
+/// The law of moving on: a stream that stands still has moved on over nothing; taking one token, or a front, moves on; two moves make one;
+/// and a move leaves the place where the input ends as it was. It does nothing when called: its contract is the law.
+pub fn moving_law<T>()
+    ensures still { (a : Option ℕ) (r : Source T) → MovesOn a a r r }
+    ensures token { (a : Option ℕ) (r : Source T)
+        → MovesOn a (location_behind a (width (take 1 r))) r (drop 1 r) }
+    ensures front { (a : Option ℕ) (r : Source T) (n : ℕ) → IsTrue (is_offset r n)
+        → MovesOn a (location_behind a n) r (back r n) }
+    ensures on { (a b c : Option ℕ) (r s t : Source T) → MovesOn a b r s → MovesOn b c s t
+        → MovesOn a c r t }
+    ensures end { (a b : Option ℕ) (r s : Source T) → MovesOn a b r s
+        → location_behind b (width s) ≡ location_behind a (width r) }
+    ensures rest { (a b : Option ℕ) (r s : Source T) → MovesOn a b r s → IsEndOf s r }
 {}
 
 /// The law of offsets: what `offset_at`, `offset_for` and `eof_offset` answer is a valid offset. It does nothing when called: its
@@ -80,9 +98,10 @@ pub fn first_law<T>()
 {}
 
 /// The law of a front of tokens that are held: the offset of the first token that is not held, or else the whole width, is the width of
-/// the tokens up to there. It is an offset, all of them are held, and the token behind them, if there is one, is not; if there is none,
-/// every token is held. They and what follows them are what was there. Where another set holds all that this set holds, taking over this
-/// set and then over the other leaves what taking over the other alone leaves. It does nothing when called: its contract is the law.
+/// the tokens up to there. It is an offset, and its front is those tokens. All of them are held, and the token after them, if there is one,
+/// is not; if there is none, every token is held. They and what follows them are what was there; and tokens that are all held, before one
+/// that is not, are exactly the tokens that are taken. Where another set holds all that this set holds, taking over this set and then over
+/// the other leaves what taking over the other alone leaves. It does nothing when called: its contract is the law.
 pub fn held_law<T>()
     ensures width { (holds : T → Bool) (r : Source T)
         → unwrap_or (first_offset (λ x. not (holds x)) r) (width r) ≡ width (held_front holds r) }
@@ -90,6 +109,11 @@ pub fn held_law<T>()
         → IsTrue (is_offset r (width (held_front holds r))) }
     ensures front { (holds : T → Bool) (r : Source T)
         → take (length (held_front holds r)) r ≡ held_front holds r }
+    ensures exact { (holds : T → Bool) (r : Source T) → HasPositiveWidths r
+        → front r (width (held_front holds r)) ≡ held_front holds r }
+    ensures known { (holds : T → Bool) (text rest : Source T) → HoldsAll holds text
+        → ((x : T) → first_token rest ≡ Some x → holds x ≡ false)
+        → held_front holds (text ++ rest) ≡ text }
     ensures back { (holds : T → Bool) (r : Source T) → HasPositiveWidths r
         → back r (width (held_front holds r)) ≡ drop (length (held_front holds r)) r }
     ensures held { (holds : T → Bool) (r : Source T) → HoldsAll holds (held_front holds r) }
@@ -132,6 +156,18 @@ pub fn byte_slice_law()
     ensures { SlicesHaveWidths ⟦<&'static [u8] as Stream>⟧.is_slice
         ⟦<&'static [u8] as SliceLen>⟧.has_width
         ⟦<&'static [u8] as SliceLen>⟧.width_of }
+{}
+
+/// The law of the bytes of slices: a slice of bytes has the bytes that were taken, and a slice of a text is the text that was taken. So code that
+/// is generic in the stream, and asks for `SlicesHaveBytes` or `SlicesHaveText`, knows the bytes of what it took. It does nothing when called:
+/// its contract is the law.
+pub fn slice_bytes_law()
+    ensures bytes { SlicesHaveBytes ⟦<&'static [u8] as Stream>⟧.is_slice
+        ⟦<&'static [u8] as AsBytes>⟧.bytes }
+    ensures text { SlicesHaveBytes ⟦<&'static [u8] as Stream>⟧.is_slice
+        ⟦<&'static [u8] as AsBStr>⟧.text_bytes }
+    ensures characters { SlicesHaveText ⟦<&'static str as Stream>⟧.is_slice
+        ⟦<&'static str as AsBStr>⟧.text_bytes }
 {}
 
 /// The law of slices of a text: the length of one is the offset that it was taken at. It does nothing when called: its contract is

@@ -23,7 +23,8 @@ pub use checkpoint::Checkpoint;
 pub use is_partial::StreamIsPartial;
 pub use laws::{
     byte_slice_law, checkpoint_equality_law, checkpoint_order_law, first_law, front_law, held_law,
-    offset_law, shortage_law, slice_law, span_law, taken_law, text_law, text_slice_law,
+    moving_law, offset_law, shortage_law, slice_bytes_law, slice_law, span_law, taken_law,
+    text_law, text_slice_law,
 };
 pub use location::Location;
 pub use needed::Needed;

@@ -1,6 +1,7 @@
-ghost use Rattle.std.specs.Prelude.{◌≡◌, ◌&&◌};
+ghost use Rattle.std.specs.Prelude.{◌≡◌, ◌&&◌, ℕ, List};
 ghost use Rattle.std.specs.Ordering.{on, then_cmp, bool_cmp};
 ghost use Rattle.winnow_stream.specs.Checkpoint.{checkpoint_inner};
+ghost use Rattle.winnow_stream.specs.SliceBytes.{SlicesHaveBytes};
 ghost use Rattle.winnow_stream.specs.declared.checkpoint.Checkpoint.{Checkpoint};
 ghost use Rattle.winnow_wrap.specs.Located.{locating_inner, located_start, inner_at};
 ghost use Rattle.winnow_wrap.specs.Flag.{partial_inner, flag};
@@ -10,6 +11,7 @@ ghost use Rattle.winnow_wrap.specs.declared.partial.Partial.{Partial};
 ghost use Rattle.winnow_wrap.specs.declared.stateful.Stateful.{Stateful};
 
 use crate::{LocatingSlice, Partial, Placed, Stateful};
+use std::fmt::Debug;
 use winnow_stream::{Checkpoint, Stream};
 
 /// The law of equality: streams that know their location are compared by where the whole input starts and by the stream inside, and
@@ -98,4 +100,15 @@ pub fn wrapper_checkpoint_order_law<T: Ord, S>()
     ensures total { (c d : Checkpoint T S)
         → ⟦<Checkpoint<T, S> as Ord>⟧.cmp c d
         ≡ T.cmp (checkpoint_inner c) (checkpoint_inner d) }
+{}
+
+/// The law of slices of wrappers: they have the bytes, or are the text, that the slices of the stream inside have. It does nothing when called: its
+/// contract is the law.
+pub fn wrapper_slice_law<I: Stream<Token = u8>, S: Debug>()
+    ensures located { (bytes : I.Slice → List ℕ) → SlicesHaveBytes I.is_slice bytes
+        → SlicesHaveBytes ⟦<LocatingSlice<I> as Stream>⟧.is_slice bytes }
+    ensures stateful { (bytes : I.Slice → List ℕ) → SlicesHaveBytes I.is_slice bytes
+        → SlicesHaveBytes ⟦<Stateful<I, S> as Stream>⟧.is_slice bytes }
+    ensures partial { (bytes : I.Slice → List ℕ) → SlicesHaveBytes I.is_slice bytes
+        → SlicesHaveBytes ⟦<Partial<I> as Stream>⟧.is_slice bytes }
 {}

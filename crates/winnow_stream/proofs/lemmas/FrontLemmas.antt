@@ -116,6 +116,11 @@ module _ {A : Type 0} where
             ap (λ m. width (take m (x ∷ xs))) (k ∙ add-one _) ∙ omega (arith, e, l)
       ]
 
+  -- the width of two lists in a row
+  pub width-append : (p q : List (A × ℕ)) → width (p ++ q) ≡ width p + width q
+  width-append [] q = omega arith
+  width-append (x ∷ p) q = omega (arith, width-append p q)
+
   pub width-take_drop : (r : List (A × ℕ)) (i : ℕ) → width (take i r) + width (drop i r) ≡ width r
   width-take_drop r zero = omega arith
   width-take_drop [] (suc i) = refl

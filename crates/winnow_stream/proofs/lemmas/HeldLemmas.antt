@@ -3,8 +3,8 @@ use Rattle.std.proofs.Common.{◌≡◌, ℕ, ◌+◌, ◌≤◌, Bool, true, fa
 use Rattle.std.specs.Prelude.{not, unwrap_or}
 use Rattle.std.proofs.lemmas.Option.{none-some, same_Some}
 use Rattle.winnow_stream.specs.Source.{width, HasPositiveWidths, first_token, first_held, offsets_from, held_front, HoldsAll}
-use Rattle.winnow_stream.specs.Front.{is_offset, back}
-use Rattle.winnow_stream.proofs.lemmas.FrontLemmas.{is_offset-HasFront, back-place}
+use Rattle.winnow_stream.specs.Front.{is_offset, front, back}
+use Rattle.winnow_stream.proofs.lemmas.FrontLemmas.{is_offset-HasFront, front-place, back-place}
 
 module _ {A : Type 0} (holds : A → Bool) where
   -- one token, by whether it is held
@@ -53,6 +53,16 @@ module _ {A : Type 0} (holds : A → Bool) where
 
   pub back-held_front : (r : List (A × ℕ)) → HasPositiveWidths r → back r (width (held_front holds r)) ≡ drop (length (held_front holds r)) r
   back-held_front r h = ap (λ t. back r (width t)) (sym (take-held_front r)) ∙ back-place r (length (held_front holds r)) h (length-held_front r)
+
+  -- the front of the held width is what is held
+  pub front-held_front : (r : List (A × ℕ)) → HasPositiveWidths r → front r (width (held_front holds r)) ≡ held_front holds r
+  front-held_front r h = ap (λ t. front r (width t)) (sym (take-held_front r)) ∙ front-place r (length (held_front holds r)) h (length-held_front r) ∙ take-held_front r
+
+  -- tokens that are all held, before one that is not, are exactly what is held
+  pub held_front-append : (text rest : List (A × ℕ)) → HoldsAll holds text → ((x : A) → first_token rest ≡ Some x → holds x ≡ false) → held_front holds (text ++ rest) ≡ text
+  held_front-append [] [] all next = refl
+  held_front-append [] (x ∷ xs) all next = ap (λ b. cond b (x ∷ held_front holds xs) []) (next x.0 refl)
+  held_front-append (x ∷ text) rest all next = ap (λ b. cond b (x ∷ held_front holds (text ++ rest)) []) all.0 ∙ ap (λ t. x ∷ t) (held_front-append text rest all.1 next)
 
   -- what is held, and what stands behind it
   pub append-held_front : (r : List (A × ℕ)) → held_front holds r ++ drop (length (held_front holds r)) r ≡ r

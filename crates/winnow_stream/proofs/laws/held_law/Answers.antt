@@ -1,7 +1,7 @@
 use Rattle.std.proofs.Common.{ap, sym, ◌∙◌, zero-add}
 use Rattle.std.specs.Prelude.{not, unwrap_or}
 use Rattle.winnow_stream.specs.Source.{width, first_offset, held_front}
-use Rattle.winnow_stream.proofs.lemmas.HeldLemmas.{width-held_front, is_offset-held_front, take-held_front, back-held_front, HoldsAll-held_front, next-held_front, append-held_front, all-held_front, behind-held_front}
+use Rattle.winnow_stream.proofs.lemmas.HeldLemmas.{width-held_front, is_offset-held_front, take-held_front, back-held_front, HoldsAll-held_front, next-held_front, append-held_front, all-held_front, behind-held_front, front-held_front, held_front-append}
 use Rattle.winnow_stream.proofs.laws.held_law.Goals as goal
 
 pub returns-clause-width : goal.returns-clause-width
@@ -31,3 +31,9 @@ returns-clause-all g c = λ holds r e. all-held_front holds r e
 
 pub returns-clause-further : goal.returns-clause-further
 returns-clause-further g c = λ holds also r within. behind-held_front holds also within r
+
+pub returns-clause-exact : goal.returns-clause-exact
+returns-clause-exact g c = λ holds r h. front-held_front holds r h
+
+pub returns-clause-known : goal.returns-clause-known
+returns-clause-known g c = λ holds text rest all next. held_front-append holds text rest all next
