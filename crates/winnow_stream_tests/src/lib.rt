@@ -11,6 +11,8 @@ mod held;
 #[cfg(test)]
 mod literals;
 #[cfg(test)]
+mod numbers;
+#[cfg(test)]
 mod pair_reader;
 #[cfg(test)]
 mod spans;
