@@ -1,6 +1,6 @@
 -- What each step answers and leaves, where a run stands at the cursor.
 use Rattle.std.proofs.Common.{◌≡◌, ℕ, ◌+◌, ◌-◌, ◌≤◌, ◌<◌, leb, Bool, true, false, List, [], ◌∷◌, ◌++◌, length, take, drop, refl, ap, sym, ◌∙◌, arith, Option, Some, None, inl, inr, length-drop}
-use Rattle.std.specs.Prelude.{slice_get, is_some}
+use Rattle.std.specs.Prelude.{slice_get, is_some, IfSome}
 use Rattle.std.proofs.lemmas.Bool.Decides.{nat_tests}
 use Rattle.std.proofs.lemmas.Bool.{cases_lt, le-leb}
 use Rattle.std.proofs.lemmas.List.{drop-drop}
@@ -12,8 +12,12 @@ use Rattle.winnow_stream.specs.Span.{span}
 use Rattle.winnow_stream.proofs.lemmas.FrontLemmas.{back-place, front-whole, HasPositiveWidths-drop, back-drop, within-back, front_count-found, front_count-missing, front_count-place, width-take_drop}
 use Rattle.winnow_run.specs.Script.{step_next}
 use Rattle.winnow_stream.specs.Location.{location_behind}
-use Rattle.winnow_run.specs.RunState.{RunState, StandsAt, IsMarkAt, AreLocated}
+use Rattle.winnow_run.specs.RunState.{RunState, StandsAt, IsMarkAt, IsInReach, AreLocated}
+use Rattle.winnow_run.specs.Searching.{IsSearchInReach}
+use Rattle.winnow_run.specs.declared.script.Step.{Step}
 use Rattle.winnow_run.specs.declared.script.Step.TheVariants.{Next, Take, Mark, Reset}
+use Rattle.winnow_run.specs.declared.search_script.SearchStep.{SearchStep}
+use Rattle.winnow_run.specs.declared.search_script.SearchStep.TheVariants as search
 use Rattle.winnow_run.proofs.lemmas.PlaceLemmas.{drop-next, width-later, width-antitone}
 use Rattle.winnow_run.proofs.lemmas.PairLemmas.{AllZip-more, AllZip-found, AllZip-missing}
 
@@ -26,6 +30,21 @@ behind-none (Some p) n e = let f : p ≡ p + n = omega (arith, e) in ap Some f
 behind-on : (whole : Option ℕ) (n w m : ℕ) → n + w ≡ m → location_behind (location_behind whole n) w ≡ location_behind whole m
 behind-on None n w m e = refl
 behind-on (Some p) n w m e = let f : p + n + w ≡ p + m = omega (arith, e) in ap Some f
+
+-- ---- marks in reach of an origin at the list's start
+
+found-in-reach : (mark : Option ℕ) (base : ℕ) → base ≡ 0 → IfSome mark (λ m. base ≤ m)
+found-in-reach None base e = tt
+found-in-reach (Some m) base e = omega arith
+
+pub reach-start : {C T : Type 0} (step : Step C) (here : RunState T) → here.base ≡ 0 → IsInReach step here
+reach-start (Reset k) here e = found-in-reach (slice_get here.marks k) here.base e
+reach-start _ here e = tt
+
+pub reach_search-start : {C T L : Type 0} (step : SearchStep C L) (here : RunState T) → here.base ≡ 0 → IsSearchInReach step here
+reach_search-start (search.Call call) here e = reach-start call here e
+reach_search-start (search.Compare literal) here e = tt
+reach_search-start (search.Find needles) here e = tt
 
 module _ {T : Type 0} (here : RunState T) (all : Source T) (at : Cursor) (h : StandsAt here all at) where
   pub slice-place : {S : Type 0} (is_slice : S → Source T → ℕ → Type 0) (n m : ℕ) (s : S) → m ≡ n → is_slice s here.rest n → is_slice s (back all (width (take at.index all))) m

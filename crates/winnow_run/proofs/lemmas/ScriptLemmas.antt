@@ -1,9 +1,13 @@
 -- Scripts of steps of any kind, one step on.
-use Rattle.std.proofs.Common.{◌≡◌, List, [], ◌∷◌, ◌++◌, refl}
+use Rattle.std.proofs.Common.{◌≡◌, ◌<◌, List, [], ◌∷◌, ◌++◌, length, refl, ap, arith}
 use Rattle.std.specs.List.{All, AllZip}
 use Rattle.std.proofs.lemmas.List.Elements.{All-head, All-tail}
 use Rattle.winnow_stream.specs.Cursor.{Cursor, cursor_after, answers_from}
 use Rattle.winnow_run.specs.Script.{AreGiven}
+
+-- what is left of a script after a step is shorter
+pub later-shorter : {S : Type 0} (x : S) (xs ys : List S) → ys ≡ x ∷ xs → length xs < length ys
+later-shorter x xs ys e = omega (arith, ap length e)
 
 module _ {S : Type 0} (moves : S → Cursor → Cursor) where
   pub cursor-append : (xs : List S) (x : S) (at : Cursor) → cursor_after moves (xs ++ x ∷ []) at ≡ moves x (cursor_after moves xs at)

@@ -1,13 +1,14 @@
 use Rattle.std.proofs.Common.{◌≡◌, ◌-◌, [], ◌∷◌, ◌++◌, refl, sym, ◌∙◌, ap, subst, arith}
 use Rattle.std.proofs.lemmas.List.{append_assoc, append-nil, nil_from_length}
 use Rattle.std.proofs.lemmas.List.Elements.{All-head, All-tail}
+use Rattle.std.proofs.lemmas.Result.{IfOk-from_err}
 use Rattle.std.specs.List.{All}
 use Rattle.winnow_stream.specs.Source.{width}
 use Rattle.winnow_stream.specs.Cursor.{start}
 use Rattle.winnow_stream.specs.Location.{location_behind}
 use Rattle.winnow_run.specs.Searching.{search_next, IsSearchReady, IsSearchAnswer}
-use Rattle.winnow_run.proofs.lemmas.AnswerStepLemmas.{behind-none}
-use Rattle.winnow_run.proofs.lemmas.ScriptLemmas.{cursor-append, AreGiven-append}
+use Rattle.winnow_run.proofs.lemmas.AnswerStepLemmas.{behind-none, reach_search-start}
+use Rattle.winnow_run.proofs.lemmas.ScriptLemmas.{cursor-append, AreGiven-append, later-shorter}
 use Rattle.winnow_run.proofs.searching.search_steps.Goals as goal
 
 pub loop-step-init : goal.loop-step-init
@@ -86,3 +87,63 @@ pub returns-clause-location : goal.returns-clause-location
 returns-clause-location g c =
     let i = c.loop-step.invariant in
     i.placed.1 ∙ ap (λ n. location_behind (g.S.Rest.location c.args.s.now) (n - width (g.S.Stream.remaining c.loop-step.s))) i.stands.end
+
+pub search_step-requires-clause-valid : goal.search_step-requires-clause-valid
+search_step-requires-clause-valid g c = c.loop-step.invariant.valid
+
+pub search_step-requires-clause-origin : goal.search_step-requires-clause-origin
+search_step-requires-clause-origin g c = c.loop-step.invariant.origin
+
+pub search_step-requires-clause-stands : goal.search_step-requires-clause-stands
+search_step-requires-clause-stands g c = (_, _, c.loop-step.invariant.stands)
+
+pub search_step-requires-clause-reach : goal.search_step-requires-clause-reach
+search_step-requires-clause-reach g c = reach_search-start c.in-Some.step.now _ c.loop-step.invariant.base
+
+pub loop-step-smaller : goal.loop-step-smaller
+loop-step-smaller g c = later-shorter c.in-Some.step.now _ _ c.in-Some.ensures.cases.0
+
+pub returns-in_err-answers-clause-answers : goal.returns-in_err-answers-clause-answers
+returns-in_err-answers-clause-answers g c = IfOk-from_err _ _ c.from_residual.ensures.0
+
+pub returns-in_err-answers-clause-remains : goal.returns-in_err-answers-clause-remains
+returns-in_err-answers-clause-remains g c = IfOk-from_err _ _ c.from_residual.ensures.0
+
+pub returns-in_err-answers-clause-location : goal.returns-in_err-answers-clause-location
+returns-in_err-answers-clause-location g c = IfOk-from_err _ _ c.from_residual.ensures.0
+
+pub returns-in_err-answers-clause-valid : goal.returns-in_err-answers-clause-valid
+returns-in_err-answers-clause-valid g c = c.requires.valid
+
+pub returns-in_err-answers-clause-kept : goal.returns-in_err-answers-clause-kept
+returns-in_err-answers-clause-kept g c = g.met.S.Stream.keeps_reflexive _
+
+pub returns-in_err-answer-clause-answers : goal.returns-in_err-answer-clause-answers
+returns-in_err-answer-clause-answers g c = IfOk-from_err _ _ c.from_residual-in_err-answer.ensures.0
+
+pub returns-in_err-answer-clause-remains : goal.returns-in_err-answer-clause-remains
+returns-in_err-answer-clause-remains g c = IfOk-from_err _ _ c.from_residual-in_err-answer.ensures.0
+
+pub returns-in_err-answer-clause-location : goal.returns-in_err-answer-clause-location
+returns-in_err-answer-clause-location g c = IfOk-from_err _ _ c.from_residual-in_err-answer.ensures.0
+
+pub returns-in_err-answer-clause-valid : goal.returns-in_err-answer-clause-valid
+returns-in_err-answer-clause-valid g c = c.search_step.ensures.valid
+
+pub returns-in_err-push-clause-answers : goal.returns-in_err-push-clause-answers
+returns-in_err-push-clause-answers g c = IfOk-from_err _ _ c.from_residual-in_err-push.ensures.0
+
+pub returns-in_err-push-clause-remains : goal.returns-in_err-push-clause-remains
+returns-in_err-push-clause-remains g c = IfOk-from_err _ _ c.from_residual-in_err-push.ensures.0
+
+pub returns-in_err-push-clause-location : goal.returns-in_err-push-clause-location
+returns-in_err-push-clause-location g c = IfOk-from_err _ _ c.from_residual-in_err-push.ensures.0
+
+pub returns-in_err-push-clause-valid : goal.returns-in_err-push-clause-valid
+returns-in_err-push-clause-valid g c = c.search_step.ensures.valid
+
+pub returns-clause-valid : goal.returns-clause-valid
+returns-clause-valid g c = c.loop-step.invariant.valid
+
+pub returns-clause-kept : goal.returns-clause-kept
+returns-clause-kept g c = c.loop-step.invariant.kept

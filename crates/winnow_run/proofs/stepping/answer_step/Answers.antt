@@ -1,8 +1,9 @@
 use Rattle.std.proofs.Common.{◌-◌, ◌≤◌, arith, refl, sym, ◌∙◌, ap, Ok}
-use Rattle.winnow_run.specs.declared.script.Answer.TheVariants.{Marked, Offset}
+use Rattle.winnow_run.specs.declared.script.Answer.TheVariants.{Token, At, Flag, Marked, Offset}
 use Rattle.std.specs.declared.alloc.AllocError.{AllocError}
-use Rattle.winnow_stream.specs.Source.{offsets, width}
-use Rattle.winnow_stream.specs.Front.{back}
+use Rattle.winnow_stream.specs.Source.{offsets, width, first_token}
+use Rattle.winnow_stream.specs.Front.{back, is_offset}
+use Rattle.winnow_stream.specs.Shortage.{offset_at}
 use Rattle.winnow_stream.specs.Location.{location_behind}
 use Rattle.std.proofs.lemmas.Iterator.{YieldsList, items_from_collect}
 use Rattle.winnow_stream.proofs.lemmas.FrontLemmas.{width-take_drop, width-back}
@@ -150,3 +151,231 @@ returns-in-Some-clause-location g c = λ whole q.
     let e = c.next_slice-in-Some.ensures.remains ∙ ap (λ x. back x n) c.reset.ensures.remains in
     let p = c.next_slice-in-Some.ensures.location ∙ ap (λ v. location_behind v n) c.reset.ensures.location in
     placed-reset _ _ _ s.2 whole _ _ _ _ c.in-Reset.number c.in-Some.place f l e p q
+
+-- ---- steps that leave the stream where it stands
+
+pub returns-in-Peek-clause-stands : goal.returns-in-Peek-clause-stands
+returns-in-Peek-clause-stands g c = λ all cur h. rw c.in-Peek.is h
+
+pub returns-in-Peek-clause-location : goal.returns-in-Peek-clause-location
+returns-in-Peek-clause-location g c = λ whole q. q
+
+pub returns-in-Peek-clause-valid : goal.returns-in-Peek-clause-valid
+returns-in-Peek-clause-valid g c = c.requires.valid
+
+pub returns-in-Peek-clause-kept : goal.returns-in-Peek-clause-kept
+returns-in-Peek-clause-kept g c = g.met.S.Stream.keeps_reflexive _
+
+pub returns-else-is_offset-clause-location : goal.returns-else-is_offset-clause-location
+returns-else-is_offset-clause-location g c = λ whole q. q
+
+pub returns-else-is_offset-clause-valid : goal.returns-else-is_offset-clause-valid
+returns-else-is_offset-clause-valid g c = c.requires.valid
+
+pub returns-else-is_offset-clause-kept : goal.returns-else-is_offset-clause-kept
+returns-else-is_offset-clause-kept g c = g.met.S.Stream.keeps_reflexive _
+
+pub returns-then-is_offset-2-clause-stands : goal.returns-then-is_offset-2-clause-stands
+returns-then-is_offset-2-clause-stands g c = λ all cur h. rw c.in-Look.is h
+
+pub returns-then-is_offset-2-clause-location : goal.returns-then-is_offset-2-clause-location
+returns-then-is_offset-2-clause-location g c = λ whole q. q
+
+pub returns-then-is_offset-2-clause-valid : goal.returns-then-is_offset-2-clause-valid
+returns-then-is_offset-2-clause-valid g c = c.requires.valid
+
+pub returns-then-is_offset-2-clause-kept : goal.returns-then-is_offset-2-clause-kept
+returns-then-is_offset-2-clause-kept g c = g.met.S.Stream.keeps_reflexive _
+
+pub returns-else-is_offset-2-clause-stands : goal.returns-else-is_offset-2-clause-stands
+returns-else-is_offset-2-clause-stands g c = λ all cur h. rw c.in-Look.is h
+
+pub returns-else-is_offset-2-clause-location : goal.returns-else-is_offset-2-clause-location
+returns-else-is_offset-2-clause-location g c = λ whole q. q
+
+pub returns-else-is_offset-2-clause-valid : goal.returns-else-is_offset-2-clause-valid
+returns-else-is_offset-2-clause-valid g c = c.requires.valid
+
+pub returns-else-is_offset-2-clause-kept : goal.returns-else-is_offset-2-clause-kept
+returns-else-is_offset-2-clause-kept g c = g.met.S.Stream.keeps_reflexive _
+
+pub returns-in-PeekFinish-clause-stands : goal.returns-in-PeekFinish-clause-stands
+returns-in-PeekFinish-clause-stands g c = λ all cur h. rw c.in-PeekFinish.is h
+
+pub returns-in-PeekFinish-clause-location : goal.returns-in-PeekFinish-clause-location
+returns-in-PeekFinish-clause-location g c = λ whole q. q
+
+pub returns-in-PeekFinish-clause-valid : goal.returns-in-PeekFinish-clause-valid
+returns-in-PeekFinish-clause-valid g c = c.requires.valid
+
+pub returns-in-PeekFinish-clause-kept : goal.returns-in-PeekFinish-clause-kept
+returns-in-PeekFinish-clause-kept g c = g.met.S.Stream.keeps_reflexive _
+
+pub returns-in-Eof-clause-stands : goal.returns-in-Eof-clause-stands
+returns-in-Eof-clause-stands g c = λ all cur h. rw c.in-Eof.is h
+
+pub returns-in-Eof-clause-location : goal.returns-in-Eof-clause-location
+returns-in-Eof-clause-location g c = λ whole q. q
+
+pub returns-in-Eof-clause-valid : goal.returns-in-Eof-clause-valid
+returns-in-Eof-clause-valid g c = c.requires.valid
+
+pub returns-in-Eof-clause-kept : goal.returns-in-Eof-clause-kept
+returns-in-Eof-clause-kept g c = g.met.S.Stream.keeps_reflexive _
+
+pub returns-in-At-clause-stands : goal.returns-in-At-clause-stands
+returns-in-At-clause-stands g c = λ all cur h. rw c.in-At.is h
+
+pub returns-in-At-clause-location : goal.returns-in-At-clause-location
+returns-in-At-clause-location g c = λ whole q. q
+
+pub returns-in-At-clause-valid : goal.returns-in-At-clause-valid
+returns-in-At-clause-valid g c = c.requires.valid
+
+pub returns-in-At-clause-kept : goal.returns-in-At-clause-kept
+returns-in-At-clause-kept g c = g.met.S.Stream.keeps_reflexive _
+
+pub returns-in-IsOffset-clause-stands : goal.returns-in-IsOffset-clause-stands
+returns-in-IsOffset-clause-stands g c = λ all cur h. rw c.in-IsOffset.is h
+
+pub returns-in-IsOffset-clause-location : goal.returns-in-IsOffset-clause-location
+returns-in-IsOffset-clause-location g c = λ whole q. q
+
+pub returns-in-IsOffset-clause-valid : goal.returns-in-IsOffset-clause-valid
+returns-in-IsOffset-clause-valid g c = c.requires.valid
+
+pub returns-in-IsOffset-clause-kept : goal.returns-in-IsOffset-clause-kept
+returns-in-IsOffset-clause-kept g c = g.met.S.Stream.keeps_reflexive _
+
+pub returns-in-First-clause-stands : goal.returns-in-First-clause-stands
+returns-in-First-clause-stands g c = λ all cur h. rw c.in-First.is h
+
+pub returns-in-First-clause-location : goal.returns-in-First-clause-location
+returns-in-First-clause-location g c = λ whole q. q
+
+pub returns-in-First-clause-valid : goal.returns-in-First-clause-valid
+returns-in-First-clause-valid g c = c.requires.valid
+
+pub returns-in-First-clause-kept : goal.returns-in-First-clause-kept
+returns-in-First-clause-kept g c = g.met.S.Stream.keeps_reflexive _
+
+pub returns-in_ok-collect-in-Each-clause-stands : goal.returns-in_ok-collect-in-Each-clause-stands
+returns-in_ok-collect-in-Each-clause-stands g c = λ all cur h. rw c.in-Each.is h
+
+pub returns-in_ok-collect-in-Each-clause-location : goal.returns-in_ok-collect-in-Each-clause-location
+returns-in_ok-collect-in-Each-clause-location g c = λ whole q. q
+
+pub returns-in_ok-collect-in-Each-clause-valid : goal.returns-in_ok-collect-in-Each-clause-valid
+returns-in_ok-collect-in-Each-clause-valid g c = c.requires.valid
+
+pub returns-in_ok-collect-in-Each-clause-kept : goal.returns-in_ok-collect-in-Each-clause-kept
+returns-in_ok-collect-in-Each-clause-kept g c = g.met.S.Stream.keeps_reflexive _
+
+pub returns-in_err-collect-in-Each-clause-location : goal.returns-in_err-collect-in-Each-clause-location
+returns-in_err-collect-in-Each-clause-location g c = λ whole q. q
+
+pub returns-in_err-collect-in-Each-clause-valid : goal.returns-in_err-collect-in-Each-clause-valid
+returns-in_err-collect-in-Each-clause-valid g c = c.requires.valid
+
+pub returns-in_err-collect-in-Each-clause-kept : goal.returns-in_err-collect-in-Each-clause-kept
+returns-in_err-collect-in-Each-clause-kept g c = g.met.S.Stream.keeps_reflexive _
+
+pub returns-in_ok-push-in-Mark-clause-valid : goal.returns-in_ok-push-in-Mark-clause-valid
+returns-in_ok-push-in-Mark-clause-valid g c = c.requires.valid
+
+pub returns-in_ok-push-in-Mark-clause-kept : goal.returns-in_ok-push-in-Mark-clause-kept
+returns-in_ok-push-in-Mark-clause-kept g c = g.met.S.Stream.keeps_reflexive _
+
+pub returns-in_err-push-in-Mark-clause-valid : goal.returns-in_err-push-in-Mark-clause-valid
+returns-in_err-push-in-Mark-clause-valid g c = c.requires.valid
+
+pub returns-in_err-push-in-Mark-clause-kept : goal.returns-in_err-push-in-Mark-clause-kept
+returns-in_err-push-in-Mark-clause-kept g c = g.met.S.Stream.keeps_reflexive _
+
+pub returns-in-None-clause-location : goal.returns-in-None-clause-location
+returns-in-None-clause-location g c = λ whole q. q
+
+pub returns-in-None-clause-valid : goal.returns-in-None-clause-valid
+returns-in-None-clause-valid g c = c.requires.valid
+
+pub returns-in-None-clause-kept : goal.returns-in-None-clause-kept
+returns-in-None-clause-kept g c = g.met.S.Stream.keeps_reflexive _
+
+pub returns-then-place-mark-clause-stands : goal.returns-then-place-mark-clause-stands
+returns-then-place-mark-clause-stands g c = λ all cur h. rw c.in-Since.is h
+
+pub returns-then-place-mark-clause-location : goal.returns-then-place-mark-clause-location
+returns-then-place-mark-clause-location g c = λ whole q. q
+
+pub returns-then-place-mark-clause-valid : goal.returns-then-place-mark-clause-valid
+returns-then-place-mark-clause-valid g c = c.requires.valid
+
+pub returns-then-place-mark-clause-kept : goal.returns-then-place-mark-clause-kept
+returns-then-place-mark-clause-kept g c = g.met.S.Stream.keeps_reflexive _
+
+pub returns-else-place-mark-clause-stands : goal.returns-else-place-mark-clause-stands
+returns-else-place-mark-clause-stands g c = λ all cur h. rw c.in-Since.is h
+
+pub returns-else-place-mark-clause-location : goal.returns-else-place-mark-clause-location
+returns-else-place-mark-clause-location g c = λ whole q. q
+
+pub returns-else-place-mark-clause-valid : goal.returns-else-place-mark-clause-valid
+returns-else-place-mark-clause-valid g c = c.requires.valid
+
+pub returns-else-place-mark-clause-kept : goal.returns-else-place-mark-clause-kept
+returns-else-place-mark-clause-kept g c = g.met.S.Stream.keeps_reflexive _
+
+pub returns-in-None-place-clause-stands : goal.returns-in-None-place-clause-stands
+returns-in-None-place-clause-stands g c = λ all cur h. rw c.in-Since.is h
+
+pub returns-in-None-place-clause-location : goal.returns-in-None-place-clause-location
+returns-in-None-place-clause-location g c = λ whole q. q
+
+pub returns-in-None-place-clause-valid : goal.returns-in-None-place-clause-valid
+returns-in-None-place-clause-valid g c = c.requires.valid
+
+pub returns-in-None-place-clause-kept : goal.returns-in-None-place-clause-kept
+returns-in-None-place-clause-kept g c = g.met.S.Stream.keeps_reflexive _
+
+-- ---- steps that move it
+
+pub returns-in-Next-clause-valid : goal.returns-in-Next-clause-valid
+returns-in-Next-clause-valid g c = c.next_token.ensures.valid
+
+pub returns-in-Next-clause-kept : goal.returns-in-Next-clause-kept
+returns-in-Next-clause-kept g c = c.next_token.ensures.kept
+
+pub returns-then-is_offset-clause-valid : goal.returns-then-is_offset-clause-valid
+returns-then-is_offset-clause-valid g c = c.next_slice.ensures.valid
+
+pub returns-then-is_offset-clause-kept : goal.returns-then-is_offset-clause-kept
+returns-then-is_offset-clause-kept g c = c.next_slice.ensures.kept
+
+pub returns-in-Finish-clause-valid : goal.returns-in-Finish-clause-valid
+returns-in-Finish-clause-valid g c = c.finish.ensures.valid
+
+pub returns-in-Finish-clause-kept : goal.returns-in-Finish-clause-kept
+returns-in-Finish-clause-kept g c = c.finish.ensures.kept
+
+pub returns-in-Some-clause-valid : goal.returns-in-Some-clause-valid
+returns-in-Some-clause-valid g c = c.next_slice-in-Some.ensures.valid
+
+pub returns-in-Some-clause-kept : goal.returns-in-Some-clause-kept
+returns-in-Some-clause-kept g c = g.met.S.Stream.keeps_transitive _ _ _ c.reset.ensures.kept c.next_slice-in-Some.ensures.kept
+
+-- ---- what remains, told as it stands
+
+pub returns-in-Next-clause-answer : goal.returns-in-Next-clause-answer
+returns-in-Next-clause-answer g c = λ all cur h q p. rw c.in-Next.is (ap Token (c.next_token.ensures.answer ∙ ap first_token h.rest))
+
+pub returns-in-Peek-clause-answer : goal.returns-in-Peek-clause-answer
+returns-in-Peek-clause-answer g c = λ all cur h q p. rw c.in-Peek.is (ap Token (c.peek_token.ensures ∙ ap first_token h.rest))
+
+pub returns-in-Eof-clause-answer : goal.returns-in-Eof-clause-answer
+returns-in-Eof-clause-answer g c = λ all cur h q p. rw c.in-Eof.is (ap Offset (c.eof_offset.ensures ∙ ap width h.rest))
+
+pub returns-in-At-clause-answer : goal.returns-in-At-clause-answer
+returns-in-At-clause-answer g c = λ all cur h q p. rw c.in-At.is (ap At (c.offset_at.ensures ∙ ap (λ r. offset_at g.S.Stream.counts_missing r c.in-At.tokens) h.rest))
+
+pub returns-in-IsOffset-clause-answer : goal.returns-in-IsOffset-clause-answer
+returns-in-IsOffset-clause-answer g c = λ all cur h q p. rw c.in-IsOffset.is (ap Flag (c.is_offset-in-IsOffset.ensures ∙ ap (λ r. is_offset r c.in-IsOffset.offset) h.rest))
