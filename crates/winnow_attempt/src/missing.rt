@@ -1,6 +1,6 @@
-ghost use Rattle.std.specs.Prelude.{◌≡◌, ◌<◌, drop, option_map};
+ghost use Rattle.std.specs.Prelude.{◌≡◌, ◌<◌, Some, drop, option_map};
 ghost use Rattle.std.specs.Prelude.{IfOk, OnErr, IsSome};
-ghost use Rattle.winnow_match.specs.Search.{bytes_of_needles, needle_of};
+ghost use Rattle.winnow_match.specs.Search.{hit, bytes_of_needles, needle_of};
 ghost use Rattle.winnow_attempt.specs.Settled.{IsSettled, NoneOccurs};
 ghost use Rattle.winnow_attempt.specs.View.{piece_kind};
 ghost use Rattle.winnow_attempt.specs.Missing.{letters, needle_missing, call_missing, missing};
@@ -9,16 +9,24 @@ use crate::kept::Kept;
 use crate::literals::{find_from, needle_bytes};
 use crate::looking::Passed;
 use std::alloc::{AllocError, Global};
+use std::ops::Range;
 use winnow_match::{Needles, stretch};
 use winnow_run::{SearchStep, Step};
 use winnow_sets::{AsChar, CharSet};
 use winnow_stream::{AsBStr, Stream, StreamIsPartial};
 
-// n letters a.
-fn letters(alloc: Global, n: usize) -> Result<Vec<u8>, AllocError>
-    ensures { IfOk result (λ made. made.items ≡ letters n) }
+// n letters a are missing.
+fn letters(alloc: Global, n: usize) -> Result<Option<Vec<u8>>, AllocError>
+    ensures { IfOk result (λ more. option_map (λ bytes. bytes.items) more ≡ Some (letters n)) }
 {
-    vec![in alloc; b'a'; n]
+    Ok(Some(vec![in alloc; b'a'; n]?))
+}
+
+// These bytes are missing.
+fn copied(alloc: Global, bytes: &[u8]) -> Result<Option<Vec<u8>>, AllocError>
+    ensures { IfOk result (λ more. option_map (λ copy. copy.items) more ≡ Some bytes.now) }
+{
+    Ok(Some(Vec::from_slice(alloc, bytes)?))
 }
 
 // What follows the first n bytes, if there are as many.
@@ -44,12 +52,21 @@ fn needle_of<'n>(needles: &Needles<&'n [u8]>, number: usize) -> &'n [u8]
     }
 }
 
+// The first place of a needle, where none stands before `passed`. The searches that it could keep are dropped here, so that no
+// exit of its caller has to drop them.
+fn first_hit(needles: &Needles<&[u8]>, bytes: &[u8], passed: usize) -> Option<Range<usize>>
+    requires { NoneOccurs (bytes_of_needles needles.now) bytes.now passed }
+    ensures { result ≡ hit (bytes_of_needles needles.now) bytes.now }
+{
+    find_from(needles, bytes, passed, &mut None)
+}
+
 // What a search is missing, where no needle stands before `passed`.
 fn needle_missing<'n>(needles: &Needles<&'n [u8]>, bytes: &[u8], passed: usize) -> &'n [u8]
     requires { NoneOccurs (bytes_of_needles needles.now) bytes.now passed }
     ensures { result.now ≡ needle_missing (bytes_of_needles needles.now) bytes.now }
 {
-    match find_from(needles, bytes, passed, &mut None) {
+    match first_hit(needles, bytes, passed) {
         None => needle_of(needles, 0),
         Some(hit) => match stretch(bytes, needles, &hit) {
             None => &[],
@@ -77,12 +94,12 @@ where
         (IsSome (call_missing S.counts_missing S.greatest S.spell (S.remaining rest) call.now)) }
 {
     match call {
-        Step::Take(n) => Ok(Some(letters(alloc, n.saturating_sub(rest.eof_offset()))?)),
-        Step::Look(n) => Ok(Some(letters(alloc, n.saturating_sub(rest.eof_offset()))?)),
-        Step::IsOffset(n) => Ok(Some(letters(alloc, n.saturating_sub(rest.eof_offset()))?)),
-        Step::At(n) => Ok(Some(letters(alloc, rest.letters_to(*n))?)),
+        Step::Take(n) => letters(alloc, n.saturating_sub(rest.eof_offset())),
+        Step::Look(n) => letters(alloc, n.saturating_sub(rest.eof_offset())),
+        Step::IsOffset(n) => letters(alloc, n.saturating_sub(rest.eof_offset())),
+        Step::At(n) => letters(alloc, rest.letters_to(*n)),
         Step::First(set) => rest.spell_one(alloc, set),
-        _ => Ok(Some(letters(alloc, 1)?)),
+        _ => letters(alloc, 1),
     }
 }
 
@@ -113,12 +130,12 @@ where
         SearchStep::Call(call) => call_missing(alloc, call, rest),
         SearchStep::Compare(literal) => {
             let more = after(literal.as_bstr(), rest.bytes().len());
-            Ok(Some(Vec::from_slice(alloc, more)?))
+            copied(alloc, more)
         }
         SearchStep::Find(needles) => {
             let needles = needle_bytes(needles);
             let more = needle_missing(&needles, rest.bytes(), passed.width);
-            Ok(Some(Vec::from_slice(alloc, more)?))
+            copied(alloc, more)
         }
     }
 }
