@@ -177,6 +177,8 @@ impl<'k> ByteFeed<'k> {
         let mut rest = Partial::new(kept.as_slice());
         rest.complete();
         advance(&mut run, &mut finders, rest, None);
+        // A call drops them, so that how each is dropped is not proved here.
+        drop(finders);
         let Progress { told, place, .. } = run;
         Finished { told, place }
     }

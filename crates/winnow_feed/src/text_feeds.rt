@@ -186,6 +186,8 @@ impl<'k> TextFeed<'k> {
         let mut rest = Partial::new(kept.as_str());
         rest.complete();
         advance(&mut run, &mut finders, rest, None);
+        // A call drops them, so that how each is dropped is not proved here.
+        drop(finders);
         let Progress { told, place, .. } = run;
         Finished { told, place }
     }

@@ -1,5 +1,7 @@
-use Rattle.std.proofs.Common.{[], ◌∷◌, ◌++◌, cond, length, length-append, sym, ap, ◌∙◌, arith, subst, refl}
+use Rattle.std.proofs.Common.{◌≡◌, ℕ, ◌≤◌, ◌<◌, List, [], ◌∷◌, ◌++◌, cond, get_or, length, length-append, vec_len, Some, sym, ap, ◌∙◌, arith, subst, refl}
 use Rattle.std.specs.Prelude.{slice_get}
+use Rattle.std.proofs.Math.Nat.{le_refl}
+use Rattle.std.proofs.lemmas.Bool.{true≢false, false≢true}
 use Rattle.std.proofs.lemmas.Option.{same_Some}
 use Rattle.winnow_stream.specs.Source.{width}
 use Rattle.winnow_stream.specs.Front.{back}
@@ -8,29 +10,46 @@ use Rattle.winnow_run.specs.Definite.{is_definite}
 use Rattle.winnow_attempt.specs.Settled.{IsSettled}
 use Rattle.winnow_attempt.specs.View.{look_of}
 use Rattle.winnow_attempt.specs.View.{under}
+use Rattle.winnow_sets.specs.declared.char_set.CharSet.{CharSet}
+use Rattle.winnow_run.specs.declared.search_script.SearchStep.{SearchStep}
+use Rattle.winnow_feed.specs.declared.progress.Progress.{Progress}
+use Rattle.winnow_feed.specs.JoinedInput.{next_step}
 use Rattle.winnow_feed.proofs.lemmas.JoinedInputLemmas.{next-is, base-le, kept-offset, kept-rest, kept-room, rest-back, IsRunOver-waits, IsRunOver-answered, AddsAnswers-none}
 use Rattle.winnow_feed.proofs.progress.attempt_next.Goals as goal
 
+-- orders over plain numbers, so that no goal below reads all that is known there
+lt-within : (a b c : ℕ) → a < b → b ≤ c → a < c
+lt-within a b c l h = omega arith
+
+le-lt-within : (a b c d : ℕ) → a ≤ b → b < c → c ≤ d → a < d
+le-lt-within a b c d l m h = omega arith
+
+same-lengths : {X : Type 0} (m n : ℕ) (xs ys : List X) → m ≡ length xs → n ≡ length ys → xs ≡ ys → m ≡ n
+same-lengths m n xs ys e f same = e ∙ ap length same ∙ sym f
+
+next-here : {T L : Type 0} (p : Progress T L) (i : ℕ) (x : SearchStep CharSet L) → i ≡ vec_len p.told → vec_len p.told ≡ length p.told.items → vec_len p.told < length p.script.now → x ≡ get_or p.script.now i x → next_step p ≡ Some x
+next-here p i x e ok left is = next-is p i x (e ∙ ok) (rw e left) is
+
 pub overflow_sub-progress : goal.overflow_sub-progress
 overflow_sub-progress g c =
-    let next = next-is c.args.progress.now c.len.result c.index-script-len.result (omega (arith, c.len.ensures, c.args.progress.now.told.ok.0)) (omega (arith, c.len.ensures, c.requires.left)) c.index-script-len.is in
+    let next = next-here c.args.progress.now c.len.result c.index-script-len.result c.len.ensures c.args.progress.now.told.ok.0 c.requires.left c.index-script-len.is in
     base-le _ _ _ _ _ c.requires.stands.1 _ next
 
 pub next_slice-requires-clause-offset : goal.next_slice-requires-clause-offset
 next_slice-requires-clause-offset g c =
-    let next = next-is c.args.progress.now c.len.result c.index-script-len.result (omega (arith, c.len.ensures, c.args.progress.now.told.ok.0)) (omega (arith, c.len.ensures, c.requires.left)) c.index-script-len.is in
+    let next = next-here c.args.progress.now c.len.result c.index-script-len.result c.len.ensures c.args.progress.now.told.ok.0 c.requires.left c.index-script-len.is in
     kept-offset _ _ _ _ _ c.requires.stands.1 _ next
 
 pub attempt_step-requires-clause-room : goal.attempt_step-requires-clause-room
 attempt_step-requires-clause-room g c =
-    let next = next-is c.args.progress.now c.len.result c.index-script-len.result (omega (arith, c.len.ensures, c.args.progress.now.told.ok.0)) (omega (arith, c.len.ensures, c.requires.left)) c.index-script-len.is in
+    let next = next-here c.args.progress.now c.len.result c.index-script-len.result c.len.ensures c.args.progress.now.told.ok.0 c.requires.left c.index-script-len.is in
     let h = c.requires.stands.1 in
     let e = ap width (c.next_slice.ensures.remains ∙ kept-rest _ _ _ _ _ h _ next) in
     omega (arith, e, kept-room _ _ _ _ _ h _ next, c.requires.room)
 
 pub attempt_step-requires-clause-settled : goal.attempt_step-requires-clause-settled
 attempt_step-requires-clause-settled g c =
-    let next = next-is c.args.progress.now c.len.result c.index-script-len.result (omega (arith, c.len.ensures, c.args.progress.now.told.ok.0)) (omega (arith, c.len.ensures, c.requires.left)) c.index-script-len.is in
+    let next = next-here c.args.progress.now c.len.result c.index-script-len.result c.len.ensures c.args.progress.now.told.ok.0 c.requires.left c.index-script-len.is in
     let h = c.requires.stands.1 in
     let k = piece_kind g.S.Token.AsChar.code g.S.Stream.counts_missing g.S.Kept.write g.L.AsBStr.text_bytes in
     let e = c.next_slice.ensures.remains ∙ kept-rest _ _ _ _ _ h _ next in
@@ -38,7 +57,7 @@ attempt_step-requires-clause-settled g c =
 
 pub returns-in-Waits-clause-stands : goal.returns-in-Waits-clause-stands
 returns-in-Waits-clause-stands g c = λ all h.
-    let next = next-is c.args.progress.now c.len.result c.index-script-len.result (omega (arith, c.len.ensures, c.args.progress.now.told.ok.0)) (omega (arith, c.len.ensures, c.requires.left)) c.index-script-len.is in
+    let next = next-here c.args.progress.now c.len.result c.index-script-len.result c.len.ensures c.args.progress.now.told.ok.0 c.requires.left c.index-script-len.is in
     let k = piece_kind g.S.Token.AsChar.code g.S.Stream.counts_missing g.S.Kept.write g.L.AsBStr.text_bytes in
     let e = c.next_slice.ensures.remains ∙ kept-rest _ _ _ _ _ h _ next in
     let settled = subst (λ r. IsSettled k c.index-script-len.result r c.in-Waits.passed.width c.in-Waits.passed.tokens) e c.in-Waits.ensures.attempts.2 in
@@ -49,7 +68,7 @@ returns-in-Waits-clause-more g c = λ _. sym (g.met.S.Kept.keeps_flag _ _ c.next
 
 pub returns-in-Waits-clause-waits : goal.returns-in-Waits-clause-waits
 returns-in-Waits-clause-waits g c = λ _ all h s is.
-    let next = next-is c.args.progress.now c.len.result c.index-script-len.result (omega (arith, c.len.ensures, c.args.progress.now.told.ok.0)) (omega (arith, c.len.ensures, c.requires.left)) c.index-script-len.is in
+    let next = next-here c.args.progress.now c.len.result c.index-script-len.result c.len.ensures c.args.progress.now.told.ok.0 c.requires.left c.index-script-len.is in
     let k = piece_kind g.S.Token.AsChar.code g.S.Stream.counts_missing g.S.Kept.write g.L.AsBStr.text_bytes in
     let step = c.index-script-len.result in
     let e = c.next_slice.ensures.remains ∙ kept-rest _ _ _ _ _ h _ next in
@@ -59,7 +78,7 @@ returns-in-Waits-clause-waits g c = λ _ all h s is.
 
 pub returns-in-Answered-clause-stands : goal.returns-in-Answered-clause-stands
 returns-in-Answered-clause-stands g c = λ all h.
-    let next = next-is c.args.progress.now c.len.result c.index-script-len.result (omega (arith, c.len.ensures, c.args.progress.now.told.ok.0)) (omega (arith, c.len.ensures, c.requires.left)) c.index-script-len.is in
+    let next = next-here c.args.progress.now c.len.result c.index-script-len.result c.len.ensures c.args.progress.now.told.ok.0 c.requires.left c.index-script-len.is in
     let k = piece_kind g.S.Token.AsChar.code g.S.Stream.counts_missing g.S.Kept.write g.L.AsBStr.text_bytes in
     let step = c.index-script-len.result in
     let p = c.args.progress.now in
@@ -86,3 +105,72 @@ returns-in-Answered-clause-still g c = λ e.
     let k = piece_kind g.S.Token.AsChar.code g.S.Stream.counts_missing g.S.Kept.write g.L.AsBStr.text_bytes in
     let seen = look_of k c.args.progress.now.place c.deref.result.now (g.S.Stream.remaining c.next_slice.new.self) c.index-script-len.result in
     absurd (omega (arith, e, ap length c.in-Answered.ensures.attempts.2, length-append c.args.progress.now.told.items (under c.args.piece seen.answer ∷ [])))
+
+pub bounds-script-len : goal.bounds-script-len
+bounds-script-len g c = rw c.len.ensures c.requires.left
+
+pub next_slice-requires-clause-valid : goal.next_slice-requires-clause-valid
+next_slice-requires-clause-valid g c = c.requires.valid
+
+pub attempt_step-requires-clause-valid : goal.attempt_step-requires-clause-valid
+attempt_step-requires-clause-valid g c = c.next_slice.ensures.valid
+
+pub attempt_step-requires-clause-told_room : goal.attempt_step-requires-clause-told_room
+attempt_step-requires-clause-told_room g c = lt-within _ _ _ c.requires.left c.requires.told_room
+
+pub push_mark-requires : goal.push_mark-requires
+push_mark-requires g c = le-lt-within _ _ _ _ c.requires.marks c.requires.left c.requires.mark_room
+
+pub returns-in-Waits-clause-script : goal.returns-in-Waits-clause-script
+returns-in-Waits-clause-script g c = refl
+
+pub returns-in-Waits-clause-base : goal.returns-in-Waits-clause-base
+returns-in-Waits-clause-base g c = refl
+
+pub returns-in-Waits-clause-pieces : goal.returns-in-Waits-clause-pieces
+returns-in-Waits-clause-pieces g c = refl
+
+pub returns-in-Waits-clause-tried : goal.returns-in-Waits-clause-tried
+returns-in-Waits-clause-tried g c = c.saturating_add-progress.ensures
+
+pub returns-in-Waits-clause-came : goal.returns-in-Waits-clause-came
+returns-in-Waits-clause-came g c = λ none. absurd (false≢true none)
+
+pub returns-in-Waits-clause-same : goal.returns-in-Waits-clause-same
+returns-in-Waits-clause-same g c = λ _. same-lengths _ _ _ _ c.attempt_step.new.told.ok.0 c.args.progress.now.told.ok.0 c.in-Waits.ensures.attempts.3
+
+pub returns-in-Waits-clause-still : goal.returns-in-Waits-clause-still
+returns-in-Waits-clause-still g c = λ _. (refl, refl)
+
+pub returns-in-Waits-clause-told_room : goal.returns-in-Waits-clause-told_room
+returns-in-Waits-clause-told_room g c = c.in-Waits.ensures.capacity
+
+pub returns-in-Waits-clause-mark_room : goal.returns-in-Waits-clause-mark_room
+returns-in-Waits-clause-mark_room g c = le_refl _
+
+pub returns-in-Answered-clause-more : goal.returns-in-Answered-clause-more
+returns-in-Answered-clause-more g c = λ none. absurd (true≢false none)
+
+pub returns-in-Answered-clause-waits : goal.returns-in-Answered-clause-waits
+returns-in-Answered-clause-waits g c = λ none. absurd (true≢false none)
+
+pub returns-in-Answered-clause-script : goal.returns-in-Answered-clause-script
+returns-in-Answered-clause-script g c = refl
+
+pub returns-in-Answered-clause-base : goal.returns-in-Answered-clause-base
+returns-in-Answered-clause-base g c = refl
+
+pub returns-in-Answered-clause-pieces : goal.returns-in-Answered-clause-pieces
+returns-in-Answered-clause-pieces g c = refl
+
+pub returns-in-Answered-clause-tried : goal.returns-in-Answered-clause-tried
+returns-in-Answered-clause-tried g c = c.saturating_add-progress.ensures
+
+pub returns-in-Answered-clause-same : goal.returns-in-Answered-clause-same
+returns-in-Answered-clause-same g c = λ none. absurd (true≢false none)
+
+pub returns-in-Answered-clause-told_room : goal.returns-in-Answered-clause-told_room
+returns-in-Answered-clause-told_room g c = c.in-Answered.ensures.capacity
+
+pub returns-in-Answered-clause-mark_room : goal.returns-in-Answered-clause-mark_room
+returns-in-Answered-clause-mark_room g c = c.push_mark.ensures.capacity
