@@ -1,3 +1,4 @@
+use Rattle.std.proofs.lemmas.Result.{IfOk-from_err}
 use Rattle.std.proofs.lemmas.List.{take_all}
 use Rattle.std.proofs.lemmas.Result.{on_ok_weaker}
 use Rattle.winnow_tree.specs.TreeText.{tree_text, deeper}
@@ -23,3 +24,25 @@ pub returns-after-loop-entry : goal.returns-after-loop-entry
 returns-after-loop-entry g t c =
     let all = rw (take_all c.loop-entry.entry-index c.deref-entry-items.result.now c.loop-entry-test.false, c.deref-entry-items.ensures.value) at c.loop-entry.invariant in
     writes_alt g.I.Display.output g.C.Display.output c.args.tree.now c.in-Alt.entries c.in-Alt.is c.args.indent.now _ _ _ c.in_ok-write-in-Alt.ensures.bytes all
+
+-- where memory is refused, nothing is promised
+pub returns-in_err-push_str-in-Base : goal.returns-in_err-push_str-in-Base
+returns-in_err-push_str-in-Base g t c = IfOk-from_err _ _ c.from_residual.ensures.0
+
+pub returns-in_err-write_base-in-Base : goal.returns-in_err-write_base-in-Base
+returns-in_err-write_base-in-Base g t c = IfOk-from_err _ _ c.from_residual-in_err-write_base-in-Base.ensures.0
+
+pub returns-in_err-push-in-Base : goal.returns-in_err-push-in-Base
+returns-in_err-push-in-Base g t c = IfOk-from_err _ _ c.from_residual-in_err-push-in-Base.ensures.0
+
+pub returns-in_err-write_tree-in-Stack : goal.returns-in_err-write_tree-in-Stack
+returns-in_err-write_tree-in-Stack g t c = IfOk-from_err _ _ c.from_residual-in_err-write_tree-in-Stack.ensures.0
+
+pub returns-in_err-write-in-Alt : goal.returns-in_err-write-in-Alt
+returns-in_err-write-in-Alt g t c = IfOk-from_err _ _ c.from_residual-in_err-write-in-Alt.ensures.0
+
+pub returns-in_err-further-in-Alt : goal.returns-in_err-further-in-Alt
+returns-in_err-further-in-Alt g t c = IfOk-from_err _ _ c.from_residual-in_err-further-in-Alt.ensures.0
+
+pub returns-in_err-write_tree-in-Alt : goal.returns-in_err-write_tree-in-Alt
+returns-in_err-write_tree-in-Alt g t c = IfOk-from_err _ _ c.from_residual-in_err-write_tree-in-Alt.ensures.0
