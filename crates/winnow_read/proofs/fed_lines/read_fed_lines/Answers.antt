@@ -1,3 +1,4 @@
+use Rattle.std.proofs.lemmas.Result.{IfOk-from_err}
 use Rattle.std.proofs.Common.{◌≡◌, ◌≢◌, [], ◌∷◌, ◌∙◌, ap, arith, length, length-append, sym, true}
 use Rattle.std.specs.Prelude.{◌==◌}
 use Rattle.std.proofs.lemmas.Bool.{eqb-true}
@@ -33,3 +34,22 @@ returns-in_err-line-clause-fault g c =
     let empty : c.is_empty-in-loop-alloc.result ≡ true → told.items ≡ [] = λ is. empty_of_length told.items (omega (arith, eqb-true, sym c.is_empty-in-loop-alloc.ensures ∙ is, told.ok.0)) in
     IfErr-handed _ c.from_residual.result c.in_err-line.field-0.0 c.from_residual.ensures.1
     (IsLineWhere-more _ _ c.in_err-line.field-0.0 (λ k fault. FaultsFed-line bytes c.args.lines.now.number c.args.lines.now.rest.now told.items left c.is_empty-in-loop-alloc.result k before.told before.first filled empty fault.1 (fault.0 ∙ before.number)) c.in_err-line.ensures.fault)
+
+-- where memory is refused, nothing is promised of a value
+pub returns-in_err-line-clause-told : goal.returns-in_err-line-clause-told
+returns-in_err-line-clause-told g c = IfOk-from_err _ _ c.from_residual.ensures.0
+
+pub returns-in_err-line-clause-first : goal.returns-in_err-line-clause-first
+returns-in_err-line-clause-first g c = IfOk-from_err _ _ c.from_residual.ensures.0
+
+pub returns-in_err-line-clause-short : goal.returns-in_err-line-clause-short
+returns-in_err-line-clause-short g c = IfOk-from_err _ _ c.from_residual.ensures.0
+
+pub returns-in_err-push-clause-told : goal.returns-in_err-push-clause-told
+returns-in_err-push-clause-told g c = IfOk-from_err _ _ c.from_residual-in_err-push.ensures.0
+
+pub returns-in_err-push-clause-first : goal.returns-in_err-push-clause-first
+returns-in_err-push-clause-first g c = IfOk-from_err _ _ c.from_residual-in_err-push.ensures.0
+
+pub returns-in_err-push-clause-short : goal.returns-in_err-push-clause-short
+returns-in_err-push-clause-short g c = IfOk-from_err _ _ c.from_residual-in_err-push.ensures.0

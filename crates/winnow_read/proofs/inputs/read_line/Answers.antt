@@ -1,3 +1,4 @@
+use Rattle.std.proofs.lemmas.Result.{IfOk-from_err}
 use Rattle.std.proofs.Common.{◌≡◌, ◌∙◌, [], ap, arith, refl, sym}
 use Rattle.std.proofs.lemmas.Bool.Decides.{Decides-eqb}
 use Rattle.std.proofs.lemmas.Slice.Eq.{slice_eq-Decides}
@@ -34,3 +35,13 @@ returns-in_default-split_word-clause-fault g c =
             TellsNamed-alone g.L.Contents.bytes c.args.name.now (first_line c.args.lines.now.rest.now) (λ spaced. cc (alone.1 spaced))
       ],
     )
+
+-- where memory is refused, nothing is promised of a value
+pub returns-in_err-read_literal-in-Some-split_word-clause-told : goal.returns-in_err-read_literal-in-Some-split_word-clause-told
+returns-in_err-read_literal-in-Some-split_word-clause-told g c = IfOk-from_err _ _ c.from_residual.ensures.0
+
+pub returns-in_err-read_literal-in-Some-split_word-clause-shorter : goal.returns-in_err-read_literal-in-Some-split_word-clause-shorter
+returns-in_err-read_literal-in-Some-split_word-clause-shorter g c = IfOk-from_err _ _ c.from_residual.ensures.0
+
+pub returns-in_err-read_literal-in-Some-split_word-clause-number : goal.returns-in_err-read_literal-in-Some-split_word-clause-number
+returns-in_err-read_literal-in-Some-split_word-clause-number g c = IfOk-from_err _ _ c.from_residual.ensures.0

@@ -1,3 +1,4 @@
+use Rattle.std.proofs.lemmas.Result.{IfOk-from_err}
 use Rattle.std.proofs.Common.{◌≡◌, ap, codes, length, arith, sym, ◌∙◌}
 use Rattle.winnow_read.specs.Reading.{TellsNothing}
 use Rattle.winnow_read.specs.Steps.{TellsCall}
@@ -33,3 +34,13 @@ returns-in_default-name g c =
     (λ first. absurd (c.in_default-name.not-first (words.first ∙ first)))
     (λ compare. absurd (c.in_default-name.not-compare (words.first ∙ compare)))
     (λ find. absurd (c.in_default-name.not-find (words.first ∙ find)))
+
+-- where memory is refused, nothing is promised of a value
+pub returns-in_err-ranges-in-first : goal.returns-in_err-ranges-in-first
+returns-in_err-ranges-in-first g c = IfOk-from_err _ _ c.from_residual.ensures.0
+
+pub returns-in_err-literal-in-compare : goal.returns-in_err-literal-in-compare
+returns-in_err-literal-in-compare g c = IfOk-from_err _ _ c.from_residual-in_err-literal-in-compare.ensures.0
+
+pub returns-in_err-needles-in-find : goal.returns-in_err-needles-in-find
+returns-in_err-needles-in-find g c = IfOk-from_err _ _ c.from_residual-in_err-needles-in-find.ensures.0

@@ -1,3 +1,4 @@
+use Rattle.std.proofs.lemmas.Result.{IfOk-from_err}
 use Rattle.std.proofs.Common.{[], ◌∷◌, length, length-append, ap, arith, refl}
 use Rattle.winnow_read.specs.Steps.{TellsStep}
 use Rattle.winnow_read.proofs.ScriptLineLemmas.{AreLines-push}
@@ -19,3 +20,22 @@ loop-steps-preserved g c =
 -- the line that stands next tells no step
 pub returns-clause-stops : goal.returns-clause-stops
 returns-clause-stops g c = rw (c.in_default.is, c.loop-steps.invariant.ahead) at c.in_ok-step.ensures.step
+
+-- where memory is refused, nothing is promised of a value
+pub returns-in_err-step-clause-steps : goal.returns-in_err-step-clause-steps
+returns-in_err-step-clause-steps g c = IfOk-from_err _ _ c.from_residual.ensures.0
+
+pub returns-in_err-step-clause-stops : goal.returns-in_err-step-clause-stops
+returns-in_err-step-clause-stops g c = IfOk-from_err _ _ c.from_residual.ensures.0
+
+pub returns-in_err-step-clause-number : goal.returns-in_err-step-clause-number
+returns-in_err-step-clause-number g c = IfOk-from_err _ _ c.from_residual.ensures.0
+
+pub returns-in_err-push-clause-steps : goal.returns-in_err-push-clause-steps
+returns-in_err-push-clause-steps g c = IfOk-from_err _ _ c.from_residual-in_err-push.ensures.0
+
+pub returns-in_err-push-clause-stops : goal.returns-in_err-push-clause-stops
+returns-in_err-push-clause-stops g c = IfOk-from_err _ _ c.from_residual-in_err-push.ensures.0
+
+pub returns-in_err-push-clause-number : goal.returns-in_err-push-clause-number
+returns-in_err-push-clause-number g c = IfOk-from_err _ _ c.from_residual-in_err-push.ensures.0
