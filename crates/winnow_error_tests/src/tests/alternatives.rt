@@ -4,16 +4,18 @@ use std::alloc::{AllocError, Global};
 use std::fmt::Debug;
 use std::process::Abort;
 use std::test::Fail;
-use winnow_context::{ContextError, StrContext};
 use winnow_error::ErrMode::{Backtrack, Cut, Incomplete};
 use winnow_error::{
     AssociativeOr, EmptyError, ErrMode, InputError, OrTree, ParserError, combine, join_all,
 };
-use winnow_stream::{Needed, Str};
+use winnow_stream::Needed;
 
-type Place = InputError<Str<'static>>;
+type Bytes = &'static [u8];
 
-fn both<E: Drop>(
+type Place = InputError<Bytes>;
+
+/// Two groups of alternatives.
+pub fn both<E: Drop>(
     alloc: Global,
     left: OrTree<E>,
     right: OrTree<E>,
@@ -39,30 +41,79 @@ fn from_right<E: Copy>(alloc: Global, front: &[E], last: E) -> Result<OrTree<E>,
     Ok(tree)
 }
 
-// What errors combine to, bracketed from the left and from the right. No errors combine to none.
-fn combined<E: ParserError<Str<'static>> + Copy>(
+// Errors, bracketed from the left or from the right. No errors make no tree.
+fn bracketed<E: Copy>(
+    alloc: Global,
+    errors: &[E],
+    is_from_left: bool,
+) -> Result<Option<OrTree<E>>, AllocError> {
+    let tree = match errors {
+        [] => return Ok(None),
+        [first, rest @ ..] if is_from_left => from_left(alloc, *first, rest)?,
+        [front @ .., last] => from_right(alloc, front, *last)?,
+    };
+    Ok(Some(tree))
+}
+
+// What errors combine to.
+fn combined<E: ParserError<Bytes> + Copy>(
     alloc: Global,
     errors: &[ErrMode<E>],
-) -> Result<Option<[ErrMode<E>; 2]>, AllocError> {
-    let (Some(first), Some(last)) = (errors.first(), errors.last()) else {
-        return Ok(None);
-    };
-    let left = from_left(alloc, *first, &errors[1..])?;
-    let left = combine::<Str<'static>, E>(alloc, left)?;
-    let right = from_right(alloc, &errors[..errors.len() - 1], *last)?;
-    let right = combine::<Str<'static>, E>(alloc, right)?;
-    Ok(Some([left, right]))
+    is_from_left: bool,
+) -> Result<Option<ErrMode<E>>, AllocError> {
+    match bracketed(alloc, errors, is_from_left)? {
+        Some(tree) => Ok(Some(combine::<Bytes, E>(alloc, tree)?)),
+        None => Ok(None),
+    }
+}
+
+// What errors are joined to.
+fn joined<E: AssociativeOr<Bytes> + Copy>(
+    alloc: Global,
+    errors: &[ErrMode<E>],
+    is_from_left: bool,
+) -> Result<Option<ErrMode<E>>, AllocError> {
+    match bracketed(alloc, errors, is_from_left)? {
+        Some(tree) => Ok(Some(join_all::<Bytes, E>(alloc, tree))),
+        None => Ok(None),
+    }
+}
+
+// Asserts what errors gave, bracketed from the left and from the right.
+fn gives<E: Copy + Debug + PartialEq>(
+    rt: &impl Abort,
+    errors: &[E],
+    given: (Option<E>, Option<E>),
+    wanted: (E, E),
+) {
+    let (left, right) = wanted;
+    assert_eq!(rt; given, (Some(left), Some(right)), "{errors:?}");
 }
 
 // Asserts what errors combine to, bracketed from the left and from the right.
-fn combine_to<E: ParserError<Str<'static>> + Copy + Debug + PartialEq>(
+fn combine_to<E: ParserError<Bytes> + Copy + Debug + PartialEq>(
     rt: &impl Abort,
     alloc: Global,
     errors: &[ErrMode<E>],
-    wanted: [ErrMode<E>; 2],
+    wanted: (ErrMode<E>, ErrMode<E>),
 ) -> Result<(), AllocError> {
-    assert_eq!(rt; combined(alloc, errors)?, Some(wanted), "{errors:?}");
+    let left = combined(alloc, errors, true)?;
+    let right = combined(alloc, errors, false)?;
+    gives(rt, errors, (left, right), wanted);
     Ok(())
+}
+
+// Asserts what errors combine to and are joined to, which is the same from both sides.
+fn join_to<E: AssociativeOr<Bytes> + Copy + Debug + PartialEq>(
+    rt: &impl Abort,
+    alloc: Global,
+    errors: &[ErrMode<E>],
+    want: ErrMode<E>,
+) -> Result<(), AllocError> {
+    let left = joined(alloc, errors, true)?;
+    let right = joined(alloc, errors, false)?;
+    gives(rt, errors, (left, right), (want, want));
+    combine_to(rt, alloc, errors, (want, want))
 }
 
 #[test]
@@ -72,27 +123,94 @@ fn a_tree_of_errors_as_debug_text(rt: HostRuntime) -> Result<(), Fail> {
     Ok(())
 }
 
-fn at(input: &'static str) -> Place {
+fn at(input: Bytes) -> Place {
     InputError { input }
+}
+
+// Asserts what errors at inputs combine to and are joined to.
+fn places_join_to(
+    rt: &impl Abort,
+    alloc: Global,
+    errors: &[ErrMode<Place>],
+    want: ErrMode<Place>,
+) -> Result<(), AllocError> {
+    join_to(rt, alloc, errors, want)
 }
 
 #[test]
 fn alternatives_combine_alike_however_bracketed(rt: HostRuntime) -> Result<(), Fail> {
-    let (a, b, c) = (at("a"), at("b"), at("c"));
+    let (a, b, c) = (at(b"a"), at(b"b"), at(b"c"));
     let (three, more) = (Incomplete(Needed::new(3)), Incomplete(Needed::Unknown));
-    let table: [(&[ErrMode<Place>], ErrMode<Place>); 8] = [
-        (&[Backtrack(a), three, Cut(c)], three),
-        (&[Cut(b), three, Backtrack(a)], three),
-        (&[Cut(a), more, three], more),
-        (&[Backtrack(a), Cut(b), Cut(c)], Cut(b)),
-        (&[Backtrack(a), Backtrack(b), Cut(c)], Cut(c)),
-        (&[Backtrack(a), Backtrack(b), Backtrack(c)], Backtrack(c)),
-        (&[Backtrack(a)], Backtrack(a)),
-        (&[Backtrack(a), Cut(b), three, Cut(c)], three),
-    ];
-    for (errors, want) in table {
-        combine_to(&rt, rt.alloc(), errors, [want; 2])?;
+    for (errors, want) in [
+        ([Backtrack(a), three, Cut(c)], three),
+        ([Cut(b), three, Backtrack(a)], three),
+        ([Cut(a), more, three], more),
+        ([Backtrack(a), Cut(b), Cut(c)], Cut(b)),
+        ([Backtrack(a), Backtrack(b), Cut(c)], Cut(c)),
+        ([Backtrack(a), Backtrack(b), Backtrack(c)], Backtrack(c)),
+    ] {
+        places_join_to(&rt, rt.alloc(), errors.as_slice(), want)?;
     }
+    Ok(())
+}
+
+#[test]
+fn one_two_and_four_alternatives(rt: HostRuntime) -> Result<(), Fail> {
+    let (alloc, three) = (rt.alloc(), Incomplete(Needed::new(3)));
+    let (a, b, c) = (at(b"a"), at(b"b"), at(b"c"));
+    places_join_to(&rt, alloc, &[Backtrack(a)], Backtrack(a))?;
+    places_join_to(&rt, alloc, &[Backtrack(a), Backtrack(b)], Backtrack(b))?;
+    places_join_to(&rt, alloc, &[Backtrack(a), Cut(b), three, Cut(c)], three)?;
+    Ok(())
+}
+
+// 200 errors at so many bytes, from 1 on.
+fn many(alloc: Global) -> Result<Vec<ErrMode<Place>>, AllocError> {
+    let bytes = [0; 200].as_slice();
+    let mut errors = Vec::new(alloc);
+    for length in 1..201usize {
+        let input = bytes.get(..length).unwrap_or(bytes);
+        errors.push(Backtrack(at(input)))?;
+    }
+    Ok(errors)
+}
+
+#[test]
+fn two_hundred_alternatives_combine_alike(rt: HostRuntime) -> Result<(), Fail> {
+    let last = Backtrack(at([0; 200].as_slice()));
+    places_join_to(&rt, rt.alloc(), many(rt.alloc())?.as_slice(), last)?;
+    Ok(())
+}
+
+// Asserts what errors are joined to, and modes of them.
+fn join_in_modes<E: AssociativeOr<Bytes> + Copy + Debug + PartialEq>(
+    rt: &impl Abort,
+    alloc: Global,
+    (errors, want): (&[ErrMode<E>], ErrMode<E>),
+    (modes, mode_want): (&[ErrMode<ErrMode<E>>], ErrMode<ErrMode<E>>),
+) -> Result<(), AllocError> {
+    join_to(rt, alloc, errors, want)?;
+    join_to(rt, alloc, modes, mode_want)
+}
+
+#[test]
+fn errors_that_tell_nothing_and_their_modes_are_joined(rt: HostRuntime) -> Result<(), Fail> {
+    let cut = Cut(EmptyError);
+    let errors = [Backtrack(EmptyError), cut];
+    let needs = Backtrack(Incomplete(Needed::new(3)));
+    let modes = [Backtrack(cut), needs];
+    join_in_modes(
+        &rt,
+        rt.alloc(),
+        (errors.as_slice(), cut),
+        (modes.as_slice(), needs),
+    )?;
+    Ok(())
+}
+
+#[test]
+fn units_are_joined(rt: HostRuntime) -> Result<(), Fail> {
+    join_to(&rt, rt.alloc(), &[Cut(()), Backtrack(())], Cut(()))?;
     Ok(())
 }
 
@@ -106,107 +224,8 @@ fn an_associative_or_of_ones_own(rt: HostRuntime) -> Result<(), Fail> {
         ),
         ([Backtrack(five), Cut(one), Backtrack(two)], Cut(one)),
     ] {
-        combine_to(&rt, rt.alloc(), errors.as_slice(), [want; 2])?;
+        combine_to(&rt, rt.alloc(), errors.as_slice(), (want, want))?;
     }
-    Ok(())
-}
-
-// Asserts the debug text of what two alternatives join to.
-fn join_to<E: AssociativeOr<Str<'static>> + Drop + Debug>(
-    rt: &impl Abort,
-    alloc: Global,
-    first: ErrMode<E>,
-    second: ErrMode<E>,
-    want: &str,
-) -> Result<(), AllocError> {
-    let tree = both(alloc, OrTree::One(first), OrTree::One(second))?;
-    debugs(rt, alloc, &join_all::<Str<'static>, E>(alloc, tree), want)
-}
-
-#[test]
-fn errors_at_inputs_are_joined(rt: HostRuntime) -> Result<(), Fail> {
-    let (a, b) = (Backtrack(at("a")), Backtrack(at("b")));
-    let want = "Backtrack(InputError { input: \"b\" })";
-    join_to(&rt, rt.alloc(), a, b, want)?;
-    Ok(())
-}
-
-#[test]
-fn errors_that_tell_nothing_are_joined(rt: HostRuntime) -> Result<(), Fail> {
-    let alloc = rt.alloc();
-    let (again, cut) = (Backtrack(EmptyError), Cut(EmptyError));
-    join_to(&rt, alloc, again, cut, "Cut(EmptyError)")?;
-    join_to(&rt, alloc, Cut(()), Backtrack(()), "Cut(())")?;
-    Ok(())
-}
-
-#[test]
-fn modes_are_joined(rt: HostRuntime) -> Result<(), Fail> {
-    let (cut, needs) = (Cut(at("b")), Incomplete(Needed::new(3)));
-    join_to(
-        &rt,
-        rt.alloc(),
-        Backtrack(cut),
-        Backtrack(needs),
-        "Backtrack(Incomplete(Size(3)))",
-    )?;
-    Ok(())
-}
-
-#[test]
-fn errors_with_contexts_are_joined(rt: HostRuntime) -> Result<(), Fail> {
-    let context: ContextError<StrContext> = ContextError::new(rt.alloc());
-    join_to(
-        &rt,
-        rt.alloc(),
-        Backtrack(context),
-        Incomplete(Needed::Unknown),
-        "Incomplete(Unknown)",
-    )?;
-    Ok(())
-}
-
-type Leaves = OrTree<ErrMode<InputError<&'static [u8]>>>;
-
-// An error at so many bytes, at most 200.
-fn leaf(length: usize) -> Leaves {
-    let bytes = [0; 200].as_slice();
-    let input = bytes.get(..length).unwrap_or(bytes);
-    OrTree::One(Backtrack(InputError { input }))
-}
-
-// 200 of them, bracketed from the left.
-fn many_from_left(alloc: Global) -> Result<Leaves, AllocError> {
-    let mut tree = leaf(1);
-    for length in 1..200usize {
-        tree = both(alloc, tree, leaf(length + 1))?;
-    }
-    Ok(tree)
-}
-
-// The same, bracketed from the right.
-fn many_from_right(alloc: Global) -> Result<Leaves, AllocError> {
-    let mut tree = leaf(200);
-    for length in 1..200usize {
-        tree = both(alloc, leaf(200 - length), tree)?;
-    }
-    Ok(tree)
-}
-
-// What they are joined to.
-fn join_leaves(alloc: Global, leaves: Leaves) -> ErrMode<InputError<&'static [u8]>> {
-    join_all::<&[u8], InputError<&[u8]>>(alloc, leaves)
-}
-
-#[test]
-fn two_hundred_alternatives_combine_alike(rt: HostRuntime) -> Result<(), Fail> {
-    let alloc = rt.alloc();
-    let left = join_leaves(alloc, many_from_left(alloc)?);
-    let right = join_leaves(alloc, many_from_right(alloc)?);
-    let last = Backtrack(InputError {
-        input: [0; 200].as_slice(),
-    });
-    assert_eq!(rt; [left, right], [last; 2]);
     Ok(())
 }
 
@@ -217,9 +236,12 @@ fn an_or_that_is_not_associative(rt: HostRuntime) -> Result<(), Fail> {
     for (errors, wanted) in [
         (
             [Backtrack(one), Backtrack(two), Backtrack(four)],
-            [Backtrack(Apart(3)), Backtrack(Apart(1))],
+            (Backtrack(Apart(3)), Backtrack(Apart(1))),
         ),
-        ([Backtrack(one), Backtrack(two), Cut(four)], [Cut(four); 2]),
+        (
+            [Backtrack(one), Backtrack(two), Cut(four)],
+            (Cut(four), Cut(four)),
+        ),
     ] {
         combine_to(&rt, rt.alloc(), errors.as_slice(), wanted)?;
     }

@@ -14,61 +14,64 @@ fn caused_by(alloc: Global, cause: &str) -> Result<Told, AllocError> {
     Ok(blame::<&str, String, Told>(alloc, &"", cause))
 }
 
-#[test]
-fn three_lines(rt: HostRuntime) -> Result<(), Fail> {
-    let mut error = caused_by(rt.alloc(), "bad")?;
-    error.extend([
-        Expected('\n'.into()),
-        Label("number"),
-        Expected("x".into()),
-        Expected('`'.into()),
-        Expected(CharLiteral('\u{7f}')),
-        Expected(Description("a digit")),
-        Label("two"),
-    ])?;
-    prints(
-        &rt,
-        rt.alloc(),
-        &error,
-        "invalid number\nexpected newline, `x`, '`', `\\u{7f}`, a digit\nbad",
-    )?;
-    Ok(())
-}
-
-// Asserts the text of an error with a label, an expectation and a cause, where each is wanted.
-fn explains(
-    rt: &impl Abort,
+// An error that is told contexts, in order, and has a cause where one is given.
+fn told_all(
     alloc: Global,
-    is_labelled: bool,
-    is_expected: bool,
+    contexts: &[StrContext],
     cause: Option<&str>,
-    wanted: &str,
-) -> Result<(), AllocError> {
+) -> Result<Told, AllocError> {
     let mut error = match cause {
         Some(cause) => caused_by(alloc, cause)?,
         None => Told::new(alloc),
     };
-    if is_expected {
-        error.push(Expected(Description("a digit")))?;
+    for context in contexts {
+        error.push(context.clone()?)?;
     }
-    if is_labelled {
-        error.push(Label("number"))?;
-    }
-    prints(rt, alloc, &error, wanted)
+    Ok(error)
+}
+
+const NUMBER: StrContext = Label("number");
+
+const DIGIT: StrContext = Expected(Description("a digit"));
+
+const LINES: [(&[StrContext], Option<&str>, &str); 8] = [
+    (&[], None, ""),
+    (&[NUMBER], None, "invalid number"),
+    (&[DIGIT], None, "expected a digit"),
+    (&[], Some("bad"), "bad"),
+    (&[DIGIT, NUMBER], None, "invalid number\nexpected a digit"),
+    (&[NUMBER], Some("bad"), "invalid number\nbad"),
+    (&[DIGIT], Some("bad"), "expected a digit\nbad"),
+    (
+        &[
+            Expected(CharLiteral('\n')),
+            NUMBER,
+            Expected(StringLiteral("x")),
+            Expected(CharLiteral('`')),
+            Expected(CharLiteral('\u{7f}')),
+            DIGIT,
+            Label("two"),
+        ],
+        Some("bad"),
+        "invalid number\nexpected newline, `x`, '`', `\\u{7f}`, a digit\nbad",
+    ),
+];
+
+// Asserts the text of an error that is told contexts and has a cause.
+fn explains(
+    rt: &impl Abort,
+    alloc: Global,
+    contexts: &[StrContext],
+    cause: Option<&str>,
+    wanted: &str,
+) -> Result<(), AllocError> {
+    prints(rt, alloc, &told_all(alloc, contexts, cause)?, wanted)
 }
 
 #[test]
 fn the_lines_that_are_there(rt: HostRuntime) -> Result<(), Fail> {
-    for (is_labelled, is_expected, cause, wanted) in [
-        (false, false, None, ""),
-        (true, false, None, "invalid number"),
-        (false, true, None, "expected a digit"),
-        (false, false, Some("bad"), "bad"),
-        (true, true, None, "invalid number\nexpected a digit"),
-        (true, false, Some("bad"), "invalid number\nbad"),
-        (false, true, Some("bad"), "expected a digit\nbad"),
-    ] {
-        explains(&rt, rt.alloc(), is_labelled, is_expected, cause, wanted)?;
+    for (contexts, cause, wanted) in &LINES {
+        explains(&rt, rt.alloc(), contexts, *cause, wanted)?;
     }
     Ok(())
 }
@@ -84,14 +87,31 @@ const VALUES: [(StrContextValue, &str); 8] = [
     (Description("`"), "`"),
 ];
 
+const CONTEXTS: [(StrContext, &str); 2] = [
+    (Label("x"), "invalid x"),
+    (Expected(CharLiteral('x')), "expected `x`"),
+];
+
 #[test]
-fn contexts_and_values_alone(rt: HostRuntime) -> Result<(), Fail> {
+fn values_alone(rt: HostRuntime) -> Result<(), Fail> {
     for (value, text) in &VALUES {
         prints(&rt, rt.alloc(), value, text)?;
     }
-    prints(&rt, rt.alloc(), &Label("x"), "invalid x")?;
-    prints(&rt, rt.alloc(), &Expected('x'.into()), "expected `x`")?;
     Ok(())
+}
+
+#[test]
+fn contexts_alone(rt: HostRuntime) -> Result<(), Fail> {
+    for (context, text) in &CONTEXTS {
+        prints(&rt, rt.alloc(), context, text)?;
+    }
+    Ok(())
+}
+
+#[test]
+fn values_are_made_of_characters_and_texts(rt: HostRuntime) {
+    let (character, text): (StrContextValue, StrContextValue) = ('x'.into(), "x".into());
+    assert_eq!(rt; (character, text), (CharLiteral('x'), StringLiteral("x")));
 }
 
 // Three contexts and a cause.

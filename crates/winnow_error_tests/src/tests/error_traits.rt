@@ -1,3 +1,5 @@
+use super::alternatives::both;
+use super::printing::is;
 use crate::error_members::{
     bare_text_law, context_error_law, debug_text_law, empty_error_law, err_mode_cause_law,
     err_mode_context_law, err_mode_convert_law, err_mode_joined_law, err_mode_law, error_text_law,
@@ -9,15 +11,15 @@ use crate::error_walks::{
 };
 use crate::own_errors::{Furthest, Labelled};
 use std::alloc::{AllocError, Global};
-use std::fmt::Debug;
+use std::fmt::{Debug, Display};
 use std::process::Abort;
 use std::test::Fail;
 use winnow_context::StrContext::Label;
 use winnow_context::{ContextError, StrContext};
 use winnow_error::ErrMode::{Backtrack, Cut, Incomplete};
 use winnow_error::{
-    AddContext, AssociativeOr, EmptyError, ErrMode, FromExternalError, FromRecoverableError,
-    InputError, bracket_law, mode_law, or_law,
+    AddContext, AssociativeOr, EmptyError, ErrMode, ErrorConvert, FromExternalError,
+    FromRecoverableError, InputError, OrTree, ParserError, bracket_law, join_all, mode_law, or_law,
 };
 use winnow_stream::{Needed, Stream};
 use winnow_test_helpers::debugged;
@@ -37,15 +39,59 @@ fn debug_text<T: Debug + Drop>(alloc: Global, value: T) -> Result<String, AllocE
     debugged(alloc, &value)
 }
 
-// Asserts what generic code makes of an error type: how errors are made in three ways, the inner error of two alternatives, and
-// what the last of three alternatives is, which was another's error, was told a context elsewhere, and was recovered from.
+// The inner error of two alternatives, and what the last of three alternatives is, which was another's error, was told a context
+// elsewhere, and was recovered from.
+fn joined_and_told<I: Stream, E>(
+    alloc: Global,
+    input: &I,
+    elsewhere: &I,
+) -> Result<String, AllocError>
+where
+    E: AssociativeOr<I> + AddContext<I, StrContext> + FromExternalError<I, String>,
+    E: FromRecoverableError<I, E> + Debug + Drop,
+    E::Inner: Debug + Drop,
+    requires input { I.valid input.now }
+    requires elsewhere { I.valid elsewhere.now }
+{
+    let inner = debug_text(alloc, fail_twice::<I, E>(alloc, input)?)?;
+    let last = debug_text(alloc, tell_last::<I, E>(alloc, input, elsewhere)?)?;
+    format!(in alloc; "{inner} {last}")
+}
+
+// Whether a mode stays: one that is told a context, and one that is recorded.
+fn modes_stay<I: Stream, E>(alloc: Global, input: &I) -> Result<(bool, bool), AllocError>
+where
+    E: ParserError<I> + AddContext<I, StrContext> + FromRecoverableError<I, E> + Drop,
+    requires { I.valid input.now }
+{
+    let needs: ErrMode<E> = Incomplete(Needed::Unknown);
+    let told = in_context(alloc, needs, input, Label("number"))?;
+    let recorded: ErrMode<E> = recover_at(input, Cut(E::from_input(alloc, input)));
+    Ok((
+        matches!(told, Incomplete(Needed::Unknown)),
+        matches!(recorded, Cut(_)),
+    ))
+}
+
+// Whether more input is wanted where one of two alternatives wants it.
+fn needs_are_joined<I: Stream, E: AssociativeOr<I> + Drop>(
+    alloc: Global,
+    input: &I,
+) -> Result<bool, AllocError> {
+    let first = OrTree::One(Backtrack(E::from_input(alloc, input)));
+    let tree = both(alloc, first, OrTree::One(Incomplete(Needed::Unknown)))?;
+    let joined = join_all::<I, E>(alloc, tree);
+    Ok(matches!(joined, Incomplete(Needed::Unknown)))
+}
+
+// Asserts what generic code makes of an error type: how errors are made in three ways, and what they are joined to and told.
 fn makes<I: Stream + Copy, E>(
     rt: &impl Abort,
     alloc: Global,
     input: I,
     elsewhere: I,
     kinds_wanted: [(bool, bool); 3],
-    wanted: (&str, &str),
+    wanted: &str,
 ) -> Result<(), AllocError>
 where
     E: AssociativeOr<I> + AddContext<I, StrContext> + FromExternalError<I, String>,
@@ -54,112 +100,120 @@ where
     requires input { I.valid input }
     requires elsewhere { I.valid elsewhere }
 {
-    let made = kinds::<I, E>(alloc, &input);
-    let inner = debug_text(alloc, fail_twice::<I, E>(alloc, &input)?)?;
-    let last = debug_text(alloc, tell_last::<I, E>(alloc, &input, &elsewhere)?)?;
+    let stay = modes_stay::<I, E>(alloc, &input)?;
+    let made = (
+        kinds::<I, E>(alloc, &input),
+        stay,
+        needs_are_joined::<I, E>(alloc, &input)?,
+    );
+    let text = joined_and_told::<I, E>(alloc, &input, &elsewhere)?;
     assert_eq!(rt;
-        (made, (inner.as_str(), last.as_str())),
-        (kinds_wanted, wanted)
+        (made, text.as_str()),
+        ((kinds_wanted, (true, true), true), wanted)
     );
     Ok(())
 }
 
+// Asserts the same of an error type alone, and of its modes.
+fn makes_alone_and_in_modes<I: Stream + Copy, E>(
+    rt: &impl Abort,
+    alloc: Global,
+    input: I,
+    elsewhere: I,
+    wanted: [&str; 2],
+) -> Result<(), AllocError>
+where
+    E: AssociativeOr<I> + AddContext<I, StrContext> + FromExternalError<I, String>,
+    E: FromRecoverableError<I, E> + Debug + Drop,
+    E::Inner: Debug + Drop,
+    requires input { I.valid input }
+    requires elsewhere { I.valid elsewhere }
+{
+    let [alone, in_modes] = wanted;
+    makes::<I, E>(rt, alloc, input, elsewhere, PLAIN, alone)?;
+    makes::<I, ErrMode<E>>(rt, alloc, input, elsewhere, MODAL, in_modes)
+}
+
 #[test]
 fn empty_errors_are_made_joined_and_told(rt: HostRuntime) -> Result<(), Fail> {
-    let wanted = ("Some(EmptyError)", "EmptyError");
+    let wanted = "Some(EmptyError) EmptyError";
     makes::<Text, EmptyError>(&rt, rt.alloc(), "12x", "", PLAIN, wanted)?;
     Ok(())
 }
 
 #[test]
 fn units_are_made_joined_and_told(rt: HostRuntime) -> Result<(), Fail> {
-    let wanted = ("Some(())", "()");
-    makes::<Text, ()>(&rt, rt.alloc(), "12x", "", PLAIN, wanted)?;
+    makes::<Text, ()>(&rt, rt.alloc(), "12x", "", PLAIN, "Some(()) ()")?;
     Ok(())
 }
 
 #[test]
 fn errors_at_bytes_are_made_joined_and_told(rt: HostRuntime) -> Result<(), Fail> {
-    let wanted = (
-        "Some(InputError { input: [49] })",
-        "InputError { input: [49] }",
-    );
+    let wanted = "Some(InputError { input: [49] }) InputError { input: [49] }";
     makes::<Bytes, InputError<Bytes>>(&rt, rt.alloc(), b"1", b"", PLAIN, wanted)?;
     Ok(())
 }
 
 #[test]
-fn modes_of_errors_at_texts_are_made_joined_and_told(rt: HostRuntime) -> Result<(), Fail> {
-    let wanted = (
-        "Some(InputError { input: \"12x\" })",
-        "Backtrack(InputError { input: \"12x\" })",
-    );
-    makes::<Text, ErrMode<InputError<Text>>>(&rt, rt.alloc(), "12x", "", MODAL, wanted)?;
+fn errors_at_texts_are_made_joined_and_told(rt: HostRuntime) -> Result<(), Fail> {
+    let wanted = [
+        "Some(InputError { input: \"12x\" }) InputError { input: \"12x\" }",
+        "Some(InputError { input: \"12x\" }) Backtrack(InputError { input: \"12x\" })",
+    ];
+    makes_alone_and_in_modes::<Text, InputError<Text>>(&rt, rt.alloc(), "12x", "", wanted)?;
     Ok(())
 }
 
 #[test]
 fn errors_with_contexts_are_made_joined_and_told(rt: HostRuntime) -> Result<(), Fail> {
-    let wanted = (
-        "Some(ContextError { context: [], cause: None })",
-        "ContextError { context: [Label(\"number\")], cause: Some(\"bad digit\") }",
-    );
-    makes::<Text, Told>(&rt, rt.alloc(), "12x", "", PLAIN, wanted)?;
+    let wanted = [
+        "Some(ContextError { context: [], cause: None }) \
+         ContextError { context: [Label(\"number\")], cause: Some(\"bad digit\") }",
+        "Some(ContextError { context: [], cause: None }) \
+         Backtrack(ContextError { context: [Label(\"number\")], cause: Some(\"bad digit\") })",
+    ];
+    makes_alone_and_in_modes::<Text, Told>(&rt, rt.alloc(), "12x", "", wanted)?;
     Ok(())
 }
 
-#[test]
-fn modes_of_errors_with_contexts_are_made_joined_and_told(rt: HostRuntime) -> Result<(), Fail> {
-    let wanted = (
-        "Some(ContextError { context: [], cause: None })",
-        "Backtrack(ContextError { context: [Label(\"number\")], cause: Some(\"bad digit\") })",
-    );
-    makes::<Text, ErrMode<Told>>(&rt, rt.alloc(), "12x", "", MODAL, wanted)?;
-    Ok(())
+// The last of three alternatives that may be tried again, what three modes join to, and a cut that is taken back.
+fn three<I: Stream, E: AssociativeOr<I> + Copy>(
+    alloc: Global,
+    one: E,
+    four: E,
+    two: E,
+) -> Result<(E, [ErrMode<E>; 2]), AllocError> {
+    or_law::<I, E>();
+    bracket_law::<I, E>();
+    let last = or_three::<I, E>(alloc, one, four, two)?;
+    let cut = join_three::<I, ErrMode<E>>(alloc, Backtrack(one), Cut(two), Cut(four));
+    Ok((last, [cut, cut_and_back(Cut(four))]))
 }
 
 #[test]
 fn an_associative_or_of_ones_own_joins_three(rt: HostRuntime) -> Result<(), Fail> {
     let (one, four, two) = (Furthest(1), Furthest(4), Furthest(2));
-    let last = or_three::<Bytes, Furthest>(rt.alloc(), one, four, two)?;
-    assert_eq!(rt; last, four);
+    assert_eq!(rt;
+        three::<Bytes, Furthest>(rt.alloc(), one, four, two)?,
+        (four, [Cut(two), Backtrack(four)])
+    );
     Ok(())
 }
 
-#[test]
-fn modes_of_an_error_of_ones_own_join_three(rt: HostRuntime) {
-    let (one, four, two) = (Backtrack(Furthest(1)), Cut(Furthest(4)), Cut(Furthest(2)));
-    let cut = join_three::<Bytes, ErrMode<Furthest>>(rt.alloc(), one, two, four);
-    assert_eq!(rt; [cut, cut_and_back(four)], [two, Backtrack(Furthest(4))]);
+// An error that becomes its own type.
+fn kept(alloc: Global) -> Result<String, AllocError> {
+    debug_text(alloc, convert_to::<Told, Told>(alloc, Told::new(alloc))?)
 }
 
-#[test]
-fn a_mode_stays_when_told(rt: HostRuntime) -> Result<(), Fail> {
-    let more: ErrMode<EmptyError> = Incomplete(Needed::Unknown);
-    let told = in_context::<Text, StrContext, _>(rt.alloc(), more, &"12x", Label("number"))?;
-    assert_eq!(rt; told, more);
-    Ok(())
+// A mode of another type of error.
+fn converted(alloc: Global) -> Result<String, AllocError> {
+    let cut: ErrMode<Told> = convert_to(alloc, Cut(Labelled("number")))?;
+    debug_text(alloc, cut)
 }
 
-#[test]
-fn a_mode_stays_when_recorded(rt: HostRuntime) {
-    let recorded = recover_at::<Text, _, ErrMode<EmptyError>>(&"12x", Cut(EmptyError));
-    assert_eq!(rt; recorded, Cut(EmptyError));
-}
-
-// Whether an error that becomes its own type stays.
-fn is_kept(alloc: Global) -> Result<bool, AllocError> {
-    Ok(convert_to::<Told, Told>(alloc, Told::new(alloc))? == Told::new(alloc))
-}
-
-// Whether an error that is cut is converted and stays cut, and whether one that may be tried again is then the same.
-fn converted(alloc: Global) -> Result<[bool; 2], AllocError> {
-    let mut wanted = Told::new(alloc);
-    wanted.push(Label("number"))?;
-    let wanted = Cut(wanted);
-    let cut = convert_to::<ErrMode<Told>, _>(alloc, Cut(Labelled("number")))?;
-    let again = Backtrack(Labelled("number")).convert::<Told>(alloc)?;
-    Ok([cut == wanted, again == wanted])
+// The same by the call of modes.
+fn converted_again(alloc: Global) -> Result<String, AllocError> {
+    debug_text(alloc, Backtrack(Labelled("number")).convert::<Told>(alloc)?)
 }
 
 #[test]
@@ -167,50 +221,47 @@ fn errors_are_converted(rt: HostRuntime) -> Result<(), Fail> {
     let alloc = rt.alloc();
     convert_to::<(), ()>(alloc, ())?;
     let EmptyError = convert_to::<EmptyError, _>(alloc, EmptyError)?;
-    let [cut, again] = converted(alloc)?;
-    assert_eq!(rt; [is_kept(alloc)?, cut, again], [true, true, false]);
+    is(
+        &rt,
+        kept(alloc)?,
+        "ContextError { context: [], cause: None }",
+    );
+    let cut = "Cut(ContextError { context: [Label(\"number\")], cause: None })";
+    is(&rt, converted(alloc)?, cut);
+    let again = "Backtrack(ContextError { context: [Label(\"number\")], cause: None })";
+    is(&rt, converted_again(alloc)?, again);
     Ok(())
 }
 
-// Laws do nothing: that each is called here shows that it can be.
-#[test]
-fn laws_of_alternatives(_rt: HostRuntime) {
-    mode_law::<u8>();
-    or_law::<Text, Furthest>();
-    bracket_law::<Text, Furthest>();
+// Laws do nothing: that each is called here shows that it can be. `three` calls two more.
+fn laws_of_plain_errors<I: Stream + Copy, C: Drop + PartialEq>() {
+    mode_law::<I>();
+    input_error_law::<I, C>();
+    empty_error_law::<I, C>();
+    context_error_law::<I, C>();
+}
+
+fn laws_of_modes<I: Stream, E>()
+where
+    E: AssociativeOr<I> + FromRecoverableError<I, E> + AddContext<I, StrContext>,
+    E: FromExternalError<I, String> + ErrorConvert<E>,
+{
+    err_mode_law::<I, E>();
+    err_mode_joined_law::<I, E, E>();
+    err_mode_context_law::<I, StrContext, E>();
+    err_mode_cause_law::<I, String, E>();
+    err_mode_convert_law::<E, E>();
+}
+
+fn laws_of_texts<I: Display + Debug, E: Debug>() {
+    error_text_law::<I, E>();
+    bare_text_law::<I, E>();
+    debug_text_law::<I, E>();
 }
 
 #[test]
-fn laws_of_plain_errors(_rt: HostRuntime) {
-    input_error_law::<Text, StrContext>();
-    empty_error_law::<Text, StrContext>();
-}
-
-#[test]
-fn laws_of_errors_with_contexts(_rt: HostRuntime) {
-    context_error_law::<Text, StrContext>();
-}
-
-#[test]
-fn laws_of_modes(_rt: HostRuntime) {
-    err_mode_law::<Text, Told>();
-}
-
-#[test]
-fn laws_of_modes_that_are_joined(_rt: HostRuntime) {
-    err_mode_joined_law::<Text, Told, Told>();
-}
-
-#[test]
-fn laws_of_modes_that_are_told_and_converted(_rt: HostRuntime) {
-    err_mode_context_law::<Text, StrContext, Told>();
-    err_mode_cause_law::<Text, String, Told>();
-    err_mode_convert_law::<Labelled, Told>();
-}
-
-#[test]
-fn laws_of_texts(_rt: HostRuntime) {
-    error_text_law::<Text, EmptyError>();
-    bare_text_law::<Text, EmptyError>();
-    debug_text_law::<Text, StrContext>();
+fn laws_can_be_called(_rt: HostRuntime) {
+    laws_of_plain_errors::<Text, StrContext>();
+    laws_of_modes::<Text, Told>();
+    laws_of_texts::<Text, EmptyError>();
 }

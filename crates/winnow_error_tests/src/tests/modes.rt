@@ -7,8 +7,7 @@ use winnow_error::ErrMode::{Backtrack, Cut, Incomplete};
 use winnow_error::{EmptyError, ErrMode, InputError, ModalResult, Needed};
 
 #[test]
-fn modes_change_and_stay(rt: HostRuntime) {
-    let short: ErrMode<u8> = Incomplete(Needed::new(3));
+fn modes_are_mapped(rt: HostRuntime) {
     let more: ErrMode<u8> = Incomplete(Needed::Unknown);
     assert_eq!(rt;
         (
@@ -18,6 +17,11 @@ fn modes_change_and_stay(rt: HostRuntime) {
         ),
         (Backtrack(2), Cut(true), Incomplete(Needed::Unknown))
     );
+}
+
+#[test]
+fn modes_are_cut_and_tried_again(rt: HostRuntime) {
+    let short: ErrMode<u8> = Incomplete(Needed::new(3));
     assert_eq!(rt;
         [
             short.cut(),
@@ -29,6 +33,12 @@ fn modes_change_and_stay(rt: HostRuntime) {
         ],
         [short, Cut(1), Cut(1), short, Backtrack(1), Backtrack(1)]
     );
+}
+
+#[test]
+fn modes_have_an_inner_error_or_want_more(rt: HostRuntime) {
+    let short: ErrMode<u8> = Incomplete(Needed::new(3));
+    let more: ErrMode<u8> = Incomplete(Needed::Unknown);
     assert_eq!(rt;
         (
             [
@@ -47,7 +57,7 @@ fn modes_change_and_stay(rt: HostRuntime) {
 }
 
 #[test]
-fn an_error_at_an_input(rt: HostRuntime) -> Result<(), Fail> {
+fn an_error_at_an_input(rt: HostRuntime) {
     let answer: ModalResult<u8, InputError<&str>> = Err(Cut(InputError::at("12x")));
     let plain: winnow_error::Result<u8, EmptyError> = Err(EmptyError);
     assert_eq!(rt;
@@ -60,6 +70,10 @@ fn an_error_at_an_input(rt: HostRuntime) -> Result<(), Fail> {
         ),
         (Err(Cut(InputError { input: 3 })), Err(EmptyError), 3)
     );
+}
+
+#[test]
+fn errors_own_their_inputs(rt: HostRuntime) -> Result<(), Fail> {
     let text = InputError::at("12x").into_owned(rt.alloc())?;
     let bytes = InputError::at(b"12x".as_slice()).into_owned(rt.alloc())?;
     assert_eq!(rt;

@@ -13,6 +13,11 @@ fn four_times(alloc: Global, text: &str) -> Result<String, AllocError> {
     format!(in alloc; "{text} {text} {text} {text}")
 }
 
+/// Asserts what a text is.
+pub fn is(rt: &impl Abort, text: String, wanted: &str) {
+    assert_eq!(rt; text.as_str(), wanted);
+}
+
 /// Asserts the printed text, which is the same whatever the options of the hole are.
 pub fn prints<T: Display>(
     rt: &impl Abort,
@@ -21,7 +26,7 @@ pub fn prints<T: Display>(
     wanted: &str,
 ) -> Result<(), AllocError> {
     let all_wanted = four_times(alloc, wanted)?;
-    assert_eq!(rt; printed(alloc, value)?.as_str(), all_wanted.as_str());
+    is(rt, printed(alloc, value)?, all_wanted.as_str());
     Ok(())
 }
 
@@ -32,7 +37,7 @@ pub fn debugs<T: Debug>(
     value: &T,
     wanted: &str,
 ) -> Result<(), AllocError> {
-    assert_eq!(rt; debugged(alloc, value)?.as_str(), wanted);
+    is(rt, debugged(alloc, value)?, wanted);
     Ok(())
 }
 
@@ -48,6 +53,6 @@ pub fn debugs_under_options<T: Debug>(
     value: &T,
     wanted: &str,
 ) -> Result<(), AllocError> {
-    assert_eq!(rt; debugged_under_options(alloc, value)?.as_str(), wanted);
+    is(rt, debugged_under_options(alloc, value)?, wanted);
     Ok(())
 }
