@@ -1,11 +1,11 @@
-ghost use Rattle.std.specs.Prelude.{◌≡◌, ◌&&◌};
+ghost use Rattle.std.specs.Prelude.{◌≡◌, ◌&&◌, IfSome};
 ghost use Rattle.std.specs.Ordering.{on, then_cmp};
 ghost use Rattle.winnow_stream.specs.Checkpoint.{checkpoint_inner};
 ghost use Rattle.winnow_wrap.specs.Flag.{partial_inner, flag};
 
 use crate::fixtures::place;
 use std::cmp::Ordering;
-use winnow_stream::{Checkpoint, Stream, StreamIsPartial};
+use winnow_stream::{Checkpoint, Stream, StreamIsPartial, UpdateSlice};
 use winnow_test_helpers::window_of;
 use winnow_wrap::{
     LocatingSlice, Partial, Placed, Stateful, flagged_equality_law, flagged_order_law,
@@ -85,30 +85,71 @@ where
     [same[0], same[1], further[0], further[1], later == located]
 }
 
+// The order of a place behind the first token of a stream and one at the start of another: the start counts before what remains,
+// and the place not at all.
+fn order_behind_one<I: Stream + Ord + Copy>(first: I, other: I) -> Ordering
+where
+    I::Checkpoint: Ord,
+    I::Token: Drop,
+    requires first { I.valid first }
+    requires other { I.valid other }
+{
+    let mut later = LocatingSlice::new(first);
+    let _ = later.next_token();
+    order_of(&later, &LocatingSlice::new(other))
+}
+
 #[test]
 fn places_are_compared_by_what_they_hold(rt: HostRuntime) {
-    // The start counts before what remains, and the place not at all.
-    let mut later = LocatingSlice::new("ab");
-    let _ = later.next_token();
-    let order = order_of(&later, &LocatingSlice::new("ac"));
-    assert_eq!(rt; (compared_places("ab"), order), ([true; 5], Ordering::Less));
+    assert_eq!(rt;
+        (compared_places("ab"), order_behind_one("ab", "ac")),
+        ([true; 5], Ordering::Less)
+    );
+}
+
+// What is behind a width, and the windows of that width at the start and behind it; `None` where there is no such width twice.
+fn two_windows<S: UpdateSlice + Copy>(s: S, width: usize) -> Option<(S, S, S)>
+where
+    S::Slice: Drop,
+    requires { S.valid s }
+    ensures { IfSome result (λ p. S.valid p.0 × (S.valid p.1 × S.valid p.2)) }
+{
+    let mut later = s;
+    if !later.is_offset(width) {
+        return None;
+    }
+    let _ = later.next_slice(width);
+    if !later.is_offset(width) {
+        return None;
+    }
+    Some((later, window_of(s, width), window_of(later, width)))
+}
+
+// Whether what remains at the start and behind a width is the same, and the windows there are; the places in the windows; and whether
+// these are equal, and their order.
+fn windows_compared<I: Stream + UpdateSlice + Ord + Copy>(
+    input: I,
+    width: usize,
+) -> Option<([bool; 2], [(usize, usize); 2], (bool, Ordering))>
+where
+    I::Checkpoint: Ord,
+    I::Slice: Drop,
+    requires { I.valid input }
+{
+    let whole = LocatingSlice::new(input);
+    let (later, first, second) = two_windows(whole, width)?;
+    Some((
+        [is_same(&whole, &later), is_same(&first, &second)],
+        [place(&first), place(&second)],
+        order_of_places::<I>(&first.checkpoint(), &second.checkpoint()),
+    ))
 }
 
 #[test]
 fn equal_windows_may_have_other_places(rt: HostRuntime) {
-    let (first, mut second) = (LocatingSlice::new("abab"), LocatingSlice::new("abab"));
-    assert!(rt; first.is_offset(2) && second.is_offset(2));
-    let _ = second.next_slice(2);
-    let is_same_rest = is_same(&first, &second);
-    assert!(rt; second.is_offset(2));
-    let (first, second) = (window_of(first, 2), window_of(second, 2));
     assert_eq!(rt;
-        (
-            [is_same_rest, is_same(&first, &second)],
-            [place(&first), place(&second)],
-            order_of_places::<&str>(&first.checkpoint(), &second.checkpoint())
-        ),
-        ([false, true], [(0, 0), (2, 2)], (true, Ordering::Equal))
+        windows_compared("abab", 2),
+        Some(([false, true], [(0, 0), (2, 2)], (true, Ordering::Equal)))
     );
 }
 
@@ -137,13 +178,20 @@ fn flags_and_states_are_compared(rt: HostRuntime) {
 }
 
 // Laws do nothing: that each is called here shows that it can be.
+fn laws<I: Stream + Ord>()
+where
+    I::Checkpoint: Ord,
+{
+    located_equality_law::<I>();
+    located_order_law::<I>();
+    flagged_equality_law::<I>();
+    flagged_order_law::<I>();
+    stateful_equality_law::<I, u32>();
+    wrapper_checkpoint_equality_law::<I::Checkpoint, Stateful<I, u32>>();
+    wrapper_checkpoint_order_law::<I::Checkpoint, Partial<I>>();
+}
+
 #[test]
 fn the_laws_can_be_called(_rt: HostRuntime) {
-    located_equality_law::<&str>();
-    located_order_law::<&str>();
-    flagged_equality_law::<&str>();
-    flagged_order_law::<&str>();
-    stateful_equality_law::<&str, u32>();
-    wrapper_checkpoint_equality_law::<Checkpoint<&str, &str>, Stateful<&str, u32>>();
-    wrapper_checkpoint_order_law::<Checkpoint<&str, &str>, Partial<&str>>();
+    laws::<&str>();
 }

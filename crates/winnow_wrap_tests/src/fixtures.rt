@@ -30,16 +30,27 @@ pub fn recording<I: Stream + Drop>(rt: &impl Abort, alloc: Global, input: I) -> 
 /// Three wrappers round a stream.
 pub type Nest<I> = Partial<Stateful<LocatingSlice<I>, u32>>;
 
+/// A stream in three wrappers, with that state.
+pub fn nest_in_state<I: Stream + StreamIsPartial>(input: I, state: u32) -> Nest<I>
+    requires valid { I.valid input }
+    requires no_flag { I.supports_partial ≡ false }
+    ensures valid { ⟦<Nest<I> as Stream>⟧.valid result }
+    ensures inside { (partial_inner result).input.input ≡ input }
+{
+    Partial::new(Stateful {
+        input: LocatingSlice::new(input),
+        state,
+    })
+}
+
 /// A stream in three wrappers.
 pub fn nest<I: Stream + StreamIsPartial>(input: I) -> Nest<I>
     requires valid { I.valid input }
     requires no_flag { I.supports_partial ≡ false }
-    ensures { ⟦<Nest<I> as Stream>⟧.valid result }
+    ensures valid { ⟦<Nest<I> as Stream>⟧.valid result }
+    ensures inside { (partial_inner result).input.input ≡ input }
 {
-    Partial::new(Stateful {
-        input: LocatingSlice::new(input),
-        state: 7,
-    })
+    nest_in_state(input, 7)
 }
 
 /// A script leaves the flag, the state and the whole input as they were, whatever it takes.

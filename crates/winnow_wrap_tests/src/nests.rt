@@ -34,12 +34,28 @@ where
     format!(in alloc; "{answers} {flag} {state} {place} {input:?}")
 }
 
+// What it answers through four wrappers, the stream that records innermost, and what that holds.
+fn told_inside_record<I: Stream + StreamIsPartial + Drop>(
+    rt: &impl Abort,
+    alloc: Global,
+    input: I,
+    script: &[Step<NoSet>],
+) -> Result<String, AllocError>
+where
+    I::Token: Drop,
+    I::Slice: Drop,
+    requires valid { I.valid input }
+    requires no_flag { I.supports_partial ≡ false }
+{
+    told_inside(alloc, recording(rt, alloc, input), script)
+}
+
 #[test]
 fn bits_under_four_wrappers(rt: HostRuntime) -> Result<(), Fail> {
     bit_source_law();
     let script = [Next, Mark, Take(3), Since(0), Reset(0), Peek];
-    let inside = recording(&rt, rt.alloc(), Bits::new(b"\xAB".as_slice()));
-    let told = told_inside(rt.alloc(), inside, &script)?;
+    let bits = Bits::new(b"\xAB".as_slice());
+    let told = told_inside_record(&rt, rt.alloc(), bits, &script)?;
     assert_eq!(rt;
         told.as_str(),
         "[Token(Some(true)), Marked(0), Slice(([], 1, 4)), Offset(3), Done, Token(Some(true))] true 7 1 \

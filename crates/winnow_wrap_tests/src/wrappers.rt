@@ -1,15 +1,19 @@
-ghost use Rattle.std.specs.Prelude.{◌≡◌, ℕ, List, IsOk, IfOk, false};
+ghost use Rattle.std.specs.Prelude.{◌≡◌, ◌≤◌, ℕ, List, IsOk, IfOk, IfSome, false};
 ghost use Rattle.std.specs.Borrow.{Bor};
 ghost use Rattle.winnow_stream.specs.Source.{first_token};
 ghost use Rattle.winnow_wrap.specs.Flag.{partial_inner, flag};
 
-use crate::fixtures::{Nest, nest, place, told_nest};
+use crate::fixtures::{Nest, nest, nest_in_state, place, told_nest};
 use std::alloc::{AllocError, Global};
-use std::fmt::Debug;
+use std::fmt::{Debug, Display};
+use std::ops::Range;
+use std::process::Abort;
 use std::test::Fail;
-use winnow_match::CompareResult;
+use winnow_match::{Compare, CompareResult, FindSlice};
 use winnow_run::Step;
-use winnow_stream::{AsBytes, Location, NoSet, Stream, StreamIsPartial, UpdateSlice};
+use winnow_stream::{
+    AsBStr, AsBytes, Location, NoSet, Offset, SliceLen, Stream, StreamIsPartial, UpdateSlice,
+};
 use winnow_test_helpers::{compares, debugged, finds, flags, seen, width_from, window_of};
 use winnow_wrap::{LocatingSlice, Partial, Stateful};
 
@@ -138,6 +142,7 @@ where
     S::Token: Drop,
     S::Slice: Copy,
     requires { S.valid s }
+    ensures { IfSome result (λ found. S.valid found.2) }
 {
     let _ = s.next_token();
     let _ = s.next_token();
@@ -154,20 +159,38 @@ where
     Some(((slice, front, token), places, window))
 }
 
+// The same where a place is kept, and the stream inside and the place once the window starts anew.
+fn window_started_anew<I: UpdateSlice + Drop + Copy>(
+    input: I,
+    offset: usize,
+) -> Option<
+    (
+        (I::Slice, I::Slice, Option<I::Token>),
+        Places,
+        I,
+        (usize, usize),
+    ),
+>
+where
+    I::Token: Drop,
+    I::Slice: Copy,
+    requires { I.valid input }
+{
+    let (held, places, mut window) = window_behind_two(LocatingSlice::new(input), offset)?;
+    window.reset_to_start();
+    Some((held, places, *window.inner(), place(&window)))
+}
+
 #[test]
 fn a_window_starts_anew_as_the_whole(rt: HostRuntime) {
-    let Some((held, places, mut window)) = window_behind_two(LocatingSlice::new("abcde"), 3) else {
-        panic!(rt; "no window of that width");
-    };
-    window.reset_to_start();
     assert_eq!(rt;
-        (held, places, *window.inner(), place(&window)),
-        (
+        window_started_anew("abcde", 3),
+        Some((
             ("cde", "cde", Some('c')),
             ((5, 5), (2, 2), (3, 3)),
             "abcde",
             (0, 0)
-        )
+        ))
     );
 }
 
@@ -296,54 +319,99 @@ fn a_script_runs_through_three_wrappers(rt: HostRuntime) -> Result<(), Fail> {
     Ok(())
 }
 
+// What a comparison, a search and the calls that change nothing answer through three wrappers.
+fn passed_on<I>(
+    alloc: Global,
+    input: I,
+    literal: &'static str,
+    needle: char,
+) -> Result<(CompareResult, Option<Range<usize>>, String), AllocError>
+where
+    I: Compare<&'static str> + FindSlice<char> + SliceLen + AsBStr + Display,
+    I: StreamIsPartial + Copy,
+    requires valid { I.valid input }
+    requires no_flag { I.supports_partial ≡ false }
+    requires width { I.has_width input }
+{
+    let (compared, found) = (compares(nest(input), literal), finds(nest(input), needle));
+    Ok((compared, found, seen(alloc, &nest(input))?))
+}
+
 #[test]
 fn each_call_is_passed_on_through_three_wrappers(rt: HostRuntime) -> Result<(), Fail> {
-    let text = seen(rt.alloc(), &nest("abc"))?;
+    let (compared, found, text) = passed_on(rt.alloc(), "abc", "abc", 'b')?;
     assert_eq!(rt;
-        (
-            compares(nest("abc"), "abc"),
-            finds(nest("abc"), 'b'),
-            text.as_str()
-        ),
+        (compared, found, text.as_str()),
         (CompareResult::Ok(3), Some(1..2), "abc 3 [97, 98, 99]")
     );
     Ok(())
 }
 
+// The width from a stream and from its checkpoint, and that between checkpoints.
+fn widths_from<S>(rest: &S, start: &S) -> [usize; 3]
+where
+    S: Stream + Offset<S> + Offset<S::Checkpoint>,
+    S::Checkpoint: Offset<S::Checkpoint>,
+    requires rest { S.valid rest.now }
+    requires start { S.valid start.now }
+    requires measured { S.Offset-1.can_measure rest.now start.now }
+    requires marked { (at : S.Checkpoint) → S.Offset-2.can_measure rest.now at }
+    requires both_marked { (at start : S.Checkpoint) → S.Checkpoint.can_measure at start }
+    requires no_wider { S.rest_width rest.now ≤ S.rest_width start.now }
+{
+    let (here, at) = (checkpoint_of(rest), checkpoint_of(start));
+    [
+        width_from(rest, start),
+        width_from(rest, &at),
+        width_from(&here, &at),
+    ]
+}
+
 #[test]
-fn bytes_and_widths_through_three_wrappers(rt: HostRuntime) {
+fn widths_through_three_wrappers(rt: HostRuntime) {
     let bytes: &[u8] = b"abc";
-    let s = Partial::new(Stateful {
-        input: LocatingSlice::new(bytes),
-        state: 7,
-    });
-    let rest = Partial::new(Stateful {
-        input: LocatingSlice::new(&bytes[2..]),
-        state: 8,
-    });
-    let start = checkpoint_of(&s);
-    let widths = [
-        width_from(&rest, &s),
-        width_from(&rest, &start),
-        width_from(&checkpoint_of(&rest), &start),
-    ];
-    assert_eq!(rt;
-        (
-            widths,
-            rest.as_bytes(),
-            s.peek_finish(),
-            *s.into_inner().input.inner()
-        ),
-        ([2; 3], &bytes[2..], bytes, bytes)
-    );
+    let (rest, start) = (nest_in_state(&bytes[2..], 8), nest_in_state(bytes, 7));
+    assert_eq!(rt; widths_from(&rest, &start), [2; 3]);
+}
+
+// Asserts the bytes that remain; all of them taken, and the stream inside.
+fn held<I: Stream + StreamIsPartial + AsBytes + Copy>(
+    rt: &impl Abort,
+    input: I,
+    wanted: &[u8],
+) -> (I::Slice, I)
+    requires valid { I.valid input }
+    requires no_flag { I.supports_partial ≡ false }
+{
+    let s = nest(input);
+    assert_eq!(rt; s.as_bytes(), wanted);
+    (s.peek_finish(), *inside(&s))
+}
+
+#[test]
+fn bytes_through_three_wrappers(rt: HostRuntime) {
+    for bytes in [b"abc".as_slice(), b"c"] {
+        assert_eq!(rt; held(&rt, bytes, bytes), (bytes, bytes));
+    }
+}
+
+// The debug texts of a place, of its checkpoint and of three wrappers.
+fn debug_texts<I: Stream + StreamIsPartial + Copy>(
+    alloc: Global,
+    input: I,
+) -> Result<String, AllocError>
+    requires valid { I.valid input }
+    requires no_flag { I.supports_partial ≡ false }
+{
+    let (located, flagged) = (LocatingSlice::new(input), nest(input));
+    let start = located.checkpoint();
+    format!(in alloc; "{located:?}|{start:?}|{flagged:?}")
 }
 
 #[test]
 fn texts_of_wrappers(rt: HostRuntime) -> Result<(), Fail> {
-    let (located, flagged) = (LocatingSlice::new("ab"), nest("ab"));
-    let start = located.checkpoint();
     assert_eq!(rt;
-        format!(in rt.alloc(); "{located:?}|{start:?}|{flagged:?}")?.as_str(),
+        debug_texts(rt.alloc(), "ab")?.as_str(),
         "\"ab\"|\"ab\"|Partial { input: Stateful { input: \"ab\", state: 7 }, partial: true }"
     );
     Ok(())
