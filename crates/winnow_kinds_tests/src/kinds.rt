@@ -316,7 +316,7 @@ fn contents_of_bytes(rt: HostRuntime) -> Result<(), Fail> {
 fn traces_print_what_remains(rt: HostRuntime) -> Result<(), Fail> {
     let (text, bytes) = (Traced(BStr::new(b"ab")), Traced(Bytes::new(b"ab")));
     let traces = format!(in rt.alloc(); "{text} {bytes}")?;
-    assert_eq!(rt; traces.as_str(), "\"ab\" 6162");
+    assert_eq!(rt; traces.as_str(), "ab 6162");
     Ok(())
 }
 

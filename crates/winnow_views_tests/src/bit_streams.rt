@@ -221,7 +221,10 @@ fn places_of_bits(rt: HostRuntime) {
 #[test]
 fn traces_print_what_remains(rt: HostRuntime) -> Result<(), Fail> {
     let trace = format!(in rt.alloc(); "{}", Traced(Bits::new(b"ab".as_slice())))?;
-    assert_eq!(rt; trace.as_str(), "Bits { input: [97, 98], place: 0 }");
+    assert_eq!(rt;
+        trace.as_str(),
+        "Bits {\n    input: [\n        97,\n        98,\n    ],\n    place: 0,\n}"
+    );
     Ok(())
 }
 

@@ -184,11 +184,11 @@ where
 #[test]
 fn a_window_starts_anew_as_the_whole(rt: HostRuntime) {
     assert_eq!(rt;
-        window_started_anew("abcde", 3),
+        window_started_anew("abcdef", 3),
         Some((
             ("cde", "cde", Some('c')),
             ((5, 5), (2, 2), (3, 3)),
-            "abcde",
+            "abcdef",
             (0, 0)
         ))
     );
