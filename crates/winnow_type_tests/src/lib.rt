@@ -3,3 +3,5 @@
 
 #[cfg(test)]
 mod implementations;
+#[cfg(test)]
+mod laws;
