@@ -8,6 +8,8 @@ mod fixtures;
 #[cfg(test)]
 mod nests;
 #[cfg(test)]
+mod searches;
+#[cfg(test)]
 mod texts;
 #[cfg(test)]
 mod wrappers;
