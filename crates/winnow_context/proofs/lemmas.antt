@@ -1,2 +1,3 @@
 pub mod ContextTextLemmas
 pub mod ContextLineLemmas
+pub mod RefusedLemmas
