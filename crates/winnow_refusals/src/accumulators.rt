@@ -1,234 +1,91 @@
+//! Accumulators, each of which takes items until it has grown.
+
 use crate::cases::tell;
+use crate::items::{Cow, Item, TEXT};
 use std::alloc::{AllocError, Global};
 use std::borrow::CowStr;
 use std::collections::{BTreeMap, BTreeSet, HashMap, HashSet, VecDeque};
 use winnow_count::Accumulate;
 
-// More numbers than fit the room of a first growth, and the same in pieces.
-const NUMBERS: usize = 20;
-
-const PIECES: [&[usize]; 5] = [&[0, 1], &[2, 3], &[4, 5], &[6, 7], &[8, 9]];
-
-// A text, and the same in pieces.
-const TEXT: &str = "abcdefghijklmnopqr";
-
-const TEXTS: [&str; 6] = ["abc", "def", "ghi", "jkl", "mno", "pqr"];
-
-// Takes item after item, from an accumulator with room for one. Refused, it holds the items from before, and takes the equal one.
-fn gather<A: Accumulate<T> + Drop, T: Drop, F: Fn(&A, usize) -> bool + Drop>(
+/// Takes item after item, from an accumulator with room for one. Refused, it holds the items from before, and takes the equal one.
+pub fn gather<A: Accumulate<T> + Holds<T> + Drop, T: Item>(
     alloc: Global,
-    items: Vec<T>,
-    equals: Vec<T>,
-    holds_first: F,
 ) -> Result<bool, AllocError>
-    requires can { (a : A) → A.can_accumulate a }
-    requires callable { F.IsAlwaysCallable holds_first }
+    requires { (a : A) → A.can_accumulate a }
 {
-    let total = items.len();
     let mut all = A::initial(alloc, Some(1))?;
     let mut refused = false;
-    for (count, (item, equal)) in items.into_iter().zip(equals).enumerate() {
+    for count in 0..T::TOTAL {
+        let item = T::made(alloc, count)?;
         if all.accumulate(alloc, item).is_ok() {
             continue;
         }
         refused = true;
-        if !holds_first(&all, count) || all.accumulate(alloc, equal).is_err() {
+        let equal = T::made(alloc, count)?;
+        if !all.holds_first(count) || all.accumulate(alloc, equal).is_err() {
             return Ok(false);
         }
     }
-    tell(refused, holds_first(&all, total))
+    tell(refused, all.holds_first(T::TOTAL))
 }
 
-// These are pushed one by one: what collects them makes room as their count is told, and does without where it is refused.
-fn numbers(alloc: Global) -> Result<Vec<usize>, AllocError> {
-    let mut numbers = Vec::new(alloc);
-    for number in 0..NUMBERS {
-        numbers.push(number)?;
+/// What can tell which items it holds.
+pub trait Holds<T> {
+    /// Whether it holds the first `count` items, and nothing else.
+    fn holds_first(&self, count: usize) -> bool;
+}
+
+impl<T: Item> Holds<T> for Vec<usize> {
+    fn holds_first(&self, count: usize) -> bool {
+        self.iter().copied().eq(0..count.saturating_mul(T::WIDTH))
     }
-    Ok(numbers)
 }
 
-// Each number beside itself.
-fn pairs(alloc: Global) -> Result<Vec<(usize, usize)>, AllocError> {
-    let mut pairs = Vec::new(alloc);
-    for number in 0..NUMBERS {
-        pairs.push((number, number))?;
+impl<T: Item> Holds<T> for VecDeque<usize> {
+    fn holds_first(&self, count: usize) -> bool {
+        self.iter().copied().eq(0..count.saturating_mul(T::WIDTH))
     }
-    Ok(pairs)
 }
 
-fn pieces(alloc: Global) -> Result<Vec<&'static [usize]>, AllocError> {
-    Vec::from_slice(alloc, &PIECES)
+// Whether it is the front of the text that has so many items.
+fn is_front<T: Item>(text: &str, count: usize) -> bool {
+    TEXT.as_bytes().get(..count.saturating_mul(T::WIDTH)) == Some(text.as_bytes())
 }
 
-fn borrowed(alloc: Global) -> Result<Vec<&'static str>, AllocError> {
-    Vec::from_slice(alloc, &TEXTS)
-}
-
-fn owned(alloc: Global) -> Result<Vec<String>, AllocError> {
-    let mut texts = Vec::new(alloc);
-    for text in &TEXTS {
-        texts.push(String::from_str(alloc, text)?)?;
+impl<T: Item> Holds<T> for String {
+    fn holds_first(&self, count: usize) -> bool {
+        is_front::<T>(self.as_str(), count)
     }
-    Ok(texts)
 }
 
-fn cows(alloc: Global) -> Result<Vec<CowStr<'static, Global>>, AllocError> {
-    let mut texts = Vec::new(alloc);
-    for text in &TEXTS {
-        texts.push(CowStr::Borrowed(*text))?;
+/// A first text that is lent stays so.
+impl<T: Item> Holds<T> for Cow {
+    fn holds_first(&self, count: usize) -> bool {
+        let is_owned = count > usize::from(!T::IS_OWNED);
+        matches!(self, CowStr::Owned(_)) == is_owned && is_front::<T>(self.as_str(), count)
     }
-    Ok(texts)
 }
 
-fn characters(alloc: Global) -> Result<Vec<char>, AllocError> {
-    let mut characters = Vec::new(alloc);
-    for character in TEXT.chars() {
-        characters.push(character)?;
+impl Holds<(usize, usize)> for BTreeMap<usize, usize> {
+    fn holds_first(&self, count: usize) -> bool {
+        self.len() == count && (0..count).all(|number| self.get(&number) == Some(&number))
     }
-    Ok(characters)
 }
 
-// Whether it is the front of the text of so many bytes.
-fn is_prefix(text: &str, width: usize) -> bool {
-    TEXT.as_bytes().get(..width) == Some(text.as_bytes())
+impl Holds<(usize, usize)> for HashMap<usize, usize> {
+    fn holds_first(&self, count: usize) -> bool {
+        self.len() == count && (0..count).all(|number| self.get(&number) == Some(&number))
+    }
 }
 
-fn has_characters(text: &String, count: usize) -> bool {
-    is_prefix(text.as_str(), count)
+impl Holds<usize> for BTreeSet<usize> {
+    fn holds_first(&self, count: usize) -> bool {
+        self.iter().copied().eq(0..count)
+    }
 }
 
-fn has_texts(text: &String, count: usize) -> bool {
-    is_prefix(text.as_str(), count.saturating_mul(3))
-}
-
-fn has_characters_owned(text: &CowStr<'static, Global>, count: usize) -> bool {
-    matches!(text, CowStr::Owned(_)) == (count > 0) && is_prefix(text.as_str(), count)
-}
-
-// The first text stays borrowed.
-fn has_texts_borrowed(text: &CowStr<'static, Global>, count: usize) -> bool {
-    matches!(text, CowStr::Owned(_)) == (count > 1)
-        && is_prefix(text.as_str(), count.saturating_mul(3))
-}
-
-fn has_texts_owned(text: &CowStr<'static, Global>, count: usize) -> bool {
-    matches!(text, CowStr::Owned(_)) == (count > 0)
-        && is_prefix(text.as_str(), count.saturating_mul(3))
-}
-
-pub fn vector_of_items(alloc: Global) -> Result<bool, AllocError> {
-    gather(
-        alloc,
-        numbers(alloc)?,
-        numbers(alloc)?,
-        |all: &Vec<usize>, count| { all.iter().copied().eq(0..count) },
-    )
-}
-
-pub fn vector_of_slices(alloc: Global) -> Result<bool, AllocError> {
-    gather(
-        alloc,
-        pieces(alloc)?,
-        pieces(alloc)?,
-        |all: &Vec<usize>, count| { all.iter().copied().eq(0..count.saturating_mul(2)) },
-    )
-}
-
-pub fn queue_of_slices(alloc: Global) -> Result<bool, AllocError> {
-    gather(
-        alloc,
-        pieces(alloc)?,
-        pieces(alloc)?,
-        |all: &VecDeque<usize>, count| { all.iter().copied().eq(0..count.saturating_mul(2)) },
-    )
-}
-
-pub fn text_of_characters(alloc: Global) -> Result<bool, AllocError> {
-    gather(
-        alloc,
-        characters(alloc)?,
-        characters(alloc)?,
-        has_characters,
-    )
-}
-
-pub fn text_of_texts(alloc: Global) -> Result<bool, AllocError> {
-    gather(alloc, borrowed(alloc)?, borrowed(alloc)?, has_texts)
-}
-
-pub fn text_of_cows(alloc: Global) -> Result<bool, AllocError> {
-    gather(alloc, cows(alloc)?, cows(alloc)?, has_texts)
-}
-
-pub fn text_of_strings(alloc: Global) -> Result<bool, AllocError> {
-    gather(alloc, owned(alloc)?, owned(alloc)?, has_texts)
-}
-
-pub fn cow_of_characters(alloc: Global) -> Result<bool, AllocError> {
-    gather(
-        alloc,
-        characters(alloc)?,
-        characters(alloc)?,
-        has_characters_owned,
-    )
-}
-
-pub fn cow_of_texts(alloc: Global) -> Result<bool, AllocError> {
-    gather(
-        alloc,
-        borrowed(alloc)?,
-        borrowed(alloc)?,
-        has_texts_borrowed,
-    )
-}
-
-pub fn cow_of_cows(alloc: Global) -> Result<bool, AllocError> {
-    gather(alloc, cows(alloc)?, cows(alloc)?, has_texts_borrowed)
-}
-
-pub fn cow_of_strings(alloc: Global) -> Result<bool, AllocError> {
-    gather(alloc, owned(alloc)?, owned(alloc)?, has_texts_owned)
-}
-
-pub fn tree_map(alloc: Global) -> Result<bool, AllocError> {
-    gather(
-        alloc,
-        pairs(alloc)?,
-        pairs(alloc)?,
-        |all: &BTreeMap<usize, usize>, count| {
-            all.len() == count && (0..count).all(|number| all.get(&number) == Some(&number))
-        },
-    )
-}
-
-pub fn hash_map(alloc: Global) -> Result<bool, AllocError> {
-    gather(
-        alloc,
-        pairs(alloc)?,
-        pairs(alloc)?,
-        |all: &HashMap<usize, usize>, count| {
-            all.len() == count && (0..count).all(|number| all.get(&number) == Some(&number))
-        },
-    )
-}
-
-pub fn tree_set(alloc: Global) -> Result<bool, AllocError> {
-    gather(
-        alloc,
-        numbers(alloc)?,
-        numbers(alloc)?,
-        |all: &BTreeSet<usize>, count| { all.iter().copied().eq(0..count) },
-    )
-}
-
-pub fn hash_set(alloc: Global) -> Result<bool, AllocError> {
-    gather(
-        alloc,
-        numbers(alloc)?,
-        numbers(alloc)?,
-        |all: &HashSet<usize>, count| {
-            all.len() == count && (0..count).all(|number| all.contains(&number))
-        },
-    )
+impl Holds<usize> for HashSet<usize> {
+    fn holds_first(&self, count: usize) -> bool {
+        self.len() == count && (0..count).all(|number| self.contains(&number))
+    }
 }

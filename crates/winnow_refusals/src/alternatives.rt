@@ -1,5 +1,6 @@
 ghost use Rattle.std.specs.Prelude.{true, None, Ok, ⊤};
 
+use crate::failing::failed;
 use std::alloc::{AllocError, Global};
 use winnow_error::ErrMode::Backtrack;
 use winnow_error::{ErrMode, OrTree, ParserError, combine};
@@ -72,29 +73,43 @@ impl<I: Stream> ParserError<I> for Failures {
     }
 }
 
-type Tree = OrTree<ErrMode<Failures>>;
-
-// The error of a parser that failed at an input.
-fn failed(alloc: Global, input: &'static str) -> Result<Tree, AllocError> {
-    let start = input.checkpoint();
-    let error: ErrMode<Failures> = ParserError::<&'static str>::from_input(alloc, &input);
-    Ok(OrTree::One(error.append(alloc, &input, &start)?))
+fn one<I: Stream + Copy, E: ParserError<I>>(
+    alloc: Global,
+    input: I,
+) -> Result<OrTree<E>, AllocError>
+    requires { I.valid input }
+{
+    Ok(OrTree::One(failed(alloc, input)?))
 }
 
-fn both(
+fn both<E: Drop>(
     alloc: Global,
-    first: Result<Tree, AllocError>,
-    second: Result<Tree, AllocError>,
-) -> Result<Tree, AllocError> {
+    first: Result<OrTree<E>, AllocError>,
+    second: Result<OrTree<E>, AllocError>,
+) -> Result<OrTree<E>, AllocError> {
     let first = Box::new(alloc, first?)?;
     let second = Box::new(alloc, second?)?;
     Ok(OrTree::Both(first, second))
 }
 
+// Three errors, of parsers that failed at these inputs.
+fn three<I: Stream + Copy, E: ParserError<I>>(
+    alloc: Global,
+    first: I,
+    second: I,
+    third: I,
+) -> Result<OrTree<E>, AllocError>
+    requires first { I.valid first }
+    requires second { I.valid second }
+    requires third { I.valid third }
+{
+    let later = both(alloc, one(alloc, second), one(alloc, third));
+    both(alloc, one(alloc, first), later)
+}
+
 /// Errors appended to and combined, which a refusal gives up.
 pub fn combine_three(alloc: Global) -> Result<bool, AllocError> {
-    let later = both(alloc, failed(alloc, "2x"), failed(alloc, "x"));
-    let tree = both(alloc, failed(alloc, "12x"), later)?;
+    let tree: OrTree<ErrMode<Failures>> = three(alloc, "12x", "2x", "x")?;
     match combine::<&'static str, Failures>(alloc, tree)? {
         Backtrack(error) => Ok(error.0.as_slice() == [3, 2, 1].as_slice()),
         _ => Ok(false),

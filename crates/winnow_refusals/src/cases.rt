@@ -1,7 +1,8 @@
-use crate::{
-    accumulators, alternatives, errors, feeds, kinds, recovery, scripts, trees, waiting, words,
-};
+use crate::accumulators::gather;
+use crate::items::Cow;
+use crate::{alternatives, errors, feeds, kinds, recovery, scripts, trees, waiting, words};
 use std::alloc::{AllocError, Global};
+use std::collections::{BTreeMap, BTreeSet, HashMap, HashSet, VecDeque};
 
 /// A case by its name: whether it went as it should. It is an `Err` where it was refused memory, and the rest of it went so.
 pub type Case = (&'static str, Result<bool, AllocError>);
@@ -32,27 +33,33 @@ pub fn all(alloc: Global) -> [Case; 42] {
         ("to_vec of Bytes", kinds::bytes_to_vec(alloc)),
         ("literal", words::read_literal(alloc)),
         ("record_err", recovery::record_err(alloc)),
-        ("Vec of items", accumulators::vector_of_items(alloc)),
-        ("Vec of slices", accumulators::vector_of_slices(alloc)),
-        ("VecDeque of slices", accumulators::queue_of_slices(alloc)),
+        ("Vec of items", gather::<Vec<usize>, usize>(alloc)),
         (
-            "String of characters",
-            accumulators::text_of_characters(alloc),
+            "Vec of slices",
+            gather::<Vec<usize>, &'static [usize]>(alloc),
         ),
-        ("String of texts", accumulators::text_of_texts(alloc)),
-        ("String of cows", accumulators::text_of_cows(alloc)),
-        ("String of strings", accumulators::text_of_strings(alloc)),
         (
-            "CowStr of characters",
-            accumulators::cow_of_characters(alloc),
+            "VecDeque of slices",
+            gather::<VecDeque<usize>, &'static [usize]>(alloc),
         ),
-        ("CowStr of texts", accumulators::cow_of_texts(alloc)),
-        ("CowStr of cows", accumulators::cow_of_cows(alloc)),
-        ("CowStr of strings", accumulators::cow_of_strings(alloc)),
-        ("BTreeMap", accumulators::tree_map(alloc)),
-        ("HashMap", accumulators::hash_map(alloc)),
-        ("BTreeSet", accumulators::tree_set(alloc)),
-        ("HashSet", accumulators::hash_set(alloc)),
+        ("String of characters", gather::<String, char>(alloc)),
+        ("String of texts", gather::<String, &'static str>(alloc)),
+        ("String of cows", gather::<String, Cow>(alloc)),
+        ("String of strings", gather::<String, String>(alloc)),
+        ("CowStr of characters", gather::<Cow, char>(alloc)),
+        ("CowStr of texts", gather::<Cow, &'static str>(alloc)),
+        ("CowStr of cows", gather::<Cow, Cow>(alloc)),
+        ("CowStr of strings", gather::<Cow, String>(alloc)),
+        (
+            "BTreeMap",
+            gather::<BTreeMap<usize, usize>, (usize, usize)>(alloc),
+        ),
+        (
+            "HashMap",
+            gather::<HashMap<usize, usize>, (usize, usize)>(alloc),
+        ),
+        ("BTreeSet", gather::<BTreeSet<usize>, usize>(alloc)),
+        ("HashSet", gather::<HashSet<usize>, usize>(alloc)),
         ("tree append", trees::append(alloc)),
         ("tree or", trees::or(alloc)),
         ("tree text", trees::text(alloc)),

@@ -14,24 +14,37 @@ type Told = ContextError<StrContext>;
 // More contexts than fit the room of a first push.
 const LABELS: [&str; 6] = ["a", "b", "c", "d", "e", "f"];
 
+// Whether the context is the label of that number.
+fn is_label(context: &StrContext, number: usize) -> bool {
+    match (context, LABELS.get(number)) {
+        (Label(told), Some(label)) => *told == *label,
+        _ => false,
+    }
+}
+
 // Whether the contexts are the first `count` labels, in order.
 fn tells_first(error: &Told, count: usize) -> bool {
-    let mut told = 0;
+    let mut told: usize = 0;
     for context in error.context() {
-        match LABELS.get(told) {
-            Some(label) if *context == Label(*label) => told += 1,
-            _ => return false,
+        if !is_label(context, told) {
+            return false;
         }
+        told = told.saturating_add(1);
     }
     told == count
+}
+
+fn push_three(error: &mut Told) -> Result<(), AllocError> {
+    for label in LABELS.iter().take(3) {
+        error.push(Label(*label))?;
+    }
+    Ok(())
 }
 
 // An error with the first three labels.
 fn made(alloc: Global) -> Result<Told, AllocError> {
     let mut error = Told::new(alloc);
-    error.push(Label("a"))?;
-    error.push(Label("b"))?;
-    error.push(Label("c"))?;
+    push_three(&mut error)?;
     Ok(error)
 }
 
@@ -68,10 +81,10 @@ fn tells_then_last(error: &Told, count: usize) -> bool {
         } else {
             (told - count).saturating_add(3)
         };
-        match LABELS.get(index) {
-            Some(label) if *context == Label(*label) => told = told.saturating_add(1),
-            _ => return false,
+        if !is_label(context, index) {
+            return false;
         }
+        told = told.saturating_add(1);
     }
     told == count.saturating_add(3)
 }

@@ -1,10 +1,11 @@
 use crate::cases::tell;
+use crate::printing::gives;
 use std::alloc::{AllocError, Global};
 use winnow_bytes::Bytes;
 use winnow_kinds::BStr;
 
 fn text_copies(alloc: Global, text: &BStr<'static>) -> Result<bool, AllocError> {
-    Ok(text.to_vec(alloc)?.as_slice() == b"12x".as_slice())
+    gives(text.to_vec(alloc), "[49, 50, 120]")
 }
 
 /// The bytes of a `BStr`, copied. Refused, it holds what it held.
@@ -18,7 +19,7 @@ pub fn text_to_vec(alloc: Global) -> Result<bool, AllocError> {
 }
 
 fn byte_copies(alloc: Global, bytes: &Bytes<'static>) -> Result<bool, AllocError> {
-    Ok(bytes.to_vec(alloc)?.as_slice() == b"12x".as_slice())
+    gives(bytes.to_vec(alloc), "[49, 50, 120]")
 }
 
 /// The bytes of a `Bytes`, copied. Refused, it holds what it held.

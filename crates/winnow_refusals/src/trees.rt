@@ -1,4 +1,5 @@
 use crate::cases::tell;
+use crate::failing::failed;
 use std::alloc::{AllocError, Global};
 use std::fmt::Display;
 use winnow_context::StrContext;
@@ -9,25 +10,33 @@ use winnow_stream::Stream;
 use winnow_tree::{TreeError, TreeErrorBase, TreeErrorContext, combine_trees};
 use winnow_views::Bits;
 
-type Tree<'i> = TreeError<&'i str, StrContext>;
+type Tree<I> = TreeError<I, StrContext>;
 
 const INPUT: &str = "12x";
 
-fn at<'i>(alloc: Global) -> Tree<'i> {
-    TreeError::from_input(alloc, &INPUT)
+// An error that a parser failed of.
+fn appended<I: Stream + Copy>(alloc: Global, input: I) -> Result<Tree<I>, AllocError>
+    requires { I.valid input }
+{
+    failed(alloc, input)
 }
 
-// An error that a parser failed of, which was reading a number.
-fn stacked<'i>(alloc: Global) -> Result<Tree<'i>, AllocError> {
-    let start = INPUT.checkpoint();
-    let error = at(alloc).append(alloc, &INPUT, &start)?;
-    error.add_context(alloc, &INPUT, &start, Label("a"))
+// The same, of a parser that was reading a number.
+fn stacked<I: Stream + Copy>(alloc: Global, input: I) -> Result<Tree<I>, AllocError>
+    requires { I.valid input }
+{
+    let start = input.checkpoint();
+    let error = appended(alloc, input)?;
+    error.add_context(alloc, &input, &start, Label("a"))
 }
 
 // Two alternatives, the second of which is stacked.
-fn alternatives<'i>(alloc: Global) -> Result<Tree<'i>, AllocError> {
-    let second = stacked(alloc)?;
-    ParserError::<&str>::or(at(alloc), alloc, second)
+fn alternatives<I: Stream + Copy>(alloc: Global, input: I) -> Result<Tree<I>, AllocError>
+    requires { I.valid input }
+{
+    let second = stacked(alloc, input)?;
+    let first = <Tree<I> as ParserError<I>>::from_input(alloc, &input);
+    <Tree<I> as ParserError<I>>::or(first, alloc, second)
 }
 
 const ALTERNATIVES: &str =
@@ -43,40 +52,83 @@ fn prints<I: Display>(
     Ok(text.as_str() == wanted)
 }
 
+// Whether that is the text of the error, where it was made.
+fn is_made<I: Display + Drop>(
+    alloc: Global,
+    error: Result<Tree<I>, AllocError>,
+    wanted: &str,
+) -> Result<bool, AllocError> {
+    prints(alloc, &error?, wanted)
+}
+
 /// Frames on an error, which a refusal gives up.
 pub fn append(alloc: Global) -> Result<bool, AllocError> {
-    let error = stacked(alloc)?;
-    prints(
+    is_made(
         alloc,
-        &error,
+        stacked(alloc, INPUT),
         " at '12x'\n  0:  at '12x'\n  1: invalid a at '12x'\n",
     )
 }
 
 /// The error of two alternatives, which a refusal gives up.
 pub fn or(alloc: Global) -> Result<bool, AllocError> {
-    let error = alternatives(alloc)?;
-    prints(alloc, &error, ALTERNATIVES)
+    is_made(alloc, alternatives(alloc, INPUT), ALTERNATIVES)
 }
 
 /// The text of an error. Refused, the error is as it was, and has the same text.
 pub fn text(alloc: Global) -> Result<bool, AllocError> {
-    let error = alternatives(alloc)?;
-    match prints(alloc, &error, ALTERNATIVES) {
+    is_made_again(alloc, alternatives(alloc, INPUT))
+}
+
+fn is_made_again<I: Display + Drop>(
+    alloc: Global,
+    error: Result<Tree<I>, AllocError>,
+) -> Result<bool, AllocError> {
+    prints_again(alloc, &error?)
+}
+
+fn prints_again<I: Display>(
+    alloc: Global,
+    error: &TreeError<I, StrContext>,
+) -> Result<bool, AllocError> {
+    match prints(alloc, error, ALTERNATIVES) {
         Ok(right) => Ok(right),
-        Err(_) => tell(true, prints(alloc, &error, ALTERNATIVES).unwrap_or(false)),
+        Err(_) => tell(true, prints(alloc, error, ALTERNATIVES).unwrap_or(false)),
     }
 }
 
-// The text of what a parser failed at, and of what it was reading, made of inputs that were copied.
-fn part_texts(
+// The text of what a parser failed at.
+fn base_prints<I: Display>(alloc: Global, base: &TreeErrorBase<I>) -> Result<bool, AllocError> {
+    let text = base.text(alloc)?;
+    Ok(text.as_str() == " at '12x'")
+}
+
+// The text of what a parser was reading.
+fn context_prints<I: Display>(
     alloc: Global,
-    base: &TreeErrorBase<String>,
-    context: &TreeErrorContext<String, StrContext>,
+    context: &TreeErrorContext<I, StrContext>,
 ) -> Result<bool, AllocError> {
-    let base = base.text(alloc)?;
-    let context = context.text(alloc)?;
-    Ok(base.as_str() == " at '12x'" && context.as_str() == "invalid a at '12x'")
+    let text = context.text(alloc)?;
+    Ok(text.as_str() == "invalid a at '12x'")
+}
+
+fn parts_print<I: Display>(
+    alloc: Global,
+    base: &TreeErrorBase<I>,
+    context: &TreeErrorContext<I, StrContext>,
+) -> Result<bool, AllocError> {
+    Ok(base_prints(alloc, base)? && context_prints(alloc, context)?)
+}
+
+fn parts_print_again<I: Display>(
+    alloc: Global,
+    base: &TreeErrorBase<I>,
+    context: &TreeErrorContext<I, StrContext>,
+) -> Result<bool, AllocError> {
+    match parts_print(alloc, base, context) {
+        Ok(right) => Ok(right),
+        Err(_) => tell(true, parts_print(alloc, base, context).unwrap_or(false)),
+    }
 }
 
 /// The parts of an error with copies of their inputs, and their texts. Refused a text, the parts are as they were.
@@ -91,50 +143,69 @@ pub fn parts(alloc: Global) -> Result<bool, AllocError> {
     };
     let base = base.into_owned(alloc)?;
     let context = context.into_owned(alloc)?;
-    match part_texts(alloc, &base, &context) {
-        Ok(right) => Ok(right),
-        Err(_) => tell(true, part_texts(alloc, &base, &context).unwrap_or(false)),
-    }
+    parts_print_again(alloc, &base, &context)
+}
+
+// An error with copies of its inputs, and then with their lengths.
+fn map_owned<'i>(alloc: Global, error: Tree<&'i str>) -> Result<Tree<usize>, AllocError> {
+    let owned = error.into_owned(alloc)?;
+    owned.map_input(alloc, |text: String| text.len())
 }
 
 /// An error with copies of its inputs, and then with their lengths.
 pub fn map_input(alloc: Global) -> Result<bool, AllocError> {
-    let owned = stacked(alloc)?.into_owned(alloc)?;
-    let lengths = owned.map_input(alloc, |text: String| text.len())?;
-    prints(
+    is_made(
         alloc,
-        &lengths,
+        map_owned(alloc, stacked(alloc, INPUT)?),
         " at '3'\n  0:  at '3'\n  1: invalid a at '3'\n",
     )
 }
 
-// An error at bytes that a parser failed of.
-fn at_bytes<'i>(alloc: Global) -> Result<TreeError<&'i [u8], StrContext>, AllocError> {
-    let input: &[u8] = b"12x";
-    let start = input.checkpoint();
-    let error: TreeError<&[u8], StrContext> = TreeError::from_input(alloc, &input);
-    ParserError::<&[u8]>::append(error, alloc, &input, &start)
+// An error at bytes told at their bits, back, and with their lengths.
+fn convert_twice<'i>(alloc: Global, error: Tree<&'i [u8]>) -> Result<Tree<usize>, AllocError> {
+    let bits: Tree<Bits<&'i [u8]>> = error.convert(alloc)?;
+    let bytes: Tree<&'i [u8]> = bits.convert(alloc)?;
+    bytes.map_input(alloc, |bytes: &[u8]| bytes.len())
 }
 
 /// An error at bytes told at their bits, and back.
 pub fn convert(alloc: Global) -> Result<bool, AllocError> {
-    let bits: TreeError<Bits<&[u8]>, StrContext> = at_bytes(alloc)?.convert(alloc)?;
-    let bytes: TreeError<&[u8], StrContext> = bits.convert(alloc)?;
-    let lengths = bytes.map_input(alloc, |bytes: &[u8]| bytes.len())?;
-    prints(alloc, &lengths, " at '3'\n  0:  at '3'\n")
+    let input: &[u8] = b"12x";
+    is_made(
+        alloc,
+        convert_twice(alloc, appended(alloc, input)?),
+        " at '3'\n  0:  at '3'\n",
+    )
 }
 
-fn boxed<'i>(alloc: Global, error: Tree<'i>) -> Result<Box<OrTree<ErrMode<Tree<'i>>>>, AllocError> {
-    Ok(Box::new(alloc, OrTree::One(Backtrack(error)))?)
+fn one<E: Drop>(
+    alloc: Global,
+    error: Result<E, AllocError>,
+) -> Result<Box<OrTree<ErrMode<E>>>, AllocError> {
+    Ok(Box::new(alloc, OrTree::One(Backtrack(error?)))?)
+}
+
+// An error beside one that is stacked.
+fn both<I: Stream + Copy>(alloc: Global, input: I) -> Result<OrTree<ErrMode<Tree<I>>>, AllocError>
+    requires { I.valid input }
+{
+    let second = one(alloc, stacked(alloc, input))?;
+    let first = <Tree<I> as ParserError<I>>::from_input(alloc, &input);
+    let first = one(alloc, Ok(first))?;
+    Ok(OrTree::Both(first, second))
+}
+
+// Two alternatives, bracketed.
+fn combined<I: Stream + Copy + Display>(alloc: Global, input: I) -> Result<bool, AllocError>
+    requires { I.valid input }
+{
+    match combine_trees(alloc, both(alloc, input)?)? {
+        Backtrack(error) => prints(alloc, &error, ALTERNATIVES),
+        _ => Ok(false),
+    }
 }
 
 /// Two alternatives, bracketed.
 pub fn combine(alloc: Global) -> Result<bool, AllocError> {
-    let second = stacked(alloc)?;
-    let first = boxed(alloc, at(alloc))?;
-    let second = boxed(alloc, second)?;
-    match combine_trees(alloc, OrTree::Both(first, second))? {
-        Backtrack(error) => prints(alloc, &error, ALTERNATIVES),
-        _ => Ok(false),
-    }
+    combined(alloc, INPUT)
 }

@@ -1,7 +1,8 @@
 use crate::cases::tell;
 use crate::feeds::{MOST, counts, text_counts};
+use crate::printing::gives;
 use std::alloc::{AllocError, Global};
-use winnow_feed::{ByteFeed, TextFeed, Waiting};
+use winnow_feed::{ByteFeed, TextFeed};
 use winnow_run::SearchStep;
 use winnow_run::SearchStep::{Call, Compare};
 use winnow_run::Step::Next;
@@ -13,8 +14,7 @@ const TEXTS: [SearchStep<CharSet<'static>, &str>; 2] = [Call(Next), Compare("bcd
 
 // Whether it waits for what is missing of the literal.
 fn waits(feed: &ByteFeed) -> Result<bool, AllocError> {
-    let waiting = feed.waits_for()?;
-    Ok(matches!(waiting, Waiting::Until(more) if more.as_slice() == b"cd".as_slice()))
+    gives(feed.waits_for(), "Until([99, 100])")
 }
 
 /// What a feed of bytes waits for. Refused, the feed is as it was, and answers when it is asked
@@ -34,8 +34,7 @@ pub fn wait_for_bytes(alloc: Global) -> Result<bool, AllocError> {
 }
 
 fn text_waits(feed: &TextFeed) -> Result<bool, AllocError> {
-    let waiting = feed.waits_for()?;
-    Ok(matches!(waiting, Waiting::Until(more) if more.as_str() == "cd"))
+    gives(feed.waits_for(), "Until(\"cd\")")
 }
 
 /// What a feed of text waits for.

@@ -1,14 +1,12 @@
 use crate::cases::tell;
+use crate::printing::gives;
 use std::alloc::{AllocError, Global};
 use winnow_read::literal;
 
 const WORD: &[u8] = b"31327A";
 
 fn reads(alloc: Global, word: &[u8]) -> Result<bool, AllocError> {
-    match literal(alloc, word)? {
-        Some(bytes) => Ok(bytes.as_slice() == b"12z".as_slice()),
-        None => Ok(false),
-    }
+    gives(literal(alloc, word), "Some([49, 50, 122])")
 }
 
 /// The bytes that a word of a script tells. Refused, the word may be read again.
