@@ -1,4 +1,5 @@
-use Rattle.std.proofs.Common.{◌≡◌, ◌+◌, ◌≤◌, ◌<◌, ◌∷◌, length, get_or, drop, sym, ap, ◌∙◌, min, arith}
+use Rattle.std.proofs.Common.{◌≡◌, ◌+◌, ◌≤◌, ◌<◌, ◌∷◌, length, get_or, drop, refl, sym, ap, ◌∙◌, min, arith}
+use Rattle.std.proofs.Math.Nat.{le_refl}
 use Rattle.std.proofs.lemmas.List.{drop_more, drop_all}
 use Rattle.winnow_feed.specs.Reach.{least_place, least_mark}
 use Rattle.winnow_feed.proofs.lemmas.KeepingLemmas.{least-step}
@@ -33,3 +34,9 @@ returns g c =
     let xs = c.args.steps.now in
     let past : length xs ≤ c.loop-i.i = omega (arith, named-length c.args.named.now xs c.requires, c.loop-i-test.false) in
     sym (ap (least_place c.args.place c.args.marks.now c.loop-i.least) (drop_all c.loop-i.i xs past)) ∙ c.loop-i.invariant.same
+
+pub loop-i-init : goal.loop-i-init
+loop-i-init g c = record { same = refl; below = le_refl _ }
+
+pub bounds-steps-i : goal.bounds-steps-i
+bounds-steps-i g c = omega (arith, named-length c.args.named.now c.args.steps.now c.requires, c.loop-i-test.true)

@@ -1,3 +1,4 @@
+use Rattle.std.proofs.lemmas.Result.{IfOk-from_err}
 use Rattle.std.proofs.Common.{◌-◌, ◌≤◌, arith, refl, sym, ◌∙◌, ap, Ok}
 use Rattle.winnow_run.specs.declared.script.Answer.TheVariants.{Token, At, Flag, Marked, Offset}
 use Rattle.std.specs.declared.alloc.AllocError.{AllocError}
@@ -379,3 +380,16 @@ returns-in-At-clause-answer g c = λ all cur h q p. rw c.in-At.is (ap At (c.offs
 
 pub returns-in-IsOffset-clause-answer : goal.returns-in-IsOffset-clause-answer
 returns-in-IsOffset-clause-answer g c = λ all cur h q p. rw c.in-IsOffset.is (ap Flag (c.is_offset-in-IsOffset.ensures ∙ ap (λ r. is_offset r c.in-IsOffset.offset) h.rest))
+
+-- where memory is refused, nothing is promised of a value
+pub returns-in_err-collect-in-Each-clause-answer : goal.returns-in_err-collect-in-Each-clause-answer
+returns-in_err-collect-in-Each-clause-answer g c = IfOk-from_err _ _ c.from_residual.ensures.0
+
+pub returns-in_err-collect-in-Each-clause-stands : goal.returns-in_err-collect-in-Each-clause-stands
+returns-in_err-collect-in-Each-clause-stands g c = IfOk-from_err _ _ c.from_residual.ensures.0
+
+pub returns-in_err-push-in-Mark-clause-answer : goal.returns-in_err-push-in-Mark-clause-answer
+returns-in_err-push-in-Mark-clause-answer g c = IfOk-from_err _ _ c.from_residual-in_err-push-in-Mark.ensures.0
+
+pub returns-in_err-push-in-Mark-clause-stands : goal.returns-in_err-push-in-Mark-clause-stands
+returns-in_err-push-in-Mark-clause-stands g c = IfOk-from_err _ _ c.from_residual-in_err-push-in-Mark.ensures.0

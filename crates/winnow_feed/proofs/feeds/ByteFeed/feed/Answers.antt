@@ -1,3 +1,4 @@
+use Rattle.std.proofs.lemmas.Result.{IfOk-from_err}
 use Rattle.std.proofs.Common.{◌≤◌, ◌+◌, ◌++◌, ap, ◌∙◌, length, sym, arith, refl}
 use Rattle.std.proofs.lemmas.List.{length-append}
 use Rattle.std.proofs.lemmas.Option.{slice_get_within}
@@ -116,3 +117,13 @@ returns-then-self-before-clause-came c = λ pieces h.
     let old : FeedState = record { run = c.self.inside.run; kept = c.self.inside.kept.items } in
     let before = rw (← c.self.view_is) at h in
     rw (← c.self.view_is) (came-out byte_input bytes-input old _ pieces c.args.piece.now 0 before (returns-then-self-before-clause-fits c pieces h) refl (omega arith))
+
+-- where memory is refused, nothing is promised of a value
+pub returns-in_err-extend_from_slice-clause-fits : goal.returns-in_err-extend_from_slice-clause-fits
+returns-in_err-extend_from_slice-clause-fits c = IfOk-from_err _ _ c.from_residual.ensures.0
+
+pub returns-in_err-extend_from_slice-clause-came : goal.returns-in_err-extend_from_slice-clause-came
+returns-in_err-extend_from_slice-clause-came c = IfOk-from_err _ _ c.from_residual.ensures.0
+
+pub returns-in_err-extend_from_slice-clause-grows : goal.returns-in_err-extend_from_slice-clause-grows
+returns-in_err-extend_from_slice-clause-grows c = IfOk-from_err _ _ c.from_residual.ensures.0

@@ -1,3 +1,4 @@
+use Rattle.std.proofs.lemmas.Result.{IfOk-from_err}
 use Rattle.std.proofs.Common.{ap, length, arith, refl, []}
 use Rattle.winnow_feed.specs.Inputs.{byte_input}
 use Rattle.winnow_feed.proofs.lemmas.InputLemmas.{bytes-input}
@@ -26,3 +27,31 @@ returns-clause-fits c = record {
   count = refl;
   tried = refl;
 }
+
+-- where memory is refused, nothing is promised of a value
+pub returns-in_err-told-clause-fits : goal.returns-in_err-told-clause-fits
+returns-in_err-told-clause-fits c = IfOk-from_err _ _ c.from_residual.ensures.0
+
+pub returns-in_err-told-clause-script : goal.returns-in_err-told-clause-script
+returns-in_err-told-clause-script c = IfOk-from_err _ _ c.from_residual.ensures.0
+
+pub returns-in_err-told-clause-none : goal.returns-in_err-told-clause-none
+returns-in_err-told-clause-none c = IfOk-from_err _ _ c.from_residual.ensures.0
+
+pub returns-in_err-marks-clause-fits : goal.returns-in_err-marks-clause-fits
+returns-in_err-marks-clause-fits c = IfOk-from_err _ _ c.from_residual-in_err-marks.ensures.0
+
+pub returns-in_err-marks-clause-script : goal.returns-in_err-marks-clause-script
+returns-in_err-marks-clause-script c = IfOk-from_err _ _ c.from_residual-in_err-marks.ensures.0
+
+pub returns-in_err-marks-clause-none : goal.returns-in_err-marks-clause-none
+returns-in_err-marks-clause-none c = IfOk-from_err _ _ c.from_residual-in_err-marks.ensures.0
+
+pub returns-in_err-named-clause-fits : goal.returns-in_err-named-clause-fits
+returns-in_err-named-clause-fits c = IfOk-from_err _ _ c.from_residual-in_err-named.ensures.0
+
+pub returns-in_err-named-clause-script : goal.returns-in_err-named-clause-script
+returns-in_err-named-clause-script c = IfOk-from_err _ _ c.from_residual-in_err-named.ensures.0
+
+pub returns-in_err-named-clause-none : goal.returns-in_err-named-clause-none
+returns-in_err-named-clause-none c = IfOk-from_err _ _ c.from_residual-in_err-named.ensures.0

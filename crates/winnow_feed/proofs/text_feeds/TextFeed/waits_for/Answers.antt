@@ -1,3 +1,4 @@
+use Rattle.std.proofs.lemmas.Result.{IfOk-from_err}
 use Rattle.std.proofs.Common.{◌≡◌, ℕ, ◌<◌, List, length, ap, ◌∙◌, sym, arith, subst}
 use Rattle.std.specs.Prelude.{option_map}
 use Rattle.std.specs.String.{string_bytes}
@@ -56,3 +57,7 @@ returns-in-None-clause-waits c = λ pieces h.
     let some : 0 < length pieces = omega (arith, c.if-self-eq0.false, before.count) in
     let e = ap (option_map (λ v. v.items)) (sym c.in-None.is) ∙ told (text_input.source (joined pieces)) before.stands.stands n.0 n.1 in
     rw (← c.self.view_is) (some, to-end text_input texts-input text-spelling old pieces before some n.0 n.1 e)
+
+-- where memory is refused, nothing is promised of a value
+pub returns-in_err-more-clause-waits : goal.returns-in_err-more-clause-waits
+returns-in_err-more-clause-waits c = IfOk-from_err _ _ c.from_residual.ensures.0
