@@ -3,62 +3,57 @@ use std::alloc::{AllocError, Global};
 use std::fmt::Display;
 use std::process::Abort;
 use std::test::Fail;
-use winnow_error::{EmptyError, InputError, ParserError};
-use winnow_parse_error::translate_position;
-use winnow_stream::{AsBStr, Stream};
+use winnow_error::{EmptyError, InputError};
+use winnow_parse_error::{ParseError, translate_position};
 
-// Asserts the text of an error of a parse that failed at that offset.
-fn fails_as<I: Stream + AsBStr, E: ParserError<I> + Display + Drop>(
+type Bytes = &'static [u8];
+
+type Text = &'static str;
+
+// A parse of bytes that failed at that offset.
+fn at_bytes(alloc: Global, bytes: Bytes, offset: usize) -> ParseError<Bytes, EmptyError> {
+    fail_at(alloc, bytes, offset)
+}
+
+// The same of a text.
+fn at_text(alloc: Global, text: Text, offset: usize) -> ParseError<Text, InputError<Text>> {
+    fail_at(alloc, text, offset)
+}
+
+fn printed<T: Display>(alloc: Global, error: &T) -> Result<String, AllocError> {
+    format!(in alloc; "{error}")
+}
+
+// Asserts the text of an error.
+fn prints<T: Display>(
     rt: &impl Abort,
     alloc: Global,
-    input: I,
-    offset: usize,
+    error: &T,
     wanted: &str,
-) -> Result<(), AllocError>
-where
-    I::Slice: Drop,
-    I: Drop,
-    requires { I.valid input }
-{
-    let error = fail_at::<I, E>(alloc, input, offset);
-    assert_eq!(rt;
-        format!(in alloc; "{error}")?.as_str(),
-        wanted,
-        "at {offset}"
-    );
+) -> Result<(), AllocError> {
+    assert_eq!(rt; printed(alloc, error)?.as_str(), wanted);
     Ok(())
 }
 
 #[test]
 fn texts_of_parse_errors(rt: HostRuntime) -> Result<(), Fail> {
-    let rows = [
+    let rows: [(&[u8], usize, &str); 5] = [
         (
-            "ab\ncd\n",
+            b"ab\ncd\n",
             4,
             "parse error at line 2, column 2\n  |\n2 | cd\n  |  ^\nfailed to parse",
         ),
         (
-            "ab\n",
+            b"ab\n",
             3,
             "parse error at line 1, column 4\n  |\n1 | ab\n  |    ^\nfailed to parse",
         ),
         (
-            "\n\n\n\n\n\n\n\n\nx",
+            b"\n\n\n\n\n\n\n\n\nx",
             9,
             "parse error at line 10, column 1\n   |\n10 | x\n   | ^\nfailed to parse",
         ),
-    ];
-    for (text, offset, wanted) in rows {
-        fails_as::<&str, EmptyError>(&rt, rt.alloc(), text, offset, wanted)?;
-    }
-    let wanted = "0xZ123\n  ^\nfailed to parse starting at: Z123";
-    fails_as::<&str, InputError<&str>>(&rt, rt.alloc(), "0xZ123", 2, wanted)?;
-    Ok(())
-}
-
-#[test]
-fn texts_over_damaged_bytes(rt: HostRuntime) -> Result<(), Fail> {
-    let rows: [(&[u8], usize, &str); 2] = [
+        // Damaged bytes
         (
             b"\xff\n\xc3",
             2,
@@ -67,8 +62,20 @@ fn texts_over_damaged_bytes(rt: HostRuntime) -> Result<(), Fail> {
         (b"\xe2\x82", 1, "\u{FFFD}\n ^\nfailed to parse"),
     ];
     for (bytes, offset, wanted) in rows {
-        fails_as::<&[u8], EmptyError>(&rt, rt.alloc(), bytes, offset, wanted)?;
+        prints(
+            &rt,
+            rt.alloc(),
+            &at_bytes(rt.alloc(), bytes, offset),
+            wanted,
+        )?;
     }
+    Ok(())
+}
+
+#[test]
+fn the_text_of_a_parse_error_over_a_text(rt: HostRuntime) -> Result<(), Fail> {
+    let wanted = "0xZ123\n  ^\nfailed to parse starting at: Z123";
+    prints(&rt, rt.alloc(), &at_text(rt.alloc(), "0xZ123", 2), wanted)?;
     Ok(())
 }
 
@@ -85,8 +92,7 @@ fn spans(rt: HostRuntime) {
         (b"\x80\x80a", 3, 3, 3),
     ];
     for (bytes, offset, start, end) in rows {
-        let error = fail_at::<&[u8], EmptyError>(rt.alloc(), bytes, offset);
-        let span = error.char_span();
+        let span = at_bytes(rt.alloc(), bytes, offset).char_span();
         assert_eq!(rt; (span.start, span.end), (start, end), "at {offset}");
     }
 }
@@ -108,7 +114,7 @@ fn positions(rt: HostRuntime) {
 
 #[test]
 fn what_a_parse_error_holds(rt: HostRuntime) {
-    let error = fail_at::<&str, InputError<&str>>(rt.alloc(), "abc", 1);
+    let error = at_text(rt.alloc(), "abc", 1);
     let (input, offset, inner) = (*error.input(), error.offset(), error.inner().input);
     assert_eq!(rt;
         (input, offset, inner, error.into_inner().input),
