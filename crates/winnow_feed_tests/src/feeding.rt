@@ -21,15 +21,26 @@ pub(crate) fn feed_text(feed: &mut TextFeed, piece: &str) -> Result<usize, Alloc
     feed.feed(piece)
 }
 
+// How many bytes were fed, how many are kept, how many steps were attempted, and how many answers are out.
+pub(crate) fn counts(feed: &ByteFeed) -> (usize, usize, u64, usize) {
+    (feed.fed(), feed.held(), feed.tried(), feed.answers().len())
+}
+
+pub(crate) fn text_counts(feed: &TextFeed) -> (usize, usize, u64, usize) {
+    (feed.fed(), feed.held(), feed.tried(), feed.answers().len())
+}
+
 // After each piece: how many answers came out, how many bytes are kept, and how many steps were attempted so far. At last, how many
 // bytes were fed, and how many answers are out.
 fn kept(alloc: Global, feed: &mut ByteFeed, pieces: &[&[u8]]) -> Result<String, AllocError> {
-    let mut line = format!(in alloc; "{}", feed.held())?;
+    let mut counted = counts(feed);
+    let mut line = format!(in alloc; "{}", counted.1)?;
     for piece in pieces {
         let came = feed_bytes(feed, piece)?;
-        line = format!(in alloc; "{line}; {came} {} {}", feed.held(), feed.tried())?;
+        counted = counts(feed);
+        line = format!(in alloc; "{line}; {came} {} {}", counted.1, counted.2)?;
     }
-    format!(in alloc; "{line}; of {} {}", feed.fed(), feed.answers().len())
+    format!(in alloc; "{line}; of {} {}", counted.0, counted.3)
 }
 
 // What is kept of the pieces, and what is told at the end.

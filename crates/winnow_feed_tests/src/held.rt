@@ -1,87 +1,92 @@
-use crate::feeding::{ByteStep, TextStep, fed_bytes, feed_bytes, feed_text};
+use crate::feeding::{ByteStep, TextStep, counts, fed_bytes, feed_bytes, feed_text, text_counts};
 use std::alloc::{AllocError, Global};
 use std::test::Fail;
 use winnow_base::stream::Step::{Each, Finish, First, Mark, Next, Peek, Reset, Since, Take};
 use winnow_base::stream::{ByteFeed, CharSet, Needles, SearchStep, TextFeed};
 
-#[test]
-fn a_mark_is_kept_while_a_step_names_it(rt: HostRuntime) -> Result<(), Fail> {
-    let to_its_reset: [ByteStep; 7] = [
-        SearchStep::Call(Mark),
-        SearchStep::Call(Next),
-        SearchStep::Call(Next),
-        SearchStep::Call(Next),
-        SearchStep::Call(Next),
-        SearchStep::Call(Reset(0)),
-        SearchStep::Call(Peek),
-    ];
-    let never_reset: [ByteStep; 6] = [
-        SearchStep::Call(Next),
-        SearchStep::Call(Next),
-        SearchStep::Call(Mark),
-        SearchStep::Call(Next),
-        SearchStep::Call(Since(0)),
-        SearchStep::Call(Finish),
-    ];
-    let gone_back_to: [ByteStep; 6] = [
-        SearchStep::Call(Mark),
-        SearchStep::Call(Next),
-        SearchStep::Call(Next),
-        SearchStep::Call(Reset(0)),
-        SearchStep::Call(Next),
-        SearchStep::Call(Finish),
-    ];
-    let table: [(&[ByteStep], &[&[u8]], &str, &str); 3] = [
+type Case = (
+    &'static str,
+    &'static [ByteStep<'static>],
+    &'static [&'static [u8]],
+    (&'static str, &'static str),
+);
+
+const CASES: &[Case] = &[
+    (
+        "a mark is kept to its reset",
+        &[
+            SearchStep::Call(Mark),
+            SearchStep::Call(Next),
+            SearchStep::Call(Next),
+            SearchStep::Call(Next),
+            SearchStep::Call(Next),
+            SearchStep::Call(Reset(0)),
+            SearchStep::Call(Peek),
+        ],
+        &[b"abc", b"de", b"f"],
         (
-            &to_its_reset,
-            &[b"abc", b"de", b"f"],
             "0; 4 3 5; 3 0 8; 0 0 8; of 6 7",
             "1 Call(Marked(0)); 1 Call(Token(Some(97))); 1 Call(Token(Some(98))); \
              1 Call(Token(Some(99))); 2 Call(Token(Some(100))); 2 Call(Done); \
              2 Call(Token(Some(97))); at 0",
         ),
+    ),
+    (
+        "nothing is kept of a mark that no reset names",
+        &[
+            SearchStep::Call(Next),
+            SearchStep::Call(Next),
+            SearchStep::Call(Mark),
+            SearchStep::Call(Next),
+            SearchStep::Call(Since(0)),
+            SearchStep::Call(Finish),
+        ],
+        &[b"ab", b"cd"],
         (
-            &never_reset,
-            &[b"ab", b"cd"],
             "0; 3 0 4; 2 1 7; of 4 5",
             "1 Call(Token(Some(97))); 1 Call(Token(Some(98))); 1 Call(Marked(0)); \
              2 Call(Token(Some(99))); 2 Call(Offset(1)); 0 Call(Slice(3..4)); at 4",
         ),
+    ),
+    (
+        "a mark that is gone back to",
+        &[
+            SearchStep::Call(Mark),
+            SearchStep::Call(Next),
+            SearchStep::Call(Next),
+            SearchStep::Call(Reset(0)),
+            SearchStep::Call(Next),
+            SearchStep::Call(Finish),
+        ],
+        &[b"a", b"b", b"c"],
         (
-            &gone_back_to,
-            &[b"a", b"b", b"c"],
             "0; 2 1 3; 3 1 7; 0 2 8; of 3 5",
             "1 Call(Marked(0)); 1 Call(Token(Some(97))); 2 Call(Token(Some(98))); 2 Call(Done); \
              2 Call(Token(Some(97))); 0 Call(Slice(1..3)); at 3",
         ),
-    ];
-    for (script, pieces, kept, told) in table {
-        let (line, answers) = fed_bytes(rt.alloc(), script, pieces)?;
-        assert_eq!(rt;
-            (line.as_str(), answers.as_str()),
-            (kept, told),
-            "{script:?}"
-        );
-    }
-    Ok(())
-}
-
-#[test]
-fn a_waiting_step_is_attempted_once_a_piece(rt: HostRuntime) -> Result<(), Fail> {
-    let script: [ByteStep; 4] = [
-        SearchStep::Call(Next),
-        SearchStep::Call(Take(2)),
-        SearchStep::Compare(b"cd"),
-        SearchStep::Call(Each),
-    ];
-    let (line, answers) = fed_bytes(rt.alloc(), &script, &[b"ab", b"c", b"de"])?;
-    assert_eq!(rt;
-        (line.as_str(), answers.as_str()),
+    ),
+    (
+        "a waiting step is attempted once a piece",
+        &[
+            SearchStep::Call(Next),
+            SearchStep::Call(Take(2)),
+            SearchStep::Compare(b"cd"),
+            SearchStep::Call(Each),
+        ],
+        &[b"ab", b"c", b"de"],
         (
             "0; 1 1 2; 1 0 4; 1 2 6; of 5 3",
-            "1 Call(Token(Some(97))); 2 Call(Slice(1..3)); 3 Compared(Error); 0 Call(Items(3..5)); at 3"
-        )
-    );
+            "1 Call(Token(Some(97))); 2 Call(Slice(1..3)); 3 Compared(Error); 0 Call(Items(3..5)); at 3",
+        ),
+    ),
+];
+
+#[test]
+fn what_is_kept_and_told_of_pieces(rt: HostRuntime) -> Result<(), Fail> {
+    for (name, script, pieces, want) in CASES {
+        let (line, answers) = fed_bytes(rt.alloc(), script, pieces)?;
+        assert_eq!(rt; (line.as_str(), answers.as_str()), *want, "{name}");
+    }
     Ok(())
 }
 
@@ -91,7 +96,7 @@ fn held_of(alloc: Global, script: &[ByteStep], count: u32) -> Result<usize, Allo
     for _ in 0..count {
         feed_bytes(&mut feed, b"a")?;
     }
-    Ok(feed.held())
+    Ok(counts(&feed).1)
 }
 
 // Each byte is looked at once: a feed that went back to the cursor, or copied what it keeps, would not end.
@@ -122,7 +127,7 @@ fn kept_text(
     for piece in pieces {
         feed_text(&mut feed, piece)?;
     }
-    let (held, tried, out) = (feed.held(), feed.tried(), feed.answers().len());
+    let (_, held, tried, out) = text_counts(&feed);
     Ok((held, tried, out, feed.end().cursor()))
 }
 

@@ -1,3 +1,6 @@
+ghost use Rattle.std.specs.Prelude.{◌<◌, ◌^◌, length};
+ghost use Rattle.winnow_base.specs.Inputs.{joined, pieces_in};
+
 use crate::feeding::{ByteStep, TextStep, fed_bytes, told};
 use std::alloc::{AllocError, Global};
 use std::test::Fail;
@@ -6,6 +9,13 @@ use winnow_base::stream::{
     Needles, SearchStep, one_search_law, run_pieces, run_pieces_text, told_law,
 };
 
+// What is told of the pieces.
+fn told_of(alloc: Global, script: &[ByteStep], pieces: &[&[u8]]) -> Result<String, AllocError>
+    requires { length (joined (pieces_in pieces.now)) < 2 ^ 64 }
+{
+    told(alloc, &run_pieces(alloc, script, pieces)?)
+}
+
 #[test]
 fn an_empty_piece_lets_nothing_out(rt: HostRuntime) -> Result<(), Fail> {
     let script: [ByteStep; 3] = [
@@ -13,10 +23,41 @@ fn an_empty_piece_lets_nothing_out(rt: HostRuntime) -> Result<(), Fail> {
         SearchStep::Call(Next),
         SearchStep::Call(Peek),
     ];
-    let finished = run_pieces(rt.alloc(), &script, &[b"a", b"", b"b"])?;
     assert_eq!(rt;
-        told(rt.alloc(), &finished)?.as_str(),
+        told_of(rt.alloc(), &script, &[b"a", b"", b"b"])?.as_str(),
         "1 Call(Token(Some(97))); 3 Call(Token(Some(98))); 0 Call(Token(None)); at 2"
+    );
+    Ok(())
+}
+
+#[test]
+fn what_runs_to_the_end_waits_for_it(rt: HostRuntime) -> Result<(), Fail> {
+    let script: [ByteStep; 2] = [SearchStep::Call(Finish), SearchStep::Call(Eof)];
+    let (some, none) = (
+        told_of(rt.alloc(), &script, &[b"ab", b"c"])?,
+        told_of(rt.alloc(), &script, &[])?,
+    );
+    assert_eq!(rt;
+        [some.as_str(), none.as_str()],
+        [
+            "0 Call(Slice(0..3)); 0 Call(Offset(0)); at 3",
+            "0 Call(Slice(0..0)); 0 Call(Offset(0)); at 0"
+        ]
+    );
+    Ok(())
+}
+
+#[test]
+fn slices_are_places_in_the_joined_input(rt: HostRuntime) -> Result<(), Fail> {
+    let script: [ByteStep; 4] = [
+        SearchStep::Call(Next),
+        SearchStep::Call(Take(2)),
+        SearchStep::Compare(b"cd"),
+        SearchStep::Call(Each),
+    ];
+    assert_eq!(rt;
+        told_of(rt.alloc(), &script, &[b"ab", b"c", b"de"])?.as_str(),
+        "1 Call(Token(Some(97))); 2 Call(Slice(1..3)); 3 Compared(Error); 0 Call(Items(3..5)); at 3"
     );
     Ok(())
 }
@@ -31,86 +72,56 @@ fn searched(
     Ok(answers)
 }
 
+// The needles, the two pieces, and what is told.
+const HITS: &[(Needles<&[u8]>, [&[u8]; 2], &str)] = &[
+    (
+        Needles::Two(b"abc", b"b"),
+        [b"ab", b"c"],
+        "2 Hit(Some(0..3)); at 0",
+    ),
+    (
+        Needles::Two(b"", b"abc"),
+        [b"x", b"abc"],
+        "1 Hit(Some(0..0)); at 0",
+    ),
+    (
+        Needles::Two(b"abc", b"b"),
+        [b"ab", b"x"],
+        "2 Hit(Some(1..2)); at 0",
+    ),
+    (
+        Needles::Two(b"b", b"abc"),
+        [b"ab", b"c"],
+        "2 Hit(Some(0..3)); at 0",
+    ),
+    (
+        Needles::Two(b"b", b"bc"),
+        [b"ab", b"c"],
+        "1 Hit(Some(1..2)); at 0",
+    ),
+    (
+        Needles::Two(b"bc", b"b"),
+        [b"ab", b"c"],
+        "2 Hit(Some(1..3)); at 0",
+    ),
+    (
+        Needles::Two(b"bc", b"b"),
+        [b"ab", b"d"],
+        "2 Hit(Some(1..2)); at 0",
+    ),
+    (
+        Needles::Two(b"bc", b"b"),
+        [b"a", b"b"],
+        "0 Hit(Some(1..2)); at 0",
+    ),
+];
+
 #[test]
 fn a_hit_waits_while_a_needle_could_move_it(rt: HostRuntime) -> Result<(), Fail> {
-    let table: [(Needles<&[u8]>, [&[u8]; 2], &str); 8] = [
-        (
-            Needles::Two(b"abc", b"b"),
-            [b"ab", b"c"],
-            "2 Hit(Some(0..3)); at 0",
-        ),
-        (
-            Needles::Two(b"", b"abc"),
-            [b"x", b"abc"],
-            "1 Hit(Some(0..0)); at 0",
-        ),
-        (
-            Needles::Two(b"abc", b"b"),
-            [b"ab", b"x"],
-            "2 Hit(Some(1..2)); at 0",
-        ),
-        (
-            Needles::Two(b"b", b"abc"),
-            [b"ab", b"c"],
-            "2 Hit(Some(0..3)); at 0",
-        ),
-        (
-            Needles::Two(b"b", b"bc"),
-            [b"ab", b"c"],
-            "1 Hit(Some(1..2)); at 0",
-        ),
-        (
-            Needles::Two(b"bc", b"b"),
-            [b"ab", b"c"],
-            "2 Hit(Some(1..3)); at 0",
-        ),
-        (
-            Needles::Two(b"bc", b"b"),
-            [b"ab", b"d"],
-            "2 Hit(Some(1..2)); at 0",
-        ),
-        (
-            Needles::Two(b"bc", b"b"),
-            [b"a", b"b"],
-            "0 Hit(Some(1..2)); at 0",
-        ),
-    ];
-    for (needles, pieces, want) in table {
-        let answers = searched(rt.alloc(), needles, &pieces)?;
-        assert_eq!(rt; answers.as_str(), want, "{needles:?}");
+    for (needles, pieces, want) in HITS {
+        let answers = searched(rt.alloc(), *needles, pieces)?;
+        assert_eq!(rt; answers.as_str(), *want, "{needles:?}");
     }
-    Ok(())
-}
-
-#[test]
-fn what_runs_to_the_end_waits_for_it(rt: HostRuntime) -> Result<(), Fail> {
-    let script: [ByteStep; 2] = [SearchStep::Call(Finish), SearchStep::Call(Eof)];
-    let finished = run_pieces(rt.alloc(), &script, &[b"ab", b"c"])?;
-    assert_eq!(rt;
-        told(rt.alloc(), &finished)?.as_str(),
-        "0 Call(Slice(0..3)); 0 Call(Offset(0)); at 3"
-    );
-    let none = run_pieces(rt.alloc(), &script, &[])?;
-    assert_eq!(rt;
-        told(rt.alloc(), &none)?.as_str(),
-        "0 Call(Slice(0..0)); 0 Call(Offset(0)); at 0"
-    );
-    Ok(())
-}
-
-#[test]
-fn slices_are_places_in_the_joined_input(rt: HostRuntime) -> Result<(), Fail> {
-    let script: [ByteStep; 4] = [
-        SearchStep::Call(Next),
-        SearchStep::Call(Take(2)),
-        SearchStep::Compare(b"cd"),
-        SearchStep::Call(Each),
-    ];
-    let finished = run_pieces(rt.alloc(), &script, &[b"ab", b"c", b"de"])?;
-    assert_eq!(rt;
-        told(rt.alloc(), &finished)?.as_str(),
-        "1 Call(Token(Some(97))); 2 Call(Slice(1..3)); 3 Compared(Error); 0 Call(Items(3..5)); at 3"
-    );
     Ok(())
 }
 

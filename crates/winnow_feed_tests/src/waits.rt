@@ -1,4 +1,4 @@
-use crate::feeding::{ByteStep, TextStep, feed_bytes, feed_text};
+use crate::feeding::{ByteStep, TextStep, counts, feed_bytes, feed_text, text_counts};
 use std::alloc::{AllocError, Global};
 use std::test::Fail;
 use winnow_base::stream::Step::{
@@ -76,74 +76,108 @@ fn text_waits(alloc: Global, script: &[TextStep], pieces: &[&str]) -> Result<Str
     all_text_waits(alloc, &mut feed, pieces)
 }
 
-// The first range is reversed, and the second holds no byte.
-const RANGES: [(char, char); 3] = [('z', 'a'), ('\u{100}', '\u{12c}'), ('q', 'x')];
+// One step, a piece, and what is missing then.
+const MISSING: &[(ByteStep, &[u8], &str)] = &[
+    (SearchStep::Call(Next), b"", "a"),
+    (SearchStep::Call(Peek), b"", "a"),
+    (SearchStep::Call(Finish), b"ab", "a"),
+    (SearchStep::Call(PeekFinish), b"ab", "a"),
+    (SearchStep::Call(Eof), b"ab", "a"),
+    (SearchStep::Call(Each), b"ab", "a"),
+    (SearchStep::Call(At(9)), b"ab", "a"),
+    (SearchStep::Call(Take(5)), b"ab", "aaa"),
+    (SearchStep::Call(Look(3)), b"ab", "a"),
+    (SearchStep::Call(IsOffset(4)), b"", "aaaa"),
+    (SearchStep::Compare(b"abcd"), b"ab", "cd"),
+    (SearchStep::Find(Needles::Two(b"abc", b"b")), b"xa", "abc"),
+    (SearchStep::Find(Needles::Two(b"abc", b"b")), b"xab", "c"),
+];
 
 #[test]
 fn a_byte_step_is_missing_what_changes_its_answer(rt: HostRuntime) -> Result<(), Fail> {
-    let two: Needles<&[u8]> = Needles::Two(b"abc", b"b");
-    let table: [(ByteStep, &[u8], &str); 14] = [
-        (SearchStep::Call(Next), b"", "a"),
-        (SearchStep::Call(Peek), b"", "a"),
-        (SearchStep::Call(Finish), b"ab", "a"),
-        (SearchStep::Call(PeekFinish), b"ab", "a"),
-        (SearchStep::Call(Eof), b"ab", "a"),
-        (SearchStep::Call(Each), b"ab", "a"),
-        (SearchStep::Call(At(9)), b"ab", "a"),
-        (SearchStep::Call(Take(5)), b"ab", "aaa"),
-        (SearchStep::Call(Look(3)), b"ab", "a"),
-        (SearchStep::Call(IsOffset(4)), b"", "aaaa"),
-        (SearchStep::Call(First(CharSet::new(&RANGES))), b"ab", "q"),
-        (SearchStep::Compare(b"abcd"), b"ab", "cd"),
-        (SearchStep::Find(two), b"xa", "abc"),
-        (SearchStep::Find(two), b"xab", "c"),
-    ];
-    for (step, piece, want) in table {
-        let line = waits(rt.alloc(), &[step], &[piece])?;
+    for (step, piece, want) in MISSING {
+        let line = waits(rt.alloc(), &[*step], &[piece])?;
         let want = format!(in rt.alloc(); "(not fed) {want}")?;
         assert_eq!(rt; line, want, "{step:?}");
     }
     Ok(())
 }
+
+const TEXT_MISSING: &[(TextStep, &str, &str)] = &[
+    (SearchStep::Call(Next), "", "a"),
+    (SearchStep::Call(Peek), "", "a"),
+    (SearchStep::Call(Finish), "é", "a"),
+    (SearchStep::Call(PeekFinish), "é", "a"),
+    (SearchStep::Call(Eof), "é", "a"),
+    (SearchStep::Call(Each), "é", "a"),
+    (SearchStep::Call(At(3)), "é", "aa"),
+    (SearchStep::Call(Take(5)), "é", "aaa"),
+    (SearchStep::Call(Look(3)), "é", "a"),
+    (SearchStep::Call(IsOffset(4)), "", "aaaa"),
+    (SearchStep::Compare("aéß"), "aé", "ß"),
+    (SearchStep::Find(Needles::Two("aéß", "é")), "xa", "aéß"),
+    (SearchStep::Find(Needles::Two("aéß", "é")), "xaé", "ß"),
+];
 
 #[test]
 fn a_text_step_is_missing_what_changes_its_answer(rt: HostRuntime) -> Result<(), Fail> {
-    let two: Needles<&str> = Needles::Two("aéß", "é");
-    let table: [(TextStep, &str, &str); 14] = [
-        (SearchStep::Call(Next), "", "a"),
-        (SearchStep::Call(Peek), "", "a"),
-        (SearchStep::Call(Finish), "é", "a"),
-        (SearchStep::Call(PeekFinish), "é", "a"),
-        (SearchStep::Call(Eof), "é", "a"),
-        (SearchStep::Call(Each), "é", "a"),
-        (SearchStep::Call(At(3)), "é", "aa"),
-        (SearchStep::Call(Take(5)), "é", "aaa"),
-        (SearchStep::Call(Look(3)), "é", "a"),
-        (SearchStep::Call(IsOffset(4)), "", "aaaa"),
-        (SearchStep::Call(First(CharSet::new(&RANGES))), "é", "Ā"),
-        (SearchStep::Compare("aéß"), "aé", "ß"),
-        (SearchStep::Find(two), "xa", "aéß"),
-        (SearchStep::Find(two), "xaé", "ß"),
-    ];
-    for (step, piece, want) in table {
-        let line = text_waits(rt.alloc(), &[step], &[piece])?;
+    for (step, piece, want) in TEXT_MISSING {
+        let line = text_waits(rt.alloc(), &[*step], &[piece])?;
         let want = format!(in rt.alloc(); "(not fed) {want}")?;
         assert_eq!(rt; line, want, "{step:?}");
     }
     Ok(())
 }
 
+// Of the ranges, the first is reversed, and the second holds no byte. Where a set holds no token at all, the step waits to the end.
+const SETS: &[(&[(char, char)], &[u8], &str)] = &[
+    (
+        &[('z', 'a'), ('\u{100}', '\u{12c}'), ('q', 'x')],
+        b"ab",
+        "(not fed) q",
+    ),
+    (&[('\u{100}', '\u{12c}')], b"a", "(not fed) (the end)"),
+];
+
+const TEXT_SETS: &[(&[(char, char)], &str, &str)] = &[
+    (
+        &[('z', 'a'), ('\u{100}', '\u{12c}'), ('q', 'x')],
+        "é",
+        "(not fed) Ā",
+    ),
+    (&[('z', 'a')], "a", "(not fed) (the end)"),
+];
+
+#[test]
+fn a_search_for_a_set_waits_for_a_token_of_it(rt: HostRuntime) -> Result<(), Fail> {
+    for (ranges, piece, want) in SETS {
+        let step: ByteStep = SearchStep::Call(First(CharSet::new(ranges)));
+        let line = waits(rt.alloc(), &[step], &[piece])?;
+        assert_eq!(rt; line.as_str(), *want, "{ranges:?}");
+    }
+    for (ranges, piece, want) in TEXT_SETS {
+        let step: TextStep = SearchStep::Call(First(CharSet::new(ranges)));
+        let line = text_waits(rt.alloc(), &[step], &[piece])?;
+        assert_eq!(rt; line.as_str(), *want, "{ranges:?}");
+    }
+    Ok(())
+}
+
+const IN_TURN: &[ByteStep<'static>] = &[
+    SearchStep::Find(Needles::Two(b"abc", b"b")),
+    SearchStep::Call(At(9)),
+];
+
+const TEXT_IN_TURN: &[TextStep<'static>] = &[SearchStep::Call(At(3))];
+
 #[test]
 fn each_step_waits_in_turn(rt: HostRuntime) -> Result<(), Fail> {
-    let script: [ByteStep; 2] = [
-        SearchStep::Find(Needles::Two(b"abc", b"b")),
-        SearchStep::Call(At(9)),
-    ];
-    let line = waits(rt.alloc(), &script, &[b"ab", b"x", b"", b"abcdef"])?;
-    assert_eq!(rt; line.as_str(), "(not fed) c a a (nothing)");
-    let script: [TextStep; 1] = [SearchStep::Call(At(3))];
-    let line = text_waits(rt.alloc(), &script, &["é", "aa"])?;
-    assert_eq!(rt; line.as_str(), "(not fed) aa (nothing)");
+    let line = waits(rt.alloc(), IN_TURN, &[b"ab", b"x", b"", b"abcdef"])?;
+    let text_line = text_waits(rt.alloc(), TEXT_IN_TURN, &["é", "aa"])?;
+    assert_eq!(rt;
+        (line.as_str(), text_line.as_str()),
+        ("(not fed) c a a (nothing)", "(not fed) aa (nothing)")
+    );
     Ok(())
 }
 
@@ -156,67 +190,57 @@ fn what_is_waited_for_is_compared_by_its_parts(rt: HostRuntime) -> Result<(), Fa
     Ok(())
 }
 
-#[test]
-fn a_set_that_holds_no_token_waits_to_the_end(rt: HostRuntime) -> Result<(), Fail> {
-    let script: [ByteStep; 1] = [SearchStep::Call(First(CharSet::new(&[('\u{100}', '\u{12c}')])))];
-    let line = waits(rt.alloc(), &script, &[b"a"])?;
-    assert_eq!(rt; line.as_str(), "(not fed) (the end)");
-    let script: [TextStep; 1] = [SearchStep::Call(First(CharSet::new(&[('z', 'a')])))];
-    let line = text_waits(rt.alloc(), &script, &["a"])?;
-    assert_eq!(rt; line.as_str(), "(not fed) (the end)");
-    Ok(())
+fn is_refused(alloc: Global, feed: &ByteFeed) -> bool {
+    match waits_for(alloc, feed) {
+        Ok(_) => false,
+        Err(AllocError) => true,
+    }
 }
 
-fn is_refused(feed: &ByteFeed) -> bool {
-    feed.waits_for().is_err()
+fn is_text_refused(alloc: Global, feed: &TextFeed) -> bool {
+    match text_waits_for(alloc, feed) {
+        Ok(_) => false,
+        Err(AllocError) => true,
+    }
 }
 
-fn is_text_refused(feed: &TextFeed) -> bool {
-    feed.waits_for().is_err()
-}
-
-// After two bytes: whether memory for what is missing is refused, how much was fed and is kept, how many steps were attempted, and
-// how many answers are out.
+// After two bytes: whether memory for what is missing is refused, and how much was fed, is kept, was attempted and is out.
 fn after_two_bytes(
     alloc: Global,
     script: &[ByteStep],
-) -> Result<(bool, usize, usize, u64, usize), AllocError> {
+) -> Result<(bool, (usize, usize, u64, usize)), AllocError> {
     let mut feed = ByteFeed::new(alloc, script)?;
     feed_bytes(&mut feed, b"ab")?;
-    let refused = is_refused(&feed);
-    Ok((
-        refused,
-        feed.fed(),
-        feed.held(),
-        feed.tried(),
-        feed.answers().len(),
-    ))
+    Ok((is_refused(alloc, &feed), counts(&feed)))
 }
 
 fn after_two_characters(
     alloc: Global,
     script: &[TextStep],
-) -> Result<(bool, usize, usize, u64, usize), AllocError> {
+) -> Result<(bool, (usize, usize, u64, usize)), AllocError> {
     let mut feed = TextFeed::new(alloc, script)?;
     feed_text(&mut feed, "ab")?;
-    let refused = is_text_refused(&feed);
-    Ok((
-        refused,
-        feed.fed(),
-        feed.held(),
-        feed.tried(),
-        feed.answers().len(),
-    ))
+    Ok((is_text_refused(alloc, &feed), text_counts(&feed)))
 }
+
+const TOO_LONG: &[ByteStep<'static>] = &[
+    SearchStep::Call(Next),
+    SearchStep::Call(Take(usize::MAX)),
+];
+
+const TEXT_TOO_LONG: &[TextStep<'static>] = &[
+    SearchStep::Call(Next),
+    SearchStep::Call(Take(usize::MAX)),
+];
 
 #[test]
 fn what_is_too_long_is_refused(rt: HostRuntime) -> Result<(), Fail> {
-    let script: [ByteStep; 2] = [SearchStep::Call(Next), SearchStep::Call(Take(usize::MAX))];
-    assert_eq!(rt; after_two_bytes(rt.alloc(), &script)?, (true, 2, 1, 2, 1));
-    let script: [TextStep; 2] = [SearchStep::Call(Next), SearchStep::Call(Take(usize::MAX))];
     assert_eq!(rt;
-        after_two_characters(rt.alloc(), &script)?,
-        (true, 2, 1, 2, 1)
+        [
+            after_two_bytes(rt.alloc(), TOO_LONG)?,
+            after_two_characters(rt.alloc(), TEXT_TOO_LONG)?
+        ],
+        [(true, (2, 1, 2, 1)); 2]
     );
     Ok(())
 }
