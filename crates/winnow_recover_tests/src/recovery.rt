@@ -4,6 +4,7 @@ ghost use Rattle.winnow_recover.specs.declared.recoverable.Recoverable.{Recovera
 ghost use Rattle.winnow_recover.specs.Recovering.{recoverable_inner, recorded_errors};
 ghost use Rattle.winnow_recover.specs.Recovering.{records_errors, IsSame, Records};
 ghost use Rattle.winnow_stream.specs.declared.checkpoint.Checkpoint.{Checkpoint};
+ghost use Rattle.winnow_views.specs.BitStream.{IsValidBits};
 
 use std::alloc::{AllocError, Global};
 use std::fmt::{Debug, Display};
@@ -151,9 +152,9 @@ fn reset_leaves_what_was_recorded(rt: HostRuntime) -> Result<(), Fail> {
 
 // How many errors stand in the list once so many were recorded; `None` where one was not.
 fn recorded_times(alloc: Global, times: usize) -> Option<usize> {
-    let mut s: Recoverable<&str, Mode> = Recoverable::new(alloc, "ab");
+    let mut s: Recoverable<&str, EmptyError> = Recoverable::new(alloc, "ab");
     for _ in 0..times {
-        let recorded: Result<(), RecordError<Mode>> = recover_here(&mut s, Cut(EmptyError));
+        let recorded: Result<(), RecordError<EmptyError>> = recover_here(&mut s, EmptyError);
         recorded.ok()?;
     }
     Some(s.into_parts().1.len())
@@ -254,22 +255,38 @@ where
     (refused, is_refused, s.input)
 }
 
+// The same round streams that record, how many errors the last one then holds, and whether bits of one refuse an error.
+fn recorders_refuse<I, E, R>(
+    alloc: Global,
+    bytes: I,
+    err: E,
+    by_state: E,
+) -> ([bool; 3], bool, usize, bool)
+where
+    I: StreamIsPartial + Stream<Token = u8> + Copy,
+    E: ParserError<Recoverable<I, R>> + Copy + PartialEq,
+    R: FromRecoverableError<Recoverable<I, R>, E> + Debug + Drop,
+    requires valid { I.valid bytes }
+    requires bits { IsValidBits I.valid I.remaining (record { input = bytes; place = 0 }) }
+    requires no_flag { I.supports_partial ≡ false }
+{
+    let inside: Recoverable<I, R> = Recoverable::new(alloc, bytes);
+    let alone: Recoverable<I, R> = Recoverable::new(alloc, bytes);
+    let (refused, is_refused, alone) = wrappers_refuse(inside, err, alone, by_state);
+    let (_, errors) = alone.into_parts();
+    let recorder: Recoverable<I, R> = Recoverable::new(alloc, bytes);
+    let is_refused_by_bits = refuses(&mut Bits::new(recorder), err);
+    (refused, is_refused, errors.len(), is_refused_by_bits)
+}
+
 #[test]
 fn wrappers_refuse_also_round_one_that_records(rt: HostRuntime) {
     bit_source_law();
-    let alloc = rt.alloc();
-    let (text, alone) = (Recoverable::new(alloc, "ab"), Recoverable::new(alloc, "ab"));
-    let bytes: Recoverable<&[u8], Mode> = Recoverable::new(alloc, b"ab");
     let (mode, by_state): (Mode, Mode) = (Backtrack(EmptyError), Cut(EmptyError));
-    let (refused, is_refused, alone) = wrappers_refuse(text, mode, alone, by_state);
-    let (_, errors): (&str, Vec<Mode>) = alone.into_parts();
+    let bytes: &[u8] = b"ab";
     assert_eq!(rt;
-        (
-            refused,
-            (is_refused, errors.len()),
-            refuses(&mut Bits::new(bytes), mode)
-        ),
-        ([true; 3], (true, 0), true),
+        recorders_refuse::<&[u8], Mode, Mode>(rt.alloc(), bytes, mode, by_state),
+        ([true; 3], true, 0, true),
         "a state, a place, a flag; a state; bits"
     );
 }
@@ -316,16 +333,28 @@ fn window_inside<I: UpdateSlice + Drop>(
     Some((window.peek_finish(), window.finish(), taken))
 }
 
+// What a comparison, a search and the calls of the flag answer.
+fn searched_inside<I>(alloc: Global, input: I) -> (CompareResult, Option<Range<usize>>, [bool; 4])
+where
+    I: Compare<&'static str> + FindSlice<char> + StreamIsPartial + Drop,
+    requires { I.valid input }
+{
+    let mut s: Recoverable<I, Mode> = Recoverable::new(alloc, input);
+    let (compared, found) = searched(&s);
+    (compared, found, flags(&mut s))
+}
+
 #[test]
 fn every_call_is_passed_on(rt: HostRuntime) -> Result<(), Fail> {
     let alloc = rt.alloc();
-    let mut s: Recoverable<&str, Mode> = Recoverable::new(alloc, "abcd");
     assert_eq!(rt;
-        (searched(&s), window_inside(alloc, "abcd", 2), flags(&mut s)),
         (
-            (CompareResult::Error, Some(2..3)),
-            Some(("ab", "ab", 2)),
-            [false; 4]
+            searched_inside(alloc, "abcd"),
+            window_inside(alloc, "abcd", 2)
+        ),
+        (
+            (CompareResult::Error, Some(2..3), [false; 4]),
+            Some(("ab", "ab", 2))
         )
     );
     assert_eq!(rt;
