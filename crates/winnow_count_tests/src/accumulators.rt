@@ -1,8 +1,12 @@
 use std::alloc::{AllocError, Global};
 use std::borrow::CowStr;
 use std::collections::{BTreeMap, BTreeSet, HashMap, HashSet, VecDeque};
+use std::fmt::Debug;
+use std::process::Abort;
 use std::test::Fail;
 use winnow_count::{Accumulate, accumulate_all};
+
+type Cow = CowStr<'static, Global>;
 
 // An accumulator of the type, asked through its bound.
 fn gathered<A: Accumulate<T> + Drop, T: Drop, const N: usize>(
@@ -12,149 +16,218 @@ fn gathered<A: Accumulate<T> + Drop, T: Drop, const N: usize>(
     accumulate_all(alloc, Vec::from_array(alloc, items)?)
 }
 
+// The debug text of one.
+fn gathered_text<A: Accumulate<T> + Debug + Drop, T: Drop, const N: usize>(
+    alloc: Global,
+    items: [T; N],
+) -> Result<String, AllocError> {
+    let gathered: A = gathered(alloc, items)?;
+    format!(in alloc; "{gathered:?}")
+}
+
+// Asserts that text.
+fn gathers<A: Accumulate<T> + Debug + Drop, T: Drop, const N: usize>(
+    rt: &impl Abort,
+    alloc: Global,
+    items: [T; N],
+    wanted: &str,
+) -> Result<(), AllocError> {
+    let text = gathered_text::<A, T, N>(alloc, items)?;
+    assert_eq!(rt; text.as_str(), wanted);
+    Ok(())
+}
+
 fn owned(alloc: Global, text: &str) -> Result<String, AllocError> {
     String::from_str(alloc, text)
 }
 
+// Two texts that are owned.
+fn two_owned(alloc: Global) -> Result<[String; 2], AllocError> {
+    Ok([owned(alloc, "ab")?, owned(alloc, "c")?])
+}
+
+// A text that is borrowed, and one that is owned.
+fn two_cows(alloc: Global) -> Result<[Cow; 2], AllocError> {
+    Ok([CowStr::Borrowed("ab"), CowStr::Owned(owned(alloc, "c")?)])
+}
+
+const PIECES: [&[u8]; 3] = [&[1, 2], &[], &[3]];
+
 #[test]
-fn counts_and_queues(rt: HostRuntime) -> Result<(), Fail> {
+fn counts_and_vectors(rt: HostRuntime) -> Result<(), Fail> {
     let alloc = rt.alloc();
-    gathered::<(), u8, 2>(alloc, [1, 2])?;
-    let count: usize = gathered(alloc, ["a", "b", "c"])?;
-    assert_eq!(rt; count, 3, "a count of three items");
-    let listed: Vec<u8> = gathered(alloc, [1, 2, 3])?;
-    assert_eq!(rt;
-        listed.as_slice(),
-        [1, 2, 3].as_slice(),
-        "a vector of items"
-    );
-    let pieces: [&[u8]; 3] = [&[1, 2], &[], &[3]];
-    let joined: Vec<u8> = gathered(alloc, pieces)?;
-    assert_eq!(rt;
-        joined.as_slice(),
-        [1, 2, 3].as_slice(),
-        "a vector of slices"
-    );
-    let queue: VecDeque<u8> = gathered(alloc, pieces)?;
-    assert!(rt; queue.iter().eq([1, 2, 3].iter()), "a queue of slices");
+    gathers::<(), u8, 2>(&rt, alloc, [1, 2], "()")?;
+    gathers::<usize, &str, 3>(&rt, alloc, ["a", "b", "c"], "3")?;
+    gathers::<Vec<u8>, u8, 3>(&rt, alloc, [1, 2, 3], "[1, 2, 3]")?;
+    Ok(())
+}
+
+#[test]
+fn slices_are_joined(rt: HostRuntime) -> Result<(), Fail> {
+    gathers::<Vec<u8>, &[u8], 3>(&rt, rt.alloc(), PIECES, "[1, 2, 3]")?;
+    gathers::<VecDeque<u8>, &[u8], 3>(&rt, rt.alloc(), PIECES, "[1, 2, 3]")?;
     Ok(())
 }
 
 #[test]
 fn texts(rt: HostRuntime) -> Result<(), Fail> {
     let alloc = rt.alloc();
-    let characters: String = gathered(alloc, ['a', 'é', '𝄞'])?;
-    assert_eq!(rt; characters.as_str(), "aé𝄞", "a text of characters");
-    let texts: String = gathered(alloc, ["", "ab", "c"])?;
-    assert_eq!(rt; texts.as_str(), "abc", "a text of texts");
-    let cows: String = gathered(
-        alloc,
-        [CowStr::Borrowed("ab"), CowStr::Owned(owned(alloc, "c")?)],
-    )?;
-    assert_eq!(rt; cows.as_str(), "abc", "a text of cows");
-    let strings: String = gathered(alloc, [owned(alloc, "ab")?, owned(alloc, "c")?])?;
-    assert_eq!(rt; strings.as_str(), "abc", "a text of owned texts");
+    gathers::<String, char, 3>(&rt, alloc, ['a', 'é', '𝄞'], "\"aé𝄞\"")?;
+    gathers::<String, &str, 3>(&rt, alloc, ["", "ab", "c"], "\"abc\"")?;
+    gathers::<String, Cow, 2>(&rt, alloc, two_cows(alloc)?, "\"abc\"")?;
+    gathers::<String, String, 2>(&rt, alloc, two_owned(alloc)?, "\"abc\"")?;
     Ok(())
 }
 
 #[test]
 fn cows(rt: HostRuntime) -> Result<(), Fail> {
-    let alloc = rt.alloc();
-    let mut cow: CowStr<'_, Global> = gathered(alloc, [""])?;
-    assert!(rt;
-        matches!(&cow, CowStr::Borrowed("")),
-        "a first text that is empty"
-    );
-    cow.accumulate(alloc, "ab")?;
-    assert!(rt;
-        matches!(&cow, CowStr::Borrowed("ab")),
-        "the first text that is not empty is borrowed"
-    );
-    cow.accumulate(alloc, 'c')?;
-    assert!(rt;
-        matches!(&cow, CowStr::Owned(_)),
-        "an owned text with the character"
-    );
-    assert_eq!(rt; cow.as_str(), "abc");
-    let owned_first: CowStr<'_, Global> = gathered(
-        alloc,
-        [owned(alloc, "ab")?, owned(alloc, "c")?],
-    )?;
-    assert_eq!(rt; owned_first.as_str(), "abc", "a cow of owned texts");
-    let cows: CowStr<'_, Global> = gathered(
-        alloc,
-        [CowStr::Borrowed("ab"), CowStr::Borrowed("c")],
-    )?;
-    assert_eq!(rt; cows.as_str(), "abc", "a cow of cows");
-    let characters: CowStr<'_, Global> = gathered(alloc, ['a', 'b'])?;
-    assert_eq!(rt; characters.as_str(), "ab", "a cow of characters");
+    let (alloc, two) = (rt.alloc(), [CowStr::Borrowed("ab"), CowStr::Borrowed("c")]);
+    gathers::<Cow, String, 2>(&rt, alloc, two_owned(alloc)?, "\"abc\"")?;
+    gathers::<Cow, Cow, 2>(&rt, alloc, two, "\"abc\"")?;
+    gathers::<Cow, char, 2>(&rt, alloc, ['a', 'b'], "\"ab\"")?;
     Ok(())
+}
+
+// Whether a cow is borrowed, and its text.
+fn state<'s>(cow: &'s CowStr<'_, Global>) -> (bool, &'s str) {
+    (matches!(cow, CowStr::Borrowed(_)), cow.as_str())
+}
+
+#[test]
+fn a_cow_borrows_its_first_text_that_is_not_empty(rt: HostRuntime) -> Result<(), Fail> {
+    let alloc = rt.alloc();
+    let mut cow: Cow = gathered(alloc, [""])?;
+    assert_eq!(rt; state(&cow), (true, ""));
+    cow.accumulate(alloc, "ab")?;
+    assert_eq!(rt; state(&cow), (true, "ab"));
+    cow.accumulate(alloc, 'c')?;
+    assert_eq!(rt; state(&cow), (false, "abc"));
+    Ok(())
+}
+
+const PAIRS: [(u8, char); 3] = [(1, 'a'), (2, 'b'), (1, 'c')];
+
+// The length of a hash map of the pairs, and what is at two keys.
+fn hashed(alloc: Global) -> Result<(usize, Option<char>, Option<char>), AllocError> {
+    let hashed: HashMap<u8, char> = gathered(alloc, PAIRS)?;
+    Ok((
+        hashed.len(),
+        hashed.get(&1).copied(),
+        hashed.get(&2).copied(),
+    ))
+}
+
+// The length of a hash set, and whether it has two items.
+fn hashed_set(alloc: Global) -> Result<(usize, bool, bool), AllocError> {
+    let set: HashSet<u8> = gathered(alloc, [3, 1, 3])?;
+    Ok((set.len(), set.contains(&1), set.contains(&3)))
 }
 
 #[test]
 fn maps_and_sets(rt: HostRuntime) -> Result<(), Fail> {
     let alloc = rt.alloc();
-    let pairs = [(1, 'a'), (2, 'b'), (1, 'c')];
-    let tree: BTreeMap<u8, char> = gathered(alloc, pairs)?;
+    gathers::<BTreeMap<u8, char>, (u8, char), 3>(&rt, alloc, PAIRS, "{1: 'c', 2: 'b'}")?;
+    gathers::<BTreeSet<u8>, u8, 3>(&rt, alloc, [3, 1, 3], "{1, 3}")?;
     assert_eq!(rt;
-        (tree.len(), tree.get(&1), tree.get(&2)),
-        (2, Some(&'c'), Some(&'b')),
-        "a tree map"
-    );
-    let hashed: HashMap<u8, char> = gathered(alloc, pairs)?;
-    assert_eq!(rt;
-        (hashed.len(), hashed.get(&1), hashed.get(&2)),
-        (2, Some(&'c'), Some(&'b')),
-        "a hash map"
-    );
-    let ordered: BTreeSet<u8> = gathered(alloc, [3, 1, 3])?;
-    assert!(rt; ordered.iter().eq([1, 3].iter()), "a tree set");
-    let set: HashSet<u8> = gathered(alloc, [3, 1, 3])?;
-    assert_eq!(rt;
-        (set.len(), set.contains(&1), set.contains(&3)),
-        (2, true, true),
-        "a hash set"
+        (hashed(alloc)?, hashed_set(alloc)?),
+        ((2, Some('c'), Some('b')), (2, true, true))
     );
     Ok(())
 }
 
-// Memory is there: none of these numbers of items is refused.
-const COUNTS: [usize; 3] = [0, 3, 20_000];
-
-// An accumulator that is given the same item so many times.
-fn gathered_often<A, T>(alloc: Global, item: T, count: usize) -> Result<A, AllocError>
-where
-    A: Accumulate<T> + Drop,
-    T: Copy + Drop,
-{
-    accumulate_all(alloc, vec![in alloc; item; count]?)
+// How much an accumulator holds.
+trait Length {
+    fn length(&self) -> usize;
 }
 
-#[test]
-fn as_many_items_as_are_given(rt: HostRuntime) -> Result<(), Fail> {
-    let alloc = rt.alloc();
-    for count in COUNTS {
-        let number: usize = gathered_often(alloc, 'a', count)?;
-        let listed: Vec<u8> = gathered_often(alloc, 7, count)?;
-        let joined: Vec<u8> = gathered_often(alloc, [7].as_slice(), count)?;
-        let queue: VecDeque<u8> = gathered_often(alloc, [7].as_slice(), count)?;
-        let characters: String = gathered_often(alloc, 'a', count)?;
-        let texts: String = gathered_often(alloc, "a", count)?;
-        let cow: CowStr<'_, Global> = gathered_often(alloc, "a", count)?;
-        let cow_of_characters: CowStr<'_, Global> = gathered_often(alloc, 'a', count)?;
-        let counts = [
-            number,
-            listed.len(),
-            joined.len(),
-            queue.len(),
-            characters.len(),
-            texts.len(),
-            cow.as_str().len(),
-            cow_of_characters.as_str().len(),
-        ];
-        assert_eq!(rt; counts, [count; 8]);
+impl Length for usize {
+    fn length(&self) -> usize {
+        *self
     }
-    Ok(())
+}
+
+impl<T> Length for Vec<T> {
+    fn length(&self) -> usize {
+        self.len()
+    }
+}
+
+impl<T> Length for VecDeque<T> {
+    fn length(&self) -> usize {
+        self.len()
+    }
+}
+
+impl Length for String {
+    fn length(&self) -> usize {
+        self.len()
+    }
+}
+
+impl Length for CowStr<'_, Global> {
+    fn length(&self) -> usize {
+        self.as_str().len()
+    }
+}
+
+impl Length for BTreeMap<usize, u8> {
+    fn length(&self) -> usize {
+        self.len()
+    }
+}
+
+impl Length for HashMap<usize, u8> {
+    fn length(&self) -> usize {
+        self.len()
+    }
+}
+
+impl Length for BTreeSet<usize> {
+    fn length(&self) -> usize {
+        self.len()
+    }
+}
+
+impl Length for HashSet<usize> {
+    fn length(&self) -> usize {
+        self.len()
+    }
+}
+
+// How much an accumulator of the items holds.
+fn held<A: Accumulate<T> + Length + Drop, T: Drop>(
+    alloc: Global,
+    items: Vec<T>,
+) -> Result<usize, AllocError> {
+    let gathered: A = accumulate_all(alloc, items)?;
+    Ok(gathered.length())
+}
+
+// How much one holds that is given the same item so many times.
+fn held_of<A: Accumulate<T> + Length + Drop, T: Copy + Drop>(
+    alloc: Global,
+    item: T,
+    count: usize,
+) -> Result<usize, AllocError> {
+    held::<A, T>(alloc, vec![in alloc; item; count]?)
+}
+
+fn lengths_of_lists(alloc: Global, count: usize) -> Result<[usize; 4], AllocError> {
+    Ok([
+        held_of::<usize, char>(alloc, 'a', count)?,
+        held_of::<Vec<u8>, u8>(alloc, 7, count)?,
+        held_of::<Vec<u8>, &[u8]>(alloc, &[7], count)?,
+        held_of::<VecDeque<u8>, &[u8]>(alloc, &[7], count)?,
+    ])
+}
+
+fn lengths_of_texts(alloc: Global, count: usize) -> Result<[usize; 4], AllocError> {
+    Ok([
+        held_of::<String, char>(alloc, 'a', count)?,
+        held_of::<String, &str>(alloc, "a", count)?,
+        held_of::<Cow, &str>(alloc, "a", count)?,
+        held_of::<Cow, char>(alloc, 'a', count)?,
+    ])
 }
 
 fn letters(alloc: Global, count: usize) -> Result<Vec<String>, AllocError> {
@@ -165,10 +238,7 @@ fn letters(alloc: Global, count: usize) -> Result<Vec<String>, AllocError> {
     Ok(texts)
 }
 
-fn cows_of_letters(
-    alloc: Global,
-    count: usize,
-) -> Result<Vec<CowStr<'static, Global>>, AllocError> {
+fn cows_of_letters(alloc: Global, count: usize) -> Result<Vec<Cow>, AllocError> {
     let mut cows = Vec::new(alloc);
     for _ in 0..count {
         cows.push(CowStr::Borrowed("a"))?;
@@ -176,42 +246,45 @@ fn cows_of_letters(
     Ok(cows)
 }
 
-#[test]
-fn as_many_owned_texts_as_are_given(rt: HostRuntime) -> Result<(), Fail> {
-    let alloc = rt.alloc();
-    for count in COUNTS {
-        let strings: String = accumulate_all(alloc, letters(alloc, count)?)?;
-        let cows: String = accumulate_all(alloc, cows_of_letters(alloc, count)?)?;
-        let cow_of_strings: CowStr<'_, Global> = accumulate_all(alloc, letters(alloc, count)?)?;
-        let cow_of_cows: CowStr<'_, Global> = accumulate_all(
-            alloc,
-            cows_of_letters(alloc, count)?,
-        )?;
-        let counts = [
-            strings.len(),
-            cows.len(),
-            cow_of_strings.as_str().len(),
-            cow_of_cows.as_str().len(),
-        ];
-        assert_eq!(rt; counts, [count; 4]);
-    }
-    Ok(())
+fn lengths_of_owned_texts(alloc: Global, count: usize) -> Result<[usize; 4], AllocError> {
+    Ok([
+        held::<String, String>(alloc, letters(alloc, count)?)?,
+        held::<String, Cow>(alloc, cows_of_letters(alloc, count)?)?,
+        held::<Cow, String>(alloc, letters(alloc, count)?)?,
+        held::<Cow, Cow>(alloc, cows_of_letters(alloc, count)?)?,
+    ])
 }
 
+fn keys(alloc: Global, count: usize) -> Result<Vec<usize>, AllocError> {
+    (0..count).collect(alloc)
+}
+
+fn pairs(alloc: Global, count: usize) -> Result<Vec<(usize, u8)>, AllocError> {
+    let mut pairs = Vec::new(alloc);
+    for key in 0..count {
+        pairs.push((key, 7))?;
+    }
+    Ok(pairs)
+}
+
+fn lengths_of_maps_and_sets(alloc: Global, count: usize) -> Result<[usize; 4], AllocError> {
+    Ok([
+        held::<BTreeMap<usize, u8>, (usize, u8)>(alloc, pairs(alloc, count)?)?,
+        held::<HashMap<usize, u8>, (usize, u8)>(alloc, pairs(alloc, count)?)?,
+        held::<BTreeSet<usize>, usize>(alloc, keys(alloc, count)?)?,
+        held::<HashSet<usize>, usize>(alloc, keys(alloc, count)?)?,
+    ])
+}
+
+// Memory is there: none of these numbers of items is refused.
 #[test]
-fn as_many_keys_as_are_given(rt: HostRuntime) -> Result<(), Fail> {
+fn as_many_items_as_are_given(rt: HostRuntime) -> Result<(), Fail> {
     let alloc = rt.alloc();
-    for count in COUNTS {
-        let keys: Vec<usize> = (0..count).collect(alloc)?;
-        let pairs: Vec<(usize, u8)> = keys.iter().map(|key| (*key, 7)).collect(alloc)?;
-        let tree: BTreeMap<usize, u8> = accumulate_all(alloc, pairs.to_vec(alloc)?)?;
-        let hashed: HashMap<usize, u8> = accumulate_all(alloc, pairs)?;
-        let ordered: BTreeSet<usize> = accumulate_all(alloc, keys.to_vec(alloc)?)?;
-        let set: HashSet<usize> = accumulate_all(alloc, keys)?;
-        assert_eq!(rt;
-            [tree.len(), hashed.len(), ordered.len(), set.len()],
-            [count; 4]
-        );
+    for count in [0, 3, 20_000usize] {
+        assert_eq!(rt; lengths_of_lists(alloc, count)?, [count; 4]);
+        assert_eq!(rt; lengths_of_texts(alloc, count)?, [count; 4]);
+        assert_eq!(rt; lengths_of_owned_texts(alloc, count)?, [count; 4]);
+        assert_eq!(rt; lengths_of_maps_and_sets(alloc, count)?, [count; 4]);
     }
     Ok(())
 }

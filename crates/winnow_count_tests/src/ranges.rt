@@ -3,6 +3,7 @@ ghost use Rattle.winnow_count.specs.CountRange.{range_text};
 
 use std::alloc::{AllocError, Global};
 use std::ops::RangeBounds;
+use std::process::Abort;
 use std::test::Fail;
 use winnow_count::Range;
 
@@ -37,6 +38,17 @@ fn contains<R: RangeBounds<usize>>(range: &R, count: usize) -> bool {
     range.contains(&count)
 }
 
+// Asserts the text of a range: printed, under options, and for debugging.
+fn prints(rt: &impl Abort, alloc: Global, range: &Range, want: &str) -> Result<(), AllocError> {
+    let shown = display(alloc, range)?;
+    let (padded, debugged) = (padded(alloc, range)?, debug(alloc, range)?);
+    assert_eq!(rt;
+        [shown.as_str(), padded.as_str(), debugged.as_str()],
+        [want; 3]
+    );
+    Ok(())
+}
+
 #[test]
 fn a_range_prints_its_counts(rt: HostRuntime) -> Result<(), Fail> {
     let table = [
@@ -55,18 +67,7 @@ fn a_range_prints_its_counts(rt: HostRuntime) -> Result<(), Fail> {
         ),
     ];
     for (range, want) in table {
-        let alloc = rt.alloc();
-        assert_eq!(rt; display(alloc, &range)?.as_str(), want, "printed");
-        assert_eq!(rt;
-            padded(alloc, &range)?.as_str(),
-            want,
-            "printed under options"
-        );
-        assert_eq!(rt;
-            debug(alloc, &range)?.as_str(),
-            want,
-            "printed for debugging"
-        );
+        prints(&rt, rt.alloc(), &range, want)?;
     }
     Ok(())
 }
@@ -90,13 +91,14 @@ fn a_range_holds_its_counts(rt: HostRuntime) {
 
 #[test]
 fn ranges_are_compared_by_their_ends(rt: HostRuntime) {
-    assert!(rt;
-        range_of(5..8) == range_of(5..=7),
-        "two ways to write one range"
+    let range = range_of(5..8);
+    assert_eq!(rt;
+        [
+            range == range_of(5..=7),
+            range == range_of(5..),
+            range == range_of(4..8),
+        ],
+        [true, false, false],
+        "two ways to write one range; no greatest count; another least count"
     );
-    assert!(rt;
-        range_of(5..8) != range_of(5..),
-        "a greatest count and none"
-    );
-    assert!(rt; range_of(4..8) != range_of(5..8), "another least count");
 }

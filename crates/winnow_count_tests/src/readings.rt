@@ -65,7 +65,7 @@ fn words_and_characters_are_read(rt: HostRuntime) {
 }
 
 #[test]
-fn each_width_reads_up_to_its_bounds(rt: HostRuntime) {
+fn each_unsigned_width_reads_up_to_its_bounds(rt: HostRuntime) {
     let unsigned = [
         reads_bounds(u8::MIN, u8::MAX, ["0", "255", "-1", "256"]),
         reads_bounds(u16::MIN, u16::MAX, ["0", "65535", "-1", "65536"]),
@@ -92,6 +92,10 @@ fn each_width_reads_up_to_its_bounds(rt: HostRuntime) {
         ),
     ];
     assert_eq!(rt; unsigned, [true; 6], "u8, u16, u32, u64, usize, u128");
+}
+
+#[test]
+fn each_signed_width_reads_up_to_its_bounds(rt: HostRuntime) {
     let signed = [
         reads_bounds(i8::MIN, i8::MAX, ["-128", "127", "-129", "128"]),
         reads_bounds(i16::MIN, i16::MAX, ["-32768", "32767", "-32769", "32768"]),
