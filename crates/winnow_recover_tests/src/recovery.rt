@@ -134,22 +134,6 @@ where
     format!(in alloc; "{token:?} {first:?}, {second:?} {ahead:?}, {input:?} {errors:?}")
 }
 
-#[test]
-fn reset_leaves_what_was_recorded(rt: HostRuntime) -> Result<(), Fail> {
-    let incomplete = Incomplete(Needed::Unknown);
-    let text = recorded_and_reset::<&str, Mode, Mode>(
-        rt.alloc(),
-        "abc",
-        Backtrack(EmptyError),
-        incomplete,
-    )?;
-    assert_eq!(rt;
-        text.as_str(),
-        "Some('a') Ok(()), Err(Refused(Incomplete(Unknown))) Some('a'), \"abc\" [Backtrack(EmptyError)]"
-    );
-    Ok(())
-}
-
 // How many errors stand in the list once so many were recorded; `None` where one was not.
 fn recorded_times(alloc: Global, times: usize) -> Option<usize> {
     let mut s: Recoverable<&str, EmptyError> = Recoverable::new(alloc, "ab");
@@ -185,19 +169,44 @@ where
     format!(in alloc; "{failed:?}, {cut_short:?}, {errors:?} {is_supported}")
 }
 
+// Both of the same input and errors.
+fn recorded_and_refused<I, E, R>(
+    alloc: Global,
+    input: I,
+    first: E,
+    second: E,
+) -> Result<(String, String), AllocError>
+where
+    I: Stream + Copy,
+    I::Token: Drop,
+    E: ParserError<Recoverable<I, R>> + Copy + Debug,
+    R: FromRecoverableError<Recoverable<I, R>, E> + Debug + Drop,
+    requires { I.valid input }
+{
+    let recorded = recorded_and_reset::<I, E, R>(alloc, input, first, second)?;
+    Ok((
+        recorded,
+        refused_all::<I, E, R>(alloc, input, first, second)?,
+    ))
+}
+
 #[test]
-fn unrecoverable_records_nothing(rt: HostRuntime) -> Result<(), Fail> {
-    let bytes: &[u8] = b"ab";
-    let incomplete = Incomplete(Needed::Unknown);
-    let text = refused_all::<&[u8], Mode, Mode>(
+fn reset_leaves_what_was_recorded_and_unrecoverable_records_nothing(
+    rt: HostRuntime,
+) -> Result<(), Fail> {
+    let (again, more): (Mode, Mode) = (Backtrack(EmptyError), Incomplete(Needed::Unknown));
+    let (recorded, refused) = recorded_and_refused::<&str, Mode, Mode>(
         rt.alloc(),
-        bytes,
-        Backtrack(EmptyError),
-        incomplete,
+        "abc",
+        again,
+        more,
     )?;
     assert_eq!(rt;
-        text.as_str(),
-        "Err(Refused(Backtrack(EmptyError))), Err(Refused(Incomplete(Unknown))), [] true"
+        (recorded.as_str(), refused.as_str()),
+        (
+            "Some('a') Ok(()), Err(Refused(Incomplete(Unknown))) Some('a'), \"abc\" [Backtrack(EmptyError)]",
+            "Err(Refused(Backtrack(EmptyError))), Err(Refused(Incomplete(Unknown))), [] true"
+        )
     );
     Ok(())
 }
