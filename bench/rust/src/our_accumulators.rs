@@ -2,39 +2,25 @@
 
 use crate::ours::Room;
 
-// The exports that gather or read take the input and a number.
+// The exports that gather or read take the input, the number of an accumulator or a type, and a number.
 macro_rules! workloads {
-    ($(fn $name:ident($input:ty, $unit:ty) = $export:literal;)*) => {
-        mod exports {
-            unsafe extern "C" {
-                $(#[link_name = $export]
-                pub fn $name(input: *const $unit, length: usize, number: u64) -> u64;)*
-            }
+    ($($export:ident($input:ty, $unit:ty) { $($name:ident = $kind:literal)* })*) => {
+        unsafe extern "C" {
+            $(fn $export(input: *const $unit, length: usize, kind: u64, number: u64) -> u64;)*
         }
 
-        $(pub fn $name(input: $input, number: u64) -> u64 {
-            unsafe { exports::$name(input.as_ptr(), input.len(), number) }
-        })*
+        $($(pub fn $name(input: $input, number: u64) -> u64 {
+            unsafe { $export(input.as_ptr(), input.len(), $kind, number) }
+        })*)*
     };
 }
 
 workloads! {
-    fn vec(&[u8], u8) = "winnow_bench_gather_vec";
-    fn vec_slices(&[u8], u8) = "winnow_bench_gather_vec_slices";
-    fn queue_slices(&[u8], u8) = "winnow_bench_gather_queue_slices";
-    fn text_chars(&str, u8) = "winnow_bench_gather_text_chars";
-    fn text_parts(&str, u8) = "winnow_bench_gather_text_parts";
-    fn cow_parts(&str, u8) = "winnow_bench_gather_cow_parts";
-    fn tree_map(&[u64], u64) = "winnow_bench_gather_tree_map";
-    fn hash_map(&[u64], u64) = "winnow_bench_gather_hash_map";
-    fn tree_set(&[u64], u64) = "winnow_bench_gather_tree_set";
-    fn hash_set(&[u64], u64) = "winnow_bench_gather_hash_set";
-    fn read_u8(&[u8], u8) = "winnow_bench_read_u8_bytes";
-    fn read_u32(&[u8], u8) = "winnow_bench_read_u32_bytes";
-    fn read_i64(&[u8], u8) = "winnow_bench_read_i64_bytes";
-    fn read_u8_text(&str, u8) = "winnow_bench_read_u8_text";
-    fn read_u32_text(&str, u8) = "winnow_bench_read_u32_text";
-    fn read_i64_text(&str, u8) = "winnow_bench_read_i64_text";
+    winnow_bench_gather_bytes(&[u8], u8) { vec = 0 vec_slices = 1 queue_slices = 2 }
+    winnow_bench_gather_text(&str, u8) { text_chars = 0 text_parts = 1 cow_parts = 2 }
+    winnow_bench_gather_keys(&[u64], u64) { tree_map = 0 hash_map = 1 tree_set = 2 hash_set = 3 }
+    winnow_bench_read_bytes(&[u8], u8) { read_u8 = 0 read_u32 = 1 read_i64 = 2 }
+    winnow_bench_read_text(&str, u8) { read_u8_text = 0 read_u32_text = 1 read_i64_text = 2 }
 }
 
 unsafe extern "C" {

@@ -3,25 +3,23 @@
 use crate::ours::Room;
 use crate::script::{RawStep, Told, read_answers};
 
-// The exports of a workload take the bytes and a number.
-macro_rules! workloads {
-    ($($name:ident)*) => {
-        mod exports {
-            unsafe extern "C" {
-                $(#[link_name = concat!("winnow_bench_", stringify!($name), "_bits")]
-                pub fn $name(input: *const u8, length: usize, number: u64) -> u64;)*
-            }
-        }
-
-        $(pub fn $name(input: &[u8], number: u64) -> u64 {
-            unsafe { exports::$name(input.as_ptr(), input.len(), number) }
-        })*
-    };
+/// Takes bits.
+pub fn drain(input: &[u8], number: u64) -> u64 {
+    unsafe { winnow_bench_walk_bits(input.as_ptr(), input.len(), 0, number) }
 }
 
-workloads!(drain sum_offsets take_all);
+/// Goes over bits with their offsets.
+pub fn sum_offsets(input: &[u8], number: u64) -> u64 {
+    unsafe { winnow_bench_walk_bits(input.as_ptr(), input.len(), 2, number) }
+}
+
+/// Takes slices of so many bits.
+pub fn take_all(input: &[u8], number: u64) -> u64 {
+    unsafe { winnow_bench_walk_bits(input.as_ptr(), input.len(), 4, number) }
+}
 
 unsafe extern "C" {
+    fn winnow_bench_walk_bits(input: *const u8, length: usize, workload: u64, number: u64) -> u64;
     fn winnow_bench_answers_bits(
         input: *const u8,
         length: usize,

@@ -3,65 +3,85 @@
 use crate::ours::Room;
 use crate::script::{RawStep, ToldSearch, read_search_answers};
 
-// The exports that search take the input, the needles in one row, and the length of the first of two.
+// The searches of bytes, by the form of their needles and the workload. The needles are in one row, and `first` is the length of the
+// first of two.
 macro_rules! searches {
-    ($(fn $name:ident($input:ty) = $export:literal;)*) => {
-        mod searching {
-            unsafe extern "C" {
-                $(#[link_name = $export]
-                pub fn $name(input: *const u8, length: usize, needles: *const u8, needles_length: usize, first: u64) -> u64;)*
+    ($($name:ident = $form:literal $workload:literal;)*) => {
+        $(pub fn $name((input, needles): (&[u8], &[u8]), first: u64) -> u64 {
+            unsafe {
+                let (needles, needles_length) = (needles.as_ptr(), needles.len());
+                winnow_bench_search_bytes(input.as_ptr(), input.len(), needles, needles_length, first, $form, $workload)
             }
-        }
-
-        $(pub fn $name((input, needles): ($input, $input), first: u64) -> u64 {
-            unsafe { searching::$name(input.as_ptr(), input.len(), needles.as_ptr(), needles.len(), first) }
         })*
     };
 }
 
 searches! {
-    fn take_byte(&[u8]) = "winnow_bench_take_byte_bytes";
-    fn take_three_bytes(&[u8]) = "winnow_bench_take_three_bytes_bytes";
-    fn take_needle(&[u8]) = "winnow_bench_take_needle_bytes";
-    fn take_two_needles(&[u8]) = "winnow_bench_take_two_needles_bytes";
-    fn take_needle_text(&str) = "winnow_bench_take_needle_text";
-    fn find_byte(&[u8]) = "winnow_bench_find_byte_bytes";
-    fn find_three_bytes(&[u8]) = "winnow_bench_find_three_bytes_bytes";
-    fn find_needle(&[u8]) = "winnow_bench_find_needle_bytes";
-    fn find_two_needles(&[u8]) = "winnow_bench_find_two_needles_bytes";
-    fn find_needle_text(&str) = "winnow_bench_find_needle_text";
-    fn compare_each(&[u8]) = "winnow_bench_compare_each_bytes";
-    fn compare_each_text(&str) = "winnow_bench_compare_each_text";
+    take_byte = 0 0;
+    take_three_bytes = 1 0;
+    take_needle = 2 0;
+    take_two_needles = 3 0;
+    find_byte = 0 1;
+    find_three_bytes = 1 1;
+    find_needle = 2 1;
+    find_two_needles = 3 1;
 }
 
-// The exports that ask sets take the input and a number that they do not read.
-macro_rules! sets {
-    ($(fn $name:ident($input:ty) = $export:literal;)*) => {
-        mod asking {
-            unsafe extern "C" {
-                $(#[link_name = $export]
-                pub fn $name(input: *const u8, length: usize, number: u64) -> u64;)*
-            }
-        }
+pub fn take_needle_text((input, needles): (&str, &str), _first: u64) -> u64 {
+    unsafe { winnow_bench_search_text(input.as_ptr(), input.len(), needles.as_ptr(), needles.len(), 0) }
+}
 
-        $(pub fn $name(input: $input, number: u64) -> u64 {
-            unsafe { asking::$name(input.as_ptr(), input.len(), number) }
-        })*
+pub fn find_needle_text((input, needles): (&str, &str), _first: u64) -> u64 {
+    unsafe { winnow_bench_search_text(input.as_ptr(), input.len(), needles.as_ptr(), needles.len(), 1) }
+}
+
+pub fn compare_each((input, needles): (&[u8], &[u8]), _first: u64) -> u64 {
+    unsafe { winnow_bench_compare_each_bytes(input.as_ptr(), input.len(), needles.as_ptr(), needles.len()) }
+}
+
+pub fn compare_each_text((input, needles): (&str, &str), _first: u64) -> u64 {
+    unsafe { winnow_bench_compare_each_text(input.as_ptr(), input.len(), needles.as_ptr(), needles.len()) }
+}
+
+// The workloads that ask sets, by the form of the sets and the workload.
+macro_rules! sets {
+    ($($export:ident($input:ty) { $($name:ident = $form:literal $workload:literal;)* })*) => {
+        $($(pub fn $name(input: $input, _number: u64) -> u64 {
+            unsafe { $export(input.as_ptr(), input.len(), $form, $workload) }
+        })*)*
     };
 }
 
 sets! {
-    fn take_char_set(&[u8]) = "winnow_bench_take_char_set_bytes";
-    fn take_char_set_text(&str) = "winnow_bench_take_char_set_text";
-    fn take_ranges(&[u8]) = "winnow_bench_take_ranges_bytes";
-    fn take_ranges_text(&str) = "winnow_bench_take_ranges_text";
-    fn find_char_set(&[u8]) = "winnow_bench_find_char_set_bytes";
-    fn find_char_set_text(&str) = "winnow_bench_find_char_set_text";
-    fn find_ranges(&[u8]) = "winnow_bench_find_ranges_bytes";
-    fn find_ranges_text(&str) = "winnow_bench_find_ranges_text";
+    winnow_bench_ask_bytes(&[u8]) {
+        take_char_set = 0 0;
+        take_ranges = 1 0;
+        find_char_set = 0 1;
+        find_ranges = 1 1;
+    }
+    winnow_bench_ask_text(&str) {
+        take_char_set_text = 0 0;
+        take_ranges_text = 1 0;
+        find_char_set_text = 0 1;
+        find_ranges_text = 1 1;
+    }
 }
 
 unsafe extern "C" {
+    fn winnow_bench_search_bytes(
+        input: *const u8,
+        length: usize,
+        needles: *const u8,
+        needles_length: usize,
+        first: u64,
+        form: u64,
+        workload: u64,
+    ) -> u64;
+    fn winnow_bench_search_text(input: *const u8, length: usize, needles: *const u8, needles_length: usize, workload: u64) -> u64;
+    fn winnow_bench_compare_each_bytes(input: *const u8, length: usize, needles: *const u8, needles_length: usize) -> u64;
+    fn winnow_bench_compare_each_text(input: *const u8, length: usize, needles: *const u8, needles_length: usize) -> u64;
+    fn winnow_bench_ask_bytes(input: *const u8, length: usize, form: u64, workload: u64) -> u64;
+    fn winnow_bench_ask_text(input: *const u8, length: usize, form: u64, workload: u64) -> u64;
     fn winnow_bench_searches_bytes(
         input: *const u8,
         length: usize,

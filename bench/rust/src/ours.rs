@@ -3,43 +3,43 @@
 
 use crate::script::{RawStep, Told, read_answers};
 
-// The exports of a workload take the input and a number.
+// The workloads over one kind of stream, each by its number in `crates/winnow_bench`.
 macro_rules! workloads {
-    ($($name:ident)*) => {
-        /// Workloads over bytes.
-        pub mod bytes {
-            mod exports {
-                unsafe extern "C" {
-                    $(#[link_name = concat!("winnow_bench_", stringify!($name), "_bytes")]
-                    pub fn $name(input: *const u8, length: usize, number: u64) -> u64;)*
-                }
-            }
+    ($walk:ident, $wrapped:ident, $input:ty) => {
+        use super::{$walk, $wrapped};
 
-            $(pub fn $name(input: &[u8], number: u64) -> u64 {
-                unsafe { exports::$name(input.as_ptr(), input.len(), number) }
-            })*
-        }
-
-        /// Workloads over text.
-        pub mod text {
-            mod exports {
-                unsafe extern "C" {
-                    $(#[link_name = concat!("winnow_bench_", stringify!($name), "_text")]
-                    pub fn $name(input: *const u8, length: usize, number: u64) -> u64;)*
-                }
-            }
-
-            $(pub fn $name(input: &str, number: u64) -> u64 {
-                unsafe { exports::$name(input.as_ptr(), input.len(), number) }
-            })*
-        }
+        workloads!(@plain $walk, $input, drain = 0, peek_and_take = 1, sum_offsets = 2, look_ahead = 3);
+        workloads!(@plain $walk, $input, take_all = 4, take_parts = 5, find_token = 6, offset_behind = 7);
+        workloads!(@wrapped $wrapped, $input, drain_located = 0 0, drain_wrapped = 1 0, drain_recoverable = 2 0);
+        workloads!(@wrapped $wrapped, $input, take_all_located = 0 4, take_all_wrapped = 1 4);
+    };
+    (@plain $walk:ident, $input:ty, $($name:ident = $workload:literal),*) => {
+        $(pub fn $name(input: $input, number: u64) -> u64 {
+            unsafe { $walk(input.as_ptr(), input.len(), $workload, number) }
+        })*
+    };
+    (@wrapped $wrapped:ident, $input:ty, $($name:ident = $wrappers:literal $workload:literal),*) => {
+        $(pub fn $name(input: $input, number: u64) -> u64 {
+            unsafe { $wrapped(input.as_ptr(), input.len(), $wrappers, $workload, number) }
+        })*
     };
 }
 
-workloads!(drain peek_and_take sum_offsets look_ahead take_all take_parts find_token offset_behind
-    drain_located drain_wrapped drain_recoverable take_all_located take_all_wrapped);
+/// Workloads over bytes.
+pub mod bytes {
+    workloads!(winnow_bench_walk_bytes, winnow_bench_walk_wrapped_bytes, &[u8]);
+}
+
+/// Workloads over text.
+pub mod text {
+    workloads!(winnow_bench_walk_text, winnow_bench_walk_wrapped_text, &str);
+}
 
 unsafe extern "C" {
+    fn winnow_bench_walk_bytes(input: *const u8, length: usize, workload: u64, number: u64) -> u64;
+    fn winnow_bench_walk_text(input: *const u8, length: usize, workload: u64, number: u64) -> u64;
+    fn winnow_bench_walk_wrapped_bytes(input: *const u8, length: usize, wrappers: u64, workload: u64, number: u64) -> u64;
+    fn winnow_bench_walk_wrapped_text(input: *const u8, length: usize, wrappers: u64, workload: u64, number: u64) -> u64;
     fn winnow_bench_run_bytes(input: *const u8, length: usize, script: *const RawStep, steps: usize, rounds: u64) -> u64;
     fn winnow_bench_run_text(input: *const u8, length: usize, script: *const RawStep, steps: usize, rounds: u64) -> u64;
     fn winnow_bench_answers_bytes(input: *const u8, length: usize, script: *const RawStep, steps: usize, out: *mut u64, room: usize) -> u64;
@@ -54,8 +54,8 @@ unsafe extern "C" {
     fn winnow_bench_answers_recoverable(input: *const u8, length: usize, script: *const RawStep, steps: usize, out: *mut u64, room: usize) -> u64;
     fn winnow_bench_recovered_bytes(input: *const u8, length: usize, width: u64, out: *mut u64, room: usize) -> u64;
     fn winnow_bench_recovered_text(input: *const u8, length: usize, width: u64, out: *mut u64, room: usize) -> u64;
-    fn winnow_bench_drain_bstr(input: *const u8, length: usize, number: u64) -> u64;
-    fn winnow_bench_drain_plain_bytes(input: *const u8, length: usize, number: u64) -> u64;
+    fn winnow_bench_walk_bstr(input: *const u8, length: usize, workload: u64, number: u64) -> u64;
+    fn winnow_bench_walk_plain_bytes(input: *const u8, length: usize, workload: u64, number: u64) -> u64;
     fn winnow_bench_display_bstr(input: *const u8, length: usize, number: u64) -> u64;
     fn winnow_bench_answers_bstr(input: *const u8, length: usize, script: *const RawStep, steps: usize, out: *mut u64, room: usize) -> u64;
     fn winnow_bench_answers_plain_bytes(input: *const u8, length: usize, script: *const RawStep, steps: usize, out: *mut u64, room: usize) -> u64;
@@ -78,12 +78,12 @@ pub fn drain_tokens(input: &[u8], number: u64) -> u64 {
 
 /// Takes tokens of a `BStr`.
 pub fn drain_bstr(input: &[u8], number: u64) -> u64 {
-    unsafe { winnow_bench_drain_bstr(input.as_ptr(), input.len(), number) }
+    unsafe { winnow_bench_walk_bstr(input.as_ptr(), input.len(), 0, number) }
 }
 
 /// Takes tokens of `Bytes`.
 pub fn drain_plain_bytes(input: &[u8], number: u64) -> u64 {
-    unsafe { winnow_bench_drain_plain_bytes(input.as_ptr(), input.len(), number) }
+    unsafe { winnow_bench_walk_plain_bytes(input.as_ptr(), input.len(), 0, number) }
 }
 
 /// The length of the text of a `BStr`.

@@ -123,7 +123,7 @@ impl<'i> Supply<Cow<'i, str>> for Mixed<'i> {
     }
 }
 
-/// What maps and sets hold of each key below 16. A value is how many keys came so far.
+/// What maps and sets hold: how many keys, and what each key below 16 has. A value is how many keys came so far.
 pub fn gathered_keys(keys: &[u64]) -> Vec<u64> {
     let count = keys.len();
     let pairs = || Pairs { keys, count: 0 };
@@ -131,11 +131,14 @@ pub fn gathered_keys(keys: &[u64]) -> Vec<u64> {
     let hashed = gather::<HashMap<u64, u64>, (u64, u64), _>(pairs(), count);
     let ordered = gather::<BTreeSet<u64>, u64, _>(keys, count);
     let set = gather::<HashSet<u64>, u64, _>(keys, count);
-    let mut told = [tree.len(), hashed.len(), ordered.len(), set.len()].map(|length| length as u64).to_vec();
-    for key in 0..16 {
-        told.extend([tree.get(&key), hashed.get(&key)].map(|value| value.copied().unwrap_or(u64::MAX)));
-        told.extend([ordered.contains(&key), set.contains(&key)].map(u64::from));
-    }
+    let mut told = vec![tree.len() as u64];
+    told.extend((0..16).map(|key| tree.get(&key).copied().unwrap_or(u64::MAX)));
+    told.push(hashed.len() as u64);
+    told.extend((0..16).map(|key| hashed.get(&key).copied().unwrap_or(u64::MAX)));
+    told.push(ordered.len() as u64);
+    told.extend((0..16).map(|key| u64::from(ordered.contains(&key))));
+    told.push(set.len() as u64);
+    told.extend((0..16).map(|key| u64::from(set.contains(&key))));
     told
 }
 

@@ -1,10 +1,11 @@
 //! Workloads that gather items.
 ghost use Rattle.std.specs.Str.{IsUtf8};
 
-use std::alloc::{AllocError, Global};
+use std::alloc::Global;
 use std::borrow::CowStr;
 use std::collections::{BTreeMap, BTreeSet, HashMap, HashSet, VecDeque};
-use winnow_bench_common::{Parts, Weigh, gather, mix, text};
+use winnow_bench_common::{Parts, Supply, Weigh, gather, mix, text};
+use winnow_count::Accumulate;
 
 // How many tokens a part has.
 const PART: usize = 8;
@@ -13,8 +14,14 @@ fn parts<S>(rest: S) -> Parts<S> {
     Parts { rest, tokens: PART }
 }
 
-fn weigh_all<A: WeighAll + Drop>(gathered: Result<A, AllocError>) -> u64 {
-    match gathered {
+// Gathers so many items, or as many as there are.
+fn weigh_gathered<A: Accumulate<T> + WeighAll + Drop, T: Drop, S: Supply<T> + Drop>(
+    alloc: Global,
+    items: S,
+    count: u64,
+) -> u64 {
+    let mut items = items;
+    match gather::<A, T, S>(alloc, &mut items, count as usize) {
         Ok(all) => all.weigh_all(),
         Err(_) => u64::MAX,
     }
@@ -80,67 +87,47 @@ impl WeighAll for HashSet<u64> {
 }
 
 #[unsafe(no_mangle)]
-pub extern "C" fn winnow_bench_gather_vec(alloc: Global, input: &[u8], count: u64) -> u64 {
-    let mut items = input;
-    weigh_all(gather::<Vec<u8>, u8, &[u8]>(alloc, &mut items, count as usize))
+pub extern "C" fn winnow_bench_gather_bytes(
+    alloc: Global,
+    input: &[u8],
+    kind: u64,
+    count: u64,
+) -> u64 {
+    match kind {
+        0 => weigh_gathered::<Vec<u8>, u8, &[u8]>(alloc, input, count),
+        1 => weigh_gathered::<Vec<u8>, &[u8], Parts<&[u8]>>(alloc, parts(input), count),
+        _ => weigh_gathered::<VecDeque<u8>, &[u8], Parts<&[u8]>>(alloc, parts(input), count),
+    }
 }
 
 #[unsafe(no_mangle)]
-pub extern "C" fn winnow_bench_gather_vec_slices(alloc: Global, input: &[u8], count: u64) -> u64 {
-    let mut items = parts(input);
-    weigh_all(gather::<Vec<u8>, &[u8], Parts<&[u8]>>(alloc, &mut items, count as usize))
-}
-
-#[unsafe(no_mangle)]
-pub extern "C" fn winnow_bench_gather_queue_slices(alloc: Global, input: &[u8], count: u64) -> u64 {
-    let mut items = parts(input);
-    weigh_all(gather::<VecDeque<u8>, &[u8], Parts<&[u8]>>(alloc, &mut items, count as usize))
-}
-
-#[unsafe(no_mangle)]
-pub extern "C" fn winnow_bench_gather_text_chars(alloc: Global, input: &[u8], count: u64) -> u64
+pub extern "C" fn winnow_bench_gather_text(
+    alloc: Global,
+    input: &[u8],
+    kind: u64,
+    count: u64,
+) -> u64
     requires { IsUtf8 input.now }
 {
-    let mut items = text(input);
-    weigh_all(gather::<String, char, &str>(alloc, &mut items, count as usize))
+    let input = text(input);
+    match kind {
+        0 => weigh_gathered::<String, char, &str>(alloc, input, count),
+        1 => weigh_gathered::<String, &str, Parts<&str>>(alloc, parts(input), count),
+        _ => weigh_gathered::<CowStr<'_, Global>, &str, Parts<&str>>(alloc, parts(input), count),
+    }
 }
 
 #[unsafe(no_mangle)]
-pub extern "C" fn winnow_bench_gather_text_parts(alloc: Global, input: &[u8], count: u64) -> u64
-    requires { IsUtf8 input.now }
-{
-    let mut items = parts(text(input));
-    weigh_all(gather::<String, &str, Parts<&str>>(alloc, &mut items, count as usize))
-}
-
-#[unsafe(no_mangle)]
-pub extern "C" fn winnow_bench_gather_cow_parts(alloc: Global, input: &[u8], count: u64) -> u64
-    requires { IsUtf8 input.now }
-{
-    let mut items = parts(text(input));
-    weigh_all(gather::<CowStr<'_, Global>, &str, Parts<&str>>(alloc, &mut items, count as usize))
-}
-
-#[unsafe(no_mangle)]
-pub extern "C" fn winnow_bench_gather_tree_map(alloc: Global, keys: &[u64], count: u64) -> u64 {
-    let mut items = keys;
-    weigh_all(gather::<BTreeMap<u64, u64>, (u64, u64), &[u64]>(alloc, &mut items, count as usize))
-}
-
-#[unsafe(no_mangle)]
-pub extern "C" fn winnow_bench_gather_hash_map(alloc: Global, keys: &[u64], count: u64) -> u64 {
-    let mut items = keys;
-    weigh_all(gather::<HashMap<u64, u64>, (u64, u64), &[u64]>(alloc, &mut items, count as usize))
-}
-
-#[unsafe(no_mangle)]
-pub extern "C" fn winnow_bench_gather_tree_set(alloc: Global, keys: &[u64], count: u64) -> u64 {
-    let mut items = keys;
-    weigh_all(gather::<BTreeSet<u64>, u64, &[u64]>(alloc, &mut items, count as usize))
-}
-
-#[unsafe(no_mangle)]
-pub extern "C" fn winnow_bench_gather_hash_set(alloc: Global, keys: &[u64], count: u64) -> u64 {
-    let mut items = keys;
-    weigh_all(gather::<HashSet<u64>, u64, &[u64]>(alloc, &mut items, count as usize))
+pub extern "C" fn winnow_bench_gather_keys(
+    alloc: Global,
+    keys: &[u64],
+    kind: u64,
+    count: u64,
+) -> u64 {
+    match kind {
+        0 => weigh_gathered::<BTreeMap<u64, u64>, (u64, u64), &[u64]>(alloc, keys, count),
+        1 => weigh_gathered::<HashMap<u64, u64>, (u64, u64), &[u64]>(alloc, keys, count),
+        2 => weigh_gathered::<BTreeSet<u64>, u64, &[u64]>(alloc, keys, count),
+        _ => weigh_gathered::<HashSet<u64>, u64, &[u64]>(alloc, keys, count),
+    }
 }

@@ -8,25 +8,29 @@ use winnow_stream::Stream;
 
 #[unsafe(no_mangle)]
 pub extern "C" fn winnow_bench_join_empty(alloc: Global, input: &[u8], _number: u64) -> u64 {
-    let mut s = input;
-    match join_all::<&[u8], EmptyError>(alloc, &mut s) {
-        Ok(mode) => weigh_mode(&mode),
-        Err(_) => u64::MAX,
-    }
+    weigh_joined::<&[u8], EmptyError>(alloc, input)
 }
 
 #[unsafe(no_mangle)]
 pub extern "C" fn winnow_bench_join_input(alloc: Global, input: &[u8], _number: u64) -> u64 {
-    let mut s = input;
-    match join_all::<&[u8], InputError<&[u8]>>(alloc, &mut s) {
-        Ok(mode) => weigh_mode(&mode),
-        Err(_) => u64::MAX,
-    }
+    weigh_joined::<&[u8], InputError<&[u8]>>(alloc, input)
 }
 
 #[unsafe(no_mangle)]
 pub extern "C" fn winnow_bench_push_contexts(alloc: Global, input: &[u8], _number: u64) -> u64 {
     push_all(alloc, input).unwrap_or(u64::MAX)
+}
+
+fn weigh_joined<S: Stream + Drop, E: ParserError<S> + WeighError>(alloc: Global, input: S) -> u64
+where
+    S::Token: Number + Drop,
+    requires { S.valid input }
+{
+    let mut s = input;
+    match join_all::<S, E>(alloc, &mut s) {
+        Ok(mode) => weigh_mode(&mode),
+        Err(_) => u64::MAX,
+    }
 }
 
 // Joins an error at each token by `or`, from the left. The token says in which mode it comes.

@@ -2,23 +2,18 @@
 //! Rust crate in turn, and times them.
 //!
 //! A workload is one generic function over [`Stream`](winnow_stream::Stream), and `bench/rust` has the same one over the Rust
-//! crate's trait. An export is one line that calls it at a type.
+//! crate's trait. An export calls the workloads at one type, each by a number that is looked at once, before its loop.
 #![tactic(auto)]
 
 mod accumulators;
-mod bit_exports;
-mod bytes;
 mod errors;
 mod fronts;
-mod kinds;
 mod readings;
-mod recovered;
 mod runs;
 mod search_exports;
 mod search_runs;
 mod searches;
-mod set_exports;
-mod texts;
-mod token_slices;
+mod streams;
 mod tokens;
+mod walks;
 mod wrapped;

@@ -2,10 +2,10 @@
 ghost use Rattle.std.specs.Str.{IsUtf8};
 
 use winnow_bench_common::{Parts, Supply, mix, text};
-use winnow_count::{ParseSlice, Readable};
+use winnow_count::ParseSlice;
 
 /// A value as bits.
-pub trait Value {
+trait Value {
     fn value(&self) -> u64;
 }
 
@@ -27,8 +27,8 @@ impl Value for i64 {
     }
 }
 
-/// Reads so many pieces, or as many as there are, and sums up their values.
-pub fn read_all<R: Value + Drop, S: ParseSlice<R> + Drop, P: Supply<S>>(
+// Reads so many pieces, or as many as there are, and sums up their values.
+fn read_all<R: Value + Drop, S: ParseSlice<R> + Drop, P: Supply<S>>(
     pieces: &mut P,
     count: usize,
 ) -> u64 {
@@ -45,54 +45,31 @@ pub fn read_all<R: Value + Drop, S: ParseSlice<R> + Drop, P: Supply<S>>(
     sum
 }
 
-fn read_bytes<R: Readable + Value + Drop>(input: &[u8], tokens: u64) -> u64 {
+// Reads as one of the types all pieces of so many tokens.
+fn read_parts<S>(rest: S, count: usize, kind: u64, tokens: u64) -> u64
+where
+    S: ParseSlice<u8> + ParseSlice<u32> + ParseSlice<i64> + Drop,
+    Parts<S>: Supply<S>,
+{
     let mut pieces = Parts {
-        rest: input,
+        rest,
         tokens: tokens as usize,
     };
-    read_all::<R, &[u8], Parts<&[u8]>>(&mut pieces, input.len())
-}
-
-fn read_text<R: Readable + Value + Drop>(input: &str, tokens: u64) -> u64 {
-    let mut pieces = Parts {
-        rest: input,
-        tokens: tokens as usize,
-    };
-    read_all::<R, &str, Parts<&str>>(&mut pieces, input.len())
+    match kind {
+        0 => read_all::<u8, S, Parts<S>>(&mut pieces, count),
+        1 => read_all::<u32, S, Parts<S>>(&mut pieces, count),
+        _ => read_all::<i64, S, Parts<S>>(&mut pieces, count),
+    }
 }
 
 #[unsafe(no_mangle)]
-pub extern "C" fn winnow_bench_read_u8_bytes(input: &[u8], tokens: u64) -> u64 {
-    read_bytes::<u8>(input, tokens)
+pub extern "C" fn winnow_bench_read_bytes(input: &[u8], kind: u64, tokens: u64) -> u64 {
+    read_parts(input, input.len(), kind, tokens)
 }
 
 #[unsafe(no_mangle)]
-pub extern "C" fn winnow_bench_read_u8_text(input: &[u8], tokens: u64) -> u64
+pub extern "C" fn winnow_bench_read_text(input: &[u8], kind: u64, tokens: u64) -> u64
     requires { IsUtf8 input.now }
 {
-    read_text::<u8>(text(input), tokens)
-}
-
-#[unsafe(no_mangle)]
-pub extern "C" fn winnow_bench_read_u32_bytes(input: &[u8], tokens: u64) -> u64 {
-    read_bytes::<u32>(input, tokens)
-}
-
-#[unsafe(no_mangle)]
-pub extern "C" fn winnow_bench_read_u32_text(input: &[u8], tokens: u64) -> u64
-    requires { IsUtf8 input.now }
-{
-    read_text::<u32>(text(input), tokens)
-}
-
-#[unsafe(no_mangle)]
-pub extern "C" fn winnow_bench_read_i64_bytes(input: &[u8], tokens: u64) -> u64 {
-    read_bytes::<i64>(input, tokens)
-}
-
-#[unsafe(no_mangle)]
-pub extern "C" fn winnow_bench_read_i64_text(input: &[u8], tokens: u64) -> u64
-    requires { IsUtf8 input.now }
-{
-    read_text::<i64>(text(input), tokens)
+    read_parts(text(input), input.len(), kind, tokens)
 }

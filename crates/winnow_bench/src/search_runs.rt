@@ -1,11 +1,10 @@
 //! Scripts run on a stream that is also compared and searched.
 ghost use Rattle.winnow_run.specs.Searching.{AreSearchReady};
 
-use crate::runs::weigh_answer;
 use std::alloc::{AllocError, Global};
-use winnow_bench_common::{Number, RawStep, Weigh, mix, search_steps_of};
-use winnow_match::{Compare, CompareResult, FindSlice, Needles};
-use winnow_run::{SearchAnswer, SearchStep, run_search};
+use winnow_bench_common::{Number, RawStep, Weigh, mix, search_steps_of, weigh_answers};
+use winnow_match::{Compare, FindSlice, Needles};
+use winnow_run::{SearchStep, run_search};
 use winnow_stream::{ScriptSet, Stream};
 
 // Runs a script so many times from one place, and sums up its answers.
@@ -27,28 +26,9 @@ where
         let start = s.checkpoint();
         let answers = run_search(alloc, s, script)?;
         s.reset(&start);
-        sum = mix(sum, weigh_all(&answers));
+        sum = mix(sum, weigh_answers(&answers));
     }
     Ok(sum)
-}
-
-fn weigh_all<T: Number, S: Weigh, L>(answers: &[SearchAnswer<T, S, L>]) -> u64 {
-    let mut sum = 0;
-    for answer in answers {
-        sum = mix(sum, weigh_search(answer));
-    }
-    sum
-}
-
-fn weigh_search<T: Number, S: Weigh, L>(answer: &SearchAnswer<T, S, L>) -> u64 {
-    match answer {
-        SearchAnswer::Call(answer) => weigh_answer(answer),
-        SearchAnswer::Compared(CompareResult::Ok(width)) => *width as u64,
-        SearchAnswer::Compared(CompareResult::Incomplete) => 9,
-        SearchAnswer::Compared(CompareResult::Error) => 10,
-        SearchAnswer::Hit(Some(hit)) => mix(hit.start as u64, hit.end as u64),
-        SearchAnswer::Hit(None) => 11,
-    }
 }
 
 #[unsafe(no_mangle)]

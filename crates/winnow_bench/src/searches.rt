@@ -1,11 +1,35 @@
 //! Workloads that search, compare, and ask sets.
 use winnow_bench_common::{Weigh, mix};
 use winnow_match::{Compare, CompareResult, FindSlice};
-use winnow_sets::ContainsToken;
+use winnow_sets::{AsChar, CharSet, ContainsToken};
 use winnow_stream::Stream;
 
-/// Takes the slices that a hit ends, each with it; of an empty needle it takes none.
-pub fn take_hits<S: FindSlice<N>, N: Copy>(s: &mut S, needle: N) -> u64
+// Characters that stand here and there in an input.
+const NEAR: [(char, char); 3] = [('\n', '\n'), ('0', '9'), ('α', 'ω')];
+
+// Characters that stand in no input.
+const FAR: [(char, char); 3] = [
+    ('\0', '\0'),
+    ('\u{e000}', '\u{f8ff}'),
+    ('\u{100000}', '\u{10ffff}'),
+];
+
+/// Takes the slices that hits end, or finds the first hit.
+pub fn search<S: FindSlice<N> + Drop, N: Copy>(input: S, needle: N, workload: u64) -> u64
+where
+    S::Slice: Weigh + Drop,
+    requires { S.valid input }
+{
+    if workload == 0 {
+        let mut s = input;
+        take_hits(&mut s, needle)
+    } else {
+        find_hit(&input, needle)
+    }
+}
+
+// Takes the slices that a hit ends, each with it; of an empty needle it takes none.
+fn take_hits<S: FindSlice<N>, N: Copy>(s: &mut S, needle: N) -> u64
 where
     S::Slice: Weigh + Drop,
     requires { S.valid s.old }
@@ -20,8 +44,8 @@ where
     sum
 }
 
-/// The end of the first hit, or the greatest number where there is none.
-pub fn find_hit<S: FindSlice<N>, N>(s: &S, needle: N) -> u64
+// The end of the first hit, or the greatest number where there is none.
+fn find_hit<S: FindSlice<N>, N>(s: &S, needle: N) -> u64
     requires { S.valid s.now }
 {
     match s.find_slice(needle) {
@@ -53,8 +77,50 @@ fn weigh_comparison(comparison: &CompareResult) -> u64 {
     }
 }
 
-/// Takes the slices that a token of a set ends, each with its end.
-pub fn take_sets<S: Stream, C: ContainsToken<S::Token>>(s: &mut S, ends: &C) -> u64
+/// Takes the slices that tokens of a near set end, or finds the first token of a far one. The sets are data, or ranges that the compiler
+/// sees.
+pub fn ask<S: Stream + Drop>(input: S, form: u64, workload: u64) -> u64
+where
+    S::Token: AsChar + Copy,
+    S::Slice: Weigh + Drop,
+    requires { S.valid input }
+{
+    if form == 0 {
+        ask_sets(input, CharSet::new(&NEAR), CharSet::new(&FAR), workload)
+    } else {
+        let near = ('\n'..='\n', '0'..='9', 'α'..='ω');
+        let far = (
+            '\0'..='\0',
+            '\u{e000}'..='\u{f8ff}',
+            '\u{100000}'..='\u{10ffff}',
+        );
+        ask_sets(input, near, far, workload)
+    }
+}
+
+fn ask_sets<S: Stream + Drop, C: ContainsToken<S::Token> + Drop>(
+    input: S,
+    near: C,
+    far: C,
+    workload: u64,
+) -> u64
+where
+    S::Token: Drop,
+    S::Slice: Weigh + Drop,
+    requires valid { S.valid input }
+    requires near { C.askable near }
+    requires far { C.askable far }
+{
+    if workload == 0 {
+        let mut s = input;
+        take_sets(&mut s, &near)
+    } else {
+        find_set(&input, &far)
+    }
+}
+
+// Takes the slices that a token of a set ends, each with its end.
+fn take_sets<S: Stream, C: ContainsToken<S::Token>>(s: &mut S, ends: &C) -> u64
 where
     S::Token: Drop,
     S::Slice: Weigh + Drop,
@@ -74,8 +140,8 @@ where
     sum
 }
 
-/// The offset of the first token of a set, or the greatest number where there is none.
-pub fn find_set<S: Stream, C: ContainsToken<S::Token>>(s: &S, wanted: &C) -> u64
+// The offset of the first token of a set, or the greatest number where there is none.
+fn find_set<S: Stream, C: ContainsToken<S::Token>>(s: &S, wanted: &C) -> u64
     requires valid { S.valid s.now }
     requires set { C.askable wanted.now }
 {

@@ -1,95 +1,61 @@
-//! The exports through wrappers: workloads through one and through three of them.
+//! The exports through wrappers.
 ghost use Rattle.std.specs.Prelude.{◌≡◌, false};
 ghost use Rattle.std.specs.Str.{IsUtf8};
 
-use crate::fronts::take_all;
-use crate::tokens::drain;
+use crate::walks::walk_few;
+use std::alloc::Global;
 use winnow_bench_common::{Number, Weigh, text, wrap};
+use winnow_error::{EmptyError, ErrMode};
+use winnow_recover::Recoverable;
 use winnow_stream::{Stream, StreamIsPartial};
 use winnow_wrap::LocatingSlice;
 
-fn drain_located<I: Stream + Copy>(input: I, stop: u64) -> u64
+type Mode = ErrMode<EmptyError>;
+
+// Through one wrapper, through three, and through a stream that records errors.
+fn walk_through<I: Stream + StreamIsPartial + Copy>(
+    alloc: Global,
+    input: I,
+    wrappers: u64,
+    workload: u64,
+    number: u64,
+) -> u64
 where
     I::Token: Number + Drop,
-    requires { I.valid input }
-{
-    let mut s = LocatingSlice::new(input);
-    drain(&mut s, stop)
-}
-
-fn drain_wrapped<I: Stream + StreamIsPartial + Copy>(input: I, stop: u64) -> u64
-where
-    I::Token: Number + Drop,
-    requires valid { I.valid input }
-    requires no_flag { I.supports_partial ≡ false }
-{
-    let mut s = wrap(input);
-    drain(&mut s, stop)
-}
-
-fn take_all_located<I: Stream + Copy>(input: I, tokens: u64) -> u64
-where
-    I::Slice: Weigh + Drop,
-    requires { I.valid input }
-{
-    let mut s = LocatingSlice::new(input);
-    take_all(&mut s, tokens as usize)
-}
-
-fn take_all_wrapped<I: Stream + StreamIsPartial + Copy>(input: I, tokens: u64) -> u64
-where
     I::Slice: Weigh + Drop,
     requires valid { I.valid input }
     requires no_flag { I.supports_partial ≡ false }
 {
-    let mut s = wrap(input);
-    take_all(&mut s, tokens as usize)
+    match wrappers {
+        0 => walk_few(LocatingSlice::new(input), workload, number),
+        1 => walk_few(wrap(input), workload, number),
+        _ => {
+            let s: Recoverable<I, Mode> = Recoverable::new(alloc, input);
+            walk_few(s, workload, number)
+        }
+    }
 }
 
 #[unsafe(no_mangle)]
-pub extern "C" fn winnow_bench_drain_located_bytes(input: &[u8], number: u64) -> u64 {
-    drain_located(input, number)
+pub extern "C" fn winnow_bench_walk_wrapped_bytes(
+    alloc: Global,
+    input: &[u8],
+    wrappers: u64,
+    workload: u64,
+    number: u64,
+) -> u64 {
+    walk_through(alloc, input, wrappers, workload, number)
 }
 
 #[unsafe(no_mangle)]
-pub extern "C" fn winnow_bench_drain_located_text(input: &[u8], number: u64) -> u64
+pub extern "C" fn winnow_bench_walk_wrapped_text(
+    alloc: Global,
+    input: &[u8],
+    wrappers: u64,
+    workload: u64,
+    number: u64,
+) -> u64
     requires { IsUtf8 input.now }
 {
-    drain_located(text(input), number)
-}
-
-#[unsafe(no_mangle)]
-pub extern "C" fn winnow_bench_drain_wrapped_bytes(input: &[u8], number: u64) -> u64 {
-    drain_wrapped(input, number)
-}
-
-#[unsafe(no_mangle)]
-pub extern "C" fn winnow_bench_drain_wrapped_text(input: &[u8], number: u64) -> u64
-    requires { IsUtf8 input.now }
-{
-    drain_wrapped(text(input), number)
-}
-
-#[unsafe(no_mangle)]
-pub extern "C" fn winnow_bench_take_all_located_bytes(input: &[u8], number: u64) -> u64 {
-    take_all_located(input, number)
-}
-
-#[unsafe(no_mangle)]
-pub extern "C" fn winnow_bench_take_all_located_text(input: &[u8], number: u64) -> u64
-    requires { IsUtf8 input.now }
-{
-    take_all_located(text(input), number)
-}
-
-#[unsafe(no_mangle)]
-pub extern "C" fn winnow_bench_take_all_wrapped_bytes(input: &[u8], number: u64) -> u64 {
-    take_all_wrapped(input, number)
-}
-
-#[unsafe(no_mangle)]
-pub extern "C" fn winnow_bench_take_all_wrapped_text(input: &[u8], number: u64) -> u64
-    requires { IsUtf8 input.now }
-{
-    take_all_wrapped(text(input), number)
+    walk_through(alloc, text(input), wrappers, workload, number)
 }

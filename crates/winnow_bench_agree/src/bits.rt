@@ -2,7 +2,7 @@
 
 use crate::others::tell_bits;
 use std::alloc::Global;
-use winnow_bench_common::{RawStep, bits_at, hand_out, steps_of, tell_run};
+use winnow_bench_common::{RawStep, Row, bits_at, tell_run};
 
 #[unsafe(no_mangle)]
 pub extern "C" fn winnow_bench_answers_bits(
@@ -12,11 +12,8 @@ pub extern "C" fn winnow_bench_answers_bits(
     script: &[RawStep],
     out: &mut [u64],
 ) -> u64 {
-    let Ok(steps) = steps_of(alloc, script) else {
-        return u64::MAX;
-    };
     match bits_at(input, place) {
-        Some(mut s) => hand_out(tell_run(alloc, &mut s, &steps), out),
+        Some(s) => tell_run(alloc, s, script, out),
         None => u64::MAX,
     }
 }
@@ -29,8 +26,10 @@ pub extern "C" fn winnow_bench_others_bits(
     width: u64,
     out: &mut [u64],
 ) -> u64 {
-    match bits_at(input, place) {
-        Some(s) => hand_out(tell_bits(alloc, s, width as usize), out),
-        None => u64::MAX,
-    }
+    let Some(s) = bits_at(input, place) else {
+        return u64::MAX;
+    };
+    let mut row = Row::new(alloc);
+    tell_bits(&mut row, s, width as usize);
+    row.hand_out(out)
 }

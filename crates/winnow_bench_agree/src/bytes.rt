@@ -2,7 +2,7 @@
 
 use crate::others::tell_bytes;
 use std::alloc::Global;
-use winnow_bench_common::{RawStep, hand_out, steps_of, tell_run};
+use winnow_bench_common::{RawStep, Row, tell_run};
 
 #[unsafe(no_mangle)]
 pub extern "C" fn winnow_bench_answers_bytes(
@@ -11,11 +11,7 @@ pub extern "C" fn winnow_bench_answers_bytes(
     script: &[RawStep],
     out: &mut [u64],
 ) -> u64 {
-    let Ok(steps) = steps_of(alloc, script) else {
-        return u64::MAX;
-    };
-    let mut s = input;
-    hand_out(tell_run(alloc, &mut s, &steps), out)
+    tell_run(alloc, input, script, out)
 }
 
 #[unsafe(no_mangle)]
@@ -25,5 +21,7 @@ pub extern "C" fn winnow_bench_others_bytes(
     width: u64,
     out: &mut [u64],
 ) -> u64 {
-    hand_out(tell_bytes(alloc, input, width as usize), out)
+    let mut row = Row::new(alloc);
+    tell_bytes(&mut row, input, width as usize);
+    row.hand_out(out)
 }

@@ -1,8 +1,8 @@
 //! The answers over bytes with a text of their own.
 
-use std::alloc::{AllocError, Global};
+use std::alloc::Global;
 use std::cmp::Ordering;
-use winnow_bench_common::{RawStep, Tell, hand_out, steps_of, tell_all, tell_run};
+use winnow_bench_common::{RawStep, Row, tell_run};
 use winnow_bytes::Bytes;
 use winnow_kinds::BStr;
 
@@ -13,11 +13,7 @@ pub extern "C" fn winnow_bench_answers_bstr(
     script: &[RawStep],
     out: &mut [u64],
 ) -> u64 {
-    let Ok(steps) = steps_of(alloc, script) else {
-        return u64::MAX;
-    };
-    let mut s = BStr::new(input);
-    hand_out(tell_run(alloc, &mut s, &steps), out)
+    tell_run(alloc, BStr::new(input), script, out)
 }
 
 #[unsafe(no_mangle)]
@@ -27,11 +23,7 @@ pub extern "C" fn winnow_bench_answers_plain_bytes(
     script: &[RawStep],
     out: &mut [u64],
 ) -> u64 {
-    let Ok(steps) = steps_of(alloc, script) else {
-        return u64::MAX;
-    };
-    let mut s = Bytes::new(input);
-    hand_out(tell_run(alloc, &mut s, &steps), out)
+    tell_run(alloc, Bytes::new(input), script, out)
 }
 
 #[unsafe(no_mangle)]
@@ -41,40 +33,41 @@ pub extern "C" fn winnow_bench_texts_kinds(
     width: u64,
     out: &mut [u64],
 ) -> u64 {
-    hand_out(tell_texts(alloc, input, width as usize), out)
+    let mut row = Row::new(alloc);
+    tell_bstr(alloc, &mut row, BStr::new(input));
+    tell_bytes(alloc, &mut row, Bytes::new(input));
+    tell_orders(&mut row, input.split_at((width as usize).min(input.len())));
+    row.hand_out(out)
 }
 
-// The texts of both kinds, and how the part before that width compares with the part behind it.
-fn tell_texts(alloc: Global, input: &[u8], width: usize) -> Result<Vec<u64>, AllocError> {
-    let mut told = Vec::new(alloc);
-    let (text, bytes) = (BStr::new(input), Bytes::new(input));
-    for text in [
-        format!(in alloc; "{text}")?,
-        format!(in alloc; "{text:?}")?,
-        format!(in alloc; "{text:#?}")?,
-        format!(in alloc; "{text:.2}")?,
-        format!(in alloc; "{text:9.1?}")?,
-        format!(in alloc; "{bytes}")?,
-        format!(in alloc; "{bytes:?}")?,
-        format!(in alloc; "{bytes:9.1}")?,
-        format!(in alloc; "{}", bytes.upper())?,
-        format!(in alloc; "{}", bytes.lower())?,
-    ] {
-        text.as_bytes().tell(&mut told)?;
-    }
-    let (front, rest) = input.split_at(width.min(input.len()));
+// The texts of a `BStr`.
+fn tell_bstr(alloc: Global, row: &mut Row, text: BStr) {
+    row.add_made(format!(in alloc; "{text}"));
+    row.add_made(format!(in alloc; "{text:?}"));
+    row.add_made(format!(in alloc; "{text:#?}"));
+    row.add_made(format!(in alloc; "{text:.2}"));
+    row.add_made(format!(in alloc; "{text:9.1?}"));
+}
+
+// The texts of `Bytes`.
+fn tell_bytes(alloc: Global, row: &mut Row, bytes: Bytes) {
+    row.add_made(format!(in alloc; "{bytes}"));
+    row.add_made(format!(in alloc; "{bytes:?}"));
+    row.add_made(format!(in alloc; "{bytes:9.1}"));
+    row.add_made(format!(in alloc; "{}", bytes.upper()));
+    row.add_made(format!(in alloc; "{}", bytes.lower()));
+}
+
+// How a part compares with the part behind it, as each kind.
+fn tell_orders(row: &mut Row, (front, rest): (&[u8], &[u8])) {
     let (bstr_front, bstr_rest) = (BStr::new(front), BStr::new(rest));
     let (bytes_front, bytes_rest) = (Bytes::new(front), Bytes::new(rest));
-    tell_all(
-        &mut told,
-        &[
-            order(bstr_front.cmp(&bstr_rest)),
-            order(bytes_front.cmp(&bytes_rest)),
-            u64::from(bstr_front == bstr_rest),
-            u64::from(bytes_front == bytes_rest),
-        ],
-    )?;
-    Ok(told)
+    row.add(&[
+        order(bstr_front.cmp(&bstr_rest)),
+        order(bytes_front.cmp(&bytes_rest)),
+        u64::from(bstr_front == bstr_rest),
+        u64::from(bytes_front == bytes_rest),
+    ]);
 }
 
 fn order(order: Ordering) -> u64 {

@@ -4,8 +4,8 @@ ghost use Rattle.std.specs.Str.{IsUtf8};
 ghost use Rattle.winnow_stream.specs.Front.{is_offset};
 ghost use Rattle.winnow_recover.specs.Recovering.{recoverable_inner};
 
-use std::alloc::{AllocError, Global};
-use winnow_bench_common::{RawStep, Tell, hand_out, steps_of, tell_all, tell_run, text};
+use std::alloc::Global;
+use winnow_bench_common::{RawStep, Row, Tell, tell_run, text};
 use winnow_error::{EmptyError, ErrMode, Needed};
 use winnow_recover::{RecordError, Recover, Recoverable};
 use winnow_stream::{AsBStr, Location, Stream, StreamIsPartial, UpdateSlice};
@@ -20,11 +20,8 @@ pub extern "C" fn winnow_bench_answers_recoverable(
     script: &[RawStep],
     out: &mut [u64],
 ) -> u64 {
-    let Ok(steps) = steps_of(alloc, script) else {
-        return u64::MAX;
-    };
-    let mut s: Recoverable<&[u8], Mode> = Recoverable::new(alloc, input);
-    hand_out(tell_run(alloc, &mut s, &steps), out)
+    let s: Recoverable<&[u8], Mode> = Recoverable::new(alloc, input);
+    tell_run(alloc, s, script, out)
 }
 
 #[unsafe(no_mangle)]
@@ -34,11 +31,9 @@ pub extern "C" fn winnow_bench_recovered_bytes(
     width: u64,
     out: &mut [u64],
 ) -> u64 {
-    let width = width as usize;
-    if !input.is_offset(width) {
-        return 0;
-    }
-    hand_out(tell_recovered(alloc, input, width), out)
+    let mut row = Row::new(alloc);
+    tell_recovered(alloc, &mut row, input, width as usize);
+    row.hand_out(out)
 }
 
 #[unsafe(no_mangle)]
@@ -51,43 +46,38 @@ pub extern "C" fn winnow_bench_recovered_text(
     requires { IsUtf8 input.now }
 {
     let input = text(input);
-    let width = width as usize;
-    if !input.is_offset(width) {
-        return 0;
-    }
-    hand_out(tell_recovered(alloc, input, width), out)
+    let mut row = Row::new(alloc);
+    tell_recovered(alloc, &mut row, input, width as usize);
+    row.hand_out(out)
 }
 
-// What two streams tell, of which one records errors, and what one tells that goes back to its start.
-fn tell_recovered<I>(alloc: Global, input: I, width: usize) -> Result<Vec<u64>, AllocError>
+// What two streams tell, of which one records errors, and what one tells that goes back to its start; nothing where no front has
+// that width.
+fn tell_recovered<I>(alloc: Global, row: &mut Row, input: I, width: usize)
 where
     I: UpdateSlice + StreamIsPartial + AsBStr + Copy,
     I::Token: Drop,
     I::Slice: Drop,
-    requires valid { I.valid input }
-    requires width { IsTrue (is_offset (I.remaining input) width) }
+    requires { I.valid input }
 {
-    let mut told = Vec::new(alloc);
+    if !input.is_offset(width) {
+        return;
+    }
     let recording: Recoverable<LocatingSlice<I>, Mode> = Recoverable::new(
         alloc,
         LocatingSlice::new(input),
     );
-    tell_recording(&mut told, recording, width)?;
+    tell_recording(row, recording, width);
     let refusing: Recoverable<LocatingSlice<I>, Mode> = Recoverable::unrecoverable(
         alloc,
         LocatingSlice::new(input),
     );
-    tell_recording(&mut told, refusing, width)?;
-    tell_restart(&mut told, LocatingSlice::new(input), width)?;
-    Ok(told)
+    tell_recording(row, refusing, width);
+    tell_restart(row, LocatingSlice::new(input), width);
 }
 
 // Errors recorded before a front, behind it, in its window, and behind a reset out of it; and then the errors themselves.
-fn tell_recording<I>(
-    told: &mut Vec<u64>,
-    s: Recoverable<I, Mode>,
-    width: usize,
-) -> Result<(), AllocError>
+fn tell_recording<I>(row: &mut Row, s: Recoverable<I, Mode>, width: usize)
 where
     I: UpdateSlice + Location + StreamIsPartial + AsBStr + Drop,
     I::Token: Drop,
@@ -97,35 +87,25 @@ where
 {
     let mut s = s;
     let at = s.checkpoint();
-    tell_all(
-        told,
-        &[recorded(s.record_err(&at, &at, ErrMode::Backtrack(EmptyError)))],
-    )?;
+    row.add(&[recorded(s.record_err(&at, &at, ErrMode::Backtrack(EmptyError)))]);
     let slice = s.next_slice(width);
     let behind = s.checkpoint();
-    tell_all(
-        told,
-        &[recorded(s.record_err(&at, &behind, ErrMode::Incomplete(Needed::Unknown)))],
-    )?;
-    tell_place(told, &s)?;
+    row.add(&[recorded(s.record_err(&at, &behind, ErrMode::Incomplete(Needed::Unknown)))]);
+    tell_place(row, &s);
     let mut window = s.update_slice(slice, &at);
-    tell_all(
-        told,
-        &[recorded(window.record_err(&at, &behind, ErrMode::Cut(EmptyError)))],
-    )?;
-    tell_place(told, &window)?;
+    row.add(&[recorded(window.record_err(&at, &behind, ErrMode::Cut(EmptyError)))]);
+    tell_place(row, &window);
     window.reset(&behind);
-    tell_place(told, &window)?;
+    tell_place(row, &window);
     let (_inside, errors) = window.into_parts();
-    tell_all(told, &[errors.len() as u64])?;
+    row.add(&[errors.len() as u64]);
     for error in &errors {
-        tell_all(told, &[mode_number(error)])?;
+        row.add(&[mode_number(error)]);
     }
-    Ok(())
 }
 
 // The places behind a front, in its window, and back at the start.
-fn tell_restart<I>(told: &mut Vec<u64>, s: LocatingSlice<I>, width: usize) -> Result<(), AllocError>
+fn tell_restart<I>(row: &mut Row, s: LocatingSlice<I>, width: usize)
 where
     I: UpdateSlice + StreamIsPartial + AsBStr + Copy,
     I::Token: Drop,
@@ -136,21 +116,21 @@ where
     let mut s = s;
     let at = s.checkpoint();
     let slice = s.next_slice(width);
-    tell_place(told, &s)?;
+    tell_place(row, &s);
     s.reset_to_start();
-    tell_place(told, &s)?;
+    tell_place(row, &s);
     let mut window = s.update_slice(slice, &at);
     let _first = window.next_token();
-    tell_place(told, &window)?;
+    tell_place(row, &window);
     window.reset_to_start();
-    tell_place(told, &window)
+    tell_place(row, &window);
 }
 
 // The place, and the bytes that remain.
-fn tell_place<S: Location + AsBStr>(told: &mut Vec<u64>, s: &S) -> Result<(), AllocError> {
+fn tell_place<S: Location + AsBStr>(row: &mut Row, s: &S) {
     let (end, start) = (s.previous_token_end(), s.current_token_start());
-    tell_all(told, &[end as u64, start as u64])?;
-    s.as_bstr().tell(told)
+    row.add(&[end as u64, start as u64]);
+    s.as_bstr().tell(row);
 }
 
 // Whether the error was taken or refused.

@@ -3,7 +3,7 @@ ghost use Rattle.std.specs.Str.{IsUtf8};
 
 use crate::others::tell_text;
 use std::alloc::Global;
-use winnow_bench_common::{RawStep, hand_out, steps_of, tell_run, text};
+use winnow_bench_common::{RawStep, Row, tell_run, text};
 
 #[unsafe(no_mangle)]
 pub extern "C" fn winnow_bench_answers_text(
@@ -14,11 +14,7 @@ pub extern "C" fn winnow_bench_answers_text(
 ) -> u64
     requires { IsUtf8 input.now }
 {
-    let Ok(steps) = steps_of(alloc, script) else {
-        return u64::MAX;
-    };
-    let mut s = text(input);
-    hand_out(tell_run(alloc, &mut s, &steps), out)
+    tell_run(alloc, text(input), script, out)
 }
 
 #[unsafe(no_mangle)]
@@ -30,5 +26,7 @@ pub extern "C" fn winnow_bench_others_text(
 ) -> u64
     requires { IsUtf8 input.now }
 {
-    hand_out(tell_text(alloc, text(input), width as usize), out)
+    let mut row = Row::new(alloc);
+    tell_text(&mut row, text(input), width as usize);
+    row.hand_out(out)
 }

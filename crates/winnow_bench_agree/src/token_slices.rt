@@ -1,7 +1,7 @@
 //! The answers over a slice of tokens, each token a byte.
 
-use std::alloc::{AllocError, Global};
-use winnow_bench_common::{RawStep, Tell, hand_out, steps_of, tell_all, tell_run};
+use std::alloc::Global;
+use winnow_bench_common::{RawStep, Row, Tell, tell_run};
 use winnow_match::{Compare, CompareResult};
 use winnow_stream::{Offset, SliceLen, Stream, StreamIsPartial, UpdateSlice};
 use winnow_views::TokenSlice;
@@ -13,11 +13,7 @@ pub extern "C" fn winnow_bench_answers_tokens(
     script: &[RawStep],
     out: &mut [u64],
 ) -> u64 {
-    let Ok(steps) = steps_of(alloc, script) else {
-        return u64::MAX;
-    };
-    let mut s = TokenSlice::new(input);
-    hand_out(tell_run(alloc, &mut s, &steps), out)
+    tell_run(alloc, TokenSlice::new(input), script, out)
 }
 
 #[unsafe(no_mangle)]
@@ -27,53 +23,49 @@ pub extern "C" fn winnow_bench_views_tokens(
     width: u64,
     out: &mut [u64],
 ) -> u64 {
-    hand_out(tell_views(alloc, input, width as usize), out)
+    let mut row = Row::new(alloc);
+    tell_views(&mut row, input, width as usize);
+    row.hand_out(out)
 }
 
 // What a slice of tokens shows behind its first token, behind a front of that width, back again, in a window on it, and back at the
 // start; nothing where there is no such front.
-fn tell_views(alloc: Global, input: &[u8], width: usize) -> Result<Vec<u64>, AllocError> {
-    let mut told = Vec::new(alloc);
+fn tell_views(row: &mut Row, input: &[u8], width: usize) {
     let start = TokenSlice::new(input);
     let mut tokens = start;
     let _first = tokens.next_token();
-    tell_view(&mut told, &tokens)?;
+    tell_view(row, &tokens);
     if !tokens.is_offset(width) {
-        return Ok(told);
+        return;
     }
     let at = tokens.checkpoint();
     let slice = tokens.next_slice(width);
-    tell_view(&mut told, &tokens)?;
-    tell_all(
-        &mut told,
-        &[
-            tokens.offset_since(&at) as u64,
-            u64::from(tokens == start),
-            u64::from(tokens.checkpoint() == at),
-            u64::from(tokens.checkpoint() < at),
-        ],
-    )?;
+    tell_view(row, &tokens);
+    row.add(&[
+        tokens.offset_since(&at) as u64,
+        u64::from(tokens == start),
+        u64::from(tokens.checkpoint() == at),
+        u64::from(tokens.checkpoint() < at),
+    ]);
     tokens.reset(&at);
-    tell_view(&mut told, &tokens)?;
+    tell_view(row, &tokens);
     tokens = tokens.update_slice(slice, &at);
     let _first = tokens.next_token();
-    tell_view(&mut told, &tokens)?;
+    tell_view(row, &tokens);
     tokens.reset_to_start();
-    tell_view(&mut told, &tokens)?;
-    Ok(told)
+    tell_view(row, &tokens);
 }
 
 // What remains, its width, the tokens before the place, the last first, and how the next token compares with a few.
-fn tell_view(told: &mut Vec<u64>, tokens: &TokenSlice<'_, u8>) -> Result<(), AllocError> {
-    tokens.as_slice().tell(told)?;
-    tell_all(told, &[tokens.slice_len() as u64])?;
+fn tell_view(row: &mut Row, tokens: &TokenSlice<'_, u8>) {
+    tokens.as_slice().tell(row);
+    row.add(&[tokens.slice_len() as u64]);
     for token in tokens.previous_tokens() {
-        token.tell(told)?;
+        token.tell(row);
     }
     for literal in *b"a\n\0" {
-        tell_all(told, &[compared(tokens.compare(literal))])?;
+        row.add(&[compared(tokens.compare(literal))]);
     }
-    Ok(())
 }
 
 fn compared(answer: CompareResult) -> u64 {

@@ -2,8 +2,10 @@
 //! texts, answers as rows of numbers, and what hands out the items that are gathered.
 #![tactic(auto)]
 
+mod answers;
 mod bits;
 mod gathering;
+mod rows;
 mod search_steps;
 mod steps;
 mod supply;
@@ -12,12 +14,14 @@ mod texts;
 mod weigh;
 mod wrapping;
 
+pub use answers::{tell_run, tell_searches, weigh_answers};
 pub use bits::bits_at;
 pub use gathering::gather;
+pub use rows::{Row, hand_out};
 pub use search_steps::{Cut, search_step_of, search_steps_of};
 pub use steps::{Numbers, RawStep, steps_of};
 pub use supply::{Parts, Supply};
-pub use tell::{Tell, hand_out, tell_all, tell_answer, tell_run};
+pub use tell::Tell;
 pub use texts::text;
 pub use weigh::{Number, Weigh, mix};
 pub use wrapping::{Wrapped, wrap};

@@ -1,6 +1,7 @@
 //! Scripts as they cross the border.
-ghost use Rattle.std.specs.Prelude.{◌≡◌, nat_le, ◌&&◌, if◌then◌else◌};
+ghost use Rattle.std.specs.Prelude.{◌≡◌, nat_le, ◌&&◌};
 
+use crate::weigh::Number;
 use std::alloc::{AllocError, Global};
 use winnow_run::Step;
 use winnow_stream::ScriptSet;
@@ -20,36 +21,12 @@ impl Numbers {
     }
 }
 
-impl ScriptSet<u8> for Numbers {
-    ghost may_answer = { λ s t b. b ≡ (nat_le s.first t && nat_le t s.last) };
-
-    fn holds(&self, token: u8) -> bool {
-        self.has(u64::from(token))
-    }
-}
-
-impl ScriptSet<&u8> for Numbers {
-    ghost may_answer = { λ s t b. b ≡ (nat_le s.first t.now && nat_le t.now s.last) };
-
-    fn holds(&self, token: &u8) -> bool {
-        self.has(u64::from(*token))
-    }
-}
-
-impl ScriptSet<char> for Numbers {
-    ghost may_answer = { λ s t b. b ≡ (nat_le s.first t && nat_le t s.last) };
-
-    fn holds(&self, token: char) -> bool {
-        self.has(u64::from(u32::from(token)))
-    }
-}
-
-impl ScriptSet<bool> for Numbers {
+impl<T: Number + Drop> ScriptSet<T> for Numbers {
     ghost may_answer = { λ s t b.
-        b ≡ (nat_le s.first (if t then 1 else 0) && nat_le (if t then 1 else 0) s.last) };
+        b ≡ (nat_le s.first (T.number t) && nat_le (T.number t) s.last) };
 
-    fn holds(&self, token: bool) -> bool {
-        self.has(u64::from(token))
+    fn holds(&self, token: T) -> bool {
+        self.has(token.number())
     }
 }
 

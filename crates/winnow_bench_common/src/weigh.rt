@@ -1,6 +1,8 @@
 //! What a workload sums up, so that no part of its work can be left out.
 ghost use Rattle.std.specs.Prelude.{◌≡◌, ℕ, if◌then◌else◌};
 
+use std::ops::Range;
+
 /// A token as a number.
 pub trait Number {
     ghost number: { Self → ℕ };
@@ -69,6 +71,20 @@ impl<S: Weigh> Weigh for (S, usize, usize) {
     fn weigh(&self) -> u64 {
         let (bytes, start, end) = self;
         mix(mix(bytes.weigh(), *start as u64), *end as u64)
+    }
+}
+
+/// Both ends.
+impl Weigh for Range<usize> {
+    fn weigh(&self) -> u64 {
+        mix(self.start as u64, self.end as u64)
+    }
+}
+
+/// Items are not read: they take the time that it takes to list them.
+impl<T> Weigh for Vec<(usize, T)> {
+    fn weigh(&self) -> u64 {
+        4
     }
 }
 

@@ -3,7 +3,7 @@ ghost use Rattle.std.specs.Str.{IsUtf8};
 
 use crate::failing::fail_at;
 use std::alloc::{AllocError, Global};
-use winnow_bench_common::{Tell, Weigh, hand_out, mix, tell_all, text};
+use winnow_bench_common::{Row, Tell, Weigh, mix, text};
 use winnow_parse_error::translate_position;
 use winnow_stream::{AsBStr, Stream};
 
@@ -14,7 +14,9 @@ pub extern "C" fn winnow_bench_failure_bytes(
     width: u64,
     out: &mut [u64],
 ) -> u64 {
-    hand_out(tell_failure(alloc, input, width as usize), out)
+    let mut row = Row::new(alloc);
+    tell_failure(alloc, &mut row, input, width as usize);
+    row.hand_out(out)
 }
 
 #[unsafe(no_mangle)]
@@ -26,29 +28,21 @@ pub extern "C" fn winnow_bench_failure_text(
 ) -> u64
     requires { IsUtf8 input.now }
 {
-    hand_out(tell_failure(alloc, text(input), width as usize), out)
+    let mut row = Row::new(alloc);
+    tell_failure(alloc, &mut row, text(input), width as usize);
+    row.hand_out(out)
 }
 
 // What the error of a parse prints, its offset and its span.
-fn tell_failure<I: Stream + AsBStr + Copy>(
-    alloc: Global,
-    input: I,
-    width: usize,
-) -> Result<Vec<u64>, AllocError>
+fn tell_failure<I: Stream + AsBStr + Copy>(alloc: Global, row: &mut Row, input: I, width: usize)
 where
     I::Slice: Drop,
     requires { I.valid input }
 {
-    let mut told = Vec::new(alloc);
     let error = fail_at(alloc, input, width);
-    let text = format!(in alloc; "{error}")?;
-    text.as_str().tell(&mut told)?;
-    let span = error.char_span();
-    tell_all(
-        &mut told,
-        &[error.offset() as u64, span.start as u64, span.end as u64],
-    )?;
-    Ok(told)
+    row.add_made(format!(in alloc; "{error}"));
+    row.add(&[error.offset() as u64]);
+    error.char_span().tell(row);
 }
 
 #[unsafe(no_mangle)]
@@ -88,7 +82,7 @@ pub extern "C" fn winnow_bench_failure_spans(alloc: Global, input: &[u8], _numbe
     let mut sum = 0;
     for width in 0..input.len() {
         let span = fail_at(alloc, input, width).char_span();
-        sum = mix(sum, mix(span.start as u64, span.end as u64));
+        sum = mix(sum, span.weigh());
     }
     sum
 }

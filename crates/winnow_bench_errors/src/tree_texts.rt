@@ -2,9 +2,9 @@
 ghost use Rattle.std.specs.Str.{IsUtf8};
 
 use crate::tree_steps::{Tree, build};
-use std::alloc::{AllocError, Global};
+use std::alloc::Global;
 use std::fmt::Display;
-use winnow_bench_common::{RawStep, Tell, hand_out, text};
+use winnow_bench_common::{RawStep, Row, text};
 use winnow_context::StrContext;
 use winnow_kinds::BStr;
 use winnow_stream::Stream;
@@ -17,7 +17,9 @@ pub extern "C" fn winnow_bench_trees_bytes(
     steps: &[RawStep],
     out: &mut [u64],
 ) -> u64 {
-    hand_out(tell_trees(alloc, BStr::new(input), steps), out)
+    let mut row = Row::new(alloc);
+    tell_trees(alloc, &mut row, BStr::new(input), steps);
+    row.hand_out(out)
 }
 
 #[unsafe(no_mangle)]
@@ -29,57 +31,46 @@ pub extern "C" fn winnow_bench_trees_text(
 ) -> u64
     requires { IsUtf8 input.now }
 {
-    hand_out(tell_trees(alloc, text(input), steps), out)
+    let mut row = Row::new(alloc);
+    tell_trees(alloc, &mut row, text(input), steps);
+    row.hand_out(out)
 }
 
 // The text of each tree that the steps leave, and of its parts by themselves.
-fn tell_trees<I: Stream + Copy + Display>(
-    alloc: Global,
-    input: I,
-    steps: &[RawStep],
-) -> Result<Vec<u64>, AllocError>
+fn tell_trees<I: Stream + Copy + Display>(alloc: Global, row: &mut Row, input: I, steps: &[RawStep])
 where
     I::Slice: Drop,
     requires { I.valid input }
 {
-    let mut told = Vec::new(alloc);
-    let stack = build(alloc, input, steps)?;
-    for tree in &stack {
-        tell_text(&mut told, tree.text(alloc)?)?;
-        tell_parts(alloc, &mut told, tree)?;
+    match build(alloc, input, steps) {
+        Ok(stack) => tell_all(alloc, row, &stack),
+        Err(_) => row.refuse(),
     }
-    Ok(told)
 }
 
-fn tell_text(told: &mut Vec<u64>, text: String) -> Result<(), AllocError> {
-    text.as_str().tell(told)
+fn tell_all<I: Display>(alloc: Global, row: &mut Row, stack: &[Tree<I>]) {
+    for tree in stack {
+        row.add_made(tree.text(alloc));
+        tell_parts(alloc, row, tree);
+    }
 }
 
 // The texts of a base and of frames, not of what lies deeper.
-fn tell_parts<I: Display>(
-    alloc: Global,
-    told: &mut Vec<u64>,
-    tree: &Tree<I>,
-) -> Result<(), AllocError> {
+fn tell_parts<I: Display>(alloc: Global, row: &mut Row, tree: &Tree<I>) {
     match tree {
-        TreeError::Base(base) => tell_text(told, base.text(alloc)?),
+        TreeError::Base(base) => row.add_made(base.text(alloc)),
         TreeError::Stack { base: _, stack } => {
             for frame in stack {
-                tell_frame(alloc, told, frame)?;
+                tell_frame(alloc, row, frame);
             }
-            Ok(())
         }
-        TreeError::Alt(_) => Ok(()),
+        TreeError::Alt(_) => {}
     }
 }
 
-fn tell_frame<I: Display>(
-    alloc: Global,
-    told: &mut Vec<u64>,
-    frame: &TreeErrorFrame<I, StrContext>,
-) -> Result<(), AllocError> {
+fn tell_frame<I: Display>(alloc: Global, row: &mut Row, frame: &TreeErrorFrame<I, StrContext>) {
     match frame {
-        TreeErrorFrame::Kind(base) => tell_text(told, base.text(alloc)?),
-        TreeErrorFrame::Context(about) => tell_text(told, about.text(alloc)?),
+        TreeErrorFrame::Kind(base) => row.add_made(base.text(alloc)),
+        TreeErrorFrame::Context(about) => row.add_made(about.text(alloc)),
     }
 }

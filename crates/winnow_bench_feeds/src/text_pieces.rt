@@ -2,9 +2,9 @@
 ghost use Rattle.std.specs.Str.{IsUtf8};
 
 use crate::piece_answers::{tell_finished, weigh_answers};
-use crate::scripts::{PieceStep, ranges_of, steps_in};
+use crate::scripts::{ranges_of, steps_in};
 use std::alloc::{AllocError, Global};
-use winnow_bench_common::{RawStep, hand_out, tell_all, text};
+use winnow_bench_common::{RawStep, Row, text};
 use winnow_feed::TextFeed;
 
 // No input is as long, so that a place fits.
@@ -42,7 +42,11 @@ fn weigh_pieces(
 ) -> Result<u64, AllocError> {
     let ranges = ranges_of(alloc, script)?;
     let steps = steps_in(alloc, script, &ranges, literals)?;
-    let mut feed = TextFeed::new(alloc, &steps)?;
+    weigh_fed(TextFeed::new(alloc, &steps)?, input, cuts)
+}
+
+fn weigh_fed(feed: TextFeed<'_>, input: &str, cuts: &[u64]) -> Result<u64, AllocError> {
+    let mut feed = feed;
     feed_all(&mut feed, input, cuts)?;
     Ok(weigh_answers(feed.end().answers()))
 }
@@ -71,41 +75,51 @@ pub extern "C" fn winnow_bench_piece_answers_text(
     requires input { IsUtf8 input.now }
     requires literals { IsUtf8 literals.now }
 {
-    hand_out(
-        tell_pieces(alloc, text(input), text(literals), script, cuts),
-        out,
-    )
+    let mut row = Row::new(alloc);
+    if tell_pieces(alloc, &mut row, text(input), text(literals), script, cuts).is_err() {
+        return u64::MAX;
+    }
+    row.hand_out(out)
 }
 
 fn tell_pieces(
     alloc: Global,
+    row: &mut Row,
     input: &str,
     literals: &str,
     script: &[RawStep],
     cuts: &[u64],
-) -> Result<Vec<u64>, AllocError> {
-    let mut told = Vec::new(alloc);
+) -> Result<(), AllocError> {
     let ranges = ranges_of(alloc, script)?;
     let steps = steps_in(alloc, script, &ranges, literals)?;
-    tell_fed(alloc, &mut told, input, &steps, cuts)?;
-    Ok(told)
+    tell_fed(row, TextFeed::new(alloc, &steps)?, input, cuts)
 }
 
-fn tell_fed<'k>(
-    alloc: Global,
-    told: &mut Vec<u64>,
+fn tell_fed(
+    row: &mut Row,
+    feed: TextFeed<'_>,
     input: &str,
-    steps: &'k [PieceStep<'k, &'k str>],
     cuts: &[u64],
 ) -> Result<(), AllocError> {
-    let mut feed = TextFeed::new(alloc, steps)?;
+    let mut feed = feed;
+    tell_cuts(row, &mut feed, input, cuts)?;
+    tell_finished(row, &feed.end());
+    Ok(())
+}
+
+fn tell_cuts(
+    row: &mut Row,
+    feed: &mut TextFeed<'_>,
+    input: &str,
+    cuts: &[u64],
+) -> Result<(), AllocError> {
     let mut start = 0;
     for cut in cuts {
         if let Some(piece) = input.get(start..*cut as usize) {
-            let came = feed_piece(&mut feed, piece)?;
-            tell_all(told, &[came as u64, feed.held() as u64])?;
+            let came = feed_piece(feed, piece)?;
+            row.add(&[came as u64, feed.held() as u64]);
             start = *cut as usize;
         }
     }
-    tell_finished(told, &feed.end())
+    Ok(())
 }

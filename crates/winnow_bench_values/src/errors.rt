@@ -1,8 +1,9 @@
 //! The printed texts of errors, as rows of numbers.
 
 use std::alloc::{AllocError, Global};
+use std::fmt::Debug;
 use std::str::from_utf8;
-use winnow_bench_common::{Tell, hand_out};
+use winnow_bench_common::hand_out;
 use winnow_context::{ContextError, StrContext, StrContextValue};
 use winnow_error::{EmptyError, ErrMode, FromExternalError, InputError, Needed, ParserError};
 
@@ -17,7 +18,7 @@ pub extern "C" fn winnow_bench_mode_text(
     number: u64,
     out: &mut [u64],
 ) -> u64 {
-    hand_out(tell_mode(alloc, kind, number), out)
+    hand_out(alloc, mode_text(alloc, kind, number), out)
 }
 
 /// Which of two modes `or` keeps.
@@ -28,19 +29,25 @@ pub extern "C" fn winnow_bench_or_text(
     second: u64,
     out: &mut [u64],
 ) -> u64 {
-    hand_out(tell_or(alloc, first, second), out)
+    hand_out(alloc, or_text(alloc, first, second), out)
 }
 
 /// An error at an input, which is a text.
 #[unsafe(no_mangle)]
 pub extern "C" fn winnow_bench_input_text(alloc: Global, input: &[u8], out: &mut [u64]) -> u64 {
-    hand_out(tell_input(alloc, input), out)
+    match from_utf8(input) {
+        Ok(input) => hand_out(alloc, input_text(alloc, input), out),
+        Err(_) => 0,
+    }
 }
 
 /// A context and its value, by their number.
 #[unsafe(no_mangle)]
 pub extern "C" fn winnow_bench_context_text(alloc: Global, number: u64, out: &mut [u64]) -> u64 {
-    hand_out(tell_context(alloc, number), out)
+    match context_of(number) {
+        Some(context) => hand_out(alloc, context_text(alloc, &context), out),
+        None => 0,
+    }
 }
 
 /// An error with contexts, and with a cause where one is given.
@@ -52,7 +59,7 @@ pub extern "C" fn winnow_bench_explanation_text(
     cause: &[u8],
     out: &mut [u64],
 ) -> u64 {
-    hand_out(tell_explanation(alloc, contexts, causes, cause), out)
+    hand_out(alloc, explanation_text(alloc, contexts, causes, cause), out)
 }
 
 fn mode_of<E: Drop>(kind: u64, needed: usize, error: E) -> ErrMode<E> {
@@ -63,39 +70,37 @@ fn mode_of<E: Drop>(kind: u64, needed: usize, error: E) -> ErrMode<E> {
     }
 }
 
-fn tell_mode(alloc: Global, kind: u64, number: u64) -> Result<Vec<u64>, AllocError> {
+fn mode_text(alloc: Global, kind: u64, number: u64) -> Result<String, AllocError> {
     let empty = mode_of(kind, number as usize, EmptyError);
     let full = mode_of(kind, number as usize, number);
     let error = EmptyError;
-    tell_text(alloc, format!(in alloc; "{empty}, {full}, {error}")?)
+    format!(in alloc; "{empty}, {full}, {error}")
 }
 
-fn tell_or(alloc: Global, first: u64, second: u64) -> Result<Vec<u64>, AllocError> {
+fn or_text(alloc: Global, first: u64, second: u64) -> Result<String, AllocError> {
     let first = mode_of(first, 1, InputError::at("first"));
     let second = mode_of(second, 2, InputError::at("second"));
-    let kept = <ErrMode<InputError<&str>> as ParserError<&str>>::or(first, alloc, second)?;
-    tell_text(alloc, format!(in alloc; "{kept}")?)
+    kept_text(alloc, first, second)
 }
 
-fn tell_input(alloc: Global, input: &[u8]) -> Result<Vec<u64>, AllocError> {
-    match from_utf8(input) {
-        Ok(input) => {
-            let error = InputError::at(input);
-            tell_text(alloc, format!(in alloc; "{error}")?)
-        }
-        Err(_) => Ok(Vec::new(alloc)),
-    }
+fn kept_text<E: ParserError<&'static str> + Debug>(
+    alloc: Global,
+    first: ErrMode<E>,
+    second: ErrMode<E>,
+) -> Result<String, AllocError> {
+    let kept = <ErrMode<E> as ParserError<&'static str>>::or(first, alloc, second)?;
+    format!(in alloc; "{kept}")
 }
 
-fn tell_context(alloc: Global, number: u64) -> Result<Vec<u64>, AllocError> {
-    match context_of(number) {
-        Some(context) => match &context {
-            StrContext::Label(_) => tell_text(alloc, format!(in alloc; "{context}")?),
-            StrContext::Expected(value) => {
-                tell_text(alloc, format!(in alloc; "{context}, {value}")?)
-            }
-        },
-        None => Ok(Vec::new(alloc)),
+fn input_text(alloc: Global, input: &str) -> Result<String, AllocError> {
+    let error = InputError::at(input);
+    format!(in alloc; "{error}")
+}
+
+fn context_text(alloc: Global, context: &StrContext) -> Result<String, AllocError> {
+    match context {
+        StrContext::Label(_) => format!(in alloc; "{context}"),
+        StrContext::Expected(value) => format!(in alloc; "{context}, {value}"),
     }
 }
 
@@ -114,32 +119,31 @@ fn context_of(number: u64) -> Option<StrContext> {
     }
 }
 
-fn tell_explanation(
+fn explanation_text(
     alloc: Global,
     contexts: &[u64],
     causes: u64,
     cause: &[u8],
-) -> Result<Vec<u64>, AllocError> {
+) -> Result<String, AllocError> {
     let mut error = match from_utf8(cause) {
         Ok(cause) if causes != 0 => caused_by(alloc, String::from_str(alloc, cause)?),
         _ => ContextError::new(alloc),
     };
+    push_all(&mut error, contexts)?;
+    format!(in alloc; "{error}")
+}
+
+fn push_all(error: &mut ContextError<StrContext>, contexts: &[u64]) -> Result<(), AllocError> {
     for number in contexts {
         if let Some(context) = context_of(*number) {
             error.push(context)?;
         }
     }
-    tell_text(alloc, format!(in alloc; "{error}")?)
+    Ok(())
 }
 
 fn caused_by(alloc: Global, cause: String) -> ContextError<StrContext> {
     <ContextError<StrContext> as FromExternalError<&str, String>>::from_external_error(
         alloc, &"", cause,
     )
-}
-
-fn tell_text(alloc: Global, text: String) -> Result<Vec<u64>, AllocError> {
-    let mut told = Vec::new(alloc);
-    text.as_str().tell(&mut told)?;
-    Ok(told)
 }

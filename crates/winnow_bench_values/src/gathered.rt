@@ -1,10 +1,29 @@
 //! What each accumulator holds of the items of an input.
 ghost use Rattle.std.specs.Str.{IsUtf8};
 
-use std::alloc::{AllocError, Global};
+use std::alloc::Global;
 use std::borrow::CowStr;
 use std::collections::{BTreeMap, BTreeSet, HashMap, HashSet, VecDeque};
-use winnow_bench_common::{Parts, Supply, Tell, gather, hand_out, tell_all, text};
+use winnow_bench_common::{Parts, Row, Supply, Tell, gather, text};
+use winnow_count::Accumulate;
+
+type Cow<'i> = CowStr<'i, Global>;
+
+// What is gathered of so many items, or of as many as there are.
+fn tell_gathered<A: Accumulate<T> + Tell + Drop, T: Drop, S: Supply<T> + Drop>(
+    alloc: Global,
+    row: &mut Row,
+    items: S,
+    count: usize,
+) {
+    let mut items = items;
+    row.add_made(gather::<A, T, S>(alloc, &mut items, count));
+}
+
+// What remains, in parts of so many tokens.
+fn parts<S>(rest: S, tokens: usize) -> Parts<S> {
+    Parts { rest, tokens }
+}
 
 #[unsafe(no_mangle)]
 pub extern "C" fn winnow_bench_gathered_bytes(
@@ -13,36 +32,19 @@ pub extern "C" fn winnow_bench_gathered_bytes(
     tokens: u64,
     out: &mut [u64],
 ) -> u64 {
-    hand_out(tell_bytes(alloc, input, tokens as usize), out)
+    let mut row = Row::new(alloc);
+    tell_bytes(alloc, &mut row, input, tokens as usize);
+    row.hand_out(out)
 }
 
 // What the bytes give, and what their parts of so many tokens do.
-fn tell_bytes(alloc: Global, input: &[u8], tokens: usize) -> Result<Vec<u64>, AllocError> {
-    let mut told = Vec::new(alloc);
+fn tell_bytes(alloc: Global, row: &mut Row, input: &[u8], tokens: usize) {
     let count = input.len();
-    gather::<(), u8, &[u8]>(alloc, &mut &*input, count)?;
-    let counted: usize = gather::<usize, u8, &[u8]>(alloc, &mut &*input, count)?;
-    tell_all(&mut told, &[counted as u64])?;
-    let listed: Vec<u8> = gather::<Vec<u8>, u8, &[u8]>(alloc, &mut &*input, count)?;
-    listed.as_slice().tell(&mut told)?;
-    let mut parts = Parts {
-        rest: input,
-        tokens,
-    };
-    let joined: Vec<u8> = gather::<Vec<u8>, &[u8], Parts<&[u8]>>(alloc, &mut parts, count)?;
-    joined.as_slice().tell(&mut told)?;
-    let mut parts = Parts {
-        rest: input,
-        tokens,
-    };
-    let queue: VecDeque<u8> = gather::<VecDeque<u8>, &[u8], Parts<&[u8]>>(
-        alloc, &mut parts, count,
-    )?;
-    tell_all(&mut told, &[queue.len() as u64])?;
-    for byte in &queue {
-        byte.tell(&mut told)?;
-    }
-    Ok(told)
+    tell_gathered::<(), u8, &[u8]>(alloc, row, input, count);
+    tell_gathered::<usize, u8, &[u8]>(alloc, row, input, count);
+    tell_gathered::<Vec<u8>, u8, &[u8]>(alloc, row, input, count);
+    tell_gathered::<Vec<u8>, &[u8], Parts<&[u8]>>(alloc, row, parts(input, tokens), count);
+    tell_gathered::<VecDeque<u8>, &[u8], Parts<&[u8]>>(alloc, row, parts(input, tokens), count);
 }
 
 #[unsafe(no_mangle)]
@@ -54,41 +56,22 @@ pub extern "C" fn winnow_bench_gathered_text(
 ) -> u64
     requires { IsUtf8 input.now }
 {
-    hand_out(tell_text(alloc, text(input), tokens as usize), out)
+    let mut row = Row::new(alloc);
+    let input = text(input);
+    tell_text(alloc, &mut row, input, tokens as usize);
+    tell_owned(alloc, &mut row, input, tokens as usize);
+    tell_mixed(alloc, &mut row, input, tokens as usize, false);
+    tell_mixed(alloc, &mut row, input, tokens as usize, true);
+    row.hand_out(out)
 }
 
-// What the characters give, and what the parts of so many do: lent, owned, and in turn.
-fn tell_text(alloc: Global, input: &str, tokens: usize) -> Result<Vec<u64>, AllocError> {
-    let mut told = Vec::new(alloc);
+// What the characters give, and what the parts of so many do.
+fn tell_text(alloc: Global, row: &mut Row, input: &str, tokens: usize) {
     let count = input.len();
-    let parts = || Parts {
-        rest: input,
-        tokens,
-    };
-    let all: String = gather::<String, char, &str>(alloc, &mut &*input, count)?;
-    all.as_str().tell(&mut told)?;
-    let all: String = gather::<String, &str, Parts<&str>>(alloc, &mut parts(), count)?;
-    all.as_str().tell(&mut told)?;
-    let all: CowStr<'_, Global> = gather::<CowStr<'_, Global>, char, &str>(
-        alloc,
-        &mut &*input,
-        count,
-    )?;
-    tell_cow(&mut told, &all)?;
-    let all: CowStr<'_, Global> = gather::<CowStr<'_, Global>, &str, Parts<&str>>(
-        alloc,
-        &mut parts(),
-        count,
-    )?;
-    tell_cow(&mut told, &all)?;
-    tell_owned(alloc, &mut told, input, tokens)?;
-    Ok(told)
-}
-
-// Whether it is owned, and its text.
-fn tell_cow(told: &mut Vec<u64>, cow: &CowStr<'_, Global>) -> Result<(), AllocError> {
-    tell_all(told, &[u64::from(matches!(cow, CowStr::Owned(_)))])?;
-    cow.as_str().tell(told)
+    tell_gathered::<String, char, &str>(alloc, row, input, count);
+    tell_gathered::<String, &str, Parts<&str>>(alloc, row, parts(input, tokens), count);
+    tell_gathered::<Cow<'_>, char, &str>(alloc, row, input, count);
+    tell_gathered::<Cow<'_>, &str, Parts<&str>>(alloc, row, parts(input, tokens), count);
 }
 
 // Parts as texts of their own; where memory is refused, none.
@@ -112,8 +95,8 @@ struct Mixed<'i> {
     alloc: Global,
 }
 
-impl<'i> Supply<CowStr<'i, Global>> for Mixed<'i> {
-    fn supply(&mut self) -> Option<CowStr<'i, Global>> {
+impl<'i> Supply<Cow<'i>> for Mixed<'i> {
+    fn supply(&mut self) -> Option<Cow<'i>> {
         self.is_lent = !self.is_lent;
         let part = self.parts.supply()?;
         if self.is_lent {
@@ -124,84 +107,54 @@ impl<'i> Supply<CowStr<'i, Global>> for Mixed<'i> {
     }
 }
 
-fn tell_owned(
-    alloc: Global,
-    told: &mut Vec<u64>,
-    input: &str,
-    tokens: usize,
-) -> Result<(), AllocError> {
+// What parts give that are texts of their own.
+fn tell_owned(alloc: Global, row: &mut Row, input: &str, tokens: usize) {
     let count = input.len();
-    let parts = || Parts {
-        rest: input,
-        tokens,
-    };
-    let owned = || Owned {
-        parts: parts(),
+    let owned = Owned {
+        parts: parts(input, tokens),
         alloc,
     };
-    let all: String = gather::<String, String, Owned<'_>>(alloc, &mut owned(), count)?;
-    all.as_str().tell(told)?;
-    let all: CowStr<'_, Global> = gather::<CowStr<'_, Global>, String, Owned<'_>>(
+    tell_gathered::<String, String, Owned<'_>>(alloc, row, owned, count);
+    let owned = Owned {
+        parts: parts(input, tokens),
         alloc,
-        &mut owned(),
-        count,
-    )?;
-    tell_cow(told, &all)?;
-    for is_lent in [false, true] {
-        let mixed = || Mixed {
-            parts: parts(),
-            is_lent,
-            alloc,
-        };
-        let all: String = gather::<String, CowStr<'_, Global>, Mixed<'_>>(
-            alloc,
-            &mut mixed(),
-            count,
-        )?;
-        all.as_str().tell(told)?;
-        let all: CowStr<'_, Global> = gather::<CowStr<'_, Global>, CowStr<'_, Global>, Mixed<'_>>(
-            alloc,
-            &mut mixed(),
-            count,
-        )?;
-        tell_cow(told, &all)?;
-    }
-    Ok(())
+    };
+    tell_gathered::<Cow<'_>, String, Owned<'_>>(alloc, row, owned, count);
+}
+
+// What parts give that are lent and owned in turn.
+fn tell_mixed(alloc: Global, row: &mut Row, input: &str, tokens: usize, is_lent: bool) {
+    let count = input.len();
+    let mixed = Mixed {
+        parts: parts(input, tokens),
+        is_lent,
+        alloc,
+    };
+    tell_gathered::<String, Cow<'_>, Mixed<'_>>(alloc, row, mixed, count);
+    let mixed = Mixed {
+        parts: parts(input, tokens),
+        is_lent,
+        alloc,
+    };
+    tell_gathered::<Cow<'_>, Cow<'_>, Mixed<'_>>(alloc, row, mixed, count);
 }
 
 #[unsafe(no_mangle)]
 pub extern "C" fn winnow_bench_gathered_keys(alloc: Global, keys: &[u64], out: &mut [u64]) -> u64 {
-    hand_out(tell_keys(alloc, keys), out)
+    let mut row = Row::new(alloc);
+    tell_keys(alloc, &mut row, keys);
+    row.hand_out(out)
 }
 
-// More keys than an input has.
-const KEYS: u64 = 16;
-
 // What maps and sets hold of each key.
-fn tell_keys(alloc: Global, keys: &[u64]) -> Result<Vec<u64>, AllocError> {
-    let mut told = Vec::new(alloc);
+fn tell_keys(alloc: Global, row: &mut Row, keys: &[u64]) {
     let count = keys.len();
-    let tree: BTreeMap<u64, u64> = gather::<BTreeMap<u64, u64>, (u64, u64), Pairs<'_>>(
-        alloc,
-        &mut Pairs { keys, count: 0 },
-        count,
-    )?;
-    let hashed: HashMap<u64, u64> = gather::<HashMap<u64, u64>, (u64, u64), Pairs<'_>>(
-        alloc,
-        &mut Pairs { keys, count: 0 },
-        count,
-    )?;
-    let ordered: BTreeSet<u64> = gather::<BTreeSet<u64>, u64, &[u64]>(alloc, &mut &*keys, count)?;
-    let set: HashSet<u64> = gather::<HashSet<u64>, u64, &[u64]>(alloc, &mut &*keys, count)?;
-    tell_all(&mut told, &[tree.len() as u64, hashed.len() as u64])?;
-    tell_all(&mut told, &[ordered.len() as u64, set.len() as u64])?;
-    for key in 0..KEYS {
-        tell_all(&mut told, &[tree.get(&key).copied().unwrap_or(u64::MAX)])?;
-        tell_all(&mut told, &[hashed.get(&key).copied().unwrap_or(u64::MAX)])?;
-        tell_all(&mut told, &[u64::from(ordered.contains(&key))])?;
-        tell_all(&mut told, &[u64::from(set.contains(&key))])?;
-    }
-    Ok(told)
+    let pairs = Pairs { keys, count: 0 };
+    tell_gathered::<BTreeMap<u64, u64>, (u64, u64), Pairs<'_>>(alloc, row, pairs, count);
+    let pairs = Pairs { keys, count: 0 };
+    tell_gathered::<HashMap<u64, u64>, (u64, u64), Pairs<'_>>(alloc, row, pairs, count);
+    tell_gathered::<BTreeSet<u64>, u64, &[u64]>(alloc, row, keys, count);
+    tell_gathered::<HashSet<u64>, u64, &[u64]>(alloc, row, keys, count);
 }
 
 // Keys with how many came before, so that a later value is told from an earlier one.

@@ -1,9 +1,9 @@
 //! What every form of a comparison and of a search answers: three numbers a form.
 ghost use Rattle.std.specs.Str.{IsUtf8};
 
-use std::alloc::{AllocError, Global};
+use std::alloc::Global;
 use std::str::from_utf8;
-use winnow_bench_common::{hand_out, tell_all, text};
+use winnow_bench_common::{Row, text};
 use winnow_match::{Compare, CompareResult, FindSlice, Needles};
 
 #[unsafe(no_mangle)]
@@ -15,7 +15,9 @@ pub extern "C" fn winnow_bench_searches_bytes(
     c: &[u8],
     out: &mut [u64],
 ) -> u64 {
-    hand_out(tell_byte_searches(alloc, input, (a, b, c)), out)
+    let mut row = Row::new(alloc);
+    tell_byte_searches(&mut row, input, (a, b, c));
+    row.hand_out(out)
 }
 
 #[unsafe(no_mangle)]
@@ -29,46 +31,36 @@ pub extern "C" fn winnow_bench_searches_text(
 ) -> u64
     requires { IsUtf8 input.now }
 {
-    hand_out(tell_text_searches(alloc, text(input), (a, b, c)), out)
+    let mut row = Row::new(alloc);
+    tell_text_searches(&mut row, text(input), (a, b, c));
+    row.hand_out(out)
 }
 
 // The forms of bytes, each with needles that are bytes, single bytes, texts and characters, where the needles are such.
-fn tell_byte_searches(
-    alloc: Global,
-    input: &[u8],
-    needles: (&[u8], &[u8], &[u8]),
-) -> Result<Vec<u64>, AllocError> {
-    let mut told = Vec::new(alloc);
-    tell_forms(&mut told, &input, needles)?;
-    tell_needles(&mut told, &input, needles)?;
-    tell_arrays(&mut told, input, needles.0)?;
+fn tell_byte_searches(row: &mut Row, input: &[u8], needles: (&[u8], &[u8], &[u8])) {
+    tell_forms(row, &input, needles);
+    tell_needles(row, &input, needles);
+    tell_arrays(row, input, needles.0);
     if let ([a, ..], [b, ..], [c, ..]) = needles {
-        tell_forms(&mut told, &input, (*a, *b, *c))?;
+        tell_forms(row, &input, (*a, *b, *c));
     }
     if let Some(texts) = texts_of(needles) {
-        tell_forms(&mut told, &input, texts)?;
+        tell_forms(row, &input, texts);
         if let Some(chars) = chars_of(texts) {
-            tell_forms(&mut told, &input, chars)?;
+            tell_forms(row, &input, chars);
         }
     }
-    Ok(told)
 }
 
 // The forms of a text, with needles that are texts and characters, where the needles are such.
-fn tell_text_searches(
-    alloc: Global,
-    input: &str,
-    needles: (&[u8], &[u8], &[u8]),
-) -> Result<Vec<u64>, AllocError> {
-    let mut told = Vec::new(alloc);
+fn tell_text_searches(row: &mut Row, input: &str, needles: (&[u8], &[u8], &[u8])) {
     if let Some(texts) = texts_of(needles) {
-        tell_forms(&mut told, &input, texts)?;
-        tell_needles(&mut told, &input, texts)?;
+        tell_forms(row, &input, texts);
+        tell_needles(row, &input, texts);
         if let Some(chars) = chars_of(texts) {
-            tell_forms(&mut told, &input, chars)?;
+            tell_forms(row, &input, chars);
         }
     }
-    Ok(told)
 }
 
 fn texts_of<'n>(needles: (&'n [u8], &'n [u8], &'n [u8])) -> Option<(&'n str, &'n str, &'n str)> {
@@ -90,77 +82,69 @@ fn chars_of(texts: (&str, &str, &str)) -> Option<(char, char, char)> {
 }
 
 // One literal compared, and one, two and three needles of its kind searched.
-fn tell_forms<S, L: Copy>(told: &mut Vec<u64>, s: &S, needles: (L, L, L)) -> Result<(), AllocError>
+fn tell_forms<S, L: Copy>(row: &mut Row, s: &S, needles: (L, L, L))
 where
     S: Compare<L> + FindSlice<L> + FindSlice<(L,)> + FindSlice<(L, L)> + FindSlice<(L, L, L)>,
     requires { S.valid s.now }
 {
     let (a, b, c) = needles;
-    tell_comparison(told, s, a)?;
-    tell_hit(told, s, a)?;
-    tell_hit(told, s, (a,))?;
-    tell_hit(told, s, (a, b))?;
-    tell_hit(told, s, (a, b, c))
+    tell_comparison(row, s, a);
+    tell_hit(row, s, a);
+    tell_hit(row, s, (a,));
+    tell_hit(row, s, (a, b));
+    tell_hit(row, s, (a, b, c));
 }
 
 // One, two and three needles as one type.
-fn tell_needles<S: FindSlice<Needles<L>>, L: Copy>(
-    told: &mut Vec<u64>,
-    s: &S,
-    needles: (L, L, L),
-) -> Result<(), AllocError>
+fn tell_needles<S: FindSlice<Needles<L>>, L: Copy>(row: &mut Row, s: &S, needles: (L, L, L))
     requires { S.valid s.now }
 {
     let (a, b, c) = needles;
-    tell_hit(told, s, Needles::One(a))?;
-    tell_hit(told, s, Needles::Two(a, b))?;
-    tell_hit(told, s, Needles::Three(a, b, c))
+    tell_hit(row, s, Needles::One(a));
+    tell_hit(row, s, Needles::Two(a, b));
+    tell_hit(row, s, Needles::Three(a, b, c));
 }
 
 // Literals that are arrays, of up to three bytes.
-fn tell_arrays(told: &mut Vec<u64>, s: &[u8], literal: &[u8]) -> Result<(), AllocError> {
+fn tell_arrays(row: &mut Row, s: &[u8], literal: &[u8]) {
     match literal {
         [] => {
             let none: [u8; 0] = [];
-            tell_comparison(told, &s, none)?;
-            tell_comparison(told, &s, &none)
+            tell_comparison(row, &s, none);
+            tell_comparison(row, &s, &none)
         }
         [a] => {
-            tell_comparison(told, &s, [*a])?;
-            tell_comparison(told, &s, &[*a])
+            tell_comparison(row, &s, [*a]);
+            tell_comparison(row, &s, &[*a])
         }
         [a, b] => {
-            tell_comparison(told, &s, [*a, *b])?;
-            tell_comparison(told, &s, &[*a, *b])
+            tell_comparison(row, &s, [*a, *b]);
+            tell_comparison(row, &s, &[*a, *b])
         }
         [a, b, c, ..] => {
-            tell_comparison(told, &s, [*a, *b, *c])?;
-            tell_comparison(told, &s, &[*a, *b, *c])
+            tell_comparison(row, &s, [*a, *b, *c]);
+            tell_comparison(row, &s, &[*a, *b, *c])
         }
     }
 }
 
 // 0 and the width, or 1, or 2.
-fn tell_comparison<S: Compare<L>, L>(
-    told: &mut Vec<u64>,
-    s: &S,
-    literal: L,
-) -> Result<(), AllocError>
+fn tell_comparison<S: Compare<L>, L>(row: &mut Row, s: &S, literal: L)
     requires { S.valid s.now }
 {
     match s.compare(literal) {
-        CompareResult::Ok(width) => tell_all(told, &[0, width as u64, 0]),
-        CompareResult::Incomplete => tell_all(told, &[1, 0, 0]),
-        CompareResult::Error => tell_all(told, &[2, 0, 0]),
+        CompareResult::Ok(width) => row.add(&[0, width as u64, 0]),
+        CompareResult::Incomplete => row.add(&[1, 0, 0]),
+        CompareResult::Error => row.add(&[2, 0, 0]),
     }
 }
 
 // 3 and the ends of the hit, or 4.
-fn tell_hit<S: FindSlice<N>, N>(told: &mut Vec<u64>, s: &S, needle: N) -> Result<(), AllocError>
+fn tell_hit<S: FindSlice<N>, N>(row: &mut Row, s: &S, needle: N)
     requires { S.valid s.now }
 {
     match s.find_slice(needle) {
-        Some(hit) => tell_all(told, &[3, hit.start as u64, hit.end as u64]),
-        None => tell_all(told, &[4, 0, 0]),
+        Some(hit) => row.add(&[3, hit.start as u64, hit.end as u64]),
+        None => row.add(&[4, 0, 0]),
     }
 }
