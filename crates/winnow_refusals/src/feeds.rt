@@ -174,7 +174,38 @@ fn keeps_none(
     Ok(feed.fed() == length.saturating_mul(pieces))
 }
 
-/// So many pieces of that length, whole parts of 1,024 bytes, which a script takes from the feed as they come.
+// The same of text.
+fn keeps_no_text(
+    feed: &mut TextFeed,
+    bytes: &[u8],
+    length: usize,
+    pieces: usize,
+) -> Result<bool, AllocError> {
+    for piece in bytes.chunks(length.max(1)).take(pieces) {
+        let Ok(piece) = str::from_utf8(piece) else {
+            return Ok(false);
+        };
+        if feed.fed() > MOST || piece.len() > MOST {
+            return Ok(false);
+        }
+        feed.feed(piece)?;
+        if feed.held() != 0 {
+            return Ok(false);
+        }
+    }
+    Ok(feed.fed() == length.saturating_mul(pieces))
+}
+
+/// Pieces of that length, whole parts of 1,024 characters, which a script takes from the feed as they come.
+pub fn drain_text(alloc: Global, length: usize, pieces: usize) -> Result<bool, AllocError> {
+    let script: [TextStep; 256] = [Call(Take(1024)); 256];
+    let bytes = vec![in alloc; b'a'; 262_144]?;
+    let mut feed = TextFeed::new(alloc, &script)?;
+    let kept_none = keeps_no_text(&mut feed, bytes.as_slice(), length, pieces)?;
+    Ok(kept_none && feed.answers().len() == feed.fed() / 1024)
+}
+
+/// Pieces of that length, whole parts of 1,024 bytes, which a script takes from the feed as they come.
 pub fn drain(alloc: Global, length: usize, pieces: usize) -> Result<bool, AllocError> {
     let script: [ByteStep; 256] = [Call(Take(1024)); 256];
     let bytes = vec![in alloc; b'a'; 262_144]?;

@@ -4,7 +4,8 @@
 //! that is refused answers so, leaves what its contract says, and answers rightly when made again on what it left. The last line says
 //! how many cases met a refusal.
 //!
-//! With two numbers, it feeds so many pieces of that length and does nothing else, so that its requests for memory can be counted.
+//! With a word and two numbers, as `text 1024 2`, it feeds 2 pieces of 1,024 bytes, of text or of `bytes`, and does nothing else, so that its
+//! requests for memory can be counted.
 #![tactic(auto)]
 
 mod accumulators;
@@ -32,10 +33,13 @@ fn main(rt: HostRuntime) -> io::Result<()> {
     let given = env::args(&rt);
     let without = usize::from(given.is_err());
     let mut words = given.or_else(|_| env::args(&rt))?;
-    if let (Some(length), Some(pieces)) = (words.nth(1), words.next()) {
+    if let (Some(kind), Some(length), Some(pieces)) = (words.nth(1), words.next(), words.next()) {
         let (length, pieces) = (length.parse().unwrap_or(0), pieces.parse().unwrap_or(0));
-        let drained = outcome(feeds::drain(alloc, length, pieces), Err(AllocError));
-        return println!(rt; "drain: {drained}");
+        let drained = match kind.as_str() {
+            "text" => feeds::drain_text(alloc, length, pieces),
+            _ => feeds::drain(alloc, length, pieces),
+        };
+        return println!(rt; "drain: {}", outcome(drained, Err(AllocError)));
     }
     let first = all(alloc);
     let refused = first.iter().filter(|case| case.1.is_err()).count();
