@@ -1,9 +1,23 @@
-use Rattle.std.proofs.Common.{rules, ◌≡◌, drop, ap, ◌∙◌}
+use Rattle.std.proofs.Common.{rules, ◌≡◌, [], ◌∷◌, drop, refl, ap, sym, ◌∙◌}
+use Rattle.winnow_base.specs.Source.{Source}
+use Rattle.winnow_base.specs.Front.{front}
 use Rattle.example_settings.specs.Parts.{is_in}
 use Rattle.example_settings.specs.Lines.{behind, behind_line}
 use Rattle.example_settings.specs.declared.part.Part.TheVariants.{Line}
 use Rattle.example_settings.proofs.lemmas.LineLemmas.{in-line, end-part}
 use Rattle.example_settings.proofs.part.take_part.Goals as goal
+
+-- the front of no width
+front-zero : {T : Type 0} (r : Source T) → front r 0 ≡ []
+front-zero [] = refl
+front-zero (x ∷ xs) = refl
+
+-- what is held is the front of its width, which is 0
+pub returns-then-end-eq0-clause-none : goal.returns-then-end-eq0-clause-none
+returns-then-end-eq0-clause-none g c =
+    let r = g.S.Stream.remaining c.args.input.now in
+    let exact = c.held_law.ensures.exact (is_in c.args.part) r (g.met.S.Stream.positive_widths c.args.input.now c.requires) in
+    sym exact ∙ ap (front r) (sym c.held_offset-end.ensures ∙ c.if-end-eq0.true) ∙ front-zero r
 
 pub returns-then-end-eq0-clause-line : goal.returns-then-end-eq0-clause-line
 returns-then-end-eq0-clause-line g c =
