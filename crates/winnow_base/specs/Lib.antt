@@ -1,6 +1,7 @@
 -- What contracts name, from each of the crates that this one passes on.
 pub use Rattle.winnow_stream.specs.Source
 pub use Rattle.winnow_stream.specs.Front
+pub use Rattle.winnow_stream.specs.Longer
 pub use Rattle.winnow_stream.specs.SliceWidths
 pub use Rattle.winnow_stream.specs.SliceBytes
 pub use Rattle.winnow_stream.specs.Location
@@ -17,6 +18,7 @@ pub use Rattle.winnow_sets.specs.Sets
 pub use Rattle.winnow_sets.specs.SetLaws
 pub use Rattle.winnow_match.specs.Bytes
 pub use Rattle.winnow_match.specs.Comparison
+pub use Rattle.winnow_match.specs.Staying
 pub use Rattle.winnow_match.specs.Search
 pub use Rattle.winnow_match.specs.Stretch
 pub use Rattle.winnow_run.specs.Marks

@@ -1,4 +1,4 @@
-ghost use Rattle.std.specs.Prelude.{◌≡◌, ◌↔◌, ◌<◌, ◌≤◌, true, false, [], Some, nat_eq, refl};
+ghost use Rattle.std.specs.Prelude.{◌≡◌, ◌↔◌, ◌<◌, ◌≤◌, true, false, [], ◌∷◌, Some, nat_eq, refl};
 ghost use Rattle.std.specs.Prelude.{length, slice_get, slice_range, IfOk, IsTrue, ⊤};
 ghost use Rattle.std.specs.Cmp.{partial_equiv_from_equiv, on_per, on_equiv, on_po, on_total};
 ghost use Rattle.std.specs.Cmp.Lexicographic.{pointwise, slice_cmp, nat_list_eq_equiv};
@@ -13,9 +13,11 @@ ghost use Rattle.std.proofs.Common.{rules, sym, ap};
 ghost use Rattle.winnow_stream.specs.Checkpoint.{checkpoint_inner};
 ghost use Rattle.winnow_stream.specs.Source.{units};
 ghost use Rattle.winnow_stream.specs.Front.{front};
+ghost use Rattle.winnow_stream.specs.Longer.{SlicesStay-front};
 ghost use Rattle.winnow_stream.specs.Units.{HasPositiveWidths-units, width-units};
 ghost use Rattle.winnow_match.specs.Bytes.{bytes_of};
 ghost use Rattle.winnow_match.specs.Comparison.{comparison};
+ghost use Rattle.winnow_match.specs.Staying.{ComparisonsStay-written};
 ghost use Rattle.winnow_match.specs.Search.{hit};
 ghost use Rattle.winnow_kinds.specs.TextContents.{bstr_contents};
 ghost use Rattle.winnow_kinds.specs.LossyText.{lossy_text};
@@ -142,6 +144,8 @@ impl<'i> Stream for BStr<'i> {
 
     ghost keeps = { λ _ _. ⊤ };
 
+    ghost slices_stay = { SlicesStay-front (λ s. units s.now) };
+
     ghost positive_widths = { λ s _. HasPositiveWidths-units (bstr_contents s) };
 
     ghost positive_widths_remained = { λ c _.
@@ -265,6 +269,8 @@ impl StreamIsPartial for BStr<'_> {
 
     ghost no_flag = { λ _ _. refl };
 
+    ghost keeps_flag = { λ _ _ _. refl };
+
     fn complete(&mut self) {}
 
     fn restore_partial(&mut self, _state: ()) {}
@@ -287,6 +293,8 @@ impl<T: ByteLiteral> Compare<T> for BStr<'_> {
     ghost compared = { λ literal r. comparison (T.literal_bytes literal) (bytes_of r) };
 
     ghost literal_width = { λ literal. length (T.literal_bytes literal) };
+
+    ghost comparisons_stay = { λ literal. ComparisonsStay-written (λ byte. byte ∷ []) (T.literal_bytes literal) };
 
     fn compare(&self, t: T) -> CompareResult {
         t.compare_with(self.inner())

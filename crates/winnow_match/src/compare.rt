@@ -1,6 +1,7 @@
 ghost use Rattle.std.specs.Prelude.{◌≡◌, ℕ};
 ghost use Rattle.winnow_stream.specs.Source.{Source};
 ghost use Rattle.winnow_match.specs.Comparison.{EndsAtOffset, AgreesWithWidth};
+ghost use Rattle.winnow_match.specs.Staying.{ComparisonsStay};
 ghost use Rattle.winnow_match.specs.declared.compare.CompareResult.{CompareResult};
 
 use winnow_stream::Stream;
@@ -32,4 +33,7 @@ pub trait Compare<T>: Stream {
         ensures answer { result ≡ compared t (Self.remaining self.now) }
         ensures offset { EndsAtOffset result (Self.remaining self.now) }
         ensures width { AgreesWithWidth result (literal_width t) (Self.remaining self.now) };
+
+    // An answer other than `Incomplete` stays when more follows.
+    ghost comparisons_stay: { (t : T) → ComparisonsStay (compared t) };
 }

@@ -2,6 +2,7 @@ ghost use Rattle.std.specs.Prelude.{◌≡◌, ◌≤◌, [], ◌∷◌, length,
 ghost use Rattle.std.specs.Char.{encode_utf8};
 ghost use Rattle.winnow_match.specs.Bytes.{bytes_of};
 ghost use Rattle.winnow_match.specs.Comparison.{is_prefix, comparison};
+ghost use Rattle.winnow_match.specs.Staying.{ComparisonsStay-written};
 ghost use Rattle.winnow_match.specs.declared.compare.CompareResult.{CompareResult};
 
 use crate::{Compare, CompareResult};
@@ -54,6 +55,8 @@ impl<'i, 'l> Compare<&'l [u8]> for &'i [u8] {
 
     ghost literal_width = { λ literal. length literal.now };
 
+    ghost comparisons_stay = { λ literal. ComparisonsStay-written (λ byte. byte ∷ []) literal.now };
+
     fn compare(&self, literal: &'l [u8]) -> CompareResult {
         compare_front(self, literal)
     }
@@ -64,6 +67,8 @@ impl<'i, const LEN: usize> Compare<[u8; LEN]> for &'i [u8] {
     ghost compared = { λ literal r. comparison literal (bytes_of r) };
 
     ghost literal_width = { λ literal. length literal };
+
+    ghost comparisons_stay = { λ literal. ComparisonsStay-written (λ byte. byte ∷ []) literal };
 
     fn compare(&self, literal: [u8; LEN]) -> CompareResult {
         compare_front(self, &literal)
@@ -76,6 +81,8 @@ impl<'i, 'l, const LEN: usize> Compare<&'l [u8; LEN]> for &'i [u8] {
 
     ghost literal_width = { λ literal. length literal.now };
 
+    ghost comparisons_stay = { λ literal. ComparisonsStay-written (λ byte. byte ∷ []) literal.now };
+
     fn compare(&self, literal: &'l [u8; LEN]) -> CompareResult {
         compare_front(self, literal)
     }
@@ -86,6 +93,8 @@ impl<'i, 'l> Compare<&'l str> for &'i [u8] {
     ghost compared = { λ literal r. comparison literal.now (bytes_of r) };
 
     ghost literal_width = { λ literal. length literal.now };
+
+    ghost comparisons_stay = { λ literal. ComparisonsStay-written (λ byte. byte ∷ []) literal.now };
 
     fn compare(&self, literal: &'l str) -> CompareResult {
         compare_front(self, literal.as_bytes())
@@ -98,6 +107,8 @@ impl<'i> Compare<u8> for &'i [u8] {
 
     ghost literal_width = { λ _. 1 };
 
+    ghost comparisons_stay = { λ literal. ComparisonsStay-written (λ byte. byte ∷ []) (literal ∷ []) };
+
     fn compare(&self, literal: u8) -> CompareResult {
         compare_front(self, &[literal])
     }
@@ -109,6 +120,8 @@ impl<'i> Compare<char> for &'i [u8] {
     ghost compared = { λ literal r. comparison (encode_utf8 literal) (bytes_of r) };
 
     ghost literal_width = { λ literal. length (encode_utf8 literal) };
+
+    ghost comparisons_stay = { λ literal. ComparisonsStay-written (λ byte. byte ∷ []) (encode_utf8 literal) };
 
     fn compare(&self, literal: char) -> CompareResult {
         let mut buffer = [0; 4];

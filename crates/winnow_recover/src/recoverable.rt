@@ -117,6 +117,8 @@ impl<I: Stream, E: Debug> Stream for Recoverable<I, E> {
     ghost keeps = { λ s t. (recorded_errors s ≡ recorded_errors t)
         × (records_errors s ≡ records_errors t) × I.keeps s.input t.input };
 
+    ghost slices_stay = { I.slices_stay };
+
     ghost positive_widths = { λ s. I.positive_widths (recoverable_inner s) };
 
     ghost positive_widths_remained = { λ c. I.positive_widths_remained (checkpoint_inner c) };
@@ -309,7 +311,7 @@ impl<I: AsBStr, E> AsBStr for Recoverable<I, E> {
     }
 }
 
-impl<I: StreamIsPartial, E> StreamIsPartial for Recoverable<I, E> {
+impl<I: StreamIsPartial, E: Debug> StreamIsPartial for Recoverable<I, E> {
     type PartialState = I::PartialState;
 
     ghost supports_partial = { I.supports_partial };
@@ -324,6 +326,8 @@ impl<I: StreamIsPartial, E> StreamIsPartial for Recoverable<I, E> {
     ghost flag_decides = { λ s t. I.flag_decides (recoverable_inner s) (recoverable_inner t) };
 
     ghost no_flag = { λ unsupported s. I.no_flag unsupported (recoverable_inner s) };
+
+    ghost keeps_flag = { λ s t kept. I.keeps_flag s.input t.input kept.2 };
 
     fn complete(&mut self) -> I::PartialState {
         self.input.complete()
@@ -346,6 +350,8 @@ impl<I: Compare<T>, E: Debug, T> Compare<T> for Recoverable<I, E> {
     ghost compared = { I.compared };
 
     ghost literal_width = { I.literal_width };
+
+    ghost comparisons_stay = { I.comparisons_stay };
 
     fn compare(&self, t: T) -> CompareResult {
         self.input.compare(t)

@@ -1,5 +1,6 @@
 pub mod Source
 pub mod Front
+pub mod Longer
 pub mod SliceWidths
 pub mod SliceBytes
 pub mod Location

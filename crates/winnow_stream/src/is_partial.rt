@@ -1,10 +1,11 @@
 ghost use Rattle.std.specs.Prelude.{◌≡◌, Bool, false, refl};
 
-use crate::Rest;
+use crate::Stream;
+use std::fmt::Debug;
 
 /// Whether more input may follow what remains. Only `Partial` has a flag for it; every other stream answers for the one
 /// inside, and a plain one has no flag.
-pub trait StreamIsPartial: Rest + Sized {
+pub trait StreamIsPartial: Stream + Sized {
     /// What `complete` hands out, for `restore_partial` to set again.
     type PartialState;
 
@@ -50,9 +51,12 @@ pub trait StreamIsPartial: Rest + Sized {
 
     // Where the type has no flag, nothing more may follow.
     ghost no_flag: { supports_partial ≡ false → (s : Self) → expects_more s ≡ false };
+
+    // No call of `Stream` changes whether more may follow.
+    ghost keeps_flag: { (s t : Self) → Self.keeps s t → expects_more t ≡ expects_more s };
 }
 
-impl<T> StreamIsPartial for &[T] {
+impl<T: Copy + Debug> StreamIsPartial for &[T] {
     type PartialState = ();
 
     ghost supports_partial = { false };
@@ -66,6 +70,8 @@ impl<T> StreamIsPartial for &[T] {
     ghost flag_decides = { λ _ _ _. refl };
 
     ghost no_flag = { λ _ _. refl };
+
+    ghost keeps_flag = { λ _ _ _. refl };
 
     fn complete(&mut self) {}
 
@@ -94,6 +100,8 @@ impl StreamIsPartial for &str {
     ghost flag_decides = { λ _ _ _. refl };
 
     ghost no_flag = { λ _ _. refl };
+
+    ghost keeps_flag = { λ _ _ _. refl };
 
     fn complete(&mut self) {}
 

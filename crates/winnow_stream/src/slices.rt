@@ -5,6 +5,7 @@ ghost use Rattle.std.proofs.Common.{sym, ap};
 ghost use Rattle.winnow_stream.specs.Checkpoint.{checkpoint_inner};
 ghost use Rattle.winnow_stream.specs.Source.{units, offsets_from};
 ghost use Rattle.winnow_stream.specs.Front.{front};
+ghost use Rattle.winnow_stream.specs.Longer.{SlicesStay-front};
 ghost use Rattle.winnow_stream.specs.Units.{HasPositiveWidths-units, width-units};
 
 use crate::{Checkpoint, Needed, Rest, Stream};
@@ -72,6 +73,8 @@ impl<'i, T: Copy + Debug> Stream for &'i [T] {
     ghost counts_missing = { true };
 
     ghost keeps = { λ _ _. ⊤ };
+
+    ghost slices_stay = { SlicesStay-front (λ s. units s.now) };
 
     ghost positive_widths = { λ s _. HasPositiveWidths-units s.now };
 

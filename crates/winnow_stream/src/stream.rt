@@ -4,6 +4,7 @@ ghost use Rattle.std.specs.Iterator.{IsFinite, AlwaysYields, size};
 ghost use Rattle.winnow_stream.specs.Source.{Source, width, HasPositiveWidths, IsEndOf, Computes};
 ghost use Rattle.winnow_stream.specs.Source.{first_token, FindsFirst, first_offset, offsets};
 ghost use Rattle.winnow_stream.specs.Front.{is_offset, back};
+ghost use Rattle.winnow_stream.specs.Longer.{SlicesStay};
 ghost use Rattle.winnow_stream.specs.Location.{location_behind};
 ghost use Rattle.winnow_stream.specs.Fused.{IsFused};
 ghost use Rattle.winnow_stream.specs.Shortage.{offset_at};
@@ -210,6 +211,9 @@ pub trait Stream: Rest + Debug {
     ghost same_rest_remaining: { (s t : Self) → Self.same_rest s t → remaining t ≡ remaining s };
 
     ghost same_rest_valid: { (s t : Self) → Self.same_rest s t → valid s → valid t };
+
+    // A slice of a list is that slice of each longer list.
+    ghost slices_stay: { SlicesStay is_slice };
 
     // What is kept by one call after the other is kept by both, and by none.
     ghost keeps_reflexive: { (s : Self) → keeps s s };

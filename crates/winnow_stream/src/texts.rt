@@ -5,6 +5,7 @@ ghost use Rattle.std.proofs.Common.{sym, ap};
 ghost use Rattle.winnow_stream.specs.Checkpoint.{checkpoint_inner};
 ghost use Rattle.winnow_stream.specs.Source.{width};
 ghost use Rattle.winnow_stream.specs.Front.{front, back, is_offset};
+ghost use Rattle.winnow_stream.specs.Longer.{SlicesStay-front};
 ghost use Rattle.winnow_stream.specs.Text.{text_source, HasPositiveWidths-char_source};
 
 use crate::{Checkpoint, Needed, Rest, Stream};
@@ -66,6 +67,8 @@ impl<'i> Stream for &'i str {
     ghost counts_missing = { false };
 
     ghost keeps = { λ _ _. ⊤ };
+
+    ghost slices_stay = { SlicesStay-front (λ s. text_source s.now) };
 
     ghost positive_widths = { λ s _. HasPositiveWidths-char_source (chars s.now) };
 

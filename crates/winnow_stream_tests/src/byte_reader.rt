@@ -3,6 +3,7 @@ ghost use Rattle.std.proofs.Common.{◌∙◌, sym, ap};
 ghost use Rattle.winnow_base.specs.Checkpoint.{checkpoint_inner};
 ghost use Rattle.winnow_base.specs.Source.{units, width};
 ghost use Rattle.winnow_base.specs.Front.{front};
+ghost use Rattle.winnow_base.specs.Longer.{SlicesStay-front};
 ghost use Rattle.winnow_base.specs.Units.{HasPositiveWidths-units};
 
 use winnow_base::stream::{Checkpoint, Needed, Rest, SliceOffsets, Stream};
@@ -56,6 +57,8 @@ impl<'a> Stream for ByteReader<'a> {
     ghost counts_missing = { true };
 
     ghost keeps = { λ s t. s.whole.now ≡ t.whole.now };
+
+    ghost slices_stay = { SlicesStay-front (λ s. units s.now) };
 
     ghost use Rattle.winnow_base.specs.Units.{width-units};
 

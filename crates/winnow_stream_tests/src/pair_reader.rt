@@ -4,6 +4,7 @@ ghost use Rattle.std.proofs.Common.{sym, ap, subst};
 ghost use Rattle.winnow_base.specs.Checkpoint.{checkpoint_inner};
 ghost use Rattle.winnow_base.specs.Source.{offsets_from};
 ghost use Rattle.winnow_base.specs.Front.{front};
+ghost use Rattle.winnow_base.specs.Longer.{SlicesStay-front};
 ghost use Rattle.winnow_stream_tests.specs.PairSource.{pair_source, width-pair_source};
 ghost use Rattle.winnow_stream_tests.specs.PairSource.{HasPositiveWidths-pair_source};
 
@@ -78,6 +79,8 @@ impl<'a> Stream for PairReader<'a> {
     ghost counts_missing = { false };
 
     ghost keeps = { λ _ _. ⊤ };
+
+    ghost slices_stay = { SlicesStay-front (λ s. pair_source s.rest.now) };
 
     ghost positive_widths = { λ s _. HasPositiveWidths-pair_source s.rest.now };
 

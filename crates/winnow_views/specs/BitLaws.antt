@@ -3,9 +3,10 @@ use Rattle.std.specs.Prelude.{◌≡◌, ℕ, ◌-◌, ◌*◌, List, [], ◌∷
 use Rattle.std.proofs.Common.{arith, ap, ap₂, sym, ◌∙◌}
 use Rattle.std.proofs.lemmas.List.{length-drop, length-map}
 use Rattle.winnow_stream.specs.Source.{Source, units, width, HasPositiveWidths}
+use Rattle.winnow_stream.specs.Longer.{SlicesStay, front-longer}
 use Rattle.winnow_stream.specs.Units.{width-units, HasPositiveWidths-units}
 use Rattle.winnow_views.specs.declared.bits.Bits.{Bits}
-use Rattle.winnow_views.specs.BitSource.{HasUnits, bits_of, bits_from}
+use Rattle.winnow_views.specs.BitSource.{HasUnits, bits_of, bits_from, IsBitSlice}
 use Rattle.winnow_views.specs.BitStream.{bits_remaining, IsValidBits}
 
 pub length-bits_of : (bytes : List (ℕ × ℕ)) → length (bits_of bytes) ≡ 8 * length bytes
@@ -39,3 +40,6 @@ module _ {I : Type 0} (remaining : I → Source ℕ) (s t : Bits I) where
 module _ {I : Type 0} (valid : I → Type 0) (remaining : I → Source ℕ) (s t : Bits I) where
   pub IsValidBits-same : remaining t.input ≡ remaining s.input → (valid s.input → valid t.input) → s.place ≡ t.place → IsValidBits valid remaining s → IsValidBits valid remaining t
   IsValidBits-same e v p h = (v h.0, rw (e, sym p) h.1)
+
+pub SlicesStay-bits : {S : Type 0} (is_slice : S → Source ℕ → ℕ → Type 0) → SlicesStay (IsBitSlice is_slice)
+SlicesStay-bits is_slice s r more n offset h = (h.0, h.1, h.2, front-longer r more n offset ∙ h.3, h.4)

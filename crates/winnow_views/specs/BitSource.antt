@@ -1,6 +1,7 @@
 -- The bits of a source of bytes, from a place in its first byte on.
-use Rattle.std.specs.Prelude.{◌≡◌, ℕ, ◌+◌, ◌/◌, ◌%◌, ◌^◌, ◌<◌, ◌==◌, Bool, List, [], ◌∷◌, ◌++◌, drop, ⊤}
+use Rattle.std.specs.Prelude.{◌≡◌, ℕ, ◌+◌, ◌/◌, ◌%◌, ◌^◌, ◌<◌, ◌==◌, Bool, List, [], ◌∷◌, ◌++◌, drop, IsTrue, ⊤}
 use Rattle.winnow_stream.specs.Source.{Source, units, width}
+use Rattle.winnow_stream.specs.Front.{is_offset, front}
 
 -- each width is 1
 abbrev pub HasUnits : {T : Type 0} → Source T → Type 0
@@ -38,6 +39,8 @@ module _ {S : Type 0} (is_slice : S → Source ℕ → ℕ → Type 0) where
   abbrev pub IsBitSliceAt : S × ℕ × ℕ → Source ℕ → ℕ → ℕ → Type 0
   IsBitSliceAt s bytes place n = is_slice s.0 bytes ((n + place) / 8) × (s.1 ≡ place) × (s.2 ≡ (n + place) % 8)
 
-  -- s is the slice of width n of a list of bits: it is so of some bytes of which the list has the bits
+  -- s is the slice of width n of a list of bits: it is so of some bytes that have as many bits, of which the list begins with
+  -- these
   abbrev pub IsBitSlice : S × ℕ × ℕ → Source Bool → ℕ → Type 0
-  IsBitSlice s r n = (bytes : Source ℕ) × IsBitSource bytes s.1 × (r ≡ bits_from bytes s.1) × IsBitSliceAt s bytes s.1 n
+  IsBitSlice s r n = (bytes : Source ℕ) × IsBitSource bytes s.1 × IsTrue (is_offset (bits_from bytes s.1) n)
+      × (front r n ≡ front (bits_from bytes s.1) n) × IsBitSliceAt s bytes s.1 n

@@ -1,6 +1,8 @@
 -- Locations and comparison of a slice of tokens, from its tokens' own.
-use Rattle.std.specs.Prelude.{ℕ, ◌-◌, Bool, if◌then◌else◌, length, slice_get, Option, Some, None}
+use Rattle.std.specs.Prelude.{ℕ, ◌-◌, Bool, if◌then◌else◌, [], ◌∷◌, length, slice_get, Option, Some, None, refl}
 use Rattle.std.specs.Borrow.{Bor}
+use Rattle.winnow_stream.specs.Source.{first_token}
+use Rattle.winnow_match.specs.Staying.{ComparisonsStay}
 use Rattle.winnow_match.specs.declared.compare.CompareResult.{CompareResult}
 use Rattle.winnow_match.specs.declared.compare.CompareResult.TheVariants as compared
 use Rattle.winnow_views.specs.TokenPlaces.{rest_of, taken_of}
@@ -30,3 +32,7 @@ module _ {T : Type 0} (ends starts : T → ℕ) where
 abbrev pub first_comparison : {T : Type 0} → (T → T → Bool) → T → Option (Bor T) → CompareResult
 first_comparison equal literal (Some token) = if equal token.now literal then compared.Ok 1 else compared.Error
 first_comparison equal literal None = compared.Incomplete
+
+pub ComparisonsStay-first : {T : Type 0} (equal : T → T → Bool) (literal : T) → ComparisonsStay (λ r. first_comparison equal literal (first_token r))
+ComparisonsStay-first equal literal [] more n = absurd (n refl)
+ComparisonsStay-first equal literal (x ∷ xs) more n = refl

@@ -10,7 +10,7 @@ ghost use Rattle.winnow_views.specs.BitStream.{bits_remained, IsValidBits, IsVal
 ghost use Rattle.winnow_views.specs.BitStream.{bytes_at, place_at, bits_location, bits_location_at};
 ghost use Rattle.winnow_views.specs.BitStream.{IsCounted};
 ghost use Rattle.winnow_views.specs.BitLaws.{HasPositiveWidths-bits_from, rest_width-bits_from};
-ghost use Rattle.winnow_views.specs.BitLaws.{bits_remaining-same, IsValidBits-same};
+ghost use Rattle.winnow_views.specs.BitLaws.{bits_remaining-same, IsValidBits-same, SlicesStay-bits};
 
 use crate::BitOffsets;
 use crate::bit_offsets::is_set;
@@ -118,6 +118,8 @@ impl<I: Stream<Token = u8>> Stream for Bits<I> {
     ghost counts_missing = { true };
 
     ghost keeps = { λ s t. I.keeps s.input t.input };
+
+    ghost slices_stay = { SlicesStay-bits I.is_slice };
 
     ghost positive_widths = { λ s _. HasPositiveWidths-bits_from (I.remaining s.input) s.place };
 
@@ -328,7 +330,7 @@ impl<C: Rest> Offset<BitPlace<C>> for BitPlace<C> {
 }
 
 /// As the stream of bytes is.
-impl<I: StreamIsPartial> StreamIsPartial for Bits<I> {
+impl<I: StreamIsPartial + Stream<Token = u8>> StreamIsPartial for Bits<I> {
     type PartialState = I::PartialState;
 
     ghost supports_partial = { I.supports_partial };
@@ -342,6 +344,8 @@ impl<I: StreamIsPartial> StreamIsPartial for Bits<I> {
     ghost flag_decides = { λ s t. I.flag_decides s.input t.input };
 
     ghost no_flag = { λ unsupported s. I.no_flag unsupported s.input };
+
+    ghost keeps_flag = { λ s t. I.keeps_flag s.input t.input };
 
     fn complete(&mut self) -> I::PartialState {
         self.input.complete()

@@ -6,13 +6,14 @@ ghost use Rattle.std.proofs.Common.{sym, ap, ◌∙◌};
 ghost use Rattle.winnow_stream.specs.Checkpoint.{checkpoint_inner};
 ghost use Rattle.winnow_stream.specs.Source.{first_token, width};
 ghost use Rattle.winnow_stream.specs.Front.{front, back, is_offset, IsSomeFront};
+ghost use Rattle.winnow_stream.specs.Longer.{SlicesStay-front};
 ghost use Rattle.winnow_stream.specs.Units.{HasPositiveWidths-units};
 ghost use Rattle.winnow_views.specs.TokenSources.{tokens_of};
 ghost use Rattle.winnow_views.specs.TokenPlaces.{whole_of, rest_of, remaining_of, place_of};
 ghost use Rattle.winnow_views.specs.TokenPlaces.{taken_of, remained_at, rest_at, place_at};
 ghost use Rattle.winnow_views.specs.TokenPlaces.{width-remaining_in};
 ghost use Rattle.winnow_views.specs.TokenAnswers.{last_of, next_of, end_before, start_behind};
-ghost use Rattle.winnow_views.specs.TokenAnswers.{first_comparison};
+ghost use Rattle.winnow_views.specs.TokenAnswers.{first_comparison, ComparisonsStay-first};
 ghost use Rattle.winnow_views.specs.TokenPrevious.{left_of};
 ghost use Rattle.std.specs.Cmp.{and_per, and_equiv, on_per, on_equiv};
 ghost use Rattle.std.specs.Cmp.Lexicographic.{pointwise, lists_per, lists_equiv};
@@ -134,6 +135,8 @@ impl<'t, T: Debug> Stream for TokenSlice<'t, T> {
     ghost counts_missing = { true };
 
     ghost keeps = { λ s t. whole_of s ≡ whole_of t };
+
+    ghost slices_stay = { SlicesStay-front (tokens_of T.row) };
 
     ghost positive_widths = { λ s _. HasPositiveWidths-units _ };
 
@@ -320,7 +323,7 @@ impl<T: Location> Location for TokenSlice<'_, T> {
 }
 
 /// A list of tokens has no flag.
-impl<T> StreamIsPartial for TokenSlice<'_, T> {
+impl<T: Debug> StreamIsPartial for TokenSlice<'_, T> {
     type PartialState = ();
 
     ghost supports_partial = { false };
@@ -334,6 +337,8 @@ impl<T> StreamIsPartial for TokenSlice<'_, T> {
     ghost flag_decides = { λ _ _ _. refl };
 
     ghost no_flag = { λ _ _. refl };
+
+    ghost keeps_flag = { λ _ _ _. refl };
 
     fn complete(&mut self) {}
 
@@ -355,6 +360,8 @@ impl<T: Debug + Eq + Drop> Compare<T> for TokenSlice<'_, T> {
     ghost compared = { λ literal r. first_comparison T.eq literal (first_token r) };
 
     ghost literal_width = { λ _. 1 };
+
+    ghost comparisons_stay = { ComparisonsStay-first T.eq };
 
     fn compare(&self, literal: T) -> CompareResult {
         match self.peek_token() {

@@ -125,6 +125,8 @@ impl<I: Stream<Checkpoint = C>, C: Rest + Copy + Debug> Stream for LocatingSlice
 
     ghost keeps = { KeepsLocated I.keeps };
 
+    ghost slices_stay = { I.slices_stay };
+
     ghost positive_widths = { λ s v. I.positive_widths (locating_inner s) v.0 };
 
     ghost positive_widths_remained = { λ c v. I.positive_widths_remained (inner_at c) v };
@@ -342,7 +344,8 @@ impl<I: AsBStr + Rest, C: Rest> AsBStr for LocatingSlice<I, C> {
     }
 }
 
-impl<I: StreamIsPartial, C: Rest> StreamIsPartial for LocatingSlice<I, C> {
+impl<I: StreamIsPartial + Stream<Checkpoint = C>, C: Rest + Copy + Debug> StreamIsPartial
+    for LocatingSlice<I, C> {
     type PartialState = I::PartialState;
 
     ghost supports_partial = { I.supports_partial };
@@ -358,6 +361,8 @@ impl<I: StreamIsPartial, C: Rest> StreamIsPartial for LocatingSlice<I, C> {
     ghost flag_decides = { λ s t. I.flag_decides (locating_inner s) (locating_inner t) };
 
     ghost no_flag = { λ unsupported s. I.no_flag unsupported (locating_inner s) };
+
+    ghost keeps_flag = { λ s t kept. I.keeps_flag (locating_inner s) (locating_inner t) kept.1 };
 
     fn complete(&mut self) -> I::PartialState {
         self.input.complete()
@@ -381,6 +386,8 @@ impl<I: Compare<T> + Stream<Checkpoint = C>, C: Rest + Copy + Debug, T> Compare<
     ghost compared = { I.compared };
 
     ghost literal_width = { I.literal_width };
+
+    ghost comparisons_stay = { I.comparisons_stay };
 
     fn compare(&self, t: T) -> CompareResult {
         self.input.compare(t)

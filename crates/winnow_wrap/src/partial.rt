@@ -88,6 +88,8 @@ impl<I: Stream> Stream for Partial<I> {
 
     ghost keeps = { λ s t. (flag s ≡ flag t) × I.keeps (partial_inner s) (partial_inner t) };
 
+    ghost slices_stay = { I.slices_stay };
+
     ghost positive_widths = { λ s v. I.positive_widths (partial_inner s) v };
 
     ghost positive_widths_remained = { λ c v. I.positive_widths_remained (checkpoint_inner c) v };
@@ -230,7 +232,7 @@ impl<I: AsBStr> AsBStr for Partial<I> {
     }
 }
 
-impl<I: Rest> StreamIsPartial for Partial<I> {
+impl<I: Stream> StreamIsPartial for Partial<I> {
     type PartialState = bool;
 
     ghost supports_partial = { true };
@@ -244,6 +246,8 @@ impl<I: Rest> StreamIsPartial for Partial<I> {
     ghost flag_decides = { λ _ _ same. same };
 
     ghost no_flag = { λ unsupported _. absurd (true≢false unsupported) };
+
+    ghost keeps_flag = { λ _ _ kept. sym kept.0 };
 
     fn complete(&mut self) -> bool {
         let flag = self.partial;
@@ -268,6 +272,8 @@ impl<I: Compare<T>, T> Compare<T> for Partial<I> {
     ghost compared = { I.compared };
 
     ghost literal_width = { I.literal_width };
+
+    ghost comparisons_stay = { I.comparisons_stay };
 
     fn compare(&self, t: T) -> CompareResult {
         self.input.compare(t)

@@ -64,6 +64,8 @@ impl<I: Stream, S: Debug> Stream for Stateful<I, S> {
 
     ghost keeps = { λ s t. (s.state ≡ t.state) × I.keeps s.input t.input };
 
+    ghost slices_stay = { I.slices_stay };
+
     ghost positive_widths = { λ s v. I.positive_widths s.input v };
 
     ghost positive_widths_remained = { λ c v. I.positive_widths_remained (checkpoint_inner c) v };
@@ -206,7 +208,7 @@ impl<I: AsBStr, S> AsBStr for Stateful<I, S> {
     }
 }
 
-impl<I: StreamIsPartial, S> StreamIsPartial for Stateful<I, S> {
+impl<I: StreamIsPartial, S: Debug> StreamIsPartial for Stateful<I, S> {
     type PartialState = I::PartialState;
 
     ghost supports_partial = { I.supports_partial };
@@ -220,6 +222,8 @@ impl<I: StreamIsPartial, S> StreamIsPartial for Stateful<I, S> {
     ghost flag_decides = { λ s t. I.flag_decides s.input t.input };
 
     ghost no_flag = { λ unsupported s. I.no_flag unsupported s.input };
+
+    ghost keeps_flag = { λ s t kept. I.keeps_flag s.input t.input kept.1 };
 
     fn complete(&mut self) -> I::PartialState {
         self.input.complete()
@@ -242,6 +246,8 @@ impl<I: Compare<T>, S: Debug, T> Compare<T> for Stateful<I, S> {
     ghost compared = { I.compared };
 
     ghost literal_width = { I.literal_width };
+
+    ghost comparisons_stay = { I.comparisons_stay };
 
     fn compare(&self, t: T) -> CompareResult {
         self.input.compare(t)

@@ -7,7 +7,8 @@ use Rattle.std.proofs.lemmas.Bool.{le-leb, leb-false, and_from}
 use Rattle.winnow_stream.specs.Source.{Source, width, HasPositiveWidths, first_token, first_offset}
 use Rattle.winnow_stream.specs.Front.{count_to, back}
 use Rattle.winnow_stream.specs.Shortage.{shortage, offset_at}
-use Rattle.winnow_stream.proofs.lemmas.FrontLemmas.{count_to-le, is_offset-whole, count_to-place}
+use Rattle.winnow_stream.specs.Longer.{count_to-le}
+use Rattle.winnow_stream.proofs.lemmas.FrontLemmas.{is_offset-whole, count_to-place}
 use Rattle.winnow_stream.specs.declared.needed.Needed.{Needed}
 use Rattle.winnow_match.specs.declared.compare.CompareResult.{CompareResult}
 use Rattle.winnow_match.specs.declared.compare.CompareResult.TheVariants as compared

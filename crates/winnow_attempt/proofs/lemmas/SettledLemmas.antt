@@ -12,7 +12,8 @@ use Rattle.winnow_stream.specs.Front.{front_count, is_offset, count_to, front, b
 use Rattle.winnow_stream.specs.Shortage.{shortage, offset_at}
 use Rattle.winnow_stream.specs.Span.{span}
 use Rattle.winnow_run.specs.declared.script.Step.TheVariants as call
-use Rattle.winnow_stream.proofs.lemmas.FrontLemmas.{count_to-le, width-front, width-back, is_offset-whole, front-whole, HasPositiveWidths-drop}
+use Rattle.winnow_stream.specs.Longer.{count_to-le, front_count-longer, is_offset-longer, front-longer}
+use Rattle.winnow_stream.proofs.lemmas.FrontLemmas.{width-front, width-back, is_offset-whole, front-whole, HasPositiveWidths-drop}
 use Rattle.winnow_stream.proofs.lemmas.OffsetLemmas.{is_offset-offset_at, is_offset-first_offset}
 use Rattle.winnow_match.specs.declared.compare.CompareResult.{CompareResult}
 use Rattle.winnow_match.specs.declared.compare.CompareResult.TheVariants as compared
@@ -26,22 +27,7 @@ use Rattle.winnow_run.specs.declared.search_script.SearchStep.{SearchStep}
 use Rattle.winnow_run.specs.declared.search_script.SearchStep.TheVariants as step
 use Rattle.winnow_run.specs.Definite.{PieceKind}
 use Rattle.winnow_attempt.specs.Settled.{NoneHeld, NoneOccurs, AreSame, AreCounted, IsSettled, shifted, longer, further}
-use Rattle.winnow_run.proofs.lemmas.MoreLemmas.{front_count-more, written-append}
-
--- ---- fronts under more input
-
-module _ {T : Type 0} (r m : Source T) (n : ℕ) (h : is_offset r n ≡ true) where
-  count-same : front_count (r ++ m) n ≡ front_count r n
-  count-same = front_count-more r m n (omega (arith, width-back r n h))
-
-  offset-more : is_offset (r ++ m) n ≡ true
-  offset-more = ap is_some count-same ∙ h
-
-  count_to-more : count_to (r ++ m) n ≡ count_to r n
-  count_to-more = ap (λ o. unwrap_or o 0) count-same
-
-  front-more : front (r ++ m) n ≡ front r n
-  front-more = ap (λ k. take k (r ++ m)) count_to-more ∙ take-append-le (count_to r n) r m (count_to-le r n)
+use Rattle.winnow_match.specs.Staying.{written-append}
 
 -- ---- `First`
 
@@ -64,7 +50,7 @@ first_held-passed holds n (x ∷ r) s h =
     ]
 
 pub NoneHeld-more : {T : Type 0} (holds : T → Bool) (r m : Source T) (n : ℕ) → NoneHeld holds r n → NoneHeld holds (r ++ m) n
-NoneHeld-more holds r m n h = record { offset = offset-more r m n h.offset; none = ap (first_offset holds) (front-more r m n h.offset) ∙ h.none }
+NoneHeld-more holds r m n h = record { offset = is_offset-longer r m n h.offset; none = ap (first_offset holds) (front-longer r m n h.offset) ∙ h.none }
 
 pub NoneHeld-on : {T : Type 0} (holds : T → Bool) (r : Source T) (n : ℕ) → NoneHeld holds r n → first_offset holds r ≡ option_map (λ o. n + o) (first_offset holds (back r n))
 NoneHeld-on holds r n h =
@@ -206,7 +192,7 @@ further-err n true w v e h = ap Ok (sym h)
 further-err n false w v e h = refl
 
 pub AreCounted-more : {T : Type 0} (asked : ℕ) (r m : Source T) (n count : ℕ) → AreCounted asked r n count → AreCounted asked (r ++ m) n count
-AreCounted-more asked r m n count h = record { offset = offset-more r m n h.offset; counted = count_to-more r m n h.offset ∙ h.counted; fits = h.fits }
+AreCounted-more asked r m n count h = record { offset = is_offset-longer r m n h.offset; counted = ap (λ o. unwrap_or o 0) (front_count-longer r m n h.offset) ∙ h.counted; fits = h.fits }
 
 none-taken : (T : Type 0) (b : ℕ) → 0 ≡ 0 + width {T = T} (take b [])
 none-taken T zero = refl

@@ -35,7 +35,8 @@ use Rattle.winnow_run.specs.declared.search_script.SearchAnswer.TheVariants as s
 use Rattle.winnow_run.specs.Searching.{PlacedSearchAnswer, search_answer}
 use Rattle.winnow_run.specs.Definite.{kind_of, is_decided, is_call_definite, is_definite}
 use Rattle.winnow_run.proofs.lemmas.StepLemmas.{Inside, rest-more}
-use Rattle.winnow_run.proofs.lemmas.MoreLemmas.{width-append, written-append}
+use Rattle.winnow_match.specs.Staying.{written-append}
+use Rattle.winnow_run.proofs.lemmas.MoreLemmas.{width-append}
 use Rattle.winnow_feed.specs.Inputs.{PieceStep, InputKind}
 use Rattle.winnow_attempt.specs.Missing.{letters, needle_missing, call_missing, missing}
 use Rattle.winnow_feed.specs.Waits.{IsSpelt}

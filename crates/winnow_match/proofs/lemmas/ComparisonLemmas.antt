@@ -3,6 +3,7 @@ use Rattle.std.proofs.Common.{◌≡◌, ◌↔◌, ℕ, ◌≤◌, ◌<◌, Boo
 use Rattle.std.proofs.lemmas.Bool.{cases_lt, false_from_ne_true, false≢true}
 use Rattle.winnow_match.specs.declared.compare.CompareResult.TheVariants as compared
 use Rattle.winnow_match.specs.Comparison.{is_prefix, IsPrefixOf, comparison}
+use Rattle.winnow_match.specs.Staying.{comparison-stays}
 use Rattle.winnow_match.proofs.lemmas.ByteFrontLemmas.{is_prefix-long, is_prefix-whole, is_prefix-append, is_prefix-more, is_prefix-shorter, is_prefix-both, length-front, no_front, IsPrefixOf-is_prefix, is_prefix-IsPrefixOf}
 
 module _ (literal bytes : List ℕ) where
@@ -79,21 +80,7 @@ module _ (literal bytes : List ℕ) where
   -- ---- more input
 
   pub ok-more : (more : List ℕ) (n : ℕ) → comparison literal bytes ≡ compared.Ok n → comparison literal (bytes ++ more) ≡ compared.Ok n
-  ok-more more n h =
-      let parts = front-from_ok n h in
-      let f = is_prefix-more literal bytes more (length-front literal bytes parts.0) ∙ parts.0 in
-      sym (comparison-ok literal (bytes ++ more) f) ∙ ap compared.Ok (sym parts.1)
+  ok-more more n h = comparison-stays literal bytes more (λ e. let f = sym h ∙ e in cc) ∙ h
 
   pub error-more : (more : List ℕ) → comparison literal bytes ≡ compared.Error → comparison literal (bytes ++ more) ≡ compared.Error
-  error-more more h =
-      let parts = fronts-from_error h in
-      let all = bytes ++ more in
-      let first : is_prefix literal all ≡ false =
-      false_from_ne_true (is_prefix literal all) (λ f.
-      elim (cases_lt (length bytes) (length literal)) [
-        | inl l ↦ false≢true (sym parts.1 ∙ is_prefix-both literal bytes all f (is_prefix-append bytes more) (omega (arith, l)))
-        | inr l ↦ false≢true (sym parts.0 ∙ sym (is_prefix-more literal bytes more l) ∙ f)
-      ])
-      in
-      let second : is_prefix all literal ≡ false = false_from_ne_true (is_prefix all literal) (λ f. false≢true (sym parts.1 ∙ is_prefix-shorter bytes more literal f)) in
-      sym (comparison-error literal all first second)
+  error-more more h = comparison-stays literal bytes more (λ e. let f = sym h ∙ e in cc) ∙ h

@@ -7,20 +7,14 @@ use Rattle.std.proofs.lemmas.List.{take-append-le, length-append, append_assoc}
 use Rattle.winnow_stream.specs.Source.{Source, width, first_token, first_held, first_offset, offsets_from}
 use Rattle.winnow_stream.specs.Front.{front_count}
 use Rattle.winnow_stream.specs.Shortage.{offset_at}
-use Rattle.winnow_match.specs.declared.compare.CompareResult.{CompareResult}
 use Rattle.winnow_match.specs.declared.compare.CompareResult.TheVariants as compared
-use Rattle.winnow_match.specs.Bytes.{written}
 use Rattle.winnow_match.specs.Comparison.{comparison}
-use Rattle.winnow_match.proofs.lemmas.ComparisonLemmas.{ok-more, error-more}
+use Rattle.winnow_match.specs.Staying.{comparison-stays}
 use Rattle.winnow_run.specs.Definite.{is_decided}
 
 pub width-append : {T : Type 0} (r m : Source T) → width (r ++ m) ≡ width r + width m
 width-append [] m = omega arith
 width-append (x ∷ r) m = omega (arith, width-append r m)
-
-pub written-append : {T : Type 0} (write : T → List ℕ) (r m : Source T) → written write (r ++ m) ≡ written write r ++ written write m
-written-append write [] m = refl
-written-append write (x ∷ r) m = ap (λ xs. write x.0 ++ xs) (written-append write r m) ∙ sym (append_assoc (write x.0) (written write r) (written write m))
 
 -- ---- the words of calls
 
@@ -59,11 +53,5 @@ offset_at-more b r m n h =
 
 -- ---- the word of comparisons
 
-decided : (a : CompareResult) → is_decided a ≡ true → (b : CompareResult) → ((n : ℕ) → a ≡ compared.Ok n → b ≡ compared.Ok n) → (a ≡ compared.Error → b ≡ compared.Error) → b ≡ a
-decided (compared.Ok n) h b ok error = ok n refl
-decided compared.Incomplete h b ok error = absurd (cc)
-decided compared.Error h b ok error = error refl
-
 pub comparison-more : (literal bytes more : List ℕ) → is_decided (comparison literal bytes) ≡ true → comparison literal (bytes ++ more) ≡ comparison literal bytes
-comparison-more literal bytes more h =
-    decided (comparison literal bytes) h (comparison literal (bytes ++ more)) (ok-more literal bytes more) (error-more literal bytes more)
+comparison-more literal bytes more h = comparison-stays literal bytes more (λ e. false≢true (rw e at h))

@@ -24,7 +24,8 @@ use Rattle.winnow_run.specs.declared.search_script.SearchStep.TheVariants as ste
 use Rattle.winnow_run.specs.declared.search_script.SearchAnswer.TheVariants as search_answered
 use Rattle.winnow_run.specs.Searching.{search_answer, search_next}
 use Rattle.winnow_run.specs.Definite.{PieceKind, kind_of, is_decided, is_call_definite, is_definite, judged, StableUnderMore}
-use Rattle.winnow_run.proofs.lemmas.MoreLemmas.{width-append, written-append, first_token-more, front_count-more, first_offset-more, offset_at-more, comparison-more}
+use Rattle.winnow_match.specs.Staying.{written-append}
+use Rattle.winnow_run.proofs.lemmas.MoreLemmas.{width-append, first_token-more, front_count-more, first_offset-more, offset_at-more, comparison-more}
 
 -- the cursor and its marks stand in the list
 pub record Inside {T : Type 0} (all : Source T) (at : Cursor) : Type 0 where

@@ -6,6 +6,7 @@ use Rattle.std.proofs.lemmas.Bool.Decides.{nat_tests, eqb_tells}
 use Rattle.std.proofs.lemmas.List.{append-nil, drop_all, drop-drop}
 use Rattle.winnow_stream.specs.Source.{width, HasPositiveWidths, IsEndOf}
 use Rattle.winnow_stream.specs.Front.{HasFront, front_count, is_offset, count_to, front, back}
+use Rattle.winnow_stream.specs.Longer.{count_to-le}
 
 offset-parts : (b c : Bool) (o : Option ℕ) → is_some (cond b (Some 0) (cond c (option_map (λ k. k + 1) o) None)) ≡ cond b true (c && is_some o)
 offset-parts true c o = refl
@@ -18,12 +19,6 @@ count-parts true c o h = refl
 count-parts false true None h = absurd (cc)
 count-parts false true (Some k) h = refl
 count-parts false false o h = absurd (cc)
-
-count-bound : (b c : Bool) (o : Option ℕ) (m : ℕ) → unwrap_or o 0 ≤ m → unwrap_or (cond b (Some 0) (cond c (option_map (λ k. k + 1) o) None)) 0 ≤ suc m
-count-bound true c o m h = omega arith
-count-bound false true None m h = omega arith
-count-bound false true (Some k) m h = omega (arith, h)
-count-bound false false o m h = omega arith
 
 none-parts : (o : Option ℕ) → is_some o ≡ false → o ≡ None
 none-parts None h = refl
@@ -92,10 +87,6 @@ module _ {A : Type 0} where
 
   pub count_to-place : (r : List (A × ℕ)) (i : ℕ) → HasPositiveWidths r → i ≤ length r → count_to r (width (take i r)) ≡ i
   count_to-place r i h l = ap (λ o. unwrap_or o 0) (front_count-place r i h l)
-
-  pub count_to-le : (r : List (A × ℕ)) (n : ℕ) → count_to r n ≤ length r
-  count_to-le [] n = elim (eqb_tells n 0) [ inl p ↦ rw p.0 (omega arith) | inr p ↦ rw p.0 (omega arith) ]
-  count_to-le (x ∷ xs) n = count-bound (n == 0) (nat_le x.1 n) (front_count xs (n - x.1)) (length xs) (count_to-le xs (n - x.1))
 
   -- a front has its width
   pub width-front : (r : List (A × ℕ)) (n : ℕ) → is_offset r n ≡ true → width (front r n) ≡ n

@@ -7,7 +7,8 @@ use Rattle.winnow_stream.specs.declared.needed.Needed.TheVariants.{Unknown}
 use Rattle.winnow_stream.specs.Source.{width}
 use Rattle.winnow_stream.specs.Front.{is_offset, count_to, front, back}
 use Rattle.winnow_stream.specs.Shortage.{offset_at}
-use Rattle.winnow_stream.proofs.lemmas.FrontLemmas.{front_count-place, count_to-le, width-front, front-whole}
+use Rattle.winnow_stream.specs.Longer.{count_to-le}
+use Rattle.winnow_stream.proofs.lemmas.FrontLemmas.{front_count-place, width-front, front-whole}
 use Rattle.winnow_stream.proofs.lemmas.ShortageLemmas.{offset_at-fits, offset_at-silent}
 use Rattle.winnow_stream_tests.specs.PairSource.{pair_source, width-pair_source, HasPositiveWidths-pair_source}
 

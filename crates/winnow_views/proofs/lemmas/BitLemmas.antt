@@ -179,9 +179,9 @@ module _ {S : Type 0} (is_slice : S → Source ℕ → ℕ → Type 0) (has_widt
   bits-have-widths s r n o h =
       let bytes : Source ℕ = h.0 in
       let source : IsBitSource bytes s.1 = h.1 in
-      let offset : IsTrue (is_offset (bits_from bytes s.1) n) = subst (λ bits. IsTrue (is_offset bits n)) h.2 o in
-      let inner = known s.0 bytes ((n + s.1) / 8) (is_offset-whole bytes s.1 n ((n + s.1) / 8) source offset refl) h.3.0 in
-      let rest : s.2 ≡ (n + s.1) % 8 = h.3.2 in
+      let offset : IsTrue (is_offset (bits_from bytes s.1) n) = h.2 in
+      let inner = known s.0 bytes ((n + s.1) / 8) (is_offset-whole bytes s.1 n ((n + s.1) / 8) source offset refl) h.4.0 in
+      let rest : s.2 ≡ (n + s.1) % 8 = h.4.2 in
       let short : n < 2 ^ 64 = omega (arith, le-offset bytes s.1 n offset, source.fits, width-bits_from bytes s.1) in
       let same : 8 * width_of s.0 + s.2 - s.1 ≡ n = omega (arith, inner.1, rest) in
       ((inner.0, omega (arith, inner.1, rest), omega (arith, same, short)), same)
