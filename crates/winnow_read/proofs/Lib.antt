@@ -8,3 +8,4 @@ mod RangeLemmas
 mod StepLemmas
 mod UnreadLemmas
 pub mod FaultLemmas
+mod NewlineLemmas

@@ -15,12 +15,14 @@ use Rattle.winnow_match.specs.declared.needles.Needles.{Needles}
 use Rattle.winnow_match.specs.declared.needles.Needles.TheVariants.{One, Two, Three}
 use Rattle.winnow_run.specs.declared.script.Step.{Step}
 use Rattle.winnow_sets.specs.declared.char_set.CharSet.{CharSet}
-use Rattle.winnow_read.specs.Inputs.{kind_word, TellsKind, TellsNamed}
+use Rattle.winnow_read.specs.Inputs.{kind_word, TellsKind, TellsNamed, TellsFed}
 use Rattle.winnow_read.specs.Literal.{TellsBytes}
 use Rattle.winnow_read.specs.Newline.{first_line}
 use Rattle.winnow_read.specs.Reading.{TellsNothing}
 use Rattle.winnow_read.specs.Steps.{entry, plain_calls, numbered_calls, TellsCall, TellsStep}
 use Rattle.winnow_read.specs.Words.{is_comma, is_space, first_word, later_words, TellsRange, TellsRanges, TellsNeedles}
+use Rattle.winnow_read.specs.declared.fed_lines.FedLine.{FedLine}
+use Rattle.winnow_read.specs.declared.fed_lines.FedLine.TheVariants.{Piece, Waits}
 use Rattle.winnow_read.specs.declared.inputs.Kind.{Kind}
 use Rattle.winnow_read.specs.declared.inputs.Kind.TheVariants.{Bytes, Text, BytePieces, TextPieces}
 use Rattle.winnow_read.specs.declared.steps.ScriptStep.{ScriptStep}
@@ -151,6 +153,11 @@ module _ {L : Type 0} (bytes : L → List ℕ) where
   pub TellsNamed-text : (name line : List ℕ) (literal : L) → IsUtf8 name → TellsNamed bytes name line literal → IsUtf8 line
   TellsNamed-text name line literal text told =
       IsUtf8-words line (subst IsUtf8 (sym told.0) text) (TellsBytes-text (later_words line) (bytes literal) told.1)
+
+  pub TellsFed-text : (line : List ℕ) (told : FedLine L) → TellsFed bytes line told → IsUtf8 line
+  TellsFed-text line (Piece piece) told =
+      TellsNamed-text (codes "piece") line piece (IsUtf8-from_is_ascii (codes "piece") refl) told
+  TellsFed-text line Waits told = subst IsUtf8 (sym told) (IsUtf8-from_is_ascii (codes "waits") refl)
 
 -- a line that is not there, or no text, tells nothing, where what tells something is text and an empty line tells nothing
 pub TellsNothing-unread : {T : Type 0} (Tells : List ℕ → T → Type 0) (text : List ℕ) → ¬ ((0 < length text) × IsUtf8 (first_line text))

@@ -10,7 +10,7 @@ ghost use Rattle.winnow_read.specs.declared.fed_lines.FedLine.TheVariants.{Waits
 
 use crate::ScriptFault;
 use crate::contents::Contents;
-use crate::inputs::read_line;
+use crate::inputs::read_named;
 use crate::lines::Lines;
 use std::alloc::Global;
 
@@ -60,10 +60,15 @@ fn read_fed_line<L: Contents>(
         (first_line lines.old.rest.now))) }
     ensures err { IfErr result (IsWithin (reach lines.old)) }
 {
-    let mut ahead = *lines;
-    if !is_first && ahead.next_line() == Some("waits") {
-        *lines = ahead;
+    let fault = lines.fault();
+    let Some(line) = lines.next_line() else {
+        return Err(fault);
+    };
+    if !is_first && line == "waits" {
         return Ok(FedLine::Waits);
     }
-    Ok(FedLine::Piece(read_line(alloc, lines, "piece")?))
+    match read_named(alloc, line, "piece")? {
+        Some(piece) => Ok(FedLine::Piece(piece)),
+        None => Err(fault),
+    }
 }

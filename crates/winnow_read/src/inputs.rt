@@ -11,7 +11,7 @@ use crate::ScriptFault;
 use crate::contents::Contents;
 use crate::lines::Lines;
 use crate::words::{read_literal, split_word};
-use std::alloc::Global;
+use std::alloc::{AllocError, Global};
 
 /// The kind of a script: what its input is, and whether it comes in pieces.
 #[derive(Clone, Copy)]
@@ -85,8 +85,19 @@ pub fn read_line<L: Contents>(
     let Some(line) = lines.next_line() else {
         return Err(fault);
     };
+    read_named(alloc, line, name)?.ok_or(fault)
+}
+
+/// Returns what a line tells, which has to be this word, a space and a literal; `None` where it tells none.
+pub fn read_named<L: Contents>(
+    alloc: Global,
+    line: &str,
+    name: &str,
+) -> Result<Option<L>, AllocError>
+    ensures { IfOk result (IsReading (TellsNamed L.bytes name.now) line.now) }
+{
     match split_word(line) {
-        Some((first, word)) if first == name => read_literal(alloc, word)?.ok_or(fault),
-        _ => Err(fault),
+        Some((first, word)) if first == name => read_literal(alloc, word),
+        _ => Ok(None),
     }
 }

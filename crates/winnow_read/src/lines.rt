@@ -4,6 +4,7 @@ ghost use Rattle.std.specs.Str.{IsUtf8};
 ghost use Rattle.winnow_read.specs.Newline.{is_newline, first_line, rest_lines};
 
 use crate::ScriptFault;
+use memchr::memchr;
 
 /// The lines that are left of an input, and the number of the first of them.
 ///
@@ -77,5 +78,5 @@ fn split_line(text: &[u8]) -> (&[u8], &[u8])
 fn newline_index(text: &[u8]) -> Option<usize>
     ensures { result ≡ position is_newline text.now }
 {
-    text.iter().position(|byte| *byte == b'\n')
+    memchr(b'\n', text)
 }

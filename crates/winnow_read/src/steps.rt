@@ -1,4 +1,4 @@
-ghost use Rattle.std.specs.Prelude.{◌≡◌, ◌+◌, ◌<◌, ◌≤◌, IfOk, IsSome, OnOk, length};
+ghost use Rattle.std.specs.Prelude.{◌≡◌, ◌+◌, ◌<◌, ◌≤◌, IfOk, IsSome, OnOk, ℕ, is_some, length};
 ghost use Rattle.winnow_read.specs.Lines.{reach, AreLines};
 ghost use Rattle.winnow_read.specs.Newline.{first_line, rest_lines};
 ghost use Rattle.winnow_read.specs.Reading.{IsReading, TellsNothing};
@@ -98,7 +98,8 @@ fn read_call<'s>(line: &str) -> Option<Step<CharSet<'s>>>
     ensures { IsReading TellsCall line.now result }
 {
     match split_word(line) {
-        Some((name, word)) => numbered_call(name, read_number(word)?),
+        Some((name, word)) if takes_number(name) => numbered_call(name, read_number(word)?),
+        Some(_) => None,
         None => plain_call(line),
     }
 }
@@ -116,6 +117,13 @@ fn plain_call<'s>(name: &str) -> Option<Step<CharSet<'s>>>
         "mark" => Some(Step::Mark),
         _ => None,
     }
+}
+
+// Whether it is the word of a call that takes a number.
+fn takes_number(name: &str) -> bool
+    ensures { (number : ℕ) → is_some (entry (numbered_calls number) name.now) ≡ result }
+{
+    matches!(name, "take" | "look" | "at" | "is" | "reset" | "since")
 }
 
 fn numbered_call<'s>(name: &str, number: usize) -> Option<Step<CharSet<'s>>>

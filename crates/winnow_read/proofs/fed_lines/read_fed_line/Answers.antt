@@ -1,15 +1,23 @@
-use Rattle.std.proofs.lemmas.Result.{IfOk-from_err}
+use Rattle.std.proofs.Common.{ℕ, List, [], ap, arith, codes, length, refl}
+use Rattle.winnow_read.specs.Inputs.{TellsFed}
+use Rattle.winnow_read.specs.Reading.{TellsNothing}
+use Rattle.winnow_read.specs.declared.fed_lines.FedLine.TheVariants.{Piece, Waits}
+use Rattle.winnow_read.proofs.UnreadLemmas.{TellsFed-text, TellsNothing-unread}
+use Rattle.winnow_read.proofs.WordLemmas.{TellsNamed-alone}
 use Rattle.winnow_read.proofs.fed_lines.read_fed_line.Goals as goal
 
--- where memory is refused, nothing is promised of a value
-pub returns-in_err-read_line-clause-told : goal.returns-in_err-read_line-clause-told
-returns-in_err-read_line-clause-told g c = IfOk-from_err _ _ c.from_residual.ensures.0
+-- an empty line
+TellsFed-filled : {L : Type 0} (bytes : L → List ℕ) → TellsNothing (TellsFed bytes) []
+TellsFed-filled bytes (Piece piece) told =
+    TellsNamed-alone bytes (codes "piece") [] (λ spaced. omega (arith, spaced)) piece told
+TellsFed-filled bytes Waits told = omega (arith, ap length told)
 
-pub returns-in_err-read_line-clause-rest : goal.returns-in_err-read_line-clause-rest
-returns-in_err-read_line-clause-rest g c = IfOk-from_err _ _ c.from_residual.ensures.0
-
-pub returns-in_err-read_line-clause-shorter : goal.returns-in_err-read_line-clause-shorter
-returns-in_err-read_line-clause-shorter g c = IfOk-from_err _ _ c.from_residual.ensures.0
-
-pub returns-in_err-read_line-clause-number : goal.returns-in_err-read_line-clause-number
-returns-in_err-read_line-clause-number g c = IfOk-from_err _ _ c.from_residual.ensures.0
+-- no line, or no text
+pub returns-in_default-clause-fault : goal.returns-in_default-clause-fault
+returns-in_default-clause-fault g c =
+    let bytes = g.L.Contents.bytes in
+    let text = c.args.lines.now.rest.now in
+    let none =
+    TellsNothing-unread (TellsFed bytes) text (λ read. cc (rw c.in_default.is at c.next_line.ensures.found.1 read)) (λ told. TellsFed-text bytes _ told) (TellsFed-filled bytes)
+    in
+    rw c.fault-fault.ensures (refl, λ told fed. none told fed.0)
