@@ -8,3 +8,4 @@ pub mod MoveLemmas
 pub mod TailLemmas
 pub mod RuleLemmas
 pub mod AnswerLemmas
+pub mod PlaceLemmas

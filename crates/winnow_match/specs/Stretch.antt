@@ -1,5 +1,5 @@
 -- Which needle could still move a hit: one that the bytes end inside.
-use Rattle.std.specs.Prelude.{◌≡◌, ℕ, ◌+◌, ◌<◌, ◌≤◌, ◌⊎◌, nat_lt, max, Bool, ◌&&◌, not, if◌then◌else◌, List, [], ◌∷◌, length, drop, Option, None, Some, is_some, option_map}
+use Rattle.std.specs.Prelude.{◌≡◌, ℕ, ◌+◌, ◌<◌, ◌≤◌, ◌⊎◌, nat_lt, max, Bool, true, false, ◌&&◌, not, if◌then◌else◌, List, [], ◌∷◌, length, drop, Option, None, Some, is_some, option_map}
 use Rattle.std.specs.List.{list_any}
 use Rattle.std.specs.declared.ops.Range.{Range}
 use Rattle.winnow_match.specs.Comparison.{is_prefix, IsPrefixOf}
@@ -37,6 +37,15 @@ stretch_of needles bytes = if list_any is_empty needles then None else first_str
 -- there is a hit, and no more input moves it
 abbrev pub hit_is_definite : List (List ℕ) → List ℕ → Bool
 hit_is_definite needles bytes = is_some (hit needles bytes) && not (is_some (stretch_of needles bytes))
+
+-- some needle stretches here
+abbrev pub any_stretches : List (List ℕ) → List ℕ → Bool
+any_stretches needles bytes = list_any (λ needle. stretches needle bytes) needles
+
+-- p is the least place up to `at` at which some needle stretches, or lies behind `at` where there is none
+pub record IsLeastPlace (needles : List (List ℕ)) (bytes : List ℕ) (at p : ℕ) : Type 0 where
+  pub before : (k : ℕ) → k < p → k ≤ at → any_stretches needles (drop k bytes) ≡ false
+  pub here : p ≤ at → any_stretches needles (drop p bytes) ≡ true
 
 -- the same as facts: the bytes end inside the needle that begins at place q
 abbrev pub Stretches : List ℕ → List ℕ → ℕ → Type 0

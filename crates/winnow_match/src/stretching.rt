@@ -1,21 +1,24 @@
-ghost use Rattle.std.specs.Prelude.{◌≡◌, ◌↔◌, ◌≤◌, IfSome, IsNone, IsTrue};
+ghost use Rattle.std.specs.Prelude.{◌≡◌, ◌↔◌, ◌≤◌, [], ◌∷◌, Some, IfSome, IsNone, IsTrue};
+ghost use Rattle.memchr.specs.Find.{FindsNeedle};
 ghost use Rattle.winnow_match.specs.Comparison.{is_prefix};
 ghost use Rattle.winnow_match.specs.Search.{bytes_of_needles};
-ghost use Rattle.winnow_match.specs.Stretch.{IsHit, hit_is_definite, stretch_of};
+ghost use Rattle.winnow_match.specs.Stretch.{IsHit, IsLeastPlace, hit_is_definite, stretch_of};
 ghost use Rattle.winnow_match.specs.Stretch.{stretches, stretching, stretching_or};
 
 use crate::compare_bytes::begins_with;
 use crate::finding::has_empty;
 use crate::{Needles, Stretch};
+use memchr::memmem::find;
 use std::ops::Range;
 
 /// Returns what could still move a hit: the least place at which a needle stretches that would
 /// come before the hit, and there the first listed one. It is `None` exactly where the hit is
 /// definite: no further input moves it.
 ///
-/// A needle stretches where the input ends inside it. No place is looked at where every needle
-/// would end within the input, so that a hit far from the end costs nothing; near the end the
-/// cost is at most the square of the longest needle's length.
+/// A needle stretches where the input ends inside it. What stands at the hit stands nowhere
+/// before, so a needle that stretches from a place before the hit has it first at the distance of
+/// the two. So it stretches at one place at most, and a look is linear in the lengths of the needles;
+/// after a hit that is farther from the end than every needle is long, nothing is searched.
 pub fn stretch(input: &[u8], needles: &Needles<&[u8]>, hit: &Range<usize>) -> Option<Stretch>
     requires { IsHit (bytes_of_needles needles.now) input.now hit.now }
     ensures value { result ≡ stretch_of (bytes_of_needles needles.now) input.now }
@@ -25,13 +28,60 @@ pub fn stretch(input: &[u8], needles: &Needles<&[u8]>, hit: &Range<usize>) -> Op
     if has_empty(needles) {
         return None;
     }
-    let first = input.len().saturating_sub(needles.longest() - 1);
-    for place in first..hit.start + 1 {
-        if let Some(needle) = stretching(&input[place..], needles) {
-            return Some(Stretch { needle, place });
+    let stands = &input[hit.start..hit.end];
+    let place = first_place(input, needles, stands, hit.start);
+    if hit.start < place {
+        return None;
+    }
+    match stretching(&input[place..], needles) {
+        Some(needle) => Some(Stretch { needle, place }),
+        None => None,
+    }
+}
+
+// The least place up to `at` at which a needle stretches, or a place after `at`. What stands at `at` stands nowhere before.
+#[tactic(auto, using(crate::proofs::lemmas::PlaceLemmas::least_places))]
+fn first_place(input: &[u8], needles: &Needles<&[u8]>, stands: &[u8], at: usize) -> usize
+    requires { FindsNeedle input.now stands.now 0 (Some at) }
+    ensures { IsLeastPlace (bytes_of_needles needles.now) input.now at result }
+{
+    match needles {
+        Needles::One(a) => place_of(input, a, stands, at),
+        Needles::Two(a, b) => place_of(input, a, stands, at).min(place_of(input, b, stands, at)),
+        Needles::Three(a, b, c) => {
+            let first = place_of(input, a, stands, at).min(place_of(input, b, stands, at));
+            first.min(place_of(input, c, stands, at))
         }
     }
-    None
+}
+
+// The same for one needle.
+fn place_of(input: &[u8], needle: &[u8], stands: &[u8], at: usize) -> usize
+    requires { FindsNeedle input.now stands.now 0 (Some at) }
+    ensures { IsLeastPlace (needle.now ∷ []) input.now at result }
+{
+    if needle.len() <= input.len() - at {
+        return at + 1;
+    }
+    let Some(distance) = find(needle, stands) else {
+        return at + 1;
+    };
+    if at < distance {
+        return at + 1;
+    }
+    let place = at - distance;
+    if ends_inside(&input[place..], needle) {
+        place
+    } else {
+        at + 1
+    }
+}
+
+// Whether the input ends inside the needle.
+fn ends_inside(input: &[u8], needle: &[u8]) -> bool
+    ensures { result ≡ stretches needle.now input.now }
+{
+    input.len() < needle.len() && begins_with(needle, input)
 }
 
 // The number of the first needle, 0, if the input ends inside it, and none if it stands here; else what the later ones give.
@@ -42,7 +92,7 @@ fn listed(input: &[u8], needle: &[u8], later: Option<usize>) -> Option<usize>
 {
     if begins_with(input, needle) {
         None
-    } else if input.len() < needle.len() && begins_with(needle, input) {
+    } else if ends_inside(input, needle) {
         Some(0)
     } else {
         later.map(|i| i + 1)

@@ -17,7 +17,7 @@ longest-bound [] i l = absurd (omega (arith, l))
 longest-bound (n ∷ ls) zero l = omega arith
 longest-bound (n ∷ ls) (suc i) l = omega (arith, longest-bound ls i (omega (arith, l)))
 
-stretching_or-later : (a b : Bool) (o : Option ℕ) → b ≡ false → o ≡ None → stretching_or a b o ≡ None
+pub stretching_or-later : (a b : Bool) (o : Option ℕ) → b ≡ false → o ≡ None → stretching_or a b o ≡ None
 stretching_or-later true b o h e = refl
 stretching_or-later false b o h e = rw (h, e) refl
 

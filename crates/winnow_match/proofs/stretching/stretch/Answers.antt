@@ -1,36 +1,55 @@
-use Rattle.std.proofs.Common.{◌≡◌, ℕ, ◌+◌, ◌-◌, ◌≤◌, ◌<◌, None, Some, drop, length, sym, ◌∙◌, arith}
+use Rattle.std.proofs.Common.{None, Some, sym, ◌∙◌, arith}
 use Rattle.std.proofs.lemmas.List.{take_rest}
 use Rattle.winnow_match.specs.Search.{bytes_of_needles}
 use Rattle.winnow_match.specs.declared.needles.Stretch.{Stretch}
-use Rattle.winnow_match.specs.Stretch.{stretching, longest}
-use Rattle.winnow_match.proofs.lemmas.TailLemmas.{hit-inside, stretch-found, stretch-over, definite-says}
+use Rattle.winnow_match.proofs.lemmas.PlaceLemmas.{hit-span, hit-finds, place-over, place-later, place-first}
+use Rattle.winnow_match.proofs.lemmas.TailLemmas.{definite-says}
 use Rattle.winnow_match.proofs.stretching.stretch.Goals as goal
 
-pub overflow_add-place-end : goal.overflow_add-place-end
-overflow_add-place-end c =
+pub slice_bounds-stands-count : goal.slice_bounds-stands-count
+slice_bounds-stands-count c =
     let some = sym c.has_empty.ensures ∙ c.if-has_empty.false in
-    let w = hit-inside (bytes_of_needles c.args.needles.now) c.args.input.now some c.args.hit.now c.requires in
-    omega (arith, w)
+    omega (arith, hit-span (bytes_of_needles c.args.needles.now) c.args.input.now some c.args.hit.now c.requires)
+
+pub slice_bounds-stands-start : goal.slice_bounds-stands-start
+slice_bounds-stands-start c =
+    let some = sym c.has_empty.ensures ∙ c.if-has_empty.false in
+    omega (arith, hit-span (bytes_of_needles c.args.needles.now) c.args.input.now some c.args.hit.now c.requires)
+
+pub slice_bounds-stands-end : goal.slice_bounds-stands-end
+slice_bounds-stands-end c =
+    let some = sym c.has_empty.ensures ∙ c.if-has_empty.false in
+    omega (arith, hit-span (bytes_of_needles c.args.needles.now) c.args.input.now some c.args.hit.now c.requires)
+
+pub first_place-place-requires : goal.first_place-place-requires
+first_place-place-requires c =
+    let some = sym c.has_empty.ensures ∙ c.if-has_empty.false in
+    hit-finds (bytes_of_needles c.args.needles.now) c.args.input.now some c.args.hit.now c.requires
+
+-- no needle stretches up to the hit
+pub returns-then-hit-place-clause-value : goal.returns-then-hit-place-clause-value
+returns-then-hit-place-clause-value c =
+    let some = sym c.has_empty.ensures ∙ c.if-has_empty.false in
+    sym (place-over (bytes_of_needles c.args.needles.now) c.args.input.now some c.args.hit.now c.requires c.first_place-place.result c.first_place-place.ensures c.if-hit-place.true)
+
+pub returns-then-hit-place-clause-definite : goal.returns-then-hit-place-clause-definite
+returns-then-hit-place-clause-definite c = definite-says (bytes_of_needles c.args.needles.now) c.args.input.now c.args.hit.now None c.requires (returns-then-hit-place-clause-value c)
 
 pub returns-in-Some-clause-value : goal.returns-in-Some-clause-value
 returns-in-Some-clause-value c =
-    let ls = bytes_of_needles c.args.needles.now in
     let some = sym c.has_empty.ensures ∙ c.if-has_empty.false in
-    let here = rw (take_rest c.args.input.now c.loop-place.place) at c.in-Some.ensures in
-    let looked : (k : ℕ) → length c.args.input.now - (longest ls - 1) ≤ k → k < c.loop-place.place → stretching ls (drop k c.args.input.now) ≡ None = λ k l m. c.loop-place.invariant k (omega (arith, l, c.longest.ensures, c.saturating_sub-first.ensures)) m in
-    sym (stretch-found ls c.args.input.now some c.args.hit.now c.requires c.loop-place.place c.in-Some.needle (omega (arith, c.loop-place-test.true)) looked (sym here))
+    sym (place-first (bytes_of_needles c.args.needles.now) c.args.input.now some c.args.hit.now c.requires c.first_place-place.result c.first_place-place.ensures c.if-hit-place.false c.in-Some.needle (sym (rw (take_rest c.args.input.now c.first_place-place.result) at c.stretching.ensures) ∙ c.in-Some.is))
 
 pub returns-in-Some-clause-definite : goal.returns-in-Some-clause-definite
 returns-in-Some-clause-definite c =
-    let s : Stretch = record { needle = c.in-Some.needle; place = c.loop-place.place } in
+    let s : Stretch = record { needle = c.in-Some.needle; place = c.first_place-place.result } in
     definite-says (bytes_of_needles c.args.needles.now) c.args.input.now c.args.hit.now (Some s) c.requires (returns-in-Some-clause-value c)
 
-pub returns-clause-value : goal.returns-clause-value
-returns-clause-value c =
-    let ls = bytes_of_needles c.args.needles.now in
+-- one stretches at the hit, but is listed after the one that stands there
+pub returns-in-None-clause-value : goal.returns-in-None-clause-value
+returns-in-None-clause-value c =
     let some = sym c.has_empty.ensures ∙ c.if-has_empty.false in
-    let looked : (k : ℕ) → length c.args.input.now - (longest ls - 1) ≤ k → k < c.args.hit.now.start + 1 → stretching ls (drop k c.args.input.now) ≡ None = λ k l m. c.loop-place.invariant k (omega (arith, l, c.longest.ensures, c.saturating_sub-first.ensures)) (omega (arith, m, c.loop-place-test.false)) in
-    sym (stretch-over ls c.args.input.now some c.args.hit.now c.requires looked)
+    sym (place-later (bytes_of_needles c.args.needles.now) c.args.input.now some c.args.hit.now c.requires c.first_place-place.result c.first_place-place.ensures c.if-hit-place.false (sym (rw (take_rest c.args.input.now c.first_place-place.result) at c.stretching.ensures) ∙ c.in-None.is))
 
-pub returns-clause-definite : goal.returns-clause-definite
-returns-clause-definite c = definite-says (bytes_of_needles c.args.needles.now) c.args.input.now c.args.hit.now None c.requires (returns-clause-value c)
+pub returns-in-None-clause-definite : goal.returns-in-None-clause-definite
+returns-in-None-clause-definite c = definite-says (bytes_of_needles c.args.needles.now) c.args.input.now c.args.hit.now None c.requires (returns-in-None-clause-value c)
