@@ -49,6 +49,11 @@ module _ {T C L : Type 0} (k : PieceKind T C L) where
   IsSettled (step.Compare literal) r n tokens = AreSame (k.literal literal) (written k.write r) n
   IsSettled (step.Find needles) r n tokens = NoneOccurs (needle_list k.literal needles) (written k.write r) n
 
+  -- no needle of a search stands before place n, whatever follows
+  abbrev pub IsSearched : SearchStep C L → Source T → ℕ → Type 0
+  IsSearched (step.Find needles) r n = NoneOccurs (needle_list k.literal needles) (written k.write r) n
+  IsSearched _ r n = ⊤
+
 -- ---- an answer that was found from n on, as the answer of the whole
 
 abbrev pub shifted : ℕ → Option (Range ℕ) → Option (Range ℕ)

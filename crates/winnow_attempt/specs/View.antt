@@ -111,10 +111,6 @@ module _ {T C L : Type 0} (k : PieceKind T C L) (at : ℕ) (marks : List ℕ) (r
     marks = false;
   }
 
--- the answer is the step's, wherever the cursor and the marks are
-abbrev pub GivesAnswer : {T C L : Type 0} → PieceKind T C L → Source T → SearchStep C L → PlacedSearchAnswer T → Type 0
-GivesAnswer k r s given = (at : ℕ) × (marks : List ℕ) × (given ≡ (look_of k at marks r s).answer)
-
 -- a step that no input makes definite
 abbrev pub never_definite : {C L : Type 0} → SearchStep C L → Bool
 never_definite (step.Call call.Finish) = true

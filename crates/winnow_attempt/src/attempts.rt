@@ -1,19 +1,19 @@
 ghost use Rattle.std.specs.Prelude.{◌≡◌, ℕ, ◌+◌, ◌≤◌, ◌<◌, ◌^◌, ◌∷◌, ◌++◌, [], List, Option, false};
 ghost use Rattle.std.specs.Prelude.{length, vec_len, vec_capacity};
 ghost use Rattle.winnow_stream.specs.Source.{width};
-ghost use Rattle.winnow_attempt.specs.Settled.{IsSettled, AreCounted};
+ghost use Rattle.winnow_attempt.specs.Settled.{IsSettled, IsSearched, AreCounted};
 ghost use Rattle.winnow_run.specs.Definite.{is_definite, is_decided};
 ghost use Rattle.winnow_attempt.specs.View.{piece_kind, look_of, seen_of, under, never_definite};
-ghost use Rattle.winnow_attempt.specs.View.{Attempts, GivesAnswer};
+ghost use Rattle.winnow_attempt.specs.View.{Attempts};
 ghost use Rattle.winnow_attempt.specs.declared.told.Told.{Told};
 ghost use Rattle.winnow_run.specs.Searching.{PlacedSearchAnswer};
 
 use crate::Told;
 use crate::kept::Kept;
-use crate::literals::{compare_from, find_from, needle_bytes, searched, stays_found};
+use crate::literals::{compare_from, find_from, needle_bytes, searched};
 use crate::looking::{Passed, Seen, look_call, tell};
 use winnow_match::{CompareResult, Finders};
-use winnow_run::{PieceAnswer, SearchAnswer, SearchStep, Step};
+use winnow_run::{SearchAnswer, SearchStep, Step};
 use winnow_sets::{AsChar, CharSet};
 use winnow_stream::{AsBStr, Stream, StreamIsPartial};
 
@@ -36,7 +36,20 @@ fn is_decided_now(compared: &CompareResult) -> bool
     }
 }
 
-/// Looks at a step, from what it has passed on, and tells its answer under the piece.
+// What looking at a step gives that moves and marks nothing.
+#[inline(always)]
+fn seen_at(definite: bool, place: usize) -> Seen
+    ensures { result ≡ record { definite = definite; place = place; marks = false } }
+{
+    Seen {
+        definite,
+        place,
+        marks: false,
+    }
+}
+
+/// Looks at a step, from what it has passed on, and tells its answer under the piece. Beside what
+/// it has seen it returns a place that a search has passed for good, and 0 of any other step.
 #[inline(always)]
 pub(crate) fn look<'k, S: Kept, L: AsBStr>(
     step: &'k SearchStep<CharSet<'k>, L>,
@@ -47,7 +60,7 @@ pub(crate) fn look<'k, S: Kept, L: AsBStr>(
     finders: &mut Option<Finders<'k>>,
     told: &mut Vec<Told<S::Token>>,
     piece: Option<u64>,
-) -> Seen
+) -> (Seen, usize)
 where
     S::Token: AsChar + Drop,
     S::Slice: Drop,
@@ -57,9 +70,12 @@ where
         (piece_kind S.Token.code S.counts_missing S.write L.text_bytes)
         step.now (S.remaining rest) passed.width passed.tokens }
     requires told_room { vec_len told.old < vec_capacity told.old }
-    ensures seen { result ≡ seen_of (look_of
+    ensures seen { result.0 ≡ seen_of (look_of
         (piece_kind S.Token.code S.counts_missing S.write L.text_bytes)
         place marks.now (S.remaining rest) step.now) }
+    ensures searched { IsSearched
+        (piece_kind S.Token.code S.counts_missing S.write L.text_bytes)
+        step.now (S.remaining rest) result.1 }
     ensures items { told.new.items ≡ told.old.items ++ under piece (look_of
         (piece_kind S.Token.code S.counts_missing S.write L.text_bytes)
         place marks.now (S.remaining rest) step.now).answer ∷ [] }
@@ -67,43 +83,34 @@ where
     ensures capacity { vec_capacity told.old ≤ vec_capacity told.new }
 {
     match step {
-        SearchStep::Call(call) => look_call(call, rest, place, marks, passed, told, piece),
+        SearchStep::Call(call) => {
+            let seen = look_call(call, rest, place, marks, passed, told, piece);
+            (seen, 0)
+        }
         SearchStep::Compare(literal) => {
             let compared = compare_from(literal.as_bstr(), rest.bytes(), passed.width);
             let definite = is_decided_now(&compared);
             tell(told, piece, SearchAnswer::Compared(compared));
-            Seen {
-                definite,
-                place,
-                marks: false,
-            }
+            (seen_at(definite, place), 0)
         }
         SearchStep::Find(needles) => {
             let needles = needle_bytes(needles);
             let found = find_from(&needles, rest.bytes(), passed.width, finders);
-            let definite = stays_found(&needles, rest.bytes(), &found);
+            let (definite, width) = searched(&needles, rest.bytes(), &found);
             tell(told, piece, SearchAnswer::Hit(found));
-            Seen {
-                definite,
-                place,
-                marks: false,
-            }
+            (seen_at(definite, place), width)
         }
     }
 }
 
 // Takes the last answer back.
-fn take_back<T: Drop>(told: &mut Vec<Told<T>>) -> PieceAnswer<T>
+fn take_back<T: Drop>(told: &mut Vec<Told<T>>)
     requires { 0 < vec_len told.old }
     ensures items { (before : List (Told T)) → (piece : Option ℕ) → (answer : PlacedSearchAnswer T)
-        → told.old.items ≡ before ++ under piece answer ∷ []
-        → (told.new.items ≡ before) × (result ≡ answer) }
+        → told.old.items ≡ before ++ under piece answer ∷ [] → told.new.items ≡ before }
     ensures capacity { vec_capacity told.new ≡ vec_capacity told.old }
 {
-    match told.pop() {
-        Some(last) => last.answer,
-        None => unreachable!(),
-    }
+    let _last = told.pop();
 }
 
 /// Returns how many tokens remain.
@@ -140,12 +147,12 @@ where
     }
 }
 
-/// Returns what a step that waits with this answer has passed for good.
+/// Returns what a step that waits has passed for good: of a search, the place that was given.
 #[tactic(auto, using(crate::proofs::lemmas::PassedLemmas::passes))]
 pub(crate) fn settle<S: Kept, L: AsBStr>(
     step: &SearchStep<CharSet, L>,
     rest: S,
-    answer: &PieceAnswer<S::Token>,
+    searched: usize,
     passed: Passed,
 ) -> Passed
 where
@@ -155,9 +162,9 @@ where
     requires settled { IsSettled
         (piece_kind S.Token.code S.counts_missing S.write L.text_bytes)
         step.now (S.remaining rest) passed.width passed.tokens }
-    requires answer { GivesAnswer
+    requires searched { IsSearched
         (piece_kind S.Token.code S.counts_missing S.write L.text_bytes)
-        (S.remaining rest) step.now answer.now }
+        step.now (S.remaining rest) searched }
     requires waits { is_definite
         (piece_kind S.Token.code S.counts_missing S.write L.text_bytes)
         step.now (S.remaining rest) ≡ false }
@@ -176,12 +183,9 @@ where
             width: rest.bytes().len(),
             tokens: 0,
         },
-        SearchStep::Find(needles) => match answer {
-            SearchAnswer::Hit(found) => Passed {
-                width: searched(&needle_bytes(needles), rest.bytes(), found),
-                tokens: 0,
-            },
-            _ => passed,
+        SearchStep::Find(_) => Passed {
+            width: searched,
+            tokens: 0,
         },
     }
 }
@@ -233,11 +237,11 @@ where
     if partial && waits_to_the_end(step) {
         return Attempt::Waits(passed);
     }
-    let seen = look(step, rest, place, marks, passed, finders, told, piece);
+    let (seen, searched) = look(step, rest, place, marks, passed, finders, told, piece);
     if seen.definite || !partial {
         Attempt::Answered(seen)
     } else {
-        let answer = take_back(told);
-        Attempt::Waits(settle(step, rest, &answer, passed))
+        take_back(told);
+        Attempt::Waits(settle(step, rest, searched, passed))
     }
 }

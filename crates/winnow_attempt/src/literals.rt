@@ -124,41 +124,27 @@ pub(crate) fn find_from<'n>(
     }
 }
 
-/// Returns whether something was found, and no further input can move it.
+/// Returns whether something was found that no further input can move, and else a place before
+/// which no needle stands, whatever follows: that of the needle that could come to stand there.
 #[tactic(auto, using(crate::proofs::lemmas::PassedLemmas::found_hits))]
 #[inline(always)]
-pub(crate) fn stays_found(
-    needles: &Needles<&[u8]>,
-    bytes: &[u8],
-    found: &Option<Range<usize>>,
-) -> bool
-    requires { found.now ≡ hit (bytes_of_needles needles.now) bytes.now }
-    ensures { result ≡ hit_is_definite (bytes_of_needles needles.now) bytes.now }
-{
-    match found {
-        Some(hit) => stretch(bytes, needles, hit).is_none(),
-        None => false,
-    }
-}
-
-/// Returns a place before which no needle stands, whatever follows, where what was found may still move:
-/// that of the needle that could come to stand there.
-#[tactic(auto, using(crate::proofs::lemmas::PassedLemmas::found_hits))]
 pub(crate) fn searched(
     needles: &Needles<&[u8]>,
     bytes: &[u8],
     found: &Option<Range<usize>>,
-) -> usize
+) -> (bool, usize)
     requires { found.now ≡ hit (bytes_of_needles needles.now) bytes.now }
-    ensures { NoneOccurs (bytes_of_needles needles.now) bytes.now result }
+    ensures definite { result.0 ≡ hit_is_definite (bytes_of_needles needles.now) bytes.now }
+    ensures passed { NoneOccurs (bytes_of_needles needles.now) bytes.now result.1 }
 {
     match found {
         Some(hit) => match stretch(bytes, needles, hit) {
-            Some(stretch) => stretch.place,
-            None => 0,
+            Some(stretch) => (false, stretch.place),
+            None => (true, 0),
         },
-        None => bytes
-            .len()
-            .saturating_sub(needles.longest().saturating_sub(1)),
+        None => {
+            let last = needles.longest().saturating_sub(1);
+            (false, bytes.len().saturating_sub(last))
+        }
     }
 }

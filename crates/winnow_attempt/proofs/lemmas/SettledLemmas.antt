@@ -1,6 +1,6 @@
 -- A waiting step: what it has passed it has passed under more input, and going on from there gives the answer of the whole.
 use Rattle.std.proofs.Common.{◌≡◌, ℕ, zero, suc, ◌+◌, ◌-◌, ◌≤◌, ◌<◌, ◌==◌, Bool, true, false, cond, leb, List, [], ◌∷◌, ◌++◌, length, take, drop, Option, None, Some, Ok, Err, refl, sym, ap, ◌∙◌, subst, arith, inl, inr, take-append-drop, length-drop}
-use Rattle.std.specs.Prelude.{option_map, unwrap_or, is_some, ◌&&◌}
+use Rattle.std.specs.Prelude.{option_map, unwrap_or, ◌&&◌}
 use Rattle.std.specs.List.{list_any}
 use Rattle.std.specs.declared.ops.Range.{Range}
 use Rattle.std.proofs.lemmas.Bool.{cases_Bool, false≢true, leb-true, and_parts}
@@ -8,7 +8,7 @@ use Rattle.std.proofs.lemmas.Bool.Decides.{nat_tests}
 use Rattle.std.proofs.lemmas.List.{take-append-le, drop-append-le, length-append, append_assoc, append-nil}
 use Rattle.std.proofs.lemmas.Option.{none-some}
 use Rattle.winnow_stream.specs.Source.{Source, width, HasPositiveWidths, first_held, first_offset, offsets_from}
-use Rattle.winnow_stream.specs.Front.{front_count, is_offset, count_to, front, back}
+use Rattle.winnow_stream.specs.Front.{is_offset, count_to, front, back}
 use Rattle.winnow_stream.specs.Shortage.{shortage, offset_at}
 use Rattle.winnow_stream.specs.Span.{span}
 use Rattle.winnow_run.specs.declared.script.Step.TheVariants as call

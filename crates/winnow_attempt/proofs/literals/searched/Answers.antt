@@ -4,12 +4,12 @@ use Rattle.winnow_attempt.specs.Settled.{NoneOccurs}
 use Rattle.winnow_attempt.proofs.lemmas.PassedLemmas.{searched-none, searched-hit}
 use Rattle.winnow_attempt.proofs.literals.searched.Goals as goal
 
-pub returns-in-Some-stretch : goal.returns-in-Some-stretch
-returns-in-Some-stretch c = searched-hit (bytes_of_needles c.args.needles.now) c.args.bytes.now _ _ (sym c.in-Some.is ∙ c.requires) c.in-Some-stretch.ensures.value
+pub returns-in-Some-stretch-clause-passed : goal.returns-in-Some-stretch-clause-passed
+returns-in-Some-stretch-clause-passed c = searched-hit (bytes_of_needles c.args.needles.now) c.args.bytes.now _ _ (sym c.in-Some.is ∙ c.requires) c.in-Some-stretch.ensures.value
 
-pub returns-in-None : goal.returns-in-None
-returns-in-None c =
+pub returns-in-None-clause-passed : goal.returns-in-None-clause-passed
+returns-in-None-clause-passed c =
     let ls = bytes_of_needles c.args.needles.now in
     let bs = c.args.bytes.now in
-    let e : c.saturating_sub-in-None.result ≡ length bs - (c.longest.result - 1) = omega (arith, c.saturating_sub-in-None.ensures, c.saturating_sub.ensures) in
+    let e : c.saturating_sub.result ≡ length bs - (c.longest.result - 1) = omega (arith, c.saturating_sub.ensures, c.saturating_sub-last.ensures) in
     subst (NoneOccurs ls bs) (sym e) (searched-none ls bs c.longest.result c.longest.ensures (sym c.in-None.is ∙ c.requires))
