@@ -190,7 +190,7 @@ fn place_of<I: Stream<Token = u8>>(s: &Bits<I>) -> usize
 }
 
 // Clearing the flag of the stream of bytes changes nothing else.
-fn complete_bits<I: StreamIsPartial>(s: &mut Bits<I>) -> I::PartialState
+fn complete_bits<I: StreamIsPartial + Stream<Token = u8>>(s: &mut Bits<I>) -> I::PartialState
     ensures before { result ≡ I.partial_state (bits_inner s.old) }
     ensures bytes { I.same_but_flag (bits_inner s.old) (bits_inner s.new) }
     ensures place { bits_place s.old ≡ bits_place s.new }

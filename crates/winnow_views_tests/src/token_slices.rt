@@ -105,7 +105,7 @@ fn located<S: Location>(s: &S) -> (usize, usize) {
 }
 
 // There is no flag: they stay as they are, and what agrees in all but the flag is the same.
-fn complete_tokens<'t, T>(s: &mut TokenSlice<'t, T>)
+fn complete_tokens<'t, T: Debug>(s: &mut TokenSlice<'t, T>)
     ensures kept { s.old ≡ s.new }
     ensures same { (s t : TokenSlice T) → ⟦<TokenSlice<'t, T> as StreamIsPartial>⟧.same_but_flag s t
         → s ≡ t }
