@@ -1,10 +1,11 @@
-ghost use Rattle.std.specs.Prelude.{◌≡◌, IfSome};
+ghost use Rattle.std.specs.Prelude.{◌≡◌, ◌<◌, IfSome};
 ghost use Rattle.winnow_stream.specs.Source.{units};
 ghost use Rattle.winnow_views.specs.BitStream.{bits_inner, bits_place, IsValidBits};
 ghost use Rattle.winnow_views.specs.BitSource.{IsBitSource};
 ghost use Rattle.winnow_stream.specs.SliceWidths.{SlicesHaveWidths};
 
 use std::alloc::{AllocError, Global};
+use std::process::Abort;
 use std::test::Fail;
 use winnow_run::Step;
 use winnow_run::Step::{At, Each, Eof, Finish, Look, Mark, Next, Peek, Reset, Since, Take};
@@ -118,11 +119,11 @@ fn slow_bits(alloc: Global, bytes: &[u8]) -> Result<Vec<bool>, AllocError> {
     Ok(bits)
 }
 
+// A slice of bits, and its length.
+type Taken<T> = ((T, usize, usize), usize);
+
 // The slice of that many bits, and its length, which is their number; `None` where fewer remain.
-fn take<I: Stream<Token = u8>>(
-    bits: &mut Bits<I>,
-    count: usize,
-) -> Option<((I::Slice, usize, usize), usize)>
+fn take<I: Stream<Token = u8>>(bits: &mut Bits<I>, count: usize) -> Option<Taken<I::Slice>>
 where
     I::Slice: SliceLen,
     requires valid { IsValidBits I.valid I.remaining bits.old }
@@ -139,30 +140,79 @@ where
     Some((slice, length))
 }
 
+// Each bit that is left.
+fn left<I: Stream<Token = u8>>(alloc: Global, bits: &Bits<I>) -> Result<Vec<bool>, AllocError>
+    requires { IsValidBits I.valid I.remaining bits.now }
+{
+    bits.iter_offsets().map(|(_, bit)| bit).collect(alloc)
+}
+
+// The slice of that many bits, `None` where fewer remain, and the bits behind it.
+fn split<I: Stream<Token = u8>>(
+    alloc: Global,
+    bits: &mut Bits<I>,
+    count: usize,
+) -> Result<(Option<Taken<I::Slice>>, Vec<bool>), AllocError>
+where
+    I::Slice: SliceLen + Drop,
+    requires valid { IsValidBits I.valid I.remaining bits.old }
+    requires widths { SlicesHaveWidths I.is_slice I.Slice.has_width I.Slice.width_of }
+{
+    let taken = take(bits, count);
+    Ok((taken, left(alloc, bits)?))
+}
+
+// Asserts what is taken of bytes from a place on, and what is left.
+fn splits_into(
+    rt: &impl Abort,
+    alloc: Global,
+    (bytes, place, count): (&[u8], usize, usize),
+    taken: Option<Taken<&[u8]>>,
+    left: Option<&[bool]>,
+) -> Result<(), Fail> {
+    byte_slice_law();
+    let mut bits = bits_at(bytes, place).ok_or("no bits")?;
+    let (slice, rest) = split(alloc, &mut bits, count)?;
+    assert_eq!(rt;
+        (slice, Some(rest.as_slice())),
+        (taken, left),
+        "{place}, {count}"
+    );
+    Ok(())
+}
+
 #[test]
 fn slices_against_a_slow_reading(rt: HostRuntime) -> Result<(), Fail> {
-    let bytes = b"\xab\x31\xc0".as_slice();
-    let slow = slow_bits(rt.alloc(), bytes)?;
-    byte_slice_law();
+    let (alloc, bytes) = (rt.alloc(), b"\xab\x31\xc0".as_slice());
+    let slow = slow_bits(alloc, bytes)?;
     for place in 0..8usize {
         for count in 0..25 - place {
-            let mut rest = bits_at(bytes, place).ok_or("no bits")?;
-            let ((whole, start, end), length) = take(&mut rest, count).ok_or("too few")?;
-            assert_eq!(rt; (whole, start), (&bytes[..(place + count) / 8], place));
-            assert_eq!(rt; (end, length), ((place + count) % 8, count));
-            let left: Vec<bool> = rest.iter_offsets().map(|(_, bit)| bit).collect(rt.alloc())?;
-            assert_eq!(rt;
-                Some(left.as_slice()),
-                slow.get(place + count..),
-                "{place}, {count}"
-            );
+            let end = place + count;
+            let taken = ((&bytes[..end / 8], place, end % 8), count);
+            splits_into(
+                &rt,
+                alloc,
+                (bytes, place, count),
+                Some(taken),
+                slow.get(end..),
+            )?;
         }
-        let mut rest = bits_at(bytes, place).ok_or("no bits")?;
-        assert_eq!(rt; take(&mut rest, 25 - place), None);
-        // One byte.
-        let one = bits_at(&bytes[..1], place).ok_or("no bits")?;
-        let left: Vec<bool> = one.iter_offsets().map(|(_, bit)| bit).collect(rt.alloc())?;
-        assert_eq!(rt; Some(left.as_slice()), slow.get(place..8), "{place}");
+        splits_into(
+            &rt,
+            alloc,
+            (bytes, place, 25 - place),
+            None,
+            slow.get(place..),
+        )?;
+        let none = ((&bytes[..0], place, place), 0);
+        let one_byte = &bytes[..1];
+        splits_into(
+            &rt,
+            alloc,
+            (one_byte, place, 0),
+            Some(none),
+            slow.get(place..8),
+        )?;
     }
     Ok(())
 }
@@ -174,10 +224,30 @@ where
     requires valid { S.valid s.old }
     requires measured { (t : S) (c : S.Checkpoint) → S.valid t → S.valid_checkpoint c
         → S.can_measure t c }
+    ensures { S.valid s.new }
 {
     let start = s.checkpoint();
     let _ = s.next_token();
     s.offset_from(&start)
+}
+
+// The width of the first bit, and the parts behind it; and whether that place is the second and not the start, whether their
+// checkpoints differ, and whether those of two equal places do not.
+fn behind_one<I: Stream<Token = u8> + Copy + PartialEq>(bytes: I) -> (usize, (I, usize), [bool; 4])
+where
+    I::Checkpoint: PartialEq,
+    requires { IsValidBits I.valid I.remaining (record { input = bytes; place = 0 }) }
+{
+    let start = Bits::new(bytes);
+    let mut end = start;
+    let width = token_width(&mut end);
+    let told = [
+        end == Bits::at_place(bytes, 1),
+        end != start,
+        end.checkpoint() != start.checkpoint(),
+        start.checkpoint() == Bits::new(bytes).checkpoint(),
+    ];
+    (width, end.into_parts(), told)
 }
 
 // The place, from the number of bits alone.
@@ -189,6 +259,16 @@ fn place_of<I: Stream<Token = u8>>(s: &Bits<I>) -> usize
     (8 - s.eof_offset() % 8) % 8
 }
 
+// The places of the start and of the bits behind that many of the first byte, and the width between them.
+fn places_from_start<I: Stream<Token = u8> + Copy>(bytes: I, place: usize) -> [usize; 3]
+    requires below { place < 8 }
+    requires start { IsValidBits I.valid I.remaining (record { input = bytes; place = 0 }) }
+    requires rest { IsValidBits I.valid I.remaining (record { input = bytes; place = place }) }
+{
+    let (start, rest) = (Bits::new(bytes), Bits::at_place(bytes, place));
+    [place_of(&start), place_of(&rest), width_from(&rest, &start)]
+}
+
 // Clearing the flag of the stream of bytes changes nothing else.
 fn complete_bits<I: StreamIsPartial + Stream<Token = u8>>(s: &mut Bits<I>) -> I::PartialState
     ensures before { result ≡ I.partial_state (bits_inner s.old) }
@@ -198,23 +278,40 @@ fn complete_bits<I: StreamIsPartial + Stream<Token = u8>>(s: &mut Bits<I>) -> I:
     s.complete()
 }
 
+// What the calls of the flag answer, and the parts that they leave.
+fn flags_of<I>(bytes: I) -> ([bool; 4], (I, usize))
+where
+    I: StreamIsPartial + Stream<Token = u8>,
+    I::PartialState: Drop,
+{
+    let mut bits = Bits::at_place(bytes, 1);
+    let flags = flags(&mut bits);
+    let _ = complete_bits(&mut bits);
+    (flags, bits.into_parts())
+}
+
+// All bits, looked at and then taken, and the parts that are left.
+fn finished<I: Stream<Token = u8>>(bits: &mut Bits<I>) -> [(I::Slice, usize, usize); 2]
+    requires { IsValidBits I.valid I.remaining bits.old }
+{
+    [bits.peek_finish(), bits.finish()]
+}
+
 #[test]
 fn places_of_bits(rt: HostRuntime) {
     let bytes = b"\xab\x31".as_slice();
-    let start = Bits::new(bytes);
-    let mut end = start;
-    assert_eq!(rt; token_width(&mut end), 1);
-    assert_eq!(rt; end.into_parts(), (bytes, 1));
-    assert!(rt; end == Bits::at_place(bytes, 1) && end != start);
-    assert!(rt; end.checkpoint() != start.checkpoint());
-    assert!(rt; start.checkpoint() == Bits::new(bytes).checkpoint());
-    assert_eq!(rt; width_from(&Bits::at_place(bytes, 5), &start), 5);
-    assert_eq!(rt; flags(&mut end), [false; 4]);
-    complete_bits(&mut end);
+    bit_source_law();
+    assert_eq!(rt; behind_one(bytes), (1, (bytes, 1), [true; 4]));
+    assert_eq!(rt; places_from_start(bytes, 5), [0, 5, 5]);
+    assert_eq!(rt; flags_of(bytes), ([false; 4], (bytes, 1)));
+}
+
+#[test]
+fn all_bits_are_taken(rt: HostRuntime) {
+    let bytes = b"\xab\x31".as_slice();
+    bit_source_law();
     let mut rest = Bits::at_place(bytes, 5);
-    assert_eq!(rt; (place_of(&start), place_of(&rest)), (0, 5));
-    assert_eq!(rt; rest.peek_finish(), (bytes, 5, 0));
-    assert_eq!(rt; rest.finish(), (bytes, 5, 0));
+    assert_eq!(rt; finished(&mut rest), [(bytes, 5, 0); 2]);
     assert_eq!(rt; rest.into_parts(), (b"".as_slice(), 0));
 }
 
