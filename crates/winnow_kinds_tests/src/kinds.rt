@@ -29,6 +29,18 @@ fn first_of_window<S: UpdateSlice + Copy>(stream: S, width: usize) -> Option<S::
     window.next_token()
 }
 
+// The first tokens of two windows, and what the calls of the flag answer.
+fn firsts_and_flags<S: UpdateSlice + StreamIsPartial + Copy>(
+    mut stream: S,
+    widths: [usize; 2],
+) -> ([Option<S::Token>; 2], [bool; 4])
+    requires { S.valid stream }
+{
+    let [one, other] = widths;
+    let firsts = [first_of_window(stream, one), first_of_window(stream, other)];
+    (firsts, flags(&mut stream))
+}
+
 // Neither has a flag: they stay as they are, and what agrees in all but the flag is the same.
 fn complete_both<'i>(text: &mut BStr<'i>, bytes: &mut Bytes<'i>)
     ensures text { text.old ≡ text.new }
@@ -213,12 +225,31 @@ fn small_traits_of_text(rt: HostRuntime) {
         width(&rest),
     ];
     assert_eq!(rt; widths, [1, 1, 1, 2]);
-    let firsts = [first_of_window(rest, 1), first_of_window(rest, 3)];
-    assert_eq!(rt; firsts, [Some(b'b'), None]);
     assert_eq!(rt;
-        (flags(&mut { rest }), as_bstr_of(&rest)),
-        ([false; 4], &b"bc"[..])
+        (firsts_and_flags(rest, [1, 3]), as_bstr_of(&rest)),
+        (([Some(b'b'), None], [false; 4]), &b"bc"[..])
     );
+}
+
+type Compared = ([bool; 4], [Ordering; 3], bool);
+
+// What is told of the bytes `abc`.
+const COMPARED: Compared = (
+    [true, false, true, false],
+    [Ordering::Less, Ordering::Equal, Ordering::Greater],
+    true,
+);
+
+// Whether a text has these contents, the order beside others, and whether its hash is that of its bytes.
+fn compared_text(s: BStr) -> Compared {
+    let equal = [
+        s.eq_bytes(b"abc"),
+        s.eq_bytes(b"abd"),
+        s.eq_str("abc"),
+        s.eq_str("ab"),
+    ];
+    let orders = [s.cmp_bytes(b"b"), s.cmp_str("abc"), s.cmp_str("ab")];
+    (equal, orders, hash_of(&s) == hash_of(&s.inner()))
 }
 
 #[test]
@@ -228,21 +259,13 @@ fn contents_of_text(rt: HostRuntime) -> Result<(), Fail> {
     let told = format!(in rt.alloc(); "{bytes:?} {:?} {}", s.to_vec(rt.alloc())?, s.at(2))?;
     let wanted = "[[97, 98, 99], [97, 98, 99], [98, 99], []] [97, 98, 99] 99";
     assert_eq!(rt; told.as_str(), wanted);
-    let tests = [
-        s.eq_bytes(b"abc"),
-        s.eq_bytes(b"abd"),
-        s.eq_str("abc"),
-        s.eq_str("ab"),
-    ];
-    assert_eq!(rt; tests, [true, false, true, false]);
-    let orders = [s.cmp_bytes(b"b"), s.cmp_str("abc"), s.cmp_str("ab")];
-    assert_eq!(rt;
-        orders,
-        [Ordering::Less, Ordering::Equal, Ordering::Greater]
-    );
-    assert_eq!(rt; hash_of(&s), hash_of(&s.inner()));
-    orders_by_contents::<BStr>(&rt);
     Ok(())
+}
+
+#[test]
+fn contents_of_text_are_compared(rt: HostRuntime) {
+    assert_eq!(rt; compared_text(BStr::new(b"abc")), COMPARED);
+    orders_by_contents::<BStr>(&rt);
 }
 
 // The same bytes at another place of another slice.
@@ -280,12 +303,22 @@ fn small_traits_of_bytes(rt: HostRuntime) {
         width(&rest),
     ];
     assert_eq!(rt; widths, [1, 1, 1, 2]);
-    let firsts = [first_of_window(rest, 1), first_of_window(rest, 3)];
-    assert_eq!(rt; firsts, [Some(b'b'), None]);
     assert_eq!(rt;
-        (flags(&mut { rest }), as_bytes_of(&rest)),
-        ([false; 4], &b"bc"[..])
+        (firsts_and_flags(rest, [1, 3]), as_bytes_of(&rest)),
+        (([Some(b'b'), None], [false; 4]), &b"bc"[..])
     );
+}
+
+// The same of bytes.
+fn compared_bytes(s: Bytes) -> Compared {
+    let equal = [
+        s.eq_bytes(b"abc"),
+        s.eq_bytes(b"abd"),
+        s.eq_str("abc"),
+        s.eq_str("ab"),
+    ];
+    let orders = [s.cmp_bytes(b"b"), s.cmp_str("abc"), s.cmp_str("ab")];
+    (equal, orders, hash_of(&s) == hash_of(&s.inner()))
 }
 
 #[test]
@@ -295,21 +328,13 @@ fn contents_of_bytes(rt: HostRuntime) -> Result<(), Fail> {
     let told = format!(in rt.alloc(); "{bytes:?} {:?} {}", s.to_vec(rt.alloc())?, s.at(2))?;
     let wanted = "[[97, 98, 99], [97, 98, 99], [98, 99], []] [97, 98, 99] 99";
     assert_eq!(rt; told.as_str(), wanted);
-    let tests = [
-        s.eq_bytes(b"abc"),
-        s.eq_bytes(b"abd"),
-        s.eq_str("abc"),
-        s.eq_str("ab"),
-    ];
-    assert_eq!(rt; tests, [true, false, true, false]);
-    let orders = [s.cmp_bytes(b"b"), s.cmp_str("abc"), s.cmp_str("ab")];
-    assert_eq!(rt;
-        orders,
-        [Ordering::Less, Ordering::Equal, Ordering::Greater]
-    );
-    assert_eq!(rt; hash_of(&s), hash_of(&s.inner()));
-    orders_by_contents::<Bytes>(&rt);
     Ok(())
+}
+
+#[test]
+fn contents_of_bytes_are_compared(rt: HostRuntime) {
+    assert_eq!(rt; compared_bytes(Bytes::new(b"abc")), COMPARED);
+    orders_by_contents::<Bytes>(&rt);
 }
 
 #[test]

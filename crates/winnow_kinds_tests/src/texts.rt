@@ -113,6 +113,14 @@ fn debug_texts_of_text(rt: HostRuntime) -> Result<(), Fail> {
     Ok(())
 }
 
+// Each way to print bytes.
+fn hexadecimal(alloc: Global, s: &Bytes) -> Result<String, AllocError> {
+    let shown = bytes_shown(alloc, s)?;
+    let debugged = bytes_debugged(alloc, s)?;
+    let lower = lower_shown(alloc, s)?;
+    format!(in alloc; "{shown}|{debugged}|{}|{lower}", s.upper())
+}
+
 #[test]
 fn hexadecimal_texts(rt: HostRuntime) -> Result<(), Fail> {
     let table: [(&[u8], &str); 3] = [
@@ -121,11 +129,7 @@ fn hexadecimal_texts(rt: HostRuntime) -> Result<(), Fail> {
         (b"\x00\x09\x0a\xff", "00090AFF|00090AFF|00090AFF|00090aff"),
     ];
     for (bytes, wanted) in table {
-        let s = Bytes::new(bytes);
-        let shown = bytes_shown(rt.alloc(), &s)?;
-        let debugged = bytes_debugged(rt.alloc(), &s)?;
-        let lower = lower_shown(rt.alloc(), &s)?;
-        let told = format!(in rt.alloc(); "{shown}|{debugged}|{}|{lower}", s.upper())?;
+        let told = hexadecimal(rt.alloc(), &Bytes::new(bytes))?;
         assert_eq!(rt; told.as_str(), wanted);
     }
     Ok(())
@@ -135,43 +139,67 @@ fn hexadecimal_texts(rt: HostRuntime) -> Result<(), Fail> {
 const PAST_ASCII: &str =
     r"\u{80}\u{81}\u{82}\u{83}\u{84}\u{85}\u{86}\u{87}\u{88}\u{89}\u{8a}\u{8b}\u{8c}\u{8d}\u{8e}\u{8f}\u{90}\u{91}\u{92}\u{93}\u{94}\u{95}\u{96}\u{97}\u{98}\u{99}\u{9a}\u{9b}\u{9c}\u{9d}\u{9e}\u{9f}\u{a0}¡¢£¤¥¦§¨©ª«¬\u{ad}®¯°±²³´µ¶·¸¹º»¼½¾¿ÀÁÂÃÄÅÆÇÈÉÊËÌÍÎÏÐÑÒÓÔÕÖ×ØÙÚÛÜÝÞßàáâãäåæçèéêëìíîïðñòóôõö÷øùúûüýþÿ";
 
+// The debug texts of a byte alone and between letters.
+fn quoted(alloc: Global, byte: u8) -> Result<String, AllocError> {
+    let (alone, between) = ([byte], [b'a', byte, b'z']);
+    format!(in alloc; "{:?} {:?}", BStr::new(&alone), BStr::new(&between))
+}
+
+// The debug text of a byte without quotes, between quotes and between letters.
+fn bare_in_quotes(alloc: Global, byte: u8) -> Result<String, AllocError> {
+    let bare = format!(in alloc; "{:#?}", BStr::new(&[byte]))?;
+    format!(in alloc; "\"{bare}\" \"a{bare}z\"")
+}
+
 // Each byte alone, and between letters.
 #[test]
 fn debug_texts_past_ascii(rt: HostRuntime) -> Result<(), Fail> {
+    let alloc = rt.alloc();
+    for byte in 0x80..=0xff_u8 {
+        let wanted = bare_in_quotes(alloc, byte)?;
+        assert_eq!(rt; quoted(alloc, byte)?.as_str(), wanted.as_str());
+    }
+    Ok(())
+}
+
+#[test]
+fn bare_texts_past_ascii(rt: HostRuntime) -> Result<(), Fail> {
     let mut told = String::new(rt.alloc());
     for byte in 0x80..=0xff_u8 {
-        let bare = format!(in rt.alloc(); "{:#?}", BStr::new(&[byte]))?;
-        told.push_str(bare.as_str())?;
-        let (alone, between) = ([byte], [b'a', byte, b'z']);
-        let texts = format!(in rt.alloc(); "{:?} {:?}", BStr::new(&alone), BStr::new(&between))?;
-        let wanted = format!(in rt.alloc(); "\"{bare}\" \"a{bare}z\"")?;
-        assert_eq!(rt; texts.as_str(), wanted.as_str());
+        write!(told, "{:#?}", BStr::new(&[byte]))?;
     }
     assert_eq!(rt; told.as_str(), PAST_ASCII);
     Ok(())
+}
+
+// The texts of a text and of bytes under options.
+fn under_options(alloc: Global, s: &BStr, b: &Bytes) -> Result<String, AllocError> {
+    let shown = format!(in alloc; "{s:#}|{s:08}|{s:+.9}|{s:*^9.3}|{s:.0}|")?;
+    let debugged = format!(in alloc; "{s:#?}|{s:>12?}|{s:.1?}|{s:#08.1?}")?;
+    format!(in alloc; "{shown} {debugged} {b:#}|{b:08}|{b:.1}|{b:#?}|{b:>8?}|{b:.1?}")
+}
+
+// Padded and cut, by the contracts of what prints it.
+fn padded_and_cut(alloc: Global, s: &BStr, b: &Bytes) -> Result<String, AllocError> {
+    let padded = text_padded(alloc, s)?;
+    let cut = text_cut(alloc, s)?;
+    format!(in alloc; "{padded}|{cut}|{}", bytes_padded(alloc, b)?)
 }
 
 // As the Rust crate prints them, but that a width pads nothing here, and that `#` puts no underscores between the digits.
 #[test]
 fn texts_under_options(rt: HostRuntime) -> Result<(), Fail> {
     let (s, b) = (BStr::new(b"a\xff\n\"b"), Bytes::new(b"a\xff"));
-    let shown = format!(in rt.alloc(); "{s:#}|{s:08}|{s:+.9}|{s:*^9.3}|{s:.0}|")?;
-    let debugged = format!(in rt.alloc(); "{s:#?}|{s:>12?}|{s:.1?}|{s:#08.1?}")?;
-    let bytes = format!(in rt.alloc(); "{b:#}|{b:08}|{b:.1}|{b:#?}|{b:>8?}|{b:.1?}")?;
+    let told = under_options(rt.alloc(), &s, &b)?;
+    let padded = padded_and_cut(rt.alloc(), &s, &b)?;
     assert_eq!(rt;
-        (shown.as_str(), debugged.as_str(), bytes.as_str()),
+        (told.as_str(), padded.as_str()),
         (
-            "a\u{FFFD}\n\"b|a\u{FFFD}\n\"b|a\u{FFFD}\n\"b|a\u{FFFD}\n||",
-            r#"aÿ\n\"b|"aÿ\n\"b"|"aÿ\n\"b"|aÿ\n\"b"#,
-            "61FF|61FF|61FF|61FF|61FF|61FF",
+            "a\u{FFFD}\n\"b|a\u{FFFD}\n\"b|a\u{FFFD}\n\"b|a\u{FFFD}\n|| \
+            aÿ\\n\\\"b|\"aÿ\\n\\\"b\"|\"aÿ\\n\\\"b\"|aÿ\\n\\\"b \
+            61FF|61FF|61FF|61FF|61FF|61FF",
+            "a\u{FFFD}\n\"b|a\u{FFFD}|61FF"
         )
     );
-    let told = format!(in rt.alloc();
-        "{}|{}|{}",
-        text_padded(rt.alloc(), &s)?,
-        text_cut(rt.alloc(), &s)?,
-        bytes_padded(rt.alloc(), &b)?
-    )?;
-    assert_eq!(rt; told.as_str(), "a\u{FFFD}\n\"b|a\u{FFFD}|61FF");
     Ok(())
 }
