@@ -1,0 +1,287 @@
+//! What the ghost members of comparison and of search say, spelled out for each literal and each needle.
+ghost use Rattle.std.specs.Prelude.{◌≡◌, ℕ, List, [], ◌∷◌};
+ghost use Rattle.std.specs.Borrow.{Bor};
+ghost use Rattle.std.specs.Char.{encode_utf8};
+ghost use Rattle.winnow_match.specs.Bytes.{bytes_of, utf8_of};
+ghost use Rattle.winnow_match.specs.Comparison.{comparison};
+ghost use Rattle.winnow_match.specs.Search.{hit, bytes_of_needles};
+ghost use Rattle.winnow_stream.specs.Source.{Source};
+
+use winnow_bytes::Bytes;
+use winnow_kinds::BStr;
+use winnow_match::{Compare, FindSlice, Needles};
+
+/// A literal is compared with bytes as its bytes are, and a character as its UTF-8.
+pub fn byte_comparison_law<const LEN: usize>()
+    ensures slice { (literal : Bor (List ℕ)) (r : Source ℕ)
+        → ⟦<&'static [u8] as Compare<&'static [u8]>>⟧.compared literal r
+        ≡ comparison literal.now (bytes_of r) }
+    ensures array { (literal : List ℕ) (r : Source ℕ)
+        → ⟦<&'static [u8] as Compare<[u8; LEN]>>⟧.compared literal r
+        ≡ comparison literal (bytes_of r) }
+    ensures lent_array { (literal : Bor (List ℕ)) (r : Source ℕ)
+        → ⟦<&'static [u8] as Compare<&'static [u8; LEN]>>⟧.compared literal r
+        ≡ comparison literal.now (bytes_of r) }
+    ensures text { (literal : Bor (List ℕ)) (r : Source ℕ)
+        → ⟦<&'static [u8] as Compare<&'static str>>⟧.compared literal r
+        ≡ comparison literal.now (bytes_of r) }
+    ensures byte { (literal : ℕ) (r : Source ℕ)
+        → ⟦<&'static [u8] as Compare<u8>>⟧.compared literal r
+        ≡ comparison (literal ∷ []) (bytes_of r) }
+    ensures char { (literal : ℕ) (r : Source ℕ)
+        → ⟦<&'static [u8] as Compare<char>>⟧.compared literal r
+        ≡ comparison (encode_utf8 literal) (bytes_of r) }
+{}
+
+/// The same stands in a `BStr` and in `Bytes`.
+pub fn byte_kind_comparison_law<const LEN: usize>()
+    ensures bstr_slice { (literal : Bor (List ℕ)) (r : Source ℕ)
+        → ⟦<BStr<'static> as Compare<&'static [u8]>>⟧.compared literal r
+        ≡ comparison literal.now (bytes_of r) }
+    ensures bytes_slice { (literal : Bor (List ℕ)) (r : Source ℕ)
+        → ⟦<Bytes<'static> as Compare<&'static [u8]>>⟧.compared literal r
+        ≡ comparison literal.now (bytes_of r) }
+    ensures bstr_array { (literal : List ℕ) (r : Source ℕ)
+        → ⟦<BStr<'static> as Compare<[u8; LEN]>>⟧.compared literal r
+        ≡ comparison literal (bytes_of r) }
+    ensures bytes_array { (literal : List ℕ) (r : Source ℕ)
+        → ⟦<Bytes<'static> as Compare<[u8; LEN]>>⟧.compared literal r
+        ≡ comparison literal (bytes_of r) }
+    ensures bstr_lent_array { (literal : Bor (List ℕ)) (r : Source ℕ)
+        → ⟦<BStr<'static> as Compare<&'static [u8; LEN]>>⟧.compared literal r
+        ≡ comparison literal.now (bytes_of r) }
+    ensures bytes_lent_array { (literal : Bor (List ℕ)) (r : Source ℕ)
+        → ⟦<Bytes<'static> as Compare<&'static [u8; LEN]>>⟧.compared literal r
+        ≡ comparison literal.now (bytes_of r) }
+    ensures bstr_text { (literal : Bor (List ℕ)) (r : Source ℕ)
+        → ⟦<BStr<'static> as Compare<&'static str>>⟧.compared literal r
+        ≡ comparison literal.now (bytes_of r) }
+    ensures bytes_text { (literal : Bor (List ℕ)) (r : Source ℕ)
+        → ⟦<Bytes<'static> as Compare<&'static str>>⟧.compared literal r
+        ≡ comparison literal.now (bytes_of r) }
+    ensures bstr_byte { (literal : ℕ) (r : Source ℕ)
+        → ⟦<BStr<'static> as Compare<u8>>⟧.compared literal r
+        ≡ comparison (literal ∷ []) (bytes_of r) }
+    ensures bytes_byte { (literal : ℕ) (r : Source ℕ)
+        → ⟦<Bytes<'static> as Compare<u8>>⟧.compared literal r
+        ≡ comparison (literal ∷ []) (bytes_of r) }
+    ensures bstr_char { (literal : ℕ) (r : Source ℕ)
+        → ⟦<BStr<'static> as Compare<char>>⟧.compared literal r
+        ≡ comparison (encode_utf8 literal) (bytes_of r) }
+    ensures bytes_char { (literal : ℕ) (r : Source ℕ)
+        → ⟦<Bytes<'static> as Compare<char>>⟧.compared literal r
+        ≡ comparison (encode_utf8 literal) (bytes_of r) }
+{}
+
+/// A literal is compared with a text as UTF-8 with UTF-8.
+pub fn text_comparison_law()
+    ensures text { (literal : Bor (List ℕ)) (r : Source ℕ)
+        → ⟦<&'static str as Compare<&'static str>>⟧.compared literal r
+        ≡ comparison literal.now (utf8_of r) }
+    ensures char { (literal : ℕ) (r : Source ℕ)
+        → ⟦<&'static str as Compare<char>>⟧.compared literal r
+        ≡ comparison (encode_utf8 literal) (utf8_of r) }
+{}
+
+/// A needle is searched for in bytes as its bytes are, and a character as its UTF-8; of several the first listed counts at one place.
+pub fn byte_search_law()
+    ensures slice { (needle : _) (r : Source ℕ)
+        → ⟦<&'static [u8] as FindSlice<&'static [u8]>>⟧.found needle r
+        ≡ hit (needle.now ∷ []) (bytes_of r) }
+    ensures one_slice { (needle : _) (r : Source ℕ)
+        → ⟦<&'static [u8] as FindSlice<(&'static [u8],)>>⟧.found needle r
+        ≡ hit (needle.0.now ∷ []) (bytes_of r) }
+    ensures two_slices { (needle : _) (r : Source ℕ)
+        → ⟦<&'static [u8] as FindSlice<(&'static [u8], &'static [u8])>>⟧.found needle r
+        ≡ hit (needle.0.now ∷ needle.1.now ∷ []) (bytes_of r) }
+    ensures three_slices { (needle : _) (r : Source ℕ)
+        → ⟦<&'static [u8] as FindSlice<(&'static [u8], &'static [u8], &'static [u8])>>⟧.found needle
+        r
+        ≡ hit (needle.0.now ∷ needle.1.now ∷ needle.2.now ∷ []) (bytes_of r) }
+    ensures any_slices { (needle : _) (r : Source ℕ)
+        → ⟦<&'static [u8] as FindSlice<Needles<&'static [u8]>>>⟧.found needle r
+        ≡ hit (bytes_of_needles needle) (bytes_of r) }
+    ensures byte { (needle : _) (r : Source ℕ)
+        → ⟦<&'static [u8] as FindSlice<u8>>⟧.found needle r
+        ≡ hit ((needle ∷ []) ∷ []) (bytes_of r) }
+    ensures one_byte { (needle : _) (r : Source ℕ)
+        → ⟦<&'static [u8] as FindSlice<(u8,)>>⟧.found needle r
+        ≡ hit ((needle.0 ∷ []) ∷ []) (bytes_of r) }
+    ensures two_bytes { (needle : _) (r : Source ℕ)
+        → ⟦<&'static [u8] as FindSlice<(u8, u8)>>⟧.found needle r
+        ≡ hit ((needle.0 ∷ []) ∷ (needle.1 ∷ []) ∷ []) (bytes_of r) }
+    ensures three_bytes { (needle : _) (r : Source ℕ)
+        → ⟦<&'static [u8] as FindSlice<(u8, u8, u8)>>⟧.found needle r
+        ≡ hit ((needle.0 ∷ []) ∷ (needle.1 ∷ []) ∷ (needle.2 ∷ []) ∷ []) (bytes_of r) }
+{}
+
+/// So it is with needles that are text.
+pub fn byte_search_of_text_law()
+    ensures text { (needle : _) (r : Source ℕ)
+        → ⟦<&'static [u8] as FindSlice<&'static str>>⟧.found needle r
+        ≡ hit (needle.now ∷ []) (bytes_of r) }
+    ensures one_text { (needle : _) (r : Source ℕ)
+        → ⟦<&'static [u8] as FindSlice<(&'static str,)>>⟧.found needle r
+        ≡ hit (needle.0.now ∷ []) (bytes_of r) }
+    ensures two_texts { (needle : _) (r : Source ℕ)
+        → ⟦<&'static [u8] as FindSlice<(&'static str, &'static str)>>⟧.found needle r
+        ≡ hit (needle.0.now ∷ needle.1.now ∷ []) (bytes_of r) }
+    ensures three_texts { (needle : _) (r : Source ℕ)
+        → ⟦<&'static [u8] as FindSlice<(&'static str, &'static str, &'static str)>>⟧.found needle r
+        ≡ hit (needle.0.now ∷ needle.1.now ∷ needle.2.now ∷ []) (bytes_of r) }
+    ensures char { (needle : _) (r : Source ℕ)
+        → ⟦<&'static [u8] as FindSlice<char>>⟧.found needle r
+        ≡ hit (encode_utf8 needle ∷ []) (bytes_of r) }
+    ensures one_char { (needle : _) (r : Source ℕ)
+        → ⟦<&'static [u8] as FindSlice<(char,)>>⟧.found needle r
+        ≡ hit (encode_utf8 needle.0 ∷ []) (bytes_of r) }
+    ensures two_chars { (needle : _) (r : Source ℕ)
+        → ⟦<&'static [u8] as FindSlice<(char, char)>>⟧.found needle r
+        ≡ hit (encode_utf8 needle.0 ∷ encode_utf8 needle.1 ∷ []) (bytes_of r) }
+    ensures three_chars { (needle : _) (r : Source ℕ)
+        → ⟦<&'static [u8] as FindSlice<(char, char, char)>>⟧.found needle r
+        ≡ hit (encode_utf8 needle.0 ∷ encode_utf8 needle.1 ∷ encode_utf8 needle.2 ∷ []) (bytes_of r) }
+{}
+
+/// The same stands in a `BStr`.
+pub fn bstr_search_law()
+    ensures slice { (needle : _) (r : Source ℕ)
+        → ⟦<BStr<'static> as FindSlice<&'static [u8]>>⟧.found needle r
+        ≡ hit (needle.now ∷ []) (bytes_of r) }
+    ensures one_slice { (needle : _) (r : Source ℕ)
+        → ⟦<BStr<'static> as FindSlice<(&'static [u8],)>>⟧.found needle r
+        ≡ hit (needle.0.now ∷ []) (bytes_of r) }
+    ensures two_slices { (needle : _) (r : Source ℕ)
+        → ⟦<BStr<'static> as FindSlice<(&'static [u8], &'static [u8])>>⟧.found needle r
+        ≡ hit (needle.0.now ∷ needle.1.now ∷ []) (bytes_of r) }
+    ensures three_slices { (needle : _) (r : Source ℕ)
+        → ⟦<BStr<'static> as FindSlice<(&'static [u8], &'static [u8], &'static [u8])>>⟧.found needle
+        r
+        ≡ hit (needle.0.now ∷ needle.1.now ∷ needle.2.now ∷ []) (bytes_of r) }
+    ensures any_slices { (needle : _) (r : Source ℕ)
+        → ⟦<BStr<'static> as FindSlice<Needles<&'static [u8]>>>⟧.found needle r
+        ≡ hit (bytes_of_needles needle) (bytes_of r) }
+    ensures byte { (needle : _) (r : Source ℕ)
+        → ⟦<BStr<'static> as FindSlice<u8>>⟧.found needle r
+        ≡ hit ((needle ∷ []) ∷ []) (bytes_of r) }
+    ensures one_byte { (needle : _) (r : Source ℕ)
+        → ⟦<BStr<'static> as FindSlice<(u8,)>>⟧.found needle r
+        ≡ hit ((needle.0 ∷ []) ∷ []) (bytes_of r) }
+    ensures two_bytes { (needle : _) (r : Source ℕ)
+        → ⟦<BStr<'static> as FindSlice<(u8, u8)>>⟧.found needle r
+        ≡ hit ((needle.0 ∷ []) ∷ (needle.1 ∷ []) ∷ []) (bytes_of r) }
+    ensures three_bytes { (needle : _) (r : Source ℕ)
+        → ⟦<BStr<'static> as FindSlice<(u8, u8, u8)>>⟧.found needle r
+        ≡ hit ((needle.0 ∷ []) ∷ (needle.1 ∷ []) ∷ (needle.2 ∷ []) ∷ []) (bytes_of r) }
+    ensures text { (needle : _) (r : Source ℕ)
+        → ⟦<BStr<'static> as FindSlice<&'static str>>⟧.found needle r
+        ≡ hit (needle.now ∷ []) (bytes_of r) }
+    ensures one_text { (needle : _) (r : Source ℕ)
+        → ⟦<BStr<'static> as FindSlice<(&'static str,)>>⟧.found needle r
+        ≡ hit (needle.0.now ∷ []) (bytes_of r) }
+    ensures two_texts { (needle : _) (r : Source ℕ)
+        → ⟦<BStr<'static> as FindSlice<(&'static str, &'static str)>>⟧.found needle r
+        ≡ hit (needle.0.now ∷ needle.1.now ∷ []) (bytes_of r) }
+    ensures three_texts { (needle : _) (r : Source ℕ)
+        → ⟦<BStr<'static> as FindSlice<(&'static str, &'static str, &'static str)>>⟧.found needle r
+        ≡ hit (needle.0.now ∷ needle.1.now ∷ needle.2.now ∷ []) (bytes_of r) }
+    ensures char { (needle : _) (r : Source ℕ)
+        → ⟦<BStr<'static> as FindSlice<char>>⟧.found needle r
+        ≡ hit (encode_utf8 needle ∷ []) (bytes_of r) }
+    ensures one_char { (needle : _) (r : Source ℕ)
+        → ⟦<BStr<'static> as FindSlice<(char,)>>⟧.found needle r
+        ≡ hit (encode_utf8 needle.0 ∷ []) (bytes_of r) }
+    ensures two_chars { (needle : _) (r : Source ℕ)
+        → ⟦<BStr<'static> as FindSlice<(char, char)>>⟧.found needle r
+        ≡ hit (encode_utf8 needle.0 ∷ encode_utf8 needle.1 ∷ []) (bytes_of r) }
+    ensures three_chars { (needle : _) (r : Source ℕ)
+        → ⟦<BStr<'static> as FindSlice<(char, char, char)>>⟧.found needle r
+        ≡ hit (encode_utf8 needle.0 ∷ encode_utf8 needle.1 ∷ encode_utf8 needle.2 ∷ []) (bytes_of r) }
+{}
+
+/// The same stands in `Bytes`.
+pub fn bytes_search_law()
+    ensures slice { (needle : _) (r : Source ℕ)
+        → ⟦<Bytes<'static> as FindSlice<&'static [u8]>>⟧.found needle r
+        ≡ hit (needle.now ∷ []) (bytes_of r) }
+    ensures one_slice { (needle : _) (r : Source ℕ)
+        → ⟦<Bytes<'static> as FindSlice<(&'static [u8],)>>⟧.found needle r
+        ≡ hit (needle.0.now ∷ []) (bytes_of r) }
+    ensures two_slices { (needle : _) (r : Source ℕ)
+        → ⟦<Bytes<'static> as FindSlice<(&'static [u8], &'static [u8])>>⟧.found needle r
+        ≡ hit (needle.0.now ∷ needle.1.now ∷ []) (bytes_of r) }
+    ensures three_slices { (needle : _) (r : Source ℕ)
+        → ⟦<Bytes<'static> as FindSlice<(&'static [u8], &'static [u8], &'static [u8])>>⟧.found needle
+        r
+        ≡ hit (needle.0.now ∷ needle.1.now ∷ needle.2.now ∷ []) (bytes_of r) }
+    ensures any_slices { (needle : _) (r : Source ℕ)
+        → ⟦<Bytes<'static> as FindSlice<Needles<&'static [u8]>>>⟧.found needle r
+        ≡ hit (bytes_of_needles needle) (bytes_of r) }
+    ensures byte { (needle : _) (r : Source ℕ)
+        → ⟦<Bytes<'static> as FindSlice<u8>>⟧.found needle r
+        ≡ hit ((needle ∷ []) ∷ []) (bytes_of r) }
+    ensures one_byte { (needle : _) (r : Source ℕ)
+        → ⟦<Bytes<'static> as FindSlice<(u8,)>>⟧.found needle r
+        ≡ hit ((needle.0 ∷ []) ∷ []) (bytes_of r) }
+    ensures two_bytes { (needle : _) (r : Source ℕ)
+        → ⟦<Bytes<'static> as FindSlice<(u8, u8)>>⟧.found needle r
+        ≡ hit ((needle.0 ∷ []) ∷ (needle.1 ∷ []) ∷ []) (bytes_of r) }
+    ensures three_bytes { (needle : _) (r : Source ℕ)
+        → ⟦<Bytes<'static> as FindSlice<(u8, u8, u8)>>⟧.found needle r
+        ≡ hit ((needle.0 ∷ []) ∷ (needle.1 ∷ []) ∷ (needle.2 ∷ []) ∷ []) (bytes_of r) }
+    ensures text { (needle : _) (r : Source ℕ)
+        → ⟦<Bytes<'static> as FindSlice<&'static str>>⟧.found needle r
+        ≡ hit (needle.now ∷ []) (bytes_of r) }
+    ensures one_text { (needle : _) (r : Source ℕ)
+        → ⟦<Bytes<'static> as FindSlice<(&'static str,)>>⟧.found needle r
+        ≡ hit (needle.0.now ∷ []) (bytes_of r) }
+    ensures two_texts { (needle : _) (r : Source ℕ)
+        → ⟦<Bytes<'static> as FindSlice<(&'static str, &'static str)>>⟧.found needle r
+        ≡ hit (needle.0.now ∷ needle.1.now ∷ []) (bytes_of r) }
+    ensures three_texts { (needle : _) (r : Source ℕ)
+        → ⟦<Bytes<'static> as FindSlice<(&'static str, &'static str, &'static str)>>⟧.found needle r
+        ≡ hit (needle.0.now ∷ needle.1.now ∷ needle.2.now ∷ []) (bytes_of r) }
+    ensures char { (needle : _) (r : Source ℕ)
+        → ⟦<Bytes<'static> as FindSlice<char>>⟧.found needle r
+        ≡ hit (encode_utf8 needle ∷ []) (bytes_of r) }
+    ensures one_char { (needle : _) (r : Source ℕ)
+        → ⟦<Bytes<'static> as FindSlice<(char,)>>⟧.found needle r
+        ≡ hit (encode_utf8 needle.0 ∷ []) (bytes_of r) }
+    ensures two_chars { (needle : _) (r : Source ℕ)
+        → ⟦<Bytes<'static> as FindSlice<(char, char)>>⟧.found needle r
+        ≡ hit (encode_utf8 needle.0 ∷ encode_utf8 needle.1 ∷ []) (bytes_of r) }
+    ensures three_chars { (needle : _) (r : Source ℕ)
+        → ⟦<Bytes<'static> as FindSlice<(char, char, char)>>⟧.found needle r
+        ≡ hit (encode_utf8 needle.0 ∷ encode_utf8 needle.1 ∷ encode_utf8 needle.2 ∷ []) (bytes_of r) }
+{}
+
+/// A needle is searched for in a text as UTF-8 in UTF-8.
+pub fn text_search_law()
+    ensures text { (needle : _) (r : Source ℕ)
+        → ⟦<&'static str as FindSlice<&'static str>>⟧.found needle r
+        ≡ hit (needle.now ∷ []) (utf8_of r) }
+    ensures one_text { (needle : _) (r : Source ℕ)
+        → ⟦<&'static str as FindSlice<(&'static str,)>>⟧.found needle r
+        ≡ hit (needle.0.now ∷ []) (utf8_of r) }
+    ensures two_texts { (needle : _) (r : Source ℕ)
+        → ⟦<&'static str as FindSlice<(&'static str, &'static str)>>⟧.found needle r
+        ≡ hit (needle.0.now ∷ needle.1.now ∷ []) (utf8_of r) }
+    ensures three_texts { (needle : _) (r : Source ℕ)
+        → ⟦<&'static str as FindSlice<(&'static str, &'static str, &'static str)>>⟧.found needle r
+        ≡ hit (needle.0.now ∷ needle.1.now ∷ needle.2.now ∷ []) (utf8_of r) }
+    ensures any_texts { (needle : _) (r : Source ℕ)
+        → ⟦<&'static str as FindSlice<Needles<&'static str>>>⟧.found needle r
+        ≡ hit (bytes_of_needles needle) (utf8_of r) }
+    ensures char { (needle : _) (r : Source ℕ)
+        → ⟦<&'static str as FindSlice<char>>⟧.found needle r
+        ≡ hit (encode_utf8 needle ∷ []) (utf8_of r) }
+    ensures one_char { (needle : _) (r : Source ℕ)
+        → ⟦<&'static str as FindSlice<(char,)>>⟧.found needle r
+        ≡ hit (encode_utf8 needle.0 ∷ []) (utf8_of r) }
+    ensures two_chars { (needle : _) (r : Source ℕ)
+        → ⟦<&'static str as FindSlice<(char, char)>>⟧.found needle r
+        ≡ hit (encode_utf8 needle.0 ∷ encode_utf8 needle.1 ∷ []) (utf8_of r) }
+    ensures three_chars { (needle : _) (r : Source ℕ)
+        → ⟦<&'static str as FindSlice<(char, char, char)>>⟧.found needle r
+        ≡ hit (encode_utf8 needle.0 ∷ encode_utf8 needle.1 ∷ encode_utf8 needle.2 ∷ []) (utf8_of r) }
+{}
