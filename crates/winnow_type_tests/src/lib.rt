@@ -6,6 +6,10 @@
 #[cfg(test)]
 mod count_members;
 #[cfg(test)]
+mod debug_texts;
+#[cfg(test)]
+mod equalities;
+#[cfg(test)]
 mod implementations;
 #[cfg(test)]
 mod laws;

@@ -1,0 +1,125 @@
+//! Which values of each type are equal: a value is equal to itself, and to none that is of another kind or holds another part. Types
+//! with a law of equality are not listed.
+use std::process::Abort;
+use winnow_context::StrContext::{Expected, Label};
+use winnow_context::StrContextValue::{CharLiteral, Description, StringLiteral};
+use winnow_context::{StrContext, StrContextValue};
+use winnow_error::ErrMode::{Backtrack, Cut, Incomplete};
+use winnow_error::{ErrMode, InputError};
+use winnow_match::CompareResult;
+use winnow_recover::RecordError;
+use winnow_run::{Answer, SearchAnswer};
+use winnow_stream::Needed;
+
+// Asserts that each value is equal to itself and to no other.
+fn are_apart<T: PartialEq>(rt: &impl Abort, values: &[T], name: &str) {
+    for (i, first) in values.iter().enumerate() {
+        for (j, second) in values.iter().enumerate() {
+            assert_eq!(rt; first == second, i == j, "{name}: {i} and {j}");
+        }
+    }
+}
+
+type ByteAnswer = Answer<u8, u16, u32>;
+
+const ANSWERS: [ByteAnswer; 19] = [
+    Answer::Token(None),
+    Answer::Token(Some(1)),
+    Answer::Token(Some(2)),
+    Answer::Slice(1),
+    Answer::Slice(2),
+    Answer::Offset(1),
+    Answer::Offset(2),
+    Answer::At(Ok(1)),
+    Answer::At(Ok(2)),
+    Answer::At(Err(Needed::Unknown)),
+    Answer::Flag(false),
+    Answer::Flag(true),
+    Answer::First(None),
+    Answer::First(Some(1)),
+    Answer::Items(1),
+    Answer::Items(2),
+    Answer::Marked(1),
+    Answer::Marked(2),
+    Answer::Done,
+];
+
+const REFUSED: [ByteAnswer; 4] = [
+    Answer::Done,
+    Answer::BadOffset,
+    Answer::NoMark,
+    Answer::LaterMark,
+];
+
+const SEARCHED: [SearchAnswer<u8, u16, u32>; 8] = [
+    SearchAnswer::Call(Answer::Done),
+    SearchAnswer::Call(Answer::NoMark),
+    SearchAnswer::Compared(CompareResult::Error),
+    SearchAnswer::Compared(CompareResult::Incomplete),
+    SearchAnswer::Hit(None),
+    SearchAnswer::Hit(Some(1..2)),
+    SearchAnswer::Hit(Some(1..3)),
+    SearchAnswer::Hit(Some(0..2)),
+];
+
+const COMPARED: [CompareResult; 4] = [
+    CompareResult::Ok(1),
+    CompareResult::Ok(2),
+    CompareResult::Incomplete,
+    CompareResult::Error,
+];
+
+#[test]
+fn answers(rt: HostRuntime) {
+    are_apart(&rt, &ANSWERS, "answers");
+    are_apart(&rt, &REFUSED, "refused");
+    are_apart(&rt, &SEARCHED, "searched");
+    are_apart(&rt, &COMPARED, "compared");
+}
+
+const RECORDS: [RecordError<u8>; 4] = [
+    RecordError::Refused(1),
+    RecordError::Refused(2),
+    RecordError::OutOfMemory(1),
+    RecordError::OutOfMemory(2),
+];
+
+const VALUES: [StrContextValue; 6] = [
+    CharLiteral('a'),
+    CharLiteral('b'),
+    StringLiteral("a"),
+    StringLiteral("b"),
+    Description("a"),
+    Description("b"),
+];
+
+const CONTEXTS: [StrContext; 4] = [
+    Label("a"),
+    Label("b"),
+    Expected(Description("a")),
+    Expected(Description("b")),
+];
+
+#[test]
+fn parts_of_errors(rt: HostRuntime) {
+    are_apart(&rt, &RECORDS, "records");
+    are_apart(&rt, &VALUES, "values");
+    are_apart(&rt, &CONTEXTS, "contexts");
+}
+
+#[test]
+fn errors(rt: HostRuntime) {
+    let (one, two) = (InputError::at(1u8), InputError::at(2));
+    let shortages = [Needed::Unknown, Needed::new(1), Needed::new(2)];
+    let modes: [ErrMode<InputError<u8>>; 6] = [
+        Incomplete(Needed::Unknown),
+        Incomplete(Needed::new(1)),
+        Backtrack(one),
+        Backtrack(two),
+        Cut(one),
+        Cut(two),
+    ];
+    are_apart(&rt, &shortages, "shortages");
+    are_apart(&rt, &[one, two], "errors at an input");
+    are_apart(&rt, &modes, "modes");
+}
