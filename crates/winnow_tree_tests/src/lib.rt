@@ -5,3 +5,5 @@
 mod failing;
 #[cfg(test)]
 mod tests;
+#[cfg(test)]
+mod tree_members;
