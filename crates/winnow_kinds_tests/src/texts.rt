@@ -86,7 +86,7 @@ fn damaged_text(rt: HostRuntime) -> Result<(), Fail> {
 
 #[test]
 fn debug_texts_of_text(rt: HostRuntime) -> Result<(), Fail> {
-    let table: [(&[u8], &str); 12] = [
+    let table: [(&[u8], &str); 14] = [
         (b"", r#""""#),
         (b"abc", r#""abc""#),
         (b"\0\t\r\n", r#""\0\t\r\n""#),
@@ -95,6 +95,8 @@ fn debug_texts_of_text(rt: HostRuntime) -> Result<(), Fail> {
         (b" !AZaz09~", r#"" !AZaz09~""#),
         // Past ASCII each byte is the character of its number, also of damaged bytes.
         (b"\xc3\xa9", r#""Ã©""#),
+        (b"\xe2\x82\xac", r#""â\u{82}¬""#),
+        (b"\xf0\x9f\x98\x80", r#""ð\u{9f}\u{98}\u{80}""#),
         (
             b"\xc3\xa9\xe2\x82\xac\xf0\x9f\x98\x80",
             r#""Ã©â\u{82}¬ð\u{9f}\u{98}\u{80}""#,
@@ -108,8 +110,8 @@ fn debug_texts_of_text(rt: HostRuntime) -> Result<(), Fail> {
         let s = BStr::new(bytes);
         assert_eq!(rt; text_debugged(rt.alloc(), &s)?.as_str(), text);
     }
-    let bare = format!(in rt.alloc(); "{:#?}", BStr::new(b"a\n"))?;
-    assert_eq!(rt; bare.as_str(), r"a\n");
+    let bare = format!(in rt.alloc(); "{:#?}", BStr::new(b"a\n\xc3\xa9"))?;
+    assert_eq!(rt; bare.as_str(), r"a\nÃ©");
     Ok(())
 }
 
