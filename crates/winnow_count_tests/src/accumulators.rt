@@ -135,6 +135,41 @@ fn maps_and_sets(rt: HostRuntime) -> Result<(), Fail> {
     Ok(())
 }
 
+// An accumulator where that many items are said to come.
+fn started<A: Accumulate<T>, T>(alloc: Global, said: usize) -> Result<A, AllocError> {
+    A::initial(alloc, Some(said))
+}
+
+// What a hash map and a hash set have room for, where that many items are said to come.
+fn rooms(alloc: Global, said: usize) -> Result<[usize; 2], AllocError> {
+    let map = started::<HashMap<u8, char>, (u8, char)>(alloc, said)?;
+    let set = started::<HashSet<u8>, u8>(alloc, said)?;
+    Ok([map.capacity(), set.capacity()])
+}
+
+// What std gives for that many.
+fn std_rooms(alloc: Global, count: usize) -> Result<[usize; 2], AllocError> {
+    let map: HashMap<u8, char> = HashMap::with_capacity(alloc, count)?;
+    let set: HashSet<u8> = HashSet::with_capacity(alloc, count)?;
+    Ok([map.capacity(), set.capacity()])
+}
+
+// Their clauses name the least room; that of the lists and texts is named to the byte.
+#[test]
+fn hashes_trust_a_count_up_to_1024(rt: HostRuntime) -> Result<(), Fail> {
+    let alloc = rt.alloc();
+    for (said, trusted) in [
+        (0, 0),
+        (5, 5),
+        (1024, 1024),
+        (1025, 1024),
+        (usize::MAX, 1024),
+    ] {
+        assert_eq!(rt; rooms(alloc, said)?, std_rooms(alloc, trusted)?, "{said}");
+    }
+    Ok(())
+}
+
 // How much an accumulator holds.
 trait Length {
     fn length(&self) -> usize;
