@@ -15,7 +15,7 @@ use fault::Fault;
 use std::io;
 use winnow_base::stream::{LocatingSlice, Recoverable};
 
-const TEXT: &str = "name = rattle\nwidth 80\nheight = 25\ncolour =\n";
+const TEXT: &str = "name = rattle\nwidth 80\nheight = 25\ncolour =\n = red\n";
 
 fn main(rt: HostRuntime) -> io::Result<()> {
     let mut input: Recoverable<LocatingSlice<&str>, Fault> = Recoverable::new(
