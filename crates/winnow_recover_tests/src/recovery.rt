@@ -86,7 +86,7 @@ where
 {}
 
 // So it is with the calls that are passed on.
-fn passed_on_law<I: StreamIsPartial + Display, E>()
+fn passed_on_law<I: StreamIsPartial + Display, E: Debug>()
     ensures errors_stay { (s t : Recoverable I E)
         → ⟦<Recoverable<I, E> as StreamIsPartial>⟧.same_but_flag s t
         → recorded_errors s ≡ recorded_errors t }
