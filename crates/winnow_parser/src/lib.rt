@@ -1,0 +1,22 @@
+//! Parsers that carry their meaning.
+//!
+//! A [`Parser`] reads a value from the front of a stream, or fails. Its ghost member `means` relates what it may answer to what
+//! stood ahead: the tokens that remained, their location, and whether more may follow. A combinator builds its meaning from those
+//! of its parts, so a grammar is proved against a definition of its language.
+#![tactic(auto)]
+
+mod by_ref;
+mod choosing;
+mod failure;
+mod laws;
+mod mapping;
+mod parser;
+mod sequences;
+mod taking;
+
+pub use choosing::{TryMapped, Verified, VerifyMapped};
+pub use failure::{Failure, ModalResult};
+pub use laws::taken_width_law;
+pub use mapping::{Mapped, Valued, Voided};
+pub use parser::Parser;
+pub use taking::{Taken, WithTaken};

@@ -1,0 +1,106 @@
+ghost use Rattle.std.specs.Prelude.{◌≡◌};
+ghost use Rattle.winnow_parser.specs.Meanings.{Maps, IsAlways, IsForgotten};
+ghost use Rattle.winnow_parser.specs.Parts.{IsParser-Maps};
+
+use crate::{ModalResult, Parser};
+use std::alloc::Global;
+use winnow_stream::StreamIsPartial;
+
+/// What a function makes of the value; [`Parser::map`] makes it.
+#[derive(Clone, Copy, Drop)]
+pub struct Mapped<P, F> {
+    inner: P,
+    f: F,
+}
+
+impl<P, F> Mapped<P, F> {
+    // Returns the parser of what the function makes of the value.
+    pub(crate) fn new(inner: P, f: F) -> Self
+        ensures { result ≡ record { inner = inner; f = f } }
+    {
+        Mapped { inner, f }
+    }
+}
+
+impl<I: StreamIsPartial, E, P: Parser<I, E>, O, F: Fn(P::Output) -> O> Parser<I, E> for Mapped<P, F> {
+    type Output = O;
+
+    ghost means = { λ p. Maps (F.post p.f) (P.means p.inner) };
+
+    ghost ready = { λ p. P.ready p.inner × F.IsAlwaysCallable p.f };
+
+    ghost lawful = { λ p. IsParser-Maps (F.post p.f) (P.means p.inner) (P.lawful p.inner) };
+
+    fn parse_next(&self, alloc: Global, input: &mut I) -> ModalResult<O, E> {
+        let value = self.inner.parse_next(alloc, input)?;
+        Ok((self.f)(value))
+    }
+}
+
+/// A value of its own, where the inner parser gives one; [`Parser::value`] makes it.
+#[derive(Clone, Copy, Drop)]
+pub struct Valued<P, V> {
+    inner: P,
+    value: V,
+}
+
+impl<P, V> Valued<P, V> {
+    // Returns the parser of the value.
+    pub(crate) fn new(inner: P, value: V) -> Self
+        ensures { result ≡ record { inner = inner; value = value } }
+    {
+        Valued { inner, value }
+    }
+}
+
+impl<I: StreamIsPartial, E, P: Parser<I, E>, V: Copy> Parser<I, E> for Valued<P, V>
+where
+    P::Output: Drop,
+{
+    type Output = V;
+
+    ghost means = { λ p. Maps (IsAlways p.value) (P.means p.inner) };
+
+    ghost ready = { λ p. P.ready p.inner };
+
+    ghost lawful = { λ p.
+        IsParser-Maps (IsAlways p.value) (P.means p.inner) (P.lawful p.inner) };
+
+    fn parse_next(&self, alloc: Global, input: &mut I) -> ModalResult<V, E> {
+        let _ = self.inner.parse_next(alloc, input)?;
+        Ok(self.value)
+    }
+}
+
+/// Nothing, where the inner parser gives a value; [`Parser::void`] makes it.
+#[derive(Clone, Copy, Drop)]
+pub struct Voided<P> {
+    inner: P,
+}
+
+impl<P> Voided<P> {
+    // Returns the parser of nothing.
+    pub(crate) fn new(inner: P) -> Self
+        ensures { result ≡ record { inner = inner } }
+    {
+        Voided { inner }
+    }
+}
+
+impl<I: StreamIsPartial, E, P: Parser<I, E>> Parser<I, E> for Voided<P>
+where
+    P::Output: Drop,
+{
+    type Output = ();
+
+    ghost means = { λ p. Maps IsForgotten (P.means p.inner) };
+
+    ghost ready = { λ p. P.ready p.inner };
+
+    ghost lawful = { λ p. IsParser-Maps IsForgotten (P.means p.inner) (P.lawful p.inner) };
+
+    fn parse_next(&self, alloc: Global, input: &mut I) -> ModalResult<(), E> {
+        let _ = self.inner.parse_next(alloc, input)?;
+        Ok(())
+    }
+}

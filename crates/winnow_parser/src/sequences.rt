@@ -1,0 +1,323 @@
+ghost use Rattle.winnow_parser.specs.Meanings.{Pair};
+ghost use Rattle.winnow_parser.specs.Parts.{IsParser-Pair};
+ghost use Rattle.winnow_parser.specs.Rows.{Row3, Row4, Row5, Row6, Row7, Row8, Row9, Row10};
+ghost use Rattle.winnow_parser.specs.Rows.{IsParser-Row3, IsParser-Row4, IsParser-Row5, IsParser-Row6, IsParser-Row7, IsParser-Row8, IsParser-Row9, IsParser-Row10};
+
+use crate::{ModalResult, Parser};
+use std::alloc::Global;
+use winnow_stream::StreamIsPartial;
+
+/// One parser and then the other: both values.
+impl<I: StreamIsPartial, E, A: Parser<I, E>, B: Parser<I, E>> Parser<I, E> for (A, B)
+where
+    A::Output: Drop,
+{
+    type Output = (A::Output, B::Output);
+
+    ghost means = { λ p. Pair (A.means p.0) (B.means p.1) };
+
+    ghost ready = { λ p. A.ready p.0 × B.ready p.1 };
+
+    ghost lawful = { λ p. IsParser-Pair (A.means p.0) (B.means p.1) (A.lawful p.0) (B.lawful p.1) };
+
+    fn parse_next(&self, alloc: Global, input: &mut I) -> ModalResult<(A::Output, B::Output), E> {
+        let first = self.0.parse_next(alloc, input)?;
+        let second = self.1.parse_next(alloc, input)?;
+        Ok((first, second))
+    }
+}
+
+/// Three parsers, one after the other: their values.
+impl<
+    I: StreamIsPartial,
+    E,
+    A: Parser<I, E>,
+    B: Parser<I, E>,
+    C: Parser<I, E>,
+> Parser<I, E> for (A, B, C)
+where
+    A::Output: Drop,
+    B::Output: Drop,
+{
+    type Output = (A::Output, B::Output, C::Output);
+
+    ghost means = { λ p. Row3 (A.means p.0) (B.means p.1) (C.means p.2) };
+
+    ghost ready = { λ p. A.ready p.0 × B.ready p.1 × C.ready p.2 };
+
+    ghost lawful = { λ p. IsParser-Row3 (A.means p.0) (B.means p.1) (C.means p.2) (A.lawful p.0) (B.lawful p.1) (C.lawful p.2) };
+
+    fn parse_next(&self, alloc: Global, input: &mut I) -> ModalResult<(A::Output, B::Output, C::Output), E> {
+        let first = self.0.parse_next(alloc, input)?;
+        match (&self.1, &self.2).parse_next(alloc, input) {
+            Ok((second, third)) => Ok((first, second, third)),
+            Err(failure) => Err(failure),
+        }
+    }
+}
+
+/// Four parsers, one after the other: their values.
+impl<
+    I: StreamIsPartial,
+    E,
+    A: Parser<I, E>,
+    B: Parser<I, E>,
+    C: Parser<I, E>,
+    D: Parser<I, E>,
+> Parser<I, E> for (A, B, C, D)
+where
+    A::Output: Drop,
+    B::Output: Drop,
+    C::Output: Drop,
+{
+    type Output = (A::Output, B::Output, C::Output, D::Output);
+
+    ghost means = { λ p. Row4 (A.means p.0) (B.means p.1) (C.means p.2) (D.means p.3) };
+
+    ghost ready = { λ p. A.ready p.0 × B.ready p.1 × C.ready p.2 × D.ready p.3 };
+
+    ghost lawful = { λ p. IsParser-Row4 (A.means p.0) (B.means p.1) (C.means p.2) (D.means p.3)
+        (A.lawful p.0) (B.lawful p.1) (C.lawful p.2) (D.lawful p.3) };
+
+    fn parse_next(&self, alloc: Global, input: &mut I) -> ModalResult<Self::Output, E> {
+        let first = self.0.parse_next(alloc, input)?;
+        match (&self.1, &self.2, &self.3).parse_next(alloc, input) {
+            Ok((second, third, fourth)) => Ok((first, second, third, fourth)),
+            Err(failure) => Err(failure),
+        }
+    }
+}
+
+/// Five parsers, one after the other: their values.
+impl<
+    I: StreamIsPartial,
+    E,
+    A: Parser<I, E>,
+    B: Parser<I, E>,
+    C: Parser<I, E>,
+    D: Parser<I, E>,
+    F: Parser<I, E>,
+> Parser<I, E> for (A, B, C, D, F)
+where
+    A::Output: Drop,
+    B::Output: Drop,
+    C::Output: Drop,
+    D::Output: Drop,
+{
+    type Output = (A::Output, B::Output, C::Output, D::Output, F::Output);
+
+    ghost means = { λ p. Row5 (A.means p.0) (B.means p.1) (C.means p.2) (D.means p.3) (F.means p.4) };
+
+    ghost ready = { λ p. A.ready p.0 × B.ready p.1 × C.ready p.2 × D.ready p.3 × F.ready p.4 };
+
+    ghost lawful = { λ p. IsParser-Row5 (A.means p.0) (B.means p.1) (C.means p.2) (D.means p.3) (F.means p.4)
+        (A.lawful p.0) (B.lawful p.1) (C.lawful p.2) (D.lawful p.3) (F.lawful p.4) };
+
+    fn parse_next(&self, alloc: Global, input: &mut I) -> ModalResult<Self::Output, E> {
+        let first = self.0.parse_next(alloc, input)?;
+        match (&self.1, &self.2, &self.3, &self.4).parse_next(alloc, input) {
+            Ok((second, third, fourth, fifth)) => Ok((first, second, third, fourth, fifth)),
+            Err(failure) => Err(failure),
+        }
+    }
+}
+
+/// Six parsers, one after the other: their values.
+impl<
+    I: StreamIsPartial,
+    E,
+    A: Parser<I, E>,
+    B: Parser<I, E>,
+    C: Parser<I, E>,
+    D: Parser<I, E>,
+    F: Parser<I, E>,
+    G: Parser<I, E>,
+> Parser<I, E> for (A, B, C, D, F, G)
+where
+    A::Output: Drop,
+    B::Output: Drop,
+    C::Output: Drop,
+    D::Output: Drop,
+    F::Output: Drop,
+{
+    type Output = (A::Output, B::Output, C::Output, D::Output, F::Output, G::Output);
+
+    ghost means = { λ p. Row6 (A.means p.0) (B.means p.1) (C.means p.2) (D.means p.3) (F.means p.4) (G.means p.5) };
+
+    ghost ready = { λ p. A.ready p.0 × B.ready p.1 × C.ready p.2 × D.ready p.3 × F.ready p.4 × G.ready p.5 };
+
+    ghost lawful = { λ p. IsParser-Row6 (A.means p.0) (B.means p.1) (C.means p.2) (D.means p.3) (F.means p.4) (G.means p.5)
+        (A.lawful p.0) (B.lawful p.1) (C.lawful p.2) (D.lawful p.3) (F.lawful p.4) (G.lawful p.5) };
+
+    fn parse_next(&self, alloc: Global, input: &mut I) -> ModalResult<Self::Output, E> {
+        let first = self.0.parse_next(alloc, input)?;
+        match (&self.1, &self.2, &self.3, &self.4, &self.5).parse_next(alloc, input) {
+            Ok((second, third, fourth, fifth, sixth)) => Ok((first, second, third, fourth, fifth, sixth)),
+            Err(failure) => Err(failure),
+        }
+    }
+}
+
+/// Seven parsers, one after the other: their values.
+impl<
+    I: StreamIsPartial,
+    E,
+    A: Parser<I, E>,
+    B: Parser<I, E>,
+    C: Parser<I, E>,
+    D: Parser<I, E>,
+    F: Parser<I, E>,
+    G: Parser<I, E>,
+    H: Parser<I, E>,
+> Parser<I, E> for (A, B, C, D, F, G, H)
+where
+    A::Output: Drop,
+    B::Output: Drop,
+    C::Output: Drop,
+    D::Output: Drop,
+    F::Output: Drop,
+    G::Output: Drop,
+{
+    type Output = (A::Output, B::Output, C::Output, D::Output, F::Output, G::Output, H::Output);
+
+    ghost means = { λ p. Row7 (A.means p.0) (B.means p.1) (C.means p.2) (D.means p.3) (F.means p.4) (G.means p.5) (H.means p.6) };
+
+    ghost ready = { λ p. A.ready p.0 × B.ready p.1 × C.ready p.2 × D.ready p.3 × F.ready p.4 × G.ready p.5 × H.ready p.6 };
+
+    ghost lawful = { λ p. IsParser-Row7 (A.means p.0) (B.means p.1) (C.means p.2) (D.means p.3) (F.means p.4) (G.means p.5) (H.means p.6)
+        (A.lawful p.0) (B.lawful p.1) (C.lawful p.2) (D.lawful p.3) (F.lawful p.4) (G.lawful p.5) (H.lawful p.6) };
+
+    fn parse_next(&self, alloc: Global, input: &mut I) -> ModalResult<Self::Output, E> {
+        let first = self.0.parse_next(alloc, input)?;
+        match (&self.1, &self.2, &self.3, &self.4, &self.5, &self.6).parse_next(alloc, input) {
+            Ok((second, third, fourth, fifth, sixth, seventh)) => Ok((first, second, third, fourth, fifth, sixth, seventh)),
+            Err(failure) => Err(failure),
+        }
+    }
+}
+
+/// Eight parsers, one after the other: their values.
+impl<
+    I: StreamIsPartial,
+    E,
+    A: Parser<I, E>,
+    B: Parser<I, E>,
+    C: Parser<I, E>,
+    D: Parser<I, E>,
+    F: Parser<I, E>,
+    G: Parser<I, E>,
+    H: Parser<I, E>,
+    J: Parser<I, E>,
+> Parser<I, E> for (A, B, C, D, F, G, H, J)
+where
+    A::Output: Drop,
+    B::Output: Drop,
+    C::Output: Drop,
+    D::Output: Drop,
+    F::Output: Drop,
+    G::Output: Drop,
+    H::Output: Drop,
+{
+    type Output = (A::Output, B::Output, C::Output, D::Output, F::Output, G::Output, H::Output, J::Output);
+
+    ghost means = { λ p. Row8 (A.means p.0) (B.means p.1) (C.means p.2) (D.means p.3) (F.means p.4) (G.means p.5) (H.means p.6) (J.means p.7) };
+
+    ghost ready = { λ p. A.ready p.0 × B.ready p.1 × C.ready p.2 × D.ready p.3 × F.ready p.4 × G.ready p.5 × H.ready p.6 × J.ready p.7 };
+
+    ghost lawful = { λ p. IsParser-Row8 (A.means p.0) (B.means p.1) (C.means p.2) (D.means p.3) (F.means p.4) (G.means p.5) (H.means p.6) (J.means p.7)
+        (A.lawful p.0) (B.lawful p.1) (C.lawful p.2) (D.lawful p.3) (F.lawful p.4) (G.lawful p.5) (H.lawful p.6) (J.lawful p.7) };
+
+    fn parse_next(&self, alloc: Global, input: &mut I) -> ModalResult<Self::Output, E> {
+        let first = self.0.parse_next(alloc, input)?;
+        match (&self.1, &self.2, &self.3, &self.4, &self.5, &self.6, &self.7).parse_next(alloc, input) {
+            Ok((second, third, fourth, fifth, sixth, seventh, eighth)) => Ok((first, second, third, fourth, fifth, sixth, seventh, eighth)),
+            Err(failure) => Err(failure),
+        }
+    }
+}
+
+/// Nine parsers, one after the other: their values.
+impl<
+    I: StreamIsPartial,
+    E,
+    A: Parser<I, E>,
+    B: Parser<I, E>,
+    C: Parser<I, E>,
+    D: Parser<I, E>,
+    F: Parser<I, E>,
+    G: Parser<I, E>,
+    H: Parser<I, E>,
+    J: Parser<I, E>,
+    K: Parser<I, E>,
+> Parser<I, E> for (A, B, C, D, F, G, H, J, K)
+where
+    A::Output: Drop,
+    B::Output: Drop,
+    C::Output: Drop,
+    D::Output: Drop,
+    F::Output: Drop,
+    G::Output: Drop,
+    H::Output: Drop,
+    J::Output: Drop,
+{
+    type Output = (A::Output, B::Output, C::Output, D::Output, F::Output, G::Output, H::Output, J::Output, K::Output);
+
+    ghost means = { λ p. Row9 (A.means p.0) (B.means p.1) (C.means p.2) (D.means p.3) (F.means p.4) (G.means p.5) (H.means p.6) (J.means p.7) (K.means p.8) };
+
+    ghost ready = { λ p. A.ready p.0 × B.ready p.1 × C.ready p.2 × D.ready p.3 × F.ready p.4 × G.ready p.5 × H.ready p.6 × J.ready p.7 × K.ready p.8 };
+
+    ghost lawful = { λ p. IsParser-Row9 (A.means p.0) (B.means p.1) (C.means p.2) (D.means p.3) (F.means p.4) (G.means p.5) (H.means p.6) (J.means p.7) (K.means p.8)
+        (A.lawful p.0) (B.lawful p.1) (C.lawful p.2) (D.lawful p.3) (F.lawful p.4) (G.lawful p.5) (H.lawful p.6) (J.lawful p.7) (K.lawful p.8) };
+
+    fn parse_next(&self, alloc: Global, input: &mut I) -> ModalResult<Self::Output, E> {
+        let first = self.0.parse_next(alloc, input)?;
+        match (&self.1, &self.2, &self.3, &self.4, &self.5, &self.6, &self.7, &self.8).parse_next(alloc, input) {
+            Ok((second, third, fourth, fifth, sixth, seventh, eighth, ninth)) => Ok((first, second, third, fourth, fifth, sixth, seventh, eighth, ninth)),
+            Err(failure) => Err(failure),
+        }
+    }
+}
+
+/// Ten parsers, one after the other: their values.
+impl<
+    I: StreamIsPartial,
+    E,
+    A: Parser<I, E>,
+    B: Parser<I, E>,
+    C: Parser<I, E>,
+    D: Parser<I, E>,
+    F: Parser<I, E>,
+    G: Parser<I, E>,
+    H: Parser<I, E>,
+    J: Parser<I, E>,
+    K: Parser<I, E>,
+    L: Parser<I, E>,
+> Parser<I, E> for (A, B, C, D, F, G, H, J, K, L)
+where
+    A::Output: Drop,
+    B::Output: Drop,
+    C::Output: Drop,
+    D::Output: Drop,
+    F::Output: Drop,
+    G::Output: Drop,
+    H::Output: Drop,
+    J::Output: Drop,
+    K::Output: Drop,
+{
+    type Output = (A::Output, B::Output, C::Output, D::Output, F::Output, G::Output, H::Output, J::Output, K::Output, L::Output);
+
+    ghost means = { λ p. Row10 (A.means p.0) (B.means p.1) (C.means p.2) (D.means p.3) (F.means p.4) (G.means p.5) (H.means p.6) (J.means p.7) (K.means p.8) (L.means p.9) };
+
+    ghost ready = { λ p. A.ready p.0 × B.ready p.1 × C.ready p.2 × D.ready p.3 × F.ready p.4 × G.ready p.5 × H.ready p.6 × J.ready p.7 × K.ready p.8 × L.ready p.9 };
+
+    ghost lawful = { λ p. IsParser-Row10 (A.means p.0) (B.means p.1) (C.means p.2) (D.means p.3) (F.means p.4) (G.means p.5) (H.means p.6) (J.means p.7) (K.means p.8) (L.means p.9)
+        (A.lawful p.0) (B.lawful p.1) (C.lawful p.2) (D.lawful p.3) (F.lawful p.4) (G.lawful p.5) (H.lawful p.6) (J.lawful p.7) (K.lawful p.8) (L.lawful p.9) };
+
+    fn parse_next(&self, alloc: Global, input: &mut I) -> ModalResult<Self::Output, E> {
+        let first = self.0.parse_next(alloc, input)?;
+        match (&self.1, &self.2, &self.3, &self.4, &self.5, &self.6, &self.7, &self.8, &self.9).parse_next(alloc, input) {
+            Ok((second, third, fourth, fifth, sixth, seventh, eighth, ninth, tenth)) => Ok((first, second, third, fourth, fifth, sixth, seventh, eighth, ninth, tenth)),
+            Err(failure) => Err(failure),
+        }
+    }
+}

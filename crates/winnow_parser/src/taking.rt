@@ -1,0 +1,96 @@
+ghost use Rattle.std.specs.Prelude.{◌≡◌};
+ghost use Rattle.winnow_parser.specs.Outcome.{Moves};
+ghost use Rattle.winnow_parser.specs.Answer.{ahead};
+ghost use Rattle.winnow_parser.specs.Taken.{IsFrontTaken, Taken, WithTaken, IsParser-Taken};
+ghost use Rattle.winnow_parser.specs.Taken.{IsParser-WithTaken};
+
+use crate::{ModalResult, Parser, taken_width_law};
+use std::alloc::Global;
+use winnow_stream::{Stream, StreamIsPartial};
+
+/// The slice that the inner parser takes; [`Parser::take`] makes it.
+#[derive(Clone, Copy, Drop)]
+pub struct Taken<P> {
+    inner: P,
+}
+
+impl<P> Taken<P> {
+    // Returns the parser of the slice that the inner one takes.
+    pub(crate) fn new(inner: P) -> Self
+        ensures { result ≡ record { inner = inner } }
+    {
+        Taken { inner }
+    }
+}
+
+impl<I: StreamIsPartial, E, P: Parser<I, E>> Parser<I, E> for Taken<P>
+where
+    P::Output: Drop,
+{
+    type Output = I::Slice;
+
+    ghost means = { λ p. Taken I.is_slice (P.means p.inner) };
+
+    ghost ready = { λ p. P.ready p.inner };
+
+    ghost lawful = { λ p.
+        IsParser-Taken I.is_slice I.slices_stay (P.means p.inner) (P.lawful p.inner) };
+
+    fn parse_next(&self, alloc: Global, input: &mut I) -> ModalResult<I::Slice, E> {
+        let start = input.checkpoint();
+        let _ = self.inner.parse_next(alloc, input)?;
+        Ok(take_since(input, &start))
+    }
+}
+
+/// The value, and the slice that the inner parser takes; [`Parser::with_taken`] makes it.
+#[derive(Clone, Copy, Drop)]
+pub struct WithTaken<P> {
+    inner: P,
+}
+
+impl<P> WithTaken<P> {
+    // Returns the parser of the value and of the slice that the inner one takes.
+    pub(crate) fn new(inner: P) -> Self
+        ensures { result ≡ record { inner = inner } }
+    {
+        WithTaken { inner }
+    }
+}
+
+impl<I: StreamIsPartial, E, P: Parser<I, E>> Parser<I, E> for WithTaken<P> {
+    type Output = (P::Output, I::Slice);
+
+    ghost means = { λ p. WithTaken I.is_slice (P.means p.inner) };
+
+    ghost ready = { λ p. P.ready p.inner };
+
+    ghost lawful = { λ p.
+        IsParser-WithTaken I.is_slice I.slices_stay (P.means p.inner) (P.lawful p.inner) };
+
+    fn parse_next(&self, alloc: Global, input: &mut I) -> ModalResult<(P::Output, I::Slice), E> {
+        let start = input.checkpoint();
+        let value = self.inner.parse_next(alloc, input)?;
+        Ok((value, take_since(input, &start)))
+    }
+}
+
+// Returns the slice that was taken since a checkpoint. The stream stands where it stood.
+fn take_since<I: Stream>(input: &mut I, start: &I::Checkpoint) -> I::Slice
+    requires valid { I.valid input.old }
+    requires valid_checkpoint { I.valid_checkpoint start.now }
+    requires moved { Moves (ahead I.Checkpoint.location I.remained start.now)
+        (ahead I.location I.remaining input.old) }
+    ensures taken { IsFrontTaken I.is_slice result
+        (ahead I.Checkpoint.location I.remained start.now)
+        (ahead I.location I.remaining input.old) }
+    ensures stands { ahead I.location I.remaining input.new
+        ≡ ahead I.location I.remaining input.old }
+    ensures valid { I.valid input.new }
+    ensures kept { I.keeps input.old input.new }
+{
+    taken_width_law::<I::Token>();
+    let width = input.offset_since(start);
+    input.reset(start);
+    input.next_slice(width)
+}

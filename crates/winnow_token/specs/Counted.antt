@@ -1,0 +1,52 @@
+-- So many tokens.
+use Rattle.std.specs.Prelude.{◌≡◌, ℕ, ◌-◌, ◌<◌, ◌≤◌, Bool, true, false, ◌++◌, length, take, IsTrue}
+use Rattle.std.proofs.Common.{refl, ap, sym, ◌∙◌, subst, arith, length-append}
+use Rattle.std.proofs.lemmas.List.{take-append-le}
+use Rattle.winnow_stream.specs.Source.{Source, width}
+use Rattle.winnow_stream.specs.Front.{is_offset}
+use Rattle.winnow_stream.specs.Shortage.{shortage}
+use Rattle.winnow_stream.specs.Longer.{SlicesStay, is_offset-longer}
+use Rattle.winnow_stream.proofs.lemmas.MovingLemmas.{MovesOn-front}
+use Rattle.winnow_parser.specs.Outcome.{Ahead, Backtracks, Cuts, Needs, Refuses, Gives, Fails, Meaning, Moves, after}
+use Rattle.winnow_parser.specs.Laws.{longer, IsStable, IsFinal, IsOnward, IsParser}
+use Rattle.winnow_parser.specs.Parts.{Moves-still}
+use Rattle.winnow_parser.specs.Taken.{after-longer}
+
+-- the slice of the first n tokens; where fewer remain it needs those that are missing, as the stream tells them, if more may follow,
+-- and backtracks if nothing may
+abbrev pub Counted : {S T : Type 0} → Bool → (S → Source T → ℕ → Type 0) → ℕ → Meaning S T
+Counted counts_missing is_slice n partial a (Gives s b) = let w = width (take n a.tokens) in
+    (n ≤ length a.tokens) × IsTrue (is_offset a.tokens w) × is_slice s a.tokens w × (b ≡ after a w)
+Counted counts_missing is_slice n partial a (Fails (Backtracks b)) = (length a.tokens < n) × (partial ≡ false) × (b ≡ a)
+Counted counts_missing is_slice n partial a (Fails (Cuts b)) = ⊥
+Counted counts_missing is_slice n partial a (Fails (Needs missing)) =
+    (length a.tokens < n) × (partial ≡ true) × (missing ≡ shortage counts_missing (n - length a.tokens))
+Counted counts_missing is_slice n partial a (Fails Refuses) = ⊥
+
+module _ {S T : Type 0} (counts_missing : Bool) (is_slice : S → Source T → ℕ → Type 0) (stay : SlicesStay is_slice) (n : ℕ) where
+  counted-stable : IsStable (Counted counts_missing is_slice n)
+  counted-stable more partial a (Gives s b) settled h =
+      let w = width (take n a.tokens) in
+      let same = ap width (take-append-le n a.tokens more h.0) in
+      (omega (arith, h.0, length-append a.tokens more),
+       subst (λ w. IsTrue (is_offset (a.tokens ++ more) w)) (sym same) (is_offset-longer a.tokens more w h.1),
+       subst (λ w. is_slice s (a.tokens ++ more) w) (sym same) (stay s a.tokens more w h.1 h.2),
+       ap (longer more) h.3 ∙ sym (after-longer more a w h.1) ∙ ap (after (longer more a)) (sym same))
+  counted-stable more partial a (Fails (Backtracks b)) settled h = absurd (cc)
+  counted-stable more partial a (Fails (Cuts b)) settled h = absurd h
+  counted-stable more partial a (Fails (Needs missing)) settled h = absurd settled
+  counted-stable more partial a (Fails Refuses) settled h = absurd settled
+
+  counted-final : IsFinal (Counted counts_missing is_slice n)
+  counted-final a missing h = cc
+
+  counted-onward : IsOnward (Counted counts_missing is_slice n)
+  counted-onward partial a (Gives s b) h =
+      subst (Moves a) (sym h.3) (MovesOn-front a.location a.tokens (width (take n a.tokens)) h.1)
+  counted-onward partial a (Fails (Backtracks b)) h = Moves-still a b (sym h.2)
+  counted-onward partial a (Fails (Cuts b)) h = absurd h
+  counted-onward partial a (Fails (Needs missing)) h = tt
+  counted-onward partial a (Fails Refuses) h = tt
+
+  pub IsParser-Counted : IsParser (Counted counts_missing is_slice n)
+  IsParser-Counted = record { stable = counted-stable; final = counted-final; onward = counted-onward }

@@ -1,0 +1,5 @@
+pub mod OneOf
+pub mod Counted
+pub mod Held
+pub mod Literal
+pub mod Remaining

@@ -1,0 +1,54 @@
+-- A literal.
+use Rattle.std.specs.Prelude.{◌≡◌, ℕ, Bool, true, false, ◌++◌, IsTrue, ◌⊎◌}
+use Rattle.std.proofs.Common.{refl, ap, sym, ◌∙◌, subst, inl, inr}
+use Rattle.winnow_stream.specs.Source.{Source}
+use Rattle.winnow_stream.specs.Front.{is_offset}
+use Rattle.winnow_stream.specs.Longer.{SlicesStay, is_offset-longer}
+use Rattle.winnow_stream.specs.declared.needed.Needed.TheVariants.{Unknown}
+use Rattle.winnow_stream.proofs.lemmas.MovingLemmas.{MovesOn-front}
+use Rattle.winnow_match.specs.declared.compare.CompareResult.{CompareResult}
+use Rattle.winnow_match.specs.declared.compare.CompareResult.TheVariants as compared
+use Rattle.winnow_match.specs.Staying.{ComparisonsStay}
+use Rattle.winnow_parser.specs.Outcome.{Ahead, Backtracks, Cuts, Needs, Refuses, Gives, Fails, Meaning, Moves, after}
+use Rattle.winnow_parser.specs.Laws.{longer, IsStable, IsFinal, IsOnward, IsParser}
+use Rattle.winnow_parser.specs.Parts.{Moves-still}
+use Rattle.winnow_parser.specs.Taken.{after-longer}
+
+-- the slice of the literal, if what stands ahead begins with it; where that is too short to tell, more is needed if more may follow
+abbrev pub Literal : {S T : Type 0} → (S → Source T → ℕ → Type 0) → (Source T → CompareResult) → Meaning S T
+Literal is_slice compare partial a (Gives s b) = (n : ℕ) × ((compare a.tokens ≡ compared.Ok n)
+    × IsTrue (is_offset a.tokens n) × is_slice s a.tokens n × (b ≡ after a n))
+Literal is_slice compare partial a (Fails (Backtracks b)) = (b ≡ a)
+    × ((compare a.tokens ≡ compared.Error) ⊎ ((compare a.tokens ≡ compared.Incomplete) × (partial ≡ false)))
+Literal is_slice compare partial a (Fails (Cuts b)) = ⊥
+Literal is_slice compare partial a (Fails (Needs n)) =
+    (partial ≡ true) × (compare a.tokens ≡ compared.Incomplete) × (n ≡ Unknown)
+Literal is_slice compare partial a (Fails Refuses) = ⊥
+
+module _ {S T : Type 0} (is_slice : S → Source T → ℕ → Type 0) (stay : SlicesStay is_slice) (compare : Source T → CompareResult) (same : ComparisonsStay compare) where
+  literal-stable : IsStable (Literal is_slice compare)
+  literal-stable more partial a (Gives s b) settled h =
+      let n = h.0 in
+      (n, (same a.tokens more (λ e. let f = sym h.1.0 ∙ e in cc) ∙ h.1.0,
+       is_offset-longer a.tokens more n h.1.1,
+       stay s a.tokens more n h.1.1 h.1.2,
+       ap (longer more) h.1.3 ∙ sym (after-longer more a n h.1.1)))
+  literal-stable more partial a (Fails (Backtracks b)) settled (e, inl h) =
+      (ap (longer more) e, inl (same a.tokens more (λ i. let f = sym h ∙ i in cc) ∙ h))
+  literal-stable more partial a (Fails (Backtracks b)) settled (e, inr h) = absurd (cc)
+  literal-stable more partial a (Fails (Cuts b)) settled h = absurd h
+  literal-stable more partial a (Fails (Needs n)) settled h = absurd settled
+  literal-stable more partial a (Fails Refuses) settled h = absurd settled
+
+  literal-final : IsFinal (Literal is_slice compare)
+  literal-final a n h = cc
+
+  literal-onward : IsOnward (Literal is_slice compare)
+  literal-onward partial a (Gives s b) h = subst (Moves a) (sym h.1.3) (MovesOn-front a.location a.tokens h.0 h.1.1)
+  literal-onward partial a (Fails (Backtracks b)) h = Moves-still a b (sym h.0)
+  literal-onward partial a (Fails (Cuts b)) h = absurd h
+  literal-onward partial a (Fails (Needs n)) h = tt
+  literal-onward partial a (Fails Refuses) h = tt
+
+  pub IsParser-Literal : IsParser (Literal is_slice compare)
+  IsParser-Literal = record { stable = literal-stable; final = literal-final; onward = literal-onward }
