@@ -1,0 +1,67 @@
+-- Parsers that take nothing: the end, nothing at all, and a failure.
+use Rattle.std.specs.Prelude.{◌≡◌, ◌≢◌, Bool, true, false, [], ◌∷◌, ◌++◌}
+use Rattle.std.proofs.Common.{refl, ap, sym}
+use Rattle.winnow_stream.specs.Source.{Source}
+use Rattle.winnow_stream.specs.Shortage.{needed}
+use Rattle.winnow_parser.specs.Outcome.{Ahead, Failed, Backtracks, Cuts, Needs, Refuses, Outcome, Gives, Fails, Meaning}
+use Rattle.winnow_parser.specs.Laws.{longer, IsStable, IsFinal, IsOnward, IsParser}
+use Rattle.winnow_parser.specs.Parts.{Moves-still}
+
+-- nothing remains, and nothing follows; where something may follow, one more token is needed to tell
+abbrev pub Ended : {T : Type 0} → Meaning (Unit {0}) T
+Ended partial a (Gives u b) = (a.tokens ≡ []) × (partial ≡ false) × (a ≡ b)
+Ended partial a (Fails (Backtracks b)) = (a.tokens ≢ []) × (a ≡ b)
+Ended partial a (Fails (Cuts b)) = ⊥
+Ended partial a (Fails (Needs n)) = (a.tokens ≡ []) × (partial ≡ true) × (n ≡ needed 1)
+Ended partial a (Fails Refuses) = ⊥
+
+-- it backtracks, whatever stands ahead
+abbrev pub Failing : {O T : Type 0} → Meaning O T
+Failing partial a (Gives x b) = ⊥
+Failing partial a (Fails (Backtracks b)) = a ≡ b
+Failing partial a (Fails (Cuts b)) = ⊥
+Failing partial a (Fails (Needs n)) = ⊥
+Failing partial a (Fails Refuses) = ⊥
+
+some-longer : {T : Type 0} (r more : Source T) → r ≢ [] → r ++ more ≢ []
+some-longer [] more n = absurd (n refl)
+some-longer (x ∷ xs) more n = λ e. cc
+
+module _ {T : Type 0} where
+  ended-stable : IsStable {O = Unit {0}} {T = T} Ended
+  ended-stable more partial a (Gives u b) s h = absurd (cc)
+  ended-stable more partial a (Fails (Backtracks b)) s h = (some-longer a.tokens more h.0, ap (longer more) h.1)
+  ended-stable more partial a (Fails (Cuts b)) s h = absurd h
+  ended-stable more partial a (Fails (Needs n)) s h = absurd s
+  ended-stable more partial a (Fails Refuses) s h = absurd s
+
+  ended-final : IsFinal {O = Unit {0}} {T = T} Ended
+  ended-final a n h = cc
+
+  ended-onward : IsOnward {O = Unit {0}} {T = T} Ended
+  ended-onward partial a (Gives u b) h = Moves-still a b h.2
+  ended-onward partial a (Fails (Backtracks b)) h = Moves-still a b h.1
+  ended-onward partial a (Fails (Cuts b)) h = absurd h
+  ended-onward partial a (Fails (Needs n)) h = tt
+  ended-onward partial a (Fails Refuses) h = tt
+
+  pub IsParser-Ended : IsParser {O = Unit {0}} {T = T} Ended
+  IsParser-Ended = record { stable = ended-stable; final = ended-final; onward = ended-onward }
+
+module _ {O T : Type 0} where
+  failing-stable : IsStable {O = O} {T = T} Failing
+  failing-stable more partial a (Gives x b) s h = absurd h
+  failing-stable more partial a (Fails (Backtracks b)) s h = ap (longer more) h
+  failing-stable more partial a (Fails (Cuts b)) s h = absurd h
+  failing-stable more partial a (Fails (Needs n)) s h = absurd s
+  failing-stable more partial a (Fails Refuses) s h = absurd s
+
+  failing-onward : IsOnward {O = O} {T = T} Failing
+  failing-onward partial a (Gives x b) h = absurd h
+  failing-onward partial a (Fails (Backtracks b)) h = Moves-still a b h
+  failing-onward partial a (Fails (Cuts b)) h = absurd h
+  failing-onward partial a (Fails (Needs n)) h = tt
+  failing-onward partial a (Fails Refuses) h = tt
+
+  pub IsParser-Failing : IsParser {O = O} {T = T} Failing
+  IsParser-Failing = record { stable = failing-stable; final = λ a n h. h; onward = failing-onward }

@@ -1,0 +1,78 @@
+ghost use Rattle.std.specs.Prelude.{◌≡◌};
+ghost use Rattle.winnow_parser.specs.Meanings.{Either};
+ghost use Rattle.winnow_parser.specs.Parts.{IsParser-Either};
+
+use std::alloc::Global;
+use winnow_error::ParserError;
+use winnow_parser::{Failure, ModalResult, Parser};
+use winnow_stream::StreamIsPartial;
+
+/// The first of several parsers that does not backtrack; [`alt`] makes it.
+#[derive(Clone, Copy, Drop)]
+pub struct Alternatives<L> {
+    list: L,
+}
+
+/// Returns the parser that tries each of a tuple of parsers, from the same place, until one does not backtrack. Where all do, their
+/// errors are joined by `or`.
+pub fn alt<L>(list: L) -> Alternatives<L>
+    ensures { result ≡ record { list = list } }
+{
+    Alternatives { list }
+}
+
+impl<
+    I: StreamIsPartial,
+    E: ParserError<I>,
+    A: Parser<I, E>,
+    B: Parser<I, E, Output = A::Output>,
+> Parser<I, E> for Alternatives<(A, B)>
+{
+    type Output = A::Output;
+
+    ghost means = { λ p. Either E.or_refusable (A.means p.list.0) (B.means p.list.1) };
+
+    ghost ready = { λ p. A.ready p.list.0 × B.ready p.list.1 };
+
+    ghost lawful = { λ p. IsParser-Either E.or_refusable (A.means p.list.0) (B.means p.list.1)
+        (A.lawful p.list.0) (B.lawful p.list.1) };
+
+    fn parse_next(&self, alloc: Global, input: &mut I) -> ModalResult<A::Output, E> {
+        let start = input.checkpoint();
+        match self.list.0.parse_next(alloc, input) {
+            Err(Failure::Backtrack(error)) => {
+                input.reset(&start);
+                match self.list.1.parse_next(alloc, input) {
+                    Err(Failure::Backtrack(other)) => match error.or(alloc, other) {
+                        Ok(joined) => Err(Failure::Backtrack(joined)),
+                        Err(refused) => Err(Failure::Refused(refused)),
+                    },
+                    other => other,
+                }
+            }
+            other => other,
+        }
+    }
+}
+
+/// The first of three.
+impl<
+    I: StreamIsPartial,
+    E: ParserError<I>,
+    A: Parser<I, E>,
+    B: Parser<I, E, Output = A::Output>,
+    C: Parser<I, E, Output = A::Output>,
+> Parser<I, E> for Alternatives<(A, B, C)>
+{
+    type Output = A::Output;
+
+    ghost means = { λ p. Either E.or_refusable (A.means p.list.0) (Either E.or_refusable (B.means p.list.1) (C.means p.list.2)) };
+
+    ghost ready = { λ p. A.ready p.list.0 × B.ready p.list.1 × C.ready p.list.2 };
+
+    ghost lawful = { λ p. IsParser-Either E.or_refusable (A.means p.list.0) (Either E.or_refusable (B.means p.list.1) (C.means p.list.2)) (A.lawful p.list.0) (IsParser-Either E.or_refusable (B.means p.list.1) (C.means p.list.2) (B.lawful p.list.1) (C.lawful p.list.2)) };
+
+    fn parse_next(&self, alloc: Global, input: &mut I) -> ModalResult<A::Output, E> {
+        alt((&self.list.0, alt((&self.list.1, &self.list.2)))).parse_next(alloc, input)
+    }
+}

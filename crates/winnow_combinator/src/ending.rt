@@ -1,0 +1,84 @@
+ghost use Rattle.winnow_parser.specs.Meanings.{Returns};
+ghost use Rattle.winnow_parser.specs.Parts.{IsParser-Returns};
+ghost use Rattle.winnow_combinator.specs.Ending.{Ended, Failing, IsParser-Ended, IsParser-Failing};
+
+use std::alloc::Global;
+use winnow_error::ParserError;
+use winnow_parser::{Failure, ModalResult, Parser};
+use winnow_stream::{Needed, StreamIsPartial};
+
+/// The end of the input; [`eof`] makes it.
+#[derive(Clone, Copy, Debug)]
+pub struct Ended;
+
+/// Returns the parser of the end of the input. Where more may follow, it needs one more token to tell.
+pub fn eof() -> Ended {
+    Ended
+}
+
+impl<I: StreamIsPartial, E: ParserError<I>> Parser<I, E> for Ended
+where
+    I::Token: Drop,
+{
+    type Output = ();
+
+    ghost means = { λ _. Ended };
+
+    ghost ready = { λ _. Unit {0} };
+
+    ghost lawful = { λ _. IsParser-Ended };
+
+    fn parse_next(&self, alloc: Global, input: &mut I) -> ModalResult<(), E> {
+        match input.peek_token() {
+            Some(_) => Err(Failure::Backtrack(E::from_input(alloc, input))),
+            None if input.is_partial() => Err(Failure::Incomplete(Needed::new(1))),
+            None => Ok(()),
+        }
+    }
+}
+
+/// Nothing; [`empty`] makes it.
+#[derive(Clone, Copy, Debug)]
+pub struct Nothing;
+
+/// Returns the parser that takes nothing and gives nothing.
+pub fn empty() -> Nothing {
+    Nothing
+}
+
+impl<I: StreamIsPartial, E> Parser<I, E> for Nothing {
+    type Output = ();
+
+    ghost means = { λ _. Returns tt };
+
+    ghost ready = { λ _. Unit {0} };
+
+    ghost lawful = { λ _. IsParser-Returns tt };
+
+    fn parse_next(&self, _alloc: Global, _input: &mut I) -> ModalResult<(), E> {
+        Ok(())
+    }
+}
+
+/// A failure, whatever stands ahead; [`fail`] makes it.
+#[derive(Clone, Copy, Debug)]
+pub struct Failing;
+
+/// Returns the parser that backtracks, whatever stands ahead.
+pub fn fail() -> Failing {
+    Failing
+}
+
+impl<I: StreamIsPartial, E: ParserError<I>> Parser<I, E> for Failing {
+    type Output = ();
+
+    ghost means = { λ _. Failing };
+
+    ghost ready = { λ _. Unit {0} };
+
+    ghost lawful = { λ _. IsParser-Failing };
+
+    fn parse_next(&self, alloc: Global, input: &mut I) -> ModalResult<(), E> {
+        Err(Failure::Backtrack(E::from_input(alloc, input)))
+    }
+}

@@ -1,0 +1,18 @@
+//! Combinators: parsers that are made of parsers. Each one's meaning is made of the meanings of its parts alone.
+#![tactic(auto)]
+
+mod alternatives;
+mod ending;
+mod looking;
+mod modes;
+mod optional;
+mod sequence;
+
+pub use alternatives::{Alternatives, alt};
+pub use ending::{Ended, Failing, Nothing, empty, eof, fail};
+pub use looking::{LookedAt, Negated, not, peek};
+pub use modes::{CutOff, Softened, backtrack_err, cut_err};
+pub use optional::{Optional, opt};
+pub use sequence::{
+    Between, FirstOf, SecondOf, Separate, delimited, preceded, separated_pair, terminated,
+};
