@@ -1,7 +1,7 @@
 -- The tokens up to the first that a set does not hold.
 use Rattle.std.specs.Prelude.{◌≡◌, ℕ, ◌+◌, ◌-◌, ◌<◌, ◌≤◌, suc, nat_le, Bool, true, false, ◌&&◌, cond, [], ◌∷◌, ◌++◌, length, IsTrue}
-use Rattle.std.proofs.Common.{refl, ap, sym, ◌∙◌, subst, arith, length-append}
-use Rattle.std.proofs.lemmas.Bool.Decides.{nat_tests}
+use Rattle.std.proofs.Common.{refl, ap, sym, ◌∙◌, subst, inl, inr, arith, length-append}
+use Rattle.std.proofs.lemmas.Bool.Decides.{nat_tests, eqb_tells}
 use Rattle.winnow_stream.specs.Source.{Source, width, held_front}
 use Rattle.winnow_stream.specs.Front.{is_offset}
 use Rattle.winnow_stream.specs.Shortage.{needed}
@@ -19,15 +19,15 @@ EndsWithin front all = length front < length all
 
 -- the slice of the longest front whose tokens a set holds, if they are at least so many; where more may follow, the front must end
 -- within what stands ahead, and else one more token is needed
-abbrev pub HeldTokens : {S T : Type 0} → (S → Source T → ℕ → Type 0) → (T → Bool) → ℕ → Meaning S T
-HeldTokens is_slice holds least partial a (Gives s b) = let held = held_front holds a.tokens in
+abbrev pub HeldFront : {S T : Type 0} → (S → Source T → ℕ → Type 0) → (T → Bool) → ℕ → Meaning S T
+HeldFront is_slice holds least partial a (Gives s b) = let held = held_front holds a.tokens in
     is_slice s a.tokens (width held) × (b ≡ after a (width held)) × (least ≤ length held) × (partial ≡ true → EndsWithin held a.tokens)
-HeldTokens is_slice holds least partial a (Fails (Backtracks b)) = let held = held_front holds a.tokens in
+HeldFront is_slice holds least partial a (Fails (Backtracks b)) = let held = held_front holds a.tokens in
     (b ≡ a) × (length held < least) × (partial ≡ true → EndsWithin held a.tokens)
-HeldTokens is_slice holds least partial a (Fails (Cuts b)) = ⊥
-HeldTokens is_slice holds least partial a (Fails (Needs n)) =
+HeldFront is_slice holds least partial a (Fails (Cuts b)) = ⊥
+HeldFront is_slice holds least partial a (Fails (Needs n)) =
     (partial ≡ true) × (length (held_front holds a.tokens) ≡ length a.tokens) × (n ≡ needed 1)
-HeldTokens is_slice holds least partial a (Fails Refuses) = ⊥
+HeldFront is_slice holds least partial a (Fails Refuses) = ⊥
 
 module _ {T : Type 0} (holds : T → Bool) where
   held-step : (b : Bool) (x : T × ℕ) (front longer : Source T) (n : ℕ) → (length front < n → longer ≡ front) → length (cond b (x ∷ front) []) < suc n → cond b (x ∷ longer) [] ≡ cond b (x ∷ front) []
@@ -45,7 +45,10 @@ module _ {T : Type 0} (holds : T → Bool) where
       let d : (x.1 + w) - x.1 ≡ w = omega arith in
       let l : nat_le x.1 (x.1 + w) ≡ true = grind (arith, nat_tests) in
       let e : (nat_le x.1 (x.1 + w) && is_offset xs ((x.1 + w) - x.1)) ≡ true = rw l (rw d h) in
-      is_offset-cons x xs (x.1 + w) e
+      elim (eqb_tells (x.1 + w) 0) [
+        | inl p ↦ is_offset-cons x xs (x.1 + w) ∙ rw p.0 refl
+        | inr p ↦ is_offset-cons x xs (x.1 + w) ∙ rw p.0 e
+      ]
   offset-step false x xs front h = refl
 
   pub is_offset-held : (r : Source T) → is_offset r (width (held_front holds r)) ≡ true
@@ -57,7 +60,7 @@ module _ {S T : Type 0} (is_slice : S → Source T → ℕ → Type 0) (stay : S
   within-longer r more h =
       subst (λ front. length front < length (r ++ more)) (sym (held_front-longer holds r more h)) (omega (arith, h, length-append r more))
 
-  held-stable : IsStable (HeldTokens is_slice holds least)
+  held-stable : IsStable (HeldFront is_slice holds least)
   held-stable more partial a (Gives s b) settled h =
       let held = held_front holds a.tokens in
       let same = held_front-longer holds a.tokens more (h.3 refl) in
@@ -73,10 +76,10 @@ module _ {S T : Type 0} (is_slice : S → Source T → ℕ → Type 0) (stay : S
   held-stable more partial a (Fails (Needs n)) settled h = absurd settled
   held-stable more partial a (Fails Refuses) settled h = absurd settled
 
-  held-final : IsFinal (HeldTokens is_slice holds least)
+  held-final : IsFinal (HeldFront is_slice holds least)
   held-final a n h = cc
 
-  held-onward : IsOnward (HeldTokens is_slice holds least)
+  held-onward : IsOnward (HeldFront is_slice holds least)
   held-onward partial a (Gives s b) h =
       subst (Moves a) (sym h.1) (MovesOn-front a.location a.tokens (width (held_front holds a.tokens)) (is_offset-held holds a.tokens))
   held-onward partial a (Fails (Backtracks b)) h = Moves-still a b (sym h.0)
@@ -84,5 +87,5 @@ module _ {S T : Type 0} (is_slice : S → Source T → ℕ → Type 0) (stay : S
   held-onward partial a (Fails (Needs n)) h = tt
   held-onward partial a (Fails Refuses) h = tt
 
-  pub IsParser-HeldTokens : IsParser (HeldTokens is_slice holds least)
-  IsParser-HeldTokens = record { stable = held-stable; final = held-final; onward = held-onward }
+  pub IsParser-HeldFront : IsParser (HeldFront is_slice holds least)
+  IsParser-HeldFront = record { stable = held-stable; final = held-final; onward = held-onward }

@@ -1,0 +1,39 @@
+ghost use Rattle.std.specs.Prelude.{◌≡◌};
+ghost use Rattle.winnow_token.specs.Counted.{Counted, IsParser-Counted};
+
+use std::alloc::Global;
+use winnow_error::ParserError;
+use winnow_parser::{Failure, ModalResult, Parser};
+use winnow_stream::{StreamIsPartial, offset_law};
+
+/// So many tokens; [`take`] makes it.
+#[derive(Clone, Copy, Debug, Drop)]
+pub struct Counted {
+    count: usize,
+}
+
+/// Returns the parser of the slice of so many tokens.
+pub fn take(count: usize) -> Counted
+    ensures { result ≡ record { count = count } }
+{
+    Counted { count }
+}
+
+impl<I: StreamIsPartial, E: ParserError<I>> Parser<I, E> for Counted {
+    type Output = I::Slice;
+
+    ghost means = { λ p. Counted I.counts_missing I.is_slice p.count };
+
+    ghost ready = { λ _. Unit {0} };
+
+    ghost lawful = { λ p. IsParser-Counted I.counts_missing I.is_slice I.slices_stay p.count };
+
+    fn parse_next(&self, alloc: Global, input: &mut I) -> ModalResult<I::Slice, E> {
+        offset_law::<I::Token>();
+        match input.offset_at(self.count) {
+            Ok(offset) => Ok(input.next_slice(offset)),
+            Err(needed) if input.is_partial() => Err(Failure::Incomplete(needed)),
+            Err(_) => Err(Failure::Backtrack(E::from_input(alloc, input))),
+        }
+    }
+}

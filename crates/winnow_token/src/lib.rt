@@ -1,0 +1,16 @@
+//! Parsers of tokens: one of a set, so many, those that a set holds, a literal, and all that remains.
+#![tactic(auto)]
+
+mod counted;
+mod held;
+mod laws;
+mod one_token;
+mod remaining;
+mod wanted;
+
+pub use counted::{Counted, take};
+pub use held::{HeldTokens, OtherTokens, take_till, take_while};
+pub use laws::count_law;
+pub use one_token::{AnyToken, NoneOf, OneOf, any, none_of, one_of};
+pub use remaining::{Remaining, RemainingWidth, rest, rest_len};
+pub use wanted::{Wanted, literal};

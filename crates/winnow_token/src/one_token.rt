@@ -1,0 +1,115 @@
+ghost use Rattle.std.specs.Prelude.{◌≡◌, true, not};
+ghost use Rattle.winnow_token.specs.OneOf.{OneOf, IsParser-OneOf};
+
+use std::alloc::Global;
+use winnow_error::ParserError;
+use winnow_parser::{Failure, ModalResult, Parser};
+use winnow_sets::FixedSet;
+use winnow_stream::{Needed, StreamIsPartial};
+
+/// One token, whichever it is; [`any`] makes it.
+#[derive(Clone, Copy, Debug)]
+pub struct AnyToken;
+
+/// Returns the parser of one token, whichever it is.
+pub fn any() -> AnyToken {
+    AnyToken
+}
+
+impl<I: StreamIsPartial, E: ParserError<I>> Parser<I, E> for AnyToken {
+    type Output = I::Token;
+
+    ghost means = { λ _. OneOf (λ _. true) };
+
+    ghost ready = { λ _. Unit {0} };
+
+    ghost lawful = { λ _. IsParser-OneOf (λ _. true) };
+
+    fn parse_next(&self, alloc: Global, input: &mut I) -> ModalResult<I::Token, E> {
+        match input.next_token() {
+            Some(token) => Ok(token),
+            None if input.is_partial() => Err(Failure::Incomplete(Needed::new(1))),
+            None => Err(Failure::Backtrack(E::from_input(alloc, input))),
+        }
+    }
+}
+
+/// One token that a set holds; [`one_of`] makes it.
+#[derive(Clone, Copy, Debug, Drop)]
+pub struct OneOf<C> {
+    set: C,
+}
+
+/// Returns the parser of one token that the set holds.
+pub fn one_of<C>(set: C) -> OneOf<C>
+    ensures { result ≡ record { set = set } }
+{
+    OneOf { set }
+}
+
+impl<I: StreamIsPartial, E: ParserError<I>, C: FixedSet<I::Token>> Parser<I, E> for OneOf<C>
+where
+    I::Token: Copy,
+{
+    type Output = I::Token;
+
+    ghost means = { λ p. OneOf (C.holds p.set) };
+
+    ghost ready = { λ p. C.askable p.set };
+
+    ghost lawful = { λ p. IsParser-OneOf (C.holds p.set) };
+
+    fn parse_next(&self, alloc: Global, input: &mut I) -> ModalResult<I::Token, E> {
+        match input.peek_token() {
+            Some(token) => {
+                if !self.set.holds_token(token) {
+                    return Err(Failure::Backtrack(E::from_input(alloc, input)));
+                }
+                let _ = input.next_token();
+                Ok(token)
+            }
+            None if input.is_partial() => Err(Failure::Incomplete(Needed::new(1))),
+            None => Err(Failure::Backtrack(E::from_input(alloc, input))),
+        }
+    }
+}
+
+/// One token that a set does not hold; [`none_of`] makes it.
+#[derive(Clone, Copy, Debug, Drop)]
+pub struct NoneOf<C> {
+    set: C,
+}
+
+/// Returns the parser of one token that the set does not hold.
+pub fn none_of<C>(set: C) -> NoneOf<C>
+    ensures { result ≡ record { set = set } }
+{
+    NoneOf { set }
+}
+
+impl<I: StreamIsPartial, E: ParserError<I>, C: FixedSet<I::Token>> Parser<I, E> for NoneOf<C>
+where
+    I::Token: Copy,
+{
+    type Output = I::Token;
+
+    ghost means = { λ p. OneOf (λ token. not (C.holds p.set token)) };
+
+    ghost ready = { λ p. C.askable p.set };
+
+    ghost lawful = { λ p. IsParser-OneOf (λ token. not (C.holds p.set token)) };
+
+    fn parse_next(&self, alloc: Global, input: &mut I) -> ModalResult<I::Token, E> {
+        match input.peek_token() {
+            Some(token) => {
+                if self.set.holds_token(token) {
+                    return Err(Failure::Backtrack(E::from_input(alloc, input)));
+                }
+                let _ = input.next_token();
+                Ok(token)
+            }
+            None if input.is_partial() => Err(Failure::Incomplete(Needed::new(1))),
+            None => Err(Failure::Backtrack(E::from_input(alloc, input))),
+        }
+    }
+}
