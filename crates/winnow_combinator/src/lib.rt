@@ -6,6 +6,7 @@ mod ending;
 mod looking;
 mod modes;
 mod optional;
+mod repetition;
 mod sequence;
 
 pub use alternatives::{Alternatives, alt};
@@ -13,6 +14,7 @@ pub use ending::{Ended, Failing, Nothing, empty, eof, fail};
 pub use looking::{LookedAt, Negated, not, peek};
 pub use modes::{CutOff, Softened, backtrack_err, cut_err};
 pub use optional::{Optional, opt};
+pub use repetition::{Repeated, repeat};
 pub use sequence::{
     Between, FirstOf, SecondOf, Separate, delimited, preceded, separated_pair, terminated,
 };
