@@ -42,11 +42,14 @@ module _ {O T : Type 0} (inner : Meaning O T) where
 module _ {O T : Type 0} (inner : Meaning O T) (p : IsParser inner) where
   in_turn-longer : (more : Source T) (partial : Bool) (xs : List O) (a b : Ahead T) → InTurn inner true xs a b → InTurn inner partial xs (longer more a) (longer more b)
   in_turn-longer more partial [] a b e = ap (longer more) e
-  in_turn-longer more partial (x ∷ xs) a b t =
-      (longer more t.0,
-       (p.stable more partial a (Gives x t.0) tt t.1.0,
-        omega (arith, t.1.1, width-append t.0.tokens more, width-append a.tokens more),
-        in_turn-longer more partial xs t.0 b t.1.2))
+  in_turn-longer more partial (x ∷ xs) a b t = (
+    longer more t.0,
+    (
+      p.stable more partial a (Gives x t.0) tt t.1.0,
+      omega (arith, t.1.1, width-append t.0.tokens more, width-append a.tokens more),
+      in_turn-longer more partial xs t.0 b t.1.2,
+    ),
+  )
 
   in_turn-moves : (partial : Bool) (xs : List O) (a b : Ahead T) → InTurn inner partial xs a b → Moves a b
   in_turn-moves partial [] a b e = Moves-still a b e
@@ -58,12 +61,19 @@ module _ {O T : Type 0} (refusable : Type 0) (least : ℕ) (inner : Meaning O T)
       (in_turn-longer inner p more partial xs a b h.0, h.1, (longer more h.2.0, p.stable more partial b (Fails (Backtracks h.2.0)) tt h.2.1))
   repeated-stable more partial a (Fails (Backtracks c)) s h =
       (h.0, (longer more h.1.0, (in_turn-longer inner p more partial h.0 a h.1.0 h.1.1.0, h.1.1.1, p.stable more partial h.1.0 (Fails (Backtracks c)) tt h.1.1.2)))
-  repeated-stable more partial a (Fails (Cuts c)) s h =
-      (h.0, (longer more h.1.0, (in_turn-longer inner p more partial h.0 a h.1.0 h.1.1.0,
-       elim h.1.1.1 [
-         | inl k ↦ inl (p.stable more partial h.1.0 (Fails (Cuts c)) tt k)
-         | inr k ↦ inr (k.0, (p.stable more partial h.1.0 (Gives k.0 c) tt k.1.0, omega (arith, k.1.1, width-append h.1.0.tokens more, width-append c.tokens more)))
-       ])))
+  repeated-stable more partial a (Fails (Cuts c)) s h = (
+    h.0,
+    (
+      longer more h.1.0,
+      (
+        in_turn-longer inner p more partial h.0 a h.1.0 h.1.1.0,
+        elim h.1.1.1 [
+          | inl k ↦ inl (p.stable more partial h.1.0 (Fails (Cuts c)) tt k)
+          | inr k ↦ inr (k.0, (p.stable more partial h.1.0 (Gives k.0 c) tt k.1.0, omega (arith, k.1.1, width-append h.1.0.tokens more, width-append c.tokens more)))
+        ],
+      ),
+    ),
+  )
   repeated-stable more partial a (Fails (Needs n)) s h = absurd s
   repeated-stable more partial a (Fails Refuses) s h = absurd s
 

@@ -26,8 +26,7 @@ impl<
     E: ParserError<I>,
     A: Parser<I, E>,
     B: Parser<I, E, Output = A::Output>,
-> Parser<I, E> for Alternatives<(A, B)>
-{
+> Parser<I, E> for Alternatives<(A, B)> {
     type Output = A::Output;
 
     ghost means = { λ p. Either E.or_refusable (A.means p.list.0) (B.means p.list.1) };
@@ -62,8 +61,7 @@ impl<
     A: Parser<I, E>,
     B: Parser<I, E, Output = A::Output>,
     C: Parser<I, E, Output = A::Output>,
-> Parser<I, E> for Alternatives<(A, B, C)>
-{
+> Parser<I, E> for Alternatives<(A, B, C)> {
     type Output = A::Output;
 
     ghost means = { λ p. Either E.or_refusable (A.means p.list.0) (Either E.or_refusable (B.means p.list.1) (C.means p.list.2)) };

@@ -32,8 +32,12 @@ pub fn repeat<P, A>(counts: RangeFrom<usize>, inner: P) -> Repeated<P, A>
     }
 }
 
-impl<I: StreamIsPartial, E: ParserError<I>, P: Parser<I, E>, A: Accumulate<P::Output> + Drop>
-    Parser<I, E> for Repeated<P, A>
+impl<
+    I: StreamIsPartial,
+    E: ParserError<I>,
+    P: Parser<I, E>,
+    A: Accumulate<P::Output> + Drop,
+> Parser<I, E> for Repeated<P, A>
 where
     P::Output: Drop,
 {

@@ -73,9 +73,13 @@ impl<P, F> VerifyMapped<P, F> {
     }
 }
 
-impl<I: StreamIsPartial, E: ParserError<I>, P: Parser<I, E>, O, F: Fn(P::Output) -> Option<O>>
-    Parser<I, E> for VerifyMapped<P, F>
-{
+impl<
+    I: StreamIsPartial,
+    E: ParserError<I>,
+    P: Parser<I, E>,
+    O,
+    F: Fn(P::Output) -> Option<O>,
+> Parser<I, E> for VerifyMapped<P, F> {
     type Output = O;
 
     ghost means = { λ p. Chosen (F.post p.f) (P.means p.inner) };
@@ -120,8 +124,7 @@ impl<
     P: Parser<I, E>,
     O,
     F: Fn(P::Output) -> Result<O, X>,
-> Parser<I, E> for TryMapped<P, F>
-{
+> Parser<I, E> for TryMapped<P, F> {
     type Output = O;
 
     ghost means = { λ p. Chosen (TriesTo (F.post p.f)) (P.means p.inner) };

@@ -22,7 +22,8 @@ impl<P, F> Mapped<P, F> {
     }
 }
 
-impl<I: StreamIsPartial, E, P: Parser<I, E>, O, F: Fn(P::Output) -> O> Parser<I, E> for Mapped<P, F> {
+impl<I: StreamIsPartial, E, P: Parser<I, E>, O, F: Fn(P::Output) -> O> Parser<I, E>
+    for Mapped<P, F> {
     type Output = O;
 
     ghost means = { λ p. Maps (F.post p.f) (P.means p.inner) };

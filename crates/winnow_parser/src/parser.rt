@@ -3,7 +3,9 @@ ghost use Rattle.winnow_parser.specs.Outcome.{Meaning};
 ghost use Rattle.winnow_parser.specs.Answer.{outcome, ahead};
 ghost use Rattle.winnow_parser.specs.Laws.{IsParser};
 
-use crate::{Mapped, ModalResult, Taken, TryMapped, Valued, Verified, VerifyMapped, Voided, WithTaken};
+use crate::{
+    Mapped, ModalResult, Taken, TryMapped, Valued, Verified, VerifyMapped, Voided, WithTaken,
+};
 use std::alloc::Global;
 use winnow_stream::StreamIsPartial;
 

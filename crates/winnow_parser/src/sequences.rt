@@ -28,13 +28,8 @@ where
 }
 
 /// Three parsers, one after the other: their values.
-impl<
-    I: StreamIsPartial,
-    E,
-    A: Parser<I, E>,
-    B: Parser<I, E>,
-    C: Parser<I, E>,
-> Parser<I, E> for (A, B, C)
+impl<I: StreamIsPartial, E, A: Parser<I, E>, B: Parser<I, E>, C: Parser<I, E>> Parser<I, E>
+    for (A, B, C)
 where
     A::Output: Drop,
     B::Output: Drop,
@@ -47,7 +42,11 @@ where
 
     ghost lawful = { λ p. IsParser-Row3 (A.means p.0) (B.means p.1) (C.means p.2) (A.lawful p.0) (B.lawful p.1) (C.lawful p.2) };
 
-    fn parse_next(&self, alloc: Global, input: &mut I) -> ModalResult<(A::Output, B::Output, C::Output), E> {
+    fn parse_next(
+        &self,
+        alloc: Global,
+        input: &mut I,
+    ) -> ModalResult<(A::Output, B::Output, C::Output), E> {
         let first = self.0.parse_next(alloc, input)?;
         match (&self.1, &self.2).parse_next(alloc, input) {
             Ok((second, third)) => Ok((first, second, third)),
@@ -140,7 +139,14 @@ where
     D::Output: Drop,
     F::Output: Drop,
 {
-    type Output = (A::Output, B::Output, C::Output, D::Output, F::Output, G::Output);
+    type Output = (
+        A::Output,
+        B::Output,
+        C::Output,
+        D::Output,
+        F::Output,
+        G::Output,
+    );
 
     ghost means = { λ p. Row6 (A.means p.0) (B.means p.1) (C.means p.2) (D.means p.3) (F.means p.4) (G.means p.5) };
 
@@ -152,7 +158,9 @@ where
     fn parse_next(&self, alloc: Global, input: &mut I) -> ModalResult<Self::Output, E> {
         let first = self.0.parse_next(alloc, input)?;
         match (&self.1, &self.2, &self.3, &self.4, &self.5).parse_next(alloc, input) {
-            Ok((second, third, fourth, fifth, sixth)) => Ok((first, second, third, fourth, fifth, sixth)),
+            Ok((second, third, fourth, fifth, sixth)) => Ok((
+                first, second, third, fourth, fifth, sixth,
+            )),
             Err(failure) => Err(failure),
         }
     }
@@ -178,7 +186,15 @@ where
     F::Output: Drop,
     G::Output: Drop,
 {
-    type Output = (A::Output, B::Output, C::Output, D::Output, F::Output, G::Output, H::Output);
+    type Output = (
+        A::Output,
+        B::Output,
+        C::Output,
+        D::Output,
+        F::Output,
+        G::Output,
+        H::Output,
+    );
 
     ghost means = { λ p. Row7 (A.means p.0) (B.means p.1) (C.means p.2) (D.means p.3) (F.means p.4) (G.means p.5) (H.means p.6) };
 
@@ -190,7 +206,9 @@ where
     fn parse_next(&self, alloc: Global, input: &mut I) -> ModalResult<Self::Output, E> {
         let first = self.0.parse_next(alloc, input)?;
         match (&self.1, &self.2, &self.3, &self.4, &self.5, &self.6).parse_next(alloc, input) {
-            Ok((second, third, fourth, fifth, sixth, seventh)) => Ok((first, second, third, fourth, fifth, sixth, seventh)),
+            Ok((second, third, fourth, fifth, sixth, seventh)) => Ok((
+                first, second, third, fourth, fifth, sixth, seventh,
+            )),
             Err(failure) => Err(failure),
         }
     }
@@ -218,7 +236,16 @@ where
     G::Output: Drop,
     H::Output: Drop,
 {
-    type Output = (A::Output, B::Output, C::Output, D::Output, F::Output, G::Output, H::Output, J::Output);
+    type Output = (
+        A::Output,
+        B::Output,
+        C::Output,
+        D::Output,
+        F::Output,
+        G::Output,
+        H::Output,
+        J::Output,
+    );
 
     ghost means = { λ p. Row8 (A.means p.0) (B.means p.1) (C.means p.2) (D.means p.3) (F.means p.4) (G.means p.5) (H.means p.6) (J.means p.7) };
 
@@ -229,8 +256,14 @@ where
 
     fn parse_next(&self, alloc: Global, input: &mut I) -> ModalResult<Self::Output, E> {
         let first = self.0.parse_next(alloc, input)?;
-        match (&self.1, &self.2, &self.3, &self.4, &self.5, &self.6, &self.7).parse_next(alloc, input) {
-            Ok((second, third, fourth, fifth, sixth, seventh, eighth)) => Ok((first, second, third, fourth, fifth, sixth, seventh, eighth)),
+        match (
+            &self.1, &self.2, &self.3, &self.4, &self.5, &self.6, &self.7,
+        )
+            .parse_next(alloc, input)
+        {
+            Ok((second, third, fourth, fifth, sixth, seventh, eighth)) => Ok((
+                first, second, third, fourth, fifth, sixth, seventh, eighth,
+            )),
             Err(failure) => Err(failure),
         }
     }
@@ -260,7 +293,17 @@ where
     H::Output: Drop,
     J::Output: Drop,
 {
-    type Output = (A::Output, B::Output, C::Output, D::Output, F::Output, G::Output, H::Output, J::Output, K::Output);
+    type Output = (
+        A::Output,
+        B::Output,
+        C::Output,
+        D::Output,
+        F::Output,
+        G::Output,
+        H::Output,
+        J::Output,
+        K::Output,
+    );
 
     ghost means = { λ p. Row9 (A.means p.0) (B.means p.1) (C.means p.2) (D.means p.3) (F.means p.4) (G.means p.5) (H.means p.6) (J.means p.7) (K.means p.8) };
 
@@ -271,8 +314,14 @@ where
 
     fn parse_next(&self, alloc: Global, input: &mut I) -> ModalResult<Self::Output, E> {
         let first = self.0.parse_next(alloc, input)?;
-        match (&self.1, &self.2, &self.3, &self.4, &self.5, &self.6, &self.7, &self.8).parse_next(alloc, input) {
-            Ok((second, third, fourth, fifth, sixth, seventh, eighth, ninth)) => Ok((first, second, third, fourth, fifth, sixth, seventh, eighth, ninth)),
+        match (
+            &self.1, &self.2, &self.3, &self.4, &self.5, &self.6, &self.7, &self.8,
+        )
+            .parse_next(alloc, input)
+        {
+            Ok((second, third, fourth, fifth, sixth, seventh, eighth, ninth)) => Ok((
+                first, second, third, fourth, fifth, sixth, seventh, eighth, ninth,
+            )),
             Err(failure) => Err(failure),
         }
     }
@@ -304,7 +353,18 @@ where
     J::Output: Drop,
     K::Output: Drop,
 {
-    type Output = (A::Output, B::Output, C::Output, D::Output, F::Output, G::Output, H::Output, J::Output, K::Output, L::Output);
+    type Output = (
+        A::Output,
+        B::Output,
+        C::Output,
+        D::Output,
+        F::Output,
+        G::Output,
+        H::Output,
+        J::Output,
+        K::Output,
+        L::Output,
+    );
 
     ghost means = { λ p. Row10 (A.means p.0) (B.means p.1) (C.means p.2) (D.means p.3) (F.means p.4) (G.means p.5) (H.means p.6) (J.means p.7) (K.means p.8) (L.means p.9) };
 
@@ -315,8 +375,14 @@ where
 
     fn parse_next(&self, alloc: Global, input: &mut I) -> ModalResult<Self::Output, E> {
         let first = self.0.parse_next(alloc, input)?;
-        match (&self.1, &self.2, &self.3, &self.4, &self.5, &self.6, &self.7, &self.8, &self.9).parse_next(alloc, input) {
-            Ok((second, third, fourth, fifth, sixth, seventh, eighth, ninth, tenth)) => Ok((first, second, third, fourth, fifth, sixth, seventh, eighth, ninth, tenth)),
+        match (
+            &self.1, &self.2, &self.3, &self.4, &self.5, &self.6, &self.7, &self.8, &self.9,
+        )
+            .parse_next(alloc, input)
+        {
+            Ok((second, third, fourth, fifth, sixth, seventh, eighth, ninth, tenth)) => Ok((
+                first, second, third, fourth, fifth, sixth, seventh, eighth, ninth, tenth,
+            )),
             Err(failure) => Err(failure),
         }
     }

@@ -27,11 +27,12 @@ module _ {S T : Type 0} (counts_missing : Bool) (is_slice : S → Source T → �
   counted-stable : IsStable (Counted counts_missing is_slice n)
   counted-stable more partial a (Gives s b) settled h =
       let w = width (take n a.tokens) in
-      let same = ap width (take-append-le n a.tokens more h.0) in
-      (omega (arith, h.0, length-append a.tokens more),
-       subst (λ w. IsTrue (is_offset (a.tokens ++ more) w)) (sym same) (is_offset-longer a.tokens more w h.1),
-       subst (λ w. is_slice s (a.tokens ++ more) w) (sym same) (stay s a.tokens more w h.1 h.2),
-       ap (longer more) h.3 ∙ sym (after-longer more a w h.1) ∙ ap (after (longer more a)) (sym same))
+      let same = ap width (take-append-le n a.tokens more h.0) in (
+        omega (arith, h.0, length-append a.tokens more),
+        subst (λ w. IsTrue (is_offset (a.tokens ++ more) w)) (sym same) (is_offset-longer a.tokens more w h.1),
+        subst (λ w. is_slice s (a.tokens ++ more) w) (sym same) (stay s a.tokens more w h.1 h.2),
+        ap (longer more) h.3 ∙ sym (after-longer more a w h.1) ∙ ap (after (longer more a)) (sym same),
+      )
   counted-stable more partial a (Fails (Backtracks b)) settled h = absurd (cc)
   counted-stable more partial a (Fails (Cuts b)) settled h = absurd h
   counted-stable more partial a (Fails (Needs missing)) settled h = absurd settled

@@ -64,11 +64,12 @@ module _ {S T : Type 0} (is_slice : S → Source T → ℕ → Type 0) (stay : S
   held-stable more partial a (Gives s b) settled h =
       let held = held_front holds a.tokens in
       let same = held_front-longer holds a.tokens more (h.3 refl) in
-      let offset = is_offset-held holds a.tokens in
-      (subst (λ front. is_slice s (a.tokens ++ more) (width front)) (sym same) (stay s a.tokens more (width held) offset h.0),
-       ap (longer more) h.1 ∙ sym (after-longer more a (width held) offset) ∙ ap (λ front. after (longer more a) (width front)) (sym same),
-       subst (λ front. least ≤ length front) (sym same) h.2,
-       λ p. within-longer a.tokens more (h.3 refl))
+      let offset = is_offset-held holds a.tokens in (
+        subst (λ front. is_slice s (a.tokens ++ more) (width front)) (sym same) (stay s a.tokens more (width held) offset h.0),
+        ap (longer more) h.1 ∙ sym (after-longer more a (width held) offset) ∙ ap (λ front. after (longer more a) (width front)) (sym same),
+        subst (λ front. least ≤ length front) (sym same) h.2,
+        λ p. within-longer a.tokens more (h.3 refl),
+      )
   held-stable more partial a (Fails (Backtracks b)) settled h =
       let same = held_front-longer holds a.tokens more (h.2 refl) in
       (ap (longer more) h.0, subst (λ front. length front < least) (sym same) h.1, λ p. within-longer a.tokens more (h.2 refl))

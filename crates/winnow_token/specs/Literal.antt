@@ -28,11 +28,15 @@ Literal is_slice compare partial a (Fails Refuses) = ⊥
 module _ {S T : Type 0} (is_slice : S → Source T → ℕ → Type 0) (stay : SlicesStay is_slice) (compare : Source T → CompareResult) (same : ComparisonsStay compare) where
   literal-stable : IsStable (Literal is_slice compare)
   literal-stable more partial a (Gives s b) settled h =
-      let n = h.0 in
-      (n, (same a.tokens more (λ e. let f = sym h.1.0 ∙ e in cc) ∙ h.1.0,
-       is_offset-longer a.tokens more n h.1.1,
-       stay s a.tokens more n h.1.1 h.1.2,
-       ap (longer more) h.1.3 ∙ sym (after-longer more a n h.1.1)))
+      let n = h.0 in (
+        n,
+        (
+          same a.tokens more (λ e. let f = sym h.1.0 ∙ e in cc) ∙ h.1.0,
+          is_offset-longer a.tokens more n h.1.1,
+          stay s a.tokens more n h.1.1 h.1.2,
+          ap (longer more) h.1.3 ∙ sym (after-longer more a n h.1.1),
+        ),
+      )
   literal-stable more partial a (Fails (Backtracks b)) settled (e, inl h) =
       (ap (longer more) e, inl (same a.tokens more (λ i. let f = sym h ∙ i in cc) ∙ h))
   literal-stable more partial a (Fails (Backtracks b)) settled (e, inr h) = absurd (cc)

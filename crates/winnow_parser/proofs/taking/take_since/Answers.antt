@@ -21,11 +21,14 @@ returns-clause-taken g c =
     let start = ahead g.I.Checkpoint.Rest.location g.I.Stream.remained c.args.start.now in
     let here = ahead g.I.Rest.location g.I.Stream.remaining c.args.input.now in
     let widths = g.met.I.Stream.positive_widths_remained c.args.start.now c.requires.valid_checkpoint in
-    let width = c.offset_since-width.result in
-    (width,
-     (rw c.offset_since-width.ensures (c.taken_width_law.ensures.offset start here widths c.requires.moved),
-      subst (λ r. g.I.Stream.is_slice c.next_slice.result r width) c.reset.ensures.remains c.next_slice.ensures.answer,
-      ap (after start) c.offset_since-width.ensures ∙ c.taken_width_law.ensures.after start here widths c.requires.moved))
+    let width = c.offset_since-width.result in (
+      width,
+      (
+        rw c.offset_since-width.ensures (c.taken_width_law.ensures.offset start here widths c.requires.moved),
+        subst (λ r. g.I.Stream.is_slice c.next_slice.result r width) c.reset.ensures.remains c.next_slice.ensures.answer,
+        ap (after start) c.offset_since-width.ensures ∙ c.taken_width_law.ensures.after start here widths c.requires.moved,
+      ),
+    )
 
 pub returns-clause-stands : goal.returns-clause-stands
 returns-clause-stands g c =

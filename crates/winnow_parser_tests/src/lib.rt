@@ -1,0 +1,8 @@
+//! Parsers as their users write them, at types of their own: over bytes and text, whole and in pieces. Nothing here is part of the
+//! library.
+#![tactic(auto)]
+
+#[cfg(test)]
+mod settings;
+#[cfg(test)]
+mod small;
