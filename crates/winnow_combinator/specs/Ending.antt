@@ -1,9 +1,9 @@
 -- Parsers that take nothing: the end, nothing at all, and a failure.
-use Rattle.std.specs.Prelude.{◌≡◌, ◌≢◌, Bool, true, false, [], ◌∷◌, ◌++◌}
-use Rattle.std.proofs.Common.{refl, ap, sym}
+use Rattle.std.specs.Prelude.{◌≡◌, ◌≢◌, true, false, [], ◌∷◌, ◌++◌}
+use Rattle.std.proofs.Common.{refl, ap}
 use Rattle.winnow_stream.specs.Source.{Source}
 use Rattle.winnow_stream.specs.Shortage.{needed}
-use Rattle.winnow_parser.specs.Outcome.{Ahead, Failed, Backtracks, Cuts, Needs, Refuses, Outcome, Gives, Fails, Meaning}
+use Rattle.winnow_parser.specs.Outcome.{Backtracks, Cuts, Needs, Refuses, Gives, Fails, Meaning}
 use Rattle.winnow_parser.specs.Laws.{longer, IsStable, IsFinal, IsOnward, IsParser}
 use Rattle.winnow_parser.specs.Parts.{Moves-still}
 

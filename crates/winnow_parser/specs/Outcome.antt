@@ -1,6 +1,6 @@
 -- What a parser may answer, and where it leaves the stream.
-use Rattle.std.specs.Prelude.{◌≡◌, ℕ, Bool, Option}
-use Rattle.winnow_stream.specs.Source.{Source, width}
+use Rattle.std.specs.Prelude.{ℕ, Bool, Option}
+use Rattle.winnow_stream.specs.Source.{Source}
 use Rattle.winnow_stream.specs.Front.{back}
 use Rattle.winnow_stream.specs.Location.{location_behind}
 use Rattle.winnow_stream.specs.Moving.{MovesOn}

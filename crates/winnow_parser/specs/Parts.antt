@@ -1,10 +1,9 @@
 -- What combinators make of parsers are parsers.
-use Rattle.std.specs.Prelude.{◌≡◌, Bool, true, false, Option, Some, None, ◌⊎◌}
-use Rattle.std.proofs.Common.{refl, ap, sym, subst, inl, inr}
-use Rattle.winnow_stream.specs.Source.{Source}
+use Rattle.std.specs.Prelude.{◌≡◌, Bool, Option, Some, None}
+use Rattle.std.proofs.Common.{ap, subst, inl, inr}
 use Rattle.winnow_stream.proofs.lemmas.MovingLemmas.{MovesOn-still, MovesOn-on}
-use Rattle.winnow_parser.specs.Outcome.{Ahead, Failed, Backtracks, Cuts, Needs, Refuses, Outcome, Gives, Fails, Meaning, Moves}
-use Rattle.winnow_parser.specs.Laws.{longer, outcome_longer, IsSettled, IsStable, IsFinal, LeavesAfter, IsOnward, IsParser}
+use Rattle.winnow_parser.specs.Outcome.{Ahead, Backtracks, Cuts, Needs, Refuses, Outcome, Gives, Fails, Meaning, Moves}
+use Rattle.winnow_parser.specs.Laws.{longer, IsStable, IsFinal, LeavesAfter, IsOnward, IsParser}
 use Rattle.winnow_parser.specs.Meanings.{Returns, Maps, Pair, Second, First, Preceded, Terminated, Either, Optional, LookedAt, Negated, CutOff, Softened, Verified, Chosen}
 
 module _ {T : Type 0} where

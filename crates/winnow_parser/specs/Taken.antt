@@ -1,14 +1,12 @@
 -- The slice that a parser takes.
-use Rattle.std.specs.Prelude.{◌≡◌, ℕ, ◌++◌, take, drop, IsTrue}
-use Rattle.std.proofs.Common.{refl, ap, sym, ◌∙◌}
+use Rattle.std.specs.Prelude.{◌≡◌, ℕ, IsTrue}
+use Rattle.std.proofs.Common.{ap, ◌∙◌}
 use Rattle.winnow_stream.specs.Source.{Source}
 use Rattle.winnow_stream.specs.Front.{is_offset}
 use Rattle.winnow_stream.specs.Location.{location_behind}
 use Rattle.winnow_stream.specs.Longer.{SlicesStay, is_offset-longer, back-longer}
-use Rattle.winnow_stream.proofs.lemmas.MovingLemmas.{MovesOn-front}
-use Rattle.winnow_parser.specs.Outcome.{Ahead, Failed, Outcome, Gives, Fails, Meaning, after}
+use Rattle.winnow_parser.specs.Outcome.{Ahead, Gives, Fails, Meaning, after}
 use Rattle.winnow_parser.specs.Laws.{longer, IsStable, IsOnward, IsParser}
-use Rattle.winnow_parser.specs.Meanings.{Maps}
 
 -- the slice of a front, after which the stream stands
 abbrev pub IsFrontTaken : {S T : Type 0} → (S → Source T → ℕ → Type 0) → S → Ahead T → Ahead T → Type 0

@@ -1,14 +1,14 @@
 -- The tokens up to the first that a set does not hold.
-use Rattle.std.specs.Prelude.{◌≡◌, ℕ, ◌+◌, ◌-◌, ◌<◌, ◌≤◌, suc, nat_le, Bool, true, false, ◌&&◌, cond, [], ◌∷◌, ◌++◌, length, IsTrue}
+use Rattle.std.specs.Prelude.{◌≡◌, ℕ, ◌+◌, ◌-◌, ◌<◌, ◌≤◌, suc, nat_le, Bool, true, false, ◌&&◌, cond, [], ◌∷◌, ◌++◌, length}
 use Rattle.std.proofs.Common.{refl, ap, sym, ◌∙◌, subst, inl, inr, arith, length-append}
 use Rattle.std.proofs.lemmas.Bool.Decides.{nat_tests, eqb_tells}
 use Rattle.winnow_stream.specs.Source.{Source, width, held_front}
 use Rattle.winnow_stream.specs.Front.{is_offset}
 use Rattle.winnow_stream.specs.Shortage.{needed}
-use Rattle.winnow_stream.specs.Longer.{SlicesStay, is_offset-longer}
+use Rattle.winnow_stream.specs.Longer.{SlicesStay}
 use Rattle.winnow_stream.proofs.lemmas.FrontLemmas.{is_offset-cons}
 use Rattle.winnow_stream.proofs.lemmas.MovingLemmas.{MovesOn-front}
-use Rattle.winnow_parser.specs.Outcome.{Ahead, Backtracks, Cuts, Needs, Refuses, Gives, Fails, Meaning, Moves, after}
+use Rattle.winnow_parser.specs.Outcome.{Backtracks, Cuts, Needs, Refuses, Gives, Fails, Meaning, Moves, after}
 use Rattle.winnow_parser.specs.Laws.{longer, IsStable, IsFinal, IsOnward, IsParser}
 use Rattle.winnow_parser.specs.Parts.{Moves-still}
 use Rattle.winnow_parser.specs.Taken.{after-longer}

@@ -1,6 +1,6 @@
 -- A literal.
-use Rattle.std.specs.Prelude.{◌≡◌, ℕ, Bool, true, false, ◌++◌, IsTrue, ◌⊎◌}
-use Rattle.std.proofs.Common.{refl, ap, sym, ◌∙◌, subst, inl, inr}
+use Rattle.std.specs.Prelude.{◌≡◌, ℕ, true, false, IsTrue, ◌⊎◌}
+use Rattle.std.proofs.Common.{ap, sym, ◌∙◌, subst, inl, inr}
 use Rattle.winnow_stream.specs.Source.{Source}
 use Rattle.winnow_stream.specs.Front.{is_offset}
 use Rattle.winnow_stream.specs.Longer.{SlicesStay, is_offset-longer}
@@ -9,7 +9,7 @@ use Rattle.winnow_stream.proofs.lemmas.MovingLemmas.{MovesOn-front}
 use Rattle.winnow_match.specs.declared.compare.CompareResult.{CompareResult}
 use Rattle.winnow_match.specs.declared.compare.CompareResult.TheVariants as compared
 use Rattle.winnow_match.specs.Staying.{ComparisonsStay}
-use Rattle.winnow_parser.specs.Outcome.{Ahead, Backtracks, Cuts, Needs, Refuses, Gives, Fails, Meaning, Moves, after}
+use Rattle.winnow_parser.specs.Outcome.{Backtracks, Cuts, Needs, Refuses, Gives, Fails, Meaning, Moves, after}
 use Rattle.winnow_parser.specs.Laws.{longer, IsStable, IsFinal, IsOnward, IsParser}
 use Rattle.winnow_parser.specs.Parts.{Moves-still}
 use Rattle.winnow_parser.specs.Taken.{after-longer}

@@ -1,8 +1,8 @@
 -- What a stream that moved on has taken.
-use Rattle.std.proofs.Common.{◌≡◌, ℕ, ◌-◌, ◌+◌, true, List, [], ◌∷◌, ◌++◌, length, drop, refl, ap, sym, ◌∙◌, subst, arith}
+use Rattle.std.proofs.Common.{◌≡◌, ◌-◌, true, [], ◌∷◌, ◌++◌, drop, ap, sym, ◌∙◌, subst, arith}
 use Rattle.std.proofs.Math.Seq.{drop-append_seam}
 use Rattle.winnow_stream.specs.Source.{Source, width, HasPositiveWidths}
-use Rattle.winnow_stream.specs.Front.{is_offset, count_to, back}
+use Rattle.winnow_stream.specs.Front.{is_offset, back}
 use Rattle.winnow_stream.specs.Location.{location_behind}
 use Rattle.winnow_stream.proofs.lemmas.FrontLemmas.{width-append, is_offset-seam, count_to-seam}
 use Rattle.winnow_parser.specs.Outcome.{Ahead, Moves, after}

@@ -1,4 +1,4 @@
-use Rattle.std.proofs.Common.{◌≡◌, subst, ap, ◌∙◌}
+use Rattle.std.proofs.Common.{subst, ap, ◌∙◌}
 use Rattle.winnow_parser.specs.Outcome.{after}
 use Rattle.winnow_parser.specs.Answer.{ahead}
 use Rattle.winnow_parser.proofs.lemmas.TakenLemmas.{same-place}

@@ -1,5 +1,4 @@
-use Rattle.std.proofs.Common.{◌≤◌, length, arith}
-use Rattle.winnow_stream.specs.Source.{held_front}
+use Rattle.std.proofs.Common.{arith}
 use Rattle.winnow_token.proofs.lemmas.CountLemmas.{enough, enough_back, all, all_back, length-held_front}
 use Rattle.winnow_token.proofs.laws.count_law.Goals as goal
 

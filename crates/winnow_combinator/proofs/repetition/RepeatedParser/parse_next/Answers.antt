@@ -1,4 +1,4 @@
-use Rattle.std.proofs.Common.{◌≡◌, ◌+◌, ◌<◌, ◌≤◌, [], ◌∷◌, ◌++◌, length, arith, subst, length-append}
+use Rattle.std.proofs.Common.{◌<◌, [], ◌∷◌, ◌++◌, arith, subst, length-append}
 use Rattle.winnow_stream.specs.Source.{width}
 use Rattle.winnow_parser.specs.Outcome.{Gives}
 use Rattle.winnow_parser.specs.Answer.{ahead}
