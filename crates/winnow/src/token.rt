@@ -1,0 +1,6 @@
+//! Parsers of tokens.
+
+pub use winnow_token::{
+    AnyToken, Counted, HeldTokens, NoneOf, OneOf, OtherTokens, Remaining, RemainingWidth, Wanted,
+    any, count_law, literal, none_of, one_of, rest, rest_len, take, take_till, take_while,
+};
