@@ -2,17 +2,17 @@
 use Rattle.std.proofs.Common.{◌≡◌, ℕ, Bool, List, [], ◌∷◌, ◌++◌, codes, refl, ap, sym, ◌∙◌}
 use Rattle.std.specs.Borrow.{Bor}
 use Rattle.std.specs.Global.{Vec}
-use Rattle.winnow_base.specs.Bytes.{written}
-use Rattle.winnow_base.specs.CharSet.{CharSet}
-use Rattle.winnow_base.specs.Cursor.{Cursor, start, answers_from}
-use Rattle.winnow_base.specs.Definite.{PieceKind, kind_of}
-use Rattle.winnow_base.specs.Front.{front}
-use Rattle.winnow_base.specs.Inputs.{PieceStep}
-use Rattle.winnow_base.specs.Comparison.{comparison}
-use Rattle.winnow_base.specs.Script.{PlacedAnswer, StandsFor, AreGiven}
-use Rattle.winnow_base.specs.Search.{hit, needle_list}
-use Rattle.winnow_base.specs.Searching.{PlacedSearchAnswer, search_answer, search_next, SearchStandsFor, SearchComputes, IsSearchAnswer}
-use Rattle.winnow_base.specs.Source.{Source}
+use Rattle.winnow_match.specs.Bytes.{written}
+use Rattle.winnow_sets.specs.declared.char_set.CharSet.{CharSet}
+use Rattle.winnow_stream.specs.Cursor.{Cursor, start, answers_from}
+use Rattle.winnow_run.specs.Definite.{PieceKind, kind_of}
+use Rattle.winnow_stream.specs.Front.{front}
+use Rattle.winnow_feed.specs.Inputs.{PieceStep}
+use Rattle.winnow_match.specs.Comparison.{comparison}
+use Rattle.winnow_run.specs.Script.{PlacedAnswer, StandsFor, AreGiven}
+use Rattle.winnow_match.specs.Search.{hit, needle_list}
+use Rattle.winnow_run.specs.Searching.{PlacedSearchAnswer, search_answer, search_next, SearchStandsFor, SearchComputes, IsSearchAnswer}
+use Rattle.winnow_stream.specs.Source.{Source}
 use Rattle.winnow_run.specs.declared.script.Answer.{Answer}
 use Rattle.winnow_run.specs.declared.script.Answer.TheVariants as answer
 use Rattle.winnow_run.specs.declared.script.Step.TheVariants as call
@@ -27,13 +27,13 @@ use Rattle.winnow_match.proofs.lemmas.ByteLemmas.{bytes_of-units}
 use Rattle.winnow_run.specs.declared.script.Step.{Step}
 use Rattle.winnow_run.specs.declared.search_script.SearchStep.{SearchStep}
 use Rattle.winnow_attempt.specs.View.{held}
-use Rattle.winnow_base.specs.Inputs.{byte_kind, text_kind}
-use Rattle.winnow_base.specs.Bytes.{bytes_of, utf8_of}
-use Rattle.winnow_base.specs.Script.{SetComputes}
-use Rattle.winnow_base.specs.Search.{bytes_of_needles}
-use Rattle.winnow_base.specs.Searching.{AreSearchAnswers}
-use Rattle.winnow_base.specs.Source.{units}
-use Rattle.winnow_base.specs.Text.{text_source}
+use Rattle.winnow_feed.specs.Inputs.{byte_kind, text_kind}
+use Rattle.winnow_match.specs.Bytes.{bytes_of, utf8_of}
+use Rattle.winnow_run.specs.Script.{SetComputes}
+use Rattle.winnow_match.specs.Search.{bytes_of_needles}
+use Rattle.winnow_run.specs.Searching.{AreSearchAnswers}
+use Rattle.winnow_stream.specs.Source.{units}
+use Rattle.winnow_stream.specs.Text.{text_source}
 use Rattle.winnow_execute.specs.ScriptLines.{HoldsNumber, whole_lines}
 
 -- what was given, by the words of its slices, and what the definition gives

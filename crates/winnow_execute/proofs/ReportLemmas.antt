@@ -2,10 +2,10 @@
 use Rattle.std.proofs.Common.{◌≡◌, ℕ, ◌+◌, ◌<◌, ◌≤◌, List, [], ◌∷◌, ◌++◌, length, take, drop, get_or, sum_by, refl, ap, sym, ◌∙◌, append_assoc, arith, length-append}
 use Rattle.std.proofs.lemmas.List.{drop_more, drop_all}
 use Rattle.winnow_attempt.specs.declared.told.Told.{Told}
-use Rattle.winnow_base.specs.Feeding.{FeedState, Fits, FitsWith, Finishes, answers_in, script_of}
-use Rattle.winnow_base.specs.Inputs.{InputKind, PieceStep, joined}
-use Rattle.winnow_base.specs.Telling.{capped, told_of}
-use Rattle.winnow_base.specs.Waits.{WaitsFor, GivesWaiting}
+use Rattle.winnow_feed.specs.Feeding.{FeedState, Fits, FitsWith, Finishes, answers_in, script_of}
+use Rattle.winnow_feed.specs.Inputs.{InputKind, PieceStep, joined}
+use Rattle.winnow_feed.specs.Telling.{capped, told_of}
+use Rattle.winnow_feed.specs.Waits.{WaitsFor, GivesWaiting}
 use Rattle.winnow_feed.specs.declared.finished.Finished.{Finished}
 use Rattle.winnow_feed.specs.declared.waiting.Waiting.{Waiting}
 use Rattle.winnow_read.specs.Inputs.{piece_length}

@@ -1,7 +1,7 @@
 -- The line that tells an answer.
 use Rattle.std.specs.Prelude.{ℕ, Bool, true, false, List, [], ◌∷◌, ◌++◌, flat_map, Option, Some, None, Result, Ok, Err, codes, decimal}
 use Rattle.std.specs.declared.ops.Range.{Range}
-use Rattle.winnow_base.specs.Hex.{hex_text}
+use Rattle.winnow_bytes.specs.Hex.{hex_text}
 use Rattle.winnow_match.specs.declared.compare.CompareResult.{CompareResult}
 use Rattle.winnow_match.specs.declared.compare.CompareResult.TheVariants as compared
 use Rattle.winnow_run.specs.declared.script.Answer.{Answer}

@@ -1,9 +1,9 @@
 -- The lines of a run over pieces.
 use Rattle.std.specs.Prelude.{◌≡◌, ℕ, List, [], ◌∷◌, ◌++◌, length, drop, flat_map, Option, Some, None, codes, decimal}
 use Rattle.winnow_attempt.specs.declared.told.Told.{Told}
-use Rattle.winnow_base.specs.Inputs.{PieceStep, InputKind}
-use Rattle.winnow_base.specs.Telling.{capped, told_of, told_to_end}
-use Rattle.winnow_base.specs.Waits.{WaitsFor}
+use Rattle.winnow_feed.specs.Inputs.{PieceStep, InputKind}
+use Rattle.winnow_feed.specs.Telling.{capped, told_of, told_to_end}
+use Rattle.winnow_feed.specs.Waits.{WaitsFor}
 use Rattle.winnow_feed.specs.declared.waiting.Waiting.{Waiting}
 use Rattle.winnow_feed.specs.declared.waiting.Waiting.TheVariants.{NotFed, NotWaiting, Until, ToEnd}
 use Rattle.winnow_read.specs.declared.fed_lines.FedLine.{FedLine}

@@ -5,13 +5,13 @@ use Rattle.std.specs.Global.{Vec, Global}
 use Rattle.std.specs.List.{AllZip}
 use Rattle.std.specs.declared.ops.Range.{Range}
 use Rattle.winnow_attempt.specs.View.{held}
-use Rattle.winnow_base.specs.Bytes.{written}
-use Rattle.winnow_base.specs.CharSet.{CharSet}
-use Rattle.winnow_base.specs.Definite.{PieceKind, kind_of}
-use Rattle.winnow_base.specs.Front.{part}
-use Rattle.winnow_base.specs.Inputs.{PieceStep, InputKind, byte_input, text_input}
-use Rattle.winnow_base.specs.Searching.{search_answers}
-use Rattle.winnow_base.specs.Source.{Source, offsets}
+use Rattle.winnow_match.specs.Bytes.{written}
+use Rattle.winnow_sets.specs.declared.char_set.CharSet.{CharSet}
+use Rattle.winnow_run.specs.Definite.{PieceKind, kind_of}
+use Rattle.winnow_stream.specs.Front.{part}
+use Rattle.winnow_feed.specs.Inputs.{PieceStep, InputKind, byte_input, text_input}
+use Rattle.winnow_run.specs.Searching.{search_answers}
+use Rattle.winnow_stream.specs.Source.{Source, offsets}
 use Rattle.winnow_read.specs.Inputs.{kind_word, TellsNamed, TellsFed}
 use Rattle.winnow_read.specs.Lending.{IsSameStep}
 use Rattle.winnow_read.specs.Lines.{AreLines}

@@ -1,7 +1,7 @@
 ghost use Rattle.std.specs.Prelude.{◌≡◌, ◌+◌, ◌<◌, ◌^◌, [], IfErr, IfOk, length, string_bytes};
 ghost use Rattle.std.specs.Prelude.{sum_by};
-ghost use Rattle.winnow_base.specs.Inputs.{byte_input, text_input};
-ghost use Rattle.winnow_base.specs.Searching.{AreSearchAnswers};
+ghost use Rattle.winnow_feed.specs.Inputs.{byte_input, text_input};
+ghost use Rattle.winnow_run.specs.Searching.{AreSearchAnswers};
 ghost use Rattle.winnow_execute.specs.AnswerLines.{item_words, answer_lines};
 ghost use Rattle.winnow_execute.specs.FaultyScripts.{FaultsAs, FaultsScript};
 ghost use Rattle.winnow_execute.specs.ReportLines.{Prints};
@@ -14,14 +14,15 @@ ghost use Rattle.winnow_read.specs.declared.inputs.Kind.TheVariants as kinds;
 use crate::printing::{PushWords, push_answers};
 use crate::report::Report;
 use std::alloc::{AllocError, Global};
-use winnow_base::stream::{
-    AsChar, ByteFeed, CharSet, Compare, FindSlice, Needles, SearchStep, Stream, TextFeed,
-    run_search,
-};
+use winnow_feed::{ByteFeed, TextFeed};
+use winnow_match::{Compare, FindSlice, Needles};
 use winnow_read::{
     FedLine, Kind, Lines, ScriptFault, ScriptStep, lend_steps, read_fed_lines, read_input,
     read_kind, read_steps,
 };
+use winnow_run::{SearchStep, run_search};
+use winnow_sets::{AsChar, CharSet};
+use winnow_stream::Stream;
 
 /// Runs the script of these lines, and gives its answers as lines.
 ///

@@ -1,6 +1,6 @@
 ghost use Rattle.std.specs.Prelude.{◌≡◌, ◌++◌, ℕ, List, codes, string_bytes, OnOk};
-ghost use Rattle.winnow_base.specs.Bytes.{utf8_of};
-ghost use Rattle.winnow_base.specs.Text.{text_source};
+ghost use Rattle.winnow_match.specs.Bytes.{utf8_of};
+ghost use Rattle.winnow_stream.specs.Text.{text_source};
 ghost use Rattle.winnow_execute.specs.AnswerLines.{bytes_word, place_word, item_words, token_words};
 ghost use Rattle.winnow_execute.specs.AnswerLines.{at_words, offset_words, compared_words};
 ghost use Rattle.winnow_execute.specs.AnswerLines.{hit_words};
@@ -9,7 +9,12 @@ ghost use Rattle.winnow_execute.specs.ReportLines.{told_line};
 
 use std::alloc::AllocError;
 use std::ops::Range;
-use winnow_base::stream::{Answer, AsChar, Bytes, CompareResult, Needed, SearchAnswer, Told};
+use winnow_bytes::Bytes;
+use winnow_feed::Told;
+use winnow_match::CompareResult;
+use winnow_run::{Answer, SearchAnswer};
+use winnow_sets::AsChar;
+use winnow_stream::Needed;
 
 /// What stands behind the word of a slice or of items: a space before each word.
 pub trait PushWords {

@@ -1,10 +1,11 @@
 ghost use Rattle.std.specs.Prelude.{◌≡◌, ◌++◌, ◌+◌, [], drop, length, min, string_bytes, OnOk};
-ghost use Rattle.winnow_base.specs.Telling.{capped};
+ghost use Rattle.winnow_feed.specs.Telling.{capped};
 ghost use Rattle.winnow_execute.specs.ReportLines.{told_lines, waiting_line};
 
 use crate::printing::{PushWords, push_told};
 use std::alloc::{AllocError, Global};
-use winnow_base::stream::{AsChar, Told, Waiting};
+use winnow_feed::{Told, Waiting};
+use winnow_sets::AsChar;
 
 /// The lines that a run over pieces prints, and how much they have told so far.
 #[derive(Drop)]

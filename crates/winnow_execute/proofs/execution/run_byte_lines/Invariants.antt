@@ -1,5 +1,5 @@
 use Rattle.std.proofs.Common.{string_bytes}
-use Rattle.winnow_base.specs.Inputs.{byte_input}
+use Rattle.winnow_feed.specs.Inputs.{byte_input}
 use Rattle.winnow_execute.proofs.ReportLemmas.{HasPrinted}
 use Rattle.winnow_execute.proofs.execution.run_byte_lines.Given as goal
 

@@ -1,5 +1,5 @@
 use Rattle.std.proofs.Common.{string_bytes}
-use Rattle.winnow_base.specs.Inputs.{text_input}
+use Rattle.winnow_feed.specs.Inputs.{text_input}
 use Rattle.winnow_execute.proofs.ReportLemmas.{HasPrinted}
 use Rattle.winnow_execute.proofs.execution.run_text_lines.Given as goal
 
