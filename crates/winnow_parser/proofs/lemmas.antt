@@ -1,1 +1,5 @@
 pub mod TakenLemmas
+pub mod DeterminedLemmas
+pub mod ImageLemmas
+pub mod MadeLemmas
+pub mod RowLemmas

@@ -5,3 +5,10 @@ pub mod Meanings
 pub mod Parts
 pub mod Taken
 pub mod Rows
+pub mod Spanned
+pub mod Context
+pub mod Whole
+pub mod Following
+pub mod Continued
+pub mod Determined
+pub mod DeterminedRows

@@ -7,16 +7,27 @@
 
 mod by_ref;
 mod choosing;
+mod context;
+mod continuing;
+mod determined;
 mod failure;
 mod laws;
 mod mapping;
 mod parser;
+mod rule;
 mod sequences;
+mod spanning;
 mod taking;
+mod whole;
 
 pub use choosing::{TryMapped, Verified, VerifyMapped};
+pub use context::Contextual;
+pub use continuing::FlatMapped;
+pub use determined::determined_pair_law;
 pub use failure::{Failure, ModalResult};
 pub use laws::taken_width_law;
 pub use mapping::{Mapped, Valued, Voided};
 pub use parser::Parser;
+pub use rule::{Rule, RuledFunction, by_rule};
+pub use spanning::{Spanned, WithSpan};
 pub use taking::{Taken, WithTaken};

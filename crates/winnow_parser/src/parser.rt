@@ -1,12 +1,17 @@
-ghost use Rattle.std.specs.Prelude.{◌≡◌};
-ghost use Rattle.winnow_parser.specs.Outcome.{Meaning};
-ghost use Rattle.winnow_parser.specs.Answer.{outcome, ahead};
+ghost use Rattle.std.specs.Prelude.{◌≡◌, false, IfOk, IfErr};
+ghost use Rattle.winnow_parser.specs.Outcome.{Ahead, Meaning, Gives, Fails, Refuses};
+ghost use Rattle.winnow_parser.specs.Answer.{outcome, ahead, failed};
 ghost use Rattle.winnow_parser.specs.Laws.{IsParser};
+ghost use Rattle.winnow_parser.specs.Whole.{ReadsWhole, StopsAfter};
 
+use crate::whole::read_whole;
 use crate::{
-    Mapped, ModalResult, Taken, TryMapped, Valued, Verified, VerifyMapped, Voided, WithTaken,
+    Contextual, FlatMapped, Mapped, ModalResult, Spanned, Taken, TryMapped, Valued, Verified,
+    VerifyMapped, Voided, WithSpan, WithTaken,
 };
-use std::alloc::Global;
+use std::alloc::{AllocError, Global};
+use winnow_error::ParserError;
+use winnow_parse_error::ParseError;
 use winnow_stream::StreamIsPartial;
 
 /// What reads a value from the front of a stream.
@@ -39,6 +44,13 @@ pub trait Parser<I: StreamIsPartial, E>: Sized {
         ensures { result ≡ record { inner = self; f = f } }
     {
         Mapped::new(self, f)
+    }
+
+    /// Returns the parser that goes on with the parser that a function makes of the value: what comes first says how to read what comes next.
+    final fn flat_map<F>(self, f: F) -> FlatMapped<Self, F>
+        ensures { result ≡ record { first = self; f = f } }
+    {
+        FlatMapped::new(self, f)
     }
 
     /// Returns the parser that gives this value where the parser gives one.
@@ -89,6 +101,81 @@ pub trait Parser<I: StreamIsPartial, E>: Sized {
         ensures { result ≡ record { inner = self } }
     {
         WithTaken::new(self)
+    }
+
+    /// Returns the parser of the range that the parser takes, in the offsets of the whole input. The stream keeps its location.
+    final fn span(self) -> Spanned<Self>
+        ensures { result ≡ record { inner = self } }
+    {
+        Spanned::new(self)
+    }
+
+    /// Returns the parser of the value and of the range that the parser takes.
+    final fn with_span(self) -> WithSpan<Self>
+        ensures { result ≡ record { inner = self } }
+    {
+        WithSpan::new(self)
+    }
+
+    /// Returns the parser whose errors are told what was being read.
+    final fn context<C>(self, context: C) -> Contextual<Self, C>
+        ensures { result ≡ record { inner = self; context = context } }
+    {
+        Contextual::new(self, context)
+    }
+
+    /// Returns a reference, which is a parser too, so that the parser itself is not used up.
+    final fn by_ref(&self) -> &Self
+        ensures { result.now ≡ self.now }
+    {
+        self
+    }
+
+    /// Reads a whole input to its end, after which nothing follows, whatever its flag says. Where the parser fails, or gives a value before
+    /// the end, the error tells the input and the place in it. The outer error is refused memory.
+    final fn parse(
+        &self,
+        alloc: Global,
+        input: I,
+    ) -> Result<Result<Self::Output, ParseError<I, E>>, AllocError>
+    where
+        I: Drop,
+        I::PartialState: Drop,
+        E: ParserError<I>,
+        Self::Output: Drop,
+        requires ready { ready self.now }
+        requires valid { I.valid input }
+        ensures value { IfOk result (λ answer. IfOk answer (ReadsWhole (means self.now)
+            (ahead I.location I.remaining input))) }
+        ensures stopped { IfOk result (λ answer. IfErr answer (λ error. StopsAfter (means self.now)
+            (ahead I.location I.remaining input) error.offset)) }
+        ensures input { IfOk result (λ answer. IfErr answer (λ error.
+            ahead I.location I.remaining error.input ≡ ahead I.location I.remaining input)) }
+        ensures refused { IfErr result (λ _. means self.now false
+            (ahead I.location I.remaining input) (Fails Refuses)) }
+    {
+        read_whole(self, alloc, input)
+    }
+
+    /// Reads a value from the front of an input, and returns what remains with it.
+    final fn parse_peek(&self, alloc: Global, input: I) -> ModalResult<(I, Self::Output), E>
+    where
+        I: Drop,
+        requires ready { ready self.now }
+        requires valid { I.valid input }
+        ensures value { IfOk result (λ both. means self.now (I.expects_more input)
+            (ahead I.location I.remaining input)
+            (Gives both.1 (ahead I.location I.remaining both.0))) }
+        ensures valid { IfOk result (λ both. I.valid both.0) }
+        ensures kept { IfOk result (λ both. I.keeps input both.0) }
+        ensures failure { IfErr result (λ failure. (b : Ahead I.Token) × means self.now
+            (I.expects_more input) (ahead I.location I.remaining input) (Fails (failed failure b))) }
+    {
+        let mut input = input;
+        match self.parse_next(alloc, &mut input) {
+            Ok(value) => Ok((input, value)),
+            Err(failure) => Err(failure),
+        }
     }
 
     // It keeps the laws of a parser.

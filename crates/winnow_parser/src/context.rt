@@ -1,0 +1,56 @@
+ghost use Rattle.std.specs.Prelude.{◌≡◌};
+ghost use Rattle.winnow_parser.specs.Context.{InContext, IsParser-InContext};
+
+use crate::{Failure, ModalResult, Parser};
+use std::alloc::Global;
+use winnow_error::AddContext;
+use winnow_stream::StreamIsPartial;
+
+/// The inner parser, whose errors are told what was being read; [`Parser::context`] makes it.
+#[derive(Clone, Copy, Drop)]
+pub struct Contextual<P, C> {
+    inner: P,
+    context: C,
+}
+
+impl<P, C> Contextual<P, C> {
+    // Returns the parser whose errors are told the context.
+    pub(crate) fn new(inner: P, context: C) -> Self
+        ensures { result ≡ record { inner = inner; context = context } }
+    {
+        Contextual { inner, context }
+    }
+}
+
+impl<I: StreamIsPartial, C: Copy, E: AddContext<I, C>, P: Parser<I, E>> Parser<I, E>
+    for Contextual<P, C> {
+    type Output = P::Output;
+
+    ghost means = { λ p. InContext E.add_context_refusable (P.means p.inner) };
+
+    ghost ready = { λ p. P.ready p.inner };
+
+    ghost lawful = { λ p.
+        IsParser-InContext E.add_context_refusable (P.means p.inner) (P.lawful p.inner) };
+
+    fn parse_next(&self, alloc: Global, input: &mut I) -> ModalResult<P::Output, E> {
+        let start = input.checkpoint();
+        match self.inner.parse_next(alloc, input) {
+            Ok(value) => Ok(value),
+            Err(Failure::Backtrack(error)) => {
+                match error.add_context(alloc, input, &start, self.context) {
+                    Ok(told) => Err(Failure::Backtrack(told)),
+                    Err(refused) => Err(Failure::Refused(refused)),
+                }
+            }
+            Err(Failure::Cut(error)) => {
+                match error.add_context(alloc, input, &start, self.context) {
+                    Ok(told) => Err(Failure::Cut(told)),
+                    Err(refused) => Err(Failure::Refused(refused)),
+                }
+            }
+            Err(Failure::Incomplete(needed)) => Err(Failure::Incomplete(needed)),
+            Err(Failure::Refused(refused)) => Err(Failure::Refused(refused)),
+        }
+    }
+}

@@ -1,0 +1,46 @@
+ghost use Rattle.std.specs.Prelude.{◌≡◌};
+ghost use Rattle.winnow_parser.specs.Continued.{Continued, IsParser-Continued};
+
+use crate::{ModalResult, Parser};
+use std::alloc::Global;
+use winnow_stream::StreamIsPartial;
+
+/// The parser that a function makes of the value of the one before it; [`Parser::flat_map`] makes it.
+#[derive(Clone, Copy, Drop)]
+pub struct FlatMapped<P, F> {
+    first: P,
+    f: F,
+}
+
+impl<P, F> FlatMapped<P, F> {
+    // Returns the parser that goes on with what the function makes of the value.
+    pub(crate) fn new(first: P, f: F) -> Self
+        ensures { result ≡ record { first = first; f = f } }
+    {
+        FlatMapped { first, f }
+    }
+}
+
+impl<I: StreamIsPartial, E, P: Parser<I, E>, Q: Parser<I, E> + Drop, F: Fn(P::Output) -> Q> Parser<
+    I,
+    E,
+> for FlatMapped<P, F> {
+    type Output = Q::Output;
+
+    ghost means = { λ p. Continued (F.post p.f) Q.means (P.means p.first) };
+
+    ghost ready = { λ p. P.ready p.first × F.IsAlwaysCallable p.f
+        × ((x : P.Output) (q : Q) → F.post p.f x q → Q.ready q) };
+
+    ghost lawful = { λ p.
+        IsParser-Continued (F.post p.f) Q.means (P.means p.first) Q.lawful (P.lawful p.first) };
+
+    fn parse_next(&self, alloc: Global, input: &mut I) -> ModalResult<Q::Output, E> {
+        let value = self.first.parse_next(alloc, input)?;
+        let next = (self.f)(value);
+        match next.parse_next(alloc, input) {
+            Ok(made) => Ok(made),
+            Err(failure) => Err(failure),
+        }
+    }
+}

@@ -1,0 +1,80 @@
+ghost use Rattle.std.specs.Prelude.{◌≡◌};
+ghost use Rattle.winnow_stream.specs.Location.{IsLocation};
+ghost use Rattle.winnow_parser.specs.Spanned.{Spanned, WithSpan};
+ghost use Rattle.winnow_parser.specs.Spanned.{IsParser-Spanned, IsParser-WithSpan};
+
+use crate::{ModalResult, Parser};
+use std::alloc::Global;
+use std::ops::Range;
+use winnow_stream::{Location, StreamIsPartial};
+
+/// The range that the inner parser takes; [`Parser::span`] makes it.
+#[derive(Clone, Copy, Drop)]
+pub struct Spanned<P> {
+    inner: P,
+}
+
+impl<P> Spanned<P> {
+    // Returns the parser of the range that the inner one takes.
+    pub(crate) fn new(inner: P) -> Self
+        ensures { result ≡ record { inner = inner } }
+    {
+        Spanned { inner }
+    }
+}
+
+impl<I: StreamIsPartial + Location, E, P: Parser<I, E>> Parser<I, E> for Spanned<P>
+where
+    P::Output: Drop,
+{
+    type Output = Range<usize>;
+
+    ghost means = { λ p. Spanned (P.means p.inner) };
+
+    ghost ready = { λ p. P.ready p.inner × IsLocation I.location I.token_end I.token_start };
+
+    ghost lawful = { λ p. IsParser-Spanned (P.means p.inner) (P.lawful p.inner) };
+
+    fn parse_next(&self, alloc: Global, input: &mut I) -> ModalResult<Range<usize>, E> {
+        let start = input.current_token_start();
+        let _ = self.inner.parse_next(alloc, input)?;
+        let end = input.previous_token_end();
+        Ok(start..end)
+    }
+}
+
+/// The value, and the range that the inner parser takes; [`Parser::with_span`] makes it.
+#[derive(Clone, Copy, Drop)]
+pub struct WithSpan<P> {
+    inner: P,
+}
+
+impl<P> WithSpan<P> {
+    // Returns the parser of the value and of the range that the inner one takes.
+    pub(crate) fn new(inner: P) -> Self
+        ensures { result ≡ record { inner = inner } }
+    {
+        WithSpan { inner }
+    }
+}
+
+impl<I: StreamIsPartial + Location, E, P: Parser<I, E>> Parser<I, E> for WithSpan<P> {
+    type Output = (P::Output, Range<usize>);
+
+    ghost means = { λ p. WithSpan (P.means p.inner) };
+
+    ghost ready = { λ p. P.ready p.inner × IsLocation I.location I.token_end I.token_start };
+
+    ghost lawful = { λ p. IsParser-WithSpan (P.means p.inner) (P.lawful p.inner) };
+
+    fn parse_next(
+        &self,
+        alloc: Global,
+        input: &mut I,
+    ) -> ModalResult<(P::Output, Range<usize>), E> {
+        let start = input.current_token_start();
+        let value = self.inner.parse_next(alloc, input)?;
+        let end = input.previous_token_end();
+        Ok((value, start..end))
+    }
+}
