@@ -20,6 +20,20 @@ pub struct Range {
 }
 
 impl Range {
+    /// Returns the least count.
+    pub fn least(&self) -> usize
+        ensures { result ≡ least_count self.now }
+    {
+        self.least
+    }
+
+    /// Returns the greatest count, if there is one.
+    pub fn greatest(&self) -> Option<usize>
+        ensures { result ≡ greatest_count self.now }
+    {
+        self.greatest
+    }
+
     // What it prints, made apart from the formatter, whose options must not reach the counts. Two counts have at most 20 digits each,
     // so they fit with the `..=` between them.
     fn text(&self) -> Result<InlineText<43>, fmt::Error>
