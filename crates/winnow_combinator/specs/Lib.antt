@@ -1,2 +1,4 @@
+pub mod Counts
 pub mod Ending
+pub mod Gathering
 pub mod Repetition

@@ -1,97 +1,150 @@
 -- One parser again and again.
-use Rattle.std.specs.Prelude.{◌≡◌, ℕ, ◌<◌, ◌≤◌, Bool, true, List, [], ◌∷◌, ◌++◌, length, ◌⊎◌}
+use Rattle.std.specs.Prelude.{◌≡◌, ℕ, ◌<◌, ◌≤◌, Bool, true, List, [], ◌∷◌, ◌++◌, length, Option, Some, None, ◌⊎◌, ⊤}
 use Rattle.std.proofs.Common.{refl, ap, sym, subst, inl, inr, arith}
 use Rattle.winnow_stream.specs.Source.{Source, width}
 use Rattle.winnow_stream.proofs.lemmas.FrontLemmas.{width-append}
-use Rattle.winnow_parser.specs.Outcome.{Ahead, Backtracks, Cuts, Needs, Refuses, Gives, Fails, Meaning, Moves}
-use Rattle.winnow_parser.specs.Laws.{longer, IsStable, IsFinal, IsOnward, IsParser}
-use Rattle.winnow_parser.specs.Parts.{Moves-still, Moves-on}
+use Rattle.winnow_parser.specs.Outcome.{Ahead, Failed, Backtracks, Cuts, Needs, Refuses, Gives, Fails, Meaning, Moves}
+use Rattle.winnow_parser.specs.Laws.{longer, outcome_longer, IsSettled, IsStable, IsFinal, IsOnward, IsParser}
+use Rattle.winnow_parser.specs.Parts.{Moves-still, Moves-on, LeavesAfter-on}
+use Rattle.winnow_combinator.specs.Counts.{IsBelow}
 
--- these values, one after the other, each behind some tokens
+-- the value, behind some tokens; a value for which nothing was taken is cut
+abbrev pub Taking : {O T : Type 0} → Meaning O T → Meaning O T
+Taking inner partial a (Gives x b) = inner partial a (Gives x b) × (width b.tokens < width a.tokens)
+Taking inner partial a (Fails (Backtracks b)) = inner partial a (Fails (Backtracks b))
+Taking {O} inner partial a (Fails (Cuts b)) = inner partial a (Fails (Cuts b))
+    ⊎ ((x : O) × (inner partial a (Gives x b) × (width a.tokens ≤ width b.tokens)))
+Taking inner partial a (Fails (Needs n)) = inner partial a (Fails (Needs n))
+Taking inner partial a (Fails Refuses) = inner partial a (Fails Refuses)
+
+-- these values, one after the other
 abbrev pub InTurn : {O T : Type 0} → Meaning O T → Bool → List O → Ahead T → Ahead T → Type 0
 InTurn inner partial [] a b = a ≡ b
-InTurn {O} {T} inner partial (x ∷ xs) a b =
-    (c : Ahead T) × (inner partial a (Gives x c) × (width c.tokens < width a.tokens) × InTurn inner partial xs c b)
+InTurn {T = T} inner partial (x ∷ xs) a b = (c : Ahead T) × (inner partial a (Gives x c) × InTurn inner partial xs c b)
 
--- the values of the parser, asked until it backtracks, if they are at least so many; one that gives a value and takes nothing is
--- cut. Gathering the values may be refused
-abbrev pub Repeated : {O T : Type 0} → Type 0 → ℕ → Meaning O T → Meaning (List O) T
-Repeated {O} {T} refusable least inner partial a (Gives xs b) =
-    InTurn inner partial xs a b × (least ≤ length xs) × ((c : Ahead T) × inner partial b (Fails (Backtracks c)))
-Repeated {O} {T} refusable least inner partial a (Fails (Backtracks c)) = (xs : List O) × ((b : Ahead T)
-    × (InTurn inner partial xs a b × (length xs < least) × inner partial b (Fails (Backtracks c))))
-Repeated {O} {T} refusable least inner partial a (Fails (Cuts c)) = (xs : List O) × ((b : Ahead T)
-    × (InTurn inner partial xs a b × (inner partial b (Fails (Cuts c))
-    ⊎ ((x : O) × (inner partial b (Gives x c) × (width b.tokens ≤ width c.tokens))))))
-Repeated {O} {T} refusable least inner partial a (Fails (Needs n)) =
-    (xs : List O) × ((b : Ahead T) × (InTurn inner partial xs a b × inner partial b (Fails (Needs n))))
-Repeated {O} {T} refusable least inner partial a (Fails Refuses) =
-    refusable ⊎ ((xs : List O) × ((b : Ahead T) × (InTurn inner partial xs a b × inner partial b (Fails Refuses))))
+-- with n values, a failure is the failure of all: where it lets another parser be tried, they are fewer than the least count
+abbrev pub FailsWith : {T : Type 0} → ℕ → ℕ → Failed T → Type 0
+FailsWith least n (Backtracks b) = n < least
+FailsWith least n (Cuts b) = ⊤
+FailsWith least n (Needs m) = ⊤
+FailsWith least n Refuses = ⊤
 
--- what gathers the values holds the list
-abbrev pub Gathers : {O A : Type 0} → (A → List O → Type 0) → List O → A → Type 0
-Gathers holds xs gathered = holds gathered xs
+-- one value more after n of them; or none where the parser backtracks and they are enough, and then nothing is taken
+abbrev pub OneMore : {O T : Type 0} → ℕ → ℕ → Meaning O T → Meaning (Option O) T
+OneMore least n inner partial a (Gives (Some x) b) = inner partial a (Gives x b)
+OneMore {T = T} least n inner partial a (Gives None b) =
+    (a ≡ b) × (least ≤ n) × ((c : Ahead T) × inner partial a (Fails (Backtracks c)))
+OneMore least n inner partial a (Fails f) = FailsWith least n f × inner partial a (Fails f)
+
+-- the values of the parser one after the other, as often as it can and at most `greatest` times, if they are at least `least`
+abbrev pub Repeated : {O T : Type 0} → ℕ → Option ℕ → Meaning O T → Meaning (List O) T
+Repeated least greatest inner partial a (Gives xs b) = InTurn (Taking inner) partial xs a b × (least ≤ length xs)
+    × ((greatest ≡ Some (length xs))
+    ⊎ (IsBelow greatest (length xs) × OneMore least (length xs) (Taking inner) partial b (Gives None b)))
+Repeated {O} {T} least greatest inner partial a (Fails f) = (xs : List O) × ((b : Ahead T)
+    × (InTurn (Taking inner) partial xs a b × IsBelow greatest (length xs)
+    × OneMore least (length xs) (Taking inner) partial b (Fails f)))
+
+-- ---- `Taking`
+
+module _ {O T : Type 0} {inner : Meaning O T} (p : IsParser inner) where
+  taking-stable : IsStable (Taking inner)
+  taking-stable more partial a (Gives x b) s h =
+      (p.stable more partial a (Gives x b) tt h.0, omega (arith, h.1, width-append a.tokens more, width-append b.tokens more))
+  taking-stable more partial a (Fails (Backtracks b)) s h = p.stable more partial a (Fails (Backtracks b)) tt h
+  taking-stable more partial a (Fails (Cuts b)) s (inl h) = inl (p.stable more partial a (Fails (Cuts b)) tt h)
+  taking-stable more partial a (Fails (Cuts b)) s (inr h) =
+      inr (h.0, (p.stable more partial a (Gives h.0 b) tt h.1.0, omega (arith, h.1.1, width-append a.tokens more, width-append b.tokens more)))
+  taking-stable more partial a (Fails (Needs n)) s h = absurd s
+  taking-stable more partial a (Fails Refuses) s h = absurd s
+
+  taking-onward : IsOnward (Taking inner)
+  taking-onward partial a (Gives x b) h = p.onward partial a (Gives x b) h.0
+  taking-onward partial a (Fails (Backtracks b)) h = p.onward partial a (Fails (Backtracks b)) h
+  taking-onward partial a (Fails (Cuts b)) (inl h) = p.onward partial a (Fails (Cuts b)) h
+  taking-onward partial a (Fails (Cuts b)) (inr h) = p.onward partial a (Gives h.0 b) h.1.0
+  taking-onward partial a (Fails (Needs n)) h = tt
+  taking-onward partial a (Fails Refuses) h = tt
+
+  pub IsParser-Taking : IsParser (Taking inner)
+  IsParser-Taking = record { stable = taking-stable; final = p.final; onward = taking-onward }
+
+-- ---- `OneMore`
+
+module _ {O T : Type 0} (least n : ℕ) {inner : Meaning O T} (p : IsParser inner) where
+  fails_with-longer : (more : Source T) (partial : Bool) (a : Ahead T) (f : Failed T) → IsSettled {O = O} (Fails f) → FailsWith least n f × inner true a (Fails f) → OneMore least n inner partial (longer more a) (outcome_longer more (Fails f))
+  fails_with-longer more partial a (Backtracks b) s h = (h.0, p.stable more partial a (Fails (Backtracks b)) tt h.1)
+  fails_with-longer more partial a (Cuts b) s h = (tt, p.stable more partial a (Fails (Cuts b)) tt h.1)
+  fails_with-longer more partial a (Needs m) s h = absurd s
+  fails_with-longer more partial a Refuses s h = absurd s
+
+  one_more-stable : IsStable (OneMore least n inner)
+  one_more-stable more partial a (Gives (Some x) b) s h = p.stable more partial a (Gives x b) tt h
+  one_more-stable more partial a (Gives None b) s h =
+      (ap (longer more) h.0, h.1, (longer more h.2.0, p.stable more partial a (Fails (Backtracks h.2.0)) tt h.2.1))
+  one_more-stable more partial a (Fails f) s h = fails_with-longer more partial a f s h
+
+  one_more-onward : IsOnward (OneMore least n inner)
+  one_more-onward partial a (Gives (Some x) b) h = p.onward partial a (Gives x b) h
+  one_more-onward partial a (Gives None b) h = Moves-still a b h.0
+  one_more-onward partial a (Fails f) h = p.onward partial a (Fails f) h.1
+
+  pub IsParser-OneMore : IsParser (OneMore least n inner)
+  IsParser-OneMore = record { stable = one_more-stable; final = λ a m h. p.final a m h.1; onward = one_more-onward }
+
+-- ---- `InTurn`
 
 module _ {O T : Type 0} (inner : Meaning O T) where
   -- one more value
-  pub InTurn-more : (partial : Bool) (xs : List O) (x : O) (a b c : Ahead T) → InTurn inner partial xs a b → inner partial b (Gives x c) → width c.tokens < width b.tokens → InTurn inner partial (xs ++ x ∷ []) a c
-  InTurn-more partial [] x a b c e h l =
-      (c, (subst (λ s. inner partial s (Gives x c)) (sym e) h, subst (λ s. width c.tokens < width s.tokens) (sym e) l, refl))
-  InTurn-more partial (y ∷ ys) x a b c t h l = (t.0, (t.1.0, t.1.1, InTurn-more partial ys x t.0 b c t.1.2 h l))
+  pub InTurn-more : (partial : Bool) (xs : List O) (x : O) (a b c : Ahead T) → InTurn inner partial xs a b → inner partial b (Gives x c) → InTurn inner partial (xs ++ x ∷ []) a c
+  InTurn-more partial [] x a b c e h = (c, (subst (λ s. inner partial s (Gives x c)) (sym e) h, refl))
+  InTurn-more partial (y ∷ ys) x a b c t h = (t.0, (t.1.0, InTurn-more partial ys x t.0 b c t.1.1 h))
 
-module _ {O T : Type 0} (inner : Meaning O T) (p : IsParser inner) where
+module _ {O T : Type 0} {inner : Meaning O T} (p : IsParser inner) where
   in_turn-longer : (more : Source T) (partial : Bool) (xs : List O) (a b : Ahead T) → InTurn inner true xs a b → InTurn inner partial xs (longer more a) (longer more b)
   in_turn-longer more partial [] a b e = ap (longer more) e
-  in_turn-longer more partial (x ∷ xs) a b t = (
-    longer more t.0,
-    (
-      p.stable more partial a (Gives x t.0) tt t.1.0,
-      omega (arith, t.1.1, width-append t.0.tokens more, width-append a.tokens more),
-      in_turn-longer more partial xs t.0 b t.1.2,
-    ),
-  )
+  in_turn-longer more partial (x ∷ xs) a b t =
+      (longer more t.0, (p.stable more partial a (Gives x t.0) tt t.1.0, in_turn-longer more partial xs t.0 b t.1.1))
 
   in_turn-moves : (partial : Bool) (xs : List O) (a b : Ahead T) → InTurn inner partial xs a b → Moves a b
   in_turn-moves partial [] a b e = Moves-still a b e
-  in_turn-moves partial (x ∷ xs) a b t = Moves-on a t.0 b (p.onward partial a (Gives x t.0) t.1.0) (in_turn-moves partial xs t.0 b t.1.2)
+  in_turn-moves partial (x ∷ xs) a b t = Moves-on a t.0 b (p.onward partial a (Gives x t.0) t.1.0) (in_turn-moves partial xs t.0 b t.1.1)
 
-module _ {O T : Type 0} (refusable : Type 0) (least : ℕ) (inner : Meaning O T) (p : IsParser inner) where
-  repeated-stable : IsStable (Repeated refusable least inner)
-  repeated-stable more partial a (Gives xs b) s h =
-      (in_turn-longer inner p more partial xs a b h.0, h.1, (longer more h.2.0, p.stable more partial b (Fails (Backtracks h.2.0)) tt h.2.1))
-  repeated-stable more partial a (Fails (Backtracks c)) s h =
-      (h.0, (longer more h.1.0, (in_turn-longer inner p more partial h.0 a h.1.0 h.1.1.0, h.1.1.1, p.stable more partial h.1.0 (Fails (Backtracks c)) tt h.1.1.2)))
-  repeated-stable more partial a (Fails (Cuts c)) s h = (
+-- ---- `Repeated`
+
+module _ {O T : Type 0} (least : ℕ) (greatest : Option ℕ) {inner : Meaning O T} (p : IsParser inner) where
+  after-turns : (n : ℕ) → IsParser (OneMore least n (Taking inner))
+  after-turns n = IsParser-OneMore least n (IsParser-Taking p)
+
+  repeated-stable : IsStable (Repeated least greatest inner)
+  repeated-stable more partial a (Gives xs b) s h = (
+    in_turn-longer (IsParser-Taking p) more partial xs a b h.0,
+    h.1,
+    elim h.2 [
+      | inl e ↦ inl e
+      | inr k ↦ inr (k.0, (after-turns (length xs)).stable more partial b (Gives None b) tt k.1)
+    ],
+  )
+  repeated-stable more partial a (Fails f) s h = (
     h.0,
     (
       longer more h.1.0,
       (
-        in_turn-longer inner p more partial h.0 a h.1.0 h.1.1.0,
-        elim h.1.1.1 [
-          | inl k ↦ inl (p.stable more partial h.1.0 (Fails (Cuts c)) tt k)
-          | inr k ↦ inr (k.0, (p.stable more partial h.1.0 (Gives k.0 c) tt k.1.0, omega (arith, k.1.1, width-append h.1.0.tokens more, width-append c.tokens more)))
-        ],
+        in_turn-longer (IsParser-Taking p) more partial h.0 a h.1.0 h.1.1.0,
+        h.1.1.1,
+        (after-turns (length h.0)).stable more partial h.1.0 (Fails f) s h.1.1.2,
       ),
     ),
   )
-  repeated-stable more partial a (Fails (Needs n)) s h = absurd s
-  repeated-stable more partial a (Fails Refuses) s h = absurd s
 
-  repeated-final : IsFinal (Repeated refusable least inner)
-  repeated-final a n h = p.final h.1.0 n h.1.1.1
+  repeated-final : IsFinal (Repeated least greatest inner)
+  repeated-final a n h = (after-turns (length h.0)).final h.1.0 n h.1.1.2
 
-  repeated-onward : IsOnward (Repeated refusable least inner)
-  repeated-onward partial a (Gives xs b) h = in_turn-moves inner p partial xs a b h.0
-  repeated-onward partial a (Fails (Backtracks c)) h =
-      Moves-on a h.1.0 c (in_turn-moves inner p partial h.0 a h.1.0 h.1.1.0) (p.onward partial h.1.0 (Fails (Backtracks c)) h.1.1.2)
-  repeated-onward partial a (Fails (Cuts c)) h =
-      let front = in_turn-moves inner p partial h.0 a h.1.0 h.1.1.0 in
-      elim h.1.1.1 [
-        | inl k ↦ Moves-on a h.1.0 c front (p.onward partial h.1.0 (Fails (Cuts c)) k)
-        | inr k ↦ Moves-on a h.1.0 c front (p.onward partial h.1.0 (Gives k.0 c) k.1.0)
-      ]
-  repeated-onward partial a (Fails (Needs n)) h = tt
-  repeated-onward partial a (Fails Refuses) h = tt
+  repeated-onward : IsOnward (Repeated least greatest inner)
+  repeated-onward partial a (Gives xs b) h = in_turn-moves (IsParser-Taking p) partial xs a b h.0
+  repeated-onward partial a (Fails f) h =
+      let front = in_turn-moves (IsParser-Taking p) partial h.0 a h.1.0 h.1.1.0 in
+      LeavesAfter-on {O = Option O} a h.1.0 (Fails f) front ((after-turns (length h.0)).onward partial h.1.0 (Fails f) h.1.1.2)
 
-  pub IsParser-Repeated : IsParser (Repeated refusable least inner)
+  pub IsParser-Repeated : IsParser (Repeated least greatest inner)
   IsParser-Repeated = record { stable = repeated-stable; final = repeated-final; onward = repeated-onward }

@@ -1,8 +1,11 @@
 //! Combinators: parsers that are made of parsers. Each one's meaning is made of the meanings of its parts alone.
 #![tactic(auto)]
 
+mod again;
 mod alternatives;
+mod counts;
 mod ending;
+mod gathering;
 mod looking;
 mod modes;
 mod optional;
@@ -11,6 +14,7 @@ mod sequence;
 
 pub use alternatives::{Alternatives, alt};
 pub use ending::{Ended, Failing, Nothing, empty, eof, fail};
+pub use gathering::{Accumulated, Begin, Folded, Gather};
 pub use looking::{LookedAt, Negated, not, peek};
 pub use modes::{CutOff, Softened, backtrack_err, cut_err};
 pub use optional::{Optional, opt};

@@ -1,88 +1,96 @@
 ghost use Rattle.std.specs.Prelude.{◌≡◌};
-ghost use Rattle.winnow_parser.specs.Meanings.{Maps};
-ghost use Rattle.winnow_parser.specs.Parts.{IsParser-Maps};
-ghost use Rattle.winnow_combinator.specs.Repetition.{Repeated, Gathers, IsParser-Repeated};
+ghost use Rattle.winnow_count.specs.CountRange.{least_count, greatest_count};
+ghost use Rattle.winnow_combinator.specs.Counts.{Ascending, IsParser-Ascending};
+ghost use Rattle.winnow_combinator.specs.Repetition.{Repeated, IsParser-Repeated};
+ghost use Rattle.winnow_combinator.specs.Gathering.{Gathered, IsParser-Gathered};
 
+use crate::again::{Again, go_on};
+use crate::counts::Counts;
+use crate::{Accumulated, Begin, Folded};
 use std::alloc::Global;
-use std::marker::PhantomData;
-use std::ops::RangeFrom;
-use winnow_count::Accumulate;
+use winnow_count::Range;
 use winnow_error::ParserError;
 use winnow_parser::{Failure, ModalResult, Parser};
 use winnow_stream::StreamIsPartial;
 
-/// One parser again and again, whose values an `A` gathers; [`repeat`] makes it.
-#[derive(Drop)]
-pub struct Repeated<P, A> {
-    least: usize,
+/// One parser again and again, and what is made of its values; [`repeat`] makes it.
+#[derive(Clone, Copy, Drop)]
+pub struct Repeated<P, G> {
+    counts: Range,
     inner: P,
-    gathered: PhantomData<A>,
+    gather: G,
 }
 
-/// Returns the parser that asks the inner one until it backtracks and gathers the values, at least so many. An inner parser that
-/// gives a value and takes nothing is cut, since it would be asked for ever.
-pub fn repeat<P, A>(counts: RangeFrom<usize>, inner: P) -> Repeated<P, A>
-    ensures least { result.least ≡ counts.start }
+/// Returns the parser that asks the inner one until it backtracks, or gave the greatest count of
+/// values, and gathers them in an `A`. Where they are fewer than the least count, it backtracks.
+///
+/// It cuts an inner parser that gives a value and takes nothing, since it would ask for ever, and
+/// counts of which the greatest is below the least.
+pub fn repeat<P, A, C: Into<Range>>(counts: C, inner: P) -> Repeated<P, Accumulated<A>>
+    ensures counts { C.converts counts result.counts }
     ensures inner { result.inner ≡ inner }
 {
     Repeated {
-        least: counts.start,
+        counts: counts.into(),
         inner,
-        gathered: PhantomData,
+        gather: Accumulated::new(),
     }
 }
 
-impl<
-    I: StreamIsPartial,
-    E: ParserError<I>,
-    P: Parser<I, E>,
-    A: Accumulate<P::Output> + Drop,
-> Parser<I, E> for Repeated<P, A>
+impl<P> Repeated<P, Accumulated<()>> {
+    /// Returns the parser that folds the values by a function, from what another function gives.
+    pub fn fold<N, F>(self, init: N, f: F) -> Repeated<P, Folded<N, F>>
+        ensures { result ≡ record { counts = self.counts; inner = self.inner; gather = record { init = init; f = f } } }
+    {
+        let Repeated {
+            counts,
+            inner,
+            gather: _,
+        } = self;
+        Repeated {
+            counts,
+            inner,
+            gather: Folded { init, f },
+        }
+    }
+}
+
+impl<I: StreamIsPartial, E: ParserError<I>, P: Parser<I, E>, G: Begin<P::Output>> Parser<I, E>
+    for Repeated<P, G>
 where
     P::Output: Drop,
 {
-    type Output = A;
+    type Output = G::Whole;
 
-    ghost means = { λ p. Maps (Gathers A.holds) (Repeated A.refusable p.least (P.means p.inner)) };
+    ghost means = { λ p. Ascending (least_count p.counts) (greatest_count p.counts)
+        (Gathered G.refusable (G.makes p.gather)
+        (Repeated (least_count p.counts) (greatest_count p.counts) (P.means p.inner))) };
 
-    ghost ready = { λ p. P.ready p.inner };
+    ghost ready = { λ p. P.ready p.inner × G.ready p.gather };
 
-    ghost lawful = { λ p. IsParser-Maps (Gathers A.holds)
-        (Repeated A.refusable p.least (P.means p.inner))
-        (IsParser-Repeated A.refusable p.least (P.means p.inner) (P.lawful p.inner)) };
+    ghost lawful = { λ p. IsParser-Ascending (least_count p.counts) (greatest_count p.counts)
+        (IsParser-Gathered G.refusable (G.makes p.gather)
+        (IsParser-Repeated (least_count p.counts) (greatest_count p.counts)
+        (P.lawful p.inner))) };
 
-    fn parse_next(&self, alloc: Global, input: &mut I) -> ModalResult<A, E> {
-        let mut gathered = match A::initial(alloc, None) {
-            Ok(gathered) => gathered,
-            Err(refused) => return Err(Failure::Refused(refused)),
-        };
-        let room = input.eof_offset();
-        let mut count = 0;
-        loop {
-            let start = input.checkpoint();
-            let ahead = input.eof_offset();
-            match self.inner.parse_next(alloc, input) {
-                Ok(value) => {
-                    if ahead <= input.eof_offset() {
-                        let message = "a repeated parser must take something";
-                        return Err(Failure::Cut(E::assert(alloc, input, message)));
-                    }
-                    if let Err(refused) = gathered.accumulate(alloc, value) {
-                        return Err(Failure::Refused(refused));
-                    }
-                    count += 1;
-                }
-                Err(Failure::Backtrack(error)) => {
-                    if count < self.least {
-                        return Err(Failure::Backtrack(error));
-                    }
-                    input.reset(&start);
-                    return Ok(gathered);
-                }
-                Err(Failure::Cut(error)) => return Err(Failure::Cut(error)),
-                Err(Failure::Incomplete(needed)) => return Err(Failure::Incomplete(needed)),
-                Err(Failure::Refused(refused)) => return Err(Failure::Refused(refused)),
+    fn parse_next(&self, alloc: Global, input: &mut I) -> ModalResult<G::Whole, E> {
+        let counts = Counts::of(&self.counts);
+        if !counts.ascend() {
+            let message = "the greatest count must not be below the least";
+            return Err(Failure::Cut(E::assert(alloc, input, message)));
+        }
+        // What remains is no wider than a `usize` says, so the values can be counted.
+        let _ = input.eof_offset();
+        match self.gather.begin(alloc) {
+            Ok(whole) => {
+                let again = Again {
+                    parser: &self.inner,
+                    gather: &self.gather,
+                    counts,
+                };
+                go_on(&again, alloc, whole, input)
             }
+            Err(refused) => Err(Failure::Refused(refused)),
         }
     }
 }

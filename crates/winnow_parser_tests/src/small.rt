@@ -135,9 +135,9 @@ where
             input,
         ),
         told(alloc, terminated(take(1), literal("c")), input),
-        told(alloc, repeat::<_, usize>(3.., one_of('a'..='c')), input),
-        told(alloc, repeat::<_, usize>(4.., one_of('a'..='c')), input),
-        told(alloc, repeat::<_, usize>(0.., opt(one_of('x'))), input),
+        told(alloc, repeat::<_, usize, _>(3.., one_of('a'..='c')), input),
+        told(alloc, repeat::<_, usize, _>(4.., one_of('a'..='c')), input),
+        told(alloc, repeat::<_, usize, _>(0.., opt(one_of('x'))), input),
     ]
 }
 

@@ -1,29 +1,26 @@
-use Rattle.std.proofs.Common.{◌<◌, [], ◌∷◌, ◌++◌, arith, subst, length-append}
-use Rattle.winnow_stream.specs.Source.{width}
-use Rattle.winnow_parser.specs.Outcome.{Gives}
-use Rattle.winnow_parser.specs.Answer.{ahead}
-use Rattle.winnow_combinator.specs.Repetition.{InTurn-more}
+use Rattle.std.proofs.Common.{List, refl, subst}
+use Rattle.std.specs.List.{FoldsTo}
+use Rattle.std.proofs.lemmas.Fn.{chained_keeps}
+use Rattle.winnow_parser.specs.Answer.{ahead, outcome}
+use Rattle.winnow_count.specs.CountRange.{least_count, greatest_count}
+use Rattle.winnow_combinator.specs.Counts.{Ascending}
+use Rattle.winnow_combinator.specs.Repetition.{Repeated}
+use Rattle.winnow_combinator.specs.Gathering.{Gathered}
+use Rattle.winnow_combinator.proofs.lemmas.CountLemmas.{Ascending-asks}
+use Rattle.winnow_combinator.proofs.lemmas.GatherLemmas.{Gathered-as}
 use Rattle.winnow_combinator.proofs.repetition.RepeatedParser.parse_next.Goals as goal
 
-pub loop-value-preserved : goal.loop-value-preserved
-loop-value-preserved g c =
+pub returns-in-Ok-clause-means : goal.returns-in-Ok-clause-means
+returns-in-Ok-clause-means g c =
     let stands = ahead g.I.Rest.location g.I.Stream.remaining in
-    let xs = c.loop-value.invariant.0 in
-    let so_far = c.loop-value.invariant.1 in
-    let x = c.in-Ok-parse_next.value in
-    let here = stands c.loop-value.input in
-    let next = stands c.parse_next.new.input in
+    let parser = c.args.self.now in
+    let counts = c.of-counts.result in
     let partial = g.I.StreamIsPartial.expects_more c.args.input.now in
-    let flag = g.met.I.StreamIsPartial.keeps_flag c.args.input.now c.loop-value.input so_far.kept in
-    let means = subst (λ more. g.P.Parser.means c.args.self.now.inner more here (Gives x next)) flag c.in-Ok-parse_next.ensures.means in
-    let less : width (g.I.Stream.remaining c.parse_next.new.input) < width (g.I.Stream.remaining c.loop-value.input) = omega (arith, c.if-ahead-eof_offset.false, c.eof_offset.ensures, c.eof_offset-ahead.ensures) in (
-      xs ++ x ∷ [],
-      record {
-        valid = c.in-Ok-parse_next.ensures.valid;
-        kept = g.met.I.Stream.keeps_transitive c.args.input.now c.loop-value.input c.parse_next.new.input so_far.kept c.in-Ok-parse_next.ensures.kept;
-        gathered = g.met.A.Accumulate.holds_taken c.loop-value.gathered c.accumulate.new.self xs x so_far.gathered c.in_default.ensures.taken;
-        counted = omega (arith, so_far.counted, length-append xs (x ∷ []));
-        room = omega (arith, less, so_far.room);
-        values = InTurn-more (g.P.Parser.means c.args.self.now.inner) partial xs x (stands c.args.input.now) here next so_far.values means less;
-      },
-    )
+    let answer = outcome c.go_on.result (stands c.go_on.new.input) in
+    let takes = g.G.Gather.takes parser.gather in
+    let makes = g.G.Gather.makes parser.gather in
+    let repeated = Repeated counts.least counts.greatest (g.P.Parser.means parser.inner) in
+    let makes_all = λ (xs : List g.row.P-Output.Denot) (whole : g.row.G-Whole.Denot) (folds : FoldsTo takes c.in-Ok.whole xs whole). chained_keeps takes makes (λ ys old x new made taken. g.met.G.Gather.makes_taken parser.gather ys old new x made taken) xs c.in-Ok.whole whole c.in-Ok.ensures.made folds in
+    let made = Gathered-as g.G.Gather.refusable (FoldsTo takes c.in-Ok.whole) makes repeated partial (stands c.args.input.now) answer makes_all c.go_on.ensures.means in
+    let asked = Ascending-asks counts.least (Gathered g.G.Gather.refusable makes repeated) partial (stands c.args.input.now) counts.greatest answer (c.if-not-ascend.ensures.0 refl) made in
+    subst (λ n. Ascending n.least n.greatest (Gathered g.G.Gather.refusable makes (Repeated n.least n.greatest (g.P.Parser.means parser.inner))) partial (stands c.args.input.now) answer) {y = record { least = least_count parser.counts; greatest = greatest_count parser.counts }} c.of-counts.ensures asked

@@ -1,0 +1,95 @@
+use Rattle.std.proofs.Common.{◌≡◌, ◌<◌, [], ◌∷◌, ◌++◌, length, None, Some, refl, arith, subst, length-append}
+use Rattle.std.proofs.lemmas.Bool.{false≢true}
+use Rattle.std.proofs.lemmas.Fn.{FoldsTo-push}
+use Rattle.std.specs.List.{FoldsTo}
+use Rattle.winnow_stream.specs.Source.{width}
+use Rattle.winnow_parser.specs.Outcome.{Gives, Fails}
+use Rattle.winnow_parser.specs.Answer.{ahead, failed}
+use Rattle.winnow_combinator.specs.Counts.{IsBelow}
+use Rattle.winnow_combinator.specs.Repetition.{Taking, OneMore, InTurn-more, Repeated}
+use Rattle.winnow_combinator.proofs.lemmas.CountLemmas.{IsUpTo-more, IsUpTo-full, Ascends-full}
+use Rattle.winnow_combinator.proofs.lemmas.GatherLemmas.{Gathered-fails}
+use Rattle.winnow_combinator.proofs.lemmas.RepetitionLemmas.{Repeated-ended, Repeated-full}
+use Rattle.winnow_combinator.proofs.again.go_on.Goals as goal
+
+pub loop-parser-preserved : goal.loop-parser-preserved
+loop-parser-preserved g c =
+    let stands = ahead g.I.Rest.location g.I.Stream.remaining in
+    let again = c.args.again.now in
+    let taking = Taking (g.P.Parser.means again.parser.now) in
+    let xs = c.loop-parser.invariant.0 in
+    let all = c.loop-parser.invariant.1.0 in
+    let so_far = c.loop-parser.invariant.1.1 in
+    let x = c.in-Ok-Some.value in
+    let here = stands c.loop-parser.input in
+    let next = stands c.one_more.new.input in
+    let partial = g.I.StreamIsPartial.expects_more c.args.input.now in
+    let flag = g.met.I.StreamIsPartial.keeps_flag c.args.input.now c.loop-parser.input so_far.kept in
+    let below = c.loop-parser-test.ensures.0 refl in
+    let at_value = subst (λ o. OneMore again.counts.least c.loop-parser.count taking (g.I.StreamIsPartial.expects_more c.loop-parser.input) here (Gives o next)) c.in-Ok-Some.field-0-is c.in-Ok-Some.ensures.means in
+    let means = subst (λ more. taking more here (Gives x next)) flag at_value in
+    let less : width (g.I.Stream.remaining c.one_more.new.input) < width (g.I.Stream.remaining c.loop-parser.input) = means.1 in (
+      xs ++ x ∷ [],
+      (
+        all ++ x ∷ [],
+        record {
+          valid = c.in-Ok-Some.ensures.valid;
+          kept = g.met.I.Stream.keeps_transitive c.args.input.now c.loop-parser.input c.one_more.new.input so_far.kept c.in-Ok-Some.ensures.kept;
+          gathered = FoldsTo-push (g.G.Gather.takes again.gather.now) c.args.whole xs c.loop-parser.whole x c.in-Ok.more so_far.gathered c.in-Ok.ensures.taken;
+          made = g.met.G.Gather.makes_taken again.gather.now all c.loop-parser.whole c.in-Ok.more x so_far.made c.in-Ok.ensures.taken;
+          room = omega (arith, less, so_far.room, length-append all (x ∷ []));
+          counted = omega (arith, so_far.counted, length-append xs (x ∷ []));
+          within = omega (arith, less, so_far.within);
+          up_to = IsUpTo-more again.counts.greatest c.loop-parser.count below;
+          values = InTurn-more taking partial xs x (stands c.args.input.now) here next so_far.values means;
+        },
+      ),
+    )
+
+pub returns-in-Ok-None-clause-means : goal.returns-in-Ok-None-clause-means
+returns-in-Ok-None-clause-means g c =
+    let stands = ahead g.I.Rest.location g.I.Stream.remaining in
+    let again = c.args.again.now in
+    let inner = g.P.Parser.means again.parser.now in
+    let xs = c.loop-parser.invariant.0 in
+    let so_far = c.loop-parser.invariant.1.1 in
+    let here = stands c.loop-parser.input in
+    let next = stands c.one_more.new.input in
+    let partial = g.I.StreamIsPartial.expects_more c.args.input.now in
+    let flag = g.met.I.StreamIsPartial.keeps_flag c.args.input.now c.loop-parser.input so_far.kept in
+    let below = subst (IsBelow again.counts.greatest) so_far.counted (c.loop-parser-test.ensures.0 refl) in
+    let at_none = subst (λ o. OneMore again.counts.least c.loop-parser.count (Taking inner) (g.I.StreamIsPartial.expects_more c.loop-parser.input) here (Gives o next)) c.in-Ok-None.field-0-is c.in-Ok-None.ensures.means in
+    let means = subst (λ more. OneMore again.counts.least c.loop-parser.count (Taking inner) more here (Gives None next)) flag at_none in
+    let none = subst (λ n. OneMore again.counts.least n (Taking inner) partial here (Gives None next)) so_far.counted means in
+    (xs, (so_far.gathered, Repeated-ended again.counts.least again.counts.greatest inner partial xs (stands c.args.input.now) here next so_far.values below none))
+
+pub returns-in-Err-clause-means : goal.returns-in-Err-clause-means
+returns-in-Err-clause-means g c =
+    let stands = ahead g.I.Rest.location g.I.Stream.remaining in
+    let again = c.args.again.now in
+    let inner = g.P.Parser.means again.parser.now in
+    let xs = c.loop-parser.invariant.0 in
+    let so_far = c.loop-parser.invariant.1.1 in
+    let here = stands c.loop-parser.input in
+    let next = stands c.one_more.new.input in
+    let f = failed c.in-Err.failure next in
+    let partial = g.I.StreamIsPartial.expects_more c.args.input.now in
+    let flag = g.met.I.StreamIsPartial.keeps_flag c.args.input.now c.loop-parser.input so_far.kept in
+    let below = subst (IsBelow again.counts.greatest) so_far.counted (c.loop-parser-test.ensures.0 refl) in
+    let means = subst (λ more. OneMore again.counts.least c.loop-parser.count (Taking inner) more here (Fails f)) flag c.in-Err.ensures.means in
+    let fails = subst (λ n. OneMore again.counts.least n (Taking inner) partial here (Fails f)) so_far.counted means in
+    Gathered-fails g.G.Gather.refusable (FoldsTo (g.G.Gather.takes again.gather.now) c.args.whole) (Repeated again.counts.least again.counts.greatest inner) partial (stands c.args.input.now) f
+    (xs, (here, (so_far.values, below, fails)))
+
+pub returns-clause-means : goal.returns-clause-means
+returns-clause-means g c =
+    let stands = ahead g.I.Rest.location g.I.Stream.remaining in
+    let again = c.args.again.now in
+    let counts = again.counts in
+    let inner = g.P.Parser.means again.parser.now in
+    let xs = c.loop-parser.invariant.0 in
+    let so_far = c.loop-parser.invariant.1.1 in
+    let none_more : ¬ (IsBelow counts.greatest c.loop-parser.count) = λ more. absurd (false≢true (c.loop-parser-test.ensures.1 more)) in
+    let full = subst (λ n. counts.greatest ≡ Some n) so_far.counted (IsUpTo-full counts.greatest c.loop-parser.count so_far.up_to none_more) in
+    let enough = Ascends-full counts.least counts.greatest (length xs) c.requires.ascend full in
+    (xs, (so_far.gathered, Repeated-full counts.least counts.greatest inner (g.I.StreamIsPartial.expects_more c.args.input.now) xs (stands c.args.input.now) (stands c.loop-parser.input) so_far.values enough full))

@@ -1,0 +1,27 @@
+use Rattle.std.specs.Prelude.{◌≡◌, ◌+◌, ◌<◌, ◌≤◌, ◌^◌, List, length}
+use Rattle.std.specs.List.{FoldsTo}
+use Rattle.winnow_stream.specs.Source.{width}
+use Rattle.winnow_parser.specs.Answer.{ahead}
+use Rattle.winnow_combinator.specs.Counts.{IsUpTo}
+use Rattle.winnow_combinator.specs.Repetition.{Taking, InTurn}
+use Rattle.winnow_combinator.proofs.again.go_on.Given as goal
+
+-- the parser gave some values, one after the other, from where the call began to here, and they were taken after those that were there
+abbrev pub invariant-loop-parser : goal.invariant-loop-parser
+invariant-loop-parser g l =
+    let stands = ahead g.I.Rest.location g.I.Stream.remaining in
+    (xs : List g.row.P-Output.Denot) × ((all : List g.row.P-Output.Denot) × record {
+      valid : g.I.Stream.valid l.input;
+      kept : g.I.Stream.keeps l.fn.input l.input;
+      gathered : FoldsTo (g.G.Gather.takes l.again.gather.now) l.fn.whole xs l.whole;
+      made : g.G.Gather.makes l.again.gather.now all l.whole;
+      room : length all + width (g.I.Stream.remaining l.input) < 2 ^ 64;
+      counted : l.count ≡ length xs;
+      within : l.count + width (g.I.Stream.remaining l.input) ≤ width (g.I.Stream.remaining l.fn.input);
+      up_to : IsUpTo l.again.counts.greatest l.count;
+      values : InTurn (Taking (g.P.Parser.means l.again.parser.now)) (g.I.StreamIsPartial.expects_more l.fn.input) xs (stands l.fn.input) (stands l.input);
+    })
+
+-- what remains is less and less wide
+abbrev pub decreases-loop-parser : goal.decreases-loop-parser
+decreases-loop-parser g l = width (g.I.Stream.remaining l.input)

@@ -1,0 +1,129 @@
+ghost use Rattle.std.specs.Prelude.{◌+◌, ◌<◌, ◌^◌, List, length};
+ghost use Rattle.std.specs.List.{FoldsTo};
+ghost use Rattle.winnow_stream.specs.Source.{width};
+ghost use Rattle.winnow_parser.specs.Answer.{ahead, outcome};
+ghost use Rattle.winnow_combinator.specs.Counts.{Ascends};
+ghost use Rattle.winnow_combinator.specs.Repetition.{Taking, IsParser-Taking, OneMore, Repeated};
+ghost use Rattle.winnow_combinator.specs.Gathering.{Gathered};
+
+use crate::Gather;
+use crate::counts::Counts;
+use std::alloc::Global;
+use winnow_error::ParserError;
+use winnow_parser::{Failure, ModalResult, Parser};
+use winnow_stream::StreamIsPartial;
+
+// The value of a parser, behind some tokens. A value for which nothing was taken is cut, since the
+// parser would be asked for ever.
+#[derive_where(Clone, Copy)]
+pub(crate) struct Advancing<'a, P> {
+    pub(crate) inner: &'a P,
+}
+
+impl<I: StreamIsPartial, E: ParserError<I>, P: Parser<I, E>> Parser<I, E> for Advancing<'_, P>
+where
+    P::Output: Drop,
+{
+    type Output = P::Output;
+
+    ghost means = { λ p. Taking (P.means p.inner.now) };
+
+    ghost ready = { λ p. P.ready p.inner.now };
+
+    ghost lawful = { λ p. IsParser-Taking (P.lawful p.inner.now) };
+
+    fn parse_next(&self, alloc: Global, input: &mut I) -> ModalResult<P::Output, E> {
+        let before = input.eof_offset();
+        let value = self.inner.parse_next(alloc, input)?;
+        if input.eof_offset() < before {
+            return Ok(value);
+        }
+        let message = "a repeated parser must take something";
+        Err(Failure::Cut(E::assert(alloc, input, message)))
+    }
+}
+
+// Asks a parser for one value more, after `count` of them. Where it backtracks and they are enough,
+// there is none, and the stream goes back.
+pub(crate) fn one_more<I: StreamIsPartial, E: ParserError<I>, P: Parser<I, E>>(
+    parser: &P,
+    least: usize,
+    count: usize,
+    alloc: Global,
+    input: &mut I,
+) -> ModalResult<Option<P::Output>, E>
+    requires ready { P.ready parser.now }
+    requires valid { I.valid input.old }
+    ensures means { OneMore least count (P.means parser.now) (I.expects_more input.old)
+        (ahead I.location I.remaining input.old)
+        (outcome result (ahead I.location I.remaining input.new)) }
+    ensures valid { I.valid input.new }
+    ensures kept { I.keeps input.old input.new }
+{
+    let start = input.checkpoint();
+    match parser.parse_next(alloc, input) {
+        Ok(value) => Ok(Some(value)),
+        Err(Failure::Backtrack(error)) => {
+            if count < least {
+                return Err(Failure::Backtrack(error));
+            }
+            input.reset(&start);
+            Ok(None)
+        }
+        Err(Failure::Cut(error)) => Err(Failure::Cut(error)),
+        Err(Failure::Incomplete(needed)) => Err(Failure::Incomplete(needed)),
+        Err(Failure::Refused(refused)) => Err(Failure::Refused(refused)),
+    }
+}
+
+// A parser that is asked again and again, and what is made of its values.
+#[derive_where(Clone, Copy)]
+pub(crate) struct Again<'a, P, G> {
+    pub(crate) parser: &'a P,
+    pub(crate) gather: &'a G,
+    pub(crate) counts: Counts,
+}
+
+// Asks the parser until it backtracks, or gave the greatest count of values, and gathers them after
+// those that are there.
+pub(crate) fn go_on<I: StreamIsPartial, E: ParserError<I>, P: Parser<I, E>, G: Gather<P::Output>>(
+    again: &Again<P, G>,
+    alloc: Global,
+    mut whole: G::Whole,
+    input: &mut I,
+) -> ModalResult<G::Whole, E>
+where
+    P::Output: Drop,
+    requires parser { P.ready again.now.parser.now }
+    requires gather { G.ready again.now.gather.now }
+    requires ascend { Ascends again.now.counts.least again.now.counts.greatest }
+    requires valid { I.valid input.old }
+    requires room { (before : List P.Output) × (G.makes again.now.gather.now before whole
+        × (length before + width (I.remaining input.old) < 2 ^ 64)) }
+    ensures means { Gathered G.refusable (FoldsTo (G.takes again.now.gather.now) whole)
+        (Repeated again.now.counts.least again.now.counts.greatest (P.means again.now.parser.now))
+        (I.expects_more input.old)
+        (ahead I.location I.remaining input.old)
+        (outcome result (ahead I.location I.remaining input.new)) }
+    ensures valid { I.valid input.new }
+    ensures kept { I.keeps input.old input.new }
+{
+    let parser = Advancing {
+        inner: again.parser,
+    };
+    let mut count = 0;
+    while again.counts.allow_more(count) {
+        match one_more(&parser, again.counts.least, count, alloc, input) {
+            Ok(Some(value)) => match again.gather.take(alloc, whole, value) {
+                Ok(more) => {
+                    whole = more;
+                    count += 1;
+                }
+                Err(refused) => return Err(Failure::Refused(refused)),
+            },
+            Ok(None) => return Ok(whole),
+            Err(failure) => return Err(failure),
+        }
+    }
+    Ok(whole)
+}

@@ -1,0 +1,66 @@
+ghost use Rattle.std.specs.Prelude.{◌≡◌, ◌↔◌, ◌-◌, ◌≤◌, IsTrue};
+ghost use Rattle.winnow_count.specs.CountRange.{least_count, greatest_count};
+ghost use Rattle.winnow_combinator.specs.Counts.{IsBelow, Ascends, fewer};
+
+use std::ops::{Bound, RangeBounds};
+use winnow_count::Range;
+
+// How many values are wanted: a least count, and perhaps a greatest.
+#[derive(Clone, Copy)]
+pub(crate) struct Counts {
+    pub(crate) least: usize,
+    pub(crate) greatest: Option<usize>,
+}
+
+impl Counts {
+    // Returns the counts of a range.
+    pub(crate) fn of(range: &Range) -> Self
+        ensures { result
+            ≡ record { least = least_count range.now; greatest = greatest_count range.now } }
+    {
+        let least = match range.start_bound() {
+            Bound::Included(least) => *least,
+            Bound::Excluded(_) | Bound::Unbounded => 0,
+        };
+        let greatest = match range.end_bound() {
+            Bound::Included(greatest) => Some(*greatest),
+            Bound::Excluded(_) | Bound::Unbounded => None,
+        };
+        Counts { least, greatest }
+    }
+
+    // Returns whether some count is allowed.
+    pub(crate) fn ascend(&self) -> bool
+        ensures { IsTrue result ↔ Ascends self.now.least self.now.greatest }
+    {
+        match self.greatest {
+            Some(greatest) => self.least <= greatest,
+            None => true,
+        }
+    }
+
+    // Returns whether one value more may be asked for where so many are there.
+    pub(crate) fn allow_more(&self, count: usize) -> bool
+        ensures { IsTrue result ↔ IsBelow self.now.greatest count }
+    {
+        match self.greatest {
+            Some(greatest) => count < greatest,
+            None => true,
+        }
+    }
+
+    // Returns the counts of what follows a first value.
+    pub(crate) fn after_one(&self) -> Self
+        ensures { result
+            ≡ record { least = self.now.least - 1; greatest = fewer self.now.greatest } }
+    {
+        let greatest = match self.greatest {
+            Some(greatest) => Some(greatest.saturating_sub(1)),
+            None => None,
+        };
+        Counts {
+            least: self.least.saturating_sub(1),
+            greatest,
+        }
+    }
+}

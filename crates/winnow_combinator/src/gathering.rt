@@ -1,0 +1,148 @@
+ghost use Rattle.std.specs.Prelude.{◌≡◌, ℕ, ◌+◌, ◌<◌, ◌^◌, List, [], ◌∷◌, ◌++◌, length, IfOk, OnErr, ⊤};
+ghost use Rattle.std.specs.List.{FoldsTo};
+ghost use Rattle.winnow_combinator.specs.Gathering.{Folds, Folds-taken};
+
+use std::alloc::{AllocError, Global};
+use std::marker::PhantomData;
+use winnow_count::Accumulate;
+
+/// What is made of the values of a repeated parser: an accumulator takes them, or a function folds
+/// them.
+pub trait Gather<T> {
+    /// What is made of them.
+    type Whole: Drop;
+
+    // What may be asked to take values.
+    ghost ready: { Self → Type 0 };
+
+    // This is made of these values, in their order.
+    ghost makes: { Self → List T → Self.Whole → Type 0 };
+
+    // This is made of that by one more value.
+    ghost takes: { Self → Self.Whole → T → Self.Whole → Type 0 };
+
+    // Whether one more value can be taken.
+    ghost can_take: { Self → Self.Whole → Type 0 };
+
+    // Whether memory is asked for, which may be refused.
+    ghost refusable: { Type 0 };
+
+    /// Takes one more value.
+    fn take(&self, alloc: Global, whole: Self::Whole, value: T) -> Result<Self::Whole, AllocError>
+        requires ready { ready self.now }
+        requires can { can_take self.now whole }
+        ensures taken { IfOk result (λ new. takes self.now whole value new) }
+        ensures refused { OnErr result refusable };
+
+    // One more value makes what the longer list makes.
+    ghost makes_taken: { (g : Self) (values : List T) (old new : Self.Whole) (value : T)
+        → makes g values old → takes g old value new → makes g (values ++ value ∷ []) new };
+
+    // As many values as a vector can have are taken.
+    ghost fits: { (g : Self) (values : List T) (whole : Self.Whole)
+        → makes g values whole → length values + 1 < 2 ^ 64 → can_take g whole };
+}
+
+/// What begins with no value.
+pub trait Begin<T>: Gather<T> {
+    /// Returns what is made of no value.
+    fn begin(&self, alloc: Global) -> Result<Self::Whole, AllocError>
+        requires { Self.ready self.now }
+        ensures made { IfOk result (λ whole. Self.makes self.now [] whole) }
+        ensures refused { OnErr result Self.refusable };
+}
+
+/// An accumulator, which takes each value.
+#[derive_where(Clone, Copy)]
+pub struct Accumulated<A> {
+    of: PhantomData<A>,
+}
+
+impl<A> Accumulated<A> {
+    // Returns what gathers values in such an accumulator.
+    pub(crate) fn new() -> Self {
+        Accumulated { of: PhantomData }
+    }
+}
+
+impl<T, A: Accumulate<T> + Drop> Gather<T> for Accumulated<A> {
+    type Whole = A;
+
+    ghost ready = { λ _. ⊤ };
+
+    ghost makes = { λ _ values whole. A.holds whole values };
+
+    ghost takes = { λ _ old value new. A.takes old value new };
+
+    ghost can_take = { λ _ whole. A.can_accumulate whole };
+
+    ghost refusable = { A.refusable };
+
+    fn take(&self, alloc: Global, mut whole: A, value: T) -> Result<A, AllocError> {
+        match whole.accumulate(alloc, value) {
+            Ok(()) => Ok(whole),
+            Err(refused) => Err(refused),
+        }
+    }
+
+    ghost makes_taken = { λ _ values old new value. A.holds_taken old new values value };
+
+    ghost fits = { λ _ values whole. A.fits whole values };
+}
+
+impl<T, A: Accumulate<T> + Drop> Begin<T> for Accumulated<A> {
+    fn begin(&self, alloc: Global) -> Result<A, AllocError> {
+        A::initial(alloc, None)
+    }
+}
+
+/// A function that folds the values, from what another function gives.
+#[derive(Clone, Copy, Drop)]
+pub struct Folded<N, F> {
+    pub(crate) init: N,
+    pub(crate) f: F,
+}
+
+impl<T, W: Drop, N: Fn() -> W, F: Fn(W, T) -> W> Gather<T> for Folded<N, F> {
+    type Whole = W;
+
+    ghost ready = { λ g. N.IsAlwaysCallable g.init × F.IsAlwaysCallable g.f };
+
+    ghost makes = { λ g. Folds (N.post g.init) (F.post g.f) };
+
+    ghost takes = { λ g. F.post g.f };
+
+    ghost can_take = { λ _ _. ⊤ };
+
+    ghost refusable = { ⊥ };
+
+    fn take(&self, _alloc: Global, whole: W, value: T) -> Result<W, AllocError> {
+        Ok((self.f)(whole, value))
+    }
+
+    ghost makes_taken = { λ g. Folds-taken (N.post g.init) (F.post g.f) };
+
+    ghost fits = { λ _ _ _ _ _. tt };
+}
+
+impl<T, W: Drop, N: Fn() -> W, F: Fn(W, T) -> W> Begin<T> for Folded<N, F> {
+    fn begin(&self, _alloc: Global) -> Result<W, AllocError> {
+        Ok((self.init)())
+    }
+}
+
+// Returns what is made of one value.
+pub(crate) fn begin_with<T: Drop, G: Begin<T>>(
+    gather: &G,
+    alloc: Global,
+    value: T,
+) -> Result<G::Whole, AllocError>
+    requires { G.ready gather.now }
+    ensures made { IfOk result (λ whole. G.makes gather.now (value ∷ []) whole) }
+    ensures refused { OnErr result G.refusable }
+{
+    match gather.begin(alloc) {
+        Ok(none) => gather.take(alloc, none, value),
+        Err(refused) => Err(refused),
+    }
+}
