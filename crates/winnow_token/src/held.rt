@@ -1,30 +1,33 @@
-ghost use Rattle.std.specs.Prelude.{◌≡◌, ◌≤◌, ◌↔◌, Bool, not, length, take, IsTrue};
-ghost use Rattle.winnow_stream.specs.Source.{width, first_offset, held_front};
-ghost use Rattle.winnow_stream.specs.Front.{is_offset};
+ghost use Rattle.std.specs.Prelude.{◌≡◌, ℕ, ◌≤◌, Bool, Option, not, length, take, Some, None, IsTrue};
+ghost use Rattle.winnow_stream.specs.Source.{width, Computes};
+ghost use Rattle.winnow_stream.specs.Front.{is_offset, front};
+ghost use Rattle.winnow_count.specs.CountRange.{least_count, greatest_count, is_up_to};
 ghost use Rattle.winnow_parser.specs.Answer.{ahead, outcome};
-ghost use Rattle.winnow_token.specs.Held.{HeldFront, IsParser-HeldFront};
+ghost use Rattle.winnow_token.specs.Held.{HeldFront, IsFound, IsParser-HeldFront, held_within};
 
-use crate::count_law;
+use crate::counts::{NO_COUNT, allow_some, has_tokens};
 use std::alloc::Global;
-use std::ops::RangeFrom;
+use winnow_count::Range;
 use winnow_error::ParserError;
 use winnow_parser::{Failure, ModalResult, Parser};
 use winnow_sets::FixedSet;
-use winnow_stream::{Needed, Stream, StreamIsPartial, held_law};
+use winnow_stream::{Needed, Stream, StreamIsPartial};
 
 /// The tokens that a set holds; [`take_while`] makes it.
 #[derive(Clone, Copy, Debug, Drop)]
 pub struct HeldTokens<C> {
-    least: usize,
+    counts: Range,
     set: C,
 }
 
-/// Returns the parser of the tokens up to the first that the set does not hold, at least so many.
-pub fn take_while<C>(counts: RangeFrom<usize>, set: C) -> HeldTokens<C>
-    ensures { result ≡ record { least = counts.start; set = set } }
+/// Returns the parser of the tokens up to the first that the set does not hold, as many as the counts allow: a number or a range
+/// of them. Where the least count is above the greatest, the parser cuts.
+pub fn take_while<N: Into<Range>, C>(counts: N, set: C) -> HeldTokens<C>
+    ensures counts { N.converts counts result.counts }
+    ensures set { result.set ≡ set }
 {
     HeldTokens {
-        least: counts.start,
+        counts: counts.into(),
         set,
     }
 }
@@ -32,31 +35,35 @@ pub fn take_while<C>(counts: RangeFrom<usize>, set: C) -> HeldTokens<C>
 impl<I: StreamIsPartial, E: ParserError<I>, C: FixedSet<I::Token>> Parser<I, E> for HeldTokens<C> {
     type Output = I::Slice;
 
-    ghost means = { λ p. HeldFront I.is_slice (C.holds p.set) p.least };
+    ghost means = { λ p. HeldFront I.is_slice
+        (C.holds p.set) (least_count p.counts) (greatest_count p.counts) };
 
     ghost ready = { λ p. C.askable p.set };
 
-    ghost lawful = { λ p. IsParser-HeldFront I.is_slice I.slices_stay (C.holds p.set) p.least };
+    ghost lawful = { λ p. IsParser-HeldFront I.is_slice I.slices_stay
+        (C.holds p.set) (least_count p.counts) (greatest_count p.counts) };
 
     fn parse_next(&self, alloc: Global, input: &mut I) -> ModalResult<I::Slice, E> {
-        let end = held_end(input, &self.set);
-        take_front(alloc, input, end, self.least)
+        let counts = &self.counts;
+        take_front(alloc, input, counts, |token| self.set.holds_token(token))
     }
 }
 
 /// The tokens that a set does not hold; [`take_till`] makes it.
 #[derive(Clone, Copy, Debug, Drop)]
 pub struct OtherTokens<C> {
-    least: usize,
+    counts: Range,
     set: C,
 }
 
-/// Returns the parser of the tokens up to the first that the set holds, at least so many.
-pub fn take_till<C>(counts: RangeFrom<usize>, set: C) -> OtherTokens<C>
-    ensures { result ≡ record { least = counts.start; set = set } }
+/// Returns the parser of the tokens up to the first that the set holds, as many as the counts allow: a number or a range of them.
+/// Where the least count is above the greatest, the parser cuts.
+pub fn take_till<N: Into<Range>, C>(counts: N, set: C) -> OtherTokens<C>
+    ensures counts { N.converts counts result.counts }
+    ensures set { result.set ≡ set }
 {
     OtherTokens {
-        least: counts.start,
+        counts: counts.into(),
         set,
     }
 }
@@ -64,94 +71,145 @@ pub fn take_till<C>(counts: RangeFrom<usize>, set: C) -> OtherTokens<C>
 impl<I: StreamIsPartial, E: ParserError<I>, C: FixedSet<I::Token>> Parser<I, E> for OtherTokens<C> {
     type Output = I::Slice;
 
-    ghost means = { λ p. HeldFront I.is_slice (λ token. not (C.holds p.set token)) p.least };
+    ghost means = { λ p. HeldFront I.is_slice
+        (λ token. not (C.holds p.set token)) (least_count p.counts) (greatest_count p.counts) };
 
     ghost ready = { λ p. C.askable p.set };
 
     ghost lawful = { λ p. IsParser-HeldFront I.is_slice I.slices_stay
-        (λ token. not (C.holds p.set token)) p.least };
+        (λ token. not (C.holds p.set token)) (least_count p.counts) (greatest_count p.counts) };
 
     fn parse_next(&self, alloc: Global, input: &mut I) -> ModalResult<I::Slice, E> {
-        let end = other_end(input, &self.set);
-        take_front(alloc, input, end, self.least)
+        let counts = &self.counts;
+        take_front(alloc, input, counts, |token| !self.set.holds_token(token))
     }
 }
 
-// The width of the tokens up to the first that the set does not hold.
-fn held_end<I: Stream, C: FixedSet<I::Token>>(input: &I, set: &C) -> usize
-    requires valid { I.valid input.now }
-    requires set { C.askable set.now }
-    ensures { result ≡ width (held_front (C.holds set.now) (I.remaining input.now)) }
-{
-    held_law::<I::Token>();
-    first_other(input, set).unwrap_or(input.eof_offset())
+// A front that was found: its width, whether it has the least number of tokens, and whether more input may lengthen it.
+struct Found {
+    end: usize,
+    enough: bool,
+    grows: bool,
 }
 
-// The width of the tokens up to the first that the set holds.
-fn other_end<I: Stream, C: FixedSet<I::Token>>(input: &I, set: &C) -> usize
-    requires valid { I.valid input.now }
-    requires set { C.askable set.now }
-    ensures { result
-        ≡ width (held_front (λ token. not (C.holds set.now token)) (I.remaining input.now)) }
-{
-    held_law::<I::Token>();
-    first_held(input, set).unwrap_or(input.eof_offset())
-}
-
-// The offset of the first token that the set does not hold.
-fn first_other<I: Stream, C: FixedSet<I::Token>>(input: &I, set: &C) -> Option<usize>
-    requires valid { I.valid input.now }
-    requires set { C.askable set.now }
-    ensures { result ≡ first_offset (λ token. not (C.holds set.now token)) (I.remaining input.now) }
-{
-    input.offset_for(|token| !set.holds_token(token))
-}
-
-// The offset of the first token that the set holds.
-fn first_held<I: Stream, C: FixedSet<I::Token>>(input: &I, set: &C) -> Option<usize>
-    requires valid { I.valid input.now }
-    requires set { C.askable set.now }
-    ensures { result ≡ first_offset (λ token. not (not (C.holds set.now token)))
-        (I.remaining input.now) }
-{
-    input.offset_for(|token| set.holds_token(token))
-}
-
-// Takes a front of this width, where it has at least so many tokens, and more is there or nothing may follow. The contract speaks of
-// any set of which that is the front of what it holds.
-fn take_front<I: StreamIsPartial, E: ParserError<I>>(
+// Takes the longest front whose tokens the test holds of, as many as the counts allow.
+fn take_front<I: StreamIsPartial, E: ParserError<I>, P: Fn(I::Token) -> bool + Drop>(
     alloc: Global,
     input: &mut I,
-    end: usize,
-    least: usize,
+    counts: &Range,
+    held: P,
 ) -> ModalResult<I::Slice, E>
     requires valid { I.valid input.old }
-    requires offset { IsTrue (is_offset (I.remaining input.old) end) }
-    ensures means { (holds : I.Token → Bool) → end ≡ width (held_front holds (I.remaining input.old))
-        → HeldFront I.is_slice holds least (I.expects_more input.old)
+    requires callable { P.IsAlwaysCallable held }
+    ensures means { (holds : I.Token → Bool) → Computes (P.post held) holds
+        → HeldFront I.is_slice holds (least_count counts.now) (greatest_count counts.now)
+        (I.expects_more input.old)
         (ahead I.location I.remaining input.old)
         (outcome result (ahead I.location I.remaining input.new)) }
     ensures valid { I.valid input.new }
     ensures kept { I.keeps input.old input.new }
 {
-    count_law::<I::Token>();
-    if input.is_partial() && end == input.eof_offset() {
+    if !allow_some(counts) {
+        return Err(Failure::Cut(E::assert(alloc, input, NO_COUNT)));
+    }
+    let least = counts.least();
+    let Some(greatest) = counts.greatest() else {
+        let found = longest(input, least, held);
+        return take_found(alloc, input, found);
+    };
+    let found = longest_within(input, least, greatest, held);
+    take_found(alloc, input, found)
+}
+
+// Takes the front that was found, if it has enough tokens, and nothing that may follow lengthens it.
+fn take_found<I: StreamIsPartial, E: ParserError<I>>(
+    alloc: Global,
+    input: &mut I,
+    found: Found,
+) -> ModalResult<I::Slice, E>
+    requires valid { I.valid input.old }
+    requires offset { IsTrue (is_offset (I.remaining input.old) found.end) }
+    ensures means { (holds : I.Token → Bool) (least : ℕ) (greatest : Option ℕ)
+        → IsTrue (is_up_to greatest least)
+        → IsFound holds least greatest (I.remaining input.old) found.end found.enough found.grows
+        → HeldFront I.is_slice holds least greatest (I.expects_more input.old)
+        (ahead I.location I.remaining input.old)
+        (outcome result (ahead I.location I.remaining input.new)) }
+    ensures valid { I.valid input.new }
+    ensures kept { I.keeps input.old input.new }
+{
+    let Found { end, enough, grows } = found;
+    if grows && input.is_partial() {
         return Err(Failure::Incomplete(Needed::new(1)));
     }
-    if !has_tokens(input, end, least) {
+    if !enough {
         return Err(Failure::Backtrack(E::from_input(alloc, input)));
     }
     Ok(input.next_slice(end))
 }
 
-// Whether a front of this width has at least so many tokens.
-fn has_tokens<I: Stream>(input: &I, end: usize, least: usize) -> bool
-    requires { I.valid input.now }
-    ensures { IsTrue result
-        ↔ ((least ≤ length (I.remaining input.now)) × (width (take least (I.remaining input.now)) ≤ end)) }
+// Finds the longest front whose tokens the test holds of.
+fn longest<I: Stream, P: Fn(I::Token) -> bool + Drop>(input: &I, least: usize, held: P) -> Found
+    requires valid { I.valid input.now }
+    requires callable { P.IsAlwaysCallable held }
+    ensures offset { IsTrue (is_offset (I.remaining input.now) result.end) }
+    ensures found { (holds : I.Token → Bool) → Computes (P.post held) holds
+        → IsFound holds least None (I.remaining input.now) result.end result.enough result.grows }
 {
-    match input.offset_at(least) {
-        Ok(offset) => offset <= end,
-        Err(_) => false,
+    let room = input.eof_offset();
+    let end = input.offset_for(|token| !held(token)).unwrap_or(room);
+    Found {
+        end,
+        enough: has_tokens(input, end, least),
+        grows: end == room,
     }
+}
+
+// Finds the longest front of no more than so many tokens whose tokens the test holds of.
+fn longest_within<I: Stream, P: Fn(I::Token) -> bool + Drop>(
+    input: &I,
+    least: usize,
+    greatest: usize,
+    held: P,
+) -> Found
+    requires valid { I.valid input.now }
+    requires callable { P.IsAlwaysCallable held }
+    ensures offset { IsTrue (is_offset (I.remaining input.now) result.end) }
+    ensures found { (holds : I.Token → Bool) → Computes (P.post held) holds
+        → IsFound holds least (Some greatest) (I.remaining input.now)
+        result.end result.enough result.grows }
+{
+    let (count, end) = count_held(input, greatest, held);
+    Found {
+        end,
+        enough: least <= count,
+        grows: count < greatest && end == input.eof_offset(),
+    }
+}
+
+// Counts the tokens of that front, and measures its width, in one pass that ends with the token after it.
+fn count_held<I: Stream, P: Fn(I::Token) -> bool + Drop>(
+    input: &I,
+    greatest: usize,
+    held: P,
+) -> (usize, usize)
+    requires valid { I.valid input.now }
+    requires callable { P.IsAlwaysCallable held }
+    ensures count { result.0 ≤ length (I.remaining input.now) }
+    ensures end { result.1 ≡ width (take result.0 (I.remaining input.now)) }
+    ensures held { (holds : I.Token → Bool) → Computes (P.post held) holds
+        → take result.0 (I.remaining input.now)
+        ≡ held_within (Some greatest) holds (I.remaining input.now) }
+{
+    let mut count = 0;
+    for (offset, token) in input.iter_offsets() {
+        if !held(token) {
+            return (count, offset);
+        }
+        if count == greatest {
+            return (count, offset);
+        }
+        count += 1;
+    }
+    (count, input.eof_offset())
 }

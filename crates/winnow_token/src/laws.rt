@@ -1,13 +1,12 @@
-ghost use Rattle.std.specs.Prelude.{◌≡◌, ℕ, Bool, ◌≤◌, ◌↔◌, length, take};
-ghost use Rattle.winnow_stream.specs.Source.{Source, width, held_front, HasPositiveWidths};
+ghost use Rattle.std.specs.Prelude.{◌≡◌, ℕ, ◌≤◌, ◌↔◌, IsTrue, length, take};
+ghost use Rattle.winnow_stream.specs.Source.{Source, width, HasPositiveWidths};
+ghost use Rattle.winnow_stream.specs.Front.{is_offset, front};
 
-/// The law of counts: how many tokens a set holds at the front, by their widths. It does nothing when called: its contract is the law.
+/// The law of counts: how many tokens a front has, by its width. It has no fewer than n exactly where n tokens remain that are no wider;
+/// and it has all of them exactly where its width is the whole width. It does nothing when called: its contract is the law.
 pub fn count_law<T>()
-    ensures enough { (holds : T → Bool) (r : Source T) (n : ℕ) → HasPositiveWidths r
-        → ((n ≤ length r) × (width (take n r) ≤ width (held_front holds r)))
-        ↔ (n ≤ length (held_front holds r)) }
-    ensures all { (holds : T → Bool) (r : Source T) → HasPositiveWidths r
-        → (width (held_front holds r) ≡ width r) ↔ (length (held_front holds r) ≡ length r) }
-    ensures within { (holds : T → Bool) (r : Source T)
-        → length (held_front holds r) ≤ length r }
+    ensures enough { (r : Source T) (n w : ℕ) → HasPositiveWidths r → IsTrue (is_offset r w)
+        → ((n ≤ length r) × (width (take n r) ≤ w)) ↔ (n ≤ length (front r w)) }
+    ensures all { (r : Source T) (w : ℕ) → HasPositiveWidths r → IsTrue (is_offset r w)
+        → (w ≡ width r) ↔ (length (front r w) ≡ length r) }
 {}

@@ -2,6 +2,7 @@
 #![tactic(auto)]
 
 mod counted;
+mod counts;
 mod held;
 mod laws;
 mod one_token;

@@ -1,6 +1,6 @@
+use Rattle.std.proofs.Common.{rules}
 use Rattle.std.specs.Prelude.{not}
-use Rattle.winnow_token.specs.Held.{is_offset-held}
 use Rattle.winnow_token.proofs.held.OtherTokensParser.parse_next.Goals as goal
 
-pub take_front-requires-clause-offset : goal.take_front-requires-clause-offset
-take_front-requires-clause-offset g c = rw c.other_end-end.ensures (is_offset-held (λ token. not (g.C.FixedSet.holds c.args.self.now.set token)) (g.I.Stream.remaining c.args.input.now))
+pub returns-clause-means : goal.returns-clause-means
+returns-clause-means g c = c.take_front.ensures.means (λ token. not (g.C.FixedSet.holds c.args.self.now.set token)) (λ token answer p. search rules)

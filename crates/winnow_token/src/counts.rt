@@ -1,0 +1,33 @@
+//! What parsers of tokens ask of counts, and of how many tokens a front has.
+
+ghost use Rattle.std.specs.Prelude.{◌≡◌, ◌≤◌, ◌↔◌, IsTrue, length};
+ghost use Rattle.winnow_stream.specs.Front.{is_offset, front};
+ghost use Rattle.winnow_count.specs.CountRange.{least_count, greatest_count, is_up_to};
+
+use winnow_count::Range;
+use winnow_stream::Stream;
+
+// What is wrong with counts of which the least is above the greatest.
+pub(crate) const NO_COUNT: &str = "the least count must not be above the greatest";
+
+// Returns whether the counts allow some number of tokens.
+pub(crate) fn allow_some(counts: &Range) -> bool
+    ensures { result ≡ is_up_to (greatest_count counts.now) (least_count counts.now) }
+{
+    match counts.greatest() {
+        Some(greatest) => counts.least() <= greatest,
+        None => true,
+    }
+}
+
+// Returns whether the front of this width has at least so many tokens.
+pub(crate) fn has_tokens<I: Stream>(input: &I, end: usize, least: usize) -> bool
+    requires valid { I.valid input.now }
+    requires offset { IsTrue (is_offset (I.remaining input.now) end) }
+    ensures { IsTrue result ↔ (least ≤ length (front (I.remaining input.now) end)) }
+{
+    match input.offset_at(least) {
+        Ok(offset) => offset <= end,
+        Err(_) => false,
+    }
+}
