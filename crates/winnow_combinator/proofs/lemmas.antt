@@ -1,3 +1,4 @@
 pub mod CountLemmas
 pub mod GatherLemmas
 pub mod RepetitionLemmas
+pub mod SeparationLemmas

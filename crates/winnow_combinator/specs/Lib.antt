@@ -2,3 +2,4 @@ pub mod Counts
 pub mod Ending
 pub mod Gathering
 pub mod Repetition
+pub mod Separation

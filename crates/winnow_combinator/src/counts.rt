@@ -2,7 +2,6 @@ ghost use Rattle.std.specs.Prelude.{◌≡◌, ◌↔◌, ◌-◌, ◌≤◌, Is
 ghost use Rattle.winnow_count.specs.CountRange.{least_count, greatest_count};
 ghost use Rattle.winnow_combinator.specs.Counts.{IsBelow, Ascends, fewer};
 
-use std::ops::{Bound, RangeBounds};
 use winnow_count::Range;
 
 // How many values are wanted: a least count, and perhaps a greatest.
@@ -18,15 +17,10 @@ impl Counts {
         ensures { result
             ≡ record { least = least_count range.now; greatest = greatest_count range.now } }
     {
-        let least = match range.start_bound() {
-            Bound::Included(least) => *least,
-            Bound::Excluded(_) | Bound::Unbounded => 0,
-        };
-        let greatest = match range.end_bound() {
-            Bound::Included(greatest) => Some(*greatest),
-            Bound::Excluded(_) | Bound::Unbounded => None,
-        };
-        Counts { least, greatest }
+        Counts {
+            least: range.least(),
+            greatest: range.greatest(),
+        }
     }
 
     // Returns whether some count is allowed.

@@ -6,19 +6,23 @@ mod alternatives;
 mod counts;
 mod ending;
 mod gathering;
+mod left_fold;
 mod looking;
 mod modes;
 mod optional;
 mod repetition;
+mod separation;
 mod sequence;
 
 pub use alternatives::{Alternatives, alt};
 pub use ending::{Ended, Failing, Nothing, empty, eof, fail};
 pub use gathering::{Accumulated, Begin, Folded, Gather};
+pub use left_fold::{LeftFold, separated_foldl1};
 pub use looking::{LookedAt, Negated, not, peek};
 pub use modes::{CutOff, Softened, backtrack_err, cut_err};
 pub use optional::{Optional, opt};
 pub use repetition::{Repeated, repeat};
+pub use separation::{Separation, separated};
 pub use sequence::{
     Between, FirstOf, SecondOf, Separate, delimited, preceded, separated_pair, terminated,
 };

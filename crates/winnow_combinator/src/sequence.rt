@@ -9,8 +9,8 @@ use winnow_stream::StreamIsPartial;
 /// One parser and then another, whose value it gives; [`preceded`] makes it.
 #[derive(Clone, Copy, Drop)]
 pub struct SecondOf<A, B> {
-    first: A,
-    second: B,
+    pub(crate) first: A,
+    pub(crate) second: B,
 }
 
 /// Returns the parser of both, one after the other, that gives the second value.

@@ -1,0 +1,101 @@
+ghost use Rattle.std.specs.Prelude.{◌≡◌, ⊤};
+ghost use Rattle.winnow_combinator.specs.Separation.{FoldedLeft, IsParser-FoldedLeft};
+
+use crate::Gather;
+use crate::again::{Again, go_on};
+use crate::counts::Counts;
+use std::alloc::{AllocError, Global};
+use winnow_error::ParserError;
+use winnow_parser::{ModalResult, Parser};
+use winnow_stream::StreamIsPartial;
+
+/// Values with separators between them, folded from the left; [`separated_foldl1`] makes it.
+#[derive(Clone, Copy, Drop)]
+pub struct LeftFold<P, S, F> {
+    inner: P,
+    separator: S,
+    op: F,
+}
+
+/// Returns the parser that asks the inner one and the separator in turn, until one backtracks, and
+/// folds the values from the left by a function of what there is, the separator and the next value.
+/// A separator behind which no value stands is not taken; without a first value, it backtracks.
+///
+/// It cuts a separator and a value that together take nothing, since it would ask for ever.
+pub fn separated_foldl1<P, S, F>(parser: P, separator: S, op: F) -> LeftFold<P, S, F>
+    ensures { result ≡ record { inner = parser; separator = separator; op = op } }
+{
+    LeftFold {
+        inner: parser,
+        separator,
+        op,
+    }
+}
+
+// The function, which takes a separator and the value behind it.
+#[derive_where(Clone, Copy)]
+struct Operation<'a, F> {
+    op: &'a F,
+}
+
+impl<O: Drop, S, F: Fn(O, S, O) -> O> Gather<(S, O)> for Operation<'_, F> {
+    type Whole = O;
+
+    ghost ready = { λ g. F.IsAlwaysCallable g.op.now };
+
+    ghost makes = { λ _ _ _. ⊤ };
+
+    ghost takes = { λ g left pair new. F.post g.op.now left pair.0 pair.1 new };
+
+    ghost can_take = { λ _ _. ⊤ };
+
+    ghost refusable = { ⊥ };
+
+    fn take(&self, _alloc: Global, whole: O, value: (S, O)) -> Result<O, AllocError> {
+        let (separator, right) = value;
+        Ok((self.op)(whole, separator, right))
+    }
+
+    ghost makes_taken = { λ _ _ _ _ _ _ _. tt };
+
+    ghost fits = { λ _ _ _ _ _. tt };
+}
+
+impl<
+    I: StreamIsPartial,
+    E: ParserError<I>,
+    P: Parser<I, E>,
+    S: Parser<I, E>,
+    F: Fn(P::Output, S::Output, P::Output) -> P::Output,
+> Parser<I, E> for LeftFold<P, S, F>
+where
+    P::Output: Drop,
+    S::Output: Drop,
+{
+    type Output = P::Output;
+
+    ghost means = { λ p. FoldedLeft (λ left pair new. F.post p.op left pair.0 pair.1 new)
+        (S.means p.separator) (P.means p.inner) };
+
+    ghost ready = { λ p. P.ready p.inner × S.ready p.separator × F.IsAlwaysCallable p.op };
+
+    ghost lawful = { λ p. IsParser-FoldedLeft (S.lawful p.separator) (P.lawful p.inner)
+        (λ left pair new. F.post p.op left pair.0 pair.1 new) };
+
+    fn parse_next(&self, alloc: Global, input: &mut I) -> ModalResult<P::Output, E> {
+        let first = self.inner.parse_next(alloc, input)?;
+        // What remains is no wider than a `usize` says, so the values can be counted.
+        let _ = input.eof_offset();
+        let pairs = (&self.separator, &self.inner);
+        let gather = Operation { op: &self.op };
+        let again = Again {
+            parser: &pairs,
+            gather: &gather,
+            counts: Counts {
+                least: 0,
+                greatest: None,
+            },
+        };
+        go_on(&again, alloc, first, input)
+    }
+}

@@ -1,0 +1,188 @@
+ghost use Rattle.std.specs.Prelude.{◌≡◌, ◌+◌, ◌-◌, ◌<◌, ◌^◌, ◌∷◌};
+ghost use Rattle.winnow_stream.specs.Source.{width};
+ghost use Rattle.winnow_parser.specs.Answer.{ahead, outcome};
+ghost use Rattle.winnow_parser.specs.Meanings.{Preceded};
+ghost use Rattle.winnow_count.specs.CountRange.{least_count, greatest_count};
+ghost use Rattle.winnow_combinator.specs.Counts.{Ascends, fewer, Ascending, IsParser-Ascending};
+ghost use Rattle.winnow_combinator.specs.Repetition.{Repeated};
+ghost use Rattle.winnow_combinator.specs.Gathering.{Gathered, IsParser-Gathered};
+ghost use Rattle.winnow_combinator.specs.Separation.{Chained, IfNeeded};
+ghost use Rattle.winnow_combinator.specs.Separation.{Separated, IsParser-Separated};
+ghost use Rattle.winnow_combinator.specs.Separation.{Countable, IsParser-Countable};
+
+use crate::again::{Again, go_on, one_more};
+use crate::counts::Counts;
+use crate::gathering::begin_with;
+use crate::{Accumulated, Begin, SecondOf};
+use std::alloc::{AllocError, Global};
+use winnow_count::Range;
+use winnow_error::ParserError;
+use winnow_parser::{Failure, ModalResult, Parser};
+use winnow_stream::StreamIsPartial;
+
+/// Values with separators between them, and what is made of the values; [`separated`] makes it.
+#[derive(Clone, Copy, Drop)]
+pub struct Separation<P, S, G> {
+    counts: Range,
+    inner: P,
+    separator: S,
+    gather: G,
+}
+
+/// Returns the parser that asks the inner one and the separator in turn, until one backtracks or
+/// the inner one gave the greatest count of values, and gathers these in an `A`. Where they are
+/// fewer than the least count, it backtracks. A separator behind which no value stands is not taken.
+///
+/// It cuts a separator and a value that together take nothing, since it would ask for ever, and
+/// counts of which the greatest is below the least. An input as wide as a `usize` can say is
+/// refused, since it might hold one value more than that.
+pub fn separated<P, S, A, C: Into<Range>>(
+    counts: C,
+    parser: P,
+    separator: S,
+) -> Separation<P, S, Accumulated<A>>
+    ensures counts { C.converts counts result.counts }
+    ensures inner { result.inner ≡ parser }
+    ensures separator { result.separator ≡ separator }
+{
+    Separation {
+        counts: counts.into(),
+        inner: parser,
+        separator,
+        gather: Accumulated::new(),
+    }
+}
+
+// Reads what follows the first value.
+fn rest<
+    I: StreamIsPartial,
+    E: ParserError<I>,
+    P: Parser<I, E>,
+    S: Parser<I, E>,
+    G: Begin<P::Output>,
+>(
+    list: &Separation<P, S, G>,
+    counts: &Counts,
+    first: P::Output,
+    alloc: Global,
+    input: &mut I,
+) -> ModalResult<G::Whole, E>
+where
+    P::Output: Drop,
+    S::Output: Drop,
+    requires inner { P.ready list.now.inner }
+    requires separator { S.ready list.now.separator }
+    requires gather { G.ready list.now.gather }
+    requires ascend { Ascends counts.now.least counts.now.greatest }
+    requires valid { I.valid input.old }
+    requires room { width (I.remaining input.old) + 1 < 2 ^ 64 }
+    ensures means { Gathered G.refusable (λ xs whole. G.makes list.now.gather (first ∷ xs) whole)
+        (Repeated (counts.now.least - 1) (fewer counts.now.greatest)
+        (Preceded (S.means list.now.separator) (P.means list.now.inner)))
+        (I.expects_more input.old)
+        (ahead I.location I.remaining input.old)
+        (outcome result (ahead I.location I.remaining input.new)) }
+    ensures valid { I.valid input.new }
+    ensures kept { I.keeps input.old input.new }
+{
+    match begin_with(&list.gather, alloc, first) {
+        Ok(whole) => {
+            let pairs = SecondOf {
+                first: &list.separator,
+                second: &list.inner,
+            };
+            let again = Again {
+                parser: &pairs,
+                gather: &list.gather,
+                counts: counts.after_one(),
+            };
+            go_on(&again, alloc, whole, input)
+        }
+        Err(refused) => Err(Failure::Refused(refused)),
+    }
+}
+
+// Reads the values, of which one at least is allowed.
+fn values<
+    I: StreamIsPartial,
+    E: ParserError<I>,
+    P: Parser<I, E>,
+    S: Parser<I, E>,
+    G: Begin<P::Output>,
+>(
+    list: &Separation<P, S, G>,
+    counts: &Counts,
+    alloc: Global,
+    input: &mut I,
+) -> ModalResult<G::Whole, E>
+where
+    P::Output: Drop,
+    S::Output: Drop,
+    requires inner { P.ready list.now.inner }
+    requires separator { S.ready list.now.separator }
+    requires gather { G.ready list.now.gather }
+    requires ascend { Ascends counts.now.least counts.now.greatest }
+    requires valid { I.valid input.old }
+    requires room { width (I.remaining input.old) + 1 < 2 ^ 64 }
+    ensures means { Gathered G.refusable (G.makes list.now.gather)
+        (IfNeeded counts.now.least (Chained counts.now.least counts.now.greatest
+        (S.means list.now.separator) (P.means list.now.inner)))
+        (I.expects_more input.old)
+        (ahead I.location I.remaining input.old)
+        (outcome result (ahead I.location I.remaining input.new)) }
+    ensures valid { I.valid input.new }
+    ensures kept { I.keeps input.old input.new }
+{
+    match one_more(&list.inner, counts.least, 0, alloc, input) {
+        Ok(Some(first)) => rest(list, counts, first, alloc, input),
+        Ok(None) => match list.gather.begin(alloc) {
+            Ok(none) => Ok(none),
+            Err(refused) => Err(Failure::Refused(refused)),
+        },
+        Err(failure) => Err(failure),
+    }
+}
+
+impl<
+    I: StreamIsPartial,
+    E: ParserError<I>,
+    P: Parser<I, E>,
+    S: Parser<I, E>,
+    G: Begin<P::Output>,
+> Parser<I, E> for Separation<P, S, G>
+where
+    P::Output: Drop,
+    S::Output: Drop,
+{
+    type Output = G::Whole;
+
+    ghost means = { λ p. Ascending (least_count p.counts) (greatest_count p.counts)
+        (Countable (Gathered G.refusable (G.makes p.gather)
+        (Separated (least_count p.counts) (greatest_count p.counts)
+        (S.means p.separator) (P.means p.inner)))) };
+
+    ghost ready = { λ p. P.ready p.inner × S.ready p.separator × G.ready p.gather };
+
+    ghost lawful = { λ p. IsParser-Ascending (least_count p.counts) (greatest_count p.counts)
+        (IsParser-Countable (IsParser-Gathered G.refusable (G.makes p.gather)
+        (IsParser-Separated (least_count p.counts) (greatest_count p.counts)
+        (S.lawful p.separator) (P.lawful p.inner)))) };
+
+    fn parse_next(&self, alloc: Global, input: &mut I) -> ModalResult<G::Whole, E> {
+        let counts = Counts::of(&self.counts);
+        if !counts.ascend() {
+            let message = "the greatest count must not be below the least";
+            return Err(Failure::Cut(E::assert(alloc, input, message)));
+        }
+        if input.eof_offset() == usize::MAX {
+            return Err(Failure::Refused(AllocError));
+        }
+        if counts.allow_more(0) {
+            return values(self, &counts, alloc, input);
+        }
+        match self.gather.begin(alloc) {
+            Ok(none) => Ok(none),
+            Err(refused) => Err(Failure::Refused(refused)),
+        }
+    }
+}
