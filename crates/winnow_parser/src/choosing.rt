@@ -5,22 +5,30 @@ ghost use Rattle.winnow_parser.specs.Parts.{IsParser-Verified, IsParser-Chosen};
 
 use crate::{Failure, ModalResult, Parser};
 use std::alloc::Global;
+use std::marker::PhantomData;
 use winnow_error::{FromExternalError, ParserError};
 use winnow_stream::StreamIsPartial;
 
 /// The value, if a test holds of it; [`Parser::verify`] makes it.
-#[derive(Clone, Copy, Drop)]
-pub struct Verified<P, F> {
+#[derive(Drop)]
+#[derive_where(Clone, Copy; P, F)]
+pub struct Verified<P, F, I, E> {
     inner: P,
     test: F,
+    parses: PhantomData<(I, E)>,
 }
 
-impl<P, F> Verified<P, F> {
+impl<P, F, I, E> Verified<P, F, I, E> {
     // Returns the parser of the values of which the test holds.
     pub(crate) fn new(inner: P, test: F) -> Self
-        ensures { result ≡ record { inner = inner; test = test } }
+        ensures inner { result.inner ≡ inner }
+        ensures test { result.test ≡ test }
     {
-        Verified { inner, test }
+        Verified {
+            inner,
+            test,
+            parses: PhantomData,
+        }
     }
 }
 
@@ -33,7 +41,7 @@ fn holds_of<T, F: Fn(&T) -> bool>(test: &F, value: &T) -> bool
 }
 
 impl<I: StreamIsPartial, E: ParserError<I>, P: Parser<I, E>, F: Fn(&P::Output) -> bool> Parser<I, E>
-    for Verified<P, F>
+    for Verified<P, F, I, E>
 where
     P::Output: Drop,
 {
@@ -58,18 +66,25 @@ where
 }
 
 /// What a function makes of the value, if it makes something; [`Parser::verify_map`] makes it.
-#[derive(Clone, Copy, Drop)]
-pub struct VerifyMapped<P, F> {
+#[derive(Drop)]
+#[derive_where(Clone, Copy; P, F)]
+pub struct VerifyMapped<P, F, I, E> {
     inner: P,
     f: F,
+    parses: PhantomData<(I, E)>,
 }
 
-impl<P, F> VerifyMapped<P, F> {
+impl<P, F, I, E> VerifyMapped<P, F, I, E> {
     // Returns the parser of what the function makes of the value.
     pub(crate) fn new(inner: P, f: F) -> Self
-        ensures { result ≡ record { inner = inner; f = f } }
+        ensures inner { result.inner ≡ inner }
+        ensures f { result.f ≡ f }
     {
-        VerifyMapped { inner, f }
+        VerifyMapped {
+            inner,
+            f,
+            parses: PhantomData,
+        }
     }
 }
 
@@ -79,7 +94,7 @@ impl<
     P: Parser<I, E>,
     O,
     F: Fn(P::Output) -> Option<O>,
-> Parser<I, E> for VerifyMapped<P, F> {
+> Parser<I, E> for VerifyMapped<P, F, I, E> {
     type Output = O;
 
     ghost means = { λ p. Chosen (F.post p.f) (P.means p.inner) };
@@ -102,18 +117,25 @@ impl<
 }
 
 /// What a function makes of the value, if it does not fail; [`Parser::try_map`] makes it.
-#[derive(Clone, Copy, Drop)]
-pub struct TryMapped<P, F> {
+#[derive(Drop)]
+#[derive_where(Clone, Copy; P, F)]
+pub struct TryMapped<P, F, I, E> {
     inner: P,
     f: F,
+    parses: PhantomData<(I, E)>,
 }
 
-impl<P, F> TryMapped<P, F> {
+impl<P, F, I, E> TryMapped<P, F, I, E> {
     // Returns the parser of what the function makes of the value.
     pub(crate) fn new(inner: P, f: F) -> Self
-        ensures { result ≡ record { inner = inner; f = f } }
+        ensures inner { result.inner ≡ inner }
+        ensures f { result.f ≡ f }
     {
-        TryMapped { inner, f }
+        TryMapped {
+            inner,
+            f,
+            parses: PhantomData,
+        }
     }
 }
 
@@ -124,7 +146,7 @@ impl<
     P: Parser<I, E>,
     O,
     F: Fn(P::Output) -> Result<O, X>,
-> Parser<I, E> for TryMapped<P, F> {
+> Parser<I, E> for TryMapped<P, F, I, E> {
     type Output = O;
 
     ghost means = { λ p. Chosen (TriesTo (F.post p.f)) (P.means p.inner) };

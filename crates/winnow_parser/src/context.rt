@@ -3,27 +3,35 @@ ghost use Rattle.winnow_parser.specs.Context.{InContext, IsParser-InContext};
 
 use crate::{Failure, ModalResult, Parser};
 use std::alloc::Global;
+use std::marker::PhantomData;
 use winnow_error::AddContext;
 use winnow_stream::StreamIsPartial;
 
 /// The inner parser, whose errors are told what was being read; [`Parser::context`] makes it.
-#[derive(Clone, Copy, Drop)]
-pub struct Contextual<P, C> {
+#[derive(Drop)]
+#[derive_where(Clone, Copy; P, C)]
+pub struct Contextual<P, C, I, E> {
     inner: P,
     context: C,
+    parses: PhantomData<(I, E)>,
 }
 
-impl<P, C> Contextual<P, C> {
+impl<P, C, I, E> Contextual<P, C, I, E> {
     // Returns the parser whose errors are told the context.
     pub(crate) fn new(inner: P, context: C) -> Self
-        ensures { result ≡ record { inner = inner; context = context } }
+        ensures inner { result.inner ≡ inner }
+        ensures context { result.context ≡ context }
     {
-        Contextual { inner, context }
+        Contextual {
+            inner,
+            context,
+            parses: PhantomData,
+        }
     }
 }
 
 impl<I: StreamIsPartial, C: Copy, E: AddContext<I, C>, P: Parser<I, E>> Parser<I, E>
-    for Contextual<P, C> {
+    for Contextual<P, C, I, E> {
     type Output = P::Output;
 
     ghost means = { λ p. InContext E.add_context_refusable (P.means p.inner) };

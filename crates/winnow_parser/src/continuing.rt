@@ -3,28 +3,36 @@ ghost use Rattle.winnow_parser.specs.Continued.{Continued, IsParser-Continued};
 
 use crate::{ModalResult, Parser};
 use std::alloc::Global;
+use std::marker::PhantomData;
 use winnow_stream::StreamIsPartial;
 
 /// The parser that a function makes of the value of the one before it; [`Parser::flat_map`] makes it.
-#[derive(Clone, Copy, Drop)]
-pub struct FlatMapped<P, F> {
+#[derive(Drop)]
+#[derive_where(Clone, Copy; P, F)]
+pub struct FlatMapped<P, F, I, E> {
     first: P,
     f: F,
+    parses: PhantomData<(I, E)>,
 }
 
-impl<P, F> FlatMapped<P, F> {
+impl<P, F, I, E> FlatMapped<P, F, I, E> {
     // Returns the parser that goes on with what the function makes of the value.
     pub(crate) fn new(first: P, f: F) -> Self
-        ensures { result ≡ record { first = first; f = f } }
+        ensures first { result.first ≡ first }
+        ensures f { result.f ≡ f }
     {
-        FlatMapped { first, f }
+        FlatMapped {
+            first,
+            f,
+            parses: PhantomData,
+        }
     }
 }
 
 impl<I: StreamIsPartial, E, P: Parser<I, E>, Q: Parser<I, E> + Drop, F: Fn(P::Output) -> Q> Parser<
     I,
     E,
-> for FlatMapped<P, F> {
+> for FlatMapped<P, F, I, E> {
     type Output = Q::Output;
 
     ghost means = { λ p. Continued (F.post p.f) Q.means (P.means p.first) };

@@ -4,26 +4,34 @@ ghost use Rattle.winnow_parser.specs.Parts.{IsParser-Maps};
 
 use crate::{ModalResult, Parser};
 use std::alloc::Global;
+use std::marker::PhantomData;
 use winnow_stream::StreamIsPartial;
 
 /// What a function makes of the value; [`Parser::map`] makes it.
-#[derive(Clone, Copy, Drop)]
-pub struct Mapped<P, F> {
+#[derive(Drop)]
+#[derive_where(Clone, Copy; P, F)]
+pub struct Mapped<P, F, I, E> {
     inner: P,
     f: F,
+    parses: PhantomData<(I, E)>,
 }
 
-impl<P, F> Mapped<P, F> {
+impl<P, F, I, E> Mapped<P, F, I, E> {
     // Returns the parser of what the function makes of the value.
     pub(crate) fn new(inner: P, f: F) -> Self
-        ensures { result ≡ record { inner = inner; f = f } }
+        ensures inner { result.inner ≡ inner }
+        ensures f { result.f ≡ f }
     {
-        Mapped { inner, f }
+        Mapped {
+            inner,
+            f,
+            parses: PhantomData,
+        }
     }
 }
 
 impl<I: StreamIsPartial, E, P: Parser<I, E>, O, F: Fn(P::Output) -> O> Parser<I, E>
-    for Mapped<P, F> {
+    for Mapped<P, F, I, E> {
     type Output = O;
 
     ghost means = { λ p. Maps (F.post p.f) (P.means p.inner) };
@@ -39,22 +47,29 @@ impl<I: StreamIsPartial, E, P: Parser<I, E>, O, F: Fn(P::Output) -> O> Parser<I,
 }
 
 /// A value of its own, where the inner parser gives one; [`Parser::value`] makes it.
-#[derive(Clone, Copy, Drop)]
-pub struct Valued<P, V> {
+#[derive(Drop)]
+#[derive_where(Clone, Copy; P, V)]
+pub struct Valued<P, V, I, E> {
     inner: P,
     value: V,
+    parses: PhantomData<(I, E)>,
 }
 
-impl<P, V> Valued<P, V> {
+impl<P, V, I, E> Valued<P, V, I, E> {
     // Returns the parser of the value.
     pub(crate) fn new(inner: P, value: V) -> Self
-        ensures { result ≡ record { inner = inner; value = value } }
+        ensures inner { result.inner ≡ inner }
+        ensures value { result.value ≡ value }
     {
-        Valued { inner, value }
+        Valued {
+            inner,
+            value,
+            parses: PhantomData,
+        }
     }
 }
 
-impl<I: StreamIsPartial, E, P: Parser<I, E>, V: Copy> Parser<I, E> for Valued<P, V>
+impl<I: StreamIsPartial, E, P: Parser<I, E>, V: Copy> Parser<I, E> for Valued<P, V, I, E>
 where
     P::Output: Drop,
 {
@@ -74,21 +89,26 @@ where
 }
 
 /// Nothing, where the inner parser gives a value; [`Parser::void`] makes it.
-#[derive(Clone, Copy, Drop)]
-pub struct Voided<P> {
+#[derive(Drop)]
+#[derive_where(Clone, Copy; P)]
+pub struct Voided<P, I, E> {
     inner: P,
+    parses: PhantomData<(I, E)>,
 }
 
-impl<P> Voided<P> {
+impl<P, I, E> Voided<P, I, E> {
     // Returns the parser of nothing.
     pub(crate) fn new(inner: P) -> Self
-        ensures { result ≡ record { inner = inner } }
+        ensures inner { result.inner ≡ inner }
     {
-        Voided { inner }
+        Voided {
+            inner,
+            parses: PhantomData,
+        }
     }
 }
 
-impl<I: StreamIsPartial, E, P: Parser<I, E>> Parser<I, E> for Voided<P>
+impl<I: StreamIsPartial, E, P: Parser<I, E>> Parser<I, E> for Voided<P, I, E>
 where
     P::Output: Drop,
 {

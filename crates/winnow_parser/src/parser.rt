@@ -40,86 +40,93 @@ pub trait Parser<I: StreamIsPartial, E>: Sized {
         ensures kept { I.keeps input.old input.new };
 
     /// Returns the parser of what a function makes of the value.
-    final fn map<F>(self, f: F) -> Mapped<Self, F>
-        ensures { result ≡ record { inner = self; f = f } }
+    final fn map<F>(self, f: F) -> Mapped<Self, F, I, E>
+        ensures inner { result.inner ≡ self }
+        ensures f { result.f ≡ f }
     {
         Mapped::new(self, f)
     }
 
     /// Returns the parser that goes on with the parser that a function makes of the value: what comes first says how to read what comes next.
-    final fn flat_map<F>(self, f: F) -> FlatMapped<Self, F>
-        ensures { result ≡ record { first = self; f = f } }
+    final fn flat_map<F>(self, f: F) -> FlatMapped<Self, F, I, E>
+        ensures first { result.first ≡ self }
+        ensures f { result.f ≡ f }
     {
         FlatMapped::new(self, f)
     }
 
     /// Returns the parser that gives this value where the parser gives one.
-    final fn value<V>(self, value: V) -> Valued<Self, V>
-        ensures { result ≡ record { inner = self; value = value } }
+    final fn value<V>(self, value: V) -> Valued<Self, V, I, E>
+        ensures inner { result.inner ≡ self }
+        ensures value { result.value ≡ value }
     {
         Valued::new(self, value)
     }
 
     /// Returns the parser that gives nothing where the parser gives a value.
-    final fn void(self) -> Voided<Self>
-        ensures { result ≡ record { inner = self } }
+    final fn void(self) -> Voided<Self, I, E>
+        ensures inner { result.inner ≡ self }
     {
         Voided::new(self)
     }
 
     /// Returns the parser of the values of which the test holds; of another it backtracks, from where it began.
-    final fn verify<F>(self, test: F) -> Verified<Self, F>
-        ensures { result ≡ record { inner = self; test = test } }
+    final fn verify<F>(self, test: F) -> Verified<Self, F, I, E>
+        ensures inner { result.inner ≡ self }
+        ensures test { result.test ≡ test }
     {
         Verified::new(self, test)
     }
 
     /// Returns the parser of what a function makes of the value; where it makes nothing, it backtracks, from where it began.
-    final fn verify_map<F>(self, f: F) -> VerifyMapped<Self, F>
-        ensures { result ≡ record { inner = self; f = f } }
+    final fn verify_map<F>(self, f: F) -> VerifyMapped<Self, F, I, E>
+        ensures inner { result.inner ≡ self }
+        ensures f { result.f ≡ f }
     {
         VerifyMapped::new(self, f)
     }
 
     /// Returns the parser of what a function makes of the value; where it fails, it backtracks, from where it began, with an error
     /// that is made of the function's.
-    final fn try_map<F>(self, f: F) -> TryMapped<Self, F>
-        ensures { result ≡ record { inner = self; f = f } }
+    final fn try_map<F>(self, f: F) -> TryMapped<Self, F, I, E>
+        ensures inner { result.inner ≡ self }
+        ensures f { result.f ≡ f }
     {
         TryMapped::new(self, f)
     }
 
     /// Returns the parser of the slice that the parser takes.
-    final fn take(self) -> Taken<Self>
-        ensures { result ≡ record { inner = self } }
+    final fn take(self) -> Taken<Self, I, E>
+        ensures inner { result.inner ≡ self }
     {
         Taken::new(self)
     }
 
     /// Returns the parser of the value and of the slice that the parser takes.
-    final fn with_taken(self) -> WithTaken<Self>
-        ensures { result ≡ record { inner = self } }
+    final fn with_taken(self) -> WithTaken<Self, I, E>
+        ensures inner { result.inner ≡ self }
     {
         WithTaken::new(self)
     }
 
     /// Returns the parser of the range that the parser takes, in the offsets of the whole input. The stream keeps its location.
-    final fn span(self) -> Spanned<Self>
-        ensures { result ≡ record { inner = self } }
+    final fn span(self) -> Spanned<Self, I, E>
+        ensures inner { result.inner ≡ self }
     {
         Spanned::new(self)
     }
 
     /// Returns the parser of the value and of the range that the parser takes.
-    final fn with_span(self) -> WithSpan<Self>
-        ensures { result ≡ record { inner = self } }
+    final fn with_span(self) -> WithSpan<Self, I, E>
+        ensures inner { result.inner ≡ self }
     {
         WithSpan::new(self)
     }
 
     /// Returns the parser whose errors are told what was being read.
-    final fn context<C>(self, context: C) -> Contextual<Self, C>
-        ensures { result ≡ record { inner = self; context = context } }
+    final fn context<C>(self, context: C) -> Contextual<Self, C, I, E>
+        ensures inner { result.inner ≡ self }
+        ensures context { result.context ≡ context }
     {
         Contextual::new(self, context)
     }

@@ -5,25 +5,31 @@ ghost use Rattle.winnow_parser.specs.Spanned.{IsParser-Spanned, IsParser-WithSpa
 
 use crate::{ModalResult, Parser};
 use std::alloc::Global;
+use std::marker::PhantomData;
 use std::ops::Range;
 use winnow_stream::{Location, StreamIsPartial};
 
 /// The range that the inner parser takes; [`Parser::span`] makes it.
-#[derive(Clone, Copy, Drop)]
-pub struct Spanned<P> {
+#[derive(Drop)]
+#[derive_where(Clone, Copy; P)]
+pub struct Spanned<P, I, E> {
     inner: P,
+    parses: PhantomData<(I, E)>,
 }
 
-impl<P> Spanned<P> {
+impl<P, I, E> Spanned<P, I, E> {
     // Returns the parser of the range that the inner one takes.
     pub(crate) fn new(inner: P) -> Self
-        ensures { result ≡ record { inner = inner } }
+        ensures inner { result.inner ≡ inner }
     {
-        Spanned { inner }
+        Spanned {
+            inner,
+            parses: PhantomData,
+        }
     }
 }
 
-impl<I: StreamIsPartial + Location, E, P: Parser<I, E>> Parser<I, E> for Spanned<P>
+impl<I: StreamIsPartial + Location, E, P: Parser<I, E>> Parser<I, E> for Spanned<P, I, E>
 where
     P::Output: Drop,
 {
@@ -44,21 +50,26 @@ where
 }
 
 /// The value, and the range that the inner parser takes; [`Parser::with_span`] makes it.
-#[derive(Clone, Copy, Drop)]
-pub struct WithSpan<P> {
+#[derive(Drop)]
+#[derive_where(Clone, Copy; P)]
+pub struct WithSpan<P, I, E> {
     inner: P,
+    parses: PhantomData<(I, E)>,
 }
 
-impl<P> WithSpan<P> {
+impl<P, I, E> WithSpan<P, I, E> {
     // Returns the parser of the value and of the range that the inner one takes.
     pub(crate) fn new(inner: P) -> Self
-        ensures { result ≡ record { inner = inner } }
+        ensures inner { result.inner ≡ inner }
     {
-        WithSpan { inner }
+        WithSpan {
+            inner,
+            parses: PhantomData,
+        }
     }
 }
 
-impl<I: StreamIsPartial + Location, E, P: Parser<I, E>> Parser<I, E> for WithSpan<P> {
+impl<I: StreamIsPartial + Location, E, P: Parser<I, E>> Parser<I, E> for WithSpan<P, I, E> {
     type Output = (P::Output, Range<usize>);
 
     ghost means = { λ p. WithSpan (P.means p.inner) };

@@ -6,24 +6,30 @@ ghost use Rattle.winnow_parser.specs.Taken.{IsParser-WithTaken};
 
 use crate::{ModalResult, Parser, taken_width_law};
 use std::alloc::Global;
+use std::marker::PhantomData;
 use winnow_stream::{Stream, StreamIsPartial};
 
 /// The slice that the inner parser takes; [`Parser::take`] makes it.
-#[derive(Clone, Copy, Drop)]
-pub struct Taken<P> {
+#[derive(Drop)]
+#[derive_where(Clone, Copy; P)]
+pub struct Taken<P, I, E> {
     inner: P,
+    parses: PhantomData<(I, E)>,
 }
 
-impl<P> Taken<P> {
+impl<P, I, E> Taken<P, I, E> {
     // Returns the parser of the slice that the inner one takes.
     pub(crate) fn new(inner: P) -> Self
-        ensures { result ≡ record { inner = inner } }
+        ensures inner { result.inner ≡ inner }
     {
-        Taken { inner }
+        Taken {
+            inner,
+            parses: PhantomData,
+        }
     }
 }
 
-impl<I: StreamIsPartial, E, P: Parser<I, E>> Parser<I, E> for Taken<P>
+impl<I: StreamIsPartial, E, P: Parser<I, E>> Parser<I, E> for Taken<P, I, E>
 where
     P::Output: Drop,
 {
@@ -44,21 +50,26 @@ where
 }
 
 /// The value, and the slice that the inner parser takes; [`Parser::with_taken`] makes it.
-#[derive(Clone, Copy, Drop)]
-pub struct WithTaken<P> {
+#[derive(Drop)]
+#[derive_where(Clone, Copy; P)]
+pub struct WithTaken<P, I, E> {
     inner: P,
+    parses: PhantomData<(I, E)>,
 }
 
-impl<P> WithTaken<P> {
+impl<P, I, E> WithTaken<P, I, E> {
     // Returns the parser of the value and of the slice that the inner one takes.
     pub(crate) fn new(inner: P) -> Self
-        ensures { result ≡ record { inner = inner } }
+        ensures inner { result.inner ≡ inner }
     {
-        WithTaken { inner }
+        WithTaken {
+            inner,
+            parses: PhantomData,
+        }
     }
 }
 
-impl<I: StreamIsPartial, E, P: Parser<I, E>> Parser<I, E> for WithTaken<P> {
+impl<I: StreamIsPartial, E, P: Parser<I, E>> Parser<I, E> for WithTaken<P, I, E> {
     type Output = (P::Output, I::Slice);
 
     ghost means = { λ p. WithTaken I.is_slice (P.means p.inner) };

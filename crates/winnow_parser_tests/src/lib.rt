@@ -3,6 +3,8 @@
 #![tactic(auto)]
 
 #[cfg(test)]
+mod methods;
+#[cfg(test)]
 mod settings;
 #[cfg(test)]
 mod small;
