@@ -1,16 +1,19 @@
-ghost use Rattle.std.specs.Prelude.{◌≡◌, Option, ⊤};
+ghost use Rattle.std.specs.Prelude.{◌≡◌, ⊤};
 ghost use Rattle.std.specs.Fn.{FnReturnsAt};
 ghost use Rattle.winnow_parser.specs.Meanings.{Maps, Pair, Either, Optional, LookedAt};
-ghost use Rattle.winnow_parser.specs.Meanings.{Negated, CutOff, Softened, Verified, Chosen};
+ghost use Rattle.winnow_parser.specs.Meanings.{Negated, CutOff, Softened, Verified};
+ghost use Rattle.winnow_parser.specs.Taken.{Taken, WithTaken};
+ghost use Rattle.winnow_parser.specs.Spanned.{Spanned, WithSpan};
 ghost use Rattle.winnow_parser.specs.Determined.{IsDetermined, Shows, AreBothSame};
-ghost use Rattle.winnow_parser.specs.Determined.{AreSameIfAny, Respects};
+ghost use Rattle.winnow_parser.specs.Determined.{AreSameIfAny, Respects, SlicesRespect};
 
 use crate::Parser;
 use winnow_error::ParserError;
 use winnow_stream::StreamIsPartial;
 
-/// The laws of two parsers that have one answer each: so has the one after the other, and the first of both that does not backtrack.
-/// What a view shows of a value says which values are the same. It does nothing when called: its contract is the law.
+/// The laws of two parsers that have one answer each: one after the other they have one answer, and so has the first of both that does
+/// not backtrack. A view shows of a value what counts: values that show the same are the same. It does nothing when called: its
+/// contract is the law.
 pub fn determined_pair_law<
     I: StreamIsPartial,
     E: ParserError<I>,
@@ -26,4 +29,55 @@ pub fn determined_pair_law<
     ensures either { (view : A.Output → V) (a : A) (c : C)
         → IsDetermined (Shows view) (A.means a) → IsDetermined (Shows view) (C.means c)
         → IsDetermined (Shows view) (Either E.or_refusable (A.means a) (C.means c)) }
+{}
+
+/// The laws of a parser that has one answer: so has what a combinator makes of it. It does nothing when called: its contract is the law.
+pub fn determined_law<I: StreamIsPartial, E, A: Parser<I, E>, V>()
+    ensures optional { (view : A.Output → V) (a : A) → IsDetermined (Shows view) (A.means a)
+        → IsDetermined (AreSameIfAny (Shows view)) (Optional (A.means a)) }
+    ensures looked_at { (view : A.Output → V) (a : A) → IsDetermined (Shows view) (A.means a)
+        → IsDetermined (Shows view) (LookedAt (A.means a)) }
+    ensures negated { (view : A.Output → V) (a : A) → IsDetermined (Shows view) (A.means a)
+        → IsDetermined (λ _ _. ⊤) (Negated (A.means a)) }
+    ensures cut_off { (view : A.Output → V) (a : A) → IsDetermined (Shows view) (A.means a)
+        → IsDetermined (Shows view) (CutOff (A.means a)) }
+    ensures softened { (view : A.Output → V) (a : A) → IsDetermined (Shows view) (A.means a)
+        → IsDetermined (Shows view) (Softened (A.means a)) }
+    ensures spanned { (view : A.Output → V) (a : A) → IsDetermined (Shows view) (A.means a)
+        → IsDetermined (λ x y. x ≡ y) (Spanned (A.means a)) }
+    ensures with_span { (view : A.Output → V) (a : A) → IsDetermined (Shows view) (A.means a)
+        → IsDetermined (AreBothSame (Shows view) (λ x y. x ≡ y)) (WithSpan (A.means a)) }
+{}
+
+/// The laws of slices: where a view shows the same of all slices of one front, a parser of what another takes has one answer if the
+/// other has. It does nothing when called: its contract is the law.
+pub fn determined_slice_law<I: StreamIsPartial, E, A: Parser<I, E>, V, W>()
+    ensures taken { (view : A.Output → V) (bytes : I.Slice → W) (a : A)
+        → SlicesRespect I.is_slice (Shows bytes) → IsDetermined (Shows view) (A.means a)
+        → IsDetermined (Shows bytes) (Taken I.is_slice (A.means a)) }
+    ensures with_taken { (view : A.Output → V) (bytes : I.Slice → W) (a : A)
+        → SlicesRespect I.is_slice (Shows bytes) → IsDetermined (Shows view) (A.means a)
+        → IsDetermined (AreBothSame (Shows view) (Shows bytes))
+        (WithTaken I.is_slice (A.means a)) }
+{}
+
+/// The laws of functions: where a function makes of values that are the same values that are the same, what it makes of a parser with
+/// one answer has one answer. It does nothing when called: its contract is the law.
+pub fn determined_function_law<
+    I: StreamIsPartial,
+    E,
+    A: Parser<I, E>,
+    O,
+    F: Fn(A::Output) -> O,
+    G: Fn(&A::Output) -> bool,
+    V,
+    W,
+>()
+    ensures mapped { (view : A.Output → V) (other : O → W) (f : F) (a : A)
+        → Respects (Shows view) (Shows other) (F.post f) → IsDetermined (Shows view) (A.means a)
+        → IsDetermined (Shows other) (Maps (F.post f) (A.means a)) }
+    ensures verified { (view : A.Output → V) (test : G) (a : A)
+        → Respects (Shows view) (λ x y. x ≡ y) (FnReturnsAt G.Fn test)
+        → IsDetermined (Shows view) (A.means a)
+        → IsDetermined (Shows view) (Verified (FnReturnsAt G.Fn test) (A.means a)) }
 {}

@@ -23,7 +23,9 @@ mod whole;
 pub use choosing::{TryMapped, Verified, VerifyMapped};
 pub use context::Contextual;
 pub use continuing::FlatMapped;
-pub use determined::determined_pair_law;
+pub use determined::{
+    determined_function_law, determined_law, determined_pair_law, determined_slice_law,
+};
 pub use failure::{Failure, ModalResult};
 pub use laws::taken_width_law;
 pub use mapping::{Mapped, Valued, Voided};

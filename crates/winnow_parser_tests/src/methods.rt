@@ -49,7 +49,8 @@ fn a_whole_text_is_read_to_its_end(rt: HostRuntime) {
 // The first token and what remains, and the same by a reference to the parser.
 fn peeked(alloc: Global, text: &'static str) -> Option<(&'static str, char)> {
     let parser = any();
-    let answer: ModalResult<_, EmptyError> = parser.by_ref().parse_peek(alloc, text);
+    let reference = Parser::<&str, EmptyError>::by_ref(&parser);
+    let answer: ModalResult<_, EmptyError> = reference.parse_peek(alloc, text);
     value(answer)
 }
 
