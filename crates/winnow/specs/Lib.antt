@@ -10,6 +10,7 @@ pub use Rattle.winnow_token.specs.OneOf
 pub use Rattle.winnow_token.specs.Counted
 pub use Rattle.winnow_token.specs.Held
 pub use Rattle.winnow_token.specs.Literal
+pub use Rattle.winnow_token.specs.Until
 pub use Rattle.winnow_token.specs.Remaining
 pub use Rattle.winnow_combinator.specs.Ending
 pub use Rattle.winnow_combinator.specs.Repetition

@@ -1,6 +1,7 @@
 //! Parsers of tokens.
 
 pub use winnow_token::{
-    AnyToken, Counted, HeldTokens, NoneOf, OneOf, OtherTokens, Remaining, RemainingWidth, Wanted,
-    any, count_law, literal, none_of, one_of, rest, rest_len, take, take_till, take_while,
+    AnyToken, Counted, HeldTokens, NoneOf, OneOf, OtherTokens, Remaining, RemainingWidth,
+    TokensBefore, Wanted, any, count_law, hits_stay_law, literal, none_of, one_of, rest, rest_len,
+    take, take_till, take_until, take_while,
 };

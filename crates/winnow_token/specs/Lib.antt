@@ -2,4 +2,5 @@ pub mod OneOf
 pub mod Counted
 pub mod Held
 pub mod Literal
+pub mod Until
 pub mod Remaining

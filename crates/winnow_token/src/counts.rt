@@ -3,6 +3,7 @@
 ghost use Rattle.std.specs.Prelude.{◌≡◌, ◌≤◌, ◌↔◌, IsTrue, length};
 ghost use Rattle.winnow_stream.specs.Front.{is_offset, front};
 ghost use Rattle.winnow_count.specs.CountRange.{least_count, greatest_count, is_up_to};
+ghost use Rattle.winnow_token.specs.Until.{has_counts};
 
 use winnow_count::Range;
 use winnow_stream::Stream;
@@ -29,5 +30,33 @@ pub(crate) fn has_tokens<I: Stream>(input: &I, end: usize, least: usize) -> bool
     match input.offset_at(least) {
         Ok(offset) => offset <= end,
         Err(_) => false,
+    }
+}
+
+// Returns whether the front of this width has at most so many tokens.
+fn has_no_more<I: Stream>(input: &I, end: usize, greatest: usize) -> bool
+    requires valid { I.valid input.now }
+    requires offset { IsTrue (is_offset (I.remaining input.now) end) }
+    ensures { IsTrue result ↔ (length (front (I.remaining input.now) end) ≤ greatest) }
+{
+    match input.offset_at(greatest) {
+        Ok(offset) => end <= offset,
+        Err(_) => true,
+    }
+}
+
+// Returns whether the front of this width has as many tokens as the counts allow.
+pub(crate) fn has_counts<I: Stream>(input: &I, end: usize, counts: &Range) -> bool
+    requires valid { I.valid input.now }
+    requires offset { IsTrue (is_offset (I.remaining input.now) end) }
+    ensures { result ≡ has_counts (least_count counts.now) (greatest_count counts.now)
+        (I.remaining input.now) end }
+{
+    if !has_tokens(input, end, counts.least()) {
+        return false;
+    }
+    match counts.greatest() {
+        Some(greatest) => has_no_more(input, end, greatest),
+        None => true,
     }
 }

@@ -1,6 +1,9 @@
-ghost use Rattle.std.specs.Prelude.{◌≡◌, ℕ, ◌≤◌, ◌↔◌, IsTrue, length, take};
+ghost use Rattle.std.specs.Prelude.{◌≡◌, ℕ, ◌≤◌, ◌↔◌, IsTrue, List, [], ◌∷◌, length, take};
 ghost use Rattle.winnow_stream.specs.Source.{Source, width, HasPositiveWidths};
 ghost use Rattle.winnow_stream.specs.Front.{is_offset, front};
+ghost use Rattle.winnow_match.specs.Bytes.{bytes_of, utf8_of};
+ghost use Rattle.winnow_match.specs.Search.{hit, have_one_length};
+ghost use Rattle.winnow_token.specs.Until.{HitsStay};
 
 /// The law of counts: how many tokens a front has, by its width. It has no fewer than n exactly where n tokens remain that are no wider;
 /// and it has all of them exactly where its width is the whole width. It does nothing when called: its contract is the law.
@@ -9,4 +12,17 @@ pub fn count_law<T>()
         → ((n ≤ length r) × (width (take n r) ≤ w)) ↔ (n ≤ length (front r w)) }
     ensures all { (r : Source T) (w : ℕ) → HasPositiveWidths r → IsTrue (is_offset r w)
         → (w ≡ width r) ↔ (length (front r w) ≡ length r) }
+{}
+
+/// The law of hits: where one needle, or one of several needles of one length, is found in bytes or in a text, it is found at the same
+/// place when more follows. So [`take_until`](crate::take_until) may be asked on a stream that more may follow, of a byte, a character, a
+/// slice of bytes or a text. Of needles of several lengths a longer one may still come to stand before the hit. It does nothing when called:
+/// its contract is the law.
+pub fn hits_stay_law()
+    ensures in_bytes { (needle : List ℕ) → HitsStay (λ r. hit (needle ∷ []) (bytes_of r)) }
+    ensures in_text { (needle : List ℕ) → HitsStay (λ r. hit (needle ∷ []) (utf8_of r)) }
+    ensures several_in_bytes { (needles : List (List ℕ)) → IsTrue (have_one_length needles)
+        → HitsStay (λ r. hit needles (bytes_of r)) }
+    ensures several_in_text { (needles : List (List ℕ)) → IsTrue (have_one_length needles)
+        → HitsStay (λ r. hit needles (utf8_of r)) }
 {}
