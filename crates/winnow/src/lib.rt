@@ -12,6 +12,8 @@ pub mod token;
 
 pub use winnow_base::{binary, error, stream};
 pub use winnow_parser::{
-    Failure, Mapped, ModalResult, Parser, Taken, TryMapped, Valued, Verified, VerifyMapped, Voided,
-    WithTaken, taken_width_law,
+    Contextual, Failure, FlatMapped, Mapped, ModalResult, Parser, Rule, RuledFunction, Spanned,
+    Taken, TryMapped, Valued, Verified, VerifyMapped, Voided, WithSpan, WithTaken, by_rule,
+    determined_function_law, determined_law, determined_pair_law, determined_slice_law,
+    taken_width_law,
 };
