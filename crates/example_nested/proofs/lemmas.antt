@@ -1,0 +1,3 @@
+pub mod TreeLemmas
+pub mod GrammarLemmas
+pub mod AnswerLemmas

@@ -1,0 +1,69 @@
+-- What the parser of trees means, as it is written with the combinators.
+use Rattle.std.specs.Prelude.{◌≡◌, ℕ, zero, suc, ◌-◌, ◌<◌, ◌==◌, [], None, ⊤}
+use Rattle.std.proofs.Common.{ap, sym, arith}
+use Rattle.std.specs.declared.vec.Vec.{Vec}
+use Rattle.std.specs.declared.alloc.Global.{Global}
+use Rattle.winnow_parser.specs.Outcome.{Meaning}
+use Rattle.winnow_parser.specs.Laws.{IsParser}
+use Rattle.winnow_parser.specs.Meanings.{Returns, Maps, Preceded, Terminated, CutOff}
+use Rattle.winnow_parser.specs.Parts.{IsParser-Returns, IsParser-Maps, IsParser-Preceded, IsParser-Terminated, IsParser-CutOff}
+use Rattle.winnow_token.specs.OneOf.{OneOf, IsParser-OneOf}
+use Rattle.winnow_combinator.specs.Repetition.{Repeated, IsParser-Repeated}
+use Rattle.winnow_combinator.specs.Gathering.{Gathered, IsParser-Gathered}
+use Rattle.example_nested.specs.Trees.{branches_of}
+use Rattle.example_nested.specs.declared.tree.Tree.{Tree}
+
+-- a tree without branches, and the tree that has those in a vector
+abbrev pub IsLeaf : Unit {0} → Tree → Type 0
+IsLeaf nothing tree = branches_of tree ≡ []
+
+abbrev pub HasBranches : Vec Tree Global → Tree → Type 0
+HasBranches vector tree = branches_of tree ≡ vector.items
+
+module _ {T : Type 0} (code : T → ℕ) where
+  -- the bracket that opens, and the one that closes, which must come
+  abbrev pub Opens : Meaning T T
+  Opens = OneOf (λ token. 91 == code token)
+
+  abbrev pub Closes : Meaning T T
+  Closes = CutOff (OneOf (λ token. 93 == code token))
+
+  abbrev pub Bracketed : {O : Type 0} → Meaning O T → Meaning O T
+  Bracketed inner = Preceded Opens (Terminated inner Closes)
+
+  -- trees in a row, in a vector
+  abbrev pub Branches : Meaning Tree T → Meaning (Vec Tree Global) T
+  Branches inner = Gathered ⊤ (λ trees vector. vector.items ≡ trees) (Repeated 0 None inner)
+
+  -- brackets, and between them nothing, or trees that the inner one means
+  abbrev pub Leaf : Meaning Tree T
+  Leaf = Maps IsLeaf (Bracketed (Returns tt))
+
+  abbrev pub Around : Meaning Tree T → Meaning Tree T
+  Around inner = Maps HasBranches (Bracketed (Branches inner))
+
+  -- a tree that goes at most so deep
+  abbrev pub Nested : ℕ → Meaning Tree T
+  Nested zero = Leaf
+  Nested (suc depth) = Around (Nested depth)
+
+  IsParser-Bracketed : {O : Type 0} (inner : Meaning O T) → IsParser inner → IsParser (Bracketed inner)
+  IsParser-Bracketed inner p =
+      let closes = OneOf (λ token. 93 == code token) in
+      IsParser-Preceded Opens (Terminated inner Closes) (IsParser-OneOf (λ token. 91 == code token))
+      (IsParser-Terminated inner Closes p (IsParser-CutOff closes (IsParser-OneOf (λ token. 93 == code token))))
+
+  pub IsParser-Nested : (depth : ℕ) → IsParser (Nested depth)
+  IsParser-Nested zero = IsParser-Maps IsLeaf (Bracketed (Returns tt)) (IsParser-Bracketed (Returns tt) (IsParser-Returns tt))
+  IsParser-Nested (suc depth) =
+      let inner = Branches (Nested depth) in
+      IsParser-Maps HasBranches (Bracketed inner)
+      (IsParser-Bracketed inner (IsParser-Gathered ⊤ (λ trees vector. vector.items ≡ trees) (IsParser-Repeated 0 None (IsParser-Nested depth))))
+
+  -- the equations of `Nested`, by a number
+  pub Nested-zero : (depth : ℕ) → depth ≡ 0 → Leaf ≡ Nested depth
+  Nested-zero depth e = ap Nested (sym e)
+
+  pub Nested-suc : (depth : ℕ) → 0 < depth → Around (Nested (depth - 1)) ≡ Nested depth
+  Nested-suc zero l = absurd (omega (arith, l))
+  Nested-suc (suc depth) l = ap (λ n. Around (Nested n)) (omega arith)
