@@ -1,0 +1,95 @@
+//! Errors that grow: through parsers, by contexts, and by alternatives.
+
+use std::alloc::{AllocError, Global};
+use winnow_context::StrContext;
+use winnow_context::StrContext::Label;
+use winnow_error::{AddContext, ErrMode, OrTree, ParserError};
+use winnow_stream::Stream;
+
+/// An error that passes through so many parsers.
+pub fn append_all<I: Stream, E: ParserError<I>>(
+    alloc: Global,
+    input: &I,
+    error: E,
+    count: usize,
+) -> Result<E, AllocError>
+    requires { I.valid input.now }
+{
+    let start = input.checkpoint();
+    let mut error = error;
+    for _ in 0..count {
+        error = error.append(alloc, input, &start)?;
+    }
+    Ok(error)
+}
+
+/// An error that is told so many contexts.
+pub fn tell_all<I: Stream, E: AddContext<I, StrContext> + Drop>(
+    alloc: Global,
+    input: &I,
+    error: E,
+    count: usize,
+) -> Result<E, AllocError>
+    requires { I.valid input.now }
+{
+    let start = input.checkpoint();
+    let mut error = error;
+    for _ in 0..count {
+        error = error.add_context(alloc, input, &start, Label("a"))?;
+    }
+    Ok(error)
+}
+
+/// The error of one parser and of so many others that failed there.
+pub fn join_all<I: Stream, E: ParserError<I>>(
+    alloc: Global,
+    input: &I,
+    count: usize,
+) -> Result<E, AllocError> {
+    let mut error = E::from_input(alloc, input);
+    for _ in 0..count {
+        error = error.or(alloc, E::from_input(alloc, input))?;
+    }
+    Ok(error)
+}
+
+/// Alternatives, bracketed: rows of so many, one row within the other.
+pub fn bracketed<I: Stream, E: ParserError<I>>(
+    alloc: Global,
+    input: &I,
+    count: usize,
+) -> Result<OrTree<ErrMode<E>>, AllocError> {
+    let mut tree = row(alloc, input, 0)?;
+    for _ in 0..count / WIDTH {
+        let next = row(alloc, input, WIDTH)?;
+        tree = both(alloc, next, tree)?;
+    }
+    both(alloc, tree, row(alloc, input, count % WIDTH)?)
+}
+
+// No chain of brackets is longer than what a stack holds.
+const WIDTH: usize = 100;
+
+// So many alternatives behind one.
+fn row<I: Stream, E: ParserError<I>>(
+    alloc: Global,
+    input: &I,
+    count: usize,
+) -> Result<OrTree<ErrMode<E>>, AllocError> {
+    let mut tree = OrTree::One(ErrMode::from_input(alloc, input));
+    for _ in 0..count {
+        let next = OrTree::One(ErrMode::from_input(alloc, input));
+        tree = both(alloc, tree, next)?;
+    }
+    Ok(tree)
+}
+
+fn both<E: Drop>(
+    alloc: Global,
+    first: OrTree<E>,
+    second: OrTree<E>,
+) -> Result<OrTree<E>, AllocError> {
+    let first = Box::new(alloc, first)?;
+    let second = Box::new(alloc, second)?;
+    Ok(OrTree::Both(first, second))
+}

@@ -1,0 +1,70 @@
+//! Every public call of the library that may be refused memory, made where memory is there.
+//!
+//! No contract can forbid a call to say that it was refused: a body that gives up behind the first hundred items keeps its promise. So
+//! each call is made here on no items, on a few and on thousands. A line says of each whether all of that was done; its row is named as
+//! the call is. `refusals/calls` sees that no call lacks a row, and that none was refused.
+#![tactic(auto)]
+
+mod accumulators;
+mod contexts;
+mod copies;
+mod feeds;
+mod growing;
+mod items;
+mod modes;
+mod parsers;
+mod recovery;
+mod script_words;
+mod scripts;
+mod tree_parts;
+mod trees;
+
+use std::alloc::{AllocError, Global};
+use std::io;
+
+/// A call by its name, and whether it was refused.
+type Call = (&'static str, Result<(), AllocError>);
+
+fn main(rt: HostRuntime) -> io::Result<()> {
+    let none = all_on(rt.alloc(), 0)?;
+    let few = all_on(rt.alloc(), 3)?;
+    let many = all_on(rt.alloc(), 20_000)?;
+    report(&rt, &none, &few, &many)
+}
+
+// All calls on so many items.
+fn all_on(alloc: Global, count: usize) -> Result<Vec<Call>, AllocError> {
+    let mut text = String::new(alloc);
+    for _ in 0..count {
+        text.push('a')?;
+    }
+    all(alloc, text.as_str())
+}
+
+// All calls on as many items as the text has bytes, or on the text itself.
+fn all(alloc: Global, text: &str) -> Result<Vec<Call>, AllocError> {
+    let mut calls = Vec::new(alloc);
+    calls.extend_from_slice(&accumulators::starts(alloc, text.len()))?;
+    calls.extend_from_slice(&accumulators::gathers(alloc, text.len()))?;
+    calls.extend_from_slice(&scripts::calls(alloc, text))?;
+    calls.extend_from_slice(&feeds::calls(alloc, text))?;
+    calls.extend_from_slice(&copies::calls(alloc, text))?;
+    calls.extend_from_slice(&contexts::calls(alloc, text))?;
+    calls.extend_from_slice(&modes::calls(alloc, text))?;
+    calls.extend_from_slice(&trees::calls(alloc, text))?;
+    calls.extend_from_slice(&tree_parts::calls(alloc, text))?;
+    calls.extend_from_slice(&parsers::calls(alloc, text))?;
+    calls.extend_from_slice(&recovery::calls(alloc, text))?;
+    calls.extend_from_slice(&script_words::calls(alloc, text.len()))?;
+    Ok(calls)
+}
+
+// Says of each call whether it was done each time.
+fn report(rt: &impl Print, none: &[Call], few: &[Call], many: &[Call]) -> io::Result<()> {
+    for ((none, few), many) in none.iter().zip(few).zip(many) {
+        let is_refused = none.1.is_err() || few.1.is_err() || many.1.is_err();
+        let outcome = if is_refused { "refused" } else { "done" };
+        println!(rt; "{}: {outcome}", none.0)?;
+    }
+    Ok(())
+}

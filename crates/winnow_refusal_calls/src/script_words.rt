@@ -1,0 +1,73 @@
+//! What the program of scripts is made of: a literal, and scripts of each kind, as long as there are items.
+
+use crate::Call;
+use std::alloc::{AllocError, Global};
+use winnow_execute::{execute, literal};
+
+// So many times the text.
+fn push_times(all: &mut String, text: &str, count: usize) -> Result<(), AllocError> {
+    for _ in 0..count {
+        all.push_str(text)?;
+    }
+    Ok(())
+}
+
+fn read_literal(alloc: Global, count: usize) -> Result<(), AllocError> {
+    let mut word = String::new(alloc);
+    push_times(&mut word, "61", count)?;
+    let _bytes = literal(alloc, word.as_bytes())?;
+    Ok(())
+}
+
+// So many marks, a comparison with as many bytes, and an input of as many.
+fn whole_script(alloc: Global, kind: &str, count: usize) -> Result<String, AllocError> {
+    let mut script = String::from_str(alloc, kind)?;
+    push_times(&mut script, "\nmark", count)?;
+    script.push_str("\neach\ncompare 61")?;
+    push_times(&mut script, "61", count)?;
+    script.push_str("\ninput 61")?;
+    push_times(&mut script, "61", count)?;
+    script.push('\n')?;
+    Ok(script)
+}
+
+// So many marks, and as many pieces, each of which is asked what is waited for.
+fn script_of_pieces(alloc: Global, kind: &str, count: usize) -> Result<String, AllocError> {
+    let mut script = String::from_str(alloc, kind)?;
+    push_times(&mut script, "\nmark", count)?;
+    script.push_str("\neach\npiece 61")?;
+    push_times(&mut script, "\nwaits\npiece 61", count)?;
+    script.push('\n')?;
+    Ok(script)
+}
+
+// A script at fault is none that was done.
+fn run_script(alloc: Global, script: Result<String, AllocError>) -> Result<(), AllocError> {
+    match execute(alloc, script?.as_bytes()) {
+        Ok(_) => Ok(()),
+        Err(_) => Err(AllocError),
+    }
+}
+
+/// The calls of scripts.
+pub fn calls(alloc: Global, count: usize) -> [Call; 5] {
+    [
+        ("script: a literal", read_literal(alloc, count)),
+        (
+            "script: bytes",
+            run_script(alloc, whole_script(alloc, "bytes", count)),
+        ),
+        (
+            "script: text",
+            run_script(alloc, whole_script(alloc, "text", count)),
+        ),
+        (
+            "script: byte-pieces",
+            run_script(alloc, script_of_pieces(alloc, "byte-pieces", count)),
+        ),
+        (
+            "script: text-pieces",
+            run_script(alloc, script_of_pieces(alloc, "text-pieces", count)),
+        ),
+    ]
+}

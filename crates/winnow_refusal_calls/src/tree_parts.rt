@@ -1,0 +1,79 @@
+//! The parts of a tree, at inputs that are as long as there are items.
+
+use crate::Call;
+use std::alloc::{AllocError, Global};
+use winnow_context::StrContext;
+use winnow_context::StrContext::Label;
+use winnow_tree::{TreeErrorBase, TreeErrorContext};
+
+/// An error at the input.
+pub fn base<I>(input: I) -> TreeErrorBase<I> {
+    TreeErrorBase { input, cause: None }
+}
+
+/// What was being read at the input.
+pub fn context<I>(input: I) -> TreeErrorContext<I, StrContext> {
+    TreeErrorContext {
+        input,
+        context: Label("a"),
+    }
+}
+
+fn own_base_of_text(alloc: Global, text: &str) -> Result<(), AllocError> {
+    let _base = base(text).into_owned(alloc)?;
+    Ok(())
+}
+
+fn own_base_of_bytes(alloc: Global, bytes: &[u8]) -> Result<(), AllocError> {
+    let _base = base(bytes).into_owned(alloc)?;
+    Ok(())
+}
+
+fn own_context_of_text(alloc: Global, text: &str) -> Result<(), AllocError> {
+    let _context = context(text).into_owned(alloc)?;
+    Ok(())
+}
+
+fn own_context_of_bytes(alloc: Global, bytes: &[u8]) -> Result<(), AllocError> {
+    let _context = context(bytes).into_owned(alloc)?;
+    Ok(())
+}
+
+fn write_context(alloc: Global, text: &str) -> Result<(), AllocError> {
+    let _text = context(text).text(alloc)?;
+    Ok(())
+}
+
+// The text of an error without a cause, and of one that has a cause as long.
+fn write_base(alloc: Global, text: &str) -> Result<(), AllocError> {
+    let _alone = base(text).text(alloc)?;
+    let cause = Some(String::from_str(alloc, text)?);
+    let caused = TreeErrorBase { input: text, cause };
+    let _caused = caused.text(alloc)?;
+    Ok(())
+}
+
+/// The calls of parts.
+pub fn calls(alloc: Global, text: &str) -> [Call; 6] {
+    let bytes = text.as_bytes();
+    [
+        (
+            "TreeErrorBase<&str>::into_owned",
+            own_base_of_text(alloc, text),
+        ),
+        (
+            "TreeErrorBase<&[u8]>::into_owned",
+            own_base_of_bytes(alloc, bytes),
+        ),
+        (
+            "TreeErrorContext<&str, C>::into_owned",
+            own_context_of_text(alloc, text),
+        ),
+        (
+            "TreeErrorContext<&[u8], C>::into_owned",
+            own_context_of_bytes(alloc, bytes),
+        ),
+        ("TreeErrorBase<I>::text", write_base(alloc, text)),
+        ("TreeErrorContext<I, C>::text", write_context(alloc, text)),
+    ]
+}
