@@ -1,8 +1,7 @@
 -- A parser whose failures are told what was being read.
 use Rattle.std.specs.Prelude.{◌⊎◌}
-use Rattle.std.proofs.Common.{inl, inr}
 use Rattle.winnow_parser.specs.Outcome.{Ahead, Backtracks, Cuts, Needs, Refuses, Gives, Fails, Meaning}
-use Rattle.winnow_parser.specs.Laws.{IsStable, IsFinal, IsOnward, IsParser}
+use Rattle.winnow_parser.specs.Laws.{IsStable, IsOnward, IsParser}
 
 -- the same as the inner parser; where that fails, telling the error what was being read may be refused
 abbrev pub InContext : {O T : Type 0} → Type 0 → Meaning O T → Meaning O T

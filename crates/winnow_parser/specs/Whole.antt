@@ -1,5 +1,5 @@
 -- What a parser makes of a whole input.
-use Rattle.std.specs.Prelude.{◌≡◌, ◌≢◌, ℕ, ◌-◌, Bool, false, [], ◌⊎◌}
+use Rattle.std.specs.Prelude.{◌≡◌, ◌≢◌, ℕ, ◌-◌, false, [], ◌⊎◌}
 use Rattle.winnow_stream.specs.Source.{width}
 use Rattle.winnow_parser.specs.Outcome.{Ahead, Backtracks, Cuts, Gives, Fails, Meaning}
 

@@ -1,9 +1,9 @@
 -- Combinators of parsers that have one answer have one answer.
-use Rattle.std.specs.Prelude.{◌≡◌, Bool, true, false, Option, Some, None, ◌⊎◌, ⊤}
-use Rattle.std.proofs.Common.{refl, sym, ◌∙◌, ap, subst, inl, inr}
-use Rattle.winnow_parser.specs.Outcome.{Ahead, Failed, Backtracks, Cuts, Needs, Refuses, Outcome, Gives, Fails, Meaning}
-use Rattle.winnow_parser.specs.Meanings.{Returns, Maps, Pair, Either, Optional, LookedAt, Negated, CutOff, Softened, Verified, Chosen}
-use Rattle.winnow_parser.specs.Determined.{IsGranted, Agree, IsDetermined, AreBothSame, AreSameIfAny, Respects}
+use Rattle.std.specs.Prelude.{Bool, ◌⊎◌, ⊤}
+use Rattle.std.proofs.Common.{sym, ◌∙◌, subst, inl, inr}
+use Rattle.winnow_parser.specs.Outcome.{Ahead, Backtracks, Cuts, Needs, Refuses, Outcome, Gives, Fails, Meaning}
+use Rattle.winnow_parser.specs.Meanings.{Returns, Maps, Pair, Either}
+use Rattle.winnow_parser.specs.Determined.{IsGranted, Agree, IsDetermined, AreBothSame, Respects}
 
 -- ---- A value, and what a relation makes of it
 

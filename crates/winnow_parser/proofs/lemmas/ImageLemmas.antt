@@ -1,7 +1,6 @@
 -- What is made of what a parser with one answer answers has one answer.
-use Rattle.std.specs.Prelude.{◌≡◌, ℕ, Bool, true, false, Option, Some, None, ◌⊎◌, ⊤}
+use Rattle.std.specs.Prelude.{◌≡◌, Bool, true, false, Option, Some, None, ⊤}
 use Rattle.std.proofs.Common.{refl, sym, ◌∙◌, ap, subst, inl, inr}
-use Rattle.winnow_stream.specs.Source.{Source}
 use Rattle.winnow_parser.specs.Outcome.{Ahead, Failed, Backtracks, Cuts, Needs, Refuses, Outcome, Gives, Fails, Meaning}
 use Rattle.winnow_parser.specs.Meanings.{Optional, LookedAt, Negated, CutOff, Softened, Verified, Chosen}
 use Rattle.winnow_parser.specs.Determined.{IsGranted, Agree, IsDetermined, AreSameIfAny, Respects}

@@ -1,14 +1,14 @@
 -- Parsers of slices, of places, of contexts and of parsers have one answer where their parts have.
-use Rattle.std.specs.Prelude.{◌≡◌, ℕ, Bool, Some, ◌⊎◌}
+use Rattle.std.specs.Prelude.{◌≡◌, ℕ, Bool, Some}
 use Rattle.std.specs.declared.ops.Range.{Range}
 use Rattle.std.proofs.Common.{sym, ◌∙◌, ap, subst, inl, inr}
 use Rattle.winnow_stream.specs.Source.{Source}
-use Rattle.winnow_parser.specs.Outcome.{Ahead, Failed, Backtracks, Cuts, Needs, Refuses, Outcome, Gives, Fails, Meaning}
+use Rattle.winnow_parser.specs.Outcome.{Ahead, Backtracks, Cuts, Needs, Refuses, Outcome, Gives, Fails, Meaning}
 use Rattle.winnow_parser.specs.Taken.{IsFrontTaken, Taken, WithTaken}
 use Rattle.winnow_parser.specs.Spanned.{IsRangeOf, Spanned, WithSpan}
 use Rattle.winnow_parser.specs.Context.{InContext}
 use Rattle.winnow_parser.specs.Continued.{Continued}
-use Rattle.winnow_parser.specs.Determined.{IsGranted, Agree, IsDetermined, AreBothSame, SlicesRespect}
+use Rattle.winnow_parser.specs.Determined.{IsGranted, IsDetermined, AreBothSame, SlicesRespect}
 
 module _ {O S T : Type 0} (is_slice : S → Source T → ℕ → Type 0) (alike : S → S → Type 0) (fronts : SlicesRespect is_slice alike) (inner : Meaning O T) (same : O → O → Type 0) (d : IsDetermined same inner) where
   pub determined-with_taken : IsDetermined (AreBothSame same alike) (WithTaken is_slice inner)

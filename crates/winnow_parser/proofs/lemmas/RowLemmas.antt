@@ -1,5 +1,4 @@
 -- Parsers in a row have one answer where each has.
-use Rattle.std.specs.Prelude.{◌≡◌}
 use Rattle.std.proofs.Common.{subst}
 use Rattle.winnow_parser.specs.Outcome.{Meaning}
 use Rattle.winnow_parser.specs.Meanings.{Pair}
