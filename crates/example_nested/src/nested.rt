@@ -166,7 +166,8 @@ mod tests {
     use winnow_parser::Failure;
     use winnow_stream::Stream;
 
-    // What is read of a text, and how much of it is left: how many branches the tree has, or how reading failed.
+    // What is read of a text, and how much of it is left: how many branches the tree has, or how
+    // reading failed.
     fn told<I: StreamIsPartial + Drop>(alloc: Global, mut input: I, depth: usize) -> (char, usize)
     where
         I::Token: AsChar + Copy,
