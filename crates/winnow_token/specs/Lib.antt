@@ -4,3 +4,4 @@ pub mod Held
 pub mod Literal
 pub mod Until
 pub mod Remaining
+pub mod Prompt

@@ -1,9 +1,15 @@
-ghost use Rattle.std.specs.Prelude.{◌≡◌, ℕ, ◌≤◌, ◌↔◌, IsTrue, List, [], ◌∷◌, length, take};
+ghost use Rattle.std.specs.Prelude.{◌≡◌, ℕ, ◌≤◌, ◌↔◌, Bool, Option, IsTrue, List, [], ◌∷◌, length, take};
 ghost use Rattle.winnow_stream.specs.Source.{Source, width, HasPositiveWidths};
 ghost use Rattle.winnow_stream.specs.Front.{is_offset, front};
 ghost use Rattle.winnow_match.specs.Bytes.{bytes_of, utf8_of};
 ghost use Rattle.winnow_match.specs.Search.{hit, have_one_length};
+ghost use Rattle.winnow_token.specs.OneOf.{OneOf};
+ghost use Rattle.winnow_token.specs.Counted.{Counted};
+ghost use Rattle.winnow_token.specs.Held.{HeldFront};
 ghost use Rattle.winnow_token.specs.Until.{HitsStay};
+ghost use Rattle.winnow_token.specs.Prompt.{IsPrompt};
+
+use winnow_stream::Stream;
 
 /// The law of counts: how many tokens a front has, by its width. It has no fewer than n exactly where n tokens remain that are no wider;
 /// and it has all of them exactly where its width is the whole width. It does nothing when called: its contract is the law.
@@ -25,4 +31,13 @@ pub fn hits_stay_law()
         → HitsStay (λ r. hit needles (bytes_of r)) }
     ensures several_in_text { (needles : List (List ℕ)) → IsTrue (have_one_length needles)
         → HitsStay (λ r. hit needles (utf8_of r)) }
+{}
+
+/// The law of what is needed: where one token, so many, or those that a set holds are parsed, and the parser needs n tokens more, its answer is
+/// not settled once fewer have come. It does nothing when called: its contract is the law.
+pub fn prompt_law<I: Stream>()
+    ensures one { (holds : I.Token → Bool) → IsPrompt (OneOf holds) }
+    ensures counted { (n : ℕ) → IsPrompt (Counted I.counts_missing I.is_slice n) }
+    ensures held { (holds : I.Token → Bool) (least : ℕ) (greatest : Option ℕ)
+        → IsPrompt (HeldFront I.is_slice holds least greatest) }
 {}

@@ -1,0 +1,12 @@
+-- A parser that needs so many tokens answers with no fewer.
+use Rattle.std.specs.Prelude.{◌<◌, true, length}
+use Rattle.std.specs.declared.num.NonZeroUsize.{NonZeroUsize}
+use Rattle.winnow_stream.specs.Source.{Source}
+use Rattle.winnow_stream.specs.declared.needed.Needed.TheVariants.{Size}
+use Rattle.winnow_parser.specs.Outcome.{Ahead, Backtracks, Cuts, Needs, Refuses, Outcome, Gives, Fails, Meaning}
+use Rattle.winnow_parser.specs.Laws.{longer, IsSettled}
+
+-- where it needs n tokens, no answer is settled once fewer have come
+abbrev pub IsPrompt : {O T : Type 0} → Meaning O T → Type 0
+IsPrompt {O} {T} means = (a : Ahead T) (n : NonZeroUsize) (more : Source T) (v : Outcome O T)
+    → means true a (Fails (Needs (Size n))) → length more < n.value → means true (longer more a) v → ¬ IsSettled v
