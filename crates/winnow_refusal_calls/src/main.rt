@@ -12,7 +12,6 @@ mod feeds;
 mod growing;
 mod items;
 mod modes;
-mod parsers;
 mod recovery;
 mod script_words;
 mod scripts;
@@ -53,7 +52,6 @@ fn all(alloc: Global, text: &str) -> Result<Vec<Call>, AllocError> {
     calls.extend_from_slice(&modes::calls(alloc, text))?;
     calls.extend_from_slice(&trees::calls(alloc, text))?;
     calls.extend_from_slice(&tree_parts::calls(alloc, text))?;
-    calls.extend_from_slice(&parsers::calls(alloc, text))?;
     calls.extend_from_slice(&recovery::calls(alloc, text))?;
     calls.extend_from_slice(&script_words::calls(alloc, text.len()))?;
     Ok(calls)
