@@ -1,3 +1,5 @@
+pub mod Choices
+pub mod Conditional
 pub mod Counts
 pub mod Ending
 pub mod Gathering

@@ -1,6 +1,7 @@
 ghost use Rattle.std.specs.Prelude.{◌≡◌};
 ghost use Rattle.winnow_parser.specs.Meanings.{Either};
 ghost use Rattle.winnow_parser.specs.Parts.{IsParser-Either};
+ghost use Rattle.winnow_combinator.specs.Choices.{Choice3, IsParser-Choice3};
 
 use std::alloc::Global;
 use winnow_error::ParserError;
@@ -10,7 +11,7 @@ use winnow_stream::StreamIsPartial;
 /// The first of several parsers that does not backtrack; [`alt`] makes it.
 #[derive(Clone, Copy, Drop)]
 pub struct Alternatives<L> {
-    list: L,
+    pub(crate) list: L,
 }
 
 /// Returns the parser that tries each of a tuple of parsers, from the same place, until one does not backtrack. Where all do, their
@@ -64,13 +65,21 @@ impl<
 > Parser<I, E> for Alternatives<(A, B, C)> {
     type Output = A::Output;
 
-    ghost means = { λ p. Either E.or_refusable (A.means p.list.0) (Either E.or_refusable (B.means p.list.1) (C.means p.list.2)) };
+    ghost means = { λ p. Choice3 E.or_refusable (A.means p.list.0) (B.means p.list.1)
+        (C.means p.list.2) };
 
     ghost ready = { λ p. A.ready p.list.0 × B.ready p.list.1 × C.ready p.list.2 };
 
-    ghost lawful = { λ p. IsParser-Either E.or_refusable (A.means p.list.0) (Either E.or_refusable (B.means p.list.1) (C.means p.list.2)) (A.lawful p.list.0) (IsParser-Either E.or_refusable (B.means p.list.1) (C.means p.list.2) (B.lawful p.list.1) (C.lawful p.list.2)) };
+    ghost lawful = { λ p. IsParser-Choice3 E.or_refusable (A.lawful p.list.0) (B.lawful p.list.1)
+        (C.lawful p.list.2) };
 
     fn parse_next(&self, alloc: Global, input: &mut I) -> ModalResult<A::Output, E> {
-        alt((&self.list.0, alt((&self.list.1, &self.list.2)))).parse_next(alloc, input)
+        let rest = Alternatives {
+            list: (&self.list.1, &self.list.2),
+        };
+        Alternatives {
+            list: (&self.list.0, rest),
+        }
+        .parse_next(alloc, input)
     }
 }

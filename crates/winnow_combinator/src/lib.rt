@@ -3,6 +3,9 @@
 
 mod again;
 mod alternatives;
+mod alternatives_to_seven;
+mod alternatives_to_ten;
+mod conditional;
 mod counts;
 mod ending;
 mod gathering;
@@ -15,6 +18,7 @@ mod separation;
 mod sequence;
 
 pub use alternatives::{Alternatives, alt};
+pub use conditional::{Conditional, cond};
 pub use ending::{Ended, Failing, Nothing, empty, eof, fail};
 pub use gathering::{Accumulated, Begin, Folded, Gather};
 pub use left_fold::{LeftFold, separated_foldl1};

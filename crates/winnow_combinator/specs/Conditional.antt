@@ -1,0 +1,18 @@
+-- A parser that is asked or not.
+use Rattle.std.specs.Prelude.{◌≡◌, Bool, true, false, Option, Some, None}
+use Rattle.winnow_parser.specs.Outcome.{Meaning}
+use Rattle.winnow_parser.specs.Laws.{IsParser}
+use Rattle.winnow_parser.specs.Meanings.{Returns, Maps}
+use Rattle.winnow_parser.specs.Parts.{IsParser-Returns, IsParser-Maps}
+
+abbrev pub IsSomeOf : {O : Type 0} → O → Option O → Type 0
+IsSomeOf x y = Some x ≡ y
+
+-- some value, if the parser is asked; else none, and nothing is taken
+abbrev pub Conditional : {O T : Type 0} → Bool → Meaning O T → Meaning (Option O) T
+Conditional true inner = Maps IsSomeOf inner
+Conditional false inner = Returns None
+
+pub IsParser-Conditional : {O T : Type 0} (flag : Bool) {inner : Meaning O T} → IsParser inner → IsParser (Conditional flag inner)
+IsParser-Conditional true {inner} p = IsParser-Maps IsSomeOf inner p
+IsParser-Conditional false p = IsParser-Returns None

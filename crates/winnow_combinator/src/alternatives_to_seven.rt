@@ -1,0 +1,154 @@
+ghost use Rattle.winnow_combinator.specs.Choices.{Choice4, IsParser-Choice4};
+ghost use Rattle.winnow_combinator.specs.Choices.{Choice5, IsParser-Choice5};
+ghost use Rattle.winnow_combinator.specs.Choices.{Choice6, IsParser-Choice6};
+ghost use Rattle.winnow_combinator.specs.Choices.{Choice7, IsParser-Choice7};
+
+use crate::Alternatives;
+use std::alloc::Global;
+use winnow_error::ParserError;
+use winnow_parser::{ModalResult, Parser};
+use winnow_stream::StreamIsPartial;
+
+/// The first of four.
+impl<
+    I: StreamIsPartial,
+    E: ParserError<I>,
+    A: Parser<I, E>,
+    B: Parser<I, E, Output = A::Output>,
+    C: Parser<I, E, Output = A::Output>,
+    D: Parser<I, E, Output = A::Output>,
+> Parser<I, E> for Alternatives<(A, B, C, D)> {
+    type Output = A::Output;
+
+    ghost means = { λ p. Choice4 E.or_refusable (A.means p.list.0) (B.means p.list.1)
+        (C.means p.list.2) (D.means p.list.3) };
+
+    ghost ready = { λ p. A.ready p.list.0 × B.ready p.list.1 × C.ready p.list.2 × D.ready p.list.3 };
+
+    ghost lawful = { λ p. IsParser-Choice4 E.or_refusable (A.lawful p.list.0) (B.lawful p.list.1)
+        (C.lawful p.list.2) (D.lawful p.list.3) };
+
+    fn parse_next(&self, alloc: Global, input: &mut I) -> ModalResult<A::Output, E> {
+        let rest = Alternatives {
+            list: (&self.list.1, &self.list.2, &self.list.3),
+        };
+        Alternatives {
+            list: (&self.list.0, rest),
+        }
+        .parse_next(alloc, input)
+    }
+}
+
+/// The first of five.
+impl<
+    I: StreamIsPartial,
+    E: ParserError<I>,
+    A: Parser<I, E>,
+    B: Parser<I, E, Output = A::Output>,
+    C: Parser<I, E, Output = A::Output>,
+    D: Parser<I, E, Output = A::Output>,
+    F: Parser<I, E, Output = A::Output>,
+> Parser<I, E> for Alternatives<(A, B, C, D, F)> {
+    type Output = A::Output;
+
+    ghost means = { λ p. Choice5 E.or_refusable (A.means p.list.0) (B.means p.list.1)
+        (C.means p.list.2) (D.means p.list.3) (F.means p.list.4) };
+
+    ghost ready = { λ p. A.ready p.list.0 × B.ready p.list.1 × C.ready p.list.2 × D.ready p.list.3
+        × F.ready p.list.4 };
+
+    ghost lawful = { λ p. IsParser-Choice5 E.or_refusable (A.lawful p.list.0) (B.lawful p.list.1)
+        (C.lawful p.list.2) (D.lawful p.list.3) (F.lawful p.list.4) };
+
+    fn parse_next(&self, alloc: Global, input: &mut I) -> ModalResult<A::Output, E> {
+        let rest = Alternatives {
+            list: (&self.list.1, &self.list.2, &self.list.3, &self.list.4),
+        };
+        Alternatives {
+            list: (&self.list.0, rest),
+        }
+        .parse_next(alloc, input)
+    }
+}
+
+/// The first of six.
+impl<
+    I: StreamIsPartial,
+    E: ParserError<I>,
+    A: Parser<I, E>,
+    B: Parser<I, E, Output = A::Output>,
+    C: Parser<I, E, Output = A::Output>,
+    D: Parser<I, E, Output = A::Output>,
+    F: Parser<I, E, Output = A::Output>,
+    G: Parser<I, E, Output = A::Output>,
+> Parser<I, E> for Alternatives<(A, B, C, D, F, G)> {
+    type Output = A::Output;
+
+    ghost means = { λ p. Choice6 E.or_refusable (A.means p.list.0) (B.means p.list.1)
+        (C.means p.list.2) (D.means p.list.3) (F.means p.list.4) (G.means p.list.5) };
+
+    ghost ready = { λ p. A.ready p.list.0 × B.ready p.list.1 × C.ready p.list.2 × D.ready p.list.3
+        × F.ready p.list.4 × G.ready p.list.5 };
+
+    ghost lawful = { λ p. IsParser-Choice6 E.or_refusable (A.lawful p.list.0) (B.lawful p.list.1)
+        (C.lawful p.list.2) (D.lawful p.list.3) (F.lawful p.list.4) (G.lawful p.list.5) };
+
+    fn parse_next(&self, alloc: Global, input: &mut I) -> ModalResult<A::Output, E> {
+        let rest = Alternatives {
+            list: (
+                &self.list.1,
+                &self.list.2,
+                &self.list.3,
+                &self.list.4,
+                &self.list.5,
+            ),
+        };
+        Alternatives {
+            list: (&self.list.0, rest),
+        }
+        .parse_next(alloc, input)
+    }
+}
+
+/// The first of seven.
+impl<
+    I: StreamIsPartial,
+    E: ParserError<I>,
+    A: Parser<I, E>,
+    B: Parser<I, E, Output = A::Output>,
+    C: Parser<I, E, Output = A::Output>,
+    D: Parser<I, E, Output = A::Output>,
+    F: Parser<I, E, Output = A::Output>,
+    G: Parser<I, E, Output = A::Output>,
+    H: Parser<I, E, Output = A::Output>,
+> Parser<I, E> for Alternatives<(A, B, C, D, F, G, H)> {
+    type Output = A::Output;
+
+    ghost means = { λ p. Choice7 E.or_refusable (A.means p.list.0) (B.means p.list.1)
+        (C.means p.list.2) (D.means p.list.3) (F.means p.list.4) (G.means p.list.5)
+        (H.means p.list.6) };
+
+    ghost ready = { λ p. A.ready p.list.0 × B.ready p.list.1 × C.ready p.list.2 × D.ready p.list.3
+        × F.ready p.list.4 × G.ready p.list.5 × H.ready p.list.6 };
+
+    ghost lawful = { λ p. IsParser-Choice7 E.or_refusable (A.lawful p.list.0) (B.lawful p.list.1)
+        (C.lawful p.list.2) (D.lawful p.list.3) (F.lawful p.list.4) (G.lawful p.list.5)
+        (H.lawful p.list.6) };
+
+    fn parse_next(&self, alloc: Global, input: &mut I) -> ModalResult<A::Output, E> {
+        let rest = Alternatives {
+            list: (
+                &self.list.1,
+                &self.list.2,
+                &self.list.3,
+                &self.list.4,
+                &self.list.5,
+                &self.list.6,
+            ),
+        };
+        Alternatives {
+            list: (&self.list.0, rest),
+        }
+        .parse_next(alloc, input)
+    }
+}
