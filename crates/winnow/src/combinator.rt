@@ -1,7 +1,8 @@
 //! Parsers that are made of parsers.
 
 pub use winnow_combinator::{
-    Alternatives, Between, CutOff, Ended, Failing, FirstOf, LookedAt, Negated, Nothing, Optional,
-    Repeated, SecondOf, Separate, Softened, alt, backtrack_err, cut_err, delimited, empty, eof,
-    fail, not, opt, peek, preceded, repeat, separated_pair, terminated,
+    Accumulated, Alternatives, Begin, Between, Conditional, CutOff, Ended, Failing, FirstOf,
+    Folded, Gather, LeftFold, LookedAt, Negated, Nothing, Optional, Repeated, SecondOf, Separate,
+    Separation, Softened, alt, backtrack_err, cond, cut_err, delimited, empty, eof, fail, not, opt,
+    peek, preceded, repeat, separated, separated_foldl1, separated_pair, terminated,
 };

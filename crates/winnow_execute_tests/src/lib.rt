@@ -5,6 +5,8 @@
 #[cfg(test)]
 mod answers;
 #[cfg(test)]
+mod equalities;
+#[cfg(test)]
 mod faults;
 #[cfg(test)]
 mod long_scripts;

@@ -72,6 +72,41 @@ fn checkpoints_of_wrappers(rt: HostRuntime) -> Result<(), Fail> {
     Ok(())
 }
 
+// The text with a width and a precision, under `#` and without it.
+fn debugged_at_a_precision<T: Debug>(alloc: Global, value: &T) -> Result<String, AllocError> {
+    format!(in alloc; "{value:#6.2?}|{value:6.2?}")
+}
+
+// Asserts it of a stream and of where it stands.
+fn stream_debugs_at_a_precision<S: Stream + Debug>(
+    rt: &impl Abort,
+    alloc: Global,
+    s: &S,
+    wanted: &str,
+) -> Result<(), AllocError>
+    requires { S.valid s.now }
+{
+    assert_eq!(rt; debugged_at_a_precision(alloc, s)?.as_str(), wanted);
+    assert_eq!(rt; debugged_at_a_precision(alloc, &s.checkpoint())?.as_str(), wanted);
+    Ok(())
+}
+
+const FLAGS: &[bool] = &[true, false];
+
+// A flag is padded and cut.
+const CUT: &str = "[\n    tr    ,\n    fa    ,\n]|[tr    , fa    ]";
+
+#[test]
+fn streams_at_a_precision(rt: HostRuntime) -> Result<(), Fail> {
+    let alloc = rt.alloc();
+    stream_debugs_at_a_precision(&rt, alloc, &FLAGS, CUT)?;
+    stream_debugs_at_a_precision(&rt, alloc, &TokenSlice::new(FLAGS), CUT)?;
+    stream_debugs_at_a_precision(&rt, alloc, &LocatingSlice::new(FLAGS), CUT)?;
+    stream_debugs_at_a_precision(&rt, alloc, &BStr::new(b"abc"), "abc|\"abc\"")?;
+    stream_debugs_at_a_precision(&rt, alloc, &Bytes::new(b"abc"), "616263|616263")?;
+    Ok(())
+}
+
 #[test]
 fn counts_and_closures(rt: HostRuntime) -> Result<(), Fail> {
     let alloc = rt.alloc();
@@ -79,6 +114,8 @@ fn counts_and_closures(rt: HostRuntime) -> Result<(), Fail> {
     debugs(&rt, alloc, &counts, "5..=7|5..=7|5..=7|5..=7")?;
     let closure = Where(|token: u8| token < 3);
     debugs(&rt, alloc, &closure, "Where(_)|Where(_)|Where(_)|Where(_)")?;
+    assert_eq!(rt; debugged_at_a_precision(alloc, &counts)?.as_str(), "5..=7|5..=7");
+    assert_eq!(rt; debugged_at_a_precision(alloc, &closure)?.as_str(), "Where(_)|Where(_)");
     Ok(())
 }
 

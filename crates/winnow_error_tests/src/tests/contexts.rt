@@ -1,4 +1,4 @@
-use super::printing::{debugs, debugs_under_options, prints};
+use super::printing::{debugs, debugs_at_a_precision, debugs_under_options, prints};
 use crate::error_walks::blame;
 use std::alloc::{AllocError, Global};
 use std::process::Abort;
@@ -154,6 +154,40 @@ fn contexts_as_debug_text_under_options(rt: HostRuntime) -> Result<(), Fail> {
         &error,
         "ContextError {\n    context: [\n        Label(\n            \"a\",\n        ),\n        Expected(\n            CharLiteral(\n                'c',\n            ),\n        ),\n    ],\n    cause: Some(\n        \"bad\",\n    ),\n}\n\
          ContextError { context: [Label(\"a\"), Expected(CharLiteral('c'))], cause: Some(\"bad\") }",
+    )?;
+    Ok(())
+}
+
+// An error that was reading a flag.
+fn told_a_flag(alloc: Global) -> Result<ContextError<bool>, AllocError> {
+    let cause = String::from_str(alloc, "bad")?;
+    let mut error = blame::<&str, String, ContextError<bool>>(alloc, &"", cause);
+    error.push(true)?;
+    Ok(error)
+}
+
+// A flag is padded and cut, and a text is not.
+#[test]
+fn debug_texts_at_a_precision(rt: HostRuntime) -> Result<(), Fail> {
+    let alloc = rt.alloc();
+    debugs_at_a_precision(
+        &rt,
+        alloc,
+        &told_a_flag(alloc)?,
+        "ContextError {\n    context: [\n        tr    ,\n    ],\n    cause: Some(\n        \"bad\",\n    ),\n}\n\
+         ContextError { context: [tr    ], cause: Some(\"bad\") }",
+    )?;
+    debugs_at_a_precision(
+        &rt,
+        alloc,
+        &Label("abc"),
+        "Label(\n    \"abc\",\n)\nLabel(\"abc\")",
+    )?;
+    debugs_at_a_precision(
+        &rt,
+        alloc,
+        &Expected(CharLiteral('c')),
+        "Expected(\n    CharLiteral(\n        'c',\n    ),\n)\nExpected(CharLiteral('c'))",
     )?;
     Ok(())
 }

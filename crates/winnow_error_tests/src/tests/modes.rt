@@ -1,6 +1,6 @@
 ghost use Rattle.std.specs.Prelude.{◌≡◌, IfOk, codes, string_bytes};
 
-use super::printing::{debugs, debugs_under_options, prints};
+use super::printing::{debugs, debugs_at_a_precision, debugs_under_options, prints};
 use std::alloc::{AllocError, Global};
 use std::test::Fail;
 use winnow_error::ErrMode::{Backtrack, Cut, Incomplete};
@@ -139,6 +139,27 @@ fn debug_texts_under_options(rt: HostRuntime) -> Result<(), Fail> {
         &error,
         "Backtrack(\n    InputError {\n        input: [\n            49,\n            50,\n        ],\n    },\n)\n\
          Backtrack(InputError { input: [   49,    50] })",
+    )?;
+    Ok(())
+}
+
+// A flag is padded and cut.
+#[test]
+fn debug_texts_at_a_precision(rt: HostRuntime) -> Result<(), Fail> {
+    let (error, nothing): (ErrMode<InputError<bool>>, ErrMode<EmptyError>) =
+        (Backtrack(InputError::at(true)), Cut(EmptyError));
+    debugs_at_a_precision(
+        &rt,
+        rt.alloc(),
+        &error,
+        "Backtrack(\n    InputError {\n        input: tr    ,\n    },\n)\n\
+         Backtrack(InputError { input: tr     })",
+    )?;
+    debugs_at_a_precision(
+        &rt,
+        rt.alloc(),
+        &nothing,
+        "Cut(\n    EmptyError,\n)\nCut(EmptyError)",
     )?;
     Ok(())
 }

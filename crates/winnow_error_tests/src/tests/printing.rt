@@ -56,3 +56,19 @@ pub fn debugs_under_options<T: Debug>(
     is(rt, debugged_under_options(alloc, value)?, wanted);
     Ok(())
 }
+
+// The debug text with a width and a precision, under `#` and without it.
+fn debugged_at_a_precision<T: Debug>(alloc: Global, value: &T) -> Result<String, AllocError> {
+    format!(in alloc; "{value:#6.2?}\n{value:6.2?}")
+}
+
+/// Asserts the debug text with a width and a precision, which reach the parts alone, under `#` and without it.
+pub fn debugs_at_a_precision<T: Debug>(
+    rt: &impl Abort,
+    alloc: Global,
+    value: &T,
+    wanted: &str,
+) -> Result<(), AllocError> {
+    is(rt, debugged_at_a_precision(alloc, value)?, wanted);
+    Ok(())
+}

@@ -23,6 +23,9 @@ const BEGUN: &str = "aaabaaaabaaaaab";
 /// How long a needle is that is found nowhere, but for its last byte a front of the text.
 const LONG: usize = 1 << 10;
 
+/// How long a needle is that stands in no run of the letter `a`, and begins at each place of it.
+const LONGER: usize = 16 << 10;
+
 /// How wide a line of the long run is, how many a script goes through, and how long a piece is.
 const LINE: usize = 61;
 const LINES: usize = 1000;
@@ -48,6 +51,9 @@ pub struct Pieces {
     /// A long needle, and the search for it
     long: String,
     find_long: RawStep,
+    /// One that begins at each place of the run
+    long_begun: String,
+    find_long_begun: RawStep,
     at: [RawStep; 1],
     compare: Vec<RawStep>,
     /// Lines that begin again behind their end, the script of a thousand of them, and how long the run is
@@ -79,6 +85,8 @@ impl Pieces {
             find_begun: first_needle(FIND[2]),
             long: format!("{}:", front(&ascii, LONG - 1)),
             find_long: RawStep::search(FIND[0], 0, LONG),
+            long_begun: format!("{}b", "a".repeat(LONGER - 1)),
+            find_long_begun: RawStep::search(FIND[0], 0, LONGER),
             at: [RawStep::from(Step::At(usize::MAX))],
             compare: CUTS.iter().map(|(_, _, part)| RawStep::search(COMPARE, 0, waiting / part + 1)).collect(),
             ascii,
@@ -187,18 +195,31 @@ fn script_rows(pieces: &Pieces) -> Vec<Row<'_>> {
 // A search of one long needle, over pieces and over the whole.
 fn long_rows(pieces: &Pieces) -> Vec<Row<'_>> {
     let (step, input) = ("Find of a needle of 1 KB", pieces.ascii.as_bytes());
-    let row = |name: String, piece| waiting_row(&name, input, &pieces.long, &pieces.find_long, piece);
-    let mut rows: Vec<Row> = CUTS[..2].iter().map(|(length, name, _)| row(waits(step, input.len(), name), *length)).collect();
-    rows.push(row(waits_whole(step, input.len()), WHOLE));
+    let row = |name: String, input, piece| waiting_row(&name, input, &pieces.long, &pieces.find_long, piece);
+    let over = |(length, name, part): &(usize, &str, usize)| {
+        let front = &input[..input.len() / part];
+        row(waits(step, front.len(), name), front, *length)
+    };
+    let mut rows: Vec<Row> = CUTS.iter().map(over).collect();
+    rows.push(row(waits_whole(step, input.len()), input, WHOLE));
     rows
 }
 
-// A search of needles that begin at each place and stand at none, over pieces and over the whole.
-fn begun_rows(pieces: &Pieces) -> [Row<'_>; 2] {
-    let step = "Find of three needles begun at each place";
-    let (length, name, _) = CUTS[1];
-    [(waits(step, pieces.begun.len(), name), length), (waits_whole(step, pieces.begun.len()), WHOLE)]
-        .map(|(name, piece)| waiting_row(&name, &pieces.begun, BEGUN, &pieces.find_begun, piece))
+// Searches of needles that begin at each place and stand at none, over pieces and over the whole.
+fn begun_rows(pieces: &Pieces) -> Vec<Row<'_>> {
+    let (three, one) = ("Find of three needles begun at each place", "Find of a needle of 16 KB begun at each place");
+    let all = pieces.begun.as_slice();
+    let row_of_three = |name: String, piece| waiting_row(&name, all, BEGUN, &pieces.find_begun, piece);
+    let row_of_one = |name: String, input, piece| waiting_row(&name, input, &pieces.long_begun, &pieces.find_long_begun, piece);
+    let ([_, (length, name, _), (short, short_name, part), _], whole) = (CUTS, all.len());
+    let front = &all[..4 * whole / part];
+    vec![
+        row_of_three(waits(three, whole, name), length),
+        row_of_three(waits_whole(three, whole), WHOLE),
+        row_of_one(waits(one, whole, name), all, length),
+        row_of_one(waits(one, front.len(), short_name), front, short),
+        row_of_one(waits_whole(one, whole), all, WHOLE),
+    ]
 }
 
 // A step over bytes that no piece of that length lets out.
