@@ -87,7 +87,10 @@ fn stream_debugs_at_a_precision<S: Stream + Debug>(
     requires { S.valid s.now }
 {
     assert_eq!(rt; debugged_at_a_precision(alloc, s)?.as_str(), wanted);
-    assert_eq!(rt; debugged_at_a_precision(alloc, &s.checkpoint())?.as_str(), wanted);
+    assert_eq!(rt;
+        debugged_at_a_precision(alloc, &s.checkpoint())?.as_str(),
+        wanted
+    );
     Ok(())
 }
 
@@ -114,8 +117,14 @@ fn counts_and_closures(rt: HostRuntime) -> Result<(), Fail> {
     debugs(&rt, alloc, &counts, "5..=7|5..=7|5..=7|5..=7")?;
     let closure = Where(|token: u8| token < 3);
     debugs(&rt, alloc, &closure, "Where(_)|Where(_)|Where(_)|Where(_)")?;
-    assert_eq!(rt; debugged_at_a_precision(alloc, &counts)?.as_str(), "5..=7|5..=7");
-    assert_eq!(rt; debugged_at_a_precision(alloc, &closure)?.as_str(), "Where(_)|Where(_)");
+    assert_eq!(rt;
+        debugged_at_a_precision(alloc, &counts)?.as_str(),
+        "5..=7|5..=7"
+    );
+    assert_eq!(rt;
+        debugged_at_a_precision(alloc, &closure)?.as_str(),
+        "Where(_)|Where(_)"
+    );
     Ok(())
 }
 

@@ -146,8 +146,10 @@ fn debug_texts_under_options(rt: HostRuntime) -> Result<(), Fail> {
 // A flag is padded and cut.
 #[test]
 fn debug_texts_at_a_precision(rt: HostRuntime) -> Result<(), Fail> {
-    let (error, nothing): (ErrMode<InputError<bool>>, ErrMode<EmptyError>) =
-        (Backtrack(InputError::at(true)), Cut(EmptyError));
+    let (error, nothing): (ErrMode<InputError<bool>>, ErrMode<EmptyError>) = (
+        Backtrack(InputError::at(true)),
+        Cut(EmptyError),
+    );
     debugs_at_a_precision(
         &rt,
         rt.alloc(),
