@@ -20,7 +20,7 @@ use Rattle.winnow_run.specs.declared.search_script.SearchAnswer.{SearchAnswer}
 use Rattle.winnow_run.specs.declared.search_script.SearchAnswer.TheVariants as search
 use Rattle.winnow_run.specs.declared.search_script.SearchStep.TheVariants as step
 use Rattle.winnow_stream.specs.declared.needed.Needed.{Needed}
-use Rattle.winnow_execute.specs.AnswerLines.{bytes_word, item_words, call_words, answer_line, answer_lines}
+use Rattle.winnow_print.specs.AnswerLines.{bytes_word, item_words, call_words, answer_line, answer_lines}
 use Rattle.winnow_execute.specs.ScriptLines.{slice_word, listed_words}
 use Rattle.std.specs.Prelude.{true, false}
 use Rattle.winnow_match.proofs.lemmas.ByteLemmas.{bytes_of-units}
@@ -34,7 +34,8 @@ use Rattle.winnow_match.specs.Search.{bytes_of_needles}
 use Rattle.winnow_run.specs.Searching.{AreSearchAnswers}
 use Rattle.winnow_stream.specs.Source.{units}
 use Rattle.winnow_stream.specs.Text.{text_source}
-use Rattle.winnow_execute.specs.ScriptLines.{HoldsNumber, whole_lines}
+use Rattle.winnow_execute.specs.ScriptLines.{whole_lines}
+use Rattle.winnow_print.specs.HeldNumbers.{HoldsNumber}
 
 -- what was given, by the words of its slices, and what the definition gives
 module _ {S : Type 0} (k : PieceKind ℕ CharSet (Bor (List ℕ))) (all : Source ℕ) (is_slice : S → Source ℕ → ℕ → Type 0) (words : S → List ℕ) (slice_is : (s : S) (r : Source ℕ) (n : ℕ) → is_slice s r n → words s ≡ bytes_word (written k.write (front r n))) where

@@ -11,7 +11,7 @@ use Rattle.winnow_feed.specs.declared.waiting.Waiting.{Waiting}
 use Rattle.winnow_read.specs.Inputs.{piece_length}
 use Rattle.winnow_read.specs.declared.fed_lines.FedLine.{FedLine}
 use Rattle.winnow_read.specs.declared.fed_lines.FedLine.TheVariants.{Piece, Waits}
-use Rattle.winnow_execute.specs.AnswerLines.{bytes_word}
+use Rattle.winnow_print.specs.AnswerLines.{bytes_word}
 use Rattle.winnow_execute.specs.ReportLines.{told_lines, waiting_line, Prints}
 use Rattle.winnow_execute.proofs.FedPieceLemmas.{length-joined_push, length-joined_same}
 

@@ -1,5 +1,5 @@
 -- The lines of a run over pieces.
-use Rattle.std.specs.Prelude.{◌≡◌, ℕ, List, [], ◌∷◌, ◌++◌, length, drop, flat_map, Option, Some, None, codes, decimal}
+use Rattle.std.specs.Prelude.{◌≡◌, ℕ, List, [], ◌∷◌, ◌++◌, length, drop, flat_map, codes, decimal}
 use Rattle.winnow_attempt.specs.declared.told.Told.{Told}
 use Rattle.winnow_feed.specs.Inputs.{PieceStep, InputKind}
 use Rattle.winnow_feed.specs.Telling.{capped, told_of, told_to_end}
@@ -8,16 +8,11 @@ use Rattle.winnow_feed.specs.declared.waiting.Waiting.{Waiting}
 use Rattle.winnow_feed.specs.declared.waiting.Waiting.TheVariants.{NotFed, NotWaiting, Until, ToEnd}
 use Rattle.winnow_read.specs.declared.fed_lines.FedLine.{FedLine}
 use Rattle.winnow_read.specs.declared.fed_lines.FedLine.TheVariants.{Piece, Waits}
-use Rattle.winnow_execute.specs.AnswerLines.{bytes_word, place_word, line, answer_line}
-
--- which piece let an answer out, by its number, or the end
-abbrev pub piece_word : Option ℕ → List ℕ
-piece_word None = codes "end "
-piece_word (Some number) = decimal number ++ codes " "
+use Rattle.winnow_print.specs.AnswerLines.{bytes_word, place_word, line, numbered_line}
 
 -- the line of an answer that is told, by the number of a token
 abbrev pub told_line : {T : Type 0} → (T → ℕ) → Told T → List ℕ
-told_line code told = piece_word told.piece ++ answer_line code place_word place_word told.answer
+told_line code told = numbered_line code place_word place_word told.piece told.answer
 
 -- the lines of all, in order
 abbrev pub told_lines : {T : Type 0} → (T → ℕ) → List (Told T) → List ℕ

@@ -1,10 +1,9 @@
 -- The lines that a script of lines prints.
-use Rattle.std.specs.Prelude.{◌≡◌, ℕ, Bool, List, [], ◌∷◌, codes, String, string_bytes}
+use Rattle.std.specs.Prelude.{◌≡◌, ℕ, List, [], ◌∷◌, codes, String, string_bytes}
 use Rattle.std.specs.Borrow.{Bor}
 use Rattle.std.specs.Global.{Vec, Global}
 use Rattle.std.specs.List.{AllZip}
 use Rattle.std.specs.declared.ops.Range.{Range}
-use Rattle.winnow_attempt.specs.View.{held}
 use Rattle.winnow_match.specs.Bytes.{written}
 use Rattle.winnow_sets.specs.declared.char_set.CharSet.{CharSet}
 use Rattle.winnow_run.specs.Definite.{PieceKind, kind_of}
@@ -21,12 +20,8 @@ use Rattle.winnow_read.specs.declared.fed_lines.FedLine.{FedLine}
 use Rattle.winnow_read.specs.declared.inputs.Kind.{Kind}
 use Rattle.winnow_read.specs.declared.inputs.Kind.TheVariants.{Bytes, Text, BytePieces, TextPieces}
 use Rattle.winnow_read.specs.declared.steps.ScriptStep.{ScriptStep}
-use Rattle.winnow_execute.specs.AnswerLines.{bytes_word, item_words, answer_lines}
+use Rattle.winnow_print.specs.AnswerLines.{bytes_word, item_words, answer_lines}
 use Rattle.winnow_execute.specs.ReportLines.{Prints}
-
--- a set answers of a token whether it holds the token's number
-abbrev pub HoldsNumber : {T : Type 0} → (T → ℕ) → CharSet → T → Bool → Type 0
-HoldsNumber code set token answer = answer ≡ held code set token
 
 -- the word of the slice at a place of a list, and the words of the items there
 module _ (kind : PieceKind ℕ CharSet (Bor (List ℕ))) (all : Source ℕ) where

@@ -1,28 +1,24 @@
 ghost use Rattle.std.specs.Prelude.{◌≡◌, ◌+◌, ◌<◌, ◌^◌, [], IfErr, IfOk, length, string_bytes};
 ghost use Rattle.std.specs.Prelude.{sum_by};
 ghost use Rattle.winnow_feed.specs.Inputs.{byte_input, text_input};
-ghost use Rattle.winnow_run.specs.Searching.{AreSearchAnswers};
-ghost use Rattle.winnow_execute.specs.AnswerLines.{item_words, answer_lines};
 ghost use Rattle.winnow_execute.specs.FaultyScripts.{FaultsAs, FaultsScript};
 ghost use Rattle.winnow_execute.specs.ReportLines.{Prints};
-ghost use Rattle.winnow_execute.specs.ScriptLines.{HoldsNumber, PrintsAs, PrintsScript};
+ghost use Rattle.winnow_execute.specs.ScriptLines.{PrintsAs, PrintsScript};
 ghost use Rattle.winnow_read.specs.Fault.{IsLineWhere, IsWithin};
 ghost use Rattle.winnow_read.specs.Inputs.{piece_length};
 ghost use Rattle.winnow_read.specs.Lines.{reach};
 ghost use Rattle.winnow_read.specs.declared.inputs.Kind.TheVariants as kinds;
 
-use crate::printing::{PushWords, push_answers};
 use crate::report::Report;
 use std::alloc::{AllocError, Global};
 use winnow_feed::{ByteFeed, TextFeed};
-use winnow_match::{Compare, FindSlice, Needles};
+use winnow_print::print_answers;
 use winnow_read::{
     FedLine, Kind, Lines, ScriptFault, ScriptStep, lend_steps, read_fed_lines, read_input,
     read_kind, read_steps,
 };
-use winnow_run::{SearchStep, run_search};
-use winnow_sets::{AsChar, CharSet};
-use winnow_stream::Stream;
+use winnow_run::SearchStep;
+use winnow_sets::CharSet;
 
 /// Runs the script of these lines, and gives its answers as lines.
 ///
@@ -64,7 +60,7 @@ fn execute_bytes(alloc: Global, lines: &mut Lines) -> Result<String, ScriptFault
     let steps: Vec<ScriptStep<'_, Vec<u8>>> = read_steps(alloc, lines)?;
     let input: Vec<u8> = read_input(alloc, lines)?;
     let steps = lend_steps(alloc, &steps)?;
-    Ok(run_whole(alloc, input.as_slice(), &steps)?)
+    Ok(print_answers(alloc, input.as_slice(), &steps)?)
 }
 
 fn execute_text(alloc: Global, lines: &mut Lines) -> Result<String, ScriptFault>
@@ -77,7 +73,7 @@ fn execute_text(alloc: Global, lines: &mut Lines) -> Result<String, ScriptFault>
     let steps: Vec<ScriptStep<'_, String>> = read_steps(alloc, lines)?;
     let input: String = read_input(alloc, lines)?;
     let steps = lend_steps(alloc, &steps)?;
-    Ok(run_whole(alloc, input.as_str(), &steps)?)
+    Ok(print_answers(alloc, input.as_str(), &steps)?)
 }
 
 fn execute_byte_pieces(alloc: Global, lines: &mut Lines) -> Result<String, ScriptFault>
@@ -160,26 +156,4 @@ fn run_text_lines(
     }
     report.push_answers(feed.end().answers())?;
     Ok(report.into_text())
-}
-
-// Runs steps on any stream whose tokens stand for characters, and whose slices can be told.
-fn run_whole<S: Stream + Compare<L> + FindSlice<Needles<L>> + Drop, L: Copy>(
-    alloc: Global,
-    mut stream: S,
-    steps: &[SearchStep<CharSet<'_>, L>],
-) -> Result<String, AllocError>
-where
-    S::Token: AsChar + Copy,
-    S::Slice: PushWords + Drop,
-    requires { S.valid stream }
-    ensures { IfOk result (λ text. (given : _)
-        × AreSearchAnswers (HoldsNumber S.Token.code) S.is_slice S.counts_missing S.compared S.found
-        (S.remaining stream) steps.now given
-        × (string_bytes text
-        ≡ answer_lines S.Token.code S.Slice.words (λ v. item_words S.Token.code v.items) given)) }
-{
-    let answers = run_search(alloc, &mut stream, steps)?;
-    let mut text = String::new(alloc);
-    push_answers(&mut text, &answers)?;
-    Ok(text)
 }

@@ -6,7 +6,6 @@
 #![tactic(auto)]
 
 mod execution;
-mod printing;
 mod report;
 
 pub use execution::execute;

@@ -2,9 +2,9 @@ ghost use Rattle.std.specs.Prelude.{◌≡◌, ◌++◌, ◌+◌, [], drop, leng
 ghost use Rattle.winnow_feed.specs.Telling.{capped};
 ghost use Rattle.winnow_execute.specs.ReportLines.{told_lines, waiting_line};
 
-use crate::printing::{PushWords, push_told};
 use std::alloc::{AllocError, Global};
 use winnow_feed::{Told, Waiting};
+use winnow_print::{PushWords, push_numbered};
 use winnow_sets::AsChar;
 
 /// The lines that a run over pieces prints, and how much they have told so far.
@@ -87,7 +87,7 @@ fn push_all_told<T: AsChar + Copy>(text: &mut String, answers: &[Told<T>]) -> Re
         ≡ string_bytes text.old ++ told_lines T.code answers.now) }
 {
     for told in answers {
-        push_told(text, told)?;
+        push_numbered(text, told.piece, &told.answer)?;
     }
     Ok(())
 }

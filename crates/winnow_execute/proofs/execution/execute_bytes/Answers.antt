@@ -6,7 +6,7 @@ use Rattle.winnow_execute.proofs.execution.execute_bytes.Goals as goal
 pub returns-clause-printed : goal.returns-clause-printed
 returns-clause-printed c =
     let script = c.in_ok-steps-2.steps.items in
-    let given = rw (c.as_slice.ensures.value, c.deref-2.ensures.value) at c.in_ok-run_whole.ensures in
+    let given = rw (c.as_slice.ensures.value, c.deref-2.ensures.value) at c.in_ok-print_answers.ensures in
     let lent = rw c.deref.ensures.value at c.in_ok-steps-2.ensures in (
       script,
       c.read_steps.new.lines.rest.now,

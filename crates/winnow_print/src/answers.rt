@@ -1,96 +1,15 @@
-ghost use Rattle.std.specs.Prelude.{◌≡◌, ◌++◌, ℕ, List, codes, string_bytes, OnOk};
-ghost use Rattle.winnow_match.specs.Bytes.{utf8_of};
-ghost use Rattle.winnow_stream.specs.Text.{text_source};
-ghost use Rattle.winnow_execute.specs.AnswerLines.{bytes_word, place_word, item_words, token_words};
-ghost use Rattle.winnow_execute.specs.AnswerLines.{at_words, offset_words, compared_words};
-ghost use Rattle.winnow_execute.specs.AnswerLines.{hit_words};
-ghost use Rattle.winnow_execute.specs.AnswerLines.{line, call_words, answer_line, answer_lines};
-ghost use Rattle.winnow_execute.specs.ReportLines.{told_line};
+ghost use Rattle.std.specs.Prelude.{◌≡◌, ◌++◌, codes, string_bytes, OnOk};
+ghost use Rattle.winnow_print.specs.AnswerLines.{at_words, compared_words, hit_words, offset_words};
+ghost use Rattle.winnow_print.specs.AnswerLines.{token_words, line, call_words, answer_line};
+ghost use Rattle.winnow_print.specs.AnswerLines.{answer_lines, numbered_line};
 
+use crate::PushWords;
 use std::alloc::AllocError;
 use std::ops::Range;
-use winnow_bytes::Bytes;
-use winnow_feed::Told;
 use winnow_match::CompareResult;
 use winnow_run::{Answer, SearchAnswer};
 use winnow_sets::AsChar;
 use winnow_stream::Needed;
-
-/// What stands behind the word of a slice or of items: a space before each word.
-pub trait PushWords {
-    // The words, each behind a space.
-    ghost words: { Self → List ℕ };
-
-    fn push_words(&self, text: &mut String) -> Result<(), AllocError>
-        ensures { OnOk result (string_bytes text.new
-            ≡ string_bytes text.old ++ words self.now) };
-}
-
-impl PushWords for &[u8] {
-    ghost words = { λ bytes. bytes_word bytes.now };
-
-    fn push_words(&self, text: &mut String) -> Result<(), AllocError> {
-        if self.is_empty() {
-            return text.push_str(" -");
-        }
-        write!(text, " {}", Bytes::new(self).lower())
-    }
-}
-
-// The bytes of a text are those of its characters, which is all that is known of a slice.
-impl PushWords for &str {
-    ghost words = { λ text. bytes_word (utf8_of (text_source text.now)) };
-
-    fn push_words(&self, text: &mut String) -> Result<(), AllocError> {
-        push_text(text, self)
-    }
-}
-
-impl PushWords for Vec<u8> {
-    ghost words = { λ bytes. bytes_word bytes.items };
-
-    fn push_words(&self, text: &mut String) -> Result<(), AllocError> {
-        self.as_slice().push_words(text)
-    }
-}
-
-impl PushWords for String {
-    ghost words = { λ text. bytes_word (string_bytes text) };
-
-    fn push_words(&self, text: &mut String) -> Result<(), AllocError> {
-        push_text(text, self.as_str())
-    }
-}
-
-impl<T: AsChar + Copy> PushWords for Vec<(usize, T)> {
-    ghost words = { λ items. item_words T.code items.items };
-
-    fn push_words(&self, text: &mut String) -> Result<(), AllocError> {
-        push_items(text, self.as_slice())
-    }
-}
-
-impl PushWords for Range<usize> {
-    ghost words = { place_word };
-
-    fn push_words(&self, text: &mut String) -> Result<(), AllocError> {
-        let start = self.start;
-        let end = self.end;
-        write!(text, " {start}..{end}")
-    }
-}
-
-/// Adds the line of an answer over pieces: the number of the piece that let it out, or `end`, and the answer.
-pub fn push_told<T: AsChar + Copy>(text: &mut String, told: &Told<T>) -> Result<(), AllocError>
-    ensures { OnOk result (string_bytes text.new
-        ≡ string_bytes text.old ++ told_line T.code told.now) }
-{
-    match told.piece {
-        Some(number) => write!(text, "{number} ")?,
-        None => text.push_str("end ")?,
-    }
-    push_answer(text, &told.answer)
-}
 
 /// Adds the line of each answer, in order.
 pub fn push_answers<T: AsChar + Copy, S: PushWords, L: PushWords>(
@@ -104,6 +23,23 @@ pub fn push_answers<T: AsChar + Copy, S: PushWords, L: PushWords>(
         push_answer(text, answer)?;
     }
     Ok(())
+}
+
+/// Adds the line of an answer over pieces: the number of the piece that let it out, or `end`, and
+/// the answer.
+pub fn push_numbered<T: AsChar + Copy, S: PushWords, L: PushWords>(
+    text: &mut String,
+    piece: Option<u64>,
+    answer: &SearchAnswer<T, S, L>,
+) -> Result<(), AllocError>
+    ensures { OnOk result (string_bytes text.new
+        ≡ string_bytes text.old ++ numbered_line T.code S.words L.words piece answer.now) }
+{
+    match piece {
+        Some(number) => write!(text, "{number} ")?,
+        None => text.push_str("end ")?,
+    }
+    push_answer(text, answer)
 }
 
 /// Adds the line of an answer.
@@ -142,26 +78,6 @@ fn push_call<T: AsChar + Copy, S: PushWords, L: PushWords>(
         Answer::NoMark => writeln!(text, "no mark"),
         Answer::LaterMark => writeln!(text, "later mark"),
     }
-}
-
-fn push_items<T: AsChar + Copy>(text: &mut String, items: &[(usize, T)]) -> Result<(), AllocError>
-    ensures { OnOk result (string_bytes text.new
-        ≡ string_bytes text.old ++ item_words T.code items.now) }
-{
-    for (offset, token) in items {
-        let number = token.as_char() as u32;
-        write!(text, " {offset}:{number}")?;
-    }
-    Ok(())
-}
-
-fn push_text(text: &mut String, word: &str) -> Result<(), AllocError>
-    ensures bytes { OnOk result (string_bytes text.new
-        ≡ string_bytes text.old ++ bytes_word word.now) }
-    ensures chars { OnOk result (string_bytes text.new
-        ≡ string_bytes text.old ++ bytes_word (utf8_of (text_source word.now))) }
-{
-    word.as_bytes().push_words(text)
 }
 
 fn push_words<W: PushWords>(text: &mut String, name: &str, words: &W) -> Result<(), AllocError>

@@ -1,4 +1,4 @@
-use Rattle.winnow_execute.proofs.execution.run_whole.Goals as goal
+use Rattle.winnow_print.proofs.whole.print_answers.Goals as goal
 
 pub returns : goal.returns
 returns g c = (

@@ -1,6 +1,6 @@
 use Rattle.std.proofs.Common.{◌≡◌, ◌++◌, string_bytes, take}
-use Rattle.winnow_execute.specs.AnswerLines.{item_words}
-use Rattle.winnow_execute.proofs.printing.push_items.Given as goal
+use Rattle.winnow_print.specs.AnswerLines.{item_words}
+use Rattle.winnow_print.proofs.words.push_items.Given as goal
 
 -- the items so far are written
 abbrev pub invariant-loop-offset : goal.invariant-loop-offset

@@ -1,6 +1,6 @@
 use Rattle.std.proofs.Common.{◌≡◌, ◌++◌, string_bytes, take}
-use Rattle.winnow_execute.specs.AnswerLines.{answer_lines}
-use Rattle.winnow_execute.proofs.printing.push_answers.Given as goal
+use Rattle.winnow_print.specs.AnswerLines.{answer_lines}
+use Rattle.winnow_print.proofs.answers.push_answers.Given as goal
 
 -- the answers so far are told
 abbrev pub invariant-loop-answer : goal.invariant-loop-answer

@@ -58,6 +58,11 @@ hit_words (Some place) = codes "find" ++ place_word place
 abbrev pub line : List ℕ → List ℕ
 line words = words ++ codes "\n"
 
+-- which piece let an answer out, by its number, or the end
+abbrev pub piece_word : Option ℕ → List ℕ
+piece_word None = codes "end "
+piece_word (Some number) = decimal number ++ codes " "
+
 -- an answer, by the number of a token, and by the words of a slice and of items
 module _ {T S L : Type 0} (code : T → ℕ) (slice_words : S → List ℕ) (list_words : L → List ℕ) where
   abbrev pub call_words : Answer T S L Needed → List ℕ
@@ -86,3 +91,7 @@ module _ {T S L : Type 0} (code : T → ℕ) (slice_words : S → List ℕ) (lis
   -- the lines of all, in order
   abbrev pub answer_lines : List (SearchAnswer T S L) → List ℕ
   answer_lines given = flat_map answer_line given
+
+  -- the line of an answer over pieces
+  abbrev pub numbered_line : Option ℕ → SearchAnswer T S L → List ℕ
+  numbered_line piece given = piece_word piece ++ answer_line given

@@ -1,5 +1,5 @@
 use Rattle.winnow_match.proofs.lemmas.ByteLemmas.{utf8_of-text_source}
-use Rattle.winnow_execute.proofs.printing.push_text.Goals as goal
+use Rattle.winnow_print.proofs.words.push_text.Goals as goal
 
 pub returns-clause-chars : goal.returns-clause-chars
 returns-clause-chars c =

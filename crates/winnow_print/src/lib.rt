@@ -1,0 +1,14 @@
+//! The lines that tell the answers of a script, by the words of slices and items that
+//! [`PushWords`] adds.
+//!
+//! [`push_answer`] adds the line of an answer, and [`push_numbered`] that of an answer over pieces;
+//! [`print_answers`] runs a script on a stream, and returns the lines of all its answers.
+#![tactic(auto)]
+
+mod answers;
+mod whole;
+mod words;
+
+pub use answers::{push_answer, push_answers, push_numbered};
+pub use whole::print_answers;
+pub use words::PushWords;

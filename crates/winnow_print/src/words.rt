@@ -1,0 +1,93 @@
+ghost use Rattle.std.specs.Prelude.{◌≡◌, ◌++◌, ℕ, List, string_bytes, OnOk};
+ghost use Rattle.winnow_match.specs.Bytes.{utf8_of};
+ghost use Rattle.winnow_stream.specs.Text.{text_source};
+ghost use Rattle.winnow_print.specs.AnswerLines.{bytes_word, place_word, item_words};
+
+use std::alloc::AllocError;
+use std::ops::Range;
+use winnow_bytes::Bytes;
+use winnow_sets::AsChar;
+
+/// What stands behind the word of a slice or of items: a space before each word.
+pub trait PushWords {
+    // The words, each behind a space.
+    ghost words: { Self → List ℕ };
+
+    fn push_words(&self, text: &mut String) -> Result<(), AllocError>
+        ensures { OnOk result (string_bytes text.new
+            ≡ string_bytes text.old ++ words self.now) };
+}
+
+impl PushWords for &[u8] {
+    ghost words = { λ bytes. bytes_word bytes.now };
+
+    fn push_words(&self, text: &mut String) -> Result<(), AllocError> {
+        if self.is_empty() {
+            return text.push_str(" -");
+        }
+        write!(text, " {}", Bytes::new(self).lower())
+    }
+}
+
+// The bytes of a text are those of its characters, which is all that is known of a slice.
+impl PushWords for &str {
+    ghost words = { λ text. bytes_word (utf8_of (text_source text.now)) };
+
+    fn push_words(&self, text: &mut String) -> Result<(), AllocError> {
+        push_text(text, self)
+    }
+}
+
+impl PushWords for Vec<u8> {
+    ghost words = { λ bytes. bytes_word bytes.items };
+
+    fn push_words(&self, text: &mut String) -> Result<(), AllocError> {
+        self.as_slice().push_words(text)
+    }
+}
+
+impl PushWords for String {
+    ghost words = { λ text. bytes_word (string_bytes text) };
+
+    fn push_words(&self, text: &mut String) -> Result<(), AllocError> {
+        push_text(text, self.as_str())
+    }
+}
+
+impl<T: AsChar + Copy> PushWords for Vec<(usize, T)> {
+    ghost words = { λ items. item_words T.code items.items };
+
+    fn push_words(&self, text: &mut String) -> Result<(), AllocError> {
+        push_items(text, self.as_slice())
+    }
+}
+
+impl PushWords for Range<usize> {
+    ghost words = { place_word };
+
+    fn push_words(&self, text: &mut String) -> Result<(), AllocError> {
+        let start = self.start;
+        let end = self.end;
+        write!(text, " {start}..{end}")
+    }
+}
+
+fn push_items<T: AsChar + Copy>(text: &mut String, items: &[(usize, T)]) -> Result<(), AllocError>
+    ensures { OnOk result (string_bytes text.new
+        ≡ string_bytes text.old ++ item_words T.code items.now) }
+{
+    for (offset, token) in items {
+        let number = token.as_char() as u32;
+        write!(text, " {offset}:{number}")?;
+    }
+    Ok(())
+}
+
+fn push_text(text: &mut String, word: &str) -> Result<(), AllocError>
+    ensures bytes { OnOk result (string_bytes text.new
+        ≡ string_bytes text.old ++ bytes_word word.now) }
+    ensures chars { OnOk result (string_bytes text.new
+        ≡ string_bytes text.old ++ bytes_word (utf8_of (text_source word.now))) }
+{
+    word.as_bytes().push_words(text)
+}
