@@ -1,5 +1,5 @@
 -- What a run over pieces has printed, line by line.
-use Rattle.std.proofs.Common.{◌≡◌, ℕ, ◌+◌, ◌<◌, ◌≤◌, List, [], ◌∷◌, ◌++◌, length, take, drop, get_or, sum_by, refl, ap, sym, ◌∙◌, append_assoc, arith, length-append}
+use Rattle.std.proofs.Common.{◌≡◌, ℕ, ◌+◌, ◌<◌, ◌≤◌, List, [], ◌∷◌, ◌++◌, length, take, drop, get_or, sum_by, refl, ap, sym, ◌∙◌, append_assoc, arith, length-append, string_bytes}
 use Rattle.std.proofs.lemmas.List.{drop_more, drop_all}
 use Rattle.winnow_attempt.specs.declared.told.Told.{Told}
 use Rattle.winnow_feed.specs.Feeding.{FeedState, Fits, FitsWith, Finishes, answers_in, script_of}
@@ -12,7 +12,9 @@ use Rattle.winnow_read.specs.Inputs.{piece_length}
 use Rattle.winnow_read.specs.declared.fed_lines.FedLine.{FedLine}
 use Rattle.winnow_read.specs.declared.fed_lines.FedLine.TheVariants.{Piece, Waits}
 use Rattle.winnow_print.specs.AnswerLines.{bytes_word}
+use Rattle.winnow_execute.specs.FedLines.{TakesLine}
 use Rattle.winnow_execute.specs.ReportLines.{told_lines, waiting_line, Prints}
+use Rattle.winnow_execute.specs.declared.report.Report.{Report}
 use Rattle.winnow_execute.proofs.FedPieceLemmas.{length-joined_push, length-joined_same}
 
 module _ {L : Type 0} (i : InputKind) (script : List PieceStep) (bytes : L → List ℕ) (lines : List (FedLine L)) where
@@ -43,7 +45,7 @@ module _ {L : Type 0} (i : InputKind) (script : List PieceStep) (bytes : L → L
     further-lines = drop_more lines k d lt ∙ ap (λ l. l ∷ drop (k + 1) lines) is
 
     -- a piece is fed
-    pub printed-piece : (f g : FeedState) (n count counted : ℕ) (text : List ℕ) (literal : L) (piece : List ℕ) → HasPrinted k f n count text
+    printed-piece : (f g : FeedState) (n count counted : ℕ) (text : List ℕ) (literal : L) (piece : List ℕ) → HasPrinted k f n count text
         → line ≡ Piece literal → piece ≡ bytes literal → FitsWith i f piece g → script_of g ≡ script_of f → counted ≡ capped (count + 1) → HasPrinted (k + 1) g n counted text
     printed-piece f g n count counted text literal piece before tells same more kept counts = record {
       pieces = before.pieces ++ piece ∷ [];
@@ -55,7 +57,7 @@ module _ {L : Type 0} (i : InputKind) (script : List PieceStep) (bytes : L → L
     }
 
     -- what is waited for is told, behind the answers that are out
-    pub printed-waits : (f : FeedState) (n count : ℕ) (text : List ℕ) (answers : List (Told ℕ)) (waiting : Waiting L) → HasPrinted k f n count text
+    printed-waits : (f : FeedState) (n count : ℕ) (text : List ℕ) (answers : List (Told ℕ)) (waiting : Waiting L) → HasPrinted k f n count text
         → line ≡ Waits → ((pieces : List (List ℕ)) → Fits i f pieces → answers ≡ told_of i (script_of f) pieces) → GivesWaiting i bytes f waiting
         → HasPrinted (k + 1) f (length answers) count ((text ++ told_lines (λ t. t) (drop n answers)) ++ waiting_line (λ more. bytes_word (bytes more)) count waiting)
     printed-waits f n count text answers waiting before asks out waits =
@@ -75,6 +77,15 @@ module _ {L : Type 0} (i : InputKind) (script : List PieceStep) (bytes : L → L
               rw (append_assoc text told_text asked, append_assoc text (told_text ++ asked) later)
               (before.further ((told_text ++ asked) ++ later) (rw (further-lines, asks) here));
         }
+
+    -- a line is taken
+    pub printed-line : (taken : FedLine L) (f g : FeedState) (r s : Report) → HasPrinted k f r.answers r.pieces (string_bytes r.text)
+        → line ≡ taken → TakesLine i bytes taken f r g s → HasPrinted (k + 1) g s.answers s.pieces (string_bytes s.text)
+    printed-line (Piece piece) f g r s before same takes =
+        rw (takes.text, takes.told) (printed-piece f g r.answers r.pieces s.pieces (string_bytes r.text) piece (bytes piece) before same refl takes.fits takes.script takes.pieces)
+    printed-line Waits f g r s before same takes =
+        let tells = takes.1 in
+        rw (takes.0, tells.text, tells.told, tells.pieces) (printed-waits f r.answers r.pieces (string_bytes r.text) tells.answers tells.waiting before same tells.out tells.waits)
 
   -- the input ends
   pub printed-all : (k : ℕ) (f : FeedState) (n count : ℕ) (text : List ℕ) (finished : Finished ℕ) → HasPrinted k f n count text → length lines ≤ k

@@ -6,5 +6,6 @@ pub use Rattle.winnow_read.specs.declared.fault.ScriptFault
 pub use Rattle.winnow_print.specs.AnswerLines
 pub use Rattle.winnow_print.specs.HeldNumbers
 pub mod ReportLines
+pub mod FedLines
 pub mod ScriptLines
 pub mod FaultyScripts

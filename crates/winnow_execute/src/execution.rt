@@ -1,6 +1,8 @@
 ghost use Rattle.std.specs.Prelude.{◌≡◌, ◌+◌, ◌<◌, ◌^◌, [], IfErr, IfOk, length, string_bytes};
-ghost use Rattle.std.specs.Prelude.{sum_by};
+ghost use Rattle.std.specs.Prelude.{sum_by, OnOk};
+ghost use Rattle.winnow_feed.specs.Feeding.{bytes_fed};
 ghost use Rattle.winnow_feed.specs.Inputs.{byte_input, text_input};
+ghost use Rattle.winnow_execute.specs.FedLines.{TakesLine};
 ghost use Rattle.winnow_execute.specs.FaultyScripts.{FaultsAs, FaultsScript};
 ghost use Rattle.winnow_execute.specs.ReportLines.{Prints};
 ghost use Rattle.winnow_execute.specs.ScriptLines.{PrintsAs, PrintsScript};
@@ -89,7 +91,7 @@ fn execute_byte_pieces(alloc: Global, lines: &mut Lines) -> Result<String, Scrip
     Ok(run_byte_lines(alloc, &steps, &fed)?)
 }
 
-// Feeds steps the pieces of these lines, and tells what a feed waits for where a line asks.
+// Takes all lines of pieces in order, and tells the answers that only the end lets out.
 fn run_byte_lines(
     alloc: Global,
     steps: &[SearchStep<CharSet<'_>, &[u8]>],
@@ -102,19 +104,33 @@ fn run_byte_lines(
     let mut feed = ByteFeed::new(alloc, steps)?;
     let mut report = Report::new(alloc);
     for line in lines {
-        match line {
-            FedLine::Piece(piece) => {
-                feed.feed(piece.as_slice())?;
-                report.count_piece();
-            }
-            FedLine::Waits => {
-                report.push_answers(feed.answers())?;
-                report.push_waiting(feed.waits_for()?)?;
-            }
-        }
+        take_byte_line(&mut feed, &mut report, line)?;
     }
     report.push_answers(feed.end().answers())?;
     Ok(report.into_text())
+}
+
+// Feeds the piece of a line, or tells what the feed waits for, where the line asks.
+fn take_byte_line(
+    feed: &mut ByteFeed,
+    report: &mut Report,
+    line: &FedLine<Vec<u8>>,
+) -> Result<(), AllocError>
+    requires { bytes_fed feed.old + piece_length (λ piece. piece.items) line.now < 2 ^ 64 }
+    ensures { OnOk result (TakesLine byte_input (λ piece. piece.items) line.now
+        feed.old report.old feed.new report.new) }
+{
+    match line {
+        FedLine::Piece(piece) => {
+            feed.feed(piece.as_slice())?;
+            report.count_piece();
+        }
+        FedLine::Waits => {
+            report.push_answers(feed.answers())?;
+            report.push_waiting(feed.waits_for()?)?;
+        }
+    }
+    Ok(())
 }
 
 fn execute_text_pieces(alloc: Global, lines: &mut Lines) -> Result<String, ScriptFault>
@@ -130,7 +146,7 @@ fn execute_text_pieces(alloc: Global, lines: &mut Lines) -> Result<String, Scrip
     Ok(run_text_lines(alloc, &steps, &fed)?)
 }
 
-// Feeds steps the pieces of these lines, and tells what a feed waits for where a line asks.
+// Takes all lines of pieces in order, and tells the answers that only the end lets out.
 fn run_text_lines(
     alloc: Global,
     steps: &[SearchStep<CharSet<'_>, &str>],
@@ -143,17 +159,31 @@ fn run_text_lines(
     let mut feed = TextFeed::new(alloc, steps)?;
     let mut report = Report::new(alloc);
     for line in lines {
-        match line {
-            FedLine::Piece(piece) => {
-                feed.feed(piece.as_str())?;
-                report.count_piece();
-            }
-            FedLine::Waits => {
-                report.push_answers(feed.answers())?;
-                report.push_waiting(feed.waits_for()?)?;
-            }
-        }
+        take_text_line(&mut feed, &mut report, line)?;
     }
     report.push_answers(feed.end().answers())?;
     Ok(report.into_text())
+}
+
+// Feeds the piece of a line, or tells what the feed waits for, where the line asks.
+fn take_text_line(
+    feed: &mut TextFeed,
+    report: &mut Report,
+    line: &FedLine<String>,
+) -> Result<(), AllocError>
+    requires { bytes_fed feed.old + piece_length string_bytes line.now < 2 ^ 64 }
+    ensures { OnOk result (TakesLine text_input string_bytes line.now
+        feed.old report.old feed.new report.new) }
+{
+    match line {
+        FedLine::Piece(piece) => {
+            feed.feed(piece.as_str())?;
+            report.count_piece();
+        }
+        FedLine::Waits => {
+            report.push_answers(feed.answers())?;
+            report.push_waiting(feed.waits_for()?)?;
+        }
+    }
+    Ok(())
 }

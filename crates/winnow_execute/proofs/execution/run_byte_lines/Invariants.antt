@@ -5,4 +5,4 @@ use Rattle.winnow_execute.proofs.execution.run_byte_lines.Given as goal
 
 abbrev pub invariant-loop-line : goal.invariant-loop-line
 invariant-loop-line l =
-    HasPrinted byte_input l.steps (λ piece. piece.items) l.lines l.line-index l.feed l.report.answers l.report.pieces (string_bytes l.report.text)
+    HasPrinted byte_input l.fn.steps (λ piece. piece.items) l.lines l.line-index l.feed l.report.answers l.report.pieces (string_bytes l.report.text)

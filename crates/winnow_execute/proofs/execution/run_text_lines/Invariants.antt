@@ -5,4 +5,4 @@ use Rattle.winnow_execute.proofs.execution.run_text_lines.Given as goal
 
 abbrev pub invariant-loop-line : goal.invariant-loop-line
 invariant-loop-line l =
-    HasPrinted text_input l.steps string_bytes l.lines l.line-index l.feed l.report.answers l.report.pieces (string_bytes l.report.text)
+    HasPrinted text_input l.fn.steps string_bytes l.lines l.line-index l.feed l.report.answers l.report.pieces (string_bytes l.report.text)
