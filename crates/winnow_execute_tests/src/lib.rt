@@ -1,5 +1,5 @@
-//! The tests of the program's scripts: the answers that lines give, and the line that is told as faulty. Nothing here is part of
-//! the program.
+//! The tests of the program's scripts: the answers that lines give, the line that is told as faulty, and how the program reads and
+//! ends. Nothing here is part of the program.
 #![tactic(auto)]
 
 #[cfg(test)]
@@ -7,7 +7,11 @@ mod answers;
 #[cfg(test)]
 mod equalities;
 #[cfg(test)]
+mod failures;
+#[cfg(test)]
 mod faults;
+#[cfg(test)]
+mod inputs;
 #[cfg(test)]
 mod long_scripts;
 #[cfg(test)]

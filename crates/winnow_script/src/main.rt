@@ -17,14 +17,12 @@
 //! 2 where a line is faulty, 3 where memory ran out, and 4 where reading or writing failed.
 #![tactic(auto)]
 
-mod program;
-#[cfg(test)]
-mod tests;
-
 use std::process::ExitCode;
+use winnow_execute::execute;
+use winnow_program::{Failure, read_input};
 
 fn main(rt: HostRuntime) -> ExitCode {
-    match program::answer(&rt) {
+    match answer(&rt) {
         Ok(()) => ExitCode::SUCCESS,
         Err(failure) => {
             let status = failure.status();
@@ -33,4 +31,12 @@ fn main(rt: HostRuntime) -> ExitCode {
             ExitCode::from(status)
         }
     }
+}
+
+// Runs the script on standard input, and writes its answers to standard output once all are there.
+fn answer(rt: &(impl Input + Print + AllocGlobal)) -> Result<(), Failure> {
+    let input = read_input(rt.alloc(), rt.reader())?;
+    let answers = execute(rt.alloc(), &input)?;
+    rt.write_all(&answers)?;
+    Ok(())
 }

@@ -2,10 +2,10 @@
 use Rattle.std.specs.Prelude.{ℕ, List, codes}
 use Rattle.std.specs.declared.io.ErrorKind.{ErrorKind}
 use Rattle.std.specs.declared.io.ErrorKind.TheVariants as kind
-use Rattle.winnow_execute.specs.Fault.{fault_text}
-use Rattle.winnow_execute.specs.ScriptFault.TheVariants as fault
-use Rattle.winnow_script.specs.declared.program.Failure.{Failure}
-use Rattle.winnow_script.specs.declared.program.Failure.TheVariants.{Script, InputOrOutput}
+use Rattle.winnow_read.specs.Fault.{fault_text}
+use Rattle.winnow_read.specs.declared.fault.ScriptFault.TheVariants as fault
+use Rattle.winnow_program.specs.declared.failure.Failure.{Failure}
+use Rattle.winnow_program.specs.declared.failure.Failure.TheVariants.{Script, InputOrOutput}
 
 -- the status that tells of a failure
 abbrev pub status_of : Failure → ℕ

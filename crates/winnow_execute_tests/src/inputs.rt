@@ -1,7 +1,7 @@
-use crate::program::{Failure, read_input};
 use std::alloc::{AllocError, Global};
 use std::io::{self, ErrorKind, Read};
 use std::test::Fail;
+use winnow_program::{Failure, read_input};
 
 const MOST: usize = 1_048_576;
 

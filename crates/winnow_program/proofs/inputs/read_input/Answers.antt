@@ -1,7 +1,7 @@
 use Rattle.std.proofs.Common.{◌≡◌, ℕ, ◌<◌, ◌≤◌, List, length, take, Option, Some, None, ap, ◌∙◌, arith}
 use Rattle.std.specs.Prelude.{IfSome, option_map}
 use Rattle.std.proofs.lemmas.List.{take_all, length-take}
-use Rattle.winnow_script.proofs.program.read_input.Goals as goal
+use Rattle.winnow_program.proofs.inputs.read_input.Goals as goal
 
 -- what was read below the limit is all that there was
 whole_below : (known : Option (List ℕ)) (limit : ℕ) (read : List ℕ) → IfSome (option_map (take limit) known) (λ xs. read ≡ xs)

@@ -1,6 +1,6 @@
-use crate::program::Failure;
 use std::test::Fail;
 use winnow_execute::ScriptFault;
+use winnow_program::Failure;
 
 #[test]
 fn texts_and_statuses(rt: HostRuntime) -> Result<(), Fail> {

@@ -1,2 +1,0 @@
-mod failures;
-mod inputs;
