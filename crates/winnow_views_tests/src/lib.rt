@@ -1,9 +1,15 @@
-//! The tests of tokens that a lexer made, and of bits. Nothing here is part of the library.
+//! The tests of tokens that a lexer made, of bits, and of bytes with a text of their own. Nothing here is part of the library.
 #![tactic(auto)]
 
 #[cfg(test)]
 mod bit_streams;
 #[cfg(test)]
 mod bits;
+#[cfg(test)]
+mod kinds;
+#[cfg(test)]
+mod own_literals;
+#[cfg(test)]
+mod texts;
 #[cfg(test)]
 mod token_slices;

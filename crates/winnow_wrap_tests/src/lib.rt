@@ -1,4 +1,4 @@
-//! The tests of wrappers, and of nests of them. Nothing here is part of the library.
+//! The tests of wrappers, of nests of them, and of streams that record errors. Nothing here is part of the library.
 #![tactic(auto)]
 
 #[cfg(test)]
@@ -7,6 +7,8 @@ mod comparisons;
 mod fixtures;
 #[cfg(test)]
 mod nests;
+#[cfg(test)]
+mod recovery;
 #[cfg(test)]
 mod searches;
 #[cfg(test)]
