@@ -86,7 +86,7 @@ fn cloned<T: Clone>(value: &T) -> Result<T, AllocError>
 }
 
 // Whether the type has a flag.
-fn supports<S: StreamIsPartial>(_s: &S) -> bool
+fn supports<S: StreamIsPartial>() -> bool
     ensures { result ≡ S.supports_partial }
 {
     S::is_partial_supported()
@@ -221,50 +221,68 @@ fn flag_inside<I: Stream + StreamIsPartial>(input: I) -> FlagInside<I>
     }
 }
 
-// Whether the types have a flag: a place and a state round one, a place round one, a flag round both, and both alone; and whether
-// the last awaits more.
-fn supported<I: Stream + StreamIsPartial + Copy>(input: I) -> [bool; 5]
-    requires valid { I.valid input }
-    requires no_flag { I.supports_partial ≡ false }
-{
-    let (flagged, plain) = (flag_inside(input), nest(input).into_inner());
+// A place and a state round a stream.
+type Plain<I> = Stateful<LocatingSlice<I>, u32>;
+
+// Whether the types have a flag: a place and a state round one, a place round one, a flag round both, and both alone.
+fn supported<I: Stream + StreamIsPartial>() -> [bool; 4] {
     [
-        supports(&flagged),
-        supports(&flagged.input),
-        supports(&nest(input)),
-        supports(&plain),
-        awaits(&plain),
+        supports::<FlagInside<I>>(),
+        supports::<LocatingSlice<Partial<I>>>(),
+        supports::<Nest<I>>(),
+        supports::<Plain<I>>(),
     ]
 }
 
-// The first token with the flag cleared, the flag set again, the flag before it is cleared for good and behind it, and what it leaves.
-fn cleared_inside<I: Stream + StreamIsPartial + Copy>(
+// Whether a place and a state round a stream that has no flag await more.
+fn plain_awaits<I: Stream + StreamIsPartial + Drop>(input: I) -> bool
+    requires valid { I.valid input }
+    requires no_flag { I.supports_partial ≡ false }
+{
+    let plain: Plain<I> = Stateful {
+        input: LocatingSlice::new(input),
+        state: 7,
+    };
+    awaits(&plain)
+}
+
+// The first token with the flag cleared, and the flag set again.
+fn peeked_and_restored<S: Stream + StreamIsPartial>(s: &mut S) -> ((bool, Option<S::Token>), bool)
+    requires { S.valid s.old }
+{
+    let peeked = peek_complete(s);
+    (peeked, s.is_partial())
+}
+
+// The flag before it is cleared for good and behind it, and what it leaves.
+fn cleared_inside<I: Stream>(s: &mut FlagInside<I>) -> ((bool, bool), u32, (usize, usize)) {
+    let cleared = complete_inside(s);
+    (cleared, s.state, place(s))
+}
+
+// Both, one after the other.
+fn told_of_flag<I: Stream + StreamIsPartial + Drop>(
     input: I,
 ) -> (
-    (bool, Option<I::Token>),
-    bool,
-    (bool, bool),
-    u32,
-    (usize, usize),
+    ((bool, Option<I::Token>), bool),
+    ((bool, bool), u32, (usize, usize)),
 )
     requires valid { I.valid input }
     requires no_flag { I.supports_partial ≡ false }
 {
     let mut s = flag_inside(input);
-    let peeked = peek_complete(&mut s);
-    let restored = s.is_partial();
-    let cleared = complete_inside(&mut s);
-    (peeked, restored, cleared, s.state, place(&s))
+    (peeked_and_restored(&mut s), cleared_inside(&mut s))
 }
 
 #[test]
 fn a_flag_inside_two_wrappers(rt: HostRuntime) {
     assert_eq!(rt;
-        (cleared_inside("ab"), supported("")),
-        (
-            ((false, Some('a')), true, (true, false), 7, (0, 0)),
-            [true, true, true, false, false]
-        )
+        told_of_flag("ab"),
+        (((false, Some('a')), true), ((true, false), 7, (0, 0)))
+    );
+    assert_eq!(rt;
+        (supported::<&str>(), plain_awaits("")),
+        ([true, true, true, false], false)
     );
 }
 
