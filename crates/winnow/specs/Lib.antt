@@ -27,4 +27,5 @@ pub use Rattle.winnow_combinator.specs.Gathering
 pub use Rattle.winnow_combinator.specs.Separation
 pub use Rattle.winnow_combinator.specs.Choices
 pub use Rattle.winnow_combinator.specs.Conditional
+pub use Rattle.winnow_combinator.specs.DeterminedLists
 pub use Rattle.winnow_parser.specs.declared.failure.Failure

@@ -3,6 +3,7 @@
 pub use winnow_combinator::{
     Accumulated, Alternatives, Begin, Between, Conditional, CutOff, Ended, Failing, FirstOf,
     Folded, Gather, LeftFold, LookedAt, Negated, Nothing, Optional, Repeated, SecondOf, Separate,
-    Separation, Softened, alt, backtrack_err, cond, cut_err, delimited, empty, eof, fail, not, opt,
-    peek, preceded, repeat, separated, separated_foldl1, separated_pair, terminated,
+    Separation, Softened, alt, backtrack_err, cond, cut_err, delimited, determined_choice_law,
+    determined_repeat_law, empty, eof, fail, not, opt, peek, preceded, repeat, separated,
+    separated_foldl1, separated_pair, terminated,
 };

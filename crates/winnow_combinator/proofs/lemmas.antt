@@ -1,3 +1,5 @@
+pub mod AgreeingLemmas
+pub mod CombinedLemmas
 pub mod CountLemmas
 pub mod GatherLemmas
 pub mod RepetitionLemmas

@@ -1,6 +1,7 @@
 pub mod Choices
 pub mod Conditional
 pub mod Counts
+pub mod DeterminedLists
 pub mod Ending
 pub mod Gathering
 pub mod Repetition

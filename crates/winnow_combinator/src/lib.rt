@@ -7,6 +7,7 @@ mod alternatives_to_seven;
 mod alternatives_to_ten;
 mod conditional;
 mod counts;
+mod determined;
 mod ending;
 mod gathering;
 mod left_fold;
@@ -19,6 +20,7 @@ mod sequence;
 
 pub use alternatives::{Alternatives, alt};
 pub use conditional::{Conditional, cond};
+pub use determined::{determined_choice_law, determined_repeat_law};
 pub use ending::{Ended, Failing, Nothing, empty, eof, fail};
 pub use gathering::{Accumulated, Begin, Folded, Gather};
 pub use left_fold::{LeftFold, separated_foldl1};

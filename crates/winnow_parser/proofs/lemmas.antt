@@ -3,3 +3,4 @@ pub mod DeterminedLemmas
 pub mod ImageLemmas
 pub mod MadeLemmas
 pub mod RowLemmas
+pub mod ToldLemmas

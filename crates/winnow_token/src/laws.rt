@@ -1,12 +1,16 @@
 ghost use Rattle.std.specs.Prelude.{◌≡◌, ℕ, ◌≤◌, ◌↔◌, Bool, Option, IsTrue, List, [], ◌∷◌, length, take};
+ghost use Rattle.std.specs.declared.ops.Range.{Range};
 ghost use Rattle.winnow_stream.specs.Source.{Source, width, HasPositiveWidths};
 ghost use Rattle.winnow_stream.specs.Front.{is_offset, front};
 ghost use Rattle.winnow_match.specs.Bytes.{bytes_of, utf8_of};
 ghost use Rattle.winnow_match.specs.Search.{hit, have_one_length};
+ghost use Rattle.winnow_match.specs.declared.compare.CompareResult.{CompareResult};
+ghost use Rattle.winnow_parser.specs.Determined.{IsDetermined, Shows, SlicesRespect};
 ghost use Rattle.winnow_token.specs.OneOf.{OneOf};
 ghost use Rattle.winnow_token.specs.Counted.{Counted};
 ghost use Rattle.winnow_token.specs.Held.{HeldFront};
-ghost use Rattle.winnow_token.specs.Until.{HitsStay};
+ghost use Rattle.winnow_token.specs.Literal.{Literal};
+ghost use Rattle.winnow_token.specs.Until.{HitsStay, Until};
 ghost use Rattle.winnow_token.specs.Prompt.{IsPrompt};
 
 use winnow_stream::Stream;
@@ -40,4 +44,21 @@ pub fn prompt_law<I: Stream>()
     ensures counted { (n : ℕ) → IsPrompt (Counted I.counts_missing I.is_slice n) }
     ensures held { (holds : I.Token → Bool) (least : ℕ) (greatest : Option ℕ)
         → IsPrompt (HeldFront I.is_slice holds least greatest) }
+{}
+
+/// The laws of parsers of tokens that have one answer: the token is one, and so is the slice for a view that shows the same of all slices of
+/// one front. It does nothing when called: its contract is the law.
+pub fn determined_token_law<I: Stream, V>()
+    ensures one { (holds : I.Token → Bool) → IsDetermined (λ x y. x ≡ y) (OneOf holds) }
+    ensures counted { (view : I.Slice → V) (n : ℕ) → SlicesRespect I.is_slice (Shows view)
+        → IsDetermined (Shows view) (Counted I.counts_missing I.is_slice n) }
+    ensures held { (view : I.Slice → V) (holds : I.Token → Bool) (least : ℕ) (greatest : Option ℕ)
+        → SlicesRespect I.is_slice (Shows view)
+        → IsDetermined (Shows view) (HeldFront I.is_slice holds least greatest) }
+    ensures literal { (view : I.Slice → V) (compare : Source I.Token → CompareResult)
+        → SlicesRespect I.is_slice (Shows view)
+        → IsDetermined (Shows view) (Literal I.is_slice compare) }
+    ensures until { (view : I.Slice → V) (find : Source I.Token → Option (Range ℕ)) (least : ℕ)
+        (greatest : Option ℕ) → SlicesRespect I.is_slice (Shows view)
+        → IsDetermined (Shows view) (Until I.is_slice find least greatest) }
 {}

@@ -12,7 +12,7 @@ mod wanted;
 
 pub use counted::{Counted, take};
 pub use held::{HeldTokens, OtherTokens, take_till, take_while};
-pub use laws::{count_law, hits_stay_law, prompt_law};
+pub use laws::{count_law, determined_token_law, hits_stay_law, prompt_law};
 pub use one_token::{AnyToken, NoneOf, OneOf, any, none_of, one_of};
 pub use remaining::{Remaining, RemainingWidth, rest, rest_len};
 pub use until::{TokensBefore, take_until};
