@@ -2,7 +2,7 @@ ghost use Rattle.std.specs.Prelude.{◌≡◌, ◌+◌, ◌<◌, ◌^◌, [], If
 ghost use Rattle.std.specs.Prelude.{sum_by, OnOk};
 ghost use Rattle.winnow_feed.specs.Feeding.{bytes_fed};
 ghost use Rattle.winnow_feed.specs.Inputs.{byte_input, text_input};
-ghost use Rattle.winnow_execute.specs.FedLines.{TakesLine};
+ghost use Rattle.winnow_execute.specs.FedLines.{PrintsSteps, TakesLine, TellsAll};
 ghost use Rattle.winnow_execute.specs.FaultyScripts.{FaultsAs, FaultsScript};
 ghost use Rattle.winnow_execute.specs.ReportLines.{Prints};
 ghost use Rattle.winnow_execute.specs.ScriptLines.{PrintsAs, PrintsScript};
@@ -87,27 +87,52 @@ fn execute_byte_pieces(alloc: Global, lines: &mut Lines) -> Result<String, Scrip
 {
     let steps: Vec<ScriptStep<'_, Vec<u8>>> = read_steps(alloc, lines)?;
     let fed: Vec<FedLine<Vec<u8>>> = read_fed_lines(alloc, lines)?;
-    let steps = lend_steps(alloc, &steps)?;
-    Ok(run_byte_lines(alloc, &steps, &fed)?)
+    Ok(print_byte_pieces(alloc, &steps, &fed)?)
 }
 
-// Takes all lines of pieces in order, and tells the answers that only the end lets out.
-fn run_byte_lines(
+// Lends the steps, and returns the lines of their answers over the pieces.
+fn print_byte_pieces<'k>(
     alloc: Global,
-    steps: &[SearchStep<CharSet<'_>, &[u8]>],
+    steps: &'k [ScriptStep<'k, Vec<u8>>],
     lines: &[FedLine<Vec<u8>>],
 ) -> Result<String, AllocError>
     requires { sum_by (piece_length (λ piece. piece.items)) lines.now < 2 ^ 64 }
-    ensures { IfOk result (λ text. Prints byte_input steps.now (λ piece. piece.items) [] 0 lines.now
+    ensures { IfOk result (λ text. PrintsSteps byte_input (λ piece. piece.items) steps.entry.now lines.now
         (string_bytes text)) }
 {
-    let mut feed = ByteFeed::new(alloc, steps)?;
+    let lent = lend_steps(alloc, steps)?;
     let mut report = Report::new(alloc);
-    for line in lines {
-        take_byte_line(&mut feed, &mut report, line)?;
-    }
-    report.push_answers(feed.end().answers())?;
+    feed_byte_lines(alloc, &lent, lines, &mut report)?;
     Ok(report.into_text())
+}
+
+// Takes all lines of pieces in order, and tells the answers that only the end lets out.
+fn feed_byte_lines(
+    alloc: Global,
+    steps: &[SearchStep<CharSet<'_>, &[u8]>],
+    lines: &[FedLine<Vec<u8>>],
+    report: &mut Report,
+) -> Result<(), AllocError>
+    requires short { sum_by (piece_length (λ piece. piece.items)) lines.now < 2 ^ 64 }
+    requires text { string_bytes report.old.text ≡ [] }
+    requires answers { report.old.answers ≡ 0 }
+    requires pieces { report.old.pieces ≡ 0 }
+    ensures { OnOk result (Prints byte_input steps.now (λ piece. piece.items) [] 0 lines.now
+        (string_bytes report.new.text)) }
+{
+    let mut feed = ByteFeed::new(alloc, steps)?;
+    for line in lines {
+        take_byte_line(&mut feed, report, line)?;
+    }
+    end_byte_feed(feed, report)?;
+    Ok(())
+}
+
+// Ends the input, and tells the answers that only the end lets out.
+fn end_byte_feed(feed: ByteFeed, report: &mut Report) -> Result<(), AllocError>
+    ensures { OnOk result (TellsAll byte_input feed.entry report.old report.new) }
+{
+    report.push_answers(feed.end().answers())
 }
 
 // Feeds the piece of a line, or tells what the feed waits for, where the line asks.
@@ -142,27 +167,52 @@ fn execute_text_pieces(alloc: Global, lines: &mut Lines) -> Result<String, Scrip
 {
     let steps: Vec<ScriptStep<'_, String>> = read_steps(alloc, lines)?;
     let fed: Vec<FedLine<String>> = read_fed_lines(alloc, lines)?;
-    let steps = lend_steps(alloc, &steps)?;
-    Ok(run_text_lines(alloc, &steps, &fed)?)
+    Ok(print_text_pieces(alloc, &steps, &fed)?)
 }
 
-// Takes all lines of pieces in order, and tells the answers that only the end lets out.
-fn run_text_lines(
+// Lends the steps, and returns the lines of their answers over the pieces.
+fn print_text_pieces<'k>(
     alloc: Global,
-    steps: &[SearchStep<CharSet<'_>, &str>],
+    steps: &'k [ScriptStep<'k, String>],
     lines: &[FedLine<String>],
 ) -> Result<String, AllocError>
     requires { sum_by (piece_length string_bytes) lines.now < 2 ^ 64 }
-    ensures { IfOk result (λ text. Prints text_input steps.now string_bytes [] 0 lines.now
+    ensures { IfOk result (λ text. PrintsSteps text_input string_bytes steps.entry.now lines.now
         (string_bytes text)) }
 {
-    let mut feed = TextFeed::new(alloc, steps)?;
+    let lent = lend_steps(alloc, steps)?;
     let mut report = Report::new(alloc);
-    for line in lines {
-        take_text_line(&mut feed, &mut report, line)?;
-    }
-    report.push_answers(feed.end().answers())?;
+    feed_text_lines(alloc, &lent, lines, &mut report)?;
     Ok(report.into_text())
+}
+
+// Takes all lines of pieces in order, and tells the answers that only the end lets out.
+fn feed_text_lines(
+    alloc: Global,
+    steps: &[SearchStep<CharSet<'_>, &str>],
+    lines: &[FedLine<String>],
+    report: &mut Report,
+) -> Result<(), AllocError>
+    requires short { sum_by (piece_length string_bytes) lines.now < 2 ^ 64 }
+    requires text { string_bytes report.old.text ≡ [] }
+    requires answers { report.old.answers ≡ 0 }
+    requires pieces { report.old.pieces ≡ 0 }
+    ensures { OnOk result (Prints text_input steps.now string_bytes [] 0 lines.now
+        (string_bytes report.new.text)) }
+{
+    let mut feed = TextFeed::new(alloc, steps)?;
+    for line in lines {
+        take_text_line(&mut feed, report, line)?;
+    }
+    end_text_feed(feed, report)?;
+    Ok(())
+}
+
+// Ends the input, and tells the answers that only the end lets out.
+fn end_text_feed(feed: TextFeed, report: &mut Report) -> Result<(), AllocError>
+    ensures { OnOk result (TellsAll text_input feed.entry report.old report.new) }
+{
+    report.push_answers(feed.end().answers())
 }
 
 // Feeds the piece of a line, or tells what the feed waits for, where the line asks.

@@ -3,18 +3,17 @@ use Rattle.winnow_feed.specs.Inputs.{byte_input}
 use Rattle.winnow_feed.proofs.lemmas.InputLemmas.{bytes-input}
 use Rattle.winnow_execute.proofs.FedPieceLemmas.{bytes_fed-le}
 use Rattle.winnow_execute.proofs.ReportLemmas.{printed-none, printed-line, printed-all}
-use Rattle.winnow_execute.proofs.execution.run_byte_lines.Goals as goal
+use Rattle.winnow_execute.proofs.execution.feed_byte_lines.Goals as goal
 
 pub loop-line-init : goal.loop-line-init
 loop-line-init c =
-    let report = c.new-report.ensures in
-    rw (report.answers, report.pieces) (printed-none byte_input c.args.steps.now (λ piece. piece.items) c.args.lines.now c.in_ok-feed.feed (string_bytes c.new-report.result.text) c.in_ok-feed.ensures.fits c.in_ok-feed.ensures.script report.text)
+    rw (c.requires.answers, c.requires.pieces) (printed-none byte_input c.args.steps.now (λ piece. piece.items) c.args.lines.now c.in_ok-feed.feed _ c.in_ok-feed.ensures.fits c.in_ok-feed.ensures.script c.requires.text)
 
 pub take_byte_line-requires : goal.take_byte_line-requires
 take_byte_line-requires c =
     let before = c.loop-line.invariant in
     let within = bytes_fed-le (λ piece. piece.items) c.args.lines.now c.loop-line.line-index c.line-item.result c.loop-line-test.true before.pieces before.length_is byte_input bytes-input c.loop-line.feed before.fits in
-    omega (arith, c.requires, rw (sym c.line-item.is) at within)
+    omega (arith, c.requires.short, rw (sym c.line-item.is) at within)
 
 pub loop-line-preserved : goal.loop-line-preserved
 loop-line-preserved c =
@@ -24,5 +23,5 @@ loop-line-preserved c =
 pub returns : goal.returns
 returns c =
     let report = c.loop-line.report in
-    let all = printed-all byte_input c.args.steps.now (λ piece. piece.items) c.args.lines.now c.loop-line.line-index c.loop-line.feed report.answers report.pieces (string_bytes report.text) c.end.result c.loop-line.invariant c.loop-line-test.false c.end.ensures in
-    rw (c.into_text.ensures, c.in_ok-push_answers.ensures.text, c.answers.ensures) all
+    let ends = c.in_ok-end_byte_feed.ensures in
+    rw ends.text (printed-all byte_input c.args.steps.now (λ piece. piece.items) c.args.lines.now c.loop-line.line-index c.loop-line.feed report.answers report.pieces (string_bytes report.text) ends.finished c.loop-line.invariant c.loop-line-test.false ends.ends)
