@@ -1,5 +1,6 @@
 ghost use Rattle.std.specs.Prelude.{◌≡◌, ◌-◌, ◌<◌};
 ghost use Rattle.winnow_parser.specs.Answer.{ahead, outcome};
+ghost use Rattle.winnow_parser.specs.Errors.{AnyError};
 ghost use Rattle.winnow_parser.specs.Laws.{LeavesAfter};
 ghost use Rattle.example_nested.specs.Answers.{IsAnswer, MissesNone};
 ghost use Rattle.example_nested.specs.Nested.{Leaf, Around, Nested, IsParser-Nested};
@@ -93,6 +94,8 @@ where
     type Output = Tree;
 
     ghost means = { λ p. Nested I.Token.code p.depth };
+
+    ghost errors = { λ _. AnyError };
 
     ghost ready = { λ _. Unit {0} };
 

@@ -1,6 +1,7 @@
 -- What contracts of parsers name, from each of the crates that this one passes on.
 pub use Rattle.winnow_parser.specs.Outcome
 pub use Rattle.winnow_parser.specs.Answer
+pub use Rattle.winnow_parser.specs.Errors
 pub use Rattle.winnow_parser.specs.Laws
 pub use Rattle.winnow_parser.specs.Meanings
 pub use Rattle.winnow_parser.specs.Parts

@@ -4,3 +4,4 @@ pub mod CountLemmas
 pub mod GatherLemmas
 pub mod RepetitionLemmas
 pub mod SeparationLemmas
+pub mod ErrorLemmas

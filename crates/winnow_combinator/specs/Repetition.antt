@@ -3,7 +3,11 @@ use Rattle.std.specs.Prelude.{◌≡◌, ℕ, ◌<◌, ◌≤◌, Bool, true, Li
 use Rattle.std.proofs.Common.{refl, ap, sym, subst, inl, inr, arith}
 use Rattle.winnow_stream.specs.Source.{Source, width}
 use Rattle.winnow_stream.proofs.lemmas.FrontLemmas.{width-append}
+use Rattle.winnow_stream.specs.declared.needed.Needed.{Needed}
+use Rattle.winnow_parser.specs.declared.failure.Failure.{Failure}
+use Rattle.winnow_parser.specs.declared.failure.Failure.TheVariants.{Incomplete, Backtrack, Cut, Refused}
 use Rattle.winnow_parser.specs.Outcome.{Ahead, Failed, Backtracks, Cuts, Needs, Refuses, Gives, Fails, Meaning, Moves}
+use Rattle.winnow_parser.specs.Errors.{Errors}
 use Rattle.winnow_parser.specs.Laws.{longer, outcome_longer, IsSettled, IsStable, IsFinal, IsOnward, IsParser}
 use Rattle.winnow_parser.specs.Parts.{Moves-still, Moves-on, LeavesAfter-on}
 use Rattle.winnow_combinator.specs.Counts.{IsBelow}
@@ -44,6 +48,22 @@ Repeated least greatest inner partial a (Gives xs b) = InTurn (Taking inner) par
 Repeated {O} {T} least greatest inner partial a (Fails f) = (xs : List O) × ((b : Ahead T)
     × (InTurn (Taking inner) partial xs a b × IsBelow greatest (length xs)
     × OneMore least (length xs) (Taking inner) partial b (Fails f)))
+
+-- the parser cuts what is used wrongly, with an error that is made of the stream as it is left; or memory is refused
+abbrev pub IsMisuse : {E S : Type 0} → (S → E → Type 0) → S → Failure E Needed → Type 0
+IsMisuse cuts s (Backtrack e) = ⊥
+IsMisuse cuts s (Cut e) = cuts s e
+IsMisuse cuts s (Incomplete n) = ⊥
+IsMisuse cuts s (Refused r) = ⊤
+
+-- the inner parser's errors, or that of a wrong use
+abbrev pub MisuseErrors : {E S T : Type 0} → (S → E → Type 0) → Errors E S T → Errors E S T
+MisuseErrors cuts inner partial a s failure = inner partial a s failure ⊎ IsMisuse cuts s failure
+
+-- the inner parser's errors, after some values of it
+abbrev pub RepeatedErrors : {O E S T : Type 0} → Meaning O T → Errors E S T → Errors E S T
+RepeatedErrors {O} {E} {S} {T} means inner partial a s failure =
+    (xs : List O) × ((b : Ahead T) × (InTurn (Taking means) partial xs a b × inner partial b s failure))
 
 -- ---- `Taking`
 

@@ -3,11 +3,12 @@ use Rattle.std.specs.Prelude.{◌≡◌, ℕ, ◌+◌, ◌-◌, ◌^◌, ◌≤�
 use Rattle.std.specs.List.{FoldsTo}
 use Rattle.winnow_stream.specs.Source.{width}
 use Rattle.winnow_parser.specs.Outcome.{Backtracks, Cuts, Needs, Refuses, Gives, Fails, Meaning}
+use Rattle.winnow_parser.specs.Errors.{Errors, PairErrors}
 use Rattle.winnow_parser.specs.Laws.{IsStable, IsOnward, IsParser}
 use Rattle.winnow_parser.specs.Meanings.{Returns, Maps, Pair, Preceded, Optional}
 use Rattle.winnow_parser.specs.Parts.{IsParser-Returns, IsParser-Maps, IsParser-Pair, IsParser-Preceded, IsParser-Optional}
 use Rattle.winnow_combinator.specs.Counts.{fewer}
-use Rattle.winnow_combinator.specs.Repetition.{Repeated, IsParser-Repeated}
+use Rattle.winnow_combinator.specs.Repetition.{Repeated, RepeatedErrors, IsParser-Repeated}
 
 -- the first value and the others, in one list
 abbrev pub Prepends : {O : Type 0} → O × List O → List O → Type 0
@@ -50,6 +51,11 @@ FoldsLeft step both y = FoldsTo step both.0 both.1 y
 -- values with separators between them, as often as they can, folded from the left
 abbrev pub FoldedLeft : {O S T : Type 0} → (O → S × O → O → Type 0) → Meaning S T → Meaning O T → Meaning O T
 FoldedLeft step separator inner = Maps (FoldsLeft step) (Pair inner (Repeated 0 None (Pair separator inner)))
+
+-- the errors of the first value; or, after it and some separators and values, those of the next separator and its value
+abbrev pub ListErrors : {O P Q E S T : Type 0} → Meaning Q T → Meaning P T → Errors E S T → Meaning O T → Errors E S T → Errors E S T
+ListErrors pairs separator separator_errors inner errors =
+    PairErrors inner errors (RepeatedErrors pairs (PairErrors separator separator_errors errors))
 
 module _ {O S T : Type 0} {separator : Meaning S T} {inner : Meaning O T} (q : IsParser separator) (p : IsParser inner) where
   pub IsParser-FoldedLeft : (step : O → S × O → O → Type 0) → IsParser (FoldedLeft step separator inner)

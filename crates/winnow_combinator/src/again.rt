@@ -1,9 +1,10 @@
-ghost use Rattle.std.specs.Prelude.{◌+◌, ◌<◌, ◌^◌, List, length};
+ghost use Rattle.std.specs.Prelude.{◌+◌, ◌<◌, ◌^◌, List, length, IfErr};
 ghost use Rattle.std.specs.List.{FoldsTo};
 ghost use Rattle.winnow_stream.specs.Source.{width};
 ghost use Rattle.winnow_parser.specs.Answer.{ahead, outcome};
 ghost use Rattle.winnow_combinator.specs.Counts.{Ascends};
 ghost use Rattle.winnow_combinator.specs.Repetition.{Taking, IsParser-Taking, OneMore, Repeated};
+ghost use Rattle.winnow_combinator.specs.Repetition.{MisuseErrors, RepeatedErrors};
 ghost use Rattle.winnow_combinator.specs.Gathering.{Gathered};
 
 use crate::Gather;
@@ -27,6 +28,8 @@ where
     type Output = P::Output;
 
     ghost means = { λ p. Taking (P.means p.inner.now) };
+
+    ghost errors = { λ p. MisuseErrors E.assert_gives (P.errors p.inner.now) };
 
     ghost ready = { λ p. P.ready p.inner.now };
 
@@ -57,6 +60,8 @@ pub(crate) fn one_more<I: StreamIsPartial, E: ParserError<I>, P: Parser<I, E>>(
     ensures means { OneMore least count (P.means parser.now) (I.expects_more input.old)
         (ahead I.location I.remaining input.old)
         (outcome result (ahead I.location I.remaining input.new)) }
+    ensures error { IfErr result (P.errors parser.now (I.expects_more input.old)
+        (ahead I.location I.remaining input.old) input.new) }
     ensures valid { I.valid input.new }
     ensures kept { I.keeps input.old input.new }
 {
@@ -105,6 +110,9 @@ where
         (I.expects_more input.old)
         (ahead I.location I.remaining input.old)
         (outcome result (ahead I.location I.remaining input.new)) }
+    ensures error { IfErr result (MisuseErrors E.assert_gives
+        (RepeatedErrors (P.means again.now.parser.now) (P.errors again.now.parser.now))
+        (I.expects_more input.old) (ahead I.location I.remaining input.old) input.new) }
     ensures valid { I.valid input.new }
     ensures kept { I.keeps input.old input.new }
 {

@@ -1,5 +1,6 @@
 ghost use Rattle.std.specs.Prelude.{◌≡◌};
 ghost use Rattle.winnow_parser.specs.Meanings.{Either};
+ghost use Rattle.winnow_parser.specs.Errors.{EitherErrors};
 ghost use Rattle.winnow_parser.specs.Parts.{IsParser-Either};
 ghost use Rattle.winnow_combinator.specs.Choices.{Choice3, IsParser-Choice3};
 
@@ -31,6 +32,8 @@ impl<
     type Output = A::Output;
 
     ghost means = { λ p. Either E.or_refusable (A.means p.list.0) (B.means p.list.1) };
+
+    ghost errors = { λ p. EitherErrors E.or_gives (A.errors p.list.0) (B.errors p.list.1) };
 
     ghost ready = { λ p. A.ready p.list.0 × B.ready p.list.1 };
 
@@ -67,6 +70,9 @@ impl<
 
     ghost means = { λ p. Choice3 E.or_refusable (A.means p.list.0) (B.means p.list.1)
         (C.means p.list.2) };
+
+    ghost errors = { λ p. EitherErrors E.or_gives (A.errors p.list.0)
+        (EitherErrors E.or_gives (B.errors p.list.1) (C.errors p.list.2)) };
 
     ghost ready = { λ p. A.ready p.list.0 × B.ready p.list.1 × C.ready p.list.2 };
 

@@ -1,3 +1,4 @@
+ghost use Rattle.winnow_parser.specs.Errors.{EitherErrors};
 ghost use Rattle.winnow_combinator.specs.Choices.{Choice4, IsParser-Choice4};
 ghost use Rattle.winnow_combinator.specs.Choices.{Choice5, IsParser-Choice5};
 ghost use Rattle.winnow_combinator.specs.Choices.{Choice6, IsParser-Choice6};
@@ -22,6 +23,10 @@ impl<
 
     ghost means = { λ p. Choice4 E.or_refusable (A.means p.list.0) (B.means p.list.1)
         (C.means p.list.2) (D.means p.list.3) };
+
+    ghost errors = { λ p. EitherErrors E.or_gives (A.errors p.list.0)
+        (EitherErrors E.or_gives (B.errors p.list.1) (EitherErrors E.or_gives (C.errors p.list.2)
+        (D.errors p.list.3))) };
 
     ghost ready = { λ p. A.ready p.list.0 × B.ready p.list.1 × C.ready p.list.2 × D.ready p.list.3 };
 
@@ -53,6 +58,10 @@ impl<
 
     ghost means = { λ p. Choice5 E.or_refusable (A.means p.list.0) (B.means p.list.1)
         (C.means p.list.2) (D.means p.list.3) (F.means p.list.4) };
+
+    ghost errors = { λ p. EitherErrors E.or_gives (A.errors p.list.0)
+        (EitherErrors E.or_gives (B.errors p.list.1) (EitherErrors E.or_gives (C.errors p.list.2)
+        (EitherErrors E.or_gives (D.errors p.list.3) (F.errors p.list.4)))) };
 
     ghost ready = { λ p. A.ready p.list.0 × B.ready p.list.1 × C.ready p.list.2 × D.ready p.list.3
         × F.ready p.list.4 };
@@ -86,6 +95,11 @@ impl<
 
     ghost means = { λ p. Choice6 E.or_refusable (A.means p.list.0) (B.means p.list.1)
         (C.means p.list.2) (D.means p.list.3) (F.means p.list.4) (G.means p.list.5) };
+
+    ghost errors = { λ p. EitherErrors E.or_gives (A.errors p.list.0)
+        (EitherErrors E.or_gives (B.errors p.list.1) (EitherErrors E.or_gives (C.errors p.list.2)
+        (EitherErrors E.or_gives (D.errors p.list.3) (EitherErrors E.or_gives (F.errors p.list.4)
+        (G.errors p.list.5))))) };
 
     ghost ready = { λ p. A.ready p.list.0 × B.ready p.list.1 × C.ready p.list.2 × D.ready p.list.3
         × F.ready p.list.4 × G.ready p.list.5 };
@@ -127,6 +141,11 @@ impl<
     ghost means = { λ p. Choice7 E.or_refusable (A.means p.list.0) (B.means p.list.1)
         (C.means p.list.2) (D.means p.list.3) (F.means p.list.4) (G.means p.list.5)
         (H.means p.list.6) };
+
+    ghost errors = { λ p. EitherErrors E.or_gives (A.errors p.list.0)
+        (EitherErrors E.or_gives (B.errors p.list.1) (EitherErrors E.or_gives (C.errors p.list.2)
+        (EitherErrors E.or_gives (D.errors p.list.3) (EitherErrors E.or_gives (F.errors p.list.4)
+        (EitherErrors E.or_gives (G.errors p.list.5) (H.errors p.list.6)))))) };
 
     ghost ready = { λ p. A.ready p.list.0 × B.ready p.list.1 × C.ready p.list.2 × D.ready p.list.3
         × F.ready p.list.4 × G.ready p.list.5 × H.ready p.list.6 };

@@ -1,3 +1,4 @@
+ghost use Rattle.winnow_parser.specs.Errors.{EitherErrors};
 ghost use Rattle.winnow_combinator.specs.Choices.{Choice8, IsParser-Choice8};
 ghost use Rattle.winnow_combinator.specs.Choices.{Choice9, IsParser-Choice9};
 ghost use Rattle.winnow_combinator.specs.Choices.{Choice10, IsParser-Choice10};
@@ -26,6 +27,12 @@ impl<
     ghost means = { λ p. Choice8 E.or_refusable (A.means p.list.0) (B.means p.list.1)
         (C.means p.list.2) (D.means p.list.3) (F.means p.list.4) (G.means p.list.5)
         (H.means p.list.6) (J.means p.list.7) };
+
+    ghost errors = { λ p. EitherErrors E.or_gives (A.errors p.list.0)
+        (EitherErrors E.or_gives (B.errors p.list.1) (EitherErrors E.or_gives (C.errors p.list.2)
+        (EitherErrors E.or_gives (D.errors p.list.3) (EitherErrors E.or_gives (F.errors p.list.4)
+        (EitherErrors E.or_gives (G.errors p.list.5) (EitherErrors E.or_gives (H.errors p.list.6)
+        (J.errors p.list.7))))))) };
 
     ghost ready = { λ p. A.ready p.list.0 × B.ready p.list.1 × C.ready p.list.2 × D.ready p.list.3
         × F.ready p.list.4 × G.ready p.list.5 × H.ready p.list.6 × J.ready p.list.7 };
@@ -72,6 +79,12 @@ impl<
     ghost means = { λ p. Choice9 E.or_refusable (A.means p.list.0) (B.means p.list.1)
         (C.means p.list.2) (D.means p.list.3) (F.means p.list.4) (G.means p.list.5)
         (H.means p.list.6) (J.means p.list.7) (K.means p.list.8) };
+
+    ghost errors = { λ p. EitherErrors E.or_gives (A.errors p.list.0)
+        (EitherErrors E.or_gives (B.errors p.list.1) (EitherErrors E.or_gives (C.errors p.list.2)
+        (EitherErrors E.or_gives (D.errors p.list.3) (EitherErrors E.or_gives (F.errors p.list.4)
+        (EitherErrors E.or_gives (G.errors p.list.5) (EitherErrors E.or_gives (H.errors p.list.6)
+        (EitherErrors E.or_gives (J.errors p.list.7) (K.errors p.list.8)))))))) };
 
     ghost ready = { λ p. A.ready p.list.0 × B.ready p.list.1 × C.ready p.list.2 × D.ready p.list.3
         × F.ready p.list.4 × G.ready p.list.5 × H.ready p.list.6 × J.ready p.list.7
@@ -121,6 +134,13 @@ impl<
     ghost means = { λ p. Choice10 E.or_refusable (A.means p.list.0) (B.means p.list.1)
         (C.means p.list.2) (D.means p.list.3) (F.means p.list.4) (G.means p.list.5)
         (H.means p.list.6) (J.means p.list.7) (K.means p.list.8) (L.means p.list.9) };
+
+    ghost errors = { λ p. EitherErrors E.or_gives (A.errors p.list.0)
+        (EitherErrors E.or_gives (B.errors p.list.1) (EitherErrors E.or_gives (C.errors p.list.2)
+        (EitherErrors E.or_gives (D.errors p.list.3) (EitherErrors E.or_gives (F.errors p.list.4)
+        (EitherErrors E.or_gives (G.errors p.list.5) (EitherErrors E.or_gives (H.errors p.list.6)
+        (EitherErrors E.or_gives (J.errors p.list.7) (EitherErrors E.or_gives (K.errors p.list.8)
+        (L.errors p.list.9))))))))) };
 
     ghost ready = { λ p. A.ready p.list.0 × B.ready p.list.1 × C.ready p.list.2 × D.ready p.list.3
         × F.ready p.list.4 × G.ready p.list.5 × H.ready p.list.6 × J.ready p.list.7

@@ -28,6 +28,8 @@ impl<I: StreamIsPartial, E, P: Parser<I, E>> Parser<I, E> for Conditional<P> {
 
     ghost means = { λ p. Conditional p.is_asked (P.means p.inner) };
 
+    ghost errors = { λ p. P.errors p.inner };
+
     ghost ready = { λ p. P.ready p.inner };
 
     ghost lawful = { λ p. IsParser-Conditional p.is_asked (P.lawful p.inner) };

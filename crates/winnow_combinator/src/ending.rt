@@ -1,4 +1,5 @@
 ghost use Rattle.winnow_parser.specs.Meanings.{Returns};
+ghost use Rattle.winnow_parser.specs.Errors.{NoError, OwnErrors};
 ghost use Rattle.winnow_parser.specs.Parts.{IsParser-Returns};
 ghost use Rattle.winnow_combinator.specs.Ending.{Ended, Failing, IsParser-Ended, IsParser-Failing};
 
@@ -23,6 +24,8 @@ where
     type Output = ();
 
     ghost means = { λ _. Ended };
+
+    ghost errors = { λ _. OwnErrors E.from_input_gives E.assert_gives };
 
     ghost ready = { λ _. Unit {0} };
 
@@ -51,6 +54,8 @@ impl<I: StreamIsPartial, E> Parser<I, E> for Nothing {
 
     ghost means = { λ _. Returns tt };
 
+    ghost errors = { λ _. NoError };
+
     ghost ready = { λ _. Unit {0} };
 
     ghost lawful = { λ _. IsParser-Returns tt };
@@ -73,6 +78,8 @@ impl<I: StreamIsPartial, E: ParserError<I>> Parser<I, E> for Failing {
     type Output = ();
 
     ghost means = { λ _. Failing };
+
+    ghost errors = { λ _. OwnErrors E.from_input_gives E.assert_gives };
 
     ghost ready = { λ _. Unit {0} };
 

@@ -1,5 +1,6 @@
 ghost use Rattle.std.specs.Prelude.{◌≡◌};
 ghost use Rattle.winnow_parser.specs.Meanings.{LookedAt, Negated};
+ghost use Rattle.winnow_parser.specs.Errors.{UnwantedErrors};
 ghost use Rattle.winnow_parser.specs.Parts.{IsParser-LookedAt, IsParser-Negated};
 
 use std::alloc::Global;
@@ -27,6 +28,8 @@ where
     type Output = P::Output;
 
     ghost means = { λ p. LookedAt (P.means p.inner) };
+
+    ghost errors = { λ p. P.errors p.inner };
 
     ghost ready = { λ p. P.ready p.inner };
 
@@ -60,6 +63,9 @@ where
     type Output = ();
 
     ghost means = { λ p. Negated (P.means p.inner) };
+
+    ghost errors = { λ p.
+        UnwantedErrors (λ _. E.from_input_gives) (P.means p.inner) (P.errors p.inner) };
 
     ghost ready = { λ p. P.ready p.inner };
 

@@ -1,5 +1,6 @@
 ghost use Rattle.std.specs.Prelude.{◌≡◌};
 ghost use Rattle.winnow_parser.specs.Meanings.{CutOff, Softened};
+ghost use Rattle.winnow_parser.specs.Errors.{CutErrors, SoftenedErrors};
 ghost use Rattle.winnow_parser.specs.Parts.{IsParser-CutOff, IsParser-Softened};
 
 use std::alloc::Global;
@@ -23,6 +24,8 @@ impl<I: StreamIsPartial, E, P: Parser<I, E>> Parser<I, E> for CutOff<P> {
     type Output = P::Output;
 
     ghost means = { λ p. CutOff (P.means p.inner) };
+
+    ghost errors = { λ p. CutErrors (P.errors p.inner) };
 
     ghost ready = { λ p. P.ready p.inner };
 
@@ -56,6 +59,8 @@ impl<I: StreamIsPartial, E, P: Parser<I, E>> Parser<I, E> for Softened<P> {
     type Output = P::Output;
 
     ghost means = { λ p. Softened (P.means p.inner) };
+
+    ghost errors = { λ p. SoftenedErrors (P.errors p.inner) };
 
     ghost ready = { λ p. P.ready p.inner };
 

@@ -24,6 +24,8 @@ impl<I: StreamIsPartial, E: Drop, P: Parser<I, E>> Parser<I, E> for Optional<P> 
 
     ghost means = { λ p. Optional (P.means p.inner) };
 
+    ghost errors = { λ p. P.errors p.inner };
+
     ghost ready = { λ p. P.ready p.inner };
 
     ghost lawful = { λ p. IsParser-Optional (P.means p.inner) (P.lawful p.inner) };

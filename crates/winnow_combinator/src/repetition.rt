@@ -2,6 +2,7 @@ ghost use Rattle.std.specs.Prelude.{◌≡◌};
 ghost use Rattle.winnow_count.specs.CountRange.{least_count, greatest_count};
 ghost use Rattle.winnow_combinator.specs.Counts.{Ascending, IsParser-Ascending};
 ghost use Rattle.winnow_combinator.specs.Repetition.{Repeated, IsParser-Repeated};
+ghost use Rattle.winnow_combinator.specs.Repetition.{MisuseErrors, RepeatedErrors};
 ghost use Rattle.winnow_combinator.specs.Gathering.{Gathered, IsParser-Gathered};
 
 use crate::again::{Again, go_on};
@@ -65,6 +66,9 @@ where
     ghost means = { λ p. Ascending (least_count p.counts) (greatest_count p.counts)
         (Gathered G.refusable (G.makes p.gather)
         (Repeated (least_count p.counts) (greatest_count p.counts) (P.means p.inner))) };
+
+    ghost errors = { λ p. MisuseErrors E.assert_gives
+        (RepeatedErrors (P.means p.inner) (P.errors p.inner)) };
 
     ghost ready = { λ p. P.ready p.inner × G.ready p.gather };
 

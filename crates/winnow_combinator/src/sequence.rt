@@ -1,5 +1,6 @@
 ghost use Rattle.std.specs.Prelude.{◌≡◌};
 ghost use Rattle.winnow_parser.specs.Meanings.{Pair, Preceded, Terminated};
+ghost use Rattle.winnow_parser.specs.Errors.{PairErrors};
 ghost use Rattle.winnow_parser.specs.Parts.{IsParser-Pair, IsParser-Preceded, IsParser-Terminated};
 
 use std::alloc::Global;
@@ -30,6 +31,8 @@ where
     type Output = B::Output;
 
     ghost means = { λ p. Preceded (A.means p.first) (B.means p.second) };
+
+    ghost errors = { λ p. PairErrors (A.means p.first) (A.errors p.first) (B.errors p.second) };
 
     ghost ready = { λ p. A.ready p.first × B.ready p.second };
 
@@ -69,6 +72,8 @@ where
     type Output = A::Output;
 
     ghost means = { λ p. Terminated (A.means p.first) (B.means p.second) };
+
+    ghost errors = { λ p. PairErrors (A.means p.first) (A.errors p.first) (B.errors p.second) };
 
     ghost ready = { λ p. A.ready p.first × B.ready p.second };
 

@@ -4,3 +4,4 @@ pub mod ImageLemmas
 pub mod MadeLemmas
 pub mod RowLemmas
 pub mod ToldLemmas
+pub mod ErrorLemmas

@@ -1,5 +1,6 @@
 pub mod Outcome
 pub mod Answer
+pub mod Errors
 pub mod Laws
 pub mod Meanings
 pub mod Parts

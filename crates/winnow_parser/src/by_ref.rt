@@ -8,6 +8,8 @@ impl<I: StreamIsPartial, E, P: Parser<I, E>> Parser<I, E> for &P {
 
     ghost means = { λ p. P.means p.now };
 
+    ghost errors = { λ p. P.errors p.now };
+
     ghost ready = { λ p. P.ready p.now };
 
     ghost lawful = { λ p. P.lawful p.now };

@@ -1,6 +1,7 @@
-ghost use Rattle.std.specs.Prelude.{◌≡◌};
+ghost use Rattle.std.specs.Prelude.{◌≡◌, false, None, Err};
 ghost use Rattle.std.specs.Fn.{FnReturnsAt};
 ghost use Rattle.winnow_parser.specs.Meanings.{Verified, Chosen, TriesTo};
+ghost use Rattle.winnow_parser.specs.Errors.{UnwantedErrors};
 ghost use Rattle.winnow_parser.specs.Parts.{IsParser-Verified, IsParser-Chosen};
 
 use crate::{Failure, ModalResult, Parser};
@@ -48,6 +49,10 @@ where
     type Output = P::Output;
 
     ghost means = { λ p. Verified (FnReturnsAt F.Fn p.test) (P.means p.inner) };
+
+    ghost errors = { λ p.
+        UnwantedErrors (λ x s e. FnReturnsAt F.Fn p.test x false × E.from_input_gives s e)
+        (P.means p.inner) (P.errors p.inner) };
 
     ghost ready = { λ p. P.ready p.inner × F.IsAlwaysCallable p.test };
 
@@ -98,6 +103,9 @@ impl<
     type Output = O;
 
     ghost means = { λ p. Chosen (F.post p.f) (P.means p.inner) };
+
+    ghost errors = { λ p. UnwantedErrors (λ x s e. F.post p.f x None × E.from_input_gives s e)
+        (P.means p.inner) (P.errors p.inner) };
 
     ghost ready = { λ p. P.ready p.inner × F.IsAlwaysCallable p.f };
 
@@ -150,6 +158,10 @@ impl<
     type Output = O;
 
     ghost means = { λ p. Chosen (TriesTo (F.post p.f)) (P.means p.inner) };
+
+    ghost errors = { λ p. UnwantedErrors
+        (λ x s e. (error : X) × (F.post p.f x (Err error) × E.from_external_gives s error e))
+        (P.means p.inner) (P.errors p.inner) };
 
     ghost ready = { λ p. P.ready p.inner × F.IsAlwaysCallable p.f };
 

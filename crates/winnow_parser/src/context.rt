@@ -1,4 +1,6 @@
 ghost use Rattle.std.specs.Prelude.{◌≡◌};
+ghost use Rattle.winnow_parser.specs.Answer.{ahead};
+ghost use Rattle.winnow_parser.specs.Errors.{ContextErrors};
 ghost use Rattle.winnow_parser.specs.Context.{InContext, IsParser-InContext};
 
 use crate::{Failure, ModalResult, Parser};
@@ -35,6 +37,9 @@ impl<I: StreamIsPartial, C: Copy, E: AddContext<I, C>, P: Parser<I, E>> Parser<I
     type Output = P::Output;
 
     ghost means = { λ p. InContext E.add_context_refusable (P.means p.inner) };
+
+    ghost errors = { λ p. ContextErrors (ahead I.Checkpoint.location I.remained)
+        (λ e s start. E.add_context_gives e s start p.context) (P.errors p.inner) };
 
     ghost ready = { λ p. P.ready p.inner };
 

@@ -1,4 +1,5 @@
 ghost use Rattle.std.specs.Prelude.{◌≡◌};
+ghost use Rattle.winnow_parser.specs.Errors.{ContinuedErrors};
 ghost use Rattle.winnow_parser.specs.Continued.{Continued, IsParser-Continued};
 
 use crate::{ModalResult, Parser};
@@ -36,6 +37,9 @@ impl<I: StreamIsPartial, E, P: Parser<I, E>, Q: Parser<I, E> + Drop, F: Fn(P::Ou
     type Output = Q::Output;
 
     ghost means = { λ p. Continued (F.post p.f) Q.means (P.means p.first) };
+
+    ghost errors = { λ p.
+        ContinuedErrors (F.post p.f) Q.errors (P.means p.first) (P.errors p.first) };
 
     ghost ready = { λ p. P.ready p.first × F.IsAlwaysCallable p.f
         × ((x : P.Output) (q : Q) → F.post p.f x q → Q.ready q) };

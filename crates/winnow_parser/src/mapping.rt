@@ -36,6 +36,8 @@ impl<I: StreamIsPartial, E, P: Parser<I, E>, O, F: Fn(P::Output) -> O> Parser<I,
 
     ghost means = { λ p. Maps (F.post p.f) (P.means p.inner) };
 
+    ghost errors = { λ p. P.errors p.inner };
+
     ghost ready = { λ p. P.ready p.inner × F.IsAlwaysCallable p.f };
 
     ghost lawful = { λ p. IsParser-Maps (F.post p.f) (P.means p.inner) (P.lawful p.inner) };
@@ -77,6 +79,8 @@ where
 
     ghost means = { λ p. Maps (IsAlways p.value) (P.means p.inner) };
 
+    ghost errors = { λ p. P.errors p.inner };
+
     ghost ready = { λ p. P.ready p.inner };
 
     ghost lawful = { λ p.
@@ -115,6 +119,8 @@ where
     type Output = ();
 
     ghost means = { λ p. Maps IsForgotten (P.means p.inner) };
+
+    ghost errors = { λ p. P.errors p.inner };
 
     ghost ready = { λ p. P.ready p.inner };
 

@@ -1,6 +1,7 @@
 ghost use Rattle.std.specs.Prelude.{◌≡◌, false, IfOk, IfErr};
 ghost use Rattle.winnow_parser.specs.Outcome.{Ahead, Meaning, Gives, Fails, Refuses};
 ghost use Rattle.winnow_parser.specs.Answer.{outcome, ahead, failed};
+ghost use Rattle.winnow_parser.specs.Errors.{Errors, StopsWith};
 ghost use Rattle.winnow_parser.specs.Laws.{IsParser};
 ghost use Rattle.winnow_parser.specs.Whole.{ReadsWhole, StopsAfter};
 
@@ -16,14 +17,19 @@ use winnow_stream::StreamIsPartial;
 
 /// What reads a value from the front of a stream.
 ///
-/// Whoever writes a parser of his own says by `means` what it may answer, and proves the laws that [`IsParser`] lists: a settled answer
-/// stays when more input follows, nothing more is needed where nothing more may follow, and the stream only moves on.
+/// Whoever writes a parser of his own says by `means` what it may answer and by `errors` which
+/// errors its failures carry (`AnyError` allows each), and proves the laws that [`IsParser`] lists:
+/// a settled answer stays when more input follows, nothing more is needed where nothing more may
+/// follow, and the stream only moves on.
 pub trait Parser<I: StreamIsPartial, E>: Sized {
     /// What it reads.
     type Output;
 
     // What it may answer of what stands ahead.
     ghost means: { Self → Meaning Self.Output I.Token };
+
+    // Which errors its failures carry.
+    ghost errors: { Self → Errors E I I.Token };
 
     // The parsers that may be asked.
     ghost ready: { Self → Type 0 };
@@ -36,6 +42,8 @@ pub trait Parser<I: StreamIsPartial, E>: Sized {
         ensures means { means self.now (I.expects_more input.old)
             (ahead I.location I.remaining input.old)
             (outcome result (ahead I.location I.remaining input.new)) }
+        ensures error { IfErr result (errors self.now (I.expects_more input.old)
+            (ahead I.location I.remaining input.old) input.new) }
         ensures valid { I.valid input.new }
         ensures kept { I.keeps input.old input.new };
 
@@ -156,6 +164,9 @@ pub trait Parser<I: StreamIsPartial, E>: Sized {
             (ahead I.location I.remaining input))) }
         ensures stopped { IfOk result (λ answer. IfErr answer (λ error. StopsAfter (means self.now)
             (ahead I.location I.remaining input) error.offset)) }
+        ensures error { IfOk result (λ answer. IfErr answer (λ error. StopsWith
+            (ahead I.location I.remaining) E.from_input_gives (means self.now) (errors self.now)
+            (ahead I.location I.remaining input) error.inner)) }
         ensures input { IfOk result (λ answer. IfErr answer (λ error.
             ahead I.location I.remaining error.input ≡ ahead I.location I.remaining input)) }
         ensures refused { IfErr result (λ _. means self.now false
@@ -177,6 +188,8 @@ pub trait Parser<I: StreamIsPartial, E>: Sized {
         ensures kept { IfOk result (λ both. I.keeps input both.0) }
         ensures failure { IfErr result (λ failure. (b : Ahead I.Token) × means self.now
             (I.expects_more input) (ahead I.location I.remaining input) (Fails (failed failure b))) }
+        ensures error { IfErr result (λ failure. (s : I) × errors self.now
+            (I.expects_more input) (ahead I.location I.remaining input) s failure) }
     {
         let mut input = input;
         match self.parse_next(alloc, &mut input) {

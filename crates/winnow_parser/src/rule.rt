@@ -1,6 +1,7 @@
 ghost use Rattle.std.specs.Prelude.{◌≡◌};
 ghost use Rattle.winnow_parser.specs.Outcome.{Meaning};
 ghost use Rattle.winnow_parser.specs.Answer.{ahead};
+ghost use Rattle.winnow_parser.specs.Errors.{ContractErrors};
 ghost use Rattle.winnow_parser.specs.Laws.{IsParser};
 ghost use Rattle.winnow_parser.specs.Following.{Follows};
 
@@ -44,6 +45,9 @@ impl<I: StreamIsPartial, E, R: Rule<I>, F: Fn(Global, &mut I) -> ModalResult<R::
     type Output = R::Output;
 
     ghost means = { λ p. R.meaning p.rule };
+
+    ghost errors = { λ p. ContractErrors F.Fn I.valid I.expects_more
+        (ahead I.location I.remaining) p.read };
 
     ghost ready = { λ p. Follows F.Fn I.valid I.keeps I.expects_more
         (ahead I.location I.remaining) (R.meaning p.rule) p.read };

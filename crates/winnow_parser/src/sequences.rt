@@ -1,4 +1,5 @@
 ghost use Rattle.winnow_parser.specs.Meanings.{Pair};
+ghost use Rattle.winnow_parser.specs.Errors.{PairErrors};
 ghost use Rattle.winnow_parser.specs.Parts.{IsParser-Pair};
 ghost use Rattle.winnow_parser.specs.Rows.{Row3, Row4, Row5, Row6, Row7, Row8, Row9, Row10};
 ghost use Rattle.winnow_parser.specs.Rows.{IsParser-Row3, IsParser-Row4, IsParser-Row5, IsParser-Row6, IsParser-Row7, IsParser-Row8, IsParser-Row9, IsParser-Row10};
@@ -15,6 +16,8 @@ where
     type Output = (A::Output, B::Output);
 
     ghost means = { λ p. Pair (A.means p.0) (B.means p.1) };
+
+    ghost errors = { λ p. PairErrors (A.means p.0) (A.errors p.0) (B.errors p.1) };
 
     ghost ready = { λ p. A.ready p.0 × B.ready p.1 };
 
@@ -37,6 +40,9 @@ where
     type Output = (A::Output, B::Output, C::Output);
 
     ghost means = { λ p. Row3 (A.means p.0) (B.means p.1) (C.means p.2) };
+
+    ghost errors = { λ p. PairErrors (A.means p.0) (A.errors p.0)
+        (PairErrors (B.means p.1) (B.errors p.1) (C.errors p.2)) };
 
     ghost ready = { λ p. A.ready p.0 × B.ready p.1 × C.ready p.2 };
 
@@ -73,6 +79,10 @@ where
 
     ghost means = { λ p. Row4 (A.means p.0) (B.means p.1) (C.means p.2) (D.means p.3) };
 
+    ghost errors = { λ p. PairErrors (A.means p.0) (A.errors p.0)
+        (PairErrors (B.means p.1) (B.errors p.1) (PairErrors (C.means p.2) (C.errors p.2)
+        (D.errors p.3))) };
+
     ghost ready = { λ p. A.ready p.0 × B.ready p.1 × C.ready p.2 × D.ready p.3 };
 
     ghost lawful = { λ p. IsParser-Row4 (A.means p.0) (B.means p.1) (C.means p.2) (D.means p.3)
@@ -106,6 +116,10 @@ where
     type Output = (A::Output, B::Output, C::Output, D::Output, F::Output);
 
     ghost means = { λ p. Row5 (A.means p.0) (B.means p.1) (C.means p.2) (D.means p.3) (F.means p.4) };
+
+    ghost errors = { λ p. PairErrors (A.means p.0) (A.errors p.0)
+        (PairErrors (B.means p.1) (B.errors p.1) (PairErrors (C.means p.2) (C.errors p.2)
+        (PairErrors (D.means p.3) (D.errors p.3) (F.errors p.4)))) };
 
     ghost ready = { λ p. A.ready p.0 × B.ready p.1 × C.ready p.2 × D.ready p.3 × F.ready p.4 };
 
@@ -149,6 +163,11 @@ where
     );
 
     ghost means = { λ p. Row6 (A.means p.0) (B.means p.1) (C.means p.2) (D.means p.3) (F.means p.4) (G.means p.5) };
+
+    ghost errors = { λ p. PairErrors (A.means p.0) (A.errors p.0)
+        (PairErrors (B.means p.1) (B.errors p.1) (PairErrors (C.means p.2) (C.errors p.2)
+        (PairErrors (D.means p.3) (D.errors p.3) (PairErrors (F.means p.4) (F.errors p.4)
+        (G.errors p.5))))) };
 
     ghost ready = { λ p. A.ready p.0 × B.ready p.1 × C.ready p.2 × D.ready p.3 × F.ready p.4 × G.ready p.5 };
 
@@ -197,6 +216,11 @@ where
     );
 
     ghost means = { λ p. Row7 (A.means p.0) (B.means p.1) (C.means p.2) (D.means p.3) (F.means p.4) (G.means p.5) (H.means p.6) };
+
+    ghost errors = { λ p. PairErrors (A.means p.0) (A.errors p.0)
+        (PairErrors (B.means p.1) (B.errors p.1) (PairErrors (C.means p.2) (C.errors p.2)
+        (PairErrors (D.means p.3) (D.errors p.3) (PairErrors (F.means p.4) (F.errors p.4)
+        (PairErrors (G.means p.5) (G.errors p.5) (H.errors p.6)))))) };
 
     ghost ready = { λ p. A.ready p.0 × B.ready p.1 × C.ready p.2 × D.ready p.3 × F.ready p.4 × G.ready p.5 × H.ready p.6 };
 
@@ -248,6 +272,12 @@ where
     );
 
     ghost means = { λ p. Row8 (A.means p.0) (B.means p.1) (C.means p.2) (D.means p.3) (F.means p.4) (G.means p.5) (H.means p.6) (J.means p.7) };
+
+    ghost errors = { λ p. PairErrors (A.means p.0) (A.errors p.0)
+        (PairErrors (B.means p.1) (B.errors p.1) (PairErrors (C.means p.2) (C.errors p.2)
+        (PairErrors (D.means p.3) (D.errors p.3) (PairErrors (F.means p.4) (F.errors p.4)
+        (PairErrors (G.means p.5) (G.errors p.5) (PairErrors (H.means p.6) (H.errors p.6)
+        (J.errors p.7))))))) };
 
     ghost ready = { λ p. A.ready p.0 × B.ready p.1 × C.ready p.2 × D.ready p.3 × F.ready p.4 × G.ready p.5 × H.ready p.6 × J.ready p.7 };
 
@@ -306,6 +336,12 @@ where
     );
 
     ghost means = { λ p. Row9 (A.means p.0) (B.means p.1) (C.means p.2) (D.means p.3) (F.means p.4) (G.means p.5) (H.means p.6) (J.means p.7) (K.means p.8) };
+
+    ghost errors = { λ p. PairErrors (A.means p.0) (A.errors p.0)
+        (PairErrors (B.means p.1) (B.errors p.1) (PairErrors (C.means p.2) (C.errors p.2)
+        (PairErrors (D.means p.3) (D.errors p.3) (PairErrors (F.means p.4) (F.errors p.4)
+        (PairErrors (G.means p.5) (G.errors p.5) (PairErrors (H.means p.6) (H.errors p.6)
+        (PairErrors (J.means p.7) (J.errors p.7) (K.errors p.8)))))))) };
 
     ghost ready = { λ p. A.ready p.0 × B.ready p.1 × C.ready p.2 × D.ready p.3 × F.ready p.4 × G.ready p.5 × H.ready p.6 × J.ready p.7 × K.ready p.8 };
 
@@ -367,6 +403,13 @@ where
     );
 
     ghost means = { λ p. Row10 (A.means p.0) (B.means p.1) (C.means p.2) (D.means p.3) (F.means p.4) (G.means p.5) (H.means p.6) (J.means p.7) (K.means p.8) (L.means p.9) };
+
+    ghost errors = { λ p. PairErrors (A.means p.0) (A.errors p.0)
+        (PairErrors (B.means p.1) (B.errors p.1) (PairErrors (C.means p.2) (C.errors p.2)
+        (PairErrors (D.means p.3) (D.errors p.3) (PairErrors (F.means p.4) (F.errors p.4)
+        (PairErrors (G.means p.5) (G.errors p.5) (PairErrors (H.means p.6) (H.errors p.6)
+        (PairErrors (J.means p.7) (J.errors p.7) (PairErrors (K.means p.8) (K.errors p.8)
+        (L.errors p.9))))))))) };
 
     ghost ready = { λ p. A.ready p.0 × B.ready p.1 × C.ready p.2 × D.ready p.3 × F.ready p.4 × G.ready p.5 × H.ready p.6 × J.ready p.7 × K.ready p.8 × L.ready p.9 };
 

@@ -37,6 +37,8 @@ where
 
     ghost means = { λ p. Spanned (P.means p.inner) };
 
+    ghost errors = { λ p. P.errors p.inner };
+
     ghost ready = { λ p. P.ready p.inner × IsLocation I.location I.token_end I.token_start };
 
     ghost lawful = { λ p. IsParser-Spanned (P.means p.inner) (P.lawful p.inner) };
@@ -73,6 +75,8 @@ impl<I: StreamIsPartial + Location, E, P: Parser<I, E>> Parser<I, E> for WithSpa
     type Output = (P::Output, Range<usize>);
 
     ghost means = { λ p. WithSpan (P.means p.inner) };
+
+    ghost errors = { λ p. P.errors p.inner };
 
     ghost ready = { λ p. P.ready p.inner × IsLocation I.location I.token_end I.token_start };
 

@@ -37,6 +37,8 @@ where
 
     ghost means = { λ p. Taken I.is_slice (P.means p.inner) };
 
+    ghost errors = { λ p. P.errors p.inner };
+
     ghost ready = { λ p. P.ready p.inner };
 
     ghost lawful = { λ p.
@@ -73,6 +75,8 @@ impl<I: StreamIsPartial, E, P: Parser<I, E>> Parser<I, E> for WithTaken<P, I, E>
     type Output = (P::Output, I::Slice);
 
     ghost means = { λ p. WithTaken I.is_slice (P.means p.inner) };
+
+    ghost errors = { λ p. P.errors p.inner };
 
     ghost ready = { λ p. P.ready p.inner };
 

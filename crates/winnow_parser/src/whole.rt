@@ -2,6 +2,7 @@ ghost use Rattle.std.specs.Prelude.{◌≡◌, ◌-◌, false, IfOk, IfErr};
 ghost use Rattle.winnow_stream.specs.Source.{width};
 ghost use Rattle.winnow_parser.specs.Outcome.{Refuses, Fails, Moves};
 ghost use Rattle.winnow_parser.specs.Answer.{ahead};
+ghost use Rattle.winnow_parser.specs.Errors.{StopsWith};
 ghost use Rattle.winnow_parser.specs.Whole.{ReadsWhole, StopsAfter};
 
 use crate::{Failure, Parser, taken_width_law};
@@ -28,6 +29,9 @@ where
         (ahead I.location I.remaining input))) }
     ensures stopped { IfOk result (λ answer. IfErr answer (λ error. StopsAfter (P.means parser.now)
         (ahead I.location I.remaining input) error.offset)) }
+    ensures error { IfOk result (λ answer. IfErr answer (λ error. StopsWith
+        (ahead I.location I.remaining) E.from_input_gives (P.means parser.now) (P.errors parser.now)
+        (ahead I.location I.remaining input) error.inner)) }
     ensures input { IfOk result (λ answer. IfErr answer (λ error.
         ahead I.location I.remaining error.input ≡ ahead I.location I.remaining input)) }
     ensures refused { IfErr result (λ _. P.means parser.now false
@@ -56,6 +60,9 @@ where
         (ahead I.location I.remaining input))) }
     ensures stopped { IfOk result (λ answer. IfErr answer (λ error. StopsAfter (P.means parser.now)
         (ahead I.location I.remaining input) error.offset)) }
+    ensures error { IfOk result (λ answer. IfErr answer (λ error. StopsWith
+        (ahead I.location I.remaining) E.from_input_gives (P.means parser.now) (P.errors parser.now)
+        (ahead I.location I.remaining input) error.inner)) }
     ensures input { IfOk result (λ answer. IfErr answer (λ error.
         ahead I.location I.remaining error.input ≡ ahead I.location I.remaining input)) }
     ensures refused { IfErr result (λ _. P.means parser.now false
@@ -89,6 +96,7 @@ fn stopped<I: Stream, E: ParserError<I>>(
     requires valid_checkpoint { I.valid_checkpoint start }
     requires moved { Moves (ahead I.Checkpoint.location I.remained start)
         (ahead I.location I.remaining input) }
+    ensures inner { result.inner ≡ inner }
     ensures offset { result.offset ≡ width (I.remained start) - width (I.remaining input) }
     ensures input { ahead I.location I.remaining result.input
         ≡ ahead I.Checkpoint.location I.remained start }

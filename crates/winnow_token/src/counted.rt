@@ -1,4 +1,5 @@
 ghost use Rattle.std.specs.Prelude.{◌≡◌};
+ghost use Rattle.winnow_parser.specs.Errors.{OwnErrors};
 ghost use Rattle.winnow_token.specs.Counted.{Counted, IsParser-Counted};
 
 use std::alloc::Global;
@@ -23,6 +24,8 @@ impl<I: StreamIsPartial, E: ParserError<I>> Parser<I, E> for Counted {
     type Output = I::Slice;
 
     ghost means = { λ p. Counted I.counts_missing I.is_slice p.count };
+
+    ghost errors = { λ _. OwnErrors E.from_input_gives E.assert_gives };
 
     ghost ready = { λ _. Unit {0} };
 

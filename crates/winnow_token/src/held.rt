@@ -1,8 +1,10 @@
-ghost use Rattle.std.specs.Prelude.{◌≡◌, ℕ, ◌≤◌, Bool, Option, not, length, take, Some, None, IsTrue};
+ghost use Rattle.std.specs.Prelude.{◌≡◌, ℕ, ◌≤◌, Bool, Option, not, length, take, Some, None};
+ghost use Rattle.std.specs.Prelude.{IsTrue, IfErr};
 ghost use Rattle.winnow_stream.specs.Source.{width, Computes};
 ghost use Rattle.winnow_stream.specs.Front.{is_offset, front};
 ghost use Rattle.winnow_count.specs.CountRange.{least_count, greatest_count, is_up_to};
 ghost use Rattle.winnow_parser.specs.Answer.{ahead, outcome};
+ghost use Rattle.winnow_parser.specs.Errors.{OwnErrors};
 ghost use Rattle.winnow_token.specs.Held.{HeldFront, IsFound, IsParser-HeldFront, held_within};
 
 use crate::counts::{NO_COUNT, allow_some, has_tokens};
@@ -37,6 +39,8 @@ impl<I: StreamIsPartial, E: ParserError<I>, C: FixedSet<I::Token>> Parser<I, E> 
 
     ghost means = { λ p. HeldFront I.is_slice
         (C.holds p.set) (least_count p.counts) (greatest_count p.counts) };
+
+    ghost errors = { λ _. OwnErrors E.from_input_gives E.assert_gives };
 
     ghost ready = { λ p. C.askable p.set };
 
@@ -74,6 +78,8 @@ impl<I: StreamIsPartial, E: ParserError<I>, C: FixedSet<I::Token>> Parser<I, E> 
     ghost means = { λ p. HeldFront I.is_slice
         (λ token. not (C.holds p.set token)) (least_count p.counts) (greatest_count p.counts) };
 
+    ghost errors = { λ _. OwnErrors E.from_input_gives E.assert_gives };
+
     ghost ready = { λ p. C.askable p.set };
 
     ghost lawful = { λ p. IsParser-HeldFront I.is_slice I.slices_stay
@@ -106,6 +112,8 @@ fn take_front<I: StreamIsPartial, E: ParserError<I>, P: Fn(I::Token) -> bool + D
         (I.expects_more input.old)
         (ahead I.location I.remaining input.old)
         (outcome result (ahead I.location I.remaining input.new)) }
+    ensures error { IfErr result (OwnErrors E.from_input_gives E.assert_gives
+        (I.expects_more input.old) (ahead I.location I.remaining input.old) input.new) }
     ensures valid { I.valid input.new }
     ensures kept { I.keeps input.old input.new }
 {
@@ -135,6 +143,8 @@ fn take_found<I: StreamIsPartial, E: ParserError<I>>(
         → HeldFront I.is_slice holds least greatest (I.expects_more input.old)
         (ahead I.location I.remaining input.old)
         (outcome result (ahead I.location I.remaining input.new)) }
+    ensures error { IfErr result (OwnErrors E.from_input_gives E.assert_gives
+        (I.expects_more input.old) (ahead I.location I.remaining input.old) input.new) }
     ensures valid { I.valid input.new }
     ensures kept { I.keeps input.old input.new }
 {

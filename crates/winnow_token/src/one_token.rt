@@ -1,4 +1,5 @@
 ghost use Rattle.std.specs.Prelude.{◌≡◌, true, not};
+ghost use Rattle.winnow_parser.specs.Errors.{OwnErrors};
 ghost use Rattle.winnow_token.specs.OneOf.{OneOf, IsParser-OneOf};
 
 use std::alloc::Global;
@@ -20,6 +21,8 @@ impl<I: StreamIsPartial, E: ParserError<I>> Parser<I, E> for AnyToken {
     type Output = I::Token;
 
     ghost means = { λ _. OneOf (λ _. true) };
+
+    ghost errors = { λ _. OwnErrors E.from_input_gives E.assert_gives };
 
     ghost ready = { λ _. Unit {0} };
 
@@ -54,6 +57,8 @@ where
     type Output = I::Token;
 
     ghost means = { λ p. OneOf (C.holds p.set) };
+
+    ghost errors = { λ _. OwnErrors E.from_input_gives E.assert_gives };
 
     ghost ready = { λ p. C.askable p.set };
 
@@ -94,6 +99,8 @@ where
     type Output = I::Token;
 
     ghost means = { λ p. OneOf (λ token. not (C.holds p.set token)) };
+
+    ghost errors = { λ _. OwnErrors E.from_input_gives E.assert_gives };
 
     ghost ready = { λ p. C.askable p.set };
 

@@ -1,3 +1,4 @@
+ghost use Rattle.winnow_parser.specs.Errors.{NoError};
 ghost use Rattle.winnow_token.specs.Remaining.{Remaining, RemainingWidth};
 ghost use Rattle.winnow_token.specs.Remaining.{IsParser-Remaining, IsParser-RemainingWidth};
 
@@ -18,6 +19,8 @@ impl<I: StreamIsPartial, E> Parser<I, E> for Remaining {
     type Output = I::Slice;
 
     ghost means = { λ _. Remaining I.is_slice };
+
+    ghost errors = { λ _. NoError };
 
     ghost ready = { λ _. Unit {0} };
 
@@ -44,6 +47,8 @@ impl<I: StreamIsPartial, E> Parser<I, E> for RemainingWidth {
     type Output = usize;
 
     ghost means = { λ _. RemainingWidth };
+
+    ghost errors = { λ _. NoError };
 
     ghost ready = { λ _. Unit {0} };
 

@@ -1,5 +1,6 @@
 ghost use Rattle.std.specs.Prelude.{◌≡◌, true};
 ghost use Rattle.winnow_count.specs.CountRange.{least_count, greatest_count};
+ghost use Rattle.winnow_parser.specs.Errors.{OwnErrors};
 ghost use Rattle.winnow_token.specs.Until.{Until, HitsStay, IsParser-Until};
 
 use crate::counts::{NO_COUNT, allow_some, has_counts};
@@ -37,6 +38,8 @@ impl<I: FindSlice<T> + StreamIsPartial, E: ParserError<I>, T: Copy> Parser<I, E>
 
     ghost means = { λ p. Until I.is_slice
         (I.found p.literal) (least_count p.counts) (greatest_count p.counts) };
+
+    ghost errors = { λ _. OwnErrors E.from_input_gives E.assert_gives };
 
     ghost ready = { λ p. I.supports_partial ≡ true → HitsStay (I.found p.literal) };
 

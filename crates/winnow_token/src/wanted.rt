@@ -1,4 +1,5 @@
 ghost use Rattle.std.specs.Prelude.{◌≡◌};
+ghost use Rattle.winnow_parser.specs.Errors.{OwnErrors};
 ghost use Rattle.winnow_token.specs.Literal.{Literal, IsParser-Literal};
 
 use std::alloc::Global;
@@ -24,6 +25,8 @@ impl<I: Compare<T> + StreamIsPartial, E: ParserError<I>, T: Copy> Parser<I, E> f
     type Output = I::Slice;
 
     ghost means = { λ p. Literal I.is_slice (I.compared p.text) };
+
+    ghost errors = { λ _. OwnErrors E.from_input_gives E.assert_gives };
 
     ghost ready = { λ _. Unit {0} };
 

@@ -6,10 +6,11 @@ use Rattle.winnow_stream.specs.Source.{width}
 use Rattle.winnow_parser.specs.Outcome.{Gives, Fails}
 use Rattle.winnow_parser.specs.Answer.{ahead, failed}
 use Rattle.winnow_combinator.specs.Counts.{IsBelow}
-use Rattle.winnow_combinator.specs.Repetition.{Taking, OneMore, InTurn-more, Repeated}
+use Rattle.winnow_combinator.specs.Repetition.{Taking, OneMore, InTurn-more, Repeated, MisuseErrors}
 use Rattle.winnow_combinator.proofs.lemmas.CountLemmas.{IsUpTo-more, IsUpTo-full, Ascends-full}
 use Rattle.winnow_combinator.proofs.lemmas.GatherLemmas.{Gathered-fails}
 use Rattle.winnow_combinator.proofs.lemmas.RepetitionLemmas.{Repeated-ended, Repeated-full}
+use Rattle.winnow_combinator.proofs.lemmas.ErrorLemmas.{RepeatedErrors-after}
 use Rattle.winnow_combinator.proofs.again.go_on.Goals as goal
 
 pub loop-parser-preserved : goal.loop-parser-preserved
@@ -93,3 +94,16 @@ returns-clause-means g c =
     let full = subst (λ n. counts.greatest ≡ Some n) so_far.counted (IsUpTo-full counts.greatest c.loop-parser.count so_far.up_to none_more) in
     let enough = Ascends-full counts.least counts.greatest (length xs) c.requires.ascend full in
     (xs, (so_far.gathered, Repeated-full counts.least counts.greatest inner (g.I.StreamIsPartial.expects_more c.args.input.now) xs (stands c.args.input.now) (stands c.loop-parser.input) so_far.values enough full))
+
+pub returns-in-Err-clause-error : goal.returns-in-Err-clause-error
+returns-in-Err-clause-error g c =
+    let stands = ahead g.I.Rest.location g.I.Stream.remaining in
+    let parser = c.args.again.now.parser.now in
+    let xs = c.loop-parser.invariant.0 in
+    let so_far = c.loop-parser.invariant.1.1 in
+    let here = stands c.loop-parser.input in
+    let left = c.one_more.new.input in
+    let partial = g.I.StreamIsPartial.expects_more c.args.input.now in
+    let flag = g.met.I.StreamIsPartial.keeps_flag c.args.input.now c.loop-parser.input so_far.kept in
+    let error = subst (λ more. MisuseErrors g.E.ParserError.assert_gives (g.P.Parser.errors parser) more here left c.in-Err.failure) flag c.in-Err.ensures.error in
+    RepeatedErrors-after g.E.ParserError.assert_gives (g.P.Parser.means parser) (g.P.Parser.errors parser) partial (stands c.args.input.now) here left xs c.in-Err.failure so_far.values error

@@ -57,3 +57,10 @@ stopped-requires-in-Err-Cut-clause-moved g c =
     let means = subst (λ failure. g.P.Parser.means c.args.parser.now (g.I.StreamIsPartial.expects_more c.args.input) (stands c.args.input) (Fails (failed failure left))) c.in-Err-Cut.field-0-is c.in-Err-Cut.ensures.means in
     rw (c.checkpoint-start.ensures.location, c.checkpoint-start.ensures.means)
     ((g.met.P.Parser.lawful c.args.parser.now).onward (g.I.StreamIsPartial.expects_more c.args.input) (stands c.args.input) (Fails (Cuts left)) means)
+
+pub returns-else-eof_offset-eq0-clause-error : goal.returns-else-eof_offset-eq0-clause-error
+returns-else-eof_offset-eq0-clause-error g c =
+    let stands = ahead g.I.Rest.location g.I.Stream.remaining in
+    let next = c.parse_next.new.input in
+    let means = subst (λ partial. g.P.Parser.means c.args.parser.now partial (stands c.args.input) (Gives c.in-Ok.value (stands next))) c.requires.complete c.in-Ok.ensures.means in
+    (next, inr (inr (c.in-Ok.value, (means, subst (g.E.ParserError.from_input_gives next) (sym c.stopped.ensures.inner) c.from_input-error.ensures))))

@@ -11,3 +11,10 @@ returns-clause-means g c =
     let flag = g.met.I.StreamIsPartial.keeps_flag c.args.input.now c.parse_next.new.input c.in_ok-value.ensures.kept in
     let second = subst (λ partial. g.Q.Parser.means c.f-next.result partial between fails) flag c.in-Err.ensures.means in
     inr (c.in_ok-value.value, (between, (c.f-next.result, (c.in_ok-value.ensures.means, c.f-next.ensures, second))))
+
+pub returns-clause-error : goal.returns-clause-error
+returns-clause-error g c =
+    let between = ahead g.I.Rest.location g.I.Stream.remaining c.parse_next.new.input in
+    let flag = g.met.I.StreamIsPartial.keeps_flag c.args.input.now c.parse_next.new.input c.in_ok-value.ensures.kept in
+    let second = subst (λ partial. g.Q.Parser.errors c.f-next.result partial between c.parse_next-2.new.input c.in-Err.failure) flag c.in-Err.ensures.error in
+    inr (c.in_ok-value.value, (between, (c.f-next.result, (c.in_ok-value.ensures.means, c.f-next.ensures, second))))
