@@ -1,19 +1,16 @@
 -- What taking a line of pieces does to a feed and to a report.
-use Rattle.std.specs.Prelude.{◌≡◌, ℕ, ◌+◌, List, [], ◌++◌, length, drop, string_bytes}
-use Rattle.std.specs.List.{AllZip}
+use Rattle.std.specs.Prelude.{◌≡◌, ℕ, ◌+◌, List, ◌++◌, length, drop, string_bytes}
 use Rattle.winnow_attempt.specs.declared.told.Told.{Told}
 use Rattle.winnow_feed.specs.Feeding.{FeedState, Fits, FitsWith, Finishes, answers_in, script_of}
-use Rattle.winnow_feed.specs.Inputs.{InputKind, PieceStep}
+use Rattle.winnow_feed.specs.Inputs.{InputKind}
 use Rattle.winnow_feed.specs.Telling.{capped, told_of}
 use Rattle.winnow_feed.specs.Waits.{GivesWaiting}
 use Rattle.winnow_feed.specs.declared.finished.Finished.{Finished}
 use Rattle.winnow_feed.specs.declared.waiting.Waiting.{Waiting}
-use Rattle.winnow_read.specs.Lending.{IsSameStep}
-use Rattle.winnow_read.specs.declared.steps.ScriptStep.{ScriptStep}
 use Rattle.winnow_read.specs.declared.fed_lines.FedLine.{FedLine}
 use Rattle.winnow_read.specs.declared.fed_lines.FedLine.TheVariants.{Piece, Waits}
 use Rattle.winnow_print.specs.AnswerLines.{bytes_word}
-use Rattle.winnow_execute.specs.ReportLines.{Prints, told_lines, waiting_line}
+use Rattle.winnow_execute.specs.ReportLines.{told_lines, waiting_line}
 use Rattle.winnow_execute.specs.declared.report.Report.{Report}
 
 module _ {P : Type 0} (i : InputKind) (bytes : P → List ℕ) where
@@ -39,11 +36,6 @@ module _ {P : Type 0} (i : InputKind) (bytes : P → List ℕ) where
   abbrev pub TakesLine : FedLine P → FeedState → Report → FeedState → Report → Type 0
   TakesLine (Piece piece) f r g s = CountsPiece piece f r g s
   TakesLine Waits f r g s = (g ≡ f) × TellsWaiting f r s
-
-  -- steps that a script owns are lent, and the lines of pieces print this
-  abbrev pub PrintsSteps : List (ScriptStep P) → List (FedLine P) → List ℕ → Type 0
-  PrintsSteps steps lines printed =
-      (script : List PieceStep) × AllZip (IsSameStep bytes (λ lent. lent.now)) steps script × Prints i script bytes [] 0 lines printed
 
 -- all answers that are not told yet are told, once the input has ended
 pub record TellsAll (i : InputKind) (f : FeedState) (r s : Report) : Type 0 where

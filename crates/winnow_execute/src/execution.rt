@@ -2,7 +2,7 @@ ghost use Rattle.std.specs.Prelude.{◌≡◌, ◌+◌, ◌<◌, ◌^◌, [], If
 ghost use Rattle.std.specs.Prelude.{sum_by, OnOk};
 ghost use Rattle.winnow_feed.specs.Feeding.{bytes_fed};
 ghost use Rattle.winnow_feed.specs.Inputs.{byte_input, text_input};
-ghost use Rattle.winnow_execute.specs.FedLines.{PrintsSteps, TakesLine, TellsAll};
+ghost use Rattle.winnow_execute.specs.FedLines.{TakesLine, TellsAll};
 ghost use Rattle.winnow_execute.specs.FaultyScripts.{FaultsAs, FaultsScript};
 ghost use Rattle.winnow_execute.specs.ReportLines.{Prints};
 ghost use Rattle.winnow_execute.specs.ScriptLines.{PrintsAs, PrintsScript};
@@ -87,22 +87,9 @@ fn execute_byte_pieces(alloc: Global, lines: &mut Lines) -> Result<String, Scrip
 {
     let steps: Vec<ScriptStep<'_, Vec<u8>>> = read_steps(alloc, lines)?;
     let fed: Vec<FedLine<Vec<u8>>> = read_fed_lines(alloc, lines)?;
-    Ok(print_byte_pieces(alloc, &steps, &fed)?)
-}
-
-// Lends the steps, and returns the lines of their answers over the pieces.
-fn print_byte_pieces<'k>(
-    alloc: Global,
-    steps: &'k [ScriptStep<'k, Vec<u8>>],
-    lines: &[FedLine<Vec<u8>>],
-) -> Result<String, AllocError>
-    requires { sum_by (piece_length (λ piece. piece.items)) lines.now < 2 ^ 64 }
-    ensures { IfOk result (λ text. PrintsSteps byte_input (λ piece. piece.items) steps.entry.now lines.now
-        (string_bytes text)) }
-{
-    let lent = lend_steps(alloc, steps)?;
+    let steps = lend_steps(alloc, &steps)?;
     let mut report = Report::new(alloc);
-    feed_byte_lines(alloc, &lent, lines, &mut report)?;
+    feed_byte_lines(alloc, &steps, &fed, &mut report)?;
     Ok(report.into_text())
 }
 
@@ -167,22 +154,9 @@ fn execute_text_pieces(alloc: Global, lines: &mut Lines) -> Result<String, Scrip
 {
     let steps: Vec<ScriptStep<'_, String>> = read_steps(alloc, lines)?;
     let fed: Vec<FedLine<String>> = read_fed_lines(alloc, lines)?;
-    Ok(print_text_pieces(alloc, &steps, &fed)?)
-}
-
-// Lends the steps, and returns the lines of their answers over the pieces.
-fn print_text_pieces<'k>(
-    alloc: Global,
-    steps: &'k [ScriptStep<'k, String>],
-    lines: &[FedLine<String>],
-) -> Result<String, AllocError>
-    requires { sum_by (piece_length string_bytes) lines.now < 2 ^ 64 }
-    ensures { IfOk result (λ text. PrintsSteps text_input string_bytes steps.entry.now lines.now
-        (string_bytes text)) }
-{
-    let lent = lend_steps(alloc, steps)?;
+    let steps = lend_steps(alloc, &steps)?;
     let mut report = Report::new(alloc);
-    feed_text_lines(alloc, &lent, lines, &mut report)?;
+    feed_text_lines(alloc, &steps, &fed, &mut report)?;
     Ok(report.into_text())
 }
 
