@@ -1,2 +1,1 @@
-pub mod TokenLemmas
-pub mod SpanLemmas
+pub mod LexerLemmas

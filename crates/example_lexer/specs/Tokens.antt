@@ -1,37 +1,43 @@
 -- What the tokens of a stream of bytes are.
-use Rattle.std.specs.Prelude.{◌≡◌, ℕ, ◌+◌, ◌<◌, ◌≤◌, false, List, [], ◌∷◌, ◌++◌, Some, length, slice_range}
-use Rattle.winnow_base.specs.Source.{Source, units, width, first_token, HoldsAll}
-use Rattle.example_lexer.specs.Kinds.{is_blank, kind_of, goes_on}
-use Rattle.example_lexer.specs.declared.kind.Kind.{Kind}
+use Rattle.std.specs.Prelude.{◌≡◌, ℕ, ◌==◌, Bool, false, ◌||◌, if◌then◌else◌, List, [], ◌∷◌, Some}
+use Rattle.std.specs.Char.{is_ascii_alphabetic, is_ascii_digit}
+use Rattle.winnow_stream.specs.Source.{Source, first_token, HoldsAll}
+use Rattle.winnow_combinator.specs.Words.{AreWords, StandsAt}
+use Rattle.example_lexer.specs.declared.token.Kind.{Kind}
+use Rattle.example_lexer.specs.declared.token.Kind.TheVariants.{Name, Number, Punctuation}
 use Rattle.example_lexer.specs.declared.token.Token.{Token}
+
+-- a space, a tab, or what ends a line
+abbrev pub is_blank : ℕ → Bool
+is_blank byte = 32 == byte || (9 == byte || (10 == byte || 13 == byte))
+
+-- no blank stands ahead
+abbrev pub IsClear : Source ℕ → Type 0
+IsClear r = (byte : ℕ) → first_token r ≡ Some byte → is_blank byte ≡ false
+
+-- the kind of the token that begins with a byte
+abbrev pub kind_of : ℕ → Kind
+kind_of byte = if is_ascii_alphabetic byte then Name else if is_ascii_digit byte then Number else Punctuation
+
+-- whether a token of that kind goes on with a byte
+abbrev pub goes_on : Kind → ℕ → Bool
+goes_on Name byte = is_ascii_alphabetic byte
+goes_on Number byte = is_ascii_digit byte
+goes_on Punctuation byte = false
 
 -- the text of a token: its first byte, which is no blank and says the kind, and the bytes with which that kind goes on
 abbrev pub IsText : Kind → Source ℕ → Type 0
 IsText kind [] = ⊥
 IsText kind (first ∷ more) = (is_blank first.0 ≡ false) × (kind ≡ kind_of first.0) × HoldsAll (goes_on kind) more
 
--- the token does not go on with what follows
-abbrev pub EndsBefore : Kind → Source ℕ → Type 0
-EndsBefore kind rest = (byte : ℕ) → first_token rest ≡ Some byte → goes_on kind byte ≡ false
+-- it does not go on with what follows
+abbrev pub IsWord : Kind → Source ℕ → Source ℕ → Type 0
+IsWord kind text rest = IsText kind text × ((byte : ℕ) → first_token rest ≡ Some byte → goes_on kind byte ≡ false)
 
--- ahead stand blanks, the text of the token, and the rest; the token's span is where its text stands
-pub record IsNext (ahead : Source ℕ) (place : ℕ) (token : Token) (rest : Source ℕ) : Type 0 where
-  pub blanks : Source ℕ
-  pub text : Source ℕ
-  pub whole : ahead ≡ blanks ++ text ++ rest
-  pub skipped : HoldsAll is_blank blanks
-  pub kind : IsText token.kind text
-  pub end : EndsBefore token.kind rest
-  pub starts : token.span.start ≡ place + width blanks
-  pub ends : token.span.end ≡ token.span.start + width text
-
--- the tokens of what stands ahead from a place on; behind the last stand blanks alone
+-- the tokens of what stands ahead from a place on: each stands where its span says, and blanks alone stand between them and at the end
 abbrev pub AreTokens : Source ℕ → ℕ → List Token → Type 0
-AreTokens ahead place [] = HoldsAll is_blank ahead
-AreTokens ahead place (token ∷ tokens) = (rest : Source ℕ) × (IsNext ahead place token rest × AreTokens rest token.span.end tokens)
+AreTokens ahead place tokens = AreWords (HoldsAll is_blank) (λ token. IsWord token.kind) (λ token. token.span) ahead place tokens
 
 -- what stands in the text at the token's span is the text of a token of its kind
-pub record StandsIn (text : List ℕ) (token : Token) : Type 0 where
-  pub starts : token.span.start < token.span.end
-  pub within : token.span.end ≤ length text
-  pub kind : IsText token.kind (units (slice_range text token.span.start token.span.end))
+abbrev pub StandsIn : List ℕ → Token → Type 0
+StandsIn text token = StandsAt (IsText token.kind) text token.span

@@ -1,40 +1,18 @@
-ghost use Rattle.std.specs.Prelude.{◌≡◌, IfSome, IfNone, IfOk, All};
-ghost use Rattle.winnow_base.specs.Source.{units, HoldsAll};
-ghost use Rattle.winnow_base.specs.Location.{IsLocation};
-ghost use Rattle.example_lexer.specs.Kinds.{is_blank};
-ghost use Rattle.example_lexer.specs.Tokens.{IsNext, AreTokens, StandsIn};
+ghost use Rattle.std.specs.Prelude.{◌≡◌, IfOk, All};
+ghost use Rattle.winnow_stream.specs.Source.{units, HoldsAll};
+ghost use Rattle.winnow_stream.specs.Location.{IsLocation};
+ghost use Rattle.winnow_combinator.specs.Words.{IsLexer};
+ghost use Rattle.example_lexer.specs.Tokens.{is_blank, IsClear, IsWord, AreTokens, StandsIn};
 
-use crate::kind::{Blank, Kind};
-use crate::skip::skip_while;
-use crate::token::Token;
+use crate::token::{Kind, Token};
 use std::alloc::{AllocError, Global};
-use winnow_base::stream::{LocatingSlice, Location, Stream, held_law, span_law};
-
-/// Returns the next token and moves past it, or `None` where blanks alone are left.
-pub fn next_lexeme<S: Stream<Token = u8> + Location>(input: &mut S) -> Option<Token>
-where
-    S::Slice: Drop,
-    requires valid { S.valid input.old }
-    requires located { IsLocation S.location S.token_end S.token_start }
-    ensures next { IfSome result (λ token. IsNext (S.remaining input.old)
-        (S.token_start input.old) token (S.remaining input.new)) }
-    ensures place { IfSome result (λ token. S.token_start input.new ≡ token.span.end) }
-    ensures end { IfNone result (HoldsAll is_blank (S.remaining input.old)) }
-    ensures valid { S.valid input.new }
-    ensures kept { S.keeps input.old input.new }
-{
-    held_law::<u8>();
-    span_law::<S>();
-    skip_while(input, &Blank);
-    let start = input.current_token_start();
-    let kind = Kind::of(input.next_token()?);
-    skip_while(input, &kind);
-    let end = input.previous_token_end();
-    Some(Token {
-        kind,
-        span: start..end,
-    })
-}
+use std::ops::Range;
+use winnow_combinator::{alt, preceded, repeat, terminated};
+use winnow_error::EmptyError;
+use winnow_parser::Parser;
+use winnow_stream::{Location, Stream, StreamIsPartial};
+use winnow_token::{any, take_while};
+use winnow_wrap::LocatingSlice;
 
 /// Returns all tokens of a text, in order.
 pub fn tokens(alloc: Global, text: &[u8]) -> Result<Vec<Token>, AllocError>
@@ -45,20 +23,52 @@ pub fn tokens(alloc: Global, text: &[u8]) -> Result<Vec<Token>, AllocError>
 }
 
 /// Returns all tokens that are left of a stream, in order.
-pub fn lex<S: Stream<Token = u8> + Location + Drop>(
+pub fn lex<I: StreamIsPartial + Stream<Token = u8> + Location + Drop>(
     alloc: Global,
-    mut input: S,
+    input: I,
 ) -> Result<Vec<Token>, AllocError>
 where
-    S::Slice: Drop,
-    requires valid { S.valid input }
-    requires located { IsLocation S.location S.token_end S.token_start }
+    I::Slice: Drop,
+    I::PartialState: Drop,
+    requires valid { I.valid input }
+    requires located { IsLocation I.location I.token_end I.token_start }
     ensures { IfOk result (λ tokens.
-        AreTokens (S.remaining input) (S.token_start input) tokens.items) }
+        AreTokens (I.remaining input) (I.token_start input) tokens.items) }
 {
-    let mut tokens = Vec::new(alloc);
-    while let Some(token) = next_lexeme(&mut input) {
-        tokens.push(token)?;
+    let blanks = take_while(0.., (b' ', b'\t', b'\n', b'\r'));
+    let letters = take_while(1.., (b'A'..=b'Z', b'a'..=b'z'));
+    let digits = take_while(1.., b'0'..=b'9');
+    let kind = alt((
+        letters.value(Kind::Name),
+        digits.value(Kind::Number),
+        any().value(Kind::Punctuation),
+    ));
+    lex_kinds(alloc, input, blanks, kind)
+}
+
+// Returns the tokens of the kinds that a parser reads, after what another takes for blanks.
+fn lex_kinds<I, B, K>(alloc: Global, input: I, blanks: B, kind: K) -> Result<Vec<Token>, AllocError>
+where
+    I: StreamIsPartial + Stream<Token = u8> + Location + Drop,
+    I::PartialState: Drop,
+    B: Parser<I, EmptyError> + Copy,
+    B::Output: Drop,
+    K: Parser<I, EmptyError, Output = Kind> + Drop,
+    requires valid { I.valid input }
+    requires located { IsLocation I.location I.token_end I.token_start }
+    requires ready { B.ready blanks × K.ready kind }
+    requires lexer { IsLexer (B.means blanks) (K.means kind) (HoldsAll is_blank) IsClear IsWord }
+    ensures { IfOk result (λ tokens.
+        AreTokens (I.remaining input) (I.token_start input) tokens.items) }
+{
+    let token = preceded(blanks, kind.with_span()).map(
+        |(kind, span): (Kind, Range<usize>)| -> Token
+            ensures { record { kind = kind; span = span } ≡ result }
+        { Token { kind, span } },
+    );
+    let lexer = terminated(repeat(0.., token), blanks);
+    match Parser::<I, EmptyError>::parse(&lexer, alloc, input)? {
+        Ok(tokens) => Ok(tokens),
+        Err(_) => unreachable!(),
     }
-    Ok(tokens)
 }

@@ -21,6 +21,7 @@ pub use Rattle.winnow_token.specs.Literal
 pub use Rattle.winnow_token.specs.Until
 pub use Rattle.winnow_token.specs.Remaining
 pub use Rattle.winnow_token.specs.Prompt
+pub use Rattle.winnow_token.specs.Run
 pub use Rattle.winnow_combinator.specs.Ending
 pub use Rattle.winnow_combinator.specs.Repetition
 pub use Rattle.winnow_combinator.specs.Counts
@@ -29,4 +30,5 @@ pub use Rattle.winnow_combinator.specs.Separation
 pub use Rattle.winnow_combinator.specs.Choices
 pub use Rattle.winnow_combinator.specs.Conditional
 pub use Rattle.winnow_combinator.specs.DeterminedLists
+pub use Rattle.winnow_combinator.specs.Words
 pub use Rattle.winnow_parser.specs.declared.failure.Failure

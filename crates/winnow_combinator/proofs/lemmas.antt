@@ -4,4 +4,6 @@ pub mod CountLemmas
 pub mod GatherLemmas
 pub mod RepetitionLemmas
 pub mod SeparationLemmas
+pub mod TurnLemmas
+pub mod WordLemmas
 pub mod ErrorLemmas

@@ -6,3 +6,4 @@ pub mod Ending
 pub mod Gathering
 pub mod Repetition
 pub mod Separation
+pub mod Words

@@ -3,5 +3,6 @@ pub mod DeterminedLemmas
 pub mod ImageLemmas
 pub mod MadeLemmas
 pub mod RowLemmas
+pub mod SpanLemmas
 pub mod ToldLemmas
 pub mod ErrorLemmas

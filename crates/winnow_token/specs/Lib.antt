@@ -5,3 +5,4 @@ pub mod Literal
 pub mod Until
 pub mod Remaining
 pub mod Prompt
+pub mod Run
