@@ -3,7 +3,7 @@ use Rattle.std.specs.Prelude.{◌<◌, true, length}
 use Rattle.std.specs.declared.num.NonZeroUsize.{NonZeroUsize}
 use Rattle.winnow_stream.specs.Source.{Source}
 use Rattle.winnow_stream.specs.declared.needed.Needed.TheVariants.{Size}
-use Rattle.winnow_parser.specs.Outcome.{Ahead, Backtracks, Cuts, Needs, Refuses, Outcome, Gives, Fails, Meaning}
+use Rattle.winnow_parser.specs.Outcome.{Ahead, Needs, Outcome, Fails, Meaning}
 use Rattle.winnow_parser.specs.Laws.{longer, IsSettled}
 
 -- where it needs n tokens, no answer is settled once fewer have come

@@ -1,9 +1,9 @@
 -- What the lexer means, in the words of tokens.
-use Rattle.std.proofs.Common.{◌≡◌, ℕ, ◌≤◌, Bool, true, false, List, [], ◌∷◌, ◌++◌, length, Option, None, Some, inl, inr, sym, ◌∙◌, subst, refl, arith}
+use Rattle.std.proofs.Common.{◌≡◌, ℕ, ◌≤◌, Bool, true, false, [], ◌∷◌, ◌++◌, length, Option, None, inl, inr, sym, ◌∙◌, subst, refl, arith}
 use Rattle.std.specs.Char.{is_ascii_alphabetic, is_ascii_digit}
 use Rattle.std.proofs.lemmas.Bool.Decides.{nat_tests}
-use Rattle.winnow_stream.specs.Source.{Source, first_token, HasPositiveWidths, HoldsAll}
-use Rattle.winnow_parser.specs.Outcome.{Ahead, Backtracks, Cuts, Gives, Fails, Meaning, Moves}
+use Rattle.winnow_stream.specs.Source.{Source, HasPositiveWidths, HoldsAll}
+use Rattle.winnow_parser.specs.Outcome.{Ahead, Cuts, Gives, Fails, Meaning, Moves}
 use Rattle.winnow_parser.specs.Meanings.{Maps, IsAlways}
 use Rattle.winnow_token.specs.OneOf.{OneOf}
 use Rattle.winnow_token.specs.Held.{HeldFront}

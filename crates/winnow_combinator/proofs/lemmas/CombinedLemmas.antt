@@ -1,8 +1,7 @@
 -- Combinators of parsers that have one answer have one answer.
-use Rattle.std.proofs.Common.{◌≡◌, ℕ, zero, suc, ◌-◌, ◌≤◌, ◌<◌, Bool, true, false, List, [], ◌∷◌, Option, Some, None, inl, inr, refl, sym, ◌∙◌, subst, arith}
-use Rattle.std.specs.Prelude.{⊤}
-use Rattle.winnow_parser.specs.Outcome.{Ahead, Failed, Backtracks, Cuts, Needs, Refuses, Outcome, Gives, Fails, Meaning}
-use Rattle.winnow_parser.specs.Meanings.{Returns, Maps, Pair, Second, Preceded, Either, Optional}
+use Rattle.std.proofs.Common.{ℕ, zero, suc, ◌-◌, Bool, true, false, List, [], ◌∷◌, Option, Some, None, inl, inr, refl, sym, subst, arith}
+use Rattle.winnow_parser.specs.Outcome.{Ahead, Backtracks, Cuts, Needs, Refuses, Outcome, Gives, Fails, Meaning}
+use Rattle.winnow_parser.specs.Meanings.{Maps, Pair, Second, Preceded, Either, Optional}
 use Rattle.winnow_parser.specs.Determined.{IsGranted, Agree, IsDetermined, Respects, AreBothSame, AreSameIfAny}
 use Rattle.winnow_parser.proofs.lemmas.DeterminedLemmas.{determined-returns, determined-maps, determined-pair, determined-either}
 use Rattle.winnow_parser.proofs.lemmas.ImageLemmas.{determined-optional}

@@ -1,5 +1,5 @@
 -- What holds at each turn of a parser that is asked again and again.
-use Rattle.std.specs.Prelude.{◌<◌, ℕ, Bool, List, [], ◌∷◌, Option}
+use Rattle.std.specs.Prelude.{ℕ, Bool, List, [], ◌∷◌, Option}
 use Rattle.std.proofs.Common.{subst, arith}
 use Rattle.winnow_parser.specs.Outcome.{Ahead, Failed, Backtracks, Gives, Fails, Meaning}
 use Rattle.winnow_combinator.specs.Repetition.{Taking, InTurn, Repeated}

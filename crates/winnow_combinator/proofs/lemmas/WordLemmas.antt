@@ -1,12 +1,12 @@
 -- A lexer: a parser of words that is asked again and again, with gaps before each word and after the last.
-use Rattle.std.proofs.Common.{◌≡◌, ℕ, zero, suc, ◌+◌, ◌≤◌, true, false, List, [], ◌∷◌, ◌++◌, length, Option, None, Some, inl, inr, ap, sym, ◌∙◌, subst, refl, arith, append_assoc}
+use Rattle.std.proofs.Common.{◌≡◌, ℕ, zero, suc, ◌+◌, ◌≤◌, false, List, [], ◌∷◌, ◌++◌, length, Option, None, Some, inl, inr, ap, sym, ◌∙◌, subst, refl, arith, append_assoc}
 use Rattle.std.specs.declared.ops.Range.{Range}
 use Rattle.std.proofs.lemmas.List.{append-nil}
 use Rattle.std.proofs.lemmas.Option.{same_Some}
 use Rattle.std.specs.Prelude.{All}
 use Rattle.winnow_stream.specs.Source.{Source, units, width, HasPositiveWidths}
 use Rattle.winnow_stream.specs.Location.{location_behind}
-use Rattle.winnow_parser.specs.Outcome.{Ahead, Backtracks, Cuts, Gives, Fails, Meaning, Moves}
+use Rattle.winnow_parser.specs.Outcome.{Ahead, Cuts, Gives, Fails, Meaning}
 use Rattle.winnow_parser.specs.Meanings.{Maps, Preceded, Terminated}
 use Rattle.winnow_parser.specs.Spanned.{WithSpan}
 use Rattle.winnow_parser.specs.Whole.{ReadsWhole, StopsAt}

@@ -9,7 +9,7 @@ use Rattle.winnow_stream.specs.Shortage.{needed, shortage}
 use Rattle.winnow_stream.specs.declared.needed.Needed.{Needed}
 use Rattle.winnow_stream.specs.declared.needed.Needed.TheVariants.{Unknown, Size}
 use Rattle.winnow_parser.specs.Outcome.{Ahead, Backtracks, Cuts, Needs, Refuses, Outcome, Gives, Fails, Meaning}
-use Rattle.winnow_parser.specs.Laws.{longer, IsSettled}
+use Rattle.winnow_parser.specs.Laws.{IsSettled}
 use Rattle.winnow_token.specs.OneOf.{OneOf}
 use Rattle.winnow_token.specs.Counted.{Counted}
 use Rattle.winnow_token.specs.Held.{HeldFront}

@@ -1,5 +1,5 @@
 -- Parsers of tokens have one answer.
-use Rattle.std.proofs.Common.{◌≡◌, ℕ, ◌≤◌, ◌<◌, Bool, true, false, cond, length, take, Option, Some, None, inl, inr, refl, ap, sym, ◌∙◌, arith, length-take}
+use Rattle.std.proofs.Common.{◌≡◌, ℕ, ◌≤◌, Bool, true, false, cond, length, take, Option, Some, None, inl, inr, refl, ap, sym, ◌∙◌, arith, length-take}
 use Rattle.std.specs.Prelude.{◌≢◌, nat_le, ◌&&◌, ◌-◌, [], ◌∷◌, IfSome}
 use Rattle.std.proofs.lemmas.Option.{same_Some}
 use Rattle.std.specs.declared.ops.Range.{Range}
@@ -10,7 +10,7 @@ use Rattle.winnow_stream.specs.declared.needed.Needed.TheVariants.{Unknown}
 use Rattle.winnow_match.specs.declared.compare.CompareResult.{CompareResult}
 use Rattle.winnow_match.specs.declared.compare.CompareResult.TheVariants as compared
 use Rattle.winnow_count.specs.CountRange.{is_up_to}
-use Rattle.winnow_parser.specs.Outcome.{Ahead, Backtracks, Cuts, Needs, Refuses, Outcome, Gives, Fails, Meaning, after}
+use Rattle.winnow_parser.specs.Outcome.{Ahead, Backtracks, Cuts, Needs, Refuses, Outcome, Gives, Fails, after}
 use Rattle.winnow_parser.specs.Determined.{IsGranted, IsDetermined, SlicesRespect}
 use Rattle.winnow_parser.proofs.lemmas.ToldLemmas.{Told, IsTold, determined-told}
 use Rattle.winnow_token.specs.OneOf.{OneOf, after_one}
