@@ -1,0 +1,4 @@
+use Rattle.winnow_bench_parsers.proofs.by_hand.list_words.Given as goal
+
+abbrev pub invariant-loop : goal.invariant-loop
+invariant-loop g l = g.I.Stream.valid l.input
