@@ -212,7 +212,7 @@ fn answers(example: Example, alloc: Global, text: &'static str, wanted: Told) ->
     for end in 0..=text.len() {
         let front = text.get(..end).unwrap_or("");
         let told = match tell(example, alloc, front, false) {
-            Told::Value(value, left) => Told::Value(value, text.len() - end + left),
+            Told::Value(value, left) => Told::Value(value, (text.len() - end).saturating_add(left)),
             other => other,
         };
         if told != wanted && told != Told::More {
