@@ -7,7 +7,9 @@ ghost use Rattle.winnow_match.specs.declared.compare.CompareResult.{CompareResul
 
 use crate::{Compare, CompareResult};
 
-// Whether the prefix is a front of the input. `==` is quicker on short slices than `starts_with`.
+// Whether the prefix is a front of the input. `==` is quicker on short slices than `starts_with`. Inlined, so that a literal of known
+// length is compared by words.
+#[inline(always)]
 #[tactic(auto, using(crate::proofs::lemmas::ByteFrontLemmas::front_tests))]
 pub(crate) fn begins_with(input: &[u8], prefix: &[u8]) -> bool
     ensures value { result ≡ is_prefix prefix.now input.now }
@@ -36,6 +38,7 @@ pub(crate) fn compare_front(input: &[u8], literal: &[u8]) -> CompareResult
 }
 
 // The same, with no test of the first byte.
+#[inline(always)]
 #[tactic(auto, using(crate::proofs::lemmas::ComparisonLemmas::comparisons))]
 fn compare_whole(input: &[u8], literal: &[u8]) -> CompareResult
     ensures { result ≡ comparison literal.now input.now }
