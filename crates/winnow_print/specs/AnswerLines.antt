@@ -1,7 +1,7 @@
 -- The line that tells an answer.
 use Rattle.std.specs.Prelude.{ℕ, Bool, true, false, List, [], ◌∷◌, ◌++◌, flat_map, Option, Some, None, Result, Ok, Err, codes, decimal}
 use Rattle.std.specs.declared.ops.Range.{Range}
-use Rattle.winnow_bytes.specs.Hex.{hex_text}
+use Rattle.hex.specs.Hex.{encode_lower}
 use Rattle.winnow_match.specs.declared.compare.CompareResult.{CompareResult}
 use Rattle.winnow_match.specs.declared.compare.CompareResult.TheVariants as compared
 use Rattle.winnow_run.specs.declared.script.Answer.{Answer}
@@ -14,7 +14,7 @@ use Rattle.winnow_stream.specs.declared.needed.Needed.TheVariants.{Unknown, Size
 -- bytes: `-` for none, else two digits each
 abbrev pub bytes_word : List ℕ → List ℕ
 bytes_word [] = codes " -"
-bytes_word (byte ∷ bytes) = codes " " ++ hex_text false (byte ∷ bytes)
+bytes_word (byte ∷ bytes) = codes " " ++ encode_lower (byte ∷ bytes)
 
 -- a place: where it starts and ends
 abbrev pub place_word : Range ℕ → List ℕ

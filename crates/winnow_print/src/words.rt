@@ -5,12 +5,11 @@ ghost use Rattle.winnow_print.specs.AnswerLines.{bytes_word, place_word, item_wo
 
 use std::alloc::AllocError;
 use std::ops::Range;
-use winnow_bytes::Bytes;
 use winnow_sets::AsChar;
 
-/// What stands behind the word of a slice or of items: a space before each word.
+/// What follows the word `slice` or `items` on a line: words, each after a space.
 pub trait PushWords {
-    // The words, each behind a space.
+    // The words, each after a space.
     ghost words: { Self → List ℕ };
 
     fn push_words(&self, text: &mut String) -> Result<(), AllocError>
@@ -25,7 +24,8 @@ impl PushWords for &[u8] {
         if self.is_empty() {
             return text.push_str(" -");
         }
-        write!(text, " {}", Bytes::new(self).lower())
+        let digits = hex::encode(*text.allocator(), *self)?;
+        write!(text, " {digits}")
     }
 }
 
