@@ -46,7 +46,7 @@ where
     sum
 }
 
-// Takes 16 tokens, if there are so many.
+// Takes 16 tokens, if 16 remain.
 fn next_sixteen<I: Stream>(input: &mut I) -> Option<I::Slice>
     requires { I.valid input.old }
     ensures { I.valid input.new }

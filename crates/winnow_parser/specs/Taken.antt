@@ -17,7 +17,7 @@ abbrev pub WithTaken : {O S T : Type 0} → (S → Source T → ℕ → Type 0) 
 WithTaken is_slice inner partial a (Gives both b) = inner partial a (Gives both.0 b) × IsFrontTaken is_slice both.1 a b
 WithTaken is_slice inner partial a (Fails f) = inner partial a (Fails f)
 
--- the slice of what the inner parser takes, whatever its value
+-- the slice of what the inner parser takes; its value is dropped
 abbrev pub Taken : {O S T : Type 0} → (S → Source T → ℕ → Type 0) → Meaning O T → Meaning S T
 Taken {O} is_slice inner partial a (Gives s b) = ((x : O) × inner partial a (Gives x b)) × IsFrontTaken is_slice s a b
 Taken is_slice inner partial a (Fails f) = inner partial a (Fails f)

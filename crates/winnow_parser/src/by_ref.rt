@@ -2,7 +2,7 @@ use crate::{ModalResult, Parser};
 use std::alloc::Global;
 use winnow_stream::StreamIsPartial;
 
-/// The parser behind the reference.
+/// The parser that is referred to.
 impl<I: StreamIsPartial, E, P: Parser<I, E>> Parser<I, E> for &P {
     type Output = P::Output;
 

@@ -17,10 +17,10 @@ use winnow_stream::StreamIsPartial;
 
 /// What reads a value from the front of a stream.
 ///
-/// Whoever writes a parser of his own says by `means` what it may answer and by `errors` which
-/// errors its failures carry (`AnyError` allows each), and proves the laws that [`IsParser`] lists:
-/// a settled answer stays when more input follows, nothing more is needed where nothing more may
-/// follow, and the stream only moves on.
+/// A parser of your own says by `means` what it may answer and by `errors` which errors its
+/// failures carry (`AnyError` allows each), and keeps the laws that [`IsParser`] lists: a settled
+/// answer stays when more input follows, nothing more is needed where nothing more may follow, and
+/// the stream only moves on.
 pub trait Parser<I: StreamIsPartial, E>: Sized {
     /// What it reads.
     type Output;
@@ -34,8 +34,9 @@ pub trait Parser<I: StreamIsPartial, E>: Sized {
     // The parsers that may be asked.
     ghost ready: { Self → Type 0 };
 
-    /// Reads what stands at the front. After a value the stream stands behind what was read; where the parser fails, it stands
-    /// where that was found out, and who goes on resets it.
+    /// Reads a value from the front. Afterwards the stream stands after what was read. Where the
+    /// parser fails, the stream stands where the failure was found, and a caller that goes on resets
+    /// it.
     fn parse_next(&self, alloc: Global, input: &mut I) -> ModalResult<Self::Output, E>
         requires ready { ready self.now }
         requires valid { I.valid input.old }
@@ -146,8 +147,9 @@ pub trait Parser<I: StreamIsPartial, E>: Sized {
         self
     }
 
-    /// Reads a whole input to its end, after which nothing follows, whatever its flag says. Where the parser fails, or gives a value before
-    /// the end, the error tells the input and the place in it. The outer error is refused memory.
+    /// Reads a whole input to its end, after which nothing follows, also where its flag says that
+    /// more may. Where the parser fails, or gives a value before the end, the error tells the input
+    /// and the place in it. The outer error is refused memory.
     final fn parse(
         &self,
         alloc: Global,

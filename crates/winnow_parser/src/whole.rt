@@ -11,7 +11,7 @@ use winnow_error::ParserError;
 use winnow_parse_error::ParseError;
 use winnow_stream::{Stream, StreamIsPartial, taken_law};
 
-// Reads a whole input, after which nothing follows, whatever its flag says.
+// Reads a whole input, after which nothing follows, also where its flag says that more may.
 pub(crate) fn read_whole<I, E, P>(
     parser: &P,
     alloc: Global,

@@ -1,4 +1,4 @@
--- A parser that needs so many tokens answers with no fewer.
+-- A parser that needs n more tokens answers nothing else with fewer.
 use Rattle.std.specs.Prelude.{◌<◌, true, length}
 use Rattle.std.specs.declared.num.NonZeroUsize.{NonZeroUsize}
 use Rattle.winnow_stream.specs.Source.{Source}

@@ -7,13 +7,13 @@ use winnow_error::ParserError;
 use winnow_parser::{Failure, ModalResult, Parser};
 use winnow_stream::{StreamIsPartial, offset_law};
 
-/// So many tokens; [`take`] makes it.
+/// As many tokens as `count` says; [`take`] makes it.
 #[derive(Clone, Copy, Debug, Drop)]
 pub struct Counted {
     count: usize,
 }
 
-/// Returns the parser of the slice of so many tokens.
+/// Returns the parser of a slice of `count` tokens.
 pub fn take(count: usize) -> Counted
     ensures { result ≡ record { count = count } }
 {

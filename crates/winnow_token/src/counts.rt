@@ -21,7 +21,7 @@ pub(crate) fn allow_some(counts: &Range) -> bool
     }
 }
 
-// Returns whether the front of this width has at least so many tokens.
+// Returns whether the front of this width has at least `least` tokens.
 pub(crate) fn has_tokens<I: Stream>(input: &I, end: usize, least: usize) -> bool
     requires valid { I.valid input.now }
     requires offset { IsTrue (is_offset (I.remaining input.now) end) }
@@ -33,7 +33,7 @@ pub(crate) fn has_tokens<I: Stream>(input: &I, end: usize, least: usize) -> bool
     }
 }
 
-// Returns whether the front of this width has at most so many tokens.
+// Returns whether the front of this width has at most `greatest` tokens.
 fn has_no_more<I: Stream>(input: &I, end: usize, greatest: usize) -> bool
     requires valid { I.valid input.now }
     requires offset { IsTrue (is_offset (I.remaining input.now) end) }

@@ -175,7 +175,7 @@ fn longest<I: Stream, P: Fn(I::Token) -> bool + Drop>(input: &I, least: usize, h
     }
 }
 
-// Finds the longest front of no more than so many tokens whose tokens the test holds of.
+// Finds the longest front of at most `greatest` tokens, all of which pass the test.
 fn longest_within<I: Stream, P: Fn(I::Token) -> bool + Drop>(
     input: &I,
     least: usize,

@@ -37,8 +37,9 @@ pub fn hits_stay_law()
         → HitsStay (λ r. hit needles (utf8_of r)) }
 {}
 
-/// The law of what is needed: where one token, so many, or those that a set holds are parsed, and the parser needs n tokens more, its answer is
-/// not settled once fewer have come. It does nothing when called: its contract is the law.
+/// The law of what is needed: where a parser of one token, of n tokens, or of those in a set needs
+/// k tokens more, it answers nothing else before k have come. It does nothing when called: its
+/// contract is the law.
 pub fn prompt_law<I: Stream>()
     ensures one { (holds : I.Token → Bool) → IsPrompt (OneOf holds) }
     ensures counted { (n : ℕ) → IsPrompt (Counted I.counts_missing I.is_slice n) }

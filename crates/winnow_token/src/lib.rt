@@ -1,4 +1,4 @@
-//! Parsers of tokens: one of a set, so many, those that a set holds, a literal, and all that remains.
+//! Parsers of tokens: one of a set, a number of them, those in a set, a literal, and the rest.
 #![tactic(auto)]
 
 mod counted;

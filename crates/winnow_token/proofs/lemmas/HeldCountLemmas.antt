@@ -14,14 +14,14 @@ token-at [] n k d l = absurd (omega arith)
 token-at (x ∷ xs) n zero d l = refl
 token-at (x ∷ xs) n (suc k) d l = token-at xs (n + x.1) k d (omega arith)
 
--- the item of the token that stands behind k others
+-- the item of the token after k others
 pub record IsItem {T : Type 0} (r : Source T) (k : ℕ) (item : ℕ × T) : Type 0 where
   pub before_end : k < length r
   pub place : item.0 ≡ width (take k r)
   pub token : first_token (drop k r) ≡ Some item.1
 
 module _ {S T : Type 0} {steps : S → Option (ℕ × T) → S → Type 0} {s : S} (r : Source T) (road : YieldsList steps (λ x. x) s (offsets r)) (yielded : List (ℕ × T)) (t : S) (y : Yields steps s yielded t) (k : ℕ) (count : k ≡ length yielded) (answer : Option (ℕ × T)) (u : S) where
-  -- the item that comes behind k others
+  -- the item that comes after k others
   pub next-item : (item : ℕ × T) → answer ≡ Some item → steps t answer u → IsItem r k item
   next-item item e p =
       let turn = YieldsList-turn road yielded t y answer u item e p in

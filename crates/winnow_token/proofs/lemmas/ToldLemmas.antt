@@ -56,7 +56,7 @@ module _ {T : Type 0} (holds : T → Bool) where
 -- ---- Slices
 
 module _ {S T : Type 0} (is_slice : S → Source T → ℕ → Type 0) (alike : S → S → Type 0) (fronts : SlicesRespect is_slice alike) where
-  -- so many tokens
+  -- n tokens
   module _ (counts_missing : Bool) (n : ℕ) where
     abbrev counted_told : Bool → Ahead T → Told T
     counted_told partial a = cond (nat_le n (length a.tokens)) (inr (after a (width (take n a.tokens))))
