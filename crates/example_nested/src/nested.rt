@@ -168,6 +168,7 @@ mod tests {
     use winnow_error::EmptyError;
     use winnow_parser::Failure;
     use winnow_stream::Stream;
+    use winnow_wrap::Partial;
 
     // What is read of a text, and how much of it is left: how many branches the tree has, or how
     // reading failed.
@@ -211,5 +212,12 @@ mod tests {
                 "{text}"
             );
         }
+    }
+
+    #[test]
+    fn a_piece_of_a_tree_needs_more(rt: HostRuntime) {
+        assert_eq!(rt; told(rt.alloc(), Partial::new("[[][["), 2), ('n', 0));
+        assert_eq!(rt; told(rt.alloc(), Partial::new("[[][[]]]"), 2), ('2', 0));
+        assert_eq!(rt; told(rt.alloc(), Partial::new("[[][[]]]["), 2), ('2', 1));
     }
 }
