@@ -27,6 +27,7 @@ pub use Rattle.winnow_combinator.specs.Repetition
 pub use Rattle.winnow_combinator.specs.Counts
 pub use Rattle.winnow_combinator.specs.Gathering
 pub use Rattle.winnow_combinator.specs.Separation
+pub use Rattle.winnow_combinator.specs.Till
 pub use Rattle.winnow_combinator.specs.Choices
 pub use Rattle.winnow_combinator.specs.Conditional
 pub use Rattle.winnow_combinator.specs.DeterminedLists

@@ -7,3 +7,4 @@ pub mod SeparationLemmas
 pub mod TurnLemmas
 pub mod WordLemmas
 pub mod ErrorLemmas
+pub mod TillLemmas

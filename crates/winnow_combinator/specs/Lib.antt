@@ -6,4 +6,5 @@ pub mod Ending
 pub mod Gathering
 pub mod Repetition
 pub mod Separation
+pub mod Till
 pub mod Words

@@ -17,6 +17,7 @@ mod optional;
 mod repetition;
 mod separation;
 mod sequence;
+mod till;
 
 pub use alternatives::{Alternatives, alt};
 pub use conditional::{Conditional, cond};
@@ -32,3 +33,4 @@ pub use separation::{Separation, separated};
 pub use sequence::{
     Between, FirstOf, SecondOf, Separate, delimited, preceded, separated_pair, terminated,
 };
+pub use till::{RepetitionTill, repeat_till};
