@@ -8,3 +8,5 @@ pub mod TurnLemmas
 pub mod WordLemmas
 pub mod ErrorLemmas
 pub mod TillLemmas
+pub mod AgreeingTillLemmas
+pub mod AgreeingEndLemmas

@@ -1,13 +1,17 @@
-ghost use Rattle.std.specs.Prelude.{ℕ, Bool, Option};
-ghost use Rattle.winnow_parser.specs.Determined.{IsDetermined, Shows, Respects, AreSameIfAny};
+ghost use Rattle.std.specs.Prelude.{ℕ, Bool, Option, ⊤};
+ghost use Rattle.winnow_parser.specs.Determined.{IsDetermined, Shows, Respects};
+ghost use Rattle.winnow_parser.specs.Determined.{AreSameIfAny, AreBothSame};
+ghost use Rattle.winnow_parser.specs.Meanings.{Returns};
 ghost use Rattle.winnow_combinator.specs.Choices.{Choice3, Choice4, Choice5, Choice6, Choice7};
 ghost use Rattle.winnow_combinator.specs.Choices.{Choice8, Choice9, Choice10};
 ghost use Rattle.winnow_combinator.specs.Conditional.{Conditional};
 ghost use Rattle.winnow_combinator.specs.Counts.{Ascending};
-ghost use Rattle.winnow_combinator.specs.DeterminedLists.{AreSameEach};
+ghost use Rattle.winnow_combinator.specs.DeterminedLists.{AreSameEach, StepsRespect};
+ghost use Rattle.winnow_combinator.specs.Ending.{Ended, Failing};
 ghost use Rattle.winnow_combinator.specs.Gathering.{Gathered};
 ghost use Rattle.winnow_combinator.specs.Repetition.{Repeated};
-ghost use Rattle.winnow_combinator.specs.Separation.{Separated};
+ghost use Rattle.winnow_combinator.specs.Separation.{Separated, FoldedLeft};
+ghost use Rattle.winnow_combinator.specs.Till.{RepeatedTill, MakesOfFirst};
 
 use crate::Gather;
 use winnow_error::ParserError;
@@ -44,6 +48,47 @@ pub fn determined_repeat_law<
     ensures conditional { (view : A.Output → V) (a : A) (flag : Bool)
         → IsDetermined (Shows view) (A.means a)
         → IsDetermined (AreSameIfAny (Shows view)) (Conditional flag (A.means a)) }
+{}
+
+/// The laws of two parsers that have one answer each, of which the first is asked again and again: up to where the second
+/// gives a value, or with the second between its values, which are folded. It does nothing when called: its contract is the law.
+pub fn determined_till_law<
+    I: StreamIsPartial,
+    E,
+    A: Parser<I, E>,
+    B: Parser<I, E>,
+    G: Gather<A::Output>,
+    F: Fn(A::Output, B::Output, A::Output) -> A::Output,
+    V,
+    W,
+    X,
+>()
+    ensures repeated_till { (view : A.Output → V) (other : B.Output → W) (a : A) (b : B) (least : ℕ)
+        (greatest : Option ℕ)
+        → IsDetermined (Shows view) (A.means a) → IsDetermined (Shows other) (B.means b)
+        → IsDetermined (AreBothSame (AreSameEach (Shows view)) (Shows other))
+        (RepeatedTill least greatest (A.means a) (B.means b)) }
+    ensures gathered { (view : A.Output → V) (other : B.Output → W) (whole : G.Whole → X) (g : G)
+        (a : A) (b : B) (least : ℕ) (greatest : Option ℕ)
+        → Respects (AreSameEach (Shows view)) (Shows whole) (G.makes g)
+        → IsDetermined (Shows view) (A.means a) → IsDetermined (Shows other) (B.means b)
+        → IsDetermined (AreBothSame (Shows whole) (Shows other)) (Ascending least greatest
+        (Gathered G.refusable (MakesOfFirst (G.makes g))
+        (RepeatedTill least greatest (A.means a) (B.means b)))) }
+    ensures folded { (view : A.Output → V) (other : B.Output → W) (f : F) (a : A) (b : B)
+        → StepsRespect (Shows view) (AreBothSame (Shows other) (Shows view))
+        (λ left pair new. F.post f left pair.0 pair.1 new)
+        → IsDetermined (Shows view) (A.means a) → IsDetermined (Shows other) (B.means b)
+        → IsDetermined (Shows view) (FoldedLeft (λ left pair new. F.post f left pair.0 pair.1 new)
+        (B.means b) (A.means a)) }
+{}
+
+/// The laws of parsers that take nothing: the end, nothing at all and a failure have one answer. It does nothing when called: its
+/// contract is the law.
+pub fn determined_end_law<I: StreamIsPartial>()
+    ensures ended { IsDetermined {O = Unit {0}} {T = I.Token} (λ _ _. ⊤) Ended }
+    ensures nothing { IsDetermined {O = Unit {0}} {T = I.Token} (λ _ _. ⊤) (Returns tt) }
+    ensures failing { IsDetermined {O = Unit {0}} {T = I.Token} (λ _ _. ⊤) Failing }
 {}
 
 /// The laws of alternatives: the first of several parsers with one answer that does not backtrack has

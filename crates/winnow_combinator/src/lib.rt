@@ -21,7 +21,9 @@ mod till;
 
 pub use alternatives::{Alternatives, alt};
 pub use conditional::{Conditional, cond};
-pub use determined::{determined_choice_law, determined_repeat_law};
+pub use determined::{
+    determined_choice_law, determined_end_law, determined_repeat_law, determined_till_law,
+};
 pub use ending::{Ended, Failing, Nothing, empty, eof, fail};
 pub use gathering::{Accumulated, Begin, Folded, Gather};
 pub use left_fold::{LeftFold, separated_foldl1};

@@ -45,7 +45,7 @@ module _ {O T : Type 0} (same : O → O → Type 0) (inner : Meaning O T) (d : I
       let place = (d partial a (Gives x b) (Gives y c) tt tt h k).1 in
       subst (λ u. Agree same v u) (sym f) (subst (λ u. Agree same u (Fails (Cuts c))) (sym e) (ap Cuts place))
 
-determined-taking : {O T : Type 0} (same : O → O → Type 0) (inner : Meaning O T) → IsDetermined same inner → IsDetermined same (Taking inner)
+pub determined-taking : {O T : Type 0} (same : O → O → Type 0) (inner : Meaning O T) → IsDetermined same inner → IsDetermined same (Taking inner)
 determined-taking same inner d partial a v w s t h k =
     taking-agree same inner d partial a v w s t (taking-cases same inner d partial a v h) (taking-cases same inner d partial a w k)
 

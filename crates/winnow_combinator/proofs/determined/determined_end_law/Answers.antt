@@ -1,0 +1,12 @@
+use Rattle.winnow_parser.proofs.lemmas.DeterminedLemmas.{determined-returns}
+use Rattle.winnow_combinator.proofs.lemmas.AgreeingEndLemmas.{determined-ended, determined-failing}
+use Rattle.winnow_combinator.proofs.determined.determined_end_law.Goals as goal
+
+pub returns-clause-ended : goal.returns-clause-ended
+returns-clause-ended g c = determined-ended
+
+pub returns-clause-nothing : goal.returns-clause-nothing
+returns-clause-nothing g c = determined-returns tt _ tt
+
+pub returns-clause-failing : goal.returns-clause-failing
+returns-clause-failing g c = determined-failing

@@ -1,0 +1,70 @@
+-- Parsers that take nothing have one answer, and so have values that are folded from the left.
+use Rattle.std.proofs.Common.{List, [], ◌∷◌, None, sym, ◌∙◌, ap, subst}
+use Rattle.std.specs.Prelude.{⊤}
+use Rattle.std.specs.List.{FoldsTo}
+use Rattle.winnow_parser.specs.Outcome.{Backtracks, Cuts, Needs, Refuses, Gives, Fails, Meaning}
+use Rattle.winnow_parser.specs.Meanings.{Pair}
+use Rattle.winnow_parser.specs.Determined.{IsDetermined, AreBothSame}
+use Rattle.winnow_parser.proofs.lemmas.DeterminedLemmas.{determined-maps, determined-pair}
+use Rattle.winnow_combinator.specs.DeterminedLists.{AreSameEach, StepsRespect}
+use Rattle.winnow_combinator.specs.Ending.{Ended, Failing}
+use Rattle.winnow_combinator.specs.Repetition.{Repeated}
+use Rattle.winnow_combinator.specs.Separation.{FoldsLeft, FoldedLeft}
+use Rattle.winnow_combinator.proofs.lemmas.AgreeingLemmas.{determined-repeated}
+
+abbrev AreUnits : Unit {0} → Unit {0} → Type 0
+AreUnits u v = ⊤
+
+module _ {T : Type 0} where
+  pub determined-ended : IsDetermined {O = Unit {0}} {T = T} AreUnits Ended
+  determined-ended partial a (Gives u b) (Gives v c) s t h k = (tt, sym h.2 ∙ k.2)
+  determined-ended partial a (Gives u b) (Fails (Backtracks c)) s t h k = k.0 h.0
+  determined-ended partial a (Gives u b) (Fails (Cuts c)) s t h k = k
+  determined-ended partial a (Gives u b) (Fails (Needs n)) s t h k = cc
+  determined-ended partial a (Gives u b) (Fails Refuses) s t h k = k
+  determined-ended partial a (Fails (Backtracks b)) (Gives v c) s t h k = h.0 k.0
+  determined-ended partial a (Fails (Cuts b)) (Gives v c) s t h k = h
+  determined-ended partial a (Fails (Needs n)) (Gives v c) s t h k = cc
+  determined-ended partial a (Fails Refuses) (Gives v c) s t h k = h
+  determined-ended partial a (Fails (Backtracks b)) (Fails (Backtracks c)) s t h k = ap Backtracks (sym h.1 ∙ k.1)
+  determined-ended partial a (Fails (Backtracks b)) (Fails (Cuts c)) s t h k = absurd k
+  determined-ended partial a (Fails (Backtracks b)) (Fails (Needs n)) s t h k = absurd (h.0 k.0)
+  determined-ended partial a (Fails (Backtracks b)) (Fails Refuses) s t h k = absurd k
+  determined-ended partial a (Fails (Cuts b)) (Fails g) s t h k = absurd h
+  determined-ended partial a (Fails (Needs n)) (Fails (Backtracks c)) s t h k = absurd (k.0 h.0)
+  determined-ended partial a (Fails (Needs n)) (Fails (Cuts c)) s t h k = absurd k
+  determined-ended partial a (Fails (Needs n)) (Fails (Needs m)) s t h k = ap Needs (h.2 ∙ sym k.2)
+  determined-ended partial a (Fails (Needs n)) (Fails Refuses) s t h k = absurd k
+  determined-ended partial a (Fails Refuses) (Fails g) s t h k = absurd h
+
+  pub determined-failing : IsDetermined {O = Unit {0}} {T = T} AreUnits Failing
+  determined-failing partial a (Gives u b) w s t h k = absurd h
+  determined-failing partial a (Fails (Backtracks b)) (Gives v c) s t h k = k
+  determined-failing partial a (Fails (Backtracks b)) (Fails (Backtracks c)) s t h k = ap Backtracks (sym h ∙ k)
+  determined-failing partial a (Fails (Backtracks b)) (Fails (Cuts c)) s t h k = absurd k
+  determined-failing partial a (Fails (Backtracks b)) (Fails (Needs n)) s t h k = absurd k
+  determined-failing partial a (Fails (Backtracks b)) (Fails Refuses) s t h k = absurd k
+  determined-failing partial a (Fails (Cuts b)) w s t h k = absurd h
+  determined-failing partial a (Fails (Needs n)) w s t h k = absurd h
+  determined-failing partial a (Fails Refuses) w s t h k = absurd h
+
+-- ---- Values that are folded from the left
+
+module _ {O P : Type 0} (same : O → O → Type 0) (alike : P → P → Type 0) (step : O → P → O → Type 0) (respects : StepsRespect same alike step) where
+  folds-respects : (x y l r : O) (ps qs : List P) → same x y → AreSameEach alike ps qs → FoldsTo step x ps l → FoldsTo step y qs r → same l r
+  folds-respects x y l r [] [] e u h k = subst (λ o. same o r) h (subst (same x) k e)
+  folds-respects x y l r [] (q ∷ qs) e u h k = absurd u
+  folds-respects x y l r (p ∷ ps) [] e u h k = absurd u
+  folds-respects x y l r (p ∷ ps) (q ∷ qs) e u h k =
+      folds-respects h.0 k.0 l r ps qs (respects x y p q h.0 k.0 e u.0 h.1 k.1) u.1 h.2 k.2
+
+module _ {O S T : Type 0} (same : O → O → Type 0) (alike : S → S → Type 0) (step : O → S × O → O → Type 0) (respects : StepsRespect same (AreBothSame alike same) step) (separator : Meaning S T) (inner : Meaning O T) (q : IsDetermined alike separator) (d : IsDetermined same inner) where
+  pub determined-folded : IsDetermined same (FoldedLeft step separator inner)
+  determined-folded =
+      let pairs = Pair separator inner in
+      let rest = Repeated 0 None pairs in
+      let others = determined-repeated (AreBothSame alike same) 0 None pairs (determined-pair alike same separator inner q d) in
+      let both = AreBothSame same (AreSameEach (AreBothSame alike same)) in
+      determined-maps both same (FoldsLeft step)
+      (λ x y l r e h k. folds-respects same (AreBothSame alike same) step respects x.0 y.0 l r x.1 y.1 e.0 e.1 h k)
+      (Pair inner rest) (determined-pair same (AreSameEach (AreBothSame alike same)) inner rest d others)
