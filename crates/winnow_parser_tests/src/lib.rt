@@ -14,3 +14,5 @@ mod methods;
 mod settings;
 #[cfg(test)]
 mod small;
+#[cfg(test)]
+mod till;
