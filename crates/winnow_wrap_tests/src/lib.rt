@@ -6,6 +6,8 @@ mod comparisons;
 #[cfg(test)]
 mod fixtures;
 #[cfg(test)]
+mod laws;
+#[cfg(test)]
 mod nests;
 #[cfg(test)]
 mod recovery;

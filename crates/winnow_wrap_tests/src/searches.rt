@@ -17,27 +17,12 @@ const SCRIPT: &[SearchStep<NoSet, &str>] = &[
     Compared("ßa"),
 ];
 
-// The answers of a script that compares and searches, as their debug text.
-fn searched<S: Stream + Compare<L> + FindSlice<Needles<L>> + Drop, L: Copy>(
-    alloc: Global,
-    mut s: S,
-    script: &[SearchStep<NoSet, L>],
-) -> Result<String, AllocError>
-where
-    S::Token: Drop,
-    S::Slice: Drop,
-    requires { S.valid s }
-{
-    let answers = run_search(alloc, &mut s, script)?;
-    format!(in alloc; "{answers:?}")
-}
-
-// Those on a stream, and in three wrappers around it.
+// The answers of a script that compares and searches on a stream, and in three wrappers around it, as their debug texts.
 fn searched_in_nest<I, L: Copy>(
     alloc: Global,
     input: I,
     script: &[SearchStep<NoSet, L>],
-) -> Result<(String, String), AllocError>
+) -> Result<String, AllocError>
 where
     I: Stream + StreamIsPartial + Compare<L> + FindSlice<Needles<L>> + Copy,
     I::Token: Drop,
@@ -45,16 +30,21 @@ where
     requires valid { I.valid input }
     requires no_flag { I.supports_partial ≡ false }
 {
-    let inside = searched(alloc, nest(input), script)?;
-    Ok((searched(alloc, input, script)?, inside))
+    let mut plain = input;
+    let answers = run_search(alloc, &mut plain, script)?;
+    let plain = format!(in alloc; "{answers:?}")?;
+    let mut inside = nest(input, 7);
+    let answers = run_search(alloc, &mut inside, script)?;
+    format!(in alloc; "{plain} {answers:?}")
 }
 
 #[test]
 fn a_script_searches_in_a_nest(rt: HostRuntime) -> Result<(), Fail> {
-    let (plain, inside) = searched_in_nest(rt.alloc(), "größe=1", SCRIPT)?;
+    let told = searched_in_nest(rt.alloc(), "größe=1", SCRIPT)?;
     assert_eq!(rt;
-        [plain.as_str(), inside.as_str()],
-        ["[Compared(Ok(4)), Call(Token(Some('g'))), Hit(Some(3..6)), Call(Slice(\"rö\")), Compared(Error)]"; 2]
+        told.as_str(),
+        "[Compared(Ok(4)), Call(Token(Some('g'))), Hit(Some(3..6)), Call(Slice(\"rö\")), Compared(Error)] \
+         [Compared(Ok(4)), Call(Token(Some('g'))), Hit(Some(3..6)), Call(Slice(\"rö\")), Compared(Error)]"
     );
     Ok(())
 }

@@ -1,33 +1,113 @@
-ghost use Rattle.std.specs.Prelude.{◌≡◌, ◌≤◌, ℕ, List, IsOk, IfOk, IfSome, false};
+ghost use Rattle.std.specs.Prelude.{◌≡◌, ◌≤◌, ℕ, List, IsOk, IfOk, false};
 ghost use Rattle.std.specs.Borrow.{Bor};
 ghost use Rattle.winnow_stream.specs.Source.{first_token};
 ghost use Rattle.winnow_wrap.specs.Flag.{partial_inner, flag};
 
-use crate::fixtures::{Nest, nest, nest_in_state, place, told_nest};
+use crate::fixtures::{Nest, nest, place};
 use std::alloc::{AllocError, Global};
 use std::fmt::{Debug, Display};
 use std::ops::Range;
-use std::process::Abort;
 use std::test::Fail;
 use winnow_match::{Compare, CompareResult, FindSlice};
 use winnow_run::Step;
 use winnow_stream::{
-    AsBStr, AsBytes, Location, NoSet, Offset, SliceLen, Stream, StreamIsPartial, UpdateSlice,
+    AsBStr, AsBytes, NoSet, Offset, SliceLen, Stream, StreamIsPartial, UpdateSlice,
 };
-use winnow_test_helpers::{compares, debugged, finds, flags, seen, width_from, window_of};
+use winnow_test_helpers::{compares, debugged, finds, flags, seen, tell, width_from, window_of};
 use winnow_wrap::{LocatingSlice, Partial, Stateful};
 
-// A checkpoint, and that the width of the rest there is that of the stream.
-fn checkpoint_of<S: Stream>(s: &S) -> S::Checkpoint
-    requires { S.valid s.now }
-    ensures valid { S.valid_checkpoint result }
-    ensures width { S.Checkpoint.rest_width result ≡ S.rest_width s.now }
+// A token is taken, and then a window of that width: what it holds and the places around it, and the first place and the rest
+// where it starts anew; `None` where there is none.
+fn window_of_nest<I: StreamIsPartial + UpdateSlice + Drop>(
+    input: I,
+    offset: usize,
+) -> Option<((I::Slice, I::Slice), [(usize, usize); 2])>
+where
+    I::Token: Drop,
+    requires valid { I.valid input }
+    requires no_flag { I.supports_partial ≡ false }
 {
-    s.checkpoint()
+    let mut s = nest(input, 7);
+    let _ = s.next_token();
+    if !s.is_offset(offset) {
+        return None;
+    }
+    let mut window = window_of(s, offset);
+    let (front, start) = (window.peek_finish(), place(&window));
+    Some(((front, window.finish()), [start, place(&window)]))
+}
+
+#[test]
+fn the_place_in_a_window_is_that_in_the_whole(rt: HostRuntime) {
+    assert_eq!(rt;
+        window_of_nest("abcdef", 3),
+        Some((("bcd", "bcd"), [(1, 1), (4, 4)]))
+    );
+}
+
+// Two tokens are taken, then the slice of that width, and then its window: the slice, what the window holds and its first token;
+// the places after the slice, at the start of its window, and after the first token there; the stream inside and the place once
+// the window starts anew. `None` where there is no such slice.
+fn window_started_anew<I: UpdateSlice + Copy>(
+    input: I,
+    offset: usize,
+) -> Option<
+    (
+        (I::Slice, I::Slice, Option<I::Token>),
+        [(usize, usize); 4],
+        I,
+    ),
+>
+where
+    I::Token: Drop,
+    I::Slice: Copy,
+    requires { I.valid input }
+{
+    let mut s = LocatingSlice::new(input);
+    let _ = s.next_token();
+    let _ = s.next_token();
+    let at = s.checkpoint();
+    if !s.is_offset(offset) {
+        return None;
+    }
+    let slice = s.next_slice(offset);
+    let after = place(&s);
+    let mut window = s.update_slice(slice, &at);
+    let (front, start) = (window.peek_finish(), place(&window));
+    let token = window.next_token();
+    let later = place(&window);
+    window.reset_to_start();
+    let places = [after, start, later, place(&window)];
+    Some(((slice, front, token), places, *window.inner()))
+}
+
+#[test]
+fn a_window_starts_anew_as_the_whole(rt: HostRuntime) {
+    assert_eq!(rt;
+        window_started_anew("abcdef", 3),
+        Some((
+            ("cde", "cde", Some('c')),
+            [(5, 5), (2, 2), (3, 3), (0, 0)],
+            "abcdef"
+        ))
+    );
+}
+
+#[test]
+fn the_flag_is_no_part_of_a_checkpoint(rt: HostRuntime) {
+    let mut partial = Partial::new(b"".as_slice());
+    let start = partial.checkpoint();
+    let flagged = flags(&mut partial);
+    let state = partial.complete();
+    partial.reset(&start);
+    assert_eq!(rt;
+        (flagged, [state, partial.is_partial()]),
+        ([true, true, false, true], [true, false])
+    );
 }
 
 // The first token with the flag cleared, which is set again: generic code may go on, since the rest stays the same.
-fn peek_complete<S: Stream + StreamIsPartial>(s: &mut S) -> (bool, Option<S::Token>)
+fn peek_complete<S: StreamIsPartial>(s: &mut S) -> (bool, Option<S::Token>)
     requires { S.valid s.old }
     ensures cleared { result.0 ≡ false }
     ensures token { result.1 ≡ first_token (S.remaining s.old) }
@@ -54,6 +134,60 @@ fn complete_inside<I: Stream, S: Debug>(
     (s.complete(), s.is_partial())
 }
 
+// The first token with the flag inside two wrappers cleared, and the flag set again; the flag before it is cleared for good and
+// after it, and what it leaves.
+fn told_of_flag<I: StreamIsPartial + Drop>(
+    input: I,
+) -> (
+    ((bool, Option<I::Token>), bool),
+    ((bool, bool), u32, (usize, usize)),
+)
+    requires valid { I.valid input }
+    requires no_flag { I.supports_partial ≡ false }
+{
+    let mut s = Stateful {
+        input: LocatingSlice::new(Partial::new(input)),
+        state: 7u32,
+    };
+    let peeked = (peek_complete(&mut s), s.is_partial());
+    (peeked, (complete_inside(&mut s), s.state, place(&s)))
+}
+
+type Plain<I> = Stateful<LocatingSlice<I>, u32>;
+
+// Whether the types have a flag: a place and a state round one, a place round one, a flag round both, and both alone. Whether
+// both alone round a stream that has no flag await more.
+fn supported<I: StreamIsPartial + Drop>(input: I) -> ([bool; 4], bool)
+    requires valid { I.valid input }
+    requires no_flag { I.supports_partial ≡ false }
+    ensures awaits { result.1 ≡ false }
+{
+    let plain: Plain<I> = Stateful {
+        input: LocatingSlice::new(input),
+        state: 7,
+    };
+    (
+        [
+            Plain::<Partial<I>>::is_partial_supported(),
+            LocatingSlice::<Partial<I>>::is_partial_supported(),
+            Nest::<I>::is_partial_supported(),
+            Plain::<I>::is_partial_supported(),
+        ],
+        plain.is_partial(),
+    )
+}
+
+#[test]
+fn a_flag_inside_two_wrappers(rt: HostRuntime) {
+    assert_eq!(rt;
+        (told_of_flag("ab"), supported("")),
+        (
+            (((false, Some('a')), true), ((true, false), 7, (0, 0))),
+            ([true, true, true, false], false)
+        )
+    );
+}
+
 // A plain stream has no flag: it stays as it is, and what agrees in all but the flag is the same.
 fn complete_plain<'i>(bytes: &mut &'i [u8], text: &mut &'i str)
     ensures bytes { bytes.old ≡ bytes.new }
@@ -67,6 +201,13 @@ fn complete_plain<'i>(bytes: &mut &'i [u8], text: &mut &'i str)
     bytes.restore_partial(());
     text.complete();
     text.restore_partial(());
+}
+
+#[test]
+fn a_plain_stream_has_no_flag(rt: HostRuntime) {
+    let (mut bytes, mut text) = (b"ab".as_slice(), "cd");
+    complete_plain(&mut bytes, &mut text);
+    assert_eq!(rt; (bytes, text), (b"ab".as_slice(), "cd"));
 }
 
 // The stream inside three wrappers.
@@ -85,221 +226,8 @@ fn cloned<T: Clone>(value: &T) -> Result<T, AllocError>
     value.clone()
 }
 
-// Whether the type has a flag.
-fn supports<S: StreamIsPartial>() -> bool
-    ensures { result ≡ S.supports_partial }
-{
-    S::is_partial_supported()
-}
-
-// Where the type has no flag, nothing more may follow.
-fn awaits<S: StreamIsPartial>(s: &S) -> bool
-    requires { S.supports_partial ≡ false }
-    ensures { result ≡ false }
-{
-    s.is_partial()
-}
-
-// A token is taken, and then a window of that width: what it holds and the places around it, and the first place and the rest
-// where it starts anew; `None` where there is none.
-fn window_of_nest<I: Stream + StreamIsPartial + UpdateSlice + Drop>(
-    input: I,
-    offset: usize,
-) -> Option<((I::Slice, I::Slice), [(usize, usize); 2])>
-where
-    I::Token: Drop,
-    requires valid { I.valid input }
-    requires no_flag { I.supports_partial ≡ false }
-{
-    let mut s = nest(input);
-    let _ = s.next_token();
-    if !s.is_offset(offset) {
-        return None;
-    }
-    let mut window = window_of(s, offset);
-    let (front, start) = (window.peek_finish(), place(&window));
-    Some(((front, window.finish()), [start, place(&window)]))
-}
-
-#[test]
-fn the_place_in_a_window_is_that_in_the_whole(rt: HostRuntime) {
-    assert_eq!(rt;
-        window_of_nest("abcdef", 3),
-        Some((("bcd", "bcd"), [(1, 1), (4, 4)]))
-    );
-}
-
-// The places behind a slice, at the start of its window, and behind the first token there.
-type Places = ((usize, usize), (usize, usize), (usize, usize));
-
-// Two tokens are taken, then the slice of that width, and then its window: the slice, what the window holds, its first token, the
-// places, and the window behind that token; `None` where there is no such slice.
-fn window_behind_two<S: UpdateSlice + Location + Drop>(
-    mut s: S,
-    offset: usize,
-) -> Option<((S::Slice, S::Slice, Option<S::Token>), Places, S)>
-where
-    S::Token: Drop,
-    S::Slice: Copy,
-    requires { S.valid s }
-    ensures { IfSome result (λ found. S.valid found.2) }
-{
-    let _ = s.next_token();
-    let _ = s.next_token();
-    let at = s.checkpoint();
-    if !s.is_offset(offset) {
-        return None;
-    }
-    let slice = s.next_slice(offset);
-    let behind = place(&s);
-    let mut window = s.update_slice(slice, &at);
-    let (front, start) = (window.peek_finish(), place(&window));
-    let token = window.next_token();
-    let places = (behind, start, place(&window));
-    Some(((slice, front, token), places, window))
-}
-
-// The same where a place is kept, and the stream inside and the place once the window starts anew.
-fn window_started_anew<I: UpdateSlice + Drop + Copy>(
-    input: I,
-    offset: usize,
-) -> Option<
-    (
-        (I::Slice, I::Slice, Option<I::Token>),
-        Places,
-        I,
-        (usize, usize),
-    ),
->
-where
-    I::Token: Drop,
-    I::Slice: Copy,
-    requires { I.valid input }
-{
-    let (held, places, mut window) = window_behind_two(LocatingSlice::new(input), offset)?;
-    window.reset_to_start();
-    Some((held, places, *window.inner(), place(&window)))
-}
-
-#[test]
-fn a_window_starts_anew_as_the_whole(rt: HostRuntime) {
-    assert_eq!(rt;
-        window_started_anew("abcdef", 3),
-        Some((
-            ("cde", "cde", Some('c')),
-            ((5, 5), (2, 2), (3, 3)),
-            "abcdef",
-            (0, 0)
-        ))
-    );
-}
-
-#[test]
-fn the_flag_is_no_part_of_a_checkpoint(rt: HostRuntime) {
-    let mut partial = Partial::new(b"".as_slice());
-    let start = partial.checkpoint();
-    let flagged = flags(&mut partial);
-    let state = partial.complete();
-    partial.reset(&start);
-    assert_eq!(rt;
-        (flagged, [state, partial.is_partial()]),
-        ([true, true, false, true], [true, false])
-    );
-}
-
-type FlagInside<I> = Stateful<LocatingSlice<Partial<I>>, u32>;
-
-// A flag inside two wrappers.
-fn flag_inside<I: Stream + StreamIsPartial>(input: I) -> FlagInside<I>
-    requires valid { I.valid input }
-    requires no_flag { I.supports_partial ≡ false }
-    ensures { ⟦<FlagInside<I> as Stream>⟧.valid result }
-{
-    Stateful {
-        input: LocatingSlice::new(Partial::new(input)),
-        state: 7,
-    }
-}
-
-// A place and a state round a stream.
-type Plain<I> = Stateful<LocatingSlice<I>, u32>;
-
-// Whether the types have a flag: a place and a state round one, a place round one, a flag round both, and both alone.
-fn supported<I: Stream + StreamIsPartial>() -> [bool; 4] {
-    [
-        supports::<FlagInside<I>>(),
-        supports::<LocatingSlice<Partial<I>>>(),
-        supports::<Nest<I>>(),
-        supports::<Plain<I>>(),
-    ]
-}
-
-// Whether a place and a state round a stream that has no flag await more.
-fn plain_awaits<I: Stream + StreamIsPartial + Drop>(input: I) -> bool
-    requires valid { I.valid input }
-    requires no_flag { I.supports_partial ≡ false }
-{
-    let plain: Plain<I> = Stateful {
-        input: LocatingSlice::new(input),
-        state: 7,
-    };
-    awaits(&plain)
-}
-
-// The first token with the flag cleared, and the flag set again.
-fn peeked_and_restored<S: Stream + StreamIsPartial>(s: &mut S) -> ((bool, Option<S::Token>), bool)
-    requires { S.valid s.old }
-{
-    let peeked = peek_complete(s);
-    (peeked, s.is_partial())
-}
-
-// The flag before it is cleared for good and behind it, and what it leaves.
-fn cleared_inside<I: Stream>(s: &mut FlagInside<I>) -> ((bool, bool), u32, (usize, usize)) {
-    let cleared = complete_inside(s);
-    (cleared, s.state, place(s))
-}
-
-// Both, one after the other.
-fn told_of_flag<I: Stream + StreamIsPartial + Drop>(
-    input: I,
-) -> (
-    ((bool, Option<I::Token>), bool),
-    ((bool, bool), u32, (usize, usize)),
-)
-    requires valid { I.valid input }
-    requires no_flag { I.supports_partial ≡ false }
-{
-    let mut s = flag_inside(input);
-    (peeked_and_restored(&mut s), cleared_inside(&mut s))
-}
-
-#[test]
-fn a_flag_inside_two_wrappers(rt: HostRuntime) {
-    assert_eq!(rt;
-        told_of_flag("ab"),
-        (((false, Some('a')), true), ((true, false), 7, (0, 0)))
-    );
-    assert_eq!(rt;
-        (supported::<&str>(), plain_awaits("")),
-        ([true, true, true, false], false)
-    );
-}
-
-#[test]
-fn a_plain_stream_has_no_flag(rt: HostRuntime) {
-    let (mut bytes, mut text) = (b"ab".as_slice(), "cd");
-    complete_plain(&mut bytes, &mut text);
-    assert_eq!(rt; (bytes, text), (b"ab".as_slice(), "cd"));
-}
-
-// The debug text of the stream inside three wrappers.
-fn rest_of<I: Stream>(alloc: Global, s: &Nest<I>) -> Result<String, AllocError> {
-    debugged(alloc, inside(s))
-}
-
 // What a script answers through three wrappers, and what it leaves: the place, the state, the flag, the rest, and that of a clone.
-fn told_and_left<I: Stream + StreamIsPartial + Copy>(
+fn told_and_left<I: StreamIsPartial + Copy>(
     alloc: Global,
     input: I,
     script: &[Step<NoSet>],
@@ -310,12 +238,13 @@ where
     requires valid { I.valid input }
     requires no_flag { I.supports_partial ≡ false }
 {
-    let mut s = nest(input);
-    let answers = told_nest(alloc, &mut s, script)?;
+    let mut s = nest(input, 7);
+    let answers = tell(alloc, &mut s, script)?;
     let (place, flag, state) = (place(&s), s.is_partial(), s.state);
-    let rest = rest_of(alloc, &s)?;
-    let copied = rest_of(alloc, &cloned(&s)?)?;
-    format!(in alloc; "{answers} {place:?} {state} {flag} {rest} {copied}")
+    let rest = debugged(alloc, inside(&s))?;
+    let copied = cloned(&s)?;
+    let copied_rest = debugged(alloc, inside(&copied))?;
+    format!(in alloc; "{answers} {place:?} {state} {flag} {rest} {copied_rest}")
 }
 
 #[test]
@@ -351,8 +280,9 @@ where
     requires no_flag { I.supports_partial ≡ false }
     requires width { I.has_width input }
 {
-    let (compared, found) = (compares(nest(input), literal), finds(nest(input), needle));
-    Ok((compared, found, seen(alloc, &nest(input))?))
+    let s = nest(input, 7);
+    let text = seen(alloc, &s)?;
+    Ok((compares(s, literal), finds(s, needle), text))
 }
 
 #[test]
@@ -363,6 +293,15 @@ fn each_call_is_passed_on_through_three_wrappers(rt: HostRuntime) -> Result<(), 
         (CompareResult::Ok(3), Some(1..2), "abc 3 [97, 98, 99]")
     );
     Ok(())
+}
+
+// A checkpoint, and that the width of the rest there is that of the stream.
+fn checkpoint_of<S: Stream>(s: &S) -> S::Checkpoint
+    requires { S.valid s.now }
+    ensures valid { S.valid_checkpoint result }
+    ensures width { S.Checkpoint.rest_width result ≡ S.rest_width s.now }
+{
+    s.checkpoint()
 }
 
 // The width from a stream and from its checkpoint, and that between checkpoints.
@@ -385,52 +324,27 @@ where
     ]
 }
 
+// Whether the bytes that remain are those; all of them taken, and the stream inside.
+fn held<I: StreamIsPartial + AsBytes + Copy>(input: I, wanted: &[u8]) -> (bool, I::Slice, I)
+    requires valid { I.valid input }
+    requires no_flag { I.supports_partial ≡ false }
+    ensures inside { result.2 ≡ input }
+{
+    let s = nest(input, 7);
+    (s.as_bytes() == wanted, s.peek_finish(), *inside(&s))
+}
+
 #[test]
-fn widths_through_three_wrappers(rt: HostRuntime) {
+fn widths_and_bytes_through_three_wrappers(rt: HostRuntime) {
     let bytes: &[u8] = b"abc";
-    let (rest, start) = (nest_in_state(&bytes[2..], 8), nest_in_state(bytes, 7));
-    assert_eq!(rt; widths_from(&rest, &start), [2; 3]);
-}
-
-// Asserts the bytes that remain; all of them taken, and the stream inside.
-fn held<I: Stream + StreamIsPartial + AsBytes + Copy>(
-    rt: &impl Abort,
-    input: I,
-    wanted: &[u8],
-) -> (I::Slice, I)
-    requires valid { I.valid input }
-    requires no_flag { I.supports_partial ≡ false }
-{
-    let s = nest(input);
-    assert_eq!(rt; s.as_bytes(), wanted);
-    (s.peek_finish(), *inside(&s))
-}
-
-#[test]
-fn bytes_through_three_wrappers(rt: HostRuntime) {
-    for bytes in [b"abc".as_slice(), b"c"] {
-        assert_eq!(rt; held(&rt, bytes, bytes), (bytes, bytes));
-    }
-}
-
-// The debug texts of a place, of its checkpoint and of three wrappers.
-fn debug_texts<I: Stream + StreamIsPartial + Copy>(
-    alloc: Global,
-    input: I,
-) -> Result<String, AllocError>
-    requires valid { I.valid input }
-    requires no_flag { I.supports_partial ≡ false }
-{
-    let (located, flagged) = (LocatingSlice::new(input), nest(input));
-    let start = located.checkpoint();
-    format!(in alloc; "{located:?}|{start:?}|{flagged:?}")
-}
-
-#[test]
-fn texts_of_wrappers(rt: HostRuntime) -> Result<(), Fail> {
+    let (rest, start) = (nest(&bytes[2..], 8), nest(bytes, 7));
+    let one: &[u8] = b"c";
     assert_eq!(rt;
-        debug_texts(rt.alloc(), "ab")?.as_str(),
-        "\"ab\"|\"ab\"|Partial { input: Stateful { input: \"ab\", state: 7 }, partial: true }"
+        (
+            widths_from(&rest, &start),
+            held(bytes, bytes),
+            held(one, one)
+        ),
+        ([2; 3], (true, bytes, bytes), (true, one, one))
     );
-    Ok(())
 }
