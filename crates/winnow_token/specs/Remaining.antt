@@ -29,6 +29,10 @@ RemainingWidth partial a (Fails (Cuts b)) = ⊥
 RemainingWidth partial a (Fails (Needs n)) = (partial ≡ true) × (n ≡ Unknown)
 RemainingWidth partial a (Fails Refuses) = ⊥
 
+-- slices of one whole are the same
+abbrev pub WholesRespect : {S T : Type 0} → (S → Source T → ℕ → Type 0) → (S → S → Type 0) → Type 0
+WholesRespect {S} {T} is_slice alike = (s t : S) (r : Source T) → is_slice s r (width r) → is_slice t r (width r) → alike s t
+
 module _ {S T : Type 0} (is_slice : S → Source T → ℕ → Type 0) where
   remaining-stable : IsStable (Remaining is_slice)
   remaining-stable more partial a (Gives s b) settled h = absurd (cc)

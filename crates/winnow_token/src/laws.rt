@@ -10,6 +10,7 @@ ghost use Rattle.winnow_token.specs.OneOf.{OneOf};
 ghost use Rattle.winnow_token.specs.Counted.{Counted};
 ghost use Rattle.winnow_token.specs.Held.{HeldFront};
 ghost use Rattle.winnow_token.specs.Literal.{Literal};
+ghost use Rattle.winnow_token.specs.Remaining.{Remaining, RemainingWidth, WholesRespect};
 ghost use Rattle.winnow_token.specs.Until.{HitsStay, Until};
 ghost use Rattle.winnow_token.specs.Prompt.{IsPrompt};
 
@@ -48,7 +49,7 @@ pub fn prompt_law<I: Stream>()
 {}
 
 /// The laws of parsers of tokens that have one answer: the token is one, and so is the slice for a view that shows the same of all slices of
-/// one front. It does nothing when called: its contract is the law.
+/// one front, or of one whole, and the width of what remains. It does nothing when called: its contract is the law.
 pub fn determined_token_law<I: Stream, V>()
     ensures one { (holds : I.Token → Bool) → IsDetermined (λ x y. x ≡ y) (OneOf holds) }
     ensures counted { (view : I.Slice → V) (n : ℕ) → SlicesRespect I.is_slice (Shows view)
@@ -62,4 +63,7 @@ pub fn determined_token_law<I: Stream, V>()
     ensures until { (view : I.Slice → V) (find : Source I.Token → Option (Range ℕ)) (least : ℕ)
         (greatest : Option ℕ) → SlicesRespect I.is_slice (Shows view)
         → IsDetermined (Shows view) (Until I.is_slice find least greatest) }
+    ensures remaining { (view : I.Slice → V) → WholesRespect I.is_slice (Shows view)
+        → IsDetermined (Shows view) (Remaining I.is_slice) }
+    ensures remaining_width { IsDetermined {T = I.Token} (λ x y. x ≡ y) RemainingWidth }
 {}

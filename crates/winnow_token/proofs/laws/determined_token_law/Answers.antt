@@ -1,5 +1,6 @@
 use Rattle.winnow_parser.specs.Determined.{Shows}
 use Rattle.winnow_token.proofs.lemmas.ToldLemmas.{determined-one_of, determined-counted, determined-held, determined-literal, determined-until}
+use Rattle.winnow_token.proofs.lemmas.RemainingLemmas.{determined-remaining, determined-remaining_width}
 use Rattle.winnow_token.proofs.laws.determined_token_law.Goals as goal
 
 pub returns-clause-one : goal.returns-clause-one
@@ -16,3 +17,9 @@ returns-clause-literal g c = λ view compare fronts. determined-literal g.I.Stre
 
 pub returns-clause-until : goal.returns-clause-until
 returns-clause-until g c = λ view find least greatest fronts. determined-until g.I.Stream.is_slice (Shows view) fronts find least greatest
+
+pub returns-clause-remaining : goal.returns-clause-remaining
+returns-clause-remaining g c = λ view wholes. determined-remaining g.I.Stream.is_slice (Shows view) wholes
+
+pub returns-clause-remaining_width : goal.returns-clause-remaining_width
+returns-clause-remaining_width g c = determined-remaining_width
