@@ -1,11 +1,34 @@
 ghost use Rattle.std.specs.Prelude.{◌≡◌, IfOk, IsTrue, IsFalse};
-ghost use Rattle.winnow_base.specs.Front.{is_offset};
-ghost use Rattle.winnow_base.specs.Text.{text_source};
+ghost use Rattle.winnow_stream.specs.Front.{is_offset};
+ghost use Rattle.winnow_stream.specs.Text.{text_source};
 
-use crate::wanted::Wanted;
 use std::alloc::{AllocError, Global};
-use winnow_base::error::{ContextError, FromRecoverableError, ParseError, StrContext};
-use winnow_base::stream::{Location, Stream, front_law};
+use winnow_context::{ContextError, StrContext, StrContextValue};
+use winnow_error::FromRecoverableError;
+use winnow_parse_error::ParseError;
+use winnow_stream::{Location, Stream, front_law};
+
+/// What a setting would have gone on with.
+#[derive(Clone, Copy, Debug, PartialEq, Eq)]
+pub enum Wanted {
+    /// Letters
+    Key,
+    /// What stands between the key and the value
+    Equals,
+    /// Anything but the end of the line
+    Value,
+}
+
+impl Wanted {
+    /// Returns how the library's errors say it.
+    pub fn as_context(self) -> StrContext {
+        StrContext::Expected(match self {
+            Wanted::Key => StrContextValue::Description("a key"),
+            Wanted::Equals => StrContextValue::CharLiteral('='),
+            Wanted::Value => StrContextValue::Description("a value"),
+        })
+    }
+}
 
 /// What is recorded of a line that is no setting: where in the input it ceased to be one, and what was wanted there.
 #[derive(Debug, Drop)]

@@ -1,27 +1,23 @@
 //! A reader of lines `key = value`, which goes on behind a line that is none, so that it tells all errors of a text at once.
 //!
-//! `part` says which characters make a key, a blank and a line; `setting` reads one line; `reader` reads them all, over any stream of
-//! characters that knows its place, and records what is wrong; and `fault` turns what was recorded into an error that is printed
-//! with its line and column.
+//! `setting` is the grammar of one line; `reader` reads them all, over any stream of characters that knows its place, and records what is
+//! wrong; and `fault` turns what was recorded into an error that is printed with its line and column.
 #![tactic(auto)]
 
 mod fault;
-mod part;
 mod reader;
 mod setting;
-mod wanted;
 
 use fault::Fault;
 use std::io;
-use winnow_base::stream::{LocatingSlice, Recoverable};
+use winnow_recover::Recoverable;
+use winnow_wrap::LocatingSlice;
 
 const TEXT: &str = "name = rattle\nwidth 80\nheight = 25\ncolour =\n = red\n";
 
 fn main(rt: HostRuntime) -> io::Result<()> {
-    let mut input: Recoverable<LocatingSlice<&str>, Fault> = Recoverable::new(
-        rt.alloc(),
-        LocatingSlice::new(TEXT),
-    );
+    let text = LocatingSlice::new(TEXT);
+    let mut input: Recoverable<LocatingSlice<&str>, Fault> = Recoverable::new(rt.alloc(), text);
     let settings = reader::read_settings(rt.alloc(), &mut input)?;
     for setting in &settings {
         println!(rt; "{} is {}", setting.key, setting.value)?;

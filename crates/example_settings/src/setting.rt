@@ -1,11 +1,14 @@
-ghost use Rattle.std.specs.Prelude.{◌≡◌, ◌≢◌, Some, drop, IfOk, IfErr, OnOk, OnErr};
-ghost use Rattle.winnow_base.specs.Source.{first_token};
-ghost use Rattle.example_settings.specs.declared.wanted.Wanted.TheVariants.{Equals};
-ghost use Rattle.example_settings.specs.Lines.{IsSetting, Lacks, behind_line, end_location};
+ghost use Rattle.std.specs.Prelude.{◌≡◌, false, IfOk, IfErr};
+ghost use Rattle.winnow_parser.specs.Answer.{ahead};
+ghost use Rattle.example_settings.specs.Lines.{IsSetting, Lacks, told};
 
-use crate::part::{Part, take_part};
-use crate::wanted::Wanted;
-use winnow_base::stream::Stream;
+use crate::fault::Wanted;
+use std::alloc::Global;
+use winnow_combinator::opt;
+use winnow_error::EmptyError;
+use winnow_parser::{ModalResult, Parser};
+use winnow_stream::{Stream, StreamIsPartial};
+use winnow_token::{one_of, take_till, take_while};
 
 /// A setting: a key and its value, each a slice of the input.
 #[derive(Debug, Drop)]
@@ -16,46 +19,44 @@ pub struct Setting<T> {
     pub value: T,
 }
 
-/// Reads `key = value`, or answers what was wanted where the stream then stands, still on the same line.
-pub fn read_setting<S: Stream<Token = char>>(input: &mut S) -> Result<Setting<S::Slice>, Wanted>
+/// Reads `key = value`, or answers what was wanted where the stream then stands.
+pub fn read_setting<I: StreamIsPartial + Stream<Token = char>>(
+    alloc: Global,
+    input: &mut I,
+) -> Result<Setting<I::Slice>, Wanted>
 where
-    S::Slice: Drop,
-    requires { S.valid input.old }
+    I::Slice: Drop,
+    requires valid { I.valid input.old }
+    requires complete { I.expects_more input.old ≡ false }
     ensures setting { IfOk result (λ setting.
-        IsSetting S.is_slice (S.remaining input.old) setting) }
-    ensures lacks { IfErr result (λ wanted.
-        Lacks (S.remaining input.old) wanted (S.remaining input.new)) }
-    ensures line { behind_line (S.remaining input.new) ≡ behind_line (S.remaining input.old) }
-    ensures end { end_location (S.location input.new) (S.remaining input.new)
-        ≡ end_location (S.location input.old) (S.remaining input.old) }
-    ensures valid { S.valid input.new }
-    ensures kept { S.keeps input.old input.new }
+        IsSetting I.is_slice (ahead I.location I.remaining input.old) setting) }
+    ensures lacks { IfErr result (λ wanted. Lacks (ahead I.location I.remaining input.old) wanted
+        (ahead I.location I.remaining input.new)) }
+    ensures valid { I.valid input.new }
+    ensures kept { I.keeps input.old input.new }
 {
-    let key = take_part(input, Part::Key).ok_or(Wanted::Key)?;
-    let _ = take_part(input, Part::Blank);
-    take_equals(input)?;
-    let _ = take_part(input, Part::Blank);
-    let value = take_part(input, Part::Line).ok_or(Wanted::Value)?;
-    Ok(Setting { key, value })
+    let blanks = take_while(0.., (' ', '\t'));
+    let key = (take_while(1.., ('A'..='Z', 'a'..='z')), blanks);
+    let sign = (one_of('='), blanks);
+    let line = opt((key, opt((sign, opt(take_till(1.., '\n'))))));
+    let parts: ModalResult<_, EmptyError> = line.parse_next(alloc, input);
+    match parts {
+        Ok(parts) => told(parts),
+        Err(_) => unreachable!(),
+    }
 }
 
-// Moves past the sign between the key and the value, or stays where it is wanted.
-fn take_equals<S: Stream<Token = char>>(input: &mut S) -> Result<(), Wanted>
-    requires { S.valid input.old }
-    ensures sign { OnOk result (first_token (S.remaining input.old) ≡ Some 61) }
-    ensures behind { OnOk result (S.remaining input.new ≡ drop 1 (S.remaining input.old)) }
-    ensures wanted { IfErr result (λ wanted. wanted ≡ Equals) }
-    ensures other { OnErr result (first_token (S.remaining input.old) ≢ Some 61) }
-    ensures stays { OnErr result (S.remaining input.new ≡ S.remaining input.old) }
-    ensures line { behind_line (S.remaining input.new) ≡ behind_line (S.remaining input.old) }
-    ensures end { end_location (S.location input.new) (S.remaining input.new)
-        ≡ end_location (S.location input.old) (S.remaining input.old) }
-    ensures valid { S.valid input.new }
-    ensures kept { S.keeps input.old input.new }
+// Returns the setting that the parts of a line make, or what is wanted after the last of them.
+fn told<T: Drop>(
+    parts: Option<((T, T), Option<((char, T), Option<T>)>)>,
+) -> Result<Setting<T>, Wanted>
+    ensures { result ≡ told parts }
 {
-    if input.peek_token() != Some('=') {
-        return Err(Wanted::Equals);
-    }
-    let _ = input.next_token();
-    Ok(())
+    let (keyed, signed) = parts.ok_or(Wanted::Key)?;
+    let (_, value) = signed.ok_or(Wanted::Equals)?;
+    let value = value.ok_or(Wanted::Value)?;
+    Ok(Setting {
+        key: keyed.0,
+        value,
+    })
 }

@@ -1,42 +1,67 @@
--- What stays on a line, and where the input ends.
-use Rattle.std.proofs.Common.{◌≡◌, ◌≢◌, ℕ, zero, suc, ◌+◌, ◌<◌, true, [], ◌∷◌, Option, Some, None, length, drop, take, refl, ap, sym, ◌∙◌, arith, length-drop}
+-- What the parser of a line means, in the words of lines.
+use Rattle.std.proofs.Common.{◌≡◌, ◌≢◌, ℕ, ◌<◌, Bool, [], ◌∷◌, Option, Some, None, inl, inr, length, drop, refl, ap, ◌∙◌, subst, arith, length-drop}
+use Rattle.std.specs.Char.{is_ascii_alphabetic}
+use Rattle.std.specs.Prelude.{◌==◌, IfOk, IfErr}
 use Rattle.std.proofs.lemmas.Bool.Decides.{nat_tests}
-use Rattle.winnow_base.specs.Source.{Source, width}
-use Rattle.winnow_base.specs.Location.{location_behind}
-use Rattle.example_settings.specs.Parts.{is_in}
-use Rattle.example_settings.specs.Lines.{ahead, behind, behind_line, end_location}
-use Rattle.example_settings.specs.declared.part.Part.{Part}
-use Rattle.example_settings.specs.declared.part.Part.TheVariants.{Key, Blank, Line}
-
--- what may stand in a part may stand on a line
-pub in-line : (part : Part) (c : ℕ) → is_in part c ≡ true → is_in Line c ≡ true
-in-line Key c h = grind (arith, nat_tests, h)
-in-line Blank c h = grind (arith, nat_tests, h)
-in-line Line c h = h
-
--- a line takes at least one character
-pub length-behind_line : (r : Source ℕ) → 0 < width r → length (behind_line r) < length r
-length-behind_line [] h = absurd (omega arith)
-length-behind_line (x ∷ xs) h =
-    let n : ℕ = length (ahead Line (x ∷ xs)) in
-    omega (arith, length-drop 1 (drop n (x ∷ xs)), length-drop n (x ∷ xs))
+use Rattle.std.proofs.lemmas.List.{nil_from_length}
+use Rattle.winnow_stream.specs.Source.{Source, width, first_token}
+use Rattle.winnow_parser.specs.Outcome.{Ahead, Gives, Meaning}
+use Rattle.winnow_parser.specs.Meanings.{Pair, Optional}
+use Rattle.winnow_token.specs.Held.{HeldFront}
+use Rattle.winnow_token.specs.OneOf.{OneOf, after_one}
+use Rattle.example_settings.specs.Lines.{is_blank, is_in_line, behind, behind_line, from_sign, IsPart, IsSetting, Lacks, told}
+use Rattle.example_settings.specs.declared.fault.Wanted.TheVariants as wanted
 
 -- where there is a width, there is a character
-pub some-wide : (r : Source ℕ) → 0 < width r → r ≢ []
-some-wide r some e = absurd (omega (arith, some, ap width e))
+pub some-wide : (r : Source ℕ) (n : ℕ) → 0 < n → n ≡ width r → r ≢ []
+some-wide r n some is = λ e. omega (arith, some, is, ap width e)
 
-width-split : (k : ℕ) (r : Source ℕ) → width (take k r) + width (drop k r) ≡ width r
-width-split zero r = omega (arith)
-width-split (suc k) [] = refl
-width-split (suc k) (x ∷ xs) = omega (arith, width-split k xs)
+-- a line takes at least one character
+shorter : (n : ℕ) (r : Source ℕ) → r ≢ [] → length (drop 1 (drop n r)) < length r
+shorter n [] some = absurd (some refl)
+shorter n (x ∷ xs) some = omega (arith, length-drop 1 (drop n (x ∷ xs)), length-drop n (x ∷ xs))
 
--- moving on leaves the end of the input where it is
-pub end-behind : (location : Option ℕ) (k : ℕ) (r : Source ℕ) → end_location (location_behind location (width (take k r))) (drop k r) ≡ end_location location r
-end-behind None k r = refl
-end-behind (Some n) k r = ap Some (omega (arith, width-split k r))
+pub length-behind_line : (a : Ahead ℕ) → a.tokens ≢ [] → length (behind_line a).tokens < length a.tokens
+length-behind_line a some = shorter _ a.tokens some
 
--- so does moving over a part
-pub end-part : (part : Part) (r rest : Source ℕ) (from to : Option ℕ) (n : ℕ) → rest ≡ behind part r → to ≡ location_behind from n → n ≡ width (ahead part r) → take (length (ahead part r)) r ≡ ahead part r → end_location to rest ≡ end_location from r
-end-part part r rest from to n moved on wide front =
-    let k = length (ahead part r) in
-    ap (λ t. end_location to t) moved ∙ ap (λ l. end_location l (drop k r)) (on ∙ ap (location_behind from) (wide ∙ ap width (sym front))) ∙ end-behind from k r
+module _ {S : Type 0} (is_slice : S → Source ℕ → ℕ → Type 0) where
+  -- the parsers of a part of some characters, of a key and of a sign, with blanks after them, and of a line
+  abbrev Held : (ℕ → Bool) → ℕ → Meaning S ℕ
+  Held holds least = HeldFront is_slice holds least None
+
+  abbrev Key : Meaning (S × S) ℕ
+  Key = Pair (Held is_ascii_alphabetic 1) (Held is_blank 0)
+
+  abbrev Sign : Meaning (ℕ × S) ℕ
+  Sign = Pair (OneOf (λ c. 61 == c)) (Held is_blank 0)
+
+  abbrev pub Line : Meaning (Option ((S × S) × Option ((ℕ × S) × Option S))) ℕ
+  Line = Optional (Pair Key (Optional (Pair Sign (Optional (Held is_in_line 1)))))
+
+  key : (partial : Bool) (a b : Ahead ℕ) (both : S × S) → Key partial a (Gives both b) → IsPart is_slice is_ascii_alphabetic a both.0 × (b ≡ from_sign a)
+  key partial a b both (c, (h, k)) = ((h.0, λ e. omega (arith, h.2, ap length e)), k.1 ∙ ap (behind is_blank) h.1)
+
+  sign : (partial : Bool) (a b : Ahead ℕ) (both : ℕ × S) → Sign partial a (Gives both b) → (first_token a.tokens ≡ Some 61) × (b ≡ behind is_blank (after_one a))
+  sign partial a b both (c, (h, k)) =
+      let is : both.0 ≡ 61 = grind (arith, nat_tests, h.1) in
+      (h.0 ∙ ap Some is, k.1 ∙ ap (behind is_blank) h.2)
+
+  -- it tells a setting, or what is wanted where the stream then stands
+  pub tells : (parts : Option ((S × S) × Option ((ℕ × S) × Option S))) (partial : Bool) (a b : Ahead ℕ) → Line partial a (Gives parts b) → IfOk (told parts) (IsSetting is_slice a) × IfErr (told parts) (λ what. Lacks a what b)
+  tells None partial a b (e, (c, inl (inl h))) = (tt, subst (Lacks a wanted.Key) e (refl, nil_from_length _ (omega (arith, h.1))))
+  tells None partial a b (e, (c, inl (inr (x, (d, (g, h)))))) = absurd (omega (arith, h.1))
+  tells None partial a b (e, (c, inr (x, (d, (g, h))))) = absurd h
+  tells (Some (keyed, None)) partial a b (c, (k, (e, (d, inl (inl h))))) =
+      let at = key partial a c keyed k in
+      (tt, subst (Lacks a wanted.Equals) e (at.1, at.0.1, λ f. let no = rw f at h.0 in cc))
+  tells (Some (keyed, None)) partial a b (c, (k, (e, (d, inl (inr (x, (f, (g, h)))))))) = absurd (omega (arith, h.1))
+  tells (Some (keyed, None)) partial a b (c, (k, (e, (d, inr (x, (f, (g, h))))))) = absurd h
+  tells (Some (keyed, Some (signed, None))) partial a b (c, (k, (d, (g, (e, (f, h)))))) =
+      let at = key partial a c keyed k in
+      let on = rw at.1 at (sign partial c d signed g) in
+      (tt, subst (Lacks a wanted.Value) e (on.1, at.0.1, on.0, nil_from_length _ (omega (arith, h.1))))
+  tells (Some (keyed, Some (signed, Some value))) partial a b (c, (k, (d, (g, h)))) =
+      let at = key partial a c keyed k in
+      let on = rw at.1 at (sign partial c d signed g) in
+      let some : IsPart is_slice is_in_line d value = (h.0, λ e. omega (arith, h.2, ap length e)) in
+      (record { key = at.0; sign = on.0; value = subst (λ p. IsPart is_slice is_in_line p value) on.1 some }, tt)

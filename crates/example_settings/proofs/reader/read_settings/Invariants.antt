@@ -1,19 +1,18 @@
-use Rattle.std.proofs.Common.{◌≡◌, IsTrue, length}
-use Rattle.winnow_base.specs.Recovering.{recoverable_inner, recorded_errors, records_errors}
-use Rattle.example_settings.specs.Lines.{AreRead, end_location}
+use Rattle.std.proofs.Common.{◌≡◌, false, IsTrue, length}
+use Rattle.winnow_recover.specs.Recovering.{recoverable_inner, recorded_errors, records_errors}
+use Rattle.winnow_parser.specs.Answer.{ahead}
+use Rattle.example_settings.specs.Lines.{AreRead}
 use Rattle.example_settings.proofs.reader.read_settings.Given as goal
 
--- the lines so far are read, and the input ends where it did
+-- the lines so far are read
 abbrev pub invariant-lines : goal.invariant-lines
 invariant-lines g l =
-    let from = recoverable_inner l.fn.input in
-    let at = recoverable_inner l.input in
-    let end = end_location (g.I.Rest.location from) (g.I.Stream.remaining from) in
+    let stands = ahead g.I.Rest.location g.I.Stream.remaining in
     record {
-      valid : g.I.Stream.valid at;
+      valid : g.I.Stream.valid (recoverable_inner l.input);
+      complete : g.I.StreamIsPartial.expects_more (recoverable_inner l.input) ≡ false;
       records : IsTrue (records_errors l.input);
-      ends : end_location (g.I.Rest.location at) (g.I.Stream.remaining at) ≡ end;
-      read : AreRead g.I.Stream.is_slice end (g.I.Stream.remaining from) l.settings.items (recorded_errors l.fn.input) (recorded_errors l.input) (g.I.Stream.remaining at);
+      read : AreRead g.I.Stream.is_slice (stands (recoverable_inner l.fn.input)) l.settings.items (recorded_errors l.fn.input) (recorded_errors l.input) (stands (recoverable_inner l.input));
     }
 
 abbrev pub decreases-lines : goal.decreases-lines

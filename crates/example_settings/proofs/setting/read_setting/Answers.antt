@@ -1,6 +1,11 @@
+use Rattle.example_settings.proofs.lemmas.LineLemmas.{tells}
 use Rattle.example_settings.proofs.setting.read_setting.Goals as goal
 
-pub returns-in_err-value-clause-kept : goal.returns-in_err-value-clause-kept
-returns-in_err-value-clause-kept g c =
-    let kept = g.met.S.Stream.keeps_transitive in
-    kept _ _ _ (kept _ _ _ (kept _ _ _ (kept _ _ _ c.take_part.ensures.kept c.take_part-2.ensures.kept) c.take_equals.ensures.kept) c.take_part-3.ensures.kept) c.take_part-4.ensures.kept
+pub returns : goal.returns
+returns g c =
+    let line = rw (c.opt-line.ensures, c.opt-2.ensures, c.opt.ensures, c.one_of.ensures) at c.parse_next-parts.ensures.means in
+    let key = rw (c.take_while.ensures.set, c.take_while.ensures.counts.0, c.take_while.ensures.counts.1, c.new.ensures.start, c.new.ensures.end, c.new-2.ensures.start, c.new-2.ensures.end) at line in
+    let blanks = rw (c.take_while-blanks.ensures.set, c.take_while-blanks.ensures.counts.0, c.take_while-blanks.ensures.counts.1) at key in
+    let value = rw (c.take_till.ensures.set, c.take_till.ensures.counts.0, c.take_till.ensures.counts.1, c.in-Ok.is) at blanks in
+    let both = tells g.I.Stream.is_slice c.in-Ok.parts _ _ _ value in
+    record { setting = rw c.told.ensures both.0; lacks = rw c.told.ensures both.1; valid = c.in-Ok.ensures.valid; kept = c.in-Ok.ensures.kept }
