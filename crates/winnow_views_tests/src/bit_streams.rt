@@ -7,6 +7,8 @@ ghost use Rattle.winnow_stream.specs.SliceWidths.{SlicesHaveWidths};
 use std::alloc::{AllocError, Global};
 use std::process::Abort;
 use std::test::Fail;
+use winnow_bytes::{bytes_equality_law, bytes_hash_law, bytes_order_law};
+use winnow_kinds::{text_equality_law, text_hash_law, text_order_law};
 use winnow_run::Step;
 use winnow_run::Step::{At, Each, Eof, Finish, Look, Mark, Next, Peek, Reset, Since, Take};
 use winnow_stream::{NoSet, Offset, SliceLen, Stream, StreamIsPartial, byte_slice_law};
@@ -46,19 +48,6 @@ where
     ensures kept { I.keeps (bits_inner s.old) (bits_inner s.new) }
 {
     tell(alloc, s, script)
-}
-
-// The same on the bits of bytes that someone lends; `None` where they may not be streamed.
-fn told_at<'i>(
-    alloc: Global,
-    bytes: &'i [u8],
-    place: usize,
-    script: &[Step<NoSet>],
-) -> Result<Option<String>, AllocError> {
-    match bits_at(bytes, place) {
-        Some(mut s) => Ok(Some(told_bits(alloc, &mut s, script)?)),
-        None => Ok(None),
-    }
 }
 
 #[test]
@@ -102,7 +91,8 @@ fn scripts_on_bits(rt: HostRuntime) -> Result<(), Fail> {
         ),
     ];
     for (bytes, place, script, want) in cases {
-        let told = told_at(rt.alloc(), bytes, place, script)?.ok_or("no bits")?;
+        let mut bits = bits_at(bytes, place).ok_or("no bits")?;
+        let told = told_bits(rt.alloc(), &mut bits, script)?;
         assert_eq!(rt; told.as_str(), want, "at {place}");
     }
     Ok(())
@@ -119,11 +109,11 @@ fn slow_bits(alloc: Global, bytes: &[u8]) -> Result<Vec<bool>, AllocError> {
     Ok(bits)
 }
 
-// A slice of bits, and its length.
-type Taken<T> = ((T, usize, usize), usize);
+/// A slice of bits, and its length.
+pub type Taken<T> = ((T, usize, usize), usize);
 
-// The slice of that many bits, and its length, which is their number; `None` where fewer remain.
-fn take<I: Stream<Token = u8>>(bits: &mut Bits<I>, count: usize) -> Option<Taken<I::Slice>>
+/// The slice of that many bits, and its length, which is their number; `None` where fewer remain.
+pub fn take<I: Stream<Token = u8>>(bits: &mut Bits<I>, count: usize) -> Option<Taken<I::Slice>>
 where
     I::Slice: SliceLen,
     requires valid { IsValidBits I.valid I.remaining bits.old }
@@ -141,25 +131,10 @@ where
 }
 
 // Each bit that is left.
-fn left<I: Stream<Token = u8>>(alloc: Global, bits: &Bits<I>) -> Result<Vec<bool>, AllocError>
+fn bits_left<I: Stream<Token = u8>>(alloc: Global, bits: &Bits<I>) -> Result<Vec<bool>, AllocError>
     requires { IsValidBits I.valid I.remaining bits.now }
 {
     bits.iter_offsets().map(|(_, bit)| bit).collect(alloc)
-}
-
-// The slice of that many bits, `None` where fewer remain, and the bits behind it.
-fn split<I: Stream<Token = u8>>(
-    alloc: Global,
-    bits: &mut Bits<I>,
-    count: usize,
-) -> Result<(Option<Taken<I::Slice>>, Vec<bool>), AllocError>
-where
-    I::Slice: SliceLen + Drop,
-    requires valid { IsValidBits I.valid I.remaining bits.old }
-    requires widths { SlicesHaveWidths I.is_slice I.Slice.has_width I.Slice.width_of }
-{
-    let taken = take(bits, count);
-    Ok((taken, left(alloc, bits)?))
 }
 
 // Asserts what is taken of bytes from a place on, and what is left.
@@ -172,7 +147,8 @@ fn splits_into(
 ) -> Result<(), Fail> {
     byte_slice_law();
     let mut bits = bits_at(bytes, place).ok_or("no bits")?;
-    let (slice, rest) = split(alloc, &mut bits, count)?;
+    let slice = take(&mut bits, count);
+    let rest = bits_left(alloc, &bits)?;
     assert_eq!(rt;
         (slice, Some(rest.as_slice())),
         (taken, left),
@@ -231,7 +207,7 @@ where
     s.offset_from(&start)
 }
 
-// The width of the first bit, and the parts behind it; and whether that place is the second and not the start, whether their
+// The width of the first bit, and the parts after it; and whether that place is the second and not the start, whether their
 // checkpoints differ, and whether those of two equal places do not.
 fn behind_one<I: Stream<Token = u8> + Copy + PartialEq>(bytes: I) -> (usize, (I, usize), [bool; 4])
 where
@@ -259,7 +235,7 @@ fn place_of<I: Stream<Token = u8>>(s: &Bits<I>) -> usize
     (8 - s.eof_offset() % 8) % 8
 }
 
-// The places of the start and of the bits behind that many of the first byte, and the width between them.
+// The places of the start and of the bits after that many of the first byte, and the width between them.
 fn places_from_start<I: Stream<Token = u8> + Copy>(bytes: I, place: usize) -> [usize; 3]
     requires below { place < 8 }
     requires start { IsValidBits I.valid I.remaining (record { input = bytes; place = 0 }) }
@@ -290,20 +266,22 @@ where
     (flags, bits.into_parts())
 }
 
-// All bits, looked at and then taken, and the parts that are left.
-fn finished<I: Stream<Token = u8>>(bits: &mut Bits<I>) -> [(I::Slice, usize, usize); 2]
-    requires { IsValidBits I.valid I.remaining bits.old }
-{
-    [bits.peek_finish(), bits.finish()]
-}
-
 #[test]
 fn places_of_bits(rt: HostRuntime) {
     let bytes = b"\xab\x31".as_slice();
     bit_source_law();
-    assert_eq!(rt; behind_one(bytes), (1, (bytes, 1), [true; 4]));
-    assert_eq!(rt; places_from_start(bytes, 5), [0, 5, 5]);
-    assert_eq!(rt; flags_of(bytes), ([false; 4], (bytes, 1)));
+    assert_eq!(rt;
+        (
+            behind_one(bytes),
+            places_from_start(bytes, 5),
+            flags_of(bytes)
+        ),
+        (
+            (1, (bytes, 1), [true; 4]),
+            [0, 5, 5],
+            ([false; 4], (bytes, 1))
+        )
+    );
 }
 
 #[test]
@@ -311,27 +289,25 @@ fn all_bits_are_taken(rt: HostRuntime) {
     let bytes = b"\xab\x31".as_slice();
     bit_source_law();
     let mut rest = Bits::at_place(bytes, 5);
-    assert_eq!(rt; finished(&mut rest), [(bytes, 5, 0); 2]);
-    assert_eq!(rt; rest.into_parts(), (b"".as_slice(), 0));
-}
-
-#[test]
-fn traces_print_what_remains(rt: HostRuntime) -> Result<(), Fail> {
-    let trace = format!(in rt.alloc(); "{}", Traced(Bits::new(b"ab".as_slice())))?;
+    let finished = [rest.peek_finish(), rest.finish()];
     assert_eq!(rt;
-        trace.as_str(),
-        "Bits {\n    input: [\n        97,\n        98,\n    ],\n    place: 0,\n}"
+        (finished, rest.into_parts()),
+        ([(bytes, 5, 0); 2], (b"".as_slice(), 0))
     );
-    Ok(())
 }
 
+// The trace, and the debug texts under options.
 #[test]
-fn debug_texts_under_options(rt: HostRuntime) -> Result<(), Fail> {
-    let bits = Bits::at_place(b"ab".as_slice(), 1);
-    let told = format!(in rt.alloc(); "{bits:#?}\n{bits:>6?}\n{bits:.1?}")?;
+fn texts_of_bits(rt: HostRuntime) -> Result<(), Fail> {
+    let (bits, trace) = (
+        Bits::at_place(b"ab".as_slice(), 1),
+        Traced(Bits::new(b"ab".as_slice())),
+    );
+    let told = format!(in rt.alloc(); "{trace}\n{bits:#?}\n{bits:>6?}\n{bits:.1?}")?;
     assert_eq!(rt;
         told.as_str(),
-        "Bits {\n    input: [\n        97,\n        98,\n    ],\n    place: 1,\n}\n\
+        "Bits {\n    input: [\n        97,\n        98,\n    ],\n    place: 0,\n}\n\
+         Bits {\n    input: [\n        97,\n        98,\n    ],\n    place: 1,\n}\n\
          Bits { input: [    97,     98], place:      1 }\n\
          Bits { input: [97, 98], place: 1 }"
     );
@@ -345,4 +321,10 @@ fn the_laws_can_be_called(_rt: HostRuntime) {
     token_equality_law::<u8>();
     token_order_law::<u8>();
     token_compare_law::<u8>();
+    text_equality_law();
+    text_order_law();
+    text_hash_law();
+    bytes_equality_law();
+    bytes_order_law();
+    bytes_hash_law();
 }

@@ -8,8 +8,8 @@ use std::cmp::Ordering;
 use std::hash::{DefaultHasher, Hash, Hasher};
 use std::process::Abort;
 use std::test::Fail;
-use winnow_bytes::{Bytes, bytes_equality_law, bytes_hash_law, bytes_order_law};
-use winnow_kinds::{BStr, text_equality_law, text_hash_law, text_order_law};
+use winnow_bytes::Bytes;
+use winnow_kinds::BStr;
 use winnow_match::{Compare, CompareResult, Needles};
 use winnow_run::Step;
 use winnow_run::Step::{At, Each, Finish, IsOffset, Look, Mark, Next, Peek, Reset, Since, Take};
@@ -109,14 +109,6 @@ fn bytes<'i>(text: &'i str, bytes: &'i [u8]) -> (Bytes<'i>, &'i [u8], Bytes<'i>)
     )
 }
 
-fn as_bstr_of<S: AsBStr>(stream: &S) -> &[u8] {
-    stream.as_bstr()
-}
-
-fn as_bytes_of<S: AsBytes>(stream: &S) -> &[u8] {
-    stream.as_bytes()
-}
-
 const SCRIPT: [Step<NoSet>; 14] = [
     Mark,
     Next,
@@ -139,10 +131,9 @@ fn scripts(rt: HostRuntime) -> Result<(), Fail> {
     let wanted =
         "[Marked(0), Token(Some(97)), Slice([98]), Offset(2), Items([(0, 99)]), Slice([99]), Token(None), Done, \
         Token(Some(97)), At(Ok(3)), At(Err(Size(1))), Flag(false), Slice([97, 98]), BadOffset]";
-    let answers = told(rt.alloc(), BStr::new(b"abc"), &SCRIPT)?;
-    assert_eq!(rt; answers.as_str(), wanted);
-    let answers = told(rt.alloc(), Bytes::new(b"abc"), &SCRIPT)?;
-    assert_eq!(rt; answers.as_str(), wanted);
+    let of_text = told(rt.alloc(), BStr::new(b"abc"), &SCRIPT)?;
+    let of_bytes = told(rt.alloc(), Bytes::new(b"abc"), &SCRIPT)?;
+    assert_eq!(rt; [of_text.as_str(), of_bytes.as_str()], [wanted; 2]);
     Ok(())
 }
 
@@ -165,19 +156,23 @@ where
 
 #[test]
 fn comparisons(rt: HostRuntime) {
-    let wanted = [
-        CompareResult::Ok(3),
-        CompareResult::Ok(2),
-        CompareResult::Error,
-        CompareResult::Incomplete,
-        CompareResult::Ok(1),
-        CompareResult::Ok(2),
-    ];
-    assert_eq!(rt; comparisons_of(BStr::new(b"\xc3\xa9abc")), wanted);
     let bytes = Bytes::new(b"ab");
     assert_eq!(rt;
-        [compares(bytes, "abc"), compares(bytes, b'a')],
-        [CompareResult::Incomplete, CompareResult::Ok(1)]
+        (
+            comparisons_of(BStr::new(b"\xc3\xa9abc")),
+            [compares(bytes, "abc"), compares(bytes, b'a')]
+        ),
+        (
+            [
+                CompareResult::Ok(3),
+                CompareResult::Ok(2),
+                CompareResult::Error,
+                CompareResult::Incomplete,
+                CompareResult::Ok(1),
+                CompareResult::Ok(2)
+            ],
+            [CompareResult::Incomplete, CompareResult::Ok(1)]
+        )
     );
 }
 
@@ -185,18 +180,21 @@ fn comparisons(rt: HostRuntime) {
 #[test]
 fn searches(rt: HostRuntime) {
     let s = BStr::new(b"abcb\xc3\xa9");
-    let a: &[u8] = b"bc";
-    let b: &[u8] = b"cb";
+    let (a, b): (&[u8], &[u8]) = (b"bc", b"cb");
     assert_eq!(rt;
-        hits(s, a, (b,), (b, a), (b, b, a)),
-        [Some(1..3), Some(2..4), Some(1..3), Some(1..3)]
+        (
+            hits(s, a, (b,), (b, a), (b, b, a)),
+            hits(s, b'c', (b'x',), (b'c', b'b'), (b'x', b'y', b'c')),
+            finds(s, Needles::Two(b, b)),
+            finds(s, 'b')
+        ),
+        (
+            [Some(1..3), Some(2..4), Some(1..3), Some(1..3)],
+            [Some(2..3), None, Some(1..2), Some(2..3)],
+            Some(2..4),
+            Some(1..2)
+        )
     );
-    assert_eq!(rt;
-        hits(s, b'c', (b'x',), (b'c', b'b'), (b'x', b'y', b'c')),
-        [Some(2..3), None, Some(1..2), Some(2..3)]
-    );
-    assert_eq!(rt; finds(s, Needles::Two(b, b)), Some(2..4));
-    assert_eq!(rt; finds(s, 'b'), Some(1..2));
 }
 
 #[test]
@@ -204,14 +202,17 @@ fn searches_for_text(rt: HostRuntime) {
     let s = Bytes::new(b"abcb\xc3\xa9");
     let (a, b): (&[u8], &[u8]) = (b"bc", b"cb");
     assert_eq!(rt;
-        hits(s, "é", ("b",), ("é", "cb"), ("x", "y", "")),
-        [Some(4..6), Some(1..2), Some(2..4), Some(0..0)]
+        (
+            hits(s, "é", ("b",), ("é", "cb"), ("x", "y", "")),
+            hits(s, 'é', ('b',), ('é', 'c'), ('x', 'y', 'é')),
+            finds(s, (b, a))
+        ),
+        (
+            [Some(4..6), Some(1..2), Some(2..4), Some(0..0)],
+            [Some(4..6), Some(1..2), Some(2..3), Some(4..6)],
+            Some(1..3)
+        )
     );
-    assert_eq!(rt;
-        hits(s, 'é', ('b',), ('é', 'c'), ('x', 'y', 'é')),
-        [Some(4..6), Some(1..2), Some(2..3), Some(4..6)]
-    );
-    assert_eq!(rt; finds(s, (b, a)), Some(1..3));
 }
 
 #[test]
@@ -224,33 +225,17 @@ fn small_traits_of_text(rt: HostRuntime) {
         width_from::<_, Checkpoint<BStr, BStr>>(&place, &start),
         width(&rest),
     ];
-    assert_eq!(rt; widths, [1, 1, 1, 2]);
     assert_eq!(rt;
-        (firsts_and_flags(rest, [1, 3]), as_bstr_of(&rest)),
-        (([Some(b'b'), None], [false; 4]), &b"bc"[..])
+        (widths, firsts_and_flags(rest, [1, 3]), rest.as_bstr()),
+        ([1, 1, 1, 2], ([Some(b'b'), None], [false; 4]), &b"bc"[..])
     );
 }
 
-type Compared = ([bool; 4], [Ordering; 3], bool);
+// Whether the contents `abc` are `abc`, `abd`, `abc` and `ab`.
+const EQUAL: [bool; 4] = [true, false, true, false];
 
-// What is told of the bytes `abc`.
-const COMPARED: Compared = (
-    [true, false, true, false],
-    [Ordering::Less, Ordering::Equal, Ordering::Greater],
-    true,
-);
-
-// Whether a text has these contents, the order beside others, and whether its hash is that of its bytes.
-fn compared_text(s: BStr) -> Compared {
-    let equal = [
-        s.eq_bytes(b"abc"),
-        s.eq_bytes(b"abd"),
-        s.eq_str("abc"),
-        s.eq_str("ab"),
-    ];
-    let orders = [s.cmp_bytes(b"b"), s.cmp_str("abc"), s.cmp_str("ab")];
-    (equal, orders, hash_of(&s) == hash_of(&s.inner()))
-}
+// The order of `abc` beside `b`, `abc` and `ab`.
+const ORDERS: [Ordering; 3] = [Ordering::Less, Ordering::Equal, Ordering::Greater];
 
 #[test]
 fn contents_of_text(rt: HostRuntime) -> Result<(), Fail> {
@@ -264,7 +249,18 @@ fn contents_of_text(rt: HostRuntime) -> Result<(), Fail> {
 
 #[test]
 fn contents_of_text_are_compared(rt: HostRuntime) {
-    assert_eq!(rt; compared_text(BStr::new(b"abc")), COMPARED);
+    let s = BStr::new(b"abc");
+    let equal = [
+        s.eq_bytes(b"abc"),
+        s.eq_bytes(b"abd"),
+        s.eq_str("abc"),
+        s.eq_str("ab"),
+    ];
+    let orders = [s.cmp_bytes(b"b"), s.cmp_str("abc"), s.cmp_str("ab")];
+    assert_eq!(rt;
+        (equal, orders, hash_of(&s)),
+        (EQUAL, ORDERS, hash_of(&s.inner()))
+    );
     orders_by_contents::<BStr>(&rt);
 }
 
@@ -285,11 +281,14 @@ fn places_are_no_part_of_a_text(rt: HostRuntime) {
     );
 }
 
+// Nothing is cleared, and a trace prints what remains.
 #[test]
-fn there_is_no_flag(rt: HostRuntime) {
+fn there_is_no_flag(rt: HostRuntime) -> Result<(), Fail> {
     let (mut text, mut bytes) = (BStr::new(b"ab"), Bytes::new(b"cd"));
     complete_both(&mut text, &mut bytes);
-    assert!(rt; text.eq_bytes(b"ab") && bytes.eq_bytes(b"cd"));
+    let traces = format!(in rt.alloc(); "{} {}", Traced(text), Traced(bytes))?;
+    assert_eq!(rt; traces.as_str(), "ab 6364");
+    Ok(())
 }
 
 #[test]
@@ -302,23 +301,10 @@ fn small_traits_of_bytes(rt: HostRuntime) {
         width_from::<_, Checkpoint<Bytes, Bytes>>(&place, &start),
         width(&rest),
     ];
-    assert_eq!(rt; widths, [1, 1, 1, 2]);
     assert_eq!(rt;
-        (firsts_and_flags(rest, [1, 3]), as_bytes_of(&rest)),
-        (([Some(b'b'), None], [false; 4]), &b"bc"[..])
+        (widths, firsts_and_flags(rest, [1, 3]), rest.as_bytes()),
+        ([1, 1, 1, 2], ([Some(b'b'), None], [false; 4]), &b"bc"[..])
     );
-}
-
-// The same of bytes.
-fn compared_bytes(s: Bytes) -> Compared {
-    let equal = [
-        s.eq_bytes(b"abc"),
-        s.eq_bytes(b"abd"),
-        s.eq_str("abc"),
-        s.eq_str("ab"),
-    ];
-    let orders = [s.cmp_bytes(b"b"), s.cmp_str("abc"), s.cmp_str("ab")];
-    (equal, orders, hash_of(&s) == hash_of(&s.inner()))
 }
 
 #[test]
@@ -333,25 +319,17 @@ fn contents_of_bytes(rt: HostRuntime) -> Result<(), Fail> {
 
 #[test]
 fn contents_of_bytes_are_compared(rt: HostRuntime) {
-    assert_eq!(rt; compared_bytes(Bytes::new(b"abc")), COMPARED);
+    let s = Bytes::new(b"abc");
+    let equal = [
+        s.eq_bytes(b"abc"),
+        s.eq_bytes(b"abd"),
+        s.eq_str("abc"),
+        s.eq_str("ab"),
+    ];
+    let orders = [s.cmp_bytes(b"b"), s.cmp_str("abc"), s.cmp_str("ab")];
+    assert_eq!(rt;
+        (equal, orders, hash_of(&s)),
+        (EQUAL, ORDERS, hash_of(&s.inner()))
+    );
     orders_by_contents::<Bytes>(&rt);
-}
-
-#[test]
-fn traces_print_what_remains(rt: HostRuntime) -> Result<(), Fail> {
-    let (text, bytes) = (Traced(BStr::new(b"ab")), Traced(Bytes::new(b"ab")));
-    let traces = format!(in rt.alloc(); "{text} {bytes}")?;
-    assert_eq!(rt; traces.as_str(), "ab 6162");
-    Ok(())
-}
-
-// They do nothing: that each is called shows that it can be.
-#[test]
-fn laws_of_contents(_rt: HostRuntime) {
-    text_equality_law();
-    text_order_law();
-    text_hash_law();
-    bytes_equality_law();
-    bytes_order_law();
-    bytes_hash_law();
 }

@@ -29,22 +29,23 @@ impl ByteNeedles for Twice {
 #[test]
 fn a_literal_and_a_needle_of_ones_own(rt: HostRuntime) {
     assert_eq!(rt;
-        [
-            compares(BStr::new(b"aab"), Twice(b'a')),
-            compares(Bytes::new(b"a"), Twice(b'a')),
-            compares(Bytes::new(b"ab"), Twice(b'a')),
-        ],
-        [
-            CompareResult::Ok(2),
-            CompareResult::Incomplete,
-            CompareResult::Error
-        ]
-    );
-    assert_eq!(rt;
-        [
+        (
+            [
+                compares(BStr::new(b"aab"), Twice(b'a')),
+                compares(Bytes::new(b"a"), Twice(b'a')),
+                compares(Bytes::new(b"ab"), Twice(b'a')),
+            ],
             finds(BStr::new(b"abaa"), Twice(b'a')),
-            finds(Bytes::new(b"aba"), Twice(b'a')),
-        ],
-        [Some(2..4), None]
+            finds(Bytes::new(b"aba"), Twice(b'a'))
+        ),
+        (
+            [
+                CompareResult::Ok(2),
+                CompareResult::Incomplete,
+                CompareResult::Error
+            ],
+            Some(2..4),
+            None
+        )
     );
 }

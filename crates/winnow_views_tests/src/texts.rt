@@ -141,25 +141,18 @@ fn hexadecimal_texts(rt: HostRuntime) -> Result<(), Fail> {
 const PAST_ASCII: &str =
     r"\u{80}\u{81}\u{82}\u{83}\u{84}\u{85}\u{86}\u{87}\u{88}\u{89}\u{8a}\u{8b}\u{8c}\u{8d}\u{8e}\u{8f}\u{90}\u{91}\u{92}\u{93}\u{94}\u{95}\u{96}\u{97}\u{98}\u{99}\u{9a}\u{9b}\u{9c}\u{9d}\u{9e}\u{9f}\u{a0}¡¢£¤¥¦§¨©ª«¬\u{ad}®¯°±²³´µ¶·¸¹º»¼½¾¿ÀÁÂÃÄÅÆÇÈÉÊËÌÍÎÏÐÑÒÓÔÕÖ×ØÙÚÛÜÝÞßàáâãäåæçèéêëìíîïðñòóôõö÷øùúûüýþÿ";
 
-// The debug texts of a byte alone and between letters.
-fn quoted(alloc: Global, byte: u8) -> Result<String, AllocError> {
+// Whether the debug texts of a byte alone and between letters are its debug text without quotes, between quotes and between letters.
+fn is_quoted(alloc: Global, byte: u8) -> Result<bool, AllocError> {
     let (alone, between) = ([byte], [b'a', byte, b'z']);
-    format!(in alloc; "{:?} {:?}", BStr::new(&alone), BStr::new(&between))
+    let bare = format!(in alloc; "{:#?}", BStr::new(&alone))?;
+    let wanted = format!(in alloc; "\"{bare}\" \"a{bare}z\"")?;
+    Ok(format!(in alloc; "{:?} {:?}", BStr::new(&alone), BStr::new(&between))? == wanted)
 }
 
-// The debug text of a byte without quotes, between quotes and between letters.
-fn bare_in_quotes(alloc: Global, byte: u8) -> Result<String, AllocError> {
-    let bare = format!(in alloc; "{:#?}", BStr::new(&[byte]))?;
-    format!(in alloc; "\"{bare}\" \"a{bare}z\"")
-}
-
-// Each byte alone, and between letters.
 #[test]
 fn debug_texts_past_ascii(rt: HostRuntime) -> Result<(), Fail> {
-    let alloc = rt.alloc();
     for byte in 0x80..=0xff_u8 {
-        let wanted = bare_in_quotes(alloc, byte)?;
-        assert_eq!(rt; quoted(alloc, byte)?.as_str(), wanted.as_str());
+        assert!(rt; is_quoted(rt.alloc(), byte)?, "{byte}");
     }
     Ok(())
 }

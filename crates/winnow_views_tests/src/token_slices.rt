@@ -13,7 +13,7 @@ use winnow_match::CompareResult;
 use winnow_run::Step::{At, Each, Finish, Mark, Next, Peek, Reset, Since, Take};
 use winnow_run::{Step, run};
 use winnow_stream::{Checkpoint, Location, NoSet, Stream, StreamIsPartial, UpdateSlice};
-use winnow_test_helpers::{Traced, compares, debugged, flags, told, width, width_from};
+use winnow_test_helpers::{Traced, compares, flags, told, width, width_from};
 use winnow_views::{TokenSlice, TokenView};
 
 // A token that is not `Copy`, with its place in the input of the lexer.
@@ -43,20 +43,16 @@ const LEXED: [Lexed; 3] = [
     Lexed { start: 21, end: 29 },
 ];
 
-// What remains, and the tokens before the place, the last first.
-fn shown(alloc: Global, tokens: &TokenSlice<'_, u8>) -> Result<String, AllocError> {
-    let previous: Vec<&u8> = tokens.previous_tokens().collect(alloc)?;
-    format!(in alloc; "{tokens:?} after {previous:?}")
-}
-
-// Asserts it.
+// Asserts what remains, and the tokens before the place, the last first.
 fn shows(
     rt: &impl Abort,
     alloc: Global,
     tokens: &TokenSlice<'_, u8>,
     want: &str,
 ) -> Result<(), AllocError> {
-    assert_eq!(rt; shown(alloc, tokens)?.as_str(), want);
+    let previous: Vec<&u8> = tokens.previous_tokens().collect(alloc)?;
+    let shown = format!(in alloc; "{tokens:?} after {previous:?}")?;
+    assert_eq!(rt; shown.as_str(), want);
     Ok(())
 }
 
@@ -284,33 +280,20 @@ fn places_are_no_part_of_equality(rt: HostRuntime) -> Result<(), Fail> {
     Ok(())
 }
 
-// The debug texts of tokens, of a checkpoint, and of what it holds.
+// The debug texts of tokens, of a checkpoint, and of what it holds; those of tokens under options; and a trace.
 #[test]
-fn debug_texts_are_lists_of_what_remains(rt: HostRuntime) -> Result<(), Fail> {
+fn texts_are_lists_of_what_remains(rt: HostRuntime) -> Result<(), Fail> {
     debug_texts::<u8>();
-    let mut tokens = TokenSlice::new(b"abc");
+    let mut tokens = TokenSlice::new(b"xab");
     let _ = tokens.next_token();
-    let place = tokens.checkpoint();
-    assert_eq!(rt; debugged(rt.alloc(), &tokens)?.as_str(), "[98, 99]");
-    assert_eq!(rt; debugged(rt.alloc(), &place)?.as_str(), "[98, 99]");
-    assert_eq!(rt; debugged(rt.alloc(), place.inner())?.as_str(), "[98, 99]");
-    Ok(())
-}
-
-#[test]
-fn debug_texts_under_options(rt: HostRuntime) -> Result<(), Fail> {
-    let tokens = TokenSlice::new(b"ab");
-    let told = format!(in rt.alloc(); "{tokens:#?} {tokens:>6?} {tokens:.1?}")?;
+    let (place, trace) = (tokens.checkpoint(), Traced(tokens));
+    let inside = place.inner();
+    let told = format!(in rt.alloc();
+        "{tokens:?} {place:?} {inside:?} {trace} {tokens:#?} {tokens:>6?} {tokens:.1?}"
+    )?;
     assert_eq!(rt;
         told.as_str(),
-        "[\n    97,\n    98,\n] [    97,     98] [97, 98]"
+        "[97, 98] [97, 98] [97, 98] [97, 98] [\n    97,\n    98,\n] [    97,     98] [97, 98]"
     );
-    Ok(())
-}
-
-#[test]
-fn traces_print_what_remains(rt: HostRuntime) -> Result<(), Fail> {
-    let trace = format!(in rt.alloc(); "{}", Traced(TokenSlice::new(b"ab")))?;
-    assert_eq!(rt; trace.as_str(), "[97, 98]");
     Ok(())
 }
