@@ -1,7 +1,7 @@
 # What bench/run and bench/agree share: where the Rust crate comes from, our static libraries, and the build of bench/rust.
 # Both set `offline` to what Cargo may do without a local copy: `--offline`, or nothing where it may ask its registry.
 
-libraries=(winnow_bench winnow_bench_agree winnow_bench_values winnow_bench_errors winnow_bench_feeds)
+libraries=(winnow_bench winnow_bench_agree winnow_bench_values)
 manifest=$PWD/rust/Cargo.toml
 programs=$PWD/rust/target/release
 flags=()

@@ -1,4 +1,4 @@
-//! The Rust crate's parse errors, word for word as in `crates/winnow_bench_errors`. The crate makes them inside, and keeps
+//! The Rust crate's parse errors, word for word as in `crates/winnow_bench_values`. The crate makes them inside, and keeps
 //! `translate_position` to itself: this file is compiled where the copy of the crate hands both out, in a module `error::hooks`.
 
 use crate::their_trees::behind;

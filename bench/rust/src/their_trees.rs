@@ -1,4 +1,4 @@
-//! The Rust crate's trees of errors, word for word as in `crates/winnow_bench_errors`.
+//! The Rust crate's trees of errors, word for word as in `crates/winnow_bench_values`.
 
 use crate::script::RawStep;
 use crate::their_errors::Cause;

@@ -1,5 +1,5 @@
 use Rattle.std.proofs.Common.{length}
-use Rattle.winnow_bench_errors.proofs.trees.push_all.Given as goal
+use Rattle.winnow_bench_values.proofs.trees.join_all.Given as goal
 
 abbrev pub invariant-loop-rest : goal.invariant-loop-rest
 invariant-loop-rest g l = g.I.Stream.valid l.rest
