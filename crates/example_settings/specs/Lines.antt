@@ -68,8 +68,7 @@ abbrev pub IsRead : {T : Type 0} → (T → Source ℕ → ℕ → Type 0) → A
 IsRead is_slice a (Some setting) before after = IsSetting is_slice a setting × (after ≡ before)
 IsRead is_slice a None before after = (fault : Fault) × (IsFault a fault × (after ≡ before ++ fault ∷ []))
 
--- the lines up to a rest are read as these settings, and as the faults that came behind those before: no line, or one line more, which
--- is a setting, or is none
+-- the lines up to a rest are read as these settings, and as the faults after those before: no line, or one more, which is a setting or none
 pub data AreRead {T : Type 0} (is_slice : T → Source ℕ → ℕ → Type 0) (a : Ahead ℕ) : List (Setting T) → List Fault → List Fault → Ahead ℕ → Type 0 where
   NoLine : {before : List Fault} → AreRead is_slice a [] before before a
   OneSetting : {settings : List (Setting T)} {before now after : List Fault} {line : Ahead ℕ} {setting : Setting T} → AreRead is_slice a settings before now line → line.tokens ≢ [] → IsRead is_slice line (Some setting) now after → AreRead is_slice a (settings ++ setting ∷ []) before after (behind_line line)

@@ -22,8 +22,7 @@ fn main(rt: HostRuntime) -> io::Result<()> {
     for setting in &settings {
         println!(rt; "{} is {}", setting.key, setting.value)?;
     }
-    let (_, faults) = input.into_parts();
-    for fault in faults {
+    for fault in input.into_parts().1 {
         let error = fault.located(rt.alloc(), TEXT)?;
         println!(rt; "{error}")?;
     }

@@ -14,8 +14,7 @@ use winnow_recover::{Recover, Recoverable};
 use winnow_stream::{Location, Stream, StreamIsPartial, taken_law};
 use winnow_token::take_till;
 
-/// Reads each line that is left: the settings come back, and of each line that is none a fault is recorded, which says what was wanted and
-/// where. So every line is accounted for.
+/// Reads each line that is left: the settings come back, and of each other line a fault is recorded, which says what was wanted and where.
 pub fn read_settings<I: StreamIsPartial + Stream<Token = char> + Location>(
     alloc: Global,
     input: &mut Recoverable<I, Fault>,
@@ -70,9 +69,8 @@ where
             let mut error = ContextError::new(alloc);
             error.push(wanted)?;
             let here = input.checkpoint();
-            input
-                .record_err(&start, &here, error)
-                .map_err(|_| AllocError)?;
+            let recorded = input.record_err(&start, &here, error);
+            recorded.map_err(|_| AllocError)?;
             None
         }
     };

@@ -40,10 +40,8 @@ where
     let sign = (one_of('='), blanks);
     let line = opt((key, opt((sign, opt(take_till(1.., '\n'))))));
     let parts: ModalResult<_, EmptyError> = line.parse_next(alloc, input);
-    match parts {
-        Ok(parts) => told(parts),
-        Err(_) => unreachable!(),
-    }
+    let Ok(parts) = parts else { unreachable!() };
+    told(parts)
 }
 
 // Returns the setting that the parts of a line make, or what is wanted after the last of them.
@@ -52,11 +50,8 @@ fn told<T: Drop>(
 ) -> Result<Setting<T>, Wanted>
     ensures { result ≡ told parts }
 {
-    let (keyed, signed) = parts.ok_or(Wanted::Key)?;
+    let (key, signed) = parts.ok_or(Wanted::Key)?;
     let (_, value) = signed.ok_or(Wanted::Equals)?;
     let value = value.ok_or(Wanted::Value)?;
-    Ok(Setting {
-        key: keyed.0,
-        value,
-    })
+    Ok(Setting { key: key.0, value })
 }

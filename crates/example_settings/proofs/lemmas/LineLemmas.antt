@@ -1,5 +1,5 @@
 -- What the parser of a line means, in the words of lines.
-use Rattle.std.proofs.Common.{◌≡◌, ◌≢◌, ℕ, ◌<◌, Bool, [], ◌∷◌, Option, Some, None, inl, inr, length, drop, refl, ap, ◌∙◌, subst, arith, length-drop}
+use Rattle.std.proofs.Common.{◌≡◌, ◌≢◌, ℕ, ◌<◌, Bool, [], ◌∷◌, Option, Some, None, length, drop, refl, ap, ◌∙◌, subst, arith, length-drop}
 use Rattle.std.specs.Char.{is_ascii_alphabetic}
 use Rattle.std.specs.Prelude.{◌==◌, IfOk, IfErr}
 use Rattle.std.proofs.lemmas.Bool.Decides.{nat_tests}
@@ -25,37 +25,25 @@ pub length-behind_line : (a : Ahead ℕ) → a.tokens ≢ [] → length (behind_
 length-behind_line a some = shorter _ a.tokens some
 
 module _ {S : Type 0} (is_slice : S → Source ℕ → ℕ → Type 0) where
-  -- the parsers of a part of some characters, of a key and of a sign, with blanks after them, and of a line
-  abbrev Held : (ℕ → Bool) → ℕ → Meaning S ℕ
-  Held holds least = HeldFront is_slice holds least None
+  -- the parsers of a part and the blanks after it, and of a line
+  abbrev Spaced : {O : Type 0} → Meaning O ℕ → Meaning (O × S) ℕ
+  Spaced part = Pair part (HeldFront is_slice is_blank 0 None)
 
-  abbrev Key : Meaning (S × S) ℕ
-  Key = Pair (Held is_ascii_alphabetic 1) (Held is_blank 0)
+  abbrev Line : Meaning (Option ((S × S) × Option ((ℕ × S) × Option S))) ℕ
+  Line = Optional (Pair (Spaced (HeldFront is_slice is_ascii_alphabetic 1 None)) (Optional (Pair (Spaced (OneOf (λ c. 61 == c))) (Optional (HeldFront is_slice is_in_line 1 None)))))
 
-  abbrev Sign : Meaning (ℕ × S) ℕ
-  Sign = Pair (OneOf (λ c. 61 == c)) (Held is_blank 0)
-
-  abbrev pub Line : Meaning (Option ((S × S) × Option ((ℕ × S) × Option S))) ℕ
-  Line = Optional (Pair Key (Optional (Pair Sign (Optional (Held is_in_line 1)))))
-
-  key : (partial : Bool) (a b : Ahead ℕ) (both : S × S) → Key partial a (Gives both b) → IsPart is_slice is_ascii_alphabetic a both.0 × (b ≡ from_sign a)
+  key : (partial : Bool) (a b : Ahead ℕ) (both : S × S) → Spaced (HeldFront is_slice is_ascii_alphabetic 1 None) partial a (Gives both b) → IsPart is_slice is_ascii_alphabetic a both.0 × (b ≡ from_sign a)
   key partial a b both (c, (h, k)) = ((h.0, λ e. omega (arith, h.2, ap length e)), k.1 ∙ ap (behind is_blank) h.1)
 
-  sign : (partial : Bool) (a b : Ahead ℕ) (both : ℕ × S) → Sign partial a (Gives both b) → (first_token a.tokens ≡ Some 61) × (b ≡ behind is_blank (after_one a))
-  sign partial a b both (c, (h, k)) =
-      let is : both.0 ≡ 61 = grind (arith, nat_tests, h.1) in
-      (h.0 ∙ ap Some is, k.1 ∙ ap (behind is_blank) h.2)
+  sign : (partial : Bool) (a b : Ahead ℕ) (both : ℕ × S) → Spaced (OneOf (λ c. 61 == c)) partial a (Gives both b) → (first_token a.tokens ≡ Some 61) × (b ≡ behind is_blank (after_one a))
+  sign partial a b both (c, (h, k)) = (grind (arith, nat_tests, h.0, h.1), k.1 ∙ ap (behind is_blank) h.2)
 
   -- it tells a setting, or what is wanted where the stream then stands
   pub tells : (parts : Option ((S × S) × Option ((ℕ × S) × Option S))) (partial : Bool) (a b : Ahead ℕ) → Line partial a (Gives parts b) → IfOk (told parts) (IsSetting is_slice a) × IfErr (told parts) (λ what. Lacks a what b)
-  tells None partial a b (e, (c, inl (inl h))) = (tt, subst (Lacks a wanted.Key) e (refl, nil_from_length _ (omega (arith, h.1))))
-  tells None partial a b (e, (c, inl (inr (x, (d, (g, h)))))) = absurd (omega (arith, h.1))
-  tells None partial a b (e, (c, inr (x, (d, (g, h))))) = absurd h
-  tells (Some (keyed, None)) partial a b (c, (k, (e, (d, inl (inl h))))) =
+  tells None partial a b (e, (c, h)) = (tt, subst (Lacks a wanted.Key) e (refl, nil_from_length _ (grind (arith, h))))
+  tells (Some (keyed, None)) partial a b (c, (k, (e, (d, h)))) =
       let at = key partial a c keyed k in
-      (tt, subst (Lacks a wanted.Equals) e (at.1, at.0.1, λ f. let no = rw f at h.0 in cc))
-  tells (Some (keyed, None)) partial a b (c, (k, (e, (d, inl (inr (x, (f, (g, h)))))))) = absurd (omega (arith, h.1))
-  tells (Some (keyed, None)) partial a b (c, (k, (e, (d, inr (x, (f, (g, h))))))) = absurd h
+      (tt, subst (Lacks a wanted.Equals) e (at.1, at.0.1, λ f. grind (arith, nat_tests, h, f)))
   tells (Some (keyed, Some (signed, None))) partial a b (c, (k, (d, (g, (e, (f, h)))))) =
       let at = key partial a c keyed k in
       let on = rw at.1 at (sign partial c d signed g) in
@@ -63,5 +51,4 @@ module _ {S : Type 0} (is_slice : S → Source ℕ → ℕ → Type 0) where
   tells (Some (keyed, Some (signed, Some value))) partial a b (c, (k, (d, (g, h)))) =
       let at = key partial a c keyed k in
       let on = rw at.1 at (sign partial c d signed g) in
-      let some : IsPart is_slice is_in_line d value = (h.0, λ e. omega (arith, h.2, ap length e)) in
-      (record { key = at.0; sign = on.0; value = subst (λ p. IsPart is_slice is_in_line p value) on.1 some }, tt)
+      (record { key = at.0; sign = on.0; value = subst (λ p. IsPart is_slice is_in_line p value) on.1 (h.0, λ e. omega (arith, h.2, ap length e)) }, tt)

@@ -13,13 +13,11 @@ lines-init g c =
 
 pub lines-smaller-in-Continue-branch-3 : goal.lines-smaller-in-Continue-branch-3
 lines-smaller-in-Continue-branch-3 g c =
-    let line = ahead g.I.Rest.location g.I.Stream.remaining (recoverable_inner c.lines.input) in
-    omega (arith, length-behind_line line (some-wide line.tokens _ c.lines-test.true c.eof_offset.ensures), ap (λ a. length a.tokens) c.in_ok-setting.ensures.behind)
+    omega (arith, length-behind_line (ahead g.I.Rest.location g.I.Stream.remaining (recoverable_inner c.lines.input)) (some-wide _ _ c.lines-test.true c.eof_offset.ensures), ap (λ a. length a.tokens) c.in_ok-setting.ensures.behind)
 
 pub lines-smaller : goal.lines-smaller
 lines-smaller g c =
-    let line = ahead g.I.Rest.location g.I.Stream.remaining (recoverable_inner c.lines.input) in
-    omega (arith, length-behind_line line (some-wide line.tokens _ c.lines-test.true c.eof_offset.ensures), ap (λ a. length a.tokens) c.in_ok-setting.ensures.behind)
+    omega (arith, length-behind_line (ahead g.I.Rest.location g.I.Stream.remaining (recoverable_inner c.lines.input)) (some-wide _ _ c.lines-test.true c.eof_offset.ensures), ap (λ a. length a.tokens) c.in_ok-setting.ensures.behind)
 
 pub lines-preserved-in-Continue-branch-3 : goal.lines-preserved-in-Continue-branch-3
 lines-preserved-in-Continue-branch-3 g c =
