@@ -58,9 +58,9 @@ where
         found (recorded_errors input.old) (recorded_errors input.new)) }
     ensures behind { OnOk result (ahead I.location I.remaining (recoverable_inner input.new)
         ≡ behind_line (ahead I.location I.remaining (recoverable_inner input.old))) }
-    ensures valid { OnOk result (I.valid (recoverable_inner input.new)) }
-    ensures complete { OnOk result (I.expects_more (recoverable_inner input.new) ≡ false) }
-    ensures records { OnOk result (IsTrue (records_errors input.new)) }
+    ensures valid { I.valid (recoverable_inner input.new) }
+    ensures complete { I.expects_more (recoverable_inner input.new) ≡ false }
+    ensures records { IsTrue (records_errors input.new) }
 {
     let start = input.checkpoint();
     let found = match read_setting(alloc, input) {
