@@ -122,11 +122,8 @@ where
     let mut count = 0;
     while again.counts.allow_more(count) {
         match one_more(&parser, again.counts.least, count, alloc, input) {
-            Ok(Some(value)) => match again.gather.take(alloc, whole, value) {
-                Ok(more) => {
-                    whole = more;
-                    count += 1;
-                }
+            Ok(Some(value)) => match again.gather.take(alloc, &mut whole, value) {
+                Ok(()) => count += 1,
                 Err(refused) => return Err(Failure::Refused(refused)),
             },
             Ok(None) => return Ok(whole),

@@ -1,7 +1,9 @@
-ghost use Rattle.std.specs.Prelude.{◌≡◌, ℕ, ◌+◌, ◌<◌, ◌^◌, List, [], ◌∷◌, ◌++◌, length, IfOk, OnErr, ⊤};
+ghost use Rattle.std.specs.Prelude.{◌≡◌, ℕ, ◌+◌, ◌<◌, ◌^◌, List, [], ◌∷◌, ◌++◌, length};
+ghost use Rattle.std.specs.Prelude.{IfOk, OnOk, OnErr, ⊤};
 ghost use Rattle.std.specs.List.{FoldsTo};
 ghost use Rattle.winnow_combinator.specs.Gathering.{Folds, Folds-taken};
 
+use core::mem::replace_with;
 use std::alloc::{AllocError, Global};
 use std::marker::PhantomData;
 use winnow_count::Accumulate;
@@ -28,10 +30,10 @@ pub trait Gather<T> {
     ghost refusable: { Type 0 };
 
     /// Takes one more value.
-    fn take(&self, alloc: Global, whole: Self::Whole, value: T) -> Result<Self::Whole, AllocError>
+    fn take(&self, alloc: Global, whole: &mut Self::Whole, value: T) -> Result<(), AllocError>
         requires ready { ready self.now }
-        requires can { can_take self.now whole }
-        ensures taken { IfOk result (λ new. takes self.now whole value new) }
+        requires can { can_take self.now whole.old }
+        ensures taken { OnOk result (takes self.now whole.old value whole.new) }
         ensures refused { OnErr result refusable };
 
     // One more value makes what the longer list makes.
@@ -78,11 +80,8 @@ impl<T, A: Accumulate<T> + Drop> Gather<T> for Accumulated<A> {
 
     ghost refusable = { A.refusable };
 
-    fn take(&self, alloc: Global, mut whole: A, value: T) -> Result<A, AllocError> {
-        match whole.accumulate(alloc, value) {
-            Ok(()) => Ok(whole),
-            Err(refused) => Err(refused),
-        }
+    fn take(&self, alloc: Global, whole: &mut A, value: T) -> Result<(), AllocError> {
+        whole.accumulate(alloc, value)
     }
 
     ghost makes_taken = { λ _ values old new value. A.holds_taken old new values value };
@@ -116,8 +115,10 @@ impl<T, W: Drop, N: Fn() -> W, F: Fn(W, T) -> W> Gather<T> for Folded<N, F> {
 
     ghost refusable = { ⊥ };
 
-    fn take(&self, _alloc: Global, whole: W, value: T) -> Result<W, AllocError> {
-        Ok((self.f)(whole, value))
+    fn take(&self, _alloc: Global, whole: &mut W, value: T) -> Result<(), AllocError> {
+        let f = &self.f;
+        replace_with(whole, value, |old, value| (f(old, value), ()));
+        Ok(())
     }
 
     ghost makes_taken = { λ g. Folds-taken (N.post g.init) (F.post g.f) };
@@ -142,7 +143,10 @@ pub(crate) fn begin_with<T: Drop, G: Begin<T>>(
     ensures refused { OnErr result G.refusable }
 {
     match gather.begin(alloc) {
-        Ok(none) => gather.take(alloc, none, value),
+        Ok(mut whole) => match gather.take(alloc, &mut whole, value) {
+            Ok(()) => Ok(whole),
+            Err(refused) => Err(refused),
+        },
         Err(refused) => Err(refused),
     }
 }

@@ -6,6 +6,7 @@ ghost use Rattle.winnow_combinator.specs.Separation.{FoldedLeft, ListErrors, IsP
 use crate::Gather;
 use crate::again::{Again, go_on};
 use crate::counts::Counts;
+use core::mem::replace_with;
 use std::alloc::{AllocError, Global};
 use winnow_error::ParserError;
 use winnow_parser::{ModalResult, Parser};
@@ -53,9 +54,11 @@ impl<O: Drop, S, F: Fn(O, S, O) -> O> Gather<(S, O)> for Operation<'_, F> {
 
     ghost refusable = { ⊥ };
 
-    fn take(&self, _alloc: Global, whole: O, value: (S, O)) -> Result<O, AllocError> {
-        let (separator, right) = value;
-        Ok((self.op)(whole, separator, right))
+    fn take(&self, _alloc: Global, whole: &mut O, value: (S, O)) -> Result<(), AllocError> {
+        replace_with(whole, value, |left, (separator, right)| {
+            ((self.op)(left, separator, right), ())
+        });
+        Ok(())
     }
 
     ghost makes_taken = { λ _ _ _ _ _ _ _. tt };

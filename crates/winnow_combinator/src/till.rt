@@ -140,11 +140,8 @@ where
             Err(failure) => return Err(failure),
         }
         match parser.parse_next(alloc, input) {
-            Ok(value) => match again.gather.take(alloc, whole, value) {
-                Ok(more) => {
-                    whole = more;
-                    count += 1;
-                }
+            Ok(value) => match again.gather.take(alloc, &mut whole, value) {
+                Ok(()) => count += 1,
                 Err(refused) => return Err(Failure::Refused(refused)),
             },
             Err(failure) => return Err(failure),

@@ -36,8 +36,8 @@ loop-parser-preserved g c =
         record {
           valid = c.in-Ok-Some.ensures.valid;
           kept = g.met.I.Stream.keeps_transitive c.args.input.now c.loop-parser.input c.one_more.new.input so_far.kept c.in-Ok-Some.ensures.kept;
-          gathered = FoldsTo-push (g.G.Gather.takes again.gather.now) c.args.whole xs c.loop-parser.whole x c.in-Ok.more so_far.gathered c.in-Ok.ensures.taken;
-          made = g.met.G.Gather.makes_taken again.gather.now all c.loop-parser.whole c.in-Ok.more x so_far.made c.in-Ok.ensures.taken;
+          gathered = FoldsTo-push (g.G.Gather.takes again.gather.now) c.args.whole xs c.loop-parser.whole x c.take.new.whole so_far.gathered c.in-Ok.ensures.taken;
+          made = g.met.G.Gather.makes_taken again.gather.now all c.loop-parser.whole c.take.new.whole x so_far.made c.in-Ok.ensures.taken;
           room = omega (arith, less, so_far.room, length-append all (x ∷ []));
           counted = omega (arith, so_far.counted, length-append xs (x ∷ []));
           within = omega (arith, less, so_far.within);

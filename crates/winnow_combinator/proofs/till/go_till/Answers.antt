@@ -41,8 +41,8 @@ loop-end-preserved g c =
         record {
           valid = c.in-Ok.ensures.valid;
           kept = g.met.I.Stream.keeps_transitive start between after kept c.in-Ok.ensures.kept;
-          gathered = FoldsTo-push (g.G.Gather.takes again.gather.now) c.args.whole xs c.loop-end.whole x c.in-Ok-take.more so_far.gathered c.in-Ok-take.ensures.taken;
-          made = g.met.G.Gather.makes_taken again.gather.now all c.loop-end.whole c.in-Ok-take.more x so_far.made c.in-Ok-take.ensures.taken;
+          gathered = FoldsTo-push (g.G.Gather.takes again.gather.now) c.args.whole xs c.loop-end.whole x c.take.new.whole so_far.gathered c.in-Ok-take.ensures.taken;
+          made = g.met.G.Gather.makes_taken again.gather.now all c.loop-end.whole c.take.new.whole x so_far.made c.in-Ok-take.ensures.taken;
           room = omega (arith, still, less, so_far.room, length-append all (x ∷ []));
           counted = omega (arith, so_far.counted, length-append xs (x ∷ []));
           within = omega (arith, still, less, so_far.within);
