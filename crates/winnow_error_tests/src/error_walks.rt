@@ -79,22 +79,6 @@ where
     e.add_context(alloc, input, &start, context)
 }
 
-/// What is recorded of an error from which a parser recovers where it began.
-pub fn recover_at<I: Stream, E, R: FromRecoverableError<I, E>>(input: &I, e: E) -> R
-where
-    requires { I.valid input.now }
-{
-    let start = input.checkpoint();
-    R::from_recoverable_error(&start, &start, input, e)
-}
-
-/// An error of another's.
-pub fn blame<I, X, E: FromExternalError<I, X>>(alloc: Global, input: &I, cause: X) -> E
-    ensures { E.from_external_gives input.now cause result }
-{
-    E::from_external_error(alloc, input, cause)
-}
-
 /// The last of three alternatives: an error of another's, told of a context elsewhere, from which a parser then recovered.
 pub fn tell_last<I: Stream, E>(alloc: Global, input: &I, elsewhere: &I) -> Result<E, AllocError>
 where
@@ -103,12 +87,13 @@ where
     requires input { I.valid input.now }
     requires elsewhere { I.valid elsewhere.now }
 {
+    let (start, there) = (input.checkpoint(), elsewhere.checkpoint());
     let cause = String::from_str(alloc, "bad digit")?;
-    let error: E = blame(alloc, input, cause);
-    let told = in_context(alloc, error, elsewhere, StrContext::Label("number"))?;
-    let last = recover_at(input, told);
+    let error = E::from_external_error(alloc, input, cause);
+    let told = error.add_context(alloc, elsewhere, &there, StrContext::Label("number"))?;
+    let last = E::from_recoverable_error(&start, &start, input, told);
     let (first, second) = (E::from_input(alloc, input), E::from_input(alloc, elsewhere));
-    Ok(join_three(alloc, first, second, last))
+    Ok(first.join(alloc, second).join(alloc, last))
 }
 
 /// The same error as another type.

@@ -1,17 +1,17 @@
 use super::printing::{debugs, debugs_at_a_precision, debugs_under_options, prints};
-use crate::error_walks::blame;
 use std::alloc::{AllocError, Global};
-use std::process::Abort;
 use std::test::Fail;
 use winnow_context::StrContext::{Expected, Label};
 use winnow_context::StrContextValue::{CharLiteral, Description, StringLiteral};
 use winnow_context::{ContextError, StrContext, StrContextValue};
+use winnow_error::FromExternalError;
 
 type Told = ContextError<StrContext>;
 
-fn caused_by(alloc: Global, cause: &str) -> Result<Told, AllocError> {
+// An error that has a cause.
+fn caused_by<C: Drop>(alloc: Global, cause: &str) -> Result<ContextError<C>, AllocError> {
     let cause = String::from_str(alloc, cause)?;
-    Ok(blame::<&str, String, Told>(alloc, &"", cause))
+    Ok(<ContextError<C> as FromExternalError<&str, String>>::from_external_error(alloc, &"", cause))
 }
 
 // An error that is told contexts, in order, and has a cause where one is given.
@@ -57,21 +57,11 @@ const LINES: [(&[StrContext], Option<&str>, &str); 8] = [
     ),
 ];
 
-// Asserts the text of an error that is told contexts and has a cause.
-fn explains(
-    rt: &impl Abort,
-    alloc: Global,
-    contexts: &[StrContext],
-    cause: Option<&str>,
-    wanted: &str,
-) -> Result<(), AllocError> {
-    prints(rt, alloc, &told_all(alloc, contexts, cause)?, wanted)
-}
-
 #[test]
 fn the_lines_that_are_there(rt: HostRuntime) -> Result<(), Fail> {
     for (contexts, cause, wanted) in &LINES {
-        explains(&rt, rt.alloc(), contexts, *cause, wanted)?;
+        let error = told_all(rt.alloc(), contexts, *cause)?;
+        prints(&rt, rt.alloc(), &error, wanted)?;
     }
     Ok(())
 }
@@ -116,7 +106,7 @@ fn values_are_made_of_characters_and_texts(rt: HostRuntime) {
 
 // Three contexts and a cause.
 fn told_thrice(alloc: Global) -> Result<Told, AllocError> {
-    let mut error = caused_by(alloc, "bad")?;
+    let mut error: Told = caused_by(alloc, "bad")?;
     error.push(Label("a"))?;
     error.extend([Label("b"), Expected('c'.into())])?;
     Ok(error)
@@ -146,7 +136,7 @@ fn contexts_are_kept_in_order(rt: HostRuntime) -> Result<(), Fail> {
 
 #[test]
 fn contexts_as_debug_text_under_options(rt: HostRuntime) -> Result<(), Fail> {
-    let mut error = caused_by(rt.alloc(), "bad")?;
+    let mut error: Told = caused_by(rt.alloc(), "bad")?;
     error.extend([Label("a"), Expected('c'.into())])?;
     debugs_under_options(
         &rt,
@@ -160,8 +150,7 @@ fn contexts_as_debug_text_under_options(rt: HostRuntime) -> Result<(), Fail> {
 
 // An error that was reading a flag.
 fn told_a_flag(alloc: Global) -> Result<ContextError<bool>, AllocError> {
-    let cause = String::from_str(alloc, "bad")?;
-    let mut error = blame::<&str, String, ContextError<bool>>(alloc, &"", cause);
+    let mut error = caused_by(alloc, "bad")?;
     error.push(true)?;
     Ok(error)
 }

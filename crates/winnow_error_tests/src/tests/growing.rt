@@ -25,7 +25,7 @@ fn told_thrice(alloc: Global, count: u16) -> Result<usize, AllocError> {
     Ok(error.clone()?.context().count())
 }
 
-// The lengths of a text of so many characters and of its bytes, once an error owns them.
+// The lengths of a text of `count` characters and of its bytes, once an error owns them.
 fn owned(alloc: Global, count: u16) -> Result<(usize, usize), AllocError> {
     let mut text = String::new(alloc);
     for _ in 0..count {

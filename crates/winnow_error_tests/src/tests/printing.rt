@@ -1,32 +1,17 @@
 use std::alloc::{AllocError, Global};
 use std::fmt::{Debug, Display};
 use std::process::Abort;
-use winnow_test_helpers::debugged;
 
-// The printed text, with no options and with three.
-fn printed<T: Display>(alloc: Global, value: &T) -> Result<String, AllocError> {
-    format!(in alloc; "{value} {value:#} {value:>60} {value:.3}")
-}
-
-// The text so many times.
-fn four_times(alloc: Global, text: &str) -> Result<String, AllocError> {
-    format!(in alloc; "{text} {text} {text} {text}")
-}
-
-/// Asserts what a text is.
-pub fn is(rt: &impl Abort, text: String, wanted: &str) {
-    assert_eq!(rt; text.as_str(), wanted);
-}
-
-/// Asserts the printed text, which is the same whatever the options of the hole are.
+/// Asserts the printed text, which is the same with no options and with three.
 pub fn prints<T: Display>(
     rt: &impl Abort,
     alloc: Global,
     value: &T,
     wanted: &str,
 ) -> Result<(), AllocError> {
-    let all_wanted = four_times(alloc, wanted)?;
-    is(rt, printed(alloc, value)?, all_wanted.as_str());
+    let printed = format!(in alloc; "{value} {value:#} {value:>60} {value:.3}")?;
+    let all_wanted = format!(in alloc; "{wanted} {wanted} {wanted} {wanted}")?;
+    assert_eq!(rt; printed.as_str(), all_wanted.as_str());
     Ok(())
 }
 
@@ -37,13 +22,8 @@ pub fn debugs<T: Debug>(
     value: &T,
     wanted: &str,
 ) -> Result<(), AllocError> {
-    is(rt, debugged(alloc, value)?, wanted);
+    assert_eq!(rt; format!(in alloc; "{value:?}")?.as_str(), wanted);
     Ok(())
-}
-
-// The debug text under `#` and with a width.
-fn debugged_under_options<T: Debug>(alloc: Global, value: &T) -> Result<String, AllocError> {
-    format!(in alloc; "{value:#?}\n{value:5?}")
 }
 
 /// Asserts the debug text under `#`, and with a width, which reaches the parts alone.
@@ -53,13 +33,9 @@ pub fn debugs_under_options<T: Debug>(
     value: &T,
     wanted: &str,
 ) -> Result<(), AllocError> {
-    is(rt, debugged_under_options(alloc, value)?, wanted);
+    let debugged = format!(in alloc; "{value:#?}\n{value:5?}")?;
+    assert_eq!(rt; debugged.as_str(), wanted);
     Ok(())
-}
-
-// The debug text with a width and a precision, under `#` and without it.
-fn debugged_at_a_precision<T: Debug>(alloc: Global, value: &T) -> Result<String, AllocError> {
-    format!(in alloc; "{value:#6.2?}\n{value:6.2?}")
 }
 
 /// Asserts the debug text with a width and a precision, which reach the parts alone, under `#` and without it.
@@ -69,6 +45,7 @@ pub fn debugs_at_a_precision<T: Debug>(
     value: &T,
     wanted: &str,
 ) -> Result<(), AllocError> {
-    is(rt, debugged_at_a_precision(alloc, value)?, wanted);
+    let debugged = format!(in alloc; "{value:#6.2?}\n{value:6.2?}")?;
+    assert_eq!(rt; debugged.as_str(), wanted);
     Ok(())
 }
