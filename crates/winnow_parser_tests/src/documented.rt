@@ -1,13 +1,15 @@
 //! The examples of winnow's documentation: what each parser answers of a whole text, and that it
 //! answers the same of each front of the text to which more may come, unless it wants more.
 
-use std::alloc::Global;
+use std::alloc::{AllocError, Global};
+use std::ops::RangeInclusive;
 use winnow_combinator::{
     alt, cond, delimited, eof, not, opt, peek, preceded, repeat, separated, separated_pair,
     terminated,
 };
 use winnow_error::EmptyError;
-use winnow_parser::{Failure, ModalResult, Parser};
+use winnow_parser::{Failure, Parser};
+use winnow_sets::CharSet;
 use winnow_stream::{Stream, StreamIsPartial};
 use winnow_token::{
     any, hits_stay_law, literal, none_of, one_of, rest, rest_len, take, take_till, take_until,
@@ -17,394 +19,374 @@ use winnow_wrap::Partial;
 
 type Text = Partial<&'static str>;
 
-type Answer<O> = ModalResult<O, EmptyError>;
+type Letters = (RangeInclusive<char>, RangeInclusive<char>);
 
-// What a parser gives.
-#[derive(Clone, Copy, Debug, PartialEq, Eq)]
-enum Value {
-    Slice(&'static str),
-    Letter(char),
-    Count(usize),
-    Nothing,
+fn letters() -> Letters {
+    ('a'..='z', 'A'..='Z')
 }
 
-use Value::{Count, Letter, Nothing, Slice};
+// A text, and what a parser gives and leaves of it.
+type Row<O> = (&'static str, Option<(O, &'static str)>);
 
-// A parser of the examples.
-#[derive(Clone, Copy, Debug, PartialEq, Eq)]
-enum Example {
-    Any,
-    OneOf,
-    NoneOf,
-    RestLength,
-    Hello,
-    Letters,
-    SomeLetters,
-    Hexadecimal,
-    ThreeToSix,
-    TillColon,
-    SomeTillColon,
-    Six,
-    UntilEnd,
-    SomeUntilEnd,
-    Rest,
-    LettersOrDigits,
-    Peeked,
-    OfFour,
-    Preceded,
-    Terminated,
-    Delimited,
-    Recognized,
-    Optional,
-    NoLetters,
-    End,
-    Conditional(bool),
-    Byte,
-    Repeated,
-    SomeRepeated,
-    RepeatedTwice,
-    UpToTwo,
-    Separated,
-    SomeSeparated,
-    SeparatedTwice,
+// Whether the parser gives and leaves that of the whole text, and of each front on which it wants no more.
+fn answers<O: PartialEq + Drop, P: Parser<Text, EmptyError, Output = O>>(
+    alloc: Global,
+    parser: &P,
+    row: &Row<O>,
+) -> Result<bool, AllocError>
+    requires { P.ready parser.now }
+{
+    let text = row.0;
+    // The last turn asks of the whole.
+    for turn in 0..=text.len().saturating_add(1) {
+        let is_whole = turn > text.len();
+        let mut input = Partial::new(text.get(..turn).unwrap_or(text));
+        if is_whole {
+            let _ = input.complete();
+        }
+        let to_come = text.len().saturating_sub(turn);
+        let is_right = match (parser.parse_next(alloc, &mut input), &row.1) {
+            (Ok(value), Some((wanted, left))) => {
+                value == *wanted && input.eof_offset().saturating_add(to_come) == left.len()
+            }
+            (Err(Failure::Incomplete(_)), _) => !is_whole,
+            (Err(Failure::Refused(refused)), _) => return Err(refused),
+            (Err(_), wanted) => wanted.is_none(),
+            (Ok(_), None) => false,
+        };
+        if !is_right {
+            return Ok(false);
+        }
+    }
+    Ok(true)
 }
 
-// The parsers of one token, and of no slice.
-fn ask_token(example: Example, alloc: Global, input: &mut Text) -> Answer<char> {
-    match example {
-        Example::Any => any().parse_next(alloc, input),
-        Example::OneOf => one_of(['a', 'b', 'c']).parse_next(alloc, input),
-        _ => none_of(['a', 'b']).parse_next(alloc, input),
+// The first row that the parser does not answer so.
+fn first_other<O: PartialEq + Drop, P: Parser<Text, EmptyError, Output = O>>(
+    alloc: Global,
+    parser: &P,
+    rows: &[Row<O>],
+) -> Result<Option<usize>, AllocError>
+    requires { P.ready parser.now }
+{
+    for (index, row) in rows.iter().enumerate() {
+        if !answers(alloc, parser, row)? {
+            return Ok(Some(index));
+        }
+    }
+    Ok(None)
+}
+
+const ANY: &[Row<char>] = &[("abc", Some(('a', "bc"))), ("", None)];
+
+const ONE_OF: &[Row<char>] = &[("b", Some(('b', ""))), ("d", None)];
+
+const NONE_OF: &[Row<char>] = &[("z", Some(('z', ""))), ("a", None)];
+
+const REST_LENGTH: &[Row<usize>] = &[("abc", Some((3, "abc")))];
+
+#[test]
+fn tokens_are_answered_as_documented(rt: HostRuntime) {
+    let alloc = rt.alloc();
+    let first = [
+        first_other(alloc, &any(), ANY),
+        first_other(alloc, &one_of(['a', 'b', 'c']), ONE_OF),
+        first_other(alloc, &none_of(['a', 'b']), NONE_OF),
+        first_other(alloc, &rest_len(), REST_LENGTH),
+    ];
+    assert_eq!(rt; first, [Ok(None); 4]);
+}
+
+const HELLO: &[Row<&'static str>] = &[
+    ("Hello, World!", Some(("Hello", ", World!"))),
+    ("Something", None),
+    ("Some", None),
+    ("", None),
+];
+
+const SIX: &[Row<&'static str>] = &[
+    ("1234567", Some(("123456", "7"))),
+    ("things", Some(("things", ""))),
+    ("short", None),
+];
+
+const REST: &[Row<&'static str>] = &[("abc", Some(("abc", "")))];
+
+#[test]
+fn slices_are_answered_as_documented(rt: HostRuntime) {
+    let alloc = rt.alloc();
+    let first = [
+        first_other(alloc, &literal("Hello"), HELLO),
+        first_other(alloc, &take(6), SIX),
+        first_other(alloc, &rest(), REST),
+    ];
+    assert_eq!(rt; first, [Ok(None); 3]);
+}
+
+const LETTERS: &[Row<&'static str>] = &[
+    ("latin123", Some(("latin", "123"))),
+    ("12345", Some(("", "12345"))),
+    ("latin", Some(("latin", ""))),
+    ("", Some(("", ""))),
+];
+
+const SOME_LETTERS: &[Row<&'static str>] = &[("latin123", Some(("latin", "123"))), ("12345", None)];
+
+const HEXADECIMAL: &[Row<&'static str>] = &[
+    ("123 and voila", Some(("123", " and voila"))),
+    ("DEADBEEF and others", Some(("DEADBEEF", " and others"))),
+    ("BADBABEsomething", Some(("BADBABE", "something"))),
+    ("D15EA5E", Some(("D15EA5E", ""))),
+    ("", None),
+];
+
+const THREE_TO_SIX: &[Row<&'static str>] = &[
+    ("latin123", Some(("latin", "123"))),
+    ("lengthy", Some(("length", "y"))),
+    ("latin", Some(("latin", ""))),
+    ("ed", None),
+    ("12345", None),
+];
+
+#[test]
+fn tokens_of_a_set_are_answered_as_documented(rt: HostRuntime) {
+    let letters = CharSet::new(&[('a', 'z'), ('A', 'Z')]);
+    let hexadecimal = CharSet::new(&[('0', '9'), ('A', 'F')]);
+    for (parser, rows) in [
+        (take_while(0.., letters), LETTERS),
+        (take_while(1.., letters), SOME_LETTERS),
+        (take_while(1.., hexadecimal), HEXADECIMAL),
+        (take_while(3..=6, letters), THREE_TO_SIX),
+    ] {
+        assert_eq!(rt;
+            first_other(rt.alloc(), &parser, rows),
+            Ok(None),
+            "{rows:?}"
+        );
     }
 }
 
-// The parsers of tokens that give a slice.
-fn ask_slice(example: Example, alloc: Global, input: &mut Text) -> Answer<&'static str> {
-    let letters = ('a'..='z', 'A'..='Z');
-    match example {
-        Example::Hello => literal("Hello").parse_next(alloc, input),
-        Example::Letters => take_while(0.., letters).parse_next(alloc, input),
-        Example::SomeLetters => take_while(1.., letters).parse_next(alloc, input),
-        Example::Hexadecimal => take_while(1.., ('0'..='9', 'A'..='F')).parse_next(alloc, input),
-        Example::ThreeToSix => take_while(3..=6, letters).parse_next(alloc, input),
-        Example::TillColon => take_till(0.., ':').parse_next(alloc, input),
-        Example::SomeTillColon => take_till(1.., ':').parse_next(alloc, input),
-        Example::Six => take(6).parse_next(alloc, input),
-        Example::Rest => rest().parse_next(alloc, input),
-        _ => ask_part(example, alloc, input),
+const TILL_COLON: &[Row<&'static str>] = &[
+    ("latin:123", Some(("latin", ":123"))),
+    (":empty matched", Some(("", ":empty matched"))),
+    ("12345", Some(("12345", ""))),
+];
+
+const SOME_TILL_COLON: &[Row<&'static str>] = &[(":empty matched", None), ("", None)];
+
+#[test]
+fn tokens_up_to_a_set_are_answered_as_documented(rt: HostRuntime) {
+    for (parser, rows) in [
+        (take_till(0.., ':'), TILL_COLON),
+        (take_till(1.., ':'), SOME_TILL_COLON),
+    ] {
+        assert_eq!(rt;
+            first_other(rt.alloc(), &parser, rows),
+            Ok(None),
+            "{rows:?}"
+        );
     }
 }
 
-// The parsers of parts that give a slice.
-fn ask_part(example: Example, alloc: Global, input: &mut Text) -> Answer<&'static str> {
-    let word = take_while(1.., ('a'..='z', 'A'..='Z'));
+const UNTIL_END: &[Row<&'static str>] = &[
+    ("hello, worldeof", Some(("hello, world", "eof"))),
+    ("hello, world", None),
+    ("1eof2eof", Some(("1", "eof2eof"))),
+];
+
+const SOME_UNTIL_END: &[Row<&'static str>] = &[("eof", None)];
+
+#[test]
+fn what_stands_before_a_literal_is_answered_as_documented(rt: HostRuntime) {
+    hits_stay_law();
+    for (parser, rows) in [
+        (take_until(0.., "eof"), UNTIL_END),
+        (take_until(1.., "eof"), SOME_UNTIL_END),
+    ] {
+        assert_eq!(rt;
+            first_other(rt.alloc(), &parser, rows),
+            Ok(None),
+            "{rows:?}"
+        );
+    }
+}
+
+const LETTERS_OR_DIGITS: &[Row<&'static str>] = &[
+    ("abc", Some(("abc", ""))),
+    ("123456", Some(("123456", ""))),
+    (" ", None),
+];
+
+const OPTIONAL: &[Row<Option<&'static str>>] = &[
+    ("abcd;", Some((Some("abcd"), ";"))),
+    ("123;", Some((None, "123;"))),
+];
+
+const PEEKED: &[Row<&'static str>] = &[("abcd;", Some(("abcd", "abcd;"))), ("123;", None)];
+
+const NO_LETTERS: &[Row<()>] = &[("123", Some(((), "123"))), ("abcd", None)];
+
+const END: &[Row<()>] = &[("abc", None), ("", Some(((), "")))];
+
+const ASKED: &[Row<Option<&'static str>>] = &[("abcd;", Some((Some("abcd"), ";"))), ("123;", None)];
+
+const NOT_ASKED: &[Row<Option<&'static str>>] = &[("abcd;", Some((None, "abcd;")))];
+
+#[test]
+fn choices_are_answered_as_documented(rt: HostRuntime) {
+    let alloc = rt.alloc();
     let digits = take_while(1.., '0'..='9');
-    match example {
-        Example::LettersOrDigits => alt((word, digits)).parse_next(alloc, input),
-        Example::Peeked => peek(word).parse_next(alloc, input),
-        Example::OfFour => {
-            let is_of_four = |word: &&str| word.len() == 4;
-            word.verify(is_of_four).parse_next(alloc, input)
-        }
-        Example::Preceded => preceded(literal("abc"), literal("efg")).parse_next(alloc, input),
-        Example::Terminated => terminated(literal("abc"), literal("efg")).parse_next(alloc, input),
-        Example::Delimited => {
-            delimited(one_of('('), literal("abc"), one_of(')')).parse_next(alloc, input)
-        }
-        _ => separated_pair(&word, one_of(','), &word)
-            .take()
-            .parse_next(alloc, input),
+    let first = [
+        first_other(
+            alloc,
+            &alt((take_while(1.., letters()), digits)),
+            LETTERS_OR_DIGITS,
+        ),
+        first_other(alloc, &opt(take_while(1.., letters())), OPTIONAL),
+        first_other(alloc, &peek(take_while(1.., letters())), PEEKED),
+        first_other(alloc, &not(take_while(1.., letters())), NO_LETTERS),
+        first_other(alloc, &eof(), END),
+        first_other(alloc, &cond(true, take_while(1.., letters())), ASKED),
+        first_other(alloc, &cond(false, take_while(1.., letters())), NOT_ASKED),
+    ];
+    assert_eq!(rt; first, [Ok(None); 7]);
+}
+
+const OF_FOUR: &[Row<&'static str>] = &[
+    ("abcd", Some(("abcd", ""))),
+    ("abcde", None),
+    ("123abcd;", None),
+];
+
+const BYTE: &[Row<u8>] = &[("123", Some((123, ""))), ("abc", None), ("123456", None)];
+
+#[test]
+fn made_values_are_answered_as_documented(rt: HostRuntime) {
+    let alloc = rt.alloc();
+    let is_of_four = |word: &&str| word.len() == 4;
+    let digits = take_while(1.., '0'..='9');
+    let first = [
+        first_other(
+            alloc,
+            &take_while(1.., letters()).verify(is_of_four),
+            OF_FOUR,
+        ),
+        first_other(
+            alloc,
+            &digits.verify_map(|digits: &str| digits.parse().ok()),
+            BYTE,
+        ),
+    ];
+    assert_eq!(rt; first, [Ok(None); 2]);
+}
+
+const PRECEDED: &[Row<&'static str>] = &[("abcefghij", Some(("efg", "hij"))), ("123", None)];
+
+const TERMINATED: &[Row<&'static str>] = &[("abcefghij", Some(("abc", "hij")))];
+
+const DELIMITED: &[Row<&'static str>] = &[("(abc)def", Some(("abc", "def"))), ("123", None)];
+
+const RECOGNIZED: &[Row<&'static str>] = &[("abcd,efgh", Some(("abcd,efgh", ""))), ("abcd;", None)];
+
+// Two parsers, of which one gives the value.
+fn in_a_row<P: Parser<Text, EmptyError, Output = &'static str> + Copy + Drop>(
+    alloc: Global,
+    first: P,
+    second: P,
+) -> [Result<Option<usize>, AllocError>; 2]
+    requires first { P.ready first }
+    requires second { P.ready second }
+{
+    [
+        first_other(alloc, &preceded(first, second), PRECEDED),
+        first_other(alloc, &terminated(first, second), TERMINATED),
+    ]
+}
+
+#[test]
+fn sequences_are_answered_as_documented(rt: HostRuntime) {
+    let alloc = rt.alloc();
+    let first = [
+        first_other(
+            alloc,
+            &delimited(one_of('('), literal("abc"), one_of(')')),
+            DELIMITED,
+        ),
+        first_other(
+            alloc,
+            &separated_pair(
+                take_while(1.., letters()),
+                one_of(','),
+                take_while(1.., letters()),
+            )
+            .take(),
+            RECOGNIZED,
+        ),
+    ];
+    assert_eq!(rt; first, [Ok(None); 2]);
+    assert_eq!(rt;
+        in_a_row(alloc, literal("abc"), literal("efg")),
+        [Ok(None); 2]
+    );
+}
+
+const REPEATED: &[Row<usize>] = &[
+    ("abcabc", Some((2, ""))),
+    ("abc123", Some((1, "123"))),
+    ("123123", Some((0, "123123"))),
+    ("", Some((0, ""))),
+];
+
+const SOME_REPEATED: &[Row<usize>] = &[("abc123", Some((1, "123"))), ("123123", None)];
+
+const REPEATED_TWICE: &[Row<usize>] = &[("abcabcabc", Some((2, "abc"))), ("abc123", None)];
+
+const UP_TO_TWO: &[Row<usize>] = &[
+    ("abcabcabc", Some((2, "abc"))),
+    ("123123", Some((0, "123123"))),
+];
+
+#[test]
+fn repetitions_are_answered_as_documented(rt: HostRuntime) {
+    let item = literal("abc");
+    for (parser, rows) in [
+        (repeat::<_, usize, _>(0.., item), REPEATED),
+        (repeat::<_, usize, _>(1.., item), SOME_REPEATED),
+        (repeat::<_, usize, _>(2, item), REPEATED_TWICE),
+        (repeat::<_, usize, _>(0..=2, item), UP_TO_TWO),
+    ] {
+        assert_eq!(rt;
+            first_other(rt.alloc(), &parser, rows),
+            Ok(None),
+            "{rows:?}"
+        );
     }
 }
 
-// The parsers that count.
-fn ask_count(example: Example, alloc: Global, input: &mut Text) -> Answer<usize> {
+const SEPARATED: &[Row<usize>] = &[
+    ("abc|abc|abc", Some((3, ""))),
+    ("abc123abc", Some((1, "123abc"))),
+    ("abc|def", Some((1, "|def"))),
+    ("def|abc", Some((0, "def|abc"))),
+];
+
+const SOME_SEPARATED: &[Row<usize>] = &[("abc|def", Some((1, "|def"))), ("def|abc", None)];
+
+const SEPARATED_TWICE: &[Row<usize>] = &[("abc|abc|abc", Some((2, "|abc"))), ("abc123abc", None)];
+
+#[test]
+fn lists_are_answered_as_documented(rt: HostRuntime) {
     let item = literal("abc");
     let bar = one_of('|');
-    match example {
-        Example::RestLength => rest_len().parse_next(alloc, input),
-        Example::Repeated => repeat(0.., item).parse_next(alloc, input),
-        Example::SomeRepeated => repeat(1.., item).parse_next(alloc, input),
-        Example::RepeatedTwice => repeat(2, item).parse_next(alloc, input),
-        Example::UpToTwo => repeat(0..=2, item).parse_next(alloc, input),
-        Example::Separated => separated(0.., item, bar).parse_next(alloc, input),
-        Example::SomeSeparated => separated(1.., item, bar).parse_next(alloc, input),
-        _ => separated(2, item, bar).parse_next(alloc, input),
+    for (parser, rows) in [
+        (separated::<_, _, usize, _>(0.., item, bar), SEPARATED),
+        (separated::<_, _, usize, _>(1.., item, bar), SOME_SEPARATED),
+        (separated::<_, _, usize, _>(2, item, bar), SEPARATED_TWICE),
+    ] {
+        assert_eq!(rt;
+            first_other(rt.alloc(), &parser, rows),
+            Ok(None),
+            "{rows:?}"
+        );
     }
-}
-
-// The parsers that search, of which what they found stays found.
-fn ask_until(least: usize, alloc: Global, input: &mut Text) -> Answer<&'static str> {
-    hits_stay_law();
-    take_until(least.., "eof").parse_next(alloc, input)
-}
-
-// The parsers that may give nothing.
-fn ask_word(example: Example, alloc: Global, input: &mut Text) -> Answer<Option<&'static str>> {
-    let word = take_while(1.., ('a'..='z', 'A'..='Z'));
-    match example {
-        Example::Optional => opt(word).parse_next(alloc, input),
-        Example::Conditional(is_asked) => cond(is_asked, word).parse_next(alloc, input),
-        Example::NoLetters => not(word).map(|()| None).parse_next(alloc, input),
-        _ => eof().map(|()| None).parse_next(alloc, input),
-    }
-}
-
-// A number that fits a byte.
-fn ask_byte(alloc: Global, input: &mut Text) -> Answer<u8> {
-    let digits = take_while(1.., '0'..='9');
-    digits
-        .verify_map(|digits: &str| digits.parse().ok())
-        .parse_next(alloc, input)
-}
-
-fn ask(example: Example, alloc: Global, input: &mut Text) -> Answer<Value> {
-    match example {
-        Example::Any | Example::OneOf | Example::NoneOf => {
-            Ok(Letter(ask_token(example, alloc, input)?))
-        }
-        Example::UntilEnd => Ok(Slice(ask_until(0, alloc, input)?)),
-        Example::SomeUntilEnd => Ok(Slice(ask_until(1, alloc, input)?)),
-        Example::Byte => Ok(Count(usize::from(ask_byte(alloc, input)?))),
-        Example::Optional | Example::Conditional(_) | Example::NoLetters | Example::End => {
-            match ask_word(example, alloc, input)? {
-                Some(word) => Ok(Slice(word)),
-                None => Ok(Nothing),
-            }
-        }
-        Example::RestLength
-        | Example::Repeated
-        | Example::SomeRepeated
-        | Example::RepeatedTwice
-        | Example::UpToTwo
-        | Example::Separated
-        | Example::SomeSeparated
-        | Example::SeparatedTwice => Ok(Count(ask_count(example, alloc, input)?)),
-        _ => Ok(Slice(ask_slice(example, alloc, input)?)),
-    }
-}
-
-// A parser's answer: a value, and how many bytes it left; that it failed; or that it wants more.
-#[derive(Clone, Copy, Debug, PartialEq, Eq)]
-enum Told {
-    Value(Value, usize),
-    Failure,
-    More,
-}
-
-fn tell(example: Example, alloc: Global, text: &'static str, is_whole: bool) -> Told {
-    let mut input = Partial::new(text);
-    if is_whole {
-        let _ = input.complete();
-    }
-    match ask(example, alloc, &mut input) {
-        Ok(value) => Told::Value(value, input.eof_offset()),
-        Err(Failure::Incomplete(_)) => Told::More,
-        Err(_) => Told::Failure,
-    }
-}
-
-// Whether this is a parser's answer of the whole text, and of each front on which it wants no more.
-fn answers(example: Example, alloc: Global, text: &'static str, wanted: Told) -> bool {
-    if tell(example, alloc, text, true) != wanted {
-        return false;
-    }
-    for end in 0..=text.len() {
-        let front = text.get(..end).unwrap_or("");
-        let told = match tell(example, alloc, front, false) {
-            Told::Value(value, left) => Told::Value(value, (text.len() - end).saturating_add(left)),
-            other => other,
-        };
-        if told != wanted && told != Told::More {
-            return false;
-        }
-    }
-    true
-}
-
-// A row: a parser, a text, and what it gives and leaves.
-type Row = (Example, &'static str, Option<(Value, &'static str)>);
-
-fn first_other(alloc: Global, rows: &[Row]) -> Option<Row> {
-    for row in rows {
-        let (example, text, wanted) = *row;
-        let wanted = match wanted {
-            Some((value, rest)) => Told::Value(value, rest.len()),
-            None => Told::Failure,
-        };
-        if !answers(example, alloc, text, wanted) {
-            return Some(*row);
-        }
-    }
-    None
-}
-
-#[test]
-fn parsers_of_tokens_answer_as_documented(rt: HostRuntime) {
-    let rows = [
-        (Example::Any, "abc", Some((Letter('a'), "bc"))),
-        (Example::Any, "", None),
-        (Example::OneOf, "b", Some((Letter('b'), ""))),
-        (Example::OneOf, "d", None),
-        (Example::NoneOf, "z", Some((Letter('z'), ""))),
-        (Example::NoneOf, "a", None),
-        (
-            Example::Hello,
-            "Hello, World!",
-            Some((Slice("Hello"), ", World!")),
-        ),
-        (Example::Hello, "Something", None),
-        (Example::Hello, "Some", None),
-        (Example::Hello, "", None),
-        (Example::Letters, "latin123", Some((Slice("latin"), "123"))),
-        (Example::Letters, "12345", Some((Slice(""), "12345"))),
-        (Example::Letters, "latin", Some((Slice("latin"), ""))),
-        (Example::Letters, "", Some((Slice(""), ""))),
-        (
-            Example::SomeLetters,
-            "latin123",
-            Some((Slice("latin"), "123")),
-        ),
-        (Example::SomeLetters, "12345", None),
-        (
-            Example::Hexadecimal,
-            "123 and voila",
-            Some((Slice("123"), " and voila")),
-        ),
-        (
-            Example::Hexadecimal,
-            "DEADBEEF and others",
-            Some((Slice("DEADBEEF"), " and others")),
-        ),
-        (
-            Example::Hexadecimal,
-            "BADBABEsomething",
-            Some((Slice("BADBABE"), "something")),
-        ),
-        (
-            Example::Hexadecimal,
-            "D15EA5E",
-            Some((Slice("D15EA5E"), "")),
-        ),
-        (Example::Hexadecimal, "", None),
-        (
-            Example::ThreeToSix,
-            "latin123",
-            Some((Slice("latin"), "123")),
-        ),
-        (Example::ThreeToSix, "lengthy", Some((Slice("length"), "y"))),
-        (Example::ThreeToSix, "latin", Some((Slice("latin"), ""))),
-        (Example::ThreeToSix, "ed", None),
-        (Example::ThreeToSix, "12345", None),
-        (
-            Example::TillColon,
-            "latin:123",
-            Some((Slice("latin"), ":123")),
-        ),
-        (
-            Example::TillColon,
-            ":empty matched",
-            Some((Slice(""), ":empty matched")),
-        ),
-        (Example::TillColon, "12345", Some((Slice("12345"), ""))),
-        (Example::SomeTillColon, ":empty matched", None),
-        (Example::SomeTillColon, "", None),
-        (Example::Six, "1234567", Some((Slice("123456"), "7"))),
-        (Example::Six, "things", Some((Slice("things"), ""))),
-        (Example::Six, "short", None),
-        (
-            Example::UntilEnd,
-            "hello, worldeof",
-            Some((Slice("hello, world"), "eof")),
-        ),
-        (Example::UntilEnd, "hello, world", None),
-        (Example::UntilEnd, "1eof2eof", Some((Slice("1"), "eof2eof"))),
-        (Example::SomeUntilEnd, "eof", None),
-        (Example::Rest, "abc", Some((Slice("abc"), ""))),
-        (Example::RestLength, "abc", Some((Count(3), "abc"))),
-    ];
-    assert_eq!(rt; first_other(rt.alloc(), &rows), None);
-}
-
-#[test]
-fn parsers_of_parts_answer_as_documented(rt: HostRuntime) {
-    let rows = [
-        (Example::LettersOrDigits, "abc", Some((Slice("abc"), ""))),
-        (
-            Example::LettersOrDigits,
-            "123456",
-            Some((Slice("123456"), "")),
-        ),
-        (Example::LettersOrDigits, " ", None),
-        (Example::Optional, "abcd;", Some((Slice("abcd"), ";"))),
-        (Example::Optional, "123;", Some((Nothing, "123;"))),
-        (Example::Peeked, "abcd;", Some((Slice("abcd"), "abcd;"))),
-        (Example::Peeked, "123;", None),
-        (Example::NoLetters, "123", Some((Nothing, "123"))),
-        (Example::NoLetters, "abcd", None),
-        (Example::End, "abc", None),
-        (Example::End, "", Some((Nothing, ""))),
-        (
-            Example::Conditional(true),
-            "abcd;",
-            Some((Slice("abcd"), ";")),
-        ),
-        (
-            Example::Conditional(false),
-            "abcd;",
-            Some((Nothing, "abcd;")),
-        ),
-        (Example::Conditional(true), "123;", None),
-        (Example::OfFour, "abcd", Some((Slice("abcd"), ""))),
-        (Example::OfFour, "abcde", None),
-        (Example::OfFour, "123abcd;", None),
-        (Example::Byte, "123", Some((Count(123), ""))),
-        (Example::Byte, "abc", None),
-        (Example::Byte, "123456", None),
-        (Example::Preceded, "abcefghij", Some((Slice("efg"), "hij"))),
-        (Example::Preceded, "123", None),
-        (
-            Example::Terminated,
-            "abcefghij",
-            Some((Slice("abc"), "hij")),
-        ),
-        (Example::Delimited, "(abc)def", Some((Slice("abc"), "def"))),
-        (Example::Delimited, "123", None),
-        (
-            Example::Recognized,
-            "abcd,efgh",
-            Some((Slice("abcd,efgh"), "")),
-        ),
-        (Example::Recognized, "abcd;", None),
-    ];
-    assert_eq!(rt; first_other(rt.alloc(), &rows), None);
-}
-
-#[test]
-fn parsers_that_repeat_answer_as_documented(rt: HostRuntime) {
-    let rows = [
-        (Example::Repeated, "abcabc", Some((Count(2), ""))),
-        (Example::Repeated, "abc123", Some((Count(1), "123"))),
-        (Example::Repeated, "123123", Some((Count(0), "123123"))),
-        (Example::Repeated, "", Some((Count(0), ""))),
-        (Example::SomeRepeated, "abc123", Some((Count(1), "123"))),
-        (Example::SomeRepeated, "123123", None),
-        (Example::RepeatedTwice, "abcabcabc", Some((Count(2), "abc"))),
-        (Example::RepeatedTwice, "abc123", None),
-        (Example::UpToTwo, "abcabcabc", Some((Count(2), "abc"))),
-        (Example::UpToTwo, "123123", Some((Count(0), "123123"))),
-        (Example::Separated, "abc|abc|abc", Some((Count(3), ""))),
-        (Example::Separated, "abc123abc", Some((Count(1), "123abc"))),
-        (Example::Separated, "abc|def", Some((Count(1), "|def"))),
-        (Example::Separated, "def|abc", Some((Count(0), "def|abc"))),
-        (Example::SomeSeparated, "abc|def", Some((Count(1), "|def"))),
-        (Example::SomeSeparated, "def|abc", None),
-        (
-            Example::SeparatedTwice,
-            "abc|abc|abc",
-            Some((Count(2), "|abc")),
-        ),
-        (Example::SeparatedTwice, "abc123abc", None),
-    ];
-    assert_eq!(rt; first_other(rt.alloc(), &rows), None);
 }

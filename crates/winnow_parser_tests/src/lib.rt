@@ -7,6 +7,8 @@ mod documented;
 #[cfg(test)]
 mod errors;
 #[cfg(test)]
+mod laws;
+#[cfg(test)]
 mod lists;
 #[cfg(test)]
 mod methods;

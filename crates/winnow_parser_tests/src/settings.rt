@@ -47,11 +47,17 @@ where
     }
 }
 
-// Whether every piece up to a cut, behind which more may follow, needs more or tells what the whole tells.
+// Whether every piece up to a cut, after which more may follow, needs more or tells what the whole tells.
 fn pieces_agree(alloc: Global, text: &'static [u8], whole: &Reading) -> bool {
     for cut in 0..text.len() {
-        let piece = told(alloc, Partial::new(&text[..cut]));
-        if piece != Reading::Needs && piece != *whole {
+        let mut piece = Partial::new(&text[..cut]);
+        let agrees = match (setting(alloc, &mut piece), whole) {
+            (Ok((key, value)), Reading::Setting(k, v)) => key == *k && value == *v,
+            (Err(Failure::Backtrack(_)), Reading::Backtracks) => true,
+            (Err(Failure::Incomplete(_)), _) => true,
+            _ => false,
+        };
+        if !agrees {
             return false;
         }
     }

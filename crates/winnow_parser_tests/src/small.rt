@@ -4,26 +4,13 @@ use winnow_combinator::{
 };
 use winnow_error::EmptyError;
 use winnow_match::Compare;
-use winnow_parser::{Failure, ModalResult, Parser};
+use winnow_parser::{Failure, Parser};
 use winnow_stream::{Stream, StreamIsPartial};
 use winnow_token::{any, literal, none_of, one_of, rest, rest_len, take};
 use winnow_wrap::Partial;
 
 // How an answer ended, and how much of the text it left.
 type Ending = (char, usize);
-
-fn ending<I: StreamIsPartial, O: Drop>(answer: ModalResult<O, EmptyError>, input: &I) -> Ending
-    requires { I.valid input.now }
-{
-    let letter = match answer {
-        Ok(_) => 'v',
-        Err(Failure::Backtrack(_)) => 'b',
-        Err(Failure::Cut(_)) => 'c',
-        Err(Failure::Incomplete(_)) => 'n',
-        Err(Failure::Refused(_)) => 'r',
-    };
-    (letter, input.eof_offset())
-}
 
 // What a parser tells of an input.
 fn told<I: StreamIsPartial + Copy + Drop, P: Parser<I, EmptyError>>(
@@ -38,8 +25,14 @@ where
     requires ready { P.ready parser }
 {
     let mut input = input;
-    let answer = parser.parse_next(alloc, &mut input);
-    ending(answer, &input)
+    let letter = match parser.parse_next(alloc, &mut input) {
+        Ok(_) => 'v',
+        Err(Failure::Backtrack(_)) => 'b',
+        Err(Failure::Cut(_)) => 'c',
+        Err(Failure::Incomplete(_)) => 'n',
+        Err(Failure::Refused(_)) => 'r',
+    };
+    (letter, input.eof_offset())
 }
 
 // What parsers of tokens tell.
