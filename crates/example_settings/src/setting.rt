@@ -1,6 +1,6 @@
-ghost use Rattle.std.specs.Prelude.{◌≡◌, false, IfOk, IfErr};
+ghost use Rattle.std.specs.Prelude.{◌≡◌, false, IfOk, IfErr, OnOk};
 ghost use Rattle.winnow_parser.specs.Answer.{ahead};
-ghost use Rattle.example_settings.specs.Lines.{IsSetting, Lacks, told};
+ghost use Rattle.example_settings.specs.Lines.{IsSetting, Lacks, behind, is_in_line, from_value, told};
 
 use crate::fault::Wanted;
 use std::alloc::Global;
@@ -30,6 +30,8 @@ where
     requires complete { I.expects_more input.old ≡ false }
     ensures setting { IfOk result (λ setting.
         IsSetting I.is_slice (ahead I.location I.remaining input.old) setting) }
+    ensures behind { OnOk result (ahead I.location I.remaining input.new
+        ≡ behind is_in_line (from_value (ahead I.location I.remaining input.old))) }
     ensures lacks { IfErr result (λ wanted. Lacks (ahead I.location I.remaining input.old) wanted
         (ahead I.location I.remaining input.new)) }
     ensures valid { I.valid input.new }

@@ -1,7 +1,7 @@
 -- What the parser of a line means, in the words of lines.
 use Rattle.std.proofs.Common.{◌≡◌, ◌≢◌, ℕ, ◌<◌, Bool, [], ◌∷◌, Option, Some, None, length, drop, refl, ap, ◌∙◌, subst, arith, length-drop}
 use Rattle.std.specs.Char.{is_ascii_alphabetic}
-use Rattle.std.specs.Prelude.{◌==◌, IfOk, IfErr}
+use Rattle.std.specs.Prelude.{◌==◌, IfOk, OnOk, IfErr}
 use Rattle.std.proofs.lemmas.Bool.Decides.{nat_tests}
 use Rattle.std.proofs.lemmas.List.{nil_from_length}
 use Rattle.winnow_stream.specs.Source.{Source, width, first_token}
@@ -9,7 +9,7 @@ use Rattle.winnow_parser.specs.Outcome.{Ahead, Gives, Meaning}
 use Rattle.winnow_parser.specs.Meanings.{Pair, Optional}
 use Rattle.winnow_token.specs.Held.{HeldFront}
 use Rattle.winnow_token.specs.OneOf.{OneOf, after_one}
-use Rattle.example_settings.specs.Lines.{is_blank, is_in_line, behind, behind_line, from_sign, IsPart, IsSetting, Lacks, told}
+use Rattle.example_settings.specs.Lines.{is_blank, is_in_line, behind, behind_line, from_sign, from_value, IsPart, IsSetting, Lacks, told}
 use Rattle.example_settings.specs.declared.fault.Wanted.TheVariants as wanted
 
 -- where there is a width, there is a character
@@ -39,16 +39,16 @@ module _ {S : Type 0} (is_slice : S → Source ℕ → ℕ → Type 0) where
   sign partial a b both (c, (h, k)) = (grind (arith, nat_tests, h.0, h.1), k.1 ∙ ap (behind is_blank) h.2)
 
   -- it tells a setting, or what is wanted where the stream then stands
-  pub tells : (parts : Option ((S × S) × Option ((ℕ × S) × Option S))) (partial : Bool) (a b : Ahead ℕ) → Line partial a (Gives parts b) → IfOk (told parts) (IsSetting is_slice a) × IfErr (told parts) (λ what. Lacks a what b)
-  tells None partial a b (e, (c, h)) = (tt, subst (Lacks a wanted.Key) e (refl, nil_from_length _ (grind (arith, h))))
+  pub tells : (parts : Option ((S × S) × Option ((ℕ × S) × Option S))) (partial : Bool) (a b : Ahead ℕ) → Line partial a (Gives parts b) → IfOk (told parts) (IsSetting is_slice a) × OnOk (told parts) (b ≡ behind is_in_line (from_value a)) × IfErr (told parts) (λ what. Lacks a what b)
+  tells None partial a b (e, (c, h)) = (tt, tt, subst (Lacks a wanted.Key) e (refl, nil_from_length _ (grind (arith, h))))
   tells (Some (keyed, None)) partial a b (c, (k, (e, (d, h)))) =
       let at = key partial a c keyed k in
-      (tt, subst (Lacks a wanted.Equals) e (at.1, at.0.1, λ f. grind (arith, nat_tests, h, f)))
+      (tt, tt, subst (Lacks a wanted.Equals) e (at.1, at.0.1, λ f. grind (arith, nat_tests, h, f)))
   tells (Some (keyed, Some (signed, None))) partial a b (c, (k, (d, (g, (e, (f, h)))))) =
       let at = key partial a c keyed k in
       let on = rw at.1 at (sign partial c d signed g) in
-      (tt, subst (Lacks a wanted.Value) e (on.1, at.0.1, on.0, nil_from_length _ (omega (arith, h.1))))
+      (tt, tt, subst (Lacks a wanted.Value) e (on.1, at.0.1, on.0, nil_from_length _ (omega (arith, h.1))))
   tells (Some (keyed, Some (signed, Some value))) partial a b (c, (k, (d, (g, h)))) =
       let at = key partial a c keyed k in
       let on = rw at.1 at (sign partial c d signed g) in
-      (record { key = at.0; sign = on.0; value = subst (λ p. IsPart is_slice is_in_line p value) on.1 (h.0, λ e. omega (arith, h.2, ap length e)) }, tt)
+      (record { key = at.0; sign = on.0; value = subst (λ p. IsPart is_slice is_in_line p value) on.1 (h.0, λ e. omega (arith, h.2, ap length e)) }, h.1 ∙ ap (behind is_in_line) on.1, tt)

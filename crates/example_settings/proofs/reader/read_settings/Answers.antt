@@ -21,12 +21,10 @@ lines-smaller g c =
 
 pub lines-preserved-in-Continue-branch-3 : goal.lines-preserved-in-Continue-branch-3
 lines-preserved-in-Continue-branch-3 g c =
-    let is = c.in_ok-setting.ensures in
-    let more = OneSetting c.lines.invariant.read (some-wide _ _ c.lines-test.true c.eof_offset.ensures) (rw c.in-Some.is at is.read) in
-    record { valid = c.read_line.ensures.valid; complete = c.read_line.ensures.complete; records = c.read_line.ensures.records; read = rw (c.in_ok-push.ensures.items, is.behind) more }
+    let more = OneSetting c.lines.invariant.read (some-wide _ _ c.lines-test.true c.eof_offset.ensures) (rw c.in-Some.is at c.in_ok-setting.ensures.read) in
+    record { valid = c.read_line.ensures.valid; complete = c.read_line.ensures.complete; records = c.read_line.ensures.records; read = rw (c.in_ok-push.ensures.items, c.in_ok-setting.ensures.behind) more }
 
 pub lines-preserved : goal.lines-preserved
 lines-preserved g c =
-    let is = c.in_ok-setting.ensures in
-    let more = OneFault c.lines.invariant.read (some-wide _ _ c.lines-test.true c.eof_offset.ensures) (rw c.in_default.is at is.read) in
-    record { valid = c.read_line.ensures.valid; complete = c.read_line.ensures.complete; records = c.read_line.ensures.records; read = rw is.behind more }
+    let more = OneFault c.lines.invariant.read (some-wide _ _ c.lines-test.true c.eof_offset.ensures) (rw c.in_default.is at c.in_ok-setting.ensures.read) in
+    record { valid = c.read_line.ensures.valid; complete = c.read_line.ensures.complete; records = c.read_line.ensures.records; read = rw c.in_ok-setting.ensures.behind more }
