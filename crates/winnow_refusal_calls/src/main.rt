@@ -12,6 +12,7 @@ mod feeds;
 mod growing;
 mod items;
 mod modes;
+mod parsers;
 mod recovery;
 mod script_words;
 mod scripts;
@@ -53,6 +54,9 @@ fn all(alloc: Global, text: &str) -> Result<Vec<Call>, AllocError> {
     calls.extend_from_slice(&trees::calls(alloc, text))?;
     calls.extend_from_slice(&tree_parts::calls(alloc, text))?;
     calls.extend_from_slice(&recovery::calls(alloc, text))?;
+    calls.extend_from_slice(&parsers::gathers(alloc, text))?;
+    calls.extend_from_slice(&parsers::readings(alloc, text))?;
+    calls.extend_from_slice(&parsers::failures(alloc, text))?;
     calls.extend_from_slice(&script_words::calls(alloc, text.len()))?;
     Ok(calls)
 }

@@ -41,6 +41,12 @@ impl<T: Item> Holds<T> for Vec<usize> {
     }
 }
 
+impl Holds<char> for Vec<char> {
+    fn holds_first(&self, count: usize) -> bool {
+        self.len() == count && self.iter().copied().eq(TEXT.chars().take(count))
+    }
+}
+
 impl<T: Item> Holds<T> for VecDeque<usize> {
     fn holds_first(&self, count: usize) -> bool {
         self.iter().copied().eq(0..count.saturating_mul(T::WIDTH))

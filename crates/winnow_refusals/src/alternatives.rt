@@ -1,6 +1,5 @@
 ghost use Rattle.std.specs.Prelude.{true, None, Ok, ⊤};
 
-use crate::failing::failed;
 use std::alloc::{AllocError, Global};
 use winnow_error::ErrMode::Backtrack;
 use winnow_error::{ErrMode, OrTree, ParserError, combine};
@@ -73,13 +72,16 @@ impl<I: Stream> ParserError<I> for Failures {
     }
 }
 
+// The error of a parser that failed at an input, and of which another failed.
 fn one<I: Stream + Copy, E: ParserError<I>>(
     alloc: Global,
     input: I,
 ) -> Result<OrTree<E>, AllocError>
     requires { I.valid input }
 {
-    Ok(OrTree::One(failed(alloc, input)?))
+    let start = input.checkpoint();
+    let error = E::from_input(alloc, &input).append(alloc, &input, &start)?;
+    Ok(OrTree::One(error))
 }
 
 fn both<E: Drop>(

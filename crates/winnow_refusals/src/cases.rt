@@ -1,6 +1,8 @@
 use crate::accumulators::gather;
 use crate::items::Cow;
-use crate::{alternatives, errors, feeds, kinds, recovery, scripts, trees, waiting, words};
+use crate::{
+    alternatives, errors, feeds, kinds, parsers, recovery, scripts, trees, waiting, words,
+};
 use std::alloc::{AllocError, Global};
 use std::collections::{BTreeMap, BTreeSet, HashMap, HashSet, VecDeque};
 
@@ -17,7 +19,7 @@ pub fn tell(refused: bool, right: bool) -> Result<bool, AllocError> {
 }
 
 /// Each case, made once.
-pub fn all(alloc: Global) -> [Case; 42] {
+pub fn all(alloc: Global) -> [Case; 48] {
     [
         ("run", scripts::run_script(alloc)),
         ("run_and_reset", scripts::look_ahead(alloc)),
@@ -73,5 +75,11 @@ pub fn all(alloc: Global) -> [Case; 42] {
         ("run_pieces_text", feeds::all_text(alloc)),
         ("waits_for of bytes", waiting::wait_for_bytes(alloc)),
         ("waits_for of text", waiting::wait_for_text(alloc)),
+        ("repeat into a Vec", parsers::repeat_in_vector(alloc)),
+        ("repeat into a String", parsers::repeat_in_text(alloc)),
+        ("separated", parsers::separate(alloc)),
+        ("parse", parsers::parse(alloc)),
+        ("alt", parsers::join(alloc)),
+        ("context", parsers::tell_context(alloc)),
     ]
 }

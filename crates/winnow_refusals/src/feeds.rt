@@ -39,18 +39,13 @@ fn told<T>(piece: Option<u64>, answer: Answer<T, Range<usize>, Range<usize>>) ->
     }
 }
 
-// How many answers are out.
-fn out<T>(answers: &[Told<T>]) -> usize {
-    answers.len()
-}
-
 // What a feed says of its bytes, its attempts and its answers.
 pub(crate) fn counts(feed: &ByteFeed) -> (usize, usize, u64, usize) {
-    (feed.fed(), feed.held(), feed.tried(), out(feed.answers()))
+    (feed.fed(), feed.held(), feed.tried(), feed.answers().len())
 }
 
 pub(crate) fn text_counts(feed: &TextFeed) -> (usize, usize, u64, usize) {
-    (feed.fed(), feed.held(), feed.tried(), out(feed.answers()))
+    (feed.fed(), feed.held(), feed.tried(), feed.answers().len())
 }
 
 // Whether these answers are the first of those.

@@ -1,0 +1,89 @@
+//! Parsers that gather values, join errors, or tell what was being read.
+
+use crate::accumulators::Holds;
+use crate::cases::tell;
+use crate::items::{Item, TEXT};
+use crate::trees::prints;
+use std::alloc::{AllocError, Global};
+use winnow_combinator::{alt, empty, fail, repeat, separated};
+use winnow_context::{ContextError, StrContext};
+use winnow_error::EmptyError;
+use winnow_parser::{Failure, ModalResult, Parser};
+use winnow_stream::Stream;
+use winnow_token::any;
+use winnow_tree::TreeError;
+
+// Gathers the characters. Refused, the parser gathers them when it is asked again where it began.
+fn gather<A: Holds<char>, P: Parser<&'static str, EmptyError, Output = A>>(
+    alloc: Global,
+    parser: &P,
+) -> Result<bool, AllocError>
+where
+    A: Drop,
+    requires { P.ready parser.now }
+{
+    let mut input = TEXT;
+    let start = input.checkpoint();
+    let mut answer = parser.parse_next(alloc, &mut input);
+    let refused = matches!(answer, Err(Failure::Refused(_)));
+    if refused {
+        input.reset(&start);
+        answer = parser.parse_next(alloc, &mut input);
+    }
+    match answer {
+        Ok(all) => tell(refused, input.is_empty() && all.holds_first(char::TOTAL)),
+        Err(_) => Ok(false),
+    }
+}
+
+/// One parser again and again, in a vector.
+pub fn repeat_in_vector(alloc: Global) -> Result<bool, AllocError> {
+    gather(alloc, &repeat::<_, Vec<char>, _>(0.., any()))
+}
+
+/// The same in a text.
+pub fn repeat_in_text(alloc: Global) -> Result<bool, AllocError> {
+    gather(alloc, &repeat::<_, String, _>(0.., any()))
+}
+
+/// Values with separators between them.
+pub fn separate(alloc: Global) -> Result<bool, AllocError> {
+    gather(alloc, &separated::<_, _, Vec<char>, _>(0.., any(), empty()))
+}
+
+/// A whole text. Refused, it is read when that is asked again.
+pub fn parse(alloc: Global) -> Result<bool, AllocError> {
+    let word = repeat::<_, String, _>(0.., any());
+    let first = Parser::<_, EmptyError>::parse(&word, alloc, TEXT);
+    let refused = first.is_err();
+    match first.or_else(|_| Parser::<_, EmptyError>::parse(&word, alloc, TEXT)) {
+        Ok(Ok(all)) => tell(refused, Holds::<char>::holds_first(&all, char::TOTAL)),
+        _ => Ok(false),
+    }
+}
+
+/// Two alternatives that fail, whose errors are joined; a refusal gives them up.
+pub fn join(alloc: Global) -> Result<bool, AllocError> {
+    let mut input = "12x";
+    let both = alt((fail(), fail()));
+    let answer: ModalResult<(), TreeError<&str, StrContext>> = both.parse_next(alloc, &mut input);
+    match answer {
+        Err(Failure::Backtrack(error)) => {
+            prints(alloc, &error, "during one of:\n   at '12x'\n   at '12x'\n")
+        }
+        Err(Failure::Refused(refused)) => Err(refused),
+        _ => Ok(false),
+    }
+}
+
+/// A parser that fails and tells what it was reading; a refusal gives that up.
+pub fn tell_context(alloc: Global) -> Result<bool, AllocError> {
+    let mut input = "12x";
+    let told = fail().context('a');
+    let answer: ModalResult<(), ContextError<char>> = told.parse_next(alloc, &mut input);
+    match answer {
+        Err(Failure::Backtrack(error)) => Ok(error.context().copied().eq(['a'])),
+        Err(Failure::Refused(refused)) => Err(refused),
+        _ => Ok(false),
+    }
+}
