@@ -16,39 +16,31 @@ fn gathered<A: Accumulate<T> + Drop, T: Drop, const N: usize>(
     accumulate_all(alloc, Vec::from_array(alloc, items)?)
 }
 
-// The debug text of one.
-fn gathered_text<A: Accumulate<T> + Debug + Drop, T: Drop, const N: usize>(
-    alloc: Global,
-    items: [T; N],
-) -> Result<String, AllocError> {
-    let gathered: A = gathered(alloc, items)?;
-    format!(in alloc; "{gathered:?}")
-}
-
-// Asserts that text.
+// Asserts the debug text of one.
 fn gathers<A: Accumulate<T> + Debug + Drop, T: Drop, const N: usize>(
     rt: &impl Abort,
     alloc: Global,
     items: [T; N],
     wanted: &str,
 ) -> Result<(), AllocError> {
-    let text = gathered_text::<A, T, N>(alloc, items)?;
+    let gathered: A = accumulate_all(alloc, Vec::from_array(alloc, items)?)?;
+    let text = format!(in alloc; "{gathered:?}")?;
     assert_eq!(rt; text.as_str(), wanted);
     Ok(())
 }
 
-fn owned(alloc: Global, text: &str) -> Result<String, AllocError> {
-    String::from_str(alloc, text)
-}
-
 // Two texts that are owned.
 fn two_owned(alloc: Global) -> Result<[String; 2], AllocError> {
-    Ok([owned(alloc, "ab")?, owned(alloc, "c")?])
+    Ok([
+        String::from_str(alloc, "ab")?,
+        String::from_str(alloc, "c")?,
+    ])
 }
 
 // A text that is borrowed, and one that is owned.
 fn two_cows(alloc: Global) -> Result<[Cow; 2], AllocError> {
-    Ok([CowStr::Borrowed("ab"), CowStr::Owned(owned(alloc, "c")?)])
+    let owned = String::from_str(alloc, "c")?;
+    Ok([CowStr::Borrowed("ab"), CowStr::Owned(owned)])
 }
 
 const PIECES: [&[u8]; 3] = [&[1, 2], &[], &[3]];
@@ -135,15 +127,10 @@ fn maps_and_sets(rt: HostRuntime) -> Result<(), Fail> {
     Ok(())
 }
 
-// An accumulator where that many items are said to come.
-fn started<A: Accumulate<T>, T>(alloc: Global, said: usize) -> Result<A, AllocError> {
-    A::initial(alloc, Some(said))
-}
-
 // What a hash map and a hash set have room for, where that many items are said to come.
 fn rooms(alloc: Global, said: usize) -> Result<[usize; 2], AllocError> {
-    let map = started::<HashMap<u8, char>, (u8, char)>(alloc, said)?;
-    let set = started::<HashSet<u8>, u8>(alloc, said)?;
+    let map = <HashMap<u8, char> as Accumulate<(u8, char)>>::initial(alloc, Some(said))?;
+    let set = <HashSet<u8> as Accumulate<u8>>::initial(alloc, Some(said))?;
     Ok([map.capacity(), set.capacity()])
 }
 
@@ -166,160 +153,6 @@ fn hashes_trust_a_count_up_to_1024(rt: HostRuntime) -> Result<(), Fail> {
         (usize::MAX, 1024),
     ] {
         assert_eq!(rt; rooms(alloc, said)?, std_rooms(alloc, trusted)?, "{said}");
-    }
-    Ok(())
-}
-
-// How much an accumulator holds.
-trait Length {
-    fn length(&self) -> usize;
-}
-
-impl Length for usize {
-    fn length(&self) -> usize {
-        *self
-    }
-}
-
-impl<T> Length for Vec<T> {
-    fn length(&self) -> usize {
-        self.len()
-    }
-}
-
-impl<T> Length for VecDeque<T> {
-    fn length(&self) -> usize {
-        self.len()
-    }
-}
-
-impl Length for String {
-    fn length(&self) -> usize {
-        self.len()
-    }
-}
-
-impl Length for CowStr<'_, Global> {
-    fn length(&self) -> usize {
-        self.as_str().len()
-    }
-}
-
-impl Length for BTreeMap<usize, u8> {
-    fn length(&self) -> usize {
-        self.len()
-    }
-}
-
-impl Length for HashMap<usize, u8> {
-    fn length(&self) -> usize {
-        self.len()
-    }
-}
-
-impl Length for BTreeSet<usize> {
-    fn length(&self) -> usize {
-        self.len()
-    }
-}
-
-impl Length for HashSet<usize> {
-    fn length(&self) -> usize {
-        self.len()
-    }
-}
-
-// How much an accumulator of the items holds.
-fn held<A: Accumulate<T> + Length + Drop, T: Drop>(
-    alloc: Global,
-    items: Vec<T>,
-) -> Result<usize, AllocError> {
-    let gathered: A = accumulate_all(alloc, items)?;
-    Ok(gathered.length())
-}
-
-// How much one holds that is given the same item so many times.
-fn held_of<A: Accumulate<T> + Length + Drop, T: Copy + Drop>(
-    alloc: Global,
-    item: T,
-    count: usize,
-) -> Result<usize, AllocError> {
-    held::<A, T>(alloc, vec![in alloc; item; count]?)
-}
-
-fn lengths_of_lists(alloc: Global, count: usize) -> Result<[usize; 4], AllocError> {
-    Ok([
-        held_of::<usize, char>(alloc, 'a', count)?,
-        held_of::<Vec<u8>, u8>(alloc, 7, count)?,
-        held_of::<Vec<u8>, &[u8]>(alloc, &[7], count)?,
-        held_of::<VecDeque<u8>, &[u8]>(alloc, &[7], count)?,
-    ])
-}
-
-fn lengths_of_texts(alloc: Global, count: usize) -> Result<[usize; 4], AllocError> {
-    Ok([
-        held_of::<String, char>(alloc, 'a', count)?,
-        held_of::<String, &str>(alloc, "a", count)?,
-        held_of::<Cow, &str>(alloc, "a", count)?,
-        held_of::<Cow, char>(alloc, 'a', count)?,
-    ])
-}
-
-fn letters(alloc: Global, count: usize) -> Result<Vec<String>, AllocError> {
-    let mut texts = Vec::new(alloc);
-    for _ in 0..count {
-        texts.push(owned(alloc, "a")?)?;
-    }
-    Ok(texts)
-}
-
-fn cows_of_letters(alloc: Global, count: usize) -> Result<Vec<Cow>, AllocError> {
-    let mut cows = Vec::new(alloc);
-    for _ in 0..count {
-        cows.push(CowStr::Borrowed("a"))?;
-    }
-    Ok(cows)
-}
-
-fn lengths_of_owned_texts(alloc: Global, count: usize) -> Result<[usize; 4], AllocError> {
-    Ok([
-        held::<String, String>(alloc, letters(alloc, count)?)?,
-        held::<String, Cow>(alloc, cows_of_letters(alloc, count)?)?,
-        held::<Cow, String>(alloc, letters(alloc, count)?)?,
-        held::<Cow, Cow>(alloc, cows_of_letters(alloc, count)?)?,
-    ])
-}
-
-fn keys(alloc: Global, count: usize) -> Result<Vec<usize>, AllocError> {
-    (0..count).collect(alloc)
-}
-
-fn pairs(alloc: Global, count: usize) -> Result<Vec<(usize, u8)>, AllocError> {
-    let mut pairs = Vec::new(alloc);
-    for key in 0..count {
-        pairs.push((key, 7))?;
-    }
-    Ok(pairs)
-}
-
-fn lengths_of_maps_and_sets(alloc: Global, count: usize) -> Result<[usize; 4], AllocError> {
-    Ok([
-        held::<BTreeMap<usize, u8>, (usize, u8)>(alloc, pairs(alloc, count)?)?,
-        held::<HashMap<usize, u8>, (usize, u8)>(alloc, pairs(alloc, count)?)?,
-        held::<BTreeSet<usize>, usize>(alloc, keys(alloc, count)?)?,
-        held::<HashSet<usize>, usize>(alloc, keys(alloc, count)?)?,
-    ])
-}
-
-// Memory is there: none of these numbers of items is refused.
-#[test]
-fn as_many_items_as_are_given(rt: HostRuntime) -> Result<(), Fail> {
-    let alloc = rt.alloc();
-    for count in [0, 3, 20_000usize] {
-        assert_eq!(rt; lengths_of_lists(alloc, count)?, [count; 4]);
-        assert_eq!(rt; lengths_of_texts(alloc, count)?, [count; 4]);
-        assert_eq!(rt; lengths_of_owned_texts(alloc, count)?, [count; 4]);
-        assert_eq!(rt; lengths_of_maps_and_sets(alloc, count)?, [count; 4]);
     }
     Ok(())
 }

@@ -16,19 +16,15 @@ use winnow_stream::Stream;
 use winnow_views::TokenSlice;
 use winnow_wrap::{LocatingSlice, Partial, Stateful};
 
-// The text with each option, one after the other.
-fn debugged<T: Debug>(alloc: Global, value: &T) -> Result<String, AllocError> {
-    format!(in alloc; "{value:?}|{value:#?}|{value:>4?}|{value:.1?}")
-}
-
-// Asserts it.
+// Asserts the text with each option, one after the other.
 fn debugs<T: Debug>(
     rt: &impl Abort,
     alloc: Global,
     value: &T,
     wanted: &str,
 ) -> Result<(), AllocError> {
-    assert_eq!(rt; debugged(alloc, value)?.as_str(), wanted);
+    let text = format!(in alloc; "{value:?}|{value:#?}|{value:>4?}|{value:.1?}")?;
+    assert_eq!(rt; text.as_str(), wanted);
     Ok(())
 }
 
