@@ -9,10 +9,10 @@ fn debugged<T: Debug>(alloc: Global, value: &T) -> Result<String, AllocError> {
     format!(in alloc; "{value:?}|{value:#?}|{value:>4?}|{value:.1?}")
 }
 
-type Frames = Vec<TreeErrorFrame<u8, u8>>;
-
-// A frame of each kind.
-fn frames(alloc: Global) -> Result<Frames, AllocError> {
+// An error with a cause, under a frame of each kind.
+fn stacked(alloc: Global) -> Result<TreeError<u8, u8>, AllocError> {
+    let cause = Some(String::from_str(alloc, "bad")?);
+    let base = Box::new(alloc, TreeError::Base(TreeErrorBase { input: 1, cause }))?;
     let kind = TreeErrorBase {
         input: 2,
         cause: None,
@@ -21,22 +21,14 @@ fn frames(alloc: Global) -> Result<Frames, AllocError> {
         input: 3,
         context: 4,
     };
-    let mut frames = Vec::new(alloc);
-    frames.push(Kind(kind))?;
-    frames.push(Context(about))?;
-    Ok(frames)
-}
-
-// An error with a cause, under these frames.
-fn stacked(alloc: Global) -> Result<TreeError<u8, u8>, AllocError> {
-    let cause = Some(String::from_str(alloc, "bad")?);
-    let base = Box::new(alloc, TreeError::Base(TreeErrorBase { input: 1, cause }))?;
-    let stack = frames(alloc)?;
+    let mut stack: Vec<TreeErrorFrame<u8, u8>> = Vec::new(alloc);
+    stack.push(Kind(kind))?;
+    stack.push(Context(about))?;
     Ok(TreeError::Stack { base, stack })
 }
 
-// That error beside another.
-fn alternatives(alloc: Global) -> Result<TreeError<u8, u8>, AllocError> {
+// That error beside another, as debug texts.
+fn alternatives_debugged(alloc: Global) -> Result<String, AllocError> {
     let other = TreeErrorBase {
         input: 5,
         cause: None,
@@ -44,11 +36,7 @@ fn alternatives(alloc: Global) -> Result<TreeError<u8, u8>, AllocError> {
     let mut entries = Vec::new(alloc);
     entries.push(stacked(alloc)?)?;
     entries.push(TreeError::Base(other))?;
-    Ok(TreeError::Alt(entries))
-}
-
-fn alternatives_debugged(alloc: Global) -> Result<String, AllocError> {
-    debugged(alloc, &alternatives(alloc)?)
+    debugged(alloc, &TreeError::Alt(entries))
 }
 
 // As Rust's derives print it.

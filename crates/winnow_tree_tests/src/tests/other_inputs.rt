@@ -1,17 +1,13 @@
-ghost use Rattle.std.specs.Prelude.{◌≡◌, false};
-
-use crate::failing::{both, under};
 use std::alloc::{AllocError, Global};
 use std::fmt;
 use std::fmt::Display;
-use std::process::Abort;
 use std::test::Fail;
 use winnow_context::StrContext;
 use winnow_context::StrContext::Label;
-use winnow_error::{EmptyError, ErrMode, ParserError};
+use winnow_error::{AddContext, EmptyError, ErrMode, ParserError};
 use winnow_kinds::BStr;
 use winnow_recover::Recoverable;
-use winnow_stream::{AsBStr, Location, Stream, StreamIsPartial};
+use winnow_stream::{Location, Stream, StreamIsPartial};
 use winnow_tree::{TreeError, TreeErrorBase};
 use winnow_views::TokenSlice;
 use winnow_wrap::{LocatingSlice, Partial, Stateful};
@@ -27,102 +23,92 @@ impl<T: Display> Display for Seen<T> {
     }
 }
 
-// Two alternatives, of which one failed at the start, and the other behind the first token in a parser that began at the start.
-fn tried<I: Stream + Copy>(
+// Two alternatives, of which one failed at the start, and the other after the first token in a parser that began at the start.
+fn tried<I: Stream, E: ParserError<I> + AddContext<I, StrContext>>(
     alloc: Global,
     mut input: I,
-) -> Result<TreeError<I, StrContext>, AllocError>
+) -> Result<E, AllocError>
 where
+    I: Drop,
     I::Token: Drop,
     requires valid { I.valid input }
 {
     let start = input.checkpoint();
-    let first: TreeError<I, StrContext> = TreeError::from_input(alloc, &input);
+    let first = E::from_input(alloc, &input);
     let _ = input.next_token();
-    let second: TreeError<I, StrContext> = TreeError::from_input(alloc, &input);
-    let second = under(alloc, second, &input, &start, Label("a"))?;
-    both::<I, TreeError<I, StrContext>>(alloc, first, second)
-}
-
-// The text of them, by what the input knows where each failed.
-fn tried_text<I: Stream + Copy, J: Display + Drop, O: Fn(I) -> J + Drop>(
-    alloc: Global,
-    input: I,
-    op: O,
-) -> Result<String, AllocError>
-where
-    I::Token: Drop,
-    requires valid { I.valid input }
-    requires callable { O.IsAlwaysCallable op }
-{
-    tried(alloc, input)?.map_input(alloc, op)?.text(alloc)
-}
-
-// That text, by what the input knows at the start and behind the first token.
-fn text_of(alloc: Global, known: [usize; 2]) -> Result<String, AllocError> {
-    let [start, behind] = known;
-    format!(in alloc;
-        "during one of:\n   at '12x, {start}'\n   at '2x, {behind}'\n    0:  at '12x, {start}'\n    1: invalid a at '12x, {start}'\n"
+    let second = E::from_input(alloc, &input).append(alloc, &input, &start)?;
+    first.or(
+        alloc,
+        second.add_context(alloc, &input, &start, Label("a"))?,
     )
 }
 
-// Asserts that text.
+// Whether the text of them is that of an input that knows one number at the start, and the other after the first token.
 fn knows<I: Stream + Copy, J: Display + Drop, O: Fn(I) -> J + Drop>(
-    rt: &impl Abort,
     alloc: Global,
     input: I,
     op: O,
-    known: [usize; 2],
-) -> Result<(), AllocError>
+    known: (usize, usize),
+) -> Result<bool, AllocError>
 where
     I::Token: Drop,
     requires valid { I.valid input }
     requires callable { O.IsAlwaysCallable op }
 {
-    let text = tried_text(alloc, input, op)?;
-    assert_eq!(rt; text.as_str(), text_of(alloc, known)?.as_str());
-    Ok(())
-}
-
-// Asserts what a place, a flag and a state round an input know.
-fn wrappers_know<I: Stream + StreamIsPartial + Copy + Display>(
-    rt: &impl Abort,
-    alloc: Global,
-    input: I,
-) -> Result<(), AllocError>
-where
-    I::Token: Drop,
-    requires valid { I.valid input }
-    requires no_flag { I.supports_partial ≡ false }
-{
-    let place = |s: LocatingSlice<I>| Seen(*s.inner(), s.current_token_start());
-    knows(rt, alloc, LocatingSlice::new(input), place, [0, 1])?;
-    let flag = |s: Partial<I>| {
-        let is_partial = s.is_partial();
-        Seen(s.into_inner(), usize::from(is_partial))
-    };
-    knows(rt, alloc, Partial::new(input), flag, [1, 1])?;
-    let state = |s: Stateful<I, usize>| Seen(s.input, s.state);
-    knows(rt, alloc, Stateful { input, state: 7 }, state, [7, 7])
+    let (start, later) = known;
+    let tree: TreeError<I, StrContext> = tried(alloc, input)?;
+    let text = tree.map_input(alloc, op)?.text(alloc)?;
+    let wanted = format!(in alloc;
+        "during one of:\n   at '12x, {start}'\n   at '2x, {later}'\n    0:  at '12x, {start}'\n    1: invalid a at '12x, {start}'\n"
+    )?;
+    Ok(text == wanted)
 }
 
 #[test]
 fn frames_have_the_place_the_flag_and_the_state_of_their_start(
     rt: HostRuntime,
 ) -> Result<(), Fail> {
-    wrappers_know(&rt, rt.alloc(), "12x")?;
+    let alloc = rt.alloc();
+    let counted = Stateful {
+        input: "12x",
+        state: 7,
+    };
+    let known = [
+        knows(
+            alloc,
+            LocatingSlice::new("12x"),
+            |s: LocatingSlice<&str>| Seen(*s.inner(), s.current_token_start()),
+            (0, 1),
+        )?,
+        knows(
+            alloc,
+            Partial::new("12x"),
+            |s: Partial<&str>| {
+                let is_partial = s.is_partial();
+                Seen(s.into_inner(), usize::from(is_partial))
+            },
+            (1, 1),
+        )?,
+        knows(
+            alloc,
+            counted,
+            |s: Stateful<&str, usize>| Seen(s.input, s.state),
+            (7, 7),
+        )?,
+    ];
+    assert_eq!(rt; known, [true; 3]);
     Ok(())
 }
 
 #[test]
 fn frames_have_the_tokens_before_their_start(rt: HostRuntime) -> Result<(), Fail> {
-    knows(
-        &rt,
+    let known = knows(
         rt.alloc(),
         TokenSlice::new(b"12x"),
         |s: TokenSlice<'_, u8>| Seen(BStr::new(s.as_slice()), s.previous_tokens().count()),
-        [0, 1],
+        (0, 1),
     )?;
+    assert!(rt; known);
     Ok(())
 }
 

@@ -6,23 +6,11 @@ use std::test::Fail;
 use winnow_error::{EmptyError, InputError};
 use winnow_parse_error::{ParseError, translate_position};
 
-type Bytes = &'static [u8];
-
-type Text = &'static str;
-
-// A parse of bytes that failed at that offset.
-fn at_bytes(alloc: Global, bytes: Bytes, offset: usize) -> ParseError<Bytes, EmptyError> {
-    fail_at(alloc, bytes, offset)
-}
+// A parse of bytes that failed.
+type AtBytes = ParseError<&'static [u8], EmptyError>;
 
 // The same of a text.
-fn at_text(alloc: Global, text: Text, offset: usize) -> ParseError<Text, InputError<Text>> {
-    fail_at(alloc, text, offset)
-}
-
-fn printed<T: Display>(alloc: Global, error: &T) -> Result<String, AllocError> {
-    format!(in alloc; "{error}")
-}
+type AtText = ParseError<&'static str, InputError<&'static str>>;
 
 // Asserts the text of an error.
 fn prints<T: Display>(
@@ -31,7 +19,7 @@ fn prints<T: Display>(
     error: &T,
     wanted: &str,
 ) -> Result<(), AllocError> {
-    assert_eq!(rt; printed(alloc, error)?.as_str(), wanted);
+    assert_eq!(rt; format!(in alloc; "{error}")?.as_str(), wanted);
     Ok(())
 }
 
@@ -62,12 +50,8 @@ fn texts_of_parse_errors(rt: HostRuntime) -> Result<(), Fail> {
         (b"\xe2\x82", 1, "\u{FFFD}\n ^\nfailed to parse"),
     ];
     for (bytes, offset, wanted) in rows {
-        prints(
-            &rt,
-            rt.alloc(),
-            &at_bytes(rt.alloc(), bytes, offset),
-            wanted,
-        )?;
+        let error: AtBytes = fail_at(rt.alloc(), bytes, offset);
+        prints(&rt, rt.alloc(), &error, wanted)?;
     }
     Ok(())
 }
@@ -75,7 +59,8 @@ fn texts_of_parse_errors(rt: HostRuntime) -> Result<(), Fail> {
 #[test]
 fn the_text_of_a_parse_error_over_a_text(rt: HostRuntime) -> Result<(), Fail> {
     let wanted = "0xZ123\n  ^\nfailed to parse starting at: Z123";
-    prints(&rt, rt.alloc(), &at_text(rt.alloc(), "0xZ123", 2), wanted)?;
+    let error: AtText = fail_at(rt.alloc(), "0xZ123", 2);
+    prints(&rt, rt.alloc(), &error, wanted)?;
     Ok(())
 }
 
@@ -92,7 +77,8 @@ fn spans(rt: HostRuntime) {
         (b"\x80\x80a", 3, 3, 3),
     ];
     for (bytes, offset, start, end) in rows {
-        let span = at_bytes(rt.alloc(), bytes, offset).char_span();
+        let error: AtBytes = fail_at(rt.alloc(), bytes, offset);
+        let span = error.char_span();
         assert_eq!(rt; (span.start, span.end), (start, end), "at {offset}");
     }
 }
@@ -114,7 +100,7 @@ fn positions(rt: HostRuntime) {
 
 #[test]
 fn what_a_parse_error_holds(rt: HostRuntime) {
-    let error = at_text(rt.alloc(), "abc", 1);
+    let error: AtText = fail_at(rt.alloc(), "abc", 1);
     let (input, offset, inner) = (*error.input(), error.offset(), error.inner().input);
     assert_eq!(rt;
         (input, offset, inner, error.into_inner().input),

@@ -1,7 +1,5 @@
-use crate::failing::{both, joined, under};
+use crate::failing::joined;
 use std::alloc::{AllocError, Global};
-use std::fmt::Display;
-use std::process::Abort;
 use std::test::Fail;
 use winnow_context::StrContext;
 use winnow_context::StrContext::Label;
@@ -14,75 +12,6 @@ use winnow_tree::{TreeError, combine_trees, tree_bracket_law, tree_or_law};
 use winnow_views::Bits;
 
 type Tree<'i> = TreeError<&'i str, StrContext>;
-
-// Three errors as alternatives, bracketed from the left.
-fn from_left<I: Stream, E: ParserError<I>>(
-    alloc: Global,
-    first: &I,
-    second: &I,
-    third: &I,
-) -> Result<E, AllocError> {
-    let (first, second) = (E::from_input(alloc, first), E::from_input(alloc, second));
-    let left = both::<I, E>(alloc, first, second)?;
-    both::<I, E>(alloc, left, E::from_input(alloc, third))
-}
-
-// The same, bracketed from the right.
-fn from_right<I: Stream, E: ParserError<I>>(
-    alloc: Global,
-    first: &I,
-    second: &I,
-    third: &I,
-) -> Result<E, AllocError> {
-    let (second, third) = (E::from_input(alloc, second), E::from_input(alloc, third));
-    let right = both::<I, E>(alloc, second, third)?;
-    both::<I, E>(alloc, E::from_input(alloc, first), right)
-}
-
-// An error beside one that is told a context.
-fn beside_told<I: Stream, E: ParserError<I> + AddContext<I, StrContext>>(
-    alloc: Global,
-    beside: &I,
-    input: &I,
-) -> Result<E, AllocError>
-where
-    requires { I.valid input.now }
-{
-    let start = input.checkpoint();
-    let told = E::from_input(alloc, input).add_context(alloc, input, &start, Label("number"))?;
-    both::<I, E>(alloc, E::from_input(alloc, beside), told)
-}
-
-// An error of another's, which is appended to.
-fn caused_and_appended<I: Stream, E: ParserError<I> + FromExternalError<I, String>>(
-    alloc: Global,
-    input: &I,
-) -> Result<E, AllocError>
-where
-    requires { I.valid input.now }
-{
-    let start = input.checkpoint();
-    let cause = String::from_str(alloc, "bad digit")?;
-    E::from_external_error(alloc, input, cause).append(alloc, input, &start)
-}
-
-// An error in a parser that began where it failed, and was reading something.
-fn under_its_start<I: Stream, E: ParserError<I> + AddContext<I, StrContext>>(
-    alloc: Global,
-    input: &I,
-) -> Result<E, AllocError>
-where
-    requires { I.valid input.now }
-{
-    let start = input.checkpoint();
-    under::<I, StrContext, E>(
-        alloc,
-        E::from_input(alloc, input),
-        input,
-        &start,
-        Label("x"),
-    )
-}
 
 // How an error is made, of three inputs at most.
 #[derive(Clone, Copy)]
@@ -107,23 +36,34 @@ where
     requires first { I.valid first.now }
     requires second { I.valid second.now }
 {
+    let (start, other) = (first.checkpoint(), second.checkpoint());
+    let error = E::from_input(alloc, first);
     match shape {
-        Shape::Alone => Ok(E::from_input(alloc, first)),
-        Shape::FromLeft => from_left(alloc, first, second, third),
-        Shape::FromRight => from_right(alloc, first, second, third),
-        Shape::BesideTold => beside_told(alloc, first, second),
-        Shape::CausedAndAppended => caused_and_appended(alloc, first),
-        Shape::UnderItsStart => under_its_start(alloc, first),
+        Shape::Alone => Ok(error),
+        Shape::FromLeft => {
+            let left = error.or(alloc, E::from_input(alloc, second))?;
+            left.or(alloc, E::from_input(alloc, third))
+        }
+        Shape::FromRight => {
+            let right = E::from_input(alloc, second).or(alloc, E::from_input(alloc, third))?;
+            error.or(alloc, right)
+        }
+        Shape::BesideTold => {
+            let told = E::from_input(alloc, second);
+            error.or(
+                alloc,
+                told.add_context(alloc, second, &other, Label("number"))?,
+            )
+        }
+        Shape::CausedAndAppended => {
+            let cause = String::from_str(alloc, "bad digit")?;
+            E::from_external_error(alloc, first, cause).append(alloc, first, &start)
+        }
+        Shape::UnderItsStart => {
+            let frame = error.append(alloc, first, &start)?;
+            frame.add_context(alloc, first, &start, Label("x"))
+        }
     }
-}
-
-fn tree(
-    alloc: Global,
-    shape: Shape,
-    inputs: [&'static str; 3],
-) -> Result<Tree<'static>, AllocError> {
-    let [first, second, third] = inputs;
-    shaped(alloc, shape, &first, &second, &third)
 }
 
 const TEXTS: [(Shape, [&str; 3], &str); 8] = [
@@ -132,7 +72,7 @@ const TEXTS: [(Shape, [&str; 3], &str); 8] = [
         ["1", "2", "3"],
         "during one of:\n   at '1'\n   at '2'\n   at '3'\n",
     ),
-    // `or` puts an earlier error behind a later `Alt`.
+    // `or` puts an earlier error after a later `Alt`.
     (
         Shape::FromRight,
         ["1", "2", "3"],
@@ -163,46 +103,49 @@ const TEXTS: [(Shape, [&str; 3], &str); 8] = [
     (Shape::Alone, ["", "", ""], " at ''\n"),
 ];
 
-// Asserts the text of a tree.
-fn prints<I: Display>(
-    rt: &impl Abort,
+// The text of a tree.
+fn text(
     alloc: Global,
-    tree: &TreeError<I, StrContext>,
-    wanted: &str,
-) -> Result<(), AllocError> {
-    assert_eq!(rt; tree.text(alloc)?.as_str(), wanted);
-    Ok(())
+    shape: Shape,
+    [first, second, third]: [&'static str; 3],
+) -> Result<String, AllocError> {
+    let tree: Tree = shaped(alloc, shape, &first, &second, &third)?;
+    tree.text(alloc)
 }
 
 #[test]
 fn texts_of_trees(rt: HostRuntime) -> Result<(), Fail> {
     for (shape, inputs, wanted) in &TEXTS {
-        prints(&rt, rt.alloc(), &tree(rt.alloc(), *shape, *inputs)?, wanted)?;
+        assert_eq!(rt; text(rt.alloc(), *shape, *inputs)?.as_str(), *wanted);
     }
     Ok(())
 }
 
-// A tree with a frame and a context, of texts that it owns.
-fn owned(alloc: Global) -> Result<TreeError<String, StrContext>, AllocError> {
-    tree(alloc, Shape::UnderItsStart, ["ab", "", ""])?.into_owned(alloc)
+// The text of a tree with a frame and a context, of texts that it owns.
+fn owned_text(alloc: Global) -> Result<String, AllocError> {
+    let tree: Tree = shaped(alloc, Shape::UnderItsStart, &"ab", &"", &"")?;
+    tree.into_owned(alloc)?.text(alloc)
 }
 
-// The same of the lengths of the texts.
-fn widths(alloc: Global) -> Result<TreeError<usize, StrContext>, AllocError> {
-    owned(alloc)?.map_input(alloc, |text: String| text.len())
+// That of the same with the lengths of the texts.
+fn mapped_text(alloc: Global) -> Result<String, AllocError> {
+    let tree: Tree = shaped(alloc, Shape::UnderItsStart, &"ab", &"", &"")?;
+    let owned = tree.into_owned(alloc)?;
+    owned
+        .map_input(alloc, |text: String| text.len())?
+        .text(alloc)
 }
 
 #[test]
-fn inputs_are_owned(rt: HostRuntime) -> Result<(), Fail> {
-    let wanted = " at 'ab'\n  0:  at 'ab'\n  1: invalid x at 'ab'\n";
-    prints(&rt, rt.alloc(), &owned(rt.alloc())?, wanted)?;
-    Ok(())
-}
-
-#[test]
-fn inputs_are_mapped(rt: HostRuntime) -> Result<(), Fail> {
-    let wanted = " at '2'\n  0:  at '2'\n  1: invalid x at '2'\n";
-    prints(&rt, rt.alloc(), &widths(rt.alloc())?, wanted)?;
+fn inputs_are_owned_and_mapped(rt: HostRuntime) -> Result<(), Fail> {
+    let (owned, mapped) = (owned_text(rt.alloc())?, mapped_text(rt.alloc())?);
+    assert_eq!(rt;
+        (owned.as_str(), mapped.as_str()),
+        (
+            " at 'ab'\n  0:  at 'ab'\n  1: invalid x at 'ab'\n",
+            " at '2'\n  0:  at '2'\n  1: invalid x at '2'\n"
+        )
+    );
     Ok(())
 }
 
@@ -227,8 +170,10 @@ fn brackets_keep_the_entries(rt: HostRuntime) -> Result<(), Fail> {
     let Backtrack(error) = combined(rt.alloc(), "1", "2", "3")? else {
         return Err(Fail::from("no backtrack"));
     };
-    let wanted = "during one of:\n   at '2'\n   at '3'\n   at '1'\n";
-    prints(&rt, rt.alloc(), &error, wanted)?;
+    assert_eq!(rt;
+        error.text(rt.alloc())?.as_str(),
+        "during one of:\n   at '2'\n   at '3'\n   at '1'\n"
+    );
     Ok(())
 }
 
@@ -252,17 +197,12 @@ fn lengths(
 
 type Leaves = OrTree<ErrMode<TreeError<&'static [u8], StrContext>>>;
 
-// An error at so many bytes, at most 200.
-fn leaf(alloc: Global, length: usize) -> Leaves {
-    let bytes = [0; 200].as_slice();
-    one(alloc, bytes.get(..length).unwrap_or(bytes))
-}
-
-// 200 of them, bracketed from the left or from the right.
+// Errors at 1 to 200 bytes, bracketed from the left or from the right.
 fn many(alloc: Global, is_from_left: bool) -> Result<Leaves, AllocError> {
-    let mut tree = leaf(alloc, 200);
+    let bytes = [0; 200].as_slice();
+    let mut tree = one(alloc, bytes);
     for length in 1..200usize {
-        let leaf = leaf(alloc, length);
+        let leaf = one(alloc, bytes.get(..length).unwrap_or(bytes));
         let (left, right) = if is_from_left {
             (tree, leaf)
         } else {
@@ -317,7 +257,7 @@ fn deep<I: Stream, E: ParserError<I>>(alloc: Global, input: &I) -> Result<E, All
     let mut tree = E::from_input(alloc, input);
     for _ in 0..100u8 {
         let later = tree.append(alloc, input, &start)?;
-        tree = both::<I, E>(alloc, E::from_input(alloc, input), later)?;
+        tree = E::from_input(alloc, input).or(alloc, later)?;
     }
     Ok(tree)
 }
