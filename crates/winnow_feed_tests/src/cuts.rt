@@ -15,7 +15,7 @@ fn answers_of<T: Debug>(alloc: Global, finished: &Finished<T>) -> Result<String,
     format!(in alloc; "{line}at {}", finished.cursor())
 }
 
-// Cuts the bytes behind the first, second and so on where the bits of `cut` say so, from the lowest on; with an empty piece before
+// Cuts the bytes after the first, second and so on where the bits of `cut` say so, from the lowest on; with an empty piece before
 // every piece, or without.
 fn feed_cut(
     feed: &mut ByteFeed,

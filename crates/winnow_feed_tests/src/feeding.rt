@@ -33,14 +33,14 @@ pub(crate) fn text_counts(feed: &TextFeed) -> (usize, usize, u64, usize) {
 // After each piece: how many answers came out, how many bytes are kept, and how many steps were attempted so far. At last, how many
 // bytes were fed, and how many answers are out.
 fn kept(alloc: Global, feed: &mut ByteFeed, pieces: &[&[u8]]) -> Result<String, AllocError> {
-    let mut counted = counts(feed);
-    let mut line = format!(in alloc; "{}", counted.1)?;
+    let mut line = format!(in alloc; "{}", counts(feed).1)?;
     for piece in pieces {
         let came = feed_bytes(feed, piece)?;
-        counted = counts(feed);
-        line = format!(in alloc; "{line}; {came} {} {}", counted.1, counted.2)?;
+        let (_, held, tried, _) = counts(feed);
+        line = format!(in alloc; "{line}; {came} {held} {tried}")?;
     }
-    format!(in alloc; "{line}; of {} {}", counted.0, counted.3)
+    let (fed, _, _, out) = counts(feed);
+    format!(in alloc; "{line}; of {fed} {out}")
 }
 
 // What is kept of the pieces, and what is told at the end.

@@ -90,7 +90,7 @@ fn what_is_kept_and_told_of_pieces(rt: HostRuntime) -> Result<(), Fail> {
     Ok(())
 }
 
-// How many bytes are kept of so many pieces of one `a`.
+// How many bytes are kept of `count` pieces of one `a`.
 fn held_of(alloc: Global, script: &[ByteStep], count: u32) -> Result<usize, AllocError> {
     let mut feed = ByteFeed::new(alloc, script)?;
     for _ in 0..count {

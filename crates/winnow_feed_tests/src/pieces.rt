@@ -62,16 +62,6 @@ fn slices_are_places_in_the_joined_input(rt: HostRuntime) -> Result<(), Fail> {
     Ok(())
 }
 
-// What is told of one search.
-fn searched(
-    alloc: Global,
-    needles: Needles<&[u8]>,
-    pieces: &[&[u8]],
-) -> Result<String, AllocError> {
-    let (_, answers) = fed_bytes(alloc, &[SearchStep::Find(needles)], pieces)?;
-    Ok(answers)
-}
-
 // The needles, the two pieces, and what is told.
 const HITS: &[(Needles<&[u8]>, [&[u8]; 2], &str)] = &[
     (
@@ -119,7 +109,7 @@ const HITS: &[(Needles<&[u8]>, [&[u8]; 2], &str)] = &[
 #[test]
 fn a_hit_waits_while_a_needle_could_move_it(rt: HostRuntime) -> Result<(), Fail> {
     for (needles, pieces, want) in HITS {
-        let answers = searched(rt.alloc(), *needles, pieces)?;
+        let (_, answers) = fed_bytes(rt.alloc(), &[SearchStep::Find(*needles)], pieces)?;
         assert_eq!(rt; answers.as_str(), *want, "{needles:?}");
     }
     Ok(())

@@ -7,8 +7,8 @@ use winnow_base::stream::Step::{
 use winnow_base::stream::{ByteFeed, CharSet, Needles, SearchStep, TextFeed, Waiting};
 
 // What is missing, or in words what is waited for.
-fn in_words(alloc: Global, waiting: Waiting<Vec<u8>>) -> Result<String, AllocError> {
-    match waiting {
+fn waits_for(alloc: Global, feed: &ByteFeed) -> Result<String, AllocError> {
+    match feed.waits_for()? {
         Waiting::NotFed => String::from_str(alloc, "(not fed)"),
         Waiting::NotWaiting => String::from_str(alloc, "(nothing)"),
         Waiting::Until(more) => String::from_utf8_lossy(alloc, more.as_slice()),
@@ -16,8 +16,8 @@ fn in_words(alloc: Global, waiting: Waiting<Vec<u8>>) -> Result<String, AllocErr
     }
 }
 
-fn text_in_words(alloc: Global, waiting: Waiting<String>) -> Result<String, AllocError> {
-    match waiting {
+fn text_waits_for(alloc: Global, feed: &TextFeed) -> Result<String, AllocError> {
+    match feed.waits_for()? {
         Waiting::NotFed => String::from_str(alloc, "(not fed)"),
         Waiting::NotWaiting => String::from_str(alloc, "(nothing)"),
         Waiting::Until(more) => Ok(more),
@@ -25,29 +25,12 @@ fn text_in_words(alloc: Global, waiting: Waiting<String>) -> Result<String, Allo
     }
 }
 
-fn waits_for(alloc: Global, feed: &ByteFeed) -> Result<String, AllocError> {
-    in_words(alloc, feed.waits_for()?)
-}
-
-fn text_waits_for(alloc: Global, feed: &TextFeed) -> Result<String, AllocError> {
-    text_in_words(alloc, feed.waits_for()?)
-}
-
-fn waits_after(alloc: Global, feed: &mut ByteFeed, piece: &[u8]) -> Result<String, AllocError> {
-    feed_bytes(feed, piece)?;
-    waits_for(alloc, feed)
-}
-
-fn text_waits_after(alloc: Global, feed: &mut TextFeed, piece: &str) -> Result<String, AllocError> {
-    feed_text(feed, piece)?;
-    text_waits_for(alloc, feed)
-}
-
 // What the feed waits for, and then what after each piece.
 fn all_waits(alloc: Global, feed: &mut ByteFeed, pieces: &[&[u8]]) -> Result<String, AllocError> {
     let mut line = waits_for(alloc, feed)?;
     for piece in pieces {
-        let waiting = waits_after(alloc, feed, piece)?;
+        feed_bytes(feed, piece)?;
+        let waiting = waits_for(alloc, feed)?;
         line = format!(in alloc; "{line} {waiting}")?;
     }
     Ok(line)
@@ -60,7 +43,8 @@ fn all_text_waits(
 ) -> Result<String, AllocError> {
     let mut line = text_waits_for(alloc, feed)?;
     for piece in pieces {
-        let waiting = text_waits_after(alloc, feed, piece)?;
+        feed_text(feed, piece)?;
+        let waiting = text_waits_for(alloc, feed)?;
         line = format!(in alloc; "{line} {waiting}")?;
     }
     Ok(line)
@@ -190,20 +174,6 @@ fn what_is_waited_for_is_compared_by_its_parts(rt: HostRuntime) -> Result<(), Fa
     Ok(())
 }
 
-fn is_refused(alloc: Global, feed: &ByteFeed) -> bool {
-    match waits_for(alloc, feed) {
-        Ok(_) => false,
-        Err(AllocError) => true,
-    }
-}
-
-fn is_text_refused(alloc: Global, feed: &TextFeed) -> bool {
-    match text_waits_for(alloc, feed) {
-        Ok(_) => false,
-        Err(AllocError) => true,
-    }
-}
-
 // After two bytes: whether memory for what is missing is refused, and how much was fed, is kept, was attempted and is out.
 fn after_two_bytes(
     alloc: Global,
@@ -211,7 +181,7 @@ fn after_two_bytes(
 ) -> Result<(bool, (usize, usize, u64, usize)), AllocError> {
     let mut feed = ByteFeed::new(alloc, script)?;
     feed_bytes(&mut feed, b"ab")?;
-    Ok((is_refused(alloc, &feed), counts(&feed)))
+    Ok((waits_for(alloc, &feed).is_err(), counts(&feed)))
 }
 
 fn after_two_characters(
@@ -220,7 +190,7 @@ fn after_two_characters(
 ) -> Result<(bool, (usize, usize, u64, usize)), AllocError> {
     let mut feed = TextFeed::new(alloc, script)?;
     feed_text(&mut feed, "ab")?;
-    Ok((is_text_refused(alloc, &feed), text_counts(&feed)))
+    Ok((text_waits_for(alloc, &feed).is_err(), text_counts(&feed)))
 }
 
 const TOO_LONG: &[ByteStep<'static>] = &[
