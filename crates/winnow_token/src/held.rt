@@ -47,6 +47,8 @@ impl<I: StreamIsPartial, E: ParserError<I>, C: FixedSet<I::Token>> Parser<I, E> 
     ghost lawful = { λ p. IsParser-HeldFront I.is_slice I.slices_stay
         (C.holds p.set) (least_count p.counts) (greatest_count p.counts) };
 
+    // Inlined: a short front is found in less time than its answer takes through memory.
+    #[inline(always)]
     fn parse_next(&self, alloc: Global, input: &mut I) -> ModalResult<I::Slice, E> {
         let counts = &self.counts;
         take_front(alloc, input, counts, |token| self.set.holds_token(token))
@@ -85,6 +87,8 @@ impl<I: StreamIsPartial, E: ParserError<I>, C: FixedSet<I::Token>> Parser<I, E> 
     ghost lawful = { λ p. IsParser-HeldFront I.is_slice I.slices_stay
         (λ token. not (C.holds p.set token)) (least_count p.counts) (greatest_count p.counts) };
 
+    // Inlined: a short front is found in less time than its answer takes through memory.
+    #[inline(always)]
     fn parse_next(&self, alloc: Global, input: &mut I) -> ModalResult<I::Slice, E> {
         let counts = &self.counts;
         take_front(alloc, input, counts, |token| !self.set.holds_token(token))
