@@ -32,4 +32,9 @@ pub use Rattle.winnow_combinator.specs.Choices
 pub use Rattle.winnow_combinator.specs.Conditional
 pub use Rattle.winnow_combinator.specs.DeterminedLists
 pub use Rattle.winnow_combinator.specs.Words
+pub use Rattle.winnow_ascii.specs.Alike
+pub use Rattle.winnow_ascii.specs.Classes
+pub use Rattle.winnow_ascii.specs.Hexadecimal
+pub use Rattle.winnow_ascii.specs.Lines
+pub use Rattle.winnow_ascii.specs.Numbers
 pub use Rattle.winnow_parser.specs.declared.failure.Failure

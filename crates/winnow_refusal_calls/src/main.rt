@@ -57,6 +57,7 @@ fn all(alloc: Global, text: &str) -> Result<Vec<Call>, AllocError> {
     calls.extend_from_slice(&parsers::gathers(alloc, text))?;
     calls.extend_from_slice(&parsers::readings(alloc, text))?;
     calls.extend_from_slice(&parsers::failures(alloc, text))?;
+    calls.extend_from_slice(&parsers::numbers(alloc, text))?;
     calls.extend_from_slice(&script_words::calls(alloc, text.len()))?;
     Ok(calls)
 }

@@ -2,6 +2,7 @@
 
 use crate::Call;
 use std::alloc::{AllocError, Global};
+use winnow_ascii::{dec_int, dec_uint};
 use winnow_combinator::{alt, empty, eof, fail, repeat, repeat_till, separated};
 use winnow_error::{AddContext, EmptyError, ParserError};
 use winnow_parser::{Failure, Parser};
@@ -136,4 +137,19 @@ fn fail_all<I: StreamIsPartial + Copy + Drop, E: AddContext<I, char> + ParserErr
 /// Parsers whose failures take memory.
 pub fn failures(alloc: Global, text: &str) -> [Call; 10] {
     fail_all::<&str, TreeError<&str, char>>(alloc, text, text.len())
+}
+
+/// Parsers of numbers, of which each alternative fails.
+pub fn numbers(alloc: Global, text: &str) -> [Call; 2] {
+    let count = text.len();
+    [
+        (
+            "<DecimalUnsigned<R> as Parser<I, E>>::parse_next",
+            ask::<&str, TreeError<&str, char>, _>(alloc, text, count, &dec_uint::<u8>()),
+        ),
+        (
+            "<DecimalSigned<R> as Parser<I, E>>::parse_next",
+            ask::<&str, TreeError<&str, char>, _>(alloc, text, count, &dec_int::<i8>()),
+        ),
+    ]
 }

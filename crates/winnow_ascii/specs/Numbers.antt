@@ -1,0 +1,78 @@
+-- The numbers that decimal digits write.
+use Rattle.std.specs.Prelude.{◌≡◌, ℕ, ◌==◌, Bool, ◌||◌, ◌⊎◌, ⊤, None}
+use Rattle.std.specs.Char.{is_ascii_digit}
+use Rattle.std.specs.Int.{is_in_range}
+use Rattle.winnow_stream.specs.Source.{Source}
+use Rattle.winnow_stream.specs.Longer.{SlicesStay}
+use Rattle.winnow_count.specs.Reading.{IsSomeExactly}
+use Rattle.winnow_parser.specs.declared.failure.Failure.TheVariants.{Incomplete, Backtrack, Cut, Refused}
+use Rattle.winnow_parser.specs.Outcome.{Meaning}
+use Rattle.winnow_parser.specs.Errors.{Errors}
+use Rattle.winnow_parser.specs.Laws.{IsParser}
+use Rattle.winnow_parser.specs.Meanings.{Maps, IsForgotten, Pair, Either, Optional, Chosen}
+use Rattle.winnow_parser.specs.Taken.{Taken, IsParser-Taken}
+use Rattle.winnow_parser.specs.Parts.{IsParser-Maps, IsParser-Pair, IsParser-Either, IsParser-Optional, IsParser-Chosen}
+use Rattle.winnow_token.specs.OneOf.{OneOf, IsParser-OneOf}
+use Rattle.winnow_token.specs.Held.{HeldFront, IsParser-HeldFront}
+
+-- a sign: a plus (43) or a minus (45)
+abbrev pub is_sign : ℕ → Bool
+is_sign c = 43 == c || 45 == c
+
+-- a digit that is not 0
+abbrev pub is_nonzero_digit : ℕ → Bool
+is_nonzero_digit c = is_in_range 49 57 c
+
+module _ {S T : Type 0} (is_slice : S → Source T → ℕ → Type 0) (code : T → ℕ) where
+  -- a digit that is not 0, and all digits after it
+  abbrev pub Digits : Meaning (T × S) T
+  Digits = Pair (OneOf (λ token. is_nonzero_digit (code token))) (HeldFront is_slice (λ token. is_ascii_digit (code token)) 0 None)
+
+  -- a 0 (48)
+  abbrev pub Zero : Meaning T T
+  Zero = OneOf (λ token. 48 == code token)
+
+-- such digits, or 0 alone; joining the errors of both may be refused
+abbrev pub Unsigned : {S T : Type 0} → Type 0 → (S → Source T → ℕ → Type 0) → (T → ℕ) → Meaning (Unit {0}) T
+Unsigned refusable is_slice code = Either refusable (Maps IsForgotten (Digits is_slice code)) (Maps IsForgotten (Zero is_slice code))
+
+-- such digits after a sign or none, or 0 alone
+abbrev pub Signed : {S T : Type 0} → Type 0 → (S → Source T → ℕ → Type 0) → (T → ℕ) → Meaning (Unit {0}) T
+Signed refusable is_slice code = Either refusable
+    (Maps IsForgotten (Pair (Optional (OneOf (λ token. is_sign (code token)))) (Digits is_slice code))) (Maps IsForgotten (Zero is_slice code))
+
+-- the value that the slice of it reads as; where it reads as none, this backtracks, from where it began
+abbrev pub ReadAs : {S R T : Type 0} → (S → R → Type 0) → (S → Source T → ℕ → Type 0) → Meaning (Unit {0}) T → Meaning R T
+ReadAs reads is_slice inner = Chosen (λ slice value. IsSomeExactly (reads slice) value) (Taken is_slice inner)
+
+-- slices of which a view shows the same read as the same values
+abbrev pub ReadsAlike : {S R V : Type 0} → (S → V) → (S → R → Type 0) → Type 0
+ReadsAlike {S} {R} {V} view reads = (s t : S) (x : R) → view s ≡ view t → reads s x → reads t x
+
+-- an error that is made of the stream as it is left, or joined of two of which the second is
+abbrev pub NumberErrors : {E S T : Type 0} → (S → E → Type 0) → (S → E → Type 0) → (E → E → E → Type 0) → Errors E S T
+NumberErrors {E} {S} {T} makes cuts joins partial a s (Backtrack e) =
+    makes s e ⊎ ((one : E) × ((other : E) × ((r : S) × (makes r one × makes s other × joins one other e))))
+NumberErrors makes cuts joins partial a s (Cut e) = cuts s e
+NumberErrors makes cuts joins partial a s (Incomplete n) = ⊤
+NumberErrors makes cuts joins partial a s (Refused r) = ⊤
+
+-- ---- The laws
+
+module _ {S T : Type 0} (refusable : Type 0) (is_slice : S → Source T → ℕ → Type 0) (stay : SlicesStay is_slice) (code : T → ℕ) where
+  digits-parser : IsParser (Digits is_slice code)
+  digits-parser = IsParser-Pair _ _ (IsParser-OneOf _) (IsParser-HeldFront is_slice stay _ 0 None)
+
+  zero-parser : IsParser (Maps IsForgotten (Zero is_slice code))
+  zero-parser = IsParser-Maps IsForgotten _ (IsParser-OneOf _)
+
+  pub IsParser-Unsigned : IsParser (Unsigned refusable is_slice code)
+  IsParser-Unsigned = IsParser-Either refusable _ _ (IsParser-Maps IsForgotten _ digits-parser) zero-parser
+
+  pub IsParser-Signed : IsParser (Signed refusable is_slice code)
+  IsParser-Signed =
+      IsParser-Either refusable _ _ (IsParser-Maps IsForgotten _ (IsParser-Pair _ _ (IsParser-Optional _ (IsParser-OneOf _)) digits-parser)) zero-parser
+
+module _ {S R T : Type 0} (reads : S → R → Type 0) (is_slice : S → Source T → ℕ → Type 0) (stay : SlicesStay is_slice) (inner : Meaning (Unit {0}) T) (p : IsParser inner) where
+  pub IsParser-ReadAs : IsParser (ReadAs reads is_slice inner)
+  IsParser-ReadAs = IsParser-Chosen (λ slice value. IsSomeExactly (reads slice) value) _ (IsParser-Taken is_slice stay inner p)
