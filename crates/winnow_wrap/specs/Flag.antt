@@ -1,4 +1,4 @@
--- A stream with a flag that more input may follow: what it holds.
+-- A stream with a flag that more input may follow: its parts.
 use Rattle.std.specs.Prelude.{Bool}
 use Rattle.winnow_wrap.specs.declared.partial.Partial.{Partial}
 

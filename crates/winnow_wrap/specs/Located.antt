@@ -1,4 +1,5 @@
--- What a stream that knows its location holds, and a checkpoint of it. Contracts name these, and never a field.
+-- The parts of a stream that knows its location, and of its checkpoints. Contracts name these, and
+-- never a field.
 use Rattle.std.specs.Prelude.{◌≡◌, ℕ}
 use Rattle.winnow_stream.specs.Checkpoint.{checkpoint_inner}
 use Rattle.winnow_stream.specs.declared.checkpoint.Checkpoint.{Checkpoint}
@@ -11,7 +12,7 @@ module _ {I C : Type 0} {i : Ghosts I} {c : Ghosts C} where
   abbrev pub locating_inner : LocatingSlice I C i c → I
   locating_inner s = s.input
 
-  -- where the whole input starts: the checkpoint of the stream inside that was taken there
+  -- the start: the checkpoint of the stream inside at the place at which the stream was made
   abbrev pub located_start : LocatingSlice I C i c → C
   located_start s = s.start
 
@@ -19,12 +20,13 @@ module _ {I C : Type 0} {i : Ghosts I} {c : Ghosts C} where
   abbrev pub location_of : LocatingSlice I C i c → ℕ
   location_of s = s.location
 
-  -- both may be used
+  -- both the stream inside and the start may be used
   abbrev pub IsValidLocated : (I → Type 0) → (C → Type 0) → LocatingSlice I C i c → Type 0
   IsValidLocated valid valid_checkpoint s = valid (locating_inner s) × valid_checkpoint (located_start s)
 
-  -- the start stays, and what no call changes inside
-  abbrev pub KeepsLocated : (I → I → Type 0) → LocatingSlice I C i c → LocatingSlice I C i c → Type 0
+  -- the start stays, and so does what no call changes inside
+  abbrev pub KeepsLocated : (I → I → Type 0) → LocatingSlice I C i c → LocatingSlice I C i c
+      → Type 0
   KeepsLocated keeps s t = (located_start s ≡ located_start t) × keeps (locating_inner s) (locating_inner t)
 
 module _ {C : Type 0} {g : Ghosts C} where
@@ -36,7 +38,7 @@ module _ {C : Type 0} {g : Ghosts C} where
   abbrev pub placed_location : Placed C g → ℕ
   placed_location c = c.location
 
--- the same of a checkpoint
+-- the two parts of a `Checkpoint`
 module _ {C S : Type 0} {g : Ghosts C} where
   abbrev pub inner_at : Checkpoint (Placed C g) S → C
   inner_at c = placed_inner (checkpoint_inner c)

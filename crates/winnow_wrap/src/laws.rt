@@ -1,3 +1,5 @@
+//! Laws of wrappers. A law does nothing when called: its contract is the law.
+
 ghost use Rattle.std.specs.Prelude.{◌≡◌, ◌&&◌, ℕ, List};
 ghost use Rattle.std.specs.Ordering.{on, then_cmp, bool_cmp};
 ghost use Rattle.winnow_stream.specs.Checkpoint.{checkpoint_inner};
@@ -14,8 +16,9 @@ use crate::{LocatingSlice, Partial, Placed, Stateful};
 use std::fmt::Debug;
 use winnow_stream::{Checkpoint, Stream};
 
-/// The law of equality: streams that know their location are compared by where the whole input starts and by the stream inside, and
-/// checkpoints by that of the stream inside, wherever they stand. It does nothing when called: its contract is the law.
+/// The law of equality of streams that know their location. They are compared by their starts and
+/// by the streams inside, and their checkpoints by the checkpoint of the stream inside, whatever
+/// the location.
 pub fn located_equality_law<I: Stream + PartialEq>()
 where
     I::Checkpoint: PartialEq,
@@ -29,8 +32,9 @@ where
         ≡ I.Checkpoint.eq (inner_at c) (inner_at d) }
 {}
 
-/// The law of order: streams that know their location stand to each other as the starts of the whole input do, and where these are
-/// equal as the streams inside; checkpoints as those of the stream inside. It does nothing when called: its contract is the law.
+/// The law of order of streams that know their location. They are ordered as their starts are
+/// and, if these are equal, as the streams inside are. Checkpoints are ordered as those of the
+/// stream inside are.
 pub fn located_order_law<I: Stream + Ord>()
 where
     I::Checkpoint: Ord,
@@ -43,8 +47,8 @@ where
         ≡ I.Checkpoint.cmp (inner_at c) (inner_at d) }
 {}
 
-/// The law of equality: streams with a flag are compared by the stream inside and the flag, and checkpoints by that of the stream
-/// inside. It does nothing when called: its contract is the law.
+/// The law of equality of streams with a flag. They are compared by the stream inside and the flag,
+/// and their checkpoints by the checkpoint of the stream inside.
 pub fn flagged_equality_law<I: Stream + PartialEq>()
 where
     I::Checkpoint: PartialEq,
@@ -56,9 +60,9 @@ where
         ≡ I.Checkpoint.eq (checkpoint_inner c) (checkpoint_inner d) }
 {}
 
-/// The law of order: streams with a flag stand to each other as the streams inside do, and where these are equal as the flags, of
-/// which the one that is set is the greater; checkpoints as those of the stream inside. It does nothing when called: its contract is
-/// the law.
+/// The law of order of streams with a flag. They are ordered as the streams inside are and, if
+/// these are equal, as the flags are, of which the one that is set is the greater. Checkpoints are
+/// ordered as those of the stream inside are.
 pub fn flagged_order_law<I: Stream + Ord>()
 where
     I::Checkpoint: Ord,
@@ -70,8 +74,8 @@ where
         ≡ I.Checkpoint.cmp (checkpoint_inner c) (checkpoint_inner d) }
 {}
 
-/// The law of equality: streams with a state are compared by the stream inside and the state, and checkpoints by that of the stream
-/// inside. It does nothing when called: its contract is the law.
+/// The law of equality of streams with a state. They are compared by the stream inside and the
+/// state, and their checkpoints by the checkpoint of the stream inside.
 pub fn stateful_equality_law<I: Stream + PartialEq, S: PartialEq>()
 where
     I::Checkpoint: PartialEq,
@@ -83,16 +87,15 @@ where
         ≡ I.Checkpoint.eq (checkpoint_inner c) (checkpoint_inner d) }
 {}
 
-/// The law of equality: checkpoints of a wrapper are compared by what they hold alone, which is a checkpoint of the stream inside,
-/// and beside it the location where the wrapper keeps one. It does nothing when called: its contract is the law.
+/// The law of equality of a wrapper's checkpoints. They are compared only by what they hold: a
+/// checkpoint of the stream inside and, if the wrapper keeps one, the location.
 pub fn wrapper_checkpoint_equality_law<T: PartialEq, S>()
     ensures { (c d : Checkpoint T S)
         → ⟦<Checkpoint<T, S> as PartialEq>⟧.eq c d
         ≡ T.eq (checkpoint_inner c) (checkpoint_inner d) }
 {}
 
-/// The law of order: checkpoints of a wrapper stand to each other as what they hold does. It does nothing when called: its contract is
-/// the law.
+/// The law of order of a wrapper's checkpoints: they are ordered as what they hold is.
 pub fn wrapper_checkpoint_order_law<T: Ord, S>()
     ensures partial { (c d : Checkpoint T S)
         → ⟦<Checkpoint<T, S> as PartialOrd>⟧.partial_cmp c d
@@ -102,8 +105,8 @@ pub fn wrapper_checkpoint_order_law<T: Ord, S>()
         ≡ T.cmp (checkpoint_inner c) (checkpoint_inner d) }
 {}
 
-/// The law of slices of wrappers: they have the bytes, or are the text, that the slices of the stream inside have. It does nothing when called: its
-/// contract is the law.
+/// The law of slices of wrappers: they have the bytes, or are the text, that the slices of the
+/// stream inside have.
 pub fn wrapper_slice_law<I: Stream<Token = u8>, S: Debug>()
     ensures located { (bytes : I.Slice → List ℕ) → SlicesHaveBytes I.is_slice bytes
         → SlicesHaveBytes ⟦<LocatingSlice<I> as Stream>⟧.is_slice bytes }

@@ -1,7 +1,8 @@
-//! Wrappers round streams: what a parser carries along with its input.
+//! Wrappers around streams: what a parser carries along with its input.
 //!
-//! [`LocatingSlice`] knows its location in the whole input, [`Stateful`] carries a state, [`Partial`] a flag that more input may
-//! follow. Each meets the whole of `Stream` from the stream inside alone, so they nest as one likes over any stream.
+//! [`LocatingSlice`] knows its location in the whole input, [`Stateful`] carries a state, and
+//! [`Partial`] has a flag that more input may follow. Each meets the whole of `Stream` from the
+//! stream inside alone, so they nest in any order over any stream.
 #![tactic(auto)]
 
 mod laws;

@@ -3,10 +3,12 @@ ghost use Rattle.std.specs.Prelude.{◌≡◌, ◌+◌, ◌<◌, ◌^◌, ⊤};
 use std::alloc::AllocError;
 use winnow_stream::{Rest, Stream};
 
-/// A stream that knows its location in the whole input: where a token starts and ends, for spans and messages.
+/// A stream that knows its location in the whole input: the start and the end of a token, for spans
+/// and messages.
 ///
-/// The location is 0 at first and moves by the width that is taken. In a window, which `update_slice` makes, it is the location in
-/// the whole input still. Two of them are compared by the checkpoints of their starts, and then by the streams inside.
+/// The location is 0 at first, or the one that `at` is given, and moves by the width that is taken.
+/// A window, which `update_slice` makes, still has its location in the whole input. Two of these
+/// streams are compared by the checkpoints of their starts, and then by the streams inside.
 ///
 /// `C` is always the checkpoint of `I`: write `LocatingSlice<I>`.
 #[derive(Drop)]
@@ -20,7 +22,8 @@ pub struct LocatingSlice<I: Rest, C: Rest = <I as Stream>::Checkpoint> {
     ghost start_fits: { C.rest_width start < 2 ^ 64 },
 }
 
-/// What a checkpoint of a [`LocatingSlice`] holds: that of the stream inside, and the location.
+/// The contents of a checkpoint of a [`LocatingSlice`]: the checkpoint of the stream inside, and
+/// the location.
 #[derive(Drop)]
 #[derive_where(PartialEq, Eq, PartialOrd, Ord; C)]
 pub struct Placed<C: Rest> {

@@ -1,9 +1,10 @@
-ghost use Rattle.std.specs.Prelude.{◌≡◌, ◌+◌, [], Some, take, drop, IsTrue, refl, ℕ};
+ghost use Rattle.std.specs.Prelude.{◌≡◌, ◌+◌, ◌<◌, ◌^◌, [], Some, take, drop, IsTrue, refl, ℕ};
 ghost use Rattle.std.proofs.Common.{◌∙◌, subst};
 ghost use Rattle.winnow_stream.specs.Source.{width, first_token};
 ghost use Rattle.winnow_stream.specs.Front.{is_offset, back, front, IsSomeFront};
 ghost use Rattle.winnow_wrap.specs.Located.{locating_inner, located_start, location_of};
-ghost use Rattle.winnow_wrap.specs.Located.{IsValidLocated, KeepsLocated, placed_inner, placed_location};
+ghost use Rattle.winnow_wrap.specs.Located.{IsValidLocated, KeepsLocated, placed_inner};
+ghost use Rattle.winnow_wrap.specs.Located.{placed_location};
 ghost use Rattle.winnow_wrap.specs.Located.{inner_at, location_at};
 
 use crate::{LocatingSlice, Placed};
@@ -30,7 +31,7 @@ impl<C: Offset<C>> Offset<Placed<C>> for Placed<C> {
     }
 }
 
-/// As the checkpoint inside.
+/// It prints as the checkpoint inside.
 impl<C: Debug + Rest> Debug for Placed<C> {
     ghost debug_output = { λ c. C.debug_output (placed_inner c) };
 
@@ -40,7 +41,7 @@ impl<C: Debug + Rest> Debug for Placed<C> {
 }
 
 impl<I: Stream<Checkpoint = C>, C: Rest + Copy + Debug> LocatingSlice<I, C> {
-    /// Returns the stream at location 0: what remains of it is the whole input.
+    /// Returns the stream at location 0. What remains of `input` is the whole input.
     pub fn new(input: I) -> Self
         requires { I.valid input }
         ensures input { locating_inner result ≡ input }
@@ -49,7 +50,7 @@ impl<I: Stream<Checkpoint = C>, C: Rest + Copy + Debug> LocatingSlice<I, C> {
         ensures location { location_of result ≡ 0 }
     {
         let start = input.checkpoint();
-        // That its width is a `usize` is why a location fits one.
+        // The width of the whole input is a `usize`, so each location is one.
         let _whole = input.eof_offset();
         LocatingSlice {
             start,
@@ -58,7 +59,31 @@ impl<I: Stream<Checkpoint = C>, C: Rest + Copy + Debug> LocatingSlice<I, C> {
         }
     }
 
-    /// Goes back to the whole input, also out of a window: the location is 0.
+    /// Returns the stream at a location: what remains is the end of a longer input, of which the
+    /// width `location` was taken before. The width of the longer input must be a `usize`.
+    ///
+    /// [`reset_to_start`](LocatingSlice::reset_to_start) goes back to the place at which this
+    /// stream was made, and counts from 0 there.
+    pub fn at(input: I, location: usize) -> Self
+        requires valid { I.valid input }
+        requires fits { location + I.rest_width input < 2 ^ 64 }
+        ensures input { locating_inner result ≡ input }
+        ensures start { I.remained (located_start result) ≡ I.remaining input }
+        ensures valid { IsValidLocated I.valid I.valid_checkpoint result }
+        ensures location { location_of result ≡ location }
+    {
+        let start = input.checkpoint();
+        // The width of what remains is a `usize`, so the width at the checkpoint is one.
+        let _whole = input.eof_offset();
+        LocatingSlice {
+            start,
+            input,
+            location,
+        }
+    }
+
+    /// Goes back to the place at which the stream was made, also out of a window. The location is
+    /// then 0.
     pub fn reset_to_start(&mut self)
         requires { IsValidLocated I.valid I.valid_checkpoint self.old }
         ensures remains { I.remaining (locating_inner self.new)
@@ -101,7 +126,8 @@ impl<I: Rest, C: Rest> Rest for LocatingSlice<I, C> {
     ghost location = { λ s. Some (location_of s) };
 }
 
-/// What remains is what remains inside, and the start is kept. Each call says what becomes of the location.
+/// What remains is what remains inside, and the start is kept. The contract of each call says what
+/// becomes of the location.
 impl<I: Stream<Checkpoint = C>, C: Rest + Copy + Debug> Stream for LocatingSlice<I, C> {
     type Token = I::Token;
 
@@ -389,6 +415,7 @@ impl<I: Compare<T> + Stream<Checkpoint = C>, C: Rest + Copy + Debug, T> Compare<
 
     ghost comparisons_stay = { I.comparisons_stay };
 
+    #[inline(always)]
     fn compare(&self, t: T) -> CompareResult {
         self.input.compare(t)
     }
@@ -403,7 +430,7 @@ impl<I: FindSlice<T> + Stream<Checkpoint = C>, C: Rest + Copy + Debug, T> FindSl
     }
 }
 
-/// As the stream inside, under the options of a hole too.
+/// It prints as the stream inside, also under the options of a hole.
 impl<I: Display + Rest, C: Rest> Display for LocatingSlice<I, C> {
     ghost output = { λ s. I.output (locating_inner s) };
 
@@ -414,7 +441,7 @@ impl<I: Display + Rest, C: Rest> Display for LocatingSlice<I, C> {
     }
 }
 
-/// As the stream inside.
+/// It prints as the stream inside.
 impl<I: Debug + Rest, C: Rest> Debug for LocatingSlice<I, C> {
     ghost debug_output = { λ s. I.debug_output (locating_inner s) };
 

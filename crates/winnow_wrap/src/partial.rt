@@ -12,9 +12,11 @@ use winnow_stream::{
     UpdateSlice,
 };
 
-/// A stream with a flag that more input may follow. The flag starts set, `complete` clears it, and `reset` leaves it.
+/// A stream with a flag that more input may follow. The flag is set at first, `complete` clears it,
+/// and `reset` leaves it as it is.
 ///
-/// At the end of what remains, a parser asks `is_partial`: where more may follow, it answers that it needs more.
+/// At the end of what remains, a parser calls `is_partial`. If more may follow, the parser answers
+/// that it needs more.
 #[derive(Clone, Copy, Debug, Drop, PartialEq, Eq, PartialOrd, Ord)]
 pub struct Partial<I> {
     input: I,
@@ -22,7 +24,7 @@ pub struct Partial<I> {
 }
 
 impl<I> Partial<I> {
-    /// Returns the stream with its flag set. The stream inside has none of its own.
+    /// Returns the stream with its flag set. The stream inside has no flag.
     pub fn new(input: I) -> Self
     where
         I: StreamIsPartial,
@@ -58,7 +60,7 @@ impl<I> Deref for Partial<I> {
 impl<I: Rest> Rest for Partial<I> {
     ghost rest_width = { λ s. I.rest_width (partial_inner s) };
 
-    // The flag is no part of what remains.
+    // The flag does not belong to what remains.
     ghost same_rest = { λ s t. partial_inner s ≡ partial_inner t };
 
     ghost location = { λ s. I.location (partial_inner s) };
@@ -275,6 +277,7 @@ impl<I: Compare<T>, T> Compare<T> for Partial<I> {
 
     ghost comparisons_stay = { I.comparisons_stay };
 
+    #[inline(always)]
     fn compare(&self, t: T) -> CompareResult {
         self.input.compare(t)
     }
@@ -288,7 +291,7 @@ impl<I: FindSlice<T>, T> FindSlice<T> for Partial<I> {
     }
 }
 
-/// As the stream inside, under the options of a hole too.
+/// It prints as the stream inside, also under the options of a hole.
 impl<I: Display> Display for Partial<I> {
     ghost output = { λ s. I.output (partial_inner s) };
 

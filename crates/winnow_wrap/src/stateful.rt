@@ -11,9 +11,10 @@ use winnow_stream::{
     UpdateSlice,
 };
 
-/// A stream with a state that no call of `Stream` touches: a depth of recursion, a table of names, a log.
+/// A stream with a state that no call of `Stream` touches: a depth of recursion, a table of names,
+/// a log.
 ///
-/// Both are public: a parser reads and writes the state as it likes, and takes from the stream inside if it must.
+/// Both are public: a parser may read and write the state, and take from the stream inside.
 #[derive(Clone, Copy, Debug, Default, Drop, PartialEq, Eq)]
 pub struct Stateful<I, S> {
     /// The stream inside
@@ -249,6 +250,7 @@ impl<I: Compare<T>, S: Debug, T> Compare<T> for Stateful<I, S> {
 
     ghost comparisons_stay = { I.comparisons_stay };
 
+    #[inline(always)]
     fn compare(&self, t: T) -> CompareResult {
         self.input.compare(t)
     }
@@ -262,7 +264,7 @@ impl<I: FindSlice<T>, S: Debug, T> FindSlice<T> for Stateful<I, S> {
     }
 }
 
-/// As the stream inside, under the options of a hole too.
+/// It prints as the stream inside, also under the options of a hole.
 impl<I: Display, S> Display for Stateful<I, S> {
     ghost output = { λ s. I.output s.input };
 

@@ -1,0 +1,51 @@
+use Rattle.std.proofs.Common.{subst, sym}
+use Rattle.winnow_reader.specs.Reading.{ReadsOn}
+use Rattle.winnow_reader.specs.Answering.{GivesValue, WaitsWell, IsDoneAtEnd, FailsWell, StaysWithout}
+use Rattle.winnow_reader.specs.Asked.{settled, answer_of}
+use Rattle.winnow_reader.proofs.lemmas.AskedLemmas.{IsWithin-asked, ReadsOn-settled, GivesValue-settled, WaitsWell-settled, IsDoneAtEnd-settled, FailsWell-settled, StaysWithout-settled}
+use Rattle.winnow_reader.proofs.byte_reader.ByteReader.read_next.Goals as goal
+
+pub settle-requires : goal.settle-requires
+settle-requires g c = IsWithin-asked g.R.Record.means c.args.self.now c.ask-asked.result c.ask-asked.ensures
+
+pub returns-clause-read : goal.returns-clause-read
+returns-clause-read g c =
+    let means = g.R.Record.means in
+    let old = c.args.self.now in
+    let asked = c.ask-asked.result in
+    subst (λ r. ReadsOn means old r c.settle.new.self) (sym c.settle.ensures.answer)
+    (subst (λ s. ReadsOn means old (answer_of old.place asked) s) (sym c.settle.ensures.state)
+    (ReadsOn-settled means old (g.met.R.Record.lawful old.parser) asked c.ask-asked.ensures))
+
+pub returns-clause-value : goal.returns-clause-value
+returns-clause-value g c =
+    let means = g.R.Record.means in
+    let old = c.args.self.now in
+    let asked = c.ask-asked.result in
+    subst (λ r. GivesValue means old r c.settle.new.self) (sym c.settle.ensures.answer)
+    (subst (λ s. GivesValue means old (answer_of old.place asked) s) (sym c.settle.ensures.state) (GivesValue-settled means old asked c.ask-asked.ensures))
+
+pub returns-clause-waits : goal.returns-clause-waits
+returns-clause-waits g c =
+    let means = g.R.Record.means in
+    let old = c.args.self.now in
+    subst (λ r. WaitsWell means old r) (sym c.settle.ensures.answer) (WaitsWell-settled means old c.ask-asked.result c.ask-asked.ensures)
+
+pub returns-clause-done : goal.returns-clause-done
+returns-clause-done g c =
+    let old = c.args.self.now in
+    subst (λ r. IsDoneAtEnd old r) (sym c.settle.ensures.answer) (IsDoneAtEnd-settled g.R.Record.means old c.ask-asked.result c.ask-asked.ensures)
+
+pub returns-clause-failed : goal.returns-clause-failed
+returns-clause-failed g c =
+    let means = g.R.Record.means in
+    let old = c.args.self.now in
+    subst (λ r. FailsWell means old r) (sym c.settle.ensures.answer)
+    (FailsWell-settled means old (g.met.R.Record.lawful old.parser) c.ask-asked.result c.ask-asked.ensures)
+
+pub returns-clause-kept : goal.returns-clause-kept
+returns-clause-kept g c =
+    let old = c.args.self.now in
+    let asked = c.ask-asked.result in
+    subst (λ r. StaysWithout old r c.settle.new.self) (sym c.settle.ensures.answer)
+    (subst (λ s. StaysWithout old (answer_of old.place asked) s) (sym c.settle.ensures.state) (StaysWithout-settled g.R.Record.means old asked))

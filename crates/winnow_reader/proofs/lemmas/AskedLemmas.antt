@@ -1,0 +1,129 @@
+-- What a reader makes of an answer of its record keeps what its calls promise.
+use Rattle.std.specs.Prelude.{Bool, true, false, not, ◌⊎◌, Ok, Err}
+use Rattle.std.proofs.Common.{◌≡◌, ℕ, ◌+◌, ◌≤◌, ◌<◌, List, [], ◌∷◌, ◌++◌, length, refl, ap, sym, ◌∙◌, subst, inl, inr, arith}
+use Rattle.std.proofs.lemmas.List.{append-nil}
+use Rattle.winnow_stream.specs.declared.needed.Needed.{Needed}
+use Rattle.winnow_stream.specs.declared.needed.Needed.TheVariants.{Unknown, Size}
+use Rattle.winnow_parser.specs.Outcome.{Fails, Needs, Meaning}
+use Rattle.winnow_parser.specs.Laws.{IsParser}
+use Rattle.winnow_reader.specs.declared.asking.Asked.{Asked}
+use Rattle.winnow_reader.specs.declared.asking.Asked.TheVariants as asked
+use Rattle.winnow_reader.specs.declared.next.Next.TheVariants.{Value, NeedsMore, Done}
+use Rattle.winnow_reader.specs.Place.{bytes_at}
+use Rattle.winnow_reader.specs.Wanted.{size_of}
+use Rattle.winnow_reader.specs.State.{ReaderState, waiting_for}
+use Rattle.winnow_reader.specs.Reading.{MayFollow, Asks, AwaitsAsked, HasRead, Lacks, ReadsOn}
+use Rattle.winnow_reader.specs.Answering.{StopsAt, GivesValue, WaitsWell, IsDoneAtEnd, FailsWell, StaysWithout}
+use Rattle.winnow_reader.specs.Asked.{IsAnswer, IsKnown, IsAsked, IsWithin, settled, answer_of}
+use Rattle.winnow_reader.proofs.lemmas.PlaceLemmas.{value-stays, backtrack-stays, cut-stays}
+use Rattle.winnow_reader.proofs.lemmas.ReadingLemmas.{HasRead-value, HasRead-waits, HasRead-still}
+
+-- a need is at least one byte
+size_of-positive : (need : Needed) → 0 < size_of need
+size_of-positive Unknown = omega arith
+size_of-positive (Size n) = n.ok
+
+module _ {R O : Type 0} (means : R → Meaning O ℕ) (f : ReaderState R) where
+  -- a need that was told of all that is ahead was asked for
+  asks-now : (need : Needed) → means f.parser true (bytes_at f.place f.ahead) (Fails (Needs need))
+      → Asks (means f.parser) f.place f.ahead [] (size_of need)
+  asks-now need h = record { front = f.ahead; need = need; whole = sym (append-nil f.ahead); needs = h; size = refl }
+
+  -- whatever follows, the parser fails where it failed
+  stops-stay : IsParser (means f.parser) → (there : ℕ) (rest : List ℕ)
+      → StopsAt (means f.parser) (not f.ended) (bytes_at f.place f.ahead) (bytes_at there rest)
+      → (more : List ℕ) (partial : Bool) → MayFollow f.ended more partial
+      → StopsAt (means f.parser) partial (bytes_at f.place (f.ahead ++ more)) (bytes_at there (rest ++ more))
+  stops-stay p there rest (inl h) more partial may = inl (backtrack-stays (means f.parser) p f.ended f.place f.ahead there rest h more partial may)
+  stops-stay p there rest (inr h) more partial may = inr (cut-stays (means f.parser) p f.ended f.place f.ahead there rest h more partial may)
+
+module _ {R O E : Type 0} (means : R → Meaning O ℕ) (f : ReaderState R) where
+  -- what a value took was ahead
+  pub IsWithin-asked : (v : Asked O E) → IsAsked (means f.parser) f v → IsWithin f v
+  IsWithin-asked (asked.Value x n) (inl k) = absurd k
+  IsWithin-asked (asked.Value x n) (inr k) = k.1.1
+  IsWithin-asked (asked.Waits w) k = tt
+  IsWithin-asked asked.Done k = tt
+  IsWithin-asked (asked.Failed e there) k = tt
+  IsWithin-asked asked.Idle k = tt
+  IsWithin-asked (asked.Refused r) k = tt
+
+  -- what was read stays read, and a value is read too
+  pub ReadsOn-settled : IsParser (means f.parser) → (v : Asked O E) → IsAsked (means f.parser) f v
+      → ReadsOn means f (answer_of f.place v) (settled f v)
+  ReadsOn-settled p (asked.Value x n) (inl k) input values h = absurd k
+  ReadsOn-settled p (asked.Value x n) (inr k) input values h = HasRead-value means f x n p k.1.0 k.1.1 k.1.2 input values h
+  ReadsOn-settled p (asked.Waits w) (inl k) input values h =
+      HasRead-waits means f w input values h
+      (λ l. let a = h.awaits (omega (arith, k.1, l)) in (a.0, (a.1.0, (a.1.1.0, omega (arith, k.1, a.1.1.1)))))
+  ReadsOn-settled p (asked.Waits w) (inr k) input values h =
+      let m = k.1.1 in
+      HasRead-waits means f w input values h (λ l. ([], (size_of m.0, (asks-now means f m.0 m.1.0, omega (arith, m.1.1)))))
+  ReadsOn-settled p asked.Done k input values h = HasRead-still means f input values h
+  ReadsOn-settled p (asked.Failed e there) k input values h = HasRead-still means f input values h
+  ReadsOn-settled p asked.Idle k input values h = HasRead-still means f input values h
+  ReadsOn-settled p (asked.Refused r) k input values h = HasRead-still means f input values h
+
+  -- a value is what the parser gives
+  pub GivesValue-settled : (v : Asked O E) → IsAsked (means f.parser) f v
+      → GivesValue means f (answer_of f.place v) (settled f v)
+  GivesValue-settled (asked.Value x n) (inl k) = absurd k
+  GivesValue-settled (asked.Value x n) (inr k) = (n, (k.1.0, k.1.1, k.1.2, refl))
+  GivesValue-settled (asked.Waits w) k = tt
+  GivesValue-settled asked.Done k = tt
+  GivesValue-settled (asked.Failed e there) k = tt
+  GivesValue-settled asked.Idle k = tt
+  GivesValue-settled (asked.Refused r) k = tt
+
+  -- more is needed only where the parser asked for it
+  pub WaitsWell-settled : (v : Asked O E) → IsAsked (means f.parser) f v
+      → WaitsWell means f (answer_of f.place v)
+  WaitsWell-settled (asked.Value x n) k = tt
+  WaitsWell-settled (asked.Waits w) (inl k) =
+      (k.0, λ input values h. let a = h.awaits (omega (arith, k.2)) in (a.0, (a.1.0, (a.1.1.0, omega (arith, k.2, a.1.1.1)))))
+  WaitsWell-settled (asked.Waits w) (inr k) =
+      let m = k.1.1 in
+      (k.1.0, λ input values h. ([], (size_of m.0, (asks-now means f m.0 m.1.0, size_of-positive m.0))))
+  WaitsWell-settled asked.Done k = tt
+  WaitsWell-settled (asked.Failed e there) k = tt
+  WaitsWell-settled asked.Idle k = tt
+  WaitsWell-settled (asked.Refused r) k = tt
+
+  -- it is done just at the end
+  pub IsDoneAtEnd-settled : (v : Asked O E) → IsAsked (means f.parser) f v
+      → IsDoneAtEnd f (answer_of f.place v)
+  IsDoneAtEnd-settled (asked.Value x n) (inl k) = absurd k
+  IsDoneAtEnd-settled (asked.Value x n) (inr k) = (λ e. absurd (cc), λ e. absurd (k.0 e.0 e.1))
+  IsDoneAtEnd-settled (asked.Waits w) (inl k) = (λ e. absurd (cc), λ e. absurd (let t = e.0 in let u = k.0 in cc))
+  IsDoneAtEnd-settled (asked.Waits w) (inr k) = (λ e. absurd (cc), λ e. absurd (k.0 e.0 e.1))
+  IsDoneAtEnd-settled asked.Done (inl k) = (λ e. k, λ e. refl)
+  IsDoneAtEnd-settled asked.Done (inr k) = absurd k.1
+  IsDoneAtEnd-settled (asked.Failed e there) (inl k) = absurd k
+  IsDoneAtEnd-settled (asked.Failed e there) (inr k) = (λ e. absurd (cc), λ e. absurd (k.0 e.0 e.1))
+  IsDoneAtEnd-settled asked.Idle (inl k) = absurd k
+  IsDoneAtEnd-settled asked.Idle (inr k) = (λ e. absurd (cc), λ e. absurd (k.0 e.0 e.1))
+  IsDoneAtEnd-settled (asked.Refused r) (inl k) = absurd k
+  IsDoneAtEnd-settled (asked.Refused r) (inr k) = (λ e. absurd (cc), λ e. absurd (k.0 e.0 e.1))
+
+  -- a failure is the parser's
+  pub FailsWell-settled : IsParser (means f.parser) → (v : Asked O E) → IsAsked (means f.parser) f v
+      → FailsWell means f (answer_of f.place v)
+  FailsWell-settled p (asked.Value x n) k = tt
+  FailsWell-settled p (asked.Waits w) k = tt
+  FailsWell-settled p asked.Done k = tt
+  FailsWell-settled p (asked.Failed e there) (inl k) = absurd k
+  FailsWell-settled p (asked.Failed e there) (inr k) = (k.1.0, stops-stay means f p there k.1.0 k.1.1)
+  FailsWell-settled p asked.Idle (inl k) = absurd k
+  FailsWell-settled p asked.Idle (inr k) =
+      (refl, (k.1.0, value-stays (means f.parser) p f.ended f.place f.ahead k.1.0 f.place f.ahead k.1.1))
+  FailsWell-settled p (asked.Refused r) (inl k) = absurd k
+  FailsWell-settled p (asked.Refused r) (inr k) = k.1
+
+  -- without a value the reader stays
+  pub StaysWithout-settled : (v : Asked O E) → StaysWithout f (answer_of f.place v) (settled f v)
+  StaysWithout-settled (asked.Value x n) = tt
+  StaysWithout-settled (asked.Waits w) = refl
+  StaysWithout-settled asked.Done = refl
+  StaysWithout-settled (asked.Failed e there) = refl
+  StaysWithout-settled asked.Idle = refl
+  StaysWithout-settled (asked.Refused r) = refl

@@ -1,0 +1,63 @@
+-- What a reader answers, and when.
+use Rattle.std.specs.Prelude.{◌≡◌, ℕ, ◌+◌, ◌≤◌, ◌<◌, Bool, true, false, not, List, [], ◌++◌, length, drop, Result, Ok, Err, ◌⊎◌, ⊤, ◌↔◌}
+use Rattle.winnow_parser.specs.Outcome.{Ahead, Gives, Fails, Backtracks, Cuts, Refuses, Meaning}
+use Rattle.winnow_reader.specs.declared.next.Next.{Next}
+use Rattle.winnow_reader.specs.declared.next.Next.TheVariants.{Value, NeedsMore, Done}
+use Rattle.winnow_reader.specs.declared.next.ReadError.{ReadError}
+use Rattle.winnow_reader.specs.declared.next.ReadError.TheVariants.{Failed, TakesNothing, Refused}
+use Rattle.winnow_reader.specs.Place.{bytes_at}
+use Rattle.winnow_reader.specs.State.{ReaderState, taken_by, waiting_for}
+use Rattle.winnow_reader.specs.Reading.{MayFollow, HasRead, Lacks}
+
+-- there the parser fails, from a, and this is left
+abbrev pub StopsAt : {O : Type 0} → Meaning O ℕ → Bool → Ahead ℕ → Ahead ℕ → Type 0
+StopsAt means partial a b = means partial a (Fails (Backtracks b)) ⊎ means partial a (Fails (Cuts b))
+
+module _ {R O : Type 0} (means : R → Meaning O ℕ) where
+  -- whatever follows, the parser fails there
+  abbrev pub FailsAt : ReaderState R → ℕ → Type 0
+  FailsAt f place = (rest : List ℕ) × ((more : List ℕ) (partial : Bool) → MayFollow f.ended more partial
+      → StopsAt (means f.parser) partial (bytes_at f.place (f.ahead ++ more)) (bytes_at place (rest ++ more)))
+
+  -- whatever follows, the parser gives a value and takes nothing
+  abbrev pub IdlesAt : ReaderState R → ℕ → Type 0
+  IdlesAt f place = (place ≡ f.place) × ((x : O) × ((more : List ℕ) (partial : Bool) → MayFollow f.ended more partial
+      → means f.parser partial (bytes_at place (f.ahead ++ more)) (Gives x (bytes_at place (f.ahead ++ more)))))
+
+module _ {R O E : Type 0} (means : R → Meaning O ℕ) where
+  -- a value is what the parser gives of what is ahead, and it takes n bytes, at least one
+  abbrev pub GivesValue : ReaderState R → Result (Next O) (ReadError E) → ReaderState R → Type 0
+  GivesValue old (Ok (Value x)) new = (n : ℕ) × ((0 < n) × (n ≤ length old.ahead)
+      × means old.parser (not old.ended) (bytes_at old.place old.ahead) (Gives x (bytes_at new.place new.ahead))
+      × (new ≡ taken_by old n))
+  GivesValue old (Ok NeedsMore) new = ⊤
+  GivesValue old (Ok Done) new = ⊤
+  GivesValue old (Err e) new = ⊤
+
+  -- more is needed only before the end, and where the parser asked for more than came since
+  abbrev pub WaitsWell : ReaderState R → Result (Next O) (ReadError E) → Type 0
+  WaitsWell old (Ok NeedsMore) = (old.ended ≡ false) × ((input : List ℕ) (values : List O)
+      → HasRead means old input values → Lacks means old)
+  WaitsWell old (Ok (Value x)) = ⊤
+  WaitsWell old (Ok Done) = ⊤
+  WaitsWell old (Err e) = ⊤
+
+  -- a failure is the parser's, and tells its place
+  abbrev pub FailsWell : ReaderState R → Result (Next O) (ReadError E) → Type 0
+  FailsWell old (Ok next) = ⊤
+  FailsWell old (Err (Failed error place)) = FailsAt means old place
+  FailsWell old (Err (TakesNothing place)) = IdlesAt means old place
+  FailsWell old (Err (Refused refused)) =
+      means old.parser (not old.ended) (bytes_at old.place old.ahead) (Fails Refuses)
+
+-- it is done just where the input has ended and nothing remains
+abbrev pub IsDoneAtEnd : {R O E : Type 0} → ReaderState R → Result (Next O) (ReadError E) → Type 0
+IsDoneAtEnd old result = (result ≡ Ok Done) ↔ ((old.ended ≡ true) × (old.ahead ≡ []))
+
+-- without a value nothing changes, but how many bytes are wanted where more are needed
+abbrev pub StaysWithout : {R O E : Type 0} → ReaderState R → Result (Next O) (ReadError E)
+    → ReaderState R → Type 0
+StaysWithout old (Ok (Value x)) new = ⊤
+StaysWithout old (Ok NeedsMore) new = new ≡ waiting_for old new.wanted
+StaysWithout old (Ok Done) new = new ≡ old
+StaysWithout old (Err e) new = new ≡ old

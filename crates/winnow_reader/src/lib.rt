@@ -1,0 +1,33 @@
+//! Readers of records, each read by the same parser, from bytes that come in pieces without end.
+//!
+//! A [`ByteReader`] is given pieces by `push` and asked for records by `read_next`. It gives the
+//! records that the parser, repeated, reads of the joined input, however that was cut, and spans
+//! and failures speak of places in the joined input. It keeps the bytes that no record took yet,
+//! and, until the next piece comes, those that records took since the last one: the longest record
+//! and one piece bound what it keeps.
+//!
+//! What is read is a [`Record`]: a type of its own, whose method calls the parser.
+//!
+//! # Work
+//!
+//! A record is asked of all that is ahead, from its beginning, and asked again only when as many
+//! bytes came as it last needed. So a record is asked once for each need that it told, and once for
+//! its value; `push` copies its piece, and at most what is ahead. Where a parser tells its needs
+//! exactly, as one that reads a length and then so many bytes, each byte is looked at a fixed
+//! number of times, whatever the pieces are. A parser that needs one byte more each time, as
+//! `take_until` and `take_while` do, is asked once for each piece: over pieces of p bytes, a record
+//! of r bytes costs some r * r / p steps. So pieces that are not much shorter than the records keep
+//! the work linear. No contract says so.
+#![tactic(auto)]
+
+mod asking;
+mod buffers;
+mod byte_reader;
+mod laws;
+mod next;
+mod record;
+
+pub use byte_reader::ByteReader;
+pub use laws::determined_reading_law;
+pub use next::{Next, ReadError};
+pub use record::{Record, RecordInput};
