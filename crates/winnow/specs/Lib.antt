@@ -1,4 +1,4 @@
--- What contracts of parsers name, from each of the crates that this one passes on.
+-- The definitions that contracts of parsers name, from the crates that this one passes on.
 pub use Rattle.winnow_parser.specs.Outcome
 pub use Rattle.winnow_parser.specs.Answer
 pub use Rattle.winnow_parser.specs.Errors
@@ -37,4 +37,14 @@ pub use Rattle.winnow_ascii.specs.Classes
 pub use Rattle.winnow_ascii.specs.Hexadecimal
 pub use Rattle.winnow_ascii.specs.Lines
 pub use Rattle.winnow_ascii.specs.Numbers
+pub use Rattle.winnow_reader.specs.Place
+pub use Rattle.winnow_reader.specs.Wanted
+pub use Rattle.winnow_reader.specs.State
+pub use Rattle.winnow_reader.specs.Reading
+pub use Rattle.winnow_reader.specs.Answering
+pub use Rattle.winnow_reader.specs.Copied
+pub use Rattle.winnow_reader.specs.SameValues
+pub use Rattle.winnow_binary.specs.Lengths
+pub use Rattle.winnow_binary.specs.Numerals
+pub use Rattle.winnow_binary.specs.Within
 pub use Rattle.winnow_parser.specs.declared.failure.Failure

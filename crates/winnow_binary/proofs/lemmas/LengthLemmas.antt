@@ -1,0 +1,59 @@
+-- What comes after a count: asked as a repetition, and that it has one answer.
+use Rattle.std.specs.Prelude.{◌≡◌, ℕ, Bool, List, Option, Some}
+use Rattle.std.proofs.Common.{sym, ◌∙◌, subst, inl, inr, arith}
+use Rattle.winnow_stream.specs.Source.{Source}
+use Rattle.winnow_parser.specs.Outcome.{Ahead, Outcome, Meaning}
+use Rattle.winnow_parser.specs.Determined.{IsDetermined, Shows, Respects, SlicesRespect}
+use Rattle.winnow_parser.proofs.lemmas.MadeLemmas.{determined-continued}
+use Rattle.winnow_token.specs.Counted.{Counted}
+use Rattle.winnow_token.proofs.lemmas.ToldLemmas.{determined-counted}
+use Rattle.winnow_combinator.specs.Counts.{Ascending}
+use Rattle.winnow_combinator.specs.DeterminedLists.{AreSameEach}
+use Rattle.winnow_combinator.specs.Gathering.{Gathered}
+use Rattle.winnow_combinator.specs.Repetition.{Repeated}
+use Rattle.winnow_combinator.proofs.lemmas.AgreeingLemmas.{determined-repeated}
+use Rattle.winnow_combinator.proofs.lemmas.CombinedLemmas.{determined-gathered}
+use Rattle.winnow_binary.specs.Lengths.{IsNumber, CountedSlice, Times, CountedValues}
+
+module _ {B O A T : Type 0} (refusable : Type 0) (makes : List O → A → Type 0) (means : B → Meaning O T) where
+  -- n values are asked for where the counts, from the least to the greatest, are n alone
+  times-alone : (inner : Meaning O T) (n : ℕ) (partial : Bool) (a : Ahead T) (v : Outcome A T)
+      → Ascending n (Some n) (Times refusable makes inner n) partial a v
+      → Times refusable makes inner n partial a v
+  times-alone inner n partial a v (inl h) = h.1
+  times-alone inner n partial a v (inr h) = absurd (omega (arith, h.0))
+
+  -- the same for counts and a parser that are known by equations
+  pub times-asked : (p q : B) (n least : ℕ) (greatest : Option ℕ) → p ≡ q → least ≡ n
+      → greatest ≡ Some n → (partial : Bool) (a : Ahead T) (v : Outcome A T)
+      → Ascending least greatest
+      (Gathered refusable makes (Repeated least greatest (means p))) partial a v
+      → Times refusable makes (means q) n partial a v
+  times-asked p q n least greatest e f h partial a v asked =
+      let one = subst (λ b. Ascending least greatest (Gathered refusable makes (Repeated least greatest (means b))) partial a v) e asked in
+      let two = subst (λ l. Ascending l greatest (Gathered refusable makes (Repeated l greatest (means q))) partial a v) f one in
+      times-alone (means q) n partial a v (subst (λ g. Ascending n g (Gathered refusable makes (Repeated n g (means q))) partial a v) h two)
+
+-- values that show the same number are the same number
+one-number : {L : Type 0} (number : L → ℕ) (x y : L) (m n : ℕ) → Shows number x y
+    → IsNumber number x m → IsNumber number y n → m ≡ n
+one-number number x y m n e h k = h ∙ e ∙ sym k
+
+-- `CountedSlice` has one answer where its count has one, and slices of one front are the same
+pub determined-counted_slice : {L S T : Type 0} (number : L → ℕ) (counts_missing : Bool)
+    (is_slice : S → Source T → ℕ → Type 0) (alike : S → S → Type 0) → SlicesRespect is_slice alike
+    → (length : Meaning L T) → IsDetermined (Shows number) length
+    → IsDetermined alike (CountedSlice number counts_missing is_slice length)
+determined-counted_slice number counts_missing is_slice alike fronts length d =
+    determined-continued (IsNumber number) (Counted counts_missing is_slice) length (Shows number) alike (one-number number)
+    (λ n. determined-counted is_slice alike fronts counts_missing n) d
+
+-- `CountedValues` has one answer where its parts have one
+pub determined-counted_values : {L O A T : Type 0} (number : L → ℕ) (refusable : Type 0)
+    (makes : List O → A → Type 0) (same : O → O → Type 0) (alike : A → A → Type 0)
+    → Respects (AreSameEach same) alike makes → (length : Meaning L T) (inner : Meaning O T)
+    → IsDetermined (Shows number) length → IsDetermined same inner
+    → IsDetermined alike (CountedValues number refusable makes length inner)
+determined-counted_values number refusable makes same alike respects length inner d e =
+    determined-continued (IsNumber number) (Times refusable makes inner) length (Shows number) alike (one-number number)
+    (λ n. determined-gathered (AreSameEach same) alike refusable makes respects (Repeated n (Some n) inner) (determined-repeated same n (Some n) inner e)) d

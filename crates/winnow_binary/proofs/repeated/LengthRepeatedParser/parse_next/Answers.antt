@@ -1,0 +1,30 @@
+use Rattle.std.proofs.Common.{inr, subst}
+use Rattle.winnow_parser.specs.Outcome.{Fails}
+use Rattle.winnow_parser.specs.Answer.{ahead, failed}
+use Rattle.winnow_combinator.specs.Repetition.{MisuseErrors, RepeatedErrors}
+use Rattle.winnow_binary.specs.Lengths.{Times}
+use Rattle.winnow_binary.proofs.lemmas.LengthLemmas.{times-asked}
+use Rattle.winnow_binary.proofs.repeated.LengthRepeatedParser.parse_next.Goals as goal
+
+pub returns-in-Err-clause-means : goal.returns-in-Err-clause-means
+returns-in-Err-clause-means g c =
+    let stands = ahead g.I.Rest.location g.I.Stream.remaining in
+    let between = stands c.parse_next.new.input in
+    let fails = Fails (failed c.in-Err.failure (stands c.parse_next-2.new.input)) in
+    let flag = g.met.I.StreamIsPartial.keeps_flag c.args.input.now c.parse_next.new.input c.in_ok-count.ensures.kept in
+    let counts = c.repeat.ensures.counts in
+    let asked = times-asked g.A.Accumulate.refusable (λ values whole. g.A.Accumulate.holds whole values) (λ q. g.Q.Parser.means q.now) _ _ c.length-count.result _ _ c.repeat.ensures.inner counts.0 counts.1
+    (g.I.StreamIsPartial.expects_more c.parse_next.new.input) between fails c.in-Err.ensures.means in
+    let second = subst (λ partial. Times g.A.Accumulate.refusable (λ values whole. g.A.Accumulate.holds whole values) (g.Q.Parser.means c.args.self.now.inner) c.length-count.result partial between fails) flag asked in
+    inr (c.in_ok-count.count, (between, (c.length-count.result, (c.in_ok-count.ensures.means, c.length-count.ensures, second))))
+
+pub returns-in-Err-clause-error : goal.returns-in-Err-clause-error
+returns-in-Err-clause-error g c =
+    let stands = ahead g.I.Rest.location g.I.Stream.remaining in
+    let between = stands c.parse_next.new.input in
+    let left = c.parse_next-2.new.input in
+    let asserts = g.E.ParserError.assert_gives in
+    let flag = g.met.I.StreamIsPartial.keeps_flag c.args.input.now c.parse_next.new.input c.in_ok-count.ensures.kept in
+    let asked = subst (λ q. MisuseErrors asserts (RepeatedErrors (g.Q.Parser.means q.now) (g.Q.Parser.errors q.now)) (g.I.StreamIsPartial.expects_more c.parse_next.new.input) between left c.in-Err.failure) c.repeat.ensures.inner c.in-Err.ensures.error in
+    let second = subst (λ partial. MisuseErrors asserts (RepeatedErrors (g.Q.Parser.means c.args.self.now.inner) (g.Q.Parser.errors c.args.self.now.inner)) partial between left c.in-Err.failure) flag asked in
+    inr (c.in_ok-count.count, (between, (c.in_ok-count.ensures.means, second)))

@@ -1,0 +1,76 @@
+-- A parser that reads a slice alone, which another parser took.
+use Rattle.std.specs.Prelude.{false, Result, ◌⊎◌}
+use Rattle.std.proofs.Common.{inl, inr}
+use Rattle.winnow_stream.specs.declared.needed.Needed.{Needed}
+use Rattle.winnow_parser.specs.declared.failure.Failure.{Failure}
+use Rattle.winnow_parser.specs.Outcome.{Ahead, Failed, Backtracks, Cuts, Needs, Refuses, Gives, Fails, Meaning}
+use Rattle.winnow_parser.specs.Answer.{outcome}
+use Rattle.winnow_parser.specs.Errors.{Errors}
+use Rattle.winnow_parser.specs.Laws.{IsStable, IsFinal, IsOnward, IsParser}
+
+-- the inner parser, asked of what stands in the slice, after which nothing follows, gives this
+-- value
+abbrev pub GivesAlone : {O U : Type 0} → Meaning O U → Ahead U → O → Type 0
+GivesAlone {O} {U} inner s x = (c : Ahead U) × inner false s (Gives x c)
+
+-- the inner parser, asked of what stands in the slice, after which nothing follows, backtracks
+abbrev pub BacktracksAlone : {O U : Type 0} → Meaning O U → Ahead U → Type 0
+BacktracksAlone {O} {U} inner s = (c : Ahead U) × inner false s (Fails (Backtracks c))
+
+-- the inner parser, asked of what stands in the slice, after which nothing follows, cuts
+abbrev pub CutsAlone : {O U : Type 0} → Meaning O U → Ahead U → Type 0
+CutsAlone {O} {U} inner s = (c : Ahead U) × inner false s (Fails (Cuts c))
+
+-- the inner parser on the slice of the outer one, after which nothing follows; the stream stands
+-- after the slice
+abbrev pub Within : {O S T U : Type 0} → (S → Ahead U) → Meaning O U → Meaning S T → Meaning O T
+Within {S = S} stands inner outer partial a (Gives x b) = (s : S) × (outer partial a (Gives s b) × GivesAlone inner (stands s) x)
+Within {S = S} stands inner outer partial a (Fails (Backtracks b)) = outer partial a (Fails (Backtracks b))
+    ⊎ ((s : S) × (outer partial a (Gives s b) × BacktracksAlone inner (stands s)))
+Within {S = S} stands inner outer partial a (Fails (Cuts b)) = outer partial a (Fails (Cuts b))
+    ⊎ ((s : S) × (outer partial a (Gives s b) × CutsAlone inner (stands s)))
+Within stands inner outer partial a (Fails (Needs n)) = outer partial a (Fails (Needs n))
+Within {S = S} {T = T} stands inner outer partial a (Fails Refuses) = outer partial a (Fails Refuses)
+    ⊎ ((s : S) × ((b : Ahead T) × (outer partial a (Gives s b) × inner false (stands s) (Fails Refuses))))
+
+-- the errors of the outer parser, or those of the inner one on a slice of it
+abbrev pub WithinErrors : {E S T U : Type 0} {I : Type 0} → (S → Ahead U) → Errors E S U
+    → Meaning S T → Errors E I T → Errors E I T
+WithinErrors {S = S} {T = T} stands inner means outer partial a i failure = outer partial a i failure
+    ⊎ ((s : S) × ((left : S) × ((b : Ahead T) × (means partial a (Gives s b) × inner false (stands s) left failure))))
+
+-- the answer is one that the inner parser may give of what stands in the slice alone
+abbrev pub AnswersAlone : {O E U : Type 0} → Meaning O U → Ahead U → Result O (Failure E Needed)
+    → Type 0
+AnswersAlone {U = U} inner s answer = (c : Ahead U) × inner false s (outcome answer c)
+
+-- the failure is one of the inner parser on a slice alone
+abbrev pub FailsAlone : {E S U : Type 0} → Errors E S U → Ahead U → Failure E Needed → Type 0
+FailsAlone {S = S} inner s failure = (left : S) × inner false s left failure
+
+-- ---- The laws
+
+module _ {O S T U : Type 0} (stands : S → Ahead U) (inner : Meaning O U) (outer : Meaning S T) (p : IsParser outer) where
+  -- a settled answer of `Within` stays when more input follows
+  within-stable : IsStable (Within stands inner outer)
+  within-stable more partial a (Gives x b) settled h = (h.0, (p.stable more partial a (Gives h.0 b) tt h.1.0, h.1.1))
+  within-stable more partial a (Fails (Backtracks b)) settled (inl h) = inl (p.stable more partial a (Fails (Backtracks b)) tt h)
+  within-stable more partial a (Fails (Backtracks b)) settled (inr h) = inr (h.0, (p.stable more partial a (Gives h.0 b) tt h.1.0, h.1.1))
+  within-stable more partial a (Fails (Cuts b)) settled (inl h) = inl (p.stable more partial a (Fails (Cuts b)) tt h)
+  within-stable more partial a (Fails (Cuts b)) settled (inr h) = inr (h.0, (p.stable more partial a (Gives h.0 b) tt h.1.0, h.1.1))
+  within-stable more partial a (Fails (Needs n)) settled h = absurd settled
+  within-stable more partial a (Fails Refuses) settled h = absurd settled
+
+  -- `Within` only moves the stream on
+  within-onward : IsOnward (Within stands inner outer)
+  within-onward partial a (Gives x b) h = p.onward partial a (Gives h.0 b) h.1.0
+  within-onward partial a (Fails (Backtracks b)) (inl h) = p.onward partial a (Fails (Backtracks b)) h
+  within-onward partial a (Fails (Backtracks b)) (inr h) = p.onward partial a (Gives h.0 b) h.1.0
+  within-onward partial a (Fails (Cuts b)) (inl h) = p.onward partial a (Fails (Cuts b)) h
+  within-onward partial a (Fails (Cuts b)) (inr h) = p.onward partial a (Gives h.0 b) h.1.0
+  within-onward partial a (Fails (Needs n)) h = tt
+  within-onward partial a (Fails Refuses) h = tt
+
+  -- `Within` keeps the laws of a parser
+  pub IsParser-Within : IsParser (Within stands inner outer)
+  IsParser-Within = record { stable = within-stable; final = p.final; onward = within-onward }

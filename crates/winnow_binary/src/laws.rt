@@ -1,0 +1,69 @@
+ghost use Rattle.std.specs.Prelude.{◌≡◌, ℕ, Bool, List, reverse};
+ghost use Rattle.winnow_parser.specs.Answer.{ahead};
+ghost use Rattle.winnow_parser.specs.Determined.{IsDetermined, Shows, Respects, SlicesRespect};
+ghost use Rattle.winnow_token.specs.Prompt.{IsPrompt};
+ghost use Rattle.winnow_combinator.specs.DeterminedLists.{AreSameEach};
+ghost use Rattle.winnow_binary.specs.declared.word.Endianness.{Endianness};
+ghost use Rattle.winnow_binary.specs.Lengths.{CountedSlice, CountedValues};
+ghost use Rattle.winnow_binary.specs.Numerals.{bytes_in, FixedNumeral};
+ghost use Rattle.winnow_binary.specs.Numerals.{most_first, least_first};
+ghost use Rattle.winnow_binary.specs.Within.{Within};
+
+use crate::{FixedNumber, Length};
+use winnow_count::Accumulate;
+use winnow_parser::Parser;
+use winnow_stream::StreamIsPartial;
+
+/// The laws of numbers. A parser of a number has one answer, and where it needs k more bytes, it
+/// has no settled answer before k have come. Bytes write, the most significant first, what they
+/// write from the last to the first, the least significant first. It does nothing when called: its
+/// contract is the law.
+pub fn fixed_number_law<R: FixedNumber>()
+    ensures determined { (counts_missing : Bool) (order : Endianness)
+        → IsDetermined (λ x y. x ≡ y)
+        (FixedNumeral counts_missing (bytes_in R.width) R.value_of order) }
+    ensures prompt { (counts_missing : Bool) (order : Endianness)
+        → IsPrompt (FixedNumeral counts_missing (bytes_in R.width) R.value_of order) }
+    ensures reversed { (bytes : List ℕ) → most_first bytes ≡ least_first (reverse bytes) }
+{}
+
+/// The laws of one answer for what comes after a count: where the count and the inner parser have
+/// one answer each, so have the slice of that number of tokens, that number of values, and what is
+/// read in the slice. A view shows what counts of a value or of a slice. It does nothing when
+/// called: its contract is the law.
+pub fn determined_length_law<I: StreamIsPartial, E, P: Parser<I, E>, Q: Parser<I, E>, A, V, W, X>()
+where
+    P::Output: Length,
+    A: Accumulate<Q::Output>,
+    ensures slice { (bytes : I.Slice → V) (p : P) → SlicesRespect I.is_slice (Shows bytes)
+        → IsDetermined (Shows P.Output.number) (P.means p)
+        → IsDetermined (Shows bytes)
+        (CountedSlice P.Output.number I.counts_missing I.is_slice (P.means p)) }
+    ensures values { (view : Q.Output → W) (whole : A → X) (p : P) (q : Q)
+        → Respects (AreSameEach (Shows view)) (Shows whole) (λ values a. A.holds a values)
+        → IsDetermined (Shows P.Output.number) (P.means p)
+        → IsDetermined (Shows view) (Q.means q)
+        → IsDetermined (Shows whole) (CountedValues P.Output.number A.refusable
+        (λ values a. A.holds a values) (P.means p) (Q.means q)) }
+{}
+
+/// The law of one answer for what is read in a slice alone: where the count and the inner parser
+/// have one answer each, and slices of one front stand for the same, there is one answer. It does
+/// nothing when called: its contract is the law.
+pub fn determined_slice_read_law<
+    I: StreamIsPartial,
+    E,
+    P: Parser<I, E>,
+    Q: Parser<I::Slice, E>,
+    V,
+>()
+where
+    I::Slice: StreamIsPartial,
+    P::Output: Length,
+    ensures { (view : Q.Output → V) (p : P) (q : Q)
+        → SlicesRespect I.is_slice (Shows (ahead I.Slice.location I.Slice.remaining))
+        → IsDetermined (Shows P.Output.number) (P.means p)
+        → IsDetermined (Shows view) (Q.means q)
+        → IsDetermined (Shows view) (Within (ahead I.Slice.location I.Slice.remaining) (Q.means q)
+        (CountedSlice P.Output.number I.counts_missing I.is_slice (P.means p))) }
+{}

@@ -1,0 +1,25 @@
+//! Parsers of binary formats: numbers of a fixed number of bytes, and parts that a count comes
+//! before.
+#![tactic(auto)]
+
+mod bytes;
+mod laws;
+mod length;
+mod number;
+mod numbers;
+mod repeated;
+mod slices;
+mod taken;
+mod word;
+
+pub use laws::{determined_length_law, determined_slice_read_law, fixed_number_law};
+pub use length::Length;
+pub use number::FixedNumber;
+pub use numbers::{
+    Numeral, be_i16, be_i32, be_i64, be_u16, be_u32, be_u64, i8, i16, i32, i64, le_i16, le_i32,
+    le_i64, le_u16, le_u32, le_u64, u8, u16, u32, u64,
+};
+pub use repeated::{LengthRepeated, length_repeat};
+pub use slices::{LengthRead, length_and_then};
+pub use taken::{LengthTaken, length_take};
+pub use word::{Endianness, Width};

@@ -1,0 +1,68 @@
+ghost use Rattle.std.specs.Prelude.{◌≡◌};
+ghost use Rattle.winnow_binary.specs.Numerals.{bytes_in, joined};
+
+/// The order in which the bytes of a number come.
+#[derive(Clone, Copy, Debug, PartialEq, Eq)]
+pub enum Endianness {
+    /// The most significant byte comes first
+    Big,
+    /// The least significant byte comes first
+    Little,
+}
+
+/// The number of bytes of a number.
+#[derive(Clone, Copy, Debug, PartialEq, Eq)]
+pub enum Width {
+    /// One byte
+    One,
+    /// Two bytes
+    Two,
+    /// Four bytes
+    Four,
+    /// Eight bytes
+    Eight,
+}
+
+impl Width {
+    /// Returns the number of bytes.
+    pub fn bytes(self) -> usize
+        ensures { result ≡ bytes_in self }
+    {
+        match self {
+            Width::One => 1,
+            Width::Two => 2,
+            Width::Four => 4,
+            Width::Eight => 8,
+        }
+    }
+}
+
+// Returns the number that two bytes write.
+pub(crate) fn join_bytes(order: Endianness, first: u8, second: u8) -> u16
+    ensures { result ≡ joined order 1 first second }
+{
+    match order {
+        Endianness::Big => u16::from(first) * 256 + u16::from(second),
+        Endianness::Little => u16::from(first) + 256 * u16::from(second),
+    }
+}
+
+// Returns the number of which the first two bytes write one number, and the next two another.
+pub(crate) fn join_pairs(order: Endianness, first: u16, second: u16) -> u32
+    ensures { result ≡ joined order 2 first second }
+{
+    match order {
+        Endianness::Big => u32::from(first) * 65536 + u32::from(second),
+        Endianness::Little => u32::from(first) + 65536 * u32::from(second),
+    }
+}
+
+// Returns the number of which the first four bytes write one number, and the next four another.
+pub(crate) fn join_quads(order: Endianness, first: u32, second: u32) -> u64
+    ensures { result ≡ joined order 4 first second }
+{
+    match order {
+        Endianness::Big => u64::from(first) * 4_294_967_296 + u64::from(second),
+        Endianness::Little => u64::from(first) + 4_294_967_296 * u64::from(second),
+    }
+}
