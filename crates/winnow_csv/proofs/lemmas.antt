@@ -1,0 +1,10 @@
+pub mod GatheringLemmas
+pub mod ByteLemmas
+pub mod TokenLemmas
+pub mod FieldLemmas
+pub mod RecordLemmas
+pub mod AnswerLemmas
+pub mod WritingLemmas
+pub mod WidthLemmas
+pub mod TableLemmas
+pub mod ReaderLemmas

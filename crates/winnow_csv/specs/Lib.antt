@@ -1,0 +1,9 @@
+pub mod Fields
+pub mod Records
+pub mod Gathering
+pub mod Meanings
+pub mod Answers
+pub mod Tables
+pub mod Writing
+pub mod Widths
+pub mod Reading

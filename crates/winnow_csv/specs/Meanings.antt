@@ -1,0 +1,131 @@
+-- What the parsers of fields and records mean, as they are written with the combinators.
+use Rattle.std.specs.Prelude.{◌≡◌, ℕ, ◌==◌, Bool, not, List, [], ◌∷◌, ◌++◌, None, ⊤}
+use Rattle.std.specs.List.{flat_map}
+use Rattle.std.specs.declared.vec.Vec.{Vec}
+use Rattle.std.specs.declared.alloc.Global.{Global}
+use Rattle.winnow_stream.specs.Source.{Source}
+use Rattle.winnow_stream.specs.Longer.{SlicesStay}
+use Rattle.winnow_count.specs.CountRange.{HasCounts}
+use Rattle.winnow_parser.specs.Outcome.{Meaning}
+use Rattle.winnow_parser.specs.Laws.{IsParser}
+use Rattle.winnow_parser.specs.Meanings.{Maps, IsForgotten, Pair, Preceded, Terminated, Either, Negated, CutOff}
+use Rattle.winnow_parser.specs.Parts.{IsParser-Maps, IsParser-Pair, IsParser-Preceded, IsParser-Terminated, IsParser-Either, IsParser-Negated, IsParser-CutOff}
+use Rattle.winnow_token.specs.OneOf.{OneOf, IsParser-OneOf}
+use Rattle.winnow_token.specs.Held.{HeldFront, IsParser-HeldFront}
+use Rattle.winnow_token.specs.declared.held.OtherTokens.{OtherTokens}
+use Rattle.winnow_token.specs.declared.one_token.OneOf.{OneOf as OneOfSet}
+use Rattle.winnow_combinator.specs.Repetition.{Repeated, IsParser-Repeated}
+use Rattle.winnow_combinator.specs.Gathering.{Gathered, IsParser-Gathered}
+use Rattle.winnow_combinator.specs.Separation.{Separated, Countable, IsParser-Separated, IsParser-Countable}
+use Rattle.winnow_combinator.specs.Choices.{Choice3, IsParser-Choice3}
+use Rattle.winnow_combinator.specs.Ending.{Ended, IsParser-Ended}
+use Rattle.winnow_combinator.specs.declared.sequence.FirstOf.{FirstOf}
+use Rattle.winnow_combinator.specs.declared.sequence.SecondOf.{SecondOf}
+use Rattle.winnow_combinator.specs.declared.modes.CutOff.{CutOff as CutOffParser}
+use Rattle.winnow_csv.specs.Fields.{is_plain}
+
+-- the type of the parser of what stands between two quotes
+abbrev pub ChunkParser : Type 0
+ChunkParser = SecondOf (OneOfSet ℕ) (FirstOf (OtherTokens ℕ) (CutOffParser (OneOfSet ℕ)))
+
+-- the parser takes a quote, all bytes up to the next quote, and that quote
+abbrev pub IsChunk : ChunkParser → Type 0
+IsChunk p = (p.first.set ≡ 34) × (p.second.first.set ≡ 34) × HasCounts 0 None p.second.first.counts
+    × (p.second.second.inner.set ≡ 34)
+
+-- one byte
+abbrev pub Byte : ℕ → Meaning ℕ ℕ
+Byte byte = OneOf (λ token. byte == token)
+
+-- any byte except a quote
+abbrev pub is_other : ℕ → Bool
+is_other byte = not (34 == byte)
+
+-- a value for a quoted field: with a quote after it, it is the chunks with a quote after each
+abbrev pub IsOfChunks : {S : Type 0} → (S → List ℕ) → List S → Vec ℕ Global → Type 0
+IsOfChunks bytes chunks field =
+    field.items ++ 34 ∷ [] ≡ flat_map (λ chunk. bytes chunk ++ 34 ∷ []) chunks
+
+-- the record has these fields
+abbrev pub HasFields : List (Vec ℕ Global) → Vec (Vec ℕ Global) Global → Type 0
+HasFields fields row = row.items ≡ fields
+
+module _ {S : Type 0} (is_slice : S → Source ℕ → ℕ → Type 0) (bytes : S → List ℕ) where
+  -- what stands between two quotes; the parser cuts where the closing one is missing
+  abbrev pub Chunk : Meaning S ℕ
+  Chunk = Preceded (Byte 34) (Terminated (HeldFront is_slice is_other 0 None) (CutOff (Byte 34)))
+
+  -- a quoted field: chunks, one after the other
+  abbrev pub QuotedField : Meaning (Vec ℕ Global) ℕ
+  QuotedField = Gathered ⊤ (IsOfChunks bytes) (Repeated 1 None Chunk)
+
+  -- a field without quotes: the bytes up to the first that is not plain
+  abbrev pub PlainField : Meaning (Vec ℕ Global) ℕ
+  PlainField =
+      Gathered ⊤ (λ slice field. field.items ≡ bytes slice) (HeldFront is_slice is_plain 0 None)
+
+  -- a field of either kind
+  abbrev pub AnyField : Type 0 → Meaning (Vec ℕ Global) ℕ
+  AnyField refusable = Either refusable QuotedField PlainField
+
+  -- fields with commas between them
+  abbrev pub FieldList : Type 0 → Meaning (Vec (Vec ℕ Global) Global) ℕ
+  FieldList refusable =
+      Countable (Gathered ⊤ HasFields (Separated 1 None (Byte 44) (AnyField refusable)))
+
+-- the end of a record: LF, CR LF, or the end of the input
+abbrev pub RecordEnd : Type 0 → Meaning (Unit {0}) ℕ
+RecordEnd refusable = Choice3 refusable (Maps IsForgotten (Byte 10))
+    (Maps IsForgotten (Pair (Byte 13) (Byte 10))) Ended
+
+-- a record: fields and an end, where the input has not ended; the parser cuts where the end is
+-- missing
+abbrev pub OneRow : {S : Type 0} → (S → Source ℕ → ℕ → Type 0) → (S → List ℕ) → Type 0
+    → Meaning (Vec (Vec ℕ Global) Global) ℕ
+OneRow is_slice bytes refusable =
+    Preceded (Negated Ended)
+    (Terminated (FieldList is_slice bytes refusable) (CutOff (RecordEnd refusable)))
+
+-- `RecordEnd` keeps the laws of a parser
+pub IsParser-RecordEnd : (refusable : Type 0) → IsParser (RecordEnd refusable)
+IsParser-RecordEnd refusable =
+    let byte : (n : ℕ) → IsParser (Byte n) = λ n. IsParser-OneOf (λ token. n == token) in
+    IsParser-Choice3 refusable (IsParser-Maps IsForgotten (Byte 10) (byte 10))
+    (IsParser-Maps IsForgotten (Pair (Byte 13) (Byte 10)) (IsParser-Pair (Byte 13) (Byte 10) (byte 13) (byte 10))) IsParser-Ended
+
+module _ {S : Type 0} (is_slice : S → Source ℕ → ℕ → Type 0) (bytes : S → List ℕ) (stay : SlicesStay is_slice) where
+  -- `Chunk` keeps the laws of a parser
+  pub IsParser-Chunk : IsParser (Chunk is_slice bytes)
+  IsParser-Chunk =
+      let held = HeldFront is_slice is_other 0 None in
+      let close = CutOff (Byte 34) in
+      IsParser-Preceded (Byte 34) (Terminated held close) (IsParser-OneOf (λ token. 34 == token))
+      (IsParser-Terminated held close (IsParser-HeldFront is_slice stay is_other 0 None)
+      (IsParser-CutOff (Byte 34) (IsParser-OneOf (λ token. 34 == token))))
+
+  -- `QuotedField` keeps the laws of a parser
+  pub IsParser-QuotedField : IsParser (QuotedField is_slice bytes)
+  IsParser-QuotedField = IsParser-Gathered ⊤ (IsOfChunks bytes) (IsParser-Repeated 1 None IsParser-Chunk)
+
+  -- `PlainField` keeps the laws of a parser
+  pub IsParser-PlainField : IsParser (PlainField is_slice bytes)
+  IsParser-PlainField = IsParser-Gathered ⊤ (λ slice field. field.items ≡ bytes slice) (IsParser-HeldFront is_slice stay is_plain 0 None)
+
+  -- `AnyField` keeps the laws of a parser
+  pub IsParser-AnyField : (refusable : Type 0) → IsParser (AnyField is_slice bytes refusable)
+  IsParser-AnyField refusable =
+      IsParser-Either refusable (QuotedField is_slice bytes) (PlainField is_slice bytes) IsParser-QuotedField IsParser-PlainField
+
+  -- `FieldList` keeps the laws of a parser
+  pub IsParser-FieldList : (refusable : Type 0) → IsParser (FieldList is_slice bytes refusable)
+  IsParser-FieldList refusable =
+      IsParser-Countable (IsParser-Gathered ⊤ HasFields
+      (IsParser-Separated 1 None (IsParser-OneOf (λ token. 44 == token)) (IsParser-AnyField refusable)))
+
+  -- `OneRow` keeps the laws of a parser
+  pub IsParser-OneRow : (refusable : Type 0) → IsParser (OneRow is_slice bytes refusable)
+  IsParser-OneRow refusable =
+      let list = FieldList is_slice bytes refusable in
+      let close = CutOff (RecordEnd refusable) in
+      IsParser-Preceded (Negated Ended) (Terminated list close) (IsParser-Negated Ended IsParser-Ended)
+      (IsParser-Terminated list close (IsParser-FieldList refusable) (IsParser-CutOff (RecordEnd refusable) (IsParser-RecordEnd refusable)))

@@ -1,0 +1,31 @@
+//! Comma-separated values, as RFC 4180 writes them: records of fields, which are bytes, read from
+//! any stream of bytes and written back.
+//!
+//! A record is one line of fields with commas between them. A field stands for itself, or between
+//! quotes, where each quote is doubled; there it may have commas and line ends. A record ends with
+//! CR LF, with LF alone, or where the input ends and something stands there.
+//!
+//! [`read_record`] reads one record. Its contract speaks of bytes alone: which record it gives,
+//! where it fails, and that it misses none. [`read_table`] reads the records of a whole text, and
+//! says where one is damaged. [`write_record`] writes a record, which [`read_record`] reads back.
+//! [`first_uneven`] tells the first record that has another number of fields than the first one.
+//!
+//! A [`Row`] is a record of a reader, too: a `winnow::reader::ByteReader` of it reads records from
+//! bytes that come in pieces. [`rows_in_pieces_law`] says in the words of the format what it reads.
+#![tactic(auto)]
+
+mod fields;
+mod gathering;
+mod reading;
+mod records;
+mod tables;
+mod widths;
+mod writing;
+
+pub use fields::{Plain, Quoted};
+pub use gathering::Chunks;
+pub use reading::rows_in_pieces_law;
+pub use records::{Fields, Row, RowEnd, read_record};
+pub use tables::{Damage, read_table};
+pub use widths::first_uneven;
+pub use writing::write_record;
