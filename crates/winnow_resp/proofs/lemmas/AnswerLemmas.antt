@@ -1,0 +1,93 @@
+-- The answers of the reader, from the meaning of the parser.
+use Rattle.std.proofs.Common.{◌≡◌, ℕ, zero, suc, Bool, true, false, List, inl, inr, Some, None, ap, sym, subst, refl}
+use Rattle.std.specs.Prelude.{Result, Ok, Err}
+use Rattle.winnow_stream.specs.Source.{Source, HasPositiveWidths}
+use Rattle.winnow_stream.specs.Longer.{SlicesStay}
+use Rattle.winnow_stream.specs.SliceBytes.{SlicesHaveBytes}
+use Rattle.winnow_stream.specs.declared.needed.Needed.{Needed}
+use Rattle.winnow_parser.specs.Outcome.{Ahead, Failed, Backtracks, Cuts, Needs, Refuses, Gives, Fails, Meaning}
+use Rattle.winnow_parser.specs.Answer.{outcome}
+use Rattle.winnow_parser.specs.declared.failure.Failure.{Failure}
+use Rattle.winnow_parser.specs.declared.failure.Failure.TheVariants.{Incomplete, Backtrack, Cut, Refused}
+use Rattle.winnow_token.specs.OneOf.{OneOf}
+use Rattle.winnow_combinator.specs.Ending.{Failing}
+use Rattle.winnow_resp.specs.Grammar.{is_kind, BulkOf, ArrayOf, Body, Layer, Nested, IsParser-Nested}
+use Rattle.winnow_resp.specs.Answers.{HasNoReply, IsAnswer, GivesEach}
+use Rattle.winnow_resp.specs.declared.reply.Reply.{Reply}
+use Rattle.winnow_resp.proofs.lemmas.AheadLemmas.{itself}
+use Rattle.winnow_resp.proofs.lemmas.ReplyLemmas.{yields-nested, reads-nested}
+
+module _ {S : Type 0} (counts_missing : Bool) (is_slice : S → Source ℕ → ℕ → Type 0) (stay : SlicesStay is_slice) (bytes : S → List ℕ) (have : SlicesHaveBytes is_slice bytes) where
+  -- where the parser fails otherwise than by a refusal, no reply stands ahead
+  none-stands : (longest depth : ℕ) (partial : Bool) (a : Ahead ℕ) (f : Failed ℕ)
+      → HasPositiveWidths a.tokens
+      → Nested itself counts_missing is_slice bytes longest depth partial a (Fails f)
+      → ¬ (f ≡ Refuses) → HasNoReply longest depth a.tokens
+  none-stands longest depth partial a f wide h other = λ y s stands.
+      other (reads-nested counts_missing is_slice bytes have longest depth y stands.0 stands.1.1 a.tokens s wide stands.1.0 partial a (Fails f) refl h)
+
+  -- what follows the byte of a kind never backtracks
+  body-holds : (longest kind : ℕ) (inner : Meaning Reply ℕ) (partial : Bool) (a b : Ahead ℕ)
+      → ¬
+      (Body itself counts_missing is_slice bytes longest inner kind partial a
+      (Fails (Backtracks b)))
+  body-holds longest kind inner partial a b (inl (e, inl h)) = h
+  body-holds longest kind inner partial a b (inl (e, inr (None, (c, (m, (h, same, k)))))) = absurd (let f : ArrayOf itself counts_missing is_slice bytes inner None partial c (Fails (Backtracks b)) = subst (λ o. ArrayOf itself counts_missing is_slice bytes inner o partial c (Fails (Backtracks b))) (sym same) k in f)
+  body-holds longest kind inner partial a b (inl (e, inr (Some n, (c, (m, (h, same, k)))))) = absurd (let f : ArrayOf itself counts_missing is_slice bytes inner (Some n) partial c (Fails (Backtracks b)) = subst (λ o. ArrayOf itself counts_missing is_slice bytes inner o partial c (Fails (Backtracks b))) (sym same) k in f)
+  body-holds longest kind inner partial a b (inr (inl (e, h))) = h
+  body-holds longest kind inner partial a b (inr (inr (inl (e, h)))) = h
+  body-holds longest kind inner partial a b (inr (inr (inr (inl (e, h))))) = h
+  body-holds longest kind inner partial a b (inr (inr (inr (inr (e, inl h))))) = h
+  body-holds longest kind inner partial a b (inr (inr (inr (inr (e, inr (None, (c, (m, (h, same, k))))))))) = absurd (let f : BulkOf itself counts_missing is_slice bytes None partial c (Fails (Backtracks b)) = subst (λ o. BulkOf itself counts_missing is_slice bytes o partial c (Fails (Backtracks b))) (sym same) k in f)
+  body-holds longest kind inner partial a b (inr (inr (inr (inr (e, inr (Some n, (c, (m, (h, same, k))))))))) = absurd (let f : BulkOf itself counts_missing is_slice bytes (Some n) partial c (Fails (Backtracks b)) = subst (λ o. BulkOf itself counts_missing is_slice bytes o partial c (Fails (Backtracks b))) (sym same) k in f)
+
+  -- a backtrack is that of the byte of a kind
+  layer-backtracks : (longest : ℕ) (inner : Meaning Reply ℕ) (partial : Bool) (a b : Ahead ℕ)
+      → Layer itself counts_missing is_slice bytes longest inner partial a (Fails (Backtracks b))
+      → OneOf is_kind partial a (Fails (Backtracks b))
+  layer-backtracks longest inner partial a b (inl h) = h
+  layer-backtracks longest inner partial a b (inr (x, (c, (k, (h, same, g))))) = absurd (body-holds longest k inner partial c b g)
+
+  -- so is that of the whole parser
+  nested-backtracks : (longest depth : ℕ) (partial : Bool) (a b : Ahead ℕ)
+      → Nested itself counts_missing is_slice bytes longest depth partial a (Fails (Backtracks b))
+      → OneOf is_kind partial a (Fails (Backtracks b))
+  nested-backtracks longest zero partial a b h = layer-backtracks longest Failing partial a b h
+  nested-backtracks longest (suc depth) partial a b h = layer-backtracks longest (Nested itself counts_missing is_slice bytes longest depth) partial a b h
+
+  -- more input is needed only where more may follow
+  needs-more : (longest depth : ℕ) (partial : Bool) (a : Ahead ℕ) (n : Needed)
+      → Nested itself counts_missing is_slice bytes longest depth partial a (Fails (Needs n))
+      → partial ≡ true
+  needs-more longest depth true a n h = refl
+  needs-more longest depth false a n h = absurd ((IsParser-Nested itself counts_missing is_slice bytes stay longest depth).final a n h)
+
+  -- each answer of the parser is one that `IsAnswer` allows
+  pub answers : {E : Type 0} (longest depth : ℕ) (partial : Bool) (a b : Ahead ℕ)
+      (result : Result Reply (Failure E Needed)) → HasPositiveWidths a.tokens
+      → Nested itself counts_missing is_slice bytes longest depth partial a (outcome result b)
+      → IsAnswer longest depth partial a.tokens result b.tokens
+  answers longest depth partial a b (Ok y) wide h =
+      let k = yields-nested counts_missing is_slice bytes have longest depth partial a b y wide h in (k.0, (k.1.0, k.1.1))
+  answers longest depth partial a b (Err (Backtrack e)) wide h =
+      let kind = nested-backtracks longest depth partial a b h in
+      (none-stands longest depth partial a (Backtracks b) wide h (λ e. cc), kind.0, ap (λ s. s.tokens) (sym kind.2))
+  answers longest depth partial a b (Err (Cut e)) wide h = none-stands longest depth partial a (Cuts b) wide h (λ e. cc)
+  answers longest depth partial a b (Err (Incomplete n)) wide h =
+      (none-stands longest depth partial a (Needs n) wide h (λ e. cc), needs-more longest depth partial a n h)
+  answers longest depth partial a b (Err (Refused e)) wide h = tt
+
+  -- each reply that stands ahead is given
+  pub gives-each : {E : Type 0} (longest depth : ℕ) (partial : Bool) (a b : Ahead ℕ)
+      (result : Result Reply (Failure E Needed)) → HasPositiveWidths a.tokens
+      → Nested itself counts_missing is_slice bytes longest depth partial a (outcome result b)
+      → GivesEach longest depth a.tokens result b.tokens
+  gives-each longest depth partial a b (Ok y) wide h x s stands =
+      let k = reads-nested counts_missing is_slice bytes have longest depth x stands.0 stands.1.1 a.tokens s wide stands.1.0 partial a (Gives y b) refl h in (k.0.1, k.1)
+  gives-each longest depth partial a b (Err (Backtrack e)) wide h x s stands =
+      none-stands longest depth partial a (Backtracks b) wide h (λ e. cc) x s stands
+  gives-each longest depth partial a b (Err (Cut e)) wide h x s stands =
+      none-stands longest depth partial a (Cuts b) wide h (λ e. cc) x s stands
+  gives-each longest depth partial a b (Err (Incomplete n)) wide h x s stands =
+      none-stands longest depth partial a (Needs n) wide h (λ e. cc) x s stands
+  gives-each longest depth partial a b (Err (Refused e)) wide h x s stands = tt

@@ -1,0 +1,56 @@
+-- The answers of a reader of replies, in the words of the protocol.
+use Rattle.std.specs.Prelude.{◌≡◌, ℕ, Bool, true, List, ◌++◌, map, Result, Ok, Err, IfSome, IsFalse, ⊤}
+use Rattle.winnow_stream.specs.Source.{Source, first_token}
+use Rattle.winnow_stream.specs.declared.needed.Needed.{Needed}
+use Rattle.winnow_parser.specs.declared.failure.Failure.{Failure}
+use Rattle.winnow_parser.specs.declared.failure.Failure.TheVariants.{Incomplete, Backtrack, Cut, Refused}
+use Rattle.winnow_resp.specs.Replies.{Spells}
+use Rattle.winnow_resp.specs.Contents.{contents}
+use Rattle.winnow_resp.specs.Grammar.{is_kind}
+use Rattle.winnow_resp.specs.declared.reply.Reply.{Reply}
+
+-- the bytes of a source
+abbrev pub bytes_of : Source ℕ → List ℕ
+bytes_of r = map (λ x. x.0) r
+
+-- the source is these bytes, and then the rest
+abbrev pub IsAhead : Source ℕ → List ℕ → Source ℕ → Type 0
+IsAhead whole bytes rest = (front : Source ℕ) × ((whole ≡ front ++ rest) × (bytes_of front ≡ bytes))
+
+-- the source begins with bytes that spell the reply, and then the rest
+abbrev pub StandsAhead : ℕ → ℕ → Source ℕ → Reply → Source ℕ → Type 0
+StandsAhead longest depth whole reply rest =
+    (bytes : List ℕ) × (IsAhead whole bytes rest × Spells longest depth reply bytes)
+
+-- the source does not begin with a reply within the limits
+abbrev pub HasNoReply : ℕ → ℕ → Source ℕ → Type 0
+HasNoReply longest depth whole = (reply : Reply) (rest : Source ℕ) → ¬ (StandsAhead longest depth whole reply rest)
+
+-- the answer is a reply that stands ahead, with what remains; or none stands ahead, and the answer
+-- is a backtrack where the first byte is that of no kind, and nothing is taken; or a cut; or more
+-- input is needed, where more may follow; or memory was refused
+abbrev pub IsAnswer : {E : Type 0} → ℕ → ℕ → Bool → Source ℕ → Result Reply (Failure E Needed)
+    → Source ℕ → Type 0
+IsAnswer longest depth partial whole (Ok reply) rest = StandsAhead longest depth whole reply rest
+IsAnswer longest depth partial whole (Err (Backtrack e)) rest =
+    HasNoReply longest depth whole × IfSome (first_token whole) (λ c. IsFalse (is_kind c)) × (whole ≡ rest)
+IsAnswer longest depth partial whole (Err (Cut e)) rest = HasNoReply longest depth whole
+IsAnswer longest depth partial whole (Err (Incomplete n)) rest = HasNoReply longest depth whole × (partial ≡ true)
+IsAnswer longest depth partial whole (Err (Refused e)) rest = ⊤
+
+-- the answer is a reply with the contents of this one, and with this rest after it, unless memory
+-- was refused
+abbrev pub IsGiven : {E : Type 0} → Result Reply (Failure E Needed) → Source ℕ → Reply → Source ℕ
+    → Type 0
+IsGiven (Ok given) rest reply after = (contents given ≡ contents reply) × (rest ≡ after)
+IsGiven (Err (Backtrack e)) rest reply after = ⊥
+IsGiven (Err (Cut e)) rest reply after = ⊥
+IsGiven (Err (Incomplete n)) rest reply after = ⊥
+IsGiven (Err (Refused e)) rest reply after = ⊤
+
+-- each reply that stands ahead is given, unless memory was refused: none is missed, and no bytes
+-- spell two replies with different contents
+abbrev pub GivesEach : {E : Type 0} → ℕ → ℕ → Source ℕ → Result Reply (Failure E Needed)
+    → Source ℕ → Type 0
+GivesEach longest depth whole result rest = (reply : Reply) (after : Source ℕ)
+    → StandsAhead longest depth whole reply after → IsGiven result rest reply after

@@ -1,0 +1,6 @@
+pub mod Replies
+pub mod Contents
+pub mod Writing
+pub mod Numbers
+pub mod Grammar
+pub mod Answers

@@ -1,0 +1,26 @@
+//! Replies of the Redis protocol, version 2 (RESP): a parser that is proved against the protocol's
+//! own definition, and a writer.
+//!
+//! A reply is a simple string, an error, an integer, a bulk string or an array of replies. It
+//! begins with a byte for its kind, and each of its lines ends with a carriage return and a
+//! newline.
+//!
+//! `reply` has the type that is read. `numbers` reads the integers and lengths of lines, `lines`
+//! the parts of a reply, and `nested` whole replies: `read_layer` is one level of the grammar,
+//! generic in the parser of the replies in an array, and `read_nested` ties the levels together.
+//! `writing` is the writer, and `laws` says that it is read back. `records` reads one reply after
+//! the other from bytes that come in pieces.
+#![tactic(auto)]
+
+mod laws;
+mod lines;
+mod nested;
+mod numbers;
+mod records;
+mod reply;
+mod writing;
+
+pub use laws::spelling_law;
+pub use nested::{ReplyTo, read_reply};
+pub use reply::Reply;
+pub use writing::{Unwritten, write_reply};
