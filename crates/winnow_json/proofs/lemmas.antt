@@ -1,0 +1,4 @@
+pub mod NumberLemmas
+pub mod TokenLemmas
+pub mod RunLemmas
+pub mod NumberAnswerLemmas

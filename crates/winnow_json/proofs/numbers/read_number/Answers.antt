@@ -1,0 +1,23 @@
+use Rattle.winnow_parser.specs.Answer.{ahead}
+use Rattle.winnow_json.specs.Meanings.{IsParser-NumberRun}
+use Rattle.winnow_json.proofs.lemmas.TokenLemmas.{itself}
+use Rattle.winnow_json.proofs.lemmas.NumberAnswerLemmas.{number-answers, number-longest, number-each}
+use Rattle.winnow_json.proofs.numbers.read_number.Goals as goal
+
+pub returns-clause-answer : goal.returns-clause-answer
+returns-clause-answer g c =
+    let stands = ahead g.I.Rest.location g.I.Stream.remaining in
+    number-answers g.I.Stream.is_slice g.I.Slice.AsBytes.bytes c.requires.bytes (g.I.StreamIsPartial.expects_more c.args.input.now) (stands c.args.input.now) (stands c.parse_number.new.input) c.parse_number.result (g.met.I.Stream.positive_widths c.args.input.now c.requires.valid) c.parse_number.ensures.means
+
+pub returns-clause-longest : goal.returns-clause-longest
+returns-clause-longest g c =
+    let stands = ahead g.I.Rest.location g.I.Stream.remaining in
+    number-longest g.I.Stream.is_slice g.I.Slice.AsBytes.bytes c.requires.bytes (g.I.StreamIsPartial.expects_more c.args.input.now) (stands c.args.input.now) (stands c.parse_number.new.input) c.parse_number.result (g.met.I.Stream.positive_widths c.args.input.now c.requires.valid) c.parse_number.ensures.means
+
+pub returns-clause-complete : goal.returns-clause-complete
+returns-clause-complete g c =
+    let stands = ahead g.I.Rest.location g.I.Stream.remaining in
+    number-each g.I.Stream.is_slice g.I.Slice.AsBytes.bytes c.requires.bytes (g.I.StreamIsPartial.expects_more c.args.input.now) (stands c.args.input.now) (stands c.parse_number.new.input) c.parse_number.result (g.met.I.Stream.positive_widths c.args.input.now c.requires.valid) c.parse_number.ensures.means
+
+pub returns-clause-moved : goal.returns-clause-moved
+returns-clause-moved g c = (IsParser-NumberRun itself g.I.Stream.is_slice g.I.Slice.AsBytes.bytes g.met.I.Stream.slices_stay).onward _ _ _ c.parse_number.ensures.means

@@ -1,0 +1,5 @@
+pub mod Numbers
+pub mod Parts
+pub mod Meanings
+pub mod Answers
+pub mod NumberAnswers
