@@ -1,4 +1,4 @@
--- The classes of ASCII characters, as tests of a character's number.
+-- The classes of ASCII characters, as tests of a character's code.
 use Rattle.std.specs.Prelude.{◌≡◌, ℕ, ◌==◌, Bool, ◌||◌, None}
 use Rattle.std.specs.Char.{is_ascii_alphabetic, is_ascii_digit, is_ascii_alphanumeric, is_ascii_hexdigit}
 use Rattle.winnow_sets.specs.Classes.{is_ascii_oct_digit, is_ascii_blank}
@@ -24,10 +24,10 @@ is_in_class OctDigit c = is_ascii_oct_digit c
 is_in_class Space c = is_ascii_blank c
 is_in_class Multispace c = is_ascii_multispace c
 
--- the parser takes all characters ahead that the class has, if they are no fewer than the least count
+-- the parser takes all characters of the class ahead, if there are at least the least count
 abbrev pub TakesAll : Class → ℕ → HeldTokens Class → Type 0
 TakesAll class least p = (p.set ≡ class) × HasCounts least None p.counts
 
--- what that means, over tokens that stand for characters
+-- the meaning of such a parser, for tokens that stand for characters
 abbrev pub AllOf : {S T : Type 0} → (S → Source T → ℕ → Type 0) → (T → ℕ) → Class → ℕ → Meaning S T
 AllOf is_slice code class least = HeldFront is_slice (λ token. is_in_class class (code token)) least None

@@ -12,7 +12,7 @@ use Rattle.winnow_parser.specs.Meanings.{Chosen}
 use Rattle.winnow_parser.specs.Parts.{IsParser-Chosen}
 use Rattle.winnow_token.specs.Held.{HeldFront, IsParser-HeldFront}
 
--- hexadecimal digits, no more of them than the count, write n, of four bits a digit
+-- at most `nibbles` hexadecimal digits write n, which has four bits for each digit
 abbrev pub ReadsHex : ℕ → List ℕ → ℕ → Type 0
 ReadsHex nibbles ds n = IsNumeral 16 ds × (digits_value 16 ds ≡ n) × (length ds ≤ nibbles) × (n < 2 ^ (4 * nibbles))
 
@@ -20,17 +20,20 @@ ReadsHex nibbles ds n = IsNumeral 16 ds × (digits_value 16 ds ≡ n) × (length
 abbrev pub ReadsText : {R : Type 0} → (List ℕ → R → Type 0) → List ℕ → R → Type 0
 ReadsText reads bytes value = IsUtf8 bytes × reads bytes value
 
--- a text is no longer than that many digits, and does not begin with a plus (43)
+-- the text has at most `nibbles` bytes, and does not begin with a plus (43)
 abbrev pub may_be_digits : ℕ → List ℕ → Bool
 may_be_digits nibbles text = nat_le (length text) nibbles && not (slice_index text 0 == 43)
 
--- the value that the slice of all hexadecimal digits ahead reads as; where it reads as none, this backtracks, from where it began. Of more
--- digits than a value has, one that is too many is enough
-abbrev pub Hexadecimal : {S R T : Type 0} → (S → R → Type 0) → (S → Source T → ℕ → Type 0) → (T → ℕ) → ℕ → Meaning R T
+-- the value that the slice of all hexadecimal digits ahead reads as; where it reads as none, the
+-- parser backtracks, from where it began. One more digit than a value has is enough to see that
+-- there are too many
+abbrev pub Hexadecimal : {S R T : Type 0} → (S → R → Type 0) → (S → Source T → ℕ → Type 0)
+    → (T → ℕ) → ℕ → Meaning R T
 Hexadecimal reads is_slice code nibbles = Chosen (λ slice value. IsSomeExactly (reads slice) value)
     (HeldFront is_slice (λ token. is_ascii_hexdigit (code token)) 1 (Some (nibbles + 1)))
 
 module _ {S R T : Type 0} (reads : S → R → Type 0) (is_slice : S → Source T → ℕ → Type 0) (stay : SlicesStay is_slice) (code : T → ℕ) (nibbles : ℕ) where
+  -- `Hexadecimal` keeps the laws of a parser
   pub IsParser-Hexadecimal : IsParser (Hexadecimal reads is_slice code nibbles)
   IsParser-Hexadecimal =
       IsParser-Chosen (λ slice value. IsSomeExactly (reads slice) value) _ (IsParser-HeldFront is_slice stay _ 1 (Some (nibbles + 1)))

@@ -32,25 +32,31 @@ module _ {S T : Type 0} (is_slice : S → Source T → ℕ → Type 0) (code : T
   abbrev pub Zero : Meaning T T
   Zero = OneOf (λ token. 48 == code token)
 
--- such digits, or 0 alone; joining the errors of both may be refused
-abbrev pub Unsigned : {S T : Type 0} → Type 0 → (S → Source T → ℕ → Type 0) → (T → ℕ) → Meaning (Unit {0}) T
+-- such digits, or 0 alone; memory may be refused while the errors of both are joined
+abbrev pub Unsigned : {S T : Type 0} → Type 0 → (S → Source T → ℕ → Type 0) → (T → ℕ)
+    → Meaning (Unit {0}) T
 Unsigned refusable is_slice code = Either refusable (Maps IsForgotten (Digits is_slice code)) (Maps IsForgotten (Zero is_slice code))
 
--- such digits after a sign or none, or 0 alone
-abbrev pub Signed : {S T : Type 0} → Type 0 → (S → Source T → ℕ → Type 0) → (T → ℕ) → Meaning (Unit {0}) T
+-- such digits, with a sign before them or none; or 0 alone
+abbrev pub Signed : {S T : Type 0} → Type 0 → (S → Source T → ℕ → Type 0) → (T → ℕ)
+    → Meaning (Unit {0}) T
 Signed refusable is_slice code = Either refusable
     (Maps IsForgotten (Pair (Optional (OneOf (λ token. is_sign (code token)))) (Digits is_slice code))) (Maps IsForgotten (Zero is_slice code))
 
--- the value that the slice of it reads as; where it reads as none, this backtracks, from where it began
-abbrev pub ReadAs : {S R T : Type 0} → (S → R → Type 0) → (S → Source T → ℕ → Type 0) → Meaning (Unit {0}) T → Meaning R T
+-- the value that the slice of the inner parser reads as; where it reads as none, the parser
+-- backtracks, from where it began
+abbrev pub ReadAs : {S R T : Type 0} → (S → R → Type 0) → (S → Source T → ℕ → Type 0)
+    → Meaning (Unit {0}) T → Meaning R T
 ReadAs reads is_slice inner = Chosen (λ slice value. IsSomeExactly (reads slice) value) (Taken is_slice inner)
 
--- slices of which a view shows the same read as the same values
+-- slices of which a view shows the same read as the same value
 abbrev pub ReadsAlike : {S R V : Type 0} → (S → V) → (S → R → Type 0) → Type 0
 ReadsAlike {S} {R} {V} view reads = (s t : S) (x : R) → view s ≡ view t → reads s x → reads t x
 
--- an error that is made of the stream as it is left, or joined of two of which the second is
-abbrev pub NumberErrors : {E S T : Type 0} → (S → E → Type 0) → (S → E → Type 0) → (E → E → E → Type 0) → Errors E S T
+-- an error that is made of the stream as it is left, or one that joins another error with such an
+-- error
+abbrev pub NumberErrors : {E S T : Type 0} → (S → E → Type 0) → (S → E → Type 0)
+    → (E → E → E → Type 0) → Errors E S T
 NumberErrors {E} {S} {T} makes cuts joins partial a s (Backtrack e) =
     makes s e ⊎ ((one : E) × ((other : E) × ((r : S) × (makes r one × makes s other × joins one other e))))
 NumberErrors makes cuts joins partial a s (Cut e) = cuts s e
@@ -60,19 +66,24 @@ NumberErrors makes cuts joins partial a s (Refused r) = ⊤
 -- ---- The laws
 
 module _ {S T : Type 0} (refusable : Type 0) (is_slice : S → Source T → ℕ → Type 0) (stay : SlicesStay is_slice) (code : T → ℕ) where
+  -- `Digits` keeps the laws of a parser
   digits-parser : IsParser (Digits is_slice code)
   digits-parser = IsParser-Pair _ _ (IsParser-OneOf _) (IsParser-HeldFront is_slice stay _ 0 None)
 
+  -- `Zero`, with its value dropped, keeps the laws of a parser
   zero-parser : IsParser (Maps IsForgotten (Zero is_slice code))
   zero-parser = IsParser-Maps IsForgotten _ (IsParser-OneOf _)
 
+  -- `Unsigned` keeps the laws of a parser
   pub IsParser-Unsigned : IsParser (Unsigned refusable is_slice code)
   IsParser-Unsigned = IsParser-Either refusable _ _ (IsParser-Maps IsForgotten _ digits-parser) zero-parser
 
+  -- `Signed` keeps the laws of a parser
   pub IsParser-Signed : IsParser (Signed refusable is_slice code)
   IsParser-Signed =
       IsParser-Either refusable _ _ (IsParser-Maps IsForgotten _ (IsParser-Pair _ _ (IsParser-Optional _ (IsParser-OneOf _)) digits-parser)) zero-parser
 
 module _ {S R T : Type 0} (reads : S → R → Type 0) (is_slice : S → Source T → ℕ → Type 0) (stay : SlicesStay is_slice) (inner : Meaning (Unit {0}) T) (p : IsParser inner) where
+  -- `ReadAs` keeps the laws of a parser
   pub IsParser-ReadAs : IsParser (ReadAs reads is_slice inner)
   IsParser-ReadAs = IsParser-Chosen (λ slice value. IsSomeExactly (reads slice) value) _ (IsParser-Taken is_slice stay inner p)

@@ -13,15 +13,15 @@ use winnow_sets::AsChar;
 use winnow_stream::{AsBStr, StreamIsPartial};
 use winnow_token::take_while;
 
-/// An unsigned type, whose values are read from hexadecimal digits.
+/// An unsigned type whose values are read from hexadecimal digits.
 pub trait HexUint: Sized {
-    // How many digits a value has at most.
+    // The greatest number of digits that a value has.
     ghost nibbles: { ℕ };
 
     // The digits write the value.
     ghost reads: { List ℕ → Self → Type 0 };
 
-    /// Returns how many digits a value has at most.
+    /// Returns the greatest number of digits that a value has.
     fn nibbles() -> u8
         ensures { result ≡ nibbles };
 
@@ -30,7 +30,7 @@ pub trait HexUint: Sized {
         ensures { IsSomeExactly (reads text.now) result };
 }
 
-// Returns whether a text is no longer than that many digits, and begins with no sign.
+// Returns whether a text has at most `nibbles` bytes and does not begin with a plus.
 fn may_be_digits(text: &str, nibbles: usize) -> bool
     ensures { result ≡ may_be_digits nibbles text.now }
 {
@@ -137,14 +137,14 @@ fn read_bytes<R: HexUint>(bytes: &[u8]) -> Option<R>
     R::read_hex(text)
 }
 
-/// A number in hexadecimal digits; [`hex_uint`] makes it.
+/// A parser of a number in hexadecimal digits; [`hex_uint`] makes it.
 #[derive_where(Clone, Copy)]
 pub struct HexadecimalUnsigned<R> {
     value: PhantomData<R>,
 }
 
-/// Returns the parser of the number that all hexadecimal digits ahead write. Where they are more
-/// than a value of the type has, the parser backtracks, also where the first of them are 0.
+/// Returns the parser of the number that all hexadecimal digits ahead write. Where there are more
+/// digits than a value of the type has, the parser backtracks, even where the first of them are 0.
 pub fn hex_uint<R>() -> HexadecimalUnsigned<R> {
     HexadecimalUnsigned { value: PhantomData }
 }
@@ -168,7 +168,7 @@ where
         I.is_slice I.slices_stay I.Token.code R.nibbles };
 
     fn parse_next(&self, alloc: Global, input: &mut I) -> ModalResult<R, E> {
-        // One digit more than there may be tells that they are too many.
+        // One more digit than a value has is enough to see that there are too many.
         let most = usize::from(R::nibbles()) + 1;
         take_while(1..=most, Class::HexDigit)
             .verify_map(

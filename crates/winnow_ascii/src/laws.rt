@@ -16,8 +16,8 @@ use winnow_sets::AsChar;
 use winnow_stream::{AsBStr, StreamIsPartial};
 use winnow_token::HeldTokens;
 
-/// The laws of classes and lines: what their parsers mean over each stream whose tokens stand for
-/// characters. It does nothing when called: its contract is the law.
+/// The laws of classes and lines: the meanings of their parsers on each stream whose tokens stand
+/// for characters. It does nothing when called: its contract is the law.
 pub fn ascii_law<I: StreamIsPartial, E: ParserError<I>>()
 where
     I::Token: AsChar + Copy,
@@ -30,9 +30,9 @@ where
         (TillLineEnding I.is_slice I.Token.code) }
 {}
 
-/// The laws of numbers that have one answer: where a view shows the same of all slices of one
-/// front, and slices of which it shows the same read as the same. It does nothing when called: its
-/// contract is the law.
+/// The laws of one answer for numbers: a parser of a number has one answer where a view shows the
+/// same of all slices of one front, and slices that show the same read as the same value. It does
+/// nothing when called: its contract is the law.
 pub fn determined_number_law<I: StreamIsPartial, E: ParserError<I>, R, H: HexUint, V>()
 where
     I::Token: AsChar,

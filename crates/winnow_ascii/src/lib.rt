@@ -1,5 +1,5 @@
-//! Parsers of ASCII text: its letters, digits and blanks, the ends of its lines, and the numbers
-//! that its digits spell.
+//! Parsers of ASCII text: letters, digits and blanks, the ends of lines, and the numbers that
+//! digits write.
 #![tactic(auto)]
 
 mod class;

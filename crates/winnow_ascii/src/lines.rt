@@ -35,7 +35,7 @@ pub fn crlf() -> Wanted<&'static str>
     literal("\r\n")
 }
 
-/// The end of a line; [`line_ending`] makes it.
+/// A parser of the end of a line; [`line_ending`] makes it.
 pub type LineEnd<I, E> = Alternatives<(Taken<OneOf<char>, I, E>, Wanted<&'static str>)>;
 
 /// Returns the parser of the end of a line: a newline, or a carriage return and a newline.
@@ -48,14 +48,15 @@ where
     alt((one_of('\n').take(), crlf()))
 }
 
-/// The text of a line; [`till_line_ending`] makes its parser.
+/// A parser of the text of a line; [`till_line_ending`] makes it.
 pub type LineText = FirstOf<
     OtherTokens<(char, char)>,
     Negated<(OneOf<char>, Negated<OneOf<char>>)>,
 >;
 
-/// Returns the parser of the text of a line, up to its end or that of the input; the end is not
-/// taken. Where a carriage return with no newline after it stands there, the parser backtracks.
+/// Returns the parser of the text of a line, up to the end of the line or of the input. The end
+/// itself is not taken. Where the text is followed by a carriage return without a newline, the
+/// parser backtracks.
 pub fn till_line_ending() -> LineText
     ensures { IsTillLineEnding result }
 {

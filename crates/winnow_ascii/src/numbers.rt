@@ -14,14 +14,14 @@ use winnow_sets::AsChar;
 use winnow_stream::StreamIsPartial;
 use winnow_token::one_of;
 
-/// A number in decimal digits; [`dec_uint`] makes it.
+/// A parser of a number in decimal digits; [`dec_uint`] makes it.
 #[derive_where(Clone, Copy)]
 pub struct DecimalUnsigned<R> {
     value: PhantomData<R>,
 }
 
-/// Returns the parser of the number that decimal digits write: `0` alone, or all digits ahead, of
-/// which the first is not 0. Where the type has no such number, the parser backtracks.
+/// Returns the parser of the number that decimal digits write: `0` alone, or all digits ahead if
+/// the first is not 0. Where the type does not have the number, the parser backtracks.
 pub fn dec_uint<R>() -> DecimalUnsigned<R> {
     DecimalUnsigned { value: PhantomData }
 }
@@ -56,15 +56,15 @@ where
     }
 }
 
-/// A number in decimal digits after a sign; [`dec_int`] makes it.
+/// A parser of a number in decimal digits, with a sign or without; [`dec_int`] makes it.
 #[derive_where(Clone, Copy)]
 pub struct DecimalSigned<R> {
     value: PhantomData<R>,
 }
 
-/// Returns the parser of the number that decimal digits write, of which the first is not 0, with
-/// `+` or `-` before them or none; or `0` alone. Where the type has no such number, the parser
-/// backtracks.
+/// Returns the parser of the number that decimal digits write: `0` alone, or all digits ahead if
+/// the first is not 0, after `+`, `-` or no sign. Where the type does not have the number, the
+/// parser backtracks.
 pub fn dec_int<R>() -> DecimalSigned<R> {
     DecimalSigned { value: PhantomData }
 }

@@ -1,18 +1,21 @@
--- A parser that is asked or not.
+-- A parser that is asked on a condition.
 use Rattle.std.specs.Prelude.{◌≡◌, Bool, true, false, Option, Some, None}
 use Rattle.winnow_parser.specs.Outcome.{Meaning}
 use Rattle.winnow_parser.specs.Laws.{IsParser}
 use Rattle.winnow_parser.specs.Meanings.{Returns, Maps}
 use Rattle.winnow_parser.specs.Parts.{IsParser-Returns, IsParser-Maps}
 
+-- the option is this value in `Some`
 abbrev pub IsSomeOf : {O : Type 0} → O → Option O → Type 0
 IsSomeOf x y = Some x ≡ y
 
--- some value, if the parser is asked; else none, and nothing is taken
+-- the value in `Some`, if the parser is asked; if not, `None`, and nothing is taken
 abbrev pub Conditional : {O T : Type 0} → Bool → Meaning O T → Meaning (Option O) T
 Conditional true inner = Maps IsSomeOf inner
 Conditional false inner = Returns None
 
-pub IsParser-Conditional : {O T : Type 0} (flag : Bool) {inner : Meaning O T} → IsParser inner → IsParser (Conditional flag inner)
+-- `Conditional` keeps the laws of a parser
+pub IsParser-Conditional : {O T : Type 0} (flag : Bool) {inner : Meaning O T} → IsParser inner
+    → IsParser (Conditional flag inner)
 IsParser-Conditional true {inner} p = IsParser-Maps IsSomeOf inner p
 IsParser-Conditional false p = IsParser-Returns None

@@ -1,13 +1,14 @@
--- Which lists of values are the same.
+-- When lists of values are the same.
 use Rattle.std.specs.Prelude.{List, [], ◌∷◌, ⊤}
 
--- they are as long, and each value is the same
+-- the lists have the same length, and each value is the same
 abbrev pub AreSameEach : {O : Type 0} → (O → O → Type 0) → List O → List O → Type 0
 AreSameEach same [] [] = ⊤
 AreSameEach same [] (y ∷ ys) = ⊥
 AreSameEach same (x ∷ xs) [] = ⊥
 AreSameEach same (x ∷ xs) (y ∷ ys) = same x y × AreSameEach same xs ys
 
--- of a value and a part that are the same, a step makes values that are the same
-abbrev pub StepsRespect : {O P : Type 0} → (O → O → Type 0) → (P → P → Type 0) → (O → P → O → Type 0) → Type 0
+-- a step gives the same for values and parts that are the same
+abbrev pub StepsRespect : {O P : Type 0} → (O → O → Type 0) → (P → P → Type 0)
+    → (O → P → O → Type 0) → Type 0
 StepsRespect {O} {P} same alike step = (x y : O) (p q : P) (l r : O) → same x y → alike p q → step x p l → step y q r → same l r

@@ -7,7 +7,7 @@ use Rattle.winnow_parser.specs.Outcome.{Backtracks, Cuts, Needs, Refuses, Gives,
 use Rattle.winnow_parser.specs.Laws.{longer, IsStable, IsFinal, IsOnward, IsParser}
 use Rattle.winnow_parser.specs.Parts.{Moves-still}
 
--- nothing remains, and nothing follows; where something may follow, one more token is needed to tell
+-- nothing remains, and nothing follows; where more may follow, one more token is needed to decide
 abbrev pub Ended : {T : Type 0} → Meaning (Unit {0}) T
 Ended partial a (Gives u b) = (a.tokens ≡ []) × (partial ≡ false) × (a ≡ b)
 Ended partial a (Fails (Backtracks b)) = (a.tokens ≢ []) × (a ≡ b)
@@ -15,7 +15,7 @@ Ended partial a (Fails (Cuts b)) = ⊥
 Ended partial a (Fails (Needs n)) = (a.tokens ≡ []) × (partial ≡ true) × (n ≡ needed 1)
 Ended partial a (Fails Refuses) = ⊥
 
--- it backtracks, whatever stands ahead
+-- the parser backtracks on each input
 abbrev pub Failing : {O T : Type 0} → Meaning O T
 Failing partial a (Gives x b) = ⊥
 Failing partial a (Fails (Backtracks b)) = a ≡ b
@@ -23,11 +23,13 @@ Failing partial a (Fails (Cuts b)) = ⊥
 Failing partial a (Fails (Needs n)) = ⊥
 Failing partial a (Fails Refuses) = ⊥
 
+-- input that is not empty is not empty when more follows
 some-longer : {T : Type 0} (r more : Source T) → r ≢ [] → r ++ more ≢ []
 some-longer [] more n = absurd (n refl)
 some-longer (x ∷ xs) more n = λ e. cc
 
 module _ {T : Type 0} where
+  -- a settled answer of `Ended` stays when more input follows
   ended-stable : IsStable {O = Unit {0}} {T = T} Ended
   ended-stable more partial a (Gives u b) s h = absurd (cc)
   ended-stable more partial a (Fails (Backtracks b)) s h = (some-longer a.tokens more h.0, ap (longer more) h.1)
@@ -35,9 +37,11 @@ module _ {T : Type 0} where
   ended-stable more partial a (Fails (Needs n)) s h = absurd s
   ended-stable more partial a (Fails Refuses) s h = absurd s
 
+  -- `Ended` needs nothing more where nothing more may follow
   ended-final : IsFinal {O = Unit {0}} {T = T} Ended
   ended-final a n h = cc
 
+  -- `Ended` only moves the stream on
   ended-onward : IsOnward {O = Unit {0}} {T = T} Ended
   ended-onward partial a (Gives u b) h = Moves-still a b h.2
   ended-onward partial a (Fails (Backtracks b)) h = Moves-still a b h.1
@@ -45,10 +49,12 @@ module _ {T : Type 0} where
   ended-onward partial a (Fails (Needs n)) h = tt
   ended-onward partial a (Fails Refuses) h = tt
 
+  -- `Ended` keeps the laws of a parser
   pub IsParser-Ended : IsParser {O = Unit {0}} {T = T} Ended
   IsParser-Ended = record { stable = ended-stable; final = ended-final; onward = ended-onward }
 
 module _ {O T : Type 0} where
+  -- a settled answer of `Failing` stays when more input follows
   failing-stable : IsStable {O = O} {T = T} Failing
   failing-stable more partial a (Gives x b) s h = absurd h
   failing-stable more partial a (Fails (Backtracks b)) s h = ap (longer more) h
@@ -56,6 +62,7 @@ module _ {O T : Type 0} where
   failing-stable more partial a (Fails (Needs n)) s h = absurd s
   failing-stable more partial a (Fails Refuses) s h = absurd s
 
+  -- `Failing` only moves the stream on
   failing-onward : IsOnward {O = O} {T = T} Failing
   failing-onward partial a (Gives x b) h = absurd h
   failing-onward partial a (Fails (Backtracks b)) h = Moves-still a b h
@@ -63,5 +70,6 @@ module _ {O T : Type 0} where
   failing-onward partial a (Fails (Needs n)) h = tt
   failing-onward partial a (Fails Refuses) h = tt
 
+  -- `Failing` keeps the laws of a parser
   pub IsParser-Failing : IsParser {O = O} {T = T} Failing
   IsParser-Failing = record { stable = failing-stable; final = λ a n h. h; onward = failing-onward }

@@ -10,33 +10,36 @@ use Rattle.winnow_parser.specs.Parts.{IsParser-Returns, IsParser-Maps, IsParser-
 use Rattle.winnow_combinator.specs.Counts.{fewer}
 use Rattle.winnow_combinator.specs.Repetition.{Repeated, RepeatedErrors, IsParser-Repeated}
 
--- the first value and the others, in one list
+-- the list has the first value and then the others
 abbrev pub Prepends : {O : Type 0} → O × List O → List O → Type 0
 Prepends both xs = (both.0 ∷ both.1) ≡ xs
 
--- a value, and then values behind separators, as often as they can
-abbrev pub Chained : {O S T : Type 0} → ℕ → Option ℕ → Meaning S T → Meaning O T → Meaning (List O) T
+-- a value, and then values after separators, as many as there are
+abbrev pub Chained : {O S T : Type 0} → ℕ → Option ℕ → Meaning S T → Meaning O T
+    → Meaning (List O) T
 Chained least greatest separator inner =
     Maps Prepends (Pair inner (Repeated (least - 1) (fewer greatest) (Preceded separator inner)))
 
--- the list, or no value
+-- the list, or the empty list for `None`
 abbrev pub OrNone : {O : Type 0} → Option (List O) → List O → Type 0
 OrNone None xs = [] ≡ xs
 OrNone (Some ys) xs = ys ≡ xs
 
--- the values; where none is needed, none need stand there
+-- the values; where none is needed, there may be none
 abbrev pub IfNeeded : {O T : Type 0} → ℕ → Meaning (List O) T → Meaning (List O) T
 IfNeeded zero values = Maps OrNone (Optional values)
 IfNeeded (suc n) values = values
 
--- values with separators between them, as often as they can and at most `greatest` of them, if they are at least `least`. A
--- separator behind which no value stands is none of them
-abbrev pub Separated : {O S T : Type 0} → ℕ → Option ℕ → Meaning S T → Meaning O T → Meaning (List O) T
+-- values with separators between them, as many as there are and at most `greatest`, if there are at
+-- least `least`; a separator that no value follows is not taken
+abbrev pub Separated : {O S T : Type 0} → ℕ → Option ℕ → Meaning S T → Meaning O T
+    → Meaning (List O) T
 Separated least None separator inner = IfNeeded least (Chained least None separator inner)
 Separated least (Some zero) separator inner = Returns []
 Separated least (Some (suc n)) separator inner = IfNeeded least (Chained least (Some (suc n)) separator inner)
 
--- of an input as wide as a `usize` can say, the values might be one more than it can count, so it is refused
+-- the inner parser, which may refuse an input of the greatest width, since that might have one more
+-- value than a `usize` can count
 abbrev pub Countable : {O T : Type 0} → Meaning O T → Meaning O T
 Countable inner partial a (Gives x b) = inner partial a (Gives x b)
 Countable inner partial a (Fails (Backtracks b)) = inner partial a (Fails (Backtracks b))
@@ -44,42 +47,55 @@ Countable inner partial a (Fails (Cuts b)) = inner partial a (Fails (Cuts b))
 Countable inner partial a (Fails (Needs n)) = inner partial a (Fails (Needs n))
 Countable inner partial a (Fails Refuses) = (2 ^ 64 ≤ width a.tokens + 1) ⊎ inner partial a (Fails Refuses)
 
--- what a step makes of the first value and of the pairs after it
+-- a step folds the pairs into the first value
 abbrev pub FoldsLeft : {O P : Type 0} → (O → P → O → Type 0) → O × List P → O → Type 0
 FoldsLeft step both y = FoldsTo step both.0 both.1 y
 
--- values with separators between them, as often as they can, folded from the left
-abbrev pub FoldedLeft : {O S T : Type 0} → (O → S × O → O → Type 0) → Meaning S T → Meaning O T → Meaning O T
+-- values with separators between them, as many as there are, folded from the left
+abbrev pub FoldedLeft : {O S T : Type 0} → (O → S × O → O → Type 0) → Meaning S T → Meaning O T
+    → Meaning O T
 FoldedLeft step separator inner = Maps (FoldsLeft step) (Pair inner (Repeated 0 None (Pair separator inner)))
 
--- the errors of the first value; or, after it and some separators and values, those of the next separator and its value
-abbrev pub ListErrors : {O P Q E S T : Type 0} → Meaning Q T → Meaning P T → Errors E S T → Meaning O T → Errors E S T → Errors E S T
+-- the errors of the first value; or, after it and some pairs, those of the next separator and its
+-- value
+abbrev pub ListErrors : {O P Q E S T : Type 0} → Meaning Q T → Meaning P T → Errors E S T
+    → Meaning O T → Errors E S T → Errors E S T
 ListErrors pairs separator separator_errors inner errors =
     PairErrors inner errors (RepeatedErrors pairs (PairErrors separator separator_errors errors))
 
 module _ {O S T : Type 0} {separator : Meaning S T} {inner : Meaning O T} (q : IsParser separator) (p : IsParser inner) where
-  pub IsParser-FoldedLeft : (step : O → S × O → O → Type 0) → IsParser (FoldedLeft step separator inner)
+  -- `FoldedLeft` keeps the laws of a parser
+  pub IsParser-FoldedLeft : (step : O → S × O → O → Type 0)
+      → IsParser (FoldedLeft step separator inner)
   IsParser-FoldedLeft step =
       let rest = Repeated 0 None (Pair separator inner) in
       let lawful = IsParser-Repeated 0 None (IsParser-Pair separator inner q p) in
       IsParser-Maps (FoldsLeft step) (Pair inner rest) (IsParser-Pair inner rest p lawful)
 
-  pub IsParser-Chained : (least : ℕ) (greatest : Option ℕ) → IsParser (Chained least greatest separator inner)
+  -- `Chained` keeps the laws of a parser
+  pub IsParser-Chained : (least : ℕ) (greatest : Option ℕ)
+      → IsParser (Chained least greatest separator inner)
   IsParser-Chained least greatest =
       let rest = Repeated (least - 1) (fewer greatest) (Preceded separator inner) in
       let lawful = IsParser-Repeated (least - 1) (fewer greatest) (IsParser-Preceded separator inner q p) in
       IsParser-Maps Prepends (Pair inner rest) (IsParser-Pair inner rest p lawful)
 
-IsParser-IfNeeded : {O T : Type 0} (least : ℕ) {values : Meaning (List O) T} → IsParser values → IsParser (IfNeeded least values)
+-- `IfNeeded` keeps the laws of a parser
+IsParser-IfNeeded : {O T : Type 0} (least : ℕ) {values : Meaning (List O) T} → IsParser values
+    → IsParser (IfNeeded least values)
 IsParser-IfNeeded zero {values} v = IsParser-Maps OrNone (Optional values) (IsParser-Optional values v)
 IsParser-IfNeeded (suc n) v = v
 
-pub IsParser-Separated : {O S T : Type 0} (least : ℕ) (greatest : Option ℕ) {separator : Meaning S T} {inner : Meaning O T} → IsParser separator → IsParser inner → IsParser (Separated least greatest separator inner)
+-- `Separated` keeps the laws of a parser
+pub IsParser-Separated : {O S T : Type 0} (least : ℕ) (greatest : Option ℕ)
+    {separator : Meaning S T} {inner : Meaning O T} → IsParser separator → IsParser inner
+    → IsParser (Separated least greatest separator inner)
 IsParser-Separated least None q p = IsParser-IfNeeded least (IsParser-Chained q p least None)
 IsParser-Separated least (Some zero) q p = IsParser-Returns []
 IsParser-Separated least (Some (suc n)) q p = IsParser-IfNeeded least (IsParser-Chained q p least (Some (suc n)))
 
 module _ {O T : Type 0} {inner : Meaning O T} (p : IsParser inner) where
+  -- a settled answer of `Countable` stays when more input follows
   countable-stable : IsStable (Countable inner)
   countable-stable more partial a (Gives x b) s h = p.stable more partial a (Gives x b) tt h
   countable-stable more partial a (Fails (Backtracks b)) s h = p.stable more partial a (Fails (Backtracks b)) tt h
@@ -87,6 +103,7 @@ module _ {O T : Type 0} {inner : Meaning O T} (p : IsParser inner) where
   countable-stable more partial a (Fails (Needs n)) s h = absurd s
   countable-stable more partial a (Fails Refuses) s h = absurd s
 
+  -- `Countable` only moves the stream on
   countable-onward : IsOnward (Countable inner)
   countable-onward partial a (Gives x b) h = p.onward partial a (Gives x b) h
   countable-onward partial a (Fails (Backtracks b)) h = p.onward partial a (Fails (Backtracks b)) h
@@ -94,5 +111,6 @@ module _ {O T : Type 0} {inner : Meaning O T} (p : IsParser inner) where
   countable-onward partial a (Fails (Needs n)) h = tt
   countable-onward partial a (Fails Refuses) h = tt
 
+  -- `Countable` keeps the laws of a parser
   pub IsParser-Countable : IsParser (Countable inner)
   IsParser-Countable = record { stable = countable-stable; final = p.final; onward = countable-onward }

@@ -14,8 +14,8 @@ use winnow_error::ParserError;
 use winnow_parser::{Failure, ModalResult, Parser};
 use winnow_stream::StreamIsPartial;
 
-// The value of a parser, behind some tokens. A value for which nothing was taken is cut, since the
-// parser would be asked for ever.
+// A parser whose values each take some tokens. Where the inner parser takes nothing for a value,
+// this one cuts, since a repetition would never end.
 #[derive_where(Clone, Copy)]
 pub(crate) struct Advancing<'a, P> {
     pub(crate) inner: &'a P,
@@ -35,6 +35,7 @@ where
 
     ghost lawful = { λ p. IsParser-Taking (P.lawful p.inner.now) };
 
+    #[inline(always)]
     fn parse_next(&self, alloc: Global, input: &mut I) -> ModalResult<P::Output, E> {
         let before = input.eof_offset();
         let value = self.inner.parse_next(alloc, input)?;
@@ -46,8 +47,9 @@ where
     }
 }
 
-// Asks a parser for one value more, after `count` of them. Where it backtracks and they are enough,
-// there is none, and the stream goes back.
+// Asks a parser for one more value, after `count` values. Returns `None`, and resets the stream,
+// where the parser backtracks and these values are enough.
+#[inline(always)]
 pub(crate) fn one_more<I: StreamIsPartial, E: ParserError<I>, P: Parser<I, E>>(
     parser: &P,
     least: usize,
@@ -81,7 +83,7 @@ pub(crate) fn one_more<I: StreamIsPartial, E: ParserError<I>, P: Parser<I, E>>(
     }
 }
 
-// A parser that is asked again and again, and what is made of its values.
+// A parser that is asked again and again, with what gathers its values.
 #[derive_where(Clone, Copy)]
 pub(crate) struct Again<'a, P, G> {
     pub(crate) parser: &'a P,
@@ -89,8 +91,8 @@ pub(crate) struct Again<'a, P, G> {
     pub(crate) counts: Counts,
 }
 
-// Asks the parser until it backtracks, or gave the greatest count of values, and gathers them after
-// those that are there.
+// Asks the parser until it backtracks or has given the greatest count of values, and adds them to
+// those that are gathered already.
 pub(crate) fn go_on<I: StreamIsPartial, E: ParserError<I>, P: Parser<I, E>, G: Gather<P::Output>>(
     again: &Again<P, G>,
     alloc: Global,

@@ -9,14 +9,14 @@ use winnow_error::ParserError;
 use winnow_parser::{Failure, ModalResult, Parser};
 use winnow_stream::StreamIsPartial;
 
-/// The first of several parsers that does not backtrack; [`alt`] makes it.
+/// A parser that tries several parsers in turn; [`alt`] makes it.
 #[derive(Clone, Copy, Drop)]
 pub struct Alternatives<L> {
     pub(crate) list: L,
 }
 
-/// Returns the parser that tries each of a tuple of parsers, from the same place, until one does not backtrack. Where all do, their
-/// errors are joined by `or`.
+/// Returns the parser that tries each of a tuple of parsers, from the same place, until one does
+/// not backtrack. Where all do, their errors are joined by `or`.
 pub fn alt<L>(list: L) -> Alternatives<L>
     ensures { result ≡ record { list = list } }
 {
@@ -58,7 +58,7 @@ impl<
     }
 }
 
-/// The first of three.
+/// Tries three parsers in turn.
 impl<
     I: StreamIsPartial,
     E: ParserError<I>,

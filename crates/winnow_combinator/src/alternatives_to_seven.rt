@@ -10,7 +10,7 @@ use winnow_error::ParserError;
 use winnow_parser::{ModalResult, Parser};
 use winnow_stream::StreamIsPartial;
 
-/// The first of four.
+/// Tries four parsers in turn.
 impl<
     I: StreamIsPartial,
     E: ParserError<I>,
@@ -28,7 +28,8 @@ impl<
         (EitherErrors E.or_gives (B.errors p.list.1) (EitherErrors E.or_gives (C.errors p.list.2)
         (D.errors p.list.3))) };
 
-    ghost ready = { λ p. A.ready p.list.0 × B.ready p.list.1 × C.ready p.list.2 × D.ready p.list.3 };
+    ghost ready = { λ p. A.ready p.list.0 × B.ready p.list.1 × C.ready p.list.2
+        × D.ready p.list.3 };
 
     ghost lawful = { λ p. IsParser-Choice4 E.or_refusable (A.lawful p.list.0) (B.lawful p.list.1)
         (C.lawful p.list.2) (D.lawful p.list.3) };
@@ -44,7 +45,7 @@ impl<
     }
 }
 
-/// The first of five.
+/// Tries five parsers in turn.
 impl<
     I: StreamIsPartial,
     E: ParserError<I>,
@@ -80,7 +81,7 @@ impl<
     }
 }
 
-/// The first of six.
+/// Tries six parsers in turn.
 impl<
     I: StreamIsPartial,
     E: ParserError<I>,
@@ -124,7 +125,7 @@ impl<
     }
 }
 
-/// The first of seven.
+/// Tries seven parsers in turn.
 impl<
     I: StreamIsPartial,
     E: ParserError<I>,

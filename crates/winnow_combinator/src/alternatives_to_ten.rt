@@ -9,7 +9,7 @@ use winnow_error::ParserError;
 use winnow_parser::{ModalResult, Parser};
 use winnow_stream::StreamIsPartial;
 
-/// The first of eight.
+/// Tries eight parsers in turn.
 impl<
     I: StreamIsPartial,
     E: ParserError<I>,
@@ -60,7 +60,7 @@ impl<
     }
 }
 
-/// The first of nine.
+/// Tries nine parsers in turn.
 impl<
     I: StreamIsPartial,
     E: ParserError<I>,
@@ -114,7 +114,7 @@ impl<
     }
 }
 
-/// The first of ten.
+/// Tries ten parsers in turn.
 impl<
     I: StreamIsPartial,
     E: ParserError<I>,

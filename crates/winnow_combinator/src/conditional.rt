@@ -12,8 +12,8 @@ pub struct Conditional<P> {
     inner: P,
 }
 
-/// Returns the parser that gives some value of the inner one if it is to be asked, and else gives
-/// `None` and takes nothing.
+/// Returns the parser that asks the inner one if `is_asked`, and gives its value in `Some`. If not,
+/// the parser gives `None` and takes nothing.
 pub fn cond<P>(is_asked: bool, parser: P) -> Conditional<P>
     ensures { result ≡ record { is_asked = is_asked; inner = parser } }
 {

@@ -4,7 +4,7 @@ ghost use Rattle.winnow_combinator.specs.Counts.{IsBelow, Ascends, fewer};
 
 use winnow_count::Range;
 
-// How many values are wanted: a least count, and perhaps a greatest.
+// The numbers of values that are wanted: from a least count, up to a greatest, if there is one.
 #[derive(Clone, Copy)]
 pub(crate) struct Counts {
     pub(crate) least: usize,
@@ -23,7 +23,7 @@ impl Counts {
         }
     }
 
-    // Returns whether some count is allowed.
+    // Returns whether some number of values is allowed.
     pub(crate) fn ascend(&self) -> bool
         ensures { IsTrue result ↔ Ascends self.now.least self.now.greatest }
     {
@@ -33,7 +33,7 @@ impl Counts {
         }
     }
 
-    // Returns whether one value more may be asked for where so many are there.
+    // Returns whether one more value may be asked for after `count` values.
     pub(crate) fn allow_more(&self, count: usize) -> bool
         ensures { IsTrue result ↔ IsBelow self.now.greatest count }
     {
@@ -43,7 +43,7 @@ impl Counts {
         }
     }
 
-    // Returns the counts of what follows a first value.
+    // Returns the counts for the values after the first.
     pub(crate) fn after_one(&self) -> Self
         ensures { result
             ≡ record { least = self.now.least - 1; greatest = fewer self.now.greatest } }

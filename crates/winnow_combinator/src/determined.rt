@@ -18,8 +18,8 @@ use winnow_error::ParserError;
 use winnow_parser::Parser;
 use winnow_stream::StreamIsPartial;
 
-/// The laws of a parser that has one answer and is asked again and again, or not: what is read has one
-/// answer, and so has what is gathered of it, where the same values make the same. It does nothing
+/// The laws of a parser that has one answer: repeated, or asked on a condition, it has one answer
+/// too. So has what is gathered of its values, where the same values make the same. It does nothing
 /// when called: its contract is the law.
 pub fn determined_repeat_law<
     I: StreamIsPartial,
@@ -50,8 +50,9 @@ pub fn determined_repeat_law<
         → IsDetermined (AreSameIfAny (Shows view)) (Conditional flag (A.means a)) }
 {}
 
-/// The laws of two parsers that have one answer each, of which the first is asked again and again: up to where the second
-/// gives a value, or with the second between its values, which are folded. It does nothing when called: its contract is the law.
+/// The laws of a repeated parser and a second one that have one answer each. The repetition has one
+/// answer, both up to where the second gives a value, and folded with the second between its
+/// values. It does nothing when called: its contract is the law.
 pub fn determined_till_law<
     I: StreamIsPartial,
     E,
@@ -83,16 +84,16 @@ pub fn determined_till_law<
         (B.means b) (A.means a)) }
 {}
 
-/// The laws of parsers that take nothing: the end, nothing at all and a failure have one answer. It does nothing when called: its
-/// contract is the law.
+/// The laws of parsers that take nothing: the end, nothing at all and a failure have one answer. It
+/// does nothing when called: its contract is the law.
 pub fn determined_end_law<I: StreamIsPartial>()
     ensures ended { IsDetermined {O = Unit {0}} {T = I.Token} (λ _ _. ⊤) Ended }
     ensures nothing { IsDetermined {O = Unit {0}} {T = I.Token} (λ _ _. ⊤) (Returns tt) }
     ensures failing { IsDetermined {O = Unit {0}} {T = I.Token} (λ _ _. ⊤) Failing }
 {}
 
-/// The laws of alternatives: the first of several parsers with one answer that does not backtrack has
-/// one answer. It does nothing when called: its contract is the law.
+/// The laws of alternatives: alternatives that have one answer each have one answer together. It
+/// does nothing when called: its contract is the law.
 pub fn determined_choice_law<
     I: StreamIsPartial,
     E: ParserError<I>,

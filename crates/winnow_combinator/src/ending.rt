@@ -8,11 +8,12 @@ use winnow_error::ParserError;
 use winnow_parser::{Failure, ModalResult, Parser};
 use winnow_stream::{Needed, StreamIsPartial};
 
-/// The end of the input; [`eof`] makes it.
+/// A parser of the end of the input; [`eof`] makes it.
 #[derive(Clone, Copy, Debug)]
 pub struct Ended;
 
-/// Returns the parser of the end of the input. Where more may follow, it needs one more token to tell.
+/// Returns the parser of the end of the input. Where more may follow, it needs one more token to
+/// decide.
 pub fn eof() -> Ended {
     Ended
 }
@@ -40,7 +41,7 @@ where
     }
 }
 
-/// Nothing; [`empty`] makes it.
+/// A parser of nothing; [`empty`] makes it.
 #[derive(Clone, Copy, Debug)]
 pub struct Nothing;
 
@@ -65,11 +66,11 @@ impl<I: StreamIsPartial, E> Parser<I, E> for Nothing {
     }
 }
 
-/// A failure, whatever stands ahead; [`fail`] makes it.
+/// A parser that fails on each input; [`fail`] makes it.
 #[derive(Clone, Copy, Debug)]
 pub struct Failing;
 
-/// Returns the parser that backtracks, whatever stands ahead.
+/// Returns the parser that backtracks on each input.
 pub fn fail() -> Failing {
     Failing
 }

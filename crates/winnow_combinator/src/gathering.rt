@@ -8,25 +8,24 @@ use std::alloc::{AllocError, Global};
 use std::marker::PhantomData;
 use winnow_count::Accumulate;
 
-/// What is made of the values of a repeated parser: an accumulator takes them, or a function folds
-/// them.
+/// Gathers the values of a repeated parser: in an accumulator, or by a function that folds them.
 pub trait Gather<T> {
-    /// What is made of them.
+    /// The result of gathering.
     type Whole: Drop;
 
-    // What may be asked to take values.
+    // It may be asked to take values.
     ghost ready: { Self → Type 0 };
 
-    // This is made of these values, in their order.
+    // These values, in their order, make this result.
     ghost makes: { Self → List T → Self.Whole → Type 0 };
 
-    // This is made of that by one more value.
+    // One more value makes the new result of the old one.
     ghost takes: { Self → Self.Whole → T → Self.Whole → Type 0 };
 
     // Whether one more value can be taken.
     ghost can_take: { Self → Self.Whole → Type 0 };
 
-    // Whether memory is asked for, which may be refused.
+    // Memory is asked for, which may be refused.
     ghost refusable: { Type 0 };
 
     /// Takes one more value.
@@ -40,28 +39,28 @@ pub trait Gather<T> {
     ghost makes_taken: { (g : Self) (values : List T) (old new : Self.Whole) (value : T)
         → makes g values old → takes g old value new → makes g (values ++ value ∷ []) new };
 
-    // As many values as a vector can have are taken.
+    // Values can be taken up to the number that a vector can have.
     ghost fits: { (g : Self) (values : List T) (whole : Self.Whole)
         → makes g values whole → length values + 1 < 2 ^ 64 → can_take g whole };
 }
 
-/// What begins with no value.
+/// Gathers from no value on.
 pub trait Begin<T>: Gather<T> {
-    /// Returns what is made of no value.
+    /// Returns the result for no values.
     fn begin(&self, alloc: Global) -> Result<Self::Whole, AllocError>
         requires { Self.ready self.now }
         ensures made { IfOk result (λ whole. Self.makes self.now [] whole) }
         ensures refused { OnErr result Self.refusable };
 }
 
-/// An accumulator, which takes each value.
+/// Gathers each value in an accumulator.
 #[derive_where(Clone, Copy)]
 pub struct Accumulated<A> {
     of: PhantomData<A>,
 }
 
 impl<A> Accumulated<A> {
-    // Returns what gathers values in such an accumulator.
+    // Returns the value that gathers in an accumulator `A`.
     pub(crate) fn new() -> Self {
         Accumulated { of: PhantomData }
     }
@@ -95,7 +94,7 @@ impl<T, A: Accumulate<T> + Drop> Begin<T> for Accumulated<A> {
     }
 }
 
-/// A function that folds the values, from what another function gives.
+/// Folds the values by a function, from a start that another function gives.
 #[derive(Clone, Copy, Drop)]
 pub struct Folded<N, F> {
     pub(crate) init: N,
@@ -132,7 +131,7 @@ impl<T, W: Drop, N: Fn() -> W, F: Fn(W, T) -> W> Begin<T> for Folded<N, F> {
     }
 }
 
-// Returns what is made of one value.
+// Returns the result for one value.
 pub(crate) fn begin_with<T: Drop, G: Begin<T>>(
     gather: &G,
     alloc: Global,

@@ -12,7 +12,8 @@ use winnow_error::ParserError;
 use winnow_parser::{ModalResult, Parser};
 use winnow_stream::StreamIsPartial;
 
-/// Values with separators between them, folded from the left; [`separated_foldl1`] makes it.
+/// A parser of values with separators between them, folded from the left; [`separated_foldl1`]
+/// makes it.
 #[derive(Clone, Copy, Drop)]
 pub struct LeftFold<P, S, F> {
     inner: P,
@@ -20,11 +21,11 @@ pub struct LeftFold<P, S, F> {
     op: F,
 }
 
-/// Returns the parser that asks the inner one and the separator in turn, until one backtracks, and
-/// folds the values from the left by a function of what there is, the separator and the next value.
-/// A separator behind which no value stands is not taken; without a first value, it backtracks.
+/// Returns the parser that asks the inner one and the separator in turn, until one backtracks. It
+/// folds the values from the left by a function of the result so far, the separator and the next
+/// value. It does not take a separator that no value follows, and backtracks without a first value.
 ///
-/// It cuts a separator and a value that together take nothing, since it would ask for ever.
+/// It cuts where a separator and a value together take nothing, since it would never end.
 pub fn separated_foldl1<P, S, F>(parser: P, separator: S, op: F) -> LeftFold<P, S, F>
     ensures { result ≡ record { inner = parser; separator = separator; op = op } }
 {
@@ -35,7 +36,7 @@ pub fn separated_foldl1<P, S, F>(parser: P, separator: S, op: F) -> LeftFold<P, 
     }
 }
 
-// The function, which takes a separator and the value behind it.
+// The function, which takes a separator and the value after it.
 #[derive_where(Clone, Copy)]
 struct Operation<'a, F> {
     op: &'a F,
@@ -93,7 +94,7 @@ where
 
     fn parse_next(&self, alloc: Global, input: &mut I) -> ModalResult<P::Output, E> {
         let first = self.inner.parse_next(alloc, input)?;
-        // What remains is no wider than a `usize` says, so the values can be counted.
+        // The width of what remains fits in a `usize`, so the values can be counted.
         let _ = input.eof_offset();
         let pairs = (&self.separator, &self.inner);
         let gather = Operation { op: &self.op };

@@ -1,4 +1,5 @@
-//! Combinators: parsers that are made of parsers. Each one's meaning is made of the meanings of its parts alone.
+//! Combinators: parsers that are made of parsers. The meaning of each is made of the meanings of
+//! its parts alone.
 #![tactic(auto)]
 
 mod again;

@@ -8,7 +8,7 @@ use winnow_error::ParserError;
 use winnow_parser::{Failure, ModalResult, Parser};
 use winnow_stream::StreamIsPartial;
 
-/// The value, and nothing is taken; [`peek`] makes it.
+/// A parser that gives the value of the inner one and takes nothing; [`peek`] makes it.
 #[derive(Clone, Copy, Drop)]
 pub struct LookedAt<P> {
     inner: P,
@@ -43,13 +43,14 @@ where
     }
 }
 
-/// Nothing, where the inner parser backtracks; [`not`] makes it.
+/// A parser that succeeds where the inner one backtracks; [`not`] makes it.
 #[derive(Clone, Copy, Drop)]
 pub struct Negated<P> {
     inner: P,
 }
 
-/// Returns the parser that gives nothing where the inner one backtracks, and backtracks where it gives a value. It takes nothing.
+/// Returns the parser that succeeds where the inner one backtracks, and backtracks where the inner
+/// one gives a value. It takes nothing.
 pub fn not<P>(inner: P) -> Negated<P>
     ensures { result ≡ record { inner = inner } }
 {

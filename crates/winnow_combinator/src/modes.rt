@@ -7,13 +7,14 @@ use std::alloc::Global;
 use winnow_parser::{Failure, ModalResult, Parser};
 use winnow_stream::StreamIsPartial;
 
-/// The inner parser, of which no failure lets another be tried; [`cut_err`] makes it.
+/// A parser that cuts where the inner one backtracks; [`cut_err`] makes it.
 #[derive(Clone, Copy, Drop)]
 pub struct CutOff<P> {
     inner: P,
 }
 
-/// Returns the parser that cuts where the inner one backtracks. What needs more input still says so.
+/// Returns the parser that cuts where the inner one backtracks. Where the inner one needs more
+/// input, so does this one.
 pub fn cut_err<P>(inner: P) -> CutOff<P>
     ensures { result ≡ record { inner = inner } }
 {
@@ -42,7 +43,7 @@ impl<I: StreamIsPartial, E, P: Parser<I, E>> Parser<I, E> for CutOff<P> {
     }
 }
 
-/// The inner parser, of which each failure lets another be tried; [`backtrack_err`] makes it.
+/// A parser that backtracks where the inner one cuts; [`backtrack_err`] makes it.
 #[derive(Clone, Copy, Drop)]
 pub struct Softened<P> {
     inner: P,

@@ -6,13 +6,14 @@ use std::alloc::Global;
 use winnow_parser::{Failure, ModalResult, Parser};
 use winnow_stream::StreamIsPartial;
 
-/// The value, where there is one; [`opt`] makes it.
+/// A parser that gives `None` where the inner one backtracks; [`opt`] makes it.
 #[derive(Clone, Copy, Drop)]
 pub struct Optional<P> {
     inner: P,
 }
 
-/// Returns the parser that gives `None`, and takes nothing, where the inner one backtracks.
+/// Returns the parser that gives the inner one's value in `Some`. Where the inner one backtracks,
+/// it gives `None` and takes nothing.
 pub fn opt<P>(inner: P) -> Optional<P>
     ensures { result ≡ record { inner = inner } }
 {

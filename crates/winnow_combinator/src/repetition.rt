@@ -14,7 +14,7 @@ use winnow_error::ParserError;
 use winnow_parser::{Failure, ModalResult, Parser};
 use winnow_stream::StreamIsPartial;
 
-/// One parser again and again, and what is made of its values; [`repeat`] makes it.
+/// A parser that is asked again and again, with what gathers its values; [`repeat`] makes it.
 #[derive(Clone, Copy, Drop)]
 pub struct Repeated<P, G> {
     counts: Range,
@@ -22,11 +22,12 @@ pub struct Repeated<P, G> {
     gather: G,
 }
 
-/// Returns the parser that asks the inner one until it backtracks, or gave the greatest count of
-/// values, and gathers them in an `A`. Where they are fewer than the least count, it backtracks.
+/// Returns the parser that asks the inner one until it backtracks or has given the greatest count
+/// of values, and gathers them in an `A`. Where there are fewer than the least count, the parser
+/// backtracks.
 ///
-/// It cuts an inner parser that gives a value and takes nothing, since it would ask for ever, and
-/// counts of which the greatest is below the least.
+/// It cuts where the inner parser gives a value and takes nothing, since it would never end, and
+/// where the greatest count is below the least.
 pub fn repeat<P, A, C: Into<Range>>(counts: C, inner: P) -> Repeated<P, Accumulated<A>>
     ensures counts { C.converts counts result.counts }
     ensures inner { result.inner ≡ inner }
@@ -39,9 +40,14 @@ pub fn repeat<P, A, C: Into<Range>>(counts: C, inner: P) -> Repeated<P, Accumula
 }
 
 impl<P> Repeated<P, Accumulated<()>> {
-    /// Returns the parser that folds the values by a function, from what another function gives.
+    /// Returns the parser that folds the values by a function, from a start that another function
+    /// gives.
     pub fn fold<N, F>(self, init: N, f: F) -> Repeated<P, Folded<N, F>>
-        ensures { result ≡ record { counts = self.counts; inner = self.inner; gather = record { init = init; f = f } } }
+        ensures { result ≡ record {
+          counts = self.counts;
+          inner = self.inner;
+          gather = record { init = init; f = f };
+        } }
     {
         let Repeated {
             counts,
@@ -83,7 +89,7 @@ where
             let message = "the greatest count must not be below the least";
             return Err(Failure::Cut(E::assert(alloc, input, message)));
         }
-        // What remains is no wider than a `usize` says, so the values can be counted.
+        // The width of what remains fits in a `usize`, so the values can be counted.
         let _ = input.eof_offset();
         match self.gather.begin(alloc) {
             Ok(whole) => {

@@ -21,7 +21,8 @@ use winnow_error::ParserError;
 use winnow_parser::{Failure, ModalResult, Parser};
 use winnow_stream::StreamIsPartial;
 
-/// Values with separators between them, and what is made of the values; [`separated`] makes it.
+/// A parser of values with separators between them, with what gathers the values; [`separated`]
+/// makes it.
 #[derive(Clone, Copy, Drop)]
 pub struct Separation<P, S, G> {
     counts: Range,
@@ -31,12 +32,13 @@ pub struct Separation<P, S, G> {
 }
 
 /// Returns the parser that asks the inner one and the separator in turn, until one backtracks or
-/// the inner one gave the greatest count of values, and gathers these in an `A`. Where they are
-/// fewer than the least count, it backtracks. A separator behind which no value stands is not taken.
+/// the inner one has given the greatest count of values, and gathers these in an `A`. Where there
+/// are fewer than the least count, the parser backtracks. It does not take a separator that no
+/// value follows.
 ///
-/// It cuts a separator and a value that together take nothing, since it would ask for ever, and
-/// counts of which the greatest is below the least. An input as wide as a `usize` can say is
-/// refused, since it might hold one value more than that.
+/// It cuts where a separator and a value together take nothing, since it would never end, and where
+/// the greatest count is below the least. It refuses an input whose width is the greatest `usize`,
+/// since that might hold one more value than can be counted.
 pub fn separated<P, S, A, C: Into<Range>>(
     counts: C,
     parser: P,
@@ -108,7 +110,7 @@ where
     }
 }
 
-// Reads the values, of which one at least is allowed.
+// Reads the values, where at least one is allowed.
 fn values<
     I: StreamIsPartial,
     E: ParserError<I>,

@@ -7,7 +7,7 @@ use std::alloc::Global;
 use winnow_parser::{ModalResult, Parser};
 use winnow_stream::StreamIsPartial;
 
-/// One parser and then another, whose value it gives; [`preceded`] makes it.
+/// A parser of two, one after the other, that gives the second value; [`preceded`] makes it.
 #[derive(Clone, Copy, Drop)]
 pub struct SecondOf<A, B> {
     pub(crate) first: A,
@@ -39,6 +39,7 @@ where
     ghost lawful = { λ p. IsParser-Preceded (A.means p.first) (B.means p.second)
         (A.lawful p.first) (B.lawful p.second) };
 
+    #[inline(always)]
     fn parse_next(&self, alloc: Global, input: &mut I) -> ModalResult<B::Output, E> {
         match (&self.first, &self.second).parse_next(alloc, input) {
             Ok(both) => Ok(both.1),
@@ -47,7 +48,7 @@ where
     }
 }
 
-/// One parser, whose value it gives, and then another; [`terminated`] makes it.
+/// A parser of two, one after the other, that gives the first value; [`terminated`] makes it.
 #[derive(Clone, Copy, Drop)]
 pub struct FirstOf<A, B> {
     first: A,
@@ -80,6 +81,7 @@ where
     ghost lawful = { λ p. IsParser-Terminated (A.means p.first) (B.means p.second)
         (A.lawful p.first) (B.lawful p.second) };
 
+    #[inline(always)]
     fn parse_next(&self, alloc: Global, input: &mut I) -> ModalResult<A::Output, E> {
         match (&self.first, &self.second).parse_next(alloc, input) {
             Ok(both) => Ok(both.0),

@@ -18,8 +18,8 @@ use winnow_error::ParserError;
 use winnow_parser::{Failure, ModalResult, Parser};
 use winnow_stream::StreamIsPartial;
 
-/// One parser again and again, up to where another gives a value, and what is made of the values;
-/// [`repeat_till`] makes it.
+/// A parser that is asked again and again, up to where another gives a value, with what gathers its
+/// values; [`repeat_till`] makes it.
 #[derive(Clone, Copy, Drop)]
 pub struct RepetitionTill<P, Q, G> {
     counts: Range,
@@ -29,12 +29,12 @@ pub struct RepetitionTill<P, Q, G> {
 }
 
 /// Returns the parser that asks the inner one until the terminator gives a value, gathers the
-/// values before that in an `A`, and gives both. The terminator is asked before each value, once
-/// they are as many as the least count; at the greatest count it alone is asked, and where it
-/// backtracks then, so does this parser.
+/// values before that in an `A`, and gives both. Once there are the least count of values, the
+/// terminator is asked before each further value. At the greatest count the terminator alone is
+/// asked, and where it backtracks then, so does this parser.
 ///
-/// It cuts an inner parser that gives a value and takes nothing, since it would ask for ever, and
-/// counts of which the greatest is below the least.
+/// It cuts where the inner parser gives a value and takes nothing, since it would never end, and
+/// where the greatest count is below the least.
 pub fn repeat_till<P, Q, A, C: Into<Range>>(
     counts: C,
     inner: P,
@@ -52,8 +52,8 @@ pub fn repeat_till<P, Q, A, C: Into<Range>>(
     }
 }
 
-// Asks the terminator, after `count` values. There is no end where these are too few to ask it, or
-// where it backtracks and one value more is allowed; then the stream goes back.
+// Asks the terminator, after `count` values. Returns `None` where these are too few to ask it.
+// Returns `None` and resets the stream where it backtracks and one more value is allowed.
 fn end_after<I: StreamIsPartial, E: ParserError<I>, Q: Parser<I, E>>(
     terminator: &Q,
     counts: &Counts,
@@ -91,8 +91,8 @@ fn end_after<I: StreamIsPartial, E: ParserError<I>, Q: Parser<I, E>>(
     }
 }
 
-// Asks the terminator and the parser in turn until the terminator gives a value, and gathers the
-// parser's values after those that are there.
+// Asks the terminator and the parser in turn until the terminator gives a value, and adds the
+// parser's values to those that are gathered already.
 fn go_till<
     I: StreamIsPartial,
     E: ParserError<I>,
@@ -183,7 +183,7 @@ where
             let message = "the greatest count must not be below the least";
             return Err(Failure::Cut(E::assert(alloc, input, message)));
         }
-        // What remains is no wider than a `usize` says, so the values can be counted.
+        // The width of what remains fits in a `usize`, so the values can be counted.
         let _ = input.eof_offset();
         match self.gather.begin(alloc) {
             Ok(whole) => {

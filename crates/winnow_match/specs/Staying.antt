@@ -1,5 +1,5 @@
--- A comparison that is decided stays what it is when more follows.
-use Rattle.std.specs.Prelude.{◌≡◌, ℕ, ◌==◌, Bool, true, false, ◌&&◌, if◌then◌else◌, List, [], ◌∷◌, ◌++◌, length}
+-- A comparison that is decided stays as it is when more input follows.
+use Rattle.std.specs.Prelude.{◌≡◌, ℕ, ◌==◌, true, false, List, [], ◌∷◌, ◌++◌}
 use Rattle.std.proofs.Common.{refl, ap, sym, ◌∙◌, inl, inr, arith, append_assoc}
 use Rattle.std.proofs.lemmas.Bool.{cases_Bool, and_parts, false≢true}
 use Rattle.std.proofs.lemmas.Bool.Decides.{nat_tests}
@@ -9,17 +9,19 @@ use Rattle.winnow_match.specs.Comparison.{is_prefix, comparison}
 use Rattle.winnow_match.specs.declared.compare.CompareResult.{CompareResult}
 use Rattle.winnow_match.specs.declared.compare.CompareResult.TheVariants as compared
 
--- an answer other than `Incomplete` is the answer of each longer list
+-- an answer other than `Incomplete` is also the answer of each longer list
 abbrev pub ComparisonsStay : {T : Type 0} → (Source T → CompareResult) → Type 0
 ComparisonsStay {T} compare = (r more : Source T) → ¬ (compare r ≡ compared.Incomplete) → compare (r ++ more) ≡ compare r
 
+-- a front stays a front when more follows
 front-longer : (p xs more : List ℕ) → is_prefix p xs ≡ true → is_prefix p (xs ++ more) ≡ true
 front-longer [] xs more h = refl
 front-longer (x ∷ p) [] more h = absurd (false≢true h)
 front-longer (x ∷ p) (y ∷ xs) more h = let parts = and_parts (x == y) (is_prefix p xs) h in rw (parts.0, front-longer p xs more parts.1) refl
 
--- two lists that differ at some place
-differ-longer : (p xs more : List ℕ) → is_prefix p xs ≡ false → is_prefix xs p ≡ false → (is_prefix p (xs ++ more) ≡ false) × (is_prefix (xs ++ more) p ≡ false)
+-- two lists that differ at some place still differ when more follows
+differ-longer : (p xs more : List ℕ) → is_prefix p xs ≡ false → is_prefix xs p ≡ false
+    → (is_prefix p (xs ++ more) ≡ false) × (is_prefix (xs ++ more) p ≡ false)
 differ-longer [] xs more h g = absurd (false≢true (sym h))
 differ-longer (x ∷ p) [] more h g = absurd (false≢true (sym g))
 differ-longer (x ∷ p) (y ∷ xs) more h g =
@@ -28,7 +30,10 @@ differ-longer (x ∷ p) (y ∷ xs) more h g =
       | inr e ↦ let s : (y == x) ≡ false = grind (arith, nat_tests, e) in rw (e, s) (refl, refl)
     ]
 
-pub comparison-stays : (literal bytes more : List ℕ) → ¬ (comparison literal bytes ≡ compared.Incomplete) → comparison literal (bytes ++ more) ≡ comparison literal bytes
+-- a decided comparison of bytes stays when more bytes follow
+pub comparison-stays : (literal bytes more : List ℕ)
+    → ¬ (comparison literal bytes ≡ compared.Incomplete)
+    → comparison literal (bytes ++ more) ≡ comparison literal bytes
 comparison-stays literal bytes more n =
     elim (cases_Bool (is_prefix literal bytes)) [
       | inl e ↦ let longer = front-longer literal bytes more e in rw (e, longer) refl
@@ -38,11 +43,14 @@ comparison-stays literal bytes more n =
       ]
     ]
 
-pub written-append : {T : Type 0} (write : T → List ℕ) (r more : Source T) → written write (r ++ more) ≡ written write r ++ written write more
+-- the bytes of two lists of tokens in a row are those of the first and then those of the second
+pub written-append : {T : Type 0} (write : T → List ℕ) (r more : Source T)
+    → written write (r ++ more) ≡ written write r ++ written write more
 written-append write [] more = refl
 written-append write (x ∷ r) more = ap (λ bytes. write x.0 ++ bytes) (written-append write r more) ∙ sym (append_assoc (write x.0) (written write r) (written write more))
 
--- a comparison of the bytes of the tokens stays
-pub ComparisonsStay-written : {T : Type 0} (write : T → List ℕ) (literal : List ℕ) → ComparisonsStay (λ r. comparison literal (written write r))
+-- a decided comparison of the bytes of tokens stays when more tokens follow
+pub ComparisonsStay-written : {T : Type 0} (write : T → List ℕ) (literal : List ℕ)
+    → ComparisonsStay (λ r. comparison literal (written write r))
 ComparisonsStay-written write literal r more n =
     ap (comparison literal) (written-append write r more) ∙ comparison-stays literal (written write r) (written write more) n

@@ -1,4 +1,4 @@
--- Which needle could still move a hit: one that the bytes end inside.
+-- The needles that could still move a hit: those that the bytes end inside.
 use Rattle.std.specs.Prelude.{◌≡◌, ℕ, ◌+◌, ◌<◌, ◌≤◌, ◌⊎◌, nat_lt, max, Bool, true, false, ◌&&◌, not, if◌then◌else◌, List, [], ◌∷◌, length, drop, Option, None, Some, is_some, option_map}
 use Rattle.std.specs.List.{list_any}
 use Rattle.std.specs.declared.ops.Range.{Range}
@@ -10,27 +10,30 @@ use Rattle.winnow_match.specs.declared.needles.Stretch.{Stretch}
 abbrev pub stretches : List ℕ → List ℕ → Bool
 stretches needle bytes = is_prefix bytes needle && nat_lt (length bytes) (length needle)
 
--- no needle, where the first stands here; else its number 0, where it stretches here, and else the later one's
+-- `None` if the first needle stands here; else its number 0, if it stretches here; else the later
+-- needles' number
 abbrev pub stretching_or : Bool → Bool → Option ℕ → Option ℕ
 stretching_or stands stretches later = if stands then None else (if stretches then Some 0 else option_map (λ i. i + 1) later)
 
--- the number of the first listed needle that stretches here, where none listed before it stands here
+-- the number of the first listed needle that stretches here, if no needle listed before it stands
+-- here
 abbrev pub stretching : List (List ℕ) → List ℕ → Option ℕ
 stretching [] bytes = None
 stretching (needle ∷ needles) bytes = stretching_or (is_prefix needle bytes) (stretches needle bytes) (stretching needles bytes)
 
--- a needle stretches here, or one stands here and ends the search, or else a later place is the first
+-- a needle stretches here, or one stands here and ends the search, or a later place decides
 abbrev pub stretch_or : ℕ → Option ℕ → Option ℕ → Option Stretch → Option Stretch
 stretch_or at (Some i) here later = Some (record { needle = i; place = at })
 stretch_or at None (Some n) later = None
 stretch_or at None None later = later
 
--- the least place up to the first hit at which a needle stretches that would take the hit's place, counted from `at`
+-- the least place, counted from `at` and up to the first hit, at which a needle stretches that
+-- would take the place of the hit
 abbrev pub first_stretch : List (List ℕ) → ℕ → List ℕ → Option Stretch
 first_stretch needles at [] = None
 first_stretch needles at (y ∷ bytes) = stretch_or at (stretching needles (y ∷ bytes)) (needle_at needles (y ∷ bytes)) (first_stretch needles (at + 1) bytes)
 
--- what could still move the hit: nothing, where a needle is empty
+-- what could still move the hit: nothing, if some needle is empty
 abbrev pub stretch_of : List (List ℕ) → List ℕ → Option Stretch
 stretch_of needles bytes = if list_any is_empty needles then None else first_stretch needles 0 bytes
 
@@ -42,29 +45,35 @@ hit_is_definite needles bytes = is_some (hit needles bytes) && not (is_some (str
 abbrev pub any_stretches : List (List ℕ) → List ℕ → Bool
 any_stretches needles bytes = list_any (λ needle. stretches needle bytes) needles
 
--- p is the least place up to `at` at which some needle stretches, or lies behind `at` where there is none
+-- p is the least place up to `at` at which some needle stretches, or lies after `at` if there is
+-- none
 pub record IsLeastPlace (needles : List (List ℕ)) (bytes : List ℕ) (at p : ℕ) : Type 0 where
   pub before : (k : ℕ) → k < p → k ≤ at → any_stretches needles (drop k bytes) ≡ false
   pub here : p ≤ at → any_stretches needles (drop p bytes) ≡ true
 
--- the same as facts: the bytes end inside the needle that begins at place q
+-- `stretches` as a fact: the bytes end inside the needle that begins at place q
 abbrev pub Stretches : List ℕ → List ℕ → ℕ → Type 0
 Stretches needle bytes q = IsPrefixOf (drop q bytes) needle × (length (drop q bytes) < length needle)
 
--- needle i stretches at place q, before the hit or at the hit and listed before each needle that stands there
+-- needle i stretches at place q: before the hit, or at the hit and listed before each needle that
+-- stands there
 pub record CanMove (needles : List (List ℕ)) (bytes : List ℕ) (r : Range ℕ) (i q : ℕ) : Type 0 where
   pub listed : i < length needles
   pub stretches : Stretches (needle_of needles i) bytes q
-  pub first : (q < r.start) ⊎ ((q ≡ r.start) × ((j : ℕ) → j < i → ¬ Occurs (needle_of needles j) bytes q))
+  pub first : (q < r.start)
+      ⊎ ((q ≡ r.start) × ((j : ℕ) → j < i → ¬ Occurs (needle_of needles j) bytes q))
 
--- s is the least place at which a needle could move the hit, and the first listed there
+-- s is the least place at which a needle could move the hit, with the first needle listed that
+-- could there
 pub record IsStretch (needles : List (List ℕ)) (bytes : List ℕ) (r : Range ℕ) (s : Stretch) : Type 0 where
   pub can_move : CanMove needles bytes r s.needle s.place
   pub least : (i q : ℕ) → CanMove needles bytes r i q → s.place ≤ q
   pub first_listed : (i : ℕ) → CanMove needles bytes r i s.place → s.needle ≤ i
 
--- no needle stretches before the hit, and none at it that is listed before the one that stands there
-abbrev pub NothingStretches : (needles : List (List ℕ)) (bytes : List ℕ) (r : Range ℕ) → IsFirstHit needles bytes r → Type 0
+-- no needle stretches before the hit, and at the hit none that is listed before the needle that
+-- stands there
+abbrev pub NothingStretches : (needles : List (List ℕ)) (bytes : List ℕ) (r : Range ℕ)
+    → IsFirstHit needles bytes r → Type 0
 NothingStretches needles bytes r first =
     (i q : ℕ) → i < length needles → (q < r.start) ⊎ ((q ≡ r.start) × (i < first.index)) → ¬ Stretches (needle_of needles i) bytes q
 

@@ -11,29 +11,29 @@ use winnow_stream::Stream;
 pub enum CompareResult {
     /// The stream begins with the literal, which has this width
     Ok(usize),
-    /// What remains is a front of the literal, and shorter: with more input it may be there
+    /// What remains is a front of the literal, and shorter: more input may complete the literal
     Incomplete,
-    /// The stream does not begin with the literal, whatever follows
+    /// The stream does not begin with the literal, whatever input follows
     Error,
 }
 
 /// A stream whose front is compared with a literal `T`.
 pub trait Compare<T>: Stream {
-    // What the comparison answers of a literal and of what remains.
+    // The answer of the comparison, for a literal and what remains.
     ghost compared: { T → Source Self.Token → CompareResult };
 
-    // The width of a literal, where it stands in the stream.
+    // The width that a literal has in the stream.
     ghost literal_width: { T → ℕ };
 
-    /// Returns how the literal compares with the front of the stream, which stays where it is. The width of an `Ok` is an offset, so
-    /// that a slice may be taken up to it. Where the answer is `Incomplete`, what remains is less wide than the literal, and
-    /// so much is lacking.
+    /// Returns how the literal compares with the front of the stream, which stays where it is. The
+    /// width of an `Ok` is an offset, so that a slice may be taken up to it. If the answer is
+    /// `Incomplete`, what remains is less wide than the literal, and the difference is lacking.
     fn compare(&self, t: T) -> CompareResult
         requires { Self.valid self.now }
         ensures answer { result ≡ compared t (Self.remaining self.now) }
         ensures offset { EndsAtOffset result (Self.remaining self.now) }
         ensures width { AgreesWithWidth result (literal_width t) (Self.remaining self.now) };
 
-    // An answer other than `Incomplete` stays when more follows.
+    // An answer other than `Incomplete` stays when more input follows.
     ghost comparisons_stay: { (t : T) → ComparisonsStay (compared t) };
 }

@@ -15,6 +15,7 @@ impl<'i, 'l> Compare<&'l str> for &'i str {
 
     ghost comparisons_stay = { λ literal. ComparisonsStay-written encode_utf8 literal.now };
 
+    #[inline(always)]
     fn compare(&self, literal: &'l str) -> CompareResult {
         compare_front((*self).as_bytes(), literal.as_bytes())
     }
@@ -26,8 +27,10 @@ impl<'i> Compare<char> for &'i str {
 
     ghost literal_width = { λ literal. length (encode_utf8 literal) };
 
-    ghost comparisons_stay = { λ literal. ComparisonsStay-written encode_utf8 (encode_utf8 literal) };
+    ghost comparisons_stay = { λ literal.
+        ComparisonsStay-written encode_utf8 (encode_utf8 literal) };
 
+    #[inline(always)]
     fn compare(&self, literal: char) -> CompareResult {
         let mut buffer = [0; 4];
         compare_front(

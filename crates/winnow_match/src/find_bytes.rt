@@ -137,7 +137,7 @@ impl<'i> FindSlice<(u8, u8, u8)> for &'i [u8] {
     }
 }
 
-/// The character in its UTF-8 form.
+/// The character is searched for in its UTF-8 form.
 #[tactic(auto, using(crate::proofs::lemmas::AnswerLemmas::source_answers))]
 impl<'i> FindSlice<char> for &'i [u8] {
     ghost found = { λ c r. hit (encode_utf8 c ∷ []) (bytes_of r) };
@@ -151,7 +151,7 @@ impl<'i> FindSlice<char> for &'i [u8] {
     }
 }
 
-/// The character in its UTF-8 form.
+/// The character is searched for in its UTF-8 form.
 #[tactic(auto, using(crate::proofs::lemmas::AnswerLemmas::source_answers))]
 impl<'i> FindSlice<(char,)> for &'i [u8] {
     ghost found = { λ cs r. hit (encode_utf8 cs.0 ∷ []) (bytes_of r) };
@@ -163,7 +163,7 @@ impl<'i> FindSlice<(char,)> for &'i [u8] {
     }
 }
 
-/// The characters in their UTF-8 form.
+/// The characters are searched for in their UTF-8 form.
 #[tactic(auto, using(crate::proofs::lemmas::AnswerLemmas::source_answers))]
 impl<'i> FindSlice<(char, char)> for &'i [u8] {
     ghost found = { λ cs r. hit (encode_utf8 cs.0 ∷ encode_utf8 cs.1 ∷ []) (bytes_of r) };
@@ -177,7 +177,7 @@ impl<'i> FindSlice<(char, char)> for &'i [u8] {
     }
 }
 
-/// The characters in their UTF-8 form.
+/// The characters are searched for in their UTF-8 form.
 #[tactic(auto, using(crate::proofs::lemmas::AnswerLemmas::source_answers))]
 impl<'i> FindSlice<(char, char, char)> for &'i [u8] {
     ghost found = { λ cs r.

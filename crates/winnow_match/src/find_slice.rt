@@ -6,15 +6,16 @@ ghost use Rattle.winnow_match.specs.Search.{AreOffsets};
 use std::ops::Range;
 use winnow_stream::Stream;
 
-/// A stream in which a needle, or one of several, is searched for: `T` says which.
+/// A stream that can be searched for a needle, or for one of several. `T` names the needles.
 pub trait FindSlice<T>: Stream {
-    // What the search finds in what remains.
+    // The range that the search finds in what remains.
     ghost found: { T → Source Self.Token → Option (range_declared.Range ℕ) };
 
-    /// Returns the least place at which a needle stands, up to the end of the first listed needle that stands there. Places are
-    /// counted from where the stream stands, and it stays there. An empty needle stands at once, at `0..0`. Both ends are
-    /// offsets, and the end is no nearer than the start, so that what stands before the needle may be taken, and then the
-    /// needle.
+    /// Returns the least place at which a needle stands, up to the end of the first listed needle
+    /// that stands there. Places are counted from the place at which the stream stands, and the
+    /// stream stays there. An empty needle stands at once, at `0..0`. Both ends are offsets, and
+    /// the end is no nearer than the start, so a caller may take what stands before the needle, and
+    /// then the needle.
     fn find_slice(&self, substr: T) -> Option<Range<usize>>
         requires { Self.valid self.now }
         ensures answer { result ≡ found substr (Self.remaining self.now) }

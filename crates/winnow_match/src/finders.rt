@@ -9,13 +9,13 @@ use memchr::memmem::Finder;
 use std::marker::Model;
 use std::ops::Range;
 
-// How many places the first window of a search for several needles has.
+// The number of places in the first window of a search for several needles.
 const FIRST_WINDOW: usize = 2048;
 
 /// Searches for one to three needles over bytes, set up once for any number of inputs.
 ///
-/// They are for engines whose search goes on in bytes that came later. A hit is expected far, so that no place is tried by its
-/// first byte before the searches of whole needles.
+/// They serve engines whose search goes on in bytes that come later. A hit is expected far away, so
+/// no place is tried by its first byte before the searches for whole needles.
 #[derive(Drop)]
 pub struct Finders<'n> {
     listed: Needles<Finder<'n>>,
@@ -47,7 +47,7 @@ impl<'n> Finders<'n> {
         Finders { listed }
     }
 
-    /// Returns whether they are for these needles, listed in this order.
+    /// Returns whether the searches are for these needles, listed in this order.
     pub fn are_for(&self, needles: &Needles<&[u8]>) -> bool
         ensures { IsTrue result ↔ self.now ≡ bytes_of_needles needles.now }
     {
@@ -61,7 +61,8 @@ impl<'n> Finders<'n> {
         }
     }
 
-    /// Returns the first hit, as [`FindSlice::find_slice`](crate::FindSlice::find_slice) does over bytes.
+    /// Returns the first hit, as [`FindSlice::find_slice`](crate::FindSlice::find_slice) does over
+    /// bytes.
     pub fn find(&self, input: &[u8]) -> Option<Range<usize>>
         ensures { result ≡ hit self.now input.now }
     {
@@ -74,7 +75,7 @@ impl<'n> Finders<'n> {
         Some(at..at + length)
     }
 
-    // What is sought.
+    // The needles that are searched for.
     #[inline(always)]
     fn needles(&self) -> Needles<&[u8]>
         ensures { bytes_of_needles result ≡ self.now }
@@ -97,7 +98,8 @@ impl<'n> Finders<'n> {
         }
     }
 
-    // The first place at which some needle stands, by windows that grow, so that no needle is sought far past the first hit.
+    // Finds the first place at which some needle stands. The windows grow, so no needle is searched
+    // for far past the first hit.
     fn place_by_windows(&self, input: &[u8]) -> Option<usize>
         requires { list_any is_empty self.now ≡ false }
         ensures { IsFirst (SomeOccurs self.now input.now) 0 (length input.now) result }
@@ -114,7 +116,7 @@ impl<'n> Finders<'n> {
         None
     }
 
-    // The first place below `limit` at which some needle stands.
+    // Finds the first place below `limit` at which some needle stands.
     fn first_below(&self, input: &[u8], limit: usize) -> Option<usize>
         requires { list_any is_empty self.now ≡ false }
         ensures { IsFirst (SomeOccurs self.now input.now) 0 limit result }
@@ -140,7 +142,8 @@ pub(crate) fn place_below(input: &[u8], needle: &Finder, limit: usize) -> Option
     needle.find(&input[..reach.min(input.len())])
 }
 
-// The first place below `limit` at which a needle stands: that of the needles before, or of this one if it stands sooner.
+// Returns the first place below `limit` at which a needle stands: `found`, which the earlier
+// needles gave, or the place of this needle if that comes sooner.
 fn sooner(found: Option<usize>, input: &[u8], needle: &Finder, limit: usize) -> Option<usize>
     requires { is_empty needle.now ≡ false }
     ensures { (listed : List (List ℕ)) → IsFirst (SomeOccurs listed input.now) 0 limit found

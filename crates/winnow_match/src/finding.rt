@@ -11,7 +11,7 @@ use memchr::memmem::Finder;
 use memchr::{memchr, memchr2, memchr3};
 use std::ops::Range;
 
-// How many places are tried by their first byte, before a search that has to be set up.
+// The number of places that are tried by their first byte, before a search that has to be set up.
 const NEAR_TRIES: usize = 4;
 
 /// Returns the first place of the byte.
@@ -43,9 +43,10 @@ pub(crate) fn find_three_bytes(input: &[u8], a: u8, b: u8, c: u8) -> Option<Rang
 
 /// Returns the first hit of the needles.
 ///
-/// A near hit is found by the first byte, and a far one by a search of the whole needle. Several needles are sought in
-/// windows that grow, so that none is sought far past the first hit. It is inlined with the functions that match on the
-/// needles, so that each caller has the code for its number of them alone.
+/// The first byte finds a near hit, and a search for the whole needle a far one. Several needles
+/// are searched for in windows that grow, so none is searched for far past the first hit. It is
+/// inlined with the functions that match on the needles, so each caller has only the code for its
+/// own number of needles.
 #[inline(always)]
 pub(crate) fn find_needles(input: &[u8], needles: &Needles<&[u8]>) -> Option<Range<usize>>
     ensures { result ≡ hit (bytes_of_needles needles.now) input.now }
@@ -78,7 +79,7 @@ pub(crate) fn has_empty(needles: &Needles<&[u8]>) -> bool
     }
 }
 
-// The length of the needle if the input begins with it.
+// The length of the needle, if the input begins with it.
 #[inline(always)]
 fn front_length(input: &[u8], needle: &[u8]) -> Option<usize>
     ensures value { result ≡ needle_at (needle.now ∷ []) input.now }
@@ -91,7 +92,7 @@ fn front_length(input: &[u8], needle: &[u8]) -> Option<usize>
     }
 }
 
-// The length of the first listed needle with which the input begins.
+// The length of the first listed needle that the input begins with.
 #[inline(always)]
 pub(crate) fn front_needle(input: &[u8], needles: &Needles<&[u8]>) -> Option<usize>
     ensures value { result ≡ needle_at (bytes_of_needles needles.now) input.now }
@@ -115,7 +116,7 @@ fn first_byte(needle: &[u8]) -> u8
     needle[0]
 }
 
-// A place before which no needle stands: the first one whose byte begins some needle.
+// A place before which no needle stands: the first place whose byte begins some needle.
 #[inline(always)]
 fn next_first_byte(input: &[u8], needles: &Needles<&[u8]>) -> Option<usize>
     requires { list_any is_empty (bytes_of_needles needles.now) ≡ false }
@@ -130,7 +131,7 @@ fn next_first_byte(input: &[u8], needles: &Needles<&[u8]>) -> Option<usize>
     }
 }
 
-// The first place at which some needle stands, by searches that have to be set up.
+// The first place at which some needle stands, found by searches that have to be set up.
 #[inline(always)]
 fn far_place(input: &[u8], needles: &Needles<&[u8]>) -> Option<usize>
     requires { list_any is_empty (bytes_of_needles needles.now) ≡ false }

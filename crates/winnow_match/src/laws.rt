@@ -1,3 +1,5 @@
+//! Laws of comparisons and searches. A law does nothing when called: its contract is the law.
+
 ghost use Rattle.std.specs.Prelude.{◌≡◌, ℕ, ◌<◌, ◌↔◌, [], ◌++◌, List, length, Contains, IsFalse};
 ghost use Rattle.std.specs.Prelude.{IsTrue, take, drop};
 ghost use Rattle.std.specs.Prelude.{◌==◌, ◌∷◌, ◌+◌, ◌≤◌};
@@ -14,9 +16,8 @@ ghost use Rattle.winnow_match.specs.declared.needles.Stretch as stretch_declared
 
 use crate::Stretch;
 
-/// The law of comparison: it answers `Ok` where the bytes are the literal followed by something, `Incomplete` where they are
-/// a shorter front of it, and `Error` where neither goes on as the other. It does nothing when called: its contract is the
-/// law.
+/// The law of comparison. It answers `Ok` if the bytes are the literal followed by something,
+/// `Incomplete` if they are a shorter front of it, and `Error` if neither is a front of the other.
 pub fn compare_law()
     ensures ok { (literal bytes : List ℕ) (n : ℕ)
         → ((comparison literal bytes ≡ CompareResult.Ok n)
@@ -29,7 +30,7 @@ pub fn compare_law()
         ↔ ((¬ IsPrefixOf literal bytes) × (¬ IsPrefixOf bytes literal))) }
 {}
 
-/// What a comparison decided stays under more input. It does nothing when called: its contract is the law.
+/// The law of more input: what a comparison decided stays.
 pub fn compare_more_law()
     ensures ok { (literal bytes more : List ℕ) (n : ℕ)
         → comparison literal bytes ≡ CompareResult.Ok n
@@ -38,9 +39,10 @@ pub fn compare_more_law()
         → comparison literal (bytes ++ more) ≡ CompareResult.Error }
 {}
 
-/// The law of search: an empty needle stands at once; else the answer is the least place at which some needle stands, to the
-/// end of the first listed that stands there, and `None` where none stands anywhere. Where one needle alone is searched for, the bytes
-/// are those before the hit, the needle, and those behind the hit. It does nothing when called: its contract is the law.
+/// The law of search. An empty needle stands at once. Else the answer is the least place at which
+/// some needle stands, to the end of the first listed needle that stands there, and `None` if no
+/// needle stands anywhere. If only one needle is searched for, the bytes are those before the hit,
+/// the needle, and those after the hit.
 pub fn find_law()
     ensures empty { (needles : List (List ℕ)) (bytes : List ℕ) → Contains needles []
         → hit needles bytes ≡ Some (span 0 0) }
@@ -54,25 +56,24 @@ pub fn find_law()
         × (bytes ≡ take r.start bytes ++ needle ++ drop r.end bytes) }
 {}
 
-/// The law of a byte that is searched for: it is found where the first token equal to it stands, one byte long. It does nothing when
-/// called: its contract is the law.
+/// The law of a search for a byte: the hit is the first token that is equal to it, and is one byte
+/// long.
 pub fn byte_hit_law()
     ensures { (byte : ℕ) (bytes : List ℕ) → hit ((byte ∷ []) ∷ []) bytes
         ≡ option_map (λ n. span n 1) (first_offset (λ x. byte == x) (units bytes)) }
 {}
 
-/// Needles of one length, once found, are found at the same place under more input. It does nothing when called: its contract
-/// is the law.
+/// The law of needles of one length: a hit stays the hit when more input follows.
 pub fn find_more_law()
     ensures { (needles : List (List ℕ)) (bytes more : List ℕ) (r : range_declared.Range ℕ)
         → IsTrue (have_one_length needles) → hit needles bytes ≡ Some r
         → hit needles (bytes ++ more) ≡ Some r }
 {}
 
-/// The law of definite hits: `None` is never definite, with an empty needle every hit is, and else a hit is definite exactly
-/// where no needle stretches before it, and none that is listed before the one that stands there stretches at it. So every
-/// hit of needles of one length is definite. A definite hit is the same under more input, and definite there. It does nothing
-/// when called: its contract is the law.
+/// The law of definite hits. `None` is never definite, and with an empty needle every hit is. Else
+/// a hit is definite exactly if no needle stretches before it, and no needle that is listed before
+/// the one at the hit stretches there. So every hit of needles of one length is definite. A
+/// definite hit is the same under more input, and definite there.
 pub fn definite_hit_law()
     ensures none { (needles : List (List ℕ)) (bytes : List ℕ) → hit needles bytes ≡ None
         → IsFalse (hit_is_definite needles bytes) }
@@ -91,8 +92,8 @@ pub fn definite_hit_law()
         → IsTrue (hit_is_definite needles (bytes ++ more)) }
 {}
 
-/// The law of what stretches: nothing, where nothing can move the hit, and else the least place at which a needle can, with
-/// the first listed needle that can there. It does nothing when called: its contract is the law.
+/// The law of needles that stretch: `None` if nothing can move the hit, and else the least place at
+/// which a needle can move it, with the first listed needle that can there.
 pub fn stretch_law()
     ensures none { (needles : List (List ℕ)) (bytes : List ℕ) (r : range_declared.Range ℕ)
         → ¬ Contains needles [] → hit needles bytes ≡ Some r
@@ -102,8 +103,7 @@ pub fn stretch_law()
         → (stretch_of needles bytes ≡ Some s ↔ IsStretch needles bytes r s) }
 {}
 
-/// The law of equality: two stretches are equal exactly where both their needles and their places are. It does nothing when called: its contract
-/// is the law.
+/// The law of equality: two stretches are equal exactly if their needles and their places are.
 pub fn stretch_equality_law()
     ensures { (s t : stretch_declared.Stretch) → IsTrue (⟦<Stretch as PartialEq>⟧.eq s t)
         ↔ (s ≡ t) }

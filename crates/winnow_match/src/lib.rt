@@ -1,7 +1,8 @@
 //! Literals at the front of a stream, and the first place of a needle in it.
 //!
-//! [`Compare`] says how a stream begins, [`FindSlice`] where one of up to three needles first stands. Both are stated over the
-//! bytes that remain, a character in its UTF-8 form, and neither takes memory.
+//! [`Compare`] says how a stream begins, and [`FindSlice`] finds the first place at which one of up
+//! to three needles stands. Both are stated over the bytes that remain, a character in its UTF-8
+//! form, and neither takes memory.
 #![tactic(auto)]
 
 mod compare;

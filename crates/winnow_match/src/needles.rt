@@ -2,7 +2,7 @@ ghost use Rattle.std.specs.Prelude.{◌≡◌};
 ghost use Rattle.winnow_match.specs.Search.{bytes_of_needles};
 ghost use Rattle.winnow_match.specs.Stretch.{longest};
 
-/// One to three needles as data, listed in the order in which they are preferred at one place.
+/// One to three needles as data. At one place, an earlier needle is preferred to a later one.
 #[derive(Clone, Copy, Debug, Drop)]
 pub enum Needles<L> {
     /// One needle
@@ -39,7 +39,7 @@ impl<'n> Needles<&'n [u8]> {
     }
 }
 
-/// A needle that the input ends inside, so that more input can move a hit to it.
+/// A needle that the input ends inside, so more input can move a hit to it.
 #[derive(Clone, Copy, Debug, Drop, PartialEq, Eq)]
 pub struct Stretch {
     /// The number of the needle, counted from 0

@@ -11,14 +11,15 @@ use crate::{Needles, Stretch};
 use memchr::memmem::find;
 use std::ops::Range;
 
-/// Returns what could still move a hit: the least place at which a needle stretches that would
-/// come before the hit, and there the first listed one. It is `None` exactly where the hit is
-/// definite: no further input moves it.
+/// Returns what could still move a hit: the least place at which a needle stretches that would come
+/// before the hit, and there the first listed one. It is `None` exactly if the hit is definite: no
+/// further input moves it.
 ///
-/// A needle stretches where the input ends inside it. What stands at the hit stands nowhere
-/// before, so a needle that stretches from a place before the hit has it first at the distance of
-/// the two. So it stretches at one place at most, and a look is linear in the lengths of the needles;
-/// after a hit that is farther from the end than every needle is long, nothing is searched.
+/// A needle stretches at a place if the input ends inside it. What stands at the hit stands nowhere
+/// before. So in a needle that stretches from a place before the hit, it stands first at the
+/// distance of the two. Therefore a needle stretches at one place at most, and a look is linear in
+/// the lengths of the needles. If no needle is longer than what remains from the start of the hit
+/// on, nothing is searched.
 pub fn stretch(input: &[u8], needles: &Needles<&[u8]>, hit: &Range<usize>) -> Option<Stretch>
     requires { IsHit (bytes_of_needles needles.now) input.now hit.now }
     ensures value { result ≡ stretch_of (bytes_of_needles needles.now) input.now }
@@ -39,7 +40,8 @@ pub fn stretch(input: &[u8], needles: &Needles<&[u8]>, hit: &Range<usize>) -> Op
     }
 }
 
-// The least place up to `at` at which a needle stretches, or a place after `at`. What stands at `at` stands nowhere before.
+// The least place up to `at` at which some needle stretches, or a place after `at`. What stands at
+// `at` stands nowhere before.
 #[tactic(auto, using(crate::proofs::lemmas::PlaceLemmas::least_places))]
 fn first_place(input: &[u8], needles: &Needles<&[u8]>, stands: &[u8], at: usize) -> usize
     requires { FindsNeedle input.now stands.now 0 (Some at) }
@@ -84,7 +86,8 @@ fn ends_inside(input: &[u8], needle: &[u8]) -> bool
     input.len() < needle.len() && begins_with(needle, input)
 }
 
-// The number of the first needle, 0, if the input ends inside it, and none if it stands here; else what the later ones give.
+// The number of the first needle, 0, if the input ends inside it, and none if it stands here; else
+// the number that the later needles give.
 fn listed(input: &[u8], needle: &[u8], later: Option<usize>) -> Option<usize>
     requires { IfSome later (λ i. i ≤ 2) }
     ensures { result ≡ stretching_or
@@ -99,7 +102,8 @@ fn listed(input: &[u8], needle: &[u8], later: Option<usize>) -> Option<usize>
     }
 }
 
-// The number of the first listed needle that the input ends inside, where it begins with none listed before.
+// The number of the first listed needle that the input ends inside, if no needle before it stands
+// here.
 fn stretching(input: &[u8], needles: &Needles<&[u8]>) -> Option<usize>
     ensures { result ≡ stretching (bytes_of_needles needles.now) input.now }
 {

@@ -1,5 +1,5 @@
--- Which errors the failures of a parser carry. What it means does not say so: a settled answer is to stay when more input follows, and an
--- error that is made of a longer input is another.
+-- Which errors the failures of a parser carry. The meaning of a parser does not say so: a settled
+-- answer stays when more input follows, but an error that is made of a longer input differs.
 use Rattle.std.specs.Prelude.{◌≡◌, Bool, false, Result, Err, ◌⊎◌, ⊤}
 use Rattle.std.specs.Fn.{Shared}
 use Rattle.std.specs.Borrow.{MutBor}
@@ -9,7 +9,8 @@ use Rattle.winnow_parser.specs.declared.failure.Failure.{Failure}
 use Rattle.winnow_parser.specs.declared.failure.Failure.TheVariants.{Incomplete, Backtrack, Cut, Refused}
 use Rattle.winnow_parser.specs.Outcome.{Ahead, Gives, Meaning}
 
--- with which failures a parser may end where a stream stands, which more may follow or not, and how it leaves the stream then
+-- which failures a parser may answer: by whether more may follow, where the stream stands, and the
+-- stream as it is left
 abbrev pub Errors : Type 0 → Type 0 → Type 0 → Type 1
 Errors E S T = Bool → Ahead T → S → Failure E Needed → Type 0
 
@@ -24,39 +25,49 @@ NoError partial a s (Cut e) = ⊥
 NoError partial a s (Incomplete n) = ⊤
 NoError partial a s (Refused r) = ⊤
 
--- an error that is made of the stream as it is left: by one relation where the parser backtracks, by another where it cuts
+-- an error that is made of the stream as it is left: by one relation for a backtrack, by another
+-- for a cut
 abbrev pub OwnErrors : {E S T : Type 0} → (S → E → Type 0) → (S → E → Type 0) → Errors E S T
 OwnErrors backtracks cuts partial a s (Backtrack e) = backtracks s e
 OwnErrors backtracks cuts partial a s (Cut e) = cuts s e
 OwnErrors backtracks cuts partial a s (Incomplete n) = ⊤
 OwnErrors backtracks cuts partial a s (Refused r) = ⊤
 
--- the first parser's, or, after a value of it, the second's
-abbrev pub PairErrors : {O E S T : Type 0} → Meaning O T → Errors E S T → Errors E S T → Errors E S T
+-- the errors of the first parser, or, after a value of it, those of the second
+abbrev pub PairErrors : {O E S T : Type 0} → Meaning O T → Errors E S T → Errors E S T
+    → Errors E S T
 PairErrors {O} {E} {S} {T} means first second partial a s failure = first partial a s failure
     ⊎ ((x : O) × ((b : Ahead T) × (means partial a (Gives x b) × second partial b s failure)))
 
--- the first parser's, or, after a value of it, those of the parser that is made of the value
-abbrev pub ContinuedErrors : {O Q E S T : Type 0} → (O → Q → Type 0) → (Q → Errors E S T) → Meaning O T → Errors E S T → Errors E S T
+-- the errors of the first parser, or, after a value of it, those of the parser that is made of the
+-- value
+abbrev pub ContinuedErrors : {O Q E S T : Type 0} → (O → Q → Type 0) → (Q → Errors E S T)
+    → Meaning O T → Errors E S T → Errors E S T
 ContinuedErrors {O} {Q} {E} {S} {T} makes errors means first partial a s failure = first partial a s failure
     ⊎ ((x : O) × ((b : Ahead T) × ((q : Q) × (means partial a (Gives x b) × makes x q × errors q partial b s failure))))
 
--- the parser backtracks, with such an error
+-- the failure is a backtrack whose error is one of these
 abbrev pub IsBacktrackOf : {E : Type 0} → (E → Type 0) → Failure E Needed → Type 0
 IsBacktrackOf errors (Backtrack e) = errors e
 IsBacktrackOf errors (Cut e) = ⊥
 IsBacktrackOf errors (Incomplete n) = ⊥
 IsBacktrackOf errors (Refused r) = ⊥
 
--- the inner parser's; or it gave a value that is not wanted, and this one backtracks with an error that is made of that
-abbrev pub UnwantedErrors : {O E S T : Type 0} → (O → S → E → Type 0) → Meaning O T → Errors E S T → Errors E S T
+-- the errors of the inner parser; or it gave an unwanted value, and this one backtracks with an
+-- error that is made of that value
+abbrev pub UnwantedErrors : {O E S T : Type 0} → (O → S → E → Type 0) → Meaning O T → Errors E S T
+    → Errors E S T
 UnwantedErrors {O} {E} {S} {T} makes means inner partial a s failure = inner partial a s failure
     ⊎ ((x : O) × ((b : Ahead T) × (means partial a (Gives x b) × IsBacktrackOf (makes x s) failure)))
 
--- where both backtrack, their errors are joined; a cut is that of either
-abbrev pub EitherErrors : {E S T : Type 0} → (E → E → E → Type 0) → Errors E S T → Errors E S T → Errors E S T
+-- where both backtrack, their errors are joined; a cut comes from either
+abbrev pub EitherErrors : {E S T : Type 0} → (E → E → E → Type 0) → Errors E S T → Errors E S T
+    → Errors E S T
 EitherErrors {E} {S} {T} joins first second partial a s (Backtrack e) =
-    (e1 : E) × ((e2 : E) × ((r : S) × (first partial a r (Backtrack e1) × second partial a s (Backtrack e2) × joins e1 e2 e)))
+    (e1 : E)
+    × ((e2 : E)
+    × ((r : S)
+    × (first partial a r (Backtrack e1) × second partial a s (Backtrack e2) × joins e1 e2 e)))
 EitherErrors joins first second partial a s (Cut e) = first partial a s (Cut e) ⊎ second partial a s (Cut e)
 EitherErrors joins first second partial a s (Incomplete n) = ⊤
 EitherErrors joins first second partial a s (Refused r) = ⊤
@@ -75,22 +86,30 @@ SoftenedErrors inner partial a s (Cut e) = ⊥
 SoftenedErrors inner partial a s (Incomplete n) = ⊤
 SoftenedErrors inner partial a s (Refused r) = ⊤
 
--- the inner parser's, which are told what was being read, by the stream as it is left and a checkpoint of where it stood
-abbrev pub ContextErrors : {E S C T : Type 0} → (C → Ahead T) → (E → S → C → E → Type 0) → Errors E S T → Errors E S T
+-- the errors of the inner parser, each with the context that was added: by the stream as it is left
+-- and a checkpoint of where it stood
+abbrev pub ContextErrors : {E S C T : Type 0} → (C → Ahead T) → (E → S → C → E → Type 0)
+    → Errors E S T → Errors E S T
 ContextErrors {E} {S} {C} {T} stood tells inner partial a s (Backtrack e) =
-    (e1 : E) × ((start : C) × (inner partial a s (Backtrack e1) × (stood start ≡ a) × tells e1 s start e))
+    (e1 : E)
+    × ((start : C)
+    × (inner partial a s (Backtrack e1) × (stood start ≡ a) × tells e1 s start e))
 ContextErrors {E} {S} {C} {T} stood tells inner partial a s (Cut e) =
     (e1 : E) × ((start : C) × (inner partial a s (Cut e1) × (stood start ≡ a) × tells e1 s start e))
 ContextErrors stood tells inner partial a s (Incomplete n) = ⊤
 ContextErrors stood tells inner partial a s (Refused r) = ⊤
 
 -- what the contract of a function says of its failures
-abbrev pub ContractErrors : {F S O E T : Type 0} → Shared F (Global × (MutBor S × Unit {0})) (Result O (Failure E Needed) × (MutBor S × Unit {0})) → (S → Type 0) → (S → Bool) → (S → Ahead T) → F → Errors E S T
+abbrev pub ContractErrors : {F S O E T : Type 0}
+    → Shared F (Global × (MutBor S × Unit {0})) (Result O (Failure E Needed)
+    × (MutBor S × Unit {0})) → (S → Type 0) → (S → Bool) → (S → Ahead T) → F → Errors E S T
 ContractErrors {F} {S} {O} {E} {T} call valid expects stands f partial a s failure = (alloc : Global) × ((old : MutBor S) × ((new : MutBor S)
     × (call.post f (alloc, (old, tt)) (Err failure, (new, tt)) × valid old.now
     × (expects old.now ≡ partial) × (stands old.now ≡ a) × (new.now ≡ s))))
 
--- of a whole input that a parser does not read, this is the error: that of its failure, or one that is made of the stream after its value
-abbrev pub StopsWith : {O E S T : Type 0} → (S → Ahead T) → (S → E → Type 0) → Meaning O T → Errors E S T → Ahead T → E → Type 0
+-- the error for a whole input that a parser does not read: that of its failure, or one that is made
+-- of the stream after its value
+abbrev pub StopsWith : {O E S T : Type 0} → (S → Ahead T) → (S → E → Type 0) → Meaning O T
+    → Errors E S T → Ahead T → E → Type 0
 StopsWith {O} {E} {S} {T} stands makes means errors a e = (s : S) × (errors false a s (Backtrack e)
     ⊎ (errors false a s (Cut e) ⊎ ((x : O) × (means false a (Gives x (stands s)) × makes s e))))

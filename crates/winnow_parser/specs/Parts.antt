@@ -1,4 +1,4 @@
--- What combinators make of parsers are parsers.
+-- A combinator of parsers is a parser.
 use Rattle.std.specs.Prelude.{◌≡◌, Bool, Option, Some, None}
 use Rattle.std.proofs.Common.{ap, subst, inl, inr}
 use Rattle.winnow_stream.proofs.lemmas.MovingLemmas.{MovesOn-still, MovesOn-on}
@@ -7,13 +7,17 @@ use Rattle.winnow_parser.specs.Laws.{longer, IsStable, IsFinal, LeavesAfter, IsO
 use Rattle.winnow_parser.specs.Meanings.{Returns, Maps, Pair, Second, First, Preceded, Terminated, Either, Optional, LookedAt, Negated, CutOff, Softened, Verified, Chosen}
 
 module _ {T : Type 0} where
+  -- a stream that stays moved on by nothing
   pub Moves-still : (a b : Ahead T) → a ≡ b → Moves a b
   Moves-still a b e = subst (Moves a) e (MovesOn-still a.location a.tokens)
 
+  -- moving on twice is moving on
   pub Moves-on : (a b c : Ahead T) → Moves a b → Moves b c → Moves a c
   Moves-on a b c m n = MovesOn-on a.location b.location c.location a.tokens b.tokens c.tokens m n
 
-pub LeavesAfter-on : {O T : Type 0} (a b : Ahead T) (v : Outcome O T) → Moves a b → LeavesAfter b v → LeavesAfter a v
+-- what is left after a later place is left after the earlier one
+pub LeavesAfter-on : {O T : Type 0} (a b : Ahead T) (v : Outcome O T) → Moves a b → LeavesAfter b v
+    → LeavesAfter a v
 LeavesAfter-on a b (Gives x c) m n = Moves-on a b c m n
 LeavesAfter-on a b (Fails (Backtracks c)) m n = Moves-on a b c m n
 LeavesAfter-on a b (Fails (Cuts c)) m n = Moves-on a b c m n
@@ -23,34 +27,41 @@ LeavesAfter-on a b (Fails Refuses) m k = tt
 -- ---- `Returns`
 
 module _ {O T : Type 0} (x : O) where
+  -- a settled answer of `Returns` stays when more input follows
   returns-stable : IsStable {O = O} {T = T} (Returns x)
   returns-stable more partial a (Gives y b) s h = (h.0, ap (longer more) h.1)
   returns-stable more partial a (Fails f) s h = absurd h
 
+  -- `Returns` only moves the stream on
   returns-onward : IsOnward {O = O} {T = T} (Returns x)
   returns-onward partial a (Gives y b) h = Moves-still a b h.1
   returns-onward partial a (Fails f) h = absurd h
 
+  -- `Returns` keeps the laws of a parser
   pub IsParser-Returns : IsParser {O = O} {T = T} (Returns x)
   IsParser-Returns = record { stable = returns-stable; final = λ a n h. h; onward = returns-onward }
 
 -- ---- `Maps`
 
 module _ {O P T : Type 0} (gives : O → P → Type 0) (inner : Meaning O T) (p : IsParser inner) where
+  -- a settled answer of `Maps` stays when more input follows
   maps-stable : IsStable (Maps gives inner)
   maps-stable more partial a (Gives y b) s h = (h.0, (h.1.0, p.stable more partial a (Gives h.0 b) tt h.1.1))
   maps-stable more partial a (Fails f) s h = p.stable more partial a (Fails f) s h
 
+  -- `Maps` only moves the stream on
   maps-onward : IsOnward (Maps gives inner)
   maps-onward partial a (Gives y b) h = p.onward partial a (Gives h.0 b) h.1.1
   maps-onward partial a (Fails f) h = p.onward partial a (Fails f) h
 
+  -- `Maps` keeps the laws of a parser
   pub IsParser-Maps : IsParser (Maps gives inner)
   IsParser-Maps = record { stable = maps-stable; final = p.final; onward = maps-onward }
 
 -- ---- `Pair`
 
 module _ {O P T : Type 0} (first : Meaning O T) (second : Meaning P T) (p : IsParser first) (q : IsParser second) where
+  -- a settled answer of `Pair` stays when more input follows
   pair-stable : IsStable (Pair first second)
   pair-stable more partial a (Gives both c) s h =
       (longer more h.0, (p.stable more partial a (Gives both.0 h.0) tt h.1.0, q.stable more partial h.0 (Gives both.1 c) tt h.1.1))
@@ -58,28 +69,34 @@ module _ {O P T : Type 0} (first : Meaning O T) (second : Meaning P T) (p : IsPa
   pair-stable more partial a (Fails f) s (inr h) =
       inr (h.0, (longer more h.1.0, (p.stable more partial a (Gives h.0 h.1.0) tt h.1.1.0, q.stable more partial h.1.0 (Fails f) s h.1.1.1)))
 
+  -- `Pair` needs nothing more where nothing more may follow
   pair-final : IsFinal (Pair first second)
   pair-final a n (inl h) = p.final a n h
   pair-final a n (inr h) = q.final h.1.0 n h.1.1.1
 
+  -- `Pair` only moves the stream on
   pair-onward : IsOnward (Pair first second)
   pair-onward partial a (Gives both c) h = Moves-on a h.0 c (p.onward partial a (Gives both.0 h.0) h.1.0) (q.onward partial h.0 (Gives both.1 c) h.1.1)
   pair-onward partial a (Fails f) (inl h) = p.onward partial a (Fails f) h
   pair-onward partial a (Fails f) (inr h) =
       LeavesAfter-on {O = P} a h.1.0 (Fails f) (p.onward partial a (Gives h.0 h.1.0) h.1.1.0) (q.onward partial h.1.0 (Fails f) h.1.1.1)
 
+  -- `Pair` keeps the laws of a parser
   pub IsParser-Pair : IsParser (Pair first second)
   IsParser-Pair = record { stable = pair-stable; final = pair-final; onward = pair-onward }
 
+  -- `Preceded` keeps the laws of a parser
   pub IsParser-Preceded : IsParser (Preceded first second)
   IsParser-Preceded = IsParser-Maps Second (Pair first second) IsParser-Pair
 
+  -- `Terminated` keeps the laws of a parser
   pub IsParser-Terminated : IsParser (Terminated first second)
   IsParser-Terminated = IsParser-Maps First (Pair first second) IsParser-Pair
 
 -- ---- `Either`
 
 module _ {O T : Type 0} (refusable : Type 0) (first second : Meaning O T) (p : IsParser first) (q : IsParser second) where
+  -- a settled answer of `Either` stays when more input follows
   either-stable : IsStable (Either refusable first second)
   either-stable more partial a (Gives x b) s (inl h) = inl (p.stable more partial a (Gives x b) tt h)
   either-stable more partial a (Gives x b) s (inr h) =
@@ -92,10 +109,12 @@ module _ {O T : Type 0} (refusable : Type 0) (first second : Meaning O T) (p : I
   either-stable more partial a (Fails (Needs n)) s h = absurd s
   either-stable more partial a (Fails Refuses) s h = absurd s
 
+  -- `Either` needs nothing more where nothing more may follow
   either-final : IsFinal (Either refusable first second)
   either-final a n (inl h) = p.final a n h
   either-final a n (inr h) = q.final a n h.1.1
 
+  -- `Either` only moves the stream on
   either-onward : IsOnward (Either refusable first second)
   either-onward partial a (Gives x b) (inl h) = p.onward partial a (Gives x b) h
   either-onward partial a (Gives x b) (inr h) = q.onward partial a (Gives x b) h.1.1
@@ -105,12 +124,14 @@ module _ {O T : Type 0} (refusable : Type 0) (first second : Meaning O T) (p : I
   either-onward partial a (Fails (Needs n)) h = tt
   either-onward partial a (Fails Refuses) h = tt
 
+  -- `Either` keeps the laws of a parser
   pub IsParser-Either : IsParser (Either refusable first second)
   IsParser-Either = record { stable = either-stable; final = either-final; onward = either-onward }
 
 module _ {O T : Type 0} (inner : Meaning O T) (p : IsParser inner) where
   -- ---- `Optional`
 
+  -- a settled answer of `Optional` stays when more input follows
   optional-stable : IsStable (Optional inner)
   optional-stable more partial a (Gives (Some x) b) s h = p.stable more partial a (Gives x b) tt h
   optional-stable more partial a (Gives None b) s h = (ap (longer more) h.0, (longer more h.1.0, p.stable more partial a (Fails (Backtracks h.1.0)) tt h.1.1))
@@ -119,6 +140,7 @@ module _ {O T : Type 0} (inner : Meaning O T) (p : IsParser inner) where
   optional-stable more partial a (Fails (Needs n)) s h = absurd s
   optional-stable more partial a (Fails Refuses) s h = absurd s
 
+  -- `Optional` only moves the stream on
   optional-onward : IsOnward (Optional inner)
   optional-onward partial a (Gives (Some x) b) h = p.onward partial a (Gives x b) h
   optional-onward partial a (Gives None b) h = Moves-still a b h.0
@@ -127,24 +149,29 @@ module _ {O T : Type 0} (inner : Meaning O T) (p : IsParser inner) where
   optional-onward partial a (Fails (Needs n)) h = tt
   optional-onward partial a (Fails Refuses) h = tt
 
+  -- `Optional` keeps the laws of a parser
   pub IsParser-Optional : IsParser (Optional inner)
   IsParser-Optional = record { stable = optional-stable; final = p.final; onward = optional-onward }
 
   -- ---- `LookedAt`
 
+  -- a settled answer of `LookedAt` stays when more input follows
   looked-stable : IsStable (LookedAt inner)
   looked-stable more partial a (Gives x b) s h = (ap (longer more) h.0, (longer more h.1.0, p.stable more partial a (Gives x h.1.0) tt h.1.1))
   looked-stable more partial a (Fails f) s h = p.stable more partial a (Fails f) s h
 
+  -- `LookedAt` only moves the stream on
   looked-onward : IsOnward (LookedAt inner)
   looked-onward partial a (Gives x b) h = Moves-still a b h.0
   looked-onward partial a (Fails f) h = p.onward partial a (Fails f) h
 
+  -- `LookedAt` keeps the laws of a parser
   pub IsParser-LookedAt : IsParser (LookedAt inner)
   IsParser-LookedAt = record { stable = looked-stable; final = p.final; onward = looked-onward }
 
   -- ---- `Negated`
 
+  -- a settled answer of `Negated` stays when more input follows
   negated-stable : IsStable (Negated inner)
   negated-stable more partial a (Gives u b) s h = (ap (longer more) h.0, (longer more h.1.0, p.stable more partial a (Fails (Backtracks h.1.0)) tt h.1.1))
   negated-stable more partial a (Fails (Backtracks b)) s h =
@@ -153,6 +180,7 @@ module _ {O T : Type 0} (inner : Meaning O T) (p : IsParser inner) where
   negated-stable more partial a (Fails (Needs n)) s h = absurd s
   negated-stable more partial a (Fails Refuses) s h = absurd s
 
+  -- `Negated` only moves the stream on
   negated-onward : IsOnward (Negated inner)
   negated-onward partial a (Gives u b) h = Moves-still a b h.0
   negated-onward partial a (Fails (Backtracks b)) h = Moves-still a b h.0
@@ -160,11 +188,13 @@ module _ {O T : Type 0} (inner : Meaning O T) (p : IsParser inner) where
   negated-onward partial a (Fails (Needs n)) h = tt
   negated-onward partial a (Fails Refuses) h = tt
 
+  -- `Negated` keeps the laws of a parser
   pub IsParser-Negated : IsParser (Negated inner)
   IsParser-Negated = record { stable = negated-stable; final = p.final; onward = negated-onward }
 
   -- ---- `CutOff`
 
+  -- a settled answer of `CutOff` stays when more input follows
   cut-stable : IsStable (CutOff inner)
   cut-stable more partial a (Gives x b) s h = p.stable more partial a (Gives x b) tt h
   cut-stable more partial a (Fails (Backtracks b)) s h = absurd h
@@ -173,6 +203,7 @@ module _ {O T : Type 0} (inner : Meaning O T) (p : IsParser inner) where
   cut-stable more partial a (Fails (Needs n)) s h = absurd s
   cut-stable more partial a (Fails Refuses) s h = absurd s
 
+  -- `CutOff` only moves the stream on
   cut-onward : IsOnward (CutOff inner)
   cut-onward partial a (Gives x b) h = p.onward partial a (Gives x b) h
   cut-onward partial a (Fails (Backtracks b)) h = absurd h
@@ -181,11 +212,13 @@ module _ {O T : Type 0} (inner : Meaning O T) (p : IsParser inner) where
   cut-onward partial a (Fails (Needs n)) h = tt
   cut-onward partial a (Fails Refuses) h = tt
 
+  -- `CutOff` keeps the laws of a parser
   pub IsParser-CutOff : IsParser (CutOff inner)
   IsParser-CutOff = record { stable = cut-stable; final = p.final; onward = cut-onward }
 
   -- ---- `Softened`
 
+  -- a settled answer of `Softened` stays when more input follows
   softened-stable : IsStable (Softened inner)
   softened-stable more partial a (Gives x b) s h = p.stable more partial a (Gives x b) tt h
   softened-stable more partial a (Fails (Backtracks b)) s (inl h) = inl (p.stable more partial a (Fails (Backtracks b)) tt h)
@@ -194,6 +227,7 @@ module _ {O T : Type 0} (inner : Meaning O T) (p : IsParser inner) where
   softened-stable more partial a (Fails (Needs n)) s h = absurd s
   softened-stable more partial a (Fails Refuses) s h = absurd s
 
+  -- `Softened` only moves the stream on
   softened-onward : IsOnward (Softened inner)
   softened-onward partial a (Gives x b) h = p.onward partial a (Gives x b) h
   softened-onward partial a (Fails (Backtracks b)) (inl h) = p.onward partial a (Fails (Backtracks b)) h
@@ -202,12 +236,14 @@ module _ {O T : Type 0} (inner : Meaning O T) (p : IsParser inner) where
   softened-onward partial a (Fails (Needs n)) h = tt
   softened-onward partial a (Fails Refuses) h = tt
 
+  -- `Softened` keeps the laws of a parser
   pub IsParser-Softened : IsParser (Softened inner)
   IsParser-Softened = record { stable = softened-stable; final = p.final; onward = softened-onward }
 
 -- ---- `Verified`
 
 module _ {O T : Type 0} (answers : O → Bool → Type 0) (inner : Meaning O T) (p : IsParser inner) where
+  -- a settled answer of `Verified` stays when more input follows
   verified-stable : IsStable (Verified answers inner)
   verified-stable more partial a (Gives x b) s h = (p.stable more partial a (Gives x b) tt h.0, h.1)
   verified-stable more partial a (Fails (Backtracks b)) s (inl h) = inl (p.stable more partial a (Fails (Backtracks b)) tt h)
@@ -217,6 +253,7 @@ module _ {O T : Type 0} (answers : O → Bool → Type 0) (inner : Meaning O T) 
   verified-stable more partial a (Fails (Needs n)) s h = absurd s
   verified-stable more partial a (Fails Refuses) s h = absurd s
 
+  -- `Verified` only moves the stream on
   verified-onward : IsOnward (Verified answers inner)
   verified-onward partial a (Gives x b) h = p.onward partial a (Gives x b) h.0
   verified-onward partial a (Fails (Backtracks b)) (inl h) = p.onward partial a (Fails (Backtracks b)) h
@@ -225,12 +262,14 @@ module _ {O T : Type 0} (answers : O → Bool → Type 0) (inner : Meaning O T) 
   verified-onward partial a (Fails (Needs n)) h = tt
   verified-onward partial a (Fails Refuses) h = tt
 
+  -- `Verified` keeps the laws of a parser
   pub IsParser-Verified : IsParser (Verified answers inner)
   IsParser-Verified = record { stable = verified-stable; final = p.final; onward = verified-onward }
 
 -- ---- `Chosen`
 
 module _ {O P T : Type 0} (gives : O → Option P → Type 0) (inner : Meaning O T) (p : IsParser inner) where
+  -- a settled answer of `Chosen` stays when more input follows
   chosen-stable : IsStable (Chosen gives inner)
   chosen-stable more partial a (Gives y b) s h = (h.0, (h.1.0, p.stable more partial a (Gives h.0 b) tt h.1.1))
   chosen-stable more partial a (Fails (Backtracks b)) s (inl h) = inl (p.stable more partial a (Fails (Backtracks b)) tt h)
@@ -240,6 +279,7 @@ module _ {O P T : Type 0} (gives : O → Option P → Type 0) (inner : Meaning O
   chosen-stable more partial a (Fails (Needs n)) s h = absurd s
   chosen-stable more partial a (Fails Refuses) s h = absurd s
 
+  -- `Chosen` only moves the stream on
   chosen-onward : IsOnward (Chosen gives inner)
   chosen-onward partial a (Gives y b) h = p.onward partial a (Gives h.0 b) h.1.1
   chosen-onward partial a (Fails (Backtracks b)) (inl h) = p.onward partial a (Fails (Backtracks b)) h
@@ -248,5 +288,6 @@ module _ {O P T : Type 0} (gives : O → Option P → Type 0) (inner : Meaning O
   chosen-onward partial a (Fails (Needs n)) h = tt
   chosen-onward partial a (Fails Refuses) h = tt
 
+  -- `Chosen` keeps the laws of a parser
   pub IsParser-Chosen : IsParser (Chosen gives inner)
   IsParser-Chosen = record { stable = chosen-stable; final = p.final; onward = chosen-onward }

@@ -2,7 +2,7 @@ use crate::{ModalResult, Parser};
 use std::alloc::Global;
 use winnow_stream::StreamIsPartial;
 
-/// The parser that is referred to.
+/// A reference reads as the parser that it refers to.
 impl<I: StreamIsPartial, E, P: Parser<I, E>> Parser<I, E> for &P {
     type Output = P::Output;
 
@@ -14,6 +14,8 @@ impl<I: StreamIsPartial, E, P: Parser<I, E>> Parser<I, E> for &P {
 
     ghost lawful = { λ p. P.lawful p.now };
 
+    // Inlined: combinators hold their parts by reference where they repeat them.
+    #[inline(always)]
     fn parse_next(&self, alloc: Global, input: &mut I) -> ModalResult<P::Output, E> {
         (**self).parse_next(alloc, input)
     }

@@ -10,7 +10,7 @@ use std::marker::PhantomData;
 use winnow_error::{FromExternalError, ParserError};
 use winnow_stream::StreamIsPartial;
 
-/// The value, if a test holds of it; [`Parser::verify`] makes it.
+/// A parser of the values of which a test holds; [`Parser::verify`] makes it.
 #[derive(Drop)]
 #[derive_where(Clone, Copy; P, F)]
 pub struct Verified<P, F, I, E> {
@@ -33,7 +33,7 @@ impl<P, F, I, E> Verified<P, F, I, E> {
     }
 }
 
-// Whether the test holds of the value.
+// Returns whether the test holds of the value.
 fn holds_of<T, F: Fn(&T) -> bool>(test: &F, value: &T) -> bool
     requires { F.IsAlwaysCallable test.now }
     ensures { FnReturnsAt F.Fn test.now value.now result }
@@ -70,7 +70,8 @@ where
     }
 }
 
-/// What a function makes of the value, if it makes something; [`Parser::verify_map`] makes it.
+/// A parser of what a function makes of the value, if it makes something; [`Parser::verify_map`]
+/// makes it.
 #[derive(Drop)]
 #[derive_where(Clone, Copy; P, F)]
 pub struct VerifyMapped<P, F, I, E> {
@@ -124,7 +125,8 @@ impl<
     }
 }
 
-/// What a function makes of the value, if it does not fail; [`Parser::try_map`] makes it.
+/// A parser of what a function makes of the value, if it does not fail; [`Parser::try_map`] makes
+/// it.
 #[derive(Drop)]
 #[derive_where(Clone, Copy; P, F)]
 pub struct TryMapped<P, F, I, E> {

@@ -9,7 +9,7 @@ use std::marker::PhantomData;
 use winnow_error::AddContext;
 use winnow_stream::StreamIsPartial;
 
-/// The inner parser, whose errors are told what was being read; [`Parser::context`] makes it.
+/// A parser that adds to its errors what was being read; [`Parser::context`] makes it.
 #[derive(Drop)]
 #[derive_where(Clone, Copy; P, C)]
 pub struct Contextual<P, C, I, E> {
@@ -19,7 +19,7 @@ pub struct Contextual<P, C, I, E> {
 }
 
 impl<P, C, I, E> Contextual<P, C, I, E> {
-    // Returns the parser whose errors are told the context.
+    // Returns the parser that adds the context to its errors.
     pub(crate) fn new(inner: P, context: C) -> Self
         ensures inner { result.inner ≡ inner }
         ensures context { result.context ≡ context }

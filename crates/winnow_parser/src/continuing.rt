@@ -7,7 +7,7 @@ use std::alloc::Global;
 use std::marker::PhantomData;
 use winnow_stream::StreamIsPartial;
 
-/// The parser that a function makes of the value of the one before it; [`Parser::flat_map`] makes it.
+/// A parser, and then the one that a function makes of its value; [`Parser::flat_map`] makes it.
 #[derive(Drop)]
 #[derive_where(Clone, Copy; P, F)]
 pub struct FlatMapped<P, F, I, E> {

@@ -11,9 +11,9 @@ use crate::Parser;
 use winnow_error::ParserError;
 use winnow_stream::StreamIsPartial;
 
-/// The laws of two parsers that have one answer each: one after the other they have one answer, and so has the first of both that does
-/// not backtrack. A view shows of a value what counts: values that show the same are the same. It does nothing when called: its
-/// contract is the law.
+/// The laws of two parsers that have one answer each: one after the other they have one answer, and
+/// so have they as alternatives. A view shows what counts of a value: values that show the same are
+/// the same. It does nothing when called: its contract is the law.
 pub fn determined_pair_law<
     I: StreamIsPartial,
     E: ParserError<I>,
@@ -31,7 +31,8 @@ pub fn determined_pair_law<
         → IsDetermined (Shows view) (Either E.or_refusable (A.means a) (C.means c)) }
 {}
 
-/// The laws of a parser that has one answer: so has what a combinator makes of it. It does nothing when called: its contract is the law.
+/// The laws of a parser that has one answer: what a combinator makes of it has one answer too. It
+/// does nothing when called: its contract is the law.
 pub fn determined_law<I: StreamIsPartial, E, A: Parser<I, E>, V>()
     ensures optional { (view : A.Output → V) (a : A) → IsDetermined (Shows view) (A.means a)
         → IsDetermined (AreSameIfAny (Shows view)) (Optional (A.means a)) }
@@ -49,8 +50,9 @@ pub fn determined_law<I: StreamIsPartial, E, A: Parser<I, E>, V>()
         → IsDetermined (AreBothSame (Shows view) (λ x y. x ≡ y)) (WithSpan (A.means a)) }
 {}
 
-/// The laws of slices: where a view shows the same of all slices of one front, a parser of what another takes has one answer if the
-/// other has. It does nothing when called: its contract is the law.
+/// The laws of slices: where a view shows the same of all slices of one front, the parser of the
+/// slice that another parser takes has one answer if the other has. It does nothing when called:
+/// its contract is the law.
 pub fn determined_slice_law<I: StreamIsPartial, E, A: Parser<I, E>, V, W>()
     ensures taken { (view : A.Output → V) (bytes : I.Slice → W) (a : A)
         → SlicesRespect I.is_slice (Shows bytes) → IsDetermined (Shows view) (A.means a)
@@ -61,8 +63,8 @@ pub fn determined_slice_law<I: StreamIsPartial, E, A: Parser<I, E>, V, W>()
         (WithTaken I.is_slice (A.means a)) }
 {}
 
-/// The laws of functions: where a function makes of values that are the same values that are the same, what it makes of a parser with
-/// one answer has one answer. It does nothing when called: its contract is the law.
+/// The laws of functions: where a function gives the same for the same values, what it makes of a
+/// parser with one answer has one answer. It does nothing when called: its contract is the law.
 pub fn determined_function_law<
     I: StreamIsPartial,
     E,

@@ -6,11 +6,11 @@ use winnow_stream::Needed;
 
 /// Why a parser has no value.
 ///
-/// It is written `Failure<E>`: the second parameter is always [`Needed`]. The first three are those of `ErrMode`; the last is what
-/// this library adds, since memory is never taken for granted.
+/// It is written `Failure<E>`: the second parameter is always [`Needed`]. The first three variants
+/// are those of `ErrMode`. This library adds the last, since memory is never taken for granted.
 #[derive(Debug, Drop)]
 pub enum Failure<E, N = Needed> {
-    /// More input is needed to tell
+    /// More input is needed to decide
     Incomplete(N),
     /// The parser failed, and another may be tried
     Backtrack(E),

@@ -1,9 +1,10 @@
 //! Parsers that carry their meaning.
 //!
-//! A [`Parser`] reads a value from the front of a stream, or fails. Its ghost member `means` relates what it may answer to what
-//! stood ahead: the tokens that remained, their location, and whether more may follow. A combinator builds its meaning from those
-//! of its parts, so a grammar is proved against a definition of its language. Beside it, `errors`
-//! says which errors the failures carry.
+//! A [`Parser`] reads a value from the front of a stream, or fails. Its ghost member `means`
+//! relates what it may answer to what stood ahead: the tokens that remained, their location, and
+//! whether more may follow. A combinator builds its meaning from those of its parts, so a grammar
+//! is proved against a definition of its language. A second ghost member, `errors`, says which
+//! errors the failures carry.
 #![tactic(auto)]
 
 mod by_ref;

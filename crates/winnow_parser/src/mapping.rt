@@ -7,7 +7,7 @@ use std::alloc::Global;
 use std::marker::PhantomData;
 use winnow_stream::StreamIsPartial;
 
-/// What a function makes of the value; [`Parser::map`] makes it.
+/// A parser of what a function makes of the value; [`Parser::map`] makes it.
 #[derive(Drop)]
 #[derive_where(Clone, Copy; P, F)]
 pub struct Mapped<P, F, I, E> {
@@ -48,7 +48,7 @@ impl<I: StreamIsPartial, E, P: Parser<I, E>, O, F: Fn(P::Output) -> O> Parser<I,
     }
 }
 
-/// A value of its own, where the inner parser gives one; [`Parser::value`] makes it.
+/// A parser that replaces each value of the inner one with its own; [`Parser::value`] makes it.
 #[derive(Drop)]
 #[derive_where(Clone, Copy; P, V)]
 pub struct Valued<P, V, I, E> {
@@ -92,7 +92,7 @@ where
     }
 }
 
-/// Nothing, where the inner parser gives a value; [`Parser::void`] makes it.
+/// A parser that drops the value of the inner one; [`Parser::void`] makes it.
 #[derive(Drop)]
 #[derive_where(Clone, Copy; P)]
 pub struct Voided<P, I, E> {
@@ -101,7 +101,7 @@ pub struct Voided<P, I, E> {
 }
 
 impl<P, I, E> Voided<P, I, E> {
-    // Returns the parser of nothing.
+    // Returns the parser that drops the value.
     pub(crate) fn new(inner: P) -> Self
         ensures inner { result.inner ≡ inner }
     {

@@ -15,17 +15,17 @@ use winnow_error::ParserError;
 use winnow_parse_error::ParseError;
 use winnow_stream::StreamIsPartial;
 
-/// What reads a value from the front of a stream.
+/// Reads a value from the front of a stream.
 ///
 /// A parser of your own says by `means` what it may answer and by `errors` which errors its
-/// failures carry (`AnyError` allows each), and keeps the laws that [`IsParser`] lists: a settled
+/// failures carry (`AnyError` allows each). It keeps the laws that [`IsParser`] lists: a settled
 /// answer stays when more input follows, nothing more is needed where nothing more may follow, and
 /// the stream only moves on.
 pub trait Parser<I: StreamIsPartial, E>: Sized {
     /// What it reads.
     type Output;
 
-    // What it may answer of what stands ahead.
+    // What it may answer, by what stands ahead.
     ghost means: { Self → Meaning Self.Output I.Token };
 
     // Which errors its failures carry.
@@ -34,9 +34,8 @@ pub trait Parser<I: StreamIsPartial, E>: Sized {
     // The parsers that may be asked.
     ghost ready: { Self → Type 0 };
 
-    /// Reads a value from the front. Afterwards the stream stands after what was read. Where the
-    /// parser fails, the stream stands where the failure was found, and a caller that goes on resets
-    /// it.
+    /// Reads a value from the front, and moves the stream past what was read. Where the parser
+    /// fails, the stream stands where the failure was found, and a caller that goes on resets it.
     fn parse_next(&self, alloc: Global, input: &mut I) -> ModalResult<Self::Output, E>
         requires ready { ready self.now }
         requires valid { I.valid input.old }
@@ -56,7 +55,8 @@ pub trait Parser<I: StreamIsPartial, E>: Sized {
         Mapped::new(self, f)
     }
 
-    /// Returns the parser that goes on with the parser that a function makes of the value: what comes first says how to read what comes next.
+    /// Returns the parser that goes on with the parser that a function makes of the value: what
+    /// comes first says how to read what comes next.
     final fn flat_map<F>(self, f: F) -> FlatMapped<Self, F, I, E>
         ensures first { result.first ≡ self }
         ensures f { result.f ≡ f }
@@ -79,7 +79,8 @@ pub trait Parser<I: StreamIsPartial, E>: Sized {
         Voided::new(self)
     }
 
-    /// Returns the parser of the values of which the test holds; of another it backtracks, from where it began.
+    /// Returns the parser of the values of which the test holds. At another value it backtracks,
+    /// from where it began.
     final fn verify<F>(self, test: F) -> Verified<Self, F, I, E>
         ensures inner { result.inner ≡ self }
         ensures test { result.test ≡ test }
@@ -87,7 +88,8 @@ pub trait Parser<I: StreamIsPartial, E>: Sized {
         Verified::new(self, test)
     }
 
-    /// Returns the parser of what a function makes of the value; where it makes nothing, it backtracks, from where it began.
+    /// Returns the parser of what a function makes of the value. Where the function makes nothing,
+    /// the parser backtracks, from where it began.
     final fn verify_map<F>(self, f: F) -> VerifyMapped<Self, F, I, E>
         ensures inner { result.inner ≡ self }
         ensures f { result.f ≡ f }
@@ -95,8 +97,8 @@ pub trait Parser<I: StreamIsPartial, E>: Sized {
         VerifyMapped::new(self, f)
     }
 
-    /// Returns the parser of what a function makes of the value; where it fails, it backtracks, from where it began, with an error
-    /// that is made of the function's.
+    /// Returns the parser of what a function makes of the value. Where the function fails, the
+    /// parser backtracks, from where it began, with an error that is made of the function's.
     final fn try_map<F>(self, f: F) -> TryMapped<Self, F, I, E>
         ensures inner { result.inner ≡ self }
         ensures f { result.f ≡ f }
@@ -118,7 +120,8 @@ pub trait Parser<I: StreamIsPartial, E>: Sized {
         WithTaken::new(self)
     }
 
-    /// Returns the parser of the range that the parser takes, in the offsets of the whole input. The stream keeps its location.
+    /// Returns the parser of the range that the parser takes, in offsets of the whole input. The
+    /// stream must keep its location.
     final fn span(self) -> Spanned<Self, I, E>
         ensures inner { result.inner ≡ self }
     {
@@ -132,7 +135,7 @@ pub trait Parser<I: StreamIsPartial, E>: Sized {
         WithSpan::new(self)
     }
 
-    /// Returns the parser whose errors are told what was being read.
+    /// Returns the parser that adds to its errors what was being read.
     final fn context<C>(self, context: C) -> Contextual<Self, C, I, E>
         ensures inner { result.inner ≡ self }
         ensures context { result.context ≡ context }
@@ -147,9 +150,9 @@ pub trait Parser<I: StreamIsPartial, E>: Sized {
         self
     }
 
-    /// Reads a whole input to its end, after which nothing follows, also where its flag says that
-    /// more may. Where the parser fails, or gives a value before the end, the error tells the input
-    /// and the place in it. The outer error is refused memory.
+    /// Reads a whole input to its end. Nothing follows it, even where its flag says that more may.
+    /// Where the parser fails, or gives a value before the end, the error has the input and the
+    /// place in it. The outer error is refused memory.
     final fn parse(
         &self,
         alloc: Global,
@@ -189,7 +192,8 @@ pub trait Parser<I: StreamIsPartial, E>: Sized {
         ensures valid { IfOk result (λ both. I.valid both.0) }
         ensures kept { IfOk result (λ both. I.keeps input both.0) }
         ensures failure { IfErr result (λ failure. (b : Ahead I.Token) × means self.now
-            (I.expects_more input) (ahead I.location I.remaining input) (Fails (failed failure b))) }
+            (I.expects_more input) (ahead I.location I.remaining input)
+            (Fails (failed failure b))) }
         ensures error { IfErr result (λ failure. (s : I) × errors self.now
             (I.expects_more input) (ahead I.location I.remaining input) s failure) }
     {

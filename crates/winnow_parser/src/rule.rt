@@ -9,12 +9,13 @@ use crate::{ModalResult, Parser};
 use std::alloc::Global;
 use winnow_stream::StreamIsPartial;
 
-/// A rule of a grammar: a value that says what a function reads, so that the function is a parser by [`by_rule`].
+/// A rule of a grammar: a value that says what a function reads, so that [`by_rule`] makes a parser
+/// of the function.
 pub trait Rule<I: StreamIsPartial> {
     /// What it reads.
     type Output;
 
-    // What it may answer of what stands ahead.
+    // What it may answer, by what stands ahead.
     ghost meaning: { Self → Meaning Self.Output I.Token };
 
     /// Does nothing: a rule is there for its meaning alone.
@@ -31,7 +32,8 @@ pub struct RuledFunction<R, F> {
     read: F,
 }
 
-/// Returns the function as a parser that means what the rule says. The function's own contract has to say so, too.
+/// Returns the function as a parser that means what the rule says. The function's own contract has
+/// to say so too.
 pub fn by_rule<R, F>(rule: R, read: F) -> RuledFunction<R, F>
     ensures { result ≡ record { rule = rule; read = read } }
 {

@@ -2,13 +2,15 @@ ghost use Rattle.winnow_parser.specs.Meanings.{Pair};
 ghost use Rattle.winnow_parser.specs.Errors.{PairErrors};
 ghost use Rattle.winnow_parser.specs.Parts.{IsParser-Pair};
 ghost use Rattle.winnow_parser.specs.Rows.{Row3, Row4, Row5, Row6, Row7, Row8, Row9, Row10};
-ghost use Rattle.winnow_parser.specs.Rows.{IsParser-Row3, IsParser-Row4, IsParser-Row5, IsParser-Row6, IsParser-Row7, IsParser-Row8, IsParser-Row9, IsParser-Row10};
+ghost use Rattle.winnow_parser.specs.Rows.{IsParser-Row3, IsParser-Row4, IsParser-Row5};
+ghost use Rattle.winnow_parser.specs.Rows.{IsParser-Row6, IsParser-Row7, IsParser-Row8};
+ghost use Rattle.winnow_parser.specs.Rows.{IsParser-Row9, IsParser-Row10};
 
 use crate::{ModalResult, Parser};
 use std::alloc::Global;
 use winnow_stream::StreamIsPartial;
 
-/// One parser and then the other: both values.
+/// Two parsers, one after the other: their values.
 impl<I: StreamIsPartial, E, A: Parser<I, E>, B: Parser<I, E>> Parser<I, E> for (A, B)
 where
     A::Output: Drop,
@@ -46,7 +48,8 @@ where
 
     ghost ready = { λ p. A.ready p.0 × B.ready p.1 × C.ready p.2 };
 
-    ghost lawful = { λ p. IsParser-Row3 (A.means p.0) (B.means p.1) (C.means p.2) (A.lawful p.0) (B.lawful p.1) (C.lawful p.2) };
+    ghost lawful = { λ p. IsParser-Row3 (A.means p.0) (B.means p.1) (C.means p.2) (A.lawful p.0)
+        (B.lawful p.1) (C.lawful p.2) };
 
     fn parse_next(
         &self,
@@ -115,7 +118,8 @@ where
 {
     type Output = (A::Output, B::Output, C::Output, D::Output, F::Output);
 
-    ghost means = { λ p. Row5 (A.means p.0) (B.means p.1) (C.means p.2) (D.means p.3) (F.means p.4) };
+    ghost means = { λ p. Row5 (A.means p.0) (B.means p.1) (C.means p.2) (D.means p.3)
+        (F.means p.4) };
 
     ghost errors = { λ p. PairErrors (A.means p.0) (A.errors p.0)
         (PairErrors (B.means p.1) (B.errors p.1) (PairErrors (C.means p.2) (C.errors p.2)
@@ -123,7 +127,8 @@ where
 
     ghost ready = { λ p. A.ready p.0 × B.ready p.1 × C.ready p.2 × D.ready p.3 × F.ready p.4 };
 
-    ghost lawful = { λ p. IsParser-Row5 (A.means p.0) (B.means p.1) (C.means p.2) (D.means p.3) (F.means p.4)
+    ghost lawful = { λ p. IsParser-Row5 (A.means p.0) (B.means p.1) (C.means p.2) (D.means p.3)
+        (F.means p.4)
         (A.lawful p.0) (B.lawful p.1) (C.lawful p.2) (D.lawful p.3) (F.lawful p.4) };
 
     fn parse_next(&self, alloc: Global, input: &mut I) -> ModalResult<Self::Output, E> {
@@ -162,16 +167,19 @@ where
         G::Output,
     );
 
-    ghost means = { λ p. Row6 (A.means p.0) (B.means p.1) (C.means p.2) (D.means p.3) (F.means p.4) (G.means p.5) };
+    ghost means = { λ p. Row6 (A.means p.0) (B.means p.1) (C.means p.2) (D.means p.3) (F.means p.4)
+        (G.means p.5) };
 
     ghost errors = { λ p. PairErrors (A.means p.0) (A.errors p.0)
         (PairErrors (B.means p.1) (B.errors p.1) (PairErrors (C.means p.2) (C.errors p.2)
         (PairErrors (D.means p.3) (D.errors p.3) (PairErrors (F.means p.4) (F.errors p.4)
         (G.errors p.5))))) };
 
-    ghost ready = { λ p. A.ready p.0 × B.ready p.1 × C.ready p.2 × D.ready p.3 × F.ready p.4 × G.ready p.5 };
+    ghost ready = { λ p. A.ready p.0 × B.ready p.1 × C.ready p.2 × D.ready p.3 × F.ready p.4
+        × G.ready p.5 };
 
-    ghost lawful = { λ p. IsParser-Row6 (A.means p.0) (B.means p.1) (C.means p.2) (D.means p.3) (F.means p.4) (G.means p.5)
+    ghost lawful = { λ p. IsParser-Row6 (A.means p.0) (B.means p.1) (C.means p.2) (D.means p.3)
+        (F.means p.4) (G.means p.5)
         (A.lawful p.0) (B.lawful p.1) (C.lawful p.2) (D.lawful p.3) (F.lawful p.4) (G.lawful p.5) };
 
     fn parse_next(&self, alloc: Global, input: &mut I) -> ModalResult<Self::Output, E> {
@@ -215,17 +223,21 @@ where
         H::Output,
     );
 
-    ghost means = { λ p. Row7 (A.means p.0) (B.means p.1) (C.means p.2) (D.means p.3) (F.means p.4) (G.means p.5) (H.means p.6) };
+    ghost means = { λ p. Row7 (A.means p.0) (B.means p.1) (C.means p.2) (D.means p.3) (F.means p.4)
+        (G.means p.5) (H.means p.6) };
 
     ghost errors = { λ p. PairErrors (A.means p.0) (A.errors p.0)
         (PairErrors (B.means p.1) (B.errors p.1) (PairErrors (C.means p.2) (C.errors p.2)
         (PairErrors (D.means p.3) (D.errors p.3) (PairErrors (F.means p.4) (F.errors p.4)
         (PairErrors (G.means p.5) (G.errors p.5) (H.errors p.6)))))) };
 
-    ghost ready = { λ p. A.ready p.0 × B.ready p.1 × C.ready p.2 × D.ready p.3 × F.ready p.4 × G.ready p.5 × H.ready p.6 };
+    ghost ready = { λ p. A.ready p.0 × B.ready p.1 × C.ready p.2 × D.ready p.3 × F.ready p.4
+        × G.ready p.5 × H.ready p.6 };
 
-    ghost lawful = { λ p. IsParser-Row7 (A.means p.0) (B.means p.1) (C.means p.2) (D.means p.3) (F.means p.4) (G.means p.5) (H.means p.6)
-        (A.lawful p.0) (B.lawful p.1) (C.lawful p.2) (D.lawful p.3) (F.lawful p.4) (G.lawful p.5) (H.lawful p.6) };
+    ghost lawful = { λ p. IsParser-Row7 (A.means p.0) (B.means p.1) (C.means p.2) (D.means p.3)
+        (F.means p.4) (G.means p.5) (H.means p.6)
+        (A.lawful p.0) (B.lawful p.1) (C.lawful p.2) (D.lawful p.3) (F.lawful p.4) (G.lawful p.5)
+        (H.lawful p.6) };
 
     fn parse_next(&self, alloc: Global, input: &mut I) -> ModalResult<Self::Output, E> {
         let first = self.0.parse_next(alloc, input)?;
@@ -271,7 +283,8 @@ where
         J::Output,
     );
 
-    ghost means = { λ p. Row8 (A.means p.0) (B.means p.1) (C.means p.2) (D.means p.3) (F.means p.4) (G.means p.5) (H.means p.6) (J.means p.7) };
+    ghost means = { λ p. Row8 (A.means p.0) (B.means p.1) (C.means p.2) (D.means p.3) (F.means p.4)
+        (G.means p.5) (H.means p.6) (J.means p.7) };
 
     ghost errors = { λ p. PairErrors (A.means p.0) (A.errors p.0)
         (PairErrors (B.means p.1) (B.errors p.1) (PairErrors (C.means p.2) (C.errors p.2)
@@ -279,10 +292,13 @@ where
         (PairErrors (G.means p.5) (G.errors p.5) (PairErrors (H.means p.6) (H.errors p.6)
         (J.errors p.7))))))) };
 
-    ghost ready = { λ p. A.ready p.0 × B.ready p.1 × C.ready p.2 × D.ready p.3 × F.ready p.4 × G.ready p.5 × H.ready p.6 × J.ready p.7 };
+    ghost ready = { λ p. A.ready p.0 × B.ready p.1 × C.ready p.2 × D.ready p.3 × F.ready p.4
+        × G.ready p.5 × H.ready p.6 × J.ready p.7 };
 
-    ghost lawful = { λ p. IsParser-Row8 (A.means p.0) (B.means p.1) (C.means p.2) (D.means p.3) (F.means p.4) (G.means p.5) (H.means p.6) (J.means p.7)
-        (A.lawful p.0) (B.lawful p.1) (C.lawful p.2) (D.lawful p.3) (F.lawful p.4) (G.lawful p.5) (H.lawful p.6) (J.lawful p.7) };
+    ghost lawful = { λ p. IsParser-Row8 (A.means p.0) (B.means p.1) (C.means p.2) (D.means p.3)
+        (F.means p.4) (G.means p.5) (H.means p.6) (J.means p.7)
+        (A.lawful p.0) (B.lawful p.1) (C.lawful p.2) (D.lawful p.3) (F.lawful p.4) (G.lawful p.5)
+        (H.lawful p.6) (J.lawful p.7) };
 
     fn parse_next(&self, alloc: Global, input: &mut I) -> ModalResult<Self::Output, E> {
         let first = self.0.parse_next(alloc, input)?;
@@ -335,7 +351,8 @@ where
         K::Output,
     );
 
-    ghost means = { λ p. Row9 (A.means p.0) (B.means p.1) (C.means p.2) (D.means p.3) (F.means p.4) (G.means p.5) (H.means p.6) (J.means p.7) (K.means p.8) };
+    ghost means = { λ p. Row9 (A.means p.0) (B.means p.1) (C.means p.2) (D.means p.3) (F.means p.4)
+        (G.means p.5) (H.means p.6) (J.means p.7) (K.means p.8) };
 
     ghost errors = { λ p. PairErrors (A.means p.0) (A.errors p.0)
         (PairErrors (B.means p.1) (B.errors p.1) (PairErrors (C.means p.2) (C.errors p.2)
@@ -343,10 +360,13 @@ where
         (PairErrors (G.means p.5) (G.errors p.5) (PairErrors (H.means p.6) (H.errors p.6)
         (PairErrors (J.means p.7) (J.errors p.7) (K.errors p.8)))))))) };
 
-    ghost ready = { λ p. A.ready p.0 × B.ready p.1 × C.ready p.2 × D.ready p.3 × F.ready p.4 × G.ready p.5 × H.ready p.6 × J.ready p.7 × K.ready p.8 };
+    ghost ready = { λ p. A.ready p.0 × B.ready p.1 × C.ready p.2 × D.ready p.3 × F.ready p.4
+        × G.ready p.5 × H.ready p.6 × J.ready p.7 × K.ready p.8 };
 
-    ghost lawful = { λ p. IsParser-Row9 (A.means p.0) (B.means p.1) (C.means p.2) (D.means p.3) (F.means p.4) (G.means p.5) (H.means p.6) (J.means p.7) (K.means p.8)
-        (A.lawful p.0) (B.lawful p.1) (C.lawful p.2) (D.lawful p.3) (F.lawful p.4) (G.lawful p.5) (H.lawful p.6) (J.lawful p.7) (K.lawful p.8) };
+    ghost lawful = { λ p. IsParser-Row9 (A.means p.0) (B.means p.1) (C.means p.2) (D.means p.3)
+        (F.means p.4) (G.means p.5) (H.means p.6) (J.means p.7) (K.means p.8)
+        (A.lawful p.0) (B.lawful p.1) (C.lawful p.2) (D.lawful p.3) (F.lawful p.4) (G.lawful p.5)
+        (H.lawful p.6) (J.lawful p.7) (K.lawful p.8) };
 
     fn parse_next(&self, alloc: Global, input: &mut I) -> ModalResult<Self::Output, E> {
         let first = self.0.parse_next(alloc, input)?;
@@ -402,7 +422,8 @@ where
         L::Output,
     );
 
-    ghost means = { λ p. Row10 (A.means p.0) (B.means p.1) (C.means p.2) (D.means p.3) (F.means p.4) (G.means p.5) (H.means p.6) (J.means p.7) (K.means p.8) (L.means p.9) };
+    ghost means = { λ p. Row10 (A.means p.0) (B.means p.1) (C.means p.2) (D.means p.3) (F.means p.4)
+        (G.means p.5) (H.means p.6) (J.means p.7) (K.means p.8) (L.means p.9) };
 
     ghost errors = { λ p. PairErrors (A.means p.0) (A.errors p.0)
         (PairErrors (B.means p.1) (B.errors p.1) (PairErrors (C.means p.2) (C.errors p.2)
@@ -411,10 +432,13 @@ where
         (PairErrors (J.means p.7) (J.errors p.7) (PairErrors (K.means p.8) (K.errors p.8)
         (L.errors p.9))))))))) };
 
-    ghost ready = { λ p. A.ready p.0 × B.ready p.1 × C.ready p.2 × D.ready p.3 × F.ready p.4 × G.ready p.5 × H.ready p.6 × J.ready p.7 × K.ready p.8 × L.ready p.9 };
+    ghost ready = { λ p. A.ready p.0 × B.ready p.1 × C.ready p.2 × D.ready p.3 × F.ready p.4
+        × G.ready p.5 × H.ready p.6 × J.ready p.7 × K.ready p.8 × L.ready p.9 };
 
-    ghost lawful = { λ p. IsParser-Row10 (A.means p.0) (B.means p.1) (C.means p.2) (D.means p.3) (F.means p.4) (G.means p.5) (H.means p.6) (J.means p.7) (K.means p.8) (L.means p.9)
-        (A.lawful p.0) (B.lawful p.1) (C.lawful p.2) (D.lawful p.3) (F.lawful p.4) (G.lawful p.5) (H.lawful p.6) (J.lawful p.7) (K.lawful p.8) (L.lawful p.9) };
+    ghost lawful = { λ p. IsParser-Row10 (A.means p.0) (B.means p.1) (C.means p.2) (D.means p.3)
+        (F.means p.4) (G.means p.5) (H.means p.6) (J.means p.7) (K.means p.8) (L.means p.9)
+        (A.lawful p.0) (B.lawful p.1) (C.lawful p.2) (D.lawful p.3) (F.lawful p.4) (G.lawful p.5)
+        (H.lawful p.6) (J.lawful p.7) (K.lawful p.8) (L.lawful p.9) };
 
     fn parse_next(&self, alloc: Global, input: &mut I) -> ModalResult<Self::Output, E> {
         let first = self.0.parse_next(alloc, input)?;

@@ -9,7 +9,7 @@ use std::marker::PhantomData;
 use std::ops::Range;
 use winnow_stream::{Location, StreamIsPartial};
 
-/// The range that the inner parser takes; [`Parser::span`] makes it.
+/// A parser of the range that the inner parser takes; [`Parser::span`] makes it.
 #[derive(Drop)]
 #[derive_where(Clone, Copy; P)]
 pub struct Spanned<P, I, E> {
@@ -51,7 +51,8 @@ where
     }
 }
 
-/// The value, and the range that the inner parser takes; [`Parser::with_span`] makes it.
+/// A parser of the value and of the range that the inner parser takes; [`Parser::with_span`] makes
+/// it.
 #[derive(Drop)]
 #[derive_where(Clone, Copy; P)]
 pub struct WithSpan<P, I, E> {

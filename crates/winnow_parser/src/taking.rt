@@ -9,7 +9,7 @@ use std::alloc::Global;
 use std::marker::PhantomData;
 use winnow_stream::{Stream, StreamIsPartial};
 
-/// The slice that the inner parser takes; [`Parser::take`] makes it.
+/// A parser of the slice that the inner parser takes; [`Parser::take`] makes it.
 #[derive(Drop)]
 #[derive_where(Clone, Copy; P)]
 pub struct Taken<P, I, E> {
@@ -51,7 +51,8 @@ where
     }
 }
 
-/// The value, and the slice that the inner parser takes; [`Parser::with_taken`] makes it.
+/// A parser of the value and of the slice that the inner parser takes; [`Parser::with_taken`] makes
+/// it.
 #[derive(Drop)]
 #[derive_where(Clone, Copy; P)]
 pub struct WithTaken<P, I, E> {
@@ -90,7 +91,8 @@ impl<I: StreamIsPartial, E, P: Parser<I, E>> Parser<I, E> for WithTaken<P, I, E>
     }
 }
 
-// Returns the slice that was taken since a checkpoint. The stream stands where it stood.
+// Returns the slice that was taken since a checkpoint. Afterwards the stream stands where it stood
+// before.
 fn take_since<I: Stream>(input: &mut I, start: &I::Checkpoint) -> I::Slice
     requires valid { I.valid input.old }
     requires valid_checkpoint { I.valid_checkpoint start.now }

@@ -11,7 +11,7 @@ use winnow_error::ParserError;
 use winnow_parse_error::ParseError;
 use winnow_stream::{Stream, StreamIsPartial, taken_law};
 
-// Reads a whole input, after which nothing follows, also where its flag says that more may.
+// Reads a whole input. Nothing follows it, even where its flag says that more may.
 pub(crate) fn read_whole<I, E, P>(
     parser: &P,
     alloc: Global,
@@ -86,7 +86,7 @@ where
     }
 }
 
-// The error where a stream stopped that moved on from a checkpoint.
+// Returns the error for a stream that moved on from the checkpoint and stopped.
 fn stopped<I: Stream, E: ParserError<I>>(
     input: I,
     start: I::Checkpoint,

@@ -1,4 +1,4 @@
--- So many tokens.
+-- A number of tokens.
 use Rattle.std.specs.Prelude.{◌≡◌, ℕ, ◌-◌, ◌<◌, ◌≤◌, Bool, true, false, ◌++◌, length, take, IsTrue}
 use Rattle.std.proofs.Common.{ap, sym, ◌∙◌, subst, arith, length-append}
 use Rattle.std.proofs.lemmas.List.{take-append-le}
@@ -12,8 +12,8 @@ use Rattle.winnow_parser.specs.Laws.{longer, IsStable, IsFinal, IsOnward, IsPars
 use Rattle.winnow_parser.specs.Parts.{Moves-still}
 use Rattle.winnow_parser.specs.Taken.{after-longer}
 
--- the slice of the first n tokens; where fewer remain it needs those that are missing, as the stream tells them, if more may follow,
--- and backtracks if nothing may
+-- the slice of the first n tokens; where fewer remain, the parser needs the missing ones if more
+-- may follow, in the stream's own count, and backtracks if nothing may
 abbrev pub Counted : {S T : Type 0} → Bool → (S → Source T → ℕ → Type 0) → ℕ → Meaning S T
 Counted counts_missing is_slice n partial a (Gives s b) = let w = width (take n a.tokens) in
     (n ≤ length a.tokens) × IsTrue (is_offset a.tokens w) × is_slice s a.tokens w × (b ≡ after a w)
@@ -24,6 +24,7 @@ Counted counts_missing is_slice n partial a (Fails (Needs missing)) =
 Counted counts_missing is_slice n partial a (Fails Refuses) = ⊥
 
 module _ {S T : Type 0} (counts_missing : Bool) (is_slice : S → Source T → ℕ → Type 0) (stay : SlicesStay is_slice) (n : ℕ) where
+  -- a settled answer of `Counted` stays when more input follows
   counted-stable : IsStable (Counted counts_missing is_slice n)
   counted-stable more partial a (Gives s b) settled h =
       let w = width (take n a.tokens) in
@@ -38,9 +39,11 @@ module _ {S T : Type 0} (counts_missing : Bool) (is_slice : S → Source T → �
   counted-stable more partial a (Fails (Needs missing)) settled h = absurd settled
   counted-stable more partial a (Fails Refuses) settled h = absurd settled
 
+  -- `Counted` needs nothing more where nothing more may follow
   counted-final : IsFinal (Counted counts_missing is_slice n)
   counted-final a missing h = cc
 
+  -- `Counted` only moves the stream on
   counted-onward : IsOnward (Counted counts_missing is_slice n)
   counted-onward partial a (Gives s b) h =
       subst (Moves a) (sym h.3) (MovesOn-front a.location a.tokens (width (take n a.tokens)) h.1)
@@ -49,5 +52,6 @@ module _ {S T : Type 0} (counts_missing : Bool) (is_slice : S → Source T → �
   counted-onward partial a (Fails (Needs missing)) h = tt
   counted-onward partial a (Fails Refuses) h = tt
 
+  -- `Counted` keeps the laws of a parser
   pub IsParser-Counted : IsParser (Counted counts_missing is_slice n)
   IsParser-Counted = record { stable = counted-stable; final = counted-final; onward = counted-onward }

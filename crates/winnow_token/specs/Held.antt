@@ -1,4 +1,4 @@
--- The tokens up to the first that a set does not hold, as many as some counts allow.
+-- The tokens up to the first that a set does not hold, as many as the counts allow.
 use Rattle.std.specs.Prelude.{◌≡◌, ℕ, zero, ◌+◌, ◌-◌, ◌<◌, ◌≤◌, suc, nat_le, nat_lt, Bool, true, false, ◌&&◌, cond, ◌⊎◌, [], ◌∷◌, ◌++◌, length, take, Option, Some, None, IsTrue, IsFalse}
 use Rattle.std.proofs.Common.{refl, ap, sym, ◌∙◌, subst, inl, inr, arith, length-append}
 use Rattle.std.proofs.lemmas.Bool.Decides.{nat_tests, eqb_tells}
@@ -14,12 +14,12 @@ use Rattle.winnow_parser.specs.Laws.{longer, IsStable, IsFinal, IsOnward, IsPars
 use Rattle.winnow_parser.specs.Parts.{Moves-still}
 use Rattle.winnow_parser.specs.Taken.{after-longer}
 
--- the first tokens, no more than the greatest count, if there is one
+-- the first tokens, up to the greatest count, if there is one
 abbrev pub up_to : {T : Type 0} → Option ℕ → Source T → Source T
 up_to None r = r
 up_to (Some greatest) r = take greatest r
 
--- the longest front whose tokens a set holds, of no more tokens than the greatest count
+-- the longest front whose tokens a set holds, with at most the greatest count of tokens
 abbrev pub held_within : {T : Type 0} → Option ℕ → (T → Bool) → Source T → Source T
 held_within greatest holds r = up_to greatest (held_front holds r)
 
@@ -28,14 +28,17 @@ abbrev pub is_below : Option ℕ → ℕ → Bool
 is_below None n = true
 is_below (Some greatest) n = nat_lt n greatest
 
--- more input may lengthen the front: it ends where the input does, and the greatest count is not reached
+-- more input may lengthen the front: it ends where the input does, and the greatest count is not
+-- reached
 abbrev pub may_grow : {T : Type 0} → Option ℕ → Source T → Source T → Bool
 may_grow greatest front all = nat_le (length all) (length front) && is_below greatest (length front)
 
--- the slice of the longest front whose tokens a set holds, of no more tokens than the greatest count, if they are no fewer than the
--- least; where more may follow that may lengthen the front, one more token is needed. No number of tokens is allowed where the least
--- count is above the greatest: then it cuts at once
-abbrev pub HeldFront : {S T : Type 0} → (S → Source T → ℕ → Type 0) → (T → Bool) → ℕ → Option ℕ → Meaning S T
+-- the slice of the longest front whose tokens a set holds, with at most the greatest count of
+-- tokens, if it has at least the least count; where more input may lengthen the front, one more
+-- token is needed. Where the least count is above the greatest, no number of tokens is allowed, and
+-- the parser cuts at once
+abbrev pub HeldFront : {S T : Type 0} → (S → Source T → ℕ → Type 0) → (T → Bool) → ℕ → Option ℕ
+    → Meaning S T
 HeldFront is_slice holds least greatest partial a (Gives s b) = let held = held_within greatest holds a.tokens in
     is_slice s a.tokens (width held) × (b ≡ after a (width held)) × (least ≤ length held) × IsFalse (partial && may_grow greatest held a.tokens)
 HeldFront is_slice holds least greatest partial a (Fails (Backtracks b)) = let held = held_within greatest holds a.tokens in
@@ -45,66 +48,93 @@ HeldFront is_slice holds least greatest partial a (Fails (Needs n)) = let held =
     (n ≡ needed 1) × IsTrue (is_up_to greatest least) × IsTrue (partial && may_grow greatest held a.tokens)
 HeldFront is_slice holds least greatest partial a (Fails Refuses) = ⊥
 
--- the front of this width is the one that `HeldFront` speaks of; whether it has enough tokens, and whether more input may lengthen it
+-- the front of this width is the one of `HeldFront`, with whether it has enough tokens and whether
+-- more input may lengthen it
 pub record IsFound {T : Type 0} (holds : T → Bool) (least : ℕ) (greatest : Option ℕ) (r : Source T) (end : ℕ) (enough grows : Bool) : Type 0 where
   pub held : front r end ≡ held_within greatest holds r
   pub has_enough : enough ≡ nat_le least (length (front r end))
   pub can_grow : grows ≡ may_grow greatest (front r end) r
 
--- ---- A front that ends within what stands ahead, or at the greatest count, stays what it is
+-- ---- A front that ends before the input does, or at the greatest count, stays when more follows
 
--- the count is the greatest
+-- the greatest count is reached
 abbrev IsReached : Option ℕ → ℕ → Type 0
 IsReached None n = ⊥
 IsReached (Some greatest) n = greatest ≤ n
 
+-- the front ends before the input does, or at the greatest count
 abbrev EndsWithin : {T : Type 0} → Option ℕ → Source T → Source T → Type 0
 EndsWithin greatest front all = (length front < length all) ⊎ IsReached greatest (length front)
 
-ends_within : {T : Type 0} (greatest : Option ℕ) (front all : Source T) → may_grow greatest front all ≡ false → EndsWithin greatest front all
+-- a front that more input cannot lengthen ends before the input does, or at the greatest count
+ends_within : {T : Type 0} (greatest : Option ℕ) (front all : Source T)
+    → may_grow greatest front all ≡ false → EndsWithin greatest front all
 ends_within None front all h = inl (grind (arith, nat_tests, h))
 ends_within (Some n) front all h = grind (arith, nat_tests, h)
 
-ends_within-back : {T : Type 0} (greatest : Option ℕ) (front all : Source T) → EndsWithin greatest front all → may_grow greatest front all ≡ false
+-- the converse of `ends_within`
+ends_within-back : {T : Type 0} (greatest : Option ℕ) (front all : Source T)
+    → EndsWithin greatest front all → may_grow greatest front all ≡ false
 ends_within-back None front all (inl h) = grind (arith, nat_tests, h)
 ends_within-back None front all (inr h) = absurd h
 ends_within-back (Some n) front all h = grind (arith, nat_tests, h)
 
+-- a conjunction with a false part is false
 and-false : (b c : Bool) → c ≡ false → (b && c) ≡ false
 and-false true c h = h
 and-false false c h = refl
 
 module _ {T : Type 0} (holds : T → Bool) where
-  held-step : (b : Bool) (x : T × ℕ) (front longer : Source T) (n : ℕ) → (length front < n → longer ≡ front) → length (cond b (x ∷ front) []) < suc n → cond b (x ∷ longer) [] ≡ cond b (x ∷ front) []
+  -- one step of `held_front-longer`
+  held-step : (b : Bool) (x : T × ℕ) (front longer : Source T) (n : ℕ)
+      → (length front < n → longer ≡ front) → length (cond b (x ∷ front) []) < suc n
+      → cond b (x ∷ longer) [] ≡ cond b (x ∷ front) []
   held-step true x front longer n e h = ap (λ r. x ∷ r) (e (omega (arith, h)))
   held-step false x front longer n e h = refl
 
-  held_front-longer : (r more : Source T) → length (held_front holds r) < length r → held_front holds (r ++ more) ≡ held_front holds r
+  -- a front that ends before the input does is the same when more follows
+  held_front-longer : (r more : Source T) → length (held_front holds r) < length r
+      → held_front holds (r ++ more) ≡ held_front holds r
   held_front-longer [] more h = absurd (omega (arith, h))
   held_front-longer (x ∷ xs) more h = held-step (holds x.0) x (held_front holds xs) (held_front holds (xs ++ more)) (length xs) (held_front-longer xs more) h
 
-  cut-step : (b : Bool) (x : T × ℕ) (front longer : Source T) (g n : ℕ) → ((length (take g front) < n) ⊎ (g ≤ length (take g front)) → take g longer ≡ take g front) → (length (take (suc g) (cond b (x ∷ front) [])) < suc n) ⊎ (suc g ≤ length (take (suc g) (cond b (x ∷ front) []))) → take (suc g) (cond b (x ∷ longer) []) ≡ take (suc g) (cond b (x ∷ front) [])
+  -- one step of `cut_front-longer`
+  cut-step : (b : Bool) (x : T × ℕ) (front longer : Source T) (g n : ℕ)
+      → ((length (take g front) < n) ⊎ (g ≤ length (take g front)) → take g longer ≡ take g front)
+      → (length (take (suc g) (cond b (x ∷ front) [])) < suc n)
+      ⊎ (suc g ≤ length (take (suc g) (cond b (x ∷ front) [])))
+      → take (suc g) (cond b (x ∷ longer) []) ≡ take (suc g) (cond b (x ∷ front) [])
   cut-step true x front longer g n e (inl h) = ap (λ r. x ∷ r) (e (inl (omega (arith, h))))
   cut-step true x front longer g n e (inr h) = ap (λ r. x ∷ r) (e (inr (omega (arith, h))))
   cut-step false x front longer g n e h = refl
 
-  cut_front-longer : (g : ℕ) (r more : Source T) → (length (take g (held_front holds r)) < length r) ⊎ (g ≤ length (take g (held_front holds r))) → take g (held_front holds (r ++ more)) ≡ take g (held_front holds r)
+  -- the same for a front that a greatest count cuts off
+  cut_front-longer : (g : ℕ) (r more : Source T)
+      → (length (take g (held_front holds r)) < length r)
+      ⊎ (g ≤ length (take g (held_front holds r)))
+      → take g (held_front holds (r ++ more)) ≡ take g (held_front holds r)
   cut_front-longer zero r more h = refl
   cut_front-longer (suc g) [] more (inl h) = absurd (omega (arith, h))
   cut_front-longer (suc g) [] more (inr h) = absurd (omega (arith, h))
   cut_front-longer (suc g) (x ∷ xs) more h = cut-step (holds x.0) x (held_front holds xs) (held_front holds (xs ++ more)) g (length xs) (cut_front-longer g xs more) h
 
-  within-longer : (greatest : Option ℕ) (r more : Source T) → EndsWithin greatest (held_within greatest holds r) r → held_within greatest holds (r ++ more) ≡ held_within greatest holds r
+  -- the same, whether there is a greatest count or not
+  within-longer : (greatest : Option ℕ) (r more : Source T)
+      → EndsWithin greatest (held_within greatest holds r) r
+      → held_within greatest holds (r ++ more) ≡ held_within greatest holds r
   within-longer None r more (inl h) = held_front-longer r more h
   within-longer None r more (inr h) = absurd h
   within-longer (Some g) r more h = cut_front-longer g r more h
 
-  ends-longer : (greatest : Option ℕ) (front r more : Source T) → EndsWithin greatest front r → EndsWithin greatest front (r ++ more)
+  -- a front that ends before the input does, or at the greatest count, still does when more follows
+  ends-longer : (greatest : Option ℕ) (front r more : Source T) → EndsWithin greatest front r
+      → EndsWithin greatest front (r ++ more)
   ends-longer greatest front r more (inl h) = inl (omega (arith, h, length-append r more))
   ends-longer greatest front r more (inr h) = inr h
 
-  -- its width is an offset
-  offset-step : (b : Bool) (x : T × ℕ) (xs front : Source T) → is_offset xs (width front) ≡ true → is_offset (x ∷ xs) (width (cond b (x ∷ front) [])) ≡ true
+  -- one step of `is_offset-held`
+  offset-step : (b : Bool) (x : T × ℕ) (xs front : Source T) → is_offset xs (width front) ≡ true
+      → is_offset (x ∷ xs) (width (cond b (x ∷ front) [])) ≡ true
   offset-step true x xs front h =
       let w : ℕ = width front in
       let d : (x.1 + w) - x.1 ≡ w = omega arith in
@@ -116,26 +146,37 @@ module _ {T : Type 0} (holds : T → Bool) where
       ]
   offset-step false x xs front h = refl
 
+  -- the width of the longest held front is an offset
   is_offset-held : (r : Source T) → is_offset r (width (held_front holds r)) ≡ true
   is_offset-held [] = refl
   is_offset-held (x ∷ xs) = offset-step (holds x.0) x xs (held_front holds xs) (is_offset-held xs)
 
-  offset-cut : (b : Bool) (x : T × ℕ) (xs front : Source T) (g : ℕ) → is_offset xs (width (take g front)) ≡ true → is_offset (x ∷ xs) (width (take (suc g) (cond b (x ∷ front) []))) ≡ true
+  -- one step of `is_offset-cut`
+  offset-cut : (b : Bool) (x : T × ℕ) (xs front : Source T) (g : ℕ)
+      → is_offset xs (width (take g front)) ≡ true
+      → is_offset (x ∷ xs) (width (take (suc g) (cond b (x ∷ front) []))) ≡ true
   offset-cut true x xs front g h = offset-step true x xs (take g front) h
   offset-cut false x xs front g h = refl
 
+  -- the width of that front is an offset, too, where a greatest count cuts it off
   is_offset-cut : (g : ℕ) (r : Source T) → is_offset r (width (take g (held_front holds r))) ≡ true
   is_offset-cut zero [] = refl
   is_offset-cut zero (x ∷ xs) = refl
   is_offset-cut (suc g) [] = refl
   is_offset-cut (suc g) (x ∷ xs) = offset-cut (holds x.0) x xs (held_front holds xs) g (is_offset-cut g xs)
 
-  pub is_offset-within : (greatest : Option ℕ) (r : Source T) → is_offset r (width (held_within greatest holds r)) ≡ true
+  -- the width of the front of `HeldFront` is an offset
+  pub is_offset-within : (greatest : Option ℕ) (r : Source T)
+      → is_offset r (width (held_within greatest holds r)) ≡ true
   is_offset-within None r = is_offset-held r
   is_offset-within (Some g) r = is_offset-cut g r
 
-  -- the front, and that no more input lengthens it, both once more has come
-  pub within-stays : (greatest : Option ℕ) (r more : Source T) → may_grow greatest (held_within greatest holds r) r ≡ false → (held_within greatest holds (r ++ more) ≡ held_within greatest holds r) × (may_grow greatest (held_within greatest holds (r ++ more)) (r ++ more) ≡ false)
+  -- a front that more input cannot lengthen stays the same when more follows, and more input still
+  -- cannot lengthen it
+  pub within-stays : (greatest : Option ℕ) (r more : Source T)
+      → may_grow greatest (held_within greatest holds r) r ≡ false
+      → (held_within greatest holds (r ++ more) ≡ held_within greatest holds r)
+      × (may_grow greatest (held_within greatest holds (r ++ more)) (r ++ more) ≡ false)
   within-stays greatest r more h =
       let held = held_within greatest holds r in
       let ends = ends_within greatest held r h in
@@ -145,6 +186,7 @@ module _ {T : Type 0} (holds : T → Bool) where
 -- ---- The laws
 
 module _ {S T : Type 0} (is_slice : S → Source T → ℕ → Type 0) (stay : SlicesStay is_slice) (holds : T → Bool) (least : ℕ) (greatest : Option ℕ) where
+  -- a settled answer of `HeldFront` stays when more input follows
   held-stable : IsStable (HeldFront is_slice holds least greatest)
   held-stable more partial a (Gives s b) settled h =
       let held = held_within greatest holds a.tokens in
@@ -163,9 +205,11 @@ module _ {S T : Type 0} (is_slice : S → Source T → ℕ → Type 0) (stay : S
   held-stable more partial a (Fails (Needs n)) settled h = absurd settled
   held-stable more partial a (Fails Refuses) settled h = absurd settled
 
+  -- `HeldFront` needs nothing more where nothing more may follow
   held-final : IsFinal (HeldFront is_slice holds least greatest)
   held-final a n h = let e = h.2 in cc
 
+  -- `HeldFront` only moves the stream on
   held-onward : IsOnward (HeldFront is_slice holds least greatest)
   held-onward partial a (Gives s b) h =
       subst (Moves a) (sym h.1) (MovesOn-front a.location a.tokens (width (held_within greatest holds a.tokens)) (is_offset-within holds greatest a.tokens))
@@ -174,5 +218,6 @@ module _ {S T : Type 0} (is_slice : S → Source T → ℕ → Type 0) (stay : S
   held-onward partial a (Fails (Needs n)) h = tt
   held-onward partial a (Fails Refuses) h = tt
 
+  -- `HeldFront` keeps the laws of a parser
   pub IsParser-HeldFront : IsParser (HeldFront is_slice holds least greatest)
   IsParser-HeldFront = record { stable = held-stable; final = held-final; onward = held-onward }

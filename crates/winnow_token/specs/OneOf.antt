@@ -11,11 +11,12 @@ use Rattle.winnow_parser.specs.Outcome.{Ahead, Backtracks, Cuts, Needs, Refuses,
 use Rattle.winnow_parser.specs.Laws.{longer, IsStable, IsFinal, IsOnward, IsParser}
 use Rattle.winnow_parser.specs.Parts.{Moves-still}
 
--- after one token
+-- the place after one token
 abbrev pub after_one : {T : Type 0} → Ahead T → Ahead T
 after_one a = record { location = location_behind a.location (width (take 1 a.tokens)); tokens = drop 1 a.tokens }
 
--- the first token, if the set holds it; at the end it needs one more where more may follow, and backtracks where nothing may
+-- the first token, if the set holds it; at the end the parser needs one more where more may follow,
+-- and backtracks where nothing may
 abbrev pub OneOf : {T : Type 0} → (T → Bool) → Meaning T T
 OneOf holds partial a (Gives x b) = (first_token a.tokens ≡ Some x) × (holds x ≡ true) × (b ≡ after_one a)
 OneOf holds partial a (Fails (Backtracks b)) =
@@ -25,24 +26,32 @@ OneOf holds partial a (Fails (Needs n)) = (a.tokens ≡ []) × (partial ≡ true
 OneOf holds partial a (Fails Refuses) = ⊥
 
 module _ {T : Type 0} where
-  first-longer : (r more : Source T) (x : T) → first_token r ≡ Some x → (first_token (r ++ more) ≡ Some x) × (1 ≤ length r)
+  -- the first token stays the first when more follows
+  first-longer : (r more : Source T) (x : T) → first_token r ≡ Some x
+      → (first_token (r ++ more) ≡ Some x) × (1 ≤ length r)
   first-longer [] more x e = absurd (none-some _ e)
   first-longer (y ∷ ys) more x e = (e, omega arith)
 
-  after_one-longer : (more : Source T) (a : Ahead T) → 1 ≤ length a.tokens → longer more (after_one a) ≡ after_one (longer more a)
+  -- the place after one token stays the same when more follows
+  after_one-longer : (more : Source T) (a : Ahead T) → 1 ≤ length a.tokens
+      → longer more (after_one a) ≡ after_one (longer more a)
   after_one-longer more a l =
       ap (λ r. record { location = location_behind a.location (width (take 1 a.tokens)); tokens = r }) (sym (drop-append-le 1 a.tokens more l))
       ∙ ap (λ front. record { location = location_behind a.location (width front); tokens = drop 1 (a.tokens ++ more) }) (sym (take-append-le 1 a.tokens more l))
 
 module _ {T : Type 0} (holds : T → Bool) where
-  refused-longer : (r more : Source T) → r ≢ [] → IfSome (first_token r) (λ x. holds x ≡ false) → IfSome (first_token (r ++ more)) (λ x. holds x ≡ false)
+  -- a first token that the set does not hold stays the first when more follows
+  refused-longer : (r more : Source T) → r ≢ [] → IfSome (first_token r) (λ x. holds x ≡ false)
+      → IfSome (first_token (r ++ more)) (λ x. holds x ≡ false)
   refused-longer [] more n h = absurd (n refl)
   refused-longer (x ∷ xs) more n h = h
 
+  -- input that is not empty is not empty when more follows
   some-longer : (r more : Source T) → r ≢ [] → r ++ more ≢ []
   some-longer [] more n = absurd (n refl)
   some-longer (x ∷ xs) more n = λ e. cc
 
+  -- a settled answer of `OneOf` stays when more input follows
   one_of-stable : IsStable (OneOf holds)
   one_of-stable more partial a (Gives x b) s h =
       let first = first-longer a.tokens more x h.0 in
@@ -53,9 +62,11 @@ module _ {T : Type 0} (holds : T → Bool) where
   one_of-stable more partial a (Fails (Needs n)) s h = absurd s
   one_of-stable more partial a (Fails Refuses) s h = absurd s
 
+  -- `OneOf` needs nothing more where nothing more may follow
   one_of-final : IsFinal (OneOf holds)
   one_of-final a n h = cc
 
+  -- `OneOf` only moves the stream on
   one_of-onward : IsOnward (OneOf holds)
   one_of-onward partial a (Gives x b) h = subst (Moves a) (sym h.2) (MovesOn-token a.location a.tokens)
   one_of-onward partial a (Fails (Backtracks b)) h = Moves-still a b (sym h.2)
@@ -63,5 +74,6 @@ module _ {T : Type 0} (holds : T → Bool) where
   one_of-onward partial a (Fails (Needs n)) h = tt
   one_of-onward partial a (Fails Refuses) h = tt
 
+  -- `OneOf` keeps the laws of a parser
   pub IsParser-OneOf : IsParser (OneOf holds)
   IsParser-OneOf = record { stable = one_of-stable; final = one_of-final; onward = one_of-onward }

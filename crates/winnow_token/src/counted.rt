@@ -7,7 +7,7 @@ use winnow_error::ParserError;
 use winnow_parser::{Failure, ModalResult, Parser};
 use winnow_stream::{StreamIsPartial, offset_law};
 
-/// As many tokens as `count` says; [`take`] makes it.
+/// A parser of `count` tokens; [`take`] makes it.
 #[derive(Clone, Copy, Debug, Drop)]
 pub struct Counted {
     count: usize,
@@ -31,6 +31,7 @@ impl<I: StreamIsPartial, E: ParserError<I>> Parser<I, E> for Counted {
 
     ghost lawful = { λ p. IsParser-Counted I.counts_missing I.is_slice I.slices_stay p.count };
 
+    #[inline(always)]
     fn parse_next(&self, alloc: Global, input: &mut I) -> ModalResult<I::Slice, E> {
         offset_law::<I::Token>();
         match input.offset_at(self.count) {

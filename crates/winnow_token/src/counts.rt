@@ -1,4 +1,4 @@
-//! What parsers of tokens ask of counts, and of how many tokens a front has.
+//! Tests of counts, and of the number of tokens in a front.
 
 ghost use Rattle.std.specs.Prelude.{◌≡◌, ◌≤◌, ◌↔◌, IsTrue, length};
 ghost use Rattle.winnow_stream.specs.Front.{is_offset, front};
@@ -8,7 +8,7 @@ ghost use Rattle.winnow_token.specs.Until.{has_counts};
 use winnow_count::Range;
 use winnow_stream::Stream;
 
-// What is wrong with counts of which the least is above the greatest.
+// The message for counts whose least is above the greatest.
 pub(crate) const NO_COUNT: &str = "the least count must not be above the greatest";
 
 // Returns whether the counts allow some number of tokens.
@@ -45,7 +45,7 @@ fn has_no_more<I: Stream>(input: &I, end: usize, greatest: usize) -> bool
     }
 }
 
-// Returns whether the front of this width has as many tokens as the counts allow.
+// Returns whether the front of this width has a number of tokens that the counts allow.
 pub(crate) fn has_counts<I: Stream>(input: &I, end: usize, counts: &Range) -> bool
     requires valid { I.valid input.now }
     requires offset { IsTrue (is_offset (I.remaining input.now) end) }

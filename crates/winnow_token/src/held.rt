@@ -15,15 +15,16 @@ use winnow_parser::{Failure, ModalResult, Parser};
 use winnow_sets::FixedSet;
 use winnow_stream::{Needed, Stream, StreamIsPartial};
 
-/// The tokens that a set holds; [`take_while`] makes it.
+/// A parser of the tokens that a set holds; [`take_while`] makes it.
 #[derive(Clone, Copy, Debug, Drop)]
 pub struct HeldTokens<C> {
     counts: Range,
     set: C,
 }
 
-/// Returns the parser of the tokens up to the first that the set does not hold, as many as the counts allow: a number or a range
-/// of them. Where the least count is above the greatest, the parser cuts.
+/// Returns the parser of the tokens up to the first that the set does not hold, as many as the
+/// counts allow: a number or a range of numbers. Where the least count is above the greatest, the
+/// parser cuts.
 pub fn take_while<N: Into<Range>, C>(counts: N, set: C) -> HeldTokens<C>
     ensures counts { N.converts counts result.counts }
     ensures set { result.set ≡ set }
@@ -47,7 +48,6 @@ impl<I: StreamIsPartial, E: ParserError<I>, C: FixedSet<I::Token>> Parser<I, E> 
     ghost lawful = { λ p. IsParser-HeldFront I.is_slice I.slices_stay
         (C.holds p.set) (least_count p.counts) (greatest_count p.counts) };
 
-    // Inlined: a short front is found in less time than its answer takes through memory.
     #[inline(always)]
     fn parse_next(&self, alloc: Global, input: &mut I) -> ModalResult<I::Slice, E> {
         let counts = &self.counts;
@@ -55,15 +55,16 @@ impl<I: StreamIsPartial, E: ParserError<I>, C: FixedSet<I::Token>> Parser<I, E> 
     }
 }
 
-/// The tokens that a set does not hold; [`take_till`] makes it.
+/// A parser of the tokens that a set does not hold; [`take_till`] makes it.
 #[derive(Clone, Copy, Debug, Drop)]
 pub struct OtherTokens<C> {
     counts: Range,
     set: C,
 }
 
-/// Returns the parser of the tokens up to the first that the set holds, as many as the counts allow: a number or a range of them.
-/// Where the least count is above the greatest, the parser cuts.
+/// Returns the parser of the tokens up to the first that the set holds, as many as the counts
+/// allow: a number or a range of numbers. Where the least count is above the greatest, the parser
+/// cuts.
 pub fn take_till<N: Into<Range>, C>(counts: N, set: C) -> OtherTokens<C>
     ensures counts { N.converts counts result.counts }
     ensures set { result.set ≡ set }
@@ -87,7 +88,6 @@ impl<I: StreamIsPartial, E: ParserError<I>, C: FixedSet<I::Token>> Parser<I, E> 
     ghost lawful = { λ p. IsParser-HeldFront I.is_slice I.slices_stay
         (λ token. not (C.holds p.set token)) (least_count p.counts) (greatest_count p.counts) };
 
-    // Inlined: a short front is found in less time than its answer takes through memory.
     #[inline(always)]
     fn parse_next(&self, alloc: Global, input: &mut I) -> ModalResult<I::Slice, E> {
         let counts = &self.counts;
@@ -95,7 +95,8 @@ impl<I: StreamIsPartial, E: ParserError<I>, C: FixedSet<I::Token>> Parser<I, E> 
     }
 }
 
-// A front that was found: its width, whether it has the least number of tokens, and whether more input may lengthen it.
+// A front that was found: its width, whether it has the least number of tokens, and whether more
+// input may lengthen it.
 struct Found {
     end: usize,
     enough: bool,
@@ -103,6 +104,8 @@ struct Found {
 }
 
 // Takes the longest front whose tokens the test holds of, as many as the counts allow.
+// Inlined: a short front is found in less time than its slice takes through memory.
+#[inline(always)]
 fn take_front<I: StreamIsPartial, E: ParserError<I>, P: Fn(I::Token) -> bool + Drop>(
     alloc: Global,
     input: &mut I,
@@ -133,7 +136,8 @@ fn take_front<I: StreamIsPartial, E: ParserError<I>, P: Fn(I::Token) -> bool + D
     take_found(alloc, input, found)
 }
 
-// Takes the front that was found, if it has enough tokens, and nothing that may follow lengthens it.
+// Takes the front that was found, if it has enough tokens and no more input lengthens it.
+#[inline(always)]
 fn take_found<I: StreamIsPartial, E: ParserError<I>>(
     alloc: Global,
     input: &mut I,
@@ -162,7 +166,7 @@ fn take_found<I: StreamIsPartial, E: ParserError<I>>(
     Ok(input.next_slice(end))
 }
 
-// Finds the longest front whose tokens the test holds of.
+// Finds the longest front whose tokens all pass the test.
 fn longest<I: Stream, P: Fn(I::Token) -> bool + Drop>(input: &I, least: usize, held: P) -> Found
     requires valid { I.valid input.now }
     requires callable { P.IsAlwaysCallable held }
@@ -201,7 +205,8 @@ fn longest_within<I: Stream, P: Fn(I::Token) -> bool + Drop>(
     }
 }
 
-// Counts the tokens of that front, and measures its width, in one pass that ends with the token after it.
+// Returns the number of tokens of that front and its width, in one pass that ends with the token
+// after it.
 fn count_held<I: Stream, P: Fn(I::Token) -> bool + Drop>(
     input: &I,
     greatest: usize,

@@ -1,4 +1,5 @@
-ghost use Rattle.std.specs.Prelude.{◌≡◌, ℕ, ◌≤◌, ◌↔◌, Bool, Option, IsTrue, List, [], ◌∷◌, length, take};
+ghost use Rattle.std.specs.Prelude.{◌≡◌, ℕ, ◌≤◌, ◌↔◌, Bool, Option, IsTrue, List, [], ◌∷◌, length};
+ghost use Rattle.std.specs.Prelude.{take};
 ghost use Rattle.std.specs.declared.ops.Range.{Range};
 ghost use Rattle.winnow_stream.specs.Source.{Source, width, HasPositiveWidths};
 ghost use Rattle.winnow_stream.specs.Front.{is_offset, front};
@@ -16,8 +17,9 @@ ghost use Rattle.winnow_token.specs.Prompt.{IsPrompt};
 
 use winnow_stream::Stream;
 
-/// The law of counts: how many tokens a front has, by its width. It has no fewer than n exactly where n tokens remain that are no wider;
-/// and it has all of them exactly where its width is the whole width. It does nothing when called: its contract is the law.
+/// The law of counts: the width of a front says how many tokens it has. It has at least n exactly
+/// where n tokens remain and are no wider than it. It has all that remain exactly where its width
+/// is the whole width. It does nothing when called: its contract is the law.
 pub fn count_law<T>()
     ensures enough { (r : Source T) (n w : ℕ) → HasPositiveWidths r → IsTrue (is_offset r w)
         → ((n ≤ length r) × (width (take n r) ≤ w)) ↔ (n ≤ length (front r w)) }
@@ -25,10 +27,11 @@ pub fn count_law<T>()
         → (w ≡ width r) ↔ (length (front r w) ≡ length r) }
 {}
 
-/// The law of hits: where one needle, or one of several needles of one length, is found in bytes or in a text, it is found at the same
-/// place when more follows. So [`take_until`](crate::take_until) may be asked on a stream that more may follow, of a byte, a character, a
-/// slice of bytes or a text. Of needles of several lengths a longer one may still come to stand before the hit. It does nothing when called:
-/// its contract is the law.
+/// The law of hits: where a search for one needle, or for several needles of one length, finds one
+/// in bytes or in a text, it finds the same place when more follows. So
+/// [`take_until`](crate::take_until) may search for a byte, a character, a slice of bytes or a text
+/// where more may follow. With needles of several lengths a longer one may still turn out to stand
+/// before the hit. It does nothing when called: its contract is the law.
 pub fn hits_stay_law()
     ensures in_bytes { (needle : List ℕ) → HitsStay (λ r. hit (needle ∷ []) (bytes_of r)) }
     ensures in_text { (needle : List ℕ) → HitsStay (λ r. hit (needle ∷ []) (utf8_of r)) }
@@ -39,7 +42,7 @@ pub fn hits_stay_law()
 {}
 
 /// The law of what is needed: where a parser of one token, of n tokens, or of those in a set needs
-/// k tokens more, it answers nothing else before k have come. It does nothing when called: its
+/// k more tokens, it has no settled answer before k have come. It does nothing when called: its
 /// contract is the law.
 pub fn prompt_law<I: Stream>()
     ensures one { (holds : I.Token → Bool) → IsPrompt (OneOf holds) }
@@ -48,8 +51,9 @@ pub fn prompt_law<I: Stream>()
         → IsPrompt (HeldFront I.is_slice holds least greatest) }
 {}
 
-/// The laws of parsers of tokens that have one answer: the token is one, and so is the slice for a view that shows the same of all slices of
-/// one front, or of one whole, and the width of what remains. It does nothing when called: its contract is the law.
+/// The laws of one answer for parsers of tokens: there is one token, one width of what remains, and
+/// one slice, for a view that shows the same of all slices of one front (of one whole, for
+/// [`rest`](crate::rest)). It does nothing when called: its contract is the law.
 pub fn determined_token_law<I: Stream, V>()
     ensures one { (holds : I.Token → Bool) → IsDetermined (λ x y. x ≡ y) (OneOf holds) }
     ensures counted { (view : I.Slice → V) (n : ℕ) → SlicesRespect I.is_slice (Shows view)

@@ -8,7 +8,7 @@ use winnow_parser::{Failure, ModalResult, Parser};
 use winnow_sets::FixedSet;
 use winnow_stream::{Needed, StreamIsPartial};
 
-/// One token, whichever it is; [`any`] makes it.
+/// A parser of one token, whichever it is; [`any`] makes it.
 #[derive(Clone, Copy, Debug)]
 pub struct AnyToken;
 
@@ -28,6 +28,7 @@ impl<I: StreamIsPartial, E: ParserError<I>> Parser<I, E> for AnyToken {
 
     ghost lawful = { λ _. IsParser-OneOf (λ _. true) };
 
+    #[inline(always)]
     fn parse_next(&self, alloc: Global, input: &mut I) -> ModalResult<I::Token, E> {
         match input.next_token() {
             Some(token) => Ok(token),
@@ -37,7 +38,7 @@ impl<I: StreamIsPartial, E: ParserError<I>> Parser<I, E> for AnyToken {
     }
 }
 
-/// One token that a set holds; [`one_of`] makes it.
+/// A parser of one token that a set holds; [`one_of`] makes it.
 #[derive(Clone, Copy, Debug, Drop)]
 pub struct OneOf<C> {
     set: C,
@@ -64,6 +65,7 @@ where
 
     ghost lawful = { λ p. IsParser-OneOf (C.holds p.set) };
 
+    #[inline(always)]
     fn parse_next(&self, alloc: Global, input: &mut I) -> ModalResult<I::Token, E> {
         match input.peek_token() {
             Some(token) => {
@@ -79,7 +81,7 @@ where
     }
 }
 
-/// One token that a set does not hold; [`none_of`] makes it.
+/// A parser of one token that a set does not hold; [`none_of`] makes it.
 #[derive(Clone, Copy, Debug, Drop)]
 pub struct NoneOf<C> {
     set: C,
@@ -106,6 +108,7 @@ where
 
     ghost lawful = { λ p. IsParser-OneOf (λ token. not (C.holds p.set token)) };
 
+    #[inline(always)]
     fn parse_next(&self, alloc: Global, input: &mut I) -> ModalResult<I::Token, E> {
         match input.peek_token() {
             Some(token) => {

@@ -6,11 +6,12 @@ use std::alloc::Global;
 use winnow_parser::{Failure, ModalResult, Parser};
 use winnow_stream::{Needed, StreamIsPartial};
 
-/// All that remains; [`rest`] makes it.
+/// A parser of all that remains; [`rest`] makes it.
 #[derive(Clone, Copy, Debug)]
 pub struct Remaining;
 
-/// Returns the parser of the slice of all that remains. Where more may follow it needs more, and only the end lets it answer.
+/// Returns the parser of the slice of all that remains. Where more may follow it needs more, so it
+/// gives a value only at the end of the input.
 pub fn rest() -> Remaining {
     Remaining
 }
@@ -34,11 +35,12 @@ impl<I: StreamIsPartial, E> Parser<I, E> for Remaining {
     }
 }
 
-/// The width of all that remains; [`rest_len`] makes it.
+/// A parser of the width of all that remains; [`rest_len`] makes it.
 #[derive(Clone, Copy, Debug)]
 pub struct RemainingWidth;
 
-/// Returns the parser of the width of all that remains, which takes nothing. Where more may follow it needs more.
+/// Returns the parser of the width of all that remains. It takes nothing, and needs more where more
+/// may follow.
 pub fn rest_len() -> RemainingWidth {
     RemainingWidth
 }

@@ -11,17 +11,19 @@ use winnow_match::FindSlice;
 use winnow_parser::{Failure, ModalResult, Parser};
 use winnow_stream::{Needed, StreamIsPartial};
 
-/// The tokens before a literal; [`take_until`] makes it.
+/// A parser of the tokens before a literal; [`take_until`] makes it.
 #[derive(Clone, Copy, Debug, Drop)]
 pub struct TokensBefore<T> {
     counts: Range,
     literal: T,
 }
 
-/// Returns the parser of the tokens before the first place at which the literal stands, as many as the counts allow: a number or a
-/// range of them. The literal itself is not taken. Where the least count is above the greatest, the parser cuts.
+/// Returns the parser of the tokens before the first place at which the literal stands, as many as
+/// the counts allow: a number or a range of numbers. The literal itself is not taken. Where the
+/// least count is above the greatest, the parser cuts.
 ///
-/// Where more may follow, what was found must stay found, which [`hits_stay_law`](crate::hits_stay_law) tells of one literal.
+/// Where more may follow, a hit must stay when more follows.
+/// [`hits_stay_law`](crate::hits_stay_law) proves that for one literal.
 pub fn take_until<N: Into<Range>, T>(counts: N, literal: T) -> TokensBefore<T>
     ensures counts { N.converts counts result.counts }
     ensures literal { result.literal ≡ literal }

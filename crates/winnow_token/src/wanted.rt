@@ -8,13 +8,13 @@ use winnow_match::{Compare, CompareResult};
 use winnow_parser::{Failure, ModalResult, Parser};
 use winnow_stream::{Needed, StreamIsPartial};
 
-/// A literal; [`literal`] makes it.
+/// A parser of a literal; [`literal`] makes it.
 #[derive(Clone, Copy, Debug, Drop)]
 pub struct Wanted<T> {
     text: T,
 }
 
-/// Returns the parser of the slice that a literal is.
+/// Returns the parser of the slice that the literal covers.
 pub fn literal<T>(text: T) -> Wanted<T>
     ensures { result ≡ record { text = text } }
 {
@@ -33,6 +33,7 @@ impl<I: Compare<T> + StreamIsPartial, E: ParserError<I>, T: Copy> Parser<I, E> f
     ghost lawful = { λ p.
         IsParser-Literal I.is_slice I.slices_stay (I.compared p.text) (I.comparisons_stay p.text) };
 
+    #[inline(always)]
     fn parse_next(&self, alloc: Global, input: &mut I) -> ModalResult<I::Slice, E> {
         match input.compare(self.text) {
             CompareResult::Ok(width) => Ok(input.next_slice(width)),

@@ -1,4 +1,4 @@
--- What the parts of a signed number mean, from the sets that they were given.
+-- The meaning of a signed number, from the sets and counts of its parts.
 use Rattle.std.proofs.Common.{◌≡◌, ℕ, Bool, ◌||◌, ◌==◌, Option, None, subst}
 use Rattle.std.specs.Int.{is_in_range}
 use Rattle.winnow_stream.specs.Source.{Source}
@@ -12,14 +12,17 @@ use Rattle.winnow_ascii.specs.Classes.{is_in_class}
 use Rattle.winnow_ascii.specs.Numbers.{Signed, ReadAs}
 
 module _ {S R T : Type 0} (reads : S → R → Type 0) (refusable : Type 0) (is_slice : S → Source T → ℕ → Type 0) (code : T → ℕ) where
-  -- of these signs, these first digits, this class with these counts, and this alone
+  -- the meaning of a number with these signs, first digits, class, counts, and single digit
   abbrev Composed : ℕ × ℕ → ℕ → ℕ → Class → ℕ → Option ℕ → ℕ → Meaning R T
   Composed signs first last class least greatest alone = ReadAs reads is_slice (Either refusable
       (Maps IsForgotten (Pair (Optional (OneOf (λ token. signs.0 == code token || signs.1 == code token)))
       (Pair (OneOf (λ token. is_in_range first last (code token))) (HeldFront is_slice (λ token. is_in_class class (code token)) least greatest))))
       (Maps IsForgotten (OneOf (λ token. alone == code token))))
 
-  pub signed-as : {signs : ℕ × ℕ} {first last : ℕ} {class : Class} {least : ℕ} {greatest : Option ℕ} {alone : ℕ} (partial : Bool) (a : Ahead T) (v : Outcome R T)
+  -- with the sets and counts of a decimal number, `Composed` is `Signed`
+  pub signed-as : {signs : ℕ
+      × ℕ} {first last : ℕ} {class : Class} {least : ℕ} {greatest : Option ℕ} {alone : ℕ}
+      (partial : Bool) (a : Ahead T) (v : Outcome R T)
       → signs ≡ (43, 45) → first ≡ 49 → last ≡ 57 → class ≡ Digit → least ≡ 0 → greatest ≡ None → alone ≡ 48
       → Composed signs first last class least greatest alone partial a v → ReadAs reads is_slice (Signed refusable is_slice code) partial a v
   signed-as {signs} {first} {last} {class} {least} {greatest} {alone} partial a v s f l c n m z h =

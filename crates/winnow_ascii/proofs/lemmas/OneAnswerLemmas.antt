@@ -1,4 +1,4 @@
--- The numbers that digits write have one answer.
+-- Parsers of numbers have one answer.
 use Rattle.std.specs.Prelude.{⊤}
 use Rattle.std.proofs.Common.{◌≡◌, ℕ, ◌+◌, Option, None, Some, refl, sym}
 use Rattle.std.proofs.lemmas.Option.{none-some, same_Some}
@@ -14,36 +14,46 @@ use Rattle.winnow_token.proofs.lemmas.ToldLemmas.{determined-one_of, determined-
 use Rattle.winnow_ascii.specs.Numbers.{Digits, Unsigned, Signed, ReadAs, ReadsAlike}
 use Rattle.winnow_ascii.specs.Hexadecimal.{Hexadecimal}
 
--- slices of which the view shows the same read as one value, or as none
+-- readings of slices of which the view shows the same
 module _ {S R V : Type 0} (view : S → V) (reads : S → R → Type 0) (alike : ReadsAlike view reads) where
-  one-value : (s t : S) (o p : Option R) → Shows view s t → IsSomeExactly (reads s) o → IsSomeExactly (reads t) p → AreSameIfAny ◌≡◌ o p
+  -- slices of which the view shows the same read as one value, or both as none
+  one-value : (s t : S) (o p : Option R) → Shows view s t → IsSomeExactly (reads s) o
+      → IsSomeExactly (reads t) p → AreSameIfAny ◌≡◌ o p
   one-value s t (Some x) (Some y) e h k = sym (same_Some _ _ ((k x).1 (alike s t x e ((h x).0 refl))))
   one-value s t (Some x) None e h k = absurd (none-some _ ((k x).1 (alike s t x e ((h x).0 refl))))
   one-value s t None (Some y) e h k = absurd (none-some _ ((h y).1 (alike t s y (sym e) ((k y).0 refl))))
   one-value s t None None e h k = tt
 
 module _ {S R V T : Type 0} (view : S → V) (is_slice : S → Source T → ℕ → Type 0) (fronts : SlicesRespect is_slice (Shows view)) (reads : S → R → Type 0) (alike : ReadsAlike view reads) where
-  pub determined-read : (inner : Meaning (Unit {0}) T) → IsDetermined (λ x y. ⊤) inner → IsDetermined ◌≡◌ (ReadAs reads is_slice inner)
+  -- `ReadAs` has one answer where the inner parser has one
+  pub determined-read : (inner : Meaning (Unit {0}) T) → IsDetermined (λ x y. ⊤) inner
+      → IsDetermined ◌≡◌ (ReadAs reads is_slice inner)
   determined-read inner d =
       determined-chosen (λ slice value. IsSomeExactly (reads slice) value) _ (Shows view) ◌≡◌ (one-value view reads alike) (determined-taken is_slice (Shows view) fronts inner (λ x y. ⊤) d)
 
-  pub determined-hexadecimal : (code : T → ℕ) (nibbles : ℕ) → IsDetermined ◌≡◌ (Hexadecimal reads is_slice code nibbles)
+  -- `Hexadecimal` has one answer
+  pub determined-hexadecimal : (code : T → ℕ) (nibbles : ℕ)
+      → IsDetermined ◌≡◌ (Hexadecimal reads is_slice code nibbles)
   determined-hexadecimal code nibbles =
       determined-chosen (λ slice value. IsSomeExactly (reads slice) value) _ (Shows view) ◌≡◌ (one-value view reads alike) (determined-held is_slice (Shows view) fronts _ 1 (Some (nibbles + 1)))
 
--- what is taken is one thing, though the values of the parts are forgotten
+-- parsers that take one front, though the values of their parts are dropped
 module _ {S T : Type 0} (refusable : Type 0) (is_slice : S → Source T → ℕ → Type 0) (code : T → ℕ) where
+  -- any two values are the same
   abbrev Any : {O : Type 0} → O → O → Type 0
   Any x y = ⊤
 
+  -- `Digits` has one answer, if its slice is dropped
   digits : IsDetermined (AreBothSame ◌≡◌ Any) (Digits is_slice code)
   digits = determined-pair ◌≡◌ Any _ _ (determined-one_of _) (determined-held is_slice Any (λ s t a b h k. tt) _ 0 None)
 
+  -- `Unsigned` has one answer
   pub determined-unsigned : IsDetermined (λ x y. ⊤) (Unsigned refusable is_slice code)
   determined-unsigned = determined-either refusable Any _ _
       (determined-maps (AreBothSame ◌≡◌ Any) Any IsForgotten (λ x y p q e u v. tt) _ digits)
       (determined-maps ◌≡◌ Any IsForgotten (λ x y p q e u v. tt) _ (determined-one_of _))
 
+  -- `Signed` has one answer
   pub determined-signed : IsDetermined (λ x y. ⊤) (Signed refusable is_slice code)
   determined-signed = determined-either refusable Any _ _
       (determined-maps (AreBothSame (AreSameIfAny ◌≡◌) (AreBothSame ◌≡◌ Any)) Any IsForgotten (λ x y p q e u v. tt) _

@@ -1,4 +1,4 @@
--- Parsers that take nothing have one answer, and so have values that are folded from the left.
+-- Parsers that take nothing have one answer, and so have values folded from the left.
 use Rattle.std.proofs.Common.{List, [], ◌∷◌, None, sym, ◌∙◌, ap, subst}
 use Rattle.std.specs.Prelude.{⊤}
 use Rattle.std.specs.List.{FoldsTo}
@@ -12,10 +12,12 @@ use Rattle.winnow_combinator.specs.Repetition.{Repeated}
 use Rattle.winnow_combinator.specs.Separation.{FoldsLeft, FoldedLeft}
 use Rattle.winnow_combinator.proofs.lemmas.AgreeingLemmas.{determined-repeated}
 
+-- two units are the same
 abbrev AreUnits : Unit {0} → Unit {0} → Type 0
 AreUnits u v = ⊤
 
 module _ {T : Type 0} where
+  -- `Ended` has one answer
   pub determined-ended : IsDetermined {O = Unit {0}} {T = T} AreUnits Ended
   determined-ended partial a (Gives u b) (Gives v c) s t h k = (tt, sym h.2 ∙ k.2)
   determined-ended partial a (Gives u b) (Fails (Backtracks c)) s t h k = k.0 h.0
@@ -37,6 +39,7 @@ module _ {T : Type 0} where
   determined-ended partial a (Fails (Needs n)) (Fails Refuses) s t h k = absurd k
   determined-ended partial a (Fails Refuses) (Fails g) s t h k = absurd h
 
+  -- `Failing` has one answer
   pub determined-failing : IsDetermined {O = Unit {0}} {T = T} AreUnits Failing
   determined-failing partial a (Gives u b) w s t h k = absurd h
   determined-failing partial a (Fails (Backtracks b)) (Gives v c) s t h k = k
@@ -48,10 +51,12 @@ module _ {T : Type 0} where
   determined-failing partial a (Fails (Needs n)) w s t h k = absurd h
   determined-failing partial a (Fails Refuses) w s t h k = absurd h
 
--- ---- Values that are folded from the left
+-- ---- Values folded from the left
 
 module _ {O P : Type 0} (same : O → O → Type 0) (alike : P → P → Type 0) (step : O → P → O → Type 0) (respects : StepsRespect same alike step) where
-  folds-respects : (x y l r : O) (ps qs : List P) → same x y → AreSameEach alike ps qs → FoldsTo step x ps l → FoldsTo step y qs r → same l r
+  -- folding lists that are the same gives the same
+  folds-respects : (x y l r : O) (ps qs : List P) → same x y → AreSameEach alike ps qs
+      → FoldsTo step x ps l → FoldsTo step y qs r → same l r
   folds-respects x y l r [] [] e u h k = subst (λ o. same o r) h (subst (same x) k e)
   folds-respects x y l r [] (q ∷ qs) e u h k = absurd u
   folds-respects x y l r (p ∷ ps) [] e u h k = absurd u
@@ -59,6 +64,7 @@ module _ {O P : Type 0} (same : O → O → Type 0) (alike : P → P → Type 0)
       folds-respects h.0 k.0 l r ps qs (respects x y p q h.0 k.0 e u.0 h.1 k.1) u.1 h.2 k.2
 
 module _ {O S T : Type 0} (same : O → O → Type 0) (alike : S → S → Type 0) (step : O → S × O → O → Type 0) (respects : StepsRespect same (AreBothSame alike same) step) (separator : Meaning S T) (inner : Meaning O T) (q : IsDetermined alike separator) (d : IsDetermined same inner) where
+  -- `FoldedLeft` has one answer where its parts have one
   pub determined-folded : IsDetermined same (FoldedLeft step separator inner)
   determined-folded =
       let pairs = Pair separator inner in

@@ -1,4 +1,4 @@
--- Values of a parser with one answer, up to an end that has one answer, are one answer.
+-- Repeating a parser up to an end has one answer where the parser and the end have one.
 use Rattle.std.proofs.Common.{◌≡◌, ℕ, suc, ◌+◌, ◌≤◌, ◌<◌, Bool, List, [], ◌∷◌, length, Option, Some, None, inl, inr, sym, ◌∙◌, subst, arith}
 use Rattle.std.specs.Prelude.{◌⊎◌}
 use Rattle.winnow_parser.specs.Outcome.{Ahead, Failed, Backtracks, Outcome, Gives, Fails, Meaning}
@@ -12,19 +12,25 @@ use Rattle.winnow_combinator.proofs.lemmas.AgreeingLemmas.{determined-taking}
 -- ---- `EndAfter`
 
 module _ {P T : Type 0} (alike : P → P → Type 0) (least : ℕ) (greatest : Option ℕ) (n : ℕ) (terminator : Meaning P T) (e : IsDetermined alike terminator) where
-  -- there is no end: the values are too few, or the terminator backtracks and one value more is allowed
+  -- there is no end: the values are too few, or the terminator backtracks and one more value is
+  -- allowed
   abbrev NoEnd : Bool → Ahead T → Type 0
   NoEnd partial a = (n < least) ⊎ (IsBelow greatest n × ((c : Ahead T) × terminator partial a (Fails (Backtracks c))))
 
-  no_end-gives : (partial : Bool) (a b : Ahead T) (y : P) → least ≤ n → terminator partial a (Gives y b) → NoEnd partial a → ⊥
+  -- where the terminator gives a value after enough values, `NoEnd` does not hold
+  no_end-gives : (partial : Bool) (a b : Ahead T) (y : P) → least ≤ n
+      → terminator partial a (Gives y b) → NoEnd partial a → ⊥
   no_end-gives partial a b y enough h (inl few) = omega (arith, enough, few)
   no_end-gives partial a b y enough h (inr (below, (c, back))) = e partial a (Gives y b) (Fails (Backtracks c)) tt tt h back
 
-  no_end-fails : (partial : Bool) (a : Ahead T) (f : Failed T) → IsGranted {O = P} (Fails f) → least ≤ n → IsLast greatest n f → terminator partial a (Fails f) → NoEnd partial a → ⊥
+  -- where the terminator's failure is that of the whole, `NoEnd` does not hold
+  no_end-fails : (partial : Bool) (a : Ahead T) (f : Failed T) → IsGranted {O = P} (Fails f)
+      → least ≤ n → IsLast greatest n f → terminator partial a (Fails f) → NoEnd partial a → ⊥
   no_end-fails partial a f s enough last h (inl few) = omega (arith, enough, few)
   no_end-fails partial a f s enough last h (inr (below, (c, back))) =
       subst (IsLast greatest n) (e partial a (Fails f) (Fails (Backtracks c)) s tt h back) last below
 
+  -- `EndAfter` has one answer where its parts have one
   determined-end_after : IsDetermined (AreSameIfAny alike) (EndAfter least greatest n terminator)
   determined-end_after partial a (Gives (Some y) b) (Gives (Some z) c) s t h k = e partial a (Gives y b) (Gives z c) tt tt h.1 k.1
   determined-end_after partial a (Gives (Some y) b) (Gives None c) s t h k = absurd (no_end-gives partial a b y h.0 h.1 k.1)
@@ -38,25 +44,29 @@ module _ {P T : Type 0} (alike : P → P → Type 0) (least : ℕ) (greatest : O
 
 -- ---- `RepeatedTill`
 
--- the lists agree, the ends and the place after them; or the failures
-abbrev MeetTill : {O P T : Type 0} → (O → O → Type 0) → (P → P → Type 0) → List O → List O → Outcome P T → Outcome P T → Type 0
+-- the lists, the ends and the places after them agree, or the failures do
+abbrev MeetTill : {O P T : Type 0} → (O → O → Type 0) → (P → P → Type 0) → List O → List O
+    → Outcome P T → Outcome P T → Type 0
 MeetTill same alike xs ys (Gives p b) (Gives q c) = (AreSameEach same xs ys × alike p q) × (b ≡ c)
 MeetTill same alike xs ys (Gives p b) (Fails g) = ⊥
 MeetTill same alike xs ys (Fails f) (Gives q c) = ⊥
 MeetTill same alike xs ys (Fails f) (Fails g) = f ≡ g
 
 module _ {O P T : Type 0} (same : O → O → Type 0) (alike : P → P → Type 0) (least : ℕ) (greatest : Option ℕ) (step : Meaning O T) (terminator : Meaning P T) (d : IsDetermined same step) (e : IsDetermined alike terminator) (partial : Bool) where
-  -- with n values it ends there so: by the terminator, or by a failure of the parser
+  -- after n values the whole ends with this outcome: by the terminator, or by a failure of the
+  -- parser
   abbrev EndsTill : ℕ → Ahead T → Outcome P T → Type 0
   EndsTill n a (Gives y b) = EndAfter least greatest n terminator partial a (Gives (Some y) b)
   EndsTill n a (Fails f) = EndAfter least greatest n terminator partial a (Fails f)
       ⊎ (EndAfter least greatest n terminator partial a (Gives None a) × step partial a (Fails f))
 
+  -- the terminator has one answer after n values
   one_end : (n : ℕ) → IsDetermined (AreSameIfAny alike) (EndAfter least greatest n terminator)
   one_end n = determined-end_after alike least greatest n terminator e
 
-  -- two ends at one place are one
-  ends_till-meet : (n : ℕ) (a : Ahead T) (v w : Outcome P T) → IsGranted v → IsGranted w → EndsTill n a v → EndsTill n a w → MeetTill {O = O} same alike [] [] v w
+  -- two ends at one place agree
+  ends_till-meet : (n : ℕ) (a : Ahead T) (v w : Outcome P T) → IsGranted v → IsGranted w
+      → EndsTill n a v → EndsTill n a w → MeetTill {O = O} same alike [] [] v w
   ends_till-meet n a (Gives y b) (Gives z c) s t h k =
       let one = one_end n partial a (Gives (Some y) b) (Gives (Some z) c) tt tt h k in ((tt, one.0), one.1)
   ends_till-meet n a (Gives y b) (Fails g) s t h (inl k) = one_end n partial a (Gives (Some y) b) (Fails g) tt t h k
@@ -68,19 +78,25 @@ module _ {O P T : Type 0} (same : O → O → Type 0) (alike : P → P → Type 
   ends_till-meet n a (Fails f) (Fails g) s t (inr h) (inl k) = absurd (one_end n partial a (Gives None a) (Fails g) tt t h.0 k)
   ends_till-meet n a (Fails f) (Fails g) s t (inr h) (inr k) = d partial a (Fails f) (Fails g) s t h.1 k.1
 
-  -- where it ends, no value more is read
-  ends_till-alone : (n : ℕ) (a b : Ahead T) (x : O) (v : Outcome P T) → IsGranted v → EndsTill n a v → EndAfter least greatest n terminator partial a (Gives None a) → step partial a (Gives x b) → ⊥
+  -- where the whole ends, no more value is read
+  ends_till-alone : (n : ℕ) (a b : Ahead T) (x : O) (v : Outcome P T) → IsGranted v
+      → EndsTill n a v → EndAfter least greatest n terminator partial a (Gives None a)
+      → step partial a (Gives x b) → ⊥
   ends_till-alone n a b x (Gives y p) s h none means = (one_end n partial a (Gives (Some y) p) (Gives None a) tt tt h none).0
   ends_till-alone n a b x (Fails f) s (inl h) none means = one_end n partial a (Fails f) (Gives None a) s tt h none
   ends_till-alone n a b x (Fails f) s (inr h) none means = d partial a (Fails f) (Gives x b) s tt h.1 means
 
-  both_till-meet : (x y : O) (xs ys : List O) (v w : Outcome P T) → same x y → MeetTill same alike xs ys v w → MeetTill same alike (x ∷ xs) (y ∷ ys) v w
+  -- lists that agree still agree with the same value in front
+  both_till-meet : (x y : O) (xs ys : List O) (v w : Outcome P T) → same x y
+      → MeetTill same alike xs ys v w → MeetTill same alike (x ∷ xs) (y ∷ ys) v w
   both_till-meet x y xs ys (Gives p b) (Gives q c) one h = (((one, h.0.0), h.0.1), h.1)
   both_till-meet x y xs ys (Gives p b) (Fails g) one h = h
   both_till-meet x y xs ys (Fails f) (Gives q c) one h = h
   both_till-meet x y xs ys (Fails f) (Fails g) one h = h
 
-  turns_till-meet : (xs ys : List O) (n m k : ℕ) (a b c : Ahead T) (v w : Outcome P T) → m ≡ n + length xs → k ≡ n + length ys → IsGranted v → IsGranted w
+  -- two repetitions up to an end agree, from one place and after n values
+  turns_till-meet : (xs ys : List O) (n m k : ℕ) (a b c : Ahead T) (v w : Outcome P T)
+      → m ≡ n + length xs → k ≡ n + length ys → IsGranted v → IsGranted w
       → InTurnTill least greatest n terminator step partial xs a b → InTurnTill least greatest n terminator step partial ys a c → EndsTill m b v → EndsTill k c w → MeetTill same alike xs ys v w
   turns_till-meet [] [] n m k a b c v w i j s t at to h l =
       ends_till-meet n a v w s t (subst (λ p. EndsTill n p v) (sym at) (subst (λ u. EndsTill u b v) (omega (arith, i)) h)) (subst (λ p. EndsTill n p w) (sym to) (subst (λ u. EndsTill u c w) (omega (arith, j)) l))
@@ -94,7 +110,9 @@ module _ {O P T : Type 0} (same : O → O → Type 0) (alike : P → P → Type 
       both_till-meet x y xs ys v w one.0 others
 
 module _ {O P T : Type 0} (same : O → O → Type 0) (alike : P → P → Type 0) (least : ℕ) (greatest : Option ℕ) (inner : Meaning O T) (terminator : Meaning P T) (d : IsDetermined same inner) (e : IsDetermined alike terminator) where
-  till-meet : (partial : Bool) (a b c : Ahead T) (xs ys : List O) (v w : Outcome P T) → IsGranted v → IsGranted w
+  -- two repetitions up to an end agree, from the first value on
+  till-meet : (partial : Bool) (a b c : Ahead T) (xs ys : List O) (v w : Outcome P T) → IsGranted v
+      → IsGranted w
       → InTurnTill least greatest 0 terminator (Taking inner) partial xs a b → InTurnTill least greatest 0 terminator (Taking inner) partial ys a c
       → EndsTill same alike least greatest (Taking inner) terminator (determined-taking same inner d) e partial (length xs) b v
       → EndsTill same alike least greatest (Taking inner) terminator (determined-taking same inner d) e partial (length ys) c w
@@ -102,7 +120,9 @@ module _ {O P T : Type 0} (same : O → O → Type 0) (alike : P → P → Type 
   till-meet partial a b c xs ys v w s t at to h k =
       turns_till-meet same alike least greatest (Taking inner) terminator (determined-taking same inner d) e partial xs ys 0 (length xs) (length ys) a b c v w (omega arith) (omega arith) s t at to h k
 
-  pub determined-repeated_till : IsDetermined (AreBothSame (AreSameEach same) alike) (RepeatedTill least greatest inner terminator)
+  -- `RepeatedTill` has one answer where its parts have one
+  pub determined-repeated_till : IsDetermined (AreBothSame (AreSameEach same) alike)
+      (RepeatedTill least greatest inner terminator)
   determined-repeated_till partial a (Gives x b) (Gives y c) s t h k =
       till-meet partial a h.0 k.0 x.0 y.0 (Gives x.1 b) (Gives y.1 c) tt tt h.1.0 k.1.0 h.1.1 k.1.1
   determined-repeated_till partial a (Gives x b) (Fails g) s t h k =
@@ -112,8 +132,9 @@ module _ {O P T : Type 0} (same : O → O → Type 0) (alike : P → P → Type 
   determined-repeated_till partial a (Fails f) (Fails g) s t h k =
       till-meet partial a h.1.0 k.1.0 h.0 k.0 (Fails f) (Fails g) s t h.1.1.0 k.1.1.0 h.1.1.1 k.1.1.1
 
--- what is made of values that are the same is the same, and so is it with the ends
-pub makes_of_first-respects : {O A P : Type 0} (same : O → O → Type 0) (alike : A → A → Type 0) (equal : P → P → Type 0) (makes : O → A → Type 0) → Respects same alike makes
+-- gathering the first part of pairs keeps them the same
+pub makes_of_first-respects : {O A P : Type 0} (same : O → O → Type 0) (alike : A → A
+    → Type 0) (equal : P → P → Type 0) (makes : O → A → Type 0) → Respects same alike makes
     → Respects (AreBothSame same equal) (AreBothSame alike equal) (MakesOfFirst makes)
 makes_of_first-respects same alike equal makes respects x y p q both h k =
     (respects x.0 y.0 p.0 q.0 both.0 h.0 k.0, subst (λ o. equal o q.1) h.1 (subst (equal x.1) k.1 both.1))

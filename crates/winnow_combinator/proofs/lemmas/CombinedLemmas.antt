@@ -1,4 +1,4 @@
--- Combinators of parsers that have one answer have one answer.
+-- A combinator of parsers that have one answer has one answer.
 use Rattle.std.proofs.Common.{ℕ, zero, suc, ◌-◌, Bool, true, false, List, [], ◌∷◌, Option, Some, None, inl, inr, refl, sym, subst, arith}
 use Rattle.winnow_parser.specs.Outcome.{Ahead, Backtracks, Cuts, Needs, Refuses, Outcome, Gives, Fails, Meaning}
 use Rattle.winnow_parser.specs.Meanings.{Maps, Pair, Second, Preceded, Either, Optional}
@@ -14,26 +14,32 @@ use Rattle.winnow_combinator.specs.Separation.{Prepends, Chained, OrNone, IfNeed
 use Rattle.winnow_combinator.specs.DeterminedLists.{AreSameEach}
 use Rattle.winnow_combinator.proofs.lemmas.AgreeingLemmas.{determined-repeated}
 
--- ---- A parser that is asked or not
+-- ---- A parser that is asked on a condition
 
 module _ {O : Type 0} (same : O → O → Type 0) where
+  -- values that are the same are the same in `Some`
   some-respects : Respects same (AreSameIfAny same) IsSomeOf
   some-respects x y p q e h k = subst (λ o. AreSameIfAny same o q) h (subst (AreSameIfAny same (Some x)) k e)
 
-  pub determined-conditional : {T : Type 0} (flag : Bool) (inner : Meaning O T) → IsDetermined same inner → IsDetermined (AreSameIfAny same) (Conditional flag inner)
+  -- `Conditional` has one answer where the inner parser has one
+  pub determined-conditional : {T : Type 0} (flag : Bool) (inner : Meaning O T)
+      → IsDetermined same inner → IsDetermined (AreSameIfAny same) (Conditional flag inner)
   determined-conditional true inner d = determined-maps same (AreSameIfAny same) IsSomeOf some-respects inner d
   determined-conditional false inner d = determined-returns None (AreSameIfAny same) tt
 
--- ---- What is made of the value
+-- ---- A result that is made of the value
 
 module _ {O A T : Type 0} (same : O → O → Type 0) (alike : A → A → Type 0) (refusable : Type 0) (makes : O → A → Type 0) (respects : Respects same alike makes) (inner : Meaning O T) (d : IsDetermined same inner) where
-  gathered-maps : (partial : Bool) (a : Ahead T) (v : Outcome A T) → IsGranted v → Gathered refusable makes inner partial a v → Maps makes inner partial a v
+  -- an answer of `Gathered` is one of `Maps`, unless memory was refused
+  gathered-maps : (partial : Bool) (a : Ahead T) (v : Outcome A T) → IsGranted v
+      → Gathered refusable makes inner partial a v → Maps makes inner partial a v
   gathered-maps partial a (Gives y b) s h = h
   gathered-maps partial a (Fails (Backtracks b)) s h = h
   gathered-maps partial a (Fails (Cuts b)) s h = h
   gathered-maps partial a (Fails (Needs n)) s h = h
   gathered-maps partial a (Fails Refuses) s h = absurd s
 
+  -- `Gathered` has one answer where its parts have one
   pub determined-gathered : IsDetermined alike (Gathered refusable makes inner)
   determined-gathered partial a v w s t h k =
       determined-maps same alike makes respects inner d partial a v w s t (gathered-maps partial a v s h) (gathered-maps partial a w t k)
@@ -41,7 +47,9 @@ module _ {O A T : Type 0} (same : O → O → Type 0) (alike : A → A → Type 
 -- ---- Counts
 
 module _ {O T : Type 0} (same : O → O → Type 0) (inner : Meaning O T) (d : IsDetermined same inner) where
-  pub determined-ascending : (least : ℕ) (greatest : Option ℕ) → IsDetermined same (Ascending least greatest inner)
+  -- `Ascending` has one answer where the inner parser has one
+  pub determined-ascending : (least : ℕ) (greatest : Option ℕ)
+      → IsDetermined same (Ascending least greatest inner)
   determined-ascending least None partial a v w s t h k = d partial a v w s t h k
   determined-ascending least (Some greatest) partial a v w s t (inl h) (inl k) = d partial a v w s t h.1 k.1
   determined-ascending least (Some greatest) partial a v w s t (inl h) (inr k) = absurd (omega (arith, h.0, k.0))
@@ -49,32 +57,40 @@ module _ {O T : Type 0} (same : O → O → Type 0) (inner : Meaning O T) (d : I
   determined-ascending least (Some greatest) partial a v w s t (inr h) (inr k) =
       subst (λ u. Agree same v u) (sym k.1) (subst (λ u. Agree same u (Fails (Cuts a))) (sym h.1) refl)
 
-  countable-passed : (partial : Bool) (a : Ahead T) (v : Outcome O T) → IsGranted v → Countable inner partial a v → inner partial a v
+  -- an answer of `Countable` is one of the inner parser, unless memory was refused
+  countable-passed : (partial : Bool) (a : Ahead T) (v : Outcome O T) → IsGranted v
+      → Countable inner partial a v → inner partial a v
   countable-passed partial a (Gives x b) s h = h
   countable-passed partial a (Fails (Backtracks b)) s h = h
   countable-passed partial a (Fails (Cuts b)) s h = h
   countable-passed partial a (Fails (Needs n)) s h = h
   countable-passed partial a (Fails Refuses) s h = absurd s
 
+  -- `Countable` has one answer where its parts have one
   pub determined-countable : IsDetermined same (Countable inner)
   determined-countable partial a v w s t h k = d partial a v w s t (countable-passed partial a v s h) (countable-passed partial a w t k)
 
 -- ---- Values with separators between them
 
 module _ {O S T : Type 0} (same : O → O → Type 0) (alike : S → S → Type 0) (separator : Meaning S T) (inner : Meaning O T) (q : IsDetermined alike separator) (d : IsDetermined same inner) where
+  -- the second parts of pairs that are the same are the same
   second-respects : Respects (AreBothSame alike same) same Second
   second-respects x y p r e h k = subst (λ o. same o r) h (subst (same x.1) k e.1)
 
+  -- lists of a first value and the others are the same where both parts are
   prepends-respects : Respects (AreBothSame same (AreSameEach same)) (AreSameEach same) Prepends
   prepends-respects x y p r e h k = subst (λ o. AreSameEach same o r) h (subst (AreSameEach same (x.0 ∷ x.1)) k e)
 
+  -- lists that may be missing are the same where the options are
   or_none-respects : Respects (AreSameIfAny (AreSameEach same)) (AreSameEach same) OrNone
   or_none-respects (Some x) (Some y) p r e h k = subst (λ o. AreSameEach same o r) h (subst (AreSameEach same x) k e)
   or_none-respects (Some x) None p r e h k = absurd e
   or_none-respects None (Some y) p r e h k = absurd e
   or_none-respects None None p r e h k = subst (λ o. AreSameEach same o r) h (subst (AreSameEach same []) k tt)
 
-  determined-chained : (least : ℕ) (greatest : Option ℕ) → IsDetermined (AreSameEach same) (Chained least greatest separator inner)
+  -- `Chained` has one answer where its parts have one
+  determined-chained : (least : ℕ) (greatest : Option ℕ)
+      → IsDetermined (AreSameEach same) (Chained least greatest separator inner)
   determined-chained least greatest =
       let next = Preceded separator inner in
       let others = Repeated (least - 1) (fewer greatest) next in
@@ -82,40 +98,70 @@ module _ {O S T : Type 0} (same : O → O → Type 0) (alike : S → S → Type 
       determined-maps (AreBothSame same (AreSameEach same)) (AreSameEach same) Prepends prepends-respects (Pair inner others)
       (determined-pair same (AreSameEach same) inner others d (determined-repeated same (least - 1) (fewer greatest) next n))
 
-  determined-if_needed : (least : ℕ) (values : Meaning (List O) T) → IsDetermined (AreSameEach same) values → IsDetermined (AreSameEach same) (IfNeeded least values)
+  -- `IfNeeded` has one answer where its values have one
+  determined-if_needed : (least : ℕ) (values : Meaning (List O) T)
+      → IsDetermined (AreSameEach same) values
+      → IsDetermined (AreSameEach same) (IfNeeded least values)
   determined-if_needed zero values v =
       determined-maps (AreSameIfAny (AreSameEach same)) (AreSameEach same) OrNone or_none-respects (Optional values) (determined-optional values (AreSameEach same) v)
   determined-if_needed (suc n) values v = v
 
-  pub determined-separated : (least : ℕ) (greatest : Option ℕ) → IsDetermined (AreSameEach same) (Separated least greatest separator inner)
+  -- `Separated` has one answer where its parts have one
+  pub determined-separated : (least : ℕ) (greatest : Option ℕ)
+      → IsDetermined (AreSameEach same) (Separated least greatest separator inner)
   determined-separated least None = determined-if_needed least (Chained least None separator inner) (determined-chained least None)
   determined-separated least (Some zero) = determined-returns [] (AreSameEach same) tt
   determined-separated least (Some (suc n)) =
       determined-if_needed least (Chained least (Some (suc n)) separator inner) (determined-chained least (Some (suc n)))
 
--- ---- The first of several that does not backtrack
+-- ---- The first of several parsers that does not backtrack
 
 module _ {O T : Type 0} (r : Type 0) (same : O → O → Type 0) where
-  pub determined-choice3 : (a b c : Meaning O T) → IsDetermined same a → IsDetermined same b → IsDetermined same c → IsDetermined same (Choice3 r a b c)
+  -- the first of three parsers has one answer where each has one
+  pub determined-choice3 : (a b c : Meaning O T) → IsDetermined same a → IsDetermined same b
+      → IsDetermined same c → IsDetermined same (Choice3 r a b c)
   determined-choice3 a b c da db dc = determined-either r same a (Either r b c) da (determined-either r same b c db dc)
 
-  pub determined-choice4 : (a b c d : Meaning O T) → IsDetermined same a → IsDetermined same b → IsDetermined same c → IsDetermined same d → IsDetermined same (Choice4 r a b c d)
+  -- the first of four parsers has one answer where each has one
+  pub determined-choice4 : (a b c d : Meaning O T) → IsDetermined same a → IsDetermined same b
+      → IsDetermined same c → IsDetermined same d → IsDetermined same (Choice4 r a b c d)
   determined-choice4 a b c d da db dc dd = determined-either r same a (Choice3 r b c d) da (determined-choice3 b c d db dc dd)
 
-  pub determined-choice5 : (a b c d e : Meaning O T) → IsDetermined same a → IsDetermined same b → IsDetermined same c → IsDetermined same d → IsDetermined same e → IsDetermined same (Choice5 r a b c d e)
+  -- the first of five parsers has one answer where each has one
+  pub determined-choice5 : (a b c d e : Meaning O T) → IsDetermined same a → IsDetermined same b
+      → IsDetermined same c → IsDetermined same d → IsDetermined same e
+      → IsDetermined same (Choice5 r a b c d e)
   determined-choice5 a b c d e da db dc dd de = determined-either r same a (Choice4 r b c d e) da (determined-choice4 b c d e db dc dd de)
 
-  pub determined-choice6 : (a b c d e f : Meaning O T) → IsDetermined same a → IsDetermined same b → IsDetermined same c → IsDetermined same d → IsDetermined same e → IsDetermined same f → IsDetermined same (Choice6 r a b c d e f)
+  -- the first of six parsers has one answer where each has one
+  pub determined-choice6 : (a b c d e f : Meaning O T) → IsDetermined same a → IsDetermined same b
+      → IsDetermined same c → IsDetermined same d → IsDetermined same e → IsDetermined same f
+      → IsDetermined same (Choice6 r a b c d e f)
   determined-choice6 a b c d e f da db dc dd de df = determined-either r same a (Choice5 r b c d e f) da (determined-choice5 b c d e f db dc dd de df)
 
-  pub determined-choice7 : (a b c d e f g : Meaning O T) → IsDetermined same a → IsDetermined same b → IsDetermined same c → IsDetermined same d → IsDetermined same e → IsDetermined same f → IsDetermined same g → IsDetermined same (Choice7 r a b c d e f g)
+  -- the first of seven parsers has one answer where each has one
+  pub determined-choice7 : (a b c d e f g : Meaning O T) → IsDetermined same a
+      → IsDetermined same b → IsDetermined same c → IsDetermined same d → IsDetermined same e
+      → IsDetermined same f → IsDetermined same g → IsDetermined same (Choice7 r a b c d e f g)
   determined-choice7 a b c d e f g da db dc dd de df dg = determined-either r same a (Choice6 r b c d e f g) da (determined-choice6 b c d e f g db dc dd de df dg)
 
-  pub determined-choice8 : (a b c d e f g h : Meaning O T) → IsDetermined same a → IsDetermined same b → IsDetermined same c → IsDetermined same d → IsDetermined same e → IsDetermined same f → IsDetermined same g → IsDetermined same h → IsDetermined same (Choice8 r a b c d e f g h)
+  -- the first of eight parsers has one answer where each has one
+  pub determined-choice8 : (a b c d e f g h : Meaning O T) → IsDetermined same a
+      → IsDetermined same b → IsDetermined same c → IsDetermined same d → IsDetermined same e
+      → IsDetermined same f → IsDetermined same g → IsDetermined same h
+      → IsDetermined same (Choice8 r a b c d e f g h)
   determined-choice8 a b c d e f g h da db dc dd de df dg dh = determined-either r same a (Choice7 r b c d e f g h) da (determined-choice7 b c d e f g h db dc dd de df dg dh)
 
-  pub determined-choice9 : (a b c d e f g h i : Meaning O T) → IsDetermined same a → IsDetermined same b → IsDetermined same c → IsDetermined same d → IsDetermined same e → IsDetermined same f → IsDetermined same g → IsDetermined same h → IsDetermined same i → IsDetermined same (Choice9 r a b c d e f g h i)
+  -- the first of nine parsers has one answer where each has one
+  pub determined-choice9 : (a b c d e f g h i : Meaning O T) → IsDetermined same a
+      → IsDetermined same b → IsDetermined same c → IsDetermined same d → IsDetermined same e
+      → IsDetermined same f → IsDetermined same g → IsDetermined same h → IsDetermined same i
+      → IsDetermined same (Choice9 r a b c d e f g h i)
   determined-choice9 a b c d e f g h i da db dc dd de df dg dh di = determined-either r same a (Choice8 r b c d e f g h i) da (determined-choice8 b c d e f g h i db dc dd de df dg dh di)
 
-  pub determined-choice10 : (a b c d e f g h i j : Meaning O T) → IsDetermined same a → IsDetermined same b → IsDetermined same c → IsDetermined same d → IsDetermined same e → IsDetermined same f → IsDetermined same g → IsDetermined same h → IsDetermined same i → IsDetermined same j → IsDetermined same (Choice10 r a b c d e f g h i j)
+  -- the first of ten parsers has one answer where each has one
+  pub determined-choice10 : (a b c d e f g h i j : Meaning O T) → IsDetermined same a
+      → IsDetermined same b → IsDetermined same c → IsDetermined same d → IsDetermined same e
+      → IsDetermined same f → IsDetermined same g → IsDetermined same h → IsDetermined same i
+      → IsDetermined same j → IsDetermined same (Choice10 r a b c d e f g h i j)
   determined-choice10 a b c d e f g h i j da db dc dd de df dg dh di dj = determined-either r same a (Choice9 r b c d e f g h i j) da (determined-choice9 b c d e f g h i j db dc dd de df dg dh di dj)

@@ -1,4 +1,4 @@
--- Which errors lists carry.
+-- The errors of repetitions and lists.
 use Rattle.std.specs.Prelude.{Bool, List, Result, IfErr}
 use Rattle.std.proofs.Common.{inl, inr}
 use Rattle.std.proofs.lemmas.Result.{IfErr-weaker}
@@ -9,15 +9,23 @@ use Rattle.winnow_parser.specs.Errors.{Errors, PairErrors}
 use Rattle.winnow_combinator.specs.Repetition.{Taking, InTurn, MisuseErrors, RepeatedErrors}
 
 module _ {O E S T : Type 0} (cuts : S → E → Type 0) (means : Meaning O T) (errors : Errors E S T) (partial : Bool) (a b : Ahead T) (s : S) where
-  -- an error after some values
-  pub RepeatedErrors-after : (xs : List O) (failure : Failure E Needed) → InTurn (Taking means) partial xs a b → MisuseErrors cuts errors partial b s failure → MisuseErrors cuts (RepeatedErrors means errors) partial a s failure
+  -- an error of the parser after some values is one of the repetition
+  pub RepeatedErrors-after : (xs : List O) (failure : Failure E Needed)
+      → InTurn (Taking means) partial xs a b → MisuseErrors cuts errors partial b s failure
+      → MisuseErrors cuts (RepeatedErrors means errors) partial a s failure
   RepeatedErrors-after xs failure turns (inl e) = inl (xs, (b, (turns, e)))
   RepeatedErrors-after xs failure turns (inr e) = inr e
 
-  after-first : (later : Errors E S T) (x : O) (failure : Failure E Needed) → means partial a (Gives x b) → MisuseErrors cuts later partial b s failure → MisuseErrors cuts (PairErrors means errors later) partial a s failure
+  -- a later error, after a first value, is one of the pair
+  after-first : (later : Errors E S T) (x : O) (failure : Failure E Needed)
+      → means partial a (Gives x b) → MisuseErrors cuts later partial b s failure
+      → MisuseErrors cuts (PairErrors means errors later) partial a s failure
   after-first later x failure gives (inl e) = inl (inr (x, (b, (gives, e))))
   after-first later x failure gives (inr e) = inr e
 
-  -- an error after the first value
-  pub PairErrors-after : {A : Type 0} (later : Errors E S T) (x : O) (r : Result A (Failure E Needed)) → means partial a (Gives x b) → IfErr r (MisuseErrors cuts later partial b s) → IfErr r (MisuseErrors cuts (PairErrors means errors later) partial a s)
+  -- the same for a result, which has an error or none
+  pub PairErrors-after : {A : Type 0} (later : Errors E S T) (x : O)
+      (r : Result A (Failure E Needed)) → means partial a (Gives x b)
+      → IfErr r (MisuseErrors cuts later partial b s)
+      → IfErr r (MisuseErrors cuts (PairErrors means errors later) partial a s)
   PairErrors-after later x r gives = IfErr-weaker r _ _ (λ failure e. after-first later x failure gives e)

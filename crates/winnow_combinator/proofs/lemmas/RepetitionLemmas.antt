@@ -1,4 +1,4 @@
--- How a parser that is asked again and again ends.
+-- The two ends of a repetition that gives values.
 use Rattle.std.specs.Prelude.{◌≡◌, ℕ, ◌≤◌, Bool, List, length, Option, Some, None}
 use Rattle.std.proofs.Common.{refl, subst, inl, inr}
 use Rattle.winnow_parser.specs.Outcome.{Ahead, Backtracks, Gives, Fails, Meaning}
@@ -6,8 +6,11 @@ use Rattle.winnow_combinator.specs.Counts.{IsBelow}
 use Rattle.winnow_combinator.specs.Repetition.{Taking, InTurn, OneMore, Repeated}
 
 module _ {O T : Type 0} (least : ℕ) (greatest : Option ℕ) (inner : Meaning O T) (partial : Bool) (xs : List O) (a b : Ahead T) where
-  -- by the parser, which backtracks
-  pub Repeated-ended : (c : Ahead T) → InTurn (Taking inner) partial xs a b → IsBelow greatest (length xs) → OneMore least (length xs) (Taking inner) partial b (Gives None c) → Repeated least greatest inner partial a (Gives xs c)
+  -- the repetition ends where the parser backtracks after enough values
+  pub Repeated-ended : (c : Ahead T) → InTurn (Taking inner) partial xs a b
+      → IsBelow greatest (length xs)
+      → OneMore least (length xs) (Taking inner) partial b (Gives None c)
+      → Repeated least greatest inner partial a (Gives xs c)
   Repeated-ended c turns below none = (
     subst (InTurn (Taking inner) partial xs a) none.0 turns,
     none.1,
@@ -17,6 +20,7 @@ module _ {O T : Type 0} (least : ℕ) (greatest : Option ℕ) (inner : Meaning O
     ),
   )
 
-  -- by the greatest count
-  pub Repeated-full : InTurn (Taking inner) partial xs a b → least ≤ length xs → greatest ≡ Some (length xs) → Repeated least greatest inner partial a (Gives xs b)
+  -- the repetition ends at the greatest count
+  pub Repeated-full : InTurn (Taking inner) partial xs a b → least ≤ length xs
+      → greatest ≡ Some (length xs) → Repeated least greatest inner partial a (Gives xs b)
   Repeated-full turns enough full = (turns, enough, inl full)

@@ -1,4 +1,4 @@
--- How a parser that is asked again and again up to an end goes on and ends.
+-- Steps and ends of a repetition up to an end.
 use Rattle.std.specs.Prelude.{◌≡◌, ℕ, ◌≤◌, Bool, List, [], ◌∷◌, ◌++◌, length, Option, Some, None}
 use Rattle.std.proofs.Common.{refl, sym, subst, inl, inr, arith}
 use Rattle.winnow_stream.specs.declared.needed.Needed.{Needed}
@@ -9,34 +9,49 @@ use Rattle.winnow_combinator.specs.Repetition.{Taking, MisuseErrors}
 use Rattle.winnow_combinator.specs.Till.{EndAfter, InTurnTill, InTurnTill-more, RepeatedTill, TillErrors}
 
 module _ {O P T : Type 0} (least : ℕ) (greatest : Option ℕ) (inner : Meaning O T) (terminator : Meaning P T) (partial : Bool) (n : ℕ) (xs : List O) (a b : Ahead T) (counted : n ≡ length xs) (turns : InTurnTill least greatest 0 terminator (Taking inner) partial xs a b) where
-  -- after these values stands no end
-  no_end-at : (c : Ahead T) → EndAfter least greatest n terminator partial b (Gives None c) → EndAfter least greatest (length xs) terminator partial b (Gives None b)
+  -- the terminator gives no end after these values
+  no_end-at : (c : Ahead T) → EndAfter least greatest n terminator partial b (Gives None c)
+      → EndAfter least greatest (length xs) terminator partial b (Gives None b)
   no_end-at c none = subst (λ m. EndAfter least greatest m terminator partial b (Gives None b)) counted (refl, none.1)
 
-  -- one more value
-  pub RepeatedTill-more : (x : O) (c d : Ahead T) → EndAfter least greatest n terminator partial b (Gives None c) → Taking inner partial c (Gives x d)
+  -- one more value, where the terminator gives no end
+  pub RepeatedTill-more : (x : O) (c d : Ahead T)
+      → EndAfter least greatest n terminator partial b (Gives None c)
+      → Taking inner partial c (Gives x d)
       → InTurnTill least greatest 0 terminator (Taking inner) partial (xs ++ x ∷ []) a d
   RepeatedTill-more x c d none means =
       InTurnTill-more least greatest terminator (Taking inner) partial 0 (length xs) xs x a b d (omega arith) turns (no_end-at c none) (subst (λ s. Taking inner partial s (Gives x d)) (sym none.0) means)
 
-  -- the terminator's value
-  pub RepeatedTill-ended : (y : P) (c : Ahead T) → EndAfter least greatest n terminator partial b (Gives (Some y) c) → RepeatedTill least greatest inner terminator partial a (Gives (xs, y) c)
+  -- the terminator's value ends the repetition
+  pub RepeatedTill-ended : (y : P) (c : Ahead T)
+      → EndAfter least greatest n terminator partial b (Gives (Some y) c)
+      → RepeatedTill least greatest inner terminator partial a (Gives (xs, y) c)
   RepeatedTill-ended y c means = (b, (turns, subst (λ m. EndAfter least greatest m terminator partial b (Gives (Some y) c)) counted means))
 
-  -- a failure of the terminator, or of the parser
-  pub RepeatedTill-no_end : (f : Failed T) → EndAfter least greatest n terminator partial b (Fails f) → RepeatedTill least greatest inner terminator partial a (Fails f)
+  -- a failure of the terminator is one of the whole
+  pub RepeatedTill-no_end : (f : Failed T)
+      → EndAfter least greatest n terminator partial b (Fails f)
+      → RepeatedTill least greatest inner terminator partial a (Fails f)
   RepeatedTill-no_end f means = (xs, (b, (turns, inl (subst (λ m. EndAfter least greatest m terminator partial b (Fails f)) counted means))))
 
-  pub RepeatedTill-no_more : (f : Failed T) (c : Ahead T) → EndAfter least greatest n terminator partial b (Gives None c) → Taking inner partial c (Fails f)
+  -- a failure of the parser, where there is no end, is one of the whole
+  pub RepeatedTill-no_more : (f : Failed T) (c : Ahead T)
+      → EndAfter least greatest n terminator partial b (Gives None c)
+      → Taking inner partial c (Fails f)
       → RepeatedTill least greatest inner terminator partial a (Fails f)
   RepeatedTill-no_more f c none means = (xs, (b, (turns, inr (no_end-at c none, subst (λ s. Taking inner partial s (Fails f)) (sym none.0) means))))
 
   module _ {E S : Type 0} (cuts : S → E → Type 0) (errors terminator_errors : Errors E S T) (s : S) (failure : Failure E Needed) where
-    -- an error of the terminator, or of the parser
-    pub TillErrors-end : least ≤ n → terminator_errors partial b s failure → MisuseErrors cuts (TillErrors least greatest inner errors terminator terminator_errors) partial a s failure
+    -- an error of the terminator is one of the whole
+    pub TillErrors-end : least ≤ n → terminator_errors partial b s failure
+        → MisuseErrors cuts (TillErrors least greatest inner errors terminator terminator_errors)
+        partial a s failure
     TillErrors-end enough e = inl (xs, (b, (turns, inl (subst (λ m. least ≤ m) counted enough, e))))
 
-    pub TillErrors-more : (c : Ahead T) → EndAfter least greatest n terminator partial b (Gives None c) → MisuseErrors cuts errors partial c s failure
+    -- an error of the parser, where there is no end, is one of the whole
+    pub TillErrors-more : (c : Ahead T)
+        → EndAfter least greatest n terminator partial b (Gives None c)
+        → MisuseErrors cuts errors partial c s failure
         → MisuseErrors cuts (TillErrors least greatest inner errors terminator terminator_errors) partial a s failure
     TillErrors-more c none (inl e) = inl (xs, (b, (turns, inr (no_end-at c none, subst (λ p. errors partial p s failure) (sym none.0) e))))
     TillErrors-more c none (inr e) = inr e

@@ -1,4 +1,5 @@
--- Where a literal ends and where a needle stands, a slice may be taken: of bytes everywhere, of a text between characters.
+-- A slice may be taken at the end of a literal and at a needle: of bytes everywhere, of a text
+-- between characters.
 use Rattle.std.proofs.Common.{◌≡◌, ℕ, zero, suc, ◌+◌, ◌≤◌, ◌<◌, Bool, true, false, cond, List, [], ◌∷◌, ◌++◌, length, take, drop, get_or, Option, Some, None, refl, ap, sym, ◌∙◌, arith, subst, inl, inr, length-drop}
 use Rattle.std.specs.Prelude.{IfSome}
 use Rattle.std.specs.List.{list_any}
@@ -26,13 +27,15 @@ use Rattle.winnow_match.proofs.lemmas.ByteFrontLemmas.{length-front, front_rest,
 use Rattle.winnow_match.proofs.lemmas.SearchLemmas.{nonempty-length}
 use Rattle.winnow_match.proofs.lemmas.HitLemmas.{hit-IsFirstHit}
 
--- ---- a text at a place of a text
+-- ---- a text that stands at a place of a text
 
+-- a front of some bytes is as many of them as it has
 take-front : (l bs : List ℕ) → is_prefix l bs ≡ true → take (length l) bs ≡ l
 take-front l bs h = ap (take (length l)) (front_rest l bs h) ∙ take_at l (drop (length l) bs) (length l) refl
 
--- it begins with the first byte of a character
-boundary-start : (l bs : List ℕ) (k : ℕ) → IsUtf8 l → is_empty l ≡ false → is_prefix l (drop k bs) ≡ true → IsCharBoundary bs k
+-- the place at which it stands is a boundary: a character begins there
+boundary-start : (l bs : List ℕ) (k : ℕ) → IsUtf8 l → is_empty l ≡ false
+    → is_prefix l (drop k bs) ≡ true → IsCharBoundary bs k
 boundary-start [] bs k u some h = absurd (false≢true (sym some))
 boundary-start (x ∷ l) bs k u some h =
     let e : drop k bs ≡ x ∷ (l ++ drop (length (x ∷ l)) (drop k bs)) = front_rest (x ∷ l) (drop k bs) h in
@@ -41,8 +44,9 @@ boundary-start (x ∷ l) bs k u some h =
     let first = IsCharBoundary-start (x ∷ l) u in
     (omega (arith, n, length-drop k bs), λ m a. let f = first.1 (omega arith) (omega (arith, a, here)) in omega (arith, f, here))
 
--- and ends with the last byte of one
-boundary-end : (l bs : List ℕ) (k : ℕ) → IsUtf8 bs → IsUtf8 l → IsCharBoundary bs k → is_prefix l (drop k bs) ≡ true → IsCharBoundary bs (k + length l)
+-- the place at which it ends is a boundary: a character ends there
+boundary-end : (l bs : List ℕ) (k : ℕ) → IsUtf8 bs → IsUtf8 l → IsCharBoundary bs k
+    → is_prefix l (drop k bs) ≡ true → IsCharBoundary bs (k + length l)
 boundary-end l bs k v u b h =
     let whole = subst IsUtf8 (sym (take-front l (drop k bs) h)) u in
     IsCharBoundary-from_rest bs k (length l) b.0
@@ -50,20 +54,28 @@ boundary-end l bs k v u b h =
 
 -- ---- comparisons
 
-comparison-ends : {T : Type 0} (r : Source T) (a b : Bool) (n : ℕ) → (a ≡ true → is_offset r n ≡ true) → EndsAtOffset (cond a (compared.Ok n) (cond b compared.Incomplete compared.Error)) r
+-- a comparison ends at an offset if its `Ok` does
+comparison-ends : {T : Type 0} (r : Source T) (a b : Bool) (n : ℕ)
+    → (a ≡ true → is_offset r n ≡ true)
+    → EndsAtOffset (cond a (compared.Ok n) (cond b compared.Incomplete compared.Error)) r
 comparison-ends r true b n h = h refl
 comparison-ends r false true n h = tt
 comparison-ends r false false n h = tt
 
-comparison-agrees : {T : Type 0} (r : Source T) (a b : Bool) (n : ℕ) → (a ≡ false → b ≡ true → width r < n) → AgreesWithWidth (cond a (compared.Ok n) (cond b compared.Incomplete compared.Error)) n r
+-- a comparison agrees with the width if its `Incomplete` means that too little remains
+comparison-agrees : {T : Type 0} (r : Source T) (a b : Bool) (n : ℕ)
+    → (a ≡ false → b ≡ true → width r < n)
+    → AgreesWithWidth (cond a (compared.Ok n) (cond b compared.Incomplete compared.Error)) n r
 comparison-agrees r true b n h = refl
 comparison-agrees r false true n h = h refl refl
 comparison-agrees r false false n h = tt
 
+-- a number of bytes up to their length is an offset
 is_offset-le : (xs : List ℕ) (n : ℕ) → n ≤ length xs → is_offset (units xs) n ≡ true
 is_offset-le xs n l = is_offset-units xs n ∙ grind (arith, nat_tests)
 
 module _ (literal bytes : List ℕ) (result : CompareResult) (is : result ≡ comparison literal bytes) where
+  -- a literal that stands in bytes, or in a text, ends at an offset
   pub EndsAtOffset-bytes : EndsAtOffset result (units bytes)
   EndsAtOffset-bytes =
       let P : CompareResult → Type 0 = λ x. EndsAtOffset x (units bytes) in
@@ -79,31 +91,40 @@ module _ (literal bytes : List ℕ) (result : CompareResult) (is : result ≡ co
       in
       subst P (sym is) (comparison-ends (text_source bytes) (is_prefix literal bytes) (is_prefix bytes literal) (length literal) ends)
 
-  agrees : {T : Type 0} (r : Source T) → width r ≡ length bytes → AgreesWithWidth result (length literal) r
+  -- what remains of a source as wide as its bytes agrees with the length of the literal
+  agrees : {T : Type 0} (r : Source T) → width r ≡ length bytes
+      → AgreesWithWidth result (length literal) r
   agrees r w =
       let P : CompareResult → Type 0 = λ x. AgreesWithWidth x (length literal) r in
       subst P (sym is) (comparison-agrees r (is_prefix literal bytes) (is_prefix bytes literal) (length literal) (λ h g. let l = shorter-front literal bytes h g in omega (arith, w, l)))
 
+  -- the same of bytes and of a text
   pub AgreesWithWidth-bytes : AgreesWithWidth result (length literal) (units bytes)
   AgreesWithWidth-bytes = agrees (units bytes) (width-units bytes)
 
-  pub AgreesWithWidth-text : IsUtf8 bytes → AgreesWithWidth result (length literal) (text_source bytes)
+  pub AgreesWithWidth-text : IsUtf8 bytes
+      → AgreesWithWidth result (length literal) (text_source bytes)
   AgreesWithWidth-text v = agrees (text_source bytes) (width-text_source bytes v)
 
 -- ---- searches
 
-nonempty-needle : (ls : List (List ℕ)) (i : ℕ) → list_any is_empty ls ≡ false → i < length ls → is_empty (needle_of ls i) ≡ false
+-- no needle is empty if the list has no empty one
+nonempty-needle : (ls : List (List ℕ)) (i : ℕ) → list_any is_empty ls ≡ false → i < length ls
+    → is_empty (needle_of ls i) ≡ false
 nonempty-needle [] i h l = absurd (omega (arith, l))
 nonempty-needle (n ∷ ls) zero h l = (or_parts (is_empty n) (list_any is_empty ls) h).0
 nonempty-needle (n ∷ ls) (suc i) h l = nonempty-needle ls i (or_parts (is_empty n) (list_any is_empty ls) h).1 (omega (arith, l))
 
+-- each needle of a list of texts is a text
 text-needle : (ls : List (List ℕ)) (i : ℕ) → AreTexts ls → i < length ls → IsUtf8 (needle_of ls i)
 text-needle [] i h l = absurd (omega (arith, l))
 text-needle (n ∷ ls) zero h l = h.0
 text-needle (n ∷ ls) (suc i) h l = text-needle ls i h.1 (omega (arith, l))
 
--- what holds of 0, and where each needle begins and ends, holds where a hit begins and ends; and it ends no nearer than it begins
+-- a property of 0, and of the begin and end of each needle that stands, is one of both ends of a
+-- hit, whose end is no nearer
 module _ (P : ℕ → Type 0) (ls : List (List ℕ)) (bytes : List ℕ) (start : P 0) (ends : (i k : ℕ) → i < length ls → is_empty (needle_of ls i) ≡ false → is_prefix (needle_of ls i) (drop k bytes) ≡ true → P k × P (k + length (needle_of ls i))) where
+  -- the property for a hit, and for what a search answers
   hit-ends : (r : Range ℕ) → hit ls bytes ≡ Some r → (r.start ≤ r.end) × (P r.start × P r.end)
   hit-ends r h =
       elim (cases_Bool (list_any is_empty ls)) [
@@ -118,11 +139,13 @@ module _ (P : ℕ → Type 0) (ls : List (List ℕ)) (bytes : List ℕ) (start :
             (omega (arith, f.whole), (p.0, subst P (sym f.whole) p.1))
       ]
 
-  hits-end : (o : Option (Range ℕ)) → o ≡ hit ls bytes → IfSome o (λ r. (r.start ≤ r.end) × (P r.start × P r.end))
+  hits-end : (o : Option (Range ℕ)) → o ≡ hit ls bytes
+      → IfSome o (λ r. (r.start ≤ r.end) × (P r.start × P r.end))
   hits-end None is = tt
   hits-end (Some r) is = hit-ends r (sym is)
 
 module _ (ls : List (List ℕ)) (bytes : List ℕ) (result : Option (Range ℕ)) (is : result ≡ hit ls bytes) where
+  -- both ends of a hit in bytes, or in a text, are offsets
   pub AreOffsets-bytes : IfSome result (AreOffsets (units bytes))
   AreOffsets-bytes =
       hits-end (λ n. is_offset (units bytes) n ≡ true) ls bytes (is_offset-le bytes 0 (omega arith)) (λ i k l some f.
@@ -138,5 +161,5 @@ module _ (ls : List (List ℕ)) (bytes : List ℕ) (result : Option (Range ℕ))
       let b = boundary-start n bytes k u some f in
       (is_offset-from_boundary bytes k v b, is_offset-from_boundary bytes (k + length n) v (boundary-end n bytes k v u b f))) result is
 
--- what the calls of slices and texts answer
+-- the rules for the answers of slices and texts
 pub ruleset source_answers = (bytes_of-units, utf8_of-text_source, EndsAtOffset-bytes, EndsAtOffset-text, AgreesWithWidth-bytes, AgreesWithWidth-text, AreOffsets-bytes, AreOffsets-text)

@@ -1,4 +1,5 @@
--- The one place up to a hit at which a needle stretches: what stands at the hit stands first in the needle as far behind it.
+-- The one place up to a hit at which a needle can stretch: what stands at the hit stands first in
+-- the needle at their distance.
 use Rattle.std.proofs.Common.{◌≡◌, ℕ, ◌+◌, ◌-◌, ◌≤◌, ◌<◌, ◌||◌, Bool, true, false, List, [], ◌∷◌, ◌++◌, length, take, drop, get_or, Option, Some, None, refl, ap, sym, ◌∙◌, arith, subst, inl, inr, length-drop}
 use Rattle.std.specs.Prelude.{min, option_map}
 use Rattle.std.specs.List.{list_any}
@@ -17,7 +18,9 @@ use Rattle.winnow_match.proofs.lemmas.TailLemmas.{stretching_or-later, stretch-f
 
 -- ---- one needle
 
-only-first : (P : ℕ → Type 0) (n i : ℕ) (r : Option ℕ) → i < n → P i → ((k : ℕ) → k < i → ¬ P k) → IsFirst P 0 n r → r ≡ Some i
+-- the first place with a property is the only answer of a search for it
+only-first : (P : ℕ → Type 0) (n i : ℕ) (r : Option ℕ) → i < n → P i → ((k : ℕ) → k < i → ¬ P k)
+    → IsFirst P 0 n r → r ≡ Some i
 only-first P n i None l p none f = absurd (f i (omega arith) l p)
 only-first P n i (Some k) l p none f =
     elim (cases_lt k i) [
@@ -26,8 +29,9 @@ only-first P n i (Some k) l p none f =
     ]
 
 module _ (needle b h : List ℕ) (s : ℕ) (finds : FindsNeedle b h 0 (Some s)) where
-  -- a needle that stretches at q has what stands at s first at their distance
-  pub only-distance : (q : ℕ) → q ≤ s → stretches needle (drop q b) ≡ true → (r : Option ℕ) → FindsNeedle needle h 0 r → r ≡ Some (s - q)
+  -- in a needle that stretches at q, what stands at s stands first at their distance
+  pub only-distance : (q : ℕ) → q ≤ s → stretches needle (drop q b) ≡ true → (r : Option ℕ)
+      → FindsNeedle needle h 0 r → r ≡ Some (s - q)
   only-distance q low e r f =
       let p = stretches-parts needle (drop q b) e in
       let stands = finds.1 in
@@ -55,11 +59,13 @@ module _ (needle b h : List ℕ) (s : ℕ) (finds : FindsNeedle b h 0 (Some s)) 
       in
       only-first (OccursAt needle h) (length needle + 1) (s - q) r (omega (arith, here.fits)) here none f
 
+  -- some needle of one is that needle
   one-needle : (xs : List ℕ) → any_stretches (needle ∷ []) xs ≡ true → stretches needle xs ≡ true
   one-needle xs e = elim (cases_Bool (stretches needle xs)) [ inl t ↦ t | inr t ↦ absurd (false≢true (rw t at e)) ]
 
-  -- no longer than what remains from s on
-  pub place-short : (p : ℕ) → s < p → length needle ≤ length b - s → IsLeastPlace (needle ∷ []) b s p
+  -- a needle that is no longer than what remains from s on stretches nowhere up to s
+  pub place-short : (p : ℕ) → s < p → length needle ≤ length b - s
+      → IsLeastPlace (needle ∷ []) b s p
   place-short p over short = record {
     before = λ k l low.
         false_from_ne_true (any_stretches (needle ∷ []) (drop k b)) (λ e.
@@ -67,7 +73,7 @@ module _ (needle b h : List ℕ) (s : ℕ) (finds : FindsNeedle b h 0 (Some s)) 
     here = λ l. absurd (omega (arith, l, over));
   }
 
-  -- where it stretches at no place but p, and not at p either
+  -- a needle that does not stretch at that distance from s stretches nowhere up to s
   pub place-behind : (r : Option ℕ) (p : ℕ) → FindsNeedle needle h 0 r → s < p
       → ((q : ℕ) → q ≤ s → r ≡ Some (s - q) → stretches needle (drop q b) ≡ false) → IsLeastPlace (needle ∷ []) b s p
   place-behind r p f over none = record {
@@ -78,7 +84,9 @@ module _ (needle b h : List ℕ) (s : ℕ) (finds : FindsNeedle b h 0 (Some s)) 
     here = λ l. absurd (omega (arith, l, over));
   }
 
-  pub place-here : (p : ℕ) → FindsNeedle needle h 0 (Some (s - p)) → p ≤ s → stretches needle (drop p b) ≡ true → IsLeastPlace (needle ∷ []) b s p
+  -- a needle that stretches at the distance has its least place there
+  pub place-here : (p : ℕ) → FindsNeedle needle h 0 (Some (s - p)) → p ≤ s
+      → stretches needle (drop p b) ≡ true → IsLeastPlace (needle ∷ []) b s p
   place-here p f low e = record {
     before = λ k l m.
         false_from_ne_true (any_stretches (needle ∷ []) (drop k b)) (λ t.
@@ -89,16 +97,21 @@ module _ (needle b h : List ℕ) (s : ℕ) (finds : FindsNeedle b h 0 (Some s)) 
 
 -- ---- several needles
 
-any-append : (ls ms : List (List ℕ)) (xs : List ℕ) → any_stretches (ls ++ ms) xs ≡ (any_stretches ls xs || any_stretches ms xs)
+-- some needle of two lists stretches if one of the first or of the second does
+any-append : (ls ms : List (List ℕ)) (xs : List ℕ)
+    → any_stretches (ls ++ ms) xs ≡ (any_stretches ls xs || any_stretches ms xs)
 any-append [] ms xs = refl
 any-append (n ∷ ls) ms xs =
     elim (cases_Bool (stretches n xs)) [ inl e ↦ rw e refl | inr e ↦ rw e (any-append ls ms xs) ]
 
+-- a disjunction of two false values is false
 or-false : (a b : Bool) → a ≡ false → b ≡ false → (a || b) ≡ false
 or-false a b e f = rw (e, f) refl
 
 module _ (ls ms : List (List ℕ)) (b : List ℕ) (at : ℕ) where
-  pub least-both : (p q : ℕ) → IsLeastPlace ls b at p → IsLeastPlace ms b at q → IsLeastPlace (ls ++ ms) b at (min p q)
+  -- the least place of two lists of needles is the lesser of theirs
+  pub least-both : (p q : ℕ) → IsLeastPlace ls b at p → IsLeastPlace ms b at q
+      → IsLeastPlace (ls ++ ms) b at (min p q)
   least-both p q left right = record {
     before = λ k l low.
         any-append ls ms (drop k b)
@@ -115,17 +128,24 @@ module _ (ls ms : List (List ℕ)) (b : List ℕ) (at : ℕ) where
         ];
   }
 
-pub least-two : (x y b : List ℕ) (at p q : ℕ) → IsLeastPlace (x ∷ []) b at p → IsLeastPlace (y ∷ []) b at q → IsLeastPlace (x ∷ y ∷ []) b at (min p q)
+-- the least place of two and of three needles
+pub least-two : (x y b : List ℕ) (at p q : ℕ) → IsLeastPlace (x ∷ []) b at p
+    → IsLeastPlace (y ∷ []) b at q → IsLeastPlace (x ∷ y ∷ []) b at (min p q)
 least-two x y b at p q = least-both (x ∷ []) (y ∷ []) b at p q
 
-pub least-three : (x y z b : List ℕ) (at p q r : ℕ) → IsLeastPlace (x ∷ []) b at p → IsLeastPlace (y ∷ []) b at q → IsLeastPlace (z ∷ []) b at r → IsLeastPlace (x ∷ y ∷ z ∷ []) b at (min (min p q) r)
+pub least-three : (x y z b : List ℕ) (at p q r : ℕ) → IsLeastPlace (x ∷ []) b at p
+    → IsLeastPlace (y ∷ []) b at q → IsLeastPlace (z ∷ []) b at r
+    → IsLeastPlace (x ∷ y ∷ z ∷ []) b at (min (min p q) r)
 least-three x y z b at p q r e f g = least-both (x ∷ y ∷ []) (z ∷ []) b at (min p q) r (least-two x y b at p q e f) g
 
+-- the rules for several needles
 pub ruleset least_places = (least-two, least-three)
 
 -- ---- the hit
 
-stretching-never : (ls : List (List ℕ)) (xs : List ℕ) → any_stretches ls xs ≡ false → stretching ls xs ≡ None
+-- where no needle stretches, `stretching` is `None`
+stretching-never : (ls : List (List ℕ)) (xs : List ℕ) → any_stretches ls xs ≡ false
+    → stretching ls xs ≡ None
 stretching-never [] xs e = refl
 stretching-never (n ∷ ls) xs e =
     elim (cases_Bool (stretches n xs)) [
@@ -133,12 +153,14 @@ stretching-never (n ∷ ls) xs e =
       | inr t ↦ stretching_or-later (is_prefix n xs) (stretches n xs) (stretching ls xs) t (stretching-never ls xs (rw t at e))
     ]
 
+-- an option whose mapped value is `None` is `None`
 mapped-some : (o : Option ℕ) → option_map (λ i. i + 1) o ≡ None → o ≡ None
 mapped-some None e = refl
 mapped-some (Some i) e = absurd (none-some (i + 1) (sym e))
 
--- where none stands, and some needle stretches, one is the first to
-stretching-some-here : (ls : List (List ℕ)) (xs : List ℕ) → needle_at ls xs ≡ None → stretching ls xs ≡ None → any_stretches ls xs ≡ false
+-- if no needle stands and some needle stretches, one is the first that does
+stretching-some-here : (ls : List (List ℕ)) (xs : List ℕ) → needle_at ls xs ≡ None
+    → stretching ls xs ≡ None → any_stretches ls xs ≡ false
 stretching-some-here [] xs none e = refl
 stretching-some-here (n ∷ ls) xs none e =
     elim (cases_Bool (is_prefix n xs)) [
@@ -152,12 +174,13 @@ stretching-some-here (n ∷ ls) xs none e =
     ]
 
 module _ (ls : List (List ℕ)) (b : List ℕ) (some : list_any is_empty ls ≡ false) (r : Range ℕ) (h : hit ls b ≡ Some r) where
+  -- both ends of the hit are within the bytes, in order
   pub hit-span : (r.start ≤ r.end) × (r.end ≤ length b)
   hit-span =
       let whole = (first ls b some r h).whole in
       (omega (arith, whole), omega (arith, whole, fits ls b some r h, length-drop r.start b, inside ls b some r h))
 
-  -- what stands at the hit stands nowhere before
+  -- what stands at the hit stands nowhere before it
   pub hit-finds : FindsNeedle b (take (r.end - r.start) (drop r.start b)) 0 (Some r.start)
   hit-finds =
       let f = first ls b some r h in
@@ -178,15 +201,17 @@ module _ (ls : List (List ℕ)) (b : List ℕ) (some : list_any is_empty ls ≡ 
       )
 
   module _ (p : ℕ) (least : IsLeastPlace ls b r.start p) where
+    -- no needle stretches before the least place
     never-before : (k : ℕ) → k < p → k ≤ r.start → stretching ls (drop k b) ≡ None
     never-before k l low = stretching-never ls (drop k b) (least.before k l low)
 
-    -- no needle stretches up to the hit
+    -- if the least place is after the hit, nothing can move it
     pub place-over : r.start < p → stretch_of ls b ≡ None
     place-over over = stretch-over ls b some r h (λ k m l. never-before k (omega (arith, over, l)) (omega (arith, l)))
 
     module _ (low : p ≤ r.start) where
-      -- one stretches at the hit, but is listed after the one that stands there
+      -- a needle that stretches at the hit, but is listed after the one that stands there, does not
+      -- move it
       pub place-later : stretching ls (drop p b) ≡ None → stretch_of ls b ≡ None
       place-later e =
           elim (cases_lt p r.start) [
@@ -203,5 +228,7 @@ module _ (ls : List (List ℕ)) (b : List ℕ) (some : list_any is_empty ls ≡ 
                 ])
           ]
 
-      pub place-first : (i : ℕ) → stretching ls (drop p b) ≡ Some i → stretch_of ls b ≡ Some (record { needle = i; place = p })
+      -- a needle that stretches at the least place is what could move the hit
+      pub place-first : (i : ℕ) → stretching ls (drop p b) ≡ Some i
+          → stretch_of ls b ≡ Some (record { needle = i; place = p })
       place-first i e = stretch-found ls b some r h p i low (λ k m l. never-before k l (omega (arith, l, low))) e

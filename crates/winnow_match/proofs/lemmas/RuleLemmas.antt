@@ -1,4 +1,4 @@
--- The rule of definite hits, and what stretches, in facts both ways.
+-- The rule of definite hits, and of needles that stretch, as facts in both directions.
 use Rattle.std.proofs.Common.{◌≡◌, ◌↔◌, ℕ, ◌<◌, ◌⊎◌, true, false, List, [], length, drop, Some, None, refl, ap, sym, ◌∙◌, arith, subst, inl, inr}
 use Rattle.std.specs.Prelude.{Contains}
 use Rattle.std.specs.List.{list_any}
@@ -13,13 +13,18 @@ use Rattle.winnow_match.specs.Stretch.{stretch_of, hit_is_definite, Stretches, C
 use Rattle.winnow_match.proofs.lemmas.StretchLemmas.{none-or-some}
 use Rattle.winnow_match.proofs.lemmas.MoveLemmas.{empty-at, stretch-none, stretch-some, stretch-first, stretch-empty, hit-empty, definite-parts, definite-from}
 
-pub empty-definite : (ls : List (List ℕ)) (b : List ℕ) → Contains ls [] → hit_is_definite ls b ≡ true
+-- with an empty needle the hit is definite
+pub empty-definite : (ls : List (List ℕ)) (b : List ℕ) → Contains ls []
+    → hit_is_definite ls b ≡ true
 empty-definite ls b c = let e = empty-at ls c.0 c.1 c.2 in definite-from ls b (span 0 0) (hit-empty ls b e) (stretch-empty ls b e)
 
--- ---- what can move the hit, by the number of the needle that stands
+-- ---- what can move the hit, by the number of the needle at it
 
 module _ (ls : List (List ℕ)) (b : List ℕ) (r : Range ℕ) (f : IsFirstHit ls b r) (i q : ℕ) where
-  can-move : i < length ls → (q < r.start) ⊎ ((q ≡ r.start) × (i < f.index)) → Stretches (needle_of ls i) b q → CanMove ls b r i q
+  -- a needle can move the hit exactly if it stretches before it, or at it and is listed before the
+  -- one there
+  can-move : i < length ls → (q < r.start) ⊎ ((q ≡ r.start) × (i < f.index))
+      → Stretches (needle_of ls i) b q → CanMove ls b r i q
   can-move l w s =
       record {
         listed = l;
@@ -51,10 +56,13 @@ module _ (ls : List (List ℕ)) (b : List ℕ) (r : Range ℕ) (f : IsFirstHit l
       ]
 
 module _ (ls : List (List ℕ)) (b : List ℕ) (some : ¬ Contains ls []) (r : Range ℕ) where
+  -- no needle is empty
   none : list_any is_empty ls ≡ false
   none = none-empty ls some
 
-  pub stretch-none-says : hit ls b ≡ Some r → (stretch_of ls b ≡ None ↔ ((i q : ℕ) → ¬ CanMove ls b r i q))
+  -- `stretch_of` is `None` exactly if nothing can move the hit
+  pub stretch-none-says : hit ls b ≡ Some r
+      → (stretch_of ls b ≡ None ↔ ((i q : ℕ) → ¬ CanMove ls b r i q))
   stretch-none-says h = (
     λ e. stretch-none ls b none r h (sym (stretch-first ls b none) ∙ e),
     λ still.
@@ -64,6 +72,7 @@ module _ (ls : List (List ℕ)) (b : List ℕ) (some : ¬ Contains ls []) (r : R
         ],
   )
 
+  -- there is only one least stretch
   same-stretch : (s t : Stretch) → IsStretch ls b r s → IsStretch ls b r t → s ≡ t
   same-stretch s t f g =
       let p : s.place ≡ t.place = omega (arith, f.least t.needle t.place g.can_move, g.least s.needle s.place f.can_move) in
@@ -72,7 +81,9 @@ module _ (ls : List (List ℕ)) (b : List ℕ) (some : ¬ Contains ls []) (r : R
       let n : s.needle ≡ t.needle = omega (arith, a, c) in
       ap (λ x. let v : Stretch = record { needle = s.needle; place = x } in v) p ∙ ap (λ x. let v : Stretch = record { needle = x; place = t.place } in v) n
 
-  pub stretch-some-says : (s : Stretch) → hit ls b ≡ Some r → (stretch_of ls b ≡ Some s ↔ IsStretch ls b r s)
+  -- `stretch_of` gives exactly the least stretch
+  pub stretch-some-says : (s : Stretch) → hit ls b ≡ Some r
+      → (stretch_of ls b ≡ Some s ↔ IsStretch ls b r s)
   stretch-some-says s h = (
     λ e. stretch-some ls b none r h s (sym (stretch-first ls b none) ∙ e),
     λ f.
@@ -82,7 +93,9 @@ module _ (ls : List (List ℕ)) (b : List ℕ) (some : ¬ Contains ls []) (r : R
         ],
   )
 
-  pub rule-says : (f : IsFirstHit ls b r) → (hit_is_definite ls b ≡ true ↔ NothingStretches ls b r f)
+  -- a hit is definite exactly if nothing stretches
+  pub rule-says : (f : IsFirstHit ls b r)
+      → (hit_is_definite ls b ≡ true ↔ NothingStretches ls b r f)
   rule-says f =
       let h = (some-says ls b some r).1 f in
       let says = stretch-none-says h in (
@@ -90,5 +103,7 @@ module _ (ls : List (List ℕ)) (b : List ℕ) (some : ¬ Contains ls []) (r : R
         λ n. definite-from ls b r h (says.1 (λ i q c. n i q c.listed (moved-by ls b r f i q c) c.stretches)),
       )
 
-pub none-definite : (ls : List (List ℕ)) (b : List ℕ) → hit ls b ≡ None → hit_is_definite ls b ≡ false
+-- without a hit nothing is definite
+pub none-definite : (ls : List (List ℕ)) (b : List ℕ) → hit ls b ≡ None
+    → hit_is_definite ls b ≡ false
 none-definite ls b h = rw h refl

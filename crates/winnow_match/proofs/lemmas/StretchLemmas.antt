@@ -10,14 +10,18 @@ use Rattle.winnow_match.proofs.lemmas.HitLemmas.{below-suc}
 use Rattle.winnow_match.specs.declared.needles.Stretch.{Stretch}
 use Rattle.winnow_match.specs.Stretch.{stretches, stretching, stretch_or, first_stretch}
 
+-- an option is `None` or has a value
 pub none-or-some : {A : Type 0} (o : Option A) → (o ≡ None) ⊎ ((a : A) × (o ≡ Some a))
 none-or-some None = inl refl
 none-or-some (Some a) = inr (a, refl)
 
-mapped-some : (o : Option ℕ) (i : ℕ) → option_map (λ k. k + 1) o ≡ Some i → (j : ℕ) × (o ≡ Some j) × (i ≡ suc j)
+-- the value before the mapping of a mapped option
+mapped-some : (o : Option ℕ) (i : ℕ) → option_map (λ k. k + 1) o ≡ Some i
+    → (j : ℕ) × (o ≡ Some j) × (i ≡ suc j)
 mapped-some None i h = absurd (none-some i h)
 mapped-some (Some j) i h = let e = same_Some (j + 1) i h in (j, refl, omega (arith, e))
 
+-- an option whose mapped value is `None` is `None`
 mapped-none : (o : Option ℕ) → option_map (λ k. k + 1) o ≡ None → o ≡ None
 mapped-none None h = refl
 mapped-none (Some j) h = absurd (none-some (j + 1) (sym h))
@@ -25,6 +29,7 @@ mapped-none (Some j) h = absurd (none-some (j + 1) (sym h))
 -- ---- one needle
 
 module _ (n xs : List ℕ) where
+  -- `stretches` as a fact, in both directions
   pub stretches-parts : stretches n xs ≡ true → IsPrefixOf xs n × (length xs < length n)
   stretches-parts h =
       let p = and_parts (is_prefix xs n) (nat_lt (length xs) (length n)) h in (IsPrefixOf-is_prefix xs n p.0, ltb-true (length xs) (length n) p.1)
@@ -34,13 +39,16 @@ module _ (n xs : List ℕ) where
 
 -- ---- the first listed needle that stretches
 
+-- needle i stretches here, and none listed before it stretches or stands here
 pub record IsFirstStretching (ls : List (List ℕ)) (xs : List ℕ) (i : ℕ) : Type 0 where
   pub listed : i < length ls
   pub stretched : stretches (needle_of ls i) xs ≡ true
   pub absent : (j : ℕ) → j < i → is_prefix (needle_of ls j) xs ≡ false
   pub before : (j : ℕ) → j < i → stretches (needle_of ls j) xs ≡ false
 
-pub stretching-some : (ls : List (List ℕ)) (xs : List ℕ) (i : ℕ) → stretching ls xs ≡ Some i → IsFirstStretching ls xs i
+-- `stretching` gives the first listed needle that stretches, with none before it that stands
+pub stretching-some : (ls : List (List ℕ)) (xs : List ℕ) (i : ℕ) → stretching ls xs ≡ Some i
+    → IsFirstStretching ls xs i
 stretching-some [] xs i h = absurd (none-some i h)
 stretching-some (n ∷ ls) xs i h =
     let e : cond (is_prefix n xs) None (cond (stretches n xs) (Some 0) (option_map (λ k. k + 1) (stretching ls xs))) ≡ Some i = h in
@@ -64,12 +72,19 @@ stretching-some (n ∷ ls) xs i h =
       ]
     ]
 
-later-none : (n : List ℕ) (ls : List (List ℕ)) (xs : List ℕ) → stretches n xs ≡ false → ((i : ℕ) → i < length ls → ((j : ℕ) → j < suc i → is_prefix (needle_of ls j) xs ≡ false) → stretches (needle_of ls i) xs ≡ false) → (i : ℕ) → i < length (n ∷ ls) → ((j : ℕ) → j < suc i → is_prefix (needle_of (n ∷ ls) j) xs ≡ false) → stretches (needle_of (n ∷ ls) i) xs ≡ false
+-- the step of `stretching-none`
+later-none : (n : List ℕ) (ls : List (List ℕ)) (xs : List ℕ) → stretches n xs ≡ false
+    → ((i : ℕ) → i < length ls → ((j : ℕ) → j < suc i → is_prefix (needle_of ls j) xs ≡ false)
+    → stretches (needle_of ls i) xs ≡ false) → (i : ℕ) → i < length (n ∷ ls)
+    → ((j : ℕ) → j < suc i → is_prefix (needle_of (n ∷ ls) j) xs ≡ false)
+    → stretches (needle_of (n ∷ ls) i) xs ≡ false
 later-none n ls xs g f zero l absent = g
 later-none n ls xs g f (suc i) l absent = f i (omega (arith, l)) (λ j k. absent (suc j) (omega (arith, k)))
 
--- none stretches that is listed before each one that stands
-pub stretching-none : (ls : List (List ℕ)) (xs : List ℕ) → stretching ls xs ≡ None → (i : ℕ) → i < length ls → ((j : ℕ) → j < suc i → is_prefix (needle_of ls j) xs ≡ false) → stretches (needle_of ls i) xs ≡ false
+-- if `stretching` is `None`, no needle stretches that is listed before each one that stands
+pub stretching-none : (ls : List (List ℕ)) (xs : List ℕ) → stretching ls xs ≡ None → (i : ℕ)
+    → i < length ls → ((j : ℕ) → j < suc i → is_prefix (needle_of ls j) xs ≡ false)
+    → stretches (needle_of ls i) xs ≡ false
 stretching-none [] xs h i l absent = absurd (omega (arith, l))
 stretching-none (n ∷ ls) xs h i l absent =
     let e : cond (is_prefix n xs) None (cond (stretches n xs) (Some 0) (option_map (λ k. k + 1) (stretching ls xs))) ≡ None = h in
@@ -83,6 +98,7 @@ stretching-none (n ∷ ls) xs h i l absent =
 
 -- ---- places
 
+-- the first place at which a needle stretches, with none that stands before it
 pub record IsFirstStretch (ls : List (List ℕ)) (bytes : List ℕ) (base : ℕ) (s : Stretch) : Type 0 where
   pub place : ℕ
   pub is : s.place ≡ base + place
@@ -90,7 +106,9 @@ pub record IsFirstStretch (ls : List (List ℕ)) (bytes : List ℕ) (base : ℕ)
   pub before : (k : ℕ) → k < place → stretching ls (drop k bytes) ≡ None
   pub absent : (k : ℕ) → k < place → needle_at ls (drop k bytes) ≡ None
 
-pub first_stretch-some : (ls : List (List ℕ)) (bytes : List ℕ) (base : ℕ) (s : Stretch) → first_stretch ls base bytes ≡ Some s → IsFirstStretch ls bytes base s
+-- `first_stretch` gives the first place with a needle that stretches, before any that stands
+pub first_stretch-some : (ls : List (List ℕ)) (bytes : List ℕ) (base : ℕ) (s : Stretch)
+    → first_stretch ls base bytes ≡ Some s → IsFirstStretch ls bytes base s
 first_stretch-some ls [] base s h = absurd (none-some s h)
 first_stretch-some ls (y ∷ bytes) base s h =
     let e : stretch_or base (stretching ls (y ∷ bytes)) (needle_at ls (y ∷ bytes)) (first_stretch ls (base + 1) bytes) ≡ Some s = h in
@@ -113,12 +131,20 @@ first_stretch-some ls (y ∷ bytes) base s h =
       ]
     ]
 
-at-place : (ls : List (List ℕ)) (y : ℕ) (bytes : List ℕ) → stretching ls (y ∷ bytes) ≡ None → (needle_at ls (y ∷ bytes) ≡ None → (q : ℕ) → q < length bytes → ((k : ℕ) → k < q → needle_at ls (drop k bytes) ≡ None) → stretching ls (drop q bytes) ≡ None) → (q : ℕ) → q < length (y ∷ bytes) → ((k : ℕ) → k < q → needle_at ls (drop k (y ∷ bytes)) ≡ None) → stretching ls (drop q (y ∷ bytes)) ≡ None
+-- the step of `first_stretch-none`
+at-place : (ls : List (List ℕ)) (y : ℕ) (bytes : List ℕ) → stretching ls (y ∷ bytes) ≡ None
+    → (needle_at ls (y ∷ bytes) ≡ None → (q : ℕ) → q < length bytes
+    → ((k : ℕ) → k < q → needle_at ls (drop k bytes) ≡ None) → stretching ls (drop q bytes) ≡ None)
+    → (q : ℕ) → q < length (y ∷ bytes)
+    → ((k : ℕ) → k < q → needle_at ls (drop k (y ∷ bytes)) ≡ None)
+    → stretching ls (drop q (y ∷ bytes)) ≡ None
 at-place ls y bytes f later zero l absent = f
 at-place ls y bytes f later (suc q) l absent = later (absent 0 (omega arith)) q (omega (arith, l)) (λ k m. absent (suc k) (omega (arith, m)))
 
--- up to a place that no needle stands before
-pub first_stretch-none : (ls : List (List ℕ)) (bytes : List ℕ) (base : ℕ) → first_stretch ls base bytes ≡ None → (q : ℕ) → q < length bytes → ((k : ℕ) → k < q → needle_at ls (drop k bytes) ≡ None) → stretching ls (drop q bytes) ≡ None
+-- if `first_stretch` is `None`, none stretches up to the first place at which a needle stands
+pub first_stretch-none : (ls : List (List ℕ)) (bytes : List ℕ) (base : ℕ)
+    → first_stretch ls base bytes ≡ None → (q : ℕ) → q < length bytes
+    → ((k : ℕ) → k < q → needle_at ls (drop k bytes) ≡ None) → stretching ls (drop q bytes) ≡ None
 first_stretch-none ls [] base h q l absent = absurd (omega (arith, l))
 first_stretch-none ls (y ∷ bytes) base h q l absent =
     let e : stretch_or base (stretching ls (y ∷ bytes)) (needle_at ls (y ∷ bytes)) (first_stretch ls (base + 1) bytes) ≡ None = h in

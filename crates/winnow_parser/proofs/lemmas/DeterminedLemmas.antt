@@ -1,13 +1,14 @@
--- Combinators of parsers that have one answer have one answer.
+-- A combinator of parsers that have one answer has one answer.
 use Rattle.std.specs.Prelude.{Bool, ◌⊎◌, ⊤}
 use Rattle.std.proofs.Common.{sym, ◌∙◌, subst, inl, inr}
 use Rattle.winnow_parser.specs.Outcome.{Ahead, Backtracks, Cuts, Needs, Refuses, Outcome, Gives, Fails, Meaning}
 use Rattle.winnow_parser.specs.Meanings.{Returns, Maps, Pair, Either}
 use Rattle.winnow_parser.specs.Determined.{IsGranted, Agree, IsDetermined, AreBothSame, Respects}
 
--- ---- A value, and what a relation makes of it
+-- ---- A value, and what a relation gives for it
 
 module _ {O T : Type 0} (x : O) (same : O → O → Type 0) (self : same x x) where
+  -- `Returns` has one answer
   pub determined-returns : IsDetermined {O = O} {T = T} same (Returns x)
   determined-returns partial a (Gives y b) (Gives z c) s t h k =
       (subst (λ u. same u z) h.0 (subst (same x) k.0 self), sym h.1 ∙ k.1)
@@ -16,6 +17,7 @@ module _ {O T : Type 0} (x : O) (same : O → O → Type 0) (self : same x x) wh
   determined-returns partial a (Fails f) (Fails g) s t h k = absurd h
 
 module _ {O P T : Type 0} (same : O → O → Type 0) (alike : P → P → Type 0) (gives : O → P → Type 0) (respects : Respects same alike gives) (inner : Meaning O T) (d : IsDetermined same inner) where
+  -- `Maps` has one answer where its relation gives the same for values that are the same
   pub determined-maps : IsDetermined alike (Maps gives inner)
   determined-maps partial a (Gives y b) (Gives z c) s t h k =
       let e = d partial a (Gives h.0 b) (Gives k.0 c) tt tt h.1.1 k.1.1 in (respects h.0 k.0 y z e.0 h.1.0 k.1.0, e.1)
@@ -26,6 +28,7 @@ module _ {O P T : Type 0} (same : O → O → Type 0) (alike : P → P → Type 
 -- ---- One after the other
 
 module _ {O P T : Type 0} (same : O → O → Type 0) (alike : P → P → Type 0) (first : Meaning O T) (second : Meaning P T) (d : IsDetermined same first) (e : IsDetermined alike second) where
+  -- `Pair` has one answer where its parts have one
   pub determined-pair : IsDetermined (AreBothSame same alike) (Pair first second)
   determined-pair partial a (Gives x b) (Gives y c) s t h k =
       let one = d partial a (Gives x.0 h.0) (Gives y.0 k.0) tt tt h.1.0 k.1.0 in
@@ -48,7 +51,7 @@ module _ {O P T : Type 0} (same : O → O → Type 0) (alike : P → P → Type 
 
 -- ---- One of two
 
--- the first, which does not backtrack; or the second, where the first does
+-- the outcome is not a backtrack, so that `Either` takes it from the first parser
 abbrev Taken-first : {O T : Type 0} → Outcome O T → Type 0
 Taken-first (Gives x b) = ⊤
 Taken-first (Fails (Backtracks b)) = ⊥
@@ -57,7 +60,10 @@ Taken-first (Fails (Needs n)) = ⊤
 Taken-first (Fails Refuses) = ⊤
 
 module _ {O T : Type 0} (refusable : Type 0) (first second : Meaning O T) where
-  either-cases : (partial : Bool) (a : Ahead T) (v : Outcome O T) → IsGranted v → Either refusable first second partial a v
+  -- an answer of `Either` comes from the first parser, or from the second where the first
+  -- backtracks
+  either-cases : (partial : Bool) (a : Ahead T) (v : Outcome O T) → IsGranted v
+      → Either refusable first second partial a v
       → (first partial a v × Taken-first v) ⊎ ((c : Ahead T) × (first partial a (Fails (Backtracks c)) × second partial a v))
   either-cases partial a (Gives x b) s (inl h) = inl (h, tt)
   either-cases partial a (Gives x b) s (inr h) = inr h
@@ -68,14 +74,18 @@ module _ {O T : Type 0} (refusable : Type 0) (first second : Meaning O T) where
   either-cases partial a (Fails (Needs n)) s (inr h) = inr h
   either-cases partial a (Fails Refuses) s h = absurd s
 
-first-backtracks : {O T : Type 0} (same : O → O → Type 0) (v : Outcome O T) (c : Ahead T) → Taken-first v → Agree same v (Fails (Backtracks c)) → ⊥
+-- an outcome that is not a backtrack agrees with no backtrack
+first-backtracks : {O T : Type 0} (same : O → O → Type 0) (v : Outcome O T) (c : Ahead T)
+    → Taken-first v → Agree same v (Fails (Backtracks c)) → ⊥
 first-backtracks same (Gives x b) c s e = e
 first-backtracks same (Fails (Backtracks b)) c s e = s
 first-backtracks same (Fails (Cuts b)) c s e = cc
 first-backtracks same (Fails (Needs n)) c s e = cc
 first-backtracks same (Fails Refuses) c s e = cc
 
-backtracks-first : {O T : Type 0} (same : O → O → Type 0) (v : Outcome O T) (c : Ahead T) → Taken-first v → Agree same (Fails (Backtracks c)) v → ⊥
+-- the same in the other order
+backtracks-first : {O T : Type 0} (same : O → O → Type 0) (v : Outcome O T) (c : Ahead T)
+    → Taken-first v → Agree same (Fails (Backtracks c)) v → ⊥
 backtracks-first same (Gives x b) c s e = e
 backtracks-first same (Fails (Backtracks b)) c s e = s
 backtracks-first same (Fails (Cuts b)) c s e = cc
@@ -83,6 +93,7 @@ backtracks-first same (Fails (Needs n)) c s e = cc
 backtracks-first same (Fails Refuses) c s e = cc
 
 module _ {O T : Type 0} (refusable : Type 0) (same : O → O → Type 0) (first second : Meaning O T) (d : IsDetermined same first) (e : IsDetermined same second) where
+  -- two answers of `Either` agree, by which parser each comes from
   either-agree : (partial : Bool) (a : Ahead T) (v w : Outcome O T) → IsGranted v → IsGranted w
       → (first partial a v × Taken-first v) ⊎ ((c : Ahead T) × (first partial a (Fails (Backtracks c)) × second partial a v))
       → (first partial a w × Taken-first w) ⊎ ((c : Ahead T) × (first partial a (Fails (Backtracks c)) × second partial a w))
@@ -92,6 +103,7 @@ module _ {O T : Type 0} (refusable : Type 0) (same : O → O → Type 0) (first 
   either-agree partial a v w s t (inr h) (inl k) = absurd (backtracks-first same w h.0 k.1 (d partial a (Fails (Backtracks h.0)) w tt t h.1.0 k.0))
   either-agree partial a v w s t (inr h) (inr k) = e partial a v w s t h.1.1 k.1.1
 
+  -- `Either` has one answer where its parts have one
   pub determined-either : IsDetermined same (Either refusable first second)
   determined-either partial a v w s t h k =
       either-agree partial a v w s t (either-cases refusable first second partial a v s h) (either-cases refusable first second partial a w t k)

@@ -1,25 +1,28 @@
--- What is made of what a parser with one answer answers has one answer.
+-- A parser whose answers are made of those of a parser with one answer has one answer.
 use Rattle.std.specs.Prelude.{◌≡◌, Bool, true, false, Option, Some, None, ⊤}
 use Rattle.std.proofs.Common.{refl, sym, ◌∙◌, ap, subst, inl, inr}
 use Rattle.winnow_parser.specs.Outcome.{Ahead, Failed, Backtracks, Cuts, Needs, Refuses, Outcome, Gives, Fails, Meaning}
 use Rattle.winnow_parser.specs.Meanings.{Optional, LookedAt, Negated, CutOff, Softened, Verified, Chosen}
 use Rattle.winnow_parser.specs.Determined.{IsGranted, Agree, IsDetermined, AreSameIfAny, Respects}
 
--- ---- What a parser makes of what another answers
+-- ---- A parser whose answers are made of those of another
 
 module _ {O P T : Type 0} (inner : Meaning O T) (outer : Meaning P T) (made : Ahead T → Outcome O T → Outcome P T → Type 0) (same : O → O → Type 0) (alike : P → P → Type 0) (image : (partial : Bool) (a : Ahead T) (v : Outcome P T) → IsGranted v → outer partial a v → (u : Outcome O T) × (IsGranted u × inner partial a u × made a u v)) (respects : (a : Ahead T) (u t : Outcome O T) (v w : Outcome P T) → Agree same u t → made a u v → made a t w → Agree alike v w) (d : IsDetermined same inner) where
+  -- two answers agree where those that they are made of agree
   determined-image : IsDetermined alike outer
   determined-image partial a v w s t h k =
       let m = image partial a v s h in
       let n = image partial a w t k in
       respects a m.0 n.0 v w (d partial a m.0 n.0 m.1.0 n.1.0 m.1.1 n.1.1) m.1.2 n.1.2
 
--- the same failure
+-- the outcome is this same failure
 abbrev Keeps-failure : {P T : Type 0} → Failed T → Outcome P T → Type 0
 Keeps-failure f (Gives y b) = ⊥
 Keeps-failure f (Fails g) = f ≡ g
 
-keeps-failure : {P T : Type 0} (alike : P → P → Type 0) (f g : Failed T) (v w : Outcome P T) → f ≡ g → Keeps-failure f v → Keeps-failure g w → Agree alike v w
+-- outcomes that keep the same failure agree
+keeps-failure : {P T : Type 0} (alike : P → P → Type 0) (f g : Failed T) (v w : Outcome P T)
+    → f ≡ g → Keeps-failure f v → Keeps-failure g w → Agree alike v w
 keeps-failure alike f g (Gives y b) w e h k = absurd h
 keeps-failure alike f g (Fails i) (Gives z c) e h k = absurd k
 keeps-failure alike f g (Fails i) (Fails j) e h k = sym h ∙ e ∙ k
@@ -34,7 +37,10 @@ Made-optional {O} {T} a (Fails f) (Gives None c) = (a ≡ c) × ((b : Ahead T) �
 Made-optional {O} {T} a (Fails f) (Fails g) = (f ≡ g) × ((b : Ahead T) → ¬ (f ≡ Backtracks b))
 
 module _ {O T : Type 0} (inner : Meaning O T) (same : O → O → Type 0) (d : IsDetermined same inner) where
-  optional-image : (partial : Bool) (a : Ahead T) (v : Outcome (Option O) T) → IsGranted v → Optional inner partial a v → (u : Outcome O T) × (IsGranted u × inner partial a u × Made-optional a u v)
+  -- each answer of `Optional` is made of one of the inner parser
+  optional-image : (partial : Bool) (a : Ahead T) (v : Outcome (Option O) T) → IsGranted v
+      → Optional inner partial a v
+      → (u : Outcome O T) × (IsGranted u × inner partial a u × Made-optional a u v)
   optional-image partial a (Gives (Some x) b) s h = (Gives x b, (tt, h, (refl, refl)))
   optional-image partial a (Gives None b) s h = (Fails (Backtracks h.1.0), (tt, h.1.1, (h.0, (h.1.0, refl))))
   optional-image partial a (Fails (Backtracks b)) s h = absurd h
@@ -42,7 +48,9 @@ module _ {O T : Type 0} (inner : Meaning O T) (same : O → O → Type 0) (d : I
   optional-image partial a (Fails (Needs n)) s h = (Fails (Needs n), (tt, h, (refl, λ c e. cc)))
   optional-image partial a (Fails Refuses) s h = absurd s
 
-  optional-respects : (a : Ahead T) (u t : Outcome O T) (v w : Outcome (Option O) T) → Agree same u t → Made-optional a u v → Made-optional a t w → Agree (AreSameIfAny same) v w
+  -- answers of `Optional` agree where the answers that they are made of agree
+  optional-respects : (a : Ahead T) (u t : Outcome O T) (v w : Outcome (Option O) T)
+      → Agree same u t → Made-optional a u v → Made-optional a t w → Agree (AreSameIfAny same) v w
   optional-respects a (Gives x b) (Gives y c) (Gives (Some p) i) (Gives (Some q) j) e h k =
       (subst (λ z. same z q) h.0 (subst (same x) k.0 e.0), sym h.1 ∙ e.1 ∙ k.1)
   optional-respects a (Gives x b) (Gives y c) (Gives (Some p) i) (Gives None j) e h k = absurd k
@@ -59,6 +67,7 @@ module _ {O T : Type 0} (inner : Meaning O T) (same : O → O → Type 0) (d : I
   optional-respects a (Fails f) (Fails g) (Fails m) (Gives None j) e h k = absurd (h.1 k.1.0 (e ∙ k.1.1))
   optional-respects a (Fails f) (Fails g) (Fails m) (Fails l) e h k = sym h.0 ∙ e ∙ k.0
 
+  -- `Optional` has one answer where its parts have one
   pub determined-optional : IsDetermined (AreSameIfAny same) (Optional inner)
   determined-optional = determined-image inner (Optional inner) Made-optional same (AreSameIfAny same) optional-image optional-respects d
 
@@ -69,11 +78,16 @@ Made-looked a (Gives x b) (Fails g) = ⊥
 Made-looked a (Fails f) v = Keeps-failure f v
 
 module _ {O T : Type 0} (inner : Meaning O T) (same : O → O → Type 0) (d : IsDetermined same inner) where
-  looked-image : (partial : Bool) (a : Ahead T) (v : Outcome O T) → IsGranted v → LookedAt inner partial a v → (u : Outcome O T) × (IsGranted u × inner partial a u × Made-looked a u v)
+  -- each answer of `LookedAt` is made of one of the inner parser
+  looked-image : (partial : Bool) (a : Ahead T) (v : Outcome O T) → IsGranted v
+      → LookedAt inner partial a v
+      → (u : Outcome O T) × (IsGranted u × inner partial a u × Made-looked a u v)
   looked-image partial a (Gives x b) s h = (Gives x h.1.0, (tt, h.1.1, (refl, h.0)))
   looked-image partial a (Fails f) s h = (Fails f, (s, h, refl))
 
-  looked-respects : (a : Ahead T) (u t v w : Outcome O T) → Agree same u t → Made-looked a u v → Made-looked a t w → Agree same v w
+  -- answers of `LookedAt` agree where the answers that they are made of agree
+  looked-respects : (a : Ahead T) (u t v w : Outcome O T) → Agree same u t → Made-looked a u v
+      → Made-looked a t w → Agree same v w
   looked-respects a (Gives x b) (Gives y c) (Gives p i) (Gives q j) e h k =
       (subst (λ z. same z q) h.0 (subst (same x) k.0 e.0), sym h.1 ∙ k.1)
   looked-respects a (Gives x b) (Gives y c) (Gives p i) (Fails g) e h k = absurd k
@@ -82,28 +96,35 @@ module _ {O T : Type 0} (inner : Meaning O T) (same : O → O → Type 0) (d : I
   looked-respects a (Fails f) (Gives y c) v w e h k = absurd e
   looked-respects a (Fails f) (Fails g) v w e h k = keeps-failure same f g v w e h k
 
+  -- `LookedAt` has one answer where its parts have one
   pub determined-looked : IsDetermined same (LookedAt inner)
   determined-looked = determined-image inner (LookedAt inner) Made-looked same same looked-image looked-respects d
 
--- nothing for a backtrack, and a backtrack for a value
+-- success for a backtrack, and a backtrack for a value
 abbrev Made-negated : {O T : Type 0} → Ahead T → Outcome O T → Outcome (Unit {0}) T → Type 0
 Made-negated {O} {T} a (Gives x b) (Gives u c) = ⊥
 Made-negated a (Gives x b) (Fails g) = Backtracks a ≡ g
 Made-negated {O} {T} a (Fails f) (Gives u c) = (a ≡ c) × ((b : Ahead T) × (f ≡ Backtracks b))
 Made-negated {O} {T} a (Fails f) (Fails g) = (f ≡ g) × ((b : Ahead T) → ¬ (f ≡ Backtracks b))
 
+-- two units are the same
 abbrev pub AreUnits : Unit {0} → Unit {0} → Type 0
 AreUnits u v = ⊤
 
 module _ {O T : Type 0} (inner : Meaning O T) (same : O → O → Type 0) (d : IsDetermined same inner) where
-  negated-image : (partial : Bool) (a : Ahead T) (v : Outcome (Unit {0}) T) → IsGranted v → Negated inner partial a v → (u : Outcome O T) × (IsGranted u × inner partial a u × Made-negated a u v)
+  -- each answer of `Negated` is made of one of the inner parser
+  negated-image : (partial : Bool) (a : Ahead T) (v : Outcome (Unit {0}) T) → IsGranted v
+      → Negated inner partial a v
+      → (u : Outcome O T) × (IsGranted u × inner partial a u × Made-negated a u v)
   negated-image partial a (Gives u b) s h = (Fails (Backtracks h.1.0), (tt, h.1.1, (h.0, (h.1.0, refl))))
   negated-image partial a (Fails (Backtracks b)) s h = (Gives h.1.0 h.1.1.0, (tt, h.1.1.1, ap Backtracks h.0))
   negated-image partial a (Fails (Cuts b)) s h = (Fails (Cuts b), (tt, h, (refl, λ c e. cc)))
   negated-image partial a (Fails (Needs n)) s h = (Fails (Needs n), (tt, h, (refl, λ c e. cc)))
   negated-image partial a (Fails Refuses) s h = absurd s
 
-  negated-respects : (a : Ahead T) (u t : Outcome O T) (v w : Outcome (Unit {0}) T) → Agree same u t → Made-negated a u v → Made-negated a t w → Agree AreUnits v w
+  -- answers of `Negated` agree where the answers that they are made of agree
+  negated-respects : (a : Ahead T) (u t : Outcome O T) (v w : Outcome (Unit {0}) T)
+      → Agree same u t → Made-negated a u v → Made-negated a t w → Agree AreUnits v w
   negated-respects a (Gives x b) (Gives y c) (Gives p i) w e h k = absurd h
   negated-respects a (Gives x b) (Gives y c) (Fails f) (Gives q j) e h k = absurd k
   negated-respects a (Gives x b) (Gives y c) (Fails f) (Fails g) e h k = sym h ∙ k
@@ -114,29 +135,35 @@ module _ {O T : Type 0} (inner : Meaning O T) (same : O → O → Type 0) (d : I
   negated-respects a (Fails f) (Fails g) (Fails m) (Gives q j) e h k = absurd (h.1 k.1.0 (e ∙ k.1.1))
   negated-respects a (Fails f) (Fails g) (Fails m) (Fails l) e h k = sym h.0 ∙ e ∙ k.0
 
+  -- `Negated` has one answer where its parts have one
   pub determined-negated : IsDetermined AreUnits (Negated inner)
   determined-negated = determined-image inner (Negated inner) Made-negated same AreUnits negated-image negated-respects d
 
--- the same value, and a failure of the same place
+-- a backtrack becomes a cut
 abbrev cut : {T : Type 0} → Failed T → Failed T
 cut (Backtracks b) = Cuts b
 cut (Cuts b) = Cuts b
 cut (Needs n) = Needs n
 cut Refuses = Refuses
 
+-- a cut becomes a backtrack
 abbrev soften : {T : Type 0} → Failed T → Failed T
 soften (Backtracks b) = Backtracks b
 soften (Cuts b) = Backtracks b
 soften (Needs n) = Needs n
 soften Refuses = Refuses
 
-abbrev Made-mode : {O T : Type 0} → (Failed T → Failed T) → Ahead T → Outcome O T → Outcome O T → Type 0
+-- the same value, or the failure that a function turns
+abbrev Made-mode : {O T : Type 0} → (Failed T → Failed T) → Ahead T → Outcome O T → Outcome O T
+    → Type 0
 Made-mode mode a (Gives x b) (Gives y c) = (x ≡ y) × (b ≡ c)
 Made-mode mode a (Gives x b) (Fails g) = ⊥
 Made-mode mode a (Fails f) v = Keeps-failure (mode f) v
 
 module _ {O T : Type 0} (inner : Meaning O T) (same : O → O → Type 0) (d : IsDetermined same inner) where
-  mode-respects : (mode : Failed T → Failed T) (a : Ahead T) (u t v w : Outcome O T) → Agree same u t → Made-mode mode a u v → Made-mode mode a t w → Agree same v w
+  -- answers whose failures one function turns agree where those that they are made of agree
+  mode-respects : (mode : Failed T → Failed T) (a : Ahead T) (u t v w : Outcome O T)
+      → Agree same u t → Made-mode mode a u v → Made-mode mode a t w → Agree same v w
   mode-respects mode a (Gives x b) (Gives y c) (Gives p i) (Gives q j) e h k =
       (subst (λ z. same z q) h.0 (subst (same x) k.0 e.0), sym h.1 ∙ e.1 ∙ k.1)
   mode-respects mode a (Gives x b) (Gives y c) (Gives p i) (Fails g) e h k = absurd k
@@ -145,7 +172,10 @@ module _ {O T : Type 0} (inner : Meaning O T) (same : O → O → Type 0) (d : I
   mode-respects mode a (Fails f) (Gives y c) v w e h k = absurd e
   mode-respects mode a (Fails f) (Fails g) v w e h k = keeps-failure same (mode f) (mode g) v w (ap mode e) h k
 
-  cut-image : (partial : Bool) (a : Ahead T) (v : Outcome O T) → IsGranted v → CutOff inner partial a v → (u : Outcome O T) × (IsGranted u × inner partial a u × Made-mode cut a u v)
+  -- each answer of `CutOff` is made of one of the inner parser
+  cut-image : (partial : Bool) (a : Ahead T) (v : Outcome O T) → IsGranted v
+      → CutOff inner partial a v
+      → (u : Outcome O T) × (IsGranted u × inner partial a u × Made-mode cut a u v)
   cut-image partial a (Gives x b) s h = (Gives x b, (tt, h, (refl, refl)))
   cut-image partial a (Fails (Backtracks b)) s h = absurd h
   cut-image partial a (Fails (Cuts b)) s (inl h) = (Fails (Backtracks b), (tt, h, refl))
@@ -153,10 +183,14 @@ module _ {O T : Type 0} (inner : Meaning O T) (same : O → O → Type 0) (d : I
   cut-image partial a (Fails (Needs n)) s h = (Fails (Needs n), (tt, h, refl))
   cut-image partial a (Fails Refuses) s h = absurd s
 
+  -- `CutOff` has one answer where its parts have one
   pub determined-cut : IsDetermined same (CutOff inner)
   determined-cut = determined-image inner (CutOff inner) (Made-mode cut) same same cut-image (mode-respects cut) d
 
-  soft-image : (partial : Bool) (a : Ahead T) (v : Outcome O T) → IsGranted v → Softened inner partial a v → (u : Outcome O T) × (IsGranted u × inner partial a u × Made-mode soften a u v)
+  -- each answer of `Softened` is made of one of the inner parser
+  soft-image : (partial : Bool) (a : Ahead T) (v : Outcome O T) → IsGranted v
+      → Softened inner partial a v
+      → (u : Outcome O T) × (IsGranted u × inner partial a u × Made-mode soften a u v)
   soft-image partial a (Gives x b) s h = (Gives x b, (tt, h, (refl, refl)))
   soft-image partial a (Fails (Backtracks b)) s (inl h) = (Fails (Backtracks b), (tt, h, refl))
   soft-image partial a (Fails (Backtracks b)) s (inr h) = (Fails (Cuts b), (tt, h, refl))
@@ -164,17 +198,22 @@ module _ {O T : Type 0} (inner : Meaning O T) (same : O → O → Type 0) (d : I
   soft-image partial a (Fails (Needs n)) s h = (Fails (Needs n), (tt, h, refl))
   soft-image partial a (Fails Refuses) s h = absurd s
 
+  -- `Softened` has one answer where its parts have one
   pub determined-softened : IsDetermined same (Softened inner)
   determined-softened = determined-image inner (Softened inner) (Made-mode soften) same same soft-image (mode-respects soften) d
 
--- what a relation makes of the value, or a backtrack from where it began
+-- what a relation gives for the value, or a backtrack from where it began
 module _ {O P T : Type 0} (gives : O → Option P → Type 0) (inner : Meaning O T) (same : O → O → Type 0) (alike : P → P → Type 0) (respects : Respects same (AreSameIfAny alike) gives) (d : IsDetermined same inner) where
+  -- the value that the relation gives, or a backtrack where it gives none
   abbrev Made-chosen : Ahead T → Outcome O T → Outcome P T → Type 0
   Made-chosen a (Gives x b) (Gives y c) = gives x (Some y) × (b ≡ c)
   Made-chosen a (Gives x b) (Fails g) = gives x None × (Backtracks a ≡ g)
   Made-chosen a (Fails f) v = Keeps-failure f v
 
-  chosen-image : (partial : Bool) (a : Ahead T) (v : Outcome P T) → IsGranted v → Chosen gives inner partial a v → (u : Outcome O T) × (IsGranted u × inner partial a u × Made-chosen a u v)
+  -- each answer of `Chosen` is made of one of the inner parser
+  chosen-image : (partial : Bool) (a : Ahead T) (v : Outcome P T) → IsGranted v
+      → Chosen gives inner partial a v
+      → (u : Outcome O T) × (IsGranted u × inner partial a u × Made-chosen a u v)
   chosen-image partial a (Gives y b) s h = (Gives h.0 b, (tt, h.1.1, (h.1.0, refl)))
   chosen-image partial a (Fails (Backtracks b)) s (inl h) = (Fails (Backtracks b), (tt, h, refl))
   chosen-image partial a (Fails (Backtracks b)) s (inr h) = (Gives h.1.0 h.1.1.0, (tt, h.1.1.1.0, (h.1.1.1.1, ap Backtracks h.0)))
@@ -182,7 +221,9 @@ module _ {O P T : Type 0} (gives : O → Option P → Type 0) (inner : Meaning O
   chosen-image partial a (Fails (Needs n)) s h = (Fails (Needs n), (tt, h, refl))
   chosen-image partial a (Fails Refuses) s h = absurd s
 
-  chosen-respects : (a : Ahead T) (u t : Outcome O T) (v w : Outcome P T) → Agree same u t → Made-chosen a u v → Made-chosen a t w → Agree alike v w
+  -- answers of `Chosen` agree where the answers that they are made of agree
+  chosen-respects : (a : Ahead T) (u t : Outcome O T) (v w : Outcome P T) → Agree same u t
+      → Made-chosen a u v → Made-chosen a t w → Agree alike v w
   chosen-respects a (Gives x b) (Gives y c) (Gives p i) (Gives q j) e h k = (respects x y (Some p) (Some q) e.0 h.0 k.0, sym h.1 ∙ e.1 ∙ k.1)
   chosen-respects a (Gives x b) (Gives y c) (Gives p i) (Fails g) e h k = absurd (respects x y (Some p) None e.0 h.0 k.0)
   chosen-respects a (Gives x b) (Gives y c) (Fails f) (Gives q j) e h k = absurd (respects x y None (Some q) e.0 h.0 k.0)
@@ -191,17 +232,22 @@ module _ {O P T : Type 0} (gives : O → Option P → Type 0) (inner : Meaning O
   chosen-respects a (Fails f) (Gives y c) v w e h k = absurd e
   chosen-respects a (Fails f) (Fails g) v w e h k = keeps-failure alike f g v w e h k
 
+  -- `Chosen` has one answer where its parts have one
   pub determined-chosen : IsDetermined alike (Chosen gives inner)
   determined-chosen = determined-image inner (Chosen gives inner) Made-chosen same alike chosen-image chosen-respects d
 
 -- the value of which a test holds, or a backtrack from where it began
 module _ {O T : Type 0} (answers : O → Bool → Type 0) (inner : Meaning O T) (same : O → O → Type 0) (respects : Respects same ◌≡◌ answers) (d : IsDetermined same inner) where
+  -- the value, or a backtrack where the test does not hold
   abbrev Made-verified : Ahead T → Outcome O T → Outcome O T → Type 0
   Made-verified a (Gives x b) (Gives y c) = (x ≡ y) × (b ≡ c) × answers x true
   Made-verified a (Gives x b) (Fails g) = answers x false × (Backtracks a ≡ g)
   Made-verified a (Fails f) v = Keeps-failure f v
 
-  verified-image : (partial : Bool) (a : Ahead T) (v : Outcome O T) → IsGranted v → Verified answers inner partial a v → (u : Outcome O T) × (IsGranted u × inner partial a u × Made-verified a u v)
+  -- each answer of `Verified` is made of one of the inner parser
+  verified-image : (partial : Bool) (a : Ahead T) (v : Outcome O T) → IsGranted v
+      → Verified answers inner partial a v
+      → (u : Outcome O T) × (IsGranted u × inner partial a u × Made-verified a u v)
   verified-image partial a (Gives x b) s h = (Gives x b, (tt, h.0, (refl, refl, h.1)))
   verified-image partial a (Fails (Backtracks b)) s (inl h) = (Fails (Backtracks b), (tt, h, refl))
   verified-image partial a (Fails (Backtracks b)) s (inr h) = (Gives h.1.0 h.1.1.0, (tt, h.1.1.1.0, (h.1.1.1.1, ap Backtracks h.0)))
@@ -209,7 +255,9 @@ module _ {O T : Type 0} (answers : O → Bool → Type 0) (inner : Meaning O T) 
   verified-image partial a (Fails (Needs n)) s h = (Fails (Needs n), (tt, h, refl))
   verified-image partial a (Fails Refuses) s h = absurd s
 
-  verified-respects : (a : Ahead T) (u t v w : Outcome O T) → Agree same u t → Made-verified a u v → Made-verified a t w → Agree same v w
+  -- answers of `Verified` agree where the answers that they are made of agree
+  verified-respects : (a : Ahead T) (u t v w : Outcome O T) → Agree same u t → Made-verified a u v
+      → Made-verified a t w → Agree same v w
   verified-respects a (Gives x b) (Gives y c) (Gives p i) (Gives q j) e h k =
       (subst (λ z. same z q) h.0 (subst (same x) k.0 e.0), sym h.1 ∙ e.1 ∙ k.1)
   verified-respects a (Gives x b) (Gives y c) (Gives p i) (Fails g) e h k = let f = respects x y true false e.0 h.2 k.0 in absurd (cc)
@@ -219,5 +267,6 @@ module _ {O T : Type 0} (answers : O → Bool → Type 0) (inner : Meaning O T) 
   verified-respects a (Fails f) (Gives y c) v w e h k = absurd e
   verified-respects a (Fails f) (Fails g) v w e h k = keeps-failure same f g v w e h k
 
+  -- `Verified` has one answer where its parts have one
   pub determined-verified : IsDetermined same (Verified answers inner)
   determined-verified = determined-image inner (Verified answers inner) Made-verified same same verified-image verified-respects d

@@ -1,4 +1,5 @@
--- Parsers of slices, of places, of contexts and of parsers have one answer where their parts have.
+-- Parsers of slices, of ranges, with a context, and of what follows a value have one answer where
+-- their parts have one.
 use Rattle.std.specs.Prelude.{◌≡◌, ℕ, Bool, Some}
 use Rattle.std.specs.declared.ops.Range.{Range}
 use Rattle.std.proofs.Common.{sym, ◌∙◌, ap, subst, inl, inr}
@@ -11,6 +12,7 @@ use Rattle.winnow_parser.specs.Continued.{Continued}
 use Rattle.winnow_parser.specs.Determined.{IsGranted, IsDetermined, AreBothSame, SlicesRespect}
 
 module _ {O S T : Type 0} (is_slice : S → Source T → ℕ → Type 0) (alike : S → S → Type 0) (fronts : SlicesRespect is_slice alike) (inner : Meaning O T) (same : O → O → Type 0) (d : IsDetermined same inner) where
+  -- `WithTaken` has one answer where its parts have one
   pub determined-with_taken : IsDetermined (AreBothSame same alike) (WithTaken is_slice inner)
   determined-with_taken partial a (Gives x b) (Gives y c) s t h k =
       let e = d partial a (Gives x.0 b) (Gives y.0 c) tt tt h.0 k.0 in
@@ -19,6 +21,7 @@ module _ {O S T : Type 0} (is_slice : S → Source T → ℕ → Type 0) (alike 
   determined-with_taken partial a (Fails f) (Gives y c) s t h k = d partial a (Fails f) (Gives y.0 c) s tt h k.0
   determined-with_taken partial a (Fails f) (Fails g) s t h k = d partial a (Fails f) (Fails g) s t h k
 
+  -- `Taken` has one answer where its parts have one
   pub determined-taken : IsDetermined alike (Taken is_slice inner)
   determined-taken partial a (Gives x b) (Gives y c) s t h k =
       let e = d partial a (Gives h.0.0 b) (Gives k.0.0 c) tt tt h.0.1 k.0.1 in
@@ -27,7 +30,9 @@ module _ {O S T : Type 0} (is_slice : S → Source T → ℕ → Type 0) (alike 
   determined-taken partial a (Fails f) (Gives y c) s t h k = d partial a (Fails f) (Gives k.0.0 c) s tt h k.0.1
   determined-taken partial a (Fails f) (Fails g) s t h k = d partial a (Fails f) (Fails g) s t h k
 
-same-range : {T : Type 0} (r s : Range ℕ) (a b : Ahead T) → IsRangeOf r a b → IsRangeOf s a b → r ≡ s
+-- there is one range from one place to another
+same-range : {T : Type 0} (r s : Range ℕ) (a b : Ahead T) → IsRangeOf r a b → IsRangeOf s a b
+    → r ≡ s
 same-range r s a b h k =
     let start : Some r.start ≡ Some s.start = sym h.0 ∙ k.0 in
     let end : Some r.end ≡ Some s.end = sym h.1 ∙ k.1 in
@@ -36,6 +41,7 @@ same-range r s a b h k =
     ap (λ n. record { start = n; end = r.end }) first ∙ ap (λ n. record { start = s.start; end = n }) last
 
 module _ {O T : Type 0} (inner : Meaning O T) (same : O → O → Type 0) (d : IsDetermined same inner) where
+  -- `WithSpan` has one answer where its parts have one
   pub determined-with_span : IsDetermined (AreBothSame same ◌≡◌) (WithSpan inner)
   determined-with_span partial a (Gives x b) (Gives y c) s t h k =
       let e = d partial a (Gives x.0 b) (Gives y.0 c) tt tt h.0 k.0 in
@@ -44,6 +50,7 @@ module _ {O T : Type 0} (inner : Meaning O T) (same : O → O → Type 0) (d : I
   determined-with_span partial a (Fails f) (Gives y c) s t h k = d partial a (Fails f) (Gives y.0 c) s tt h k.0
   determined-with_span partial a (Fails f) (Fails g) s t h k = d partial a (Fails f) (Fails g) s t h k
 
+  -- `Spanned` has one answer where its parts have one
   pub determined-spanned : IsDetermined ◌≡◌ (Spanned inner)
   determined-spanned partial a (Gives x b) (Gives y c) s t h k =
       let e = d partial a (Gives h.0.0 b) (Gives k.0.0 c) tt tt h.0.1 k.0.1 in
@@ -52,18 +59,22 @@ module _ {O T : Type 0} (inner : Meaning O T) (same : O → O → Type 0) (d : I
   determined-spanned partial a (Fails f) (Gives y c) s t h k = d partial a (Fails f) (Gives k.0.0 c) s tt h k.0.1
   determined-spanned partial a (Fails f) (Fails g) s t h k = d partial a (Fails f) (Fails g) s t h k
 
-  in_context-inner : (refusable : Type 0) (partial : Bool) (a : Ahead T) (v : Outcome O T) → IsGranted v → InContext refusable inner partial a v → inner partial a v
+  -- an answer of `InContext` is one of the inner parser, unless memory was refused
+  in_context-inner : (refusable : Type 0) (partial : Bool) (a : Ahead T) (v : Outcome O T)
+      → IsGranted v → InContext refusable inner partial a v → inner partial a v
   in_context-inner refusable partial a (Gives x b) s h = h
   in_context-inner refusable partial a (Fails (Backtracks b)) s h = h
   in_context-inner refusable partial a (Fails (Cuts b)) s h = h
   in_context-inner refusable partial a (Fails (Needs n)) s h = h
   in_context-inner refusable partial a (Fails Refuses) s h = absurd s
 
+  -- `InContext` has one answer where the inner parser has one
   pub determined-in_context : (refusable : Type 0) → IsDetermined same (InContext refusable inner)
   determined-in_context refusable partial a v w s t h k =
       d partial a v w s t (in_context-inner refusable partial a v s h) (in_context-inner refusable partial a w t k)
 
 module _ {O P Q T : Type 0} (makes : O → Q → Type 0) (means : Q → Meaning P T) (first : Meaning O T) (same : O → O → Type 0) (alike : P → P → Type 0) (one : (x y : O) (q r : Q) → same x y → makes x q → makes y r → q ≡ r) (all : (q : Q) → IsDetermined alike (means q)) (d : IsDetermined same first) where
+  -- `Continued` has one answer where its parts have one
   pub determined-continued : IsDetermined alike (Continued makes means first)
   determined-continued partial a (Gives y c) (Gives z e) s t h k =
       let same_first = d partial a (Gives h.0 h.1.0) (Gives k.0 k.1.0) tt tt h.1.1.1.0 k.1.1.1.0 in

@@ -1,4 +1,4 @@
--- What stands in a list at a span.
+-- The part of a list that a span names.
 use Rattle.std.proofs.Common.{◌≡◌, ℕ, ◌+◌, ◌≤◌, List, ◌++◌, length, drop, take, refl, ap, sym, ◌∙◌, arith, append_assoc, length-take, length-drop}
 use Rattle.std.specs.Prelude.{slice_range}
 use Rattle.std.proofs.lemmas.List.{take_at, drop_at, take-map, drop-map, length-map}
@@ -7,13 +7,14 @@ use Rattle.winnow_stream.specs.Units.{width-units}
 use Rattle.winnow_stream.proofs.lemmas.FrontLemmas.{width-append}
 
 module _ {T : Type 0} where
-  -- a front of the elements, and what follows it
+  -- a front of the elements and the rest, each as the part of the list that it is
   record Split (xs : List T) (front rest : Source T) : Type 0 where
     front-is : front ≡ units (take (length front) xs)
     rest-is : rest ≡ units (drop (length front) xs)
     width-is : width front ≡ length front
     fits : length front ≤ length xs
 
+  -- a front and what follows it split the list at the length of the front
   split_at : (xs : List T) (front rest : Source T) → units xs ≡ front ++ rest → Split xs front rest
   split_at xs front rest e =
       let n : ℕ = length front in
@@ -26,7 +27,7 @@ module _ {T : Type 0} where
         fits = omega (arith, l, length-take n xs);
       }
 
-  -- after a front stands some that is skipped, and then a part, from place m up to place n; and the rest follows another front
+  -- the part stands from index m up to index n of the list, and the rest follows it
   pub record IsNextPart (xs : List T) (part rest : Source T) (m n : ℕ) : Type 0 where
     pub long : n ≡ m + length part
     pub within : n ≤ length xs
@@ -35,7 +36,10 @@ module _ {T : Type 0} where
     pub whole : units xs ≡ front ++ rest
     pub at : n ≡ width front
 
-  pub next-part : (xs : List T) (before skipped part rest ahead : Source T) (place m n : ℕ) → units xs ≡ before ++ ahead → place ≡ width before → ahead ≡ skipped ++ part ++ rest → m ≡ place + width skipped → n ≡ m + width part → IsNextPart xs part rest m n
+  -- after a front and what is skipped, the next part stands where its widths say
+  pub next-part : (xs : List T) (before skipped part rest ahead : Source T) (place m n : ℕ)
+      → units xs ≡ before ++ ahead → place ≡ width before → ahead ≡ skipped ++ part ++ rest
+      → m ≡ place + width skipped → n ≡ m + width part → IsNextPart xs part rest m n
   next-part xs before skipped part rest ahead place m n e at split start end =
       let front : Source T = before ++ skipped in
       let all : units xs ≡ front ++ (part ++ rest) = e ∙ ap (λ t. before ++ t) (split ∙ append_assoc skipped part rest) ∙ sym (append_assoc before skipped (part ++ rest)) in

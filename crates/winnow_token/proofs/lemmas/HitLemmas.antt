@@ -1,4 +1,4 @@
--- Where needles of one length are found stays when more follows.
+-- Needles of one length are found at the same place when more follows.
 use Rattle.std.specs.Prelude.{ℕ, IsTrue}
 use Rattle.std.proofs.Common.{List, [], ◌∷◌, ap, ◌∙◌, arith}
 use Rattle.std.proofs.lemmas.Bool.Decides.{nat_tests}
@@ -9,11 +9,13 @@ use Rattle.winnow_match.proofs.lemmas.MoveLemmas.{find-stable}
 use Rattle.winnow_match.proofs.lemmas.TailLemmas.{one-length}
 use Rattle.winnow_token.specs.Until.{HitsStay}
 
-pub HitsStay-written : {T : Type 0} (write : T → List ℕ) (needles : List (List ℕ)) → IsTrue (have_one_length needles) → HitsStay (λ r. hit needles (written write r))
+-- a hit of needles of one length, in what tokens write, stays when more follows
+pub HitsStay-written : {T : Type 0} (write : T → List ℕ) (needles : List (List ℕ))
+    → IsTrue (have_one_length needles) → HitsStay (λ r. hit needles (written write r))
 HitsStay-written write needles one r more at h =
     ap (hit needles) (written-append write r more)
     ∙ (find-stable needles (written write r) (written write more) (one-length needles (written write r) at one h)).0 ∙ h
 
--- one needle has one length
+-- a single needle is a list of needles of one length
 pub one_needle : (needle : List ℕ) → IsTrue (have_one_length (needle ∷ []))
 one_needle needle = grind (arith, nat_tests)

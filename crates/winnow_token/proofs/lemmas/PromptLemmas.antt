@@ -1,4 +1,4 @@
--- Which parsers of tokens answer with no fewer tokens than they asked for.
+-- Parsers of tokens have no settled answer with fewer tokens than they asked for.
 use Rattle.std.specs.Prelude.{Bool, true, false, Option}
 use Rattle.std.proofs.Common.{◌≡◌, ℕ, zero, suc, ◌-◌, ◌<◌, [], ◌∷◌, ◌++◌, length, refl, ap, sym, ◌∙◌, subst, arith, length-append}
 use Rattle.std.proofs.lemmas.List.{append-nil}
@@ -15,25 +15,30 @@ use Rattle.winnow_token.specs.Counted.{Counted}
 use Rattle.winnow_token.specs.Held.{HeldFront}
 use Rattle.winnow_token.specs.Prompt.{IsPrompt}
 
--- how many tokens are needed, and 0 where that is not known
+-- the number of tokens that are needed, and 0 where it is not known
 abbrev number : Needed → ℕ
 number Unknown = 0
 number (Size n) = n.value
 
+-- `needed` of k has the number k
 number-needed : (k : ℕ) → number (needed k) ≡ k
 number-needed zero = refl
 number-needed (suc k) = refl
 
-number-shortage : (counts_missing : Bool) (k : ℕ) (n : NonZeroUsize) → Size n ≡ shortage counts_missing k → n.value ≡ k
+-- a shortage that has a size has the size k
+number-shortage : (counts_missing : Bool) (k : ℕ) (n : NonZeroUsize)
+    → Size n ≡ shortage counts_missing k → n.value ≡ k
 number-shortage true k n e = ap number e ∙ number-needed k
 number-shortage false k n e = absurd (cc)
 
+-- fewer than one more token is no more
 none-more : {T : Type 0} (r more : Source T) → length more < 1 → r ++ more ≡ r
 none-more r [] l = append-nil r
 none-more r (x ∷ xs) l = absurd (omega (arith, l))
 
--- a parser that never needs more than one token, and whose settled answers are not those where it needs one
+-- a parser that needs one token at most, and has no settled answer where it needs one
 module _ {O T : Type 0} (means : Meaning O T) (one : (a : Ahead T) (n : Needed) → means true a (Fails (Needs n)) → n ≡ needed 1) (apart : (a : Ahead T) (n : Needed) (v : Outcome O T) → means true a (Fails (Needs n)) → means true a v → ¬ IsSettled v) where
+  -- a parser that needs one token at most has no settled answer before it comes
   prompt-one : IsPrompt means
   prompt-one a n more v h l m =
       let k : n.value ≡ 1 = ap number (one a (Size n) h) in
@@ -41,28 +46,36 @@ module _ {O T : Type 0} (means : Meaning O T) (one : (a : Ahead T) (n : Needed) 
       apart a (Size n) v h (subst (λ b. means true b v) same m)
 
 module _ {T : Type 0} (holds : T → Bool) where
-  one_of-apart : (a : Ahead T) (n : Needed) (v : Outcome T T) → OneOf holds true a (Fails (Needs n)) → OneOf holds true a v → ¬ IsSettled v
+  -- where `OneOf` needs a token, it has no settled answer
+  one_of-apart : (a : Ahead T) (n : Needed) (v : Outcome T T)
+      → OneOf holds true a (Fails (Needs n)) → OneOf holds true a v → ¬ IsSettled v
   one_of-apart a n (Gives x b) h m = λ s. none-some _ (sym (ap first_token h.0) ∙ m.0)
   one_of-apart a n (Fails (Backtracks b)) h m = λ s. m.1 refl h.0
   one_of-apart a n (Fails (Cuts b)) h m = λ s. m
   one_of-apart a n (Fails (Needs k)) h m = λ s. s
   one_of-apart a n (Fails Refuses) h m = λ s. s
 
+  -- `OneOf` has no settled answer with fewer tokens than it needs
   pub prompt-one_of : IsPrompt (OneOf holds)
   prompt-one_of = prompt-one (OneOf holds) (λ a n h. h.2) one_of-apart
 
 module _ {S T : Type 0} (is_slice : S → Source T → ℕ → Type 0) (holds : T → Bool) (least : ℕ) (greatest : Option ℕ) where
-  held-apart : (a : Ahead T) (n : Needed) (v : Outcome S T) → HeldFront is_slice holds least greatest true a (Fails (Needs n)) → HeldFront is_slice holds least greatest true a v → ¬ IsSettled v
+  -- where `HeldFront` needs a token, it has no settled answer
+  held-apart : (a : Ahead T) (n : Needed) (v : Outcome S T)
+      → HeldFront is_slice holds least greatest true a (Fails (Needs n))
+      → HeldFront is_slice holds least greatest true a v → ¬ IsSettled v
   held-apart a n (Gives x b) h m = λ s. let e = sym h.2 ∙ m.3 in cc
   held-apart a n (Fails (Backtracks b)) h m = λ s. let e = sym h.2 ∙ m.3 in cc
   held-apart a n (Fails (Cuts b)) h m = λ s. let e = sym h.1 ∙ m.1 in cc
   held-apart a n (Fails (Needs k)) h m = λ s. s
   held-apart a n (Fails Refuses) h m = λ s. s
 
+  -- `HeldFront` has no settled answer with fewer tokens than it needs
   pub prompt-held : IsPrompt (HeldFront is_slice holds least greatest)
   prompt-held = prompt-one (HeldFront is_slice holds least greatest) (λ a n h. h.0) held-apart
 
 module _ {S T : Type 0} (counts_missing : Bool) (is_slice : S → Source T → ℕ → Type 0) (count : ℕ) where
+  -- `Counted` has no settled answer with fewer tokens than it needs
   pub prompt-counted : IsPrompt (Counted counts_missing is_slice count)
   prompt-counted a n more (Gives s b) h l m = λ t. omega (arith, m.0, h.0, l, number-shortage counts_missing (count - length a.tokens) n h.2, length-append a.tokens more)
   prompt-counted a n more (Fails (Backtracks b)) h l m = λ t. let e = m.1 in cc

@@ -1,4 +1,4 @@
--- What parsers of tokens take, as parts of what stood ahead.
+-- The tokens that parsers of tokens take.
 use Rattle.std.proofs.Common.{◌≡◌, ℕ, ◌<◌, Bool, true, false, [], ◌∷◌, ◌++◌, length, drop, take, subst, Option, Some, None, refl, ap, sym, ◌∙◌, arith}
 use Rattle.std.specs.Prelude.{IfSome}
 use Rattle.std.proofs.lemmas.Option.{none-some, same_Some}
@@ -13,13 +13,15 @@ use Rattle.winnow_token.specs.Run.{IsRun}
 -- ---- The tokens that a set holds, with no greatest count
 
 module _ {S T : Type 0} (is_slice : S → Source T → ℕ → Type 0) (holds : T → Bool) {least : ℕ} {greatest : Option ℕ} (partial : Bool) (a b : Ahead T) (n : ℕ) (counts : (least ≡ n) × (greatest ≡ None)) where
-  -- the counts that are meant
-  counted : (v : Outcome S T) → HeldFront is_slice holds least greatest partial a v → HeldFront is_slice holds n None partial a v
+  -- the same meaning, with the counts replaced by equal ones
+  counted : (v : Outcome S T) → HeldFront is_slice holds least greatest partial a v
+      → HeldFront is_slice holds n None partial a v
   counted v h =
       subst (λ l. HeldFront is_slice holds l None partial a v) counts.0 (subst (λ g. HeldFront is_slice holds least g partial a v) counts.1 h)
 
-  -- what is taken is a run
-  pub held-run : (s : S) → HasPositiveWidths a.tokens → HeldFront is_slice holds least greatest partial a (Gives s b) → IsRun holds n a b
+  -- the tokens that `HeldFront` takes are a run
+  pub held-run : (s : S) → HasPositiveWidths a.tokens
+      → HeldFront is_slice holds least greatest partial a (Gives s b) → IsRun holds n a b
   held-run s wide given =
       let h = counted (Gives s b) given in
       let held = held_front holds a.tokens in
@@ -35,15 +37,18 @@ module _ {S T : Type 0} (is_slice : S → Source T → ℕ → Type 0) (holds : 
         ends = λ x e. next-held_front holds a.tokens x (ap first_token (sym rest) ∙ e);
       }
 
-  -- where it backtracks, fewer are held than are wanted; it never cuts
-  pub held-few : HeldFront is_slice holds least greatest partial a (Fails (Backtracks b)) → length (held_front holds a.tokens) < n
+  -- where `HeldFront` backtracks, fewer tokens are held than the least count
+  pub held-few : HeldFront is_slice holds least greatest partial a (Fails (Backtracks b))
+      → length (held_front holds a.tokens) < n
   held-few h = (counted (Fails (Backtracks b)) h).1
 
+  -- `HeldFront` never cuts without a greatest count
   pub held-never-cuts : ¬ (HeldFront is_slice holds least greatest partial a (Fails (Cuts b)))
   held-never-cuts h = let e = (counted (Fails (Cuts b)) h).1 in cc
 
--- where not one token is held, the first one is not
-pub held-none : {T : Type 0} (holds : T → Bool) (r : Source T) (x : T) → length (held_front holds r) < 1 → first_token r ≡ Some x → holds x ≡ false
+-- where the longest held front is empty, the first token is not held
+pub held-none : {T : Type 0} (holds : T → Bool) (r : Source T) (x : T)
+    → length (held_front holds r) < 1 → first_token r ≡ Some x → holds x ≡ false
 held-none holds r x few e =
     let none : length (held_front holds r) ≡ 0 = omega (arith, few) in
     next-held_front holds r x (ap (λ n. first_token (drop n r)) none ∙ e)
@@ -51,17 +56,21 @@ held-none holds r x few e =
 -- ---- One token
 
 module _ {T : Type 0} where
-  one-step : (r : Source T) (x : T) → first_token r ≡ Some x → (n : ℕ) × ((r ≡ (x, n) ∷ drop 1 r) × (width (take 1 r) ≡ width ((x, n) ∷ [])))
+  -- the first token stands in front of the rest
+  one-step : (r : Source T) (x : T) → first_token r ≡ Some x
+      → (n : ℕ) × ((r ≡ (x, n) ∷ drop 1 r) × (width (take 1 r) ≡ width ((x, n) ∷ [])))
   one-step [] x e = absurd (none-some _ e)
   one-step (y ∷ ys) x e = (y.1, (ap (λ z. (z, y.1) ∷ ys) (same_Some _ _ e), refl))
 
+  -- without a first token there is no token
   any-step : (r : Source T) → IfSome (first_token r) (λ x. true ≡ false) → r ≡ []
   any-step [] h = refl
   any-step (x ∷ xs) h = absurd (cc)
 
 module _ {T : Type 0} (partial : Bool) (a b : Ahead T) where
-  -- it is the first
-  pub one_of-taken : (holds : T → Bool) (x : T) → OneOf holds partial a (Gives x b) → (n : ℕ) × ((m : Moves a b) × (m.taken ≡ (x, n) ∷ []))
+  -- the token that `OneOf` takes is the first
+  pub one_of-taken : (holds : T → Bool) (x : T) → OneOf holds partial a (Gives x b)
+      → (n : ℕ) × ((m : Moves a b) × (m.taken ≡ (x, n) ∷ []))
   one_of-taken holds x h =
       let one = one-step a.tokens x h.0 in (
         one.0,
@@ -75,6 +84,6 @@ module _ {T : Type 0} (partial : Bool) (a b : Ahead T) where
         ),
       )
 
-  -- where any would do, it backtracks at the end alone
+  -- a parser of any token backtracks only at the end
   pub any-none : OneOf (λ _. true) partial a (Fails (Backtracks b)) → a.tokens ≡ []
   any-none h = any-step a.tokens h.0

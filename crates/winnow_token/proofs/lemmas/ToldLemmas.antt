@@ -21,34 +21,44 @@ use Rattle.winnow_token.specs.Until.{Until, has_counts}
 
 -- ---- Counts
 
--- as many as are held, and no more than the greatest count: the least count is no more than that
-up-within : {T : Type 0} (holds : T → Bool) (least : ℕ) (greatest : Option ℕ) (r : Source T) → least ≤ length (held_within greatest holds r) → is_up_to greatest least ≡ true
+-- where a front within the greatest count has the least count, the least is at most the greatest
+up-within : {T : Type 0} (holds : T → Bool) (least : ℕ) (greatest : Option ℕ) (r : Source T)
+    → least ≤ length (held_within greatest holds r) → is_up_to greatest least ≡ true
 up-within holds least None r h = refl
 up-within holds least (Some n) r h = grind (arith, nat_tests, h, length-take n (held_front holds r))
 
-counts-up : (least : ℕ) (greatest : Option ℕ) (n : ℕ) → (nat_le least n && is_up_to greatest n) ≡ true → is_up_to greatest least ≡ true
+-- where a number is within the counts, the least is at most the greatest
+counts-up : (least : ℕ) (greatest : Option ℕ) (n : ℕ)
+    → (nat_le least n && is_up_to greatest n) ≡ true → is_up_to greatest least ≡ true
 counts-up least None n h = refl
 counts-up least (Some m) n h = grind (arith, nat_tests, h)
 
 -- ---- One token
 
 module _ {T : Type 0} (holds : T → Bool) where
+  -- the outcome of `OneOf`, computed
   abbrev one_told : Option T → Bool → Ahead T → Told T
   one_told (Some x) partial a = cond (holds x) (inr (after_one a)) (inl (Backtracks a))
   one_told None partial a = cond partial (inl (Needs (needed 1))) (inl (Backtracks a))
 
-  one-none : (r : Source T) (partial : Bool) (a : Ahead T) → IfSome (first_token r) (λ x. holds x ≡ false) → (partial ≡ true → r ≢ []) → one_told (first_token r) partial a ≡ inl (Backtracks a)
+  -- where the first token is not held, or the input ends, the computed outcome is a backtrack
+  one-none : (r : Source T) (partial : Bool) (a : Ahead T)
+      → IfSome (first_token r) (λ x. holds x ≡ false) → (partial ≡ true → r ≢ [])
+      → one_told (first_token r) partial a ≡ inl (Backtracks a)
   one-none [] true a h n = absurd (n refl refl)
   one-none [] false a h n = refl
   one-none (x ∷ xs) partial a h n = rw h refl
 
-  one-tells : (partial : Bool) (a : Ahead T) (v : Outcome T T) → IsGranted v → OneOf holds partial a v → IsTold (one_told (first_token a.tokens) partial a) v
+  -- each answer of `OneOf` is the computed one
+  one-tells : (partial : Bool) (a : Ahead T) (v : Outcome T T) → IsGranted v
+      → OneOf holds partial a v → IsTold (one_told (first_token a.tokens) partial a) v
   one-tells partial a (Gives x b) s h = rw h.0 (rw h.1 (ap inr (sym h.2)))
   one-tells partial a (Fails (Backtracks b)) s h = one-none a.tokens partial a h.0 h.1 ∙ ap (λ p. inl (Backtracks p)) (sym h.2)
   one-tells partial a (Fails (Cuts b)) s h = absurd h
   one-tells partial a (Fails (Needs n)) s h = ap (λ r. one_told (first_token r) partial a) h.0 ∙ rw h.1 (ap (λ m. inl (Needs m)) (sym h.2))
   one-tells partial a (Fails Refuses) s h = absurd s
 
+  -- `OneOf` has one answer
   pub determined-one_of : IsDetermined ◌≡◌ (OneOf holds)
   determined-one_of =
       determined-told ◌≡◌ (OneOf holds) (λ partial a. one_told (first_token a.tokens) partial a) one-tells (λ partial a b x y h k. same_Some _ _ (sym h.0 ∙ k.0))
@@ -56,13 +66,16 @@ module _ {T : Type 0} (holds : T → Bool) where
 -- ---- Slices
 
 module _ {S T : Type 0} (is_slice : S → Source T → ℕ → Type 0) (alike : S → S → Type 0) (fronts : SlicesRespect is_slice alike) where
-  -- n tokens
+  -- parsers of n tokens
   module _ (counts_missing : Bool) (n : ℕ) where
+    -- the outcome of `Counted`, computed
     abbrev counted_told : Bool → Ahead T → Told T
     counted_told partial a = cond (nat_le n (length a.tokens)) (inr (after a (width (take n a.tokens))))
         (cond partial (inl (Needs (shortage counts_missing (n - length a.tokens)))) (inl (Backtracks a)))
 
-    counted-tells : (partial : Bool) (a : Ahead T) (v : Outcome S T) → IsGranted v → Counted counts_missing is_slice n partial a v → IsTold (counted_told partial a) v
+    -- each answer of `Counted` is the computed one
+    counted-tells : (partial : Bool) (a : Ahead T) (v : Outcome S T) → IsGranted v
+        → Counted counts_missing is_slice n partial a v → IsTold (counted_told partial a) v
     counted-tells partial a (Gives x b) s h = let e : nat_le n (length a.tokens) ≡ true = grind (arith, nat_tests, h.0) in rw e (ap inr (sym h.3))
     counted-tells partial a (Fails (Backtracks b)) s h =
         let e : nat_le n (length a.tokens) ≡ false = grind (arith, nat_tests, h.0) in rw e (rw h.1 (ap (λ p. inl (Backtracks p)) (sym h.2)))
@@ -71,19 +84,23 @@ module _ {S T : Type 0} (is_slice : S → Source T → ℕ → Type 0) (alike : 
         let e : nat_le n (length a.tokens) ≡ false = grind (arith, nat_tests, h.0) in rw e (rw h.1 (ap (λ k. inl (Needs k)) (sym h.2)))
     counted-tells partial a (Fails Refuses) s h = absurd s
 
+    -- `Counted` has one answer where slices of one front are the same
     pub determined-counted : IsDetermined alike (Counted counts_missing is_slice n)
     determined-counted =
         determined-told alike (Counted counts_missing is_slice n) counted_told counted-tells
         (λ partial a b x y h k. fronts x y a b (_, (h.1, h.2, sym h.3)) (_, (k.1, k.2, sym k.3)))
 
-  -- those that a set holds
+  -- parsers of the tokens that a set holds
   module _ (holds : T → Bool) (least : ℕ) (greatest : Option ℕ) where
+    -- the outcome of `HeldFront`, computed
     abbrev held_told : Bool → Ahead T → Told T
     held_told partial a = let held = held_within greatest holds a.tokens in
         cond (is_up_to greatest least) (cond (partial && may_grow greatest held a.tokens) (inl (Needs (needed 1)))
         (cond (nat_le least (length held)) (inr (after a (width held))) (inl (Backtracks a)))) (inl (Cuts a))
 
-    held-tells : (partial : Bool) (a : Ahead T) (v : Outcome S T) → IsGranted v → HeldFront is_slice holds least greatest partial a v → IsTold (held_told partial a) v
+    -- each answer of `HeldFront` is the computed one
+    held-tells : (partial : Bool) (a : Ahead T) (v : Outcome S T) → IsGranted v
+        → HeldFront is_slice holds least greatest partial a v → IsTold (held_told partial a) v
     held-tells partial a (Gives x b) s h =
         let held = held_within greatest holds a.tokens in
         let e : nat_le least (length held) ≡ true = grind (arith, nat_tests, h.2) in
@@ -95,19 +112,24 @@ module _ {S T : Type 0} (is_slice : S → Source T → ℕ → Type 0) (alike : 
     held-tells partial a (Fails (Needs m)) s h = rw h.1 (rw h.2 (ap (λ k. inl (Needs k)) (sym h.0)))
     held-tells partial a (Fails Refuses) s h = absurd s
 
+    -- `HeldFront` has one answer where slices of one front are the same
     pub determined-held : IsDetermined alike (HeldFront is_slice holds least greatest)
     determined-held =
         determined-told alike (HeldFront is_slice holds least greatest) held_told held-tells
         (λ partial a b x y h k. let offset = is_offset-within holds greatest a.tokens in fronts x y a b (_, (offset, h.0, sym h.1)) (_, (offset, k.0, sym k.1)))
 
-  -- a literal
+  -- parsers of a literal
   module _ (compare : Source T → CompareResult) where
+    -- the outcome of `Literal`, computed
     abbrev literal_told : CompareResult → Bool → Ahead T → Told T
     literal_told (compared.Ok n) partial a = inr (after a n)
     literal_told compared.Error partial a = inl (Backtracks a)
     literal_told compared.Incomplete partial a = cond partial (inl (Needs Unknown)) (inl (Backtracks a))
 
-    literal-tells : (partial : Bool) (a : Ahead T) (v : Outcome S T) → IsGranted v → Literal is_slice compare partial a v → IsTold (literal_told (compare a.tokens) partial a) v
+    -- each answer of `Literal` is the computed one
+    literal-tells : (partial : Bool) (a : Ahead T) (v : Outcome S T) → IsGranted v
+        → Literal is_slice compare partial a v
+        → IsTold (literal_told (compare a.tokens) partial a) v
     literal-tells partial a (Gives x b) s h = rw h.1.0 (ap inr (sym h.1.3))
     literal-tells partial a (Fails (Backtracks b)) s (e, inl h) = rw h (ap (λ p. inl (Backtracks p)) (sym e))
     literal-tells partial a (Fails (Backtracks b)) s (e, inr h) = rw h.0 (rw h.1 (ap (λ p. inl (Backtracks p)) (sym e)))
@@ -115,21 +137,26 @@ module _ {S T : Type 0} (is_slice : S → Source T → ℕ → Type 0) (alike : 
     literal-tells partial a (Fails (Needs n)) s h = rw h.1 (rw h.0 (ap (λ k. inl (Needs k)) (sym h.2)))
     literal-tells partial a (Fails Refuses) s h = absurd s
 
+    -- `Literal` has one answer where slices of one front are the same
     pub determined-literal : IsDetermined alike (Literal is_slice compare)
     determined-literal =
         determined-told alike (Literal is_slice compare) (λ partial a. literal_told (compare a.tokens) partial a) literal-tells
         (λ partial a b x y h k. fronts x y a b (h.0, (h.1.1, h.1.2, sym h.1.3)) (k.0, (k.1.1, k.1.2, sym k.1.3)))
 
-  -- the tokens before a literal
+  -- parsers of the tokens before a literal
   module _ (find : Source T → Option (Range ℕ)) (least : ℕ) (greatest : Option ℕ) where
+    -- the outcome for a hit or none, computed
     abbrev hit_told : Option (Range ℕ) → Bool → Ahead T → Told T
     hit_told None partial a = cond partial (inl (Needs Unknown)) (inl (Backtracks a))
     hit_told (Some hit) partial a = cond (has_counts least greatest a.tokens hit.start) (inr (after a hit.start)) (inl (Backtracks a))
 
+    -- the outcome of `Until`, computed
     abbrev until_told : Bool → Ahead T → Told T
     until_told partial a = cond (is_up_to greatest least) (hit_told (find a.tokens) partial a) (inl (Cuts a))
 
-    until-tells : (partial : Bool) (a : Ahead T) (v : Outcome S T) → IsGranted v → Until is_slice find least greatest partial a v → IsTold (until_told partial a) v
+    -- each answer of `Until` is the computed one
+    until-tells : (partial : Bool) (a : Ahead T) (v : Outcome S T) → IsGranted v
+        → Until is_slice find least greatest partial a v → IsTold (until_told partial a) v
     until-tells partial a (Gives x b) s (stays, (hit, (at, h))) =
         rw (counts-up least greatest _ h.2) (rw at.0 (rw h.2 (ap inr (sym h.1))))
     until-tells partial a (Fails (Backtracks b)) s (stays, (e, up, inl h)) = rw up (rw h.0 (rw h.1 (ap (λ p. inl (Backtracks p)) (sym e))))
@@ -139,6 +166,7 @@ module _ {S T : Type 0} (is_slice : S → Source T → ℕ → Type 0) (alike : 
     until-tells partial a (Fails (Needs n)) s (stays, h) = rw h.2 (rw h.1 (rw h.0 (ap (λ k. inl (Needs k)) (sym h.3))))
     until-tells partial a (Fails Refuses) s h = absurd s
 
+    -- `Until` has one answer where slices of one front are the same
     pub determined-until : IsDetermined alike (Until is_slice find least greatest)
     determined-until =
         determined-told alike (Until is_slice find least greatest) until_told until-tells

@@ -6,7 +6,8 @@ use Rattle.winnow_combinator.specs.Counts.{IsUpTo}
 use Rattle.winnow_combinator.specs.Repetition.{Taking, InTurn}
 use Rattle.winnow_combinator.proofs.again.go_on.Given as goal
 
--- the parser gave some values, one after the other, from where the call began to here, and they were taken after those that were there
+-- from the start of the call up to here the parser gave some values, one after the other, and they
+-- were added to those gathered already
 abbrev pub invariant-loop-parser : goal.invariant-loop-parser
 invariant-loop-parser g l =
     let stands = ahead g.I.Rest.location g.I.Stream.remaining in
@@ -17,11 +18,13 @@ invariant-loop-parser g l =
       made : g.G.Gather.makes l.again.gather.now all l.whole;
       room : length all + width (g.I.Stream.remaining l.input) < 2 ^ 64;
       counted : l.count ≡ length xs;
-      within : l.count + width (g.I.Stream.remaining l.input) ≤ width (g.I.Stream.remaining l.fn.input);
+      within : l.count + width (g.I.Stream.remaining l.input) ≤ width
+          (g.I.Stream.remaining l.fn.input);
       up_to : IsUpTo l.again.counts.greatest l.count;
-      values : InTurn (Taking (g.P.Parser.means l.again.parser.now)) (g.I.StreamIsPartial.expects_more l.fn.input) xs (stands l.fn.input) (stands l.input);
+      values : InTurn (Taking (g.P.Parser.means l.again.parser.now))
+          (g.I.StreamIsPartial.expects_more l.fn.input) xs (stands l.fn.input) (stands l.input);
     })
 
--- what remains is less and less wide
+-- each turn leaves a narrower rest
 abbrev pub decreases-loop-parser : goal.decreases-loop-parser
 decreases-loop-parser g l = width (g.I.Stream.remaining l.input)

@@ -6,8 +6,8 @@ use Rattle.winnow_combinator.specs.Repetition.{Taking}
 use Rattle.winnow_combinator.specs.Till.{InTurnTill}
 use Rattle.winnow_combinator.proofs.till.go_till.Given as goal
 
--- the parser gave some values, one after the other, with no end before each, from where the call began to here, and they were taken after those
--- that were there
+-- from the start of the call up to here the parser gave some values, one after the other, with no
+-- end before each, and they were added to those gathered already
 abbrev pub invariant-loop-end : goal.invariant-loop-end
 invariant-loop-end g l =
     let stands = ahead g.I.Rest.location g.I.Stream.remaining in
@@ -19,10 +19,13 @@ invariant-loop-end g l =
       made : g.G.Gather.makes l.again.gather.now all l.whole;
       room : length all + width (g.I.Stream.remaining l.input) < 2 ^ 64;
       counted : l.count ≡ length xs;
-      within : l.count + width (g.I.Stream.remaining l.input) ≤ width (g.I.Stream.remaining l.fn.input);
-      values : InTurnTill counts.least counts.greatest 0 (g.Q.Parser.means l.terminator) (Taking (g.P.Parser.means l.again.parser.now)) (g.I.StreamIsPartial.expects_more l.fn.input) xs (stands l.fn.input) (stands l.input);
+      within : l.count + width (g.I.Stream.remaining l.input) ≤ width
+          (g.I.Stream.remaining l.fn.input);
+      values : InTurnTill counts.least counts.greatest 0 (g.Q.Parser.means l.terminator)
+          (Taking (g.P.Parser.means l.again.parser.now))
+          (g.I.StreamIsPartial.expects_more l.fn.input) xs (stands l.fn.input) (stands l.input);
     })
 
--- what remains is less and less wide
+-- each turn leaves a narrower rest
 abbrev pub decreases-loop-end : goal.decreases-loop-end
 decreases-loop-end g l = width (g.I.Stream.remaining l.input)

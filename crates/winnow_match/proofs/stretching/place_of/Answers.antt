@@ -13,12 +13,12 @@ pub returns-then-needle-input : goal.returns-then-needle-input
 returns-then-needle-input c =
     place-short c.args.needle.now c.args.input.now c.args.stands.now c.args.at c.requires (c.args.at + 1) (omega arith) c.if-needle-input.true
 
--- what stands there is nowhere in the needle
+-- what stands there stands nowhere in the needle
 pub returns-in_default : goal.returns-in_default
 returns-in_default c =
     place-behind c.args.needle.now c.args.input.now c.args.stands.now c.args.at c.requires c.find.result (c.args.at + 1) c.find.ensures (omega arith) (λ q low is. absurd (none-some (c.args.at - q) (sym c.in_default.is ∙ is)))
 
--- it stands too late in the needle
+-- what stands there stands too late in the needle
 pub returns-then-at-distance : goal.returns-then-at-distance
 returns-then-at-distance c =
     place-behind c.args.needle.now c.args.input.now c.args.stands.now c.args.at c.requires c.find.result (c.args.at + 1) c.find.ensures (omega arith)
@@ -31,7 +31,7 @@ returns-then-ends_inside c =
     let finds = subst (λ d. FindsNeedle c.args.needle.now c.args.stands.now 0 (Some d)) is (subst (FindsNeedle c.args.needle.now c.args.stands.now 0) c.in-Some.is c.find.ensures) in
     place-here c.args.needle.now c.args.input.now c.args.stands.now c.args.at c.requires place finds (omega arith) (sym (rw (take_rest c.args.input.now place) at c.ends_inside.ensures) ∙ c.if-ends_inside.true)
 
--- the one place at which it could stretch is none
+-- the needle does not stretch at the one place at which it could
 pub returns-else-ends_inside : goal.returns-else-ends_inside
 returns-else-ends_inside c =
     place-behind c.args.needle.now c.args.input.now c.args.stands.now c.args.at c.requires c.find.result (c.args.at + 1) c.find.ensures (omega arith)

@@ -2,12 +2,13 @@ use Rattle.std.proofs.Common.{◌≡◌, ◌≤◌, Bool, length, take}
 use Rattle.winnow_stream.specs.Source.{HoldsAll, Computes}
 use Rattle.winnow_token.proofs.held.count_held.Given as goal
 
--- each item that came was a token that is held, and there are no more of them than the greatest count
+-- each token that was read is held, and there are at most `greatest` of them
 abbrev pub invariant-loop-offset : goal.invariant-loop-offset
 invariant-loop-offset g l = record {
   can : (goal.iterator-loop-offset g).can_next l.offset-iterator;
   ends : (goal.iterator-loop-offset g).is_finite l.offset-iterator;
   counted : l.count ≡ length l.yielded;
   within : l.count ≤ l.greatest;
-  all_held : (holds : _ → Bool) → Computes (goal.P-post g l.held) holds → HoldsAll holds (take l.count (g.I.Stream.remaining l.input));
+  all_held : (holds : _ → Bool) → Computes (goal.P-post g l.held) holds
+      → HoldsAll holds (take l.count (g.I.Stream.remaining l.input));
 }
