@@ -1,4 +1,4 @@
--- What the tokens of a stream of bytes are.
+-- The tokens of a stream of bytes.
 use Rattle.std.specs.Prelude.{◌≡◌, ℕ, ◌==◌, Bool, false, ◌||◌, if◌then◌else◌, List, [], ◌∷◌, Some}
 use Rattle.std.specs.Char.{is_ascii_alphabetic, is_ascii_digit}
 use Rattle.winnow_stream.specs.Source.{Source, first_token, HoldsAll}
@@ -7,37 +7,39 @@ use Rattle.example_lexer.specs.declared.token.Kind.{Kind}
 use Rattle.example_lexer.specs.declared.token.Kind.TheVariants.{Name, Number, Punctuation}
 use Rattle.example_lexer.specs.declared.token.Token.{Token}
 
--- a space, a tab, or what ends a line
+-- a space, a tab, a newline or a carriage return
 abbrev pub is_blank : ℕ → Bool
 is_blank byte = 32 == byte || (9 == byte || (10 == byte || 13 == byte))
 
--- no blank stands ahead
+-- the source does not begin with a blank
 abbrev pub IsClear : Source ℕ → Type 0
 IsClear r = (byte : ℕ) → first_token r ≡ Some byte → is_blank byte ≡ false
 
--- the kind of the token that begins with a byte
+-- the kind of a token that begins with this byte
 abbrev pub kind_of : ℕ → Kind
 kind_of byte = if is_ascii_alphabetic byte then Name else if is_ascii_digit byte then Number else Punctuation
 
--- whether a token of that kind goes on with a byte
+-- a token of this kind goes on with this byte
 abbrev pub goes_on : Kind → ℕ → Bool
 goes_on Name byte = is_ascii_alphabetic byte
 goes_on Number byte = is_ascii_digit byte
 goes_on Punctuation byte = false
 
--- the text of a token: its first byte, which is no blank and says the kind, and the bytes with which that kind goes on
+-- the text of a token: a first byte, which is not a blank and decides the kind, and bytes with
+-- which that kind goes on
 abbrev pub IsText : Kind → Source ℕ → Type 0
 IsText kind [] = ⊥
 IsText kind (first ∷ more) = (is_blank first.0 ≡ false) × (kind ≡ kind_of first.0) × HoldsAll (goes_on kind) more
 
--- it does not go on with what follows
+-- the text of a token that does not go on with what follows
 abbrev pub IsWord : Kind → Source ℕ → Source ℕ → Type 0
 IsWord kind text rest = IsText kind text × ((byte : ℕ) → first_token rest ≡ Some byte → goes_on kind byte ≡ false)
 
--- the tokens of what stands ahead from a place on: each stands where its span says, and blanks alone stand between them and at the end
+-- the tokens of a source from a place on: each stands where its span says, with only blanks between
+-- them and at the end
 abbrev pub AreTokens : Source ℕ → ℕ → List Token → Type 0
 AreTokens ahead place tokens = AreWords (HoldsAll is_blank) (λ token. IsWord token.kind) (λ token. token.span) ahead place tokens
 
--- what stands in the text at the token's span is the text of a token of its kind
+-- the text at the token's span is that of a token of its kind
 abbrev pub StandsIn : List ℕ → Token → Type 0
 StandsIn text token = StandsAt (IsText token.kind) text token.span

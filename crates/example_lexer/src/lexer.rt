@@ -22,7 +22,7 @@ pub fn tokens(alloc: Global, text: &[u8]) -> Result<Vec<Token>, AllocError>
     lex(alloc, LocatingSlice::new(text))
 }
 
-/// Returns all tokens that are left of a stream, in order.
+/// Returns all tokens of the rest of a stream, in order.
 pub fn lex<I: StreamIsPartial + Stream<Token = u8> + Location + Drop>(
     alloc: Global,
     input: I,
@@ -46,7 +46,7 @@ where
     lex_kinds(alloc, input, blanks, kind)
 }
 
-// Returns the tokens of the kinds that a parser reads, after what another takes for blanks.
+// Returns the tokens whose kinds one parser reads, with blanks between them that another takes.
 fn lex_kinds<I, B, K>(alloc: Global, input: I, blanks: B, kind: K) -> Result<Vec<Token>, AllocError>
 where
     I: StreamIsPartial + Stream<Token = u8> + Location + Drop,

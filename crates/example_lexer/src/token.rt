@@ -1,14 +1,14 @@
 use std::fmt;
 use std::ops::Range;
 
-/// What a token is.
+/// The kind of a token.
 #[derive(Clone, Copy, Debug, PartialEq, Eq)]
 pub enum Kind {
     /// Letters
     Name,
     /// Digits
     Number,
-    /// One byte that is none of these, and no blank
+    /// One other byte that is not a blank
     Punctuation,
 }
 
@@ -22,10 +22,10 @@ impl fmt::Display for Kind {
     }
 }
 
-/// A token: what it is, and where it stands in the whole input.
+/// A token: its kind, and where it stands in the whole input.
 #[derive(Debug, Drop)]
 pub struct Token {
-    /// What it is
+    /// Its kind
     pub kind: Kind,
     /// From its first byte up to the one after its last
     pub span: Range<usize>,

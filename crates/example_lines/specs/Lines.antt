@@ -1,4 +1,4 @@
--- Lines, each ended by CR LF, of an input; and what a feed is that looks for their ends.
+-- The lines of an input, each ended by CR LF, and a feed that searches for their ends.
 use Rattle.std.specs.Prelude.{◌≡◌, ℕ, List, [], ◌∷◌, ◌++◌, length, map, Option, None, Some, option_map}
 use Rattle.std.specs.Borrow.{Bor}
 use Rattle.std.specs.Global.{Vec}
@@ -16,24 +16,24 @@ line_end = 13 ∷ 10 ∷ []
 abbrev pub first_end : List ℕ → Option ℕ
 first_end bytes = option_map (λ p. p.start) (hit (line_end ∷ []) bytes)
 
--- the bytes are a line, its end, which is the first line end in them, and what is behind it
+-- the bytes are a line, the first line end in them, and the bytes after it
 abbrev pub IsNextLine : List ℕ → List ℕ → List ℕ → Type 0
 IsNextLine bytes line behind = (bytes ≡ line ++ line_end ++ behind) × (first_end bytes ≡ Some (length line))
 
--- the bytes are these lines, one behind the other, and a rest
+-- the bytes are these lines, one after the other, and a rest
 abbrev pub Splits : List ℕ → List (List ℕ) → List ℕ → Type 0
 Splits bytes [] rest = bytes ≡ rest
 Splits bytes (line ∷ lines) rest = (behind : List ℕ) × IsNextLine bytes line behind × Splits behind lines rest
 
--- and the rest has no line end: they are all lines that ended in the bytes
+-- the same, and the rest has no line end, so these are all lines that end in the bytes
 abbrev pub AreLines : List ℕ → List (List ℕ) → List ℕ → Type 0
 AreLines bytes lines rest = Splits bytes lines rest × (first_end rest ≡ None)
 
--- lines as their bytes
+-- the bytes of each line
 abbrev pub lines_in : List (Vec ℕ) → List (List ℕ)
 lines_in lines = map (λ line. line.items) lines
 
--- the feed looks for the end of a line, and was fed these bytes, however they were cut
+-- the feed searches for the end of a line, and was fed these bytes, in any pieces
 pub record IsFed (f : FeedState) (bytes : List ℕ) : Type 0 where
   pub literal : Bor (List ℕ)
   pub script : script_of f ≡ step.Find (One literal) ∷ []

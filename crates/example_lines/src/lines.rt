@@ -7,15 +7,15 @@ use winnow_base::stream::{
     ByteFeed, CharSet, Needles, SearchAnswer, SearchStep, find_law, one_search_law,
 };
 
-/// What a feed runs: it looks for the end of a line.
+/// The script of the feed, which searches for the end of a line.
 static SCRIPT: [SearchStep<CharSet<'static>, &'static [u8]>; 1] = [SearchStep::Find(Needles::One(
     b"\r\n",
 ))];
 
 /// A reader of lines from input that comes in pieces.
 ///
-/// A contract sees it as the bytes that no line was taken from: the lines that ended and were not
-/// taken, and the line that has not ended.
+/// Contracts see it as the bytes that are not yet taken: the lines that have ended, and the line
+/// that has not.
 #[derive(Drop)]
 pub struct Lines {
     feed: ByteFeed<'static>,
@@ -33,7 +33,7 @@ impl Model for Lines {
     ghost invariant = { λ l. IsFed l.feed l.bytes.items };
 }
 
-// Returns where the first line end begins in all that the feed was fed.
+// Returns the place of the first line end in all bytes that the feed was fed.
 fn end_in(feed: &ByteFeed) -> Option<usize>
     ensures { (bytes : List ℕ) → IsFed feed.now bytes → result ≡ first_end bytes }
 {
@@ -67,7 +67,7 @@ impl Lines {
         ensures refused { OnErr result (self.new ≡ self.old) }
     {
         self.bytes.reserve(piece.len())?;
-        // The feed was fed as many bytes as are here, so its place fits.
+        // The feed was fed as many bytes as are here, so the number of them fits.
         let _ = self.feed.fed();
         self.feed.feed(piece)?;
         match self.bytes.extend_from_slice(piece) {
@@ -76,8 +76,8 @@ impl Lines {
         }
     }
 
-    /// Takes the next line that has ended, without its end; `None` where none has. When memory
-    /// is refused, nothing has changed.
+    /// Takes the next line that has ended, and returns it without its end, or `None` where none has
+    /// ended. When memory is refused, nothing has changed.
     pub fn next_line(&mut self) -> Result<Option<Vec<u8>>, AllocError>
         ensures line { IfOk result (λ next. MatchOption next
             ((first_end self.old ≡ None) × (self.new ≡ self.old))
@@ -99,7 +99,7 @@ impl Lines {
         Ok(Some(line))
     }
 
-    /// Ends the input, and returns what no line was taken from.
+    /// Ends the input, and returns the bytes that are not yet taken.
     pub fn end(self) -> Vec<u8>
         ensures { result.items ≡ self }
     {

@@ -1,6 +1,8 @@
-//! Reads lines from input that comes in pieces, and prints each with the number of the piece that ended it.
+//! Reads lines from input that comes in pieces, and prints each line with the number of the piece
+//! that ended it.
 //!
-//! A line ends with CR LF, as in the head of an HTTP message, and a piece may end anywhere: inside a line, and between CR and LF.
+//! A line ends with CR LF, as in the head of an HTTP message. A piece may end anywhere, inside a
+//! line or between CR and LF.
 #![tactic(auto)]
 
 mod lines;

@@ -7,7 +7,8 @@ use std::alloc::AllocError;
 use std::io;
 use winnow_base::stream::{BStr, find_more_law};
 
-/// Takes all lines that have ended, to the end of `lines`. Refused memory, it has taken some.
+/// Takes all lines that have ended, and appends them to `lines`. When memory is refused, it has
+/// taken some.
 fn take_lines(reader: &mut Lines, lines: &mut Vec<Vec<u8>>) -> Result<(), AllocError>
     ensures split { (bytes : List ℕ) → Splits bytes (lines_in lines.old.items) reader.old
         → Splits bytes (lines_in lines.new.items) reader.new }
@@ -25,8 +26,8 @@ fn take_lines(reader: &mut Lines, lines: &mut Vec<Vec<u8>>) -> Result<(), AllocE
     }
 }
 
-/// Reads the pieces, prints each line once the piece is there that ends it, and returns all
-/// lines, and what is behind the last.
+/// Reads the pieces, prints each line after the piece that ends it, and returns all lines and the
+/// bytes after the last.
 pub fn print_lines(
     rt: &(impl Print + AllocGlobal),
     pieces: &[&[u8]],
@@ -46,7 +47,7 @@ pub fn print_lines(
     Ok((lines, reader.end()))
 }
 
-// Prints the lines from a number on, which the piece ended.
+// Prints the lines from index `from` on, which this piece ended.
 fn print_from(rt: &impl Print, piece: usize, lines: &[Vec<u8>], from: usize) -> io::Result<()> {
     for line in lines.iter().skip(from) {
         println!(rt; "{piece}: {}", BStr::new(line))?;

@@ -13,7 +13,7 @@ branches_of tree = (out-Tree tree).branches.items
 abbrev pub written : Tree → List ℕ
 written = fold-Tree (List ℕ) (λ tree. 91 ∷ (flat_map (λ text. text) tree.branches.items ++ 93 ∷ []))
 
--- and several trees one after the other
+-- several trees are written one after the other
 abbrev pub written_all : List Tree → List ℕ
 written_all trees = flat_map written trees
 
@@ -22,6 +22,6 @@ abbrev pub above_all : List ℕ → ℕ
 above_all [] = 0
 above_all (n ∷ ns) = max (suc n) (above_all ns)
 
--- how deep a tree goes: one deeper than the deepest of its branches
+-- the depth of a tree: one more than that of its deepest branch, or 0 without branches
 abbrev pub depth_of : Tree → ℕ
 depth_of = fold-Tree ℕ (λ tree. above_all tree.branches.items)

@@ -14,7 +14,8 @@ use winnow_sets::AsChar;
 use winnow_stream::StreamIsPartial;
 use winnow_token::{OneOf, one_of};
 
-// Returns the parser of what another reads between brackets, of which the second must come.
+// Returns the parser of what another reads between brackets. It cuts where the closing one is
+// missing.
 fn bracketed<P>(inner: P) -> Between<OneOf<char>, P, CutOff<OneOf<char>>>
     ensures { result ≡ record {
       first = record { set = 91 };
@@ -46,7 +47,7 @@ where
     }
 }
 
-// Reads a tree whose branches are what the inner parser reads.
+// Reads a tree whose branches the inner parser reads.
 fn read_around<I: StreamIsPartial, E: ParserError<I>, P: Parser<I, E, Output = Tree> + Drop>(
     alloc: Global,
     input: &mut I,
@@ -68,11 +69,11 @@ where
     }
 }
 
-/// The parser of a tree that goes at most so deep: below its own brackets, at most `depth` others
-/// are open at once. What goes deeper is cut.
+/// The parser of a tree of at most this depth: inside its own brackets, at most `depth` others are
+/// open at once. The parser cuts at a deeper tree.
 #[derive(Clone, Copy, Debug, Drop)]
 pub struct TreeTo {
-    /// How deep it may go
+    /// The greatest depth
     pub depth: usize,
 }
 
@@ -106,8 +107,8 @@ where
     }
 }
 
-// Reads a tree that goes at most so deep. It passes itself on, as the parser of the branches, in a
-// closure whose contract is its own with one less; and the checker asks that `Inner` has a name.
+// Reads a tree of at most this depth. It passes itself on, as the parser of the branches, in a
+// closure whose contract is its own with one level less. The checker asks that `Inner` has a name.
 #[cycle(tree)]
 fn read_nested<I: StreamIsPartial, X, E: ParserError<I, Inner = X>>(
     alloc: Global,
@@ -139,10 +140,10 @@ where
     read_around(alloc, input, by_rule(rule, inner))
 }
 
-/// Reads a tree that goes at most so deep from the front of a stream of bytes or characters.
+/// Reads a tree of at most this depth from the front of a stream of bytes or characters.
 ///
-/// It backtracks where no bracket opens. Where one that opened is not closed, or goes too deep, it
-/// cuts, and the stream stands there.
+/// It backtracks where no bracket opens. Where an open bracket is not closed, or one opens too
+/// deep, it cuts, and the stream stands there.
 pub fn read_tree<I: StreamIsPartial, E: ParserError<I>>(
     alloc: Global,
     input: &mut I,
@@ -170,8 +171,8 @@ mod tests {
     use winnow_stream::Stream;
     use winnow_wrap::Partial;
 
-    // What is read of a text, and how much of it is left: how many branches the tree has, or how
-    // reading failed.
+    // Returns the number of branches of the tree, or a letter for the failure, and the width of the
+    // rest.
     fn told<I: StreamIsPartial + Drop>(alloc: Global, mut input: I, depth: usize) -> (char, usize)
     where
         I::Token: AsChar + Copy,

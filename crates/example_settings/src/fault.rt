@@ -8,19 +8,19 @@ use winnow_error::FromRecoverableError;
 use winnow_parse_error::ParseError;
 use winnow_stream::{Location, Stream, front_law};
 
-/// What a setting would have gone on with.
+/// The part with which a setting would have gone on.
 #[derive(Clone, Copy, Debug, PartialEq, Eq)]
 pub enum Wanted {
     /// Letters
     Key,
-    /// What stands between the key and the value
+    /// The sign between the key and the value
     Equals,
-    /// Anything but the end of the line
+    /// Some characters before the end of the line
     Value,
 }
 
 impl Wanted {
-    /// Returns how the library's errors say it.
+    /// Returns the context that stands for it in the library's errors.
     pub fn as_context(self) -> StrContext {
         StrContext::Expected(match self {
             Wanted::Key => StrContextValue::Description("a key"),
@@ -30,12 +30,13 @@ impl Wanted {
     }
 }
 
-/// What is recorded of a line that is no setting: where in the input it ceased to be one, and what was wanted there.
+/// The record of a line that is no setting: where in the input it breaks off, and what was wanted
+/// there.
 #[derive(Debug, Drop)]
 pub struct Fault {
     /// The place in the input
     pub offset: usize,
-    /// What was wanted
+    /// The part that was wanted
     pub error: ContextError<Wanted>,
 }
 
@@ -57,8 +58,8 @@ impl<I: Stream + Location> FromRecoverableError<I, ContextError<Wanted>> for Fau
 }
 
 impl Fault {
-    /// Returns the error that tells the line and the column in the text, and shows that line. If the place is none of the text's offsets,
-    /// the error is at the text's start.
+    /// Returns the error that says the line and the column in the text, and shows that line. If the
+    /// place is not an offset of the text, the error is at the start of the text.
     pub fn located<'t>(
         &self,
         alloc: Global,

@@ -1,7 +1,9 @@
-//! A reader of lines `key = value`, which goes on behind a line that is none, so that it tells all errors of a text at once.
+//! A reader of lines `key = value`. It goes on after a line that is no setting, so that it reports
+//! all errors of a text at once.
 //!
-//! `setting` is the grammar of one line; `reader` reads them all, over any stream of characters that knows its place, and records what is
-//! wrong; and `fault` turns what was recorded into an error that is printed with its line and column.
+//! `setting` is the grammar of one line. `reader` reads all lines, from any stream of characters
+//! that knows its location, and records the faults. `fault` turns a record into an error that is
+//! printed with its line and column.
 #![tactic(auto)]
 
 mod fault;

@@ -1,6 +1,7 @@
 ghost use Rattle.std.specs.Prelude.{◌≡◌, false, [], IfOk, OnOk, IsTrue};
 ghost use Rattle.winnow_stream.specs.Location.{IsLocation};
-ghost use Rattle.winnow_recover.specs.Recovering.{recoverable_inner, recorded_errors, records_errors};
+ghost use Rattle.winnow_recover.specs.Recovering.{recoverable_inner, recorded_errors};
+ghost use Rattle.winnow_recover.specs.Recovering.{records_errors};
 ghost use Rattle.winnow_parser.specs.Answer.{ahead};
 ghost use Rattle.example_settings.specs.Lines.{AreRead, IsRead, behind_line};
 
@@ -14,7 +15,8 @@ use winnow_recover::{Recover, Recoverable};
 use winnow_stream::{Location, Stream, StreamIsPartial, taken_law};
 use winnow_token::take_till;
 
-/// Reads each line that is left: the settings come back, and of each other line a fault is recorded, which says what was wanted and where.
+/// Reads all remaining lines. Returns the settings, and records a fault for each other line, with
+/// what was wanted and where.
 pub fn read_settings<I: StreamIsPartial + Stream<Token = char> + Location>(
     alloc: Global,
     input: &mut Recoverable<I, Fault>,
@@ -42,7 +44,7 @@ where
     Ok(settings)
 }
 
-// Reads one line and moves behind it. Where it is no setting, its fault is recorded, and `None` comes back.
+// Reads one line and moves past it. Where it is no setting, records its fault and returns `None`.
 fn read_line<I: StreamIsPartial + Stream<Token = char> + Location>(
     alloc: Global,
     input: &mut Recoverable<I, Fault>,

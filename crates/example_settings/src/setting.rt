@@ -1,6 +1,7 @@
 ghost use Rattle.std.specs.Prelude.{◌≡◌, false, IfOk, IfErr, OnOk};
 ghost use Rattle.winnow_parser.specs.Answer.{ahead};
-ghost use Rattle.example_settings.specs.Lines.{IsSetting, Lacks, behind, is_in_line, from_value, told};
+ghost use Rattle.example_settings.specs.Lines.{IsSetting, Lacks, behind, is_in_line, from_value};
+ghost use Rattle.example_settings.specs.Lines.{told};
 
 use crate::fault::Wanted;
 use std::alloc::Global;
@@ -13,13 +14,13 @@ use winnow_token::{one_of, take_till, take_while};
 /// A setting: a key and its value, each a slice of the input.
 #[derive(Debug, Drop)]
 pub struct Setting<T> {
-    /// What is set
+    /// The name that is set
     pub key: T,
-    /// What it is set to
+    /// The text that it is set to
     pub value: T,
 }
 
-/// Reads `key = value`, or answers what was wanted where the stream then stands.
+/// Reads `key = value`, or returns what was wanted where the stream then stands.
 pub fn read_setting<I: StreamIsPartial + Stream<Token = char>>(
     alloc: Global,
     input: &mut I,
@@ -46,7 +47,7 @@ where
     told(parts)
 }
 
-// Returns the setting that the parts of a line make, or what is wanted after the last of them.
+// Returns the setting that the parts of a line make, or what is wanted after the last part.
 fn told<T: Drop>(
     parts: Option<((T, T), Option<((char, T), Option<T>)>)>,
 ) -> Result<Setting<T>, Wanted>

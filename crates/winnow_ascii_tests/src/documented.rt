@@ -1,5 +1,5 @@
-//! The examples of winnow's documentation: what each parser answers of a whole text, and that it
-//! answers the same of each front of the text to which more may come, unless it wants more.
+//! The examples of winnow's documentation. Each parser is asked on a whole text, and on each front
+//! of the text to which more may come, where it must give the same answer or need more.
 
 use std::alloc::{AllocError, Global};
 use winnow_ascii::{
@@ -14,11 +14,11 @@ use winnow_wrap::Partial;
 
 type Text = Partial<&'static str>;
 
-// A text, and what a parser gives and leaves of it.
+// A text, the value of a parser on it, and the rest that the parser leaves.
 type Row<O> = (&'static str, Option<(O, &'static str)>);
 
-// Whether the parser gives and leaves that of the whole text, and of each front on which it wants
-// no more.
+// Returns whether the parser gives and leaves this on the whole text, and on each front where it
+// does not need more.
 fn answers<O: PartialEq + Drop, P: Parser<Text, EmptyError, Output = O>>(
     alloc: Global,
     parser: &P,
@@ -51,7 +51,7 @@ fn answers<O: PartialEq + Drop, P: Parser<Text, EmptyError, Output = O>>(
     Ok(true)
 }
 
-// The first row that the parser does not answer so.
+// Returns the first row to which the parser gives another answer.
 fn first_other<O: PartialEq + Drop, P: Parser<Text, EmptyError, Output = O>>(
     alloc: Global,
     parser: &P,
@@ -208,7 +208,7 @@ fn lines_are_answered_as_documented(rt: HostRuntime) {
     assert_eq!(rt; first, [Ok(None); 3]);
 }
 
-// It does nothing: that it is called shows that it can be, over bytes too.
+// The law does nothing. The calls show that it can be called, over bytes too.
 #[test]
 fn laws_are_called(_rt: HostRuntime) {
     ascii_law::<&'static [u8], EmptyError>();

@@ -1,5 +1,5 @@
-//! Numbers: what each parser answers of a whole text, and that it answers the same of each front of
-//! the text to which more may come, unless it wants more.
+//! Numbers. Each parser is asked on a whole text, and on each front of the text to which more may
+//! come, where it must give the same answer or need more.
 
 use std::alloc::Global;
 use winnow_ascii::{dec_int, dec_uint, hex_uint};
@@ -42,9 +42,9 @@ fn read(
     })
 }
 
-// The first end of a front of the text, to which more may come, that is answered otherwise, unless
-// it wants more; or the text's end, where the text as a whole is. `wanted` has the number and how
-// many bytes are left.
+// The end of the first front of the text that is not answered as wanted: one to which more may come
+// may also need more; the last turn asks of the whole. `wanted` has the number and the count of
+// bytes that are left.
 fn first_other(
     alloc: Global,
     number: Number,

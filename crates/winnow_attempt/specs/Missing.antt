@@ -1,4 +1,4 @@
--- What a step that waits is missing: bytes with which behind the input its answer is another one.
+-- What a waiting step is missing: bytes that, appended to the input, change its answer.
 use Rattle.std.specs.Prelude.{ℕ, Bool, ◌-◌, if◌then◌else◌, List, [], length, drop, replicate, Option, None, Some, is_some, option_map}
 use Rattle.winnow_stream.specs.Source.{Source, width}
 use Rattle.winnow_run.specs.declared.script.Step.{Step}
@@ -13,20 +13,22 @@ use Rattle.winnow_run.specs.declared.search_script.SearchStep.{SearchStep}
 use Rattle.winnow_run.specs.declared.search_script.SearchStep.TheVariants as step
 use Rattle.winnow_run.specs.Definite.{PieceKind}
 
--- n letters a
+-- n letters `a`
 abbrev pub letters : ℕ → List ℕ
 letters n = replicate n 97
 
--- a needle that the bytes end inside, without what is there of it
+-- the rest of a needle inside which the bytes end
 abbrev pub rest_of_needle : List (List ℕ) → List ℕ → Option Stretch → List ℕ
 rest_of_needle needles bytes None = []
 rest_of_needle needles bytes (Some s) = drop (length bytes - s.place) (needle_of needles s.needle)
 
--- of a search: the first listed needle, where none stands, and else the rest of the one that stretches
+-- what a search is missing: the first listed needle if there is no hit, and else the rest of the
+-- needle that stretches
 abbrev pub needle_missing : List (List ℕ) → List ℕ → List ℕ
 needle_missing needles bytes = if is_some (hit needles bytes) then rest_of_needle needles bytes (stretch_of needles bytes) else needle_of needles 0
 
--- of a call where r remains, of tokens up to the greatest that are spelt so: `None` of a set that holds none of them
+-- what a call is missing if r remains, where tokens have numbers up to `greatest` and `spell` gives
+-- their bytes; `None` for a set that holds no such token
 module _ {T : Type 0} (counts_missing : Bool) (greatest : ℕ) (spell : ℕ → List ℕ) (r : Source T) where
   abbrev pub call_missing : Step CharSet → Option (List ℕ)
   call_missing (call.Take n) = Some (letters (n - width r))
@@ -36,7 +38,7 @@ module _ {T : Type 0} (counts_missing : Bool) (greatest : ℕ) (spell : ℕ → 
   call_missing (call.First set) = option_map spell (least_of_first greatest (char_ranges set))
   call_missing _ = Some (letters 1)
 
--- of a step: of a comparison the rest of the literal
+-- what a step is missing; for a comparison, that is the rest of the literal
 module _ {T L : Type 0} (k : PieceKind T CharSet L) (greatest : ℕ) (spell : ℕ → List ℕ) (r : Source T) where
   abbrev pub missing : SearchStep CharSet L → Option (List ℕ)
   missing (step.Call s) = call_missing k.counts_missing greatest spell r s

@@ -1,4 +1,5 @@
--- What a waiting step has passed for good: one word a kind of step, over the step and what remains alone.
+-- What a waiting step has settled, with one definition for each kind of step, in terms of the step
+-- and what remains.
 use Rattle.std.specs.Prelude.{◌≡◌, ℕ, ◌+◌, ◌≤◌, ◌<◌, Bool, true, List, ◌++◌, length, take, drop, Option, None, Some, Result, Ok, Err, ⊤}
 use Rattle.std.specs.declared.ops.Range.{Range}
 use Rattle.winnow_stream.specs.declared.needed.Needed.{Needed}
@@ -30,13 +31,13 @@ pub record AreSame (literal bytes : List ℕ) (n : ℕ) : Type 0 where
   pub fits : n ≤ length literal
   pub same : take n bytes ≡ take n literal
 
--- `At`: an offset behind as many tokens, no more than are asked for
+-- `At`: the offset after `count` tokens, which are no more than the step asks for
 pub record AreCounted {T : Type 0} (asked : ℕ) (r : Source T) (n count : ℕ) : Type 0 where
   pub offset : is_offset r n ≡ true
   pub counted : count_to r n ≡ count
   pub fits : count ≤ asked
 
--- a waiting step has passed n bytes, and so many tokens if it counts them
+-- a waiting step has settled the width n, and `tokens` if it counts tokens
 module _ {T C : Type 0} (holds : C → T → Bool) where
   abbrev pub IsCallSettled : Step C → Source T → ℕ → ℕ → Type 0
   IsCallSettled (call.First c) r n tokens = NoneHeld (holds c) r n
@@ -54,7 +55,7 @@ module _ {T C L : Type 0} (k : PieceKind T C L) where
   IsSearched (step.Find needles) r n = NoneOccurs (needle_list k.literal needles) (written k.write r) n
   IsSearched _ r n = ⊤
 
--- ---- an answer that was found from n on, as the answer of the whole
+-- ---- an answer that was found from n on, as an answer for the whole
 
 abbrev pub shifted : ℕ → Option (Range ℕ) → Option (Range ℕ)
 shifted n None = None

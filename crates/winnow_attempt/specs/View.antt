@@ -1,5 +1,5 @@
--- What a step answers and where it leads, from what remains, the place of the cursor and the places of the marks: what a feed
--- knows, whatever it has kept of the input.
+-- What a step answers and where it leads, in terms of what remains, the place of the cursor and the
+-- places of the marks. A feed knows these, however much it has kept of the input.
 use Rattle.std.specs.Prelude.{◌≡◌, ℕ, ◌+◌, ◌-◌, nat_le, Bool, true, false, cond, List, [], ◌∷◌, ◌++◌, length, Option, None, Some, unwrap_or, slice_get}
 use Rattle.winnow_stream.specs.Source.{Source, width, first_token, first_offset}
 use Rattle.winnow_stream.specs.Front.{front_count, is_offset}
@@ -25,12 +25,13 @@ use Rattle.winnow_attempt.specs.declared.attempts.Attempt.TheVariants as attempt
 use Rattle.winnow_attempt.specs.Settled.{IsSettled}
 use Rattle.winnow_run.specs.Definite.{PieceKind, is_call_definite, is_definite}
 
--- what a set of characters holds, of tokens that stand for characters
+-- what a set of characters holds, for tokens that stand for characters
 abbrev pub held : {T : Type 0} → (T → ℕ) → CharSet → T → Bool
 held code set token = in_ranges (char_ranges set) (code token)
 
 -- the kind of a stream and its literals
-abbrev pub piece_kind : {T L : Type 0} → (T → ℕ) → Bool → (T → List ℕ) → (L → List ℕ) → PieceKind T CharSet L
+abbrev pub piece_kind : {T L : Type 0} → (T → ℕ) → Bool → (T → List ℕ) → (L → List ℕ)
+    → PieceKind T CharSet L
 piece_kind code counts_missing write literal = record { holds = held code; counts_missing = counts_missing; write = write; literal = literal }
 
 abbrev pub since_view : {T : Type 0} → ℕ → Option ℕ → PlacedAnswer T
@@ -71,18 +72,19 @@ abbrev pub makes_mark : {C : Type 0} → Step C → Bool
 makes_mark call.Mark = true
 makes_mark _ = false
 
--- all that looking at a step gives: its answer, whether more input can change it, where it leads, and whether it marks that place
+-- all that a look at a step gives: its answer, whether the answer is definite, the place to which
+-- the step leads, and whether it marks the place where it stood
 pub record Look (T : Type 0) : Type 0 where
   pub answer : PlacedSearchAnswer T
   pub definite : Bool
   pub place : ℕ
   pub marks : Bool
 
--- the same without the answer
+-- what a look gives, without the answer
 abbrev pub seen_of : {T : Type 0} → Look T → Seen
 seen_of look = record { definite = look.definite; place = look.place; marks = look.marks }
 
--- an answer under the number of a piece, or under none
+-- an answer with the number of a piece, or with none
 abbrev pub under : {T : Type 0} → Option ℕ → PlacedSearchAnswer T → Told T
 under piece answer = record { piece = piece; answer = answer }
 
@@ -111,7 +113,7 @@ module _ {T C L : Type 0} (k : PieceKind T C L) (at : ℕ) (marks : List ℕ) (r
     marks = false;
   }
 
--- a step that no input makes definite
+-- the step is one that no input makes definite
 abbrev pub never_definite : {C L : Type 0} → SearchStep C L → Bool
 never_definite (step.Call call.Finish) = true
 never_definite (step.Call call.PeekFinish) = true
@@ -119,7 +121,9 @@ never_definite (step.Call call.Eof) = true
 never_definite (step.Call call.Each) = true
 never_definite _ = false
 
--- an attempt: the answer is told under the piece, where it is definite or no more may follow; or else nothing is told, and the step has passed so much for good
+-- an attempt at a step: either the answer is appended with the number of the piece, and it is
+-- definite or no more may follow; or nothing is appended, and the step waits and has settled what
+-- the attempt says
 module _ {T C L : Type 0} (k : PieceKind T C L) (at : ℕ) (marks : List ℕ) (r : Source T) (s : SearchStep C L) (more : Bool) (piece : Option ℕ) (before after : List (Told T)) where
   abbrev pub Attempts : Attempt → Type 0
   Attempts (attempt.Answered seen) = (more ≡ true → is_definite k s r ≡ true) × (seen ≡ seen_of (look_of k at marks r s)) × (after ≡ before ++ under piece (look_of k at marks r s).answer ∷ [])

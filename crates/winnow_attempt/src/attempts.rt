@@ -17,16 +17,16 @@ use winnow_run::{SearchAnswer, SearchStep, Step};
 use winnow_sets::{AsChar, CharSet};
 use winnow_stream::{AsBStr, Stream, StreamIsPartial};
 
-/// What an attempt at a step came to.
+/// The outcome of an attempt at a step.
 #[derive(Clone, Copy)]
 pub enum Attempt {
-    /// It is answered: no further input can change that, or none may follow.
+    /// The step is answered: no further input can change the answer, or none may follow.
     Answered(Seen),
-    /// It waits, and has passed so much for good.
+    /// The step waits, and has settled this much.
     Waits(Passed),
 }
 
-// Whether more input cannot change the comparison.
+// Returns whether the comparison is decided, so that more input cannot change it.
 fn is_decided_now(compared: &CompareResult) -> bool
     ensures { result ≡ is_decided compared.now }
 {
@@ -36,7 +36,7 @@ fn is_decided_now(compared: &CompareResult) -> bool
     }
 }
 
-// What looking at a step gives that moves and marks nothing.
+// Returns what a look gives at a step that moves and marks nothing.
 #[inline(always)]
 fn seen_at(definite: bool, place: usize) -> Seen
     ensures { result ≡ record { definite = definite; place = place; marks = false } }
@@ -48,8 +48,9 @@ fn seen_at(definite: bool, place: usize) -> Seen
     }
 }
 
-/// Looks at a step, from what it has passed on, and tells its answer under the piece. Beside what
-/// it has seen it returns a place that a search has passed for good, and 0 of any other step.
+/// Looks at a step, resuming after what it has settled, and appends its answer with the number of
+/// the piece. Returns what it saw, and the place that a search has settled, which is 0 for any
+/// other step.
 #[inline(always)]
 pub(crate) fn look<'k, S: Kept, L: AsBStr>(
     step: &'k SearchStep<CharSet<'k>, L>,
@@ -103,7 +104,7 @@ where
     }
 }
 
-// Takes the last answer back.
+// Removes the last answer.
 fn take_back<T: Drop>(told: &mut Vec<Told<T>>)
     requires { 0 < vec_len told.old }
     ensures items { (before : List (Told T)) → (piece : Option ℕ) → (answer : PlacedSearchAnswer T)
@@ -113,7 +114,7 @@ fn take_back<T: Drop>(told: &mut Vec<Told<T>>)
     let _last = told.pop();
 }
 
-/// Returns how many tokens remain.
+/// Returns the number of tokens that remain.
 pub(crate) fn tokens_left<S: Stream + Copy>(rest: S) -> usize
 where
     S::Token: Drop,
@@ -129,7 +130,7 @@ where
     tokens
 }
 
-// All that remains is counted.
+// Counts the tokens of all that remains.
 fn count_on<S: Kept>(rest: S, asked: usize, passed: Passed) -> Passed
 where
     S::Token: Drop,
@@ -147,7 +148,7 @@ where
     }
 }
 
-/// Returns what a step that waits has passed for good: of a search, the place that was given.
+/// Returns what a waiting step has settled. For a search that is the place `searched`.
 #[tactic(auto, using(crate::proofs::lemmas::PassedLemmas::passes))]
 pub(crate) fn settle<S: Kept, L: AsBStr>(
     step: &SearchStep<CharSet, L>,
@@ -190,7 +191,7 @@ where
     }
 }
 
-// Whether no input makes the step definite, so that looking at it is no use.
+// Returns whether no input makes the step definite, so that a look at it is of no use.
 fn waits_to_the_end<L>(step: &SearchStep<CharSet, L>) -> bool
     ensures { result ≡ never_definite step.now }
 {
@@ -202,10 +203,10 @@ fn waits_to_the_end<L>(step: &SearchStep<CharSet, L>) -> bool
     }
 }
 
-/// Attempts a step where `rest` remains, from what it has passed on. Its answer is told under the
-/// piece, where it is definite or no more may follow; else the step waits, and nothing is told.
-/// A search that goes on leaves what it has set up in `finders`, whatever they were for: no answer
-/// depends on them.
+/// Attempts a step on `rest`, resuming after what it has settled. If its answer is definite or no
+/// more may follow, appends the answer with the number of the piece. In other cases the step waits,
+/// and nothing is appended. A search that resumes may replace `finders` by those that it sets up;
+/// no answer depends on them.
 #[tactic(auto, using(crate::proofs::lemmas::PassedLemmas::attempted))]
 #[inline(always)]
 pub fn attempt_step<'k, S: Kept, L: AsBStr>(

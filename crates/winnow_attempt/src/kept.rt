@@ -11,8 +11,8 @@ use winnow_sets::CharSet;
 use winnow_stream::{Stream, StreamIsPartial};
 use winnow_wrap::Partial;
 
-/// What a feed has kept of its input: a stream whose bytes can be read, with a flag that says
-/// whether more may follow.
+/// The input that a feed has kept: a stream whose bytes can be read, with a flag that says whether
+/// more may follow.
 pub trait Kept: Stream + StreamIsPartial + Copy {
     // The bytes of a token.
     ghost write: { Self.Token → List ℕ };
@@ -22,25 +22,26 @@ pub trait Kept: Stream + StreamIsPartial + Copy {
         requires { Self.valid self.now }
         ensures { result.now ≡ written write (Self.remaining self.now) };
 
-    // The greatest number of a token, and the bytes of the token of a number.
+    // The greatest number of a token, and the bytes of the token with a number.
     ghost greatest: { ℕ };
 
     ghost spell: { ℕ → List ℕ };
 
-    /// Returns the bytes of the first token that a range of the set begins with, if the set holds a token.
+    /// Returns the bytes of the token that `least_of_first` gives for the set, or `None` if it
+    /// gives none.
     fn spell_one(&self, alloc: Global, set: &CharSet) -> Result<Option<Vec<u8>>, AllocError>
         ensures told { IfOk result (λ one. option_map (λ bytes. bytes.items) one
             ≡ option_map spell (least_of_first greatest (char_ranges set.now))) }
         ensures refused { OnErr result (IsSome (least_of_first greatest (char_ranges set.now))) };
 
-    /// Returns how many letters change the answer of a call that counts that many tokens, where fewer
-    /// remain.
+    /// Returns the number of letters that change the answer of a call that counts `asked` tokens,
+    /// if fewer remain.
     fn letters_to(&self, asked: usize) -> usize
         requires { Self.valid self.now }
         ensures { result
             ≡ (if Self.counts_missing then 1 else asked - length (Self.remaining self.now)) };
 
-    // A call of the stream leaves the flag.
+    // A call of the stream does not change the flag.
     ghost keeps_flag: { (s t : Self) → Self.keeps s t → Self.expects_more t ≡ Self.expects_more s };
 }
 

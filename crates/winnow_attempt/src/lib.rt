@@ -1,11 +1,11 @@
-//! One step of a script attempted over what is kept of an input that comes in pieces.
+//! Attempts one step of a script on what is kept of an input that comes in pieces.
 //!
-//! An attempt answers the step, or says that it waits and what it has passed for good: the next
-//! attempt goes on from there, and answers what one from the start would. `Kept` is the stream
-//! over what is kept, whose flag says whether more may follow; `looking` looks at calls and
-//! `literals` at comparisons and searches; `attempts` says whether the step waits and what it has
-//! passed; `missing` says what a step that waits is missing. The feeds stand on it; a parser
-//! needs none of it.
+//! An attempt answers the step, or says that the step waits and what it has settled. The next
+//! attempt resumes after what is settled, and answers as one from the start would. `Kept` is the
+//! stream over what is kept; its flag says whether more may follow. `looking` looks at calls, and
+//! `literals` at comparisons and searches. `attempts` says whether the step waits and what it has
+//! settled; `missing` says which input a waiting step lacks. The feeds are built on this crate; a
+//! parser does not need it.
 #![tactic(auto)]
 
 mod attempts;

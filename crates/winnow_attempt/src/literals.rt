@@ -9,7 +9,7 @@ use winnow_match::{Compare, CompareResult, FindSlice, Finders, Needles, stretch}
 use winnow_stream::AsBStr;
 
 /// Returns the needles as bytes.
-// It and what follows are compiled into the one look that calls them: needles that are handed on are copied through memory.
+// Inlined, as are the functions below: needles that are passed on would be copied through memory.
 #[inline(always)]
 pub(crate) fn needle_bytes<L: AsBStr>(needles: &Needles<L>) -> Needles<&[u8]>
     ensures { bytes_of_needles result ≡ needle_list L.text_bytes needles.now }
@@ -21,7 +21,7 @@ pub(crate) fn needle_bytes<L: AsBStr>(needles: &Needles<L>) -> Needles<&[u8]>
     }
 }
 
-// What follows the first n bytes.
+// Returns what follows the first n bytes.
 #[inline(always)]
 fn behind(bytes: &[u8], n: usize) -> &[u8]
     requires { n ≤ length bytes.now }
@@ -30,7 +30,7 @@ fn behind(bytes: &[u8], n: usize) -> &[u8]
     bytes.split_at(n).1
 }
 
-// How the literal compares with the bytes.
+// Returns how the literal compares with the bytes.
 #[tactic(auto, using(winnow_match::proofs::lemmas::ByteLemmas::source_bytes))]
 fn compare_all(literal: &[u8], bytes: &[u8]) -> CompareResult
     ensures { result ≡ comparison literal.now bytes.now }
@@ -38,10 +38,10 @@ fn compare_all(literal: &[u8], bytes: &[u8]) -> CompareResult
     bytes.compare(literal)
 }
 
-// From how many bytes on a search that goes on is set up once, and kept for the pieces to come.
+// The number of bytes from which a search that resumes is set up once, and kept for further pieces.
 const FAR: usize = 256;
 
-// The first place of a needle in the bytes, by searches that are set up here and kept.
+// Returns the first place of a needle in the bytes, by searches that it sets up and keeps.
 #[inline(never)]
 fn find_set_up<'n>(
     needles: &Needles<&'n [u8]>,
@@ -56,7 +56,7 @@ fn find_set_up<'n>(
     found
 }
 
-// The same, by searches that an earlier piece set up, where they are for these needles.
+// Does the same, by searches that an earlier piece set up, if they are for these needles.
 fn find_far<'n>(
     needles: &Needles<&'n [u8]>,
     bytes: &[u8],
@@ -72,7 +72,7 @@ fn find_far<'n>(
     find_set_up(needles, bytes, finders)
 }
 
-// The first place of a needle in the bytes, of a search that begins there or goes on.
+// Returns the first place of a needle in the bytes, for a search that begins there or resumes.
 #[tactic(auto, using(crate::proofs::lemmas::LookLemmas::hits_fit))]
 #[inline(always)]
 fn find_all<'n>(
@@ -94,7 +94,7 @@ fn find_all<'n>(
     }
 }
 
-/// Returns how the literal compares with the bytes, where so many are the same.
+/// Returns how the literal compares with the bytes, where the first `passed` bytes are the same.
 pub(crate) fn compare_from(literal: &[u8], bytes: &[u8], passed: usize) -> CompareResult
     requires { AreSame literal.now bytes.now passed }
     ensures { result ≡ comparison literal.now bytes.now }
@@ -106,8 +106,9 @@ pub(crate) fn compare_from(literal: &[u8], bytes: &[u8], passed: usize) -> Compa
     }
 }
 
-/// Returns the first place of a needle in the bytes, where none stands before `passed`. A search that goes on uses the
-/// finders if they are for its needles, or else makes them so.
+/// Returns the first place of a needle in the bytes, where no needle stands before `passed`. A
+/// search that resumes on enough bytes uses the finders if they are for its needles, and else
+/// replaces them.
 #[inline(always)]
 pub(crate) fn find_from<'n>(
     needles: &Needles<&'n [u8]>,
@@ -124,8 +125,9 @@ pub(crate) fn find_from<'n>(
     }
 }
 
-/// Returns whether something was found that no further input can move, and else a place before
-/// which no needle stands, whatever follows: that of the needle that could come to stand there.
+/// Returns whether a hit was found that no further input can move, and a place before which no
+/// needle stands, whatever follows. Without such a hit, that is the first place where a needle
+/// could come to stand.
 #[tactic(auto, using(crate::proofs::lemmas::PassedLemmas::found_hits))]
 #[inline(always)]
 pub(crate) fn searched(

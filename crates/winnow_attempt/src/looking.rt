@@ -15,8 +15,8 @@ use winnow_run::{Answer, PieceAnswer, SearchAnswer, Step};
 use winnow_sets::{AsChar, CharSet};
 use winnow_stream::{Needed, ScriptSet, Stream};
 
-/// What looking at a step gives beside its answer: whether more input can change that, where it leads, and whether it marks
-/// the place where it stood.
+/// What a look at a step gives beside its answer: whether the answer is definite, the place to
+/// which the step leads, and whether the step marks the place where it stood.
 #[derive(Clone, Copy)]
 pub struct Seen {
     pub definite: bool,
@@ -24,7 +24,7 @@ pub struct Seen {
     pub marks: bool,
 }
 
-// The offset of the first token of the set.
+// Returns the offset of the first token in the set.
 fn first_in<S: Stream>(set: &CharSet, rest: &S) -> Option<usize>
 where
     S::Token: AsChar,
@@ -34,7 +34,7 @@ where
     rest.offset_for(|token| set.holds(token))
 }
 
-// The first token of the set, where what is passed has none.
+// Returns the offset of the first token in the set, where no token of the set is before `passed`.
 pub(crate) fn first_from<S: Kept>(set: &CharSet, rest: S, passed: usize) -> Option<usize>
 where
     S::Token: AsChar,
@@ -52,7 +52,7 @@ where
     }
 }
 
-// The offset behind that many tokens, where those that are passed are counted.
+// Returns the offset after `asked` tokens, of which `counted` stand before `passed`.
 pub(crate) fn offset_from<S: Kept>(
     rest: S,
     asked: usize,
@@ -74,14 +74,14 @@ where
     }
 }
 
-/// What a waiting step has passed for good: so much width, and so many tokens if it counts them.
+/// What a waiting step has settled: a width, and a number of tokens if the step counts them.
 #[derive(Clone, Copy)]
 pub struct Passed {
     pub width: usize,
     pub tokens: usize,
 }
 
-/// Puts an answer behind the others, where there is room.
+/// Appends an answer to the others. There is room for it.
 #[inline(always)]
 pub(crate) fn tell<T: Drop>(told: &mut Vec<Told<T>>, piece: Option<u64>, answer: PieceAnswer<T>)
     requires { vec_len told.old < vec_capacity told.old }
@@ -96,7 +96,7 @@ pub(crate) fn tell<T: Drop>(told: &mut Vec<Told<T>>, piece: Option<u64>, answer:
     }
 }
 
-// Tells what a call answers that makes no mark.
+// Appends the answer of a call that makes no mark, and returns what was seen.
 #[inline(always)]
 fn shown<T: Drop>(
     told: &mut Vec<Told<T>>,
@@ -120,7 +120,7 @@ fn shown<T: Drop>(
     }
 }
 
-// The width of the first token.
+// Returns the width of the first token, or 0 if there is none.
 fn width_of_first<S: Stream + Copy>(rest: S) -> usize
 where
     S::Token: Drop,
@@ -132,7 +132,7 @@ where
     rest.eof_offset() - later.eof_offset()
 }
 
-/// Returns the place of the mark of that number, counted from 0, if it was made.
+/// Returns the place of the mark with that number, counted from 0, if it was made.
 #[tactic(auto, using(crate::proofs::lemmas::LookLemmas::marks_read))]
 pub fn mark_at(marks: &[usize], number: usize) -> Option<usize>
     ensures { result ≡ slice_get marks.now number }
@@ -144,7 +144,7 @@ pub fn mark_at(marks: &[usize], number: usize) -> Option<usize>
     }
 }
 
-// Whether the offset is valid.
+// Returns whether the offset is valid.
 #[tactic(auto, using(crate::proofs::lemmas::LookLemmas::looks))]
 fn has_offset<S: Stream>(rest: &S, offset: usize) -> bool
     requires { S.valid rest.now }
@@ -154,9 +154,10 @@ fn has_offset<S: Stream>(rest: &S, offset: usize) -> bool
     rest.is_offset(offset)
 }
 
-/// Looks at a call, from what it has passed on, and tells its answer under the piece.
-// Each case tells its own answer, and all is compiled into the loop over the steps: what is handed on is copied through memory at
-// each hand.
+/// Looks at a call, resuming after what it has settled, and appends its answer with the number of
+/// the piece.
+// Inlined into the loop over the steps, and each case appends its own answer: each returned value
+// would be copied through memory.
 #[tactic(auto, using(crate::proofs::lemmas::LookLemmas::looks))]
 #[inline(always)]
 pub(crate) fn look_call<S: Kept>(
@@ -179,7 +180,8 @@ where
     ensures seen { result ≡ seen_of (call_look
         (held S.Token.code) S.counts_missing place marks.now (S.remaining rest) call.now) }
     ensures items { told.new.items ≡ told.old.items ++ under piece (call_look
-        (held S.Token.code) S.counts_missing place marks.now (S.remaining rest) call.now).answer ∷ [] }
+        (held S.Token.code) S.counts_missing place marks.now (S.remaining rest) call.now).answer
+        ∷ [] }
     ensures len { vec_len told.new ≡ vec_len told.old + 1 }
     ensures capacity { vec_capacity told.old ≤ vec_capacity told.new }
 {

@@ -15,21 +15,21 @@ use winnow_run::{SearchStep, Step};
 use winnow_sets::{AsChar, CharSet};
 use winnow_stream::{AsBStr, Stream, StreamIsPartial};
 
-// n letters a are missing.
+// Returns n letters `a` as the missing input.
 fn letters(alloc: Global, n: usize) -> Result<Option<Vec<u8>>, AllocError>
     ensures { IfOk result (λ more. option_map (λ bytes. bytes.items) more ≡ Some (letters n)) }
 {
     Ok(Some(vec![in alloc; b'a'; n]?))
 }
 
-// These bytes are missing.
+// Returns a copy of these bytes as the missing input.
 fn copied(alloc: Global, bytes: &[u8]) -> Result<Option<Vec<u8>>, AllocError>
     ensures { IfOk result (λ more. option_map (λ copy. copy.items) more ≡ Some bytes.now) }
 {
     Ok(Some(Vec::from_slice(alloc, bytes)?))
 }
 
-// What follows the first n bytes, if there are as many.
+// Returns what follows the first n bytes, or nothing if there are fewer.
 fn after(bytes: &[u8], n: usize) -> &[u8]
     ensures { result.now ≡ drop n bytes.now }
 {
@@ -40,7 +40,7 @@ fn after(bytes: &[u8], n: usize) -> &[u8]
     }
 }
 
-// The needle of that number, counted from 0.
+// Returns the needle with that number, counted from 0, or nothing if there is none.
 fn needle_of<'n>(needles: &Needles<&'n [u8]>, number: usize) -> &'n [u8]
     ensures { result.now ≡ needle_of (bytes_of_needles needles.now) number }
 {
@@ -52,8 +52,8 @@ fn needle_of<'n>(needles: &Needles<&'n [u8]>, number: usize) -> &'n [u8]
     }
 }
 
-// The first place of a needle, where none stands before `passed`. The searches that it could keep are dropped here, so that no
-// exit of its caller has to drop them.
+// Returns the first place of a needle, where no needle stands before `passed`. Searches that it
+// sets up are dropped here, so that no exit of its caller has to drop them.
 fn first_hit(needles: &Needles<&[u8]>, bytes: &[u8], passed: usize) -> Option<Range<usize>>
     requires { NoneOccurs (bytes_of_needles needles.now) bytes.now passed }
     ensures { result ≡ hit (bytes_of_needles needles.now) bytes.now }
@@ -61,7 +61,7 @@ fn first_hit(needles: &Needles<&[u8]>, bytes: &[u8], passed: usize) -> Option<Ra
     find_from(needles, bytes, passed, &mut None)
 }
 
-// What a search is missing, where no needle stands before `passed`.
+// Returns what a search is missing, where no needle stands before `passed`.
 fn needle_missing<'n>(needles: &Needles<&'n [u8]>, bytes: &[u8], passed: usize) -> &'n [u8]
     requires { NoneOccurs (bytes_of_needles needles.now) bytes.now passed }
     ensures { result.now ≡ needle_missing (bytes_of_needles needles.now) bytes.now }
@@ -78,7 +78,7 @@ fn needle_missing<'n>(needles: &Needles<&'n [u8]>, bytes: &[u8], passed: usize) 
     }
 }
 
-// What a call is missing.
+// Returns what a call is missing.
 fn call_missing<S: Kept>(
     alloc: Global,
     call: &Step<CharSet>,
@@ -103,9 +103,8 @@ where
     }
 }
 
-/// Returns what a step is missing where `rest` remains, of which it has passed so much. It is `None` of a
-/// step that looks for a token of a set that holds none; memory is refused only where something is
-/// missing.
+/// Returns what a step is missing on `rest`, given what it has settled. The answer is `None` if the
+/// step looks for a token of a set that holds none. Memory is refused only if something is missing.
 pub fn step_missing<S: Kept, L: AsBStr>(
     alloc: Global,
     step: &SearchStep<CharSet, L>,

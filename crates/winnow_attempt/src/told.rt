@@ -1,6 +1,7 @@
 use winnow_run::PieceAnswer;
 
-/// An answer, with the number of the piece that let it out, counted from 1; `None` at the end.
+/// An answer with the number, counted from 1, of the piece that made it definite, or `None` if the
+/// end of the input did.
 #[derive(Debug, Drop, PartialEq, Eq)]
 pub struct Told<T> {
     pub piece: Option<u64>,

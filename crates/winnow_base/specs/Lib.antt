@@ -1,4 +1,4 @@
--- What contracts name, from each of the crates that this one passes on.
+-- The definitions that contracts name, from each crate that this one passes on.
 pub use Rattle.winnow_stream.specs.Source
 pub use Rattle.winnow_stream.specs.Front
 pub use Rattle.winnow_stream.specs.Longer
@@ -85,7 +85,7 @@ pub use Rattle.winnow_run.specs.declared.search_script.SearchAnswer
 pub use Rattle.winnow_attempt.specs.declared.told.Told
 pub use Rattle.winnow_feed.specs.declared.finished.Finished
 pub use Rattle.winnow_feed.specs.declared.waiting.Waiting
--- The types that other answers and errors are, with their variants.
+-- The types of other answers and of errors, with their variants.
 pub use Rattle.winnow_stream.specs.declared.needed.Needed
 pub use Rattle.winnow_match.specs.declared.compare.CompareResult
 pub use Rattle.winnow_error.specs.declared.mode.ErrMode

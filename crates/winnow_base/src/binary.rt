@@ -1,3 +1,3 @@
-//! What reads bytes as something else.
+//! Streams that read bytes as something else.
 
 pub mod bits;

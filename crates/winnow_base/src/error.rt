@@ -1,4 +1,4 @@
-//! Errors, and alternatives joined.
+//! Errors, and the calls that join the errors of alternatives.
 
 pub use winnow_context::{ContextError, ContextItems, StrContext, StrContextValue};
 pub use winnow_error::{

@@ -30,7 +30,7 @@ pub use winnow_sets::{
     AsChar, CharSet, ContainsToken, FixedSet, Where, union_law, union_of_four_law,
     union_of_three_law,
 };
-// `Stream` with its laws, the streams that see their input as something else, and the wrappers.
+// `Stream` with its laws, the streams that read their input as something else, and the wrappers.
 pub use winnow_stream::{
     AsBStr, AsBytes, Checkpoint, Location, Needed, NoSet, Offset, Rest, ScriptSet, SliceLen,
     SliceOffsets, Str, Stream, StreamIsPartial, UpdateSlice, byte_slice_law,

@@ -7,14 +7,14 @@ use std::collections::{BTreeMap, BTreeSet, HashMap, HashSet, VecDeque};
 use winnow_bench_common::{Parts, Supply, Weigh, gather, mix, text};
 use winnow_count::Accumulate;
 
-// How many tokens a part has.
+// The number of tokens of a part.
 const PART: usize = 8;
 
 fn parts<S>(rest: S) -> Parts<S> {
     Parts { rest, tokens: PART }
 }
 
-// Gathers so many items, or as many as there are.
+// Gathers `count` items, or all if there are fewer.
 fn weigh_gathered<A: Accumulate<T> + WeighAll + Drop, T: Drop, S: Supply<T> + Drop>(
     alloc: Global,
     items: S,
@@ -59,7 +59,7 @@ impl WeighAll for CowStr<'_, Global> {
     }
 }
 
-// A key that may be there or not.
+// A key that may be in the input or not.
 const KEY: u64 = 7;
 
 impl WeighAll for BTreeMap<u64, u64> {

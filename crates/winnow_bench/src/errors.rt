@@ -33,7 +33,7 @@ where
     }
 }
 
-// Joins an error at each token by `or`, from the left. The token says in which mode it comes.
+// Joins an error at each token by `or`, from the left. The token decides the mode of its error.
 fn join_all<S: Stream, E: ParserError<S>>(
     alloc: Global,
     s: &mut S,
@@ -83,7 +83,7 @@ fn weigh_mode<E: WeighError>(mode: &ErrMode<E>) -> u64 {
     }
 }
 
-// Pushes a context for each byte, and sums them up.
+// Pushes a context for each byte, and sums up the contexts.
 fn push_all(alloc: Global, input: &[u8]) -> Result<u64, AllocError> {
     let mut error = ContextError::new(alloc);
     for byte in input {

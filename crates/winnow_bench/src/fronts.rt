@@ -5,7 +5,7 @@ ghost use Rattle.winnow_stream.specs.Source.{first_offset};
 use winnow_bench_common::{Number, Weigh, mix};
 use winnow_stream::Stream;
 
-/// Takes slices of so many tokens while there are enough; of 0 tokens it takes none.
+/// Takes slices of `tokens` tokens while there are enough. It takes none of 0 tokens.
 pub fn take_all<S: Stream>(s: &mut S, tokens: usize) -> u64
 where
     S::Slice: Weigh + Drop,
@@ -21,7 +21,7 @@ where
     sum
 }
 
-/// Takes the slices that a token ends, each with its end.
+/// Takes the slices that the token ends, each with its end.
 pub fn take_parts<S: Stream>(s: &mut S, end: u64) -> u64
 where
     S::Token: Number + Drop,
@@ -36,7 +36,7 @@ where
     sum
 }
 
-/// The offset of the first token with a number.
+/// Returns the offset of the first token with the number.
 pub fn find_token<S: Stream>(s: &S, wanted: u64) -> Option<usize>
 where
     S::Token: Number + Drop,
@@ -46,7 +46,7 @@ where
     s.offset_for(|token| token.number() == wanted)
 }
 
-/// The offset behind so many tokens, or the greatest number where there are fewer.
+/// Returns the offset after `tokens` tokens, or the greatest `usize` where there are fewer.
 pub fn offset_behind<S: Stream>(s: &S, tokens: usize) -> u64
     requires { S.valid s.now }
 {

@@ -1,4 +1,4 @@
-//! Workloads that read values from what was taken.
+//! Workloads that read values from slices.
 ghost use Rattle.std.specs.Str.{IsUtf8};
 
 use winnow_bench_common::{Parts, Supply, mix, text};
@@ -27,7 +27,7 @@ impl Value for i64 {
     }
 }
 
-// Reads so many pieces, or as many as there are, and sums up their values.
+// Reads `count` pieces, or all if there are fewer, and sums up their values.
 fn read_all<R: Value + Drop, S: ParseSlice<R> + Drop, P: Supply<S>>(
     pieces: &mut P,
     count: usize,
@@ -45,7 +45,7 @@ fn read_all<R: Value + Drop, S: ParseSlice<R> + Drop, P: Supply<S>>(
     sum
 }
 
-// Reads as one of the types all pieces of so many tokens.
+// Reads pieces of `tokens` tokens as one of the types.
 fn read_parts<S>(rest: S, count: usize, kind: u64, tokens: u64) -> u64
 where
     S: ParseSlice<u8> + ParseSlice<u32> + ParseSlice<i64> + Drop,

@@ -6,7 +6,7 @@ use winnow_bench_common::{Number, RawStep, Weigh, mix, steps_of, weigh_answers};
 use winnow_run::{Step, run_and_reset};
 use winnow_stream::{ScriptSet, Stream};
 
-/// Runs a script so many times, and sums up its answers.
+/// Runs a script again and again, and sums up its answers.
 pub fn run_script<S: Stream + Drop>(alloc: Global, input: S, script: &[RawStep], rounds: u64) -> u64
 where
     S::Token: Number + Drop,
@@ -20,7 +20,7 @@ where
     }
 }
 
-// Runs a script so many times from one place, and sums up its answers.
+// Runs a script again and again from one place, and sums up its answers.
 fn run_rounds<S: Stream, C: ScriptSet<S::Token>>(
     alloc: Global,
     s: &mut S,

@@ -4,7 +4,8 @@ ghost use Rattle.std.specs.Str.{IsUtf8};
 use crate::searches::{ask, compare_each, search};
 use winnow_bench_common::text;
 
-// By the form of the needles: a byte, three bytes, one needle, and two of which the first has that length.
+// The form of the needles is a byte, three bytes, one needle, or two needles, of which the first
+// has the length `first`.
 #[unsafe(no_mangle)]
 pub extern "C" fn winnow_bench_search_bytes(
     input: &[u8],

@@ -1,4 +1,4 @@
-//! Scripts run on a stream that is also compared and searched.
+//! Scripts that also compare and search, run on a stream.
 ghost use Rattle.winnow_run.specs.Searching.{AreSearchReady};
 
 use std::alloc::{AllocError, Global};
@@ -7,7 +7,7 @@ use winnow_match::{Compare, FindSlice, Needles};
 use winnow_run::{SearchStep, run_search};
 use winnow_stream::{ScriptSet, Stream};
 
-// Runs a script so many times from one place, and sums up its answers.
+// Runs a script again and again from one place, and sums up its answers.
 fn run_rounds<S, C: ScriptSet<S::Token>, L: Copy>(
     alloc: Global,
     s: &mut S,

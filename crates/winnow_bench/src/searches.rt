@@ -4,10 +4,10 @@ use winnow_match::{Compare, CompareResult, FindSlice};
 use winnow_sets::{AsChar, CharSet, ContainsToken};
 use winnow_stream::Stream;
 
-// Characters that stand here and there in an input.
+// Characters that an input has here and there.
 const NEAR: [(char, char); 3] = [('\n', '\n'), ('0', '9'), ('α', 'ω')];
 
-// Characters that stand in no input.
+// Characters that no input has.
 const FAR: [(char, char); 3] = [
     ('\0', '\0'),
     ('\u{e000}', '\u{f8ff}'),
@@ -28,7 +28,7 @@ where
     }
 }
 
-// Takes the slices that a hit ends, each with it; of an empty needle it takes none.
+// Takes the slices that a hit ends, each with the hit. It takes none for an empty needle.
 fn take_hits<S: FindSlice<N>, N: Copy>(s: &mut S, needle: N) -> u64
 where
     S::Slice: Weigh + Drop,
@@ -44,7 +44,7 @@ where
     sum
 }
 
-// The end of the first hit, or the greatest number where there is none.
+// Returns the end of the first hit, or `u64::MAX` where there is none.
 fn find_hit<S: FindSlice<N>, N>(s: &S, needle: N) -> u64
     requires { S.valid s.now }
 {
@@ -54,7 +54,7 @@ fn find_hit<S: FindSlice<N>, N>(s: &S, needle: N) -> u64
     }
 }
 
-/// Compares the literal with what stands at each place.
+/// Compares the literal with the input at each place.
 pub fn compare_each<S: Compare<L>, L: Copy>(s: &mut S, literal: L) -> u64
 where
     S::Token: Drop,
@@ -77,8 +77,8 @@ fn weigh_comparison(comparison: &CompareResult) -> u64 {
     }
 }
 
-/// Takes the slices that tokens of a near set end, or finds the first token of a far one. The sets are data, or ranges that the compiler
-/// sees.
+/// Takes the slices that tokens of a near set end, or finds the first token of a far set. The sets
+/// are data, or ranges that the compiler knows.
 pub fn ask<S: Stream + Drop>(input: S, form: u64, workload: u64) -> u64
 where
     S::Token: AsChar + Copy,
@@ -140,7 +140,7 @@ where
     sum
 }
 
-// The offset of the first token of a set, or the greatest number where there is none.
+// Returns the offset of the first token of a set, or the greatest `usize` where there is none.
 fn find_set<S: Stream, C: ContainsToken<S::Token>>(s: &S, wanted: &C) -> u64
     requires valid { S.valid s.now }
     requires set { C.askable wanted.now }

@@ -1,4 +1,5 @@
-//! Workloads that go token by token, up to one that stops them: a parser too tests each token, and no compiler takes many at once.
+//! Workloads that go token by token, up to a token that stops them. A parser tests each token too,
+//! and the test keeps the compiler from taking many tokens at once.
 
 use winnow_bench_common::{Number, mix};
 use winnow_stream::Stream;
@@ -55,7 +56,7 @@ where
     sum
 }
 
-/// At every token, takes two, measures them and goes back, before it takes the one.
+/// At each token, takes two tokens, measures them and goes back, and then takes the one.
 pub fn look_ahead<S: Stream>(s: &mut S, stop: u64) -> u64
 where
     S::Token: Number + Drop,

@@ -5,7 +5,8 @@ use crate::tokens::{drain, look_ahead, peek_and_take, sum_offsets};
 use winnow_bench_common::{Number, Weigh};
 use winnow_stream::Stream;
 
-/// Does one of all workloads. Each has a stream of its own, so that it is compiled as if it stood alone.
+/// Does one of all workloads. Each has its own copy of the stream, so that it is compiled as if it
+/// stood alone.
 pub fn walk<S: Stream + Copy>(input: S, workload: u64, number: u64) -> u64
 where
     S::Token: Number + Drop,
@@ -32,7 +33,7 @@ where
     }
 }
 
-/// Does one of the workloads that are also timed through wrappers: it takes tokens, or slices.
+/// Does one of the workloads that are also timed through wrappers: taking tokens, or slices.
 pub fn walk_few<S: Stream + Drop>(input: S, workload: u64, number: u64) -> u64
 where
     S::Token: Number + Drop,

@@ -58,7 +58,7 @@ fn tell_bytes(alloc: Global, row: &mut Row, bytes: Bytes) {
     row.add_made(format!(in alloc; "{}", bytes.lower()));
 }
 
-// How a part compares with the part behind it, as each kind.
+// Adds how a part compares with the part after it, as each kind.
 fn tell_orders(row: &mut Row, (front, rest): (&[u8], &[u8])) {
     let (bstr_front, bstr_rest) = (BStr::new(front), BStr::new(rest));
     let (bytes_front, bytes_rest) = (Bytes::new(front), Bytes::new(rest));

@@ -1,5 +1,5 @@
-//! What the library's streams answer, as C functions that hand out rows of numbers, for `bench/` alone: there a program compares them
-//! with what the Rust crate answers.
+//! The answers of the library's streams, as C functions that write rows of numbers, for `bench/`
+//! alone. A program there compares them with the answers of the Rust crate.
 #![tactic(auto)]
 
 mod bits;

@@ -12,7 +12,8 @@ use winnow_stream::{
 };
 use winnow_views::{Bits, bit_slice_law};
 
-/// What the small traits answer of bytes, and of what remains behind its front of that width; nothing where there is no such front.
+/// Adds what the small traits answer for bytes and for the rest after the front of this width. Adds
+/// nothing where no front has the width.
 pub fn tell_bytes(row: &mut Row, start: &[u8], width: usize) {
     if !start.is_offset(width) {
         return;
@@ -38,7 +39,8 @@ pub fn tell_bytes(row: &mut Row, start: &[u8], width: usize) {
     window(start, width).as_bstr().tell(row);
 }
 
-/// What the small traits answer of a text, and of what remains behind its front of that width; nothing where there is no such front.
+/// Adds what the small traits answer for a text and for the rest after the front of this width.
+/// Adds nothing where no front has the width.
 pub fn tell_text(row: &mut Row, start: &str, width: usize) {
     if !start.is_offset(width) {
         return;
@@ -64,7 +66,8 @@ pub fn tell_text(row: &mut Row, start: &str, width: usize) {
     window(start, width).as_bstr().tell(row);
 }
 
-/// What the small traits answer of bits, and of what remains behind their front of that width; nothing where there is no such front.
+/// Adds what the small traits answer for bits and for the rest after the front of this width. Adds
+/// nothing where no front has the width.
 pub fn tell_bits(row: &mut Row, start: Bits<&[u8]>, width: usize)
     requires { IsBitSource (units (bits_inner start).now) (bits_place start) }
 {
@@ -84,7 +87,7 @@ pub fn tell_bits(row: &mut Row, start: Bits<&[u8]>, width: usize)
     tell_mark(row, &mut here);
 }
 
-// Moves past the front of that width.
+// Moves past the front of this width.
 fn pass<S: Stream>(s: &mut S, width: usize)
 where
     S::Slice: Drop,
@@ -120,7 +123,7 @@ fn tell_partial<S: StreamIsPartial + AsBStr + Drop>(row: &mut Row, s: S) {
     s.as_bstr().tell(row);
 }
 
-// The stream narrowed to its front of that width.
+// Returns the stream narrowed to its front of this width.
 fn window<S: UpdateSlice>(s: S, width: usize) -> S
     requires valid { S.valid s }
     requires width { IsTrue (is_offset (S.remaining s) width) }
@@ -137,7 +140,7 @@ pub extern "C" fn winnow_bench_needed(alloc: Global, size: u64, out: &mut [u64])
     row.hand_out(out)
 }
 
-// What a shortage of so many tokens answers, and its printed text.
+// Adds the answers of a shortage of `size` tokens, and its printed text.
 fn tell_needed(alloc: Global, row: &mut Row, size: usize) {
     let needed = Needed::new(size);
     let half = needed.map(|size| size.get() / 2);

@@ -1,4 +1,4 @@
-//! What a stream that records errors tells, and one that goes back to its start.
+//! The answers of a stream that records errors, and of one that goes back to its start.
 ghost use Rattle.std.specs.Prelude.{IsTrue};
 ghost use Rattle.std.specs.Str.{IsUtf8};
 ghost use Rattle.winnow_stream.specs.Front.{is_offset};
@@ -51,8 +51,8 @@ pub extern "C" fn winnow_bench_recovered_text(
     row.hand_out(out)
 }
 
-// What two streams tell, of which one records errors, and what one tells that goes back to its start; nothing where no front has
-// that width.
+// Adds the answers of two streams, of which one records errors, and those of a stream that goes
+// back to its start. Adds nothing where no front has this width.
 fn tell_recovered<I>(alloc: Global, row: &mut Row, input: I, width: usize)
 where
     I: UpdateSlice + StreamIsPartial + AsBStr + Copy,
@@ -76,7 +76,8 @@ where
     tell_restart(row, LocatingSlice::new(input), width);
 }
 
-// Errors recorded before a front, behind it, in its window, and behind a reset out of it; and then the errors themselves.
+// Records errors before a front, after it, in its window, and after a reset out of it, and then
+// adds the errors.
 fn tell_recording<I>(row: &mut Row, s: Recoverable<I, Mode>, width: usize)
 where
     I: UpdateSlice + Location + StreamIsPartial + AsBStr + Drop,
@@ -104,7 +105,7 @@ where
     }
 }
 
-// The places behind a front, in its window, and back at the start.
+// Adds the places after a front, in its window, and back at the start.
 fn tell_restart<I>(row: &mut Row, s: LocatingSlice<I>, width: usize)
 where
     I: UpdateSlice + StreamIsPartial + AsBStr + Copy,
@@ -133,7 +134,7 @@ fn tell_place<S: Location + AsBStr>(row: &mut Row, s: &S) {
     s.as_bstr().tell(row);
 }
 
-// Whether the error was taken or refused.
+// Returns a number that says whether the error was taken or refused.
 fn recorded(answer: Result<(), RecordError<Mode>>) -> u64 {
     match answer {
         Ok(()) => 0,

@@ -28,8 +28,8 @@ pub extern "C" fn winnow_bench_views_tokens(
     row.hand_out(out)
 }
 
-// What a slice of tokens shows behind its first token, behind a front of that width, back again, in a window on it, and back at the
-// start; nothing where there is no such front.
+// Adds what a slice of tokens shows after its first token, after a front of this width, back again,
+// in a window on it, and back at the start. Adds nothing where no front has the width.
 fn tell_views(row: &mut Row, input: &[u8], width: usize) {
     let start = TokenSlice::new(input);
     let mut tokens = start;
@@ -56,7 +56,8 @@ fn tell_views(row: &mut Row, input: &[u8], width: usize) {
     tell_view(row, &tokens);
 }
 
-// What remains, its width, the tokens before the place, the last first, and how the next token compares with a few.
+// Adds what remains, its width, the tokens before the place from the last to the first, and how the
+// next token compares with a few others.
 fn tell_view(row: &mut Row, tokens: &TokenSlice<'_, u8>) {
     tokens.as_slice().tell(row);
     row.add(&[tokens.slice_len() as u64]);

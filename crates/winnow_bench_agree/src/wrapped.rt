@@ -1,4 +1,4 @@
-//! The places that three wrappers tell.
+//! The places that three wrappers keep.
 ghost use Rattle.std.specs.Prelude.{◌≡◌, IsTrue, false};
 ghost use Rattle.std.specs.Str.{IsUtf8};
 ghost use Rattle.winnow_stream.specs.Front.{is_offset};
@@ -33,7 +33,7 @@ pub extern "C" fn winnow_bench_wrapped_text(
     row.hand_out(out)
 }
 
-// What an input tells in three wrappers; nothing where no front has that width.
+// Adds the answers of an input in three wrappers. Adds nothing where no front has this width.
 fn tell_input<I>(row: &mut Row, input: I, width: usize)
 where
     I: UpdateSlice + StreamIsPartial + AsBStr + Copy,
@@ -49,7 +49,8 @@ where
     tell_wrapped(row, s, width);
 }
 
-// The places behind a front, in its window, and behind a reset out of it, with the flag cleared between.
+// Adds the places after a front, in its window, and after a reset out of it, with the flag cleared
+// between them.
 fn tell_wrapped<S>(row: &mut Row, s: S, width: usize)
 where
     S: UpdateSlice + Location + StreamIsPartial + AsBStr + Drop,

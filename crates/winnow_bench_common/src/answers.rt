@@ -1,4 +1,4 @@
-//! The answers of scripts: told, and summed up.
+//! The answers of scripts, as rows of numbers and as sums.
 ghost use Rattle.winnow_run.specs.Script.{AreReady};
 
 use crate::rows::Row;
@@ -11,7 +11,7 @@ use winnow_match::{Compare, CompareResult, FindSlice, Needles};
 use winnow_run::{Answer, SearchAnswer, run, run_search};
 use winnow_stream::{Needed, Stream};
 
-/// Its number in the order of `Answer`, and what it holds.
+/// The number of the variant in the order of `Answer`, and what the answer holds.
 impl<T: Tell, S: Tell, L: Tell> Tell for Answer<T, S, L> {
     fn tell(&self, row: &mut Row) {
         match self {
@@ -51,7 +51,8 @@ fn missing(needed: &Needed) -> u64 {
     }
 }
 
-/// Of a further step, a number behind those of `Answer`, and what it holds.
+/// The number of the variant, where further variants are numbered after those of `Answer`, and what
+/// the answer holds.
 impl<T: Tell, S: Tell, L: Tell> Tell for SearchAnswer<T, S, L> {
     fn tell(&self, row: &mut Row) {
         match self {
@@ -83,7 +84,7 @@ impl<T: Tell, S: Tell, L: Tell> Tell for Vec<SearchAnswer<T, S, L>> {
     }
 }
 
-/// Hands out the answers of a script.
+/// Writes the answers of a script to `out`.
 pub fn tell_run<S: Stream + Drop>(alloc: Global, s: S, script: &[RawStep], out: &mut [u64]) -> u64
 where
     S::Token: Number + Tell + Drop,
@@ -99,7 +100,7 @@ where
     row.hand_out(out)
 }
 
-/// Hands out the answers of a script that also compares and searches.
+/// Writes the answers of a script that also compares and searches to `out`.
 pub fn tell_searches<S, L: Cut>(
     alloc: Global,
     s: S,
@@ -122,7 +123,7 @@ where
     row.hand_out(out)
 }
 
-/// What it holds, or a number of its own where it holds none.
+/// What the answer holds, or a number that stands for it where it holds nothing.
 impl<T: Number, S: Weigh, L: Weigh> Weigh for Answer<T, S, L> {
     fn weigh(&self) -> u64 {
         match self {

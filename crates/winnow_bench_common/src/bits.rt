@@ -1,4 +1,4 @@
-//! Bits as they cross the border.
+//! Bits, as they cross the border to C.
 ghost use Rattle.std.specs.Prelude.{IfSome};
 ghost use Rattle.winnow_stream.specs.Source.{units};
 ghost use Rattle.winnow_views.specs.BitSource.{IsBitSource};
@@ -6,7 +6,8 @@ ghost use Rattle.winnow_views.specs.BitStream.{bits_inner, bits_place};
 
 use winnow_views::{Bits, bit_source_law};
 
-/// The bits of bytes from a place on; `None` where no byte has the place, or there are too many.
+/// Returns the bits of bytes from a place on, or `None` where no byte has the place or there are
+/// too many bytes.
 pub fn bits_at(input: &[u8], place: u64) -> Option<Bits<&[u8]>>
     ensures { IfSome result (λ s. IsBitSource (units (bits_inner s).now) (bits_place s)) }
 {

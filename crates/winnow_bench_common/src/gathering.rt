@@ -1,4 +1,4 @@
-//! The loop that gathers items, and what each accumulator tells.
+//! The loop that gathers items, and the numbers of each accumulator.
 
 use crate::rows::Row;
 use crate::supply::Supply;
@@ -8,7 +8,7 @@ use std::borrow::CowStr;
 use std::collections::{BTreeMap, BTreeSet, HashMap, HashSet, VecDeque};
 use winnow_count::Accumulate;
 
-/// Gathers so many items, or as many as there are.
+/// Gathers `count` items, or all if there are fewer.
 pub fn gather<A: Accumulate<T> + Drop, T: Drop, S: Supply<T>>(
     alloc: Global,
     items: &mut S,
@@ -41,7 +41,7 @@ impl Tell for Vec<u8> {
     }
 }
 
-/// As the same bytes in a vector.
+/// The same numbers as a vector of these bytes.
 impl Tell for VecDeque<u8> {
     fn tell(&self, row: &mut Row) {
         row.add(&[self.len() as u64]);
@@ -51,7 +51,7 @@ impl Tell for VecDeque<u8> {
     }
 }
 
-/// Whether it is owned, and its text.
+/// Whether the text is owned, and the text.
 impl Tell for CowStr<'_, Global> {
     fn tell(&self, row: &mut Row) {
         row.add(&[u64::from(matches!(self, CowStr::Owned(_)))]);
@@ -62,7 +62,7 @@ impl Tell for CowStr<'_, Global> {
 // More keys than an input has.
 const KEYS: u64 = 16;
 
-/// How many keys there are, and what each of the first has.
+/// The number of keys, and the values of the first keys.
 impl Tell for BTreeMap<u64, u64> {
     fn tell(&self, row: &mut Row) {
         row.add(&[self.len() as u64]);
@@ -81,7 +81,7 @@ impl Tell for HashMap<u64, u64> {
     }
 }
 
-/// How many keys there are, and which of the first.
+/// The number of keys, and which of the first keys there are.
 impl Tell for BTreeSet<u64> {
     fn tell(&self, row: &mut Row) {
         row.add(&[self.len() as u64]);

@@ -1,5 +1,5 @@
-//! What crosses the border between the C functions of `bench/` and the Rust program that calls them, for `bench/` alone: scripts,
-//! texts, answers as rows of numbers, and what hands out the items that are gathered.
+//! The values that cross the border between C functions and the Rust program that calls them, for
+//! `bench/` alone: scripts, texts, answers as rows of numbers, and supplies of the items to gather.
 #![tactic(auto)]
 
 mod answers;

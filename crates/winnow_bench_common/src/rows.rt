@@ -1,9 +1,9 @@
-//! What the program that compares answers is told: a row of numbers.
+//! Rows of numbers, for the program that compares answers.
 
 use crate::tell::Tell;
 use std::alloc::{AllocError, Global};
 
-/// Numbers that are told one after the other.
+/// Numbers, one after the other.
 #[derive(Drop)]
 pub struct Row {
     numbers: Vec<u64>,
@@ -27,7 +27,7 @@ impl Row {
         }
     }
 
-    /// Adds what was made, unless memory was refused.
+    /// Adds the numbers of what was made, or notes that memory was refused.
     pub fn add_made<T: Tell + Drop>(&mut self, made: Result<T, AllocError>) {
         match made {
             Ok(made) => made.tell(self),
@@ -35,13 +35,13 @@ impl Row {
         }
     }
 
-    /// Says that memory was refused.
+    /// Notes that memory was refused.
     pub fn refuse(&mut self) {
         self.is_refused = true;
     }
 
-    /// Writes the row to the front of `out`, and says how many numbers that are: the greatest number where there is no room, or was no
-    /// memory.
+    /// Writes the row to the front of `out`, and returns the count of its numbers, or `u64::MAX`
+    /// where there is no room or memory was refused.
     pub fn hand_out(self, out: &mut [u64]) -> u64 {
         let length = self.numbers.len();
         if self.is_refused || length > out.len() {
@@ -52,7 +52,8 @@ impl Row {
     }
 }
 
-/// Hands out what was made: the greatest number where memory was refused.
+/// Writes what was made to `out`, and returns the count of its numbers, or `u64::MAX` where memory
+/// was refused.
 pub fn hand_out<T: Tell + Drop>(
     alloc: Global,
     made: Result<T, AllocError>,

@@ -1,4 +1,4 @@
-//! Scripts that also compare and search, as they cross the border.
+//! Scripts that also compare and search, as they cross the border to C.
 
 use crate::steps::{Numbers, RawStep, numbers_of, step_of};
 use std::alloc::{AllocError, Global};
@@ -7,7 +7,7 @@ use winnow_run::SearchStep;
 
 /// Literals that are parts of one literal.
 pub trait Cut: Copy {
-    /// The part from one place to another, or `None` where it is none.
+    /// Returns the part from one place to another, or `None` where that is not a literal.
     fn cut(self, start: usize, end: usize) -> Option<Self>;
 }
 
@@ -23,8 +23,9 @@ impl Cut for &str {
     }
 }
 
-/// The step, or `None` where the number is of none. The literal of a comparison and the first needle are the part of `all` from
-/// `first` on that is `second` long; a further needle stands behind the one before it, and is one longer, or as long.
+/// Returns the step, or `None` where no step has the number. The literal of a comparison and the
+/// first needle are the part of `all` from `first` on with the length `second`. Each further needle
+/// follows the one before it, and is as long or one longer.
 pub fn search_step_of<L: Cut, C: Drop>(raw: &RawStep, set: C, all: L) -> Option<SearchStep<C, L>> {
     if let Some(call) = step_of(raw, set) {
         return Some(SearchStep::Call(call));
@@ -41,7 +42,7 @@ pub fn search_step_of<L: Cut, C: Drop>(raw: &RawStep, set: C, all: L) -> Option<
     }
 }
 
-// Two parts in a row, the second longer by so much.
+// Returns two parts in a row, the second longer by `more`.
 fn two_needles<L: Cut, C: Drop>(
     all: L,
     start: usize,
@@ -54,7 +55,7 @@ fn two_needles<L: Cut, C: Drop>(
     Some(SearchStep::Find(Needles::Two(first, second)))
 }
 
-// Three parts in a row, each longer by so much than the one before it.
+// Returns three parts in a row, each longer by `more` than the one before it.
 fn three_needles<L: Cut, C: Drop>(
     all: L,
     start: usize,
@@ -73,7 +74,7 @@ fn part<L: Cut>(all: L, start: usize, length: usize) -> Option<L> {
     all.cut(start, start.saturating_add(length))
 }
 
-/// The steps of a script, without those that are none.
+/// Returns the steps of a script, without the numbers that no step has.
 pub fn search_steps_of<L: Cut>(
     alloc: Global,
     raw: &[RawStep],

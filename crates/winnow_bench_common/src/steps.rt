@@ -1,4 +1,4 @@
-//! Scripts as they cross the border.
+//! Scripts, as they cross the border to C.
 ghost use Rattle.std.specs.Prelude.{◌≡◌, nat_le, ◌&&◌};
 
 use crate::weigh::Number;
@@ -6,7 +6,7 @@ use std::alloc::{AllocError, Global};
 use winnow_run::Step;
 use winnow_stream::ScriptSet;
 
-/// The tokens whose numbers lie between two, both held.
+/// The tokens whose numbers lie between two numbers, both included.
 #[derive(Clone, Copy, Debug)]
 pub struct Numbers {
     first: u64,
@@ -30,7 +30,8 @@ impl<T: Number + Drop> ScriptSet<T> for Numbers {
     }
 }
 
-/// A step as it crosses the border: its number in the order of `Step`, and its numbers.
+/// A step as it crosses the border to C: the number of its variant in the order of `Step`, and its
+/// own numbers.
 #[derive(Clone, Copy, Debug)]
 #[repr(C)]
 pub struct RawStep {
@@ -39,7 +40,7 @@ pub struct RawStep {
     pub second: u64,
 }
 
-/// The step, or `None` where the number is of none. `First` looks for the set.
+/// Returns the step, or `None` where no step has the number. `First` searches for the set.
 pub fn step_of<C: Drop>(raw: &RawStep, set: C) -> Option<Step<C>> {
     let number = raw.first as usize;
     match raw.kind {
@@ -61,7 +62,7 @@ pub fn step_of<C: Drop>(raw: &RawStep, set: C) -> Option<Step<C>> {
     }
 }
 
-/// The tokens whose numbers lie between those of a step.
+/// Returns the tokens whose numbers lie between those of a step.
 pub fn numbers_of(raw: &RawStep) -> Numbers {
     Numbers {
         first: raw.first,
@@ -69,7 +70,7 @@ pub fn numbers_of(raw: &RawStep) -> Numbers {
     }
 }
 
-/// The steps of a script, without those that are none.
+/// Returns the steps of a script, without the numbers that no step has.
 pub fn steps_of(alloc: Global, raw: &[RawStep]) -> Result<Vec<Step<Numbers>>, AllocError> {
     let mut steps = Vec::with_capacity(alloc, raw.len())?;
     for line in raw {

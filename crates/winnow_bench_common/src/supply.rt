@@ -1,10 +1,10 @@
-//! What hands out items one by one, as a parser does that another repeats.
+//! Supplies of items, one by one, as a repeated parser gives them.
 
 use winnow_stream::Stream;
 
 /// The items that a loop gathers.
 pub trait Supply<T> {
-    /// The next one, or `None` where there is none.
+    /// Returns the next item, or `None` at the end.
     fn supply(&mut self) -> Option<T>;
 }
 
@@ -34,7 +34,7 @@ impl Supply<(u64, u64)> for &[u64] {
     }
 }
 
-/// What remains, in parts of so many tokens.
+/// The rest of a stream, in parts of `tokens` tokens.
 #[derive(Drop)]
 pub struct Parts<S> {
     pub rest: S,

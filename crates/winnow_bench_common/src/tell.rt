@@ -1,11 +1,11 @@
-//! Answers as they cross the border: each is a row of numbers.
+//! Answers, as they cross the border to C: each is a row of numbers.
 
 use crate::rows::Row;
 use std::ops::Range;
 
 /// A token, a slice or another answer as numbers.
 pub trait Tell {
-    /// Adds them.
+    /// Adds the numbers to the row.
     fn tell(&self, row: &mut Row);
 }
 
@@ -62,7 +62,7 @@ impl Tell for Range<usize> {
     }
 }
 
-/// How many they are, and each offset with its token.
+/// The count of the items, and each offset with its token.
 impl<T: Tell> Tell for Vec<(usize, T)> {
     fn tell(&self, row: &mut Row) {
         row.add(&[self.len() as u64]);
@@ -73,7 +73,7 @@ impl<T: Tell> Tell for Vec<(usize, T)> {
     }
 }
 
-/// Of a slice of bits as of bytes: its bytes, and then its two numbers, each below 8.
+/// A slice of bits as bytes: its bytes, and then its two numbers, each below 8.
 impl Tell for (&[u8], usize, usize) {
     fn tell(&self, row: &mut Row) {
         let (bytes, start, end) = self;

@@ -1,7 +1,8 @@
-//! Texts as they cross the border.
+//! Texts, as they cross the border to C.
 ghost use Rattle.std.specs.Str.{IsUtf8};
 
-/// A text crosses as its bytes, and the type that the caller has them from says that they are one.
+/// Returns the text that crosses as its bytes. The caller has them from a `&str`, so they are a
+/// text.
 pub fn text(input: &[u8]) -> &str
     requires { IsUtf8 input.now }
 {

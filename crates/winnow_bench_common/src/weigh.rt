@@ -1,4 +1,4 @@
-//! What a workload sums up, so that no part of its work can be left out.
+//! The sums of workloads, so that the compiler can leave out no part of the work.
 ghost use Rattle.std.specs.Prelude.{◌≡◌, ℕ, if◌then◌else◌};
 
 use std::ops::Range;
@@ -45,7 +45,7 @@ impl Number for bool {
     }
 }
 
-/// A slice as a number, of which it must be read.
+/// A slice as a number, for which the slice must be read.
 pub trait Weigh {
     /// Its length and its first byte.
     fn weigh(&self) -> u64;
@@ -66,7 +66,7 @@ impl Weigh for &str {
     }
 }
 
-/// The bytes of a slice of bits, and its two numbers.
+/// The bytes of a slice of bits, and its two numbers, mixed.
 impl<S: Weigh> Weigh for (S, usize, usize) {
     fn weigh(&self) -> u64 {
         let (bytes, start, end) = self;
@@ -81,14 +81,15 @@ impl Weigh for Range<usize> {
     }
 }
 
-/// Items are not read: they take the time that it takes to list them.
+/// The items are not read, so the time is that of listing them.
 impl<T> Weigh for Vec<(usize, T)> {
     fn weigh(&self) -> u64 {
         4
     }
 }
 
-/// The sum so far with one more number: one instruction, and the order counts.
+/// Returns the sum so far with one more number. It is one instruction, and the order of the numbers
+/// counts.
 pub fn mix(sum: u64, number: u64) -> u64 {
     number.wrapping_sub(sum)
 }

@@ -4,7 +4,7 @@ ghost use Rattle.std.specs.Prelude.{◌≡◌, false};
 use winnow_stream::{Stream, StreamIsPartial};
 use winnow_wrap::{LocatingSlice, Partial, Stateful};
 
-/// Every wrapper that holds nothing of its own but numbers.
+/// An input in all wrappers that hold only numbers of their own.
 pub type Wrapped<I> = Partial<Stateful<LocatingSlice<I>, u64>>;
 
 /// Wraps an input three times.

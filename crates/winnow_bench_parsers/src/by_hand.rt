@@ -1,4 +1,4 @@
-//! The same work written by hand on streams, each by the same number.
+//! The same work, written by hand on streams, with the same numbers.
 
 use std::alloc::Global;
 use winnow_bench_common::{Number, Weigh, mix};
@@ -13,7 +13,7 @@ fn is_space(byte: u8) -> bool {
     byte == b' ' || byte == b'\n'
 }
 
-/// Takes tokens one by one, whichever they are or only those of words and spaces.
+/// Takes tokens one by one: all tokens, or only those of words and spaces.
 pub fn sum_single<I: Stream<Token = u8>>(input: &mut I, every: bool) -> u64
     requires { I.valid input.old }
 {
@@ -30,7 +30,7 @@ pub fn sum_single<I: Stream<Token = u8>>(input: &mut I, every: bool) -> u64
     sum
 }
 
-/// Takes a word that stands there again and again.
+/// Takes one word again and again.
 pub fn sum_words_alike<I: Compare<&'static str> + Stream>(input: &mut I) -> u64
 where
     I::Slice: Weigh + Drop,
@@ -73,7 +73,7 @@ where
     sum
 }
 
-// The letters that stand there, and the token after them, if there are any of both.
+// Takes the letters ahead and the token after them, if there are both.
 fn next_word<I: Stream<Token = u8>>(input: &mut I) -> Option<I::Slice>
 where
     I::Slice: Weigh + Drop,
@@ -122,7 +122,7 @@ where
     sum
 }
 
-/// Takes what stands before each newline, which is searched for, and the newline.
+/// Searches for each newline, and takes what stands before it and the newline.
 pub fn sum_found<I: FindSlice<&'static str> + Stream<Token = u8>>(input: &mut I) -> u64
 where
     I::Slice: Weigh + Drop,
@@ -139,7 +139,7 @@ where
     sum
 }
 
-// Takes a name, if it stands there.
+// Takes a name, if the input begins with it.
 fn take_name<I: Compare<&'static str> + Stream>(
     input: &mut I,
     name: &'static str,
@@ -155,7 +155,7 @@ where
     }
 }
 
-// Takes the one of four names that stands there.
+// Takes the one of four names with which the input begins.
 fn next_name<I: Compare<&'static str> + Stream>(input: &mut I) -> Option<I::Slice>
 where
     I::Slice: Weigh + Drop,

@@ -6,7 +6,7 @@ use winnow_error::EmptyError;
 use winnow_parser::{ModalResult, Parser};
 use winnow_stream::StreamIsPartial;
 
-/// What a parser gave, as a number.
+/// The value of a parser, as a number.
 pub trait Value {
     fn value(&self) -> u64;
 }

@@ -32,12 +32,13 @@ where
     }
 }
 
-/// Asks the parser of what stands before a newline again and again, on an input that is whole.
+/// Asks the parser of the text before a newline again and again, on whole input.
 pub fn sum_until(alloc: Global, input: &mut &[u8]) -> u64 {
     sum_values(alloc, input, &terminated(take_until(0.., "\n"), any()))
 }
 
-/// Asks one of the parsers that are made of parsers. `repeat` and `separated` read all at once.
+/// Asks one of the parsers that are made of parsers. `repeat` and `separated` read all input in one
+/// call.
 pub fn sum_parts<I: Compare<&'static str> + StreamIsPartial<Token = u8>>(
     alloc: Global,
     input: &mut I,

@@ -1,4 +1,4 @@
-//! What ranges of counts answer, and what texts read as.
+//! The answers of ranges of counts, and the values of texts.
 
 use std::alloc::Global;
 use std::fmt::Display;
@@ -24,7 +24,7 @@ pub extern "C" fn winnow_bench_range(
     row.hand_out(out)
 }
 
-// The range of that kind with these bounds.
+// Returns the range of this kind with these bounds.
 fn range_of(kind: u64, first: usize, second: usize) -> Range {
     match kind {
         0 => Range::from(first),
@@ -37,10 +37,10 @@ fn range_of(kind: u64, first: usize, second: usize) -> Range {
     }
 }
 
-// Counts past every small bound.
+// Counts above all small bounds.
 const PAST: [usize; 2] = [usize::MAX - 1, usize::MAX];
 
-// Which counts it contains, and its texts.
+// Adds which counts the range contains, and its texts.
 fn tell_range(alloc: Global, row: &mut Row, range: &Range) {
     for count in 0..12 {
         row.add(&[u64::from(range.contains(&count))]);
@@ -58,7 +58,7 @@ pub extern "C" fn winnow_bench_readings(alloc: Global, input: &[u8], out: &mut [
     row.hand_out(out)
 }
 
-// What bytes read as at each type, and what they do as a text where they are one.
+// Adds the values that bytes read as at each type: as bytes, and also as a text if they are UTF-8.
 fn tell_readings(alloc: Global, row: &mut Row, input: &[u8]) {
     tell_reading::<u8>(alloc, row, input);
     tell_reading::<u16>(alloc, row, input);

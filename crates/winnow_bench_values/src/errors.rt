@@ -21,7 +21,7 @@ pub extern "C" fn winnow_bench_mode_text(
     hand_out(alloc, mode_text(alloc, kind, number), out)
 }
 
-/// Which of two modes `or` keeps.
+/// The one of two modes that `or` keeps.
 #[unsafe(no_mangle)]
 pub extern "C" fn winnow_bench_or_text(
     alloc: Global,
@@ -41,7 +41,7 @@ pub extern "C" fn winnow_bench_input_text(alloc: Global, input: &[u8], out: &mut
     }
 }
 
-/// A context and its value, by their number.
+/// A context and its value, each by its number.
 #[unsafe(no_mangle)]
 pub extern "C" fn winnow_bench_context_text(alloc: Global, number: u64, out: &mut [u64]) -> u64 {
     match context_of(number) {
@@ -50,7 +50,7 @@ pub extern "C" fn winnow_bench_context_text(alloc: Global, number: u64, out: &mu
     }
 }
 
-/// An error with contexts, and with a cause where one is given.
+/// An error with contexts, and with a cause if one is given.
 #[unsafe(no_mangle)]
 pub extern "C" fn winnow_bench_explanation_text(
     alloc: Global,
@@ -104,7 +104,7 @@ fn context_text(alloc: Global, context: &StrContext) -> Result<String, AllocErro
     }
 }
 
-// Of five texts each, labels, literals and descriptions; then characters.
+// Returns a context by its number: five labels, five literals, five descriptions, then characters.
 fn context_of(number: u64) -> Option<StrContext> {
     let count = TEXTS.len() as u64;
     let text = TEXTS[(number % count) as usize];

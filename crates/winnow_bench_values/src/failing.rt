@@ -5,7 +5,8 @@ use winnow_error::{EmptyError, ParserError};
 use winnow_parse_error::ParseError;
 use winnow_stream::Stream;
 
-/// The error of a parse that fails behind the front of that width, or at the start where no front has it.
+/// Returns the error of a parse that fails after the front of this width, or at the start where no
+/// front has the width.
 pub fn fail_at<I: Stream + Copy>(alloc: Global, input: I, width: usize) -> ParseError<I, EmptyError>
 where
     I::Slice: Drop,

@@ -1,4 +1,4 @@
-//! What each accumulator holds of the items of an input.
+//! What each accumulator holds after the items of an input.
 ghost use Rattle.std.specs.Str.{IsUtf8};
 
 use std::alloc::Global;
@@ -9,7 +9,7 @@ use winnow_count::Accumulate;
 
 type Cow<'i> = CowStr<'i, Global>;
 
-// What is gathered of so many items, or of as many as there are.
+// Adds what is gathered of `count` items, or of all if there are fewer.
 fn tell_gathered<A: Accumulate<T> + Tell + Drop, T: Drop, S: Supply<T> + Drop>(
     alloc: Global,
     row: &mut Row,
@@ -20,7 +20,7 @@ fn tell_gathered<A: Accumulate<T> + Tell + Drop, T: Drop, S: Supply<T> + Drop>(
     row.add_made(gather::<A, T, S>(alloc, &mut items, count));
 }
 
-// What remains, in parts of so many tokens.
+// Returns the rest of a stream, in parts of `tokens` tokens.
 fn parts<S>(rest: S, tokens: usize) -> Parts<S> {
     Parts { rest, tokens }
 }
@@ -37,7 +37,7 @@ pub extern "C" fn winnow_bench_gathered_bytes(
     row.hand_out(out)
 }
 
-// What the bytes give, and what their parts of so many tokens do.
+// Adds what the bytes give, and what their parts of `tokens` tokens give.
 fn tell_bytes(alloc: Global, row: &mut Row, input: &[u8], tokens: usize) {
     let count = input.len();
     tell_gathered::<(), u8, &[u8]>(alloc, row, input, count);
@@ -65,7 +65,7 @@ pub extern "C" fn winnow_bench_gathered_text(
     row.hand_out(out)
 }
 
-// What the characters give, and what the parts of so many do.
+// Adds what the characters give, and what their parts of `tokens` characters give.
 fn tell_text(alloc: Global, row: &mut Row, input: &str, tokens: usize) {
     let count = input.len();
     tell_gathered::<String, char, &str>(alloc, row, input, count);
@@ -74,7 +74,7 @@ fn tell_text(alloc: Global, row: &mut Row, input: &str, tokens: usize) {
     tell_gathered::<Cow<'_>, &str, Parts<&str>>(alloc, row, parts(input, tokens), count);
 }
 
-// Parts as texts of their own; where memory is refused, none.
+// Parts as owned texts. They end where memory is refused.
 #[derive(Drop)]
 struct Owned<'i> {
     parts: Parts<&'i str>,
@@ -87,7 +87,7 @@ impl<'i> Supply<String> for Owned<'i> {
     }
 }
 
-// The first parts lent, and every other one a text of its own.
+// Parts that are lent and owned in turn. The first is owned if `is_lent` is set at the start.
 #[derive(Drop)]
 struct Mixed<'i> {
     parts: Parts<&'i str>,
@@ -107,7 +107,7 @@ impl<'i> Supply<Cow<'i>> for Mixed<'i> {
     }
 }
 
-// What parts give that are texts of their own.
+// Adds what parts give that are owned texts.
 fn tell_owned(alloc: Global, row: &mut Row, input: &str, tokens: usize) {
     let count = input.len();
     let owned = Owned {
@@ -122,7 +122,7 @@ fn tell_owned(alloc: Global, row: &mut Row, input: &str, tokens: usize) {
     tell_gathered::<Cow<'_>, String, Owned<'_>>(alloc, row, owned, count);
 }
 
-// What parts give that are lent and owned in turn.
+// Adds what parts give that are lent and owned in turn.
 fn tell_mixed(alloc: Global, row: &mut Row, input: &str, tokens: usize, is_lent: bool) {
     let count = input.len();
     let mixed = Mixed {
@@ -146,7 +146,7 @@ pub extern "C" fn winnow_bench_gathered_keys(alloc: Global, keys: &[u64], out: &
     row.hand_out(out)
 }
 
-// What maps and sets hold of each key.
+// Adds what maps and sets hold for each key.
 fn tell_keys(alloc: Global, row: &mut Row, keys: &[u64]) {
     let count = keys.len();
     let pairs = Pairs { keys, count: 0 };
@@ -157,7 +157,7 @@ fn tell_keys(alloc: Global, row: &mut Row, keys: &[u64]) {
     tell_gathered::<HashSet<u64>, u64, &[u64]>(alloc, row, keys, count);
 }
 
-// Keys with how many came before, so that a later value is told from an earlier one.
+// Keys, each with the number of keys before it, so that a later value differs from an earlier one.
 #[derive(Drop)]
 struct Pairs<'i> {
     keys: &'i [u64],

@@ -1,6 +1,7 @@
-//! The library's values, errors and feeds as C functions over bytes and numbers, for `bench/` alone: searches and comparisons, sets,
-//! counts, readings, accumulators, texts and trees of errors, parse errors, and scripts over input that comes in pieces. There a program
-//! calls these and the Rust crate in turn, compares what they answer, and times the last three.
+//! The library's values, errors and feeds as C functions over bytes and numbers, for `bench/`
+//! alone: searches and comparisons, sets, counts, readings, accumulators, texts and trees of
+//! errors, parse errors, and scripts over input that comes in pieces. A program there calls these
+//! and the Rust crate in turn, compares their answers, and times the last three.
 #![tactic(auto)]
 
 mod byte_pieces;

@@ -1,4 +1,4 @@
-//! A long input, made piece by piece, through one feed after the other.
+//! A long input, made piece by piece, which goes through one feed after the other.
 
 use crate::byte_pieces::feed_piece;
 use crate::piece_answers::weigh_answers;
@@ -7,7 +7,8 @@ use std::alloc::{AllocError, Global};
 use winnow_bench_common::{RawStep, mix};
 use winnow_feed::ByteFeed;
 
-/// So many pieces of that length. They are parts of `made`, which is longer than a piece, and begins again behind its end.
+/// `pieces` pieces of this length. They are parts of `made`, which is longer than a piece and
+/// begins again after its end.
 #[unsafe(no_mangle)]
 pub extern "C" fn winnow_bench_feed_lines(
     alloc: Global,
@@ -38,7 +39,7 @@ fn weigh_lines(
     Ok(mix(sum, weigh_answers(feed.end().answers())))
 }
 
-// The piece of that number; an empty one where `made` is too short.
+// Returns the piece with this number, or an empty one where `made` is too short.
 fn piece_of(made: &[u8], length: usize, number: u64) -> &[u8] {
     let Some(period) = made.len().checked_sub(length) else {
         return &[];
@@ -50,7 +51,8 @@ fn piece_of(made: &[u8], length: usize, number: u64) -> &[u8] {
     made.get(start..start.saturating_add(length)).unwrap_or(&[])
 }
 
-// Feeds a piece, and what a script leaves of it to the next feed: the sum of the answers of those that end.
+// Feeds a piece, and feeds what a script leaves of it to the next feed. Returns the sum of the
+// answers of the feeds that end.
 fn feed_on<'k>(
     alloc: Global,
     feed: &mut ByteFeed<'k>,
@@ -59,7 +61,7 @@ fn feed_on<'k>(
 ) -> Result<u64, AllocError> {
     let mut rest = piece;
     let mut sum = 0;
-    // A script goes past a byte at least, or is the last.
+    // Each script takes at least one byte, or is the last.
     for _ in 0..piece.len() {
         feed_piece(feed, rest)?;
         if feed.answers().len() < steps.len() {

@@ -1,4 +1,4 @@
-//! Parse errors: what they print and span, and where an offset stands.
+//! Parse errors: their texts and spans, and the positions of offsets.
 ghost use Rattle.std.specs.Str.{IsUtf8};
 
 use crate::failing::fail_at;
@@ -33,7 +33,7 @@ pub extern "C" fn winnow_bench_failure_text(
     row.hand_out(out)
 }
 
-// What the error of a parse prints, its offset and its span.
+// Adds the text of a parse error, its offset and its span.
 fn tell_failure<I: Stream + AsBStr + Copy>(alloc: Global, row: &mut Row, input: I, width: usize)
 where
     I::Slice: Drop,

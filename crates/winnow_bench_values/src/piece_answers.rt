@@ -1,4 +1,4 @@
-//! The answers over pieces: weighed, and as rows of numbers.
+//! The answers over pieces, as sums and as rows of numbers.
 
 use winnow_bench_common::{Number, Row, Tell, Weigh, mix};
 use winnow_feed::{Finished, Told};

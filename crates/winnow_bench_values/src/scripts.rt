@@ -1,4 +1,4 @@
-//! Scripts as feeds take them: their sets are ranges of characters.
+//! Scripts for feeds, whose sets are ranges of characters.
 
 use std::alloc::{AllocError, Global};
 use winnow_bench_common::{Cut, RawStep, search_step_of};
@@ -8,7 +8,7 @@ use winnow_sets::CharSet;
 /// A step of a script over pieces.
 pub type PieceStep<'k, L> = SearchStep<CharSet<'k>, L>;
 
-// The character of a number, or the last one where it is of none.
+// Returns the character with this number, or the last one where no character has it.
 fn char_of(number: u64) -> char {
     match u32::try_from(number) {
         Ok(code) => char::from_u32(code).unwrap_or(char::MAX),
@@ -16,7 +16,7 @@ fn char_of(number: u64) -> char {
     }
 }
 
-/// What each step looks for, if it looks for a set.
+/// Returns the range of each step, which is its set if it searches for one.
 pub fn ranges_of(alloc: Global, script: &[RawStep]) -> Result<Vec<[(char, char); 1]>, AllocError> {
     let mut ranges = Vec::with_capacity(alloc, script.len())?;
     for raw in script {
@@ -25,7 +25,7 @@ pub fn ranges_of(alloc: Global, script: &[RawStep]) -> Result<Vec<[(char, char);
     Ok(ranges)
 }
 
-/// The steps of a script, without those that are none.
+/// Returns the steps of a script, without the numbers that no step has.
 pub fn steps_in<'k, L: Cut>(
     alloc: Global,
     script: &[RawStep],

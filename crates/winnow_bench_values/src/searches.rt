@@ -1,4 +1,4 @@
-//! What every form of a comparison and of a search answers: three numbers a form.
+//! The answers of each form of a comparison and of a search: three numbers a form.
 ghost use Rattle.std.specs.Str.{IsUtf8};
 
 use std::alloc::Global;
@@ -36,7 +36,8 @@ pub extern "C" fn winnow_bench_searches_text(
     row.hand_out(out)
 }
 
-// The forms of bytes, each with needles that are bytes, single bytes, texts and characters, where the needles are such.
+// The forms of bytes, each with needles that are bytes, and also single bytes, texts and characters
+// where the needles can be read so.
 fn tell_byte_searches(row: &mut Row, input: &[u8], needles: (&[u8], &[u8], &[u8])) {
     tell_forms(row, &input, needles);
     tell_needles(row, &input, needles);
@@ -52,7 +53,8 @@ fn tell_byte_searches(row: &mut Row, input: &[u8], needles: (&[u8], &[u8], &[u8]
     }
 }
 
-// The forms of a text, with needles that are texts and characters, where the needles are such.
+// The forms of a text, with needles that are texts and characters, where the needles can be read
+// so.
 fn tell_text_searches(row: &mut Row, input: &str, needles: (&[u8], &[u8], &[u8])) {
     if let Some(texts) = texts_of(needles) {
         tell_forms(row, &input, texts);
@@ -81,7 +83,7 @@ fn chars_of(texts: (&str, &str, &str)) -> Option<(char, char, char)> {
     Some((a, b, c))
 }
 
-// One literal compared, and one, two and three needles of its kind searched.
+// Compares one literal, and searches for one, two and three needles of its kind.
 fn tell_forms<S, L: Copy>(row: &mut Row, s: &S, needles: (L, L, L))
 where
     S: Compare<L> + FindSlice<L> + FindSlice<(L,)> + FindSlice<(L, L)> + FindSlice<(L, L, L)>,
@@ -128,7 +130,7 @@ fn tell_arrays(row: &mut Row, s: &[u8], literal: &[u8]) {
     }
 }
 
-// 0 and the width, or 1, or 2.
+// Adds 0 and the width, or 1, or 2.
 fn tell_comparison<S: Compare<L>, L>(row: &mut Row, s: &S, literal: L)
     requires { S.valid s.now }
 {
@@ -139,7 +141,7 @@ fn tell_comparison<S: Compare<L>, L>(row: &mut Row, s: &S, literal: L)
     }
 }
 
-// 3 and the ends of the hit, or 4.
+// Adds 3 and both ends of the hit, or 4.
 fn tell_hit<S: FindSlice<N>, N>(row: &mut Row, s: &S, needle: N)
     requires { S.valid s.now }
 {

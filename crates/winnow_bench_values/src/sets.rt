@@ -1,10 +1,10 @@
-//! What every form of a set answers of a token: one flag a form.
+//! The answer of each form of a set for a token: one flag a form.
 
 use std::alloc::Global;
 use winnow_bench_common::Row;
 use winnow_sets::{AsChar, CharSet, ContainsToken, Where};
 
-/// Of a token, and of sets with two bounds, each given by its number.
+/// A token, and sets with two bounds, each given by its number.
 #[unsafe(no_mangle)]
 pub extern "C" fn winnow_bench_sets(
     alloc: Global,
@@ -26,7 +26,8 @@ fn byte_of(number: u64) -> Option<u8> {
     u8::try_from(number).ok()
 }
 
-// The token as a character and a byte, and the bounds as both, where they are such.
+// Adds the answers for the token and the bounds as characters and as bytes, where they can be read
+// so.
 fn tell_sets(row: &mut Row, token: u64, bounds: (u64, u64)) {
     if let Some(token) = char_of(token) {
         tell_token(row, token, bounds);

@@ -7,10 +7,10 @@ use std::alloc::{AllocError, Global};
 use winnow_bench_common::{RawStep, Row, text};
 use winnow_feed::TextFeed;
 
-// No input is as long, so that a place fits.
+// No input is this long, so each place fits.
 const MOST: usize = 1 << 60;
 
-// Feeds a piece, and says how many answers came out.
+// Feeds a piece, and returns the number of answers that came out.
 fn feed_piece(feed: &mut TextFeed<'_>, piece: &str) -> Result<usize, AllocError> {
     if feed.fed() > MOST || piece.len() > MOST {
         return Ok(0);
@@ -62,7 +62,8 @@ fn feed_all(feed: &mut TextFeed<'_>, input: &str, cuts: &[u64]) -> Result<(), Al
     Ok(())
 }
 
-/// Pieces that end at the cuts. Told are how many answers came out of each, and how many bytes were kept then.
+/// Pieces that end at the cuts. The row has, for each piece, the number of answers that came out
+/// and of bytes that are kept.
 #[unsafe(no_mangle)]
 pub extern "C" fn winnow_bench_piece_answers_text(
     alloc: Global,

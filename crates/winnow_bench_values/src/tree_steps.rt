@@ -1,4 +1,4 @@
-//! Trees of errors by steps, each of which puts an error on a stack or changes what lies there.
+//! Trees of errors, built by steps. Each step puts an error on a stack or changes the errors on it.
 
 use std::alloc::{AllocError, Global};
 use winnow_bench_common::RawStep;
@@ -17,7 +17,7 @@ fn word(number: u64) -> &'static str {
     WORDS[(number % WORDS.len() as u64) as usize]
 }
 
-/// What the steps leave on the stack, the last on top.
+/// Returns the stack that the steps leave, with the last error on top.
 pub fn build<I: Stream + Copy>(
     alloc: Global,
     input: I,
@@ -34,8 +34,8 @@ where
     Ok(stack)
 }
 
-// Kinds 0 and 1 put a new error on the stack, without and with a cause; 2 and 3 tell the last one of a parser that failed because of
-// it, and of what was being read; 4 joins the last two.
+// Kinds 0 and 1 put a new error on the stack, without and with a cause. Kind 2 adds the frame of a
+// parser to the last error, and kind 3 a context. Kind 4 joins the last two.
 fn apply<I: Stream + Copy>(
     alloc: Global,
     stack: &mut Vec<Tree<I>>,
@@ -64,7 +64,8 @@ where
     Ok(())
 }
 
-// What remains behind the front of that width, or all of it where no front has it.
+// Returns what remains after the front of this width, or the whole input where no front has the
+// width.
 fn behind<I: Stream + Copy>(input: I, width: usize) -> I
 where
     I::Slice: Drop,

@@ -1,4 +1,4 @@
-//! What trees of errors print.
+//! The texts of trees of errors.
 ghost use Rattle.std.specs.Str.{IsUtf8};
 
 use crate::tree_steps::{Tree, build};
@@ -36,7 +36,7 @@ pub extern "C" fn winnow_bench_trees_text(
     row.hand_out(out)
 }
 
-// The text of each tree that the steps leave, and of its parts by themselves.
+// Adds the text of each tree that the steps leave, and the texts of its parts.
 fn tell_trees<I: Stream + Copy + Display>(alloc: Global, row: &mut Row, input: I, steps: &[RawStep])
 where
     I::Slice: Drop,
@@ -55,7 +55,7 @@ fn tell_all<I: Display>(alloc: Global, row: &mut Row, stack: &[Tree<I>]) {
     }
 }
 
-// The texts of a base and of frames, not of what lies deeper.
+// Adds the texts of a base and of frames, without those of deeper parts.
 fn tell_parts<I: Display>(alloc: Global, row: &mut Row, tree: &Tree<I>) {
     match tree {
         TreeError::Base(base) => row.add_made(base.text(alloc)),

@@ -47,7 +47,7 @@ where
     Ok(all)
 }
 
-// Tells an error at each token that a parser failed because of it, and what was being read.
+// Adds the frame of a parser and a context to an error at each token.
 fn push_all<I: Stream + Copy>(alloc: Global, input: I) -> Result<Tree<I>, AllocError>
 where
     I::Token: Drop,
@@ -69,7 +69,7 @@ fn print_all(alloc: Global, input: &str) -> Result<u64, AllocError> {
     Ok(text.as_str().weigh())
 }
 
-// Each entry and each frame with its input.
+// Returns the sum of all entries and frames, each with its input.
 fn weigh_tree<I: Weigh>(tree: &Tree<I>) -> u64 {
     match tree {
         TreeError::Base(base) => base.input.weigh(),

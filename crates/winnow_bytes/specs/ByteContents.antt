@@ -1,4 +1,5 @@
--- What the types around a slice of bytes stand for: the bytes that remain. Contracts name these, and never a field.
+-- The meaning of the types around a slice of bytes: the bytes that remain. Contracts name these,
+-- and never a field.
 use Rattle.std.specs.Prelude.{ℕ, List}
 use Rattle.winnow_window.specs.Contents.{contents_of}
 use Rattle.winnow_bytes.specs.declared.bytes.Bytes.{Bytes}

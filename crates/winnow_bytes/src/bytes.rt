@@ -34,14 +34,15 @@ use winnow_stream::{
 };
 use winnow_window::Window;
 
-/// Bytes that are no text, as a stream: it streams as `&[u8]` does, and prints as hexadecimal digits.
+/// Bytes that are no text, as a stream: it streams as `&[u8]` does, and prints as hexadecimal
+/// digits.
 #[derive(Clone, Copy)]
 pub struct Bytes<'i> {
     window: Window<'i, u8>,
 }
 
 impl<'i> Bytes<'i> {
-    /// These bytes.
+    /// Returns the stream of these bytes.
     pub fn new(bytes: &'i [u8]) -> Self
         ensures { bytes_contents result ≡ bytes.now }
     {
@@ -76,28 +77,28 @@ impl<'i> Bytes<'i> {
         }
     }
 
-    /// Returns whether these are the bytes.
+    /// Returns whether the contents are these bytes.
     pub fn eq_bytes(&self, bytes: &[u8]) -> bool
         ensures { IsTrue result ↔ (bytes_contents self.now ≡ bytes.now) }
     {
         self.inner() == bytes
     }
 
-    /// Returns whether these are the bytes of the text.
+    /// Returns whether the contents are the bytes of this text.
     pub fn eq_str(&self, text: &str) -> bool
         ensures { IsTrue result ↔ (bytes_contents self.now ≡ text.now) }
     {
         self.inner() == text.as_bytes()
     }
 
-    /// Returns how these stand to the bytes in the order of the first byte that differs.
+    /// Compares the contents with the bytes, by the first byte that differs.
     pub fn cmp_bytes(&self, bytes: &[u8]) -> Ordering
         ensures { result ≡ slice_cmp nat_cmp (bytes_contents self.now) bytes.now }
     {
         self.inner().cmp(bytes)
     }
 
-    /// Returns how these stand to the bytes of the text in the order of the first byte that differs.
+    /// Compares the contents with the bytes of the text, by the first byte that differs.
     pub fn cmp_str(&self, text: &str) -> Ordering
         ensures { result ≡ slice_cmp nat_cmp (bytes_contents self.now) text.now }
     {
@@ -111,14 +112,14 @@ impl<'i> Bytes<'i> {
         self.inner().to_vec(alloc)
     }
 
-    /// Returns the same, to be printed in capital digits.
+    /// Returns the same bytes, which print as capital digits.
     pub fn upper(&self) -> UpperBytes<'i>
         ensures { upper_contents result ≡ bytes_contents self.now }
     {
         UpperBytes::new(self.inner())
     }
 
-    /// Returns the same, to be printed in small digits.
+    /// Returns the same bytes, which print as small digits.
     pub fn lower(&self) -> LowerBytes<'i>
         ensures { lower_contents result ≡ bytes_contents self.now }
     {
@@ -280,7 +281,7 @@ impl StreamIsPartial for Bytes<'_> {
 
     fn restore_partial(&mut self, _state: ()) {}
 
-    // A function without `self` of an impl at a lifetime does not inherit the trait's clause.
+    // A function without `self`, in an impl at a lifetime, does not inherit the trait's clause.
     fn is_partial_supported() -> bool
         ensures { result ≡ false }
     {
@@ -292,21 +293,23 @@ impl StreamIsPartial for Bytes<'_> {
     }
 }
 
-/// As the bytes are compared.
+/// It compares as the bytes do.
 #[tactic(auto, using(winnow_match::proofs::lemmas::AnswerLemmas::source_answers))]
 impl<T: ByteLiteral> Compare<T> for Bytes<'_> {
     ghost compared = { λ literal r. comparison (T.literal_bytes literal) (bytes_of r) };
 
     ghost literal_width = { λ literal. length (T.literal_bytes literal) };
 
-    ghost comparisons_stay = { λ literal. ComparisonsStay-written (λ byte. byte ∷ []) (T.literal_bytes literal) };
+    ghost comparisons_stay = { λ literal.
+        ComparisonsStay-written (λ byte. byte ∷ []) (T.literal_bytes literal) };
 
+    #[inline(always)]
     fn compare(&self, t: T) -> CompareResult {
         t.compare_with(self.inner())
     }
 }
 
-/// As the bytes are searched.
+/// It is searched as the bytes are.
 #[tactic(auto, using(winnow_match::proofs::lemmas::AnswerLemmas::source_answers))]
 impl<T: ByteNeedles> FindSlice<T> for Bytes<'_> {
     ghost found = { λ needles r. hit (T.needle_bytes needles) (bytes_of r) };
@@ -316,7 +319,7 @@ impl<T: ByteNeedles> FindSlice<T> for Bytes<'_> {
     }
 }
 
-/// Two hexadecimal digits a byte, in capitals; no option of a hole changes the text.
+/// Prints two hexadecimal digits for each byte, in capitals. No option of a hole changes the text.
 impl fmt::Display for Bytes<'_> {
     ghost output = { λ s. Some (hex_text true (bytes_contents s)) };
 
@@ -327,7 +330,7 @@ impl fmt::Display for Bytes<'_> {
     }
 }
 
-/// Two hexadecimal digits a byte, in capitals; no option of a hole changes the text.
+/// Prints two hexadecimal digits for each byte, in capitals. No option of a hole changes the text.
 impl fmt::Debug for Bytes<'_> {
     ghost debug_output = { λ s. Some (hex_text true (bytes_contents s)) };
 

@@ -6,7 +6,7 @@ ghost use Rattle.winnow_bytes.specs.Hex.{two_digits, hex_text};
 use std::{fmt, str};
 use winnow_kinds::hex_digit;
 
-/// Writes two digits a byte, in capitals or not.
+/// Writes two digits for each byte, in capitals if `upper` is set.
 fn write_hex<W: fmt::Write>(bytes: &[u8], upper: bool, f: &mut fmt::Formatter<W>) -> fmt::Result
     ensures writes { WritesOnOk W.write_str_gives f.old result (hex_text upper bytes.now) f.new }
     ensures styled { WritesStyledOnOk W.write_str_gives f.old result
@@ -24,12 +24,12 @@ fn write_byte<W: fmt::Write>(byte: u8, upper: bool, f: &mut fmt::Formatter<W>) -
     let digits = [hex_digit(byte / 16, upper), hex_digit(byte % 16, upper)];
     match str::from_utf8(&digits) {
         Ok(digits) => f.write_str(digits),
-        // Never: digits are text.
+        // This never happens, because digits are text.
         Err(_) => Err(fmt::Error),
     }
 }
 
-/// Bytes that print as two hexadecimal digits each, in capitals, whatever the options of a hole are.
+/// Bytes that print as two hexadecimal digits each, in capitals, under all options of a hole.
 #[derive(Clone, Copy, Debug)]
 pub struct UpperBytes<'i> {
     bytes: &'i [u8],
@@ -53,7 +53,7 @@ impl fmt::Display for UpperBytes<'_> {
     }
 }
 
-/// Bytes that print as two hexadecimal digits each, in small letters, whatever the options of a hole are.
+/// Bytes that print as two hexadecimal digits each, in small letters, under all options of a hole.
 #[derive(Clone, Copy, Debug)]
 pub struct LowerBytes<'i> {
     bytes: &'i [u8],

@@ -1,3 +1,5 @@
+//! Laws of bytes that are no text. A law does nothing when called: its contract is the law.
+
 ghost use Rattle.std.specs.Prelude.{◌≡◌, ◌↔◌, ℕ, List, IsTrue};
 ghost use Rattle.std.specs.Borrow.{Bor};
 ghost use Rattle.std.specs.Cmp.Lexicographic.{slice_cmp};
@@ -12,8 +14,8 @@ use crate::Bytes;
 use std::hash::Hash;
 use winnow_stream::{AsBytes, Checkpoint, Stream};
 
-/// The law of equality: two values are equal exactly where they have the same contents, and two checkpoints where the same contents
-/// remained. It does nothing when called: its contract is the law.
+/// The law of equality. Two values are equal exactly if they have the same contents, and two
+/// checkpoints exactly if the same contents remained.
 pub fn bytes_equality_law()
     ensures values { (s t : Bytes)
         → IsTrue (⟦<Bytes<'static> as PartialEq>⟧.eq s t) ↔ (bytes_contents s ≡ bytes_contents t) }
@@ -22,8 +24,8 @@ pub fn bytes_equality_law()
         ↔ (bytes_contents (checkpoint_inner c) ≡ bytes_contents (checkpoint_inner d)) }
 {}
 
-/// The law of order: values stand to each other as their contents do, by the first byte that differs, and checkpoints as the contents
-/// that remained there. It does nothing when called: its contract is the law.
+/// The law of order. Values are ordered as their contents are, by the first byte that differs, and
+/// checkpoints as the contents that remained there.
 pub fn bytes_order_law()
     ensures values { (s t : Bytes)
         → ⟦<Bytes<'static> as Ord>⟧.cmp s t
@@ -34,13 +36,13 @@ pub fn bytes_order_law()
         (bytes_contents (checkpoint_inner d)) }
 {}
 
-/// The law of hashes: a value is hashed as a slice of the same bytes is. It does nothing when called: its contract is the law.
+/// The law of hashes: a value hashes as a slice of the same bytes does.
 pub fn bytes_hash_law()
     ensures { (s : Bytes) (bytes : Bor (List ℕ)) → bytes.now ≡ bytes_contents s
         → ⟦<Bytes<'static> as Hash>⟧.hash_input s ≡ ⟦<&'static [u8] as Hash>⟧.hash_input bytes }
 {}
 
-/// The law of slices of a `Bytes`: they have the bytes that were taken. It does nothing when called: its contract is the law.
+/// The law of slices of a `Bytes`: they have the bytes that were taken.
 pub fn bytes_slice_law()
     ensures { SlicesHaveBytes ⟦<Bytes<'static> as Stream>⟧.is_slice
         ⟦<&'static [u8] as AsBytes>⟧.bytes }

@@ -1,5 +1,5 @@
-//! Bytes that are no text, as a stream: [`Bytes`] streams as a slice of bytes does, call for call, as `BStr` of the crate below,
-//! and prints two hexadecimal digits a byte.
+//! Bytes that are no text, as a stream: [`Bytes`] streams as a slice of bytes does, call for call,
+//! as `BStr` of the crate below does, and prints two hexadecimal digits for each byte.
 #![tactic(auto)]
 
 mod bytes;

@@ -1,4 +1,4 @@
--- What the debug text of a context is, and of an error that tells of several.
+-- The debug text of a context, and of an error that holds several.
 use Rattle.std.specs.Prelude.{ℕ, List, Option, Some, codes}
 use Rattle.std.specs.Fmt.{◌++?◌, debug_char, debug_str, debug_variant, debug_list, debug_option}
 use Rattle.winnow_context.specs.Explanation.{Explanation}
@@ -7,17 +7,18 @@ use Rattle.winnow_context.specs.declared.str_context.StrContext.TheVariants.{Lab
 use Rattle.winnow_context.specs.declared.str_context.StrContextValue.{StrContextValue}
 use Rattle.winnow_context.specs.declared.str_context.StrContextValue.TheVariants.{CharLiteral, StringLiteral, Description}
 
--- what would have been taken
+-- the debug text of what was expected
 abbrev pub value_debug : StrContextValue → Option (List ℕ)
 value_debug (CharLiteral c) = debug_variant (codes "CharLiteral") (debug_char c)
 value_debug (StringLiteral s) = debug_variant (codes "StringLiteral") (debug_str s.now)
 value_debug (Description s) = debug_variant (codes "Description") (debug_str s.now)
 
--- a context on its own
+-- the debug text of one context
 abbrev pub context_debug : StrContext → Option (List ℕ)
 context_debug (Label s) = debug_variant (codes "Label") (debug_str s.now)
 context_debug (Expected v) = debug_variant (codes "Expected") (value_debug v)
 
--- the contexts and the cause, where the debug text of a context is known
-abbrev pub explanation_debug : {C : Type 0} → (C → Option (List ℕ)) → Explanation C → Option (List ℕ)
+-- the debug text of the contexts and the cause, if that of each context is known
+abbrev pub explanation_debug : {C : Type 0} → (C → Option (List ℕ)) → Explanation C
+    → Option (List ℕ)
 explanation_debug context e = Some (codes "ContextError { context: ") ++? debug_list context e.contexts ++? Some (codes ", cause: ") ++? debug_option debug_str e.cause ++? Some (codes " }")

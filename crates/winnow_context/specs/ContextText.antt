@@ -1,4 +1,4 @@
--- What a context prints, and an error that tells of several.
+-- The text of a context, and of an error that holds several.
 use Rattle.std.specs.Prelude.{Bool, true, false, ℕ, List, [], ◌∷◌, ◌++◌, Option, Some, None, option_map, if◌then◌else◌, ◌==◌, codes, encode_utf8}
 use Rattle.std.specs.Char.{is_ascii_control}
 use Rattle.std.specs.List.{join_by}
@@ -10,17 +10,18 @@ use Rattle.winnow_context.specs.declared.str_context.StrContext.TheVariants.{Lab
 use Rattle.winnow_context.specs.declared.str_context.StrContextValue.{StrContextValue}
 use Rattle.winnow_context.specs.declared.str_context.StrContextValue.TheVariants.{CharLiteral, StringLiteral, Description}
 
--- a character: a newline in words, a backtick between apostrophes, any other between backticks, a control escaped
+-- the text of a character: a newline in words, a backtick between apostrophes, any other between
+-- backticks, with control characters escaped
 abbrev pub char_text : ℕ → List ℕ
 char_text c = if c == 10 then codes "newline" else (if c == 96 then codes "'`'" else (if is_ascii_control c then codes "`" ++ escape c ++ codes "`" else codes "`" ++ encode_utf8 c ++ codes "`"))
 
--- what would have been taken: a literal between backticks, a description bare
+-- the text of what was expected: a literal between backticks, a description as it is
 abbrev pub value_text : StrContextValue → List ℕ
 value_text (CharLiteral c) = char_text c
 value_text (StringLiteral s) = codes "`" ++ s.now ++ codes "`"
 value_text (Description s) = s.now
 
--- a context on its own
+-- the text of one context
 abbrev pub context_text : StrContext → List ℕ
 context_text (Label s) = codes "invalid " ++ s.now
 context_text (Expected v) = codes "expected " ++ value_text v
@@ -37,12 +38,12 @@ expected [] = []
 expected (Label s ∷ cs) = expected cs
 expected (Expected v ∷ cs) = v ∷ expected cs
 
--- there are some
+-- the list is not empty
 abbrev pub is_any : {A : Type 0} → List A → Bool
 is_any [] = false
 is_any (x ∷ xs) = true
 
--- the values between commas
+-- the text of the values, with a comma between each two
 abbrev pub values_text : List StrContextValue → List ℕ
 values_text vs = join_by value_text (codes ", ") vs
 
@@ -51,8 +52,9 @@ abbrev pub expected_line : List StrContextValue → List (List ℕ)
 expected_line [] = []
 expected_line (v ∷ vs) = (codes "expected " ++ values_text (v ∷ vs)) ∷ []
 
--- the lines: the first label, all expected values, and the cause, of these what there is
-abbrev pub explanation_lines : Option (List ℕ) → List StrContextValue → Option (List ℕ) → List (List ℕ)
+-- the lines that there are, of these three: the first label, all expected values, the cause
+abbrev pub explanation_lines : Option (List ℕ) → List StrContextValue → Option (List ℕ)
+    → List (List ℕ)
 explanation_lines label vs cause = option_to_list (option_map (λ l. codes "invalid " ++ l) label) ++ expected_line vs ++ option_to_list cause
 
 -- the lines, with a newline between each two

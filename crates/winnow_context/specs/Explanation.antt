@@ -1,4 +1,4 @@
--- What a context error tells.
+-- What a context error says.
 use Rattle.std.specs.Prelude.{◌≡◌, ◌++◌, ℕ, List, [], ◌∷◌, Option, Some, None}
 use Rattle.std.specs.Iterator.{YieldsThen}
 
@@ -7,22 +7,24 @@ pub record Explanation (C : Type 0) : Type 0 where
   pub contexts : List C
   pub cause : Option (List ℕ)
 
--- no context and no cause
+-- an explanation with no context and no cause
 abbrev pub unexplained : {C : Type 0} → Explanation C
 unexplained = record { contexts = []; cause = None }
 
--- a cause and no context
+-- an explanation with a cause and no context
 abbrev pub caused_by : {C : Type 0} → List ℕ → Explanation C
 caused_by text = record { contexts = []; cause = Some text }
 
--- one more context
+-- an explanation with one more context at the end
 abbrev pub pushed : {C : Type 0} → Explanation C → C → Explanation C
 pushed e c = record e { contexts = e.contexts ++ c ∷ [] }
 
--- `to` is `from` with these contexts more
+-- `to` is `from` with these contexts appended
 abbrev pub Extends : {C : Type 0} → Explanation C → List C → Explanation C → Type 0
 Extends from cs to = to ≡ record from { contexts = from.contexts ++ cs }
 
--- of what `contexts` became one more came than `to` has behind `from`, and that one was given up
-abbrev pub KeepsAllButOne : {U T C : Type 0} → (U → T → Type 0) → (T → Option C → T → Type 0) → U → Explanation C → Explanation C → Type 0
+-- the iterator that `contexts` became yielded the contexts that `to` has after `from`, and one
+-- more, which was dropped
+abbrev pub KeepsAllButOne : {U T C : Type 0} → (U → T → Type 0) → (T → Option C → T → Type 0) → U
+    → Explanation C → Explanation C → Type 0
 KeepsAllButOne {U} {T} {C} becomes steps contexts from to = (it : T) × (kept : List C) × (more : C) × (rest : T) × becomes contexts it × YieldsThen steps it kept (Some more) rest × Extends from kept to

@@ -19,9 +19,11 @@ use winnow_error::{
 };
 use winnow_stream::{Needed, Stream};
 
-/// An error that tells what was being read when it came, and what another's error caused it, if one did.
+/// An error that says what was being read when it occurred, and which error of other code caused
+/// it, if one did.
 ///
-/// Contracts see the list of contexts and the text of the cause, and nothing of the room that they take.
+/// Contracts see the list of contexts and the text of the cause, but not the memory that holds
+/// them.
 #[derive(Drop)]
 pub struct ContextError<C> {
     context: Vec<C>,
@@ -59,7 +61,7 @@ impl<C: Drop> ContextError<C> {
         }
     }
 
-    /// Adds a context. Where there is no memory it is given up, and the error stays as it was.
+    /// Adds a context. If memory is refused, the context is dropped and the error stays as it was.
     pub fn push(&mut self, context: C) -> Result<(), AllocError>
         ensures ok { OnOk result (self.new ≡ pushed self.old context) }
         ensures err { OnErr result (self.new ≡ self.old) }
@@ -68,8 +70,8 @@ impl<C: Drop> ContextError<C> {
         Ok(())
     }
 
-    /// Adds contexts in the order in which they come, which has an end. Where there is no memory for one, it is given up, and those
-    /// that came before it stay.
+    /// Adds the contexts of a finite iterator, in order. If memory for one is refused, that one is
+    /// dropped, and those before it stay.
     pub fn extend<U: IntoIterator<Item = C>>(&mut self, contexts: U) -> Result<(), AllocError>
         requires { (it : U.IntoIter) → U.into_iter_gives contexts it → U.IntoIter.can_next it
             × IsFinite (U.IntoIter.remaining it) }
@@ -79,7 +81,7 @@ impl<C: Drop> ContextError<C> {
             contexts self.old self.new) }
     {
         let contexts = contexts.into_iter();
-        // The hint may be too high, so that its refusal is no want of memory yet.
+        // The hint may be too high, so a refusal here is no error: each `push` asks again.
         let _hinted = self.context.reserve(contexts.size_hint().0);
         for context in contexts {
             self.push(context)?;
@@ -97,7 +99,7 @@ impl<C: Drop> ContextError<C> {
         ContextItems::new(self.context.as_slice())
     }
 
-    /// Returns the text of what caused the error, if it was another's error.
+    /// Returns the text of the error of other code that caused this one, if one did.
     pub fn cause(&self) -> Option<&str>
         ensures { option_map (λ text. text.now) result ≡ self.now.cause }
     {
@@ -107,7 +109,7 @@ impl<C: Drop> ContextError<C> {
         }
     }
 
-    /// Returns the same contexts and cause, where the clone of a context is that context.
+    /// Returns the same contexts and cause, if the clone of a context equals that context.
     pub fn clone(&self) -> Result<Self, AllocError>
     where
         C: Clone,
@@ -250,7 +252,7 @@ impl<C: PartialEq> PartialEq for ContextError<C> {
     }
 }
 
-/// Prints what a derive would, and says so.
+/// Prints what a derived `Debug` would print.
 impl<C: fmt::Debug> fmt::Debug for ContextError<C> {
     ghost debug_output = { explanation_debug C.debug_output };
 

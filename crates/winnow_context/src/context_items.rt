@@ -4,7 +4,7 @@ ghost use Rattle.std.specs.Iterator.SizeHint.{IsWithinCount};
 
 use std::marker::Model;
 
-/// Goes over the contexts of an error, in the order in which they were added.
+/// Iterates over the contexts of an error, in the order in which they were added.
 #[derive(Debug, Drop)]
 pub struct ContextItems<'a, C> {
     rest: &'a [C],

@@ -31,7 +31,7 @@ fn is_any_expected(contexts: &[StrContext]) -> bool
     false
 }
 
-/// All expected values, between commas.
+/// All expected values, with a comma between each two.
 #[derive(Drop)]
 struct AllExpected<'a>(&'a [StrContext]);
 
@@ -50,7 +50,7 @@ impl fmt::Display for AllExpected<'_> {
     }
 }
 
-/// A line, if there is one: a newline if another line stands before it, what it begins with, and its text.
+/// A line that may be absent: a newline if it follows another line, then its start and its text.
 #[derive(Drop)]
 struct Line<'a, T> {
     is_later: bool,
@@ -77,7 +77,7 @@ impl<T: fmt::Display> fmt::Display for Line<'_, T> {
     }
 }
 
-/// No option changes the text.
+/// Options of the formatter do not change the text.
 impl fmt::Display for ContextError<StrContext> {
     ghost output = { λ e. Some (explanation_text e) };
 

@@ -1,4 +1,5 @@
-//! An error that tells what was being read when it came, and what would have been taken there: [`ContextError`], with its text.
+//! [`ContextError`]: an error that says what was being read when it occurred and what was expected
+//! there, with its text.
 #![tactic(auto)]
 
 mod context;

@@ -9,23 +9,23 @@ use std::fmt;
 use winnow_error::write_bare;
 use winnow_kinds::write_escaped;
 
-/// What a parser was reading, or what it would have taken.
+/// What a parser was reading, or what it expected.
 #[derive(Clone, PartialEq, Eq, Drop)]
 pub enum StrContext {
-    /// What was being read, as `number`
+    /// What was being read, for example `number`
     Label(&'static str),
-    /// What would have been taken
+    /// What was expected
     Expected(StrContextValue),
 }
 
-/// What a parser would have taken.
+/// What a parser expected.
 #[derive(Clone, PartialEq, Eq, Drop)]
 pub enum StrContextValue {
     /// A character
     CharLiteral(char),
     /// A literal text
     StringLiteral(&'static str),
-    /// What else it is, in words, as `a digit`
+    /// A description in words, for example `a digit`
     Description(&'static str),
 }
 
@@ -45,7 +45,7 @@ impl From<&'static str> for StrContextValue {
     }
 }
 
-/// A character that would have been taken.
+/// A character that was expected.
 #[derive(Drop)]
 struct Quoted(char);
 
@@ -68,7 +68,7 @@ impl fmt::Display for Quoted {
     }
 }
 
-/// No option changes the text.
+/// Options of the formatter do not change the text.
 impl fmt::Display for StrContextValue {
     ghost output = { λ v. Some (value_text v) };
 
@@ -83,7 +83,7 @@ impl fmt::Display for StrContextValue {
     }
 }
 
-/// No option changes the text.
+/// Options of the formatter do not change the text.
 impl fmt::Display for StrContext {
     ghost output = { λ c. Some (context_text c) };
 
@@ -97,7 +97,7 @@ impl fmt::Display for StrContext {
     }
 }
 
-/// Prints what a derive would, and says so.
+/// Prints what a derived `Debug` would print.
 impl fmt::Debug for StrContextValue {
     ghost debug_output = { value_debug };
 
@@ -110,7 +110,7 @@ impl fmt::Debug for StrContextValue {
     }
 }
 
-/// Prints what a derive would, and says so.
+/// Prints what a derived `Debug` would print.
 impl fmt::Debug for StrContext {
     ghost debug_output = { context_debug };
 

@@ -4,7 +4,7 @@ ghost use Rattle.std.specs.Fmt.{DisplaysOnOk, debug_variant};
 
 use std::fmt;
 
-/// Prints a variant that holds a value, as a derive does.
+/// Prints a variant that holds a value as a derived `Debug` does.
 pub fn write_variant<T: fmt::Debug, W: fmt::Write>(
     f: &mut fmt::Formatter<W>,
     name: &str,

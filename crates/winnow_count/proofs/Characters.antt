@@ -1,4 +1,4 @@
--- What the bytes of one character tell.
+-- The bytes of one character determine it.
 use Rattle.std.proofs.Common.{◌≡◌, ℕ, [], ◌++◌, ap}
 use Rattle.std.proofs.lemmas.Str.{encode_same}
 use Rattle.std.proofs.Math.Utf8.{encode}

@@ -1,4 +1,4 @@
--- What std's `parse` answers of a text is what it reads as.
+-- The answer of std's `parse` for a text is the value that the text reads as.
 use Rattle.std.proofs.Common.{◌≡◌, ◌≢◌, ℕ, ◌<◌, ◌^◌, inl, inr, Bool, true, false, List, [], ◌∷◌, drop, cond, Some, unwrap_or, Result, Ok, Err, ℤ, pos, neg_ℤ, FitsSigned, refl, sym, ap, ◌∙◌, subst, arith, rules}
 use Rattle.std.specs.Str.{IsUtf8}
 use Rattle.std.proofs.lemmas.Str.{IsUtf8-from_ascii}
@@ -14,6 +14,7 @@ use mir.Syntax.{Width}
 digit_is_no_sign : (c sign : ℕ) (cs : List ℕ) → IsNumeral 10 (c ∷ cs) → sign < 48 → c ≢ sign
 digit_is_no_sign c sign cs numeral below = λ same. let digit = digit_from_value c numeral.1.0 in omega arith
 
+-- `WritesUpward` is what std reads after a plus that it skips, in both directions
 from_upward : (text : List ℕ) (n : ℕ) → WritesUpward text n → Writes (without_leading_plus text) n
 from_upward [] n (inl w) = w
 from_upward (c ∷ cs) n (inl w) = subst (λ ds. Writes ds n) (sym (without_leading_plus_none (c ∷ cs) (digit_is_no_sign c 43 cs w.0 (omega arith)))) w
@@ -26,8 +27,9 @@ to_upward (c ∷ cs) n w = elim (eqb_tells c 43) [
   | inr (_, other) ↦ inl (subst (λ ds. Writes ds n) (without_leading_plus_none (c ∷ cs) other) w)
 ]
 
--- `parse` at an unsigned type
-pub unsigned_reading : {E : Type 0} (bits : ℕ) (text : List ℕ) (r : Result ℕ E) → ParsesUnsigned bits 10 text r → IsSomeExactly (ReadsUnsigned bits text) (result_ok r)
+-- `parse` at an unsigned type answers exactly the number that the text reads as
+pub unsigned_reading : {E : Type 0} (bits : ℕ) (text : List ℕ) (r : Result ℕ E)
+    → ParsesUnsigned bits 10 text r → IsSomeExactly (ReadsUnsigned bits text) (result_ok r)
 unsigned_reading bits text (Ok x) h = λ v. (
   λ e. (let is : digits_value 10 (without_leading_plus text) ≡ v = sym h.1 ∙ ap (λ o. unwrap_or o x) e in
       (to_upward text v (h.0.0, is), subst (λ k. k < 2 ^ bits) is h.0.1)),
@@ -38,11 +40,11 @@ unsigned_reading bits text (Err e) h = λ v. (
   λ reads. (let w = from_upward text v reads.0 in absurd (h (w.0, subst (λ k. k < 2 ^ bits) (sym w.1) reads.1))),
 )
 
--- what std reads as digits after a plus is one number
+-- the digits after a plus that std skips write only one number
 unsigned_only : (text : List ℕ) (m n : ℕ) → WritesUpward text m → WritesUpward text n → m ≡ n
 unsigned_only text m n one other = sym (from_upward text m one).1 ∙ (from_upward text n other).1
 
--- digits, and digits after a sign, are ASCII, and so they are text
+-- digits, and digits after a sign, are ASCII, so they are text
 IsUtf8-from_sign : (sign : ℕ) (ds : List ℕ) → sign < 128 → AllDigits 10 ds → IsUtf8 (sign ∷ ds)
 IsUtf8-from_sign sign ds below digits = IsUtf8-from_ascii (sign ∷ ds) (λ i. grind (arith, IsAscii-from_digits ds digits))
 
@@ -50,29 +52,35 @@ IsUtf8-from_upward : (text : List ℕ) (n : ℕ) → WritesUpward text n → IsU
 IsUtf8-from_upward text n (inl w) = IsUtf8-from_ascii text (IsAscii-from_digits text w.0.1)
 IsUtf8-from_upward text n (inr (ds, is, w)) = subst IsUtf8 (sym is) (IsUtf8-from_sign 43 ds (omega arith) w.0.1)
 
--- the law of numbers as text
-pub unsigned_law : (bits m n : ℕ) (text : List ℕ) → ReadsUnsigned bits text m → ReadsUnsigned bits text n → m ≡ n
+-- `number_law` for unsigned types: a text reads as one number alone
+pub unsigned_law : (bits m n : ℕ) (text : List ℕ) → ReadsUnsigned bits text m
+    → ReadsUnsigned bits text n → m ≡ n
 unsigned_law bits m n text one other = unsigned_only text m n one.0 other.0
 
+-- bytes that read as an unsigned number are text
 pub unsigned_text : (bits n : ℕ) (text : List ℕ) → ReadsUnsigned bits text n → IsUtf8 text
 unsigned_text bits n text reads = IsUtf8-from_upward text n reads.0
 
--- what std says of a text with a minus first or not
+-- what std says of a text, by whether a minus stands first
 abbrev SaysSigned : Bool → List ℕ → ℤ → Type 0
 SaysSigned minus text z = let ds = cond minus (drop 1 text) (without_leading_plus text) in IsNumeral 10 ds × (cond minus (neg_ℤ (pos (digits_value 10 ds))) (pos (digits_value 10 ds)) ≡ z)
 
+-- a text that `WritesUpward` allows does not begin with a minus
 no_minus : (text : List ℕ) (n : ℕ) → WritesUpward text n → starts_with_minus text ≡ false
 no_minus [] n up = refl
 no_minus (c ∷ cs) n (inl w) = elim (eqb_tells c 45) [ inl (_, is) ↦ absurd (digit_is_no_sign c 45 cs w.0 (omega arith) is) | inr (other, _) ↦ other ]
 no_minus text n (inr (ds, is, w)) = subst (λ t. starts_with_minus t ≡ false) (sym is) refl
 
-from_signed : (text : List ℕ) (z : ℤ) → WritesSigned text z → SaysSigned (starts_with_minus text) text z
+-- `WritesSigned` is what std says, in both directions
+from_signed : (text : List ℕ) (z : ℤ) → WritesSigned text z
+    → SaysSigned (starts_with_minus text) text z
 from_signed text z (n, inl (up, is)) = let w = from_upward text n up in
     subst (λ minus. SaysSigned minus text z) (sym (no_minus text n up)) (w.0, ap pos w.1 ∙ sym is)
 from_signed text z (n, inr ((ds, first, w), is)) =
     subst (λ t. SaysSigned (starts_with_minus t) t z) (sym first) (w.0, ap (λ k. neg_ℤ (pos k)) w.1 ∙ sym is)
 
-to_signed : (text : List ℕ) (z : ℤ) → SaysSigned (starts_with_minus text) text z → WritesSigned text z
+to_signed : (text : List ℕ) (z : ℤ) → SaysSigned (starts_with_minus text) text z
+    → WritesSigned text z
 to_signed [] z says = absurd (omega (arith, says.0.0))
 to_signed (c ∷ cs) z says = elim (eqb_tells c 45) [
   | inl (test, is) ↦ (let w : SaysSigned true (c ∷ cs) z = subst (λ minus. SaysSigned minus (c ∷ cs) z) test says in
@@ -81,8 +89,9 @@ to_signed (c ∷ cs) z says = elim (eqb_tells c 45) [
       (digits_value 10 (without_leading_plus (c ∷ cs)), inl (to_upward (c ∷ cs) _ (w.0, refl), sym w.1)))
 ]
 
--- `parse` at a signed type
-pub signed_reading : {E : Type 0} (width : Width) (text : List ℕ) (r : Result ℤ E) → ParsesSigned width 10 text r → IsSomeExactly (ReadsSigned width text) (result_ok r)
+-- `parse` at a signed type answers exactly the number that the text reads as
+pub signed_reading : {E : Type 0} (width : Width) (text : List ℕ) (r : Result ℤ E)
+    → ParsesSigned width 10 text r → IsSomeExactly (ReadsSigned width text) (result_ok r)
 signed_reading width text (Ok x) h = λ v. (
   λ e. (let is : signed_digits_value 10 text ≡ v = sym h.1 ∙ ap (λ o. unwrap_or o x) e in
       (to_signed text v (h.0.0, is), subst (FitsSigned width) is h.0.1)),
@@ -93,10 +102,12 @@ signed_reading width text (Err e) h = λ v. (
   λ reads. (let w = from_signed text v reads.0 in absurd (h (w.0, subst (FitsSigned width) (sym w.1) reads.1))),
 )
 
--- the law of signed numbers as text
-pub signed_law : (width : Width) (y z : ℤ) (text : List ℕ) → ReadsSigned width text y → ReadsSigned width text z → y ≡ z
+-- `number_law` for signed types: a text reads as one number alone
+pub signed_law : (width : Width) (y z : ℤ) (text : List ℕ) → ReadsSigned width text y
+    → ReadsSigned width text z → y ≡ z
 signed_law width y z text one other = sym (from_signed text y one.0).1 ∙ (from_signed text z other.0).1
 
+-- bytes that read as a signed number are text
 pub signed_text : (width : Width) (z : ℤ) (text : List ℕ) → ReadsSigned width text z → IsUtf8 text
 signed_text width z text ((n, inl (up, is)), fits) = IsUtf8-from_upward text n up
 signed_text width z text ((n, inr ((ds, first, w), is)), fits) = subst IsUtf8 (sym first) (IsUtf8-from_sign 45 ds (omega arith) w.0.1)

@@ -1,4 +1,5 @@
--- What an accumulator holds after one more item: the laws of its implementations.
+-- An accumulator holds what the list with one more item gives: the laws that its implementations
+-- need.
 use Rattle.std.proofs.Common.{◌≡◌, ◌==◌, ℕ, ◌+◌, ◌≤◌, Bool, true, false, cond, List, [], ◌∷◌, ◌++◌, length, refl, sym, ◌∙◌, ap, arith}
 use Rattle.std.specs.Prelude.{Option, Some, MatchBool, encode_utf8}
 use Rattle.std.specs.BTreeMap as tree
@@ -24,12 +25,14 @@ use Rattle.std.proofs.lemmas.List.Folds.{list_any-append}
 use Rattle.std.proofs.lemmas.Str.{encodes-append}
 use Rattle.winnow_count.specs.Accumulation.{HasLastValues, HasKeys, AppendsOwned, BecomesOrAppends, CowUnchanged, room_of}
 
+-- a count takes one more item
 pub count_taken : {T : Type 0} (old new : ℕ) (items : List T) (item : T)
     → old ≡ length items → new ≡ old + 1 → new ≡ length (items ++ item ∷ [])
 count_taken old new items item held taken = grind (arith, length-append items (item ∷ []))
 
--- what a `view` of an accumulator shows, where each item gives a piece
+-- the `view` of an accumulator, if each item gives a piece
 module _ {S T A : Type 0} (view : S → List A) (piece : T → List A) where
+  -- an accumulator that appends the piece of an item holds the pieces of the longer list
   pub concat_taken : (old new : S) (items : List T) (item : T)
       → view old ≡ flat_map piece items → view new ≡ view old ++ piece item
       → view new ≡ flat_map piece (items ++ item ∷ [])
@@ -37,14 +40,16 @@ module _ {S T A : Type 0} (view : S → List A) (piece : T → List A) where
       taken ∙ ap (λ l. l ++ piece item) held ∙ flat_map_more piece [] items item
 
 module _ {S : Type 0} (view : S → List ℕ) where
+  -- a text that appends a character holds the characters of the longer list
   pub characters_taken : (old new : S) (characters : List ℕ) (c : ℕ)
       → view old ≡ encode_utf8_all characters → view new ≡ view old ++ encode_utf8 c
       → view new ≡ encode_utf8_all (characters ++ c ∷ [])
   characters_taken old new characters c held taken =
       grind (arith, common_steps, encodes-append characters (c ∷ []))
 
--- a text that becomes what is handed to it, or appends it
+-- a text that becomes the text that it is given, or appends it
 module _ {Z : Type 0} where
+  -- in both cases it has the bytes that were there and then those that were given
   became : (front : List ℕ) (given new : CowStr Z) (Grows : Type 0)
       → (Grows → cow_str_bytes new ≡ front ++ cow_str_bytes given)
       → MatchBool (length front == 0) (new ≡ given) Grows
@@ -53,18 +58,21 @@ module _ {Z : Type 0} where
   became (b ∷ bs) given new Grows read taken =
       let filled : (length (b ∷ bs) == 0) ≡ false = grind arith in read (rw filled at taken)
 
+  -- a text that may be borrowed takes a character
   pub cow_characters_taken : (old new : CowStr Z) (characters : List ℕ) (c : ℕ)
       → cow_str_bytes old ≡ encode_utf8_all characters → AppendsOwned old (encode_utf8 c) new
       → cow_str_bytes new ≡ encode_utf8_all (characters ++ c ∷ [])
   cow_characters_taken old new characters c held taken =
       characters_taken cow_str_bytes old new characters c held taken.1
 
+  -- a text that may be borrowed holds the same after a refusal
   pub cow_stays : {T : Type 0} (meaning : List T → List ℕ) (old new : CowStr Z) (items : List T)
       → cow_str_bytes old ≡ meaning items → CowUnchanged old new → cow_str_bytes new ≡ meaning items
   cow_stays meaning (Borrowed text) new items held same = ap cow_str_bytes same ∙ held
   cow_stays meaning (Owned text) new items held same = same.1 ∙ held
 
 module _ {Z T : Type 0} where
+  -- a text that may be borrowed takes a piece, or becomes it
   pub cow_appends_taken : (piece : T → List ℕ) (old new : CowStr Z) (items : List T) (item : T)
       → cow_str_bytes old ≡ flat_map piece items → AppendsOwned old (piece item) new
       → cow_str_bytes new ≡ flat_map piece (items ++ item ∷ [])
@@ -79,14 +87,16 @@ module _ {Z T : Type 0} where
       became (cow_str_bytes old) (given item) new (AppendsOwned old (cow_str_bytes (given item)) new) (λ grows. grows.1) taken in
       concat_taken cow_str_bytes (λ i. cow_str_bytes (given i)) old new items item held grown
 
--- what a map holds at a key, and whether a set holds it
+-- the values that a map has at its keys, and the keys that a set has
 module _ {K : Type 0} {same : K → K → Bool} (laws : IsEquivalence same) where
+  -- a map with one more pair has the last values of the longer list
   last_value_taken : {V : Type 0} (old new : K → Option V) (pairs : List (K × V)) (pair : K × V)
       → HasLastValues same old pairs → ((key : K) → new key ≡ cond (same pair.0 key) (Some pair.1) (old key))
       → HasLastValues same new (pairs ++ pair ∷ [])
   last_value_taken old new pairs pair held taken key =
       rw (reverse-append pairs (pair ∷ [])) (rw (laws.symm key pair.0) (rw (sym (held key)) (taken key)))
 
+  -- a set with one more key has the keys of the longer list
   keys_taken : (old new : K → Bool) (keys : List K) (item : K)
       → HasKeys same old keys → ((key : K) → new key ≡ cond (same item key) true (old key))
       → HasKeys same new (keys ++ item ∷ [])
@@ -98,7 +108,10 @@ module _ {K : Type 0} {same : K → K → Bool} (laws : IsEquivalence same) wher
       grind (arith, common_steps, appended, before, after, turned)
 
 module _ {K V : Type 0} where
-  pub tree_map_taken : {cmp : K → K → Ordering} (total : IsTotalOrder cmp) (old new : BTreeMap K V) (pairs : List (K × V)) (pair : K × V)
+  -- an ordered map takes a pair, holds nothing at the start, and holds the same after a refusal
+  pub tree_map_taken : {cmp : K → K
+      → Ordering} (total : IsTotalOrder cmp) (old new : BTreeMap K V) (pairs : List (K
+      × V)) (pair : K × V)
       → HasLastValues (eq_by_cmp cmp) (tree.get cmp old) pairs → tree.Updates cmp old new pair.0 (Some pair.1)
       → HasLastValues (eq_by_cmp cmp) (tree.get cmp new) (pairs ++ pair ∷ [])
   tree_map_taken {cmp} total old new pairs pair held taken =
@@ -114,7 +127,10 @@ module _ {K V : Type 0} where
   tree_map_stays cmp old new pairs held same key = rw same (held key)
 
 module _ {K V S : Type 0} where
-  pub hash_map_taken : {eq : K → K → Bool} (laws : IsEquivalence eq) (old new : HashMap K V S) (pairs : List (K × V)) (pair : K × V)
+  -- a hashed map takes a pair, holds nothing at the start, and holds the same after a refusal
+  pub hash_map_taken : {eq : K → K
+      → Bool} (laws : IsEquivalence eq) (old new : HashMap K V S) (pairs : List (K × V)) (pair : K
+      × V)
       → HasLastValues eq (hash.get eq old) pairs → hash.Updates eq old new pair.0 (Some pair.1)
       → HasLastValues eq (hash.get eq new) (pairs ++ pair ∷ [])
   hash_map_taken {eq} laws old new pairs pair held taken =
@@ -130,7 +146,9 @@ module _ {K V S : Type 0} where
   hash_map_stays eq old new pairs held same key = rw same (held key)
 
 module _ {K : Type 0} where
-  pub tree_set_taken : {cmp : K → K → Ordering} (total : IsTotalOrder cmp) (old new : BTreeSet K) (keys : List K) (item : K)
+  -- an ordered set takes a key, holds nothing at the start, and holds the same after a refusal
+  pub tree_set_taken : {cmp : K → K
+      → Ordering} (total : IsTotalOrder cmp) (old new : BTreeSet K) (keys : List K) (item : K)
       → HasKeys (eq_by_cmp cmp) (sorted.contains cmp old) keys → sorted.Updates cmp old new item true
       → HasKeys (eq_by_cmp cmp) (sorted.contains cmp new) (keys ++ item ∷ [])
   tree_set_taken {cmp} total old new keys item held taken =
@@ -146,7 +164,9 @@ module _ {K : Type 0} where
   tree_set_stays cmp old new keys held same key = rw same (held key)
 
 module _ {K S : Type 0} where
-  pub hash_set_taken : {eq : K → K → Bool} (laws : IsEquivalence eq) (old new : HashSet K S) (keys : List K) (item : K)
+  -- a hashed set takes a key, holds nothing at the start, and holds the same after a refusal
+  pub hash_set_taken : {eq : K → K
+      → Bool} (laws : IsEquivalence eq) (old new : HashSet K S) (keys : List K) (item : K)
       → HasKeys eq (bag.contains eq old) keys → bag.Updates eq old new item true
       → HasKeys eq (bag.contains eq new) (keys ++ item ∷ [])
   hash_set_taken {eq} laws old new keys item held taken =

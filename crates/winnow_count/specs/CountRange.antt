@@ -2,13 +2,14 @@
 use Rattle.std.specs.Prelude.{◌≡◌, ℕ, nat_le, Bool, true, ◌&&◌, List, ◌++◌, Option, Some, None, if◌then◌else◌, ◌==◌, codes, decimal}
 use Rattle.winnow_count.specs.declared.range.Range.{Range}
 
+-- the least count, and the greatest if there is one
 abbrev pub least_count : Range → ℕ
 least_count range = range.least
 
 abbrev pub greatest_count : Range → Option ℕ
 greatest_count range = range.greatest
 
--- the range is from this least count to this greatest, if there is one
+-- the range goes from this least count to this greatest, if there is one
 abbrev pub HasCounts : ℕ → Option ℕ → Range → Type 0
 HasCounts least greatest range = (least_count range ≡ least) × (greatest_count range ≡ greatest)
 
@@ -21,12 +22,13 @@ is_up_to (Some greatest) n = nat_le n greatest
 abbrev pub allows_count : Range → ℕ → Bool
 allows_count range n = nat_le (least_count range) n && is_up_to (greatest_count range) n
 
--- the least count; then `..` where there is no greatest, nothing where it is the least, and else `..=` and the greatest
+-- the least count; then `..` if there is no greatest, nothing if it is the least, and else `..=`
+-- and the greatest
 abbrev pub counts_text : ℕ → Option ℕ → List ℕ
 counts_text least None = decimal least ++ codes ".."
 counts_text least (Some greatest) =
     if greatest == least then decimal least else decimal least ++ codes "..=" ++ decimal greatest
 
--- what a range prints
+-- the text that a range prints
 abbrev pub range_text : Range → List ℕ
 range_text range = counts_text (least_count range) (greatest_count range)

@@ -1,11 +1,11 @@
--- What a text reads as: a number, a `bool` or a character.
+-- The value that a text reads as: a number, a `bool` or a character.
 use Rattle.std.specs.Prelude.{◌≡◌, ℕ, ◌<◌, ◌^◌, ◌↔◌, ◌⊎◌, Bool, List, ◌∷◌, Option, Some, if◌then◌else◌, codes, encode_utf8, ℤ, pos, neg_ℤ, FitsSigned}
 use Rattle.std.specs.Char.{IsScalar}
 use Rattle.std.specs.Str.{IsUtf8}
 use Rattle.std.specs.Str.Parse.{IsNumeral, digits_value}
 use mir.Syntax.{Width}
 
--- r is `Some v` for just the v of which P holds
+-- r is `Some v` for exactly the v of which P holds
 abbrev pub IsSomeExactly : {T : Type 0} → (T → Type 0) → Option T → Type 0
 IsSomeExactly {T} P r = (v : T) → (r ≡ Some v) ↔ P v
 
@@ -13,35 +13,36 @@ IsSomeExactly {T} P r = (v : T) → (r ≡ Some v) ↔ P v
 abbrev pub Writes : List ℕ → ℕ → Type 0
 Writes ds n = IsNumeral 10 ds × (digits_value 10 ds ≡ n)
 
--- this sign stands first, and digits after it write n
+-- this sign stands first, and the digits after it write n
 abbrev pub WritesAfter : ℕ → List ℕ → ℕ → Type 0
 WritesAfter sign text n = (ds : List ℕ) × (text ≡ sign ∷ ds) × Writes ds n
 
--- digits write n, with a plus (43) before them or none
+-- digits write n, perhaps with a plus (43) before them
 abbrev pub WritesUpward : List ℕ → ℕ → Type 0
 WritesUpward text n = Writes text n ⊎ WritesAfter 43 text n
 
--- the same of a number that may also be negative, after a minus (45)
+-- digits write z, perhaps with a plus before them, or after a minus (45)
 abbrev pub WritesSigned : List ℕ → ℤ → Type 0
 WritesSigned text z =
     (n : ℕ) × ((WritesUpward text n × (z ≡ pos n)) ⊎ (WritesAfter 45 text n × (z ≡ neg_ℤ (pos n))))
 
--- at an unsigned type of so many bits
+-- the text reads as n at an unsigned type with this number of bits
 abbrev pub ReadsUnsigned : ℕ → List ℕ → ℕ → Type 0
 ReadsUnsigned bits text n = WritesUpward text n × (n < 2 ^ bits)
 
--- at a signed type of this width
+-- the text reads as z at a signed type of this width
 abbrev pub ReadsSigned : Width → List ℕ → ℤ → Type 0
 ReadsSigned width text z = WritesSigned text z × FitsSigned width z
 
--- the word for the value
+-- the text is the word for the value
 abbrev pub ReadsBool : List ℕ → Bool → Type 0
 ReadsBool text b = text ≡ (if b then codes "true" else codes "false")
 
--- one character, and it is c
+-- the text is the one character c
 abbrev pub ReadsChar : List ℕ → ℕ → Type 0
 ReadsChar text c = IsScalar c × (text ≡ encode_utf8 c)
 
--- a slice reads as a value exactly where its bytes are text that reads as it
-abbrev pub ReadsBytes : {S R : Type 0} → (S → R → Type 0) → (S → List ℕ) → (List ℕ → R → Type 0) → Type 0
+-- a slice reads as a value exactly if its bytes are text that reads as the value
+abbrev pub ReadsBytes : {S R : Type 0} → (S → R → Type 0) → (S → List ℕ) → (List ℕ → R → Type 0)
+    → Type 0
 ReadsBytes {S} {R} reads bytes reading = (s : S) (v : R) → reads s v ↔ (IsUtf8 (bytes s) × reading (bytes s) v)

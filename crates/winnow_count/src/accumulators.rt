@@ -8,7 +8,8 @@ mod texts;
 mod trees;
 mod vectors;
 
-// How many items room is made for at most: a number that an input names is trusted no further.
+// The greatest number of items that room is made for: a number that an input names is trusted no
+// further.
 const MOST: usize = 1024;
 
 fn room(capacity: Option<usize>) -> usize

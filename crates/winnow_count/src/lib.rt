@@ -1,8 +1,10 @@
-//! Counts, what a repeated parser gathers its items in, and values read from what was taken.
+//! Counts, accumulators in which a repeated parser gathers its items, and values that are read from
+//! what was taken.
 //!
-//! [`Range`] says how often a parser may repeat, and [`Accumulate`] is what every accumulator meets: `()`, a count, vectors, queues,
-//! texts, maps and sets; of a list of items it holds what the list gives, which [`accumulate_all`] says. [`ToUsize`] gives the number
-//! that a length field holds, and [`ParseSlice`] reads a whole number, a `bool` or a `char` from what was taken.
+//! [`Range`] says how often a parser may repeat. [`Accumulate`] is the trait of every accumulator:
+//! `()`, a count, vectors, queues, texts, maps and sets. An accumulator of a list of items holds
+//! what the list gives, as [`accumulate_all`] says. [`ToUsize`] gives the number in a length field,
+//! and [`ParseSlice`] reads a whole number, a `bool` or a `char` from what was taken.
 #![tactic(auto)]
 
 mod accumulate;

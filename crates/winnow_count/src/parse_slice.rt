@@ -3,12 +3,12 @@ ghost use Rattle.winnow_count.specs.Reading.{IsSomeExactly};
 
 use crate::Readable;
 
-/// What was taken, which may read as a value of type `R`.
+/// A slice that was taken, and that may read as a value of type `R`.
 pub trait ParseSlice<R> {
-    // It reads as the value.
+    // The slice reads as the value.
     ghost reads: { Self → R → Type 0 };
 
-    /// Returns the value that it reads as, or `None` where there is none.
+    /// Returns the value that the slice reads as, or `None` if it reads as none.
     fn parse_slice(&self) -> Option<R>
         ensures { IsSomeExactly (reads self.now) result };
 }

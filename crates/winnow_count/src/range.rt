@@ -9,10 +9,12 @@ use std::fmt::{InlineText, Write};
 use std::ops::{Bound, RangeBounds};
 use std::{fmt, ops};
 
-/// How often a parser may be repeated: a least count, and perhaps a greatest, both of which are allowed.
+/// The number of times that a parser may be repeated: from a least count to a greatest, if there is
+/// one. Both are allowed.
 ///
-/// It is made from a number, which is then the only count, or from any range of numbers. A half-open range is closed one below
-/// its end, and below 0 there is nothing: so `5..5` allows no count, but `0..0` and `..0` allow the count 0.
+/// It is made from a number, which is then the only count, or from any range of numbers. The
+/// greatest count of a half-open range is one below its end, but never below 0: so `5..5` allows no
+/// count, but `0..0` and `..0` allow the count 0.
 #[derive(Clone, Copy, PartialEq, Eq)]
 pub struct Range {
     least: usize,
@@ -34,8 +36,9 @@ impl Range {
         self.greatest
     }
 
-    // What it prints, made apart from the formatter, whose options must not reach the counts. Two counts have at most 20 digits each,
-    // so they fit with the `..=` between them.
+    // The text that the range prints. It is made without the formatter, whose options must not
+    // reach the counts. Each of two counts has at most 20 digits, so both fit with the `..=`
+    // between them.
     fn text(&self) -> Result<InlineText<43>, fmt::Error>
         ensures { IfOk result (λ text. inline_text text ≡ range_text self.now) }
     {
@@ -62,7 +65,7 @@ impl From<usize> for Range {
     }
 }
 
-/// The counts from the start up to the end, without it.
+/// The counts from the start up to the end, without the end.
 impl From<ops::Range<usize>> for Range {
     ghost from_gives = { λ counts range. HasCounts counts.start (Some (counts.end - 1)) range };
 
@@ -74,7 +77,7 @@ impl From<ops::Range<usize>> for Range {
     }
 }
 
-/// The counts from the start to the end.
+/// The counts from the start up to the end, with the end.
 impl From<ops::RangeInclusive<usize>> for Range {
     ghost from_gives = { λ counts range.
         HasCounts (range_inclusive_start counts) (Some (range_inclusive_end counts)) range };
@@ -99,7 +102,7 @@ impl From<ops::RangeFrom<usize>> for Range {
     }
 }
 
-/// The counts up to the end, without it.
+/// The counts up to the end, without the end.
 impl From<ops::RangeTo<usize>> for Range {
     ghost from_gives = { λ counts range. HasCounts 0 (Some (counts.end - 1)) range };
 
@@ -108,7 +111,7 @@ impl From<ops::RangeTo<usize>> for Range {
     }
 }
 
-/// The counts up to the end.
+/// The counts up to the end, with the end.
 impl From<ops::RangeToInclusive<usize>> for Range {
     ghost from_gives = { λ counts range. HasCounts 0 (Some counts.end) range };
 
@@ -148,8 +151,8 @@ impl RangeBounds<usize> for Range {
     }
 }
 
-/// Prints the least count; then nothing if the greatest is the same, `..=` and the greatest if it is another, `..` if there is
-/// none. No option of a hole changes the text.
+/// Prints the least count. Then it prints nothing if the greatest count is the same, `..=` and the
+/// greatest if it is another, or `..` if there is none. No option of a hole changes the text.
 impl fmt::Display for Range {
     ghost output = { λ range. Some (range_text range) };
 

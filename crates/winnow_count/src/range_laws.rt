@@ -6,8 +6,9 @@ ghost use Rattle.winnow_count.specs.declared.range.Range.{Range};
 use crate::Range;
 use std::ops::RangeBounds;
 
-/// The laws of ranges: two are equal exactly where their least and greatest counts are, and a range contains a count exactly
-/// where it is neither below the least nor above the greatest. It does nothing when called: its contract is the laws.
+/// The law of ranges. Two are equal exactly if their least and their greatest counts are. A range
+/// contains a count exactly if the count is neither below the least nor above the greatest. It does
+/// nothing when called: its contract is the law.
 pub fn range_law()
     ensures equality { (a b : Range) → IsTrue (⟦<Range as PartialEq>⟧.eq a b)
         ↔ ((least_count a ≡ least_count b) × (greatest_count a ≡ greatest_count b)) }

@@ -8,12 +8,12 @@ pub trait Readable: Sized {
     // The text reads as the value.
     ghost reads: { List ℕ → Self → Type 0 };
 
-    /// Returns the value that the text reads as, or `None` where there is none.
+    /// Returns the value that the text reads as, or `None` if it reads as none.
     fn read(text: &str) -> Option<Self>
         ensures { IsSomeExactly (reads text.now) result };
 }
 
-/// Decimal digits that write a number of the type, with a `+` before them or none.
+/// Decimal digits that write a number of the type, perhaps with a `+` before them.
 impl Readable for u8 {
     ghost reads = { ReadsUnsigned 8 };
 
@@ -23,7 +23,7 @@ impl Readable for u8 {
     }
 }
 
-/// Decimal digits that write a number of the type, with a `+` before them or none.
+/// Decimal digits that write a number of the type, perhaps with a `+` before them.
 impl Readable for u16 {
     ghost reads = { ReadsUnsigned 16 };
 
@@ -33,7 +33,7 @@ impl Readable for u16 {
     }
 }
 
-/// Decimal digits that write a number of the type, with a `+` before them or none.
+/// Decimal digits that write a number of the type, perhaps with a `+` before them.
 impl Readable for u32 {
     ghost reads = { ReadsUnsigned 32 };
 
@@ -43,7 +43,7 @@ impl Readable for u32 {
     }
 }
 
-/// Decimal digits that write a number of the type, with a `+` before them or none.
+/// Decimal digits that write a number of the type, perhaps with a `+` before them.
 impl Readable for u64 {
     ghost reads = { ReadsUnsigned 64 };
 
@@ -53,7 +53,7 @@ impl Readable for u64 {
     }
 }
 
-/// Decimal digits that write a number of the type, with a `+` before them or none.
+/// Decimal digits that write a number of the type, perhaps with a `+` before them.
 impl Readable for u128 {
     ghost reads = { ReadsUnsigned 128 };
 
@@ -63,7 +63,7 @@ impl Readable for u128 {
     }
 }
 
-/// Decimal digits that write a number of the type, with a `+` before them or none.
+/// Decimal digits that write a number of the type, perhaps with a `+` before them.
 impl Readable for usize {
     ghost reads = { ReadsUnsigned 64 };
 
@@ -73,7 +73,7 @@ impl Readable for usize {
     }
 }
 
-/// Decimal digits that write a number of the type, with a `+` or a `-` before them or none.
+/// Decimal digits that write a number of the type, perhaps with a `+` or a `-` before them.
 impl Readable for i8 {
     ghost reads = { ReadsSigned w8 };
 
@@ -83,7 +83,7 @@ impl Readable for i8 {
     }
 }
 
-/// Decimal digits that write a number of the type, with a `+` or a `-` before them or none.
+/// Decimal digits that write a number of the type, perhaps with a `+` or a `-` before them.
 impl Readable for i16 {
     ghost reads = { ReadsSigned w16 };
 
@@ -93,7 +93,7 @@ impl Readable for i16 {
     }
 }
 
-/// Decimal digits that write a number of the type, with a `+` or a `-` before them or none.
+/// Decimal digits that write a number of the type, perhaps with a `+` or a `-` before them.
 impl Readable for i32 {
     ghost reads = { ReadsSigned w32 };
 
@@ -103,7 +103,7 @@ impl Readable for i32 {
     }
 }
 
-/// Decimal digits that write a number of the type, with a `+` or a `-` before them or none.
+/// Decimal digits that write a number of the type, perhaps with a `+` or a `-` before them.
 impl Readable for i64 {
     ghost reads = { ReadsSigned w64 };
 
@@ -113,7 +113,7 @@ impl Readable for i64 {
     }
 }
 
-/// Decimal digits that write a number of the type, with a `+` or a `-` before them or none.
+/// Decimal digits that write a number of the type, perhaps with a `+` or a `-` before them.
 impl Readable for i128 {
     ghost reads = { ReadsSigned w128 };
 
@@ -123,7 +123,7 @@ impl Readable for i128 {
     }
 }
 
-/// Decimal digits that write a number of the type, with a `+` or a `-` before them or none.
+/// Decimal digits that write a number of the type, perhaps with a `+` or a `-` before them.
 impl Readable for isize {
     ghost reads = { ReadsSigned w64 };
 

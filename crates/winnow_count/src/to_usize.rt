@@ -1,6 +1,6 @@
 ghost use Rattle.std.specs.Prelude.{◌≡◌, ◌≤◌, ℕ};
 
-/// A number that counts, as the one that a length field holds.
+/// A number that can be a count, as a length field holds one.
 pub trait ToUsize {
     // The number.
     ghost number: { Self → ℕ };

@@ -3,15 +3,17 @@ ghost use Rattle.std.specs.Prelude.{IfOk, OnErr};
 use std::alloc::{AllocError, Global};
 use winnow_stream::Stream;
 
-/// An error that can be told what was being read when it came.
+/// An error that can record what was being read when it occurred.
 pub trait AddContext<I: Stream, C>: Sized {
-    // What `add_context` makes of an error, by the input, the place where the parser began and what it read.
+    // What `add_context` makes of an error, the input, the place where the parser began and what it
+    // was reading.
     ghost add_context_gives: { Self → I → I.Checkpoint → C → Self → Type 0 };
 
-    // Whether `add_context` may be refused for want of memory.
+    // Whether `add_context` may fail because memory is refused.
     ghost add_context_refusable: { Type 0 };
 
-    /// Returns the error, told that a parser that began at `token_start` was reading `context`.
+    /// Returns the error and records in it that a parser which began at `token_start` was reading
+    /// `context`.
     fn add_context(
         self,
         alloc: Global,

@@ -4,14 +4,14 @@ use crate::ParserError;
 use std::alloc::Global;
 use winnow_stream::Stream;
 
-/// An error whose `or` is always `Ok` of one definition over the two errors, and that definition is associative.
+/// An error whose `or` always answers `Ok`, with an error that an associative function gives.
 ///
 /// So the error of many alternatives does not depend on how they are bracketed.
 pub trait AssociativeOr<I: Stream>: ParserError<I> {
-    // The error of two.
+    // The function: the one error that stands for two.
     ghost joined: { Self → Self → Self };
 
-    /// Returns what `or` answers of two alternatives, which is never refused.
+    /// Returns the error of two alternatives as `or` does, and is never refused memory.
     fn join(self, alloc: Global, other: Self) -> Self
         ensures { result ≡ joined self other }
     {
@@ -21,12 +21,12 @@ pub trait AssociativeOr<I: Stream>: ParserError<I> {
         }
     }
 
-    // `or` gives that error alone.
+    // `or` gives no other error than `joined`.
     ghost or_gives_joined: { (a b r : Self) → Self.or_gives a b r → r ≡ joined a b };
 
     // `or` is never refused.
     ghost or_never_refused: { Self.or_refusable → ⊥ };
 
-    // Three errors, either way bracketed.
+    // Three errors have one value, whichever two are joined first.
     ghost joined_associative: { (a b c : Self) → joined (joined a b) c ≡ joined a (joined b c) };
 }

@@ -1,4 +1,5 @@
-//! Text that no option changes: a width, a precision or a `#` that is asked of the whole does not reach its parts.
+//! Text that no option changes: a width, a precision or a `#` for the whole does not reach its
+//! parts.
 
 ghost use Rattle.std.specs.Prelude.{◌≡◌};
 ghost use Rattle.std.specs.Fmt.{DisplaysOnOk, DisplaysStyledOnOk, HasWrittenStyled, IsFlush};
@@ -32,7 +33,7 @@ pub fn write_bare<W: fmt::Write, D: fmt::Display + Drop>(
 {
     let mut bare = fmt::Formatter::new(Bare { f });
     let result = bare.write(value);
-    // It does nothing: the proof reads from it what `f` holds.
+    // Does nothing at run time: the proof learns from it what `f` holds.
     let _behind = bare.into_inner().f;
     result
 }

@@ -1,4 +1,4 @@
-//! An error at bits as one at their bytes, and back. It takes no memory.
+//! Converts an error at bits to an error at their bytes, and back, without taking memory.
 
 ghost use Rattle.std.specs.Prelude.{◌≡◌};
 ghost use Rattle.winnow_views.specs.BitStream.{bits_inner, bits_place};
@@ -18,7 +18,7 @@ impl<I> ErrorConvert<InputError<Bits<I>>> for InputError<I> {
     }
 }
 
-/// The input becomes its bytes, the one whose bits were read in part among them.
+/// The input becomes its bytes, which include a byte of which some bits were read.
 impl<I: Drop> ErrorConvert<InputError<I>> for InputError<Bits<I>> {
     ghost convert_gives = { λ e r. r.input ≡ bits_inner e.input };
 

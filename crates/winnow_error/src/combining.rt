@@ -7,18 +7,18 @@ use crate::{AssociativeOr, ErrMode, ParserError};
 use std::alloc::{AllocError, Global};
 use winnow_stream::Stream;
 
-/// Errors of alternatives, bracketed.
+/// The errors of alternatives, with brackets that say which are joined first.
 #[derive(Debug, Drop)]
 pub enum OrTree<E> {
-    /// One alternative's error
+    /// The error of one alternative
     One(E),
-    /// Those of two groups of alternatives, in order
+    /// The errors of two groups of alternatives, in order
     Both(Box<OrTree<E>>, Box<OrTree<E>>),
 }
 
-/// Joins the errors of alternatives by `or`, as they are bracketed.
+/// Joins the errors of alternatives with `or`, in the order that the brackets say.
 ///
-/// The brackets matter only to an inner `or` that is not associative, and not even there if one error is no `Backtrack`.
+/// The brackets matter only if the inner `or` is not associative and each error is a `Backtrack`.
 pub fn combine<I: Stream, E: ParserError<I>>(
     alloc: Global,
     tree: OrTree<ErrMode<E>>,
@@ -33,8 +33,9 @@ pub fn combine<I: Stream, E: ParserError<I>>(
     join_tree::<I, E>(alloc, tree)
 }
 
-/// Joins the errors of alternatives by an `or` that is associative and never refused memory, so that the brackets never matter:
-/// the answer is the first `Incomplete`, else the first `Cut`, else `Backtrack` of all errors joined in order.
+/// Joins the errors of alternatives with an inner `or` that is associative and never refused
+/// memory, so that the brackets do not matter. The answer is the first `Incomplete`; without one,
+/// the first `Cut`; without either, `Backtrack` of all errors joined in order.
 pub fn join_all<I: Stream, E: AssociativeOr<I>>(
     alloc: Global,
     tree: OrTree<ErrMode<E>>,

@@ -7,7 +7,7 @@ use std::alloc::{AllocError, Global};
 use std::fmt;
 use winnow_stream::{Needed, Stream};
 
-/// An error that tells nothing but that a parser failed.
+/// An error that holds nothing: it only says that a parser failed.
 #[derive(Clone, Copy, PartialEq, Eq)]
 pub struct EmptyError;
 
@@ -129,7 +129,7 @@ impl ErrorConvert<Self> for EmptyError {
     }
 }
 
-/// Prints what a derive would, and says so.
+/// Prints what a derived `Debug` would print.
 impl fmt::Debug for EmptyError {
     ghost debug_output = { λ _. Some (codes "EmptyError") };
 

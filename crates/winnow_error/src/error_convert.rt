@@ -7,7 +7,7 @@ pub trait ErrorConvert<E>: Sized {
     // What `convert` makes of an error.
     ghost convert_gives: { Self → E → Type 0 };
 
-    // Whether `convert` may be refused for want of memory.
+    // Whether `convert` may fail because memory is refused.
     ghost convert_refusable: { Type 0 };
 
     /// Returns the same error as an `E`.

@@ -1,8 +1,8 @@
 use std::alloc::Global;
 
-/// An error that is made of another's, as of a number that could not be read.
+/// An error that can be made from an error of other code, as when a number could not be read.
 pub trait FromExternalError<I, E>: Sized {
-    // The errors that an input and another's error give.
+    // The errors that `from_external_error` may return for an input and the other code's error.
     ghost from_external_gives: { I → E → Self → Type 0 };
 
     /// Returns the error of a parser that failed at an input because of `e`.

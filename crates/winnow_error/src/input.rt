@@ -9,7 +9,7 @@ use std::alloc::{AllocError, Global};
 use std::fmt;
 use winnow_stream::{Needed, Stream};
 
-/// An error that holds the input where it came, and nothing else.
+/// An error that holds only the input at which the parser failed.
 #[derive(Clone, Copy, PartialEq, Eq, Drop)]
 pub struct InputError<I> {
     /// The input as it stood where the parser failed
@@ -24,7 +24,7 @@ impl<I> InputError<I> {
         InputError { input }
     }
 
-    /// Returns the error at what `op` makes of the input.
+    /// Returns the error with the input that `op` makes of the old one.
     pub fn map_input<I2, F: Fn(I) -> I2>(self, op: F) -> InputError<I2>
     where
         F: Drop,
@@ -167,7 +167,7 @@ impl<I: Copy, E: Drop> FromExternalError<I, E> for InputError<I> {
     }
 }
 
-/// Prints what a derive would, and says so.
+/// Prints what a derived `Debug` would print.
 impl<I: fmt::Debug> fmt::Debug for InputError<I> {
     ghost debug_output = { λ e. Some (codes "InputError { input: ") ++? I.debug_output e.input
         ++? Some (codes " }") };

@@ -8,8 +8,8 @@ ghost use Rattle.winnow_error.specs.Pick.{leaves, HasNonBacktrack, CombineAlike}
 use crate::{AssociativeOr, ParserError};
 use winnow_stream::Stream;
 
-/// The law of modes: `cut` and `backtrack` leave `Incomplete` alone, and each done twice is done once. Nothing is done when it
-/// is called: its contract is the law.
+/// The law of modes: `cut` and `backtrack` leave `Incomplete` as it is, and a second `cut` or
+/// `backtrack` changes nothing. A law does nothing when called: its contract is the law.
 pub fn mode_law<E>()
     ensures cut_incomplete { (e : Mode E) → IsSome (mode_needs e) → mode_cut e ≡ e }
     ensures cut_twice { (e : Mode E) → mode_cut (mode_cut e) ≡ mode_cut e }
@@ -22,8 +22,9 @@ pub fn or_law<I: Stream, E: AssociativeOr<I>>()
     ensures { IsAssociative (mode_joined E.joined) }
 {}
 
-/// The law of brackets: two trees with the same errors in the same order combine to the same error, where the inner `or` is an
-/// associative function, and whatever it is where some error is no `Backtrack`.
+/// The law of brackets: two trees with the same errors in the same order combine to the same error
+/// if the inner `or` is an associative function. If some error is no `Backtrack`, they do so for
+/// every inner `or`.
 pub fn bracket_law<I: Stream, E: ParserError<I>>()
     ensures associative { (join : E → E → E) (s t : OrTree (Mode E)) → GivesOnly E.or_gives join
         → IsAssociative join → leaves s ≡ leaves t → CombineAlike (ModeOr E.or_gives) s t }

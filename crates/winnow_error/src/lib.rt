@@ -1,4 +1,5 @@
-//! Errors of parsers: what a parser answers in place of a value, and how the errors of alternatives are joined.
+//! Errors of parsers: what a parser answers in place of a value, and how the errors of alternatives
+//! are joined.
 #![tactic(auto)]
 
 mod add_context;

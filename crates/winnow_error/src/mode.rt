@@ -15,13 +15,13 @@ use std::alloc::{AllocError, Global};
 use std::fmt;
 use winnow_stream::{Needed, Stream};
 
-/// An error, and how a parser that tries alternatives is to take it.
+/// An error, with what it means for a parser that tries alternatives.
 ///
-/// It is written `ErrMode<E>`: the second parameter is always [`Needed`], and a parameter only so that a mode of an error that
-/// borrows its input can be passed about.
+/// Write `ErrMode<E>`: the second parameter is always [`Needed`]. It is a parameter only so that
+/// the mode of an error which borrows its input can be passed on.
 #[derive(Clone, Copy, Debug, PartialEq, Eq, Drop)]
 pub enum ErrMode<E, N = Needed> {
-    /// More input is needed to tell.
+    /// More input is needed before the parser can decide.
     Incomplete(N),
     /// The parser failed, and another alternative may be tried.
     Backtrack(E),
@@ -37,7 +37,7 @@ impl<E> ErrMode<E> {
         matches!(self, ErrMode::Incomplete(_))
     }
 
-    /// Lets no other alternative be tried: `Backtrack` becomes `Cut`.
+    /// Forbids other alternatives: `Backtrack` becomes `Cut`.
     pub fn cut(self) -> Self
         ensures { result ≡ mode_cut self }
     {
@@ -47,7 +47,7 @@ impl<E> ErrMode<E> {
         }
     }
 
-    /// Lets another alternative be tried: `Cut` becomes `Backtrack`.
+    /// Allows other alternatives: `Cut` becomes `Backtrack`.
     pub fn backtrack(self) -> Self
         ensures { result ≡ mode_backtrack self }
     {
@@ -57,7 +57,7 @@ impl<E> ErrMode<E> {
         }
     }
 
-    /// Returns the same mode of what `f` makes of the inner error.
+    /// Returns the same mode with the inner error that `f` makes of the old one.
     pub fn map<E2, F: FnOnce(E) -> E2>(self, f: F) -> ErrMode<E2>
     where
         F: Drop,
@@ -71,7 +71,7 @@ impl<E> ErrMode<E> {
         }
     }
 
-    /// Returns the same mode of the converted inner error.
+    /// Returns the same mode with the inner error converted.
     pub fn convert<E2>(self, alloc: Global) -> Result<ErrMode<E2>, AllocError>
     where
         E: ErrorConvert<E2>,
@@ -85,7 +85,7 @@ impl<E> ErrMode<E> {
         }
     }
 
-    /// Returns the inner error. `Incomplete` has none, and comes back.
+    /// Returns the inner error, or `Err` of `Incomplete`, which has none.
     pub fn into_inner(self) -> Result<E, Self>
         ensures { result ≡ mode_inner self }
     {
@@ -98,7 +98,7 @@ impl<E> ErrMode<E> {
 }
 
 impl<I> ErrMode<InputError<I>> {
-    /// Returns the same mode at what `f` makes of the input.
+    /// Returns the same mode with the input that `f` makes of the old one.
     pub fn map_input<I2, F: FnOnce(I) -> I2>(self, f: F) -> ErrMode<InputError<I2>>
     where
         F: Drop,

@@ -6,11 +6,13 @@ use winnow_stream::{Needed, Stream};
 
 /// What a parser over `I` may answer in place of a value.
 ///
-/// Parsers make an error where they fail, add to it on its way out, and join the errors of alternatives. What each call gives is a
-/// ghost member, which generic code cites. A call that takes memory also says whether it may be refused for want of it; a
-/// refusal gives up the errors that the call took.
+/// Parsers make an error where they fail, add to it on its way out, and join the errors of
+/// alternatives. A ghost member says what each call gives, so that generic code can cite it. For a
+/// call that takes memory, a further one says whether memory may be refused; the errors that the
+/// call took are then dropped.
 pub trait ParserError<I: Stream>: Sized + Drop {
-    /// What is left of the error without its mode: for `ErrMode<E>` that is `E`, and else the error itself.
+    /// The error without its mode: `E` for `ErrMode<E>`, and the error itself for an error that has
+    /// no mode.
     type Inner;
 
     // The errors that `from_input` gives at an input.
@@ -19,22 +21,22 @@ pub trait ParserError<I: Stream>: Sized + Drop {
     // The errors that `assert` gives at an input.
     ghost assert_gives: { I → Self → Type 0 };
 
-    // The errors that `incomplete` gives at an input that lacks so much.
+    // The errors that `incomplete` gives at an input, for the amount that is needed.
     ghost incomplete_gives: { I → Needed → Self → Type 0 };
 
-    // What `append` makes of an error, by the input and the place where the failed parser began.
+    // What `append` makes of an error, the input and the place where the failed parser began.
     ghost append_gives: { Self → I → I.Checkpoint → Self → Type 0 };
 
-    // Whether `append` may be refused.
+    // Whether `append` may be refused memory.
     ghost append_refusable: { Type 0 };
 
     // What `or` makes of two errors.
     ghost or_gives: { Self → Self → Self → Type 0 };
 
-    // Whether `or` may be refused.
+    // Whether `or` may be refused memory.
     ghost or_refusable: { Type 0 };
 
-    // Whether another parser may be tried.
+    // Whether another alternative may be tried after this error.
     ghost backtracks: { Self → Bool };
 
     // What `into_inner` answers.
@@ -55,7 +57,8 @@ pub trait ParserError<I: Stream>: Sized + Drop {
     fn incomplete(alloc: Global, input: &I, needed: Needed) -> Self
         ensures { incomplete_gives input.now needed result };
 
-    /// Returns the error, told that a parser that began at `token_start` failed because of it.
+    /// Returns the error and records in it that a parser which began at `token_start` failed
+    /// because of it.
     fn append(
         self,
         alloc: Global,
@@ -76,11 +79,12 @@ pub trait ParserError<I: Stream>: Sized + Drop {
     fn is_backtrack(&self) -> bool
         ensures { result ≡ backtracks self.now };
 
-    /// Returns the error without its mode; where there is none without it, the error comes back.
+    /// Returns the error without its mode, or the whole error as `Err` if nothing is left without
+    /// the mode.
     fn into_inner(self) -> Result<Self::Inner, Self>
         ensures { result ≡ inner self };
 
-    /// Returns how much more input the parser wanted, where that is the error.
+    /// Returns how much more input the parser wanted, or `None` if it failed for another reason.
     fn needed(&self) -> Option<Needed>
         ensures { result ≡ needs self.now };
 

@@ -1,7 +1,7 @@
 use crate::ErrMode;
 
-/// What a parser answers, whose error needs no mode.
+/// What a parser answers whose error needs no mode.
 pub type Result<O, E> = std::result::Result<O, E>;
 
-/// What a parser answers, whose error has a mode.
+/// What a parser answers whose error has a mode.
 pub type ModalResult<O, E> = std::result::Result<O, ErrMode<E>>;

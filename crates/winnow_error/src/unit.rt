@@ -1,4 +1,4 @@
-//! `()` as an error: it tells nothing, as [`crate::EmptyError`] does, and has no text.
+//! `()` as an error: like [`crate::EmptyError`] it holds nothing, and it has no text.
 
 ghost use Rattle.std.specs.Prelude.{◌≡◌, true, None, Ok, refl, ⊤};
 

@@ -1,5 +1,5 @@
-//! What the ghost members of each error type say, spelled out. Generic code promises what they say and no more, so a member that says
-//! less is refused here.
+//! The ghost members of each error type, spelled out. Generic code promises only what they say, so
+//! a member that says less is refused here.
 ghost use Rattle.std.specs.Prelude.{◌≡◌, ◌&&◌, ℕ, true, None, Some, Ok, codes, nat_eq};
 ghost use Rattle.std.specs.Prelude.{string_bytes};
 ghost use Rattle.std.specs.Cmp.Lexicographic.{pointwise};
@@ -29,7 +29,8 @@ use winnow_error::{
 };
 use winnow_stream::{Needed, Stream};
 
-/// An `InputError` holds the input where it was made, nothing that comes later is told it, and of two alternatives the second counts.
+/// An `InputError` holds the input where it was made, and nothing is added to it later. Of two
+/// alternatives the second counts.
 pub fn input_error_law<I: Stream + Copy, C: Drop>()
     ensures made { (input : I) (e : InputError I)
         → ⟦<InputError<I> as ParserError<I>>⟧.from_input_gives input e → e.input ≡ input }
@@ -59,8 +60,8 @@ pub fn input_error_law<I: Stream + Copy, C: Drop>()
     ensures add_context_answers { ⟦<InputError<I> as AddContext<I, C>>⟧.add_context_refusable → ⊥ }
 {}
 
-/// A `ContextError` is made empty or of its cause, is told contexts alone, and is equal to one with equal contexts and the same
-/// cause; of two alternatives the second counts.
+/// A `ContextError` is made empty or of its cause. Only contexts are added to it, and it is equal
+/// to one with equal contexts and the same cause. Of two alternatives the second counts.
 pub fn context_error_law<I: Stream, C: Drop + PartialEq>()
     ensures made { (input : I) (e : Explanation C)
         → ⟦<ContextError<C> as ParserError<I>>⟧.from_input_gives input e → e ≡ unexplained }
@@ -98,7 +99,7 @@ pub fn context_error_law<I: Stream, C: Drop + PartialEq>()
         ≡ (pointwise C.eq e.contexts f.contexts && option_eq (pointwise nat_eq) e.cause f.cause) }
 {}
 
-/// The errors that tell nothing take no memory, and let another alternative be tried.
+/// The errors that hold nothing take no memory, and let another alternative be tried.
 pub fn empty_error_law<I: Stream, C: Drop>()
     ensures backtracks { (e : EmptyError) → ⟦<EmptyError as ParserError<I>>⟧.backtracks e ≡ true }
     ensures inner { (e : EmptyError) → ⟦<EmptyError as ParserError<I>>⟧.inner e ≡ Ok e }
@@ -116,7 +117,8 @@ pub fn empty_error_law<I: Stream, C: Drop>()
     ensures unit_convert_answers { ⟦<() as ErrorConvert<()>>⟧.convert_refusable → ⊥ }
 {}
 
-/// An `ErrMode` is what its inner error is, in its mode, and is refused memory only where the inner error may be.
+/// An `ErrMode` is its inner error in a mode, and is refused memory only where the inner error may
+/// be.
 pub fn err_mode_law<I: Stream, E: ParserError<I>>()
     ensures made { (input : I) (e : Mode E)
         → ⟦<ErrMode<E> as ParserError<I>>⟧.from_input_gives input e
@@ -142,7 +144,7 @@ pub fn err_mode_law<I: Stream, E: ParserError<I>>()
     ensures or_refused { ⟦<ErrMode<E> as ParserError<I>>⟧.or_refusable → E.or_refusable }
 {}
 
-/// So it is with alternatives that are joined without memory, and where a parser recovers.
+/// The same for alternatives that are joined without memory, and for recovery.
 pub fn err_mode_joined_law<I: Stream, E: AssociativeOr<I> + FromRecoverableError<I, E2>, E2>()
     ensures joined { (a b : Mode E) → ⟦<ErrMode<E> as AssociativeOr<I>>⟧.joined a b
         ≡ mode_joined E.joined a b }
@@ -151,7 +153,7 @@ pub fn err_mode_joined_law<I: Stream, E: AssociativeOr<I> + FromRecoverableError
         ≡ mode_map (E.recovered start place input) e }
 {}
 
-/// So it is with contexts.
+/// The same for contexts.
 pub fn err_mode_context_law<I: Stream, C: Drop, E: AddContext<I, C>>()
     ensures told { (e r : Mode E) (input : I) (start : I.Checkpoint) (c : C)
         → ⟦<ErrMode<E> as AddContext<I, C>>⟧.add_context_gives e input start c r
@@ -160,14 +162,14 @@ pub fn err_mode_context_law<I: Stream, C: Drop, E: AddContext<I, C>>()
         → E.add_context_refusable }
 {}
 
-/// And with the errors of others.
+/// The same for the errors of other libraries.
 pub fn err_mode_cause_law<I, X, E: FromExternalError<I, X>>()
     ensures { (input : I) (x : X) (e : Mode E)
         → ⟦<ErrMode<E> as FromExternalError<I, X>>⟧.from_external_gives input x e
         → IsBacktrackOf (E.from_external_gives input x) e }
 {}
 
-/// And with conversions.
+/// The same for conversions.
 pub fn err_mode_convert_law<E: ErrorConvert<E2>, E2>()
     ensures converted { (e : Mode E) (r : Mode E2)
         → ⟦<ErrMode<E> as ErrorConvert<ErrMode<E2>>>⟧.convert_gives e r
@@ -176,7 +178,7 @@ pub fn err_mode_convert_law<E: ErrorConvert<E2>, E2>()
         → E.convert_refusable }
 {}
 
-/// What each error prints.
+/// The text of each error.
 pub fn error_text_law<I: Display, E: Debug>()
     ensures mode { (e : Mode E) → ⟦<ErrMode<E> as Display>⟧.output e ≡ mode_text E.debug_output e }
     ensures input { (e : InputError I)

@@ -8,7 +8,8 @@ use winnow_error::{
 };
 use winnow_stream::{Needed, Stream};
 
-/// Of an error made in each of three ways, whether another alternative may be tried, and whether more input was wanted.
+/// Returns, for an error made in each of three ways, whether another alternative may be tried and
+/// whether more input is needed.
 pub fn kinds<I: Stream, E: ParserError<I>>(alloc: Global, input: &I) -> [(bool, bool); 3] {
     let failed = E::from_input(alloc, input);
     let misused = E::assert(alloc, input, "misused");
@@ -20,7 +21,7 @@ pub fn kinds<I: Stream, E: ParserError<I>>(alloc: Global, input: &I) -> [(bool, 
     ]
 }
 
-/// The inner error of two alternatives that failed where the input stands, told so.
+/// Returns the inner error of two alternatives that failed where the input stands.
 pub fn fail_twice<I: Stream, E: ParserError<I>>(
     alloc: Global,
     input: &I,
@@ -37,14 +38,14 @@ where
     }
 }
 
-/// The error of three alternatives, from the left: it is the same as from the right.
+/// Returns the error of three alternatives, joined from the left. It is the same as from the right.
 pub fn join_three<I: Stream, E: AssociativeOr<I>>(alloc: Global, a: E, b: E, c: E) -> E
     ensures { result ≡ E.joined a (E.joined b c) }
 {
     a.join(alloc, b).join(alloc, c)
 }
 
-/// The same by `or`, which is always answered.
+/// Returns the same by `or`, which is never refused memory.
 pub fn or_three<I: Stream, E: AssociativeOr<I>>(
     alloc: Global,
     a: E,
@@ -57,14 +58,14 @@ pub fn or_three<I: Stream, E: AssociativeOr<I>>(
     a.or(alloc, b)?.or(alloc, c)
 }
 
-/// An error that is cut again and again, and then may be tried again.
+/// Returns an error that is cut twice, and then backtracks again.
 pub fn cut_and_back<E: ModalError>(e: E) -> E
     ensures { result ≡ E.backtrack_of (E.cut_of e) }
 {
     e.cut().cut().backtrack().backtrack()
 }
 
-/// The error, told of a context where the input stands.
+/// Returns the error with a context where the input stands.
 pub fn in_context<I: Stream, C, E: AddContext<I, C>>(
     alloc: Global,
     e: E,
@@ -79,7 +80,8 @@ where
     e.add_context(alloc, input, &start, context)
 }
 
-/// The last of three alternatives: an error of another's, told of a context elsewhere, from which a parser then recovered.
+/// Returns the last of three alternatives: an error of another library, with a context elsewhere,
+/// from which a parser recovered.
 pub fn tell_last<I: Stream, E>(alloc: Global, input: &I, elsewhere: &I) -> Result<E, AllocError>
 where
     E: AssociativeOr<I> + AddContext<I, StrContext> + FromExternalError<I, String>,
@@ -96,7 +98,7 @@ where
     Ok(first.join(alloc, second).join(alloc, last))
 }
 
-/// The same error as another type.
+/// Returns the error, converted to another type.
 pub fn convert_to<F, E: ErrorConvert<F>>(alloc: Global, e: E) -> Result<F, AllocError>
     ensures ok { IfOk result (E.convert_gives e) }
     ensures err { OnErr result E.convert_refusable }

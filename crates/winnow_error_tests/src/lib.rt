@@ -1,5 +1,5 @@
-//! Errors as their users meet them: errors of one's own, generic code over any error, what the members of each error say, and the
-//! tests of errors. Nothing here is part of the library.
+//! Errors as their users meet them: user-defined errors, generic code over any error, the members
+//! of each error, and the tests of errors. Nothing here is part of the library.
 #![tactic(auto)]
 
 #[cfg(test)]

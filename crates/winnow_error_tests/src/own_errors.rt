@@ -7,7 +7,8 @@ use winnow_context::{ContextError, StrContext};
 use winnow_error::{AssociativeOr, ErrorConvert, ParserError};
 use winnow_stream::{Needed, Stream};
 
-/// How far a parser came: of two alternatives the one that came further is told. Its `or` is associative.
+/// How far a parser came. Of two alternatives the one that came further counts, so its `or` is
+/// associative.
 #[derive(Clone, Copy, Debug, PartialEq, Eq)]
 pub struct Furthest(pub u32);
 
@@ -83,7 +84,8 @@ impl<I: Stream> AssociativeOr<I> for Furthest {
         ap (λ n. record { 0 = n }) (max-associative a.0 b.0 c.0) };
 }
 
-/// How far two parsers came apart: an error whose `or` is not associative, so that brackets matter.
+/// The distance between two parsers: an error whose `or` is not associative, so that brackets
+/// matter.
 #[derive(Clone, Copy, Debug, PartialEq, Eq)]
 pub struct Apart(pub u32);
 
@@ -148,7 +150,7 @@ impl<I: Stream> ParserError<I> for Apart {
     }
 }
 
-/// An error that is told by a label: converting it takes memory.
+/// An error whose conversion makes a label and takes memory.
 #[derive(Clone, Copy, Debug, PartialEq, Eq)]
 pub struct Labelled(pub &'static str);
 

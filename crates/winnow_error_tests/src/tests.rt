@@ -1,4 +1,4 @@
-//! One file a subject. Each case of a table carries its name into the failure message.
+//! One file for each subject. Each case of a table has its name in the failure message.
 mod alternatives;
 mod contexts;
 mod error_traits;

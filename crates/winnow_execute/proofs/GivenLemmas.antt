@@ -1,4 +1,4 @@
--- The lines of the answers that a run gave are those of the script's answers.
+-- The lines of the answers that a run gives are those of the script's answers.
 use Rattle.std.proofs.Common.{◌≡◌, ℕ, Bool, List, [], ◌∷◌, ◌++◌, codes, refl, ap, sym, ◌∙◌}
 use Rattle.std.specs.Borrow.{Bor}
 use Rattle.std.specs.Global.{Vec}
@@ -37,9 +37,10 @@ use Rattle.winnow_stream.specs.Text.{text_source}
 use Rattle.winnow_execute.specs.ScriptLines.{whole_lines}
 use Rattle.winnow_print.specs.HeldNumbers.{HoldsNumber}
 
--- what was given, by the words of its slices, and what the definition gives
+-- a given answer has the same line as the answer of the definition that it stands for
 module _ {S : Type 0} (k : PieceKind ℕ CharSet (Bor (List ℕ))) (all : Source ℕ) (is_slice : S → Source ℕ → ℕ → Type 0) (words : S → List ℕ) (slice_is : (s : S) (r : Source ℕ) (n : ℕ) → is_slice s r n → words s ≡ bytes_word (written k.write (front r n))) where
-  call-line : (a : PlacedAnswer ℕ) (given : Answer ℕ S (Vec (ℕ × ℕ)) Needed) → StandsFor is_slice all a given
+  call-line : (a : PlacedAnswer ℕ) (given : Answer ℕ S (Vec (ℕ × ℕ)) Needed)
+      → StandsFor is_slice all a given
       → call_words (λ t. t) words (λ v. item_words (λ t. t) v.items) given ≡ call_words (λ t. t) (slice_word k all) (listed_words k all) a
   call-line (answer.Token t) given e = rw e refl
   call-line (answer.Slice p) given h = rw h.1 (ap (λ w. codes "slice" ++ w) (slice_is h.0 _ _ h.2))
@@ -54,14 +55,18 @@ module _ {S : Type 0} (k : PieceKind ℕ CharSet (Bor (List ℕ))) (all : Source
   call-line answer.NoMark given e = rw e refl
   call-line answer.LaterMark given e = rw e refl
 
-  line-given : (a : PlacedSearchAnswer ℕ) (given : SearchAnswer ℕ S (Vec (ℕ × ℕ))) → SearchStandsFor is_slice all a given
+  -- the same for the answer of any step
+  line-given : (a : PlacedSearchAnswer ℕ) (given : SearchAnswer ℕ S (Vec (ℕ × ℕ)))
+      → SearchStandsFor is_slice all a given
       → answer_line (λ t. t) words (λ v. item_words (λ t. t) v.items) given ≡ answer_line (λ t. t) (slice_word k all) (listed_words k all) a
   line-given (search.Call a) given h = rw h.1 (ap (λ w. w ++ codes "\n") (call-line a h.0 h.2))
   line-given (search.Compared c) given e = rw e refl
   line-given (search.Hit o) given e = rw e refl
 
   module _ (may_answer : CharSet → ℕ → Bool → Type 0) (computes : (s : PieceStep) → SearchComputes may_answer k.holds s) where
-    pub lines-given : (script : List PieceStep) (at : Cursor) (given : List (SearchAnswer ℕ S (Vec (ℕ × ℕ))))
+    -- the same for all answers of a script
+    pub lines-given : (script : List PieceStep) (at : Cursor)
+        (given : List (SearchAnswer ℕ S (Vec (ℕ × ℕ))))
         → AreGiven (IsSearchAnswer may_answer is_slice k.counts_missing (λ literal r. comparison (k.literal literal) (written k.write r)) (λ needles r. hit (needle_list k.literal needles) (written k.write r)) all) (search_next all) script at given
         → answer_lines (λ t. t) words (λ v. item_words (λ t. t) v.items) given ≡ answer_lines (λ t. t) (slice_word k all) (listed_words k all) (answers_from (search_answer (kind_of k) all) (search_next all) script at)
     lines-given [] at [] are = refl
@@ -71,7 +76,7 @@ module _ {S : Type 0} (k : PieceKind ℕ CharSet (Bor (List ℕ))) (all : Source
         ap (λ l. l ++ answer_lines (λ t. t) words (λ v. item_words (λ t. t) v.items) given) (line-given _ g (are.0 k.holds (computes s)))
         ∙ ap (λ l. answer_line (λ t. t) (slice_word k all) (listed_words k all) (search_answer (kind_of k) all s at) ++ l) (lines-given script (search_next all s at) given are.1)
 
--- a set answers as it holds
+-- each set answers whether it holds a token
 module _ {T : Type 0} (code : T → ℕ) where
   call-computes : (s : Step CharSet) → SetComputes (HoldsNumber code) (held code) s
   call-computes call.Next = tt
@@ -89,20 +94,24 @@ module _ {T : Type 0} (code : T → ℕ) where
   call-computes (call.Reset n) = tt
   call-computes (call.Since n) = tt
 
-  step-computes : {L : Type 0} (s : SearchStep CharSet L) → SearchComputes (HoldsNumber code) (held code) s
+  -- the same for the set of any step
+  step-computes : {L : Type 0} (s : SearchStep CharSet L)
+      → SearchComputes (HoldsNumber code) (held code) s
   step-computes (step.Call s) = call-computes s
   step-computes (step.Compare literal) = tt
   step-computes (step.Find needles) = tt
 
--- of bytes
-pub byte_lines-given : (input : List ℕ) (script : List PieceStep) (given : List (SearchAnswer ℕ (Bor (List ℕ)) (Vec (ℕ × ℕ))))
+-- the lines that a run on bytes gives are those of the script's answers
+pub byte_lines-given : (input : List ℕ) (script : List PieceStep)
+    (given : List (SearchAnswer ℕ (Bor (List ℕ)) (Vec (ℕ × ℕ))))
     → AreSearchAnswers (HoldsNumber (λ byte. byte)) (λ s r n. units s.now ≡ front r n) true (λ literal r. comparison literal.now (bytes_of r)) (λ needles r. hit (bytes_of_needles needles) (bytes_of r)) (units input) script given
     → answer_lines (λ byte. byte) (λ s. bytes_word s.now) (λ v. item_words (λ byte. byte) v.items) given ≡ whole_lines byte_kind (units input) script
 byte_lines-given input script given are =
     lines-given byte_kind (units input) (λ s r n. units s.now ≡ front r n) (λ s. bytes_word s.now) (λ s r n e. ap bytes_word (sym (bytes_of-units s.now) ∙ ap bytes_of e)) (HoldsNumber (λ byte. byte)) (step-computes (λ byte. byte)) script start given are
 
--- of text
-pub text_lines-given : (input : List ℕ) (script : List PieceStep) (given : List (SearchAnswer ℕ (Bor (List ℕ)) (Vec (ℕ × ℕ))))
+-- the lines that a run on text gives are those of the script's answers
+pub text_lines-given : (input : List ℕ) (script : List PieceStep)
+    (given : List (SearchAnswer ℕ (Bor (List ℕ)) (Vec (ℕ × ℕ))))
     → AreSearchAnswers (HoldsNumber (λ c. c)) (λ s r n. text_source s.now ≡ front r n) false (λ literal r. comparison literal.now (utf8_of r)) (λ needles r. hit (bytes_of_needles needles) (utf8_of r)) (text_source input) script given
     → answer_lines (λ c. c) (λ s. bytes_word (utf8_of (text_source s.now))) (λ v. item_words (λ c. c) v.items) given ≡ whole_lines text_kind (text_source input) script
 text_lines-given input script given are =

@@ -18,16 +18,20 @@ use Rattle.winnow_execute.specs.declared.report.Report.{Report}
 use Rattle.winnow_execute.proofs.FedPieceLemmas.{length-joined_push, length-joined_same}
 
 module _ {L : Type 0} (i : InputKind) (script : List PieceStep) (bytes : L → List ℕ) (lines : List (FedLine L)) where
-  -- the first k lines were run: their pieces were fed, n answers are told, and what the further lines print goes behind the text
+  -- the first k lines were run: their pieces were fed, n answers are printed, and what the further
+  -- lines print is appended to the text
   pub record HasPrinted (k : ℕ) (f : FeedState) (n count : ℕ) (text : List ℕ) : Type 0 where
     pub pieces : List (List ℕ)
     pub fits : Fits i f pieces
     pub script_is : script_of f ≡ script
     pub length_is : length (joined pieces) ≡ sum_by (piece_length bytes) (take k lines)
     pub count_is : count ≡ capped (length pieces)
-    pub further : (later : List ℕ) → Prints i script bytes pieces n (drop k lines) later → Prints i script bytes [] 0 lines (text ++ later)
+    pub further : (later : List ℕ) → Prints i script bytes pieces n (drop k lines) later
+        → Prints i script bytes [] 0 lines (text ++ later)
 
-  pub printed-none : (f : FeedState) (text : List ℕ) → Fits i f [] → script_of f ≡ script → text ≡ [] → HasPrinted 0 f 0 0 text
+  -- before the first line, nothing is printed
+  pub printed-none : (f : FeedState) (text : List ℕ) → Fits i f [] → script_of f ≡ script
+      → text ≡ [] → HasPrinted 0 f 0 0 text
   printed-none f text fits same none = record {
     pieces = [];
     fits = fits;
@@ -37,15 +41,18 @@ module _ {L : Type 0} (i : InputKind) (script : List PieceStep) (bytes : L → L
     further = λ later prints. rw none prints;
   }
 
+  -- a count that stops at the greatest `u64` may be capped before or after it grows
   capped-more : (n : ℕ) → capped (capped n + 1) ≡ capped (n + 1)
   capped-more n = omega arith
 
   module _ (k : ℕ) (line d : FedLine L) (lt : k < length lines) (is : get_or lines k d ≡ line) where
+    -- the lines from the k-th on are that line and the further ones
     further-lines : drop k lines ≡ line ∷ drop (k + 1) lines
     further-lines = drop_more lines k d lt ∙ ap (λ l. l ∷ drop (k + 1) lines) is
 
-    -- a piece is fed
-    printed-piece : (f g : FeedState) (n count counted : ℕ) (text : List ℕ) (literal : L) (piece : List ℕ) → HasPrinted k f n count text
+    -- a line with a piece feeds the piece, and prints nothing
+    printed-piece : (f g : FeedState) (n count counted : ℕ) (text : List ℕ) (literal : L)
+        (piece : List ℕ) → HasPrinted k f n count text
         → line ≡ Piece literal → piece ≡ bytes literal → FitsWith i f piece g → script_of g ≡ script_of f → counted ≡ capped (count + 1) → HasPrinted (k + 1) g n counted text
     printed-piece f g n count counted text literal piece before tells same more kept counts = record {
       pieces = before.pieces ++ piece ∷ [];
@@ -56,8 +63,9 @@ module _ {L : Type 0} (i : InputKind) (script : List PieceStep) (bytes : L → L
       further = λ later prints. before.further later (rw (further-lines, tells) (rw (← same) prints));
     }
 
-    -- what is waited for is told, behind the answers that are out
-    printed-waits : (f : FeedState) (n count : ℕ) (text : List ℕ) (answers : List (Told ℕ)) (waiting : Waiting L) → HasPrinted k f n count text
+    -- a line that asks prints the answers that are out, then what the feed waits for
+    printed-waits : (f : FeedState) (n count : ℕ) (text : List ℕ) (answers : List (Told ℕ))
+        (waiting : Waiting L) → HasPrinted k f n count text
         → line ≡ Waits → ((pieces : List (List ℕ)) → Fits i f pieces → answers ≡ told_of i (script_of f) pieces) → GivesWaiting i bytes f waiting
         → HasPrinted (k + 1) f (length answers) count ((text ++ told_lines (λ t. t) (drop n answers)) ++ waiting_line (λ more. bytes_word (bytes more)) count waiting)
     printed-waits f n count text answers waiting before asks out waits =
@@ -78,8 +86,9 @@ module _ {L : Type 0} (i : InputKind) (script : List PieceStep) (bytes : L → L
               (before.further ((told_text ++ asked) ++ later) (rw (further-lines, asks) here));
         }
 
-    -- a line is taken
-    pub printed-line : (taken : FedLine L) (f g : FeedState) (r s : Report) → HasPrinted k f r.answers r.pieces (string_bytes r.text)
+    -- each line that is taken keeps `HasPrinted`
+    pub printed-line : (taken : FedLine L) (f g : FeedState) (r s : Report)
+        → HasPrinted k f r.answers r.pieces (string_bytes r.text)
         → line ≡ taken → TakesLine i bytes taken f r g s → HasPrinted (k + 1) g s.answers s.pieces (string_bytes s.text)
     printed-line (Piece piece) f g r s before same takes =
         rw (takes.text, takes.told) (printed-piece f g r.answers r.pieces s.pieces (string_bytes r.text) piece (bytes piece) before same refl takes.fits takes.script takes.pieces)
@@ -87,8 +96,9 @@ module _ {L : Type 0} (i : InputKind) (script : List PieceStep) (bytes : L → L
         let tells = takes.1 in
         rw (takes.0, tells.text, tells.told, tells.pieces) (printed-waits f r.answers r.pieces (string_bytes r.text) tells.answers tells.waiting before same tells.out tells.waits)
 
-  -- the input ends
-  pub printed-all : (k : ℕ) (f : FeedState) (n count : ℕ) (text : List ℕ) (finished : Finished ℕ) → HasPrinted k f n count text → length lines ≤ k
+  -- the end of the input prints all further answers
+  pub printed-all : (k : ℕ) (f : FeedState) (n count : ℕ) (text : List ℕ) (finished : Finished ℕ)
+      → HasPrinted k f n count text → length lines ≤ k
       → ((pieces : List (List ℕ)) → Fits i f pieces → Finishes i (script_of f) pieces finished) → Prints i script bytes [] 0 lines (text ++ told_lines (λ t. t) (drop n (answers_in finished)))
   printed-all k f n count text finished before done ends =
       let all = rw before.script_is at (ends before.pieces before.fits).answers in

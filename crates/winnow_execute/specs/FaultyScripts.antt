@@ -8,7 +8,8 @@ use Rattle.winnow_read.specs.declared.inputs.Kind.{Kind}
 use Rattle.winnow_read.specs.declared.inputs.Kind.TheVariants.{Bytes, Text, BytePieces, TextPieces}
 use Rattle.winnow_execute.specs.ScriptLines.{owned_bytes, owned_text}
 
--- of a text behind the line of its kind, whose first line has this number, line k
+-- line k is faulty in a text that follows the line of its kind and whose first line has the number
+-- `first`
 abbrev pub FaultsAs : Kind → ℕ → List ℕ → ℕ → Type 0
 FaultsAs Bytes first text k =
     FaultsBehindSteps owned_bytes (FaultsInput owned_bytes) first text k
@@ -17,7 +18,7 @@ FaultsAs BytePieces first text k =
     FaultsBehindSteps owned_bytes (FaultsFed owned_bytes) first text k
 FaultsAs TextPieces first text k = FaultsBehindSteps owned_text (FaultsFed owned_text) first text k
 
--- of a whole text, line k
+-- line k is faulty in a whole text
 abbrev pub FaultsScript : List ℕ → ℕ → Type 0
 FaultsScript text k =
     ((k ≡ 1) × TellsNothing TellsKind (first_line text))

@@ -1,8 +1,8 @@
--- What contracts name of the lines that a script is read from.
+-- The definitions that contracts name, of the lines from which a script is read.
 pub use Rattle.winnow_read.specs.Fault
 pub use Rattle.winnow_read.specs.Literal
 pub use Rattle.winnow_read.specs.declared.fault.ScriptFault
--- And of those that it prints.
+-- The definitions of the lines that it prints.
 pub use Rattle.winnow_print.specs.AnswerLines
 pub use Rattle.winnow_print.specs.HeldNumbers
 pub mod ReportLines

@@ -36,22 +36,22 @@ module _ (kind : PieceKind ℕ CharSet (Bor (List ℕ))) (all : Source ℕ) wher
   whole_lines script =
       answer_lines (λ t. t) slice_word listed_words (search_answers (kind_of kind) all script)
 
--- literals are told as values of L, and lent for a run
+-- literals are read as values of L, and lent for a run
 module _ {L : Type 0} (bytes : L → List ℕ) where
-  -- the first lines of a text tell the steps of this script, and leave the rest
+  -- the first lines of a text mean the steps of this script, and leave the rest
   abbrev pub TellsScript : List ℕ → List PieceStep → List ℕ → Type 0
   TellsScript text script rest =
       (steps : List (ScriptStep L)) × AreLines (TellsStep bytes) text steps rest
       × AllZip (IsSameStep bytes (λ lent. lent.now)) steps script
 
-  -- the text tells a script and one input, and these are the lines of its answers there
+  -- the text means a script and one input, and `printed` is the lines of the script's answers on it
   abbrev pub PrintsWhole : InputKind → List ℕ → List ℕ → Type 0
   PrintsWhole i text printed =
       (script : List PieceStep) × (rest : List ℕ) × (input : L) × TellsScript text script rest
       × AreLines (TellsNamed bytes (codes "input")) rest (input ∷ []) []
       × (printed ≡ whole_lines i.pieces (i.source (bytes input)) script)
 
-  -- the text tells a script and the lines of pieces, and these are the lines that they print
+  -- the text means a script and lines of pieces, and `printed` is the lines that they print
   abbrev pub PrintsPieces : InputKind → List ℕ → List ℕ → Type 0
   PrintsPieces i text printed =
       (script : List PieceStep) × (rest : List ℕ) × (lines : List (FedLine L))
@@ -65,14 +65,14 @@ owned_bytes bytes = bytes.items
 abbrev pub owned_text : String Global → List ℕ
 owned_text text = string_bytes text
 
--- what a text prints behind the line of its kind
+-- what a text prints that follows the line of its kind
 abbrev pub PrintsAs : Kind → List ℕ → List ℕ → Type 0
 PrintsAs Bytes text printed = PrintsWhole owned_bytes byte_input text printed
 PrintsAs Text text printed = PrintsWhole owned_text text_input text printed
 PrintsAs BytePieces text printed = PrintsPieces owned_bytes byte_input text printed
 PrintsAs TextPieces text printed = PrintsPieces owned_text text_input text printed
 
--- what a text prints whose first line tells the kind
+-- what a whole text prints, whose first line means its kind
 abbrev pub PrintsScript : List ℕ → List ℕ → Type 0
 PrintsScript text printed =
     (kind : Kind) × (first_line text ≡ kind_word kind) × PrintsAs kind (rest_lines text) printed

@@ -22,9 +22,10 @@ use winnow_read::{
 use winnow_run::SearchStep;
 use winnow_sets::CharSet;
 
-/// Runs the script of these lines, and gives its answers as lines.
+/// Runs the script of these lines, and returns its answers as lines.
 ///
-/// The whole text is read first. Where it is no script, the fault is its first faulty or missing line, unless memory runs out first.
+/// The whole text is read first. If it is no script, the fault is its first faulty or missing line,
+/// unless memory is refused first.
 pub fn execute(alloc: Global, input: &[u8]) -> Result<Vec<u8>, ScriptFault>
     ensures printed { IfOk result (λ printed. PrintsScript input.now printed.items) }
     ensures fault { IfErr result (IsLineWhere (FaultsScript input.now)) }
@@ -36,7 +37,7 @@ pub fn execute(alloc: Global, input: &[u8]) -> Result<Vec<u8>, ScriptFault>
     Ok(printed.into_bytes())
 }
 
-// What a script of this kind prints, of which the line of the kind is read.
+// Returns what a script of this kind prints, after the line of the kind was read.
 fn execute_as(alloc: Global, kind: Kind, lines: &mut Lines) -> Result<String, ScriptFault>
     ensures printed { IfOk result (λ text.
         PrintsAs kind lines.old.rest.now (string_bytes text)) }
@@ -93,7 +94,7 @@ fn execute_byte_pieces(alloc: Global, lines: &mut Lines) -> Result<String, Scrip
     Ok(report.into_text())
 }
 
-// Takes all lines of pieces in order, and tells the answers that only the end lets out.
+// Takes all lines of pieces in order, then ends the input and reports the remaining answers.
 fn feed_byte_lines(
     alloc: Global,
     steps: &[SearchStep<CharSet<'_>, &[u8]>],
@@ -115,14 +116,14 @@ fn feed_byte_lines(
     Ok(())
 }
 
-// Ends the input, and tells the answers that only the end lets out.
+// Ends the input, and reports the answers that were not reported before.
 fn end_byte_feed(feed: ByteFeed, report: &mut Report) -> Result<(), AllocError>
     ensures { OnOk result (TellsAll byte_input feed.entry report.old report.new) }
 {
     report.push_answers(feed.end().answers())
 }
 
-// Feeds the piece of a line, or tells what the feed waits for, where the line asks.
+// Feeds the piece of a line, or reports what the feed waits for if the line asks.
 fn take_byte_line(
     feed: &mut ByteFeed,
     report: &mut Report,
@@ -160,7 +161,7 @@ fn execute_text_pieces(alloc: Global, lines: &mut Lines) -> Result<String, Scrip
     Ok(report.into_text())
 }
 
-// Takes all lines of pieces in order, and tells the answers that only the end lets out.
+// Takes all lines of pieces in order, then ends the input and reports the remaining answers.
 fn feed_text_lines(
     alloc: Global,
     steps: &[SearchStep<CharSet<'_>, &str>],
@@ -182,14 +183,14 @@ fn feed_text_lines(
     Ok(())
 }
 
-// Ends the input, and tells the answers that only the end lets out.
+// Ends the input, and reports the answers that were not reported before.
 fn end_text_feed(feed: TextFeed, report: &mut Report) -> Result<(), AllocError>
     ensures { OnOk result (TellsAll text_input feed.entry report.old report.new) }
 {
     report.push_answers(feed.end().answers())
 }
 
-// Feeds the piece of a line, or tells what the feed waits for, where the line asks.
+// Feeds the piece of a line, or reports what the feed waits for if the line asks.
 fn take_text_line(
     feed: &mut TextFeed,
     report: &mut Report,

@@ -1,8 +1,9 @@
-//! Runs a script of stream calls, given as lines, and gives the answers as lines.
+//! Runs a script of stream calls that is given as lines, and returns the answers as lines.
 //!
-//! The first line names the kind of the input, and each line behind it is a step, up to the input: one line, or, of a
-//! kind of pieces, one for each piece. [`execute`] reads them all, runs the steps by the calls of streams, and
-//! gives a line for each answer, or the [`ScriptFault`] of the first faulty line.
+//! The first line names the kind of the input. Each line after it is a step, up to the lines of the
+//! input: one line, or one for each piece if the input is in pieces. [`execute`] reads all lines,
+//! runs the steps with the calls of streams, and returns a line for each answer, or the
+//! [`ScriptFault`] of the first faulty line.
 #![tactic(auto)]
 
 mod execution;

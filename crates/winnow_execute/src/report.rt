@@ -7,7 +7,7 @@ use winnow_feed::{Told, Waiting};
 use winnow_print::{PushWords, push_numbered};
 use winnow_sets::AsChar;
 
-/// The lines that a run over pieces prints, and how much they have told so far.
+/// The lines that a run over pieces prints, and the numbers of answers and pieces so far.
 #[derive(Drop)]
 pub struct Report {
     text: String,
@@ -16,7 +16,7 @@ pub struct Report {
 }
 
 impl Report {
-    /// Returns no line.
+    /// Returns a report without lines.
     pub fn new(alloc: Global) -> Self
         ensures text { string_bytes result.text ≡ [] }
         ensures answers { result.answers ≡ 0 }
@@ -38,7 +38,7 @@ impl Report {
         self.pieces = self.pieces.saturating_add(1);
     }
 
-    /// Adds the lines of those answers that none has told yet.
+    /// Appends the lines of the answers that were not reported before.
     pub fn push_answers<T: AsChar + Copy>(&mut self, answers: &[Told<T>]) -> Result<(), AllocError>
         ensures text { OnOk result (string_bytes self.new.text
             ≡ string_bytes self.old.text ++ told_lines T.code (drop self.old.answers answers.now)) }
@@ -52,7 +52,7 @@ impl Report {
         Ok(())
     }
 
-    /// Adds the line that says what is waited for.
+    /// Appends the line that says what the feed waits for.
     pub fn push_waiting<P: PushWords + Drop>(
         &mut self,
         waiting: Waiting<P>,
@@ -67,13 +67,13 @@ impl Report {
         match waiting {
             Waiting::Until(more) => more.push_words(&mut self.text)?,
             Waiting::ToEnd => self.text.push_str(" end")?,
-            // No line asks before a piece is fed.
+            // No line asks before a piece was fed.
             Waiting::NotWaiting | Waiting::NotFed => self.text.push_str(" none")?,
         }
         self.text.push('\n')
     }
 
-    /// Returns the lines, as text.
+    /// Returns the lines as text.
     pub fn into_text(self) -> String
         ensures { result ≡ self.text }
     {
@@ -81,7 +81,7 @@ impl Report {
     }
 }
 
-// Adds the line of each answer, in order.
+// Appends the line of each answer, in order.
 fn push_all_told<T: AsChar + Copy>(text: &mut String, answers: &[Told<T>]) -> Result<(), AllocError>
     ensures { OnOk result (string_bytes text.new
         ≡ string_bytes text.old ++ told_lines T.code answers.now) }

@@ -2,7 +2,7 @@ use std::process::Abort;
 use std::test::Fail;
 use winnow_execute::execute;
 
-// Each row is what it shows, a script and its answers.
+// Each row has a name, a script and its answers.
 fn answers_are(rt: &(impl AllocGlobal + Abort), rows: &[(&str, &str, &str)]) -> Result<(), Fail> {
     for (name, script, answers) in rows {
         let output = execute(rt.alloc(), script.as_bytes())?;

@@ -1,6 +1,6 @@
 use winnow_execute::ScriptFault::{Line, OutOfMemory};
 
-// A fault is equal to itself alone.
+// A fault is equal only to itself.
 #[test]
 fn faults_are_apart(rt: HostRuntime) {
     assert_eq!(rt; Line(1), Line(1));

@@ -2,7 +2,7 @@ use std::process::Abort;
 use std::test::Fail;
 use winnow_execute::{ScriptFault, execute};
 
-// Each row is what is wrong, a script and the line that it is told to fail at.
+// Each row has a name, a script and the line that is reported as faulty.
 fn faulty_lines_are(
     rt: &(impl AllocGlobal + Abort),
     rows: &[(&str, &[u8], usize)],

@@ -5,7 +5,7 @@ use winnow_program::{Failure, read_input};
 
 const MOST: usize = 1_048_576;
 
-// So many empty lines.
+// Returns `count` empty lines.
 fn newlines(alloc: Global, count: usize) -> Result<Vec<u8>, AllocError> {
     vec![in alloc; b'\n'; count]
 }
@@ -22,7 +22,7 @@ fn limit_of_input(rt: HostRuntime) -> Result<(), Fail> {
     Ok(())
 }
 
-// Gives one byte a read, and fails once they are given out.
+// Gives one byte for each read, and fails after the last.
 #[derive(Drop)]
 struct Broken<'i> {
     bytes: &'i [u8],

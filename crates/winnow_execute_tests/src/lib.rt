@@ -1,5 +1,5 @@
-//! The tests of the program's scripts: the answers that lines give, the line that is told as faulty, and how the program reads and
-//! ends. Nothing here is part of the program.
+//! The tests of the program's scripts: the answers of the lines, the line that is reported as
+//! faulty, and how the program reads and ends. Nothing here is part of the program.
 #![tactic(auto)]
 
 #[cfg(test)]

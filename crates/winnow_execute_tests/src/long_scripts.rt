@@ -7,7 +7,8 @@ const ROUNDS: usize = 120;
 
 const BYTES: usize = 360;
 
-// The byte at a place is a letter from `a` to `i`: its second hexadecimal digit, and its number.
+// The byte at a place is a letter from `a` to `i`. Returns its second hexadecimal digit, which is
+// its number.
 fn digit_at(place: usize) -> usize {
     1 + place % 9
 }
@@ -83,7 +84,8 @@ fn script_of_pieces(alloc: Global, kind: &str) -> Result<String, AllocError> {
     Ok(script)
 }
 
-// A token is out behind its piece; a slice and the mark behind it are so behind the slice's last piece.
+// A token comes out after its piece. A slice, and the mark after it, come out after the slice's
+// last piece.
 fn answers_over_pieces(alloc: Global) -> Result<String, AllocError> {
     let mut answers = String::new(alloc);
     for round in 0..ROUNDS {

@@ -1,7 +1,7 @@
 use std::test::Fail;
 use winnow_execute::{ScriptFault, execute, literal};
 
-// Where a request for memory is refused, these tests fail by want of memory and by nothing else; the run that meets no
+// Where a request for memory is refused, these tests fail only because of that. The run without a
 // refusal passes.
 
 #[test]
@@ -13,7 +13,7 @@ fn each_way_to_take_memory(rt: HostRuntime) -> Result<(), Fail> {
     Ok(())
 }
 
-// No memory holds what these wait for.
+// No memory can hold what these scripts wait for.
 #[test]
 fn greatest_number_that_is_waited_for(rt: HostRuntime) -> Result<(), Fail> {
     for script in [

@@ -1,4 +1,4 @@
--- What a feed stores, and what it means for it to fit a list of pieces.
+-- What a feed stores, and what it means that a feed fits a list of pieces.
 use Rattle.std.specs.Prelude.{◌≡◌, ℕ, ◌+◌, ◌≤◌, ◌<◌, ◌^◌, true, List, [], ◌∷◌, ◌++◌, length, take, drop, vec_len, vec_capacity}
 use Rattle.std.specs.List.{AllByRecursion}
 use Rattle.std.specs.Borrow.{Bor}
@@ -13,19 +13,19 @@ use Rattle.winnow_feed.specs.Reach.{needed_from, least_marks}
 use Rattle.winnow_feed.specs.JoinedInput.{IsRunOver, IsAtRest, KeepsLeast}
 use Rattle.winnow_feed.specs.Telling.{capped, out_on, told_of, tried_of, told_to_end, last_place}
 
--- what a feed stores: how far the script has come, and the bytes that are kept
+-- what a feed stores: the progress of the script, and the bytes that are kept
 pub record FeedState : Type 0 where
   pub run : Progress ℕ (Bor (List ℕ))
   pub kept : List ℕ
 
--- how many bytes were fed
+-- the number of bytes that were fed
 abbrev pub bytes_fed : FeedState → ℕ
 bytes_fed f = f.run.base + length f.kept
 
 abbrev pub script_of : FeedState → List PieceStep
 script_of f = f.run.script.now
 
--- the answers that a script gave in all, and its final place
+-- all answers of a script, and its final place
 abbrev pub answers_in : {T : Type 0} → Finished T → List (Told T)
 answers_in finished = finished.told.items
 
@@ -33,26 +33,27 @@ abbrev pub place_in : {T : Type 0} → Finished T → ℕ
 place_in finished = finished.place
 
 module _ (i : InputKind) where
-  -- how many bytes are kept of a joined input: those from the first one on that the steps left need
+  -- the number of bytes that are kept of a joined input: all from the first one that the remaining
+  -- steps need
   abbrev pub held_of : List PieceStep → List ℕ → ℕ
   held_of script input =
       let n = length (out_on i script input) in
       width (drop (needed_from (i.source input) (drop n script) (cursor_after (search_next (i.source input)) (take n script) start)) (i.source input))
 
-  -- how many bytes are kept after these pieces
+  -- the number of bytes that are kept after these pieces
   abbrev pub held_after : List PieceStep → List (List ℕ) → ℕ
   held_after script [] = 0
   held_after script (p ∷ pieces) = held_of script (joined (p ∷ pieces))
 
-  -- the feed stores what this joined input left, and no more of it than the steps that are left need
+  -- the feed stores what this joined input left, and no more of it than the remaining steps need
   pub record HoldsInput (f : FeedState) (input : List ℕ) : Type 0 where
     pub is_input : i.valid input ≡ true
     pub is_kept : i.valid f.kept ≡ true
     pub stands : IsRunOver true i.pieces (i.source input) (i.source f.kept) f.run
     pub least : KeepsLeast (bytes_fed f) f.run
 
-  -- once a piece was fed no step that is left is definite, there is room for every answer and mark, the places fit, and the
-  -- marks that steps name are known
+  -- the feed stands for some input; once a piece was fed, its next step waits; there is room for
+  -- each answer and mark; the places fit in `usize`; and the marks that steps name are known
   pub record IsSound (f : FeedState) (named : List ℕ) : Type 0 where
     pub input : List ℕ
     pub stands : HoldsInput f input
@@ -64,7 +65,8 @@ module _ (i : InputKind) where
     pub counted : f.run.tried < 2 ^ 64
     pub named_is : named ≡ least_marks f.run.script.now
 
-  -- the feed fits these pieces: it stands for them joined, no step that is left is definite, and what was told and tried is theirs
+  -- the feed fits these pieces: it stands for the joined pieces, its next step waits once there is
+  -- a piece, and its answers and attempts are those of the pieces
   pub record Fits (f : FeedState) (pieces : List (List ℕ)) : Type 0 where
     pub are_pieces : AllByRecursion (λ piece. i.valid piece ≡ true) pieces
     pub stands : HoldsInput f (joined pieces)
@@ -73,16 +75,18 @@ module _ (i : InputKind) where
     pub count : f.run.pieces ≡ capped (length pieces)
     pub tried : f.run.tried ≡ tried_of i (script_of f) pieces
 
-  -- whatever pieces a feed fitted, with one piece more the other fits them and that piece
+  -- for all pieces that the old feed fits, the new feed fits them with the piece appended
   abbrev pub FitsWith : FeedState → List ℕ → FeedState → Type 0
   FitsWith old piece new = (pieces : List (List ℕ)) → Fits old pieces → Fits new (pieces ++ piece ∷ [])
 
-  -- a piece lets so many answers out
+  -- the piece gives n more answers
   abbrev pub LetsOut : FeedState → List ℕ → ℕ → Type 0
   LetsOut f piece n =
-      (pieces : List (List ℕ)) → Fits f pieces → length (told_of i (script_of f) (pieces ++ piece ∷ [])) ≡ length (told_of i (script_of f) pieces) + n
+      (pieces : List (List ℕ)) → Fits f pieces
+      → length (told_of i (script_of f) (pieces ++ piece ∷ []))
+      ≡ length (told_of i (script_of f) pieces) + n
 
-  -- every step is answered
+  -- each step is answered
   abbrev pub IsAnswered : FeedState → Type 0
   IsAnswered f = (pieces : List (List ℕ)) × Fits f pieces × (length (script_of f) ≤ length (told_of i (script_of f) pieces))
 

@@ -1,4 +1,4 @@
--- The two inputs that come in pieces: bytes, and text.
+-- The two kinds of input that arrive in pieces: bytes, and text.
 use Rattle.std.specs.Prelude.{ℕ, nat_le, Bool, true, false, List, [], ◌∷◌, ◌++◌, map}
 use Rattle.std.specs.Borrow.{Bor}
 use Rattle.std.specs.Char.{encode_utf8}
@@ -10,7 +10,8 @@ use Rattle.winnow_run.specs.declared.search_script.SearchStep.{SearchStep}
 use Rattle.winnow_run.specs.Definite.{PieceKind}
 use Rattle.winnow_attempt.specs.View.{piece_kind}
 
--- a literal, of bytes or of text, is its bytes; a token is a byte or the number of a character
+-- a step over bytes or text: a literal is its bytes, and a token is a byte or the number of a
+-- character
 abbrev pub PieceStep : Type 0
 PieceStep = SearchStep CharSet (Bor (List ℕ))
 
@@ -20,7 +21,8 @@ byte_kind = piece_kind (λ byte. byte) true (λ byte. byte ∷ []) (λ literal. 
 abbrev pub text_kind : PieceKind ℕ CharSet (Bor (List ℕ))
 text_kind = piece_kind (λ c. c) false encode_utf8 (λ literal. literal.now)
 
--- an input: which bytes it may be, and the tokens that they are; which numbers are tokens, and the greatest of them
+-- a kind of input: which bytes are valid and what tokens they are, which numbers are tokens, and
+-- the greatest of these
 pub record InputKind : Type 0 where
   pub valid : List ℕ → Bool
   pub source : List ℕ → Source ℕ
@@ -34,11 +36,11 @@ byte_input = record { valid = λ _. true; source = units; pieces = byte_kind; is
 abbrev pub text_input : InputKind
 text_input = record { valid = is_utf8; source = text_source; pieces = text_kind; is_token = λ n. all_scalars (n ∷ []); greatest = 1114111 }
 
--- the pieces one after the other
+-- the pieces, appended one after the other
 abbrev pub joined : List (List ℕ) → List ℕ
 joined [] = []
 joined (p ∷ pieces) = p ++ joined pieces
 
--- the pieces behind references
+-- the pieces that references point to
 abbrev pub pieces_in : List (Bor (List ℕ)) → List (List ℕ)
 pieces_in pieces = map (λ p. p.now) pieces

@@ -1,4 +1,4 @@
--- What a run over pieces has stored, against the joined input.
+-- What a run over pieces stores, in terms of the joined input.
 use Rattle.std.specs.Prelude.{◌≡◌, ℕ, ◌+◌, ◌-◌, ◌≤◌, Bool, true, false, nat_lt, if◌then◌else◌, List, ◌++◌, map, length, drop, Option, Some, slice_get}
 use Rattle.winnow_stream.specs.Source.{Source, HasPositiveWidths}
 use Rattle.winnow_stream.specs.Front.{back}
@@ -13,20 +13,21 @@ use Rattle.winnow_feed.specs.Reach.{Reaches, needed_from, needed_place}
 use Rattle.winnow_feed.specs.Telling.{capped}
 use Rattle.winnow_attempt.specs.View.{under}
 
--- the next step, if one is left
+-- the next step, if one remains
 abbrev pub next_step : {T L : Type 0} → Progress T L → Option (SearchStep CharSet L)
 next_step p = slice_get p.script.now (length p.told.items)
 
--- the steps that are left
+-- the steps that remain
 abbrev pub steps_left : {T L : Type 0} → Progress T L → List (SearchStep CharSet L)
 steps_left p = drop (length p.told.items) p.script.now
 
--- the answers that are out, as they were given
+-- the answers that are out, without their numbers of pieces
 abbrev pub answers_out : {T L : Type 0} → Progress T L → List (PlacedSearchAnswer T)
 answers_out p = map (λ t. t.answer) p.told.items
 
--- the run stands for the joined input `all`, of which these tokens are kept: the answers out are definite and lead to the cursor,
--- all that the steps that are left can reach is kept, and the next step has passed what it says
+-- the run stands for the joined input `all`, of which the tokens `kept` are kept: the answers that
+-- are out lead to the cursor, and are definite if `strict`; all that remaining steps can reach is
+-- kept; and the next step has settled what `passed` says
 pub record IsRunOver {T L : Type 0} (strict : Bool) (k : PieceKind T CharSet L) (all kept : Source T) (p : Progress T L) : Type 0 where
   pub widths : HasPositiveWidths all
   pub at : Cursor
@@ -37,9 +38,10 @@ pub record IsRunOver {T L : Type 0} (strict : Bool) (k : PieceKind T CharSet L) 
   pub reached : first ≤ needed_from all (steps_left p) at
   pub based : p.base ≡ place all first
   pub is_kept : kept ≡ drop first all
-  pub settled : (s : SearchStep CharSet L) → next_step p ≡ Some s → IsSettled k s (rest all at) p.passed.width p.passed.tokens
+  pub settled : (s : SearchStep CharSet L) → next_step p ≡ Some s
+      → IsSettled k s (rest all at) p.passed.width p.passed.tokens
 
--- the next step, if one is left, waits
+-- the next step, if one remains, waits
 abbrev pub IsAtRest : {T L : Type 0} → PieceKind T CharSet L → Source T → Progress T L → Type 0
 IsAtRest {T} {L} k all p = (s : SearchStep CharSet L) → next_step p ≡ Some s → is_definite k s (back all p.place) ≡ false
 
@@ -47,40 +49,45 @@ IsAtRest {T} {L} k all p = (s : SearchStep CharSet L) → next_step p ≡ Some s
 abbrev pub IsRun : {T L : Type 0} → Bool → PieceKind T CharSet L → Source T → Progress T L → Type 0
 IsRun {T} strict k kept p = (all : Source T) × IsRunOver strict k all kept p
 
--- whatever joined input the run stood for, it stands for
-abbrev pub KeepsRun : {T L : Type 0} → Bool → PieceKind T CharSet L → Source T → Progress T L → Progress T L → Type 0
+-- for each joined input that the old run stands for, so does the new one
+abbrev pub KeepsRun : {T L : Type 0} → Bool → PieceKind T CharSet L → Source T → Progress T L
+    → Progress T L → Type 0
 KeepsRun {T} strict k kept old new = (all : Source T) → IsRunOver strict k all kept old → IsRunOver strict k all kept new
 
--- and there its next step waits
-abbrev pub ComesToRest : {T L : Type 0} → Bool → PieceKind T CharSet L → Source T → Progress T L → Progress T L → Type 0
+-- for each joined input that the old run stands for, the next step of the new one waits
+abbrev pub ComesToRest : {T L : Type 0} → Bool → PieceKind T CharSet L → Source T → Progress T L
+    → Progress T L → Type 0
 ComesToRest {T} strict k kept old new = (all : Source T) → IsRunOver strict k all kept old → IsAtRest k all new
 
--- the run stands for what it stood for, and its next step waits, if one is left
-abbrev pub KeepsRunAtRest : {T L : Type 0} → Bool → PieceKind T CharSet L → Source T → Progress T L → Progress T L → Type 0
+-- the new run stands for what the old one stands for, and its next step, if one remains, waits
+abbrev pub KeepsRunAtRest : {T L : Type 0} → Bool → PieceKind T CharSet L → Source T → Progress T L
+    → Progress T L → Type 0
 KeepsRunAtRest {T} strict k kept old new = (all : Source T) → IsRunOver strict k all kept old → IsRunOver strict k all kept new × IsAtRest k all new
 
--- all that is kept of an input that ends at `end` the steps that are left need
+-- the remaining steps need all that is kept of an input that ends at `end`
 abbrev pub KeepsLeast : {T L : Type 0} → ℕ → Progress T L → Type 0
 KeepsLeast end p = p.base ≡ needed_place end p.place p.marks.items (steps_left p)
 
--- so it is where no more is told than `before`
+-- the same, if there are no more answers than `before`
 abbrev pub KeepsNeeded : {T L : Type 0} → ℕ → ℕ → Progress T L → Type 0
 KeepsNeeded before end p = length p.told.items ≡ before → KeepsLeast end p
 
--- the same with a front of that width dropped
-abbrev pub TakesIn : {T L : Type 0} → PieceKind T CharSet L → Source T → ℕ → Progress T L → Progress T L → Type 0
+-- the new run stands for what the old one stands for, with a front of width `unneeded` dropped, and
+-- its next step, if one remains, waits
+abbrev pub TakesIn : {T L : Type 0} → PieceKind T CharSet L → Source T → ℕ → Progress T L
+    → Progress T L → Type 0
 TakesIn {T} k kept unneeded old new = (all : Source T) → IsRunOver true k all kept old → IsRunOver true k all (back kept unneeded) new × IsAtRest k all new
 
--- the answers that were told since, all under one number or under none
+-- the answers that were added, all with one number of a piece or with none
 pub record AddsAnswers {T L : Type 0} (piece : Option ℕ) (old new : Progress T L) : Type 0 where
   pub more : List (PlacedSearchAnswer T)
   pub told : new.told.items ≡ old.told.items ++ map (under piece) more
 
--- each step that came through since was tried once, and so was the one that waits, if one is left
+-- each step that was answered since was tried once, and so was the step that waits, if one remains
 abbrev pub Tries : {T L : Type 0} → Progress T L → Progress T L → Type 0
 Tries old new =
     new.tried ≡ capped (old.tried + (length new.told.items - length old.told.items) + (if nat_lt (length new.told.items) (length new.script.now) then 1 else 0))
 
--- where nothing was told, the cursor and the marks are where they were
+-- if no answer was added, the cursor and the marks are where they were
 abbrev pub StaysWithoutAnswer : {T L : Type 0} → Progress T L → Progress T L → Type 0
 StaysWithoutAnswer old new = length new.told.items ≡ length old.told.items → (new.place ≡ old.place) × (new.marks ≡ old.marks)

@@ -1,4 +1,5 @@
--- How a run over pieces stands to the cursor on the joined input, and how far back the steps that are left can reach.
+-- How far a run over pieces has come on the joined input, and how far back its remaining steps can
+-- reach.
 use Rattle.std.specs.Prelude.{◌≡◌, ℕ, min, Bool, true, List, [], ◌∷◌, length, unwrap_or, slice_get}
 use Rattle.winnow_stream.specs.Source.{Source}
 use Rattle.winnow_stream.specs.Cursor.{Cursor, rest}
@@ -8,9 +9,11 @@ use Rattle.winnow_run.specs.declared.search_script.SearchStep.TheVariants as ste
 use Rattle.winnow_run.specs.Searching.{PlacedSearchAnswer, search_answer, search_next}
 use Rattle.winnow_run.specs.Definite.{PieceKind, kind_of, is_definite}
 
--- from the cursor `from` the first of the steps have these answers, if strict all definite, and leave the cursor `to`
+-- from the cursor `from`, the first steps have these answers and leave the cursor `to`; if
+-- `strict`, each answer is definite
 module _ {T C L : Type 0} (strict : Bool) (k : PieceKind T C L) (all : Source T) where
-  abbrev pub Reaches : Cursor → List (SearchStep C L) → List (PlacedSearchAnswer T) → Cursor → Type 0
+  abbrev pub Reaches : Cursor → List (SearchStep C L) → List (PlacedSearchAnswer T) → Cursor
+      → Type 0
   Reaches from steps [] to = from ≡ to
   Reaches from [] (a ∷ answers) to = ⊥
   Reaches from (s ∷ steps) (a ∷ answers) to = (strict ≡ true → is_definite k s (rest all from) ≡ true) × (a ≡ search_answer (kind_of k) all s from) × Reaches (search_next all s from) steps answers to
@@ -21,19 +24,19 @@ named_index at (step.Call (call.Reset k)) = unwrap_or (slice_get at.marks k) at.
 named_index at (step.Call (call.Since k)) = unwrap_or (slice_get at.marks k) at.index
 named_index at _ = at.index
 
--- the least of the cursor's index and those of the marks, already made, that the steps name
+-- the least of the cursor's index and those of the marks made so far that the steps name
 abbrev pub least_index : {C L : Type 0} → List (SearchStep C L) → Cursor → ℕ
 least_index [] at = at.index
 least_index (s ∷ steps) at = min (named_index at s) (least_index steps at)
 
--- the index from which on the steps that are left need the list: none of it, where none is left
+-- the index from which the remaining steps need the list, or the list's length if no step remains
 abbrev pub needed_from : {T C L : Type 0} → Source T → List (SearchStep C L) → Cursor → ℕ
 needed_from all [] at = length all
 needed_from all (s ∷ steps) at = least_index (s ∷ steps) at
 
--- ---- the same by places
+-- ---- the same in terms of places
 
--- the place of the mark that a step names, or of the cursor
+-- the place of the mark that a step names, or the cursor's place
 abbrev pub named_place : {C L : Type 0} → ℕ → List ℕ → SearchStep C L → ℕ
 named_place at marks (step.Call (call.Reset k)) = unwrap_or (slice_get marks k) at
 named_place at marks (step.Call (call.Since k)) = unwrap_or (slice_get marks k) at
@@ -44,14 +47,14 @@ abbrev pub least_place : {C L : Type 0} → ℕ → List ℕ → ℕ → List (S
 least_place at marks least [] = least
 least_place at marks least (s ∷ steps) = min (named_place at marks s) (least_place at marks least steps)
 
--- the place from which on the steps that are left need the input that ends at `end`
+-- the place from which the remaining steps need the input that ends at `end`
 abbrev pub needed_place : {C L : Type 0} → ℕ → ℕ → List ℕ → List (SearchStep C L) → ℕ
 needed_place end at marks [] = end
 needed_place end at marks (s ∷ steps) = least_place at marks at (s ∷ steps)
 
 -- ---- which marks are still named
 
--- the number of the mark that a step names, or the greatest number of all, which no mark has
+-- the number of the mark that a step names, or the greatest `u64`, which no mark has
 abbrev pub mark_named : {C L : Type 0} → SearchStep C L → ℕ
 mark_named (step.Call (call.Reset k)) = k
 mark_named (step.Call (call.Since k)) = k
@@ -62,7 +65,7 @@ abbrev pub least_mark : {C L : Type 0} → List (SearchStep C L) → ℕ
 least_mark [] = 18446744073709551615
 least_mark (s ∷ steps) = min (mark_named s) (least_mark steps)
 
--- for each step, the least number of a mark that it or a later one names
+-- for each step, the least number of a mark that it or a later step names
 abbrev pub least_marks : {C L : Type 0} → List (SearchStep C L) → List ℕ
 least_marks [] = []
 least_marks (s ∷ steps) = least_mark (s ∷ steps) ∷ least_marks steps

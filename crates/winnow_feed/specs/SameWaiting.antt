@@ -3,7 +3,7 @@ use Rattle.std.specs.Prelude.{Bool, true, false}
 use Rattle.winnow_feed.specs.declared.waiting.Waiting.{Waiting}
 use Rattle.winnow_feed.specs.declared.waiting.Waiting.TheVariants.{NotFed, NotWaiting, Until, ToEnd}
 
--- they are of one kind, and what they wait for is equal
+-- whether they are of one kind and what they wait for is equal
 abbrev pub same_waiting : {P : Type 0} → (P → P → Bool) → Waiting P → Waiting P → Bool
 same_waiting eq NotFed NotFed = true
 same_waiting eq NotWaiting NotWaiting = true

@@ -20,17 +20,22 @@ use Rattle.winnow_feed.specs.JoinedInput.{IsRunOver, next_step}
 use Rattle.winnow_feed.specs.Telling.{out_on, told_of}
 use Rattle.winnow_feed.specs.Feeding.{FeedState, Fits, script_of}
 
--- whatever joined input the run stands for, this is what its next step is missing there
-abbrev pub GivesMissing : {T L : Type 0} → PieceKind T CharSet L → ℕ → (ℕ → List ℕ) → Source T → Progress T L → Option (List ℕ) → Type 0
+-- for each joined input that the run stands for, this is what its next step is missing there
+abbrev pub GivesMissing : {T L : Type 0} → PieceKind T CharSet L → ℕ → (ℕ → List ℕ) → Source T
+    → Progress T L → Option (List ℕ) → Type 0
 GivesMissing {T} {L} k greatest spell kept p told =
-    (all : Source T) (stands : IsRunOver true k all kept p) (s : SearchStep CharSet L) → next_step p ≡ Some s → told ≡ missing k greatest spell (rest all stands.at) s
+    (all : Source T) (stands : IsRunOver true k all kept p) (s : SearchStep CharSet L)
+    → next_step p ≡ Some s → told ≡ missing k greatest spell (rest all stands.at) s
 
--- and it is something
-abbrev pub MissesSome : {T L : Type 0} → PieceKind T CharSet L → ℕ → (ℕ → List ℕ) → Source T → Progress T L → Type 0
+-- for each joined input that the run stands for, its next step is missing something there
+abbrev pub MissesSome : {T L : Type 0} → PieceKind T CharSet L → ℕ → (ℕ → List ℕ) → Source T
+    → Progress T L → Type 0
 MissesSome {T} {L} k greatest spell kept p =
-    (all : Source T) (stands : IsRunOver true k all kept p) (s : SearchStep CharSet L) → next_step p ≡ Some s → IsSome (missing k greatest spell (rest all stands.at) s)
+    (all : Source T) (stands : IsRunOver true k all kept p) (s : SearchStep CharSet L)
+    → next_step p ≡ Some s → IsSome (missing k greatest spell (rest all stands.at) s)
 
--- what a step names is of the kind: its literals are inputs, and the first range of its set that holds a token begins with one
+-- what a step names fits the kind of input: its literals are valid, and the token that
+-- `least_of_first` gives for its set, if any, is one of the kind
 abbrev pub IsSpelt : InputKind → PieceStep → Type 0
 IsSpelt i (step.Call (call.First set)) = IfSome (least_of_first i.greatest (char_ranges set)) (λ token. i.is_token token ≡ true)
 IsSpelt i (step.Call s) = ⊤
@@ -42,7 +47,7 @@ module _ (i : InputKind) (script : List PieceStep) where
   abbrev pub answer_on : ℕ → List ℕ → Option (PlacedSearchAnswer ℕ)
   answer_on n input = slice_get (search_answers (kind_of i.pieces) (i.source input) script) n
 
-  -- on a joined input: the number of the step that waits, the step, and what remains there
+  -- the number of the step that waits on a joined input, the step, and what remains there
   abbrev pub waiting_number : List ℕ → ℕ
   waiting_number input = length (out_on i script input)
 
@@ -56,36 +61,40 @@ module _ (i : InputKind) (script : List PieceStep) where
   abbrev pub missing_on : List ℕ → PieceStep → Option (List ℕ)
   missing_on input s = missing i.pieces i.greatest i.pieces.write (waiting_rest input) s
 
-  -- these bytes are an input, they are what the step that waits is missing, and with them it answers otherwise
+  -- these bytes are valid, they are what the waiting step is missing, and appending them changes
+  -- its answer
   pub record IsMissing (input more : List ℕ) : Type 0 where
     pub s : PieceStep
     pub waits : waiting_step input ≡ Some s
     pub named : missing_on input s ≡ Some more
     pub valid : i.valid more ≡ true
-    pub changes : ¬ (answer_on (waiting_number input) (input ++ more) ≡ answer_on (waiting_number input) input)
+    pub changes : ¬ (answer_on (waiting_number input) (input ++ more)
+        ≡ answer_on (waiting_number input) input)
 
-  -- the step that waits is `First` over a set that holds no token, and no more input changes its answer
+  -- the waiting step is `First` over a set that holds no token, and no further input changes its
+  -- answer
   pub record WaitsToEnd (input : List ℕ) : Type 0 where
     pub set : CharSet
     pub waits : waiting_step input ≡ Some (step.Call (call.First set))
     pub holds_none : (token : ℕ) → i.is_token token ≡ true → i.pieces.holds set token ≡ false
-    pub never : (more : List ℕ) → AllByRecursion (λ byte. byte ≤ 255) more → i.valid more ≡ true → answer_on (waiting_number input) (input ++ more) ≡ answer_on (waiting_number input) input
+    pub never : (more : List ℕ) → AllByRecursion (λ byte. byte ≤ 255) more → i.valid more ≡ true
+        → answer_on (waiting_number input) (input ++ more) ≡ answer_on (waiting_number input) input
 
-  -- what is waited for after these pieces, where what is missing has these bytes
+  -- what a feed waits for after these pieces, where `bytes` gives the bytes of what is missing
   abbrev pub WaitsFor : {P : Type 0} → (P → List ℕ) → List (List ℕ) → Waiting P → Type 0
   WaitsFor bytes pieces waiting.NotFed = pieces ≡ []
   WaitsFor bytes pieces waiting.NotWaiting = (0 < length pieces) × (length script ≤ length (told_of i script pieces))
   WaitsFor bytes pieces (waiting.Until more) = (0 < length pieces) × IsMissing (joined pieces) (bytes more)
   WaitsFor bytes pieces waiting.ToEnd = (0 < length pieces) × WaitsToEnd (joined pieces)
 
-  -- after these pieces a step waits that is missing something
+  -- after these pieces, a step waits and is missing something
   abbrev pub MissesMore : List (List ℕ) → Type 0
   MissesMore pieces = (0 < length pieces) × ((s : PieceStep) × (waiting_step (joined pieces) ≡ Some s) × IsSome (missing_on (joined pieces) s))
 
--- what a feed waits for, whatever pieces it fits
+-- this is what the feed waits for, for all pieces that it fits
 abbrev pub GivesWaiting : {P : Type 0} → InputKind → (P → List ℕ) → FeedState → Waiting P → Type 0
 GivesWaiting i bytes f waiting = (pieces : List (List ℕ)) → Fits i f pieces → WaitsFor i (script_of f) bytes pieces waiting
 
--- whatever pieces it fits, a step waits that is missing something
+-- for all pieces that the feed fits, a step waits and is missing something
 abbrev pub WantsMore : InputKind → FeedState → Type 0
 WantsMore i f = (pieces : List (List ℕ)) → Fits i f pieces → MissesMore i (script_of f) pieces

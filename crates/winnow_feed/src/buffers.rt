@@ -10,7 +10,7 @@ fn drop_bytes(kept: &mut Vec<u8>, n: usize)
     requires { n ≤ vec_len kept.old }
     ensures { kept.new.items ≡ drop n kept.old.items }
 {
-    // A waiting step drops nothing, and what is kept is not to be copied onto itself.
+    // A waiting step drops nothing, so nothing need be copied onto itself.
     if n == 0 {
         return;
     }
@@ -19,7 +19,7 @@ fn drop_bytes(kept: &mut Vec<u8>, n: usize)
     kept.truncate(len - n);
 }
 
-/// Drops the front of this width, and keeps the room.
+/// Drops the front of width n, and keeps the capacity.
 pub(crate) fn forget_bytes(kept: &mut Vec<u8>, n: usize)
     requires { IsTrue (is_offset (units kept.old.items) n) }
     ensures items { kept.new.items ≡ drop n kept.old.items }
@@ -33,7 +33,7 @@ fn drop_front(kept: &mut String, n: usize)
     requires { IsSplitPoint (string_bytes kept.old) n }
     ensures { string_bytes kept.new ≡ drop n (string_bytes kept.old) }
 {
-    // As above: a waiting step copies nothing.
+    // A waiting step copies nothing, as above.
     if n == 0 {
         return;
     }
@@ -43,7 +43,7 @@ fn drop_front(kept: &mut String, n: usize)
     }
 }
 
-/// Drops the front of this width, and keeps the room.
+/// Drops the front of width n, and keeps the capacity.
 pub(crate) fn forget_text(kept: &mut String, n: usize)
     requires { IsTrue (is_offset (text_source (string_bytes kept.old)) n) }
     ensures bytes { string_bytes kept.new ≡ drop n (string_bytes kept.old) }

@@ -13,18 +13,18 @@ use winnow_sets::CharSet;
 use winnow_stream::StreamIsPartial;
 use winnow_wrap::Partial;
 
-/// A script over bytes that come in pieces.
+/// A script over bytes that arrive in pieces.
 ///
-/// However the input is cut, the answers are those of the script on the pieces joined. After each
-/// piece those are out that no further input can change. Of the input only those bytes are kept
-/// that a step not yet answered can reach.
+/// However the input is cut, the answers are those of the script on the joined pieces. After each
+/// piece, the feed has given out the answers that no further input can change. It keeps only those
+/// bytes of the input that a step without an answer can reach.
 #[derive(Drop)]
 pub struct ByteFeed<'k> {
     run: Progress<'k, u8, &'k [u8]>,
     kept: Vec<u8>,
-    // From each step on, the least number of a mark that is still named.
+    // For each step, the least number of a mark that it or a later step names.
     named: Vec<usize>,
-    // The searches that the last step to wait for a hit far off has set up.
+    // The searches that were last set up by a step that waited for a distant hit.
     finders: Option<Finders<'k>>,
 }
 
@@ -49,8 +49,8 @@ impl<'k> ByteFeed<'k> {
     ghost use Rattle.winnow_feed.specs.Feeding.{held_after, bytes_fed, script_of};
     ghost use Rattle.winnow_feed.specs.Waits.{GivesWaiting, WantsMore};
 
-    /// Returns a feed that was fed nothing. It has room for every answer and mark, so that
-    /// `feed` takes memory for bytes alone; no clause says so.
+    /// Returns a feed that was fed nothing. It has room for each answer and mark, so that `feed`
+    /// takes memory only for bytes; no clause says so.
     pub fn new(
         alloc: Global,
         script: &'k [SearchStep<CharSet<'k>, &'k [u8]>],
@@ -91,7 +91,7 @@ impl<'k> ByteFeed<'k> {
         self.run.base + self.kept.len()
     }
 
-    /// Returns how many bytes are kept.
+    /// Returns the number of bytes that are kept.
     pub fn held(&self) -> usize
         ensures { (pieces : List (List ℕ)) → Fits byte_input self.now pieces
             → result ≡ held_after byte_input (script_of self.now) pieces }
@@ -99,7 +99,7 @@ impl<'k> ByteFeed<'k> {
         self.kept.len()
     }
 
-    /// Returns how many steps were attempted, up to the greatest `u64`.
+    /// Returns the number of attempts at steps, up to the greatest `u64`.
     pub fn tried(&self) -> u64
         ensures { (pieces : List (List ℕ)) → Fits byte_input self.now pieces
             → result ≡ tried_of byte_input (script_of self.now) pieces }
@@ -107,7 +107,7 @@ impl<'k> ByteFeed<'k> {
         self.run.tried
     }
 
-    /// Returns the answers that are out, each with the number of the piece that let it out.
+    /// Returns the answers so far, each with the number of the piece that made it definite.
     pub fn answers(&self) -> &[Told<u8>]
         ensures { (pieces : List (List ℕ)) → Fits byte_input self.now pieces
             → result.now ≡ told_of byte_input (script_of self.now) pieces }
@@ -115,8 +115,8 @@ impl<'k> ByteFeed<'k> {
         &self.run.told
     }
 
-    /// Takes a piece, and returns how many answers came out. When memory is refused, nothing
-    /// has changed, and the same piece may be fed again.
+    /// Takes a piece, and returns the number of new answers. If memory is refused, nothing changes,
+    /// and the same piece may be fed again.
     pub fn feed(&mut self, piece: &[u8]) -> Result<usize, AllocError>
         requires { bytes_fed self.old + length piece.now < 2 ^ 64 }
         ensures fits { OnOk result (FitsWith byte_input self.old piece.now self.new) }
@@ -144,8 +144,8 @@ impl<'k> ByteFeed<'k> {
         Ok(self.run.told.len() - before)
     }
 
-    /// Returns what the feed waits for: an input with which behind what was fed the next step
-    /// answers otherwise, unless there is none. Memory is taken for that alone.
+    /// Returns what the feed waits for: input that, appended to what was fed, changes the waiting
+    /// step's answer, or `ToEnd` if no input does. Only that input takes memory.
     pub fn waits_for(&self) -> Result<Waiting<Vec<u8>>, AllocError>
         ensures waits { IfOk result (GivesWaiting byte_input (λ more. more.items) self.now) }
         ensures refused { OnErr result (WantsMore byte_input self.now) }
@@ -163,7 +163,7 @@ impl<'k> ByteFeed<'k> {
         }
     }
 
-    /// Ends the input, and returns all answers. It takes no memory.
+    /// Ends the input, and returns all answers. The call takes no memory.
     pub fn end(self) -> Finished<u8>
         ensures { (pieces : List (List ℕ)) → Fits byte_input self.entry pieces
             → Finishes byte_input (script_of self.entry) pieces result }
@@ -177,7 +177,7 @@ impl<'k> ByteFeed<'k> {
         let mut rest = Partial::new(kept.as_slice());
         rest.complete();
         advance(&mut run, &mut finders, rest, None);
-        // A call drops them, so that how each is dropped is not proved here.
+        // A call drops them, so that no proof here has to follow how each is dropped.
         drop(finders);
         let Progress { told, place, .. } = run;
         Finished { told, place }

@@ -3,7 +3,7 @@ ghost use Rattle.winnow_feed.specs.Feeding.{answers_in, place_in};
 
 use crate::Told;
 
-/// All answers of a script over pieces, and the place where it left the cursor.
+/// All answers of a script over pieces, and the place where the script left the cursor.
 #[derive(Debug, Drop)]
 pub struct Finished<T> {
     pub(crate) told: Vec<Told<T>>,
@@ -11,8 +11,8 @@ pub struct Finished<T> {
 }
 
 impl<T> Finished<T> {
-    /// Returns the answers: first those that were out before the end, then those that only the
-    /// end let out, which carry no number of a piece.
+    /// Returns the answers: first those that were given out before the end, then those that only
+    /// the end gave out, which have no number of a piece.
     pub fn answers(&self) -> &[Told<T>]
         ensures { result.now ≡ answers_in self.now }
     {

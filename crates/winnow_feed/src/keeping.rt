@@ -15,7 +15,7 @@ use winnow_run::{SearchStep, Step};
 use winnow_sets::{AsChar, CharSet};
 use winnow_stream::{AsBStr, Stream, StreamIsPartial};
 
-// The place of the mark that a step names, or of the cursor.
+// Returns the place of the mark that a step names, or the cursor's place.
 fn named_place<L>(step: &SearchStep<CharSet, L>, place: usize, marks: &[usize]) -> usize
     ensures { result ≡ named_place place marks.now step.now }
 {
@@ -26,8 +26,8 @@ fn named_place<L>(step: &SearchStep<CharSet, L>, place: usize, marks: &[usize]) 
     }
 }
 
-// The least of the cursor's place and those that the steps name. No step is looked at from where on
-// none names a mark that is made.
+// Returns the least of the cursor's place and those that the steps name. Stops at the first step
+// from which no mark made so far is named.
 #[tactic(auto, using(crate::proofs::lemmas::NamingLemmas::named_steps))]
 fn least_place<L>(
     steps: &[SearchStep<CharSet, L>],
@@ -48,8 +48,8 @@ fn least_place<L>(
     least
 }
 
-// The place from which on the steps that are left need the input, which ends at `end`. The steps
-// are not walked where no more is told than `before`.
+// Returns the place from which the remaining steps need the input, which ends at `end`. The steps
+// are not visited if there are no more answers than `before`.
 #[tactic(auto, using(crate::proofs::lemmas::NamingLemmas::named_steps))]
 fn place_needed<T, L>(
     progress: &Progress<T, L>,
@@ -78,8 +78,9 @@ fn place_needed<T, L>(
     }
 }
 
-/// Takes in a piece at the end of what is kept: tells what no further input can change, and
-/// returns the width of the front that no step left can reach, which is then to be dropped.
+/// Takes in a piece at the end of what is kept: appends the answers that no further input can
+/// change, and returns the width of the front that no remaining step can reach, for the caller to
+/// drop.
 pub(crate) fn take_in<'k, S: Kept, L: AsBStr>(
     progress: &mut Progress<'k, S::Token, L>,
     finders: &mut Option<Finders<'k>>,

@@ -11,10 +11,10 @@ ghost use Rattle.winnow_feed.specs.declared.waiting.Waiting.{Waiting};
 
 use crate::Waiting;
 
-/// The law of what a feed has told: one piece more takes nothing back, and what it lets out stands
-/// behind what was told, under the number of that piece; the answers told by the end are those of
-/// the script on the pieces joined. So whoever reads input as it comes may act on an answer at
-/// once. It does nothing when called: its contract is the law.
+/// The law of a feed's answers: one more piece takes no answer back, and appends its answers with
+/// the number of that piece. At the end, the answers are those of the script on the joined pieces.
+/// So a reader of input that arrives in pieces may act on an answer at once. A law does nothing
+/// when called: its contract is the law.
 pub fn told_law()
     ensures bytes { (script : List PieceStep) (pieces : List (List ℕ)) (piece : List ℕ)
         → TellsMore byte_input script pieces piece }
@@ -25,10 +25,9 @@ pub fn told_law()
         → map (λ t. t.answer) (told_to_end input script pieces) ≡ all_answers input script pieces }
 {}
 
-/// The law of one search: the first answer told of a script that searches for one literal is the
-/// hit of the literal in the pieces joined, once there is one, and none is told before. An empty
-/// literal stands at once, and so it is told of with the first piece. It does nothing when called:
-/// its contract is the law.
+/// The law of one search: the first answer of a script that searches for one literal is the
+/// literal's hit in the joined pieces, as soon as there is one, and there is no answer before. An
+/// empty literal occurs at once, so its hit is an answer after the first piece.
 pub fn one_search_law()
     ensures bytes { (literal : Bor (List ℕ)) (pieces : List (List ℕ))
         → (literal.now ≡ [] → 0 < length pieces) → TellsHit byte_input literal pieces }
@@ -37,8 +36,7 @@ pub fn one_search_law()
         → (literal.now ≡ [] → 0 < length pieces) → TellsHit text_input literal pieces }
 {}
 
-/// The law of joined pieces: one piece more stands at the end of what the pieces are joined. It does nothing when called: its contract
-/// is the law.
+/// The law of joined pieces: one more piece is appended to what the pieces are joined.
 pub fn pieces_law()
     ensures joined { (pieces : List (List ℕ)) (piece : List ℕ)
         → joined (pieces ++ piece ∷ []) ≡ joined pieces ++ piece }
@@ -48,8 +46,8 @@ pub fn pieces_law()
         ≡ pieces_in (take i pieces) ++ (get_or pieces i other).now ∷ [] }
 {}
 
-/// The law of equality: two answers to what a feed waits for are equal where they are of one kind, and what they wait for is equal. It
-/// does nothing when called: its contract is the law.
+/// The law of equality: two values of [`Waiting`] are equal exactly if they are of one kind and
+/// what they wait for is equal.
 pub fn waiting_equality_law<P: PartialEq>()
     ensures { (s t : Waiting P) → ⟦<Waiting<P> as PartialEq>⟧.eq s t ≡ same_waiting P.eq s t }
 {}

@@ -1,15 +1,15 @@
-//! Scripts of calls, comparisons and searches over input that comes in pieces.
+//! Scripts of calls, comparisons and searches over input that arrives in pieces.
 //!
-//! However the input is cut, a script answers as on the pieces joined. After each piece those
-//! answers are out that no further input can change, each with the number of the piece that let
-//! it out; the end lets out the rest. A feed keeps no byte that no later step can reach, and a
-//! step that waits goes on from what it has settled. What a step waits for a feed can name: an
-//! input that would change its answer, unless there is none.
+//! However the input is cut, a script answers as on the joined pieces. After each piece, a feed has
+//! given out the answers that no further input can change, each with the number of the piece that
+//! made it definite. The end gives out the rest. A feed keeps no byte that no later step can reach,
+//! and a waiting step resumes after what it has settled. `waits_for` names an input that would
+//! change the waiting step's answer, if there is one.
 //!
-//! `ByteFeed` and `TextFeed` take the pieces one by one, `run_pieces` and `run_pieces_text` a list
-//! of them. What they share is `winnow_attempt`, which attempts one step over what is kept, and the
-//! private modules: `progress` runs steps until one waits; `naming` and `keeping` say what may be
-//! dropped then, and `buffers` drops it; `missing` says what the step that waits is missing.
+//! `ByteFeed` and `TextFeed` take the pieces one by one; `run_pieces` and `run_pieces_text` take a
+//! list of them. They share `winnow_attempt`, which attempts one step on what is kept, and the
+//! private modules: `progress` runs steps until one waits; `naming` and `keeping` say what may then
+//! be dropped, and `buffers` drops it; `missing` says what the waiting step is missing.
 #![tactic(auto)]
 
 mod buffers;

@@ -9,8 +9,8 @@ use winnow_attempt::{Kept, step_missing};
 use winnow_sets::AsChar;
 use winnow_stream::{AsBStr, Stream, StreamIsPartial};
 
-/// Returns what the next step is missing, where this is kept. It is `None` of a step that looks
-/// for a token of a set that holds none.
+/// Returns what the next step is missing, given what is kept. The answer is `None` if the step
+/// looks for a token of a set that holds none.
 pub fn next_missing<S: Kept, L: AsBStr>(
     alloc: Global,
     progress: &Progress<S::Token, L>,

@@ -5,7 +5,7 @@ use std::alloc::{AllocError, Global};
 use winnow_run::{SearchStep, Step};
 use winnow_sets::CharSet;
 
-// The number of the mark that a step names, or the greatest number of all.
+// Returns the number of the mark that a step names, or `usize::MAX` if it names none.
 fn mark_named<L>(step: &SearchStep<CharSet, L>) -> usize
     ensures { result ≡ mark_named step.now }
 {
@@ -16,8 +16,8 @@ fn mark_named<L>(step: &SearchStep<CharSet, L>) -> usize
     }
 }
 
-/// Returns for each step the least number of a mark that it or a later one names, so that a feed
-/// knows where no step left names a mark that is made.
+/// Returns for each step the least number of a mark that it or a later step names, so that a feed
+/// knows from which step no mark made so far is named.
 pub(crate) fn marks_named<L>(
     alloc: Global,
     script: &[SearchStep<CharSet, L>],

@@ -3,7 +3,8 @@ ghost use Rattle.std.specs.Prelude.{IsTrue, vec_len, vec_capacity, if◌then◌e
 ghost use Rattle.winnow_stream.specs.Source.{width};
 ghost use Rattle.winnow_attempt.specs.View.{piece_kind};
 ghost use Rattle.winnow_feed.specs.JoinedInput.{IsRun, KeepsRun, KeepsRunAtRest};
-ghost use Rattle.winnow_feed.specs.JoinedInput.{ComesToRest, AddsAnswers, Tries, StaysWithoutAnswer};
+ghost use Rattle.winnow_feed.specs.JoinedInput.{ComesToRest, AddsAnswers, Tries};
+ghost use Rattle.winnow_feed.specs.JoinedInput.{StaysWithoutAnswer};
 ghost use Rattle.winnow_feed.specs.Telling.{capped};
 
 use winnow_attempt::{Attempt, Kept, Passed, Told, attempt_step};
@@ -12,8 +13,8 @@ use winnow_run::SearchStep;
 use winnow_sets::{AsChar, CharSet};
 use winnow_stream::{AsBStr, Stream, StreamIsPartial};
 
-/// How far a script over pieces has come: its cursor, its marks and `base`, from which on the
-/// input is kept, are places in the joined input.
+/// The progress of a script over pieces. Its cursor, its marks and `base`, from where the input is
+/// kept, are places in the joined input.
 #[derive(Drop)]
 pub(crate) struct Progress<'k, T, L> {
     pub(crate) script: &'k [SearchStep<CharSet<'k>, L>],
@@ -26,7 +27,7 @@ pub(crate) struct Progress<'k, T, L> {
     pub(crate) tried: u64,
 }
 
-// Marks the place, where there is a mark to make and room for it.
+// Appends the place to the marks if a mark is to be made. There is room for it.
 fn push_mark(marks: &mut Vec<usize>, at: usize, makes: bool)
     requires { vec_len marks.old < vec_capacity marks.old }
     ensures items { marks.new.items
@@ -42,8 +43,8 @@ fn push_mark(marks: &mut Vec<usize>, at: usize, makes: bool)
     }
 }
 
-/// Attempts the next step over what is kept, and returns whether it came through. Its answer is
-/// told under that piece.
+/// Attempts the next step on what is kept, and returns whether it was answered. Its answer is
+/// appended with the number of the piece.
 #[inline(always)]
 pub(crate) fn attempt_next<'k, S: Kept, L: AsBStr>(
     progress: &mut Progress<'k, S::Token, L>,
@@ -116,7 +117,7 @@ where
     }
 }
 
-/// Attempts steps over what is kept, until one waits or none is left. Where no more may follow,
+/// Attempts steps on what is kept, until one waits or none remains. If no more input may follow,
 /// none waits.
 pub(crate) fn advance<'k, S: Kept, L: AsBStr>(
     progress: &mut Progress<'k, S::Token, L>,

@@ -7,7 +7,7 @@ use std::alloc::{AllocError, Global};
 use winnow_run::SearchStep;
 use winnow_sets::CharSet;
 
-/// Feeds a script all the pieces of bytes, ends the input, and returns all answers.
+/// Feeds all pieces of bytes to a script, ends the input, and returns all answers.
 pub fn run_pieces<'k>(
     alloc: Global,
     script: &'k [SearchStep<CharSet<'k>, &'k [u8]>],
@@ -23,7 +23,7 @@ pub fn run_pieces<'k>(
     Ok(feed.end())
 }
 
-/// Feeds a script all the pieces of text, ends the input, and returns all answers.
+/// Feeds all pieces of text to a script, ends the input, and returns all answers.
 pub fn run_pieces_text<'k>(
     alloc: Global,
     script: &'k [SearchStep<CharSet<'k>, &'k str>],

@@ -10,12 +10,12 @@ use winnow_match::Needles;
 use winnow_run::{SearchStep, Step};
 use winnow_sets::CharSet;
 
-// A text is UTF-8.
+// States that a text is UTF-8.
 fn is_text(text: &str)
     ensures { is_utf8 text.now ≡ true }
 {}
 
-// So is each of these.
+// States that each needle is UTF-8.
 fn are_needles(needles: &Needles<&str>)
     ensures { AllByRecursion (λ needle. is_utf8 needle ≡ true) (bytes_of_needles needles.now) }
 {
@@ -33,12 +33,13 @@ fn are_needles(needles: &Needles<&str>)
     }
 }
 
-// The number of a character is one.
+// States that a character is a token of text.
 fn is_character(c: char)
     ensures { text_input.is_token c ≡ true }
 {}
 
-// The first range that holds a character begins with one.
+// States that the character with which the first range of the set begins, if there is one, is a
+// token of text.
 fn begins_with_one(set: &CharSet)
     ensures { IfSome (least_of_first text_input.greatest (char_ranges set.now))
         (λ c. text_input.is_token c ≡ true) }
@@ -48,8 +49,8 @@ fn begins_with_one(set: &CharSet)
     }
 }
 
-/// What a step over text names is text. It changes nothing: its contract is what the types of the
-/// step's literals and sets say.
+/// States that the literals and sets of a step over text hold text. The call changes nothing: its
+/// contract is what the types say.
 pub(crate) fn is_spelt(step: &SearchStep<CharSet, &str>)
     ensures { IsSpelt text_input step.now }
 {

@@ -3,10 +3,10 @@
 pub enum Waiting<P> {
     /// No piece was fed.
     NotFed,
-    /// Every step is answered.
+    /// Each step is answered.
     NotWaiting,
-    /// The next step answers otherwise with this behind what was fed.
+    /// Appending this changes the next step's answer.
     Until(P),
-    /// The next step looks for a token of a set that holds none: nothing but the end answers it.
+    /// The next step looks for a token of a set that holds none: only the end answers it.
     ToEnd,
 }

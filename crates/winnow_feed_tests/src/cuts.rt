@@ -5,7 +5,7 @@ use std::test::Fail;
 use winnow_base::stream::Step::{At, Finish, First, Mark, Reset, Since, Take};
 use winnow_base::stream::{ByteFeed, CharSet, Finished, Needles, SearchStep, TextFeed};
 
-// All answers, and then the final place.
+// Returns the text of all answers and of the final place.
 fn answers_of<T: Debug>(alloc: Global, finished: &Finished<T>) -> Result<String, AllocError> {
     let mut line = String::new(alloc);
     for told in finished.answers() {
@@ -15,8 +15,8 @@ fn answers_of<T: Debug>(alloc: Global, finished: &Finished<T>) -> Result<String,
     format!(in alloc; "{line}at {}", finished.cursor())
 }
 
-// Cuts the bytes after the first, second and so on where the bits of `cut` say so, from the lowest on; with an empty piece before
-// every piece, or without.
+// Cuts the bytes after the first, the second and so on, where the bits of `cut` say so, from the
+// lowest on. There may be an empty piece before each piece.
 fn feed_cut(
     feed: &mut ByteFeed,
     bytes: &[u8],
@@ -38,7 +38,7 @@ fn feed_cut(
     Ok(())
 }
 
-// The same between characters.
+// The same, with cuts between characters.
 fn feed_text_cut(
     feed: &mut TextFeed,
     text: &str,
@@ -62,7 +62,8 @@ fn feed_text_cut(
     Ok(())
 }
 
-// Cuts as the case says: its lowest bit is whether empty pieces come too, and the others are the cuts.
+// Cuts as the case says. Its lowest bit says whether there are empty pieces, and the other bits are
+// the cuts.
 fn answers_cut(
     alloc: Global,
     script: &[ByteStep],

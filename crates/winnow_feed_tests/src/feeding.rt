@@ -1,4 +1,5 @@
-//! What the tests ask of feeds. A place has to fit, and no piece of a test is long: a feed that is near a million bytes takes no more.
+//! The calls of feeds that the tests share. Places have to fit and no piece of a test is long, so a
+//! feed near a million bytes takes no more.
 use std::alloc::{AllocError, Global};
 use std::fmt::Debug;
 use winnow_base::stream::{ByteFeed, CharSet, Finished, SearchStep, TextFeed};
@@ -21,7 +22,8 @@ pub(crate) fn feed_text(feed: &mut TextFeed, piece: &str) -> Result<usize, Alloc
     feed.feed(piece)
 }
 
-// How many bytes were fed, how many are kept, how many steps were attempted, and how many answers are out.
+// Returns the numbers of bytes that were fed and that are kept, of attempted steps, and of answers
+// that are out.
 pub(crate) fn counts(feed: &ByteFeed) -> (usize, usize, u64, usize) {
     (feed.fed(), feed.held(), feed.tried(), feed.answers().len())
 }
@@ -30,8 +32,9 @@ pub(crate) fn text_counts(feed: &TextFeed) -> (usize, usize, u64, usize) {
     (feed.fed(), feed.held(), feed.tried(), feed.answers().len())
 }
 
-// After each piece: how many answers came out, how many bytes are kept, and how many steps were attempted so far. At last, how many
-// bytes were fed, and how many answers are out.
+// Returns, after each piece, the numbers of answers that came out, of bytes that are kept, and of
+// steps attempted so far. At the end it adds the numbers of bytes that were fed and of answers that
+// are out.
 fn kept(alloc: Global, feed: &mut ByteFeed, pieces: &[&[u8]]) -> Result<String, AllocError> {
     let mut line = format!(in alloc; "{}", counts(feed).1)?;
     for piece in pieces {
@@ -43,7 +46,7 @@ fn kept(alloc: Global, feed: &mut ByteFeed, pieces: &[&[u8]]) -> Result<String, 
     format!(in alloc; "{line}; of {fed} {out}")
 }
 
-// What is kept of the pieces, and what is told at the end.
+// Returns what is kept after each piece, and the answers at the end.
 pub(crate) fn fed_bytes(
     alloc: Global,
     script: &[ByteStep],
@@ -54,7 +57,7 @@ pub(crate) fn fed_bytes(
     Ok((line, told(alloc, &feed.end())?))
 }
 
-// Each answer with the number of its piece, or 0 at the end, and then the final place.
+// Returns each answer with the number of its piece, or 0 at the end, and then the final place.
 pub(crate) fn told<T: Debug>(alloc: Global, finished: &Finished<T>) -> Result<String, AllocError> {
     let mut line = String::new(alloc);
     for told in finished.answers() {

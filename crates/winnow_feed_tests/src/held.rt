@@ -90,7 +90,7 @@ fn what_is_kept_and_told_of_pieces(rt: HostRuntime) -> Result<(), Fail> {
     Ok(())
 }
 
-// How many bytes are kept of `count` pieces of one `a`.
+// Returns the number of bytes that are kept of `count` pieces of one `a`.
 fn held_of(alloc: Global, script: &[ByteStep], count: u32) -> Result<usize, AllocError> {
     let mut feed = ByteFeed::new(alloc, script)?;
     for _ in 0..count {
@@ -99,7 +99,8 @@ fn held_of(alloc: Global, script: &[ByteStep], count: u32) -> Result<usize, Allo
     Ok(counts(&feed).1)
 }
 
-// Each byte is looked at once: a feed that went back to the cursor, or copied what it keeps, would not end.
+// Each byte is read once. A feed that went back to the cursor, or copied what it keeps, would take
+// too long to end.
 #[test]
 fn many_small_pieces(rt: HostRuntime) -> Result<(), Fail> {
     let digits = [('0', '9')];
@@ -117,7 +118,8 @@ fn many_small_pieces(rt: HostRuntime) -> Result<(), Fail> {
     Ok(())
 }
 
-// How many bytes are kept of the pieces, how many steps were attempted, how many answers are out, and the final place.
+// Returns the numbers of kept bytes, of attempted steps and of answers that are out, and the final
+// place.
 fn kept_text(
     alloc: Global,
     script: &[TextStep],

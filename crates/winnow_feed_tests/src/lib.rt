@@ -1,4 +1,5 @@
-//! The tests of feeds: which answers come out after which piece, what is kept, and what is waited for. Nothing here is part of the library.
+//! The tests of feeds: which answers come out after which piece, which bytes are kept, and what is
+//! waited for. Nothing here is part of the library.
 #![tactic(auto)]
 
 #[cfg(test)]

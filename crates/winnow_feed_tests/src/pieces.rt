@@ -9,7 +9,7 @@ use winnow_base::stream::{
     Needles, SearchStep, one_search_law, run_pieces, run_pieces_text, told_law,
 };
 
-// What is told of the pieces.
+// Returns the answers over the pieces.
 fn told_of(alloc: Global, script: &[ByteStep], pieces: &[&[u8]]) -> Result<String, AllocError>
     requires { length (joined (pieces_in pieces.now)) < 2 ^ 64 }
 {
@@ -62,7 +62,7 @@ fn slices_are_places_in_the_joined_input(rt: HostRuntime) -> Result<(), Fail> {
     Ok(())
 }
 
-// The needles, the two pieces, and what is told.
+// The needles, the two pieces, and the answers.
 const HITS: &[(Needles<&[u8]>, [&[u8]; 2], &str)] = &[
     (
         Needles::Two(b"abc", b"b"),
@@ -130,7 +130,8 @@ fn text_in_pieces(rt: HostRuntime) -> Result<(), Fail> {
     Ok(())
 }
 
-// Memory is there: no number of steps is refused, neither when a feed is made nor when it is fed.
+// There is memory, so no number of steps is refused, neither when a feed is made nor when it is
+// fed.
 #[test]
 fn as_many_answers_as_steps(rt: HostRuntime) -> Result<(), Fail> {
     let alloc = rt.alloc();

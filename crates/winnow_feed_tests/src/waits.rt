@@ -6,7 +6,7 @@ use winnow_base::stream::Step::{
 };
 use winnow_base::stream::{ByteFeed, CharSet, Needles, SearchStep, TextFeed, Waiting};
 
-// What is missing, or in words what is waited for.
+// Returns the missing input, or words for what is waited for.
 fn waits_for(alloc: Global, feed: &ByteFeed) -> Result<String, AllocError> {
     match feed.waits_for()? {
         Waiting::NotFed => String::from_str(alloc, "(not fed)"),
@@ -25,7 +25,7 @@ fn text_waits_for(alloc: Global, feed: &TextFeed) -> Result<String, AllocError> 
     }
 }
 
-// What the feed waits for, and then what after each piece.
+// Returns what the feed waits for at the start, and then after each piece.
 fn all_waits(alloc: Global, feed: &mut ByteFeed, pieces: &[&[u8]]) -> Result<String, AllocError> {
     let mut line = waits_for(alloc, feed)?;
     for piece in pieces {
@@ -60,7 +60,7 @@ fn text_waits(alloc: Global, script: &[TextStep], pieces: &[&str]) -> Result<Str
     all_text_waits(alloc, &mut feed, pieces)
 }
 
-// One step, a piece, and what is missing then.
+// One step, a piece, and what is missing after it.
 const MISSING: &[(ByteStep, &[u8], &str)] = &[
     (SearchStep::Call(Next), b"", "a"),
     (SearchStep::Call(Peek), b"", "a"),
@@ -113,7 +113,8 @@ fn a_text_step_is_missing_what_changes_its_answer(rt: HostRuntime) -> Result<(),
     Ok(())
 }
 
-// Of the ranges, the first is reversed, and the second holds no byte. Where a set holds no token at all, the step waits to the end.
+// The first of the ranges is reversed, and the second holds no byte. Where a set holds no token at
+// all, the step waits to the end.
 const SETS: &[(&[(char, char)], &[u8], &str)] = &[
     (
         &[('z', 'a'), ('\u{100}', '\u{12c}'), ('q', 'x')],
@@ -174,7 +175,8 @@ fn what_is_waited_for_is_compared_by_its_parts(rt: HostRuntime) -> Result<(), Fa
     Ok(())
 }
 
-// After two bytes: whether memory for what is missing is refused, and how much was fed, is kept, was attempted and is out.
+// Returns, after two bytes, whether the memory for what is missing is refused, and the counts of
+// the feed.
 fn after_two_bytes(
     alloc: Global,
     script: &[ByteStep],

@@ -1,4 +1,4 @@
--- What a `BStr` stands for: the bytes that remain. Contracts name this, and never a field.
+-- The meaning of a `BStr`: the bytes that remain. Contracts name this, and never a field.
 use Rattle.std.specs.Prelude.{ℕ, List}
 use Rattle.winnow_window.specs.Contents.{contents_of}
 use Rattle.winnow_kinds.specs.declared.text.BStr.{BStr}

@@ -1,7 +1,7 @@
 ghost use Rattle.std.specs.Prelude.{◌≡◌, ◌<◌};
 ghost use Rattle.std.specs.Fmt.{digit_glyph};
 
-/// Returns the hexadecimal digit of a value, in capitals or not.
+/// Returns the hexadecimal digit of a value, as a capital letter if `upper` is set.
 #[doc(hidden)]
 pub fn hex_digit(value: u8, upper: bool) -> u8
     requires { value < 16 }

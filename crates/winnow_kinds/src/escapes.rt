@@ -7,7 +7,7 @@ ghost use Rattle.winnow_kinds.specs.Escapes.{escape, is_ascii, debug_text, style
 use crate::digits::hex_digit;
 use std::fmt;
 
-/// Writes a character as a debug text has it.
+/// Writes a character as it stands in a debug text.
 #[doc(hidden)]
 pub fn write_escaped<W: fmt::Write>(c: char, f: &mut fmt::Formatter<W>) -> fmt::Result
     ensures writes { c < 128 → WritesOnOk W.write_str_gives f.old result (escape c) f.new }

@@ -1,5 +1,6 @@
-//! Bytes that are text by convention, as a stream: [`BStr`] streams as a slice of bytes does, call for call, and prints its text,
-//! with U+FFFD for what is damaged. What it is compared with and searched for, a [`ByteLiteral`] and [`ByteNeedles`], serves any
+//! Bytes that are text by convention, as a stream: [`BStr`] streams as a slice of bytes does, call
+//! for call, and prints its text, with U+FFFD for damaged parts. The literals that it is compared
+//! with and the needles that it is searched for, [`ByteLiteral`] and [`ByteNeedles`], serve any
 //! stream around a slice of bytes.
 #![tactic(auto)]
 

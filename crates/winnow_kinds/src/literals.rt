@@ -6,13 +6,13 @@ ghost use Rattle.winnow_match.specs.Comparison.{comparison};
 
 use winnow_match::{Compare, CompareResult};
 
-/// A literal that bytes are compared with. Whatever `&[u8]` is compared with is one, so that a stream around a slice of bytes is
-/// compared with the same.
+/// A literal that bytes are compared with. Everything that `&[u8]` is compared with is one, so a
+/// stream around a slice of bytes is compared with the same literals.
 pub trait ByteLiteral {
-    // The bytes that it stands for.
+    // The bytes of the literal.
     ghost literal_bytes: { Self → List ℕ };
 
-    /// Returns how it compares with the front of the bytes.
+    /// Returns how the literal compares with the front of the bytes.
     fn compare_with(self, bytes: &[u8]) -> CompareResult
         ensures { result ≡ comparison (literal_bytes self) bytes.now };
 }
@@ -57,7 +57,7 @@ impl ByteLiteral for u8 {
     }
 }
 
-/// The character in its UTF-8 form.
+/// The character is compared in its UTF-8 form.
 impl ByteLiteral for char {
     ghost literal_bytes = { λ literal. encode_utf8 literal };
 

@@ -20,7 +20,7 @@ fn write_whole<W: fmt::Write>(bytes: &[u8], f: &mut fmt::Formatter<W>) -> fmt::R
     Ok(())
 }
 
-/// Writes that many characters of the text.
+/// Writes the first `count` characters of the text.
 fn write_front<W: fmt::Write>(bytes: &[u8], count: usize, f: &mut fmt::Formatter<W>) -> fmt::Result
     ensures { WritesStyledOnOk W.write_str_gives f.old result
         (encode_utf8_all (take count (lossy_chars bytes.now))) f.new }
@@ -37,7 +37,7 @@ fn write_front<W: fmt::Write>(bytes: &[u8], count: usize, f: &mut fmt::Formatter
     Ok(())
 }
 
-/// Writes the text, or as much of it as the formatter's precision names.
+/// Writes the text, or only as many characters as the formatter's precision names.
 pub(crate) fn write_lossy<W: fmt::Write>(bytes: &[u8], f: &mut fmt::Formatter<W>) -> fmt::Result
     ensures writes { WritesOnOk W.write_str_gives f.old result (utf8_lossy bytes.now) f.new }
     ensures styled { WritesStyledOnOk W.write_str_gives f.old result

@@ -7,13 +7,14 @@ ghost use Rattle.winnow_match.specs.Search.{hit, bytes_of_needles};
 use std::ops::Range;
 use winnow_match::{FindSlice, Needles};
 
-/// What is searched for in bytes: a needle, or one of several. Whatever is searched for in `&[u8]` is one, so that the same is searched
-/// for in a stream around a slice of bytes.
+/// A needle, or one of several, that bytes are searched for. Everything that `&[u8]` is searched
+/// for is one, so a stream around a slice of bytes is searched for the same needles.
 pub trait ByteNeedles {
-    // The bytes of each needle, in the order in which they are preferred at one place.
+    // The bytes of each needle. At one place, an earlier needle is preferred to a later one.
     ghost needle_bytes: { Self → List (List ℕ) };
 
-    /// Returns the least place at which a needle stands in the bytes, up to the end of the first listed needle that stands there.
+    /// Returns the least place at which a needle stands in the bytes, up to the end of the first
+    /// listed needle that stands there.
     fn find_in(self, bytes: &[u8]) -> Option<Range<usize>>
         ensures { result ≡ hit (needle_bytes self) bytes.now };
 }
@@ -122,7 +123,7 @@ impl ByteNeedles for (u8, u8, u8) {
     }
 }
 
-/// The character in its UTF-8 form.
+/// The character is searched for in its UTF-8 form.
 impl ByteNeedles for char {
     ghost needle_bytes = { λ c. encode_utf8 c ∷ [] };
 
@@ -131,7 +132,7 @@ impl ByteNeedles for char {
     }
 }
 
-/// The character in its UTF-8 form.
+/// The character is searched for in its UTF-8 form.
 impl ByteNeedles for (char,) {
     ghost needle_bytes = { λ cs. encode_utf8 cs.0 ∷ [] };
 
@@ -140,7 +141,7 @@ impl ByteNeedles for (char,) {
     }
 }
 
-/// The characters in their UTF-8 form.
+/// The characters are searched for in their UTF-8 form.
 impl ByteNeedles for (char, char) {
     ghost needle_bytes = { λ cs. encode_utf8 cs.0 ∷ encode_utf8 cs.1 ∷ [] };
 
@@ -149,7 +150,7 @@ impl ByteNeedles for (char, char) {
     }
 }
 
-/// The characters in their UTF-8 form.
+/// The characters are searched for in their UTF-8 form.
 impl ByteNeedles for (char, char, char) {
     ghost needle_bytes = { λ cs. encode_utf8 cs.0 ∷ encode_utf8 cs.1 ∷ encode_utf8 cs.2 ∷ [] };
 

@@ -45,7 +45,7 @@ pub struct BStr<'i> {
 }
 
 impl<'i> BStr<'i> {
-    /// These bytes, text or not.
+    /// Returns the stream of these bytes, which need not be text.
     pub fn new(bytes: &'i [u8]) -> Self
         ensures { bstr_contents result ≡ bytes.now }
     {
@@ -80,28 +80,28 @@ impl<'i> BStr<'i> {
         }
     }
 
-    /// Returns whether these are the bytes.
+    /// Returns whether the contents are these bytes.
     pub fn eq_bytes(&self, bytes: &[u8]) -> bool
         ensures { IsTrue result ↔ (bstr_contents self.now ≡ bytes.now) }
     {
         self.inner() == bytes
     }
 
-    /// Returns whether these are the bytes of the text.
+    /// Returns whether the contents are the bytes of this text.
     pub fn eq_str(&self, text: &str) -> bool
         ensures { IsTrue result ↔ (bstr_contents self.now ≡ text.now) }
     {
         self.inner() == text.as_bytes()
     }
 
-    /// Returns how these stand to the bytes in the order of the first byte that differs.
+    /// Compares the contents with the bytes, by the first byte that differs.
     pub fn cmp_bytes(&self, bytes: &[u8]) -> Ordering
         ensures { result ≡ slice_cmp nat_cmp (bstr_contents self.now) bytes.now }
     {
         self.inner().cmp(bytes)
     }
 
-    /// Returns how these stand to the bytes of the text in the order of the first byte that differs.
+    /// Compares the contents with the bytes of the text, by the first byte that differs.
     pub fn cmp_str(&self, text: &str) -> Ordering
         ensures { result ≡ slice_cmp nat_cmp (bstr_contents self.now) text.now }
     {
@@ -275,7 +275,7 @@ impl StreamIsPartial for BStr<'_> {
 
     fn restore_partial(&mut self, _state: ()) {}
 
-    // A function without `self` of an impl at a lifetime does not inherit the trait's clause.
+    // A function without `self`, in an impl at a lifetime, does not inherit the trait's clause.
     fn is_partial_supported() -> bool
         ensures { result ≡ false }
     {
@@ -287,21 +287,23 @@ impl StreamIsPartial for BStr<'_> {
     }
 }
 
-/// As the bytes are compared.
+/// It compares as the bytes do.
 #[tactic(auto, using(winnow_match::proofs::lemmas::AnswerLemmas::source_answers))]
 impl<T: ByteLiteral> Compare<T> for BStr<'_> {
     ghost compared = { λ literal r. comparison (T.literal_bytes literal) (bytes_of r) };
 
     ghost literal_width = { λ literal. length (T.literal_bytes literal) };
 
-    ghost comparisons_stay = { λ literal. ComparisonsStay-written (λ byte. byte ∷ []) (T.literal_bytes literal) };
+    ghost comparisons_stay = { λ literal.
+        ComparisonsStay-written (λ byte. byte ∷ []) (T.literal_bytes literal) };
 
+    #[inline(always)]
     fn compare(&self, t: T) -> CompareResult {
         t.compare_with(self.inner())
     }
 }
 
-/// As the bytes are searched.
+/// It is searched as the bytes are.
 #[tactic(auto, using(winnow_match::proofs::lemmas::AnswerLemmas::source_answers))]
 impl<T: ByteNeedles> FindSlice<T> for BStr<'_> {
     ghost found = { λ needles r. hit (T.needle_bytes needles) (bytes_of r) };
@@ -311,8 +313,8 @@ impl<T: ByteNeedles> FindSlice<T> for BStr<'_> {
     }
 }
 
-/// The text, with U+FFFD for each maximal damaged part. A precision is how many characters are shown at most; no other option of a
-/// hole changes the text.
+/// Prints the text, with U+FFFD for each maximal damaged part. A precision is the greatest number
+/// of characters that are printed. No other option of a hole changes the text.
 impl fmt::Display for BStr<'_> {
     ghost output = { λ s. Some (utf8_lossy (bstr_contents s)) };
 
@@ -323,8 +325,9 @@ impl fmt::Display for BStr<'_> {
     }
 }
 
-/// The escaped bytes in double quotes, each as the character of its number; `{:#?}` leaves the quotes out, and no other option of a hole
-/// changes the text. The contract promises it of ASCII bytes alone.
+/// Prints the escaped bytes in double quotes, each as the character of its number. `{:#?}` leaves
+/// the quotes out, and no other option of a hole changes the text. The contract promises this of
+/// ASCII bytes alone.
 impl fmt::Debug for BStr<'_> {
     ghost debug_output = { λ s. debug_text (bstr_contents s) };
 

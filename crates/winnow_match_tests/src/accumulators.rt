@@ -8,7 +8,7 @@ use winnow_count::{Accumulate, accumulate_all};
 
 type Cow = CowStr<'static, Global>;
 
-// An accumulator of the type, asked through its bound.
+// Returns an accumulator of the type, called through its bound.
 fn gathered<A: Accumulate<T> + Drop, T: Drop, const N: usize>(
     alloc: Global,
     items: [T; N],
@@ -16,7 +16,7 @@ fn gathered<A: Accumulate<T> + Drop, T: Drop, const N: usize>(
     accumulate_all(alloc, Vec::from_array(alloc, items)?)
 }
 
-// Asserts the debug text of one.
+// Asserts the debug text of an accumulator.
 fn gathers<A: Accumulate<T> + Debug + Drop, T: Drop, const N: usize>(
     rt: &impl Abort,
     alloc: Global,
@@ -29,7 +29,7 @@ fn gathers<A: Accumulate<T> + Debug + Drop, T: Drop, const N: usize>(
     Ok(())
 }
 
-// Two texts that are owned.
+// Returns two owned texts.
 fn two_owned(alloc: Global) -> Result<[String; 2], AllocError> {
     Ok([
         String::from_str(alloc, "ab")?,
@@ -37,7 +37,7 @@ fn two_owned(alloc: Global) -> Result<[String; 2], AllocError> {
     ])
 }
 
-// A text that is borrowed, and one that is owned.
+// Returns a borrowed text and an owned one.
 fn two_cows(alloc: Global) -> Result<[Cow; 2], AllocError> {
     let owned = String::from_str(alloc, "c")?;
     Ok([CowStr::Borrowed("ab"), CowStr::Owned(owned)])
@@ -80,7 +80,7 @@ fn cows(rt: HostRuntime) -> Result<(), Fail> {
     Ok(())
 }
 
-// Whether a cow is borrowed, and its text.
+// Returns whether a cow is borrowed, and its text.
 fn state<'s>(cow: &'s CowStr<'_, Global>) -> (bool, &'s str) {
     (matches!(cow, CowStr::Borrowed(_)), cow.as_str())
 }
@@ -99,7 +99,7 @@ fn a_cow_borrows_its_first_text_that_is_not_empty(rt: HostRuntime) -> Result<(),
 
 const PAIRS: [(u8, char); 3] = [(1, 'a'), (2, 'b'), (1, 'c')];
 
-// The length of a hash map of the pairs, and what is at two keys.
+// Returns the length of a hash map of the pairs, and the values at two keys.
 fn hashed(alloc: Global) -> Result<(usize, Option<char>, Option<char>), AllocError> {
     let hashed: HashMap<u8, char> = gathered(alloc, PAIRS)?;
     Ok((
@@ -109,7 +109,7 @@ fn hashed(alloc: Global) -> Result<(usize, Option<char>, Option<char>), AllocErr
     ))
 }
 
-// The length of a hash set, and whether it has two items.
+// Returns the length of a hash set, and whether it has two items.
 fn hashed_set(alloc: Global) -> Result<(usize, bool, bool), AllocError> {
     let set: HashSet<u8> = gathered(alloc, [3, 1, 3])?;
     Ok((set.len(), set.contains(&1), set.contains(&3)))
@@ -127,21 +127,21 @@ fn maps_and_sets(rt: HostRuntime) -> Result<(), Fail> {
     Ok(())
 }
 
-// What a hash map and a hash set have room for, where that many items are said to come.
+// Returns the room of a hash map and of a hash set for which that many items are announced.
 fn rooms(alloc: Global, said: usize) -> Result<[usize; 2], AllocError> {
     let map = <HashMap<u8, char> as Accumulate<(u8, char)>>::initial(alloc, Some(said))?;
     let set = <HashSet<u8> as Accumulate<u8>>::initial(alloc, Some(said))?;
     Ok([map.capacity(), set.capacity()])
 }
 
-// What std gives for that many.
+// Returns the room that std gives for that many items.
 fn std_rooms(alloc: Global, count: usize) -> Result<[usize; 2], AllocError> {
     let map: HashMap<u8, char> = HashMap::with_capacity(alloc, count)?;
     let set: HashSet<u8> = HashSet::with_capacity(alloc, count)?;
     Ok([map.capacity(), set.capacity()])
 }
 
-// Their clauses name the least room; that of the lists and texts is named to the byte.
+// The contracts of these name only the least room. Those of lists and texts name the exact room.
 #[test]
 fn hashes_trust_a_count_up_to_1024(rt: HostRuntime) -> Result<(), Fail> {
     let alloc = rt.alloc();

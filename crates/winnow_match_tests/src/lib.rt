@@ -1,5 +1,5 @@
-//! The tests of sets of tokens, of comparison and search, and of counts, accumulators and values read from what was taken.
-//! Nothing here is part of the library.
+//! The tests of sets of tokens, of comparison and search, and of counts, accumulators and values
+//! that are read from slices. Nothing here is part of the library.
 #![tactic(auto)]
 
 #[cfg(test)]

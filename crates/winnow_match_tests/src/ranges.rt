@@ -19,21 +19,21 @@ fn debug(alloc: Global, range: &Range) -> Result<String, AllocError>
     format!(in alloc; "{range:?}")
 }
 
-// Under a width, a fill and a precision, which change nothing.
+// Returns the text with a width, a fill and a precision, which change nothing.
 fn padded(alloc: Global, range: &Range) -> Result<String, AllocError>
     ensures { IfOk result (λ text. string_bytes text ≡ range_text range.now) }
 {
     format!(in alloc; "{range:*>9.1}")
 }
 
-// Made through the bound.
+// Returns a range, made through the bound.
 fn range_of<C: Into<Range>>(counts: C) -> Range
     ensures { C.converts counts result }
 {
     counts.into()
 }
 
-// Asked through the bound.
+// Returns whether the range contains the count, called through the bound.
 fn contains<R: RangeBounds<usize>>(range: &R, count: usize) -> bool {
     range.contains(&count)
 }

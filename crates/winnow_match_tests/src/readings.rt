@@ -3,26 +3,26 @@ ghost use Rattle.winnow_count.specs.Reading.{IsSomeExactly, ReadsUnsigned};
 
 use winnow_count::{ParseSlice, Readable};
 
-// What bytes read as, at a type that is named.
+// Returns what bytes read as, at a type that is named.
 fn byte_of(bytes: &[u8]) -> Option<u8>
     ensures { IsSomeExactly (λ n. IsUtf8 bytes.now × ReadsUnsigned 8 bytes.now n) result }
 {
     bytes.parse_slice()
 }
 
-// Asked through the bound.
+// Returns what a slice reads as, called through the bound.
 fn parsed<R, S: ParseSlice<R>>(slice: &S) -> Option<R>
     ensures { IsSomeExactly (S.reads slice.now) result }
 {
     slice.parse_slice()
 }
 
-// Whether it reads so.
+// Returns whether the slice reads as wanted.
 fn reads<R: PartialEq + Drop, S: ParseSlice<R>>(slice: &S, want: Option<R>) -> bool {
     parsed(slice) == want
 }
 
-// Whether the first two texts read as the two values, and the last two as none.
+// Returns whether the first two texts read as the two values, and the last two as none.
 fn reads_bounds<R: Readable + PartialEq + Drop>(least: R, greatest: R, texts: [&str; 4]) -> bool {
     let [first, second, below, above] = texts;
     parsed(&first) == Some(least)

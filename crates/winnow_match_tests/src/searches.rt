@@ -8,7 +8,7 @@ use winnow_base::stream::{
 };
 use winnow_test_helpers::{compares, debugged, finds, hits};
 
-// What a comparison answers, through its bound; a failure names the case.
+// Asserts the answer of a comparison, called through its bound. A failure names the case.
 fn is_compared<T, S>(rt: &impl Abort, stream: S, literal: T, want: CompareResult)
 where
     S: Compare<T> + Copy + Debug,
@@ -103,7 +103,7 @@ fn literals_of_text(rt: HostRuntime) {
     }
 }
 
-// A search by the tuple of as many needles.
+// Returns the answer of a search by the tuple of as many needles.
 fn finds_tuple<N, S>(s: S, needles: &Needles<N>) -> Option<Range<usize>>
 where
     N: Copy,
@@ -117,7 +117,7 @@ where
     }
 }
 
-// The same search by `Needles` and by a tuple.
+// Returns the answers of the same search by `Needles` and by a tuple.
 fn both_ways<N, S>(s: S, needles: Needles<N>) -> [Option<Range<usize>>; 2]
 where
     N: Copy,
@@ -127,7 +127,7 @@ where
     [finds(s, needles), finds_tuple(s, &needles)]
 }
 
-// A search of a text, and of its bytes.
+// Asserts the answer of a search in a text and in its bytes.
 fn is_found(rt: &impl Abort, input: &str, needles: Needles<&str>, want: Option<Range<usize>>) {
     let in_text = both_ways(input, needles);
     let in_bytes = both_ways(input.as_bytes(), needles.as_bytes());
@@ -199,7 +199,7 @@ fn needles_on_text(rt: HostRuntime) {
     );
 }
 
-// The first hit, place by place.
+// Returns the first hit, found place by place.
 fn slow_find(input: &[u8], needles: &[&[u8]]) -> Option<Range<usize>> {
     for at in 0..input.len() {
         for needle in needles {
@@ -211,7 +211,8 @@ fn slow_find(input: &[u8], needles: &[&[u8]]) -> Option<Range<usize>> {
     None
 }
 
-// Searches for the first needle, the first two and all three, and reads the answers slowly.
+// Searches for the first needle, the first two and all three, and compares the answers with those
+// of the slow search.
 fn agrees(rt: &impl Abort, input: &[u8], a: &[u8], b: &[u8], c: &[u8], case: usize) {
     let found = [
         finds(input, a),
@@ -238,7 +239,7 @@ fn near_and_far_hits(rt: HostRuntime) -> Result<(), Fail> {
         768, 769, 771, 772, 773, 1023, 1500, 1791, 1792, 1793, 1796, 1797, 1990, 1997, 1998, 1999,
     ];
     for at in places {
-        // Every byte may begin a needle, so that the near tries fail.
+        // Each byte may begin a needle, so that the first tries fail.
         let mut input = vec![in alloc; b'a'; 2000]?;
         if let Some(byte) = input.get_mut(at) {
             *byte = b'b';
@@ -264,7 +265,7 @@ fn near_and_far_hits(rt: HostRuntime) -> Result<(), Fail> {
     Ok(())
 }
 
-// What could move the hit of the needles, where there is one.
+// Returns what could move the hit of the needles, if there is one.
 #[tactic(auto, using(winnow_match::proofs::lemmas::AnswerLemmas::source_answers))]
 fn moved_by(input: &[u8], needles: Needles<&[u8]>) -> Option<Option<Stretch>> {
     let hit = input.find_slice(needles)?;

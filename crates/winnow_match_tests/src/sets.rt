@@ -8,7 +8,7 @@ use winnow_base::stream::{
 };
 use winnow_test_helpers::debugged;
 
-// A set asked through its bound.
+// Returns whether a set holds the token, called through its bound.
 fn holds<T, S: ContainsToken<T> + Drop>(set: S, token: T) -> bool
     requires { S.askable set }
     ensures { S.may_answer set token result }
@@ -16,7 +16,7 @@ fn holds<T, S: ContainsToken<T> + Drop>(set: S, token: T) -> bool
     set.contains_token(token)
 }
 
-// A set of a script asked through its bound.
+// Returns whether a set of a script holds the token, called through its bound.
 fn script_holds<T, S: ScriptSet<T> + Drop>(set: S, token: T) -> bool
     requires { S.askable set }
     ensures { S.may_answer set token result }
@@ -24,7 +24,8 @@ fn script_holds<T, S: ScriptSet<T> + Drop>(set: S, token: T) -> bool
     set.holds(token)
 }
 
-// The answers of a script that names sets, as their debug text: a proved `impl` does not show that it can be called so.
+// Returns the debug text of the answers of a script that names sets. The proof of an `impl` does
+// not show that it can be called so.
 fn told<S: Stream, C: ScriptSet<S::Token>>(
     alloc: Global,
     s: &mut S,
@@ -42,7 +43,8 @@ where
     format!(in alloc; "{answers:?}")
 }
 
-// Each class of a token: letter, letter or digit, decimal, hexadecimal, octal digit, blank, line feed.
+// Returns the classes of a token: letter, letter or digit, decimal, hexadecimal and octal digit,
+// blank, line feed.
 fn classes<T: AsChar + Copy>(token: T) -> [bool; 7] {
     [
         token.is_alpha(),
@@ -293,7 +295,7 @@ fn scripts_name_sets(rt: HostRuntime) -> Result<(), Fail> {
     Ok(())
 }
 
-// The byte and the character that a set is said to hold.
+// Returns the byte and the character that the set names.
 fn named(ranges: &[(char, char)]) -> (Option<u8>, Option<char>) {
     let set = CharSet::new(ranges);
     (set.any_byte(), set.any_char())

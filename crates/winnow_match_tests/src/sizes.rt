@@ -2,7 +2,7 @@ ghost use Rattle.std.specs.Prelude.{◌≡◌, ◌≤◌};
 
 use winnow_count::ToUsize;
 
-// Asked through the bound.
+// Returns the number, called through the bound.
 fn size<N: ToUsize>(number: &N) -> usize
     requires { N.number number.now ≤ usize.MAX }
     ensures { result ≡ N.number number.now }

@@ -1,7 +1,8 @@
--- What the error of a whole parse tells.
+-- The contents of a whole parse's error.
 use Rattle.std.specs.Prelude.{ℕ}
 
--- the input as it stood where the parse began, how far behind that the error came, and the error
+-- the input as it stood where the parse began, the offset from there to the error, and the inner
+-- error
 pub record Failure (I : Type 0) (E : Type 0) : Type 0 where
   pub input : I
   pub offset : ℕ

@@ -1,4 +1,5 @@
--- What the error of a whole parse prints: where it came, the line with a caret below the place, and the error itself.
+-- The text of a whole parse's error: where it occurred, the line with a caret below the place, and
+-- the inner error.
 use Rattle.std.specs.Prelude.{◌+◌, ◌==◌, ℕ, List, [], ◌++◌, codes, count_by, length, replicate, slice_get, unwrap_or, if◌then◌else◌}
 use Rattle.std.specs.Fmt.{decimal}
 use Rattle.std.specs.List.{slice_split}
@@ -12,11 +13,11 @@ spaces n = replicate n 32
 abbrev pub nth_line : List ℕ → ℕ → List ℕ
 nth_line bytes line = unwrap_or (slice_get (slice_split is_newline bytes) line) []
 
--- bytes of one line, and a caret below the offset
+-- the text for bytes of one line: the bytes, and a caret below the offset
 abbrev pub line_text : List ℕ → ℕ → List ℕ
 line_text bytes offset = utf8_lossy bytes ++ codes "\n" ++ spaces offset ++ codes "^\n"
 
--- where the error came, both numbers from 1
+-- the text that says where the error occurred, with both numbers counted from 1
 abbrev pub heading_text : ℕ → ℕ → List ℕ
 heading_text number column = codes "parse error at line " ++ decimal number ++ codes ", column " ++ decimal column ++ codes "\n"
 
@@ -24,7 +25,7 @@ heading_text number column = codes "parse error at line " ++ decimal number ++ c
 abbrev pub margin : ℕ → List ℕ
 margin number = spaces (length (decimal number))
 
--- an empty line in the margin, and the line with its number
+-- an empty line with a margin, then the line with its number
 abbrev pub numbered_text : ℕ → List ℕ → List ℕ
 numbered_text number line = margin number ++ codes " |\n" ++ decimal number ++ codes " | " ++ utf8_lossy line ++ codes "\n"
 
@@ -32,11 +33,11 @@ numbered_text number line = margin number ++ codes " |\n" ++ decimal number ++ c
 abbrev pub caret_text : ℕ → ℕ → List ℕ
 caret_text number column = margin number ++ codes " | " ++ spaces column ++ codes "^\n"
 
--- where in several lines the error came
+-- the text for bytes of several lines: where the error occurred, and that line with a caret
 abbrev pub place_text : List ℕ → ℕ → ℕ → List ℕ
 place_text bytes line column = heading_text (line + 1) (column + 1) ++ numbered_text (line + 1) (nth_line bytes line) ++ caret_text (line + 1) column
 
--- bytes without a newline are told as they are, others by line and column
+-- the text for any bytes: those without a newline as they are, and others by line and column
 abbrev pub pointer_text : List ℕ → ℕ → List ℕ
 pointer_text bytes offset =
     if count_by is_newline bytes == 0 then line_text bytes offset

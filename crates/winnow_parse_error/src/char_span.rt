@@ -10,7 +10,7 @@ fn is_boundary(byte: u8) -> bool
     byte < 128 || byte >= 192
 }
 
-/// Returns the last place that begins a character, or 0.
+/// Returns the last place where a character begins, or 0 if there is none.
 fn last_boundary(bytes: &[u8]) -> usize
     ensures { result ≡ last_boundary bytes.now }
 {
@@ -24,7 +24,7 @@ fn last_boundary(bytes: &[u8]) -> usize
     0
 }
 
-/// Returns the first place that begins a character, or the length.
+/// Returns the first place where a character begins, or the length if there is none.
 fn first_boundary(bytes: &[u8]) -> usize
     ensures first { result ≡ position_or_len is_boundary bytes.now }
     ensures within { result ≤ length bytes.now }
@@ -37,7 +37,7 @@ fn first_boundary(bytes: &[u8]) -> usize
     bytes.len()
 }
 
-/// Returns the span of the character at an offset, which may lie behind the bytes.
+/// Returns the span of the character at an offset, which may be past the end of the bytes.
 pub(crate) fn char_span(bytes: &[u8], offset: usize) -> Range<usize>
     ensures { result ≡ char_span bytes.now offset }
 {

@@ -7,11 +7,12 @@ ghost use Rattle.winnow_parse_error.specs.Failure.{Failure};
 
 use crate::ParseError;
 
-/// The law of spans: at an offset inside a character of a text the span is the place of that character, and at the end it is empty. Places are
-/// those of a boundary test, or those between texts: what stands before a character, the character, and what stands after it. Nothing is done
-/// when it is called: its contract is the law.
+/// The law of spans: at an offset inside a character of a text, the span is the place of that
+/// character; at the end, the span is empty. The place is given by a boundary test, or by the texts
+/// before and after the character. A law does nothing when called: its contract is the law.
 pub fn char_span_law()
-    ensures character { (before after : List ℕ) (c offset : ℕ) → IsUtf8 before → IsScalar c → IsUtf8 after
+    ensures character { (before after : List ℕ) (c offset : ℕ) → IsUtf8 before → IsScalar c
+        → IsUtf8 after
         → length before ≤ offset → offset < length before + length (encode_utf8 c)
         → char_span (before ++ encode_utf8 c ++ after) offset
         ≡ span (length before) (length (encode_utf8 c)) }
@@ -22,8 +23,8 @@ pub fn char_span_law()
         → char_span bytes (length bytes) ≡ record { start = length bytes; end = length bytes } }
 {}
 
-/// The law of equality: two errors are equal exactly where their inputs, their offsets and the errors inside are. It does nothing when called: its
-/// contract is the law.
+/// The law of equality: two errors are equal exactly if their inputs, their offsets and their inner
+/// errors are equal.
 pub fn parse_error_equality_law<I: PartialEq, E: PartialEq>()
     ensures { (s t : Failure I E) → ⟦<ParseError<I, E> as PartialEq>⟧.eq s t
         ≡ (I.eq s.input t.input && (s.offset == t.offset) && E.eq s.inner t.inner) }

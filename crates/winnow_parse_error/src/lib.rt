@@ -1,5 +1,6 @@
-//! The error of a whole parse, told with its line, its column and the line itself: [`ParseError`], and [`translate_position`] for
-//! any offset into bytes, damaged ones too.
+//! [`ParseError`]: the error of a whole parse, which prints its line, its column and the line
+//! itself. [`translate_position`] gives the line and the column of any offset into bytes, also of
+//! bytes that are not UTF-8.
 #![tactic(auto)]
 
 mod char_span;

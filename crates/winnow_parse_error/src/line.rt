@@ -6,14 +6,14 @@ ghost use Rattle.winnow_parse_error.specs.ParseErrorText.{nth_line};
 use crate::position::line_start;
 use memchr::memchr;
 
-/// Returns whether there is a newline.
+/// Returns whether the bytes have a newline.
 pub(crate) fn has_newline(bytes: &[u8]) -> bool
     ensures { result ≡ not (count_by is_newline bytes.now == 0) }
 {
     memchr(b'\n', bytes).is_some()
 }
 
-/// Returns what stands in front of the first newline, or all of it.
+/// Returns what stands before the first newline, or all bytes if there is none.
 fn first_line(bytes: &[u8]) -> &[u8]
     ensures { result.now ≡ before_first is_newline bytes.now }
 {

@@ -8,10 +8,11 @@ use std::ops::Range;
 use winnow_error::ParserError;
 use winnow_stream::{AsBStr, Stream};
 
-/// The error of a whole parse, with the place where it came in the input.
+/// The error of a whole parse, with the place in the input where it occurred.
 ///
-/// Contracts see the input, the offset and the error. What it prints, and the span of its character, are those of the bytes that
-/// the input gives by [`AsBStr`], at any offset: nothing says that these are the bytes that remain, so nothing is asked of them.
+/// Contracts see the input, the offset and the error. The text and the span of the character are
+/// those of the bytes that the input gives by [`AsBStr`], at any offset: nothing says that these
+/// are the bytes that remain, so nothing is required of them.
 #[derive(Clone, Copy, Debug, PartialEq, Eq, Drop)]
 pub struct ParseError<I, E> {
     input: I,
@@ -30,7 +31,8 @@ impl<I, E> Model for ParseError<I, E> {
 }
 
 impl<I: Stream, E: ParserError<I>> ParseError<I, E> {
-    /// Returns the error of a parse that began at `start`, and failed where the input stands. It holds the input as it stood at `start`.
+    /// Returns the error of a parse that began at `start` and failed at the input's position. The
+    /// error holds the input as it stood at `start`.
     pub fn new(input: I, start: I::Checkpoint, inner: E) -> Self
         requires valid { I.valid input }
         requires valid_checkpoint { I.valid_checkpoint start }
@@ -61,14 +63,14 @@ impl<I, E> ParseError<I, E> {
         &self.input
     }
 
-    /// Returns how far behind the start the error came.
+    /// Returns the offset from the start to where the error occurred.
     pub fn offset(&self) -> usize
         ensures { result ≡ self.now.offset }
     {
         self.offset
     }
 
-    /// Returns the error itself.
+    /// Returns the inner error.
     pub fn inner(&self) -> &E
         ensures { result.now ≡ self.now.inner }
     {
@@ -77,7 +79,7 @@ impl<I, E> ParseError<I, E> {
 }
 
 impl<I: Drop, E> ParseError<I, E> {
-    /// Returns the error itself, without its place.
+    /// Returns the inner error without its place.
     pub fn into_inner(self) -> E
         ensures { result ≡ self.inner }
     {
@@ -86,7 +88,7 @@ impl<I: Drop, E> ParseError<I, E> {
 }
 
 impl<I: AsBStr, E> ParseError<I, E> {
-    /// Returns the span of the character at the offset; it is empty at the end.
+    /// Returns the span of the character at the offset. The span is empty at the end.
     pub fn char_span(&self) -> Range<usize>
         ensures { result ≡ char_span (I.text_bytes self.now.input) self.now.offset }
     {

@@ -6,7 +6,7 @@ ghost use Rattle.winnow_parse_error.specs.Position.{column_of};
 use memchr::{memchr_iter, memrchr};
 use std::str;
 
-/// Returns where the line begins that goes on behind the bytes.
+/// Returns where the line begins in which the bytes end.
 pub(crate) fn line_start(before: &[u8]) -> usize
     ensures start { result ≡ line_start before.now }
     ensures within { result ≤ length before.now }
@@ -35,7 +35,8 @@ fn count_chars(text: &str) -> usize
     text.chars().count()
 }
 
-/// Returns the column of the last character of a part of a line, or of its last byte where it is no text.
+/// Returns the column of the last character of a part of a line, or of its last byte if the part is
+/// not UTF-8.
 fn last_column(part: &[u8]) -> usize
     requires { 0 < length part.now }
     ensures column { result ≡ last_column part.now }
@@ -49,8 +50,9 @@ fn last_column(part: &[u8]) -> usize
 
 /// Returns the line and the column of an offset, both counted from 0.
 ///
-/// A column counts characters, but where the line up to the offset is no text, as inside a longer character, it counts bytes. An
-/// offset behind the last byte is told on that byte's line, also where that byte is a newline.
+/// A column counts characters. It counts bytes if the line up to the offset is not UTF-8, as inside
+/// a longer character. An offset after the last byte is on that byte's line, also if that byte is a
+/// newline.
 pub fn translate_position(input: &[u8], index: usize) -> (usize, usize)
     ensures line { result.0 ≡ line_of input.now index }
     ensures column { result.1 ≡ column_of input.now index }

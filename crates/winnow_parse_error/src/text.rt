@@ -13,7 +13,7 @@ use winnow_error::write_bare;
 use winnow_kinds::BStr;
 use winnow_stream::AsBStr;
 
-/// That many spaces.
+/// Prints that number of spaces.
 #[derive(Drop)]
 struct Spaces(usize);
 
@@ -28,7 +28,7 @@ impl fmt::Display for Spaces {
     }
 }
 
-/// Returns how many digits a number has.
+/// Returns the number of digits of a number.
 fn digit_count(number: u128) -> usize
     ensures { result ≡ length (decimal number) }
 {
@@ -41,7 +41,7 @@ fn digit_count(number: u128) -> usize
     count
 }
 
-/// Bytes of one line, and a caret below the offset.
+/// Prints bytes of one line, and a caret below the offset.
 #[derive(Drop)]
 struct Line<'a> {
     bytes: &'a [u8],
@@ -58,7 +58,7 @@ impl fmt::Display for Line<'_> {
     }
 }
 
-/// The line and the column where an error came, both from 1.
+/// Prints the line and the column where the error occurred, both counted from 1.
 #[derive(Drop)]
 struct Heading {
     number: u128,
@@ -75,7 +75,7 @@ impl fmt::Display for Heading {
     }
 }
 
-/// A line with its number.
+/// Prints a line with its number.
 #[derive(Drop)]
 struct Numbered<'a> {
     number: u128,
@@ -93,7 +93,7 @@ impl fmt::Display for Numbered<'_> {
     }
 }
 
-/// A caret below a column of a line.
+/// Prints a caret below a column of a line.
 #[derive(Drop)]
 struct Caret {
     number: u128,
@@ -110,7 +110,8 @@ impl fmt::Display for Caret {
     }
 }
 
-/// Bytes of several lines: the line and the column of the offset, and that line with a caret.
+/// Prints bytes of several lines: the line and the column of the offset, then that line with a
+/// caret.
 #[derive(Drop)]
 struct Place<'a> {
     bytes: &'a [u8],
@@ -137,7 +138,7 @@ impl fmt::Display for Place<'_> {
     }
 }
 
-/// Where in the bytes an offset stands.
+/// Prints where an offset stands in the bytes.
 #[derive(Drop)]
 struct Pointer<'a> {
     bytes: &'a [u8],
@@ -160,8 +161,9 @@ impl fmt::Display for Pointer<'_> {
     }
 }
 
-/// Bytes without a newline are printed with a caret below the offset, and others with the line and the column, and that line
-/// alone; then comes the error. What is damaged prints as U+FFFD, as a [`BStr`] prints it. No option changes the text.
+/// Prints bytes without a newline with a caret below the offset, and other bytes as the line and
+/// the column, then that line alone; then prints the error. Damaged bytes print as U+FFFD, as a
+/// [`BStr`] prints them. Options of the formatter do not change the text.
 impl<I: AsBStr, E: fmt::Display> fmt::Display for ParseError<I, E> {
     ghost output = { λ e.
         Some (pointer_text (I.text_bytes e.input) e.offset) ++? E.output e.inner };

@@ -1,5 +1,5 @@
-//! The examples of winnow's documentation: what each parser answers of a whole text, and that it
-//! answers the same of each front of the text to which more may come, unless it wants more.
+//! The examples of winnow's documentation. Each parser is asked on a whole text, and on each front
+//! of the text to which more may come, where it must give the same answer or need more.
 
 use std::alloc::{AllocError, Global};
 use std::ops::RangeInclusive;
@@ -25,10 +25,11 @@ fn letters() -> Letters {
     ('a'..='z', 'A'..='Z')
 }
 
-// A text, and what a parser gives and leaves of it.
+// A text, the value of a parser on it, and the rest that the parser leaves.
 type Row<O> = (&'static str, Option<(O, &'static str)>);
 
-// Whether the parser gives and leaves that of the whole text, and of each front on which it wants no more.
+// Returns whether the parser gives and leaves this on the whole text, and on each front where it
+// does not need more.
 fn answers<O: PartialEq + Drop, P: Parser<Text, EmptyError, Output = O>>(
     alloc: Global,
     parser: &P,
@@ -61,7 +62,7 @@ fn answers<O: PartialEq + Drop, P: Parser<Text, EmptyError, Output = O>>(
     Ok(true)
 }
 
-// The first row that the parser does not answer so.
+// Returns the first row to which the parser gives another answer.
 fn first_other<O: PartialEq + Drop, P: Parser<Text, EmptyError, Output = O>>(
     alloc: Global,
     parser: &P,
@@ -288,7 +289,8 @@ const DELIMITED: &[Row<&'static str>] = &[("(abc)def", Some(("abc", "def"))), ("
 
 const RECOGNIZED: &[Row<&'static str>] = &[("abcd,efgh", Some(("abcd,efgh", ""))), ("abcd;", None)];
 
-// Two parsers, of which one gives the value.
+// Returns the first row with another answer for two parsers in a row: by `preceded`, and by
+// `terminated`.
 fn in_a_row<P: Parser<Text, EmptyError, Output = &'static str> + Copy + Drop>(
     alloc: Global,
     first: P,

@@ -4,7 +4,7 @@ use winnow_context::ContextError;
 use winnow_parser::{Failure, ModalResult, Parser};
 use winnow_token::{one_of, take_while};
 
-// What was being read where the choice failed, the innermost first.
+// Returns what was being read where the choice failed, the innermost first.
 fn read_where_it_failed(alloc: Global, text: &str) -> [Option<char>; 3] {
     let mut input = text;
     let word = take_while(2.., 'a'..='z').context('w').void();

@@ -8,7 +8,7 @@ use winnow_token::{AnyToken, count_law, determined_token_law, hits_stay_law, pro
 
 type Input = &'static [u8];
 
-// They do nothing: that each is called shows that it can be.
+// Laws do nothing. The calls show that each can be called.
 #[test]
 fn laws_of_tokens(_rt: HostRuntime) {
     taken_width_law::<u8>();

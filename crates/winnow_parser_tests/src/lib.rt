@@ -1,5 +1,5 @@
-//! Parsers as their users write them, at types of their own: over bytes and text, whole and in pieces. Nothing here is part of the
-//! library.
+//! Parsers as their users write them, at concrete types: over bytes and text, whole and in pieces.
+//! Nothing here is part of the library.
 #![tactic(auto)]
 
 #[cfg(test)]

@@ -4,7 +4,7 @@ use winnow_error::EmptyError;
 use winnow_parser::{ModalResult, Parser};
 use winnow_token::{one_of, take_until, take_while};
 
-// The value of a parser that has one, and what remains of the text.
+// Returns the value of a parser, if it gives one, and what remains of the text.
 fn read<O, P: Parser<&'static str, EmptyError, Output = O> + Drop>(
     alloc: Global,
     parser: P,

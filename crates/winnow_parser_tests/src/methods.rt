@@ -6,7 +6,7 @@ use winnow_stream::{Stream, StreamIsPartial};
 use winnow_token::{any, literal, one_of, take};
 use winnow_wrap::{LocatingSlice, Partial};
 
-// The value of a parser that has one.
+// Returns the value of a parser, if it gives one.
 fn value<O, E: Drop>(answer: ModalResult<O, E>) -> Option<O> {
     match answer {
         Ok(value) => Some(value),
@@ -14,7 +14,8 @@ fn value<O, E: Drop>(answer: ModalResult<O, E>) -> Option<O> {
     }
 }
 
-// Where in the text the second and the third token stand, and the first with its place.
+// Returns where in the text the second and the third token stand, and the first token with its
+// place.
 fn places(alloc: Global, text: &str) -> Option<((char, Range<usize>), Range<usize>)> {
     let mut input = LocatingSlice::new(text);
     let parser = (any().with_span(), (any(), any()).span());
@@ -28,7 +29,7 @@ fn places_are_those_of_the_whole_input(rt: HostRuntime) {
     assert_eq!(rt; places(rt.alloc(), "aß"), None);
 }
 
-// What is read of a whole text: what was taken, or where the parser stopped.
+// Returns what is taken of a whole text, or where the parser stopped.
 fn whole(alloc: Global, text: &'static str) -> Option<Result<&'static str, usize>> {
     let input = Partial::new(text);
     match Parser::<_, EmptyError>::parse(&literal("ab"), alloc, input) {
@@ -46,7 +47,7 @@ fn a_whole_text_is_read_to_its_end(rt: HostRuntime) {
     assert_eq!(rt; whole(rt.alloc(), "xb"), Some(Err(0)));
 }
 
-// The first token and what remains, and the same by a reference to the parser.
+// Returns the first token and what remains, and the same by a reference to the parser.
 fn peeked(alloc: Global, text: &'static str) -> Option<(&'static str, char)> {
     let parser = any();
     let reference = Parser::<&str, EmptyError>::by_ref(&parser);
@@ -60,7 +61,7 @@ fn what_remains_comes_with_the_value(rt: HostRuntime) {
     assert_eq!(rt; peeked(rt.alloc(), ""), None);
 }
 
-// As many characters as the digit before them says.
+// Returns as many characters as the digit before them says.
 fn counted(alloc: Global, text: &'static str) -> Option<&'static str> {
     let mut input = text;
     let count = one_of('0'..='9').map(|digit: char| (digit as usize).saturating_sub(48));

@@ -6,7 +6,7 @@ use winnow_stream::{Stream, StreamIsPartial};
 use winnow_token::{one_of, take_till, take_while};
 use winnow_wrap::{LocatingSlice, Partial};
 
-/// Reads a line `key=value`: letters, the sign, and what stands up to the end of the line.
+/// Reads a line `key=value`: letters, the sign, and the text up to the end of the line.
 pub fn setting<I: StreamIsPartial + Stream<Token = u8>>(
     alloc: Global,
     input: &mut I,
@@ -20,7 +20,7 @@ where
     (key, value).parse_next(alloc, input)
 }
 
-// What was told of a line.
+// The answer for a line.
 #[derive(Clone, Copy, Debug, PartialEq, Eq)]
 enum Reading {
     Setting(&'static [u8], &'static [u8]),
@@ -47,7 +47,7 @@ where
     }
 }
 
-// Whether every piece up to a cut, after which more may follow, needs more or tells what the whole tells.
+// Returns whether each front to which more may come needs more or gives the answer of the whole.
 fn pieces_agree(alloc: Global, text: &'static [u8], whole: &Reading) -> bool {
     for cut in 0..text.len() {
         let mut piece = Partial::new(&text[..cut]);

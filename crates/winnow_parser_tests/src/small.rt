@@ -9,10 +9,10 @@ use winnow_stream::{Stream, StreamIsPartial};
 use winnow_token::{any, literal, none_of, one_of, rest, rest_len, take};
 use winnow_wrap::Partial;
 
-// How an answer ended, and how much of the text it left.
+// The kind of an answer, and the width of the rest.
 type Ending = (char, usize);
 
-// What a parser tells of an input.
+// Returns the answer of a parser on an input.
 fn told<I: StreamIsPartial + Copy + Drop, P: Parser<I, EmptyError>>(
     alloc: Global,
     parser: P,
@@ -35,7 +35,7 @@ where
     (letter, input.eof_offset())
 }
 
-// What parsers of tokens tell.
+// Returns the answers of parsers of tokens.
 fn tokens<I: StreamIsPartial + Stream<Token = char> + Compare<&'static str> + Copy + Drop>(
     alloc: Global,
     input: I,
@@ -87,7 +87,7 @@ fn tokens_wait_where_more_may_follow(rt: HostRuntime) {
     );
 }
 
-// What combinators tell of a text that begins with `abc`.
+// Returns the answers of combinators on a text that begins with `abc`.
 fn combined<I: StreamIsPartial + Stream<Token = char> + Compare<&'static str> + Copy + Drop>(
     alloc: Global,
     input: I,
@@ -111,7 +111,7 @@ where
     ]
 }
 
-// What rows of parsers and repetitions tell of it.
+// Returns the answers of rows of parsers and of repetitions on it.
 fn in_rows<I: StreamIsPartial + Stream<Token = char> + Compare<&'static str> + Copy + Drop>(
     alloc: Global,
     input: I,

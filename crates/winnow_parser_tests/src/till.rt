@@ -1,5 +1,5 @@
-//! `repeat_till`: what it answers of a whole text, and that it answers the same of each front of the
-//! text to which more may come, unless it wants more.
+//! `repeat_till` on a whole text, and on each front of the text to which more may come, where it
+//! must give the same answer or need more.
 
 use std::alloc::Global;
 use winnow_combinator::{cut_err, repeat_till};
@@ -20,7 +20,7 @@ enum Example {
     Nothing,
 }
 
-// How an answer ended: with how many values, and how many bytes of the text behind them.
+// The kind of an answer. A value has the number of values and the number of bytes after the end.
 #[derive(Clone, Copy, Debug, PartialEq, Eq)]
 enum Told {
     Read(usize, usize),
@@ -52,8 +52,8 @@ fn tell(example: Example, alloc: Global, input: &mut Partial<&'static str>) -> T
     }
 }
 
-// The first end of a front of the text, to which more may come, that is answered otherwise, unless it wants more; or the text's end, where the
-// text as a whole is.
+// The end of the first front of the text that is not answered as wanted: one to which more may come
+// may also need more; the last turn asks of the whole.
 fn first_other(
     alloc: Global,
     example: Example,
@@ -123,7 +123,7 @@ fn an_end_is_asked_for_once_the_values_are_enough(rt: HostRuntime) {
     }
 }
 
-// The values, the end and what remains.
+// Returns the values, the end and what remains.
 fn gather(
     alloc: Global,
     text: &'static str,

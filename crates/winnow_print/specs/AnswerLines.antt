@@ -1,4 +1,4 @@
--- The line that tells an answer.
+-- The line that is printed for an answer.
 use Rattle.std.specs.Prelude.{ℕ, Bool, true, false, List, [], ◌∷◌, ◌++◌, flat_map, Option, Some, None, Result, Ok, Err, codes, decimal}
 use Rattle.std.specs.declared.ops.Range.{Range}
 use Rattle.hex.specs.Hex.{encode_lower}
@@ -11,20 +11,20 @@ use Rattle.winnow_run.specs.declared.search_script.SearchAnswer.TheVariants as s
 use Rattle.winnow_stream.specs.declared.needed.Needed.{Needed}
 use Rattle.winnow_stream.specs.declared.needed.Needed.TheVariants.{Unknown, Size}
 
--- bytes: `-` for none, else two digits each
+-- the word for bytes: `-` for none, else two digits for each byte
 abbrev pub bytes_word : List ℕ → List ℕ
 bytes_word [] = codes " -"
 bytes_word (byte ∷ bytes) = codes " " ++ encode_lower (byte ∷ bytes)
 
--- a place: where it starts and ends
+-- the word for a place: its start and its end
 abbrev pub place_word : Range ℕ → List ℕ
 place_word place = codes " " ++ decimal place.start ++ codes ".." ++ decimal place.end
 
--- an item: its offset, and the number of its token
+-- the word for an item: its offset, and the number of its token
 abbrev pub item_word : {T : Type 0} → (T → ℕ) → ℕ × T → List ℕ
 item_word code item = codes " " ++ decimal item.0 ++ codes ":" ++ decimal (code item.1)
 
--- each of some items
+-- the words for a list of items
 abbrev pub item_words : {T : Type 0} → (T → ℕ) → List (ℕ × T) → List ℕ
 item_words code items = flat_map (item_word code) items
 
@@ -54,16 +54,17 @@ abbrev pub hit_words : Option (Range ℕ) → List ℕ
 hit_words None = codes "find none"
 hit_words (Some place) = codes "find" ++ place_word place
 
--- words, and the end of their line
+-- a line of words, with its newline
 abbrev pub line : List ℕ → List ℕ
 line words = words ++ codes "\n"
 
--- which piece let an answer out, by its number, or the end
+-- the word for the piece that made an answer definite: its number, or `end`
 abbrev pub piece_word : Option ℕ → List ℕ
 piece_word None = codes "end "
 piece_word (Some number) = decimal number ++ codes " "
 
--- an answer, by the number of a token, and by the words of a slice and of items
+-- the words for an answer, where `code` gives the number of a token, and the others the words of a
+-- slice and of items
 module _ {T S L : Type 0} (code : T → ℕ) (slice_words : S → List ℕ) (list_words : L → List ℕ) where
   abbrev pub call_words : Answer T S L Needed → List ℕ
   call_words (answer.Token token) = token_words code token
@@ -88,7 +89,7 @@ module _ {T S L : Type 0} (code : T → ℕ) (slice_words : S → List ℕ) (lis
   abbrev pub answer_line : SearchAnswer T S L → List ℕ
   answer_line given = line (answer_words given)
 
-  -- the lines of all, in order
+  -- the lines of all answers, in order
   abbrev pub answer_lines : List (SearchAnswer T S L) → List ℕ
   answer_lines given = flat_map answer_line given
 

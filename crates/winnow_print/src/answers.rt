@@ -11,7 +11,7 @@ use winnow_run::{Answer, SearchAnswer};
 use winnow_sets::AsChar;
 use winnow_stream::Needed;
 
-/// Adds the line of each answer, in order.
+/// Appends the line of each answer, in order.
 pub fn push_answers<T: AsChar + Copy, S: PushWords, L: PushWords>(
     text: &mut String,
     answers: &[SearchAnswer<T, S, L>],
@@ -25,8 +25,8 @@ pub fn push_answers<T: AsChar + Copy, S: PushWords, L: PushWords>(
     Ok(())
 }
 
-/// Adds the line of an answer over pieces: the number of the piece that let it out, or `end`, and
-/// the answer.
+/// Appends the line of an answer over pieces: the number of the piece that made it definite, or
+/// `end`, then the answer.
 pub fn push_numbered<T: AsChar + Copy, S: PushWords, L: PushWords>(
     text: &mut String,
     piece: Option<u64>,
@@ -42,7 +42,7 @@ pub fn push_numbered<T: AsChar + Copy, S: PushWords, L: PushWords>(
     push_answer(text, answer)
 }
 
-/// Adds the line of an answer.
+/// Appends the line of an answer.
 pub fn push_answer<T: AsChar + Copy, S: PushWords, L: PushWords>(
     text: &mut String,
     answer: &SearchAnswer<T, S, L>,

@@ -1,8 +1,8 @@
-//! The lines that tell the answers of a script, by the words of slices and items that
-//! [`PushWords`] adds.
+//! Prints the answers of a script as lines, with the words of slices and items that [`PushWords`]
+//! appends.
 //!
-//! [`push_answer`] adds the line of an answer, and [`push_numbered`] that of an answer over pieces;
-//! [`print_answers`] runs a script on a stream, and returns the lines of all its answers.
+//! [`push_answer`] appends the line of an answer, and [`push_numbered`] that of an answer over
+//! pieces. [`print_answers`] runs a script on a stream and returns the lines of all its answers.
 #![tactic(auto)]
 
 mod answers;

@@ -7,9 +7,10 @@ use std::alloc::AllocError;
 use std::ops::Range;
 use winnow_sets::AsChar;
 
-/// What follows the word `slice` or `items` on a line: words, each after a space.
+/// A value that is printed after the word `slice`, `items` or `waits`, as words with a space before
+/// each.
 pub trait PushWords {
-    // The words, each after a space.
+    // The words, with a space before each.
     ghost words: { Self → List ℕ };
 
     fn push_words(&self, text: &mut String) -> Result<(), AllocError>
@@ -29,7 +30,7 @@ impl PushWords for &[u8] {
     }
 }
 
-// The bytes of a text are those of its characters, which is all that is known of a slice.
+// The words are stated in terms of the text's characters, since only these are known of a slice.
 impl PushWords for &str {
     ghost words = { λ text. bytes_word (utf8_of (text_source text.now)) };
 

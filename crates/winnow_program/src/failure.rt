@@ -7,7 +7,7 @@ use std::fmt;
 use std::io::{self, ErrorKind};
 use winnow_read::ScriptFault;
 
-/// Why the program ends with another status than 0.
+/// The reason why the program ends with a status other than 0.
 #[derive(Debug, Drop, PartialEq, Eq)]
 pub enum Failure {
     Script(ScriptFault),
@@ -15,7 +15,7 @@ pub enum Failure {
 }
 
 impl Failure {
-    /// The status that tells of this failure.
+    /// Returns the exit status for this failure.
     pub fn status(&self) -> u8
         ensures { result ≡ status_of self.now }
     {

@@ -1,5 +1,5 @@
-//! How the program takes its input, and how it ends: [`read_input`] reads a reader to its end, and
-//! a [`Failure`] has a text and a status.
+//! The input of the program, and its end: [`read_input`] reads a reader to its end, and a
+//! [`Failure`] has a text and an exit status.
 #![tactic(auto)]
 
 mod failure;

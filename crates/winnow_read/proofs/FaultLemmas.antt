@@ -7,13 +7,16 @@ use Rattle.winnow_read.specs.Fault.{IsLineWhere}
 use Rattle.winnow_read.specs.declared.fault.ScriptFault.{ScriptFault}
 use Rattle.winnow_read.specs.declared.fault.ScriptFault.TheVariants.{Line, OutOfMemory}
 
--- what follows of the line's number
-pub IsLineWhere-more : (P Q : ℕ → Type 0) (fault : ScriptFault) → ((k : ℕ) → P k → Q k) → IsLineWhere P fault → IsLineWhere Q fault
+-- a fault keeps what follows from the line's number
+pub IsLineWhere-more : (P Q : ℕ → Type 0) (fault : ScriptFault) → ((k : ℕ) → P k → Q k)
+    → IsLineWhere P fault → IsLineWhere Q fault
 IsLineWhere-more P Q (Line k) more is = more k is
 IsLineWhere-more P Q OutOfMemory more is = tt
 
--- a fault that `?` hands on
-pub IfErr-handed : {T : Type 0} (P : ScriptFault → Type 0) (result : Result T ScriptFault) (fault : ScriptFault) → IsErrAnd result (λ e. e ≡ fault) → P fault → IfErr result P
+-- a fault that `?` passes on keeps what holds of it
+pub IfErr-handed : {T : Type 0} (P : ScriptFault
+    → Type 0) (result : Result T ScriptFault) (fault : ScriptFault)
+    → IsErrAnd result (λ e. e ≡ fault) → P fault → IfErr result P
 IfErr-handed P result fault handed holds =
     let out = err_from_is_err_and result handed in
     rw (out.1, out.2) holds

@@ -1,4 +1,4 @@
--- What lines tell of pieces and of questions what is waited for.
+-- Lines that mean pieces, or questions what is waited for.
 use Rattle.std.proofs.Common.{◌≡◌, ◌≢◌, ◌+◌, ℕ, Bool, true, List, [], ◌∷◌, ◌++◌, length, refl}
 use Rattle.winnow_read.specs.FaultyLines.{FaultsFed}
 use Rattle.winnow_read.specs.Inputs.{TellsFed, BeginsWithPiece}
@@ -8,7 +8,7 @@ use Rattle.winnow_read.specs.Reading.{TellsNothing}
 use Rattle.winnow_read.specs.declared.fed_lines.FedLine.{FedLine}
 use Rattle.winnow_read.specs.declared.fed_lines.FedLine.TheVariants.{Piece, Waits}
 
--- one more line, which asks nothing where it is the first
+-- lines still begin with a piece after one more line, which is no question if it is the first
 pub BeginsWithPiece-push : {L : Type 0} (lines : List (FedLine L)) (line : FedLine L)
     → BeginsWithPiece lines → (lines ≡ [] → line ≢ Waits) → BeginsWithPiece (lines ++ line ∷ [])
 BeginsWithPiece-push [] Waits begins first = first refl refl
@@ -16,7 +16,7 @@ BeginsWithPiece-push [] (Piece p) begins first = tt
 BeginsWithPiece-push (Waits ∷ lines) line begins first = absurd begins
 BeginsWithPiece-push (Piece p ∷ lines) line begins first = tt
 
--- what may follow nothing is a piece
+-- the first line is no question
 pub BeginsWithPiece-first : {L : Type 0} (lines : List (FedLine L)) (line : FedLine L)
     → BeginsWithPiece (lines ++ line ∷ []) → lines ≡ [] → line ≢ Waits
 BeginsWithPiece-first [] Waits begins none is = begins
@@ -24,8 +24,10 @@ BeginsWithPiece-first [] (Piece p) begins none is = cc is
 BeginsWithPiece-first (x ∷ lines) line begins none is = cc none
 
 module _ {L : Type 0} (bytes : L → List ℕ) where
-  -- a line is left behind some that tell pieces and questions, and tells nothing that may follow
-  pub FaultsFed-line : (first : ℕ) (text : List ℕ) (told : List (FedLine L)) (rest : List ℕ) (is_first : Bool) (k : ℕ) → AreLines (TellsFed bytes) text told rest → BeginsWithPiece told → rest ≢ []
+  -- a line that means nothing that may follow the lines before it is the fault of the text
+  pub FaultsFed-line : (first : ℕ) (text : List ℕ) (told : List (FedLine L)) (rest : List ℕ)
+      (is_first : Bool) (k : ℕ) → AreLines (TellsFed bytes) text told rest → BeginsWithPiece told
+      → rest ≢ []
       → (is_first ≡ true → told ≡ [])
       → TellsNothing (λ line item. TellsFed bytes line item × (is_first ≡ true → item ≢ Waits)) (first_line rest) → k ≡ first + length told
       → FaultsFed bytes first text k

@@ -1,4 +1,4 @@
--- How long what lines tell can be.
+-- How long the pieces that lines mean can be.
 use Rattle.std.proofs.Common.{ℕ, ◌+◌, ◌≤◌, List, [], ◌∷◌, length, sum_by, ap, inl, inr, arith, length-take, length-drop}
 use Rattle.std.specs.List.{position_or_len}
 use Rattle.std.proofs.lemmas.List.Sums.{sum_by-cons}
@@ -11,15 +11,17 @@ use Rattle.winnow_read.specs.Words.{is_space, later_words}
 use Rattle.winnow_read.specs.declared.fed_lines.FedLine.{FedLine}
 use Rattle.winnow_read.specs.declared.fed_lines.FedLine.TheVariants.{Piece, Waits}
 
+-- the first line and the rest are together no longer than the text
 length-lines : (text : List ℕ) → length (first_line text) + length (rest_lines text) ≤ length text
 length-lines text =
     let at = position_or_len is_newline text in
     omega (arith, length-take at text, length-drop (at + 1) text)
 
+-- the later words are no longer than the line
 length-later_words : (line : List ℕ) → length (later_words line) ≤ length line
 length-later_words line = omega (arith, length-drop (position_or_len is_space line + 1) line)
 
--- a word is no shorter than its bytes
+-- a word is no shorter than the bytes that it means
 length-TellsBytes : (word bytes : List ℕ) → TellsBytes word bytes → length bytes ≤ length word
 length-TellsBytes word bytes told =
     elim told [
@@ -27,14 +29,16 @@ length-TellsBytes word bytes told =
       | inr digits ↦ omega (arith, (decode_of-ok word bytes digits.1).2)
     ]
 
--- a line is no shorter than its piece
-length-TellsFed : {L : Type 0} (bytes : L → List ℕ) (line : List ℕ) (told : FedLine L) → TellsFed bytes line told → piece_length bytes told ≤ length line
+-- a line is no shorter than the piece that it means
+length-TellsFed : {L : Type 0} (bytes : L → List ℕ) (line : List ℕ) (told : FedLine L)
+    → TellsFed bytes line told → piece_length bytes told ≤ length line
 length-TellsFed bytes line (Piece piece) told =
     omega (arith, length-TellsBytes (later_words line) (bytes piece) told.1, length-later_words line)
 length-TellsFed bytes line Waits told = omega arith
 
--- the pieces that lines tell are no longer than the lines
-pub length-AreLines : {L : Type 0} (bytes : L → List ℕ) (text : List ℕ) (items : List (FedLine L)) (rest : List ℕ)
+-- the pieces that lines mean are together no longer than the lines
+pub length-AreLines : {L : Type 0} (bytes : L
+    → List ℕ) (text : List ℕ) (items : List (FedLine L)) (rest : List ℕ)
     → AreLines (TellsFed bytes) text items rest → sum_by (piece_length bytes) items ≤ length text
 length-AreLines bytes text [] rest lines = omega arith
 length-AreLines bytes text (x ∷ items) rest lines =

@@ -1,4 +1,4 @@
--- The first newline of a text, as a search for the byte gives it.
+-- The first newline of a text, as a search for the byte finds it.
 use Rattle.std.proofs.Common.{◌≡◌, ℕ, List, Option, None, Some, length, refl, arith}
 use Rattle.std.specs.Prelude.{position}
 use Rattle.std.specs.List.{position_or_len}
@@ -7,7 +7,9 @@ use Rattle.std.proofs.lemmas.List.Sums.{position_or_len_is}
 use Rattle.memchr.specs.Find.{IsFirstByte, is_byte}
 use Rattle.winnow_read.specs.Newline.{is_newline}
 
-pub newline-first : (text : List ℕ) (r : Option ℕ) → IsFirstByte (is_byte 10) text r → r ≡ position is_newline text
+-- the place that the search finds is the position of the first newline
+pub newline-first : (text : List ℕ) (r : Option ℕ) → IsFirstByte (is_byte 10) text r
+    → r ≡ position is_newline text
 newline-first text None none =
     let at : position_or_len is_newline text ≡ length text =
     position_or_len_is is_newline text (length text) 0 (omega arith) (λ k lt. false_from_ne_true _ (none k (omega arith) lt)) (λ lt. absurd (omega (arith, lt)))

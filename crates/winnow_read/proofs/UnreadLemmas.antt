@@ -1,4 +1,4 @@
--- A line that tells something is text, so a line that is none tells nothing.
+-- Only UTF-8 lines mean anything.
 use Rattle.std.proofs.Common.{◌≡◌, ◌<◌, ◌&&◌, ℕ, Bool, true, List, [], ◌∷◌, ◌++◌, codes, length, get_or, Some, inl, inr, refl, sym, ◌∙◌, subst, lit<, arith, IsAscii, IsUtf8, nat_lt}
 use Rattle.std.specs.List.{list_all, position_or_len, join_with_byte, slice_split, AllZip}
 use Rattle.std.specs.Str.{bytes_eq}
@@ -29,19 +29,20 @@ use Rattle.winnow_read.specs.declared.steps.ScriptStep.{ScriptStep}
 use Rattle.winnow_read.specs.declared.steps.ScriptStep.TheVariants.{Call, First, Compare, Find}
 use Rattle.winnow_read.proofs.WordLemmas.{first_word-alone}
 
--- one byte
+-- a byte below 128 is text
 IsUtf8-byte : (byte : ℕ) → byte < 128 → IsUtf8 (byte ∷ [])
 IsUtf8-byte byte small = IsUtf8-from_ascii (byte ∷ []) (IsAscii-cons byte [] small IsAscii-nil)
 
--- words of ASCII, as those of the lines are
+-- whether all bytes of a word are ASCII, as those of the lines' own words are
 abbrev is_ascii : List ℕ → Bool
 is_ascii word = list_all (λ byte. nat_lt byte 128) word
 
+-- a word of ASCII is text
 IsUtf8-from_is_ascii : (word : List ℕ) → is_ascii word ≡ true → IsUtf8 word
 IsUtf8-from_is_ascii word ascii =
     IsUtf8-from_ascii word (IsAscii-from_all word (λ k d lt. ltb-true (get_or word k d) 128 (AllPass-from_list_all (λ byte. nat_lt byte 128) word ascii k d lt)))
 
--- words with a space between them
+-- a line is text if its first word and its later words are
 IsUtf8-words : (line : List ℕ) → IsUtf8 (first_word line) → IsUtf8 (later_words line) → IsUtf8 line
 IsUtf8-words line first later =
     elim (cases_Bool (nat_lt (position_or_len is_space line) (length line))) [
@@ -55,18 +56,21 @@ IsUtf8-words line first later =
           subst IsUtf8 (first_word-alone line (λ spaced. true≢false (sym (lt-ltb (position_or_len is_space line) (length line) spaced) ∙ e))) first
     ]
 
--- digits
+-- digits are ASCII
 IsAscii-digits : (word : List ℕ) → AllDigits 10 word → IsAscii word
 IsAscii-digits [] digits = IsAscii-nil
 IsAscii-digits (digit ∷ word) digits =
     IsAscii-cons digit word (grind (arith, nat_tests, digits.0)) (IsAscii-digits word digits.1)
 
+-- digits are text
 IsUtf8-digits : (word : List ℕ) → AllDigits 10 word → IsUtf8 word
 IsUtf8-digits word digits = IsUtf8-from_ascii word (IsAscii-digits word digits)
 
+-- a hexadecimal digit is ASCII
 hex_digit-small : (byte : ℕ) → is_hex_digit byte ≡ true → byte < 128
 hex_digit-small byte digit = grind (arith, nat_tests)
 
+-- a word that means bytes is text
 TellsBytes-text : (word bytes : List ℕ) → TellsBytes word bytes → IsUtf8 word
 TellsBytes-text word bytes told =
     elim told [
@@ -75,13 +79,15 @@ TellsBytes-text word bytes told =
           IsUtf8-from_ascii word (IsAscii-from_all word (λ k d lt. hex_digit-small (get_or word k d) (digits.0.2 k d lt)))
     ]
 
+-- a word that means a range is text
 TellsRange-text : (word : List ℕ) (range : ℕ × ℕ) → TellsRange word range → IsUtf8 word
 TellsRange-text word range told =
     subst IsUtf8 (sym told.2)
     (IsUtf8-append (told.0 ++ codes "..") told.1 (IsUtf8-append told.0 (codes "..") (IsUtf8-digits told.0 told.3.0.0.1) (IsUtf8-from_is_ascii (codes "..") refl)) (IsUtf8-digits told.1 told.4.0.0.1))
 
--- ranges with commas between them
-ranges-text : (parts : List (List ℕ)) (ranges : List (ℕ × ℕ)) → AllZip TellsRange parts ranges → IsUtf8 (join_with_byte 44 parts)
+-- ranges with commas between them are text
+ranges-text : (parts : List (List ℕ)) (ranges : List (ℕ × ℕ)) → AllZip TellsRange parts ranges
+    → IsUtf8 (join_with_byte 44 parts)
 ranges-text [] ranges told = IsUtf8-from_is_ascii [] refl
 ranges-text (part ∷ parts) [] told = absurd told
 ranges-text (part ∷ []) (range ∷ ranges) told = TellsRange-text part range told.0
@@ -90,6 +96,7 @@ ranges-text (part ∷ next ∷ parts) (range ∷ ranges) told =
     IsUtf8-append part (44 ∷ later) (TellsRange-text part range told.0)
     (IsUtf8-append (44 ∷ []) later (IsUtf8-byte 44 (lit< tt)) (ranges-text (next ∷ parts) ranges told.1))
 
+-- a word that means ranges is text
 TellsRanges-text : (word : List ℕ) (ranges : List (ℕ × ℕ)) → TellsRanges word ranges → IsUtf8 word
 TellsRanges-text word ranges told =
     elim told [
@@ -98,12 +105,14 @@ TellsRanges-text word ranges told =
           subst IsUtf8 (join_with_byte-slice_split 44 word) (ranges-text (slice_split is_comma word) ranges parts)
     ]
 
--- the words of a table
+-- whether all words of a table are ASCII
 abbrev are_ascii : {T : Type 0} → List (List ℕ × T) → Bool
 are_ascii [] = true
 are_ascii (row ∷ rows) = is_ascii row.0 && are_ascii rows
 
-entry-text : {T : Type 0} (rows : List (List ℕ × T)) (word : List ℕ) (found : T) → are_ascii rows ≡ true → entry rows word ≡ Some found → IsUtf8 word
+-- a word of a table of ASCII words is text
+entry-text : {T : Type 0} (rows : List (List ℕ × T)) (word : List ℕ) (found : T)
+    → are_ascii rows ≡ true → entry rows word ≡ Some found → IsUtf8 word
 entry-text [] word found ascii is = cc is
 entry-text (row ∷ rows) word found ascii is =
     let both = and_parts (is_ascii row.0) (are_ascii rows) ascii in
@@ -112,6 +121,7 @@ entry-text (row ∷ rows) word found ascii is =
       | inr other ↦ entry-text rows word found both.1 (rw other at is)
     ]
 
+-- a line that means a call is text
 TellsCall-text : (line : List ℕ) (call : Step CharSet) → TellsCall line call → IsUtf8 line
 TellsCall-text line call told =
     elim told [
@@ -120,11 +130,13 @@ TellsCall-text line call told =
           IsUtf8-words line (entry-text (numbered_calls words.0) (first_word line) call refl words.2) (IsUtf8-digits (later_words line) words.1.0.1)
     ]
 
--- a line whose first word is this
-IsUtf8-named : (name line : List ℕ) → is_ascii name ≡ true → first_word line ≡ name → IsUtf8 (later_words line) → IsUtf8 line
+-- a line is text if its first word is an ASCII name and its later words are text
+IsUtf8-named : (name line : List ℕ) → is_ascii name ≡ true → first_word line ≡ name
+    → IsUtf8 (later_words line) → IsUtf8 line
 IsUtf8-named name line text is later =
     IsUtf8-words line (subst IsUtf8 (sym is) (IsUtf8-from_is_ascii name text)) later
 
+-- a line that means a kind is text
 pub TellsKind-text : (line : List ℕ) (kind : Kind) → TellsKind line kind → IsUtf8 line
 TellsKind-text line Bytes told = subst IsUtf8 (sym told) (IsUtf8-from_is_ascii (kind_word Bytes) refl)
 TellsKind-text line Text told = subst IsUtf8 (sym told) (IsUtf8-from_is_ascii (kind_word Text) refl)
@@ -132,7 +144,9 @@ TellsKind-text line BytePieces told = subst IsUtf8 (sym told) (IsUtf8-from_is_as
 TellsKind-text line TextPieces told = subst IsUtf8 (sym told) (IsUtf8-from_is_ascii (kind_word TextPieces) refl)
 
 module _ {L : Type 0} (bytes : L → List ℕ) where
-  TellsNeedles-text : (words : List ℕ) (needles : Needles L) → TellsNeedles bytes words needles → IsUtf8 words
+  -- words that mean needles are text
+  TellsNeedles-text : (words : List ℕ) (needles : Needles L) → TellsNeedles bytes words needles
+      → IsUtf8 words
   TellsNeedles-text words (One a) told = TellsBytes-text words (bytes a) told
   TellsNeedles-text words (Two a b) told =
       IsUtf8-words words (TellsBytes-text (first_word words) (bytes a) told.0) (TellsBytes-text (later_words words) (bytes b) told.1)
@@ -141,7 +155,9 @@ module _ {L : Type 0} (bytes : L → List ℕ) where
       IsUtf8-words words (TellsBytes-text (first_word words) (bytes a) told.0)
       (IsUtf8-words later (TellsBytes-text (first_word later) (bytes b) told.1) (TellsBytes-text (later_words later) (bytes c) told.2))
 
-  pub TellsStep-text : (line : List ℕ) (step : ScriptStep L) → TellsStep bytes line step → IsUtf8 line
+  -- a line that means a step is text
+  pub TellsStep-text : (line : List ℕ) (step : ScriptStep L) → TellsStep bytes line step
+      → IsUtf8 line
   TellsStep-text line (Call call) told = TellsCall-text line call told
   TellsStep-text line (First ranges) told =
       IsUtf8-named (codes "first") line refl told.0 (TellsRanges-text (later_words line) ranges.items told.1)
@@ -150,17 +166,22 @@ module _ {L : Type 0} (bytes : L → List ℕ) where
   TellsStep-text line (Find needles) told =
       IsUtf8-named (codes "find") line refl told.0 (TellsNeedles-text (later_words line) needles told.1)
 
-  pub TellsNamed-text : (name line : List ℕ) (literal : L) → IsUtf8 name → TellsNamed bytes name line literal → IsUtf8 line
+  -- a line that means a named literal is text
+  pub TellsNamed-text : (name line : List ℕ) (literal : L) → IsUtf8 name
+      → TellsNamed bytes name line literal → IsUtf8 line
   TellsNamed-text name line literal text told =
       IsUtf8-words line (subst IsUtf8 (sym told.0) text) (TellsBytes-text (later_words line) (bytes literal) told.1)
 
+  -- a line that means a piece or a question is text
   pub TellsFed-text : (line : List ℕ) (told : FedLine L) → TellsFed bytes line told → IsUtf8 line
   TellsFed-text line (Piece piece) told =
       TellsNamed-text (codes "piece") line piece (IsUtf8-from_is_ascii (codes "piece") refl) told
   TellsFed-text line Waits told = subst IsUtf8 (sym told) (IsUtf8-from_is_ascii (codes "waits") refl)
 
--- a line that is not there, or no text, tells nothing, where what tells something is text and an empty line tells nothing
-pub TellsNothing-unread : {T : Type 0} (Tells : List ℕ → T → Type 0) (text : List ℕ) → ¬ ((0 < length text) × IsUtf8 (first_line text))
+-- a line that is missing or is no text means nothing, if each line with a meaning is text and an
+-- empty line has no meaning
+pub TellsNothing-unread : {T : Type 0} (Tells : List ℕ → T → Type 0) (text : List ℕ)
+    → ¬ ((0 < length text) × IsUtf8 (first_line text))
     → ((item : T) → Tells (first_line text) item → IsUtf8 (first_line text)) → TellsNothing Tells []
     → TellsNothing Tells (first_line text)
 TellsNothing-unread Tells [] unread texts empty = empty

@@ -1,4 +1,4 @@
--- What words tell, and which words tell nothing.
+-- What words mean, and which words mean nothing.
 use Rattle.std.proofs.Common.{◌≡◌, ◌+◌, ℕ, Bool, true, false, List, [], ◌∷◌, length, get_or, Some, inl, inr, refl, ap, arith}
 use Rattle.std.specs.List.{position_or_len}
 use Rattle.std.specs.Str.{bytes_eq}
@@ -12,14 +12,14 @@ use Rattle.winnow_read.specs.Reading.{TellsNothing}
 use Rattle.winnow_read.specs.Steps.{entry}
 use Rattle.winnow_read.specs.Words.{is_space, first_word, later_words, HasSpace, TellsNeedles}
 
--- where no space stands, the line is its first word, and there is no later one
+-- a line without a space is its first word, and has no later one
 pub first_word-alone : (line : List ℕ) → ¬ (HasSpace line) → first_word line ≡ line
 first_word-alone line alone = take_all (position_or_len is_space line) line (omega (arith, alone))
 
 pub later_words-alone : (line : List ℕ) → ¬ (HasSpace line) → later_words line ≡ []
 later_words-alone line alone = drop_all (position_or_len is_space line + 1) line (omega (arith, alone))
 
--- a word for bytes is not empty, and holds no space
+-- a word for bytes is not empty, and has no space
 pub TellsBytes-filled : (bytes : List ℕ) → ¬ (TellsBytes [] bytes)
 TellsBytes-filled bytes told =
     elim told [
@@ -38,21 +38,24 @@ TellsBytes-alone word bytes told spaced =
           cc (rw space at digit)
     ]
 
--- a word of a table holds no space, where none of the table's words does
+-- no word of the table has a space
 abbrev pub AreAlone : {T : Type 0} → List (List ℕ × T) → Type 0
 AreAlone [] = Unit
 AreAlone (row ∷ rows) = ¬ (HasSpace row.0) × AreAlone rows
 
-pub entry-alone : {T : Type 0} (rows : List (List ℕ × T)) (line : List ℕ) (found : T) → AreAlone rows → entry rows line ≡ Some found → ¬ (HasSpace line)
+-- a line that is a word of such a table has no space
+pub entry-alone : {T : Type 0} (rows : List (List ℕ × T)) (line : List ℕ) (found : T)
+    → AreAlone rows → entry rows line ≡ Some found → ¬ (HasSpace line)
 entry-alone [] line found alone is spaced = cc is
 entry-alone (row ∷ rows) line found alone is spaced =
     by (bytes_eq line row.0) refl (λ rest. entry-alone rows line found alone.1 rest spaced)
   where
+    -- the row at the head of the table is the word, or a later row is
     by : (same : Bool) → bytes_eq line row.0 ≡ same → (entry rows line ≡ Some found → ⊥) → ⊥
     by true same later = alone.0 (rw ((bytes_eq-Decides line row.0).0 same) at spaced)
     by false other later = later (rw other at is)
 
--- where one or two or three words were to tell needles, and those of each number of words tell none
+-- words mean no needles if they do so neither as one word nor as two nor as three
 pub TellsNeedles-nothing : {L : Type 0} (bytes : L → List ℕ) (words : List ℕ)
     → TellsNothing (TellsLiteral bytes) words
     → ((a b : L) → TellsBytes (first_word words) (bytes a) → ¬ (TellsBytes (later_words words) (bytes b)))
@@ -63,8 +66,9 @@ TellsNeedles-nothing bytes words one two three (Two a b) told = two a b told.0 t
 TellsNeedles-nothing bytes words one two three (Three a b c) told = three a b c told.0 told.1 told.2
 
 module _ {L : Type 0} (bytes : L → List ℕ) (words : List ℕ) where
-  -- one word
-  pub TellsNeedles-alone : ¬ (HasSpace words) → TellsNothing (TellsLiteral bytes) words → TellsNothing (TellsNeedles bytes) words
+  -- a single word that means no literal means no needles
+  pub TellsNeedles-alone : ¬ (HasSpace words) → TellsNothing (TellsLiteral bytes) words
+      → TellsNothing (TellsNeedles bytes) words
   TellsNeedles-alone alone one =
       let later = later_words-alone words alone in
       TellsNeedles-nothing bytes words one
@@ -72,29 +76,35 @@ module _ {L : Type 0} (bytes : L → List ℕ) (words : List ℕ) where
       (λ a b c first second third. TellsBytes-filled (bytes b) (rw later at second))
 
   module _ (spaced : HasSpace words) where
-    -- more than one word, of which the first tells no literal
-    pub TellsNeedles-first : TellsNothing (TellsLiteral bytes) (first_word words) → TellsNothing (TellsNeedles bytes) words
+    -- nor do several words if the first means no literal
+    pub TellsNeedles-first : TellsNothing (TellsLiteral bytes) (first_word words)
+        → TellsNothing (TellsNeedles bytes) words
     TellsNeedles-first none =
         TellsNeedles-nothing bytes words (λ a one. TellsBytes-alone words (bytes a) one spaced)
         (λ a b first second. none a first) (λ a b c first second third. none a first)
 
-    -- two words, of which the second tells none
-    pub TellsNeedles-second : ¬ (HasSpace (later_words words)) → TellsNothing (TellsLiteral bytes) (later_words words) → TellsNothing (TellsNeedles bytes) words
+    -- nor do two words if the second means no literal
+    pub TellsNeedles-second : ¬ (HasSpace (later_words words))
+        → TellsNothing (TellsLiteral bytes) (later_words words)
+        → TellsNothing (TellsNeedles bytes) words
     TellsNeedles-second alone none =
         let later = later_words-alone (later_words words) alone in
         TellsNeedles-nothing bytes words (λ a one. TellsBytes-alone words (bytes a) one spaced)
         (λ a b first second. none b second)
         (λ a b c first second third. TellsBytes-filled (bytes c) (rw later at third))
 
-    -- more than two words, of which the second or what is behind it tells none
-    pub TellsNeedles-third : HasSpace (later_words words) → ((b c : L) → TellsBytes (first_word (later_words words)) (bytes b) → ¬ (TellsBytes (later_words (later_words words)) (bytes c)))
+    -- nor do more words if the second, or what follows it, means no literal
+    pub TellsNeedles-third : HasSpace (later_words words)
+        → ((b c : L) → TellsBytes (first_word (later_words words)) (bytes b)
+        → ¬ (TellsBytes (later_words (later_words words)) (bytes c)))
         → TellsNothing (TellsNeedles bytes) words
     TellsNeedles-third spaced_later none =
         TellsNeedles-nothing bytes words (λ a one. TellsBytes-alone words (bytes a) one spaced)
         (λ a b first second. TellsBytes-alone (later_words words) (bytes b) second spaced_later)
         (λ a b c first second third. none b c second third)
 
--- one word is no name with a word behind it
-pub TellsNamed-alone : {L : Type 0} (bytes : L → List ℕ) (name line : List ℕ) → ¬ (HasSpace line) → TellsNothing (TellsNamed bytes name) line
+-- a single word is no name with a word after it
+pub TellsNamed-alone : {L : Type 0} (bytes : L → List ℕ) (name line : List ℕ) → ¬ (HasSpace line)
+    → TellsNothing (TellsNamed bytes name) line
 TellsNamed-alone bytes name line alone literal told =
     TellsBytes-filled (bytes literal) (rw (later_words-alone line alone) at told.1)

@@ -1,14 +1,14 @@
--- Which fault a script may have, and what is said of it.
+-- The faults that a script may have, and their texts.
 use Rattle.std.specs.Prelude.{ℕ, ◌≤◌, List, ◌++◌, codes, decimal, ⊤}
 use Rattle.winnow_read.specs.declared.fault.ScriptFault.{ScriptFault}
 use Rattle.winnow_read.specs.declared.fault.ScriptFault.TheVariants.{Line, OutOfMemory}
 
--- a line of whose number this holds, or memory
+-- the fault is a line for whose number `Holds` holds, or is memory
 abbrev pub IsLineWhere : (ℕ → Type 0) → ScriptFault → Type 0
 IsLineWhere Holds (Line k) = Holds k
 IsLineWhere Holds OutOfMemory = ⊤
 
--- a line from 1 to n, or memory
+-- the fault is a line from 1 to n, or is memory
 abbrev pub IsWithin : ℕ → ScriptFault → Type 0
 IsWithin n fault = IsLineWhere (λ k. (1 ≤ k) × (k ≤ n)) fault
 

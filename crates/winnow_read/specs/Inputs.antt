@@ -18,23 +18,23 @@ kind_word TextPieces = codes "text-pieces"
 abbrev pub TellsKind : List ℕ → Kind → Type 0
 TellsKind line kind = line ≡ kind_word kind
 
--- the bytes that a line of this name tells: the name, a space, and the word of the bytes
+-- the line means the bytes of this literal: it is the name, a space, and the word for the bytes
 abbrev pub TellsNamed : {L : Type 0} → (L → List ℕ) → List ℕ → List ℕ → L → Type 0
 TellsNamed bytes name line literal =
     (first_word line ≡ name) × TellsBytes (later_words line) (bytes literal)
 
--- a line of a kind of pieces tells this: a piece, or the word by which it asks what is waited for
+-- the line of an input in pieces means this: a piece, or the question what is waited for
 module _ {L : Type 0} (bytes : L → List ℕ) where
   abbrev pub TellsFed : List ℕ → FedLine L → Type 0
   TellsFed line (Piece piece) = TellsNamed bytes (codes "piece") line piece
   TellsFed line Waits = line ≡ codes "waits"
 
-  -- how many bytes of a piece a line tells
+  -- the number of bytes in the piece of a line
   abbrev pub piece_length : FedLine L → ℕ
   piece_length (Piece piece) = length (bytes piece)
   piece_length Waits = 0
 
--- nothing is asked before a piece
+-- no question stands before the first piece
 abbrev pub BeginsWithPiece : {L : Type 0} → List (FedLine L) → Type 0
 BeginsWithPiece (Waits ∷ lines) = ⊥
 BeginsWithPiece _ = ⊤

@@ -1,4 +1,4 @@
--- What a run takes of a script that owns it.
+-- What a script that owns its steps lends to a run.
 use Rattle.std.specs.Prelude.{◌≡◌, ℕ, List}
 use Rattle.winnow_run.specs.declared.script.Step.TheVariants as step
 use Rattle.winnow_run.specs.declared.search_script.SearchStep.{SearchStep}
@@ -11,7 +11,7 @@ use Rattle.winnow_read.specs.declared.steps.ScriptStep.{ScriptStep}
 use Rattle.winnow_read.specs.declared.steps.ScriptStep.TheVariants.{Call, First, Compare, Find}
 
 module _ {L M : Type 0} (bytes : L → List ℕ) (lent_bytes : M → List ℕ) where
-  -- the same needles
+  -- the lent needles have the same bytes
   abbrev pub AreSameNeedles : Needles L → Needles M → Type 0
   AreSameNeedles (One a) (One x) = lent_bytes x ≡ bytes a
   AreSameNeedles (Two a b) (Two x y) = (lent_bytes x ≡ bytes a) × (lent_bytes y ≡ bytes b)
@@ -19,7 +19,7 @@ module _ {L M : Type 0} (bytes : L → List ℕ) (lent_bytes : M → List ℕ) w
       (lent_bytes x ≡ bytes a) × (lent_bytes y ≡ bytes b) × (lent_bytes z ≡ bytes c)
   AreSameNeedles _ _ = ⊥
 
-  -- the same step
+  -- the lent step is the same, with the same bytes
   abbrev pub IsSameStep : ScriptStep L → SearchStep CharSet M → Type 0
   IsSameStep (Call call) lent = lent ≡ search.Call call
   IsSameStep (First ranges) lent =

@@ -7,11 +7,11 @@ use Rattle.hex.specs.Hex.{is_hex_digit, decode_of}
 abbrev pub IsHexWord : List ℕ → Type 0
 IsHexWord word = (2 ≤ length word) × (length word % 2 ≡ 0) × AllPass is_hex_digit word
 
--- the word tells these bytes: none for `-`, and else those of its digits
+-- the word means these bytes: none for `-`, and else those of its digits
 abbrev pub TellsBytes : List ℕ → List ℕ → Type 0
 TellsBytes word bytes =
     ((word ≡ codes "-") × (bytes ≡ [])) ⊎ (IsHexWord word × (decode_of word ≡ Ok bytes))
 
--- the word tells the literal of these bytes
+-- the word means this literal, given by its bytes
 abbrev pub TellsLiteral : {L : Type 0} → (L → List ℕ) → List ℕ → L → Type 0
 TellsLiteral bytes word literal = TellsBytes word (bytes literal)

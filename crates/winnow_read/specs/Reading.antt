@@ -1,11 +1,11 @@
--- What is read of words that may tell nothing.
+-- What is read from words that may mean nothing.
 use Rattle.std.specs.Prelude.{ℕ, List, Option, MatchOption}
 
 module _ {T : Type 0} (Tells : List ℕ → T → Type 0) where
-  -- the words tell nothing
+  -- the words mean nothing
   abbrev pub TellsNothing : List ℕ → Type 0
   TellsNothing words = (item : T) → ¬ (Tells words item)
 
-  -- what is read of words: what they tell, or nothing where they tell nothing
+  -- what is read from words: what they mean, or `None` if they mean nothing
   abbrev pub IsReading : List ℕ → Option T → Type 0
   IsReading words found = MatchOption found (TellsNothing words) (Tells words)

@@ -9,33 +9,33 @@ use Rattle.winnow_read.specs.Words.{first_word, later_words, TellsNumber, TellsR
 use Rattle.winnow_read.specs.declared.steps.ScriptStep.{ScriptStep}
 use Rattle.winnow_read.specs.declared.steps.ScriptStep.TheVariants.{Call, First, Compare, Find}
 
--- what stands beside a word in a table
+-- the entry for a word in a table
 abbrev pub entry : {T : Type 0} → List (List ℕ × T) → List ℕ → Option T
 entry [] word = None
 entry (row ∷ rows) word = cond (bytes_eq word row.0) (Some row.1) (entry rows word)
 
--- the calls of one word
+-- the calls that are one word
 abbrev pub plain_calls : List (List ℕ × Step CharSet)
 plain_calls =
     (codes "next", step.Next) ∷ (codes "peek", step.Peek) ∷ (codes "finish", step.Finish)
     ∷ (codes "peek-finish", step.PeekFinish) ∷ (codes "eof", step.Eof) ∷ (codes "each", step.Each)
     ∷ (codes "mark", step.Mark) ∷ []
 
--- the calls of a word and a number
+-- the calls that are a word and a number
 abbrev pub numbered_calls : ℕ → List (List ℕ × Step CharSet)
 numbered_calls number =
     (codes "take", step.Take number) ∷ (codes "look", step.Look number)
     ∷ (codes "at", step.At number) ∷ (codes "is", step.IsOffset number)
     ∷ (codes "reset", step.Reset number) ∷ (codes "since", step.Since number) ∷ []
 
--- the call that a line tells: by the whole line, or by its first word and the number behind it
+-- the line means this call: by the whole line, or by its first word and the number after it
 abbrev pub TellsCall : List ℕ → Step CharSet → Type 0
 TellsCall line call =
     (entry plain_calls line ≡ Some call)
     ⊎ ((number : ℕ) × TellsNumber (later_words line) number
     × (entry (numbered_calls number) (first_word line) ≡ Some call))
 
--- the step that a line tells, whose literals have these bytes
+-- the line means this step, where `bytes` gives the bytes of its literals
 module _ {L : Type 0} (bytes : L → List ℕ) where
   abbrev pub TellsStep : List ℕ → ScriptStep L → Type 0
   TellsStep line (Call call) = TellsCall line call

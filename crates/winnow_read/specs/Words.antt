@@ -1,4 +1,4 @@
--- The words of a line, and what each tells.
+-- The words of a line, and what each word means.
 use Rattle.std.specs.Prelude.{◌≡◌, ◌⊎◌, ◌==◌, ◌^◌, ◌<◌, Bool, ℕ, List, [], ◌++◌, codes, length}
 use Rattle.std.specs.Char.{IsScalar}
 use Rattle.std.specs.List.{before_first, after_first, position_or_len, slice_split, AllZip}
@@ -25,28 +25,28 @@ later_words line = after_first is_space line
 abbrev pub HasSpace : List ℕ → Type 0
 HasSpace line = position_or_len is_space line < length line
 
--- the word tells this number, by decimal digits; greater numbers than fit are not told
+-- the word means this number, written in decimal digits; a number that does not fit is not meant
 abbrev pub TellsNumber : List ℕ → ℕ → Type 0
 TellsNumber word number =
     IsNumeral 10 word × (digits_value 10 word ≡ number) × (number < 2 ^ 64)
 
--- the word tells this character, by its number
+-- the word means this character, given by its number
 abbrev pub TellsChar : List ℕ → ℕ → Type 0
 TellsChar word number = TellsNumber word number × IsScalar number
 
--- the word tells these two characters, with two dots between them
+-- the word means the range of these two characters, with two dots between them
 abbrev pub TellsRange : List ℕ → ℕ × ℕ → Type 0
 TellsRange word range =
     (low : List ℕ) × (high : List ℕ) × (word ≡ low ++ codes ".." ++ high)
     × TellsChar low range.0 × TellsChar high range.1
 
--- the word tells these ranges: none for `-`, and else those between its commas
+-- the word means these ranges: none for `-`, and else those between its commas
 abbrev pub TellsRanges : List ℕ → List (ℕ × ℕ) → Type 0
 TellsRanges word ranges =
     ((word ≡ codes "-") × (ranges ≡ []))
     ⊎ AllZip TellsRange (slice_split is_comma word) ranges
 
--- the words tell these needles, by the bytes of each
+-- the words mean these needles, given by the bytes of each
 module _ {L : Type 0} (bytes : L → List ℕ) where
   abbrev pub TellsNeedles : List ℕ → Needles L → Type 0
   TellsNeedles words (One a) = TellsBytes words (bytes a)

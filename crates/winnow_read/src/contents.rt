@@ -2,20 +2,20 @@ ghost use Rattle.std.specs.Prelude.{◌≡◌, ◌↔◌, ℕ, List, ⊤, string
 ghost use Rattle.std.specs.Str.{IsUtf8};
 ghost use Rattle.std.proofs.lemmas.Str.{IsUtf8-string_bytes};
 
-/// What literals and inputs hold: bytes, or text.
+/// The contents of literals and inputs: bytes, or text.
 pub trait Contents: Sized + Drop {
     // Its bytes.
     ghost bytes: { Self → List ℕ };
 
-    // Which bytes it can have.
+    // Which bytes contents can have.
     ghost IsContents: { List ℕ → Type 0 };
 
-    /// Returns the contents of these bytes, if there are such.
+    /// Returns the contents that have these bytes, if such contents exist.
     fn from_bytes(given: Vec<u8>) -> Option<Self>
         ensures found { IsSome result ↔ IsContents given.items }
         ensures bytes { IfSome result (λ found. bytes found ≡ given.items) };
 
-    // Contents have bytes that they can have.
+    // The bytes of contents are bytes that contents can have.
     ghost contents_law: { (contents : Self) → IsContents (bytes contents) };
 }
 
@@ -48,13 +48,13 @@ impl Contents for String {
 
 /// Contents that can be lent for a run.
 pub trait Lend<'k>: Contents {
-    /// What a run takes.
+    /// The type that a run takes.
     type Lent: Copy + Drop;
 
     // Its bytes.
     ghost lent_bytes: { Self.Lent → List ℕ };
 
-    /// Returns the same bytes, lent.
+    /// Returns a loan of the same bytes.
     fn lend(&'k self) -> Self::Lent
         ensures { lent_bytes result ≡ Self.bytes self.now };
 }

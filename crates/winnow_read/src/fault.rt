@@ -9,9 +9,9 @@ use std::fmt;
 /// Why a script was not run to its end.
 #[derive(Debug, Drop, PartialEq, Eq)]
 pub enum ScriptFault {
-    /// The line of this number, counted from 1, is the first that is faulty or missing.
+    /// The line with this number, counted from 1, is the first that is faulty or missing.
     Line(usize),
-    /// Memory ran out before any faulty line was reached.
+    /// Memory was refused before a faulty line was reached.
     OutOfMemory,
 }
 

@@ -14,14 +14,14 @@ use crate::inputs::read_named;
 use crate::lines::Lines;
 use std::alloc::Global;
 
-/// A line of a kind of pieces: a piece, or the word by which it asks what is waited for.
+/// A line of input in pieces: a piece, or the word `waits`, which asks what the script waits for.
 #[derive(Drop)]
 pub enum FedLine<L> {
     Piece(L),
     Waits,
 }
 
-/// Returns what the lines to the end tell: pieces, one each, and behind the first of them also lines that ask what is waited for.
+/// Reads the remaining lines: pieces, and `waits` questions after the first piece.
 pub fn read_fed_lines<L: Contents>(
     alloc: Global,
     lines: &mut Lines,
@@ -43,7 +43,7 @@ pub fn read_fed_lines<L: Contents>(
     Ok(told)
 }
 
-// What the next line tells, which asks nothing where it is the first.
+// Reads the next line, which must be a piece if it is the first.
 fn read_fed_line<L: Contents>(
     alloc: Global,
     lines: &mut Lines,

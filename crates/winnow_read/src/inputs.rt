@@ -13,7 +13,7 @@ use crate::lines::Lines;
 use crate::words::{read_literal, split_word};
 use std::alloc::{AllocError, Global};
 
-/// The kind of a script: what its input is, and whether it comes in pieces.
+/// The kind of a script: whether its input is bytes or text, whole or in pieces.
 #[derive(Clone, Copy)]
 pub enum Kind {
     Bytes,
@@ -22,7 +22,7 @@ pub enum Kind {
     TextPieces,
 }
 
-/// Returns the kind that the next line tells.
+/// Reads the kind of the script from the next line.
 pub fn read_kind(lines: &mut Lines) -> Result<Kind, ScriptFault>
     ensures kind { IfOk result (TellsKind (first_line lines.old.rest.now)) }
     ensures rest { lines.new.rest.now ≡ rest_lines lines.old.rest.now }
@@ -51,7 +51,7 @@ fn kind_of(word: &str) -> Option<Kind>
     }
 }
 
-/// Returns the input that the last line tells.
+/// Reads the input from the last line.
 pub fn read_input<L: Contents>(alloc: Global, lines: &mut Lines) -> Result<L, ScriptFault>
     ensures input { IfOk result (λ input.
         AreLines (TellsNamed L.bytes (codes "input")) lines.old.rest.now (input ∷ []) []) }
@@ -66,7 +66,7 @@ pub fn read_input<L: Contents>(alloc: Global, lines: &mut Lines) -> Result<L, Sc
     Ok(input)
 }
 
-/// Returns what the next line tells, which has to be this word, a space and a literal.
+/// Reads the literal of the next line, which must be the word `name`, a space and a literal.
 pub fn read_line<L: Contents>(
     alloc: Global,
     lines: &mut Lines,
@@ -88,7 +88,8 @@ pub fn read_line<L: Contents>(
     read_named(alloc, line, name)?.ok_or(fault)
 }
 
-/// Returns what a line tells, which has to be this word, a space and a literal; `None` where it tells none.
+/// Returns the literal of a line that is the word `name`, a space and a literal, or `None` for
+/// another line.
 pub fn read_named<L: Contents>(
     alloc: Global,
     line: &str,

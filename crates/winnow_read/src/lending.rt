@@ -9,7 +9,7 @@ use winnow_match::Needles;
 use winnow_run::{SearchStep, Step};
 use winnow_sets::CharSet;
 
-/// Returns the steps of a script, as a run takes them.
+/// Returns the steps of a script in the form that a run takes.
 pub fn lend_steps<'k, L: Lend<'k>>(
     alloc: Global,
     steps: &'k [ScriptStep<'k, L>],

@@ -1,7 +1,8 @@
-//! The lines of a script, read: its kind, its steps, and its input, whole or in pieces.
+//! Reads the lines of a script: its kind, its steps, and its input, which is whole or in pieces.
 //!
-//! [`read_kind`] reads the first line, [`read_steps`] the lines of steps behind it, and [`read_input`] or [`read_fed_lines`] what is
-//! left. A script owns what its lines tell, and [`lend_steps`] lends it for a run.
+//! [`read_kind`] reads the first line, [`read_steps`] the lines of steps after it, and
+//! [`read_input`] or [`read_fed_lines`] the remaining lines. A script owns what is read, and
+//! [`lend_steps`] lends it for a run.
 #![tactic(auto)]
 
 mod contents;

@@ -6,9 +6,9 @@ ghost use Rattle.winnow_read.specs.Newline.{is_newline, first_line, rest_lines};
 use crate::ScriptFault;
 use memchr::memchr;
 
-/// The lines that are left of an input, and the number of the first of them.
+/// The remaining lines of an input, and the number of the first of them.
 ///
-/// A line ends at a newline, which the last one may lack.
+/// A line ends with a newline, which the last line may lack.
 #[derive(Clone, Copy)]
 pub struct Lines<'i> {
     pub rest: &'i [u8],
@@ -29,21 +29,21 @@ impl<'i> Lines<'i> {
         }
     }
 
-    /// Returns whether no line is left.
+    /// Returns whether no line remains.
     pub fn is_empty(&self) -> bool
         ensures { IsTrue result ↔ (length self.now.rest.now ≡ 0) }
     {
         self.rest.is_empty()
     }
 
-    /// Returns the fault of the next line, which may be missing.
+    /// Returns the fault that names the next line, which may be missing.
     pub fn fault(&self) -> ScriptFault
         ensures { result ≡ ScriptFault.Line self.now.number }
     {
         ScriptFault::Line(self.number)
     }
 
-    /// Returns the next line without its newline; `None` where there is none, or it is not UTF-8.
+    /// Returns the next line without its newline, or `None` if there is no line or it is not UTF-8.
     pub fn next_line(&mut self) -> Option<&'i str>
         ensures found { IsSome result
             ↔ ((0 < length self.old.rest.now) × IsUtf8 (first_line self.old.rest.now)) }
@@ -64,7 +64,7 @@ impl<'i> Lines<'i> {
     }
 }
 
-// The first line without its newline, and what follows the newline.
+// Returns the first line without its newline, and what follows the newline.
 fn split_line(text: &[u8]) -> (&[u8], &[u8])
     ensures line { result.0.now ≡ first_line text.now }
     ensures rest { result.1.now ≡ rest_lines text.now }

@@ -4,8 +4,8 @@ ghost use Rattle.winnow_read.specs.Literal.{IsHexWord, TellsBytes};
 use hex::FromHexError;
 use std::alloc::{AllocError, Global};
 
-/// Returns the bytes of a word: none for `-`, and else those of its hexadecimal digits, an even number of them and at least
-/// two, in either case. `None` for any other word.
+/// Returns the bytes that a word means: none for `-`, and else those of its hexadecimal digits,
+/// which are an even number, at least two, in either case. Returns `None` for any other word.
 pub fn literal(alloc: Global, word: &[u8]) -> Result<Option<Vec<u8>>, AllocError>
     ensures found { IfOk result (λ found.
         IsSome found ↔ ((word.now ≡ codes "-") ⊎ IsHexWord word.now)) }

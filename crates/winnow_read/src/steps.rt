@@ -12,7 +12,7 @@ use winnow_match::Needles;
 use winnow_run::Step;
 use winnow_sets::CharSet;
 
-/// A step as its line tells it: it owns its literals and the ranges of its set.
+/// A step that was read from a line. It owns its literals and the ranges of its set.
 #[derive(Drop)]
 pub enum ScriptStep<'s, L> {
     /// A call that names no set.
@@ -22,7 +22,7 @@ pub enum ScriptStep<'s, L> {
     Find(Needles<L>),
 }
 
-/// Takes the lines that are steps, and stops before the first that is none.
+/// Reads the lines that are steps, and stops before the first line that is none.
 pub fn read_steps<'s, L: Contents>(
     alloc: Global,
     lines: &mut Lines,
@@ -44,7 +44,7 @@ pub fn read_steps<'s, L: Contents>(
     Ok(steps)
 }
 
-// The step of the next line, if it is a step line.
+// Returns the step of the next line, if the line is a step.
 fn next_step<'s, L: Contents>(
     alloc: Global,
     lines: &mut Lines,
@@ -93,7 +93,8 @@ fn read_step<'s, L: Contents>(
     }
 }
 
-// The call that names no set, by a word, or by a word and a number.
+// Returns the call that a line means, which names no set: the line is a word, or a word and a
+// number.
 fn read_call<'s>(line: &str) -> Option<Step<CharSet<'s>>>
     ensures { IsReading TellsCall line.now result }
 {
@@ -119,7 +120,7 @@ fn plain_call<'s>(name: &str) -> Option<Step<CharSet<'s>>>
     }
 }
 
-// Whether it is the word of a call that takes a number.
+// Returns whether the word is that of a call that takes a number.
 fn takes_number(name: &str) -> bool
     ensures { (number : ℕ) → is_some (entry (numbered_calls number) name.now) ≡ result }
 {

@@ -12,7 +12,7 @@ use crate::literals::literal;
 use std::alloc::{AllocError, Global};
 use winnow_match::Needles;
 
-/// Returns the first word, and the words behind its space; `None` where there is no space.
+/// Returns the first word and the words after its space, or `None` if there is no space.
 pub fn split_word(words: &str) -> Option<(&str, &str)>
     ensures found { IsSome result ↔ HasSpace words.now }
     ensures first { IfSome result (λ parts. parts.0.now ≡ first_word words.now) }
@@ -21,19 +21,20 @@ pub fn split_word(words: &str) -> Option<(&str, &str)>
     words.split_once(' ')
 }
 
-/// Returns the number that decimal digits write, if it fits.
+/// Returns the number that the decimal digits of a word write, if the number fits.
 pub fn read_number(word: &str) -> Option<usize>
     ensures { SomeIff result (IsNumeral 10 word.now × (digits_value 10 word.now < 2 ^ 64))
         (digits_value 10 word.now) }
 {
-    // `parse` would take a sign.
+    // `parse` would accept a sign.
     if word.starts_with('+') {
         return None;
     }
     word.parse().ok()
 }
 
-/// Returns the literal whose bytes a word tells; `None` where it tells none, or bytes that are no literal.
+/// Returns the literal that a word means, or `None` if the word means no bytes, or bytes that are
+/// no literal.
 pub fn read_literal<L: Contents>(alloc: Global, word: &str) -> Result<Option<L>, AllocError>
     ensures { IfOk result (IsReading (TellsLiteral L.bytes) word.now) }
 {
@@ -43,7 +44,7 @@ pub fn read_literal<L: Contents>(alloc: Global, word: &str) -> Result<Option<L>,
     }
 }
 
-/// Returns the needles that one to three words tell; `None` where they tell none.
+/// Returns the needles that one to three words mean, or `None` if they mean none.
 pub fn read_needles<L: Contents>(
     alloc: Global,
     words: &str,
@@ -74,7 +75,8 @@ pub fn read_needles<L: Contents>(
     }
 }
 
-/// Returns the ranges that a word tells, none for `-`, and else those between its commas; `None` where it tells no ranges.
+/// Returns the ranges that a word means: none for `-`, and else those between its commas. Returns
+/// `None` for a word that means no ranges.
 pub fn read_ranges(alloc: Global, word: &str) -> Result<Option<Vec<(char, char)>>, AllocError>
     ensures { IfOk result (IsReading (λ told ranges. TellsRanges told ranges.items) word.now) }
 {
@@ -98,7 +100,7 @@ fn read_range(word: &str) -> Option<(char, char)>
     Some((read_char(low)?, read_char(high)?))
 }
 
-// The character whose number decimal digits write.
+// Returns the character whose number the decimal digits of a word write.
 fn read_char(word: &str) -> Option<char>
     ensures { SomeIff result (IsNumeral 10 word.now × IsScalar (digits_value 10 word.now))
         (digits_value 10 word.now) }

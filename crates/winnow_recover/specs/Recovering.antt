@@ -1,4 +1,4 @@
--- What a stream that records errors is.
+-- The parts of a stream that records errors, and what recording changes.
 use Rattle.std.specs.Prelude.{◌≡◌, List, [], ◌∷◌, ◌++◌, Bool}
 use Rattle.winnow_recover.specs.declared.recoverable.Recoverable.{Recoverable}
 
@@ -11,18 +11,19 @@ module _ {I E : Type 0} where
   abbrev pub recorded_errors : Recoverable I E → List E
   recorded_errors s = s.errors.items
 
-  -- whether any error is recorded
+  -- whether the stream records errors
   abbrev pub records_errors : Recoverable I E → Bool
   records_errors s = s.is_recoverable
 
-  -- t is s but for the room that the errors take
+  -- t is s, except for the room that the errors take
   abbrev pub IsSame : Recoverable I E → Recoverable I E → Type 0
   IsSame s t = (t.input ≡ s.input) × (t.errors.items ≡ s.errors.items) × (t.is_recoverable ≡ s.is_recoverable)
 
-  -- t is s with one error more at the end
+  -- t is s with this error after the others
   abbrev pub HasOneMore : E → Recoverable I E → Recoverable I E → Type 0
   HasOneMore e s t = (t.input ≡ s.input) × (t.errors.items ≡ s.errors.items ++ e ∷ []) × (t.is_recoverable ≡ s.is_recoverable)
 
-  -- t is s with what `recovered` makes of an error, where it is told of s, whatever its room
-  abbrev pub Records : {C F : Type 0} → (C → C → Recoverable I E → F → E) → Recoverable I E → C → C → F → Recoverable I E → Type 0
+  -- t is s with one more error: what `recovered` makes of the given one, for s with some room
+  abbrev pub Records : {C F : Type 0} → (C → C → Recoverable I E → F → E) → Recoverable I E → C → C
+      → F → Recoverable I E → Type 0
   Records recovered s token_start err_start e t = (u : Recoverable I E) × IsSame s u × HasOneMore (recovered token_start err_start u e) s t

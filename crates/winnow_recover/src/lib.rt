@@ -1,4 +1,4 @@
-//! Recovery: streams on which a parser records an error, and goes on.
+//! Recovery: streams on which a parser records an error and then goes on.
 #![tactic(auto)]
 
 mod laws;

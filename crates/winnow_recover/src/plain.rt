@@ -43,7 +43,7 @@ impl<'i, E> Recover<E> for &'i str {
         Err(RecordError::Refused(err))
     }
 
-    // A function without `self` of an impl at a lifetime does not inherit the trait's clause.
+    // A function without `self`, in an impl at a lifetime, does not inherit the trait's clause.
     fn is_recovery_supported() -> bool
         ensures { result ≡ false }
     {
@@ -65,7 +65,7 @@ impl<'i, E> Recover<E> for BStr<'i> {
         Err(RecordError::Refused(err))
     }
 
-    // A function without `self` of an impl at a lifetime does not inherit the trait's clause.
+    // A function without `self`, in an impl at a lifetime, does not inherit the trait's clause.
     fn is_recovery_supported() -> bool
         ensures { result ≡ false }
     {
@@ -87,7 +87,7 @@ impl<'i, E> Recover<E> for Bytes<'i> {
         Err(RecordError::Refused(err))
     }
 
-    // A function without `self` of an impl at a lifetime does not inherit the trait's clause.
+    // A function without `self`, in an impl at a lifetime, does not inherit the trait's clause.
     fn is_recovery_supported() -> bool
         ensures { result ≡ false }
     {

@@ -1,7 +1,7 @@
-/// Why an error was not recorded: it comes back, and nothing has changed.
+/// The reason why an error was not recorded. The error comes back, and nothing has changed.
 #[derive(Debug, Drop, PartialEq, Eq)]
 pub enum RecordError<E> {
-    /// The stream records no such error
+    /// The stream does not record this error
     Refused(E),
     /// There was no memory for it
     OutOfMemory(E),

@@ -4,17 +4,18 @@ ghost use Rattle.winnow_recover.specs.Recording.{IsRecording};
 use crate::RecordError;
 use winnow_stream::Stream;
 
-/// A stream on which a parser may record an error `E` from which it recovers. Every stream has this, and all but
-/// [`Recoverable`](crate::Recoverable) refuse each error.
+/// A stream on which a parser may record an error `E` from which it recovers. Every stream is one,
+/// and all but [`Recoverable`](crate::Recoverable) refuse each error.
 pub trait Recover<E>: Stream {
-    // Whether an error is refused.
+    // Whether the stream refuses the error.
     ghost refuses: { Self → E → Bool } = { λ _ _. true };
 
-    // The streams that recording an error makes, by where the parser began and where the error came.
+    // The streams that recording the error may give, by the place at which the parser began and the
+    // place of the error.
     ghost records: { Self → Self.Checkpoint → Self.Checkpoint → E → Self
         → Type 0 } = { λ _ _ _ _ _. ⊥ };
 
-    // The streams that are the same, but for room in memory.
+    // The two streams are the same, except for room in memory.
     ghost unchanged: { Self → Self → Type 0 } = { λ s t. t ≡ s };
 
     // Whether the type records errors at all.
@@ -22,7 +23,8 @@ pub trait Recover<E>: Stream {
 
     /// Records an error of a parser that began at `token_start` and failed at `err_start`.
     ///
-    /// An error that is refused, or for which there is no memory, comes back, and nothing has changed.
+    /// If an error is refused, or there is no memory for it, it comes back, and nothing has
+    /// changed.
     fn record_err(
         &mut self,
         token_start: &Self::Checkpoint,
@@ -40,10 +42,10 @@ pub trait Recover<E>: Stream {
     fn is_recovery_supported() -> bool
         ensures { result ≡ supports_recovery };
 
-    // A type that records none refuses each.
+    // A type that records no errors refuses each.
     ghost refuses_unsupported: { (s : Self) (e : E) → supports_recovery ≡ false
         → refuses s e ≡ true };
 
-    // A stream that is the same is so to every call of `Stream`.
+    // To every call of `Stream`, an unchanged stream is the same.
     ghost unchanged_keeps: { (s t : Self) → unchanged s t → Self.keeps s t };
 }

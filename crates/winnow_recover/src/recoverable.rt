@@ -16,10 +16,11 @@ use winnow_stream::{
     UpdateSlice,
 };
 
-/// A stream with a list of the errors from which a parser recovered. No call of `Stream` changes the list.
+/// A stream with a list of the errors from which a parser recovered. No call of `Stream` changes
+/// the list.
 ///
-/// Contracts speak of the stream inside, the errors in their order and whether it records any, and not of the room that the list
-/// takes.
+/// Contracts speak of the stream inside, of the errors in their order and of whether the stream
+/// records any, but not of the room that the list takes.
 #[derive(Debug, Drop)]
 pub struct Recoverable<I, E> {
     pub(crate) input: I,
@@ -28,7 +29,7 @@ pub struct Recoverable<I, E> {
 }
 
 impl<I, E> Recoverable<I, E> {
-    /// Returns the stream, with no error yet, which records each error that is not incomplete.
+    /// Returns the stream with no error yet. It records each error that is not incomplete.
     pub fn new(alloc: Global, input: I) -> Self
         ensures input { recoverable_inner result ≡ input }
         ensures errors { recorded_errors result ≡ [] }
@@ -41,7 +42,7 @@ impl<I, E> Recoverable<I, E> {
         }
     }
 
-    /// Returns the stream, which records no error.
+    /// Returns the stream, which then records no error.
     pub fn unrecoverable(alloc: Global, input: I) -> Self
         ensures input { recoverable_inner result ≡ input }
         ensures errors { recorded_errors result ≡ [] }
@@ -213,10 +214,13 @@ where
 
     ghost refuses_unsupported = { λ s e never. Prim.search rules };
 
-    ghost unchanged_keeps = { λ s t same.
-        (sym same.1, sym same.2, subst (I.keeps s.input) (sym same.0) (I.keeps_reflexive s.input)) };
+    ghost unchanged_keeps = { λ s t same. (
+      sym same.1,
+      sym same.2,
+      subst (I.keeps s.input) (sym same.0) (I.keeps_reflexive s.input),
+    ) };
 
-    // Refused comes before want of memory, and the place is there before the error is converted.
+    // A refusal comes before a want of memory. The room is made before the error is converted.
     fn record_err(
         &mut self,
         token_start: &Checkpoint<I::Checkpoint, Recoverable<I, R>>,
@@ -353,6 +357,7 @@ impl<I: Compare<T>, E: Debug, T> Compare<T> for Recoverable<I, E> {
 
     ghost comparisons_stay = { I.comparisons_stay };
 
+    #[inline(always)]
     fn compare(&self, t: T) -> CompareResult {
         self.input.compare(t)
     }
@@ -366,7 +371,7 @@ impl<I: FindSlice<T>, E: Debug, T> FindSlice<T> for Recoverable<I, E> {
     }
 }
 
-/// As the stream inside, under the options of a hole too.
+/// It prints as the stream inside, also under the options of a hole.
 impl<I: fmt::Display, E> fmt::Display for Recoverable<I, E> {
     ghost output = { λ s. I.output (recoverable_inner s) };
 

@@ -1,4 +1,5 @@
-//! Wrappers that record nothing, also round a stream that does: only the outermost `Recoverable` is asked.
+//! Wrappers that record nothing, also around a stream that records errors: only the outermost
+//! `Recoverable` is asked.
 ghost use Rattle.std.specs.Prelude.{true, false, refl};
 ghost use Rattle.std.proofs.Common.{sym, ap, subst};
 ghost use Rattle.winnow_wrap.specs.Located.{locating_inner, located_start};

@@ -1,4 +1,4 @@
-//! Accumulators: each starts with room for the items, and takes them one after the other.
+//! Accumulators. Each starts with room for the items, and takes them one after the other.
 
 use crate::Call;
 use crate::items::{Cow, Item};
@@ -6,13 +6,13 @@ use std::alloc::{AllocError, Global};
 use std::collections::{BTreeMap, BTreeSet, HashMap, HashSet, VecDeque};
 use winnow_count::{Accumulate, accumulate_all};
 
-// Starts an accumulator to which so many items are said to come.
+// Starts an accumulator for which `count` items are announced.
 fn start<A: Accumulate<T> + Drop, T>(alloc: Global, count: usize) -> Result<(), AllocError> {
     let _started = A::initial(alloc, Some(count))?;
     Ok(())
 }
 
-// Gathers so many items.
+// Gathers `count` items.
 fn gather<A: Accumulate<T> + Drop, T: Item>(alloc: Global, count: usize) -> Result<(), AllocError>
     requires { (a : A) → A.can_accumulate a }
 {
@@ -23,7 +23,7 @@ fn gather<A: Accumulate<T> + Drop, T: Item>(alloc: Global, count: usize) -> Resu
     Ok(())
 }
 
-// Gathers so many items at once.
+// Gathers `count` items at once.
 fn gather_all(alloc: Global, count: usize) -> Result<(), AllocError> {
     let items = vec![in alloc; 7usize; count]?;
     let _all: Vec<usize> = accumulate_all(alloc, items)?;

@@ -1,4 +1,4 @@
-//! Errors that tell as many contexts as there are items, or a cause as long.
+//! Errors with as many contexts as there are items, or with a cause as long.
 
 use crate::Call;
 use crate::growing::tell_all;
@@ -35,7 +35,7 @@ fn caused_by(alloc: Global, cause: &str) -> Result<Told, AllocError> {
     Ok(FromExternalError::<&str, String>::from_external_error(alloc, &"", cause))
 }
 
-// Clones an error of a cause alone, or of none, before and after it is told contexts.
+// Clones an error that has a cause or nothing, before and after it has contexts.
 fn clone_both(mut error: Told, count: usize) -> Result<(), AllocError> {
     let _alone = error.clone()?;
     push_all(&mut error, count)?;

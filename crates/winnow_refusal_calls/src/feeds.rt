@@ -1,4 +1,5 @@
-//! Feeds over scripts of as many steps as there are items, pieces of one byte and of all, and steps that wait for as much.
+//! Feeds over scripts of as many steps as there are items, pieces of one byte and of all bytes, and
+//! steps that wait for as many bytes.
 
 use crate::Call;
 use std::alloc::{AllocError, Global};
@@ -15,10 +16,10 @@ type ByteStep<'k> = SearchStep<CharSet<'k>, &'k [u8]>;
 
 type TextStep<'k> = SearchStep<CharSet<'k>, &'k str>;
 
-// No place comes near what a `usize` holds.
+// No place comes near the greatest `usize`.
 const MOST: usize = 1_000_000;
 
-// Marks, which the first piece lets out.
+// Returns a script of marks, whose answers come out after the first piece.
 fn byte_script(alloc: Global, count: usize) -> Result<Vec<ByteStep<'static>>, AllocError> {
     vec![in alloc; CallOf(Mark); count]
 }
@@ -59,7 +60,7 @@ const BYTES_TO_END: [ByteStep<'static>; 1] = [CallOf(Take(usize::MAX))];
 
 const TEXT_TO_END: [TextStep<'static>; 1] = [CallOf(Take(usize::MAX))];
 
-// Feeds what is kept to the end: all at once, and then each byte.
+// Feeds bytes that are kept to the end: all at once, and then one by one.
 fn feed_bytes(alloc: Global, bytes: &[u8]) -> Result<(), AllocError> {
     let mut feed = ByteFeed::new(alloc, &BYTES_TO_END)?;
     feed_piece(&mut feed, bytes)?;
@@ -78,7 +79,7 @@ fn feed_texts(alloc: Global, text: &str) -> Result<(), AllocError> {
     Ok(())
 }
 
-// Asks what a step waits for where nothing came yet.
+// Asks what a step waits for before the first piece.
 fn wait_at(alloc: Global, step: ByteStep) -> Result<(), AllocError> {
     let script = [step];
     let mut feed = ByteFeed::new(alloc, &script)?;
@@ -131,7 +132,7 @@ fn run_on_texts(alloc: Global, text: &str) -> Result<(), AllocError> {
     Ok(())
 }
 
-// What a comparison with the text is missing where nothing remains.
+// Asks what a comparison with the text is missing where nothing remains.
 fn miss(alloc: Global, text: &str) -> Result<(), AllocError> {
     let none = Passed {
         width: 0,
@@ -142,7 +143,7 @@ fn miss(alloc: Global, text: &str) -> Result<(), AllocError> {
     Ok(())
 }
 
-// The first of a set of so many ranges.
+// Asks for the first byte of a set of `count` ranges.
 fn spell_byte(alloc: Global, count: usize) -> Result<(), AllocError> {
     let ranges = vec![in alloc; ('a', 'z'); count]?;
     let kept = Partial::new(b"".as_slice());

@@ -6,7 +6,7 @@ use winnow_context::StrContext::Label;
 use winnow_error::{AddContext, ErrMode, OrTree, ParserError};
 use winnow_stream::Stream;
 
-/// An error that passes through so many parsers.
+/// Returns an error that passes through `count` parsers.
 pub fn append_all<I: Stream, E: ParserError<I>>(
     alloc: Global,
     input: &I,
@@ -23,7 +23,7 @@ pub fn append_all<I: Stream, E: ParserError<I>>(
     Ok(error)
 }
 
-/// An error that is told so many contexts.
+/// Returns an error to which `count` contexts are added.
 pub fn tell_all<I: Stream, E: AddContext<I, StrContext> + Drop>(
     alloc: Global,
     input: &I,
@@ -40,7 +40,7 @@ pub fn tell_all<I: Stream, E: AddContext<I, StrContext> + Drop>(
     Ok(error)
 }
 
-/// The error of one parser and of so many others that failed there.
+/// Returns the error of one parser and of `count` others that failed at the same place.
 pub fn join_all<I: Stream, E: ParserError<I>>(
     alloc: Global,
     input: &I,
@@ -53,7 +53,7 @@ pub fn join_all<I: Stream, E: ParserError<I>>(
     Ok(error)
 }
 
-/// Alternatives, bracketed: rows of so many, one row within the other.
+/// Returns the error of bracketed alternatives: rows of them, one row inside the other.
 pub fn bracketed<I: Stream, E: ParserError<I>>(
     alloc: Global,
     input: &I,
@@ -67,10 +67,10 @@ pub fn bracketed<I: Stream, E: ParserError<I>>(
     both(alloc, tree, row(alloc, input, count % WIDTH)?)
 }
 
-// No chain of brackets is longer than what a stack holds.
+// No chain of brackets is longer than a stack can hold.
 const WIDTH: usize = 100;
 
-// So many alternatives behind one.
+// Returns the error of one alternative and of `count` after it.
 fn row<I: Stream, E: ParserError<I>>(
     alloc: Global,
     input: &I,

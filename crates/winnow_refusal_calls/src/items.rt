@@ -8,7 +8,7 @@ pub type Cow = CowStr<'static, Global>;
 
 /// An item that can be made.
 pub trait Item: Drop {
-    /// The one of that number.
+    /// Returns the item with this number.
     fn made(alloc: Global, number: usize) -> Result<Self, AllocError>;
 }
 

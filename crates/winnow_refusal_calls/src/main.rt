@@ -1,8 +1,9 @@
 //! Every public call of the library that may be refused memory, made where memory is there.
 //!
-//! No contract can forbid a call to say that it was refused: a body that gives up behind the first hundred items keeps its promise. So
-//! each call is made here on no items, on a few and on thousands. A line says of each whether all of that was done; its row is named as
-//! the call is. `refusals/calls` sees that no call lacks a row, and that none was refused.
+//! No contract can forbid a call to say that it was refused: a body that gives up after the first
+//! hundred items keeps its promise. So each call is made here on no items, on a few and on
+//! thousands. A line for each call says whether all of that was done, and has the call's name.
+//! `refusals/calls` checks that no call lacks a row, and that none was refused.
 #![tactic(auto)]
 
 mod accumulators;
@@ -13,6 +14,7 @@ mod growing;
 mod items;
 mod modes;
 mod parsers;
+mod records;
 mod recovery;
 mod script_words;
 mod scripts;
@@ -32,7 +34,7 @@ fn main(rt: HostRuntime) -> io::Result<()> {
     report(&rt, &none, &few, &many)
 }
 
-// All calls on so many items.
+// Makes all calls on `count` items.
 fn all_on(alloc: Global, count: usize) -> Result<Vec<Call>, AllocError> {
     let mut text = String::new(alloc);
     for _ in 0..count {
@@ -41,7 +43,7 @@ fn all_on(alloc: Global, count: usize) -> Result<Vec<Call>, AllocError> {
     all(alloc, text.as_str())
 }
 
-// All calls on as many items as the text has bytes, or on the text itself.
+// Makes all calls on as many items as the text has bytes, or on the text itself.
 fn all(alloc: Global, text: &str) -> Result<Vec<Call>, AllocError> {
     let mut calls = Vec::new(alloc);
     calls.extend_from_slice(&accumulators::starts(alloc, text.len()))?;
@@ -58,11 +60,12 @@ fn all(alloc: Global, text: &str) -> Result<Vec<Call>, AllocError> {
     calls.extend_from_slice(&parsers::readings(alloc, text))?;
     calls.extend_from_slice(&parsers::failures(alloc, text))?;
     calls.extend_from_slice(&parsers::numbers(alloc, text))?;
+    calls.extend_from_slice(&records::calls(alloc, text))?;
     calls.extend_from_slice(&script_words::calls(alloc, text.len()))?;
     Ok(calls)
 }
 
-// Says of each call whether it was done each time.
+// Prints for each call whether it was done each time.
 fn report(rt: &impl Print, none: &[Call], few: &[Call], many: &[Call]) -> io::Result<()> {
     for ((none, few), many) in none.iter().zip(few).zip(many) {
         let is_refused = none.1.is_err() || few.1.is_err() || many.1.is_err();

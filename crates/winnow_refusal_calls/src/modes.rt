@@ -1,4 +1,4 @@
-//! Errors with a mode. A mode takes no memory of its own, so the errors in it take none here.
+//! Errors with a mode. A mode takes no memory, so the inner errors here take none either.
 
 use crate::Call;
 use crate::growing::{append_all, bracketed, join_all, tell_all};
@@ -20,7 +20,7 @@ fn or(alloc: Global, text: &str) -> Result<(), AllocError> {
     Ok(())
 }
 
-// Of an error that lets others be tried, and of one that does not.
+// Adds contexts to an error that lets others be tried, and to one that does not.
 fn add_contexts(alloc: Global, text: &str) -> Result<(), AllocError> {
     tell_all(alloc, &text, SOFT, text.len())?;
     tell_all(alloc, &text, Cut(EmptyError), text.len())?;

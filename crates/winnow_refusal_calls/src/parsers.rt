@@ -1,8 +1,10 @@
-//! Parsers that gather as many values as there are items, that join the errors of alternatives, and that tell what was being read.
+//! Parsers that gather as many values as there are items, that join the errors of alternatives, and
+//! that add what was being read.
 
 use crate::Call;
 use std::alloc::{AllocError, Global};
 use winnow_ascii::{dec_int, dec_uint};
+use winnow_binary::length_repeat;
 use winnow_combinator::{alt, empty, eof, fail, repeat, repeat_till, separated};
 use winnow_error::{AddContext, EmptyError, ParserError};
 use winnow_parser::{Failure, Parser};
@@ -10,7 +12,7 @@ use winnow_stream::StreamIsPartial;
 use winnow_token::any;
 use winnow_tree::TreeError;
 
-// Asks a parser of an input, once and so many times more.
+// Asks a parser on an input, once and `count` times more.
 fn ask<I: StreamIsPartial + Copy + Drop, E: Drop, P: Parser<I, E>>(
     alloc: Global,
     input: I,
@@ -32,11 +34,12 @@ where
 }
 
 /// Parsers that gather the characters of the text.
-pub fn gathers(alloc: Global, text: &str) -> [Call; 5] {
+pub fn gathers(alloc: Global, text: &str) -> [Call; 6] {
     let list = repeat::<_, Vec<char>, _>(0.., any());
     let word = repeat::<_, String, _>(0.., any());
     let separate = separated::<_, _, Vec<char>, _>(0.., any(), empty());
     let till = repeat_till::<_, _, Vec<char>, _>(0.., any(), eof());
+    let counted = length_repeat::<_, _, Vec<char>>(empty().value(text.len()), any());
     let word = ask::<_, EmptyError, _>(alloc, text, 0, &word);
     [
         ("<Accumulated<A> as Begin<T>>::begin", word),
@@ -53,10 +56,14 @@ pub fn gathers(alloc: Global, text: &str) -> [Call; 5] {
             "<RepetitionTill<P, Q, G> as Parser<I, E>>::parse_next",
             ask::<_, EmptyError, _>(alloc, text, 0, &till),
         ),
+        (
+            "<LengthRepeated<P, Q, A> as Parser<I, E>>::parse_next",
+            ask::<_, EmptyError, _>(alloc, text, 0, &counted),
+        ),
     ]
 }
 
-// Reads the whole text, and what stands after its first character.
+// Reads the whole text, and the text after its first character.
 fn read_whole(alloc: Global, text: &str) -> Result<(), AllocError> {
     let list = repeat::<_, Vec<char>, _>(0.., any());
     let _read = Parser::<_, EmptyError>::parse(&list, alloc, text)?;
@@ -81,7 +88,7 @@ pub fn readings(alloc: Global, text: &str) -> [Call; 2] {
     ]
 }
 
-// Parsers that fail, once and as often again as there are items: two to ten alternatives, and one that was reading something.
+// Parsers that fail, once and `count` times more: two to ten alternatives, and one with a context.
 fn fail_all<I: StreamIsPartial + Copy + Drop, E: AddContext<I, char> + ParserError<I>>(
     alloc: Global,
     input: I,
@@ -139,7 +146,7 @@ pub fn failures(alloc: Global, text: &str) -> [Call; 10] {
     fail_all::<&str, TreeError<&str, char>>(alloc, text, text.len())
 }
 
-/// Parsers of numbers, of which each alternative fails.
+/// Parsers of numbers whose alternatives all fail.
 pub fn numbers(alloc: Global, text: &str) -> [Call; 2] {
     let count = text.len();
     [

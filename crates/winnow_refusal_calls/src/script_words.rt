@@ -1,10 +1,11 @@
-//! What the program of scripts is made of: a literal, and scripts of each kind, as long as there are items.
+//! The parts of the program of scripts: a literal, and scripts of each kind, with as many lines as
+//! there are items.
 
 use crate::Call;
 use std::alloc::{AllocError, Global};
 use winnow_execute::{execute, literal};
 
-// So many times the text.
+// Appends the text `count` times.
 fn push_times(all: &mut String, text: &str, count: usize) -> Result<(), AllocError> {
     for _ in 0..count {
         all.push_str(text)?;
@@ -19,7 +20,7 @@ fn read_literal(alloc: Global, count: usize) -> Result<(), AllocError> {
     Ok(())
 }
 
-// So many marks, a comparison with as many bytes, and an input of as many.
+// Returns a script of `count` marks and a comparison with `count + 1` bytes, over these bytes.
 fn whole_script(alloc: Global, kind: &str, count: usize) -> Result<String, AllocError> {
     let mut script = String::from_str(alloc, kind)?;
     push_times(&mut script, "\nmark", count)?;
@@ -31,7 +32,7 @@ fn whole_script(alloc: Global, kind: &str, count: usize) -> Result<String, Alloc
     Ok(script)
 }
 
-// So many marks, and as many pieces, each of which is asked what is waited for.
+// Returns a script of `count` marks, and as many questions what is waited for, between pieces.
 fn script_of_pieces(alloc: Global, kind: &str, count: usize) -> Result<String, AllocError> {
     let mut script = String::from_str(alloc, kind)?;
     push_times(&mut script, "\nmark", count)?;
@@ -41,7 +42,7 @@ fn script_of_pieces(alloc: Global, kind: &str, count: usize) -> Result<String, A
     Ok(script)
 }
 
-// A script at fault is none that was done.
+// Runs a script. A faulty script counts as refused.
 fn run_script(alloc: Global, script: Result<String, AllocError>) -> Result<(), AllocError> {
     match execute(alloc, script?.as_bytes()) {
         Ok(_) => Ok(()),

@@ -1,4 +1,4 @@
-//! Scripts of as many steps as there are items, and what a run is made of.
+//! Scripts of as many steps as there are items, and the calls that a run is made of.
 
 use crate::Call;
 use std::alloc::{AllocError, Global};
@@ -10,7 +10,7 @@ use winnow_run::Step::{
 use winnow_run::{Marks, Origin, SearchStep, Step, answer_step, run, run_and_reset, run_search};
 use winnow_stream::{NoSet, Stream};
 
-// A step of each kind, behind the marks.
+// A step of each kind, which follow the marks.
 const OTHERS: [Step<NoSet>; 13] = [
     Each,
     Peek,
@@ -27,7 +27,7 @@ const OTHERS: [Step<NoSet>; 13] = [
     Finish,
 ];
 
-// So many marks, and the other steps.
+// Returns a script of `count` marks and the other steps.
 fn script(alloc: Global, count: usize) -> Result<Vec<Step<NoSet>>, AllocError> {
     let mut steps = vec![in alloc; Mark; count]?;
     steps.extend_from_slice(&OTHERS)?;
@@ -50,7 +50,7 @@ fn look_ahead(alloc: Global, text: &str) -> Result<(), AllocError> {
 
 type TextStep<'k> = SearchStep<NoSet, &'k str>;
 
-// So many marks, and steps that compare and search.
+// Returns a script of marks, one for each byte of the text, and steps that compare and search.
 fn search_script<'k>(alloc: Global, text: &'k str) -> Result<Vec<TextStep<'k>>, AllocError> {
     let mut steps = vec![in alloc; CallOf(Mark); text.len()]?;
     steps.push(CallOf(Each))?;
@@ -67,7 +67,7 @@ fn search(alloc: Global, text: &str) -> Result<(), AllocError> {
     Ok(())
 }
 
-// One step by itself, which lists all tokens.
+// Runs one step by itself, which lists all tokens.
 fn list_items<S: Stream>(alloc: Global, s: &mut S) -> Result<(), AllocError>
 where
     S::Token: Drop,

@@ -6,12 +6,12 @@ use winnow_context::StrContext;
 use winnow_context::StrContext::Label;
 use winnow_tree::{TreeErrorBase, TreeErrorContext};
 
-/// An error at the input.
+/// Returns an error at the input.
 pub fn base<I>(input: I) -> TreeErrorBase<I> {
     TreeErrorBase { input, cause: None }
 }
 
-/// What was being read at the input.
+/// Returns a context at the input.
 pub fn context<I>(input: I) -> TreeErrorContext<I, StrContext> {
     TreeErrorContext {
         input,
@@ -44,7 +44,7 @@ fn write_context(alloc: Global, text: &str) -> Result<(), AllocError> {
     Ok(())
 }
 
-// The text of an error without a cause, and of one that has a cause as long.
+// Writes the text of an error without a cause, and of one with the text as its cause.
 fn write_base(alloc: Global, text: &str) -> Result<(), AllocError> {
     let _alone = base(text).text(alloc)?;
     let cause = Some(String::from_str(alloc, text)?);

@@ -1,4 +1,4 @@
-//! Trees of as many alternatives and frames as there are items, and of inputs as long.
+//! Trees with as many alternatives and frames as there are items, and with inputs as long.
 
 use crate::Call;
 use crate::growing::{append_all, bracketed, join_all, tell_all};
@@ -19,7 +19,8 @@ fn alternatives<I: Copy>(alloc: Global, input: I, count: usize) -> Result<Tree<I
     Ok(TreeError::Alt(entries))
 }
 
-// So many alternatives at the first input, in as many frames, and in one frame at the second.
+// Returns a tree of `count` alternatives at the first input, in as many frames, and in one frame at
+// the second input.
 fn grown<I: Copy>(alloc: Global, short: I, long: I, count: usize) -> Result<Tree<I>, AllocError> {
     let base = Box::new(alloc, alternatives(alloc, short, count)?)?;
     let mut stack = Vec::new(alloc);
@@ -75,7 +76,7 @@ fn write(alloc: Global, text: &str) -> Result<(), AllocError> {
     Ok(())
 }
 
-// At numbers in place of inputs.
+// Converts a tree at numbers in place of inputs.
 fn to_bits(alloc: Global, count: usize) -> Result<Tree<Bits<usize>>, AllocError> {
     grown(alloc, 0, count, count)?.convert(alloc)
 }

@@ -1,4 +1,4 @@
-//! Accumulators, each of which takes items until it has grown.
+//! Accumulators. Each takes items until it has grown.
 
 use crate::cases::tell;
 use crate::items::{Cow, Item, TEXT};
@@ -7,7 +7,8 @@ use std::borrow::CowStr;
 use std::collections::{BTreeMap, BTreeSet, HashMap, HashSet, VecDeque};
 use winnow_count::Accumulate;
 
-/// Takes item after item, from an accumulator with room for one. Refused, it holds the items from before, and takes the equal one.
+/// Takes item after item, from an accumulator with room for one. When memory is refused, the
+/// accumulator holds the items from before, and takes an equal item when it is asked again.
 pub fn gather<A: Accumulate<T> + Holds<T> + Drop, T: Item>(
     alloc: Global,
 ) -> Result<bool, AllocError>
@@ -29,9 +30,9 @@ pub fn gather<A: Accumulate<T> + Holds<T> + Drop, T: Item>(
     tell(refused, all.holds_first(T::TOTAL))
 }
 
-/// What can tell which items it holds.
+/// An accumulator that can be asked which items it holds.
 pub trait Holds<T> {
-    /// Whether it holds the first `count` items, and nothing else.
+    /// Returns whether it holds the first `count` items, and nothing else.
     fn holds_first(&self, count: usize) -> bool;
 }
 
@@ -53,7 +54,7 @@ impl<T: Item> Holds<T> for VecDeque<usize> {
     }
 }
 
-// Whether it is the front of the text that has so many items.
+// Returns whether `text` is the front of the whole text that has `count` items.
 fn is_front<T: Item>(text: &str, count: usize) -> bool {
     TEXT.as_bytes().get(..count.saturating_mul(T::WIDTH)) == Some(text.as_bytes())
 }
@@ -64,7 +65,7 @@ impl<T: Item> Holds<T> for String {
     }
 }
 
-/// A first text that is lent stays so.
+/// A first text that is lent stays lent.
 impl<T: Item> Holds<T> for Cow {
     fn holds_first(&self, count: usize) -> bool {
         let is_owned = count > usize::from(!T::IS_OWNED);

@@ -5,7 +5,7 @@ use winnow_error::ErrMode::Backtrack;
 use winnow_error::{ErrMode, OrTree, ParserError, combine};
 use winnow_stream::{Needed, Stream};
 
-/// The widths that were left where each alternative failed: `append` and `or` grow them.
+/// The widths that were left where each alternative failed. `append` and `or` add to them.
 #[derive(Debug, Drop)]
 struct Failures(Vec<usize>);
 
@@ -72,7 +72,7 @@ impl<I: Stream> ParserError<I> for Failures {
     }
 }
 
-// The error of a parser that failed at an input, and of which another failed.
+// Returns the error of a parser that failed at an input, and of another that failed because of it.
 fn one<I: Stream + Copy, E: ParserError<I>>(
     alloc: Global,
     input: I,
@@ -94,7 +94,7 @@ fn both<E: Drop>(
     Ok(OrTree::Both(first, second))
 }
 
-// Three errors, of parsers that failed at these inputs.
+// Returns three errors, of parsers that failed at these inputs.
 fn three<I: Stream + Copy, E: ParserError<I>>(
     alloc: Global,
     first: I,
@@ -109,7 +109,7 @@ fn three<I: Stream + Copy, E: ParserError<I>>(
     both(alloc, one(alloc, first), later)
 }
 
-/// Errors appended to and combined, which a refusal gives up.
+/// Errors that are appended to and combined. A refusal gives them up.
 pub fn combine_three(alloc: Global) -> Result<bool, AllocError> {
     let tree: OrTree<ErrMode<Failures>> = three(alloc, "12x", "2x", "x")?;
     match combine::<&'static str, Failures>(alloc, tree)? {

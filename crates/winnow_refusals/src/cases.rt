@@ -6,10 +6,12 @@ use crate::{
 use std::alloc::{AllocError, Global};
 use std::collections::{BTreeMap, BTreeSet, HashMap, HashSet, VecDeque};
 
-/// A case by its name: whether it went as it should. It is an `Err` where it was refused memory, and the rest of it went so.
+/// A case by its name, with whether it went right. It is an `Err` where memory was refused and the
+/// rest went right.
 pub type Case = (&'static str, Result<bool, AllocError>);
 
-/// What a case says in which a call may have been refused and was then made again, on the state that the refusal left.
+/// Returns the result of a case in which a call may have been refused, and was then made again on
+/// the state that the refusal left.
 pub fn tell(refused: bool, right: bool) -> Result<bool, AllocError> {
     if refused && right {
         Err(AllocError)

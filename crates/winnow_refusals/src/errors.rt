@@ -14,7 +14,7 @@ type Told = ContextError<StrContext>;
 // More contexts than fit the room of a first push.
 const LABELS: [&str; 6] = ["a", "b", "c", "d", "e", "f"];
 
-// Whether the context is the label of that number.
+// Returns whether the context is the label with this number.
 fn is_label(context: &StrContext, number: usize) -> bool {
     match (context, LABELS.get(number)) {
         (Label(told), Some(label)) => *told == *label,
@@ -22,7 +22,7 @@ fn is_label(context: &StrContext, number: usize) -> bool {
     }
 }
 
-// Whether the contexts are the first `count` labels, in order.
+// Returns whether the contexts are the first `count` labels, in order.
 fn tells_first(error: &Told, count: usize) -> bool {
     let mut told: usize = 0;
     for context in error.context() {
@@ -41,14 +41,15 @@ fn push_three(error: &mut Told) -> Result<(), AllocError> {
     Ok(())
 }
 
-// An error with the first three labels.
+// Returns an error with the first three labels.
 fn made(alloc: Global) -> Result<Told, AllocError> {
     let mut error = Told::new(alloc);
     push_three(&mut error)?;
     Ok(error)
 }
 
-/// Pushes, of which some grow. Refused, the contexts are those from before, and take the same one.
+/// Pushes, of which some grow. When memory is refused, the contexts are those from before, and the
+/// same push can be made again.
 pub fn push(alloc: Global) -> Result<bool, AllocError> {
     let mut error = Told::new(alloc);
     let mut refused = false;
@@ -64,7 +65,7 @@ pub fn push(alloc: Global) -> Result<bool, AllocError> {
     tell(refused, tells_first(&error, LABELS.len()))
 }
 
-// A label as a context.
+// Returns a label as a context.
 fn context(index: usize) -> Option<StrContext> {
     match LABELS.get(index) {
         Some(label) => Some(Label(*label)),
@@ -72,7 +73,7 @@ fn context(index: usize) -> Option<StrContext> {
     }
 }
 
-// Whether the contexts are the first `count` labels, and then the last three.
+// Returns whether the contexts are the first `count` labels, and then the last three.
 fn tells_then_last(error: &Told, count: usize) -> bool {
     let mut told: usize = 0;
     for context in error.context() {
@@ -89,8 +90,9 @@ fn tells_then_last(error: &Told, count: usize) -> bool {
     told == count.saturating_add(3)
 }
 
-/// Three contexts behind three others, of an iterator that cannot say how many it has, so that their room grows amid them. Refused, the
-/// contexts from before stay, and those that came before the refused one; the same three come behind them.
+/// Appends three contexts to three others, from an iterator that cannot say how many it has, so
+/// that the room grows in the middle. When memory is refused, the contexts from before stay, and
+/// those that came before the refused one. The same three can then be appended.
 pub fn extend(alloc: Global) -> Result<bool, AllocError> {
     let mut error = made(alloc)?;
     let mut came = 3..LABELS.len();
@@ -105,12 +107,12 @@ pub fn extend(alloc: Global) -> Result<bool, AllocError> {
     tell(true, again.is_ok() && tells_then_last(&error, count))
 }
 
-// Whether a clone has the first three labels.
+// Returns whether a clone has the first three labels.
 fn clones(error: &Told) -> Result<bool, AllocError> {
     Ok(tells_first(&error.clone()?, 3))
 }
 
-/// A clone. Refused, its source is as it was, and is cloned.
+/// A clone. When memory is refused, the source is as it was, and can be cloned again.
 pub fn clone(alloc: Global) -> Result<bool, AllocError> {
     let error = made(alloc)?;
     match clones(&error) {
@@ -120,7 +122,7 @@ pub fn clone(alloc: Global) -> Result<bool, AllocError> {
     }
 }
 
-/// A context added to an error, which a refusal gives up.
+/// A context that is added to an error. A refusal gives the error up.
 pub fn add_context(alloc: Global) -> Result<bool, AllocError> {
     let input = "12x";
     let start = input.checkpoint();
@@ -138,7 +140,7 @@ pub fn into_owned(alloc: Global) -> Result<bool, AllocError> {
     Ok(bytes.input.as_slice() == b"12x".as_slice() && text.input.as_str() == "12x")
 }
 
-/// An error that is told by a label: converting it takes memory.
+/// An error whose conversion makes a label and takes memory.
 #[derive(Clone, Copy, Debug)]
 struct Labelled(&'static str);
 

@@ -16,13 +16,13 @@ const BYTES: [ByteStep<'static>; 4] = [Call(Next), Call(Next), Call(Peek), Call(
 
 const TEXTS: [TextStep<'static>; 4] = [Call(Next), Call(Next), Call(Peek), Call(Finish)];
 
-// How long a piece is for which the buffer has to grow.
+// The length of a piece for which the buffer has to grow.
 const LONG: usize = 65_536;
 
-// No place comes near what a `usize` holds.
+// No place comes near the greatest `usize`.
 pub(crate) const MOST: usize = 1_000_000;
 
-// The answers over an `a`, nothing, and that many times `b`.
+// Returns the answers over an `a`, an empty piece, and `LONG` times `b`.
 fn answers<T>(a: T, b: T, again: T) -> [Told<T>; 4] {
     [
         told(Some(1), Answer::Token(Some(a))),
@@ -39,7 +39,7 @@ fn told<T>(piece: Option<u64>, answer: Answer<T, Range<usize>, Range<usize>>) ->
     }
 }
 
-// What a feed says of its bytes, its attempts and its answers.
+// Returns the numbers of fed and kept bytes, of attempts and of answers of a feed.
 pub(crate) fn counts(feed: &ByteFeed) -> (usize, usize, u64, usize) {
     (feed.fed(), feed.held(), feed.tried(), feed.answers().len())
 }
@@ -48,7 +48,7 @@ pub(crate) fn text_counts(feed: &TextFeed) -> (usize, usize, u64, usize) {
     (feed.fed(), feed.held(), feed.tried(), feed.answers().len())
 }
 
-// Whether these answers are the first of those.
+// Returns whether the answers in `out` are the first of `all`.
 fn are_first<T: PartialEq>(out: &[Told<T>], all: &[Told<T>]) -> bool {
     match all.get(..out.len()) {
         Some(first) => first == out,
@@ -56,7 +56,7 @@ fn are_first<T: PartialEq>(out: &[Told<T>], all: &[Told<T>]) -> bool {
     }
 }
 
-// Feeds a piece. Refused, the feed is as it was, and takes the same piece.
+// Feeds a piece. When memory is refused, the feed is as it was, and takes the same piece again.
 fn feed_again(feed: &mut ByteFeed, piece: &[u8], all: &[Told<u8>]) -> Result<bool, AllocError> {
     if feed.fed() > MOST || piece.len() > MOST {
         return Ok(false);
@@ -85,12 +85,12 @@ fn feed_text_again(
     tell(true, kept && feed.feed(piece).is_ok())
 }
 
-// Whether these are all answers, and the final place.
+// Returns whether these are all answers, and the final place.
 fn is_finished<T: PartialEq>(finished: &Finished<T>, answers: &[Told<T>]) -> bool {
     finished.answers() == answers && finished.cursor() == LONG + 1
 }
 
-/// A feed of bytes. Refused, it is as it was, and takes the same piece again.
+/// A feed of bytes. When memory is refused, it is as it was, and takes the same piece again.
 pub fn feed_bytes(alloc: Global) -> Result<bool, AllocError> {
     let long = vec![in alloc; b'b'; LONG]?;
     feed_pieces(alloc, &[b"a", b"", long.as_slice()], &answers(97, 98, 98))
@@ -110,7 +110,7 @@ fn feed_pieces(alloc: Global, pieces: &[&[u8]], wanted: &[Told<u8>]) -> Result<b
     tell(refused, waits && is_finished(&feed.end(), wanted))
 }
 
-/// A feed of text. Refused, it is as it was, and takes the same piece again.
+/// A feed of text. When memory is refused, it is as it was, and takes the same piece again.
 pub fn feed_text(alloc: Global) -> Result<bool, AllocError> {
     let long = vec![in alloc; b'b'; LONG]?;
     let Ok(long) = str::from_utf8(long.as_slice()) else {
@@ -150,7 +150,7 @@ pub fn all_text(alloc: Global) -> Result<bool, AllocError> {
     Ok(is_finished(&finished, &answers('a', 'b', 'b')))
 }
 
-// Feeds so many pieces of that length; whether the feed kept none of their bytes.
+// Feeds `pieces` pieces of this length, and returns whether the feed kept none of their bytes.
 fn keeps_none(
     feed: &mut ByteFeed,
     bytes: &[u8],
@@ -169,7 +169,7 @@ fn keeps_none(
     Ok(feed.fed() == length.saturating_mul(pieces))
 }
 
-// The same of text.
+// The same for text.
 fn keeps_no_text(
     feed: &mut TextFeed,
     bytes: &[u8],
@@ -191,7 +191,7 @@ fn keeps_no_text(
     Ok(feed.fed() == length.saturating_mul(pieces))
 }
 
-/// Pieces of that length, whole parts of 1,024 characters, which a script takes from the feed as they come.
+/// Feeds pieces of this length, from which a script takes parts of 1,024 characters as they come.
 pub fn drain_text(alloc: Global, length: usize, pieces: usize) -> Result<bool, AllocError> {
     let script: [TextStep; 256] = [Call(Take(1024)); 256];
     let bytes = vec![in alloc; b'a'; 262_144]?;
@@ -200,7 +200,7 @@ pub fn drain_text(alloc: Global, length: usize, pieces: usize) -> Result<bool, A
     Ok(kept_none && feed.answers().len() == feed.fed() / 1024)
 }
 
-/// Pieces of that length, whole parts of 1,024 bytes, which a script takes from the feed as they come.
+/// Feeds pieces of this length, from which a script takes parts of 1,024 bytes as they come.
 pub fn drain(alloc: Global, length: usize, pieces: usize) -> Result<bool, AllocError> {
     let script: [ByteStep; 256] = [Call(Take(1024)); 256];
     let bytes = vec![in alloc; b'a'; 262_144]?;

@@ -13,18 +13,18 @@ const TEXTS: [&str; 6] = ["abc", "def", "ghi", "jkl", "mno", "pqr"];
 /// A text that is lent or owned.
 pub type Cow = CowStr<'static, Global>;
 
-/// An item, of which equal ones can be made.
+/// An item that can be made again by its number.
 pub trait Item: Drop {
-    /// More of them than fit the room of a first growth.
+    /// A number of items that do not fit in the room of a first growth.
     const TOTAL: usize;
 
-    /// How many elements or bytes one adds.
+    /// The number of elements or bytes that one item adds.
     const WIDTH: usize;
 
-    /// Whether a `CowStr` that holds one alone is a text of its own.
+    /// Whether a `CowStr` that holds a single item owns its text.
     const IS_OWNED: bool;
 
-    /// The one of that number, below `TOTAL`.
+    /// Returns the item with this number, which is below `TOTAL`.
     fn made(alloc: Global, number: usize) -> Result<Self, AllocError>;
 }
 
@@ -40,7 +40,7 @@ impl Item for usize {
     }
 }
 
-/// Each number beside itself.
+/// Each number, paired with itself.
 impl Item for (usize, usize) {
     const TOTAL: usize = 20;
 

@@ -8,7 +8,7 @@ fn text_copies(alloc: Global, text: &BStr<'static>) -> Result<bool, AllocError> 
     gives(text.to_vec(alloc), "[49, 50, 120]")
 }
 
-/// The bytes of a `BStr`, copied. Refused, it holds what it held.
+/// The bytes of a `BStr`, copied. When memory is refused, it holds what it held.
 pub fn text_to_vec(alloc: Global) -> Result<bool, AllocError> {
     let text = BStr::new(b"12x");
     match text_copies(alloc, &text) {
@@ -22,7 +22,7 @@ fn byte_copies(alloc: Global, bytes: &Bytes<'static>) -> Result<bool, AllocError
     gives(bytes.to_vec(alloc), "[49, 50, 120]")
 }
 
-/// The bytes of a `Bytes`, copied. Refused, it holds what it held.
+/// The bytes of a `Bytes`, copied. When memory is refused, it holds what it held.
 pub fn bytes_to_vec(alloc: Global) -> Result<bool, AllocError> {
     let bytes = Bytes::new(b"12x");
     match byte_copies(alloc, &bytes) {

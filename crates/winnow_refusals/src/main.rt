@@ -1,11 +1,12 @@
-//! Calls that grow, each with its answer checked and the state that a refusal leaves.
+//! Calls that grow. Each is checked for its answer and for the state that a refusal leaves.
 //!
-//! Run with the Nth allocation refused, for each N in turn (`refusals/run` does so), it must print the same lines but the last: a call
-//! that is refused answers so, leaves what its contract says, and answers rightly when made again on what it left. The last line says
-//! how many cases met a refusal.
+//! `refusals/run` runs the program with the Nth allocation refused, for each N in turn. It must
+//! print the same lines each time, except the last: a call that is refused says so, leaves what its
+//! contract says, and answers rightly when it is made again on that. The last line says how many
+//! cases met a refusal.
 //!
-//! With a word and two numbers, as `text 1024 2`, it feeds 2 pieces of 1,024 bytes, of text or of `bytes`, and does nothing else, so that its
-//! requests for memory can be counted.
+//! With a word and two numbers, such as `text 1024 2`, it feeds 2 pieces of 1,024 bytes, of `text`
+//! or of `bytes`, and does nothing else, so that its requests for memory can be counted.
 #![tactic(auto)]
 
 mod accumulators;
@@ -48,7 +49,7 @@ fn main(rt: HostRuntime) -> io::Result<()> {
     println!(rt; "refused: {}", refused.saturating_add(without))
 }
 
-// Says how each case went, and how it went again where it was refused memory.
+// Prints how each case went, and how it went the second time if it was refused memory.
 fn report(rt: &impl Print, first: &[Case], again: &[Case]) -> io::Result<()> {
     for ((name, first), (_, again)) in first.iter().zip(again) {
         println!(rt; "{name}: {}", outcome(*first, *again))?;
@@ -56,7 +57,8 @@ fn report(rt: &impl Print, first: &[Case], again: &[Case]) -> io::Result<()> {
     Ok(())
 }
 
-// Where the first was refused memory and the rest of it went as it should, the second counts.
+// Returns the word for a case. The second result counts where the first was refused memory and the
+// rest went right.
 fn outcome(first: Result<bool, AllocError>, again: Result<bool, AllocError>) -> &'static str {
     match first.or(again) {
         Ok(true) => "ok",

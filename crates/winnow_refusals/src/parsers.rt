@@ -1,4 +1,4 @@
-//! Parsers that gather values, join errors, or tell what was being read.
+//! Parsers that gather values, join errors, or add what was being read.
 
 use crate::accumulators::Holds;
 use crate::cases::tell;
@@ -13,7 +13,8 @@ use winnow_stream::Stream;
 use winnow_token::any;
 use winnow_tree::TreeError;
 
-// Gathers the characters. Refused, the parser gathers them when it is asked again where it began.
+// Gathers the characters. When memory is refused, the parser gathers them when it is asked again
+// where it began.
 fn gather<A: Holds<char>, P: Parser<&'static str, EmptyError, Output = A>>(
     alloc: Global,
     parser: &P,
@@ -36,7 +37,7 @@ where
     }
 }
 
-/// One parser again and again, in a vector.
+/// One parser, repeated, in a vector.
 pub fn repeat_in_vector(alloc: Global) -> Result<bool, AllocError> {
     gather(alloc, &repeat::<_, Vec<char>, _>(0.., any()))
 }
@@ -51,7 +52,7 @@ pub fn separate(alloc: Global) -> Result<bool, AllocError> {
     gather(alloc, &separated::<_, _, Vec<char>, _>(0.., any(), empty()))
 }
 
-/// A whole text. Refused, it is read when that is asked again.
+/// A whole text. When memory is refused, it is read when it is parsed again.
 pub fn parse(alloc: Global) -> Result<bool, AllocError> {
     let word = repeat::<_, String, _>(0.., any());
     let first = Parser::<_, EmptyError>::parse(&word, alloc, TEXT);
@@ -62,7 +63,7 @@ pub fn parse(alloc: Global) -> Result<bool, AllocError> {
     }
 }
 
-/// Two alternatives that fail, whose errors are joined; a refusal gives them up.
+/// Two alternatives that fail, whose errors are joined. A refusal gives the errors up.
 pub fn join(alloc: Global) -> Result<bool, AllocError> {
     let mut input = "12x";
     let both = alt((fail(), fail()));
@@ -76,7 +77,7 @@ pub fn join(alloc: Global) -> Result<bool, AllocError> {
     }
 }
 
-/// A parser that fails and tells what it was reading; a refusal gives that up.
+/// A parser that fails and adds what it was reading. A refusal gives the error up.
 pub fn tell_context(alloc: Global) -> Result<bool, AllocError> {
     let mut input = "12x";
     let told = fail().context('a');

@@ -1,9 +1,9 @@
-//! Values by how they print, which takes no memory.
+//! Comparing values by their texts, which takes no memory.
 
 use std::alloc::AllocError;
 use std::fmt::{Debug, InlineText, Write};
 
-/// Whether what was made prints so.
+/// Returns whether what was made has this debug text.
 pub fn gives<T: Debug + Drop>(
     made: Result<T, AllocError>,
     wanted: &str,

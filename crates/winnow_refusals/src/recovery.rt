@@ -6,7 +6,7 @@ use winnow_recover::{RecordError, Recover, Recoverable};
 
 type Mode = ErrMode<EmptyError>;
 
-// More errors than fit the room of a first one.
+// More errors than fit in the room of a first growth.
 const ERRORS: [Mode; 6] = [
     Backtrack(EmptyError),
     Cut(EmptyError),
@@ -16,7 +16,8 @@ const ERRORS: [Mode; 6] = [
     Backtrack(EmptyError),
 ];
 
-// Records all errors, and says whether one was refused. Refused, the error comes back, and is recorded then; `None` where that is not so.
+// Records all errors, and returns whether one was refused. A refused error comes back, and is then
+// recorded. Returns `None` where that fails.
 fn record_all<S: Recover<Mode>>(s: &mut S) -> Option<bool>
     requires { S.valid s.old }
 {
@@ -37,7 +38,8 @@ fn record_all<S: Recover<Mode>>(s: &mut S) -> Option<bool>
     Some(refused)
 }
 
-/// Errors that are recorded, of which some grow. Refused, the error comes back, and is recorded then, after those from before.
+/// Errors that are recorded, of which some grow the list. A refused error comes back, and is then
+/// recorded after those from before.
 pub fn record_err(alloc: Global) -> Result<bool, AllocError> {
     let mut s: Recoverable<&str, Mode> = Recoverable::new(alloc, "12x");
     let recorded = record_all(&mut s);

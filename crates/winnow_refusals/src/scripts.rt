@@ -17,7 +17,8 @@ fn runs(alloc: Global, input: &mut &[u8]) -> Result<bool, AllocError> {
     gives(run(alloc, input, &SCRIPT), ANSWERS)
 }
 
-/// A script that grows the answers, the marks and a list of items. Refused, the stream stands where it stood, and answers there.
+/// A script that grows the answers, the marks and a list of items. When memory is refused, the
+/// stream stands where it stood, and the script can be run again there.
 pub fn run_script(alloc: Global) -> Result<bool, AllocError> {
     let mut input = INPUT;
     match runs(alloc, &mut input) {
@@ -34,7 +35,7 @@ fn looks(alloc: Global, input: &mut &[u8]) -> Result<bool, AllocError> {
     gives(run_and_reset(alloc, input, &SCRIPT), ANSWERS)
 }
 
-/// The same script, and the stream goes back, refused or not.
+/// The same script, after which the stream goes back, whether memory was refused or not.
 pub fn look_ahead(alloc: Global) -> Result<bool, AllocError> {
     let mut input = INPUT;
     match looks(alloc, &mut input) {
@@ -59,14 +60,15 @@ const SEARCH: [SearchStep<NoSet, &[u8]>; 6] = [
 const FOUND: &str =
     "[Hit(Some(1..3)), Call(Marked(0)), Call(Items([(0, 97), (1, 98), (2, 99)])), Compared(Incomplete), Call(Token(Some(97))), Compared(Ok(2))]";
 
-// What remains behind them.
+// What remains after these steps.
 const BEHIND: &[u8] = b"bc";
 
 fn searches(alloc: Global, input: &mut &[u8]) -> Result<bool, AllocError> {
     gives(run_search(alloc, input, &SEARCH), FOUND)
 }
 
-/// A script that also compares and searches. Refused, the stream stands where it stood, and answers there.
+/// A script that also compares and searches. When memory is refused, the stream stands where it
+/// stood, and the script can be run again there.
 pub fn search_script(alloc: Global) -> Result<bool, AllocError> {
     let mut input = INPUT;
     match searches(alloc, &mut input) {

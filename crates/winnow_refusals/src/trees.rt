@@ -13,7 +13,7 @@ type Tree<I> = TreeError<I, StrContext>;
 
 const INPUT: &str = "12x";
 
-// An error that a parser failed of, which was reading a number.
+// Returns an error with the frame of a parser and a context.
 fn stacked<I: Stream + Copy>(alloc: Global, input: I) -> Result<Tree<I>, AllocError>
     requires { I.valid input }
 {
@@ -23,7 +23,7 @@ fn stacked<I: Stream + Copy>(alloc: Global, input: I) -> Result<Tree<I>, AllocEr
     error.add_context(alloc, &input, &start, Label("a"))
 }
 
-// Two alternatives, the second of which is stacked.
+// Returns the error of two alternatives, the second of which is stacked.
 fn alternatives<I: Stream + Copy>(alloc: Global, input: I) -> Result<Tree<I>, AllocError>
     requires { I.valid input }
 {
@@ -35,7 +35,7 @@ fn alternatives<I: Stream + Copy>(alloc: Global, input: I) -> Result<Tree<I>, Al
 const ALTERNATIVES: &str =
     "during one of:\n   at '12x'\n   at '12x'\n    0:  at '12x'\n    1: invalid a at '12x'\n";
 
-/// Whether that is the text of the error.
+/// Returns whether the error has this text.
 pub fn prints<I: Display>(
     alloc: Global,
     error: &TreeError<I, StrContext>,
@@ -45,7 +45,7 @@ pub fn prints<I: Display>(
     Ok(text.as_str() == wanted)
 }
 
-/// Frames on an error, which a refusal gives up.
+/// Frames that are added to an error. A refusal gives the error up.
 pub fn append(alloc: Global) -> Result<bool, AllocError> {
     let error = stacked(alloc, INPUT)?;
     prints(
@@ -55,13 +55,13 @@ pub fn append(alloc: Global) -> Result<bool, AllocError> {
     )
 }
 
-/// The error of two alternatives, which a refusal gives up.
+/// The error of two alternatives. A refusal gives it up.
 pub fn or(alloc: Global) -> Result<bool, AllocError> {
     let error = alternatives(alloc, INPUT)?;
     prints(alloc, &error, ALTERNATIVES)
 }
 
-/// The text of an error. Refused, the error is as it was, and has the same text.
+/// The text of an error. When memory is refused, the error is as it was, and has the same text.
 pub fn text(alloc: Global) -> Result<bool, AllocError> {
     let error = alternatives(alloc, INPUT)?;
     match prints(alloc, &error, ALTERNATIVES) {
@@ -70,7 +70,7 @@ pub fn text(alloc: Global) -> Result<bool, AllocError> {
     }
 }
 
-// The texts of what a parser failed at, and of what it was reading.
+// Returns whether the parts of an error, the frame and the context, have these texts.
 fn parts_print<I: Display>(
     alloc: Global,
     base: &TreeErrorBase<I>,
@@ -81,7 +81,8 @@ fn parts_print<I: Display>(
     Ok(base.as_str() == " at '12x'" && context.as_str() == "invalid a at '12x'")
 }
 
-/// The parts of an error with copies of their inputs, and their texts. Refused a text, the parts are as they were.
+/// The parts of an error with copies of their inputs, and their texts. When the memory for a text
+/// is refused, the parts are as they were.
 pub fn parts(alloc: Global) -> Result<bool, AllocError> {
     let base = TreeErrorBase {
         input: INPUT,
@@ -110,7 +111,7 @@ pub fn map_input(alloc: Global) -> Result<bool, AllocError> {
     )
 }
 
-/// An error at bytes told at their bits, back, and with their lengths.
+/// An error at bytes, converted to their bits and back, and then with their lengths.
 pub fn convert(alloc: Global) -> Result<bool, AllocError> {
     let input: &[u8] = b"12x";
     let bits: Tree<Bits<&[u8]>> = stacked(alloc, input)?.convert(alloc)?;
@@ -123,7 +124,7 @@ pub fn convert(alloc: Global) -> Result<bool, AllocError> {
     )
 }
 
-// An error beside one that is stacked.
+// Returns an error beside a stacked one.
 fn both<I: Stream + Copy>(alloc: Global, input: I) -> Result<OrTree<ErrMode<Tree<I>>>, AllocError>
     requires { I.valid input }
 {

@@ -12,13 +12,13 @@ const BYTES: [SearchStep<CharSet<'static>, &[u8]>; 2] = [Call(Next), Compare(b"b
 
 const TEXTS: [SearchStep<CharSet<'static>, &str>; 2] = [Call(Next), Compare("bcd")];
 
-// Whether it waits for what is missing of the literal.
+// Returns whether the feed waits for the missing part of the literal.
 fn waits(feed: &ByteFeed) -> Result<bool, AllocError> {
     gives(feed.waits_for(), "Until([99, 100])")
 }
 
-/// What a feed of bytes waits for. Refused, the feed is as it was, and answers when it is asked
-/// again.
+/// The input that a feed of bytes waits for. When memory is refused, the feed is as it was, and
+/// answers when it is asked again.
 pub fn wait_for_bytes(alloc: Global) -> Result<bool, AllocError> {
     let mut feed = ByteFeed::new(alloc, &BYTES)?;
     if feed.fed() > MOST {
@@ -37,7 +37,7 @@ fn text_waits(feed: &TextFeed) -> Result<bool, AllocError> {
     gives(feed.waits_for(), "Until(\"cd\")")
 }
 
-/// What a feed of text waits for.
+/// The input that a feed of text waits for.
 pub fn wait_for_text(alloc: Global) -> Result<bool, AllocError> {
     let mut feed = TextFeed::new(alloc, &TEXTS)?;
     if feed.fed() > MOST {

@@ -9,7 +9,8 @@ fn reads(alloc: Global, word: &[u8]) -> Result<bool, AllocError> {
     gives(literal(alloc, word), "Some([49, 50, 122])")
 }
 
-/// The bytes that a word of a script tells. Refused, the word may be read again.
+/// The bytes that a word of a script stands for. When memory is refused, the word can be read
+/// again.
 pub fn read_literal(alloc: Global) -> Result<bool, AllocError> {
     match reads(alloc, WORD) {
         Ok(right) => Ok(right),

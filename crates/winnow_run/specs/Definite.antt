@@ -1,4 +1,4 @@
--- Which answers no further input can change, and which of a script's answers are out.
+-- Which answers no further input can change, and which answers of a script are given out.
 use Rattle.std.specs.Prelude.{◌≡◌, ℕ, nat_le, Bool, true, false, List, ◌++◌, take, map, is_some, is_ok}
 use Rattle.std.specs.List.{All, take_while}
 use Rattle.winnow_stream.specs.Source.{Source, width, first_token, first_offset}
@@ -16,14 +16,15 @@ use Rattle.winnow_run.specs.declared.search_script.SearchStep.{SearchStep}
 use Rattle.winnow_run.specs.declared.search_script.SearchStep.TheVariants as step
 use Rattle.winnow_run.specs.Searching.{Kind, PlacedSearchAnswer, search_answer, search_next}
 
--- what a kind of pieces fixes: what a set holds, whether a shortage is counted, the bytes of a token and of a literal
+-- what a kind of pieces determines: what a set holds, whether a shortage is counted, and the bytes
+-- of a token and of a literal
 pub record PieceKind (T C L : Type 0) : Type 0 where
   pub holds : C → T → Bool
   pub counts_missing : Bool
   pub write : T → List ℕ
   pub literal : L → List ℕ
 
--- comparisons and searches are those of the bytes
+-- the kind of stream whose comparisons and searches are those of the bytes
 abbrev pub kind_of : {T C L : Type 0} → PieceKind T C L → Kind T C L
 kind_of k = record {
   holds = k.holds;
@@ -37,7 +38,7 @@ is_decided (compared.Ok n) = true
 is_decided compared.Incomplete = false
 is_decided compared.Error = true
 
--- whether no further input can change what a step answers where r remains
+-- whether no further input can change what a step answers if r remains
 module _ {T C : Type 0} (holds : C → T → Bool) (counts_missing : Bool) where
   abbrev pub is_call_definite : Step C → Source T → Bool
   is_call_definite call.Next r = is_some (first_token r)
@@ -68,10 +69,11 @@ module _ {T C L : Type 0} (k : PieceKind T C L) where
   abbrev pub judged_answers : Source T → List (SearchStep C L) → List (PlacedSearchAnswer T × Bool)
   judged_answers all script = answers_from (judged all) (search_next all) script start
 
-  -- the longest front of the answers whose members are all definite
+  -- the longest front of the answers in which each one is definite
   abbrev pub out : Source T → List (SearchStep C L) → List (PlacedSearchAnswer T)
   out all script = map (λ a. a.0) (take_while (λ a. a.1) (judged_answers all script))
 
--- what the first n answers are, all of them definite, they are with more input behind it, and definite there
+-- if the first n answers are definite, they are also the first n with more input appended, and
+-- definite there
 abbrev pub StableUnderMore : (T C L : Type 0) → Type 0
 StableUnderMore T C L = (k : PieceKind T C L) (script : List (SearchStep C L)) (all more : Source T) (n : ℕ) → All (λ a. a.1 ≡ true) (take n (judged_answers k all script)) → take n (judged_answers k (all ++ more) script) ≡ take n (judged_answers k all script)

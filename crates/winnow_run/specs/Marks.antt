@@ -5,7 +5,7 @@ use Rattle.winnow_run.specs.declared.marks.Marks.{Marks}
 abbrev pub places_of : Marks → List ℕ
 places_of marks = marks.places.items
 
--- how many marks there is room for
+-- the number of marks for which there is room
 abbrev pub room_of : Marks → ℕ
 room_of marks = vec_capacity marks.places
 

@@ -1,4 +1,4 @@
--- Where a run stands, and what one step of its script answers and leaves there.
+-- The state of a run, what one step of its script answers, and the state that the step leaves.
 use Rattle.std.specs.Prelude.{◌≡◌, ℕ, ◌-◌, ◌≤◌, Bool, Option, List, length, drop, slice_get, IfSome, ⊤}
 use Rattle.std.specs.List.{AllZip}
 use Rattle.std.specs.Global.{Vec}
@@ -14,7 +14,8 @@ use Rattle.winnow_run.specs.declared.script.Answer.{Answer}
 use Rattle.winnow_run.specs.declared.script.Step.{Step}
 use Rattle.winnow_run.specs.declared.script.Step.TheVariants as step
 
--- where a run stands: what remained at its origin, the places of the origin and of the end, what remains, and the places of its marks
+-- the state of a run: what remained at its origin, the places of the origin and of the end, what
+-- remains now, and the places of its marks
 pub record RunState (T : Type 0) : Type 0 where
   pub origin : Source T
   pub base : ℕ
@@ -22,7 +23,7 @@ pub record RunState (T : Type 0) : Type 0 where
   pub rest : Source T
   pub marks : List ℕ
 
--- where a stream and its marks stand
+-- the state of a run, from a stream and its marks
 abbrev pub run_state : {T K : Type 0} → (K → Source T) → Origin K → Source T → Marks → RunState T
 run_state remained origin rest marks = record {
   origin = remained origin.checkpoint;
@@ -32,12 +33,12 @@ run_state remained origin rest marks = record {
   marks = places_of marks;
 }
 
--- the place of a mark with i tokens before it
+-- the mark is the place that has i tokens before it
 pub record IsMarkAt {T : Type 0} (all : Source T) (mark : ℕ) (i : ℕ) : Type 0 where
   pub is : mark ≡ place all i
   pub within : i ≤ length all
 
--- a run that stands here stands at this cursor of this list
+-- a run in this state stands at the cursor `at` of the list `all`
 pub record StandsAt {T : Type 0} (here : RunState T) (all : Source T) (at : Cursor) : Type 0 where
   pub widths : HasPositiveWidths all
   pub rest : here.rest ≡ drop at.index all
@@ -59,24 +60,29 @@ TakesNoMemory step.Each marks = ⊥
 TakesNoMemory step.Mark marks = HasRoom marks
 TakesNoMemory _ marks = ⊤
 
--- the mark that a step goes back to, if there is one, is not before the origin
+-- the mark that a step goes back to, if there is one, is at or after the origin
 abbrev pub IsInReach : {C T : Type 0} → Step C → RunState T → Type 0
 IsInReach (step.Reset k) here = IfSome (slice_get here.marks k) (λ mark. here.base ≤ mark)
 IsInReach _ here = ⊤
 
--- the answer is the step's, at whatever cursor the run stands
-abbrev pub AnswersStep : {C T S : Type 0} → (C → T → Bool → Type 0) → (S → Source T → ℕ → Type 0) → Bool → Step C → RunState T → Answer T S (Vec (ℕ × T)) Needed → Type 0
+-- the given answer is the step's answer, at each cursor where the run may stand
+abbrev pub AnswersStep : {C T S : Type 0} → (C → T → Bool → Type 0) → (S → Source T → ℕ → Type 0)
+    → Bool → Step C → RunState T → Answer T S (Vec (ℕ × T)) Needed → Type 0
 AnswersStep {C} {T} may_answer is_slice counts_missing step here given =
-    (all : Source T) (at : Cursor) → StandsAt here all at → IsAnswer may_answer is_slice counts_missing all step at given
+    (all : Source T) (at : Cursor) → StandsAt here all at
+    → IsAnswer may_answer is_slice counts_missing all step at given
 
--- after the step the run stands where the step leaves the cursor, whatever cursor it stood at
+-- after the step the run stands where the step leaves the cursor, for each cursor where it may have
+-- stood
 abbrev pub StandsAfter : {C T : Type 0} → Step C → RunState T → RunState T → Type 0
 StandsAfter {C} {T} step here there = (all : Source T) (at : Cursor) → StandsAt here all at → StandsAt there all (step_next all step at)
 
--- in the whole input, the origin and the stream are as far behind the place of the list's start as the run says
+-- in the whole input, the origin and the stream are as far after the start of the list as the run
+-- says
 abbrev pub AreLocated : {T : Type 0} → Option ℕ → RunState T → Option ℕ → Option ℕ → Type 0
 AreLocated whole here origin place = (origin ≡ location_behind whole here.base) × (place ≡ location_behind whole (here.end - width here.rest))
 
--- so they are after a step, if they were before it
-abbrev pub StayLocated : {T : Type 0} → Option ℕ → RunState T → Option ℕ → RunState T → Option ℕ → Type 0
+-- they are so after a step, if they were so before it
+abbrev pub StayLocated : {T : Type 0} → Option ℕ → RunState T → Option ℕ → RunState T → Option ℕ
+    → Type 0
 StayLocated origin here from there to = (whole : Option ℕ) → AreLocated whole here origin from → AreLocated whole there origin to

@@ -18,12 +18,12 @@ use Rattle.winnow_run.specs.declared.script.Answer.TheVariants as answer
 abbrev pub PlacedAnswer : Type 0 → Type 0
 PlacedAnswer T = Answer T (Range ℕ) (Range ℕ) Needed
 
--- the slice of width n from place a on, if that is the width of a front
+-- the slice of width n at place a, if n is the width of a front
 abbrev pub slice_answer : {T : Type 0} → ℕ → ℕ → Option ℕ → PlacedAnswer T
 slice_answer a n None = answer.BadOffset
 slice_answer a n (Some count) = answer.Slice (span a n)
 
--- going back to a mark
+-- the cursor after going back to a mark
 abbrev pub reset_answer : {T : Type 0} → Option ℕ → PlacedAnswer T
 reset_answer None = answer.NoMark
 reset_answer (Some mark) = answer.Done
@@ -33,7 +33,8 @@ abbrev pub since_answer : {T : Type 0} → Source T → ℕ → Option ℕ → P
 since_answer all i None = answer.NoMark
 since_answer all i (Some mark) = cond (nat_le mark i) (answer.Offset (width (drop mark all) - width (drop i all))) answer.LaterMark
 
--- what a step answers at the cursor. `holds` says what each set holds, `counts_missing` whether a shortage is counted
+-- what a step answers at the cursor. `holds` says what each set holds, `counts_missing` whether a
+-- shortage is counted
 module _ {C T : Type 0} (holds : C → T → Bool) (counts_missing : Bool) (all : Source T) where
   abbrev pub step_answer : Step C → Cursor → PlacedAnswer T
   step_answer step.Next at = answer.Token (first_token (rest all at))
@@ -51,7 +52,8 @@ module _ {C T : Type 0} (holds : C → T → Bool) (counts_missing : Bool) (all 
   step_answer (step.Reset k) at = reset_answer (slice_get at.marks k)
   step_answer (step.Since k) at = since_answer all at.index (slice_get at.marks k)
 
--- where a step leaves the cursor: `Next`, `Take`, `Finish` and `Reset` move it, and `Mark` adds it to the marks
+-- the cursor after a step: `Next`, `Take`, `Finish` and `Reset` move it, and `Mark` adds it to the
+-- marks
 module _ {C T : Type 0} (all : Source T) where
   abbrev pub step_next : Step C → Cursor → Cursor
   step_next step.Next at = record at { index = min (at.index + 1) (length all) }
@@ -62,14 +64,16 @@ module _ {C T : Type 0} (all : Source T) where
   step_next _ at = at
 
 -- the answers of a script on a list
-abbrev pub answers : {C T : Type 0} → (C → T → Bool) → Bool → Source T → List (Step C) → List (PlacedAnswer T)
+abbrev pub answers : {C T : Type 0} → (C → T → Bool) → Bool → Source T → List (Step C)
+    → List (PlacedAnswer T)
 answers holds counts_missing all script = answers_from (step_answer holds counts_missing all) (step_next all) script start
 
--- what a script leaves of a list
+-- what remains of a list after a script
 abbrev pub rest_after : {C T : Type 0} → Source T → List (Step C) → Source T
 rest_after all script = rest all (cursor_after (step_next all) script start)
 
--- an answer that was given is the one that the definition tells of: a slice is the one of its place, and items list theirs
+-- the given answer is the one that the definition gives: a slice is the one at that place, and
+-- items are those at that place
 module _ {T S : Type 0} (is_slice : S → Source T → ℕ → Type 0) (all : Source T) where
   abbrev pub StandsFor : PlacedAnswer T → Answer T S (Vec (ℕ × T)) Needed → Type 0
   StandsFor (answer.Token t) given = given ≡ answer.Token t
@@ -85,16 +89,17 @@ module _ {T S : Type 0} (is_slice : S → Source T → ℕ → Type 0) (all : So
   StandsFor answer.NoMark given = given ≡ answer.NoMark
   StandsFor answer.LaterMark given = given ≡ answer.LaterMark
 
--- `holds` is what the set that a step names, if any, answers
+-- the set that a step names, if any, answers what `holds` says
 abbrev pub SetComputes : {C T : Type 0} → (C → T → Bool → Type 0) → (C → T → Bool) → Step C → Type 0
 SetComputes may_answer holds (step.First c) = Computes (may_answer c) (holds c)
 SetComputes may_answer holds _ = ⊤
 
--- `holds` is what each set answers that a script names
-abbrev pub SetsCompute : {C T : Type 0} → (C → T → Bool → Type 0) → (C → T → Bool) → List (Step C) → Type 0
+-- each set that a script names answers what `holds` says
+abbrev pub SetsCompute : {C T : Type 0} → (C → T → Bool → Type 0) → (C → T → Bool) → List (Step C)
+    → Type 0
 SetsCompute may_answer holds script = All (SetComputes may_answer holds) script
 
--- each step was given an answer, in order, at the cursor that the steps before it left
+-- each step has a given answer, in order, at the cursor that the steps before it left
 module _ {S G : Type 0} (IsGiven : S → Cursor → G → Type 0) (moves : S → Cursor → Cursor) where
   abbrev pub AreGiven : List S → Cursor → List G → Type 0
   AreGiven [] at [] = ⊤
@@ -102,21 +107,24 @@ module _ {S G : Type 0} (IsGiven : S → Cursor → G → Type 0) (moves : S →
   AreGiven (s ∷ ss) at [] = ⊥
   AreGiven (s ∷ ss) at (g ∷ gs) = IsGiven s at g × AreGiven ss (moves s at) gs
 
--- an answer that was given stands for the one that the step tells of, whatever the set holds that it names
-abbrev pub IsAnswer : {C T S : Type 0} → (C → T → Bool → Type 0) → (S → Source T → ℕ → Type 0) → Bool → Source T → Step C → Cursor → Answer T S (Vec (ℕ × T)) Needed → Type 0
+-- the given answer stands for the step's answer, for each `holds` that the step's set computes
+abbrev pub IsAnswer : {C T S : Type 0} → (C → T → Bool → Type 0) → (S → Source T → ℕ → Type 0)
+    → Bool → Source T → Step C → Cursor → Answer T S (Vec (ℕ × T)) Needed → Type 0
 IsAnswer {C} {T} may_answer is_slice counts_missing all step at given =
-    (holds : C → T → Bool) → SetComputes may_answer holds step → StandsFor is_slice all (step_answer holds counts_missing all step at) given
+    (holds : C → T → Bool) → SetComputes may_answer holds step
+    → StandsFor is_slice all (step_answer holds counts_missing all step at) given
 
--- so does each answer of a script; one over a set that does not compute leaves the others as they are
-abbrev pub AreAnswers : {C T S : Type 0} → (C → T → Bool → Type 0) → (S → Source T → ℕ → Type 0) → Bool → Source T → List (Step C) → List (Answer T S (Vec (ℕ × T)) Needed) → Type 0
+-- each given answer is one of its step; a set that does not compute has no effect on other answers
+abbrev pub AreAnswers : {C T S : Type 0} → (C → T → Bool → Type 0) → (S → Source T → ℕ → Type 0)
+    → Bool → Source T → List (Step C) → List (Answer T S (Vec (ℕ × T)) Needed) → Type 0
 AreAnswers may_answer is_slice counts_missing all script given =
     AreGiven (IsAnswer may_answer is_slice counts_missing all) (step_next all) script start given
 
--- the set that a step names, if any, may be asked
+-- the set that a step names, if any, meets the condition under which it may be asked
 abbrev pub IsReady : {C : Type 0} → (C → Type 0) → Step C → Type 0
 IsReady can (step.First c) = can c
 IsReady can _ = ⊤
 
--- every set that a script names may be asked
+-- each set that a script names meets that condition
 abbrev pub AreReady : {C : Type 0} → (C → Type 0) → List (Step C) → Type 0
 AreReady can script = All (IsReady can) script

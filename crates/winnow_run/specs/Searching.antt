@@ -1,4 +1,4 @@
--- Scripts that also compare and search: the two further steps, beside the calls.
+-- Scripts that also compare and search: two further steps, beside the calls.
 use Rattle.std.specs.Prelude.{◌≡◌, ℕ, Bool, List, Option, ⊤}
 use Rattle.std.specs.List.{All}
 use Rattle.std.specs.Global.{Vec}
@@ -16,7 +16,8 @@ use Rattle.winnow_run.specs.declared.search_script.SearchStep.TheVariants as ste
 use Rattle.winnow_run.specs.declared.search_script.SearchAnswer.{SearchAnswer}
 use Rattle.winnow_run.specs.declared.search_script.SearchAnswer.TheVariants as answer
 
--- what a kind of stream fixes: what a set holds, whether a shortage is counted, and what comparisons and searches answer
+-- what a kind of stream determines: what a set holds, whether a shortage is counted, and what
+-- comparisons and searches answer
 pub record Kind (T C L : Type 0) : Type 0 where
   pub holds : C → T → Bool
   pub counts_missing : Bool
@@ -27,7 +28,7 @@ pub record Kind (T C L : Type 0) : Type 0 where
 abbrev pub PlacedSearchAnswer : Type 0 → Type 0
 PlacedSearchAnswer T = SearchAnswer T (Range ℕ) (Range ℕ)
 
--- where a step leaves the cursor: only a call moves it
+-- the cursor after a step: only a call moves it
 module _ {T C L : Type 0} (all : Source T) where
   abbrev pub search_next : SearchStep C L → Cursor → Cursor
   search_next (step.Call call) at = step_next all call at
@@ -45,62 +46,78 @@ module _ {T C L : Type 0} (kind : Kind T C L) (all : Source T) where
   abbrev pub search_answers : List (SearchStep C L) → List (PlacedSearchAnswer T)
   search_answers script = answers_from search_answer (search_next all) script start
 
--- where a script leaves the cursor
+-- the cursor after a script
 abbrev pub search_cursor : {T C L : Type 0} → Source T → List (SearchStep C L) → Cursor
 search_cursor all script = cursor_after (search_next all) script start
 
--- an answer that was given is the one that the definition tells of
+-- the given answer is the one that the definition gives
 module _ {T S : Type 0} (is_slice : S → Source T → ℕ → Type 0) (all : Source T) where
   abbrev pub SearchStandsFor : PlacedSearchAnswer T → SearchAnswer T S (Vec (ℕ × T)) → Type 0
   SearchStandsFor (answer.Call a) given = (told : Answer T S (Vec (ℕ × T)) Needed) × (given ≡ answer.Call told) × StandsFor is_slice all a told
   SearchStandsFor (answer.Compared c) given = given ≡ answer.Compared c
   SearchStandsFor (answer.Hit o) given = given ≡ answer.Hit o
 
--- `holds` is what the set that a step names, if any, answers
-abbrev pub SearchComputes : {C T L : Type 0} → (C → T → Bool → Type 0) → (C → T → Bool) → SearchStep C L → Type 0
+-- the set that a step names, if any, answers what `holds` says
+abbrev pub SearchComputes : {C T L : Type 0} → (C → T → Bool → Type 0) → (C → T → Bool)
+    → SearchStep C L → Type 0
 SearchComputes may_answer holds (step.Call call) = SetComputes may_answer holds call
 SearchComputes may_answer holds (step.Compare literal) = ⊤
 SearchComputes may_answer holds (step.Find needles) = ⊤
 
--- the set that a step names, if any, may be asked
+-- the set that a step names, if any, meets the condition under which it may be asked
 abbrev pub IsSearchReady : {C L : Type 0} → (C → Type 0) → SearchStep C L → Type 0
 IsSearchReady can (step.Call call) = IsReady can call
 IsSearchReady can (step.Compare literal) = ⊤
 IsSearchReady can (step.Find needles) = ⊤
 
--- every set that a script names may be asked
+-- each set that a script names meets that condition
 abbrev pub AreSearchReady : {C L : Type 0} → (C → Type 0) → List (SearchStep C L) → Type 0
 AreSearchReady can script = All (IsSearchReady can) script
 
 -- the kind of a stream
-abbrev pub stream_kind : {T C L : Type 0} → (C → T → Bool) → Bool → (L → Source T → CompareResult) → (Needles L → Source T → Option (Range ℕ)) → Kind T C L
+abbrev pub stream_kind : {T C L : Type 0} → (C → T → Bool) → Bool → (L → Source T → CompareResult)
+    → (Needles L → Source T → Option (Range ℕ)) → Kind T C L
 stream_kind holds counts_missing compared found = record { holds = holds; counts_missing = counts_missing; compared = compared; found = found }
 
--- an answer that was given stands for the one that the step tells of, whatever the set holds that it names
-abbrev pub IsSearchAnswer : {C T S L : Type 0} → (C → T → Bool → Type 0) → (S → Source T → ℕ → Type 0) → Bool → (L → Source T → CompareResult) → (Needles L → Source T → Option (Range ℕ)) → Source T → SearchStep C L → Cursor → SearchAnswer T S (Vec (ℕ × T)) → Type 0
+-- the given answer stands for the step's answer, for each `holds` that the step's set computes
+abbrev pub IsSearchAnswer : {C T S L : Type 0} → (C → T → Bool → Type 0)
+    → (S → Source T → ℕ → Type 0) → Bool → (L → Source T → CompareResult)
+    → (Needles L → Source T → Option (Range ℕ)) → Source T → SearchStep C L → Cursor
+    → SearchAnswer T S (Vec (ℕ × T)) → Type 0
 IsSearchAnswer {C} {T} may_answer is_slice counts_missing compared found all step at given =
-    (holds : C → T → Bool) → SearchComputes may_answer holds step → SearchStandsFor is_slice all (search_answer (stream_kind holds counts_missing compared found) all step at) given
+    (holds : C → T → Bool) → SearchComputes may_answer holds step
+    → SearchStandsFor is_slice all
+    (search_answer (stream_kind holds counts_missing compared found) all step at) given
 
--- so does each answer of a script; one over a set that does not compute leaves the others as they are
-abbrev pub AreSearchAnswers : {C T S L : Type 0} → (C → T → Bool → Type 0) → (S → Source T → ℕ → Type 0) → Bool → (L → Source T → CompareResult) → (Needles L → Source T → Option (Range ℕ)) → Source T → List (SearchStep C L) → List (SearchAnswer T S (Vec (ℕ × T))) → Type 0
+-- each given answer is one of its step; a set that does not compute has no effect on other answers
+abbrev pub AreSearchAnswers : {C T S L : Type 0} → (C → T → Bool → Type 0)
+    → (S → Source T → ℕ → Type 0) → Bool → (L → Source T → CompareResult)
+    → (Needles L → Source T → Option (Range ℕ)) → Source T → List (SearchStep C L)
+    → List (SearchAnswer T S (Vec (ℕ × T))) → Type 0
 AreSearchAnswers may_answer is_slice counts_missing compared found all script given =
     AreGiven (IsSearchAnswer may_answer is_slice counts_missing compared found all) (search_next all) script start given
 
--- what a script leaves of a list
+-- what remains of a list after a script
 abbrev pub rest_after_search : {C T L : Type 0} → Source T → List (SearchStep C L) → Source T
 rest_after_search all script = rest all (search_cursor all script)
 
--- the mark that a step goes back to, if there is one, is not before the origin
+-- the mark that a step goes back to, if there is one, is at or after the origin
 abbrev pub IsSearchInReach : {C T L : Type 0} → SearchStep C L → RunState T → Type 0
 IsSearchInReach (step.Call call) here = IsInReach call here
 IsSearchInReach (step.Compare literal) here = ⊤
 IsSearchInReach (step.Find needles) here = ⊤
 
--- the answer is the step's, at whatever cursor the run stands
-abbrev pub AnswersSearchStep : {C T S L : Type 0} → (C → T → Bool → Type 0) → (S → Source T → ℕ → Type 0) → Bool → (L → Source T → CompareResult) → (Needles L → Source T → Option (Range ℕ)) → SearchStep C L → RunState T → SearchAnswer T S (Vec (ℕ × T)) → Type 0
+-- the given answer is the step's answer, at each cursor where the run may stand
+abbrev pub AnswersSearchStep : {C T S L : Type 0} → (C → T → Bool → Type 0)
+    → (S → Source T → ℕ → Type 0) → Bool → (L → Source T → CompareResult)
+    → (Needles L → Source T → Option (Range ℕ)) → SearchStep C L → RunState T
+    → SearchAnswer T S (Vec (ℕ × T)) → Type 0
 AnswersSearchStep {C} {T} may_answer is_slice counts_missing compared found step here given =
-    (all : Source T) (at : Cursor) → StandsAt here all at → IsSearchAnswer may_answer is_slice counts_missing compared found all step at given
+    (all : Source T) (at : Cursor) → StandsAt here all at
+    → IsSearchAnswer may_answer is_slice counts_missing compared found all step at given
 
--- after the step the run stands where the step leaves the cursor, whatever cursor it stood at
-abbrev pub StandsAfterSearchStep : {C T L : Type 0} → SearchStep C L → RunState T → RunState T → Type 0
+-- after the step the run stands where the step leaves the cursor, for each cursor where it may have
+-- stood
+abbrev pub StandsAfterSearchStep : {C T L : Type 0} → SearchStep C L → RunState T → RunState T
+    → Type 0
 StandsAfterSearchStep {C} {T} step here there = (all : Source T) (at : Cursor) → StandsAt here all at → StandsAt there all (search_next all step at)

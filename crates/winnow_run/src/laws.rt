@@ -7,9 +7,11 @@ use crate::{Answer, Step, run};
 use std::alloc::{AllocError, Global};
 use winnow_stream::{ScriptSet, Stream};
 
-/// Runs a script and goes back: whatever the calls were, `reset` to a checkpoint from before gives back what remained then.
+/// Runs a script and goes back: after any calls, `reset` to an earlier checkpoint restores what
+/// remained there.
 ///
-/// So a parser looks ahead: the answers are those of [`run`], and the stream stands where it stood.
+/// A parser looks ahead in this way: it gets the answers of [`run`], and the stream stands where it
+/// stood.
 pub fn run_and_reset<S: Stream, C: ScriptSet<S::Token>>(
     alloc: Global,
     s: &mut S,
@@ -21,7 +23,8 @@ where
     requires valid { S.valid s.old }
     requires ready { AreReady C.askable script.now }
     ensures answers { IfOk result (λ out.
-        AreAnswers C.may_answer S.is_slice S.counts_missing (S.remaining s.old) script.now out.items) }
+        AreAnswers C.may_answer S.is_slice S.counts_missing (S.remaining s.old)
+        script.now out.items) }
     ensures remains { S.remaining s.new ≡ S.remaining s.old }
     ensures location { S.location s.new ≡ S.location s.old }
     ensures valid { S.valid s.new }
@@ -33,17 +36,18 @@ where
     answers
 }
 
-/// The law of a whole script: where every set that it names computes, the answers that [`run`] gives are, one by one, those of the
-/// script. It does nothing when called: its contract is the law.
+/// The law of a whole script: if each set that the script names computes, the answers that [`run`]
+/// gives are, one by one, those of the script. A law does nothing when called: its contract is the
+/// law.
 pub fn answers_law<S: Stream, C: ScriptSet<S::Token>>()
     ensures { (holds : _) (all : _) (script : _) (out : _) → SetsCompute C.may_answer holds script
         → AreAnswers C.may_answer S.is_slice S.counts_missing all script out
         → AllZip (StandsFor S.is_slice all) (answers holds S.counts_missing all script) out }
 {}
 
-/// The law of stability: if the first n answers of a script on a list are definite, they are the first n on that list followed by
-/// anything, and definite there. So whoever reads input as it comes may act on a definite answer at once. It does nothing when
-/// called: its contract is the law.
+/// The law of stability: if the first n answers of a script on a list are definite, they are also
+/// the first n answers on that list followed by anything, and definite there. So a reader of input
+/// that arrives in pieces may act on a definite answer at once.
 pub fn definite_law<T, C, L>()
     ensures { StableUnderMore T C L }
 {}

@@ -1,8 +1,9 @@
 //! Scripts of calls on a stream, whose answers are those of a cursor on one list.
 //!
-//! [`run`] runs a script of calls on any stream, [`run_search`] one that also compares and searches. Both, and every engine for
-//! further steps, rest on one step, [`answer_step`], over one type of marks, [`Marks`]. Here is also the word for which answers no
-//! further input can change, with its law, [`definite_law`].
+//! [`run`] runs a script of calls on any stream, and [`run_search`] a script that also compares and
+//! searches. Both, and each engine for further steps, are built on one function for a step,
+//! [`answer_step`], over one type of marks, [`Marks`]. The crate also defines which answers no
+//! further input can change, and states their law, [`definite_law`].
 #![tactic(auto)]
 
 mod laws;

@@ -16,7 +16,7 @@ pub struct Marks {
 impl Marks {
     ghost use Rattle.winnow_run.specs.Marks.{places_of, room_of, HasRoom};
 
-    /// Returns no marks, and takes no memory.
+    /// Returns an empty list of marks, and takes no memory.
     pub fn new(alloc: Global) -> Self
         ensures { places_of result ≡ [] }
     {
@@ -25,7 +25,8 @@ impl Marks {
         }
     }
 
-    /// Returns no marks, with room for so many, so that making them takes no memory.
+    /// Returns an empty list of marks with room for the given number, so that making these takes no
+    /// memory.
     pub fn with_capacity(alloc: Global, count: usize) -> Result<Self, AllocError>
         ensures none { IfOk result (λ marks. places_of marks ≡ []) }
         ensures room { IfOk result (λ marks. count ≤ room_of marks) }
@@ -34,21 +35,21 @@ impl Marks {
         Ok(Marks { places })
     }
 
-    /// Returns how many marks were made.
+    /// Returns the number of marks that were made.
     pub fn count(&self) -> usize
         ensures { result ≡ length (places_of self.now) }
     {
         self.places.len()
     }
 
-    /// Returns the place of the mark of that number, counted from 0, if there is one.
+    /// Returns the place of the mark with the given number, counted from 0, if there is one.
     pub fn place(&self, number: usize) -> Option<usize>
         ensures { result ≡ slice_get (places_of self.now) number }
     {
         self.places.get(number).copied()
     }
 
-    /// Makes a further mark, and takes memory only where there is no room for it.
+    /// Adds a mark, and takes memory only if there is no room for it.
     pub fn push(&mut self, place: usize) -> Result<(), AllocError>
         ensures ok { OnOk result (places_of self.new ≡ places_of self.old ++ place ∷ []) }
         ensures refused { OnErr result (places_of self.new ≡ places_of self.old) }
@@ -60,10 +61,10 @@ impl Marks {
     }
 }
 
-/// Where a run can go back to, and the place of the end of its list.
+/// The position that a run can go back to, and the place of the end of its list.
 #[derive(Clone, Copy, Debug)]
 pub struct Origin<K> {
-    /// What remained there
+    /// A checkpoint, which knows what remained there
     pub checkpoint: K,
     /// The place of the checkpoint
     pub place: usize,
@@ -72,7 +73,7 @@ pub struct Origin<K> {
 }
 
 impl<K> Origin<K> {
-    /// Returns where the stream stands, as the origin of a run whose list ends at that place.
+    /// Returns the stream's position as the origin of a run whose list ends at the place `end`.
     pub fn new<S: Stream<Checkpoint = K>>(s: &S, end: usize) -> Self
     where
         K: Rest,

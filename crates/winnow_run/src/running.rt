@@ -7,11 +7,11 @@ use crate::{Answer, Marks, Origin, Step, answer_step};
 use std::alloc::{AllocError, Global};
 use winnow_stream::{ScriptSet, Stream};
 
-/// Runs a script of calls on a stream, and gives their answers in order.
+/// Runs a script of calls on a stream, and returns their answers in order.
 ///
-/// The answers are those of one cursor on the list that remained at the call, whatever the stream is made of. A step that
-/// cannot be carried out (an offset that is not valid, a mark that was not made) answers so, and moves nothing. Refused for
-/// memory, the stream stands where it stood.
+/// The answers are those of one cursor on the list that remained at the call, for every type of
+/// stream. A step that cannot be carried out (its offset is not valid, or its mark was not made)
+/// answers that, and moves nothing. If memory is refused, the stream stands where it stood.
 pub fn run<S: Stream, C: ScriptSet<S::Token>>(
     alloc: Global,
     s: &mut S,
@@ -23,7 +23,8 @@ where
     requires valid { S.valid s.old }
     requires ready { AreReady C.askable script.now }
     ensures answers { IfOk result (λ out.
-        AreAnswers C.may_answer S.is_slice S.counts_missing (S.remaining s.old) script.now out.items) }
+        AreAnswers C.may_answer S.is_slice S.counts_missing (S.remaining s.old)
+        script.now out.items) }
     ensures remains { OnOk result (S.remaining s.new ≡ rest_after (S.remaining s.old) script.now) }
     ensures location { OnOk result (S.location s.new
         ≡ location_behind (S.location s.old)
@@ -41,7 +42,7 @@ where
     answers
 }
 
-// The same, but refused for memory the stream stays where the last step left it.
+// Does the same, but if memory is refused the stream stays where the last step left it.
 fn run_steps<S: Stream, C: ScriptSet<S::Token>>(
     alloc: Global,
     s: &mut S,
@@ -53,7 +54,8 @@ where
     requires valid { S.valid s.old }
     requires ready { AreReady C.askable script.now }
     ensures answers { IfOk result (λ out.
-        AreAnswers C.may_answer S.is_slice S.counts_missing (S.remaining s.old) script.now out.items) }
+        AreAnswers C.may_answer S.is_slice S.counts_missing (S.remaining s.old)
+        script.now out.items) }
     ensures remains { OnOk result (S.remaining s.new ≡ rest_after (S.remaining s.old) script.now) }
     ensures location { OnOk result (S.location s.new
         ≡ location_behind (S.location s.old)
@@ -64,7 +66,8 @@ where
     let origin = Origin::new(s, s.eof_offset());
     let mut marks = Marks::new(alloc);
     let mut answers = Vec::with_capacity(alloc, script.len())?;
-    // A slice that gets shorter stays in registers. The place that a `for` counts did not, and steps waited for it: an eighth of the time.
+    // A slice that gets shorter stays in registers. The index of a `for` did not, and steps waited
+    // for it, which took an eighth of the time.
     let mut rest = script;
     while let Some((step, later)) = rest.split_first() {
         let answer = answer_step(alloc, s, &origin, &mut marks, step)?;

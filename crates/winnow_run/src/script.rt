@@ -27,24 +27,24 @@ pub enum Step<C> {
     Each,
     /// `checkpoint`; marks are numbered from 0
     Mark,
-    /// `reset` to the mark of that number
+    /// `reset` to the mark with that number
     Reset(usize),
-    /// `offset_since` the mark of that number
+    /// `offset_since` the mark with that number
     Since(usize),
 }
 
-/// What a step answers: a token, a slice `S`, a number, or a list of offsets and tokens `L`.
+/// The answer to a step: a token `T`, a slice `S`, a number, or a list `L` of offsets and tokens.
 ///
-/// `N` is what a shortage answers, and always `Needed`: write `Answer<T, S, L>`.
+/// `N` is the answer to a shortage. It is always `Needed`: write `Answer<T, S, L>`.
 #[derive(Debug, Drop, PartialEq, Eq)]
 pub enum Answer<T, S, L, N = Needed> {
     /// The first token, or `None` at the end
     Token(Option<T>),
-    /// The slice that was asked for
+    /// The slice that was requested
     Slice(S),
     /// A width, in the stream's offsets
     Offset(usize),
-    /// The offset behind a number of tokens, or how many are missing
+    /// The offset after a number of tokens, or how many tokens are missing
     At(Result<usize, N>),
     /// Whether an offset is valid
     Flag(bool),
@@ -58,8 +58,8 @@ pub enum Answer<T, S, L, N = Needed> {
     Done,
     /// No front has that width, and nothing moved
     BadOffset,
-    /// There is no mark of that number, and nothing moved
+    /// There is no mark with that number, and nothing moved
     NoMark,
-    /// The mark is later than the stream stands
+    /// The mark is after the stream's position
     LaterMark,
 }

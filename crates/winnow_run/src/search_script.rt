@@ -2,7 +2,8 @@ use crate::{Answer, Step};
 use std::ops::Range;
 use winnow_match::{CompareResult, Needles};
 
-/// A step of a script that also compares and searches, as data. `C` is a set of tokens, `L` a literal.
+/// A step of a script that also compares and searches, as data. `C` is a set of tokens, `L` a
+/// literal.
 #[derive(Clone, Copy, Debug, Drop)]
 pub enum SearchStep<C, L> {
     /// A call of `Stream`
@@ -13,14 +14,14 @@ pub enum SearchStep<C, L> {
     Find(Needles<L>),
 }
 
-/// What a step answers, of a call or of a further step: see [`Answer`] for `T`, `S` and `L`.
+/// The answer to a step: to a call, a comparison or a search. See [`Answer`] for `T`, `S` and `L`.
 #[derive(Debug, Drop, PartialEq, Eq)]
 pub enum SearchAnswer<T, S, L> {
     /// What the call answers
     Call(Answer<T, S, L>),
     /// How the literal compares with what remains
     Compared(CompareResult),
-    /// The first place of a needle in what remains, counted from where the stream stands
+    /// The first place of a needle in what remains, counted from the stream's position
     Hit(Option<Range<usize>>),
 }
 

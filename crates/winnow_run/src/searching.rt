@@ -11,10 +11,12 @@ use std::alloc::{AllocError, Global};
 use winnow_match::{Compare, FindSlice, Needles};
 use winnow_stream::{ScriptSet, Stream};
 
-/// Runs a script of calls, comparisons and searches on a stream, and gives their answers in order.
+/// Runs a script of calls, comparisons and searches on a stream, and returns their answers in
+/// order.
 ///
-/// It is [`run`](crate::run) with two further steps, which move nothing: the answers are those of one cursor on the list that
-/// remained at the call. Refused for memory, the stream stands where it stood.
+/// It is [`run`](crate::run) with two further steps, which move nothing. The answers are those of
+/// one cursor on the list that remained at the call. If memory is refused, the stream stands where
+/// it stood.
 pub fn run_search<S: Stream + Compare<L> + FindSlice<Needles<L>>, C: ScriptSet<S::Token>, L: Copy>(
     alloc: Global,
     s: &mut S,
@@ -46,7 +48,7 @@ where
     answers
 }
 
-// The same, but refused for memory the stream stays where the last step left it.
+// Does the same, but if memory is refused the stream stays where the last step left it.
 fn search_steps<S: Stream + Compare<L> + FindSlice<Needles<L>>, C: ScriptSet<S::Token>, L: Copy>(
     alloc: Global,
     s: &mut S,

@@ -10,10 +10,12 @@ use winnow_stream::{ScriptSet, Stream};
 
 /// Answers one step of a run, which moves the stream and may add a mark.
 ///
-/// It is for engines of scripts that have further steps, or that go on later over a stream made anew. Where the stream stands and
-/// where its origin does are places on one list; the step speaks of the list alone. Refused for memory, the stream and the marks
-/// stand where they stood; only [`Step::Each`], and a mark for which there is no room, can be refused.
-// Two loops call it: left as a call, its answers are copied twice, a tenth of a step's time.
+/// It is for engines of scripts that have further steps, or that continue later over a new stream.
+/// The stream and its origin stand at places on one list, and the contract speaks of that list
+/// alone. If memory is refused, the stream and the marks stay as they were. Only [`Step::Each`],
+/// and a mark for which there is no room, can be refused memory.
+// Inlined in the two loops that call it: as a call it copies each answer twice, which takes a tenth
+// of a step's time.
 #[inline(always)]
 pub fn answer_step<S: Stream, C: ScriptSet<S::Token>>(
     alloc: Global,

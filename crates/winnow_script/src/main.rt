@@ -1,7 +1,8 @@
-//! Runs a script of stream calls, given as lines on standard input, and prints the answers as lines.
+//! Runs a script of stream calls, given as lines on standard input, and prints the answers as
+//! lines.
 //!
-//! The first line names the kind of the input, and each line behind it is a step, up to the input: one line, or, of a
-//! kind of pieces, one for each piece.
+//! The first line names the kind of the input. Each line after it is a step, up to the lines of the
+//! input: one line, or one for each piece if the input is in pieces.
 //!
 //! ```text
 //! bytes
@@ -10,11 +11,11 @@
 //! input 616263
 //! ```
 //!
-//! prints `token 97` and `at needs 3`. Over pieces, a line begins with the number of the piece that let the answer out,
-//! or with `end`.
+//! prints `token 97` and `at needs 3`. Over pieces, a line begins with the number of the piece that
+//! made the answer definite, or with `end`.
 //!
-//! The whole script is read and run before anything is printed. The status is 0, or
-//! 2 where a line is faulty, 3 where memory ran out, and 4 where reading or writing failed.
+//! The whole script is read and run before anything is printed. The exit status is 0, or 2 if a
+//! line is faulty, 3 if memory was refused, and 4 if reading or writing failed.
 #![tactic(auto)]
 
 use std::process::ExitCode;
@@ -26,14 +27,15 @@ fn main(rt: HostRuntime) -> ExitCode {
         Ok(()) => ExitCode::SUCCESS,
         Err(failure) => {
             let status = failure.status();
-            // Where standard error cannot be written either, the status alone tells.
+            // If standard error cannot be written either, only the status reports the failure.
             let _ = rt.eprintln(failure);
             ExitCode::from(status)
         }
     }
 }
 
-// Runs the script on standard input, and writes its answers to standard output once all are there.
+// Runs the script on standard input, and writes its answers to standard output after it has all of
+// them.
 fn answer(rt: &(impl Input + Print + AllocGlobal)) -> Result<(), Failure> {
     let input = read_input(rt.alloc(), rt.reader())?;
     let answers = execute(rt.alloc(), &input)?;

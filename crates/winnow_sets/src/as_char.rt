@@ -3,7 +3,8 @@ ghost use Rattle.std.specs.Char.{len_utf8, is_newline, is_ascii_alphabetic, is_a
 ghost use Rattle.std.specs.Char.{is_ascii_digit, is_ascii_hexdigit};
 ghost use Rattle.winnow_sets.specs.Classes.{is_ascii_oct_digit, is_ascii_blank};
 
-/// A token that stands for a character. A byte stands for the character of its number, so `E9` for `é`.
+/// A token that stands for a character. A byte stands for the character of its number: `E9` for
+/// `é`.
 pub trait AsChar: Sized {
     // The number of the character.
     ghost code: { Self → ℕ };

@@ -4,7 +4,8 @@ ghost use Rattle.winnow_sets.specs.Sets.{char_ranges, in_ranges, least_of_first}
 use crate::{AsChar, ContainsToken};
 use winnow_stream::ScriptSet;
 
-/// A set of characters as data: ranges whose two ends are held. A range whose ends are reversed holds nothing.
+/// A set of characters as data: ranges, each with both of its ends. A range whose ends are reversed
+/// has no character.
 #[derive(Clone, Copy, Debug)]
 pub struct CharSet<'k> {
     ranges: &'k [(char, char)],
@@ -21,7 +22,8 @@ impl<'k> CharSet<'k> {
         CharSet { ranges }
     }
 
-    /// Returns a byte that the set holds: the least of the first range that holds one. `None` exactly where the set holds no byte.
+    /// Returns a byte of the set: the least byte of the first range that has one. It is `None`
+    /// exactly if no byte is in the set.
     #[tactic(auto, using(crate::proofs::lemmas::RangeLemmas::least_held, crate::proofs::lemmas::RangeLemmas::least_within, crate::proofs::lemmas::RangeLemmas::none_held))]
     pub fn any_byte(&self) -> Option<u8>
         ensures value { result ≡ least_of_first 255 (char_ranges self.now) }
@@ -33,7 +35,8 @@ impl<'k> CharSet<'k> {
         u8::try_from(least).ok()
     }
 
-    /// Returns a character that the set holds: the least of the first range that holds one. `None` exactly where the set holds no character.
+    /// Returns a character of the set: the least character of the first range that has one. It is
+    /// `None` exactly if no character is in the set.
     #[tactic(auto, using(crate::proofs::lemmas::RangeLemmas::least_held, crate::proofs::lemmas::RangeLemmas::none_held))]
     pub fn any_char(&self) -> Option<char>
         ensures value { result ≡ least_of_first 1114111 (char_ranges self.now) }
@@ -45,7 +48,7 @@ impl<'k> CharSet<'k> {
     }
 }
 
-// The least of the first range that holds a character up to the greatest.
+// The least character of the first range that has one up to `greatest`.
 fn least_of(ranges: &[(char, char)], greatest: char) -> Option<char>
     ensures { result ≡ least_of_first greatest ranges.now }
 {
@@ -55,7 +58,7 @@ fn least_of(ranges: &[(char, char)], greatest: char) -> Option<char>
     Some(range.0)
 }
 
-// Whether some range holds the character.
+// Whether some range has the character.
 fn is_in_ranges(ranges: &[(char, char)], c: char) -> bool
     ensures { result ≡ in_ranges ranges.now c }
 {

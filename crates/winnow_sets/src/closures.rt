@@ -3,9 +3,9 @@ use std::fmt;
 use std::fmt::Debug;
 use winnow_stream::ScriptSet;
 
-/// A closure as a set: the tokens of which it answers `true`.
+/// A closure as a set: the tokens for which it returns `true`.
 ///
-/// The closure must always be callable. What it answers is what its own contract says.
+/// The closure must always be callable. Its own contract says what it returns.
 #[derive(Clone, Copy, Drop)]
 pub struct Where<F>(pub F);
 

@@ -4,12 +4,13 @@ use crate::AsChar;
 
 /// A set of tokens.
 ///
-/// A byte in a set stands for the character of its number, and so does a byte that is asked for.
+/// A byte in a set stands for the character of its number, and so does a byte that the set is asked
+/// about.
 pub trait ContainsToken<T> {
-    // Whether the set may be asked.
+    // The sets that may be asked.
     ghost askable: { Self → Type 0 } = { λ _. ⊤ };
 
-    // What it may answer of a token.
+    // The answers that the set may give of a token.
     ghost may_answer: { Self → T → Bool → Type 0 };
 
     /// Returns whether the token is in the set.
@@ -18,7 +19,7 @@ pub trait ContainsToken<T> {
         ensures { may_answer self.now token result };
 }
 
-/// The one byte.
+/// The set of this byte alone.
 impl ContainsToken<u8> for u8 {
     ghost may_answer = { λ byte token b. b ≡ (byte == token) };
 
@@ -51,7 +52,7 @@ impl ContainsToken<&char> for u8 {
     }
 }
 
-/// The one character.
+/// The set of this character alone.
 impl<T: AsChar> ContainsToken<T> for char {
     ghost may_answer = { λ c token b. b ≡ (c == T.code token) };
 
@@ -60,7 +61,7 @@ impl<T: AsChar> ContainsToken<T> for char {
     }
 }
 
-/// No token.
+/// The set of no token.
 impl<T: Drop> ContainsToken<T> for () {
     ghost may_answer = { λ _ _ b. b ≡ false };
 

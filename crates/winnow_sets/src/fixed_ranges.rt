@@ -6,7 +6,7 @@ ghost use Rattle.winnow_sets.specs.Sets.{is_between};
 use crate::{AsChar, FixedSet};
 use std::ops::{Range, RangeFrom, RangeFull, RangeInclusive, RangeTo, RangeToInclusive};
 
-/// The characters from the first bound up to the second, which is not held.
+/// The characters from the first bound up to the second, without the second.
 impl<T: AsChar, B: AsChar + Copy> FixedSet<T> for Range<B> {
     ghost holds = { λ range token. is_between (B.code range.start) (B.code range.end)
         (T.code token) };
@@ -14,7 +14,7 @@ impl<T: AsChar, B: AsChar + Copy> FixedSet<T> for Range<B> {
     ghost answers_only = { λ _ _ _ e. e };
 }
 
-/// The characters from the first bound up to the second, both held.
+/// The characters from the first bound up to the second, with both.
 impl<T: AsChar, B: AsChar + Copy> FixedSet<T> for RangeInclusive<B> {
     ghost holds = { λ range token. is_in_range (B.code (range_inclusive_start range))
         (B.code (range_inclusive_end range)) (T.code token) };
@@ -22,7 +22,7 @@ impl<T: AsChar, B: AsChar + Copy> FixedSet<T> for RangeInclusive<B> {
     ghost answers_only = { λ _ _ _ e. e };
 }
 
-/// The bound, and the characters past it.
+/// The bound, and the characters after it.
 impl<T: AsChar, B: AsChar + Copy> FixedSet<T> for RangeFrom<B> {
     ghost holds = { λ range token. nat_le (B.code range.start) (T.code token) };
 
@@ -43,7 +43,7 @@ impl<T: AsChar, B: AsChar + Copy> FixedSet<T> for RangeToInclusive<B> {
     ghost answers_only = { λ _ _ _ e. e };
 }
 
-/// Every token.
+/// The set of every token.
 impl<T: AsChar + Drop> FixedSet<T> for RangeFull {
     ghost holds = { λ _ _. true };
 

@@ -3,12 +3,13 @@ ghost use Rattle.winnow_sets.specs.Sets.{char_ranges, in_ranges, is_one_of, Answ
 
 use crate::{AsChar, CharSet, ContainsToken};
 
-/// A set that holds a token or does not: asked of the same token, it answers the same.
+/// A set that holds a token or does not: asked of the same token again, it answers the same.
 ///
-/// Every set of the library is one but a closure, whose answer is what its own contract says. Generic code that asks by `holds_token`
-/// knows by [`held_law`](winnow_stream::held_law) which tokens it takes.
+/// Every set of this crate is one, except a closure, whose own contract says what it returns.
+/// Generic code that calls `holds_token` knows by [`held_law`](winnow_stream::held_law) which
+/// tokens it takes.
 pub trait FixedSet<T>: ContainsToken<T> {
-    // Whether it holds the token.
+    // Whether the set holds the token.
     ghost holds: { Self → T → Bool };
 
     /// Returns whether the token is in the set.
@@ -19,12 +20,12 @@ pub trait FixedSet<T>: ContainsToken<T> {
         self.contains_token(token)
     }
 
-    // It answers nothing else.
+    // The set answers nothing else.
     ghost answers_only: { (set : Self) (token : T)
         → AnswersOnly (Self.may_answer set token) (holds set token) };
 }
 
-/// The one byte.
+/// The set of this byte alone.
 impl FixedSet<u8> for u8 {
     ghost holds = { λ byte token. byte == token };
 
@@ -49,14 +50,14 @@ impl FixedSet<&char> for u8 {
     ghost answers_only = { λ _ _ _ e. e };
 }
 
-/// The one character.
+/// The set of this character alone.
 impl<T: AsChar> FixedSet<T> for char {
     ghost holds = { λ c token. c == T.code token };
 
     ghost answers_only = { λ _ _ _ e. e };
 }
 
-/// No token.
+/// The set of no token.
 impl<T: Drop> FixedSet<T> for () {
     ghost holds = { λ _ _. false };
 

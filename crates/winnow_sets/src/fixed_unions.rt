@@ -3,7 +3,7 @@ ghost use Rattle.winnow_sets.specs.SetLaws.{AnswersOnly-union};
 
 use crate::FixedSet;
 
-/// What the set holds.
+/// The tokens that the set holds.
 impl<T: Copy, A: FixedSet<T>> FixedSet<T> for (A,) {
     ghost holds = { λ s token. A.holds s.0 token };
 

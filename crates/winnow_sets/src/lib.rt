@@ -1,8 +1,9 @@
-//! Sets of tokens: which bytes or characters a parser accepts.
+//! Sets of tokens: the bytes or characters that a parser accepts.
 //!
-//! [`AsChar`] gives a token's character: a byte stands for the character of its number. [`ContainsToken`] is what every set
-//! meets: characters, ranges, slices and arrays, [`CharSet`], closures under [`Where`], and tuples, which are unions. All but
-//! closures are [`FixedSet`]s, of which generic code knows what they hold.
+//! [`AsChar`] gives a token's character: a byte stands for the character of its number.
+//! [`ContainsToken`] is the trait of every set: characters, ranges, slices and arrays, [`CharSet`],
+//! closures under [`Where`], and tuples, which are unions. All but closures are [`FixedSet`]s, so
+//! generic code knows what they hold.
 #![tactic(auto)]
 
 mod as_char;

@@ -6,7 +6,7 @@ ghost use Rattle.winnow_sets.specs.Sets.{is_between};
 use crate::{AsChar, ContainsToken};
 use std::ops::{Range, RangeFrom, RangeFull, RangeInclusive, RangeTo, RangeToInclusive};
 
-/// The characters from the first bound up to the second, which is not held.
+/// The characters from the first bound up to the second, without the second.
 impl<T: AsChar, B: AsChar + Copy> ContainsToken<T> for Range<B> {
     ghost may_answer = { λ range token b.
         b ≡ is_between (B.code range.start) (B.code range.end) (T.code token) };
@@ -17,7 +17,7 @@ impl<T: AsChar, B: AsChar + Copy> ContainsToken<T> for Range<B> {
     }
 }
 
-/// The characters from the first bound up to the second, both held.
+/// The characters from the first bound up to the second, with both.
 impl<T: AsChar, B: AsChar + Copy> ContainsToken<T> for RangeInclusive<B> {
     ghost may_answer = { λ range token b.
         b ≡ is_in_range (B.code (range_inclusive_start range)) (B.code (range_inclusive_end range))
@@ -29,7 +29,7 @@ impl<T: AsChar, B: AsChar + Copy> ContainsToken<T> for RangeInclusive<B> {
     }
 }
 
-/// The bound, and the characters past it.
+/// The bound, and the characters after it.
 impl<T: AsChar, B: AsChar + Copy> ContainsToken<T> for RangeFrom<B> {
     ghost may_answer = { λ range token b. b ≡ nat_le (B.code range.start) (T.code token) };
 
@@ -56,7 +56,7 @@ impl<T: AsChar, B: AsChar + Copy> ContainsToken<T> for RangeToInclusive<B> {
     }
 }
 
-/// Every token.
+/// The set of every token.
 impl<T: AsChar + Drop> ContainsToken<T> for RangeFull {
     ghost may_answer = { λ _ _ b. b ≡ true };
 

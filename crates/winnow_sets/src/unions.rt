@@ -2,7 +2,7 @@ ghost use Rattle.winnow_sets.specs.Sets.{◌∪◌};
 
 use crate::ContainsToken;
 
-/// What the set holds.
+/// The tokens that the set holds.
 impl<T: Copy, A: ContainsToken<T>> ContainsToken<T> for (A,) {
     ghost askable = { λ s. A.askable s.0 };
 

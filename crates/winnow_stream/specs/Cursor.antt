@@ -2,12 +2,13 @@
 use Rattle.std.specs.Prelude.{ℕ, List, [], ◌∷◌, take, drop}
 use Rattle.winnow_stream.specs.Source.{Source, width}
 
--- how many tokens stand before the cursor, and before each mark in the order in which they were made
+-- the number of tokens before the cursor, and before each mark, in the order in which marks were
+-- made
 pub record Cursor : Type 0 where
   pub index : ℕ
   pub marks : List ℕ
 
--- at the first token, with no mark
+-- the cursor at the first token, with no mark
 abbrev pub start : Cursor
 start = record { index = 0; marks = [] }
 
@@ -19,13 +20,13 @@ rest all at = drop at.index all
 abbrev pub place : {T : Type 0} → Source T → ℕ → ℕ
 place all i = width (take i all)
 
--- a script answers step by step: each step answers at the cursor, and moves it
+-- the answers of a script: each step answers at the cursor, and then moves it
 module _ {S A : Type 0} (answer_at : S → Cursor → A) (moves : S → Cursor → Cursor) where
   abbrev pub answers_from : List S → Cursor → List A
   answers_from [] at = []
   answers_from (s ∷ ss) at = answer_at s at ∷ answers_from ss (moves s at)
 
--- where a script leaves the cursor
+-- the cursor after a script
 module _ {S : Type 0} (moves : S → Cursor → Cursor) where
   abbrev pub cursor_after : List S → Cursor → Cursor
   cursor_after [] at = at

@@ -1,7 +1,7 @@
--- The location of a stream in the whole input, in its offsets, where it keeps one.
+-- The location of a stream in the whole input, in its offsets, if the stream keeps one.
 use Rattle.std.specs.Prelude.{◌≡◌, ℕ, ◌+◌, Option, Some, None}
 
--- the location behind a width; where none is kept, there is none
+-- the location after a width; a stream that keeps none has none after it either
 abbrev pub location_behind : Option ℕ → ℕ → Option ℕ
 location_behind None n = None
 location_behind (Some location) n = Some (location + n)

@@ -1,4 +1,4 @@
--- The offset behind a number of tokens, or the shortage.
+-- The offset after a number of tokens, or the shortage.
 use Rattle.std.specs.Prelude.{◌≡◌, ℕ, zero, suc, ◌-◌, ◌<◌, nat_le, Bool, true, false, cond, length, take, Result, Ok, Err}
 use Rattle.std.proofs.Common.{arith}
 use Rattle.std.specs.declared.num.NonZeroUsize.{NonZeroUsize}
@@ -6,26 +6,26 @@ use Rattle.winnow_stream.specs.declared.needed.Needed.{Needed}
 use Rattle.winnow_stream.specs.declared.needed.Needed.TheVariants.{Unknown, Size}
 use Rattle.winnow_stream.specs.Source.{Source, width}
 
--- a successor is a size
+-- a successor is positive, as a size must be
 pub positive : (k : ℕ) → 0 < suc k
 positive k = omega arith
 
--- k more: the size k, and `Unknown` for 0
+-- the need of k tokens: the size k, and `Unknown` for 0
 abbrev pub needed : ℕ → Needed
 needed zero = Unknown
 needed (suc k) = Size (record { value = suc k; ok = positive k })
 
--- the answer is a size
+-- the number of tokens that are needed is known
 abbrev pub is_known : Needed → Bool
 is_known Unknown = false
 is_known (Size n) = true
 
--- `to` is what mapping a size by a closure makes of `from`
+-- `to` is what a closure that maps sizes makes of `from`
 abbrev pub IsMapped : (NonZeroUsize → ℕ → Type 0) → Needed → Needed → Type 0
 IsMapped gives Unknown to = to ≡ Unknown
 IsMapped gives (Size n) to = (k : ℕ) × (gives n k × (to ≡ needed k))
 
--- the shortage where k tokens are missing, by a stream that counts them, or by a silent one
+-- the shortage if k tokens are missing: counted if the stream counts them, and `Unknown` if not
 abbrev pub shortage : Bool → ℕ → Needed
 shortage true k = needed k
 shortage false k = Unknown

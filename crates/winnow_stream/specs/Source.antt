@@ -1,6 +1,7 @@
 -- A source: a list of tokens, each with its width. What remains of a stream is one.
 use Rattle.std.specs.Prelude.{◌≡◌, ℕ, ◌+◌, ◌≤◌, Bool, true, false, cond, List, [], ◌∷◌, map, take, drop, Option, Some, None, ⊤}
 
+-- a list of pairs of a token and its width
 abbrev pub Source : Type 0 → Type 0
 Source T = List (T × ℕ)
 
@@ -18,7 +19,7 @@ abbrev pub HasPositiveWidths : {T : Type 0} → Source T → Type 0
 HasPositiveWidths [] = ⊤
 HasPositiveWidths (x ∷ xs) = (1 ≤ x.1) × HasPositiveWidths xs
 
--- r is what is left of the whole behind some of its tokens
+-- r is what is left of the whole after some of its tokens
 abbrev pub IsEndOf : {T : Type 0} → Source T → Source T → Type 0
 IsEndOf r whole = (k : ℕ) × (r ≡ drop k whole)
 
@@ -27,7 +28,7 @@ abbrev pub first_token : {T : Type 0} → Source T → Option T
 first_token [] = None
 first_token (x ∷ xs) = Some x.0
 
--- each token, with n and the width before it
+-- each token, with n plus the width before it
 abbrev pub offsets_from : {T : Type 0} → ℕ → Source T → List (ℕ × T)
 offsets_from n [] = []
 offsets_from n (x ∷ xs) = (n, x.0) ∷ offsets_from (n + x.1) xs
@@ -41,6 +42,7 @@ abbrev pub first_held : {T : Type 0} → (T → Bool) → List (ℕ × T) → Op
 first_held holds [] = None
 first_held holds (x ∷ xs) = cond (holds x.1) (Some x.0) (first_held holds xs)
 
+-- the offset of the first token of a source that a set holds
 abbrev pub first_offset : {T : Type 0} → (T → Bool) → Source T → Option ℕ
 first_offset holds r = first_held holds (offsets r)
 
@@ -49,17 +51,17 @@ abbrev pub RefusesAll : {T : Type 0} → (T → Bool → Type 0) → Source T �
 RefusesAll answers [] = ⊤
 RefusesAll answers (x ∷ xs) = answers x.0 false × RefusesAll answers xs
 
--- it answers true of the token behind the width w, and false of each before it
+-- it answers true of the token after the width w, and false of each token before it
 abbrev pub AcceptsFirst : {T : Type 0} → (T → Bool → Type 0) → Source T → ℕ → Type 0
 AcceptsFirst {T} answers r w = (k : ℕ) × ((w ≡ width (take k r)) × RefusesAll answers (take k r)
     × ((x : T) × ((first_token (drop k r) ≡ Some x) × answers x true)))
 
--- the offset of the first token that it answers true of, or `None` where it answers false of each
+-- the offset of the first token of which it answers true, or `None` if it answers false of each
 abbrev pub FindsFirst : {T : Type 0} → (T → Bool → Type 0) → Source T → Option ℕ → Type 0
 FindsFirst answers r None = RefusesAll answers r
 FindsFirst answers r (Some w) = AcceptsFirst answers r w
 
--- whatever a closure or a set answers of a token, it is what `holds` says
+-- each answer of a closure or a set is what `holds` says of the token
 abbrev pub Computes : {T : Type 0} → (T → Bool → Type 0) → (T → Bool) → Type 0
 Computes {T} answers holds = (x : T) (b : Bool) → answers x b → b ≡ holds x
 

@@ -13,6 +13,7 @@ char_source cs = map (λ c. (c, len_utf8 c)) cs
 abbrev pub text_source : List ℕ → Source ℕ
 text_source bytes = char_source (chars bytes)
 
+-- each character has at least one byte, so texts meet the law of positive widths
 pub HasPositiveWidths-char_source : (cs : List ℕ) → HasPositiveWidths (char_source cs)
 HasPositiveWidths-char_source [] = tt
 HasPositiveWidths-char_source (c ∷ cs) = ((len_utf8_bounds c).0, HasPositiveWidths-char_source cs)

@@ -1,6 +1,6 @@
 ghost use Rattle.std.specs.Prelude.{◌≡◌, ℕ, List};
 
-/// What remains, as bytes that need not be text.
+/// What remains of a stream, as bytes that need not be text.
 pub trait AsBytes {
     ghost bytes: { Self → List ℕ };
 
@@ -9,11 +9,11 @@ pub trait AsBytes {
         ensures { result.now ≡ bytes self.now };
 }
 
-/// What remains, as bytes that are text by convention.
+/// What remains of a stream, as bytes that are text by convention.
 pub trait AsBStr {
     ghost text_bytes: { Self → List ℕ };
 
-    /// Returns the remaining bytes; of a text its UTF-8.
+    /// Returns the remaining bytes. For a text these are its UTF-8.
     fn as_bstr(&self) -> &[u8]
         ensures { result.now ≡ text_bytes self.now };
 }

@@ -6,9 +6,10 @@ use std::fmt;
 use std::fmt::Debug;
 use std::marker::PhantomData;
 
-/// Where a stream of type `S` stood: a later `reset` goes back there.
+/// The place at which a stream of type `S` stood: a later `reset` goes back there.
 ///
-/// It holds a `T`, from which the stream knows what remained. Equality and order are those of the `T`.
+/// It holds a `T`, from which the stream knows what remained. Equality and order are those of the
+/// `T`.
 #[derive(Drop)]
 #[derive_where(Clone, Copy, PartialEq, Eq, PartialOrd, Ord; T)]
 pub struct Checkpoint<T, S> {
@@ -41,7 +42,7 @@ impl<T: Rest, S> Rest for Checkpoint<T, S> {
     ghost location = { λ c. T.location (checkpoint_inner c) };
 }
 
-/// As what it holds.
+/// A checkpoint prints as the value that it holds.
 impl<T: Debug, S> Debug for Checkpoint<T, S> {
     ghost debug_output = { λ c. T.debug_output (checkpoint_inner c) };
 

@@ -3,10 +3,10 @@ ghost use Rattle.std.specs.Prelude.{◌≡◌, Bool, false, refl};
 use crate::Stream;
 use std::fmt::Debug;
 
-/// Whether more input may follow what remains. Only `Partial` has a flag for it; every other stream answers for the one
-/// inside, and a plain one has no flag.
+/// Whether more input may follow what remains. Only `Partial` has a flag for it. Every other
+/// wrapper answers as the stream inside it does, and a plain stream has no flag.
 pub trait StreamIsPartial: Stream + Sized {
-    /// What `complete` hands out, for `restore_partial` to set again.
+    /// The flag that `complete` returns, so that `restore_partial` can set it again.
     type PartialState;
 
     // Whether the type has a flag.
@@ -17,10 +17,10 @@ pub trait StreamIsPartial: Stream + Sized {
 
     ghost expects_more: { Self → Bool };
 
-    // Two values agree in all but the flag.
+    // The two values agree in all but the flag.
     ghost same_but_flag: { Self → Self → Type 0 };
 
-    /// Notes that nothing follows, and returns the flag before.
+    /// Notes that nothing follows, and returns the flag that was set before.
     fn complete(&mut self) -> Self::PartialState
         ensures old { result ≡ partial_state self.old }
         ensures complete { expects_more self.new ≡ false }
@@ -29,7 +29,7 @@ pub trait StreamIsPartial: Stream + Sized {
         ensures width { Self.rest_width self.new ≡ Self.rest_width self.old }
         ensures location { Self.location self.new ≡ Self.location self.old };
 
-    /// Sets the flag to what `complete` answered.
+    /// Sets the flag to one that `complete` returned.
     fn restore_partial(&mut self, state: Self::PartialState)
         ensures set { partial_state self.new ≡ state }
         ensures same { same_but_flag self.old self.new }
@@ -45,11 +45,11 @@ pub trait StreamIsPartial: Stream + Sized {
     fn is_partial(&self) -> bool
         ensures { result ≡ expects_more self.now };
 
-    // The flag alone says whether more may follow: restoring it restores that.
+    // The flag alone says whether more may follow, so restoring the flag restores that.
     ghost flag_decides: { (s t : Self) → partial_state s ≡ partial_state t
         → expects_more s ≡ expects_more t };
 
-    // Where the type has no flag, nothing more may follow.
+    // A type without a flag never expects more.
     ghost no_flag: { supports_partial ≡ false → (s : Self) → expects_more s ≡ false };
 
     // No call of `Stream` changes whether more may follow.
@@ -107,7 +107,7 @@ impl StreamIsPartial for &str {
 
     fn restore_partial(&mut self, _state: ()) {}
 
-    // A function without `self` of an impl at a lifetime does not inherit the trait's clause.
+    // A function without `self`, in an impl at a lifetime, does not inherit the trait's clause.
     fn is_partial_supported() -> bool
         ensures { result ≡ false }
     {

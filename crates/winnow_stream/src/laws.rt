@@ -1,3 +1,5 @@
+//! Laws of streams. A law does nothing when called: its contract is the law.
+
 ghost use Rattle.std.specs.Prelude.{◌≡◌, ℕ, ◌++◌, ◌+◌, ◌-◌, ◌≤◌, ◌<◌, ◌↔◌, Bool, true, false, List};
 ghost use Rattle.std.specs.Prelude.{[], Option};
 ghost use Rattle.std.specs.Prelude.{Ok, Err, Some, None, IsOk, IsTrue, not, unwrap_or};
@@ -21,10 +23,11 @@ ghost use Rattle.winnow_stream.specs.Text.{text_source};
 
 use crate::{AsBStr, AsBytes, Checkpoint, Location, SliceLen, Stream};
 
-/// The law of fronts: an offset is valid exactly where some front has that width. What is taken has that width, and what is taken
-/// followed by what remains is what was there, so the widths of both sum to the whole width. Behind a front the valid offsets are those
-/// further on, less its width, and taking two fronts in a row leaves what taking both at once leaves. The width of two lists in a row is the
-/// sum of theirs. It does nothing when called: its contract is the law.
+/// The law of fronts. An offset is valid exactly if some front has that width. A front has the
+/// width that it was taken by, and the front and what remains are together what was there, so their
+/// widths sum to the whole width. After a front the valid offsets are the further ones, less its
+/// width, and taking two fronts in a row leaves what taking both at once leaves. The width of two
+/// lists in a row is the sum of their widths.
 pub fn front_law<T>()
     ensures offset { (r : Source T) (n : ℕ) → HasPositiveWidths r
         → (IsTrue (is_offset r n) ↔ HasFront r n) }
@@ -38,8 +41,9 @@ pub fn front_law<T>()
     ensures append { (p q : Source T) → width (p ++ q) ≡ width p + width q }
 {}
 
-/// The law of moving on: a stream that stands still has moved on over nothing; taking one token, or a front, moves on; two moves make one;
-/// and a move leaves the place where the input ends as it was. It does nothing when called: its contract is the law.
+/// The law of moving on. A stream that stands still has moved on over nothing. Taking one token, or
+/// a front, moves on. Two moves in a row are one move. A move leaves the place at which the input
+/// ends as it was.
 pub fn moving_law<T>()
     ensures still { (a : Option ℕ) (r : Source T) → MovesOn a a r r }
     ensures token { (a : Option ℕ) (r : Source T)
@@ -53,8 +57,7 @@ pub fn moving_law<T>()
     ensures rest { (a b : Option ℕ) (r s : Source T) → MovesOn a b r s → IsEndOf s r }
 {}
 
-/// The law of offsets: what `offset_at`, `offset_for` and `eof_offset` answer is a valid offset. It does nothing when called: its
-/// contract is the law.
+/// The law of offsets: `offset_at`, `offset_for` and `eof_offset` return valid offsets.
 pub fn offset_law<T>()
     ensures at { (counts_missing : Bool) (r : Source T) (n w : ℕ) → HasPositiveWidths r
         → offset_at counts_missing r n ≡ Ok w → IsTrue (is_offset r w) }
@@ -63,8 +66,8 @@ pub fn offset_law<T>()
     ensures end { (r : Source T) → HasPositiveWidths r → IsTrue (is_offset r (width r)) }
 {}
 
-/// The law of a counted shortage: a stream that refuses for k tokens still refuses with fewer than k more, for those that
-/// are missing then, and answers with k or more. It does nothing when called: its contract is the law.
+/// The law of a counted shortage. A stream that refuses because k tokens are missing still refuses
+/// with fewer than k more, because of those that are missing then. With k or more it answers.
 pub fn shortage_law<T>()
     ensures refused { (r more : Source T) (n k : ℕ) → offset_at true r n ≡ Err (needed k)
         → length more < k → offset_at true (r ++ more) n ≡ Err (needed (k - length more)) }
@@ -72,10 +75,10 @@ pub fn shortage_law<T>()
         → k ≤ length more → IsOk (offset_at true (r ++ more) n) }
 {}
 
-/// The law of tokens that are taken: the front of the width of the first k tokens is those k tokens, and what follows it is the
-/// rest; an offset that `offset_at` answers is such a width; and the front of the whole width is everything. So `offset_at(n)` and
-/// then `next_slice` takes n tokens, and `finish` takes all. Where no width remains, no token does. It does nothing when called: its
-/// contract is the law.
+/// The law of tokens that are taken. The front of the width of the first k tokens is those k
+/// tokens, and what follows it is the rest. An offset that `offset_at` returns is such a width, and
+/// the front of the whole width is everything. So `offset_at(n)` and then `next_slice` takes n
+/// tokens, and `finish` takes all. If no width remains, no token remains.
 pub fn taken_law<T>()
     ensures front { (r : Source T) (k : ℕ) → HasPositiveWidths r → k ≤ length r
         → front r (width (take k r)) ≡ take k r }
@@ -90,18 +93,20 @@ pub fn taken_law<T>()
     ensures none { (r : Source T) → HasPositiveWidths r → width r ≡ 0 → r ≡ [] }
 {}
 
-/// The law of the first token that is held: `first_offset` is the offset of a token that is held, before which none is, or `None`
-/// where none is held. It does nothing when called: its contract is the law.
+/// The law of the first token in a set: `first_offset` is the offset of a token in the set, before
+/// which none is in it, or `None` if no token is in it.
 pub fn first_law<T>()
     ensures { (holds : T → Bool) (r : Source T)
         → FindsFirst (λ x b. holds x ≡ b) r (first_offset holds r) }
 {}
 
-/// The law of a front of tokens that are held: the offset of the first token that is not held, or else the whole width, is the width of
-/// the tokens up to there. It is an offset, and its front is those tokens. All of them are held, and the token after them, if there is one,
-/// is not; if there is none, every token is held. They and what follows them are what was there; and tokens that are all held, before one
-/// that is not, are exactly the tokens that are taken. Where another set holds all that this set holds, taking over this set and then over
-/// the other leaves what taking over the other alone leaves. It does nothing when called: its contract is the law.
+/// The law of a front of tokens in a set. The offset of the first token outside the set, or the
+/// whole width if there is none, is the width of the tokens up to there. It is an offset, and its
+/// front is those tokens. All of them are in the set. The next token, if there is one, is not; if
+/// there is none, every token is in the set. They and what follows them are what was there. Tokens
+/// that are all in the set, before one that is not, are exactly the tokens that are taken. If
+/// another set has all tokens of this set, taking over this set and then over the other leaves what
+/// taking over the other alone leaves.
 pub fn held_law<T>()
     ensures width { (holds : T → Bool) (r : Source T)
         → unwrap_or (first_offset (λ x. not (holds x)) r) (width r) ≡ width (held_front holds r) }
@@ -129,8 +134,8 @@ pub fn held_law<T>()
         drop (length (held_front also rest)) rest ≡ drop (length (held_front also r)) r }
 {}
 
-/// The law of spans: where the numbers of `Location` are a stream's location, those behind a width are those before it and that width. It
-/// does nothing when called: its contract is the law.
+/// The law of spans. If the numbers of `Location` are a stream's location, then the numbers after a
+/// width are those before it plus that width.
 pub fn span_law<S: Stream + Location>()
     ensures end { IsLocation S.location S.token_end S.token_start → (s t : S) (n : ℕ)
         → S.location t ≡ location_behind (S.location s) n → S.token_end t ≡ S.token_start s + n }
@@ -138,8 +143,8 @@ pub fn span_law<S: Stream + Location>()
         → S.location t ≡ location_behind (S.location s) n → S.token_start t ≡ S.token_start s + n }
 {}
 
-/// The law of plain slices: their tokens tell their elements, the valid offsets are those up to their length, and a front and what
-/// follows it are those of the slice. It does nothing when called: its contract is the law.
+/// The law of plain slices. Their tokens determine their elements, the valid offsets are those up
+/// to their length, and a front and what follows it are those of the slice.
 pub fn slice_law<T>()
     ensures same { (xs ys : List T) → units xs ≡ units ys → xs ≡ ys }
     ensures width { (xs : List T) → width (units xs) ≡ length xs }
@@ -150,17 +155,17 @@ pub fn slice_law<T>()
         → back (units xs) n ≡ units (drop n xs) }
 {}
 
-/// The law of slices of bytes: the length of one is the offset that it was taken at, which the law of slices of bits asks for. It does
-/// nothing when called: its contract is the law.
+/// The law of slices of bytes: the length of a slice is the offset that it was taken at. The law of
+/// slices of bits asks for this.
 pub fn byte_slice_law()
     ensures { SlicesHaveWidths ⟦<&'static [u8] as Stream>⟧.is_slice
         ⟦<&'static [u8] as SliceLen>⟧.has_width
         ⟦<&'static [u8] as SliceLen>⟧.width_of }
 {}
 
-/// The law of the bytes of slices: a slice of bytes has the bytes that were taken, and a slice of a text is the text that was taken. So code that
-/// is generic in the stream, and asks for `SlicesHaveBytes` or `SlicesHaveText`, knows the bytes of what it took. It does nothing when called:
-/// its contract is the law.
+/// The law of the bytes of slices. A slice of bytes has the bytes that were taken, and a slice of a
+/// text is the text that was taken. So code that is generic in the stream, and asks for
+/// `SlicesHaveBytes` or `SlicesHaveText`, knows the bytes of what it took.
 pub fn slice_bytes_law()
     ensures bytes { SlicesHaveBytes ⟦<&'static [u8] as Stream>⟧.is_slice
         ⟦<&'static [u8] as AsBytes>⟧.bytes }
@@ -170,22 +175,21 @@ pub fn slice_bytes_law()
         ⟦<&'static str as AsBStr>⟧.text_bytes }
 {}
 
-/// The law of slices of a text: the length of one is the offset that it was taken at. It does nothing when called: its contract is
-/// the law.
+/// The law of slices of a text: the length of a slice is the offset that it was taken at.
 pub fn text_slice_law(slice: &str)
     ensures { (r : Source ℕ) (n : ℕ) → IsTrue (is_offset r n)
         → ⟦<&'static str as Stream>⟧.is_slice slice.entry r n
         → ⟦<&'static str as SliceLen>⟧.width_of slice.entry ≡ n }
 {}
 
-/// The law of texts: the characters of a text determine its bytes, so two texts of which the same remains are equal. It does nothing when
-/// called: its contract is the law.
+/// The law of texts. The characters of a text determine its bytes, so two texts of which the same
+/// remains are equal.
 pub fn text_law()
     ensures { (a b : List ℕ) → IsUtf8 a → IsUtf8 b → text_source a ≡ text_source b → a ≡ b }
 {}
 
-/// The law of equality: checkpoints of slices are equal where the elements that remained there are, and those of bytes and texts are
-/// equal exactly where the same remained. It does nothing when called: its contract is the law.
+/// The law of equality. Checkpoints of slices are equal if the elements that remained there are
+/// equal. Checkpoints of bytes and of texts are equal exactly if the same remained.
 pub fn checkpoint_equality_law<'t, T: PartialEq + 't>()
     ensures slices { (c d : Checkpoint (Bor (List T)) (Bor (List T)))
         → ⟦<Checkpoint<&'t [T], &'t [T]> as PartialEq>⟧.eq c d
@@ -198,8 +202,8 @@ pub fn checkpoint_equality_law<'t, T: PartialEq + 't>()
         ↔ ((checkpoint_inner c).now ≡ (checkpoint_inner d).now) }
 {}
 
-/// The law of order: checkpoints of slices are ordered by the elements that remained there, and those of texts by their bytes. It does
-/// nothing when called: its contract is the law.
+/// The law of order. Checkpoints of slices are ordered by the elements that remained there, and
+/// those of texts by their bytes.
 pub fn checkpoint_order_law<'t, T: Ord + 't>()
     ensures slices { (c d : Checkpoint (Bor (List T)) (Bor (List T)))
         → ⟦<Checkpoint<&'t [T], &'t [T]> as Ord>⟧.cmp c d

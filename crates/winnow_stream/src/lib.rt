@@ -1,7 +1,8 @@
 //! Streams of tokens: what a parser reads from.
 //!
-//! [`Stream`] is the trait that every stream meets: tokens with widths, of which calls take the front. Here are the trait with
-//! its laws, the plain streams `&[T]` and `&str`, the small traits beside it, and the sets that a script of calls can name.
+//! [`Stream`] is the trait that every stream meets: tokens with widths, of which calls take the
+//! front. This crate has the trait with its laws, the plain streams `&[T]` and `&str`, the small
+//! traits beside it, and the sets that a script of calls can name.
 #![tactic(auto)]
 
 mod as_bytes;

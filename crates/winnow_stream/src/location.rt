@@ -1,18 +1,19 @@
 ghost use Rattle.std.specs.Prelude.{◌≡◌, ℕ};
 
-/// A location in the whole input, in its offsets: what spans and messages are made of.
+/// A location in the whole input, in its offsets. Spans and messages are made of locations.
 ///
-/// Where both are the location that a stream keeps, each call moves them on by what it takes: [`span_law`](crate::span_law).
+/// If both numbers are the location that a stream keeps, each call moves them on by what it takes:
+/// [`span_law`](crate::span_law).
 pub trait Location {
     ghost token_end: { Self → ℕ };
 
     ghost token_start: { Self → ℕ };
 
-    /// Returns where the last token that was taken ends.
+    /// Returns the place at which the last token that was taken ends.
     fn previous_token_end(&self) -> usize
         ensures { result ≡ token_end self.now };
 
-    /// Returns where the next token starts.
+    /// Returns the place at which the next token starts.
     fn current_token_start(&self) -> usize
         ensures { result ≡ token_start self.now };
 }

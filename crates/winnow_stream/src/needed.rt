@@ -3,17 +3,18 @@ ghost use Rattle.winnow_stream.specs.Shortage.{needed, is_known, IsMapped};
 
 use std::num::NonZeroUsize;
 
-/// How much more input a call wanted.
+/// The amount of input that a call lacked.
 #[derive(Clone, Copy, Debug, PartialEq, Eq)]
 pub enum Needed {
-    /// More, and the stream cannot say how much: a text counts in characters, which have several widths.
+    /// More input, and the stream cannot say how much: a text counts in characters, whose widths
+    /// differ.
     Unknown,
-    /// So many tokens more.
+    /// This number of further tokens.
     Size(NonZeroUsize),
 }
 
 impl Needed {
-    /// Returns `size` tokens more, or `Unknown` for 0.
+    /// Returns a need of `size` further tokens, or `Unknown` for 0.
     pub fn new(size: usize) -> Self
         ensures { result ≡ needed size }
     {
@@ -30,7 +31,8 @@ impl Needed {
         *self != Needed::Unknown
     }
 
-    /// Returns the size that `f` makes of a known one. Where it makes 0 the answer is `Unknown`.
+    /// Returns the need with the size that `f` makes of a known one. `Unknown` stays, and if `f`
+    /// returns 0, the result is `Unknown`.
     pub fn map<F: Fn(NonZeroUsize) -> usize>(self, f: F) -> Self
     where
         F: Drop,

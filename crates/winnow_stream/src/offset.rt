@@ -6,12 +6,14 @@ use crate::{Checkpoint, Rest};
 
 /// The width between two places of one input: from `Start`, a stream or a checkpoint, to this one.
 ///
-/// Generic code over [`Stream`](crate::Stream) asks `offset_since`, which its laws make callable.
+/// Code that is generic over [`Stream`](crate::Stream) calls `offset_since`, whose premises the
+/// laws of `Stream` give.
 pub trait Offset<Start: Rest>: Rest {
-    // Both may be asked for their width.
+    // The two values may be asked for the width between them.
     ghost can_measure: { Self → Start → Type 0 } = { λ _ _. ⊤ };
 
-    /// Returns the width that remained at `start`, less the width that remains. No more remains than at `start`.
+    /// Returns the width that remained at `start`, less the width that remains here. No more
+    /// remains here than at `start`.
     fn offset_from(&self, start: &Start) -> usize
         requires measured { can_measure self.now start.now }
         requires no_wider { Self.rest_width self.now ≤ Start.rest_width start.now }

@@ -2,10 +2,10 @@ ghost use Rattle.std.specs.Prelude.{◌≡◌, Bool, false, ⊤};
 
 /// A set of tokens that a script can name.
 pub trait ScriptSet<T> {
-    // Whether the set may be asked.
+    // The sets that may be asked.
     ghost askable: { Self → Type 0 } = { λ _. ⊤ };
 
-    // What it may answer of a token.
+    // The answers that the set may give of a token.
     ghost may_answer: { Self → T → Bool → Type 0 };
 
     /// Returns whether the token is in the set.

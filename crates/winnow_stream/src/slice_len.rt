@@ -3,12 +3,12 @@ ghost use Rattle.std.specs.Char.{len_utf8};
 
 /// The width of a slice, an array or a token.
 pub trait SliceLen {
-    // The values whose width is a number.
+    // The values that have a width.
     ghost has_width: { Self → Type 0 } = { λ _. ⊤ };
 
     ghost width_of: { Self → ℕ };
 
-    /// Returns the width, in the offsets of the stream that the slice is from.
+    /// Returns the width, in the offsets of the stream that the slice was taken from.
     fn slice_len(&self) -> usize
         requires { has_width self.now }
         ensures { result ≡ width_of self.now };
@@ -62,8 +62,9 @@ impl SliceLen for char {
     }
 }
 
-/// The bits of a slice of bytes, from a place in its first byte, and those of a byte behind it that is not in the slice:
-/// what [`Stream::next_slice`](crate::Stream::next_slice) of a stream of bits answers.
+/// The slice of a stream of bits: the bits of a slice of bytes, from a place in its first byte on,
+/// and then bits of the next byte, which is not in the slice.
+/// [`Stream::next_slice`](crate::Stream::next_slice) of a stream of bits returns it.
 impl<S: SliceLen> SliceLen for (S, usize, usize) {
     ghost has_width = { λ s. S.has_width s.0 × (s.1 ≤ 8 * S.width_of s.0 + s.2)
         × (8 * S.width_of s.0 + s.2 - s.1 < 2 ^ 64) };

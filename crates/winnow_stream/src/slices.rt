@@ -12,7 +12,7 @@ use crate::{Checkpoint, Needed, Rest, Stream};
 use std::fmt::Debug;
 use std::num::NonZeroUsize;
 
-/// Each element of a slice, with its offset.
+/// An iterator over the elements of a slice, each with its offset.
 #[derive(Clone, Copy, Debug)]
 pub struct SliceOffsets<'i, T> {
     rest: &'i [T],
@@ -49,7 +49,7 @@ impl<T> Rest for &[T] {
     ghost rest_width = { λ s. length s.now };
 }
 
-/// The remaining slice is the whole state. Each element has width 1, also one of a type with no size.
+/// The remaining slice is the whole state. Each element has width 1, even if its type has no size.
 #[tactic(auto, using(crate::proofs::lemmas::UnitLemmas::units_steps))]
 impl<'i, T: Copy + Debug> Stream for &'i [T] {
     type Token = T;

@@ -13,28 +13,32 @@ use crate::Needed;
 use std::fmt;
 use std::fmt::Debug;
 
-/// What the invariant of a type may say of a stream, or of a checkpoint, that it holds. It has no code.
+/// What the invariant of a type may say of a stream, or of a checkpoint, that the type holds. It
+/// has no code.
 ///
-/// A struct whose bound is [`Stream`] itself cannot be passed on at a type with a lifetime, so a wrapper's ghost field names
-/// this trait in its place. On valid values the laws of `Stream` tie both members to what remains.
+/// A struct whose bound is [`Stream`] itself cannot be passed on at a type with a lifetime, so a
+/// wrapper's ghost field names this trait instead. On valid values the laws of `Stream` tie both
+/// members to what remains.
 pub trait Rest {
-    // The width of what remains; of a checkpoint, of what remained there.
+    // The width of what remains; of a checkpoint, the width of what remained there.
     ghost rest_width: { Self → ℕ };
 
-    // Two values that no call of `Stream` tells apart by what remains. Only a type with a flag for partial input needs more
-    // than equality.
+    // The two values differ in nothing that a call of `Stream` shows of what remains. Only a type
+    // with a flag for partial input needs more than equality.
     ghost same_rest: { Self → Self → Type 0 } = { λ s t. s ≡ t };
 
-    // Where it stands in the whole input, in its offsets, or stood; `None` where it keeps no location.
+    // The place in the whole input, in its offsets, at which a stream stands or a checkpoint stood;
+    // `None` if the type keeps no location.
     ghost location: { Self → Option ℕ } = { λ _. None };
 }
 
 /// A list of tokens with widths, of which calls take the front.
 ///
-/// A call either looks at what remains or takes a front of it. Offsets are sums of widths, counted from where the stream
-/// stands; an offset is valid where some front has that width. `reset` goes back to a checkpoint.
+/// A call either looks at what remains or takes a front of it. Offsets are sums of widths, counted
+/// from the place at which the stream stands. An offset is valid if some front has that width.
+/// `reset` goes back to a checkpoint.
 ///
-/// Whoever writes a stream of his own gives the ghost members below, and proves the laws that stand last.
+/// An author of a stream gives the ghost members below, and proves the laws at the end.
 pub trait Stream: Rest + Debug {
     /// The smallest unit: a `u8` of `&[u8]`, a `char` of `&str`.
     type Token: Debug;
@@ -57,16 +61,17 @@ pub trait Stream: Rest + Debug {
     // The checkpoints that may be used: those of valid values.
     ghost valid_checkpoint: { Self.Checkpoint → Type 0 };
 
-    // Which value is the slice of width n of a list: it speaks of the slice, the list and n alone.
+    // The value is the slice of width n of a list. It depends on the slice, the list and n alone.
     ghost is_slice: { Self.Slice → Source Self.Token → ℕ → Type 0 };
 
     // Whether a shortage says how many tokens are missing.
     ghost counts_missing: { Bool };
 
-    // Two values agree in all that no call of `Stream` changes.
+    // The two values agree in all that no call of `Stream` changes.
     ghost keeps: { Self → Self → Type 0 };
 
-    /// Returns an iterator over the remaining tokens, each with its offset, in order. After its end it gives nothing more.
+    /// Returns an iterator over the remaining tokens, each with its offset, in order. After its end
+    /// it gives nothing more.
     fn iter_offsets(&self) -> Self::IterOffsets
         requires { valid self.now }
         ensures can { Self.IterOffsets.can_next result }
@@ -81,7 +86,7 @@ pub trait Stream: Rest + Debug {
         requires { valid self.now }
         ensures { result ≡ width (remaining self.now) };
 
-    /// Returns the first token and moves past it, or `None` at the end, where nothing moves.
+    /// Returns the first token and moves past it. At the end it returns `None` and stays.
     fn next_token(&mut self) -> Option<Self::Token>
         requires { valid self.old }
         ensures answer { result ≡ first_token (remaining self.old) }
@@ -96,8 +101,10 @@ pub trait Stream: Rest + Debug {
         requires { valid self.now }
         ensures { result ≡ first_token (remaining self.now) };
 
-    /// Returns the offset of the first token that satisfies the predicate. Where the predicate computes, it is the first that `holds` says;
-    /// one that may answer otherwise for the same token has answered true of the token behind that offset, and false of each before.
+    /// Returns the offset of the first token that satisfies the predicate. If the predicate is a
+    /// function `holds` of the token, that is the first token of which `holds` is true. If it is
+    /// not, the predicate returned `true` for the token at that offset, and `false` for each token
+    /// before.
     final fn offset_for<P: Fn(Self::Token) -> bool>(&self, predicate: P) -> Option<usize>
         requires valid { valid self.now }
         requires callable { P.IsAlwaysCallable predicate }
@@ -107,7 +114,8 @@ pub trait Stream: Rest + Debug {
         ensures offset { IfSome result (λ n. IsTrue (is_offset (remaining self.now) n)) }
     {
         let mut items = self.iter_offsets();
-        // Asked for at the end of a turn, an item costs a test less: a quarter of the time over bytes.
+        // An item that is requested at the end of a turn costs one test less: a quarter of the time
+        // over bytes.
         let mut next = items.next();
         while let Some((offset, token)) = next {
             if predicate(token) {
@@ -118,7 +126,8 @@ pub trait Stream: Rest + Debug {
         None
     }
 
-    /// Returns the offset behind that many tokens, also exactly at the end, or the shortage where fewer remain.
+    /// Returns the offset after this number of tokens, which may be the end. If fewer remain, it
+    /// returns the shortage.
     fn offset_at(&self, tokens: usize) -> Result<usize, Needed>
         requires { valid self.now }
         ensures { result ≡ offset_at counts_missing (remaining self.now) tokens };
@@ -167,14 +176,15 @@ pub trait Stream: Rest + Debug {
         self.peek_slice(self.eof_offset())
     }
 
-    /// Returns where the stream stands.
+    /// Returns the place at which the stream stands.
     fn checkpoint(&self) -> Self::Checkpoint
         requires { valid self.now }
         ensures means { remained result ≡ remaining self.now }
         ensures location { Self.Checkpoint.location result ≡ Self.location self.now }
         ensures valid { valid_checkpoint result };
 
-    /// Goes back, or forward, to a checkpoint: what remained there remains, and what is kept stays.
+    /// Goes back, or forward, to a checkpoint. Then what remained there remains, and what is kept
+    /// stays.
     fn reset(&mut self, checkpoint: &Self::Checkpoint)
         requires valid { valid self.old }
         requires valid_checkpoint { valid_checkpoint checkpoint.now }
@@ -190,24 +200,27 @@ pub trait Stream: Rest + Debug {
         requires is_end { IsEndOf (remaining self.now) (remained start.now) }
         ensures { result ≡ width (remained start.now) - width (remaining self.now) };
 
-    /// Prints the stream on one line, for traces; no contract says how.
+    /// Prints the stream on one line, for traces. No contract says how.
     fn trace<W: fmt::Write>(&self, f: &mut fmt::Formatter<W>) -> fmt::Result {
         self.fmt(f)
     }
 
-    // Each token that remains of a valid value has a width of at least 1, and each that remained at a valid checkpoint.
+    // Each token that remains of a valid value has a width of at least 1, and so has each token
+    // that remained at a valid checkpoint.
     ghost positive_widths: { (s : Self) → valid s → HasPositiveWidths (remaining s) };
 
     ghost positive_widths_remained: { (c : Self.Checkpoint) → valid_checkpoint c
         → HasPositiveWidths (remained c) };
 
-    // What `Rest` says of a valid value, and of its checkpoints, is the width of the list.
+    // The width that `Rest` gives, of a valid value or of one of its checkpoints, is the width of
+    // the list.
     ghost rest_width_remaining: { (s : Self) → valid s → Self.rest_width s ≡ width (remaining s) };
 
     ghost rest_width_remained: { (c : Self.Checkpoint) → valid_checkpoint c
         → Self.Checkpoint.rest_width c ≡ width (remained c) };
 
-    // Two values with the same rest have the same list, and the second is valid if the first is.
+    // If two values have the same rest, they have the same list, and the second is valid if the
+    // first is.
     ghost same_rest_remaining: { (s t : Self) → Self.same_rest s t → remaining t ≡ remaining s };
 
     ghost same_rest_valid: { (s t : Self) → Self.same_rest s t → valid s → valid t };
@@ -215,7 +228,7 @@ pub trait Stream: Rest + Debug {
     // A slice of a list is that slice of each longer list.
     ghost slices_stay: { SlicesStay is_slice };
 
-    // What is kept by one call after the other is kept by both, and by none.
+    // `keeps` is reflexive and transitive: what each of two calls keeps, both in a row keep.
     ghost keeps_reflexive: { (s : Self) → keeps s s };
 
     ghost keeps_transitive: { (s t u : Self) → keeps s t → keeps t u → keeps s u };

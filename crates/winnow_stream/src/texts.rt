@@ -44,7 +44,8 @@ impl Rest for &str {
     ghost rest_width = { λ s. width (text_source s.now) };
 }
 
-/// The remaining text is the whole state. A character's width is its length in UTF-8, and a shortage is not counted.
+/// The remaining text is the whole state. A character's width is its length in UTF-8, and a
+/// shortage is not counted.
 impl<'i> Stream for &'i str {
     type Token = char;
 

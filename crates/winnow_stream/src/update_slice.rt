@@ -6,7 +6,8 @@ use std::fmt::Debug;
 
 /// A stream that can be narrowed to a slice of itself: a window.
 pub trait UpdateSlice: Stream {
-    /// This stream with the list of `inner` remaining; what is kept stays. `inner` is a front of what remained at `at`.
+    /// Returns this stream with the list of `inner` remaining; what is kept stays. `inner` is a
+    /// front of what remained at `at`.
     fn update_slice(self, inner: Self::Slice, at: &Self::Checkpoint) -> Self
         requires valid { Self.valid self }
         requires valid_checkpoint { Self.valid_checkpoint at.now }

@@ -8,7 +8,8 @@ ghost use Rattle.winnow_base.specs.Units.{HasPositiveWidths-units};
 
 use winnow_base::stream::{Checkpoint, Needed, Rest, SliceOffsets, Stream};
 
-/// A list of bytes of which some is left: a stream as a user would write it, with a whole that no call changes.
+/// A list of bytes, and the part of it that is left: a stream as a user would write it, with a
+/// whole that no call changes.
 #[derive(Clone, Copy, Debug, Drop)]
 pub struct ByteReader<'a> {
     whole: &'a [u8],
@@ -22,7 +23,7 @@ impl<'a> ByteReader<'a> {
         ByteReader { whole, rest: whole }
     }
 
-    /// All tokens, taken or not.
+    /// Returns all tokens, taken or not.
     pub fn whole(&self) -> &'a [u8]
         ensures { result.now ≡ self.now.whole.now }
     {

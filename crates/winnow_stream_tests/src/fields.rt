@@ -3,8 +3,8 @@ ghost use Rattle.winnow_base.specs.Source.{first_token, width};
 
 use winnow_base::stream::{Needed, Stream, offset_law, taken_law};
 
-/// A field: a byte that says how many tokens it has, and then those tokens. Where input is missing, the stream stands where it
-/// stood.
+/// Reads a field: a byte that gives the number of its tokens, and then these tokens. Where input is
+/// missing, the stream stays where it is.
 pub fn field<S: Stream<Token = u8>>(input: &mut S) -> Result<S::Slice, Needed>
     requires { S.valid input.old }
     ensures field { IfOk result (λ slice. (count : ℕ) × (
@@ -25,7 +25,7 @@ pub fn field<S: Stream<Token = u8>>(input: &mut S) -> Result<S::Slice, Needed>
     };
     match input.offset_at(count as usize) {
         Ok(offset) => {
-            // The offset behind that many tokens is valid, and its front is those tokens.
+            // The offset after that many tokens is valid, and its front is these tokens.
             offset_law::<u8>();
             taken_law::<u8>();
             Ok(input.next_slice(offset))

@@ -3,7 +3,7 @@ ghost use Rattle.winnow_base.specs.Source.{width, first_token, first_offset, hel
 
 use winnow_base::stream::{FixedSet, Stream, held_law};
 
-/// The tokens up to the first that the set does not hold, and moves past them.
+/// Returns the tokens up to the first that the set does not hold, and moves past them.
 pub fn take_while<S: Stream, C: FixedSet<S::Token>>(input: &mut S, set: &C) -> S::Slice
     requires valid { S.valid input.old }
     requires set { C.askable set.now }
@@ -24,7 +24,7 @@ pub fn take_while<S: Stream, C: FixedSet<S::Token>>(input: &mut S, set: &C) -> S
     input.next_slice(end)
 }
 
-// The width of the tokens up to the first that the set does not hold.
+// Returns the width of the tokens up to the first that the set does not hold.
 fn held_offset<S: Stream, C: FixedSet<S::Token>>(input: &S, set: &C) -> usize
     requires valid { S.valid input.now }
     requires set { C.askable set.now }
@@ -34,7 +34,7 @@ fn held_offset<S: Stream, C: FixedSet<S::Token>>(input: &S, set: &C) -> usize
     first_other(input, set).unwrap_or(input.eof_offset())
 }
 
-// The offset of the first token that the set does not hold.
+// Returns the offset of the first token that the set does not hold.
 fn first_other<S: Stream, C: FixedSet<S::Token>>(input: &S, set: &C) -> Option<usize>
     requires valid { S.valid input.now }
     requires set { C.askable set.now }

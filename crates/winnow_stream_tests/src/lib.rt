@@ -1,5 +1,5 @@
-//! Streams as their users meet them: streams of one's own, generic code over any stream, and the tests of streams and of scripts.
-//! Nothing here is part of the library.
+//! Streams as their users meet them: user-defined streams, generic code over any stream, and the
+//! tests of streams and of scripts. Nothing here is part of the library.
 #![tactic(auto)]
 
 #[cfg(test)]

@@ -8,7 +8,7 @@ ghost use Rattle.winnow_match.specs.declared.compare.CompareResult.TheVariants a
 use winnow_base::error::Needed;
 use winnow_base::stream::{Compare, CompareResult, FindSlice, SliceLen, front_law};
 
-/// The literal, where the stream begins with it, and moves past it; else nothing moves.
+/// Returns the literal and moves past it, if the stream begins with it. If not, nothing moves.
 pub fn literal<S: Compare<T>, T>(input: &mut S, wanted: T) -> Option<S::Slice>
     requires { S.valid input.old }
     ensures taken { IfSome result (λ slice. (n : ℕ)
@@ -27,8 +27,8 @@ pub fn literal<S: Compare<T>, T>(input: &mut S, wanted: T) -> Option<S::Slice>
     }
 }
 
-/// The literal, where the stream begins with it, and moves past it. Else nothing moves, and the error says how much is lacking,
-/// where more input may complete the literal.
+/// Returns the literal and moves past it, if the stream begins with it. If not, nothing moves, and
+/// the error says how much is missing where more input may complete the literal.
 pub fn literal_or_lack<S: Compare<T>, T: SliceLen + Copy>(
     input: &mut S,
     wanted: T,
@@ -59,7 +59,8 @@ pub fn literal_or_lack<S: Compare<T>, T: SliceLen + Copy>(
     }
 }
 
-/// What stands before the first needle, and moves up to the needle; where none stands, nothing moves.
+/// Returns the tokens before the first needle, and moves up to the needle. Where there is none,
+/// nothing moves.
 pub fn take_until<S: FindSlice<T>, T>(input: &mut S, needle: T) -> Option<S::Slice>
     requires { S.valid input.old }
     ensures taken { IfSome result (λ slice. (hit : range_declared.Range ℕ)
@@ -75,7 +76,8 @@ pub fn take_until<S: FindSlice<T>, T>(input: &mut S, needle: T) -> Option<S::Sli
     Some(input.next_slice(hit.start))
 }
 
-/// What stands before the first needle, and the needle, and moves past it; where none stands, nothing moves.
+/// Returns the tokens before the first needle, and the needle, and moves past it. Where there is
+/// none, nothing moves.
 pub fn take_through<S: FindSlice<T>, T>(input: &mut S, needle: T) -> Option<(S::Slice, S::Slice)>
     requires { S.valid input.old }
     ensures taken { IfSome result (λ taken. (hit : range_declared.Range ℕ)

@@ -9,7 +9,8 @@ use winnow_base::stream::{
     slice_bytes_law, slice_law,
 };
 
-/// The number that the tokens of a set write, which stand ahead, and moves past them: none where they write no number that fits.
+/// Returns the number that the tokens of a set ahead write, and moves past them. Returns `None`
+/// where they write no number that fits.
 pub fn number<S: Stream<Token = u8>, C: FixedSet<u8>>(input: &mut S, digits: &C) -> Option<u32>
 where
     S::Slice: AsBytes + ParseSlice<u32> + Drop,
@@ -30,7 +31,7 @@ where
     taken.parse_slice()
 }
 
-// The number at the front of bytes, whole and with a location.
+// Returns the number at the front of bytes, read from plain bytes and from bytes with a location.
 fn numbers(bytes: &[u8]) -> (Option<u32>, Option<u32>) {
     slice_bytes_law();
     parse_slice_law::<u32>();

@@ -10,15 +10,15 @@ ghost use Rattle.winnow_stream_tests.specs.PairSource.{HasPositiveWidths-pair_so
 
 use winnow_base::stream::{Checkpoint, Needed, Rest, Stream};
 
-/// Sixteen-bit code units with offsets in bytes, so that each has width 2: a stream of one's own with another width than 1,
-/// with values that are not valid, and with a silent shortage.
+/// Sixteen-bit code units with offsets in bytes, so that each has width 2: a user-defined stream
+/// whose width is not 1, with values that are not valid, and with a shortage of unknown size.
 #[derive(Clone, Copy, Debug, Drop)]
 pub struct PairReader<'a> {
     rest: &'a [u16],
 }
 
 impl<'a> PairReader<'a> {
-    /// Valid where its width in bytes is a `usize`.
+    /// Returns a reader. It is valid where its width in bytes fits in a `usize`.
     pub fn new(rest: &'a [u16]) -> Self
         ensures rest { result.rest.now ≡ rest.now }
         ensures valid { 2 * length rest.now < 2 ^ 64 → ⟦<PairReader<'a> as Stream>⟧.valid result }

@@ -6,7 +6,8 @@ ghost use Rattle.winnow_base.specs.Location.{IsLocation};
 use std::ops::Range;
 use winnow_base::stream::{Location, Needed, Stream, offset_law, span_law, taken_law};
 
-/// So many tokens, and where they stand in the whole input; where fewer remain, nothing moves.
+/// Returns a number of tokens, and where they stand in the whole input. Where fewer remain, nothing
+/// moves.
 pub fn spanned<S: Stream + Location>(
     input: &mut S,
     tokens: usize,

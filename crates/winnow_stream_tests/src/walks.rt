@@ -4,8 +4,8 @@ ghost use Rattle.winnow_base.specs.Front.{is_offset};
 
 use winnow_base::stream::Stream;
 
-/// The slice of width `offset` and the width that it took, with the stream back where it stood; `None` where no front has
-/// that width.
+/// Returns the slice of width `offset` and the width that it took, and puts the stream back where
+/// it stood. Returns `None` where no front has that width.
 pub fn take_back<S: Stream>(s: &mut S, offset: usize) -> Option<(S::Slice, usize)>
     requires { S.valid s.old }
     ensures slice { MatchOption result (¬ (IsTrue (is_offset (S.remaining s.old) offset))) (λ p.
@@ -24,7 +24,7 @@ pub fn take_back<S: Stream>(s: &mut S, offset: usize) -> Option<(S::Slice, usize
     Some((slice, taken))
 }
 
-/// The width of two tokens, by taking them and looking back.
+/// Returns the width of two tokens, by taking them and measuring back.
 pub fn look_back<S: Stream>(s: &mut S) -> usize
 where
     S::Token: Drop,

@@ -6,7 +6,7 @@ use winnow_match::{Compare, CompareResult, FindSlice};
 use winnow_run::{Step, run};
 use winnow_stream::{NoSet, Stream};
 
-/// The answers of a script, as their debug text.
+/// Returns the answers of a script, as their debug text.
 pub fn tell<S: Stream>(
     alloc: Global,
     s: &mut S,
@@ -23,7 +23,7 @@ where
     format!(in alloc; "{answers:?}")
 }
 
-/// The same of a stream that is not needed any more.
+/// Returns the same for a stream that is not needed any more.
 pub fn told<S: Stream + Drop>(
     alloc: Global,
     mut s: S,
@@ -37,7 +37,7 @@ where
     tell(alloc, &mut s, script)
 }
 
-/// A comparison.
+/// Returns the answer of a comparison.
 pub fn compares<T, S: Compare<T> + Drop>(stream: S, literal: T) -> CompareResult
     requires { S.valid stream }
     ensures { result ≡ S.compared literal (S.remaining stream) }
@@ -45,7 +45,7 @@ pub fn compares<T, S: Compare<T> + Drop>(stream: S, literal: T) -> CompareResult
     stream.compare(literal)
 }
 
-/// A search.
+/// Returns the answer of a search.
 pub fn finds<T, S: FindSlice<T> + Drop>(stream: S, needles: T) -> Option<Range<usize>>
     requires { S.valid stream }
     ensures { result ≡ S.found needles (S.remaining stream) }
@@ -53,7 +53,7 @@ pub fn finds<T, S: FindSlice<T> + Drop>(stream: S, needles: T) -> Option<Range<u
     stream.find_slice(needles)
 }
 
-/// A search for one needle, for a tuple of one, of two and of three.
+/// Returns the answers of a search for one needle, and for a tuple of one, of two and of three.
 pub fn hits<N, S>(
     s: S,
     one: N,

@@ -1,5 +1,5 @@
-//! What the test crates share: calls made through their bounds alone, as generic code makes them. Nothing here is part of the
-//! library.
+//! Helpers that the test crates share: calls that are made only through their bounds, as generic
+//! code makes them. Nothing here is part of the library.
 #![tactic(auto)]
 
 mod calls;

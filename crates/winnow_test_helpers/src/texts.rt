@@ -2,17 +2,17 @@ use std::alloc::{AllocError, Global};
 use std::fmt::{Debug, Display};
 use winnow_stream::{AsBStr, SliceLen};
 
-/// The printed text.
+/// Returns the printed text.
 pub fn shown<T: Display>(alloc: Global, value: &T) -> Result<String, AllocError> {
     format!(in alloc; "{value}")
 }
 
-/// The debug text.
+/// Returns the debug text.
 pub fn debugged<T: Debug>(alloc: Global, value: &T) -> Result<String, AllocError> {
     format!(in alloc; "{value:?}")
 }
 
-/// What the calls that change nothing answer, as one text.
+/// Returns the answers of the calls that change nothing, as one text.
 pub fn seen<S: SliceLen + AsBStr + Display>(alloc: Global, s: &S) -> Result<String, AllocError>
     requires { S.has_width s.now }
 {

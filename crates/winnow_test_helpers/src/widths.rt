@@ -3,7 +3,7 @@ ghost use Rattle.winnow_stream.specs.Front.{is_offset, front};
 
 use winnow_stream::{Offset, Rest, SliceLen, StreamIsPartial, UpdateSlice};
 
-/// The width from a start.
+/// Returns the width from a start.
 pub fn width_from<T: Rest, S: Offset<T>>(s: &S, start: &T) -> usize
     requires measured { S.can_measure s.now start.now }
     requires no_wider { S.rest_width s.now ≤ T.rest_width start.now }
@@ -12,7 +12,7 @@ pub fn width_from<T: Rest, S: Offset<T>>(s: &S, start: &T) -> usize
     s.offset_from(start)
 }
 
-/// The width.
+/// Returns the width.
 pub fn width<S: SliceLen>(s: &S) -> usize
     requires { S.has_width s.now }
     ensures { result ≡ S.width_of s.now }
@@ -20,7 +20,7 @@ pub fn width<S: SliceLen>(s: &S) -> usize
     s.slice_len()
 }
 
-/// The window of the front of that width.
+/// Returns the window of the front of width `offset`.
 pub fn window_of<S: UpdateSlice>(mut s: S, offset: usize) -> S
     requires valid { S.valid s }
     requires offset { IsTrue (is_offset (S.remaining s) offset) }
@@ -32,7 +32,8 @@ pub fn window_of<S: UpdateSlice>(mut s: S, offset: usize) -> S
     s.update_slice(slice, &start)
 }
 
-/// Whether the type has a flag, what it says, and what it says once it is cleared and once it is set again.
+/// Returns whether the type has a flag, what it says, and what it says after it is cleared and
+/// after it is set again.
 pub fn flags<S: StreamIsPartial>(s: &mut S) -> [bool; 4] {
     let before = s.is_partial();
     let state = s.complete();

@@ -1,9 +1,9 @@
--- The entries of an error: the alternatives that it tells of, or itself alone.
+-- The entries of an error: its alternatives, or the error itself alone.
 use Rattle.std.specs.Prelude.{◌≡◌, ◌++◌, ℕ, List, [], ◌∷◌, Option, Some, None, option_map, string_bytes}
 use Rattle.winnow_tree.specs.declared.tree.TreeError.{TreeError, out-TreeError}
 use Rattle.winnow_tree.specs.declared.tree.TreeError.TheOpen.{TreeError-F, Base, Stack, Alt}
 
--- the alternatives of one layer, if it is such a layer
+-- the alternatives of one layer, if it is an `Alt`
 abbrev pub layer_alternatives : {I C A : Type 0} → TreeError-F I C A → Option (List A)
 layer_alternatives (Base b) = None
 layer_alternatives (Stack b s) = None
@@ -21,14 +21,15 @@ entries_or t None = t ∷ []
 abbrev pub entries : {I C : Type 0} → TreeError I C → List (TreeError I C)
 entries t = entries_or t (alternatives t)
 
--- the entries of two errors: those of the second come last, but where it alone has alternatives the first comes behind them
+-- the entries of two errors: those of the second come last; but if only the second has
+-- alternatives, the first comes after them
 abbrev pub entries_of_both : {A : Type 0} → A → A → Option (List A) → Option (List A) → List A
 entries_of_both a b (Some xs) (Some ys) = xs ++ ys
 entries_of_both a b (Some xs) None = xs ++ b ∷ []
 entries_of_both a b None (Some ys) = ys ++ a ∷ []
 entries_of_both a b None None = a ∷ b ∷ []
 
--- r is what `or` gives of two errors: an `Alt` of the entries of both
+-- r is what `or` gives for two errors: an `Alt` of the entries of both
 abbrev pub TreeOr : {I C : Type 0} → TreeError I C → TreeError I C → TreeError I C → Type 0
 TreeOr a b r = alternatives r ≡ Some (entries_of_both a b (alternatives a) (alternatives b))
 
@@ -37,6 +38,6 @@ LayerIsBase i cause (Base b) = (b.input ≡ i) × (option_map string_bytes b.cau
 LayerIsBase i cause (Stack b s) = ⊥
 LayerIsBase i cause (Alt v) = ⊥
 
--- an error at an input, with the text of a cause or without
+-- the error is at an input, with the text of a cause or without
 abbrev pub IsBase : {I C : Type 0} → I → Option (List ℕ) → TreeError I C → Type 0
 IsBase {I} {C} i cause t = LayerIsBase i cause (out-TreeError I C t)

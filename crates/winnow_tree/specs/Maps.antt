@@ -1,4 +1,4 @@
--- A tree with other inputs: all else is as it was, place by place.
+-- A tree with other inputs and the same causes, contexts and shape.
 use Rattle.std.specs.Prelude.{◌≡◌, Result, Ok}
 use Rattle.std.specs.List.{AllZip}
 use Rattle.winnow_tree.specs.TreeContents.{Frame, kind, context, Tree, base, stack, alt, Trees, none, more}
@@ -7,14 +7,14 @@ use Rattle.winnow_tree.specs.TreeContents.{Frame, kind, context, Tree, base, sta
 abbrev pub OnOkOf : {I J E : Type 0} → (I → Result J E → Type 0) → I → J → Type 0
 OnOkOf post i j = post i (Ok j)
 
--- the second frame is the first with an input that the relation gives of the old one
+-- the second frame is the first with an input that the relation gives for the old one
 abbrev pub FrameMaps : {I J C : Type 0} → (I → J → Type 0) → Frame I C → Frame J C → Type 0
 FrameMaps gives (kind i c) (kind j d) = gives i j × (d ≡ c)
 FrameMaps gives (context i c) (context j d) = gives i j × (d ≡ c)
 FrameMaps gives (kind i c) (context j d) = ⊥
 FrameMaps gives (context i c) (kind j d) = ⊥
 
--- the second tree is the first with such inputs
+-- the second tree is the first with inputs that the relation gives for the old ones
 abbrev mutual
   pub TreeMaps : {I J C : Type 0} → (I → J → Type 0) → Tree I C → Tree J C → Type 0
   TreeMaps gives (base i c) (base j d) = gives i j × (d ≡ c)

@@ -4,7 +4,8 @@ ghost use Rattle.winnow_tree.specs.Abbreviation.{abbreviation};
 
 use std::alloc::AllocError;
 
-/// Writes the front of the text's first line, at most 20 characters, and three dots where that is not the whole.
+/// Writes the front of the text's first line, at most 20 characters, then three dots if that is not
+/// the whole text.
 pub(crate) fn write_abbreviated(out: &mut String, text: &str) -> Result<(), AllocError>
     ensures { OnOk result (
         string_bytes out.new ≡ string_bytes out.old ++ abbreviation 20 (chars text.now)) }

@@ -9,10 +9,10 @@ use std::alloc::{AllocError, Global};
 use winnow_error::{ErrMode, OrTree, combine};
 use winnow_stream::Stream;
 
-/// Joins the errors of alternatives by `or`, as they are bracketed.
+/// Joins the errors of alternatives with `or`, in the order that the brackets say.
 ///
-/// Where each is a `Backtrack`, so is the answer, and it has each entry as often as all of them have it together, whatever the
-/// brackets are.
+/// If each error is a `Backtrack`, so is the answer. For all brackets, it has the entries of all
+/// errors, each as often as they have it together.
 pub fn combine_trees<I: Stream + Copy, C: Drop>(
     alloc: Global,
     tree: OrTree<ErrMode<TreeError<I, C>>>,

@@ -25,7 +25,7 @@ impl<I: Drop, C: Drop> ErrorConvert<TreeError<Bits<I>, C>> for TreeError<I, C> {
     }
 }
 
-/// Each input becomes its bytes, the one whose bits were read in part among them.
+/// Each input becomes its bytes, which include a byte of which some bits were read.
 impl<I: Drop, C: Drop> ErrorConvert<TreeError<I, C>> for TreeError<Bits<I>, C> {
     ghost convert_gives = { λ e r. TreeMaps (λ i j. j ≡ bits_inner i) (tree_contents e)
         (tree_contents r) };

@@ -4,8 +4,9 @@ ghost use Rattle.winnow_tree.specs.Entries.{TreeOr};
 use crate::TreeError;
 use std::alloc::{AllocError, Global};
 
-/// Returns the entries of both errors as alternatives, those of the second last, unless it alone is an `Alt`.
-/// It is inlined: as a call it would move both errors once more, which costs more than the push.
+/// Returns the entries of both errors as alternatives. Those of the second come last, unless it
+/// alone is an `Alt`. Inlined: as a call it would move both errors once more, which costs more than
+/// the push.
 #[inline(always)]
 pub(crate) fn join<I: Drop, C: Drop>(
     alloc: Global,

@@ -11,8 +11,9 @@ use crate::TreeError;
 use winnow_error::ParserError;
 use winnow_stream::Stream;
 
-/// The law of entries: `or` of two trees is an `Alt`, and has each entry as often as both have it together. Folded from the left
-/// over errors that are no `Alt`, it keeps them in order. Nothing is done when it is called: its contract is the law.
+/// The law of entries: `or` of two trees is an `Alt`, which has each entry as often as both have it
+/// together. A fold from the left over errors that are no `Alt` keeps them in order. A law does
+/// nothing when called: its contract is the law.
 pub fn tree_or_law<I: Stream + Copy, C: Drop>()
     ensures alternatives { (a b r : TreeError I C)
         → ⟦<TreeError<I, C> as ParserError<I>>⟧.or_gives a b r → IsSome (alternatives r) }
@@ -25,8 +26,8 @@ pub fn tree_or_law<I: Stream + Copy, C: Drop>()
         → entries r ≡ a ∷ bs }
 {}
 
-/// The law of brackets: however the errors of alternatives are bracketed, if each is a `Backtrack`, what `or` makes of them is one
-/// too, and has each entry as often as all of them have it together. Nothing is done when it is called: its contract is the law.
+/// The law of brackets: if each error of the alternatives is a `Backtrack`, `or` gives a
+/// `Backtrack` for all brackets, which has each entry as often as all errors have it together.
 pub fn tree_bracket_law<I: Stream + Copy, C: Drop>()
     ensures { (tree : OrTree (Mode (TreeError I C))) (r : Mode (TreeError I C))
         → All (λ m. IsTrue (mode_backtracks m)) (leaves tree)

@@ -1,4 +1,5 @@
-//! Trees of errors: a [`TreeError`] tells all that was tried, where, and what was being read.
+//! Trees of errors: a [`TreeError`] holds each alternative that was tried, where it failed, and
+//! what was being read.
 #![tactic(auto)]
 
 mod abbreviation;

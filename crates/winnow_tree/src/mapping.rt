@@ -68,7 +68,8 @@ fn map_frames<I: Drop, J: Drop, C: Drop, O: Fn(I) -> Result<J, AllocError>>(
     Ok(mapped)
 }
 
-/// Returns the tree with what `op` makes of each input, or out of memory where `op` or the tree finds none.
+/// Returns the tree with the input that `op` makes of each old one, or an error if `op` or the new
+/// tree is refused memory.
 fn map_tree<I: Drop, J: Drop, C: Drop, O: Fn(I) -> Result<J, AllocError>>(
     alloc: Global,
     tree: TreeError<I, C>,
@@ -101,7 +102,7 @@ fn map_tree<I: Drop, J: Drop, C: Drop, O: Fn(I) -> Result<J, AllocError>>(
 }
 
 impl<I: Drop, C: Drop> TreeError<I, C> {
-    /// Returns the error with what `op` makes of each input.
+    /// Returns the error with the input that `op` makes of each old one.
     pub fn map_input<J: Drop, O: Fn(I) -> J + Drop>(
         self,
         alloc: Global,

@@ -2,16 +2,16 @@ ghost use Rattle.std.specs.Prelude.{◌≡◌, IfOk, string_bytes};
 
 use std::alloc::{AllocError, Global};
 
-/// An error at an input, and what another's error caused it, if one did.
+/// An error at an input, and which error of other code caused it, if one did.
 #[derive(Debug, Drop)]
 pub struct TreeErrorBase<I> {
-    /// The input as it stood where the error came
+    /// The input as it stood where the error occurred
     pub input: I,
-    /// The text of what caused it
+    /// The text of the cause
     pub cause: Option<String>,
 }
 
-/// What was being read when an error came.
+/// What was being read when an error occurred.
 #[derive(Debug, Drop)]
 pub struct TreeErrorContext<I, C> {
     /// The input as it stood where the parser began
@@ -30,7 +30,7 @@ pub enum TreeErrorFrame<I, C> {
 }
 
 impl<I: Drop> TreeErrorBase<I> {
-    /// Returns the error with what `op` makes of the input.
+    /// Returns the error with the input that `op` makes of the old one.
     pub fn map_input<J, O: Fn(I) -> J + Drop>(self, op: O) -> TreeErrorBase<J>
         requires { O.pre op self.input }
         ensures input { O.post op self.input result.input }
@@ -69,7 +69,7 @@ impl TreeErrorBase<&str> {
 }
 
 impl<I: Drop, C: Drop> TreeErrorContext<I, C> {
-    /// Returns the same context with what `op` makes of the input.
+    /// Returns the same context with the input that `op` makes of the old one.
     pub fn map_input<J, O: Fn(I) -> J + Drop>(self, op: O) -> TreeErrorContext<J, C>
         requires { O.pre op self.input }
         ensures input { O.post op self.input result.input }

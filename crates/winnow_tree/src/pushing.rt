@@ -6,8 +6,8 @@ use crate::{TreeError, TreeErrorBase, TreeErrorContext, TreeErrorFrame};
 use std::alloc::{AllocError, Global};
 use winnow_stream::Stream;
 
-/// Returns the error with one frame more, the outermost. It is inlined, so that an error that already is a
-/// stack is not moved once more than the push needs.
+/// Returns the error with one more frame, the outermost. Inlined, so that an error that is already
+/// a stack is not moved more often than the push needs.
 #[inline(always)]
 fn push_frame<I: Drop, C: Drop>(
     alloc: Global,
@@ -27,7 +27,7 @@ fn push_frame<I: Drop, C: Drop>(
     }
 }
 
-/// Returns a stack of one frame over the error.
+/// Returns a stack that has one frame over the error.
 fn over<I: Drop, C: Drop>(
     alloc: Global,
     error: TreeError<I, C>,
@@ -42,7 +42,8 @@ fn over<I: Drop, C: Drop>(
     Ok(TreeError::Stack { base, stack })
 }
 
-/// Returns the error, told that a parser that began at `token_start` failed because of it.
+/// Returns the error and records in it that a parser which began at `token_start` failed because of
+/// it.
 #[inline(always)]
 pub(crate) fn push_kind<I: Stream + Copy, C: Drop>(
     alloc: Global,
@@ -65,7 +66,7 @@ pub(crate) fn push_kind<I: Stream + Copy, C: Drop>(
     push_frame(alloc, error, frame)
 }
 
-/// Returns the error, told what a parser that began at `token_start` was reading.
+/// Returns the error and records in it what a parser which began at `token_start` was reading.
 #[inline(always)]
 pub(crate) fn push_context<I: Stream + Copy, C: Drop>(
     alloc: Global,

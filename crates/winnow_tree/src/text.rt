@@ -122,7 +122,7 @@ fn write_tree<I: Display, C: Display>(
 }
 
 impl<I: Display> TreeErrorBase<I> {
-    /// Returns the error in words: the cause, if there is one, and the front of the input.
+    /// Returns the text of the error: the cause, if there is one, and the front of the input.
     pub fn text(&self, alloc: Global) -> Result<String, AllocError>
         ensures { IfOk result (λ s. IfSome (base_text I.output self.now)
             (λ text. string_bytes s ≡ text)) }
@@ -134,7 +134,7 @@ impl<I: Display> TreeErrorBase<I> {
 }
 
 impl<I: Display, C: Display> TreeErrorContext<I, C> {
-    /// Returns what was being read, and the front of the input.
+    /// Returns the text of what was being read, and the front of the input.
     pub fn text(&self, alloc: Global) -> Result<String, AllocError>
         ensures { IfOk result (λ s. IfSome (told_text I.output C.output self.now)
             (λ text. string_bytes s ≡ text)) }
@@ -146,7 +146,7 @@ impl<I: Display, C: Display> TreeErrorContext<I, C> {
 }
 
 impl<I: Display, C: Display> TreeError<I, C> {
-    /// Returns the error as lines of text, each ended by a newline.
+    /// Returns the error as lines of text, each of which ends with a newline.
     pub fn text(&self, alloc: Global) -> Result<String, AllocError>
         ensures { IfOk result (λ s. IfSome (tree_text I.output C.output self.now [])
             (λ text. string_bytes s ≡ text)) }

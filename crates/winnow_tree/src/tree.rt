@@ -9,9 +9,9 @@ use std::alloc::{AllocError, Global};
 use winnow_error::{AddContext, FromExternalError, FromRecoverableError, ParserError};
 use winnow_stream::{Needed, Stream};
 
-/// An error that tells all that was tried.
+/// An error that holds each alternative that was tried.
 ///
-/// Contracts see what it tells, and nothing of the room that its vectors take.
+/// Contracts see its contents, but not the memory that its vectors take.
 #[derive(Debug, Drop)]
 pub enum TreeError<I, C> {
     /// One parser failed
@@ -23,7 +23,7 @@ pub enum TreeError<I, C> {
         /// The parsers, the innermost first
         stack: Vec<TreeErrorFrame<I, C>>,
     },
-    /// Alternatives, each of which failed
+    /// The errors of alternatives, each of which failed
     Alt(Vec<TreeError<I, C>>),
 }
 

@@ -3,7 +3,8 @@ use winnow_error::{ErrMode, OrTree, ParserError};
 use winnow_parse_error::ParseError;
 use winnow_stream::Stream;
 
-/// The error of a parse that fails after that much of the input, if a slice so wide may be taken, and else at its start.
+/// Returns the error of a parse that fails after the front of width `offset`, or at the start where
+/// no front has that width.
 pub fn fail_at<I: Stream, E: ParserError<I>>(
     alloc: Global,
     mut input: I,
@@ -21,7 +22,7 @@ where
     ParseError::new(input, start, inner)
 }
 
-/// Two groups of alternatives.
+/// Returns two groups of alternatives, joined.
 pub fn joined<E: Drop>(
     alloc: Global,
     first: OrTree<ErrMode<E>>,

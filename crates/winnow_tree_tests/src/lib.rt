@@ -1,4 +1,5 @@
-//! Trees of errors, parse errors and positions, as their users meet them: rows of printed texts, and calls through the bounds.
+//! Trees of errors, parse errors and positions, as their users meet them: rows of printed texts,
+//! and calls through the bounds.
 #![tactic(auto)]
 
 #[cfg(test)]

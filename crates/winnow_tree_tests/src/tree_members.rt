@@ -1,5 +1,5 @@
-//! What the ghost members of a tree of errors say, and those of the conversions between bytes and bits, spelled out. Generic code
-//! promises what they say and no more, so a member that says less is refused here.
+//! The ghost members of a tree of errors, and of the conversions between bytes and bits, spelled
+//! out. Generic code promises only what they say, so a member that says less is refused here.
 ghost use Rattle.std.specs.Prelude.{◌≡◌, ℕ, true, None, Some, Ok, string_bytes};
 ghost use Rattle.winnow_error.specs.declared.input.InputError.{InputError};
 ghost use Rattle.winnow_stream.specs.declared.needed.Needed.{Needed};
@@ -17,7 +17,8 @@ use winnow_stream::{Needed, Stream};
 use winnow_tree::TreeError;
 use winnow_views::Bits;
 
-/// A tree is made at the input, with the text of a cause where there is one, and it lets another alternative be tried.
+/// A tree is made at the input, with the text of a cause if there is one, and it lets another
+/// alternative be tried.
 pub fn made_tree_law<I: Stream + Copy, C: Drop>()
     ensures made { (input : I) (e : TreeError I C)
         → ⟦<TreeError<I, C> as ParserError<I>>⟧.from_input_gives input e → IsBase input None e }
@@ -38,7 +39,8 @@ pub fn made_tree_law<I: Stream + Copy, C: Drop>()
         input e ≡ e }
 {}
 
-/// A tree grows by a frame at the input as it stood at the start of a parser, and of two trees both have their entries in the answer.
+/// A tree grows by a frame at the input as it stood at the start of a parser. Two trees are joined
+/// to one with the entries of both.
 pub fn grown_tree_law<I: Stream + Copy, C: Drop>()
     ensures appended { (e r : TreeError I C) (input : I) (start : I.Checkpoint)
         → ⟦<TreeError<I, C> as ParserError<I>>⟧.append_gives e input start r
@@ -53,16 +55,19 @@ pub fn grown_tree_law<I: Stream + Copy, C: Drop>()
         → alternatives r ≡ Some (entries_of_both a b (alternatives a) (alternatives b)) }
 {}
 
-/// An error at bytes is at all of their bits, and one at bits at their bytes, wherever among the bits it was.
+/// An error at bytes becomes one at all of their bits. An error at bits becomes one at their bytes,
+/// wherever in the first byte the bits began.
 pub fn converted_law<I: Drop, C: Drop>()
     ensures to_bits { (e : InputError I) (r : InputError (Bits I))
         → ⟦<InputError<I> as ErrorConvert<InputError<Bits<I>>>>⟧.convert_gives e r
         → (bits_inner r.input ≡ e.input) × (bits_place r.input ≡ 0) }
-    ensures to_bits_answers { ⟦<InputError<I> as ErrorConvert<InputError<Bits<I>>>>⟧.convert_refusable → ⊥ }
+    ensures bits_granted { ⟦<InputError<I> as ErrorConvert<InputError<Bits<I>>>>⟧.convert_refusable
+        → ⊥ }
     ensures to_bytes { (e : InputError (Bits I)) (r : InputError I)
         → ⟦<InputError<Bits<I>> as ErrorConvert<InputError<I>>>⟧.convert_gives e r
         → r.input ≡ bits_inner e.input }
-    ensures to_bytes_answers { ⟦<InputError<Bits<I>> as ErrorConvert<InputError<I>>>⟧.convert_refusable → ⊥ }
+    ensures bytes_granted { ⟦<InputError<Bits<I>> as ErrorConvert<InputError<I>>>⟧.convert_refusable
+        → ⊥ }
     ensures tree_to_bits { (e : TreeError I C) (r : TreeError (Bits I) C)
         → ⟦<TreeError<I, C> as ErrorConvert<TreeError<Bits<I>, C>>>⟧.convert_gives e r
         → TreeMaps (λ i j. (bits_inner j ≡ i) × (bits_place j ≡ 0)) (tree_contents e)

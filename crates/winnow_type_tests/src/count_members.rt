@@ -1,4 +1,4 @@
-//! What the ghost members of ranges of counts, and of accumulators that ask for no memory, say, spelled out.
+//! The ghost members of ranges of counts, and of accumulators that ask for no memory, spelled out.
 ghost use Rattle.std.specs.Prelude.{◌≡◌, ◌-◌, ℕ, Some, None};
 ghost use Rattle.std.specs.Range.{range_inclusive_start, range_inclusive_end};
 ghost use Rattle.winnow_count.specs.CountRange.{least_count, greatest_count};
@@ -7,8 +7,8 @@ ghost use Rattle.winnow_count.specs.declared.range.Range as counted;
 use std::ops;
 use winnow_count::{Accumulate, Range};
 
-/// A range of counts is made from a number, which is its only count, or from any range of numbers; a half-open one ends one below
-/// its end, and no lower than at 0.
+/// A range of counts is made from a number, which is its only count, or from any range of numbers.
+/// A half-open range ends one below its end, but not below 0.
 pub fn counts_law()
     ensures one { (n : ℕ) (r : counted.Range) → ⟦<Range as From<usize>>⟧.from_gives n r
         → (least_count r ≡ n) × (greatest_count r ≡ Some n) }
@@ -33,7 +33,8 @@ pub fn counts_law()
         → (least_count r ≡ 0) × (greatest_count r ≡ None) }
 {}
 
-/// What keeps nothing, and what counts alone, asks for no memory, so it is refused none.
+/// An accumulator that keeps nothing, or only counts, asks for no memory, so it is never refused
+/// any.
 pub fn memoryless_law<T: Drop>()
     ensures nothing { ⟦<() as Accumulate<T>>⟧.refusable → ⊥ }
     ensures count { ⟦<usize as Accumulate<T>>⟧.refusable → ⊥ }

@@ -1,5 +1,5 @@
-//! What `{:?}` prints of the types whose contracts do not say it: plain, under `#`, with a width and with a precision. Derived texts
-//! are as Rust's derives print them.
+//! The debug texts of the types whose contracts do not say them: plain, under `#`, with a width and
+//! with a precision. Derived texts are as Rust's derives print them.
 use std::alloc::{AllocError, Global};
 use std::fmt::Debug;
 use std::process::Abort;
@@ -47,7 +47,7 @@ const LIST: &str = "[97, 98]|[\n    97,\n    98,\n]|[  97,   98]|[97, 98]";
 
 const TEXT: &str = r#""ab"|"ab"|"ab"|"ab""#;
 
-// As what remains there, whatever is kept beside it.
+// A checkpoint prints as what remains there, without what it keeps beside that.
 #[test]
 fn checkpoints_of_slices(rt: HostRuntime) -> Result<(), Fail> {
     let alloc = rt.alloc();
@@ -68,12 +68,12 @@ fn checkpoints_of_wrappers(rt: HostRuntime) -> Result<(), Fail> {
     Ok(())
 }
 
-// The text with a width and a precision, under `#` and without it.
+// Returns the text with a width and a precision, under `#` and without it.
 fn debugged_at_a_precision<T: Debug>(alloc: Global, value: &T) -> Result<String, AllocError> {
     format!(in alloc; "{value:#6.2?}|{value:6.2?}")
 }
 
-// Asserts it of a stream and of where it stands.
+// Asserts that text for a stream and for its checkpoint.
 fn stream_debugs_at_a_precision<S: Stream + Debug>(
     rt: &impl Abort,
     alloc: Global,
@@ -92,7 +92,7 @@ fn stream_debugs_at_a_precision<S: Stream + Debug>(
 
 const FLAGS: &[bool] = &[true, false];
 
-// A flag is padded and cut.
+// A width and a precision reach a flag.
 const CUT: &str = "[\n    tr    ,\n    fa    ,\n]|[tr    , fa    ]";
 
 #[test]
@@ -124,7 +124,7 @@ fn counts_and_closures(rt: HostRuntime) -> Result<(), Fail> {
     Ok(())
 }
 
-// The error of a parse that fails at the last byte of a text.
+// Returns the error of a parse that fails at the last byte of a text.
 fn failed(mut text: &str) -> ParseError<&str, InputError<&str>> {
     let start = text.checkpoint();
     let _ = text.next_token();
@@ -200,7 +200,7 @@ fn what_a_feed_waits_for(rt: HostRuntime) -> Result<(), Fail> {
 
 const NEXT: [SearchStep<CharSet<'static>, &[u8]>; 1] = [SearchStep::Call(Step::Next)];
 
-// The answers of one call over one byte.
+// Returns the answers of one call over one byte.
 fn finished(alloc: Global) -> Result<Finished<u8>, AllocError> {
     run_pieces(alloc, &NEXT, &[b"a"])
 }

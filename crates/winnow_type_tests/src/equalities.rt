@@ -1,5 +1,5 @@
-//! Which values of each type are equal: a value is equal to itself, and to none that is of another kind or holds another part. Types
-//! with a law of equality are not listed.
+//! The equal values of each type: a value is equal to itself, and not to a value that is of another
+//! variant or has another part. Types with a law of equality are not listed.
 use std::process::Abort;
 use winnow_context::StrContext::{Expected, Label};
 use winnow_context::StrContextValue::{CharLiteral, Description, StringLiteral};

@@ -22,7 +22,8 @@ use winnow_wrap::{LocatingSlice, Partial, Stateful};
 
 type Fault = ErrMode<EmptyError>;
 
-// Each function is a list of what a type implements: the calls below compile only where it does.
+// Each function is a list of the traits that a type implements. The calls below compile only where
+// it does.
 
 fn is_stream<S>()
 where
@@ -30,7 +31,7 @@ where
     S::Checkpoint: Eq,
 {}
 
-// Each wrapper round a stream is one, from what the stream inside is alone.
+// Each wrapper around a stream is a stream, by what the stream inside implements.
 fn wrappers_are_streams<I>()
 where
     I: Stream + StreamIsPartial + Offset<I> + Offset<I::Checkpoint> + Recover<Fault>,
@@ -47,7 +48,7 @@ where
     S::Checkpoint: Offset<S::Checkpoint> + Ord,
 {}
 
-// And so it is with windows.
+// The same for streams that can be narrowed to a window.
 fn wrappers_are_windowed<I: UpdateSlice + SliceLen>()
 where
     I::Checkpoint: Offset<I::Checkpoint> + Ord,
@@ -97,7 +98,8 @@ fn compares_with<S: Compare<T>, T>() {}
 
 fn is_searched_for<S: FindSlice<T>, T>() {}
 
-// Each wrapper round a stream is compared with every literal of the stream inside, from that alone.
+// Each wrapper around a stream is compared with all literals of the stream inside, for any stream
+// inside.
 fn wrappers_compare_with<I: Compare<T>, T>() {
     compares_with::<LocatingSlice<I>, T>();
     compares_with::<Stateful<I, u8>, T>();
@@ -105,7 +107,7 @@ fn wrappers_compare_with<I: Compare<T>, T>() {
     compares_with::<Recoverable<I, Fault>, T>();
 }
 
-// And it is searched for every needle of the stream inside, from that alone.
+// Each wrapper is searched for all needles of the stream inside, for any stream inside.
 fn wrappers_are_searched_for<I: FindSlice<T>, T>() {
     is_searched_for::<LocatingSlice<I>, T>();
     is_searched_for::<Stateful<I, u8>, T>();
@@ -119,13 +121,13 @@ fn is_character<T: AsChar>() {}
 
 fn is_fixed<S: FixedSet<T>, T>() {}
 
-// A set of characters may be asked of tokens of each kind.
+// A set of characters can be asked about tokens of each kind.
 fn is_set_of_characters<S>()
 where
     S: FixedSet<u8> + FixedSet<&'static u8> + FixedSet<char> + FixedSet<&'static char>,
 {}
 
-// A range is a set of characters, whatever kind its ends are of.
+// A range is a set of characters, for ends of each kind.
 fn ranges_are_sets<B: AsChar + Copy>() {
     is_set_of_characters::<Range<B>>();
     is_set_of_characters::<RangeInclusive<B>>();
@@ -134,7 +136,7 @@ fn ranges_are_sets<B: AsChar + Copy>() {
     is_set_of_characters::<RangeToInclusive<B>>();
 }
 
-// A tuple of sets is one, from what each set is alone.
+// A tuple of sets is a set, for any sets.
 fn unions_are_sets<A: FixedSet<T>, T: Copy>() {
     is_fixed::<(A,), T>();
     is_fixed::<(A, A), T>();
@@ -152,7 +154,7 @@ fn is_set<S: ContainsToken<T>, T>() {}
 
 fn is_script_set<S: ScriptSet<T>, T>() {}
 
-// A closure is a set of what it is called with, which a script can name; nothing is fixed of it.
+// A closure is a set that a script can name, but not a fixed set.
 fn closures_are_sets<F: Fn(u8) -> bool + Copy>(_: F) {
     is_set::<Where<F>, u8>();
     is_set::<(Where<F>, u8), u8>();
@@ -166,7 +168,7 @@ where
     E: FromRecoverableError<I, E> + FromExternalError<I, String>,
 {}
 
-// A mode is an error, from what the error inside is alone.
+// A mode is an error, for any error inside.
 fn modes_are_errors<I: Stream, E>()
 where
     E: ParserError<I> + AssociativeOr<I> + AddContext<I, StrContext>,

@@ -10,7 +10,7 @@ use winnow_run::answers_law;
 use winnow_stream::{NoSet, moving_law};
 use winnow_wrap::wrapper_slice_law;
 
-// They do nothing: that each is called shows that it can be.
+// Laws do nothing. The calls show that each can be called.
 #[test]
 fn laws_of_streams_and_slices(_rt: HostRuntime) {
     moving_law::<u8>();

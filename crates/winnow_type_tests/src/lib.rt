@@ -1,6 +1,6 @@
-//! Which type implements and derives what, shown by calls through the bounds, and what the ghost members of each type say, spelled
-//! out: generic code promises what they say and no more, so a member that says less is refused here. Nothing here is part of the
-//! library.
+//! The traits that each type implements and derives, shown by calls through the bounds, and the
+//! ghost members of each type, spelled out. Generic code promises only what they say, so a member
+//! that says less is refused here. Nothing here is part of the library.
 #![tactic(auto)]
 
 #[cfg(test)]

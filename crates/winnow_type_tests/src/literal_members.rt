@@ -1,4 +1,4 @@
-//! What the ghost members of comparison and of search say, spelled out for each literal and each needle.
+//! The ghost members of comparison and of search, spelled out for each literal and each needle.
 ghost use Rattle.std.specs.Prelude.{◌≡◌, ℕ, List, [], ◌∷◌};
 ghost use Rattle.std.specs.Borrow.{Bor};
 ghost use Rattle.std.specs.Char.{encode_utf8};
@@ -11,7 +11,7 @@ use winnow_bytes::Bytes;
 use winnow_kinds::BStr;
 use winnow_match::{Compare, FindSlice, Needles};
 
-/// A literal is compared with bytes as its bytes are, and a character as its UTF-8.
+/// A literal is compared with bytes by its own bytes, and a character by its UTF-8.
 pub fn byte_comparison_law<const LEN: usize>()
     ensures slice { (literal : Bor (List ℕ)) (r : Source ℕ)
         → ⟦<&'static [u8] as Compare<&'static [u8]>>⟧.compared literal r
@@ -33,7 +33,7 @@ pub fn byte_comparison_law<const LEN: usize>()
         ≡ comparison (encode_utf8 literal) (bytes_of r) }
 {}
 
-/// The same stands in a `BStr` and in `Bytes`.
+/// The same in a `BStr` and in `Bytes`.
 pub fn byte_kind_comparison_law<const LEN: usize>()
     ensures bstr_slice { (literal : Bor (List ℕ)) (r : Source ℕ)
         → ⟦<BStr<'static> as Compare<&'static [u8]>>⟧.compared literal r
@@ -73,7 +73,7 @@ pub fn byte_kind_comparison_law<const LEN: usize>()
         ≡ comparison (encode_utf8 literal) (bytes_of r) }
 {}
 
-/// A literal is compared with a text as UTF-8 with UTF-8.
+/// A literal is compared with a text, UTF-8 with UTF-8.
 pub fn text_comparison_law()
     ensures text { (literal : Bor (List ℕ)) (r : Source ℕ)
         → ⟦<&'static str as Compare<&'static str>>⟧.compared literal r
@@ -83,7 +83,8 @@ pub fn text_comparison_law()
         ≡ comparison (encode_utf8 literal) (utf8_of r) }
 {}
 
-/// A needle is searched for in bytes as its bytes are, and a character as its UTF-8; of several the first listed counts at one place.
+/// A needle is searched for in bytes by its own bytes, and a character by its UTF-8. Of several
+/// needles at one place the first listed counts.
 pub fn byte_search_law()
     ensures slice { (needle : _) (r : Source ℕ)
         → ⟦<&'static [u8] as FindSlice<&'static [u8]>>⟧.found needle r
@@ -115,7 +116,7 @@ pub fn byte_search_law()
         ≡ hit ((needle.0 ∷ []) ∷ (needle.1 ∷ []) ∷ (needle.2 ∷ []) ∷ []) (bytes_of r) }
 {}
 
-/// So it is with needles that are text.
+/// The same for needles that are texts.
 pub fn byte_search_of_text_law()
     ensures text { (needle : _) (r : Source ℕ)
         → ⟦<&'static [u8] as FindSlice<&'static str>>⟧.found needle r
@@ -140,10 +141,11 @@ pub fn byte_search_of_text_law()
         ≡ hit (encode_utf8 needle.0 ∷ encode_utf8 needle.1 ∷ []) (bytes_of r) }
     ensures three_chars { (needle : _) (r : Source ℕ)
         → ⟦<&'static [u8] as FindSlice<(char, char, char)>>⟧.found needle r
-        ≡ hit (encode_utf8 needle.0 ∷ encode_utf8 needle.1 ∷ encode_utf8 needle.2 ∷ []) (bytes_of r) }
+        ≡ hit (encode_utf8 needle.0 ∷ encode_utf8 needle.1 ∷ encode_utf8 needle.2
+        ∷ []) (bytes_of r) }
 {}
 
-/// The same stands in a `BStr`.
+/// The same in a `BStr`.
 pub fn bstr_search_law()
     ensures slice { (needle : _) (r : Source ℕ)
         → ⟦<BStr<'static> as FindSlice<&'static [u8]>>⟧.found needle r
@@ -196,10 +198,11 @@ pub fn bstr_search_law()
         ≡ hit (encode_utf8 needle.0 ∷ encode_utf8 needle.1 ∷ []) (bytes_of r) }
     ensures three_chars { (needle : _) (r : Source ℕ)
         → ⟦<BStr<'static> as FindSlice<(char, char, char)>>⟧.found needle r
-        ≡ hit (encode_utf8 needle.0 ∷ encode_utf8 needle.1 ∷ encode_utf8 needle.2 ∷ []) (bytes_of r) }
+        ≡ hit (encode_utf8 needle.0 ∷ encode_utf8 needle.1 ∷ encode_utf8 needle.2
+        ∷ []) (bytes_of r) }
 {}
 
-/// The same stands in `Bytes`.
+/// The same in `Bytes`.
 pub fn bytes_search_law()
     ensures slice { (needle : _) (r : Source ℕ)
         → ⟦<Bytes<'static> as FindSlice<&'static [u8]>>⟧.found needle r
@@ -211,7 +214,8 @@ pub fn bytes_search_law()
         → ⟦<Bytes<'static> as FindSlice<(&'static [u8], &'static [u8])>>⟧.found needle r
         ≡ hit (needle.0.now ∷ needle.1.now ∷ []) (bytes_of r) }
     ensures three_slices { (needle : _) (r : Source ℕ)
-        → ⟦<Bytes<'static> as FindSlice<(&'static [u8], &'static [u8], &'static [u8])>>⟧.found needle
+        → ⟦<Bytes<'static> as FindSlice<(&'static [u8], &'static [u8], &'static [u8])>>⟧.found
+        needle
         r
         ≡ hit (needle.0.now ∷ needle.1.now ∷ needle.2.now ∷ []) (bytes_of r) }
     ensures any_slices { (needle : _) (r : Source ℕ)
@@ -252,10 +256,11 @@ pub fn bytes_search_law()
         ≡ hit (encode_utf8 needle.0 ∷ encode_utf8 needle.1 ∷ []) (bytes_of r) }
     ensures three_chars { (needle : _) (r : Source ℕ)
         → ⟦<Bytes<'static> as FindSlice<(char, char, char)>>⟧.found needle r
-        ≡ hit (encode_utf8 needle.0 ∷ encode_utf8 needle.1 ∷ encode_utf8 needle.2 ∷ []) (bytes_of r) }
+        ≡ hit (encode_utf8 needle.0 ∷ encode_utf8 needle.1 ∷ encode_utf8 needle.2
+        ∷ []) (bytes_of r) }
 {}
 
-/// A needle is searched for in a text as UTF-8 in UTF-8.
+/// A needle is searched for in a text, UTF-8 in UTF-8.
 pub fn text_search_law()
     ensures text { (needle : _) (r : Source ℕ)
         → ⟦<&'static str as FindSlice<&'static str>>⟧.found needle r
@@ -283,5 +288,6 @@ pub fn text_search_law()
         ≡ hit (encode_utf8 needle.0 ∷ encode_utf8 needle.1 ∷ []) (utf8_of r) }
     ensures three_chars { (needle : _) (r : Source ℕ)
         → ⟦<&'static str as FindSlice<(char, char, char)>>⟧.found needle r
-        ≡ hit (encode_utf8 needle.0 ∷ encode_utf8 needle.1 ∷ encode_utf8 needle.2 ∷ []) (utf8_of r) }
+        ≡ hit (encode_utf8 needle.0 ∷ encode_utf8 needle.1 ∷ encode_utf8 needle.2
+        ∷ []) (utf8_of r) }
 {}

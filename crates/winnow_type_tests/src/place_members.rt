@@ -1,4 +1,4 @@
-//! What the ghost members that tell places, bytes and text say, spelled out for each stream.
+//! The ghost members for places, bytes and text, spelled out for each stream.
 ghost use Rattle.std.specs.Prelude.{◌≡◌, ℕ, List, Some, None};
 ghost use Rattle.std.specs.Borrow.{Bor};
 ghost use Rattle.winnow_bytes.specs.ByteContents.{bytes_contents};
@@ -30,7 +30,7 @@ pub fn kept_location_law<I: Stream>()
         → ⟦<LocatingSlice<I> as Location>⟧.token_start s ≡ location_of s }
 {}
 
-/// Around a stream that tells its location, another wrapper tells the same.
+/// Around a stream with a location, another wrapper has the same location.
 pub fn wrapper_location_law<I: Location, S, E>()
     ensures partial_end { (s : Partial I)
         → ⟦<Partial<I> as Location>⟧.token_end s ≡ I.token_end (partial_inner s) }
@@ -46,7 +46,8 @@ pub fn wrapper_location_law<I: Location, S, E>()
         → ⟦<Recoverable<I, E> as Location>⟧.token_start s ≡ I.token_start (recoverable_inner s) }
 {}
 
-/// A slice of tokens tells where its last token ends and its next one starts, and either of the other where that one is missing.
+/// A slice of tokens has the end of its last token and the start of its next one, and one of the
+/// two for both where the other is missing.
 pub fn token_location_law<'t, T: Location + 't>()
     ensures end { (s : TokenSlice T) (last : T) → last_of s ≡ Some last
         → ⟦<TokenSlice<'t, T> as Location>⟧.token_end s ≡ T.token_end last }
@@ -64,7 +65,7 @@ pub fn token_location_law<'t, T: Location + 't>()
         → ⟦<TokenSlice<'t, T> as Location>⟧.token_start s ≡ 0 }
 {}
 
-/// The bytes and the text of a plain stream are what remains of it.
+/// The bytes and the text of a plain stream are the rest of it.
 pub fn plain_bytes_law()
     ensures slice { (s : Bor (List ℕ)) → ⟦<&'static [u8] as AsBytes>⟧.bytes s ≡ s.now }
     ensures slice_text { (s : Bor (List ℕ)) → ⟦<&'static [u8] as AsBStr>⟧.text_bytes s ≡ s.now }
@@ -85,7 +86,7 @@ pub fn wrapper_bytes_law<I: Stream + AsBytes, S, E>()
         → ⟦<Recoverable<I, E> as AsBytes>⟧.bytes s ≡ I.bytes (recoverable_inner s) }
 {}
 
-/// So it is with text.
+/// The same for text.
 pub fn wrapper_text_law<I: Stream + AsBStr, S, E>()
     ensures located { (s : LocatingSlice I I.Checkpoint I.Rest I.Checkpoint.Rest)
         → ⟦<LocatingSlice<I> as AsBStr>⟧.text_bytes s ≡ I.text_bytes (locating_inner s) }

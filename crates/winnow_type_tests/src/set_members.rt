@@ -1,4 +1,4 @@
-//! What the ghost members of characters and of sets say, spelled out for each type.
+//! The ghost members of characters and of sets, spelled out for each type.
 ghost use Rattle.std.specs.Prelude.{◌≡◌, ◌==◌, ◌||◌, ℕ, List, nat_le, nat_lt, true, false};
 ghost use Rattle.std.specs.Borrow.{Bor};
 ghost use Rattle.std.specs.Char.{len_utf8};
@@ -10,7 +10,8 @@ ghost use Rattle.winnow_sets.specs.declared.char_set.CharSet.{CharSet};
 use std::ops::{Range, RangeFrom, RangeFull, RangeInclusive, RangeTo, RangeToInclusive};
 use winnow_sets::{AsChar, CharSet, FixedSet};
 
-/// A byte is the character of its number, one wide, and a character is itself, as wide as its UTF-8.
+/// A byte is the character with its number and has width 1. A character is itself, and as wide as
+/// its UTF-8.
 pub fn character_law()
     ensures byte { (b : ℕ) → ⟦<u8 as AsChar>⟧.code b ≡ b }
     ensures byte_width { (b : ℕ) → ⟦<u8 as AsChar>⟧.width b ≡ 1 }
@@ -22,7 +23,8 @@ pub fn character_law()
     ensures lent_char_width { (c : Bor ℕ) → ⟦<&'static char as AsChar>⟧.width c ≡ len_utf8 c.now }
 {}
 
-/// A byte holds itself, of whichever kind the token is, and a character the tokens that stand for it.
+/// A byte holds the tokens of each kind with its number, and a character holds the tokens that
+/// stand for it.
 pub fn single_set_law<T: AsChar>()
     ensures byte { (set token : ℕ) → ⟦<u8 as FixedSet<u8>>⟧.holds set token ≡ (set == token) }
     ensures lent_byte { (set : ℕ) (token : Bor ℕ)
@@ -34,7 +36,8 @@ pub fn single_set_law<T: AsChar>()
         → ⟦<char as FixedSet<T>>⟧.holds set token ≡ (set == T.code token) }
 {}
 
-/// A list holds what it lists, a set of characters what its ranges hold, `()` nothing and `..` everything.
+/// A list holds the tokens that it lists, a set of characters those that its ranges hold, `()` none
+/// and `..` all.
 pub fn listed_set_law<T: AsChar + Drop, const LEN: usize>()
     ensures none { (set : _) (token : T) → ⟦<() as FixedSet<T>>⟧.holds set token ≡ false }
     ensures all { (set : _) (token : T) → ⟦<RangeFull as FixedSet<T>>⟧.holds set token ≡ true }
@@ -57,7 +60,7 @@ pub fn listed_set_law<T: AsChar + Drop, const LEN: usize>()
         ≡ in_ranges (char_ranges set) (T.code token) }
 {}
 
-/// A range holds the characters from its start on and up to its end, that one too where it is closed there.
+/// A range holds the characters from its start up to its end, and the end too where it is closed.
 pub fn range_set_law<T: AsChar, B: AsChar + Copy>()
     ensures half_open { (set : _) (token : T)
         → ⟦<Range<B> as FixedSet<T>>⟧.holds set token
@@ -77,7 +80,7 @@ pub fn range_set_law<T: AsChar, B: AsChar + Copy>()
         ≡ nat_le (T.code token) (B.code set.end) }
 {}
 
-/// A union holds what one of its sets holds.
+/// A union holds the tokens that one of its sets holds.
 pub fn union_set_law<T: Copy, A: FixedSet<T>>()
     ensures one { (s : _) (t : T) → ⟦<(A,) as FixedSet<T>>⟧.holds s t
         ≡ A.holds s.0 t }

@@ -1,4 +1,4 @@
-//! What the ghost members that tell widths, and those of conversions, say, spelled out for each type.
+//! The ghost members for widths and for conversions, spelled out for each type.
 ghost use Rattle.std.specs.Prelude.{◌≡◌, ◌+◌, ◌-◌, ◌*◌, ℕ, List, length};
 ghost use Rattle.std.specs.Borrow.{Bor};
 ghost use Rattle.std.specs.Char.{len_utf8};
@@ -23,7 +23,7 @@ use winnow_stream::{SliceLen, Stream};
 use winnow_views::TokenSlice;
 use winnow_wrap::{LocatingSlice, Partial, Stateful};
 
-/// A plain value is as wide as it is long: a text and a character in UTF-8, a byte 1.
+/// A plain value is as wide as it is long: a text and a character in UTF-8, and a byte has width 1.
 pub fn plain_width_law<T, const LEN: usize>()
     ensures slice { (s : Bor (List T)) → ⟦<&'static [T] as SliceLen>⟧.width_of s ≡ length s.now }
     ensures array { (s : List T) → ⟦<[T; LEN] as SliceLen>⟧.width_of s ≡ LEN }
@@ -40,7 +40,8 @@ pub fn plain_width_law<T, const LEN: usize>()
         → ⟦<TokenSlice<'static, T> as SliceLen>⟧.width_of s ≡ length (rest_of s) }
 {}
 
-/// A slice of bits is as wide as its bytes have bits between its two places, and a wrapper as the stream inside.
+/// A slice of bits is as wide as the number of bits between its two places. A wrapper is as wide as
+/// the stream inside.
 pub fn wrapper_width_law<I: Stream + SliceLen, S, E>()
     ensures bits { (s : I × ℕ × ℕ)
         → ⟦<(I, usize, usize) as SliceLen>⟧.width_of s ≡ 8 * I.width_of s.0 + s.2 - s.1 }
@@ -54,7 +55,7 @@ pub fn wrapper_width_law<I: Stream + SliceLen, S, E>()
         → ⟦<Recoverable<I, E> as SliceLen>⟧.width_of s ≡ I.width_of (recoverable_inner s) }
 {}
 
-/// A text of bytes is made of its bytes, and gives them back.
+/// A text of bytes is made from its bytes, and gives them back.
 pub fn conversion_law()
     ensures bytes { (b : Bor (List ℕ)) (s : Bytes)
         → ⟦<Bytes<'static> as From<&'static [u8]>>⟧.from_gives b s → bytes_contents s ≡ b.now }

@@ -25,8 +25,8 @@ bits_of (x ∷ xs) = byte_bits x.0 ++ bits_of xs
 abbrev pub bits_from : Source ℕ → ℕ → Source Bool
 bits_from bytes place = units (drop place (bits_of bytes))
 
--- the bits of these bytes from this place on may be streamed: each byte has width 1, the place is in the first byte, and 0
--- where there is none, and the number of bits is a `usize`
+-- the bits of these bytes from this place on may be streamed: each byte has width 1, the place is
+-- in the first byte and is 0 if there is none, and the number of bits is a `usize`
 pub record IsBitSource (bytes : Source ℕ) (place : ℕ) : Type 0 where
   pub units : HasUnits bytes
   pub below : place < 8
@@ -34,13 +34,14 @@ pub record IsBitSource (bytes : Source ℕ) (place : ℕ) : Type 0 where
   pub fits : width (bits_from bytes place) < 2 ^ 64
 
 module _ {S : Type 0} (is_slice : S → Source ℕ → ℕ → Type 0) where
-  -- s is the slice of n bits from a place in these bytes: the slice of the whole bytes, the place where the bits begin in the
-  -- first of them, and how many bits of the byte behind them are taken too
+  -- s is the slice of n bits from a place in these bytes: the slice of the whole bytes, the place
+  -- in the first of them at which the bits begin, and the number of bits that are also taken of the
+  -- next byte
   abbrev pub IsBitSliceAt : S × ℕ × ℕ → Source ℕ → ℕ → ℕ → Type 0
   IsBitSliceAt s bytes place n = is_slice s.0 bytes ((n + place) / 8) × (s.1 ≡ place) × (s.2 ≡ (n + place) % 8)
 
-  -- s is the slice of width n of a list of bits: it is so of some bytes that have as many bits, of which the list begins with
-  -- these
+  -- s is the slice of width n of a list of bits: some bytes have at least n bits from the place of
+  -- s on, the first n of these are the front of the list, and s is their slice of these bytes
   abbrev pub IsBitSlice : S × ℕ × ℕ → Source Bool → ℕ → Type 0
   IsBitSlice s r n = (bytes : Source ℕ) × IsBitSource bytes s.1 × IsTrue (is_offset (bits_from bytes s.1) n)
       × (front r n ≡ front (bits_from bytes s.1) n) × IsBitSliceAt s bytes s.1 n

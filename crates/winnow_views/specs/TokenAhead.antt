@@ -9,7 +9,7 @@ use Rattle.winnow_views.specs.declared.token_offsets.TokenOffsets.{TokenOffsets}
 abbrev pub offsets_ahead : (R : RattleType) → TokenOffsets R.Denot → List (ℕ × Bor R.Denot)
 offsets_ahead R o = offsets_from o.offset (tokens_of R o.rest)
 
--- how many they are, and the offset behind the last
+-- the number of those tokens, and the offset after the last
 abbrev pub count_ahead : {T : Type 0} → TokenOffsets T → ℕ
 count_ahead o = length o.rest.now
 

@@ -1,3 +1,5 @@
+//! Laws of streams of bits. A law does nothing when called: its contract is the law.
+
 ghost use Rattle.std.specs.Prelude.{◌≡◌, ℕ, ◌+◌, ◌-◌, ◌*◌, ◌%◌, ◌^◌, ◌<◌, ◌≤◌, ◌&&◌, nat_eq, List};
 ghost use Rattle.std.specs.Prelude.{length};
 ghost use Rattle.winnow_stream.specs.Source.{Source, units, width};
@@ -14,17 +16,18 @@ ghost use Rattle.winnow_views.specs.declared.bits.BitPlace.{BitPlace};
 use crate::{BitPlace, Bits};
 use winnow_stream::{Checkpoint, SliceLen, Stream};
 
-/// The law of bytes as bits: the bits of a slice of bytes may be streamed where their number is a `usize`, and from a place on where
-/// there is a first byte that has it. It does nothing when called: its contract is the law.
+/// The law of bytes as bits. The bits of a slice of bytes may be streamed if their number is a
+/// `usize`, from its start or, if it has a byte, from a place in its first byte.
 pub fn bit_source_law()
     ensures start { (bytes : List ℕ) → 8 * length bytes < 2 ^ 64 → IsBitSource (units bytes) 0 }
     ensures inside { (bytes : List ℕ) (place : ℕ) → place < 8 → 0 < length bytes
         → 8 * length bytes - place < 2 ^ 64 → IsBitSource (units bytes) place }
 {}
 
-/// The law of places: the number of bits tells the place, and the bits of some whole bytes, from the place on, are a front of the
-/// bits. So the list that a slice of bits was taken from tells the two numbers of its triple, and the bits of its bytes from the place on
-/// are the first that were taken. It does nothing when called: its contract is the law.
+/// The law of places. The number of bits determines the place, and the bits of some whole bytes,
+/// from the place on, are a front of the bits. So the list that a slice of bits was taken from
+/// determines the two numbers of its triple, and the bits of its bytes from the place on are the
+/// first bits that were taken.
 pub fn bit_place_law()
     ensures place { (bytes : Source ℕ) (place : ℕ) → IsBitSource bytes place
         → (width (bits_from bytes place) + place) % 8 ≡ 0 }
@@ -33,16 +36,17 @@ pub fn bit_place_law()
         ≡ front (bits_from bytes place) (8 * count - place) }
 {}
 
-/// The law of checkpoints of bits: a valid one counts its bits, which is what measuring from one to another asks for. It does nothing
-/// when called: its contract is the law.
+/// The law of checkpoints of bits: a valid checkpoint counts its bits. Measuring from one
+/// checkpoint to another asks for this.
 pub fn bit_checkpoint_law<I: Stream<Token = u8>>()
     ensures { (c : Checkpoint (BitPlace I.Checkpoint) (Bits I))
         → ⟦<Bits<I> as Stream>⟧.valid_checkpoint c
         → IsCounted I.Checkpoint.rest_width (checkpoint_inner c) }
 {}
 
-/// The law of slices of bits: where the length of each slice of the stream of bytes is the offset that it was taken at, so is that of
-/// each slice of its bits (`byte_slice_law` says the first of slices). It does nothing when called: its contract is the law.
+/// The law of slices of bits. If the length of each slice of the stream of bytes is the offset that
+/// it was taken at, so is the length of each slice of its bits. `byte_slice_law` states the premise
+/// for slices of bytes.
 pub fn bit_slice_law<I: Stream<Token = u8>>()
 where
     I::Slice: SliceLen,
@@ -52,8 +56,8 @@ where
         ⟦<(I::Slice, usize, usize) as SliceLen>⟧.width_of }
 {}
 
-/// The law of equality: bits are compared by the stream of bytes and the place, and checkpoints by the checkpoint of the bytes and the
-/// place. It does nothing when called: its contract is the law.
+/// The law of equality. Bits are compared by the stream of bytes and the place, and checkpoints by
+/// the checkpoint of the bytes and the place.
 pub fn bit_equality_law<I: Stream<Token = u8> + PartialEq>()
 where
     I::Checkpoint: PartialEq,

@@ -3,14 +3,15 @@ ghost use Rattle.std.specs.Iterator.{IsFinite, size, at_most};
 ghost use Rattle.winnow_views.specs.BitSource.{bit_of};
 ghost use Rattle.winnow_views.specs.BitSteps.{bits_ahead, BitStep};
 
-/// Each bit with its offset, over an iterator of bytes with theirs.
+/// An iterator over bits, each with its offset, made from an iterator over bytes with their
+/// offsets.
 #[derive(Clone, Copy, Debug, Drop)]
 pub struct BitOffsets<J> {
     bytes: J,
     offset: usize,
-    // The next bit of `byte`; 8 where none is left.
+    // The next bit of `byte`, or 8 if none is left.
     bit: usize,
-    // The first bit of the byte after it: 0, but for the first one.
+    // The first bit of the next byte: 0 for each byte but the first.
     place: usize,
     byte: u8,
 }
@@ -32,7 +33,7 @@ impl<J> BitOffsets<J> {
     }
 }
 
-// Whether that bit of a byte is set, the lowest being 0.
+// Whether this bit of a byte is set; bit 0 is the lowest.
 pub(crate) fn is_set(byte: u8, bit: usize) -> bool
     requires { bit < 8 }
     ensures { result ≡ bit_of byte bit }

@@ -10,7 +10,8 @@ ghost use Rattle.winnow_views.specs.BitStream.{bits_remained, IsValidBits, IsVal
 ghost use Rattle.winnow_views.specs.BitStream.{bytes_at, place_at, bits_location, bits_location_at};
 ghost use Rattle.winnow_views.specs.BitStream.{IsCounted};
 ghost use Rattle.winnow_views.specs.BitLaws.{HasPositiveWidths-bits_from, rest_width-bits_from};
-ghost use Rattle.winnow_views.specs.BitLaws.{bits_remaining-same, IsValidBits-same, SlicesStay-bits};
+ghost use Rattle.winnow_views.specs.BitLaws.{bits_remaining-same, IsValidBits-same};
+ghost use Rattle.winnow_views.specs.BitLaws.{SlicesStay-bits};
 
 use crate::BitOffsets;
 use crate::bit_offsets::is_set;
@@ -18,13 +19,16 @@ use std::fmt;
 use std::num::NonZeroUsize;
 use winnow_stream::{Checkpoint, Needed, Offset, Rest, Stream, StreamIsPartial};
 
-/// The bits of a stream of bytes, the lowest bit of a byte first, from a place in its first byte on.
+/// The bits of a stream of bytes, from a place in its first byte on. The lowest bit of a byte comes
+/// first.
 ///
-/// It is valid where the stream of bytes is, each byte has width 1, the place is 0 where no byte remains, and the number of
-/// bits is a `usize`. [`bit_source_law`](crate::bit_source_law) says when that is so of a slice of bytes.
+/// It is valid if the stream of bytes is, each byte has width 1, the place is 0 if no byte remains,
+/// and the number of bits is a `usize`. [`bit_source_law`](crate::bit_source_law) says when this
+/// holds of a slice of bytes.
 ///
-/// Its slice is a triple: the slice of the whole bytes, the place where the bits begin in the first of them, and how many bits of
-/// the byte behind them are taken too. That byte is not in the slice.
+/// Its slice is a triple: the slice of the whole bytes, the place in the first of them at which the
+/// bits begin, and the number of bits that are also taken of the next byte. That byte is not in the
+/// slice.
 #[derive(Clone, Copy, Debug, PartialEq, Eq, Drop)]
 pub struct Bits<I> {
     input: I,
@@ -40,7 +44,7 @@ impl<I> Bits<I> {
         Bits { input, place: 0 }
     }
 
-    /// Returns the bits of the bytes that remain, but for that many of the first byte.
+    /// Returns the bits of the bytes that remain, without the first `place` bits of the first byte.
     pub fn at_place(input: I, place: usize) -> Self
         requires { place < 8 }
         ensures input { bits_inner result ≡ input }
@@ -49,7 +53,7 @@ impl<I> Bits<I> {
         Bits { input, place }
     }
 
-    /// Returns the stream of bytes, and how many bits of its first byte were taken.
+    /// Returns the stream of bytes, and the number of bits of its first byte that were taken.
     pub fn into_parts(self) -> (I, usize)
         ensures { result ≡ (bits_inner self, bits_place self) }
     {
@@ -58,8 +62,8 @@ impl<I> Bits<I> {
     }
 }
 
-/// What a checkpoint of [`Bits`] holds: one of the stream of bytes, the place, and how many bits remained. Two are equal where
-/// the first two are.
+/// The contents of a checkpoint of [`Bits`]: a checkpoint of the stream of bytes, the place, and
+/// the number of bits that remained. Two are equal if the first two are.
 #[derive(Clone, Copy, Debug, Drop)]
 #[derive_where(PartialEq, Eq; C)]
 pub struct BitPlace<C> {
@@ -69,7 +73,8 @@ pub struct BitPlace<C> {
     count: usize,
 }
 
-// How many whole bytes these bits reach over from a place in the first one, and how many bits of the next.
+// The number of whole bytes that these bits, from a place in the first byte on, reach over, and the
+// number of bits that they take of the next byte.
 fn whole_and_rest(bits: usize, place: usize) -> (usize, usize)
     requires { place < 8 }
     ensures whole { result.0 ≡ (bits + place) / 8 }
@@ -93,7 +98,8 @@ impl<I: Rest> Rest for Bits<I> {
     ghost location = { bits_location I.location };
 }
 
-/// Each bit has width 1, and a shortage says how many bits are missing. What the stream of bytes keeps is kept.
+/// Each bit has width 1, and a shortage says how many bits are missing. `Bits` keeps what the
+/// stream of bytes keeps.
 #[tactic(auto, using(crate::proofs::lemmas::BitLemmas::bit_steps))]
 impl<I: Stream<Token = u8>> Stream for Bits<I> {
     type Token = bool;
@@ -320,7 +326,7 @@ impl<I: Stream<Token = u8>> Offset<Checkpoint<BitPlace<I::Checkpoint>, Bits<I>>>
     }
 }
 
-/// Between two places of one stream of bits, as a valid checkpoint holds them.
+/// The width between two places of one stream of bits, as a valid checkpoint holds them.
 impl<C: Rest> Offset<BitPlace<C>> for BitPlace<C> {
     ghost can_measure = { λ c start. IsCounted C.rest_width c × IsCounted C.rest_width start };
 
@@ -329,7 +335,7 @@ impl<C: Rest> Offset<BitPlace<C>> for BitPlace<C> {
     }
 }
 
-/// As the stream of bytes is.
+/// It answers as the stream of bytes does.
 impl<I: StreamIsPartial + Stream<Token = u8>> StreamIsPartial for Bits<I> {
     type PartialState = I::PartialState;
 

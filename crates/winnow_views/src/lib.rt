@@ -1,5 +1,5 @@
-//! Streams that see their input as something else: [`TokenSlice`] lends the tokens that a lexer made, and [`Bits`] are the bits
-//! of a stream of bytes.
+//! Streams that show their input as something else: [`TokenSlice`] lends the tokens that a lexer
+//! made, and [`Bits`] are the bits of a stream of bytes.
 #![tactic(auto)]
 
 mod bit_laws;

@@ -2,7 +2,8 @@ ghost use Rattle.std.specs.Prelude.{◌≡◌, reverse};
 ghost use Rattle.std.specs.Iterator.{item_count, YieldsFirstRef};
 ghost use Rattle.winnow_views.specs.TokenPrevious.{left_of};
 
-/// The tokens before the place of a [`TokenSlice`](crate::TokenSlice), the last first.
+/// An iterator over the tokens before the place of a [`TokenSlice`](crate::TokenSlice), the last
+/// token first.
 #[derive(Debug)]
 #[derive_where(Clone, Copy)]
 pub struct PreviousTokens<'t, T> {

@@ -1,3 +1,5 @@
+//! Laws of slices of tokens. A law does nothing when called: its contract is the law.
+
 ghost use Rattle.std.specs.Prelude.{◌≡◌, ◌&&◌, ◌++◌, ℕ};
 ghost use Rattle.std.specs.Borrow.{Bor};
 ghost use Rattle.std.specs.Cmp.Lexicographic.{pointwise, slice_cmp};
@@ -13,8 +15,9 @@ use std::fmt::Debug;
 use winnow_match::Compare;
 use winnow_stream::Checkpoint;
 
-/// The law of equality: two slices of tokens are equal where their whole lists are and what remains of them is, whatever their places,
-/// and two checkpoints of them where what remained is. It does nothing when called: its contract is the law.
+/// The law of equality. Two slices of tokens are equal if their whole lists are equal and what
+/// remains of them is, whatever their places. Two of their checkpoints are equal if what remained
+/// is equal.
 pub fn token_equality_law<'t, T: PartialEq + 't>()
     ensures slices { (s t : TokenSlice T)
         → ⟦<TokenSlice<'t, T> as PartialEq>⟧.eq s t
@@ -25,16 +28,16 @@ pub fn token_equality_law<'t, T: PartialEq + 't>()
         ≡ pointwise T.eq (rest_at c) (rest_at d) }
 {}
 
-/// The law of order: checkpoints of slices of tokens are ordered by what remained there, by the order of the tokens. It does nothing
-/// when called: its contract is the law.
+/// The law of order: checkpoints of slices of tokens are ordered by what remained there, in the
+/// order of the tokens.
 pub fn token_order_law<'t, T: Ord + 't>()
     ensures { (c d : Checkpoint (TokenView T) (TokenSlice T))
         → ⟦<Checkpoint<TokenView<'t, T>, TokenSlice<'t, T>> as Ord>⟧.cmp c d
         ≡ slice_cmp T.cmp (rest_at c) (rest_at d) }
 {}
 
-/// The law of comparison: what the comparison of a literal with the first token decided stays when more tokens come. It does nothing
-/// when called: its contract is the law.
+/// The law of comparison: what the comparison of a literal with the first token decided stays when
+/// more tokens come.
 pub fn token_compare_law<'t, T: Debug + Eq + Drop + 't>()
     ensures ok { (literal : T) (r more : Source (Bor T)) (n : ℕ)
         → ⟦<TokenSlice<'t, T> as Compare<T>>⟧.compared literal r ≡ CompareResult.Ok n

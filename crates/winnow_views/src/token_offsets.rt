@@ -4,7 +4,7 @@ ghost use Rattle.winnow_stream.specs.Source.{offsets};
 ghost use Rattle.winnow_views.specs.TokenSources.{tokens_of};
 ghost use Rattle.winnow_views.specs.TokenAhead.{offsets_ahead, count_ahead, end_ahead};
 
-/// Each token of a slice, with its offset.
+/// An iterator over the tokens of a slice, each with its offset.
 #[derive(Debug)]
 #[derive_where(Clone, Copy)]
 pub struct TokenOffsets<'t, T> {

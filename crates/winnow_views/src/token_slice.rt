@@ -31,8 +31,9 @@ use winnow_window::Window;
 
 /// The tokens that a lexer made, as a stream that lends them: its token is a `&T`, of width 1.
 ///
-/// It knows the whole list and its place there: how many tokens were taken before what remains. `reset` takes the place of
-/// the checkpoint, and a window the place of the checkpoint where it begins.
+/// It knows the whole list and its place there, which is the number of tokens that were taken
+/// before what remains. `reset` goes to the place of the checkpoint, and a window has the place of
+/// the checkpoint at which it begins.
 #[derive_where(Clone, Copy)]
 pub struct TokenSlice<'t, T> {
     pub(crate) whole: &'t [T],
@@ -40,7 +41,7 @@ pub struct TokenSlice<'t, T> {
 }
 
 impl<'t, T> TokenSlice<'t, T> {
-    /// Returns a stream of the whole list, of which all remains, at place 0.
+    /// Returns a stream of the whole list at place 0, so all of it remains.
     pub fn new(tokens: &'t [T]) -> Self
         ensures whole { whole_of result ≡ tokens.entry }
         ensures rest { rest_of result ≡ tokens.now }
@@ -73,7 +74,7 @@ impl<'t, T> TokenSlice<'t, T> {
         *self = TokenSlice::new(self.whole);
     }
 
-    /// Returns the tokens before the place, the last first.
+    /// Returns an iterator over the tokens before the place, the last token first.
     pub fn previous_tokens(&self) -> PreviousTokens<'t, T>
         ensures left { left_of result ≡ reverse (taken_of self.now) }
         ensures ends { IsFinite (⟦<PreviousTokens<'t, T> as Iterator>⟧.remaining result) }
@@ -269,7 +270,7 @@ impl<T> SliceLen for TokenSlice<'_, T> {
     }
 }
 
-/// A window has the place of the checkpoint where it begins.
+/// A window has the place of the checkpoint at which it begins.
 impl<'t, T: Debug> UpdateSlice for TokenSlice<'t, T> {
     fn update_slice(
         self,
@@ -295,7 +296,7 @@ impl<'t, T: Debug> UpdateSlice for TokenSlice<'t, T> {
     }
 }
 
-/// In the offsets that the tokens tell of, of the whole input of the lexer.
+/// Locations are offsets in the whole input of the lexer, as the tokens give them.
 impl<T: Location> Location for TokenSlice<'_, T> {
     ghost token_end = { λ s. end_before T.token_end T.token_start (last_of s) (next_of s) };
 
@@ -355,7 +356,7 @@ impl<T: Debug> StreamIsPartial for TokenSlice<'_, T> {
     }
 }
 
-/// By equality with the first token.
+/// The literal is compared with the first token, by equality.
 impl<T: Debug + Eq + Drop> Compare<T> for TokenSlice<'_, T> {
     ghost compared = { λ literal r. first_comparison T.eq literal (first_token r) };
 
@@ -377,7 +378,8 @@ impl<T: Debug + Eq + Drop> Compare<T> for TokenSlice<'_, T> {
     }
 }
 
-/// Two are equal where their whole lists are and what remains of them is, whatever their places.
+/// Two slices are equal if their whole lists are equal and what remains of them is, whatever their
+/// places.
 impl<T: PartialEq> PartialEq for TokenSlice<'_, T> {
     ghost eq = { λ s t. pointwise T.eq (whole_of s).now (whole_of t).now && pointwise T.eq
         (rest_of s) (rest_of t) };
@@ -395,7 +397,7 @@ impl<T: Eq> Eq for TokenSlice<'_, T> {
         (on_equiv rest_of (lists_equiv T.Eq.laws)) };
 }
 
-/// As a list of what remains.
+/// It prints as a list of what remains.
 impl<T: Debug> Debug for TokenSlice<'_, T> {
     ghost debug_output = { λ s. debug_list T.debug_output (rest_of s) };
 

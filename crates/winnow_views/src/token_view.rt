@@ -13,8 +13,8 @@ use std::fmt::Debug;
 use winnow_stream::{Offset, Rest};
 use winnow_window::Window;
 
-/// What remains of a [`TokenSlice`](crate::TokenSlice), and its place in the whole list, which is where it starts there: what a
-/// checkpoint holds.
+/// The contents of a checkpoint of a [`TokenSlice`](crate::TokenSlice): what remains, and its place
+/// in the whole list, at which it starts.
 ///
 /// Equality and order are those of what remains.
 pub struct TokenView<'t, T> {
@@ -72,7 +72,7 @@ impl<T: Ord> Ord for TokenView<'_, T> {
     }
 }
 
-/// As a list of what remains.
+/// It prints as a list of what remains.
 impl<T: Debug> Debug for TokenView<'_, T> {
     ghost debug_output = { λ s. debug_list T.debug_output (rest_in s) };
 
@@ -82,7 +82,7 @@ impl<T: Debug> Debug for TokenView<'_, T> {
 }
 
 impl<'t, T> TokenView<'t, T> {
-    /// Returns what remains behind that many tokens.
+    /// Returns what remains after this number of tokens.
     #[tactic(auto, using(crate::proofs::lemmas::TokenLemmas::token_steps))]
     pub(crate) fn behind(self, tokens: usize) -> Self
         requires { tokens ≤ length (rest_in self) }

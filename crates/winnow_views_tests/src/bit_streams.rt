@@ -18,7 +18,8 @@ use winnow_views::{
     token_equality_law, token_order_law,
 };
 
-// The bits of bytes from a place on; `None` where they may not be streamed.
+// Returns the bits of bytes from a place on, or `None` where there are too many or the place is not
+// in a byte.
 fn bits_at(bytes: &[u8], place: usize) -> Option<Bits<&[u8]>>
     ensures { IfSome result (λ s. IsBitSource (units (bits_inner s).now) (bits_place s)) }
 {
@@ -35,7 +36,8 @@ fn bits_at(bytes: &[u8], place: usize) -> Option<Bits<&[u8]>>
     Some(Bits::at_place(bytes, place))
 }
 
-// The answers of a script, which knows nothing of bits: what the stream of bytes keeps is kept.
+// Returns the answers of a script, which does not depend on bits. It keeps what the stream of bytes
+// keeps.
 fn told_bits<I: Stream<Token = u8>>(
     alloc: Global,
     s: &mut Bits<I>,
@@ -98,7 +100,7 @@ fn scripts_on_bits(rt: HostRuntime) -> Result<(), Fail> {
     Ok(())
 }
 
-// Bit by bit, without a stream.
+// Returns the bits one by one, without a stream.
 fn slow_bits(alloc: Global, bytes: &[u8]) -> Result<Vec<bool>, AllocError> {
     let mut bits = Vec::new(alloc);
     for byte in bytes {
@@ -112,7 +114,8 @@ fn slow_bits(alloc: Global, bytes: &[u8]) -> Result<Vec<bool>, AllocError> {
 /// A slice of bits, and its length.
 pub type Taken<T> = ((T, usize, usize), usize);
 
-/// The slice of that many bits, and its length, which is their number; `None` where fewer remain.
+/// Returns the slice of `count` bits and its length, which is that number, or `None` where fewer
+/// remain.
 pub fn take<I: Stream<Token = u8>>(bits: &mut Bits<I>, count: usize) -> Option<Taken<I::Slice>>
 where
     I::Slice: SliceLen,
@@ -130,7 +133,7 @@ where
     Some((slice, length))
 }
 
-// Each bit that is left.
+// Returns all bits that are left.
 fn bits_left<I: Stream<Token = u8>>(alloc: Global, bits: &Bits<I>) -> Result<Vec<bool>, AllocError>
     requires { IsValidBits I.valid I.remaining bits.now }
 {
@@ -193,7 +196,7 @@ fn slices_against_a_slow_reading(rt: HostRuntime) -> Result<(), Fail> {
     Ok(())
 }
 
-// The width of a token, through the bounds.
+// Returns the width of a token, through the bounds.
 fn token_width<S: Stream + Offset<S::Checkpoint>>(s: &mut S) -> usize
 where
     S::Token: Drop,
@@ -207,8 +210,9 @@ where
     s.offset_from(&start)
 }
 
-// The width of the first bit, and the parts after it; and whether that place is the second and not the start, whether their
-// checkpoints differ, and whether those of two equal places do not.
+// Returns the width of the first bit and the parts after it. Also returns whether that place is the
+// second and not the start, whether their checkpoints differ, and whether those of two equal places
+// are equal.
 fn behind_one<I: Stream<Token = u8> + Copy + PartialEq>(bytes: I) -> (usize, (I, usize), [bool; 4])
 where
     I::Checkpoint: PartialEq,
@@ -226,7 +230,7 @@ where
     (width, end.into_parts(), told)
 }
 
-// The place, from the number of bits alone.
+// Returns the place, computed from the number of bits.
 fn place_of<I: Stream<Token = u8>>(s: &Bits<I>) -> usize
     requires { IsValidBits I.valid I.remaining s.now }
     ensures { result ≡ bits_place s.now }
@@ -235,7 +239,8 @@ fn place_of<I: Stream<Token = u8>>(s: &Bits<I>) -> usize
     (8 - s.eof_offset() % 8) % 8
 }
 
-// The places of the start and of the bits after that many of the first byte, and the width between them.
+// Returns the places of the start and of the bits after `place` bits of the first byte, and the
+// width between them.
 fn places_from_start<I: Stream<Token = u8> + Copy>(bytes: I, place: usize) -> [usize; 3]
     requires below { place < 8 }
     requires start { IsValidBits I.valid I.remaining (record { input = bytes; place = 0 }) }
@@ -254,7 +259,7 @@ fn complete_bits<I: StreamIsPartial + Stream<Token = u8>>(s: &mut Bits<I>) -> I:
     s.complete()
 }
 
-// What the calls of the flag answer, and the parts that they leave.
+// Returns the answers of the calls of the flag, and the parts that they leave.
 fn flags_of<I>(bytes: I) -> ([bool; 4], (I, usize))
 where
     I: StreamIsPartial + Stream<Token = u8>,
@@ -314,7 +319,7 @@ fn texts_of_bits(rt: HostRuntime) -> Result<(), Fail> {
     Ok(())
 }
 
-// They do nothing: that each is called shows that it can be.
+// Laws do nothing. The calls show that each can be called.
 #[test]
 fn the_laws_can_be_called(_rt: HostRuntime) {
     bit_equality_law::<&[u8]>();

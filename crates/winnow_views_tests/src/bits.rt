@@ -27,7 +27,7 @@ fn a_slice_of_bits_is_as_long_as_its_offset(rt: HostRuntime) {
     );
 }
 
-// The width of the next bit, by the checkpoints before and after it.
+// Returns the width of the next bit, by the checkpoints before and after it.
 fn width_of_next<I: Stream<Token = u8>>(bits: &mut Bits<I>) -> usize
     requires { IsValidBits I.valid I.remaining bits.old }
     ensures width { result ≤ 1 }

@@ -29,7 +29,7 @@ fn first_of_window<S: UpdateSlice + Copy>(stream: S, width: usize) -> Option<S::
     window.next_token()
 }
 
-// The first tokens of two windows, and what the calls of the flag answer.
+// Returns the first tokens of two windows, and the answers of the calls of the flag.
 fn firsts_and_flags<S: UpdateSlice + StreamIsPartial + Copy>(
     mut stream: S,
     widths: [usize; 2],
@@ -41,7 +41,8 @@ fn firsts_and_flags<S: UpdateSlice + StreamIsPartial + Copy>(
     (firsts, flags(&mut stream))
 }
 
-// Neither has a flag: they stay as they are, and what agrees in all but the flag is the same.
+// Neither has a flag, so they stay as they are, and streams that agree in all but the flag are
+// equal.
 fn complete_both<'i>(text: &mut BStr<'i>, bytes: &mut Bytes<'i>)
     ensures text { text.old ≡ text.new }
     ensures bytes { bytes.old ≡ bytes.new }
@@ -61,7 +62,7 @@ fn hash_of<T: Hash>(value: &T) -> u64 {
     hasher.finish()
 }
 
-// By the first byte that differs, the shorter first where none does.
+// The order is that of the first byte that differs, or the shorter comes first where none does.
 fn orders_by_contents<S>(rt: &impl Abort)
 where
     S: From<&'static [u8]> + From<&'static str> + Default + Ord + Copy,
@@ -83,7 +84,7 @@ where
     }
 }
 
-// What the conversions give, by their contracts alone.
+// The results of the conversions, by their contracts.
 
 fn texts<'i>(text: &'i str, bytes: &'i [u8]) -> (BStr<'i>, &'i [u8], BStr<'i>)
     ensures text { bstr_contents result.0 ≡ text.now }
@@ -137,7 +138,7 @@ fn scripts(rt: HostRuntime) -> Result<(), Fail> {
     Ok(())
 }
 
-// Each literal once.
+// Returns the comparison with each kind of literal.
 fn comparisons_of<S>(s: S) -> [CompareResult; 6]
 where
     S: Compare<&'static [u8]> + Compare<[u8; 2]> + Compare<&'static [u8; 2]>,
@@ -176,7 +177,7 @@ fn comparisons(rt: HostRuntime) {
     );
 }
 
-// Each kind of needle once.
+// Each kind of needle has one case.
 #[test]
 fn searches(rt: HostRuntime) {
     let s = BStr::new(b"abcb\xc3\xa9");
@@ -231,7 +232,7 @@ fn small_traits_of_text(rt: HostRuntime) {
     );
 }
 
-// Whether the contents `abc` are `abc`, `abd`, `abc` and `ab`.
+// Whether the contents `abc` are equal to `abc`, `abd`, `abc` and `ab`.
 const EQUAL: [bool; 4] = [true, false, true, false];
 
 // The order of `abc` beside `b`, `abc` and `ab`.

@@ -1,4 +1,5 @@
-//! The tests of tokens that a lexer made, of bits, and of bytes with a text of their own. Nothing here is part of the library.
+//! The tests of tokens that a lexer made, of bits, and of bytes with a text of their own. Nothing
+//! here is part of the library.
 #![tactic(auto)]
 
 #[cfg(test)]

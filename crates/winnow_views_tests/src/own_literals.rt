@@ -6,7 +6,7 @@ use winnow_kinds::{BStr, ByteLiteral, ByteNeedles};
 use winnow_match::CompareResult;
 use winnow_test_helpers::{compares, finds};
 
-// A literal and a needle of one's own: a byte, twice.
+// A user-defined literal and needle: a byte, twice.
 #[derive(Drop)]
 struct Twice(u8);
 

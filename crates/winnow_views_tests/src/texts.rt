@@ -11,7 +11,7 @@ use std::test::Fail;
 use winnow_bytes::Bytes;
 use winnow_kinds::BStr;
 
-// What is printed, by the contracts of what prints it alone.
+// The printed texts, by the contracts of printing.
 
 fn text_shown(alloc: Global, s: &BStr) -> Result<String, AllocError>
     ensures { IfOk result (λ t. string_bytes t ≡ utf8_lossy (bstr_contents s.now)) }
@@ -26,7 +26,7 @@ fn text_debugged(alloc: Global, s: &BStr) -> Result<String, AllocError>
     format!(in alloc; "{s:?}")
 }
 
-// The width changes nothing, and the precision is how many characters are shown.
+// The width changes nothing, and the precision is the number of characters that are shown.
 fn text_padded(alloc: Global, s: &BStr) -> Result<String, AllocError>
     ensures { IfOk result (λ t. string_bytes t ≡ utf8_lossy (bstr_contents s.now)) }
 {
@@ -93,7 +93,7 @@ fn debug_texts_of_text(rt: HostRuntime) -> Result<(), Fail> {
         (b"'\"\\", r#""\'\"\\""#),
         (b"\x01\x0b\x1f\x7f", r#""\u{1}\u{b}\u{1f}\u{7f}""#),
         (b" !AZaz09~", r#"" !AZaz09~""#),
-        // Past ASCII each byte is the character of its number, also of damaged bytes.
+        // Beyond ASCII each byte is the character with its number, and so are damaged bytes.
         (b"\xc3\xa9", r#""Ã©""#),
         (b"\xe2\x82\xac", r#""â\u{82}¬""#),
         (b"\xf0\x9f\x98\x80", r#""ð\u{9f}\u{98}\u{80}""#),
@@ -137,11 +137,13 @@ fn hexadecimal_texts(rt: HostRuntime) -> Result<(), Fail> {
     Ok(())
 }
 
-// The debug texts of the bytes from 80 to ff, one after the other and without quotes, as the Rust crate prints them.
+// The debug texts of the bytes from 80 to ff, one after the other and without quotes, as the Rust
+// crate prints them.
 const PAST_ASCII: &str =
     r"\u{80}\u{81}\u{82}\u{83}\u{84}\u{85}\u{86}\u{87}\u{88}\u{89}\u{8a}\u{8b}\u{8c}\u{8d}\u{8e}\u{8f}\u{90}\u{91}\u{92}\u{93}\u{94}\u{95}\u{96}\u{97}\u{98}\u{99}\u{9a}\u{9b}\u{9c}\u{9d}\u{9e}\u{9f}\u{a0}¡¢£¤¥¦§¨©ª«¬\u{ad}®¯°±²³´µ¶·¸¹º»¼½¾¿ÀÁÂÃÄÅÆÇÈÉÊËÌÍÎÏÐÑÒÓÔÕÖ×ØÙÚÛÜÝÞßàáâãäåæçèéêëìíîïðñòóôõö÷øùúûüýþÿ";
 
-// Whether the debug texts of a byte alone and between letters are its debug text without quotes, between quotes and between letters.
+// Returns whether the debug texts of a byte alone and of a byte between letters are that text
+// without quotes, put between quotes and between letters.
 fn is_quoted(alloc: Global, byte: u8) -> Result<bool, AllocError> {
     let (alone, between) = ([byte], [b'a', byte, b'z']);
     let bare = format!(in alloc; "{:#?}", BStr::new(&alone))?;
@@ -167,21 +169,22 @@ fn bare_texts_past_ascii(rt: HostRuntime) -> Result<(), Fail> {
     Ok(())
 }
 
-// The texts of a text and of bytes under options.
+// Returns the texts of a text and of bytes under options.
 fn under_options(alloc: Global, s: &BStr, b: &Bytes) -> Result<String, AllocError> {
     let shown = format!(in alloc; "{s:#}|{s:08}|{s:+.9}|{s:*^9.3}|{s:.0}|")?;
     let debugged = format!(in alloc; "{s:#?}|{s:>12?}|{s:.1?}|{s:#08.1?}")?;
     format!(in alloc; "{shown} {debugged} {b:#}|{b:08}|{b:.1}|{b:#?}|{b:>8?}|{b:.1?}")
 }
 
-// Padded and cut, by the contracts of what prints it.
+// Returns the texts with a width and a precision, by the contracts of printing.
 fn padded_and_cut(alloc: Global, s: &BStr, b: &Bytes) -> Result<String, AllocError> {
     let padded = text_padded(alloc, s)?;
     let cut = text_cut(alloc, s)?;
     format!(in alloc; "{padded}|{cut}|{}", bytes_padded(alloc, b)?)
 }
 
-// As the Rust crate prints them, but that a width pads nothing here, and that `#` puts no underscores between the digits.
+// As the Rust crate prints them, except that here a width pads nothing and `#` puts no underscores
+// between the digits.
 #[test]
 fn texts_under_options(rt: HostRuntime) -> Result<(), Fail> {
     let (s, b) = (BStr::new(b"a\xff\n\"b"), Bytes::new(b"a\xff"));

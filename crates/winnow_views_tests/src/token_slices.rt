@@ -43,7 +43,7 @@ const LEXED: [Lexed; 3] = [
     Lexed { start: 21, end: 29 },
 ];
 
-// Asserts what remains, and the tokens before the place, the last first.
+// Asserts what remains, and the tokens before the place, from the last to the first.
 fn shows(
     rt: &impl Abort,
     alloc: Global,
@@ -71,7 +71,7 @@ fn answers<T: Debug>(
     Ok(())
 }
 
-// Runs a script, which knows nothing of tokens: the whole list stays.
+// Runs a script, which does not depend on the tokens. The whole list stays.
 fn run_on<'t, T: Debug>(
     alloc: Global,
     s: &mut TokenSlice<'t, T>,
@@ -83,7 +83,7 @@ fn run_on<'t, T: Debug>(
     Ok(answers.len())
 }
 
-// The stream narrowed to its front of that width.
+// Returns the stream narrowed to its front of width `offset`.
 fn window<S: UpdateSlice + Drop>(mut s: S, offset: usize) -> Option<S>
     requires { S.valid s }
 {
@@ -95,12 +95,12 @@ fn window<S: UpdateSlice + Drop>(mut s: S, offset: usize) -> Option<S>
     Some(s.update_slice(inner, &start))
 }
 
-// Both locations, through the bound.
+// Returns both locations, through the bound.
 fn located<S: Location>(s: &S) -> (usize, usize) {
     (s.previous_token_end(), s.current_token_start())
 }
 
-// There is no flag: they stay as they are, and what agrees in all but the flag is the same.
+// There is no flag, so they stay as they are, and streams that agree in all but the flag are equal.
 fn complete_tokens<'t, T: Debug>(s: &mut TokenSlice<'t, T>)
     ensures kept { s.old ≡ s.new }
     ensures same { (s t : TokenSlice T) → ⟦<TokenSlice<'t, T> as StreamIsPartial>⟧.same_but_flag s t
@@ -110,7 +110,8 @@ fn complete_tokens<'t, T: Debug>(s: &mut TokenSlice<'t, T>)
     s.restore_partial(());
 }
 
-// What the members say that tell debug texts, spelled out: tokens, a checkpoint of them and what it holds are a list of what remains.
+// The members for debug texts, spelled out: tokens, a checkpoint of them and its contents print as
+// the list of what remains.
 fn debug_texts<'t, T: Debug + 't>()
     ensures tokens { (s : TokenSlice T) → ⟦<TokenSlice<'t, T> as Debug>⟧.debug_output s
         ≡ debug_list T.debug_output (rest_of s) }
@@ -261,7 +262,7 @@ fn equality_is_that_of_the_tokens(rt: HostRuntime) {
     );
 }
 
-// Two windows over equal lists of which the same remains are equal, also where one starts further on.
+// Two windows over equal lists are equal where the same remains, even if one starts further on.
 #[test]
 fn places_are_no_part_of_equality(rt: HostRuntime) -> Result<(), Fail> {
     let start = TokenSlice::new(&[7, 7]);
@@ -280,7 +281,8 @@ fn places_are_no_part_of_equality(rt: HostRuntime) -> Result<(), Fail> {
     Ok(())
 }
 
-// The debug texts of tokens, of a checkpoint, and of what it holds; those of tokens under options; and a trace.
+// The debug texts of tokens, of a checkpoint, and of what it holds; those of tokens under options;
+// and a trace.
 #[test]
 fn texts_are_lists_of_what_remains(rt: HostRuntime) -> Result<(), Fail> {
     debug_texts::<u8>();

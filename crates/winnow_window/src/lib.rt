@@ -1,4 +1,5 @@
-//! A part of a slice that keeps the whole slice: [`Window`] is what streams over slices stand on.
+//! A part of a slice that keeps the whole slice: [`Window`], on which streams over slices are
+//! built.
 #![tactic(auto)]
 
 mod parts;

@@ -6,7 +6,7 @@ use crate::Window;
 
 #[tactic(auto, using(crate::proofs::lemmas::PartLemmas::range_steps), unfolding(crate::specs::Contents::contents_of, crate::specs::Contents::address_of))]
 impl<'i, T> Window<'i, T> {
-    /// Returns all of the slice.
+    /// Returns the window of the whole slice.
     pub fn new(whole: &'i [T]) -> Self
         ensures slice { slice_of T.row result ≡ whole.entry }
         ensures contents { contents_of result ≡ whole.now }
@@ -19,7 +19,7 @@ impl<'i, T> Window<'i, T> {
         }
     }
 
-    /// Returns the part.
+    /// Returns the part as a slice.
     pub fn slice(&self) -> &'i [T]
         ensures slice { result ≡ slice_of T.row self.now }
         ensures contents { result.now ≡ contents_of self.now }
@@ -35,21 +35,21 @@ impl<'i, T> Window<'i, T> {
         &self.slice()[place]
     }
 
-    /// Returns how many elements the part has.
+    /// Returns the number of elements of the part.
     pub fn len(&self) -> usize
         ensures { result ≡ length (contents_of self.now) }
     {
         self.end - self.start
     }
 
-    /// Returns where the part starts in the whole slice.
+    /// Returns the place in the whole slice at which the part starts.
     pub fn start(&self) -> usize
         ensures { result ≡ start_of self.now }
     {
         self.start
     }
 
-    /// Returns the part behind its first `count` elements.
+    /// Returns the part after its first `count` elements.
     pub fn behind(self, count: usize) -> Self
         requires { count ≤ length (contents_of self) }
         ensures slice { slice_of T.row result

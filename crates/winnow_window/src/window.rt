@@ -2,7 +2,8 @@ ghost use Rattle.std.specs.Prelude.{◌≡◌, ◌≤◌, length, ⊤};
 
 use std::alloc::AllocError;
 
-/// A part of a slice: the whole slice, and where the part starts and ends in it. Moving on changes the start alone.
+/// A part of a slice: the whole slice, and the places in it at which the part starts and ends.
+/// Moving on changes only the start.
 pub struct Window<'i, T> {
     pub(crate) whole: &'i [T],
     pub(crate) start: usize,

@@ -6,8 +6,9 @@ use winnow_stream::{Stream, StreamIsPartial, UpdateSlice};
 use winnow_test_helpers::window_of;
 use winnow_wrap::{LocatingSlice, Partial, Stateful};
 
-// Whether a place further on is the same, is greater, and is the same again once it is reset, each with its checkpoint. Its order
-// beside the start of another stream: the start counts before what remains, and the place not at all.
+// Returns whether two streams and their checkpoints are equal at the start, whether the place
+// further on is greater, and whether it is equal again after a reset. Also returns its order beside
+// another stream: the start counts before what remains, and the place does not count.
 fn compared_places<I: Stream + Ord + Copy>(input: I, other: I) -> ([bool; 5], Ordering)
 where
     I::Checkpoint: Ord,
@@ -28,8 +29,9 @@ where
     )
 }
 
-// Whether what remains at the start and after a width is the same, and the windows of that width there are; the places in the
-// windows; and whether these are equal, and their order. `None` where there is no such width twice.
+// Returns whether what remains at the start and after a width is equal, and whether the windows of
+// that width are; then the places in the windows, whether these are equal, and their order. Returns
+// `None` where the input does not have that width twice.
 fn windows_compared<I: Stream + UpdateSlice + Ord + Copy>(
     input: I,
     width: usize,
@@ -57,8 +59,8 @@ where
     ))
 }
 
-// Whether a stream is the same with its flag set and with it cleared; the order of a cleared one beside a set one, and that of a
-// lesser one with its flag set beside it.
+// Returns whether a stream is equal with its flag set and with it cleared; then the order of a
+// cleared one beside a set one, and that of a lesser one with its flag set beside it.
 fn compared_flags<I: StreamIsPartial + Ord + Copy>(
     input: I,
     lesser: I,

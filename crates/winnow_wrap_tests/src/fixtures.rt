@@ -8,10 +8,10 @@ use winnow_wrap::{LocatingSlice, Partial, Stateful};
 /// The errors that the tests record.
 pub type Mode = ErrMode<EmptyError>;
 
-/// Three wrappers round a stream.
+/// Three wrappers around a stream.
 pub type Nest<I> = Partial<Stateful<LocatingSlice<I>, u32>>;
 
-/// A stream in three wrappers, with that state.
+/// Returns a stream in three wrappers, with this state.
 pub fn nest<I: Stream + StreamIsPartial>(input: I, state: u32) -> Nest<I>
     requires valid { I.valid input }
     requires no_flag { I.supports_partial ≡ false }
@@ -24,7 +24,7 @@ pub fn nest<I: Stream + StreamIsPartial>(input: I, state: u32) -> Nest<I>
     })
 }
 
-/// The place, through its bound.
+/// Returns the place, through its bound.
 pub fn place<S: Location>(s: &S) -> (usize, usize)
     ensures { result ≡ (S.token_end s.now, S.token_start s.now) }
 {

@@ -1,5 +1,5 @@
-//! Laws do nothing: that each is called here shows that it can be. Generic code promises what the members of a type say and no
-//! more, so those laws that spell members out refuse a member that says less.
+//! Laws do nothing. The calls here show that each can be called. Generic code promises only what
+//! the members of a type say, so the laws that spell members out refuse a member that says less.
 ghost use Rattle.std.specs.Prelude.{◌≡◌, ℕ, false};
 ghost use Rattle.winnow_recover.specs.Recovering.{recoverable_inner, recorded_errors};
 ghost use Rattle.winnow_recover.specs.Recovering.{records_errors, IsSame, Records};
@@ -24,13 +24,17 @@ use winnow_wrap::{
     wrapper_checkpoint_equality_law, wrapper_checkpoint_order_law,
 };
 
-// No call of `Stream` changes the flag of three wrappers, their state, where the whole input starts, or any of five states.
+// No call of `Stream` changes the flag of three wrappers, their state, where the whole input
+// starts, or any of five states.
 fn nest_law<I: Stream>()
-    ensures flag { (s t : Partial (Stateful (LocatingSlice I I.Checkpoint I.Rest I.Checkpoint.Rest) ℕ))
+    ensures flag { (s t : Partial (Stateful
+        (LocatingSlice I I.Checkpoint I.Rest I.Checkpoint.Rest) ℕ))
         → ⟦<Nest<I> as Stream>⟧.keeps s t → flag s ≡ flag t }
-    ensures state { (s t : Partial (Stateful (LocatingSlice I I.Checkpoint I.Rest I.Checkpoint.Rest) ℕ))
+    ensures state { (s t : Partial (Stateful
+        (LocatingSlice I I.Checkpoint I.Rest I.Checkpoint.Rest) ℕ))
         → ⟦<Nest<I> as Stream>⟧.keeps s t → (partial_inner s).state ≡ (partial_inner t).state }
-    ensures start { (s t : Partial (Stateful (LocatingSlice I I.Checkpoint I.Rest I.Checkpoint.Rest) ℕ))
+    ensures start { (s t : Partial (Stateful
+        (LocatingSlice I I.Checkpoint I.Rest I.Checkpoint.Rest) ℕ))
         → ⟦<Nest<I> as Stream>⟧.keeps s t
         → (partial_inner s).input.start ≡ (partial_inner t).input.start }
     ensures states { (s t : Stateful (Stateful (Stateful (Stateful (Stateful I ℕ) ℕ) ℕ) ℕ) ℕ)
@@ -41,7 +45,8 @@ fn nest_law<I: Stream>()
         × (s.input.input.input.input.state ≡ t.input.input.input.input.state) }
 {}
 
-// What the members say that tell texts, spelled out: each wrapper prints as the stream inside, under any options of a hole.
+// The members for texts, spelled out: each wrapper prints as the stream inside, under any options
+// of a hole.
 fn text_law<I: Stream + Display, S, E>()
     ensures located { (s : LocatingSlice I I.Checkpoint I.Rest I.Checkpoint.Rest)
         → ⟦<LocatingSlice<I> as Display>⟧.output s ≡ I.output (locating_inner s) }
@@ -63,7 +68,7 @@ fn text_law<I: Stream + Display, S, E>()
         ≡ I.styled_output (recoverable_inner s) spec }
 {}
 
-// What the members of a `Recoverable` say, spelled out.
+// The members of a `Recoverable`, spelled out.
 fn recovery_law<I, E, R>()
 where
     I: Stream,
@@ -83,7 +88,7 @@ where
         → I.keeps s.input t.input }
 {}
 
-// So it is with the calls that are passed on.
+// The same for the calls that are passed on.
 fn passed_on_law<I: StreamIsPartial + Display, E: Debug>()
     ensures errors_stay { (s t : Recoverable I E)
         → ⟦<Recoverable<I, E> as StreamIsPartial>⟧.same_but_flag s t

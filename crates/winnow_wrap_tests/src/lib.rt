@@ -1,4 +1,5 @@
-//! The tests of wrappers, of nests of them, and of streams that record errors. Nothing here is part of the library.
+//! The tests of wrappers, of nests of them, and of streams that record errors. Nothing here is part
+//! of the library.
 #![tactic(auto)]
 
 #[cfg(test)]

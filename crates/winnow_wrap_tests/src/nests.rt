@@ -15,8 +15,9 @@ use winnow_wrap::{LocatingSlice, Partial, Stateful};
 
 const SCRIPT: [Step<NoSet>; 8] = [Next, Mark, Take(1), Since(0), Reset(0), At(9), Peek, Each];
 
-// Whether an error is recorded; what a script through three wrappers round the stream that recorded it answers then, and leaves:
-// the flag, the state, the place, and what stands inside them.
+// Returns whether an error is recorded, the answers of a script through three wrappers around the
+// stream that recorded it, and what the script leaves: the flag, the state, the place, and the
+// stream inside.
 fn told_round_record<I: Stream + StreamIsPartial + Drop>(
     alloc: Global,
     input: I,
@@ -54,8 +55,9 @@ fn bits_under_four_wrappers(rt: HostRuntime) -> Result<(), Fail> {
     Ok(())
 }
 
-// The trace through four wrappers, the stream that records outermost; and whether a script answers through them as on the stream
-// inside, and through four wrappers with the stream that records innermost, and no recovery.
+// Returns the trace through four wrappers, with the stream that records outermost. Also returns
+// whether a script gives the same answers through them as on the stream inside, and so through four
+// wrappers with the stream that records innermost and has no recovery.
 fn told_in_nests<I: Stream + StreamIsPartial + Copy>(
     alloc: Global,
     input: I,
@@ -88,10 +90,11 @@ fn every_nest_answers_and_prints_as_the_stream_inside(rt: HostRuntime) -> Result
     Ok(())
 }
 
-/// Five states round a stream.
+/// Five states around a stream.
 pub type FiveStates<I> = Stateful<Stateful<Stateful<Stateful<Stateful<I, u8>, u8>, u8>, u8>, u8>;
 
-// Whether a script answers through five states as on the stream inside, and the states that it leaves, the innermost first.
+// Returns whether a script gives the same answers through five states as on the stream inside, and
+// the states that it leaves, the innermost first.
 fn told_through_states<I: Stream + Copy>(
     alloc: Global,
     input: I,

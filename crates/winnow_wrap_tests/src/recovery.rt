@@ -30,7 +30,8 @@ fn recover_here<S: Recover<E>, E>(s: &mut S, err: E) -> Result<(), RecordError<E
     s.record_err(&here, &here, err)
 }
 
-// One error more at the end, or the errors as before: the stream inside stays in both cases.
+// Records an error. Afterwards there is one more error at the end, or the errors are as before, and
+// the stream inside stays in both cases.
 fn recorded<I, E, R>(s: &mut Recoverable<I, R>, err: E) -> Result<(), RecordError<E>>
 where
     I: Stream,
@@ -46,8 +47,8 @@ where
     s.record_err(&here, &here, err)
 }
 
-// Records an error after a token, goes back, and records another: what the calls answered, the token ahead, and what stands
-// inside at the end.
+// Records an error after a token, goes back, and records another. Returns the answers of the calls,
+// the token ahead, and the stream inside at the end.
 fn recorded_and_reset<I, E, R>(
     alloc: Global,
     input: I,
@@ -72,7 +73,8 @@ where
     format!(in alloc; "{token:?} {first:?}, {second:?} {ahead:?}, {input:?} {errors:?}")
 }
 
-// What a stream that records no error answers to two of them, its errors then, and whether its type records any.
+// Returns the answers of a stream that records no errors to two of them, its errors after that, and
+// whether its type records any.
 fn refused_all<I, E, R>(alloc: Global, input: I, first: E, second: E) -> Result<String, AllocError>
 where
     I: Stream + Drop,
@@ -105,7 +107,8 @@ fn reset_leaves_what_was_recorded_and_unrecoverable_records_nothing(
     Ok(())
 }
 
-// How many errors stand in the list once as many were recorded; `None` where one was not.
+// Returns the number of errors in the list after `times` of them were recorded, or `None` where one
+// was not.
 fn recorded_times(alloc: Global, times: usize) -> Option<usize> {
     let mut s: Recoverable<&str, EmptyError> = Recoverable::new(alloc, "ab");
     for _ in 0..times {
@@ -115,7 +118,7 @@ fn recorded_times(alloc: Global, times: usize) -> Option<usize> {
     Some(s.into_parts().1.len())
 }
 
-// That memory is found where it is there, no clause can say.
+// No contract can say that memory is found where it is there.
 #[test]
 fn none_a_few_and_many_are_recorded(rt: HostRuntime) {
     for times in [0, 3, 20_000] {
@@ -123,7 +126,8 @@ fn none_a_few_and_many_are_recorded(rt: HostRuntime) {
     }
 }
 
-// Whether a stream with no recovery gives the error back, and says that it has none; it stays as it was.
+// Returns whether a stream without recovery gives the error back and says that it has no recovery.
+// The stream stays as it was.
 fn refuses<S: Recover<E>, E: Copy + PartialEq>(s: &mut S, err: E) -> bool
     requires valid { S.valid s.old }
     requires unsupported { S.supports_recovery ≡ false }
@@ -162,8 +166,9 @@ fn plain_streams_refuse(rt: HostRuntime) {
     );
 }
 
-// Whether a flag, a state and a place round a stream that records refuse an error, and bits of one. Whether a state alone round
-// one refuses another error, and how many errors the stream inside holds then.
+// Returns whether a flag, a state and a place around a stream that records refuse an error, and
+// whether bits of one do. Also returns whether a single state around one refuses another error, and
+// the number of errors in the stream inside after that.
 fn recorders_refuse<I, E, R>(
     alloc: Global,
     bytes: I,
@@ -215,8 +220,8 @@ fn wrappers_refuse_also_round_one_that_records(rt: HostRuntime) {
     );
 }
 
-// What a comparison, a search and the calls of the flag answer, and those that change nothing, and the stream inside by both ways
-// to it.
+// Returns the answers of a comparison, a search, the calls of the flag and the calls that change
+// nothing, and the stream inside in both ways.
 fn passed_on<I>(alloc: Global, input: I) -> Result<String, AllocError>
 where
     I: Compare<&'static str> + FindSlice<char> + StreamIsPartial,
@@ -236,7 +241,8 @@ where
     )
 }
 
-// The front of that width and what is left of it as the window that it makes remains, with its width; `None` where there is none.
+// Takes the front of width `offset`, and makes a window of it. Returns all that the window holds,
+// peeked and then taken, and the width of the front. Returns `None` where no front has that width.
 fn window_inside<I: UpdateSlice + Drop>(
     alloc: Global,
     input: I,
@@ -270,7 +276,7 @@ fn every_call_is_passed_on(rt: HostRuntime) -> Result<(), Fail> {
     Ok(())
 }
 
-// The place and the bytes that remain, each through its bound.
+// Returns the place and the bytes that remain, each through its bound.
 fn place_and_bytes<S: Location + AsBytes>(s: &S) -> ((usize, usize), &[u8])
     ensures place { result.0 ≡ (S.token_end s.now, S.token_start s.now) }
     ensures bytes { result.1.now ≡ S.bytes s.now }
@@ -283,7 +289,7 @@ fn place_and_bytes<S: Location + AsBytes>(s: &S) -> ((usize, usize), &[u8])
 
 type Placed<'i> = Recoverable<LocatingSlice<&'i [u8]>, Mode>;
 
-// The width from a stream to what is left of it, and the one from where it stands.
+// Returns the width from a stream to its rest, and the width from where it stands.
 fn widths(alloc: Global) -> (usize, usize) {
     let bytes: &[u8] = b"abc";
     let s: Placed = Recoverable::new(alloc, LocatingSlice::new(bytes));

@@ -17,7 +17,8 @@ const SCRIPT: &[SearchStep<NoSet, &str>] = &[
     Compared("ßa"),
 ];
 
-// The answers of a script that compares and searches on a stream, and in three wrappers around it, as their debug texts.
+// Returns the debug texts of the answers of a script that compares and searches, on a stream and in
+// three wrappers around it.
 fn searched_in_nest<I, L: Copy>(
     alloc: Global,
     input: I,

@@ -10,7 +10,8 @@ use winnow_recover::{Recover, Recoverable};
 use winnow_stream::{Stream, StreamIsPartial};
 use winnow_wrap::LocatingSlice;
 
-// The text of a stream in four wrappers without options, under `#`, with a width, and with a precision.
+// Returns the text of a stream in four wrappers: without options, under `#`, with a width, and with
+// a precision.
 fn printed<I: StreamIsPartial + Display + Drop>(
     alloc: Global,
     input: I,
@@ -29,8 +30,9 @@ fn wrappers_print_as_the_stream_inside(rt: HostRuntime) -> Result<(), Fail> {
     Ok(())
 }
 
-// The debug texts of a place and of its checkpoint, and those of a stream in four wrappers with an error that it recorded:
-// without options, under `#`, and with a width and a precision, which reach the parts alone.
+// Returns the debug texts of a place and of its checkpoint, and of a stream in four wrappers with
+// an error that it recorded: without options, under `#`, and with a width and a precision, which
+// only reach the parts.
 fn debugged<I: StreamIsPartial + Copy>(alloc: Global, input: I) -> Result<String, AllocError>
 where
     requires valid { I.valid input }
@@ -44,7 +46,7 @@ where
     format!(in alloc; "{located:?}|{start:?}|{recorded}|{s:?}|{s:#?}|{s:>6?}|{s:.2?}")
 }
 
-// As derives of Rust print them.
+// The texts are as Rust's derives print them.
 #[test]
 fn debug_texts_of_wrappers(rt: HostRuntime) -> Result<(), Fail> {
     assert_eq!(rt;

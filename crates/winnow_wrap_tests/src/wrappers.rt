@@ -16,8 +16,8 @@ use winnow_stream::{
 use winnow_test_helpers::{compares, debugged, finds, flags, seen, tell, width_from, window_of};
 use winnow_wrap::{LocatingSlice, Partial, Stateful};
 
-// A token is taken, and then a window of that width: what it holds and the places around it, and the first place and the rest
-// where it starts anew; `None` where there is none.
+// Takes a token, and then a window of width `offset`. Returns all that the window holds, peeked and
+// then taken, and the places before and after. Returns `None` where there is no such window.
 fn window_of_nest<I: StreamIsPartial + UpdateSlice + Drop>(
     input: I,
     offset: usize,
@@ -45,9 +45,10 @@ fn the_place_in_a_window_is_that_in_the_whole(rt: HostRuntime) {
     );
 }
 
-// Two tokens are taken, then the slice of that width, and then its window: the slice, what the window holds and its first token;
-// the places after the slice, at the start of its window, and after the first token there; the stream inside and the place once
-// the window starts anew. `None` where there is no such slice.
+// Takes two tokens, then the slice of width `offset`, and then its window. Returns the slice, what
+// the window holds and its first token; the places after the slice, at the start of the window,
+// after the first token there, and after `reset_to_start`; then the stream inside. Returns `None`
+// where there is no such slice.
 fn window_started_anew<I: UpdateSlice + Copy>(
     input: I,
     offset: usize,
@@ -106,7 +107,8 @@ fn the_flag_is_no_part_of_a_checkpoint(rt: HostRuntime) {
     );
 }
 
-// The first token with the flag cleared, which is set again: generic code may go on, since the rest stays the same.
+// Returns the first token with the flag cleared, and sets the flag again. Generic code may go on,
+// since the rest stays the same.
 fn peek_complete<S: StreamIsPartial>(s: &mut S) -> (bool, Option<S::Token>)
     requires { S.valid s.old }
     ensures cleared { result.0 ≡ false }
@@ -121,7 +123,7 @@ fn peek_complete<S: StreamIsPartial>(s: &mut S) -> (bool, Option<S::Token>)
     (is_partial, token)
 }
 
-// Clearing a flag that is inside changes nothing else.
+// Clearing an inner flag changes nothing else.
 fn complete_inside<I: Stream, S: Debug>(
     s: &mut Stateful<LocatingSlice<Partial<I>>, S>,
 ) -> (bool, bool)
@@ -134,8 +136,9 @@ fn complete_inside<I: Stream, S: Debug>(
     (s.complete(), s.is_partial())
 }
 
-// The first token with the flag inside two wrappers cleared, and the flag set again; the flag before it is cleared for good and
-// after it, and what it leaves.
+// Returns the first token with the flag inside two wrappers cleared, and the flag after it is set
+// again; then the flag before and after it is cleared for good, and the state and the place that
+// are left.
 fn told_of_flag<I: StreamIsPartial + Drop>(
     input: I,
 ) -> (
@@ -155,8 +158,9 @@ fn told_of_flag<I: StreamIsPartial + Drop>(
 
 type Plain<I> = Stateful<LocatingSlice<I>, u32>;
 
-// Whether the types have a flag: a place and a state round one, a place round one, a flag round both, and both alone. Whether
-// both alone round a stream that has no flag await more.
+// Returns whether the types have a flag: a place and a state around a flag, a place around a flag,
+// a flag around both, and both without a flag. Also returns whether both around a stream without a
+// flag await more.
 fn supported<I: StreamIsPartial + Drop>(input: I) -> ([bool; 4], bool)
     requires valid { I.valid input }
     requires no_flag { I.supports_partial ≡ false }
@@ -188,7 +192,8 @@ fn a_flag_inside_two_wrappers(rt: HostRuntime) {
     );
 }
 
-// A plain stream has no flag: it stays as it is, and what agrees in all but the flag is the same.
+// A plain stream has no flag, so it stays as it is, and streams that agree in all but the flag are
+// equal.
 fn complete_plain<'i>(bytes: &mut &'i [u8], text: &mut &'i str)
     ensures bytes { bytes.old ≡ bytes.new }
     ensures text { text.old ≡ text.new }
@@ -210,14 +215,14 @@ fn a_plain_stream_has_no_flag(rt: HostRuntime) {
     assert_eq!(rt; (bytes, text), (b"ab".as_slice(), "cd"));
 }
 
-// The stream inside three wrappers.
+// Returns the stream inside three wrappers.
 fn inside<I: Stream, S>(s: &Partial<Stateful<LocatingSlice<I>, S>>) -> &I
     ensures { result.now ≡ (partial_inner s.now).input.input }
 {
     &****s
 }
 
-// A clone is the same, and is never refused.
+// Returns a clone, which is the same and is never refused.
 fn cloned<T: Clone>(value: &T) -> Result<T, AllocError>
     requires { T.is_infallible value.now }
     ensures same { IfOk result (T.is_clone value.now) }
@@ -226,7 +231,8 @@ fn cloned<T: Clone>(value: &T) -> Result<T, AllocError>
     value.clone()
 }
 
-// What a script answers through three wrappers, and what it leaves: the place, the state, the flag, the rest, and that of a clone.
+// Returns the answers of a script through three wrappers, and what it leaves: the place, the state,
+// the flag, the rest, and the rest of a clone.
 fn told_and_left<I: StreamIsPartial + Copy>(
     alloc: Global,
     input: I,
@@ -266,7 +272,8 @@ fn a_script_runs_through_three_wrappers(rt: HostRuntime) -> Result<(), Fail> {
     Ok(())
 }
 
-// What a comparison, a search and the calls that change nothing answer through three wrappers.
+// Returns the answers of a comparison, a search and the calls that change nothing, through three
+// wrappers.
 fn passed_on<I>(
     alloc: Global,
     input: I,
@@ -295,7 +302,7 @@ fn each_call_is_passed_on_through_three_wrappers(rt: HostRuntime) -> Result<(), 
     Ok(())
 }
 
-// A checkpoint, and that the width of the rest there is that of the stream.
+// Returns a checkpoint, where the rest is as wide as that of the stream.
 fn checkpoint_of<S: Stream>(s: &S) -> S::Checkpoint
     requires { S.valid s.now }
     ensures valid { S.valid_checkpoint result }
@@ -304,7 +311,7 @@ fn checkpoint_of<S: Stream>(s: &S) -> S::Checkpoint
     s.checkpoint()
 }
 
-// The width from a stream and from its checkpoint, and that between checkpoints.
+// Returns the width from a stream, from its checkpoint, and between checkpoints.
 fn widths_from<S>(rest: &S, start: &S) -> [usize; 3]
 where
     S: Stream + Offset<S> + Offset<S::Checkpoint>,
@@ -324,7 +331,7 @@ where
     ]
 }
 
-// Whether the bytes that remain are those; all of them taken, and the stream inside.
+// Returns whether these bytes remain, the slice of all that remains, and the stream inside.
 fn held<I: StreamIsPartial + AsBytes + Copy>(input: I, wanted: &[u8]) -> (bool, I::Slice, I)
     requires valid { I.valid input }
     requires no_flag { I.supports_partial ≡ false }

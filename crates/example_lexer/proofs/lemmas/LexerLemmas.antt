@@ -1,4 +1,4 @@
--- What the lexer means, in the words of tokens.
+-- From the meaning of the lexer to the words of tokens.
 use Rattle.std.proofs.Common.{◌≡◌, ℕ, ◌≤◌, Bool, true, false, [], ◌∷◌, ◌++◌, length, Option, None, inl, inr, sym, ◌∙◌, subst, refl, arith}
 use Rattle.std.specs.Char.{is_ascii_alphabetic, is_ascii_digit}
 use Rattle.std.proofs.lemmas.Bool.Decides.{nat_tests}
@@ -15,33 +15,41 @@ use Rattle.example_lexer.specs.Tokens.{is_blank, kind_of, goes_on, IsClear, IsTe
 use Rattle.example_lexer.specs.declared.token.Kind.{Kind}
 use Rattle.example_lexer.specs.declared.token.Kind.TheVariants.{Name, Number, Punctuation}
 
+-- the text of a token has at least one byte
 pub length-text : (kind : Kind) (text : Source ℕ) → IsText kind text → 1 ≤ length text
 length-text kind [] h = absurd h
 length-text kind (x ∷ xs) h = omega arith
 
--- a byte with which a kind goes on says that kind
+-- a byte with which a kind goes on begins a token of that kind
 kind-says : (kind : Kind) (x : ℕ) → goes_on kind x ≡ true → kind ≡ kind_of x
 kind-says Name x on = sym (rw on refl)
 kind-says Number x on = let none : is_ascii_alphabetic x ≡ false = grind (arith, nat_tests, on) in sym (rw none (rw on refl))
 kind-says Punctuation x on = absurd (cc)
 
-is-text : (kind : Kind) (text rest : Source ℕ) → 1 ≤ length text → HoldsAll (goes_on kind) text → IsClear (text ++ rest) → IsText kind text
+-- a run of bytes with which a kind goes on is the text of a token
+is-text : (kind : Kind) (text rest : Source ℕ) → 1 ≤ length text → HoldsAll (goes_on kind) text
+    → IsClear (text ++ rest) → IsText kind text
 is-text kind [] rest some held clear = absurd (omega (arith, some))
 is-text kind (x ∷ xs) rest some held clear = (clear x.0 refl, kind-says kind x.0 held.0, held.1)
 
--- the text of a token is taken
+-- the stream moved on over the text of a token of this kind
 abbrev IsTaken : Ahead ℕ → Ahead ℕ → Kind → Type 0
 IsTaken a b kind = (m : Moves a b) × (IsWord kind m.taken b.tokens × (1 ≤ length m.taken))
 
-run-taken : (kind : Kind) (a b : Ahead ℕ) → IsClear a.tokens → IsRun (goes_on kind) 1 a b → IsTaken a b kind
+-- a run of bytes with which a kind goes on is a token that is taken
+run-taken : (kind : Kind) (a b : Ahead ℕ) → IsClear a.tokens → IsRun (goes_on kind) 1 a b
+    → IsTaken a b kind
 run-taken kind a b clear run =
     (run.over, ((is-text kind run.over.taken b.tokens run.enough run.held (subst IsClear run.over.whole clear), run.ends), run.enough))
 
 module _ {S : Type 0} (is_slice : S → Source ℕ → ℕ → Type 0) {l m n : ℕ} {i j k : Option ℕ} (any : (l ≡ 0) × (i ≡ None)) (one : (m ≡ 1) × (j ≡ None)) (some : (n ≡ 1) × (k ≡ None)) where
+  -- the meaning of the parser of kinds
   abbrev Kinds : Meaning Kind ℕ
   Kinds = Choice3 ⊥ (Maps (IsAlways Name) (HeldFront is_slice is_ascii_alphabetic m j)) (Maps (IsAlways Number) (HeldFront is_slice is_ascii_digit n k)) (Maps (IsAlways Punctuation) (OneOf (λ _. true)))
 
-  reads : (kind : Kind) (a b : Ahead ℕ) → HasPositiveWidths a.tokens → IsClear a.tokens → Kinds false a (Gives kind b) → IsTaken a b kind
+  -- the parser of kinds takes a token of the kind that it gives
+  reads : (kind : Kind) (a b : Ahead ℕ) → HasPositiveWidths a.tokens → IsClear a.tokens
+      → Kinds false a (Gives kind b) → IsTaken a b kind
   reads kind a b wide clear (inl (s, (e, h))) =
       subst (IsTaken a b) e (run-taken Name a b clear (held-run is_slice is_ascii_alphabetic false a b 1 one s wide h))
   reads kind a b wide clear (inr (c, (other, inl (s, (e, h))))) =
@@ -52,11 +60,13 @@ module _ {S : Type 0} (is_slice : S → Source ℕ → ℕ → Type 0) {l m n : 
       let number = held-none is_ascii_digit a.tokens x (held-few is_slice is_ascii_digit false a d 1 some none) h.0 in
       subst (IsTaken a b) e (first.1.0, subst (λ t. IsWord Punctuation t b.tokens × (1 ≤ length t)) (sym first.1.1) (((clear x h.0, sym (rw name (rw number refl)), tt), λ y f. refl), omega arith))
 
+  -- the parser of kinds never cuts
   uncut : (a b : Ahead ℕ) → ¬ (Kinds false a (Fails (Cuts b)))
   uncut a b (inl h) = held-never-cuts is_slice is_ascii_alphabetic false a b 1 one h
   uncut a b (inr (c, (other, inl h))) = held-never-cuts is_slice is_ascii_digit false a b 1 some h
   uncut a b (inr (c, (other, inr (d, (none, h))))) = h
 
+  -- the parsers of blanks and kinds make a lexer
   plain : IsLexer (HeldFront is_slice is_blank l i) Kinds (HoldsAll is_blank) IsClear IsWord
   plain = record {
     skips = λ s a b wide h. let run = held-run is_slice is_blank false a b 0 any s wide h in (run.over, (run.held, run.ends));
@@ -68,7 +78,9 @@ module _ {S : Type 0} (is_slice : S → Source ℕ → ℕ → Type 0) {l m n : 
     reads_all = λ a b h. any-none false a b h.1.1.1.1;
   }
 
-  -- the same, of sets that hold the same and of values that are these
-  pub lexer : {blanks letters digits : ℕ → Bool} {x y z : Kind} → blanks ≡ is_blank → letters ≡ is_ascii_alphabetic → digits ≡ is_ascii_digit → x ≡ Name → y ≡ Number → z ≡ Punctuation
+  -- the same for sets and values that are equal to these
+  pub lexer : {blanks letters digits : ℕ → Bool} {x y z : Kind} → blanks ≡ is_blank
+      → letters ≡ is_ascii_alphabetic → digits ≡ is_ascii_digit → x ≡ Name → y ≡ Number
+      → z ≡ Punctuation
       → IsLexer (HeldFront is_slice blanks l i) (Choice3 ⊥ (Maps (IsAlways x) (HeldFront is_slice letters m j)) (Maps (IsAlways y) (HeldFront is_slice digits n k)) (Maps (IsAlways z) (OneOf (λ _. true)))) (HoldsAll is_blank) IsClear IsWord
   lexer blank letter digit e f g = rw (blank, letter, digit, e, f, g) plain

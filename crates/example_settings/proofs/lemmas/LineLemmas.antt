@@ -1,4 +1,4 @@
--- What the parser of a line means, in the words of lines.
+-- From the meaning of the parser of a line to the words of lines.
 use Rattle.std.proofs.Common.{◌≡◌, ◌≢◌, ℕ, ◌<◌, Bool, [], ◌∷◌, Option, Some, None, length, drop, refl, ap, ◌∙◌, subst, arith, length-drop}
 use Rattle.std.specs.Char.{is_ascii_alphabetic}
 use Rattle.std.specs.Prelude.{◌==◌, IfOk, OnOk, IfErr}
@@ -12,7 +12,7 @@ use Rattle.winnow_token.specs.OneOf.{OneOf, after_one}
 use Rattle.example_settings.specs.Lines.{is_blank, is_in_line, behind, behind_line, from_sign, from_value, IsPart, IsSetting, Lacks, told}
 use Rattle.example_settings.specs.declared.fault.Wanted.TheVariants as wanted
 
--- where there is a width, there is a character
+-- input with a positive width has a character
 pub some-wide : (r : Source ℕ) (n : ℕ) → 0 < n → n ≡ width r → r ≢ []
 some-wide r n some is = λ e. omega (arith, some, is, ap width e)
 
@@ -21,25 +21,39 @@ shorter : (n : ℕ) (r : Source ℕ) → r ≢ [] → length (drop 1 (drop n r))
 shorter n [] some = absurd (some refl)
 shorter n (x ∷ xs) some = omega (arith, length-drop 1 (drop n (x ∷ xs)), length-drop n (x ∷ xs))
 
-pub length-behind_line : (a : Ahead ℕ) → a.tokens ≢ [] → length (behind_line a).tokens < length a.tokens
+-- fewer characters remain after a line
+pub length-behind_line : (a : Ahead ℕ) → a.tokens ≢ []
+    → length (behind_line a).tokens < length a.tokens
 length-behind_line a some = shorter _ a.tokens some
 
 module _ {S : Type 0} (is_slice : S → Source ℕ → ℕ → Type 0) where
-  -- the parsers of a part and the blanks after it, and of a line
+  -- the meaning of a part and the blanks after it
   abbrev Spaced : {O : Type 0} → Meaning O ℕ → Meaning (O × S) ℕ
   Spaced part = Pair part (HeldFront is_slice is_blank 0 None)
 
+  -- the meaning of the parser of a line
   abbrev Line : Meaning (Option ((S × S) × Option ((ℕ × S) × Option S))) ℕ
   Line = Optional (Pair (Spaced (HeldFront is_slice is_ascii_alphabetic 1 None)) (Optional (Pair (Spaced (OneOf (λ c. 61 == c))) (Optional (HeldFront is_slice is_in_line 1 None)))))
 
-  key : (partial : Bool) (a b : Ahead ℕ) (both : S × S) → Spaced (HeldFront is_slice is_ascii_alphabetic 1 None) partial a (Gives both b) → IsPart is_slice is_ascii_alphabetic a both.0 × (b ≡ from_sign a)
+  -- a key and blanks end at the place of the sign
+  key : (partial : Bool) (a b : Ahead ℕ) (both : S × S)
+      → Spaced (HeldFront is_slice is_ascii_alphabetic 1 None) partial a (Gives both b)
+      → IsPart is_slice is_ascii_alphabetic a both.0 × (b ≡ from_sign a)
   key partial a b both (c, (h, k)) = ((h.0, λ e. omega (arith, h.2, ap length e)), k.1 ∙ ap (behind is_blank) h.1)
 
-  sign : (partial : Bool) (a b : Ahead ℕ) (both : ℕ × S) → Spaced (OneOf (λ c. 61 == c)) partial a (Gives both b) → (first_token a.tokens ≡ Some 61) × (b ≡ behind is_blank (after_one a))
+  -- a sign and blanks end after the blanks
+  sign : (partial : Bool) (a b : Ahead ℕ) (both : ℕ × S)
+      → Spaced (OneOf (λ c. 61 == c)) partial a (Gives both b)
+      → (first_token a.tokens ≡ Some 61) × (b ≡ behind is_blank (after_one a))
   sign partial a b both (c, (h, k)) = (grind (arith, nat_tests, h.0, h.1), k.1 ∙ ap (behind is_blank) h.2)
 
-  -- it tells a setting, or what is wanted where the stream then stands
-  pub tells : (parts : Option ((S × S) × Option ((ℕ × S) × Option S))) (partial : Bool) (a b : Ahead ℕ) → Line partial a (Gives parts b) → IfOk (told parts) (IsSetting is_slice a) × OnOk (told parts) (b ≡ behind is_in_line (from_value a)) × IfErr (told parts) (λ what. Lacks a what b)
+  -- the parts of a line make a setting, or say what is wanted where the stream then stands
+  pub tells : (parts : Option ((S × S)
+      × Option ((ℕ × S) × Option S))) (partial : Bool) (a b : Ahead ℕ)
+      → Line partial a (Gives parts b)
+      → IfOk (told parts) (IsSetting is_slice a)
+      × OnOk (told parts) (b ≡ behind is_in_line (from_value a))
+      × IfErr (told parts) (λ what. Lacks a what b)
   tells None partial a b (e, (c, h)) = (tt, tt, subst (Lacks a wanted.Key) e (refl, nil_from_length _ (grind (arith, h))))
   tells (Some (keyed, None)) partial a b (c, (k, (e, (d, h)))) =
       let at = key partial a c keyed k in

@@ -1,4 +1,4 @@
--- What looking at a step gives, by cases of what the code found.
+-- What a look at a step gives, for each case of the code.
 use Rattle.std.proofs.Common.{◌≡◌, ℕ, ◌+◌, ◌-◌, ◌≤◌, ◌<◌, true, List, [], ◌∷◌, length, drop, Option, None, Some, refl, sym, ap, ◌∙◌, arith}
 use Rattle.winnow_stream.specs.Source.{Source, width}
 use Rattle.winnow_stream.specs.Front.{is_offset}
@@ -18,16 +18,20 @@ use Rattle.winnow_attempt.specs.Settled.{AreSame, NoneOccurs, shifted, longer}
 use Rattle.winnow_attempt.specs.View.{first_width}
 use Rattle.winnow_attempt.proofs.lemmas.SettledLemmas.{AreSame-on, NoneOccurs-on}
 
+-- the width that the first token takes off what remains is its own
 pub first_width-is : {T : Type 0} (r : Source T) → width r - width (drop 1 r) ≡ first_width r
 first_width-is [] = refl
 first_width-is (x ∷ r) = omega arith
 
+-- a valid offset is no greater than the width
 pub offset-within : {T : Type 0} (r : Source T) (n : ℕ) → is_offset r n ≡ true → n ≤ width r
 offset-within r n h = omega (arith, width-back r n h)
 
 pub ruleset looks = (first_width-is, front_count-found, front_count-missing, offset-within)
 
-pub mark-there : (marks : List ℕ) (k : ℕ) → k < length marks → Some (get_or marks k 0) ≡ slice_get marks k
+-- a number below the length has its mark, and a number past the length has none
+pub mark-there : (marks : List ℕ) (k : ℕ) → k < length marks
+    → Some (get_or marks k 0) ≡ slice_get marks k
 mark-there marks k h = sym (slice_get-get_or marks k 0 h)
 
 pub mark-past : (marks : List ℕ) (k : ℕ) → length marks ≤ k → None ≡ slice_get marks k
@@ -35,35 +39,44 @@ mark-past marks k h = sym (slice_get_past marks k h)
 
 pub ruleset marks_read = (mark-there, mark-past)
 
--- ---- going on
+-- ---- resuming after what is settled
 
 module _ (literal bytes l b : List ℕ) (n : ℕ) (same : AreSame literal bytes n) (el : l ≡ drop n literal) (eb : b ≡ drop n bytes) where
+  -- the comparison of the whole is that of the rest, longer by what is the same
   going : comparison literal bytes ≡ longer n (comparison l b)
   going = rw (el, eb) (AreSame-on n literal bytes same)
 
-  pub same-ok : (k : ℕ) → comparison l b ≡ compared.Ok k → compared.Ok (length literal) ≡ comparison literal bytes
+  -- each outcome for the rest, and the outcome for the whole that it means
+  pub same-ok : (k : ℕ) → comparison l b ≡ compared.Ok k
+      → compared.Ok (length literal) ≡ comparison literal bytes
   same-ok k h =
       let len : k ≡ length l = (front-from_ok l b k h).1 in
       let e : n + k ≡ length literal = omega (arith, length-drop n literal, same.fits, len, ap length el) in
       sym (going ∙ ap (longer n) h ∙ ap compared.Ok e)
 
-  pub same-incomplete : comparison l b ≡ compared.Incomplete → compared.Incomplete ≡ comparison literal bytes
+  pub same-incomplete : comparison l b ≡ compared.Incomplete
+      → compared.Incomplete ≡ comparison literal bytes
   same-incomplete h = sym (going ∙ ap (longer n) h)
 
   pub same-error : comparison l b ≡ compared.Error → compared.Error ≡ comparison literal bytes
   same-error h = sym (going ∙ ap (longer n) h)
 
 module _ (needles : List (List ℕ)) (bytes b : List ℕ) (n : ℕ) (none : NoneOccurs needles bytes n) (eb : b ≡ drop n bytes) where
+  -- the hit in the whole is that in the rest, moved by what is settled
   hits : hit needles bytes ≡ shifted n (hit needles b)
   hits = rw eb (NoneOccurs-on needles bytes n none)
 
-  pub hit-later : (p : Range ℕ) → hit needles b ≡ Some p → Some (record { start = n + p.start; end = n + p.end }) ≡ hit needles bytes
+  -- a hit in the rest, and no hit in the rest, as answers for the whole
+  pub hit-later : (p : Range ℕ) → hit needles b ≡ Some p
+      → Some (record { start = n + p.start; end = n + p.end }) ≡ hit needles bytes
   hit-later p h = sym (hits ∙ ap (shifted n) h)
 
   pub hit-never : hit needles b ≡ None → None ≡ hit needles bytes
   hit-never h = sym (hits ∙ ap (shifted n) h)
 
-pub hit-fits : (o : Option (Range ℕ)) (bytes : List ℕ) → IfSome o (AreOffsets (units bytes)) → IfSome o (λ p. (p.start ≤ p.end) × (p.end ≤ length bytes))
+-- a hit at valid offsets fits in the bytes
+pub hit-fits : (o : Option (Range ℕ)) (bytes : List ℕ) → IfSome o (AreOffsets (units bytes))
+    → IfSome o (λ p. (p.start ≤ p.end) × (p.end ≤ length bytes))
 hit-fits None bytes h = tt
 hit-fits (Some p) bytes h = (h.0, le-from_is_offset bytes p.end h.1.1)
 

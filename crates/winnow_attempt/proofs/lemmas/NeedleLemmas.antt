@@ -1,4 +1,4 @@
--- With what a search is missing behind the bytes it answers otherwise.
+-- Appending the missing bytes changes a search's answer.
 use Rattle.std.proofs.Common.{◌≡◌, ℕ, ◌-◌, ◌≤◌, ◌<◌, false, List, [], ◌++◌, length, drop, Some, None, refl, ap, sym, ◌∙◌, arith, subst, inl, inr, length-drop}
 use Rattle.std.specs.List.{list_any}
 use Rattle.std.specs.declared.ops.Range.{Range}
@@ -15,21 +15,24 @@ use Rattle.winnow_match.proofs.lemmas.StretchLemmas.{none-or-some}
 use Rattle.winnow_match.proofs.lemmas.MoveLemmas.{first, fits, inside, stands-before, none-contained, stretch-some, hit-empty, stretch-first, stretch-empty, definite-from}
 use Rattle.winnow_attempt.specs.Missing.{needle_missing}
 
--- the needle that stretches stands, once its rest follows
+-- a needle that stretches occurs once its rest follows
 module _ (n b : List ℕ) (q : ℕ) (within : q ≤ length b) (s : Stretches n b q) where
+  -- what is there of the needle, then the rest, is the needle
   rest-is : drop q b ++ drop (length b - q) n ≡ n
   rest-is =
       let e : length b - q ≡ length (drop q b) = omega (arith, length-drop q b) in
       ap (λ k. drop q b ++ drop k n) e ∙ sym (front_rest (drop q b) n (is_prefix-IsPrefixOf (drop q b) n s.0))
 
+  -- the needle occurs at its place once its rest follows
   stands-rest : Occurs n (b ++ drop (length b - q) n) q
   stands-rest = ([], drop-append-le q b (drop (length b - q) n) within ∙ rest-is ∙ sym (append-nil n))
 
 module _ (ls : List (List ℕ)) (b : List ℕ) (some : list_any is_empty ls ≡ false) (r : Range ℕ) (h : hit ls b ≡ Some r) (i q : ℕ) (c : CanMove ls b r i q) where
+  -- the needle that can move the hit
   it : List ℕ
   it = needle_of ls i
 
-  -- the hit moves: by place, or by length where the place stays
+  -- the hit changes its place, or its length at the same place
   moves : (m : List ℕ) → Occurs (needle_of ls i) (b ++ m) q → ¬ (hit ls (b ++ m) ≡ Some r)
   moves m s g =
       let old = first ls b some r h in
@@ -56,7 +59,9 @@ module _ (ls : List (List ℕ)) (b : List ℕ) (some : list_any is_empty ls ≡ 
             ]
       ]
 
-none-moves : (ls : List (List ℕ)) (b : List ℕ) → 0 < length ls → hit ls b ≡ None → ¬ (hit ls (b ++ needle_of ls 0) ≡ None)
+-- if there is no hit, appending the first needle makes one
+none-moves : (ls : List (List ℕ)) (b : List ℕ) → 0 < length ls → hit ls b ≡ None
+    → ¬ (hit ls (b ++ needle_of ls 0) ≡ None)
 none-moves ls b l h g =
     elim (cases_Bool (list_any is_empty ls)) [
       | inl e ↦ none-some (span 0 0) (sym h ∙ hit-empty ls b e)
@@ -66,7 +71,9 @@ none-moves ls b l h g =
           nowhere 0 (length b) l ([], at)
     ]
 
-pub needle-changes : (ls : List (List ℕ)) (b : List ℕ) → 0 < length ls → hit_is_definite ls b ≡ false → ¬ (hit ls (b ++ needle_missing ls b) ≡ hit ls b)
+-- a search that is not definite answers differently when the missing bytes are appended
+pub needle-changes : (ls : List (List ℕ)) (b : List ℕ) → 0 < length ls
+    → hit_is_definite ls b ≡ false → ¬ (hit ls (b ++ needle_missing ls b) ≡ hit ls b)
 needle-changes ls b l d g =
     elim (none-or-some (hit ls b)) [
       | inl e ↦

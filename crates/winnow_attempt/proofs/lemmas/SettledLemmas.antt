@@ -1,4 +1,5 @@
--- A waiting step: what it has passed it has passed under more input, and going on from there gives the answer of the whole.
+-- What is settled stays settled under more input, and resuming after it gives the answer of the
+-- whole.
 use Rattle.std.proofs.Common.{◌≡◌, ℕ, zero, suc, ◌+◌, ◌-◌, ◌≤◌, ◌<◌, ◌==◌, Bool, true, false, cond, leb, List, [], ◌∷◌, ◌++◌, length, take, drop, Option, None, Some, Ok, Err, refl, sym, ap, ◌∙◌, subst, arith, inl, inr, take-append-drop, length-drop}
 use Rattle.std.specs.Prelude.{option_map, unwrap_or, ◌&&◌}
 use Rattle.std.specs.List.{list_any}
@@ -31,7 +32,10 @@ use Rattle.winnow_match.specs.Staying.{written-append}
 
 -- ---- `First`
 
-first_held-shift : {T : Type 0} (holds : T → Bool) (a n : ℕ) (r : Source T) → first_held holds (offsets_from (a + n) r) ≡ option_map (λ o. a + o) (first_held holds (offsets_from n r))
+-- offsets that are counted from a later start give a first offset that is later by as much
+first_held-shift : {T : Type 0} (holds : T → Bool) (a n : ℕ) (r : Source T)
+    → first_held holds (offsets_from (a + n) r)
+    ≡ option_map (λ o. a + o) (first_held holds (offsets_from n r))
 first_held-shift holds a n [] = refl
 first_held-shift holds a n (x ∷ r) =
     elim (cases_Bool (holds x.0)) [
@@ -39,7 +43,10 @@ first_held-shift holds a n (x ∷ r) =
       | inr e ↦ let s : a + n + x.1 ≡ a + (n + x.1) = omega arith in rw (e, s) (first_held-shift holds a (n + x.1) r)
     ]
 
-first_held-passed : {T : Type 0} (holds : T → Bool) (n : ℕ) (r s : Source T) → first_held holds (offsets_from n r) ≡ None → first_held holds (offsets_from n (r ++ s)) ≡ first_held holds (offsets_from (n + width r) s)
+-- if a list has no token of the set, the first one is in what follows
+first_held-passed : {T : Type 0} (holds : T → Bool) (n : ℕ) (r s : Source T)
+    → first_held holds (offsets_from n r) ≡ None
+    → first_held holds (offsets_from n (r ++ s)) ≡ first_held holds (offsets_from (n + width r) s)
 first_held-passed holds n [] s h = ap (λ k. first_held holds (offsets_from k s)) (omega arith)
 first_held-passed holds n (x ∷ r) s h =
     elim (cases_Bool (holds x.0)) [
@@ -49,10 +56,14 @@ first_held-passed holds n (x ∷ r) s h =
           rw e (first_held-passed holds (n + x.1) r s (rw e at h) ∙ ap (λ k. first_held holds (offsets_from k s)) a)
     ]
 
-pub NoneHeld-more : {T : Type 0} (holds : T → Bool) (r m : Source T) (n : ℕ) → NoneHeld holds r n → NoneHeld holds (r ++ m) n
+-- a settled offset of `First` stays settled with more input appended
+pub NoneHeld-more : {T : Type 0} (holds : T → Bool) (r m : Source T) (n : ℕ) → NoneHeld holds r n
+    → NoneHeld holds (r ++ m) n
 NoneHeld-more holds r m n h = record { offset = is_offset-longer r m n h.offset; none = ap (first_offset holds) (front-longer r m n h.offset) ∙ h.none }
 
-pub NoneHeld-on : {T : Type 0} (holds : T → Bool) (r : Source T) (n : ℕ) → NoneHeld holds r n → first_offset holds r ≡ option_map (λ o. n + o) (first_offset holds (back r n))
+-- the first token of the set is the first one after what is settled
+pub NoneHeld-on : {T : Type 0} (holds : T → Bool) (r : Source T) (n : ℕ) → NoneHeld holds r n
+    → first_offset holds r ≡ option_map (λ o. n + o) (first_offset holds (back r n))
 NoneHeld-on holds r n h =
     let split : front r n ++ back r n ≡ r = take-append-drop (count_to r n) r in
     let w = width-front r n h.offset in
@@ -60,28 +71,38 @@ NoneHeld-on holds r n h =
     let z : 0 + width (front r n) ≡ n + 0 = omega arith in
     ap (first_offset holds) (sym split) ∙ e ∙ ap (λ k. first_held holds (offsets_from k (back r n))) z ∙ first_held-shift holds n 0 (back r n)
 
-pub NoneHeld-whole : {T : Type 0} (holds : T → Bool) (r : Source T) → HasPositiveWidths r → first_offset holds r ≡ None → NoneHeld holds r (width r)
+-- if no token is in the set, all that remains is settled
+pub NoneHeld-whole : {T : Type 0} (holds : T → Bool) (r : Source T) → HasPositiveWidths r
+    → first_offset holds r ≡ None → NoneHeld holds r (width r)
 NoneHeld-whole holds r w h = record { offset = is_offset-whole r w; none = ap (first_offset holds) (front-whole r w) ∙ h }
 
+-- `First` has settled the offset 0 from the beginning
 pub NoneHeld-none : {T : Type 0} (holds : T → Bool) (r : Source T) → NoneHeld holds r 0
 NoneHeld-none holds [] = record { offset = refl; none = refl }
 NoneHeld-none holds (x ∷ r) = record { offset = refl; none = refl }
 
 -- ---- `Find`
 
-hit_or-shift : (n at : ℕ) (o : Option ℕ) (later : Option (Range ℕ)) → hit_or (n + at) o (shifted n later) ≡ shifted n (hit_or at o later)
+-- a hit at a later place, or a later hit, is later by as much
+hit_or-shift : (n at : ℕ) (o : Option ℕ) (later : Option (Range ℕ))
+    → hit_or (n + at) o (shifted n later) ≡ shifted n (hit_or at o later)
 hit_or-shift n at None later = refl
 hit_or-shift n at (Some k) later =
     let P : ℕ → Option (Range ℕ) = λ e. Some (record { start = n + at; end = e }) in
     ap P (omega arith)
 
-first_hit-shift : (ls : List (List ℕ)) (n at : ℕ) (bs : List ℕ) → first_hit ls (n + at) bs ≡ shifted n (first_hit ls at bs)
+-- a search whose places are counted from a later start finds a hit that is later by as much
+first_hit-shift : (ls : List (List ℕ)) (n at : ℕ) (bs : List ℕ)
+    → first_hit ls (n + at) bs ≡ shifted n (first_hit ls at bs)
 first_hit-shift ls n at [] = refl
 first_hit-shift ls n at (y ∷ bs) =
     let s : n + at + 1 ≡ n + (at + 1) = omega arith in
     rw (s, first_hit-shift ls n (at + 1) bs) (hit_or-shift n at (needle_at ls (y ∷ bs)) (first_hit ls (at + 1) bs))
 
-first_hit-passed : (ls : List (List ℕ)) (n at : ℕ) (bs : List ℕ) → n ≤ length bs → ((i : ℕ) → i < n → needle_at ls (drop i bs) ≡ None) → first_hit ls at bs ≡ first_hit ls (n + at) (drop n bs)
+-- a search may begin after places where no needle stands
+first_hit-passed : (ls : List (List ℕ)) (n at : ℕ) (bs : List ℕ) → n ≤ length bs
+    → ((i : ℕ) → i < n → needle_at ls (drop i bs) ≡ None)
+    → first_hit ls at bs ≡ first_hit ls (n + at) (drop n bs)
 first_hit-passed ls zero at bs l h = ap (λ k. first_hit ls k bs) (omega arith)
 first_hit-passed ls (suc n) at [] l h = absurd (omega arith)
 first_hit-passed ls (suc n) at (y ∷ bs) l h =
@@ -90,7 +111,9 @@ first_hit-passed ls (suc n) at (y ∷ bs) l h =
     let e : n + (at + 1) ≡ suc n + at = omega arith in
     rw here (ih ∙ ap (λ k. first_hit ls k (drop n bs)) e)
 
-empty-stands : (ls : List (List ℕ)) (bs : List ℕ) → list_any is_empty ls ≡ true → needle_at ls bs ≡ None → ⊥
+-- an empty needle occurs everywhere
+empty-stands : (ls : List (List ℕ)) (bs : List ℕ) → list_any is_empty ls ≡ true
+    → needle_at ls bs ≡ None → ⊥
 empty-stands [] bs h e = false≢true h
 empty-stands ([] ∷ ls) bs h e = none-some 0 (sym e)
 empty-stands ((x ∷ l) ∷ ls) bs h e =
@@ -99,6 +122,7 @@ empty-stands ((x ∷ l) ∷ ls) bs h e =
       | inr f ↦ empty-stands ls bs h (rw f at e)
     ]
 
+-- a move by 0 changes nothing
 shifted-none : (o : Option (Range ℕ)) → shifted 0 o ≡ o
 shifted-none None = refl
 shifted-none (Some p) =
@@ -107,13 +131,17 @@ shifted-none (Some p) =
     let P : ℕ → ℕ → Option (Range ℕ) = λ a b. Some (record { start = a; end = b }) in
     ap (λ a. P a (0 + p.end)) s ∙ ap (P p.start) e
 
-pub NoneOccurs-more : (ls : List (List ℕ)) (bs more : List ℕ) (n : ℕ) → NoneOccurs ls bs n → NoneOccurs ls (bs ++ more) n
+-- a settled place of `Find` stays settled with more input appended
+pub NoneOccurs-more : (ls : List (List ℕ)) (bs more : List ℕ) (n : ℕ) → NoneOccurs ls bs n
+    → NoneOccurs ls (bs ++ more) n
 NoneOccurs-more ls bs more n h = record {
   within = omega (arith, h.within, length-append bs more);
   none = λ m i l. ap (λ xs. needle_at ls (drop i xs)) (append_assoc bs more m) ∙ h.none (more ++ m) i l;
 }
 
-pub NoneOccurs-on : (ls : List (List ℕ)) (bs : List ℕ) (n : ℕ) → NoneOccurs ls bs n → hit ls bs ≡ shifted n (hit ls (drop n bs))
+-- the hit in the whole is that after what is settled
+pub NoneOccurs-on : (ls : List (List ℕ)) (bs : List ℕ) (n : ℕ) → NoneOccurs ls bs n
+    → hit ls bs ≡ shifted n (hit ls (drop n bs))
 NoneOccurs-on ls bs zero h = sym (shifted-none (hit ls bs))
 NoneOccurs-on ls bs (suc n) h =
     let none : (i : ℕ) → i < suc n → needle_at ls (drop i bs) ≡ None = λ i l. ap (λ xs. needle_at ls (drop i xs)) (sym (append-nil bs)) ∙ h.none [] i l in
@@ -124,19 +152,22 @@ NoneOccurs-on ls bs (suc n) h =
           (first_hit-passed ls (suc n) 0 bs h.within none ∙ first_hit-shift ls (suc n) 0 (drop (suc n) bs))
     ]
 
--- no needle is longer than w
+-- whether no needle is longer than w
 abbrev pub have_most : ℕ → List (List ℕ) → Bool
 have_most w [] = true
 have_most w (l ∷ ls) = leb (length l) w && have_most w ls
 
-needle_at-more : (w : ℕ) (ls : List (List ℕ)) (bs m : List ℕ) → have_most w ls ≡ true → w ≤ length bs → needle_at ls (bs ++ m) ≡ needle_at ls bs
+-- the needle at a place is decided by as many bytes as the longest needle has
+needle_at-more : (w : ℕ) (ls : List (List ℕ)) (bs m : List ℕ) → have_most w ls ≡ true
+    → w ≤ length bs → needle_at ls (bs ++ m) ≡ needle_at ls bs
 needle_at-more w [] bs m h l = refl
 needle_at-more w (x ∷ ls) bs m h l =
     let parts = and_parts (leb (length x) w) (have_most w ls) h in
     rw (is_prefix-more x bs m (omega (arith, leb-true (length x) w parts.0)), needle_at-more w ls bs m parts.1 l)
 
--- a search that found nothing has passed all but the last places, where a needle may begin
-pub NoneOccurs-searched : (w : ℕ) (ls : List (List ℕ)) (bs : List ℕ) → have_most (w + 1) ls ≡ true → hit ls bs ≡ None → NoneOccurs ls bs (length bs - w)
+-- a search that found nothing has settled all but the last places, where a needle may begin
+pub NoneOccurs-searched : (w : ℕ) (ls : List (List ℕ)) (bs : List ℕ) → have_most (w + 1) ls ≡ true
+    → hit ls bs ≡ None → NoneOccurs ls bs (length bs - w)
 NoneOccurs-searched w ls bs h none =
     let some : list_any is_empty ls ≡ false = elim (cases_Bool (list_any is_empty ls)) [ inl e ↦ absurd (none-some (span 0 0) (sym (rw e at none))) | inr e ↦ e ] in
     let nowhere : first_hit ls 0 bs ≡ None = rw some at none in
@@ -147,11 +178,13 @@ NoneOccurs-searched w ls bs h none =
           ap (needle_at ls) d ∙ needle_at-more (w + 1) ls (drop i bs) m h (omega (arith, length-drop i bs)) ∙ first_hit-nowhere ls bs 0 nowhere i (omega arith);
     }
 
+-- `Find` has settled the place 0 from the beginning
 pub NoneOccurs-none : (ls : List (List ℕ)) (bs : List ℕ) → NoneOccurs ls bs 0
 NoneOccurs-none ls bs = record { within = omega arith; none = λ m i l. absurd (omega arith) }
 
 -- ---- `Compare`
 
+-- lengths that are the same add up
 longer-suc : (n : ℕ) (c : CompareResult) → longer 1 (longer n c) ≡ longer (suc n) c
 longer-suc n (compared.Ok k) = ap compared.Ok (omega arith)
 longer-suc n compared.Incomplete = refl
@@ -162,17 +195,22 @@ longer-none (compared.Ok k) = ap compared.Ok (omega arith)
 longer-none compared.Incomplete = refl
 longer-none compared.Error = refl
 
-longer-cond : (n : ℕ) (a b : Bool) → longer 1 (cond a (compared.Ok n) (cond b compared.Incomplete compared.Error)) ≡ cond a (compared.Ok (suc n)) (cond b compared.Incomplete compared.Error)
+longer-cond : (n : ℕ) (a b : Bool)
+    → longer 1 (cond a (compared.Ok n) (cond b compared.Incomplete compared.Error))
+    ≡ cond a (compared.Ok (suc n)) (cond b compared.Incomplete compared.Error)
 longer-cond n true b = ap compared.Ok (omega arith)
 longer-cond n false true = refl
 longer-cond n false false = refl
 
+-- one more equal byte makes a comparison longer by 1
 comparison-cons : (x : ℕ) (l b : List ℕ) → comparison (x ∷ l) (x ∷ b) ≡ longer 1 (comparison l b)
 comparison-cons x l b =
     let same : (x == x) ≡ true = grind (arith, nat_tests) in
     rw same (sym (longer-cond (length l) (is_prefix l b) (is_prefix b l)))
 
-pub AreSame-on : (n : ℕ) (l b : List ℕ) → AreSame l b n → comparison l b ≡ longer n (comparison (drop n l) (drop n b))
+-- a comparison of the whole is that after what is settled
+pub AreSame-on : (n : ℕ) (l b : List ℕ) → AreSame l b n
+    → comparison l b ≡ longer n (comparison (drop n l) (drop n b))
 AreSame-on zero l b h = sym (longer-none (comparison l b))
 AreSame-on (suc n) [] b h = absurd (omega (arith, h.fits))
 AreSame-on (suc n) (x ∷ l) [] h = absurd (omega (arith, h.within))
@@ -182,28 +220,40 @@ AreSame-on (suc n) (x ∷ l) (y ∷ b) h =
     let ih = AreSame-on n l b (record { within = omega (arith, h.within); fits = omega (arith, h.fits); same = later }) in
     rw first (comparison-cons x l b ∙ ap (longer 1) ih ∙ longer-suc n (comparison (drop n l) (drop n b)))
 
+-- a settled length of `Compare` stays settled with more input appended
 pub AreSame-more : (l b m : List ℕ) (n : ℕ) → AreSame l b n → AreSame l (b ++ m) n
 AreSame-more l b m n h = record { within = omega (arith, h.within, length-append b m); fits = h.fits; same = take-append-le n b m h.within ∙ h.same }
 
 -- ---- `At`
 
-further-err : (n : ℕ) (b : Bool) (w v : ℕ) (e : Needed) → n + v ≡ w → cond b (Ok w) (Err e) ≡ further n (cond b (Ok v) (Err e))
+-- an offset in the rest is an offset of the whole; a shortage is the same
+further-err : (n : ℕ) (b : Bool) (w v : ℕ) (e : Needed) → n + v ≡ w
+    → cond b (Ok w) (Err e) ≡ further n (cond b (Ok v) (Err e))
 further-err n true w v e h = ap Ok (sym h)
 further-err n false w v e h = refl
 
-pub AreCounted-more : {T : Type 0} (asked : ℕ) (r m : Source T) (n count : ℕ) → AreCounted asked r n count → AreCounted asked (r ++ m) n count
+-- a settled count of `At` stays settled with more input appended
+pub AreCounted-more : {T : Type 0} (asked : ℕ) (r m : Source T) (n count : ℕ)
+    → AreCounted asked r n count → AreCounted asked (r ++ m) n count
 AreCounted-more asked r m n count h = record { offset = is_offset-longer r m n h.offset; counted = ap (λ o. unwrap_or o 0) (front_count-longer r m n h.offset) ∙ h.counted; fits = h.fits }
 
+-- the front of an empty list has width 0
 none-taken : (T : Type 0) (b : ℕ) → 0 ≡ 0 + width {T = T} (take b [])
 none-taken T zero = refl
 none-taken T (suc b) = refl
 
-pub width-split : {T : Type 0} (a b : ℕ) (r : Source T) → width (take (a + b) r) ≡ width (take a r) + width (take b (drop a r))
+-- the width of a front is the sum of the widths of its two parts
+pub width-split : {T : Type 0} (a b : ℕ) (r : Source T)
+    → width (take (a + b) r) ≡ width (take a r) + width (take b (drop a r))
 width-split zero b r = let e : zero + b ≡ b = omega arith in rw e (omega arith)
 width-split {T} (suc a) b [] = let e : suc a + b ≡ suc (a + b) = omega arith in rw e (none-taken T b)
 width-split (suc a) b (x ∷ r) = let e : suc a + b ≡ suc (a + b) = omega arith in rw e (omega (arith, width-split a b r))
 
-pub AreCounted-on : {T : Type 0} (counts_missing : Bool) (asked : ℕ) (r : Source T) (n count : ℕ) → AreCounted asked r n count → offset_at counts_missing r asked ≡ further n (offset_at counts_missing (back r n) (asked - count))
+-- the offset after a number of tokens is that after what is counted
+pub AreCounted-on : {T : Type 0} (counts_missing : Bool) (asked : ℕ) (r : Source T) (n count : ℕ)
+    → AreCounted asked r n count
+    → offset_at counts_missing r asked
+    ≡ further n (offset_at counts_missing (back r n) (asked - count))
 AreCounted-on counts_missing asked r n count h =
     let same : back r n ≡ drop count r = ap (λ k. drop k r) h.counted in
     let wide : width (take count r) ≡ n = ap (λ k. width (take k r)) (sym h.counted) ∙ width-front r n h.offset in
@@ -218,28 +268,36 @@ AreCounted-on counts_missing asked r n count h =
     in
     rw same (rw test (rw left (further-err n (leb (asked - count) (length (drop count r))) (width (take asked r)) (width (take (asked - count) (drop count r))) (shortage counts_missing ((asked - count) - length (drop count r))) (sym split))))
 
+-- `At` has counted no token at the offset 0 from the beginning
 pub AreCounted-none : {T : Type 0} (asked : ℕ) (r : Source T) → AreCounted asked r 0 0
 AreCounted-none asked [] = record { offset = refl; counted = refl; fits = omega arith }
 AreCounted-none asked (x ∷ r) = record { offset = refl; counted = refl; fits = omega arith }
 
+-- `Compare` has settled the length 0 from the beginning
 pub AreSame-none : (literal bytes : List ℕ) → AreSame literal bytes 0
 AreSame-none literal bytes = record { within = omega arith; fits = omega arith; same = refl }
 
--- ---- what was found behind fits
+-- ---- what was found in the rest fits in the whole
 
-pub first-fits : {T : Type 0} (holds : T → Bool) (r : Source T) (n o : ℕ) → HasPositiveWidths r → is_offset r n ≡ true → first_offset holds (back r n) ≡ Some o → n + o ≤ width r
+-- an offset that was found after what is settled fits in what remains
+pub first-fits : {T : Type 0} (holds : T → Bool) (r : Source T) (n o : ℕ) → HasPositiveWidths r
+    → is_offset r n ≡ true → first_offset holds (back r n) ≡ Some o → n + o ≤ width r
 first-fits holds r n o w h e =
     let b = back r n in
     omega (arith, width-back r n h, width-back b o (is_offset-first_offset holds b o (HasPositiveWidths-drop (count_to r n) r w) e))
 
-pub offset_at-fits : {T : Type 0} (counts_missing : Bool) (r : Source T) (n i o : ℕ) → HasPositiveWidths r → is_offset r n ≡ true → offset_at counts_missing (back r n) i ≡ Ok o → n + o ≤ width r
+pub offset_at-fits : {T : Type 0} (counts_missing : Bool) (r : Source T) (n i o : ℕ)
+    → HasPositiveWidths r → is_offset r n ≡ true → offset_at counts_missing (back r n) i ≡ Ok o
+    → n + o ≤ width r
 offset_at-fits counts_missing r n i o w h e =
     let b = back r n in
     omega (arith, width-back r n h, width-back b o (is_offset-offset_at counts_missing b i o (HasPositiveWidths-drop (count_to r n) r w) e))
 
 -- ---- all of them
 
-pub settled-more : (T C L : Type 0) (k : PieceKind T C L) (s : SearchStep C L) (r more : Source T) (n tokens : ℕ) → IsSettled k s r n tokens → IsSettled k s (r ++ more) n tokens
+-- what a step has settled stays settled with more input appended
+pub settled-more : (T C L : Type 0) (k : PieceKind T C L) (s : SearchStep C L) (r more : Source T)
+    (n tokens : ℕ) → IsSettled k s r n tokens → IsSettled k s (r ++ more) n tokens
 settled-more T C L k (step.Call (call.First c)) r more n tokens h = NoneHeld-more (k.holds c) r more n h
 settled-more T C L k (step.Call (call.At asked)) r more n tokens h = AreCounted-more asked r more n tokens h
 settled-more T C L k (step.Compare l) r more n tokens h = rw (written-append k.write r more) (AreSame-more (k.literal l) (written k.write r) (written k.write more) n h)

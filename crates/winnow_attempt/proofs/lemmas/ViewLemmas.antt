@@ -1,4 +1,5 @@
--- What remains, the place and the places of the marks say all that the cursor on the whole list does.
+-- What remains, the place and the places of the marks determine what the cursor on the whole list
+-- does.
 use Rattle.std.proofs.Common.{◌≡◌, ℕ, zero, suc, ◌+◌, ◌-◌, ◌≤◌, min, cond, List, [], ◌∷◌, ◌++◌, length, take, drop, map, Option, None, Some, refl, sym, ap, ◌∙◌, arith, inl, inr, take_all}
 use Rattle.std.specs.Prelude.{unwrap_or, slice_get, option_map}
 use Rattle.std.specs.List.{AllByRecursion}
@@ -22,7 +23,9 @@ use Rattle.winnow_attempt.specs.View.{since_view, call_view, first_width, look_o
 use Rattle.winnow_run.proofs.lemmas.StepLemmas.{Inside}
 use Rattle.winnow_attempt.proofs.lemmas.SettledLemmas.{width-split}
 
-place-next : {T : Type 0} (all : Source T) (i : ℕ) → i ≤ length all → width (take i all) + first_width (drop i all) ≡ width (take (min (i + 1) (length all)) all)
+-- the place after one more token is later by its width
+place-next : {T : Type 0} (all : Source T) (i : ℕ) → i ≤ length all
+    → width (take i all) + first_width (drop i all) ≡ width (take (min (i + 1) (length all)) all)
 place-next [] zero h = refl
 place-next [] (suc i) h = absurd (omega arith)
 place-next (x ∷ all) zero h =
@@ -32,7 +35,10 @@ place-next (x ∷ all) (suc i) h =
     let e : min (suc i + 1) (suc (length all)) ≡ suc (min (i + 1) (length all)) = omega arith in
     rw e (omega (arith, place-next all i (omega arith)))
 
-taken-place : {T : Type 0} (all : Source T) (i n : ℕ) → cond (is_offset (drop i all) n) (width (take i all) + n) (width (take i all)) ≡ width (take (i + unwrap_or (front_count (drop i all) n) 0) all)
+-- a `Take` leads to a place that is later by its width, if a front has that width
+taken-place : {T : Type 0} (all : Source T) (i n : ℕ)
+    → cond (is_offset (drop i all) n) (width (take i all) + n) (width (take i all))
+    ≡ width (take (i + unwrap_or (front_count (drop i all) n) 0) all)
 taken-place all i n =
     let r = drop i all in
     elim (cases_Bool (is_offset r n)) [
@@ -46,23 +52,34 @@ taken-place all i n =
           rw e (sym (ap (λ o. width (take (i + unwrap_or o 0) all)) f ∙ ap (λ m. width (take m all)) z))
     ]
 
-end-place : {T : Type 0} (all : Source T) (i : ℕ) → width (take i all) + width (drop i all) ≡ width (take (length all) all)
+-- the place of the end is the cursor's place and the width of what remains
+end-place : {T : Type 0} (all : Source T) (i : ℕ)
+    → width (take i all) + width (drop i all) ≡ width (take (length all) all)
 end-place all i = width-take_drop all i ∙ ap width (sym (take_all (length all) all (omega arith)))
 
-pub marked : (f : ℕ → ℕ) (marks : List ℕ) (k : ℕ) → slice_get (map f marks) k ≡ option_map f (slice_get marks k)
+-- the place of a mark is the place of its index
+pub marked : (f : ℕ → ℕ) (marks : List ℕ) (k : ℕ)
+    → slice_get (map f marks) k ≡ option_map f (slice_get marks k)
 marked f [] k = refl
 marked f (m ∷ marks) zero = refl
 marked f (m ∷ marks) (suc k) = marked f marks k
 
-pub reset-place : (f : ℕ → ℕ) (o : Option ℕ) (i : ℕ) → unwrap_or (option_map f o) (f i) ≡ f (unwrap_or o i)
+-- going back leads to the place of the mark's index
+pub reset-place : (f : ℕ → ℕ) (o : Option ℕ) (i : ℕ)
+    → unwrap_or (option_map f o) (f i) ≡ f (unwrap_or o i)
 reset-place f None i = refl
 reset-place f (Some m) i = refl
 
-reset-same : {T : Type 0} (f : ℕ → ℕ) (o : Option ℕ) → reset_answer {T = T} (option_map f o) ≡ reset_answer o
+-- a `Reset` answers the same for indices as for places
+reset-same : {T : Type 0} (f : ℕ → ℕ) (o : Option ℕ)
+    → reset_answer {T = T} (option_map f o) ≡ reset_answer o
 reset-same f None = refl
 reset-same f (Some m) = refl
 
-since-same : {T : Type 0} (all : Source T) (i m : ℕ) → HasPositiveWidths all → i ≤ length all → m ≤ length all → since_view {T = T} (place all i) (Some (place all m)) ≡ since_answer all i (Some m)
+-- a `Since` answers the same for indices as for places
+since-same : {T : Type 0} (all : Source T) (i m : ℕ) → HasPositiveWidths all → i ≤ length all
+    → m ≤ length all
+    → since_view {T = T} (place all i) (Some (place all m)) ≡ since_answer all i (Some m)
 since-same all i m w hi hm =
     let a = width-take_drop all i in
     let b = width-take_drop all m in
@@ -74,13 +91,19 @@ since-same all i m w hi hm =
           rw (le-leb (place all m) (place all i) (omega arith), le-leb m i l) (ap (λ n. answer.Offset n) e)
     ]
 
-since-marked : {T : Type 0} (all : Source T) (i : ℕ) (marks : List ℕ) (k : ℕ) → HasPositiveWidths all → i ≤ length all → AllByRecursion (λ m. m ≤ length all) marks → since_view {T = T} (place all i) (slice_get (map (place all) marks) k) ≡ since_answer all i (slice_get marks k)
+since-marked : {T : Type 0} (all : Source T) (i : ℕ) (marks : List ℕ) (k : ℕ)
+    → HasPositiveWidths all → i ≤ length all → AllByRecursion (λ m. m ≤ length all) marks
+    → since_view {T = T} (place all i) (slice_get (map (place all) marks) k)
+    ≡ since_answer all i (slice_get marks k)
 since-marked all i [] k w hi h = refl
 since-marked all i (m ∷ marks) zero w hi h = since-same all i m w hi h.0
 since-marked all i (m ∷ marks) (suc k) w hi h = since-marked all i marks k w hi h.1
 
 module _ {T C L : Type 0} (k : PieceKind T C L) (all : Source T) (at : Cursor) (w : HasPositiveWidths all) (inside : Inside all at) where
-  call-view : (s : Step C) → call_view k.holds k.counts_missing (place all at.index) (map (place all) at.marks) (rest all at) s ≡ step_answer k.holds k.counts_missing all s at
+  -- a call answers the same for the places as at the cursor
+  call-view : (s : Step C)
+      → call_view k.holds k.counts_missing (place all at.index) (map (place all) at.marks)
+      (rest all at) s ≡ step_answer k.holds k.counts_missing all s at
   call-view call.Next = refl
   call-view call.Peek = refl
   call-view (call.Take n) = refl
@@ -96,12 +119,18 @@ module _ {T C L : Type 0} (k : PieceKind T C L) (all : Source T) (at : Cursor) (
   call-view (call.Reset i) = ap reset_answer (marked (place all) at.marks i) ∙ reset-same (place all) (slice_get at.marks i)
   call-view (call.Since i) = since-marked all at.index at.marks i w inside.index inside.marks
 
-  pub view-answer : (s : SearchStep C L) → (look_of k (place all at.index) (map (place all) at.marks) (rest all at) s).answer ≡ search_answer (kind_of k) all s at
+  -- a step answers the same, leads to the same place and makes the same marks for the places as at
+  -- the cursor
+  pub view-answer : (s : SearchStep C L)
+      → (look_of k (place all at.index) (map (place all) at.marks) (rest all at) s).answer
+      ≡ search_answer (kind_of k) all s at
   view-answer (step.Call s) = ap (λ a. search_answered.Call a) (call-view s)
   view-answer (step.Compare l) = refl
   view-answer (step.Find ns) = refl
 
-  pub view-place : (s : SearchStep C L) → (look_of k (place all at.index) (map (place all) at.marks) (rest all at) s).place ≡ place all (search_next all s at).index
+  pub view-place : (s : SearchStep C L)
+      → (look_of k (place all at.index) (map (place all) at.marks) (rest all at) s).place
+      ≡ place all (search_next all s at).index
   view-place (step.Call call.Next) = place-next all at.index inside.index
   view-place (step.Call call.Peek) = refl
   view-place (step.Call (call.Take n)) = taken-place all at.index n
@@ -119,7 +148,10 @@ module _ {T C L : Type 0} (k : PieceKind T C L) (all : Source T) (at : Cursor) (
   view-place (step.Compare l) = refl
   view-place (step.Find ns) = refl
 
-  pub view-marks : (s : SearchStep C L) → cond (look_of k (place all at.index) (map (place all) at.marks) (rest all at) s).marks (map (place all) at.marks ++ place all at.index ∷ []) (map (place all) at.marks) ≡ map (place all) (search_next all s at).marks
+  pub view-marks : (s : SearchStep C L)
+      → cond (look_of k (place all at.index) (map (place all) at.marks) (rest all at) s).marks
+      (map (place all) at.marks ++ place all at.index ∷ []) (map (place all) at.marks)
+      ≡ map (place all) (search_next all s at).marks
   view-marks (step.Call call.Next) = refl
   view-marks (step.Call call.Peek) = refl
   view-marks (step.Call (call.Take n)) = refl

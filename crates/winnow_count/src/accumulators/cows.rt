@@ -13,7 +13,7 @@ use crate::Accumulate;
 use std::alloc::{AllocError, Global};
 use std::borrow::CowStr;
 
-/// Appends each character to an owned text.
+/// Appends each character, to an owned text.
 impl<'i> Accumulate<char> for CowStr<'i, Global> {
     ghost holds = { λ text characters. cow_str_bytes text ≡ encode_utf8_all characters };
 
@@ -44,7 +44,8 @@ impl<'i> Accumulate<char> for CowStr<'i, Global> {
     ghost fits = { Prim.search rules };
 }
 
-/// Becomes the first text that is not empty, which stays borrowed, and appends the later ones to an owned text.
+/// Becomes the first text that is not empty, which stays borrowed, and appends the later texts to
+/// an owned text.
 impl<'i> Accumulate<&'i str> for CowStr<'i, Global> {
     ghost holds = { λ text pieces. cow_str_bytes text ≡ flat_map (λ piece. piece.now) pieces };
 
@@ -79,7 +80,7 @@ impl<'i> Accumulate<&'i str> for CowStr<'i, Global> {
     ghost fits = { Prim.search rules };
 }
 
-/// Becomes the first text that is not empty, and appends the later ones to an owned text.
+/// Becomes the first text that is not empty, and appends the later texts to an owned text.
 impl<'i> Accumulate<CowStr<'i, Global>> for CowStr<'i, Global> {
     ghost holds = { λ text pieces. cow_str_bytes text ≡ flat_map cow_str_bytes pieces };
 
@@ -114,7 +115,7 @@ impl<'i> Accumulate<CowStr<'i, Global>> for CowStr<'i, Global> {
     ghost fits = { Prim.search rules };
 }
 
-/// Appends each text to an owned text.
+/// Appends each text, to an owned text.
 impl<'i> Accumulate<String> for CowStr<'i, Global> {
     ghost holds = { λ text pieces. cow_str_bytes text ≡ flat_map string_bytes pieces };
 
@@ -145,7 +146,7 @@ impl<'i> Accumulate<String> for CowStr<'i, Global> {
     ghost fits = { Prim.search rules };
 }
 
-// The whole text is made before it takes the place of a borrowed one, so that a refusal leaves that as it was.
+// The whole text is made before it replaces a borrowed one, so a refusal leaves that one as it was.
 fn append(text: &mut CowStr<'_, Global>, alloc: Global, piece: &str) -> Result<(), AllocError>
     ensures ok { OnOk result (AppendsOwned text.old piece.now text.new) }
     ensures err { OnErr result (CowUnchanged text.old text.new) }

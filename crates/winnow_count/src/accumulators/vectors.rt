@@ -93,7 +93,7 @@ impl<'i, T: Copy> Accumulate<&'i [T]> for VecDeque<T> {
     ghost fits = { Prim.search rules };
 }
 
-// Room is made first, so that a refusal leaves the queue as it was.
+// Room is made first, so a refusal leaves the queue as it was.
 fn append<T: Copy>(queue: &mut VecDeque<T>, slice: &[T]) -> Result<(), AllocError>
     ensures ok { OnOk result (queue.new.items ≡ queue.old.items ++ slice.now) }
     ensures err { OnErr result (DequeUnchanged queue.old queue.new) }

@@ -12,7 +12,7 @@ type Bytes = &'static [u8];
 
 type Place = InputError<Bytes>;
 
-// Errors, bracketed from the left or from the right. No errors make no tree.
+// Returns errors, bracketed from the left or from the right. No errors make no tree.
 fn bracketed<E: Copy>(
     alloc: Global,
     errors: &[E],
@@ -33,7 +33,7 @@ fn bracketed<E: Copy>(
     Ok(Some(tree))
 }
 
-// What errors combine to.
+// Returns what errors combine to.
 fn combined<E: ParserError<Bytes> + Copy>(
     alloc: Global,
     errors: &[ErrMode<E>],
@@ -45,7 +45,8 @@ fn combined<E: ParserError<Bytes> + Copy>(
     }
 }
 
-// Whether errors combine and are joined to that, bracketed from the left and from the right.
+// Returns whether errors combine and are joined to this, bracketed from the left and from the
+// right.
 fn join_to<E: AssociativeOr<Bytes> + Copy + PartialEq>(
     alloc: Global,
     errors: &[ErrMode<E>],
@@ -96,7 +97,7 @@ fn alternatives_combine_alike_however_bracketed(rt: HostRuntime) -> Result<(), F
     Ok(())
 }
 
-// 200 errors at as many bytes, from 1 on.
+// Returns 200 errors, at the numbers of bytes from 1 on.
 fn many(alloc: Global) -> Result<Vec<ErrMode<Place>>, AllocError> {
     let bytes = [0; 200].as_slice();
     let mut errors = Vec::new(alloc);
@@ -115,7 +116,7 @@ fn two_hundred_alternatives_combine_alike(rt: HostRuntime) -> Result<(), Fail> {
     Ok(())
 }
 
-// Errors that tell nothing, their modes, and an associative `or` of one's own.
+// Errors that hold nothing, their modes, and a user-defined associative `or`.
 #[test]
 fn other_errors_are_joined(rt: HostRuntime) -> Result<(), Fail> {
     let (alloc, cut) = (rt.alloc(), Cut(EmptyError));
@@ -140,7 +141,7 @@ fn other_errors_are_joined(rt: HostRuntime) -> Result<(), Fail> {
     Ok(())
 }
 
-// Brackets matter where every error may be tried again, and only there.
+// Brackets matter only where all errors backtrack.
 #[test]
 fn an_or_that_is_not_associative(rt: HostRuntime) -> Result<(), Fail> {
     let (one, two, four) = (Apart(1), Apart(2), Apart(4));

@@ -8,13 +8,13 @@ use winnow_error::FromExternalError;
 
 type Told = ContextError<StrContext>;
 
-// An error that has a cause.
+// Returns an error that has a cause.
 fn caused_by<C: Drop>(alloc: Global, cause: &str) -> Result<ContextError<C>, AllocError> {
     let cause = String::from_str(alloc, cause)?;
     Ok(<ContextError<C> as FromExternalError<&str, String>>::from_external_error(alloc, &"", cause))
 }
 
-// An error that is told contexts, in order, and has a cause where one is given.
+// Returns an error with contexts, in order, and with a cause if one is given.
 fn told_all(
     alloc: Global,
     contexts: &[StrContext],
@@ -104,7 +104,7 @@ fn values_are_made_of_characters_and_texts(rt: HostRuntime) {
     assert_eq!(rt; (character, text), (CharLiteral('x'), StringLiteral("x")));
 }
 
-// Three contexts and a cause.
+// Returns an error with three contexts and a cause.
 fn told_thrice(alloc: Global) -> Result<Told, AllocError> {
     let mut error: Told = caused_by(alloc, "bad")?;
     error.push(Label("a"))?;
@@ -112,7 +112,7 @@ fn told_thrice(alloc: Global) -> Result<Told, AllocError> {
     Ok(error)
 }
 
-// The cause, the number of contexts, and the first of them.
+// Returns the cause, the number of contexts, and the first context.
 fn told(error: &Told) -> (Option<&str>, usize, Option<&StrContext>) {
     (
         error.cause(),
@@ -148,14 +148,14 @@ fn contexts_as_debug_text_under_options(rt: HostRuntime) -> Result<(), Fail> {
     Ok(())
 }
 
-// An error that was reading a flag.
+// Returns an error with a flag as its context.
 fn told_a_flag(alloc: Global) -> Result<ContextError<bool>, AllocError> {
     let mut error = caused_by(alloc, "bad")?;
     error.push(true)?;
     Ok(error)
 }
 
-// A flag is padded and cut, and a text is not.
+// A width and a precision reach a flag, but not a text.
 #[test]
 fn debug_texts_at_a_precision(rt: HostRuntime) -> Result<(), Fail> {
     let alloc = rt.alloc();
@@ -181,7 +181,8 @@ fn debug_texts_at_a_precision(rt: HostRuntime) -> Result<(), Fail> {
     Ok(())
 }
 
-// Whether a clone is equal, whether it is so once the error is told more, and whether it is one that tells nothing.
+// Returns whether a clone is equal, whether it is still equal after one more context is added to
+// the error, and whether it is equal to an empty error.
 fn compared(alloc: Global) -> Result<[bool; 3], AllocError> {
     let mut error = told_thrice(alloc)?;
     let copy = error.clone()?;

@@ -28,8 +28,9 @@ const PLAIN: [(bool, bool); 3] = [(true, false), (true, false), (true, false)];
 
 const MODAL: [(bool, bool); 3] = [(true, false), (false, false), (false, true)];
 
-// What generic code makes of an error type: how errors are made in three ways; and the inner error of two alternatives, and the
-// last of three, which was another's error, was told a context elsewhere, and was recovered from.
+// Returns what generic code makes of an error type: errors made in three ways, the inner error of
+// two alternatives, and the last of three, which was an error of another library, got a context
+// elsewhere, and was recovered from.
 fn made<I: Stream, E>(
     alloc: Global,
     input: &I,
@@ -106,7 +107,8 @@ fn modes_are_made_joined_and_told(rt: HostRuntime) -> Result<(), Fail> {
     Ok(())
 }
 
-// Whether a mode stays: one that is told a context, one that is recorded, and one that wants more beside another alternative.
+// Returns whether a mode stays: one to which a context is added, one that is recorded, and one that
+// needs more beside another alternative.
 fn modes_stay<I: Stream, E>(alloc: Global, input: &I) -> Result<[bool; 3], AllocError>
 where
     E: AssociativeOr<I> + AddContext<I, StrContext> + FromRecoverableError<I, E> + Drop,
@@ -127,7 +129,8 @@ where
     ])
 }
 
-// The last of three alternatives that may be tried again, what three modes join to, and a cut that is taken back.
+// Returns the last of three alternatives that backtrack, what three modes join to, and a cut that
+// is taken back.
 fn three<I: Stream, E: AssociativeOr<I> + Copy>(
     alloc: Global,
     one: E,
@@ -154,19 +157,19 @@ fn modes_stay_and_an_associative_or_of_ones_own_joins_three(rt: HostRuntime) -> 
     Ok(())
 }
 
-// An error that becomes its own type.
+// Returns the text of an error that is converted to its own type.
 fn kept(alloc: Global) -> Result<String, AllocError> {
     let error = convert_to::<Told, Told>(alloc, Told::new(alloc))?;
     debugged(alloc, &error)
 }
 
-// A mode of another type of error.
+// Returns the text of a mode that is converted to another type of error.
 fn converted(alloc: Global) -> Result<String, AllocError> {
     let cut: ErrMode<Told> = convert_to(alloc, Cut(Labelled("number")))?;
     debugged(alloc, &cut)
 }
 
-// The same by the call of modes.
+// Returns the same by the call that modes have.
 fn converted_again(alloc: Global) -> Result<String, AllocError> {
     let again = Backtrack(Labelled("number")).convert::<Told>(alloc)?;
     debugged(alloc, &again)
@@ -189,7 +192,7 @@ fn errors_are_converted(rt: HostRuntime) -> Result<(), Fail> {
     Ok(())
 }
 
-// Laws do nothing: that each is called here shows that it can be. `three` calls two more.
+// Laws do nothing. The calls show that each can be called. `three` calls two more.
 fn laws<I: Stream + Copy + Display + Debug, C: Drop + PartialEq + Debug, E>()
 where
     E: AssociativeOr<I> + FromRecoverableError<I, E> + AddContext<I, C>,

@@ -1,4 +1,4 @@
-//! Calls that take memory are answered where it is there, for nothing, for little and for much.
+//! Calls that take memory succeed where there is memory, for no items, for few and for many.
 
 use crate::error_walks::in_context;
 use std::alloc::{AllocError, Global};
@@ -6,7 +6,7 @@ use std::test::Fail;
 use winnow_context::ContextError;
 use winnow_error::InputError;
 
-// An error that is told `count` contexts one by one, and then as many at once.
+// Returns an error to which `count` contexts are added one by one, and then as many at once.
 fn told_twice(alloc: Global, count: u16) -> Result<ContextError<u16>, AllocError> {
     let mut error: ContextError<u16> = ContextError::new(alloc);
     for number in 0..count {
@@ -16,7 +16,7 @@ fn told_twice(alloc: Global, count: u16) -> Result<ContextError<u16>, AllocError
     Ok(error)
 }
 
-// The number of its contexts once it is also told as many as a parser tells them.
+// Returns the number of its contexts, after as many were also added as a parser adds them.
 fn told_thrice(alloc: Global, count: u16) -> Result<usize, AllocError> {
     let mut error = told_twice(alloc, count)?;
     for number in 0..count {
@@ -25,7 +25,7 @@ fn told_thrice(alloc: Global, count: u16) -> Result<usize, AllocError> {
     Ok(error.clone()?.context().count())
 }
 
-// The lengths of a text of `count` characters and of its bytes, once an error owns them.
+// Returns the lengths of a text of `count` characters and of its bytes, after an error owns them.
 fn owned(alloc: Global, count: u16) -> Result<(usize, usize), AllocError> {
     let mut text = String::new(alloc);
     for _ in 0..count {

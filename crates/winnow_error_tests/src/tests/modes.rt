@@ -143,7 +143,7 @@ fn debug_texts_under_options(rt: HostRuntime) -> Result<(), Fail> {
     Ok(())
 }
 
-// A flag is padded and cut.
+// A width and a precision reach a flag.
 #[test]
 fn debug_texts_at_a_precision(rt: HostRuntime) -> Result<(), Fail> {
     let (error, nothing): (ErrMode<InputError<bool>>, ErrMode<EmptyError>) = (
@@ -166,7 +166,7 @@ fn debug_texts_at_a_precision(rt: HostRuntime) -> Result<(), Fail> {
     Ok(())
 }
 
-// The text of a mode over an error of this library is known to the byte.
+// The contract gives the whole text of a mode over an error of this library.
 fn failure(alloc: Global) -> Result<String, AllocError>
     ensures { IfOk result (λ text. string_bytes text ≡ codes "Parsing Failure: EmptyError") }
 {

@@ -26,7 +26,7 @@ pub fn debugs<T: Debug>(
     Ok(())
 }
 
-/// Asserts the debug text under `#`, and with a width, which reaches the parts alone.
+/// Asserts the debug text under `#`, and with a width, which only reaches the parts.
 pub fn debugs_under_options<T: Debug>(
     rt: &impl Abort,
     alloc: Global,
@@ -38,7 +38,8 @@ pub fn debugs_under_options<T: Debug>(
     Ok(())
 }
 
-/// Asserts the debug text with a width and a precision, which reach the parts alone, under `#` and without it.
+/// Asserts the debug text with a width and a precision, which only reach the parts, under `#` and
+/// without it.
 pub fn debugs_at_a_precision<T: Debug>(
     rt: &impl Abort,
     alloc: Global,

@@ -1,4 +1,4 @@
--- A feed, from what its run does.
+-- What a feed does, derived from what its run does.
 use Rattle.std.proofs.Common.{◌≡◌, ℕ, ◌+◌, ◌≤◌, ◌<◌, cond, ltb, List, [], ◌∷◌, ◌++◌, length, take, drop, map, true, false, refl, sym, ap, ◌∙◌, arith, None, Some, Bor, length-drop}
 use Rattle.std.proofs.lemmas.List.{nil_from_length, map-append, append-nil, length-append, length-map, drop_at}
 use Rattle.std.proofs.lemmas.Bool.{le-ltb}
@@ -28,25 +28,31 @@ abbrev Run : Type 0
 Run = Progress ℕ (Bor (List ℕ))
 
 module _ (i : InputKind) (law : IsInput i) where
-  -- a piece behind what is kept
-  pub grow : (J piece xs : List ℕ) (f : FeedState) → i.valid piece ≡ true → xs ≡ f.kept ++ piece → HoldsInput i f J → IsRunOver true i.pieces (i.source (J ++ piece)) (i.source xs) f.run
+  -- the run stands for the input with a piece appended to what is kept
+  pub grow : (J piece xs : List ℕ) (f : FeedState) → i.valid piece ≡ true → xs ≡ f.kept ++ piece
+      → HoldsInput i f J → IsRunOver true i.pieces (i.source (J ++ piece)) (i.source xs) f.run
   grow J piece xs f v e h =
       rw (law.split J piece h.is_input, e, law.split f.kept piece h.is_kept)
       (IsRunOver-more i.pieces (i.source J) (i.source f.kept) f.run h.stands (i.source piece) (law.widths piece))
 
-  -- where a step is left, the end of the input is no matter
-  pub least-anywhere : (f : FeedState) → KeepsLeast (bytes_fed f) f.run → length f.run.told.items < length f.run.script.now → (end : ℕ) → KeepsLeast end f.run
+  -- if a step remains, what is needed does not depend on the end of the input
+  pub least-anywhere : (f : FeedState) → KeepsLeast (bytes_fed f) f.run
+      → length f.run.told.items < length f.run.script.now → (end : ℕ) → KeepsLeast end f.run
   least-anywhere f least left end = least ∙ needed-same_end (bytes_fed f) end f.run.place f.run.marks.items (steps_left f.run) (omega (arith, left, length-drop (length f.run.told.items) f.run.script.now))
 
-  -- a piece that was taken in
+  -- a piece that was taken in, whose unneeded front was dropped
   module _ (old new : FeedState) (piece xs : List ℕ) (unneeded : ℕ) (u : i.valid piece ≡ true) (v : i.valid new.kept ≡ true) (joins : xs ≡ old.kept ++ piece) (left : i.source new.kept ≡ back (i.source xs) unneeded) (offset : is_offset (i.source xs) unneeded ≡ true) (base : new.run.base ≡ old.run.base + unneeded) (least : KeepsLeast (old.run.base + width (i.source xs)) new.run) (takes : TakesIn i.pieces (i.source xs) unneeded old.run new.run) where
+    -- what is kept, with the piece, is as wide as it is long
     whole : i.valid old.kept ≡ true → width (i.source xs) ≡ length old.kept + length piece
     whole w = law.width_is xs (rw joins (law.joins old.kept piece w u)) ∙ ap length joins ∙ length-append old.kept piece
 
+    -- the bytes that were fed end where what is kept ends
     taken-fed : i.valid old.kept ≡ true → bytes_fed new ≡ old.run.base + width (i.source xs)
     taken-fed w = omega (arith, base, width-back (i.source xs) unneeded offset, ap width left, law.width_is new.kept v)
 
-    pub taken : (J : List ℕ) → HoldsInput i old J → HoldsInput i new (J ++ piece) × IsAtRest i.pieces (i.source (J ++ piece)) new.run
+    -- the feed holds the input with the piece appended, and its next step waits
+    pub taken : (J : List ℕ) → HoldsInput i old J
+        → HoldsInput i new (J ++ piece) × IsAtRest i.pieces (i.source (J ++ piece)) new.run
     taken J h =
         let after = takes (i.source (J ++ piece)) (grow J piece xs old u joins h) in (
           record {
@@ -58,13 +64,19 @@ module _ (i : InputKind) (law : IsInput i) where
           after.1,
         )
 
-    pub taken-room : (J : List ℕ) → HoldsInput i old J → bytes_fed new ≡ bytes_fed old + length piece
+    -- the piece adds its length to the bytes that were fed
+    pub taken-room : (J : List ℕ) → HoldsInput i old J
+        → bytes_fed new ≡ bytes_fed old + length piece
     taken-room J h = omega (arith, taken-fed h.is_kept, whole h.is_kept)
 
+  -- the bytes that were fed are as many as the input has
   pub fed : (J : List ℕ) (f : FeedState) → HoldsInput i f J → f.run.base + length f.kept ≡ length J
   fed J f h = omega (arith, fed-is i.pieces (i.source J) (i.source f.kept) f.run h.stands, law.width_is J h.is_input, law.width_is f.kept h.is_kept)
 
-  pub new-stands : (run : Run) (kept : List ℕ) → run.told.items ≡ [] → run.marks.items ≡ [] → kept ≡ [] → run.place ≡ 0 → run.base ≡ 0 → run.passed.width ≡ 0 → run.passed.tokens ≡ 0 → HoldsInput i (record { run = run; kept = kept }) []
+  -- a feed that was fed nothing holds the empty input
+  pub new-stands : (run : Run) (kept : List ℕ) → run.told.items ≡ [] → run.marks.items ≡ []
+      → kept ≡ [] → run.place ≡ 0 → run.base ≡ 0 → run.passed.width ≡ 0 → run.passed.tokens ≡ 0
+      → HoldsInput i (record { run = run; kept = kept }) []
   new-stands run kept told marks none here base w t =
       record {
         is_input = law.empty;
@@ -84,15 +96,17 @@ module _ (i : InputKind) (law : IsInput i) where
         };
       }
 
-  -- the answers that a run at rest has given are those that are out
-  pub out-is : (all kept : Source ℕ) (run : Run) → IsRunOver true i.pieces all kept run → IsAtRest i.pieces all run → out i.pieces all run.script.now ≡ answers_out run
+  -- the answers of a run at rest are those that are out
+  pub out-is : (all kept : Source ℕ) (run : Run) → IsRunOver true i.pieces all kept run
+      → IsAtRest i.pieces all run → out i.pieces all run.script.now ≡ answers_out run
   out-is all kept run h rests =
       Reaches-out i.pieces all start h.at run.script.now (answers_out run) h.reaches (λ x e.
       let next : next_step run ≡ Some x = ap (slice_get run.script.now) (sym (length-map run.told.items (λ t. t.answer))) ∙ e in
       ap (is_definite i.pieces x) (sym (rest-back true i.pieces all kept run h x next)) ∙ rests x next)
 
-  -- and what is kept is what the steps left need
-  pub Fits-held : (f : FeedState) (pieces : List (List ℕ)) → Fits i f pieces → length f.kept ≡ held_after i (script_of f) pieces
+  -- the bytes that are kept are those that the remaining steps need
+  pub Fits-held : (f : FeedState) (pieces : List (List ℕ)) → Fits i f pieces
+      → length f.kept ≡ held_after i (script_of f) pieces
   Fits-held f [] h = omega (arith, fed [] f h.stands)
   Fits-held f (p ∷ pieces) h =
       let J = joined (p ∷ pieces) in
@@ -107,8 +121,12 @@ module _ (i : InputKind) (law : IsInput i) where
       let e : length f.kept ≡ width (drop needed all) = omega (arith, base, fed J f h.stands, law.width_is J h.stands.is_input, width-take_drop all needed) in
       rw (count, at) e
 
-  -- a piece behind the last answer is not kept
-  pub skips : (f : FeedState) (J piece : List ℕ) (q : Run) → i.valid piece ≡ true → HoldsInput i f J → length f.run.script.now ≤ length f.run.told.items → q.script ≡ f.run.script → q.told ≡ f.run.told → q.place ≡ f.run.place → q.marks ≡ f.run.marks → q.passed ≡ f.run.passed → q.base ≡ f.run.base + length piece → HoldsInput i (record { run = q; kept = f.kept }) (J ++ piece)
+  -- a piece after the last answer is not kept
+  pub skips : (f : FeedState) (J piece : List ℕ) (q : Run) → i.valid piece ≡ true
+      → HoldsInput i f J → length f.run.script.now ≤ length f.run.told.items
+      → q.script ≡ f.run.script → q.told ≡ f.run.told → q.place ≡ f.run.place
+      → q.marks ≡ f.run.marks → q.passed ≡ f.run.passed → q.base ≡ f.run.base + length piece
+      → HoldsInput i (record { run = q; kept = f.kept }) (J ++ piece)
   skips f J piece q v h done script told here marks passed base =
       let none : steps_left f.run ≡ [] = needed-done f.run done in
       let gone : length f.kept ≡ 0 = omega (arith, h.least, ap (needed_place (bytes_fed f) f.run.place f.run.marks.items) none) in
@@ -124,12 +142,19 @@ module _ (i : InputKind) (law : IsInput i) where
         least = omega (arith, base, gone, ap (needed_place (q.base + length f.kept) q.place q.marks.items) over);
       }
 
-  AreInputs-push : (pieces : List (List ℕ)) (p : List ℕ) → AreInputs i.valid pieces → i.valid p ≡ true → AreInputs i.valid (pieces ++ p ∷ [])
+  -- valid pieces stay valid when a valid one is appended
+  AreInputs-push : (pieces : List (List ℕ)) (p : List ℕ) → AreInputs i.valid pieces
+      → i.valid p ≡ true → AreInputs i.valid (pieces ++ p ∷ [])
   AreInputs-push [] p us u = (u, tt)
   AreInputs-push (q ∷ pieces) p us u = (us.0, AreInputs-push pieces p us.1 u)
 
-  -- one feed that came through, against the pieces
-  pub Fits-fed : (old new : FeedState) (pieces : List (List ℕ)) (p : List ℕ) → Fits i old pieces → i.valid p ≡ true → new.run.script ≡ old.run.script → HoldsInput i new (joined pieces ++ p) → IsAtRest i.pieces (i.source (joined pieces ++ p)) new.run → AddsAnswers (Some new.run.pieces) old.run new.run → new.run.pieces ≡ capped (old.run.pieces + 1) → Tries old.run new.run → Fits i new (pieces ++ p ∷ [])
+  -- a feed that took a piece fits the pieces with that piece appended
+  pub Fits-fed : (old new : FeedState) (pieces : List (List ℕ)) (p : List ℕ) → Fits i old pieces
+      → i.valid p ≡ true → new.run.script ≡ old.run.script → HoldsInput i new (joined pieces ++ p)
+      → IsAtRest i.pieces (i.source (joined pieces ++ p)) new.run
+      → AddsAnswers (Some new.run.pieces) old.run new.run
+      → new.run.pieces ≡ capped (old.run.pieces + 1) → Tries old.run new.run
+      → Fits i new (pieces ++ p ∷ [])
   Fits-fed old new pieces p fits u script stands rests adds number tried =
       let J = joined pieces ++ p in
       let steps = script_of new in
@@ -153,8 +178,13 @@ module _ (i : InputKind) (law : IsInput i) where
         tried = omega (arith, tried, w, old_tried, ap length told, ap length old_told, lens);
       }
 
-  -- and one behind the last answer
-  pub Fits-skipped : (old new : FeedState) (pieces : List (List ℕ)) (p : List ℕ) → Fits i old pieces → i.valid p ≡ true → length old.run.script.now ≤ length old.run.told.items → new.run.script ≡ old.run.script → new.run.told ≡ old.run.told → HoldsInput i new (joined pieces ++ p) → new.run.pieces ≡ capped (old.run.pieces + 1) → new.run.tried ≡ old.run.tried → Fits i new (pieces ++ p ∷ [])
+  -- the same for a piece after the last answer
+  pub Fits-skipped : (old new : FeedState) (pieces : List (List ℕ)) (p : List ℕ)
+      → Fits i old pieces → i.valid p ≡ true
+      → length old.run.script.now ≤ length old.run.told.items → new.run.script ≡ old.run.script
+      → new.run.told ≡ old.run.told → HoldsInput i new (joined pieces ++ p)
+      → new.run.pieces ≡ capped (old.run.pieces + 1) → new.run.tried ≡ old.run.tried
+      → Fits i new (pieces ++ p ∷ [])
   Fits-skipped old new pieces p fits u done script told stands number tried =
       let over : length new.run.script.now ≤ length new.run.told.items = rw (script, told) done in
       Fits-fed old new pieces p fits u script stands
@@ -162,17 +192,24 @@ module _ (i : InputKind) (law : IsInput i) where
       (record { more = []; told = ap (λ t. t.items) told ∙ sym (append-nil old.run.told.items) }) number
       (rw (le-ltb _ _ over) (omega (arith, tried, fits.tried, ap (λ t. length t.items) told)))
 
-  -- how many answers one piece let out
-  pub came-out : (old new : FeedState) (pieces : List (List ℕ)) (p : List ℕ) (n : ℕ) → Fits i old pieces → Fits i new (pieces ++ p ∷ []) → new.run.script ≡ old.run.script → length new.run.told.items ≡ length old.run.told.items + n → length (told_of i (script_of old) (pieces ++ p ∷ [])) ≡ length (told_of i (script_of old) pieces) + n
+  -- the number of answers that one piece gave
+  pub came-out : (old new : FeedState) (pieces : List (List ℕ)) (p : List ℕ) (n : ℕ)
+      → Fits i old pieces → Fits i new (pieces ++ p ∷ []) → new.run.script ≡ old.run.script
+      → length new.run.told.items ≡ length old.run.told.items + n
+      → length (told_of i (script_of old) (pieces ++ p ∷ []))
+      ≡ length (told_of i (script_of old) pieces) + n
   came-out old new pieces p n before after script e =
       let now : length new.run.told.items ≡ length (told_of i (script_of old) (pieces ++ p ∷ [])) = ap length after.told ∙ ap (λ s. length (told_of i s.now (pieces ++ p ∷ []))) script in
       omega (arith, e, now, ap length before.told)
 
--- a run that has answered every step has all answers, and stands at the last place
+-- a run that has answered each step has all answers, and stands at the last place
 module _ (i : InputKind) (J : List ℕ) (kept : Source ℕ) (run : Run) (h : IsRunOver false i.pieces (i.source J) kept run) (done : length run.script.now ≤ length run.told.items) where
-  ended : (answers_out run ≡ search_answers (kind_of i.pieces) (i.source J) run.script.now) × (h.at ≡ search_cursor (i.source J) run.script.now)
+  -- the answers and the cursor are those of the script on the whole input
+  ended : (answers_out run ≡ search_answers (kind_of i.pieces) (i.source J) run.script.now)
+      × (h.at ≡ search_cursor (i.source J) run.script.now)
   ended = Reaches-all false i.pieces (i.source J) start h.at run.script.now (answers_out run) h.reaches (omega (arith, done, length-map run.told.items (λ t. t.answer)))
 
+  -- the answers, the place and what the end returns are those of the script
   pub end-answers : answers_out run ≡ search_answers (kind_of i.pieces) (i.source J) run.script.now
   end-answers = ended.0
 
@@ -180,7 +217,8 @@ module _ (i : InputKind) (J : List ℕ) (kept : Source ℕ) (run : Run) (h : IsR
   end-place = h.here ∙ ap (λ at. place (i.source J) at.index) ended.1
 
 module _ (i : InputKind) (old : FeedState) (pieces : List (List ℕ)) (kept : Source ℕ) (run : Run) (fits : Fits i old pieces) (h : IsRunOver false i.pieces (i.source (joined pieces)) kept run) (adds : AddsAnswers None old.run run) (script : run.script ≡ old.run.script) (done : length run.script.now ≤ length run.told.items) where
-  pub finished : (all : Finished ℕ) → all.told ≡ run.told → all.place ≡ run.place → Finishes i (script_of old) pieces all
+  pub finished : (all : Finished ℕ) → all.told ≡ run.told → all.place ≡ run.place
+      → Finishes i (script_of old) pieces all
   finished all is_told is_place =
       let words : run.script.now ≡ script_of old = ap (λ s. s.now) script in
       let told = told_of i (script_of old) pieces in

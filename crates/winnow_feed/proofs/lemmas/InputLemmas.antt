@@ -1,4 +1,4 @@
--- What the bytes of an input owe, of bytes and of text.
+-- What the proofs need of the bytes of an input, for bytes and for text.
 use Rattle.std.proofs.Common.{◌≡◌, ℕ, List, [], ◌∷◌, ◌++◌, length, true, refl, sym, ap, ◌∙◌}
 use Rattle.std.proofs.lemmas.List.{map-append, append_assoc, append-nil}
 use Rattle.std.specs.Str.{chars}
@@ -9,19 +9,23 @@ use Rattle.winnow_stream.specs.Text.{HasPositiveWidths-char_source}
 use Rattle.winnow_stream.proofs.lemmas.TextLemmas.{text_source-append, width-text_source, text_source-nil}
 use Rattle.winnow_feed.specs.Inputs.{InputKind, byte_input, text_input, joined}
 
-pub joined-push : (pieces : List (List ℕ)) (p : List ℕ) → joined (pieces ++ p ∷ []) ≡ joined pieces ++ p
+-- one more piece is appended to the joined pieces
+pub joined-push : (pieces : List (List ℕ)) (p : List ℕ)
+    → joined (pieces ++ p ∷ []) ≡ joined pieces ++ p
 joined-push [] p = append-nil p
 joined-push (q ∷ pieces) p = ap (λ x. q ++ x) (joined-push pieces p) ∙ sym (append_assoc q (joined pieces) p)
 
--- what the bytes of an input owe: they may be joined, and are as wide as they are long
+-- what the proofs need of an input's bytes: they may be joined, and their width is their length
 pub record IsInput (i : InputKind) : Type 0 where
   pub joins : (xs ys : List ℕ) → i.valid xs ≡ true → i.valid ys ≡ true → i.valid (xs ++ ys) ≡ true
-  pub split : (xs ys : List ℕ) → i.valid xs ≡ true → i.source (xs ++ ys) ≡ i.source xs ++ i.source ys
+  pub split : (xs ys : List ℕ) → i.valid xs ≡ true
+      → i.source (xs ++ ys) ≡ i.source xs ++ i.source ys
   pub widths : (xs : List ℕ) → HasPositiveWidths (i.source xs)
   pub width_is : (xs : List ℕ) → i.valid xs ≡ true → width (i.source xs) ≡ length xs
   pub empty : i.valid [] ≡ true
   pub nothing : i.source [] ≡ []
 
+-- bytes and text are inputs with these properties
 pub bytes-input : IsInput byte_input
 bytes-input = record {
   joins = λ xs ys u v. refl;

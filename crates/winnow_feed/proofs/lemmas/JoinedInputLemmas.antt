@@ -1,4 +1,4 @@
--- A run over pieces and the joined input: where the next step looks, and what one attempt leaves.
+-- A run over pieces and the joined input: where the next step looks, and what an attempt leaves.
 use Rattle.std.proofs.Common.{◌≡◌, ℕ, zero, suc, ◌+◌, ◌-◌, ◌≤◌, ◌<◌, Bool, true, cond, List, [], ◌∷◌, ◌++◌, length, take, drop, map, Option, Some, refl, sym, ap, ◌∙◌, arith, subst, length-drop, get_or}
 use Rattle.std.specs.Prelude.{slice_get, is_some}
 use Rattle.std.proofs.lemmas.List.{drop-drop, length-map, length-append, map-append, append_assoc, append-nil}
@@ -26,16 +26,22 @@ use Rattle.winnow_attempt.proofs.lemmas.SettledLemmas.{width-split, NoneHeld-non
 use Rattle.winnow_attempt.proofs.lemmas.ViewLemmas.{view-answer, view-place, view-marks}
 use Rattle.winnow_feed.proofs.lemmas.ReachLemmas.{Reaches-inside, Reaches-push, least-at, never_back}
 
-drop-at : {X : Type 0} (xs : List X) (i : ℕ) (x : X) → slice_get xs i ≡ Some x → drop i xs ≡ x ∷ drop (suc i) xs
+-- the rest of a list begins with the element there
+drop-at : {X : Type 0} (xs : List X) (i : ℕ) (x : X) → slice_get xs i ≡ Some x
+    → drop i xs ≡ x ∷ drop (suc i) xs
 drop-at [] i x h = absurd (cc)
 drop-at (y ∷ xs) zero x h = let e : y ≡ x = cc in rw e refl
 drop-at (y ∷ xs) (suc i) x h = drop-at xs i x h
 
-pub next-is : {T L : Type 0} (p : Progress T L) (i : ℕ) (x : SearchStep CharSet L) → i ≡ length p.told.items → i < length p.script.now → x ≡ get_or p.script.now i x → next_step p ≡ Some x
+-- the element of the script at the number of answers is the next step
+pub next-is : {T L : Type 0} (p : Progress T L) (i : ℕ) (x : SearchStep CharSet L)
+    → i ≡ length p.told.items → i < length p.script.now → x ≡ get_or p.script.now i x
+    → next_step p ≡ Some x
 next-is p i x e l is = ap (slice_get p.script.now) (sym e) ∙ slice_get-get_or p.script.now i x l ∙ ap Some (sym is)
 
--- nothing is passed at first
-pub none-passed : {T C L : Type 0} (k : PieceKind T C L) (s : SearchStep C L) (r : Source T) → IsSettled k s r 0 0
+-- at first, a step has settled nothing
+pub none-passed : {T C L : Type 0} (k : PieceKind T C L) (s : SearchStep C L) (r : Source T)
+    → IsSettled k s r 0 0
 none-passed k (step.Call (call.First c)) r = NoneHeld-none (k.holds c) r
 none-passed k (step.Call (call.At asked)) r = AreCounted-none asked r
 none-passed k (step.Call call.Next) r = tt
@@ -53,8 +59,11 @@ none-passed k (step.Call (call.Since n)) r = tt
 none-passed k (step.Compare l) r = AreSame-none (k.literal l) (written k.write r)
 none-passed k (step.Find ns) r = NoneOccurs-none (needle_list k.literal ns) (written k.write r)
 
--- a run that differs in what it counts alone
-pub IsRunOver-same : {T L : Type 0} (strict : Bool) (k : PieceKind T CharSet L) (all kept : Source T) (p : Progress T L) → IsRunOver strict k all kept p → (q : Progress T L) → q.script ≡ p.script → q.told.items ≡ p.told.items → q.place ≡ p.place → q.marks ≡ p.marks → q.passed ≡ p.passed → q.base ≡ p.base → IsRunOver strict k all kept q
+-- a run that differs only in what it counts stands for the same input
+pub IsRunOver-same : {T L : Type 0} (strict : Bool) (k : PieceKind T CharSet L)
+    (all kept : Source T) (p : Progress T L) → IsRunOver strict k all kept p → (q : Progress T L)
+    → q.script ≡ p.script → q.told.items ≡ p.told.items → q.place ≡ p.place → q.marks ≡ p.marks
+    → q.passed ≡ p.passed → q.base ≡ p.base → IsRunOver strict k all kept q
 IsRunOver-same strict k all kept p h q script told here marks passed base = record {
   widths = h.widths;
   at = h.at;
@@ -68,67 +77,89 @@ IsRunOver-same strict k all kept p h q script told here marks passed base = reco
   settled = λ s i. rw passed (h.settled s (rw (script, told) at i));
 }
 
--- ---- what was told
+-- ---- the answers that were added
 
-pub AddsAnswers-none : {T L : Type 0} (piece : Option ℕ) (p q : Progress T L) → q.told.items ≡ p.told.items → AddsAnswers piece p q
+-- no answer, or more answers after some, are answers that were added
+pub AddsAnswers-none : {T L : Type 0} (piece : Option ℕ) (p q : Progress T L)
+    → q.told.items ≡ p.told.items → AddsAnswers piece p q
 AddsAnswers-none piece p q e = record { more = []; told = e ∙ sym (append-nil p.told.items) }
 
-pub AddsAnswers-more : {T L : Type 0} (piece : Option ℕ) (p q r : Progress T L) → AddsAnswers piece p q → AddsAnswers piece q r → AddsAnswers piece p r
+pub AddsAnswers-more : {T L : Type 0} (piece : Option ℕ) (p q r : Progress T L)
+    → AddsAnswers piece p q → AddsAnswers piece q r → AddsAnswers piece p r
 AddsAnswers-more piece p q r h g = record {
   more = h.more ++ g.more;
   told = g.told ∙ ap (λ t. t ++ map (under piece) g.more) h.told ∙ append_assoc p.told.items (map (under piece) h.more) (map (under piece) g.more) ∙ ap (λ t. p.told.items ++ t) (sym (map-append (under piece) h.more g.more));
 }
 
 module _ {T L : Type 0} (strict : Bool) (k : PieceKind T CharSet L) (all kept : Source T) (p : Progress T L) (h : IsRunOver strict k all kept p) (x : SearchStep CharSet L) (next : next_step p ≡ Some x) where
+  -- the cursor is inside the list
   pub inside : Inside all h.at
   inside = Reaches-inside k strict all start h.at p.script.now (answers_out p) (start-inside all) h.reaches
 
+  -- the remaining steps begin with the next step
   left : steps_left p ≡ x ∷ drop (suc (length p.told.items)) p.script.now
   left = drop-at p.script.now (length p.told.items) x next
 
+  -- what is kept begins no later than what the remaining steps name
   first-least : h.first ≤ least_index (x ∷ drop (suc (length p.told.items)) p.script.now) h.at
   first-least = subst (λ ss. h.first ≤ needed_from all ss h.at) left h.reached
 
+  -- what is kept begins no later than the cursor
   first-le : h.first ≤ h.at.index
   first-le = omega (arith, first-least, least-at (x ∷ drop (suc (length p.told.items)) p.script.now) h.at)
 
+  -- the cursor's index is its distance from the first kept token, after that token's index
   sum : h.first + (h.at.index - h.first) ≡ h.at.index
   sum = let l = first-le in omega arith
 
+  -- the cursor's place is the base and the width of the kept tokens before it
   far : p.place ≡ p.base + width (take (h.at.index - h.first) (drop h.first all))
   far = h.here ∙ ap (λ i. width (take i all)) (sym sum) ∙ width-split h.first (h.at.index - h.first) all ∙ ap (λ n. n + width (take (h.at.index - h.first) (drop h.first all))) (sym h.based)
 
+  -- the base is no later than the cursor's place
   pub base-le : p.base ≤ p.place
   base-le = omega (arith, far)
 
+  -- the distance from the base to the cursor is the width of the kept tokens before it
   away : p.place - p.base ≡ width (take (h.at.index - h.first) kept)
   away = let f = far in let e : p.place - p.base ≡ width (take (h.at.index - h.first) (drop h.first all)) = omega arith in e ∙ ap (λ r. width (take (h.at.index - h.first) r)) (sym h.is_kept)
 
+  -- the kept tokens have positive widths
   wide : HasPositiveWidths kept
   wide = subst HasPositiveWidths (sym h.is_kept) (HasPositiveWidths-drop h.first all h.widths)
 
+  -- the cursor is inside what is kept
   fits : h.at.index - h.first ≤ length kept
   fits = let i = inside.index in omega (arith, ap length h.is_kept, length-drop h.first all)
 
+  -- the distance from the base to the cursor is a valid offset in what is kept
   pub kept-offset : is_offset kept (p.place - p.base) ≡ true
   kept-offset = subst (λ n. is_offset kept n ≡ true) (sym away) (ap is_some (front_count-place kept (h.at.index - h.first) wide fits))
 
+  -- what remains there is what remains at the cursor
   pub kept-rest : back kept (p.place - p.base) ≡ rest all h.at
   kept-rest = ap (back kept) away ∙ back-place kept (h.at.index - h.first) wide fits ∙ ap (drop (h.at.index - h.first)) h.is_kept ∙ drop-drop (h.at.index - h.first) h.first all ∙ ap (λ i. drop i all) sum
 
+  -- what remains ends where what is kept ends
   pub kept-room : p.place + width (rest all h.at) ≡ p.base + width kept
   kept-room = omega (arith, h.here, h.based, width-take_drop all h.at.index, width-take_drop all h.first, ap width h.is_kept)
 
+  -- what remains at the cursor's place is what remains at the cursor
   pub rest-back : back all p.place ≡ rest all h.at
   rest-back = ap (back all) h.here ∙ back-place all h.at.index h.widths inside.index
 
-  needed-on : (later : List (SearchStep CharSet L)) → h.first ≤ least_index (x ∷ later) h.at → h.first ≤ needed_from all later (search_next all x h.at)
+  -- after the next step, what is kept still begins no later than what is needed
+  needed-on : (later : List (SearchStep CharSet L)) → h.first ≤ least_index (x ∷ later) h.at
+      → h.first ≤ needed_from all later (search_next all x h.at)
   needed-on [] l = let i = inside.index in omega (arith, first-le)
   needed-on (y ∷ later) l = omega (arith, l, never_back all h.at inside x (y ∷ later))
 
   -- ---- an attempt that waits
 
-  pub IsRunOver-waits : (q : Progress T L) → q.script ≡ p.script → q.told.items ≡ p.told.items → q.place ≡ p.place → q.marks ≡ p.marks → q.base ≡ p.base → IsSettled k x (rest all h.at) q.passed.width q.passed.tokens → IsRunOver strict k all kept q
+  -- a run whose next step waits stands for the same input
+  pub IsRunOver-waits : (q : Progress T L) → q.script ≡ p.script → q.told.items ≡ p.told.items
+      → q.place ≡ p.place → q.marks ≡ p.marks → q.base ≡ p.base
+      → IsSettled k x (rest all h.at) q.passed.width q.passed.tokens → IsRunOver strict k all kept q
   IsRunOver-waits q script told here marks base settled =
       let same : next_step q ≡ Some x = rw (script, told) next in
       record {
@@ -144,9 +175,13 @@ module _ {T L : Type 0} (strict : Bool) (k : PieceKind T CharSet L) (all kept : 
         settled = λ s e. subst (λ y. IsSettled k y (rest all h.at) q.passed.width q.passed.tokens) (same_Some x s (sym same ∙ e)) settled;
       }
 
-  -- ---- an attempt that came through
+  -- ---- an attempt that was answered
 
-  pub IsRunOver-answered : (q : Progress T L) (piece : Option ℕ) (look : Look T) → (strict ≡ true → is_definite k x (rest all h.at) ≡ true) → look ≡ look_of k p.place p.marks.items (rest all h.at) x → q.script ≡ p.script → q.base ≡ p.base
+  -- a run whose next step was answered stands for the same input
+  pub IsRunOver-answered : (q : Progress T L) (piece : Option ℕ) (look : Look T)
+      → (strict ≡ true → is_definite k x (rest all h.at) ≡ true)
+      → look ≡ look_of k p.place p.marks.items (rest all h.at) x → q.script ≡ p.script
+      → q.base ≡ p.base
       → q.told.items ≡ p.told.items ++ record { piece = piece; answer = look.answer } ∷ [] → q.place ≡ look.place → q.marks.items ≡ cond look.marks (p.marks.items ++ p.place ∷ []) p.marks.items → q.passed.width ≡ 0 → q.passed.tokens ≡ 0 → IsRunOver strict k all kept q
   IsRunOver-answered q piece look definite is script base told here marks width_none tokens_none =
       let seen : look ≡ look_of k (place all h.at.index) (map (place all) h.at.marks) (rest all h.at) x = is ∙ ap (λ n. look_of k n p.marks.items (rest all h.at) x) h.here ∙ ap (λ ms. look_of k (place all h.at.index) ms (rest all h.at) x) h.marked in

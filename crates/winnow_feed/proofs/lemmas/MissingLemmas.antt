@@ -1,4 +1,5 @@
--- With what a step is missing behind the input it answers otherwise: one lemma a word, and then step by step.
+-- Appending what a step is missing changes its answer: one lemma for each definition, then for each
+-- step.
 use Rattle.std.proofs.Common.{◌≡◌, ℕ, zero, suc, ◌+◌, ◌-◌, ◌≤◌, ◌<◌, Bool, true, false, cond, List, [], ◌∷◌, ◌++◌, length, take, drop, Option, Some, None, Result, Ok, Err, refl, ap, sym, ◌∙◌, arith, subst, inl, inr}
 use Rattle.std.specs.Prelude.{nat_le, is_some, is_ok, option_map, IfSome}
 use Rattle.std.specs.List.{AllByRecursion}
@@ -45,42 +46,55 @@ use Rattle.winnow_feed.proofs.lemmas.KeepingLemmas.{HasPositiveWidths-append}
 use Rattle.winnow_feed.proofs.lemmas.SpellingLemmas.{IsSpelling}
 use Rattle.winnow_attempt.proofs.lemmas.NeedleLemmas.{needle-changes}
 
--- ---- one word at a time
+-- ---- one definition at a time
 
-token-changes : {T : Type 0} (r m : Source T) → is_some (first_token r) ≡ false → 0 < length m → ¬ (first_token (r ++ m) ≡ first_token r)
+-- a first token that was missing is there once anything follows
+token-changes : {T : Type 0} (r m : Source T) → is_some (first_token r) ≡ false → 0 < length m
+    → ¬ (first_token (r ++ m) ≡ first_token r)
 token-changes [] [] h l e = omega (arith, l)
 token-changes [] (t ∷ m) h l e = none-some t.0 (sym e)
 token-changes (t ∷ r) m h l e = false≢true (sym h)
 
 module _ {T : Type 0} (r : Source T) (n : ℕ) where
+  -- a front is no wider than the whole
   width-front_le : width (front r n) ≤ width r
   width-front_le = omega (arith, width-take_drop r (count_to r n))
 
+  -- an offset past the width is not valid
   offset-short : width r < n → is_offset r n ≡ false
   offset-short l = elim (cases_Bool (is_offset r n)) [ inl e ↦ absurd (omega (arith, l, width-front r n e, width-front_le)) | inr e ↦ e ]
 
-offset-full : {T : Type 0} (r : Source T) (n : ℕ) → HasPositiveWidths r → width r ≡ n → is_offset r n ≡ true
+-- the width itself is a valid offset
+offset-full : {T : Type 0} (r : Source T) (n : ℕ) → HasPositiveWidths r → width r ≡ n
+    → is_offset r n ≡ true
 offset-full r n h e = subst (λ k. is_offset r k ≡ true) e (is_offset-whole r h)
 
-slice-apart : {T : Type 0} (a b n : ℕ) (o p : Option ℕ) → is_some o ≡ true → is_some p ≡ false → ¬ (slice_answer {T = T} a n o ≡ slice_answer {T = T} b n p)
+-- a slice answer with a slice differs from one without
+slice-apart : {T : Type 0} (a b n : ℕ) (o p : Option ℕ) → is_some o ≡ true → is_some p ≡ false
+    → ¬ (slice_answer {T = T} a n o ≡ slice_answer {T = T} b n p)
 slice-apart a b n None p h g e = false≢true h
 slice-apart a b n (Some c) None h g e = cc
 slice-apart a b n (Some c) (Some d) h g e = false≢true (sym g)
 
--- the number of a size
+-- the number that a `Needed` gives
 abbrev number : Needed → ℕ
 number Unknown = 0
 number (Size n) = n.value
 
+-- a number that is needed is given back
 number-needed : (k : ℕ) → number (needed k) ≡ k
 number-needed zero = refl
 number-needed (suc k) = refl
 
-at-apart : (w : ℕ) (a b : Needed) (c : Bool) → (c ≡ false → ¬ (a ≡ b)) → ¬ (cond c (Ok w) (Err a) ≡ Err b)
+-- a found offset and a shortage, or two shortages that differ, are different answers
+at-apart : (w : ℕ) (a b : Needed) (c : Bool) → (c ≡ false → ¬ (a ≡ b))
+    → ¬ (cond c (Ok w) (Err a) ≡ Err b)
 at-apart w a b true f e = cc
 at-apart w a b false f e = f refl cc
 
-held-reaches : {T : Type 0} (holds : T → Bool) (k : ℕ) (r : Source T) (t : T) (w : ℕ) → holds t ≡ true → is_some (first_held holds (offsets_from k (r ++ (t, w) ∷ []))) ≡ true
+-- a token of the set that follows is found
+held-reaches : {T : Type 0} (holds : T → Bool) (k : ℕ) (r : Source T) (t : T) (w : ℕ)
+    → holds t ≡ true → is_some (first_held holds (offsets_from k (r ++ (t, w) ∷ []))) ≡ true
 held-reaches holds k [] t w h = rw h refl
 held-reaches holds k (x ∷ r) t w h =
     elim (cases_Bool (holds x.0)) [
@@ -88,13 +102,15 @@ held-reaches holds k (x ∷ r) t w h =
       | inr e ↦ rw e (held-reaches holds (k + x.1) r t w h)
     ]
 
+-- a comparison that is not decided is `Incomplete`
 pub incomplete-from : (c : CompareResult) → is_decided c ≡ false → c ≡ compared.Incomplete
 incomplete-from (compared.Ok n) h = absurd (false≢true (sym h))
 incomplete-from compared.Incomplete h = refl
 incomplete-from compared.Error h = absurd (false≢true (sym h))
 
--- the whole literal, once its rest follows
-comparison-changes : (l b : List ℕ) → is_decided (comparison l b) ≡ false → ¬ (comparison l (b ++ drop (length b) l) ≡ comparison l b)
+-- an undecided comparison changes when the rest of the literal follows
+comparison-changes : (l b : List ℕ) → is_decided (comparison l b) ≡ false
+    → ¬ (comparison l (b ++ drop (length b) l) ≡ comparison l b)
 comparison-changes l b h e =
     let i = incomplete-from (comparison l b) h in
     let f = ((incomplete-says l b).0 i).0 in
@@ -103,11 +119,14 @@ comparison-changes l b h e =
     let apart : ◌≡◌ {A = CompareResult} (compared.Ok (length l)) compared.Incomplete = sym ok ∙ e ∙ i in
     cc
 
-pub some-needles : {L : Type 0} (f : L → List ℕ) (needles : Needles L) → 0 < length (needle_list f needles)
+-- a search has at least one needle
+pub some-needles : {L : Type 0} (f : L → List ℕ) (needles : Needles L)
+    → 0 < length (needle_list f needles)
 some-needles f (One a) = omega arith
 some-needles f (Two a b) = omega arith
 some-needles f (Three a b c) = omega arith
 
+-- an `At` without an offset has too few tokens
 at-short : (b : Bool) (r : Source ℕ) (n : ℕ) → is_ok (offset_at b r n) ≡ false → length r < n
 at-short b r n h =
     elim (cases_Bool (nat_le n (length r))) [
@@ -115,7 +134,9 @@ at-short b r n h =
       | inr e ↦ leb-false n (length r) e
     ]
 
-at-changes : (b : Bool) (r m : Source ℕ) (n : ℕ) → length r < n → length m ≡ cond b 1 (n - length r) → ¬ (offset_at b (r ++ m) n ≡ offset_at b r n)
+-- an `At` answers differently when the missing tokens follow
+at-changes : (b : Bool) (r m : Source ℕ) (n : ℕ) → length r < n
+    → length m ≡ cond b 1 (n - length r) → ¬ (offset_at b (r ++ m) n ≡ offset_at b r n)
 at-changes true r m n l w e =
     let short : nat_le n (length r) ≡ false = lt-leb n (length r) l in
     let was : offset_at true r n ≡ Err (needed (n - length r)) = rw short refl in
@@ -130,11 +151,15 @@ at-changes false r m n l w e =
     let fits : nat_le n (length (r ++ m)) ≡ true = le-leb n (length (r ++ m)) (omega (arith, l, w, length-append r m)) in
     at-apart (width (take n (r ++ m))) Unknown Unknown (nat_le n (length (r ++ m))) (λ f _. false≢true (sym f ∙ fits)) (e ∙ was)
 
-first-changes : (holds : ℕ → Bool) (r : Source ℕ) (t w : ℕ) → holds t ≡ true → is_some (first_offset holds r) ≡ false → ¬ (first_offset holds (r ++ (t, w) ∷ []) ≡ first_offset holds r)
+-- a `First` without a hit answers differently when a token of the set follows
+first-changes : (holds : ℕ → Bool) (r : Source ℕ) (t w : ℕ) → holds t ≡ true
+    → is_some (first_offset holds r) ≡ false
+    → ¬ (first_offset holds (r ++ (t, w) ∷ []) ≡ first_offset holds r)
 first-changes holds r t w f h e = false≢true (sym h ∙ sym (ap is_some e) ∙ held-reaches holds 0 r t w f)
 
--- ---- what two answers agree in
+-- ---- equal answers have equal parts
 
+-- equal answers of each kind hold equal values
 token-parts : (a b : Option ℕ) → ◌≡◌ {A = PlacedAnswer ℕ} (answer.Token a) (answer.Token b) → a ≡ b
 token-parts a b e = cc
 
@@ -156,16 +181,22 @@ slice-parts a b e = cc
 items-parts : (a b : Range ℕ) → ◌≡◌ {A = PlacedAnswer ℕ} (answer.Items a) (answer.Items b) → a ≡ b
 items-parts a b e = cc
 
-call-parts : (a b : PlacedAnswer ℕ) → ◌≡◌ {A = PlacedSearchAnswer ℕ} (search_answered.Call a) (search_answered.Call b) → a ≡ b
+call-parts : (a b : PlacedAnswer ℕ)
+    → ◌≡◌ {A = PlacedSearchAnswer ℕ} (search_answered.Call a) (search_answered.Call b) → a ≡ b
 call-parts a b e = cc
 
-compared-parts : (a b : CompareResult) → ◌≡◌ {A = PlacedSearchAnswer ℕ} (search_answered.Compared a) (search_answered.Compared b) → a ≡ b
+compared-parts : (a b : CompareResult)
+    → ◌≡◌ {A = PlacedSearchAnswer ℕ} (search_answered.Compared a) (search_answered.Compared b)
+    → a ≡ b
 compared-parts a b e = cc
 
-hit-parts : (a b : Option (Range ℕ)) → ◌≡◌ {A = PlacedSearchAnswer ℕ} (search_answered.Hit a) (search_answered.Hit b) → a ≡ b
+hit-parts : (a b : Option (Range ℕ))
+    → ◌≡◌ {A = PlacedSearchAnswer ℕ} (search_answered.Hit a) (search_answered.Hit b) → a ≡ b
 hit-parts a b e = cc
 
-place-more : {T : Type 0} (all m : Source T) (n : ℕ) → n ≤ length all → place (all ++ m) n ≡ place all n
+-- the place of an index inside the list stays the same with more input appended
+place-more : {T : Type 0} (all m : Source T) (n : ℕ) → n ≤ length all
+    → place (all ++ m) n ≡ place all n
 place-more all m n h = ap width (take-append-le n all m h)
 
 -- ---- a call, where m follows
@@ -174,7 +205,7 @@ module _ (i : InputKind) (law : IsInput i) (spelling : IsSpelling i) (J : List �
   abbrev r : Source ℕ
   r = rest (i.source J) at
 
-  -- what remains where these bytes follow
+  -- what remains if these bytes follow
   abbrev more : List ℕ → Source ℕ
   more m = rest (i.source J ++ i.source m) at
 
@@ -182,21 +213,29 @@ module _ (i : InputKind) (law : IsInput i) (spelling : IsSpelling i) (J : List �
   Differs s m =
       ¬ (step_answer i.pieces.holds i.pieces.counts_missing (i.source J ++ i.source m) s at ≡ step_answer i.pieces.holds i.pieces.counts_missing (i.source J) s at)
 
+  -- what remains with bytes appended is the old rest and the bytes' tokens
   more-is : (m : List ℕ) → more m ≡ r ++ i.source m
   more-is m = rest-more i.pieces (i.source J) (i.source m) at inside
 
+  -- n letters add n to the width
   width-more : (n : ℕ) → width (more (letters n)) ≡ width r + n
   width-more n = ap width (more-is (letters n)) ∙ width-append r (i.source (letters n)) ∙ ap (λ k. width r + k) (spelling.letters_width n)
 
+  -- the widths stay positive with bytes appended
   widths-more : (m : List ℕ) → HasPositiveWidths (r ++ i.source m)
   widths-more m = HasPositiveWidths-append r (i.source m) (HasPositiveWidths-drop at.index (i.source J) (law.widths J)) (law.widths m)
 
+  -- with the missing letters, the offset is valid
   full : (n : ℕ) → width r < n → is_offset (more (letters (n - width r))) n ≡ true
   full n l =
       let m : List ℕ = letters (n - width r) in
       offset-full (more m) n (subst HasPositiveWidths (sym (more-is m)) (widths-more m)) (omega (arith, l, width-more (n - width r)))
 
-  token-differs : is_some (first_token r) ≡ false → ¬ (◌≡◌ {A = PlacedAnswer ℕ} (answer.Token (first_token (more (letters 1)))) (answer.Token (first_token r)))
+  -- each answer of a call changes when what is missing follows
+  token-differs : is_some (first_token r) ≡ false
+      → ¬
+      (◌≡◌ {A = PlacedAnswer ℕ} (answer.Token (first_token (more (letters 1))))
+      (answer.Token (first_token r)))
   token-differs h e =
       let one : 0 < length (i.source (letters 1)) = omega (arith, spelling.letters_length 1) in
       token-changes r (i.source (letters 1)) h one (sym (ap first_token (more-is (letters 1))) ∙ token-parts (first_token (more (letters 1))) (first_token r) e)
@@ -206,33 +245,50 @@ module _ (i : InputKind) (law : IsInput i) (spelling : IsSpelling i) (J : List �
       let f : a + width (more (letters 1)) ≡ b + width r = ap (λ (x : Range ℕ). x.end) e in
       omega (arith, f, same, width-more 1)
 
+  -- the cursor's place stays the same
   here : place (i.source J ++ i.source (letters 1)) at.index ≡ place (i.source J) at.index
   here = place-more (i.source J) (i.source (letters 1)) at.index inside.index
 
-  slice-differs : (n : ℕ) → nat_le n (width r) ≡ false → ¬ (slice_answer {T = ℕ} (place (i.source J ++ i.source (letters (n - width r))) at.index) n (front_count (more (letters (n - width r))) n) ≡ slice_answer {T = ℕ} (place (i.source J) at.index) n (front_count r n))
+  -- an answer with a slice, an offset, a flag or a token of the set changes too
+  slice-differs : (n : ℕ) → nat_le n (width r) ≡ false
+      → ¬ (slice_answer {T = ℕ} (place (i.source J
+      ++ i.source (letters (n - width r))) at.index) n
+      (front_count (more (letters (n - width r))) n)
+      ≡ slice_answer {T = ℕ} (place (i.source J) at.index) n (front_count r n))
   slice-differs n h e =
       let l = leb-false n (width r) h in
       let m : List ℕ = letters (n - width r) in
       slice-apart (place (i.source J ++ i.source m) at.index) (place (i.source J) at.index) n (front_count (more m) n) (front_count r n) (full n l) (offset-short r n l) e
 
-  at-differs : (n k : ℕ) → is_ok (offset_at i.pieces.counts_missing r n) ≡ false → k ≡ cond i.pieces.counts_missing 1 (n - length r) → ¬ (offset_at i.pieces.counts_missing (more (letters k)) n ≡ offset_at i.pieces.counts_missing r n)
+  at-differs : (n k : ℕ) → is_ok (offset_at i.pieces.counts_missing r n) ≡ false
+      → k ≡ cond i.pieces.counts_missing 1 (n - length r)
+      → ¬ (offset_at i.pieces.counts_missing (more (letters k)) n
+      ≡ offset_at i.pieces.counts_missing r n)
   at-differs n k h is e =
       let m : List ℕ = letters k in
       at-changes i.pieces.counts_missing r (i.source m) n (at-short i.pieces.counts_missing r n h) (spelling.letters_length k ∙ is) (sym (ap (λ x. offset_at i.pieces.counts_missing x n) (more-is m)) ∙ e)
 
-  flag-differs : (n : ℕ) → nat_le n (width r) ≡ false → ¬ (is_offset (more (letters (n - width r))) n ≡ is_offset r n)
+  flag-differs : (n : ℕ) → nat_le n (width r) ≡ false
+      → ¬ (is_offset (more (letters (n - width r))) n ≡ is_offset r n)
   flag-differs n h e =
       let l = leb-false n (width r) h in
       false≢true (sym (offset-short r n l) ∙ sym e ∙ full n l)
 
-  first-differs : (set : CharSet) (t : ℕ) → is_some (first_offset (i.pieces.holds set) r) ≡ false → least_of_first i.greatest (char_ranges set) ≡ Some t → i.is_token t ≡ true → ¬ (first_offset (i.pieces.holds set) (more (i.pieces.write t)) ≡ first_offset (i.pieces.holds set) r)
+  first-differs : (set : CharSet) (t : ℕ) → is_some (first_offset (i.pieces.holds set) r) ≡ false
+      → least_of_first i.greatest (char_ranges set) ≡ Some t → i.is_token t ≡ true
+      → ¬ (first_offset (i.pieces.holds set) (more (i.pieces.write t))
+      ≡ first_offset (i.pieces.holds set) r)
   first-differs set t h e u f =
       let holds : ℕ → Bool = i.pieces.holds set in
       let same : first_offset holds (r ++ (t, spelling.token_width t) ∷ []) ≡ first_offset holds r = ap (λ x. first_offset holds (r ++ x)) (sym (spelling.token_is t u)) ∙ sym (ap (first_offset holds) (more-is (i.pieces.write t))) ∙ f in
       first-changes holds r t (spelling.token_width t) (spelling.holds_is set t ∙ least_held i.greatest (char_ranges set) t e) h same
 
-  -- the token that is spelt
-  first-names : (set : CharSet) (m : List ℕ) → is_some (first_offset (i.pieces.holds set) r) ≡ false → IsSpelt i (step.Call (call.First set)) → (o : Option ℕ) → least_of_first i.greatest (char_ranges set) ≡ o → option_map i.pieces.write o ≡ Some m → Differs (call.First set) m
+  -- appending the token that is spelt changes the answer of `First`
+  first-names : (set : CharSet) (m : List ℕ)
+      → is_some (first_offset (i.pieces.holds set) r) ≡ false
+      → IsSpelt i (step.Call (call.First set)) → (o : Option ℕ)
+      → least_of_first i.greatest (char_ranges set) ≡ o → option_map i.pieces.write o ≡ Some m
+      → Differs (call.First set) m
   first-names set m h u None e is = absurd (none-some m is)
   first-names set m h u (Some t) e is = λ f.
       let spelt : i.is_token t ≡ true = rw e at u in
@@ -240,10 +296,16 @@ module _ (i : InputKind) (law : IsInput i) (spelling : IsSpelling i) (J : List �
       first-differs set t h e spelt (rw same (first-parts (first_offset (i.pieces.holds set) (more m)) (first_offset (i.pieces.holds set) r) f))
 
   module _ (m : List ℕ) where
-    by-letters : (s : Step CharSet) (n : ℕ) → Differs s (letters n) → Some (letters n) ≡ Some m → Differs s m
+    -- a call that is missing letters answers differently when they follow
+    by-letters : (s : Step CharSet) (n : ℕ) → Differs s (letters n) → Some (letters n) ≡ Some m
+        → Differs s m
     by-letters s n d is = subst (Differs s) (same_Some (letters n) m is) d
 
-    call-changes : (s : Step CharSet) → is_call_definite i.pieces.holds i.pieces.counts_missing s r ≡ false → IsSpelt i (step.Call s) → call_missing i.pieces.counts_missing i.greatest i.pieces.write r s ≡ Some m → Differs s m
+    -- each call that is not definite answers differently when what is missing follows
+    call-changes : (s : Step CharSet)
+        → is_call_definite i.pieces.holds i.pieces.counts_missing s r ≡ false
+        → IsSpelt i (step.Call s)
+        → call_missing i.pieces.counts_missing i.greatest i.pieces.write r s ≡ Some m → Differs s m
     call-changes call.Next h u is = by-letters call.Next 1 (token-differs h) is
     call-changes call.Peek h u is = by-letters call.Peek 1 (token-differs h) is
     call-changes (call.Take n) h u is = by-letters (call.Take n) (n - width r) (slice-differs n h) is
@@ -263,10 +325,15 @@ module _ (i : InputKind) (law : IsInput i) (spelling : IsSpelling i) (J : List �
 
     -- ---- one step
 
+    -- the bytes of what remains are the old ones and those that follow
     bytes-are : i.valid m ≡ true → written i.pieces.write (more m) ≡ written i.pieces.write r ++ m
     bytes-are v = ap (written i.pieces.write) (more-is m) ∙ written-append i.pieces.write r (i.source m) ∙ ap (λ xs. written i.pieces.write r ++ xs) (spelling.spells m v)
 
-    pub step-changes : (s : PieceStep) → is_definite i.pieces s r ≡ false → IsSpelt i s → i.valid m ≡ true → missing i.pieces i.greatest i.pieces.write r s ≡ Some m → ¬ (search_answer (kind_of i.pieces) (i.source J ++ i.source m) s at ≡ search_answer (kind_of i.pieces) (i.source J) s at)
+    -- each step that is not definite answers differently when what is missing follows
+    pub step-changes : (s : PieceStep) → is_definite i.pieces s r ≡ false → IsSpelt i s
+        → i.valid m ≡ true → missing i.pieces i.greatest i.pieces.write r s ≡ Some m
+        → ¬ (search_answer (kind_of i.pieces) (i.source J ++ i.source m) s at
+        ≡ search_answer (kind_of i.pieces) (i.source J) s at)
     step-changes (step.Call s) h u v is = λ e. call-changes s h u is (call-parts _ _ e)
     step-changes (step.Compare literal) h u v is = λ e.
         let l : List ℕ = i.pieces.literal literal in
@@ -281,16 +348,21 @@ module _ (i : InputKind) (law : IsInput i) (spelling : IsSpelling i) (J : List �
         let f = hit-parts (hit ls (written i.pieces.write (more m))) (hit ls b) e in
         needle-changes ls b (some-needles i.pieces.literal needles) h (ap (λ x. hit ls (b ++ x)) same ∙ sym (ap (hit ls) (bytes-are v)) ∙ f)
 
-    -- ---- what is missing is an input
+    -- ---- what is missing is valid input
 
+    -- what is missing is valid if it is letters or the bytes of a token
     of-letters : (n : ℕ) → Some (letters n) ≡ Some m → i.valid m ≡ true
     of-letters n is = subst (λ x. i.valid x ≡ true) (same_Some (letters n) m is) (spelling.letters_valid n)
 
-    of-token : (o : Option ℕ) → IfSome o (λ t. i.is_token t ≡ true) → option_map i.pieces.write o ≡ Some m → i.valid m ≡ true
+    of-token : (o : Option ℕ) → IfSome o (λ t. i.is_token t ≡ true)
+        → option_map i.pieces.write o ≡ Some m → i.valid m ≡ true
     of-token None u is = absurd (none-some m is)
     of-token (Some t) u is = subst (λ x. i.valid x ≡ true) (same_Some (i.pieces.write t) m is) (spelling.token_valid t u)
 
-    call-valid : (s : Step CharSet) → IsSpelt i (step.Call s) → call_missing i.pieces.counts_missing i.greatest i.pieces.write r s ≡ Some m → i.valid m ≡ true
+    -- what a call is missing is valid input
+    call-valid : (s : Step CharSet) → IsSpelt i (step.Call s)
+        → call_missing i.pieces.counts_missing i.greatest i.pieces.write r s ≡ Some m
+        → i.valid m ≡ true
     call-valid call.Next u is = of-letters 1 is
     call-valid call.Peek u is = of-letters 1 is
     call-valid (call.Take n) u is = of-letters (n - width r) is
@@ -306,7 +378,9 @@ module _ (i : InputKind) (law : IsInput i) (spelling : IsSpelling i) (J : List �
     call-valid (call.Reset k) u is = of-letters 1 is
     call-valid (call.Since k) u is = of-letters 1 is
 
-    pub missing-valid : i.valid J ≡ true → (s : PieceStep) → is_definite i.pieces s r ≡ false → IsSpelt i s → missing i.pieces i.greatest i.pieces.write r s ≡ Some m → i.valid m ≡ true
+    -- what a step is missing is valid input
+    pub missing-valid : i.valid J ≡ true → (s : PieceStep) → is_definite i.pieces s r ≡ false
+        → IsSpelt i s → missing i.pieces i.greatest i.pieces.write r s ≡ Some m → i.valid m ≡ true
     missing-valid w (step.Call s) h u is = call-valid s u is
     missing-valid w (step.Compare literal) h u is =
         let l : List ℕ = i.pieces.literal literal in
@@ -320,11 +394,16 @@ module _ (i : InputKind) (law : IsInput i) (spelling : IsSpelling i) (J : List �
 
 -- ---- the step that no input changes
 
-none-held : (holds : ℕ → Bool) (k : ℕ) (m : Source ℕ) → AllByRecursion (λ x. holds x.0 ≡ false) m → first_held holds (offsets_from k m) ≡ None
+-- a list whose tokens are not in the set has no first token of it
+none-held : (holds : ℕ → Bool) (k : ℕ) (m : Source ℕ) → AllByRecursion (λ x. holds x.0 ≡ false) m
+    → first_held holds (offsets_from k m) ≡ None
 none-held holds k [] h = refl
 none-held holds k (x ∷ m) h = let e : holds x.0 ≡ false = h.0 in rw e (none-held holds (k + x.1) m h.1)
 
-none-reached : (holds : ℕ → Bool) (k : ℕ) (r m : Source ℕ) → is_some (first_held holds (offsets_from k r)) ≡ false → AllByRecursion (λ x. holds x.0 ≡ false) m → first_held holds (offsets_from k (r ++ m)) ≡ None
+-- appending such a list does not give one either
+none-reached : (holds : ℕ → Bool) (k : ℕ) (r m : Source ℕ)
+    → is_some (first_held holds (offsets_from k r)) ≡ false
+    → AllByRecursion (λ x. holds x.0 ≡ false) m → first_held holds (offsets_from k (r ++ m)) ≡ None
 none-reached holds k [] m h g = none-held holds k m g
 none-reached holds k (x ∷ r) m h g =
     elim (cases_Bool (holds x.0)) [
@@ -332,9 +411,12 @@ none-reached holds k (x ∷ r) m h g =
       | inr e ↦ rw e (none-reached holds (k + x.1) r m (rw e at h) g)
     ]
 
+-- an option that is not `Some` is `None`
 no-some : {A : Type 0} (o : Option A) → is_some o ≡ false → o ≡ None
 no-some None h = refl
 no-some (Some a) h = absurd (false≢true (sym h))
 
-pub first-never : (holds : ℕ → Bool) (r m : Source ℕ) → is_some (first_offset holds r) ≡ false → AllByRecursion (λ x. holds x.0 ≡ false) m → first_offset holds (r ++ m) ≡ first_offset holds r
+-- a `First` without a hit keeps its answer when tokens follow that are not in the set
+pub first-never : (holds : ℕ → Bool) (r m : Source ℕ) → is_some (first_offset holds r) ≡ false
+    → AllByRecursion (λ x. holds x.0 ≡ false) m → first_offset holds (r ++ m) ≡ first_offset holds r
 first-never holds r m h g = none-reached holds 0 r m h g ∙ sym (no-some (first_offset holds r) h)

@@ -1,4 +1,4 @@
--- What one piece more lets out, and what the end does: lists, fronts and what is out alone.
+-- The answers that one more piece adds, and those that the end adds, in terms of lists and fronts.
 use Rattle.std.proofs.Common.{◌≡◌, ℕ, suc, ◌+◌, ◌≤◌, ◌<◌, Bool, true, false, cond, List, [], ◌∷◌, ◌++◌, length, drop, map, Option, None, Some, refl, sym, ap, ◌∙◌, arith, inl, inr}
 use Rattle.std.specs.List.{AllByRecursion, take_while}
 use Rattle.std.proofs.lemmas.Bool.{cases_Bool, false≢true, ltb-true, lt-ltb, le-ltb}
@@ -18,7 +18,14 @@ use Rattle.winnow_feed.proofs.lemmas.ReachLemmas.{take_while-stop, take_while-go
 
 module _ {T C L : Type 0} (k : PieceKind T C L) (all more : Source T) where
   -- the answers that are out are the first of those that are out with more input
-  out_from-more : (s : Cursor) (steps : List (SearchStep C L)) → Inside all s → (later : List (PlacedSearchAnswer T)) × (map (λ a. a.0) (take_while (λ a. a.1) (answers_from (judged k (all ++ more)) (search_next (all ++ more)) steps s)) ≡ map (λ a. a.0) (take_while (λ a. a.1) (answers_from (judged k all) (search_next all) steps s)) ++ later)
+  out_from-more : (s : Cursor) (steps : List (SearchStep C L)) → Inside all s
+      → (later : List (PlacedSearchAnswer T))
+      ×
+      (map (λ a. a.0)
+      (take_while (λ a. a.1) (answers_from (judged k (all ++ more)) (search_next (all
+      ++ more)) steps s))
+      ≡ map (λ a. a.0)
+      (take_while (λ a. a.1) (answers_from (judged k all) (search_next all) steps s)) ++ later)
   out_from-more s [] inside = ([], refl)
   out_from-more s (x ∷ steps) inside =
       elim (cases_Bool (is_definite k x (rest all s))) [
@@ -41,7 +48,10 @@ module _ {T C L : Type 0} (k : PieceKind T C L) (all more : Source T) where
             )
       ]
 
-  out-more : (script : List (SearchStep C L)) → (later : List (PlacedSearchAnswer T)) × (out k (all ++ more) script ≡ out k all script ++ later)
+  -- the same from the start of the script
+  out-more : (script : List (SearchStep C L))
+      → (later : List (PlacedSearchAnswer T))
+      × (out k (all ++ more) script ≡ out k all script ++ later)
   out-more script = out_from-more start script (start-inside all)
 
 -- ---- fronts
@@ -49,17 +59,22 @@ module _ {T C L : Type 0} (k : PieceKind T C L) (all more : Source T) where
 abbrev pub AreInputs : (List ℕ → Bool) → List (List ℕ) → Type 0
 AreInputs valid pieces = AllByRecursion (λ piece. valid piece ≡ true) pieces
 
+-- all pieces of bytes are valid
 pub are-bytes : (pieces : List (List ℕ)) → AreInputs byte_input.valid pieces
 are-bytes [] = tt
 are-bytes (p ∷ pieces) = (refl, are-bytes pieces)
 
-pub AreInputs-joined : (i : InputKind) → IsInput i → (pieces : List (List ℕ)) → AreInputs i.valid pieces → i.valid (joined pieces) ≡ true
+-- valid pieces, joined, are valid
+pub AreInputs-joined : (i : InputKind) → IsInput i → (pieces : List (List ℕ))
+    → AreInputs i.valid pieces → i.valid (joined pieces) ≡ true
 AreInputs-joined i law [] us = law.empty
 AreInputs-joined i law (p ∷ pieces) us = law.joins p (joined pieces) us.0 (AreInputs-joined i law pieces us.1)
 
 module _ (valid : List ℕ → Bool) (joins : (xs ys : List ℕ) → valid xs ≡ true → valid ys ≡ true → valid (xs ++ ys) ≡ true) (test : List ℕ → Bool) (grows : (xs ys : List ℕ) → valid xs ≡ true → test xs ≡ true → test (xs ++ ys) ≡ true) where
-  -- what a front of the pieces passes is found there
-  found_before : (J : List ℕ) (q : List ℕ) (pieces : List (List ℕ)) (p : List ℕ) → test (J ++ joined (q ∷ pieces)) ≡ true → shortest_front test J ((q ∷ pieces) ++ p ∷ []) ≡ shortest_front test J (q ∷ pieces)
+  -- if all pieces joined pass the test, one more piece does not change the shortest front that does
+  found_before : (J : List ℕ) (q : List ℕ) (pieces : List (List ℕ)) (p : List ℕ)
+      → test (J ++ joined (q ∷ pieces)) ≡ true
+      → shortest_front test J ((q ∷ pieces) ++ p ∷ []) ≡ shortest_front test J (q ∷ pieces)
   found_before J q [] p h = let e : test (J ++ q) ≡ true = rw append-nil at h in rw e
   found_before J q (r ∷ pieces) p h =
       elim (cases_Bool (test (J ++ q))) [
@@ -67,8 +82,11 @@ module _ (valid : List ℕ → Bool) (joins : (xs ys : List ℕ) → valid xs �
         | inr e ↦ let ih = found_before (J ++ q) r pieces p (rw (append_assoc J q (joined (r ∷ pieces))) h) in rw e (ap (λ n. n + 1) ih)
       ]
 
-  -- what none passes before the last piece is found there
-  found_last : (J : List ℕ) (pieces : List (List ℕ)) (p : List ℕ) → valid J ≡ true → AreInputs valid pieces → (0 < length pieces → test (J ++ joined pieces) ≡ false) → test ((J ++ joined pieces) ++ p) ≡ true → shortest_front test J (pieces ++ p ∷ []) ≡ length pieces + 1
+  -- if no front passes before the last piece, the front with all pieces is found
+  found_last : (J : List ℕ) (pieces : List (List ℕ)) (p : List ℕ) → valid J ≡ true
+      → AreInputs valid pieces → (0 < length pieces → test (J ++ joined pieces) ≡ false)
+      → test ((J ++ joined pieces) ++ p) ≡ true
+      → shortest_front test J (pieces ++ p ∷ []) ≡ length pieces + 1
   found_last J [] p u us h g = let e : test (J ++ p) ≡ true = rw append-nil at g in rw e (omega arith)
   found_last J (q ∷ pieces) p u us h g =
       elim (cases_Bool (test (J ++ q))) [
@@ -83,18 +101,25 @@ module _ (valid : List ℕ → Bool) (joins : (xs ys : List ℕ) → valid xs �
 
 -- ---- numbers
 
-numbered-append : (f : ℕ → ℕ) (k : ℕ) (xs ys : List (PlacedSearchAnswer ℕ)) → numbered f k (xs ++ ys) ≡ numbered f k xs ++ numbered f (k + length xs) ys
+-- the numbers of appended answers go on after the first ones
+numbered-append : (f : ℕ → ℕ) (k : ℕ) (xs ys : List (PlacedSearchAnswer ℕ))
+    → numbered f k (xs ++ ys) ≡ numbered f k xs ++ numbered f (k + length xs) ys
 numbered-append f k [] ys = ap (λ n. numbered f n ys) (omega arith)
 numbered-append f k (x ∷ xs) ys =
     let e : k + 1 + length xs ≡ k + suc (length xs) = omega arith in
     ap (λ r. under (Some (capped (f k))) x ∷ r) (numbered-append f (k + 1) xs ys ∙ ap (λ n. numbered f (k + 1) xs ++ numbered f n ys) e)
 
-numbered-same : (f g : ℕ → ℕ) (k : ℕ) (xs : List (PlacedSearchAnswer ℕ)) → ((i : ℕ) → k ≤ i → i < k + length xs → f i ≡ g i) → numbered f k xs ≡ numbered g k xs
+-- functions that agree on the numbers give the same numbered answers
+numbered-same : (f g : ℕ → ℕ) (k : ℕ) (xs : List (PlacedSearchAnswer ℕ))
+    → ((i : ℕ) → k ≤ i → i < k + length xs → f i ≡ g i) → numbered f k xs ≡ numbered g k xs
 numbered-same f g k [] h = refl
 numbered-same f g k (x ∷ xs) h =
     rw (h k (omega arith) (omega arith), numbered-same f g (k + 1) xs (λ i l u. h i (omega arith) (omega arith)))
 
-numbered-one : (f : ℕ → ℕ) (n k : ℕ) (xs : List (PlacedSearchAnswer ℕ)) → ((i : ℕ) → k ≤ i → i < k + length xs → f i ≡ n) → numbered f k xs ≡ map (under (Some (capped n))) xs
+-- answers whose numbers have one piece all carry its number
+numbered-one : (f : ℕ → ℕ) (n k : ℕ) (xs : List (PlacedSearchAnswer ℕ))
+    → ((i : ℕ) → k ≤ i → i < k + length xs → f i ≡ n)
+    → numbered f k xs ≡ map (under (Some (capped n))) xs
 numbered-one f n k [] h = refl
 numbered-one f n k (x ∷ xs) h =
     rw (h k (omega arith) (omega arith), numbered-one f n (k + 1) xs (λ i l u. h i (omega arith) (omega arith)))
@@ -102,38 +127,56 @@ numbered-one f n k (x ∷ xs) h =
 abbrev pub answers_of : {T : Type 0} → List (Told T) → List (PlacedSearchAnswer T)
 answers_of told = map (λ t. t.answer) told
 
-answers-numbered : (f : ℕ → ℕ) (k : ℕ) (xs : List (PlacedSearchAnswer ℕ)) → answers_of (numbered f k xs) ≡ xs
+-- the answers without their numbers are the answers
+answers-numbered : (f : ℕ → ℕ) (k : ℕ) (xs : List (PlacedSearchAnswer ℕ))
+    → answers_of (numbered f k xs) ≡ xs
 answers-numbered f k [] = refl
 answers-numbered f k (x ∷ xs) = ap (λ r. x ∷ r) (answers-numbered f (k + 1) xs)
 
-pub answers-under : {T : Type 0} (n : Option ℕ) (xs : List (PlacedSearchAnswer T)) → answers_of (map (under n) xs) ≡ xs
+pub answers-under : {T : Type 0} (n : Option ℕ) (xs : List (PlacedSearchAnswer T))
+    → answers_of (map (under n) xs) ≡ xs
 answers-under n [] = refl
 answers-under n (x ∷ xs) = ap (λ r. x ∷ r) (answers-under n xs)
 
--- what is told after some pieces are the answers that are out
-pub answers-told_of : (i : InputKind) (script : List PieceStep) (p : List ℕ) (pieces : List (List ℕ)) → answers_of (told_of i script (p ∷ pieces)) ≡ out_on i script (joined (p ∷ pieces))
+-- the answers after some pieces are those that are out on their joined input
+pub answers-told_of : (i : InputKind) (script : List PieceStep) (p : List ℕ)
+    (pieces : List (List ℕ))
+    → answers_of (told_of i script (p ∷ pieces)) ≡ out_on i script (joined (p ∷ pieces))
 answers-told_of i script p pieces = answers-numbered (piece_of i script (p ∷ pieces)) 0 (out_on i script (joined (p ∷ pieces)))
 
--- ---- one piece more
+-- ---- one more piece
 
-pub waits-push : (i : InputKind) (script : List PieceStep) (J : List ℕ) (pieces : List (List ℕ)) (p : List ℕ) → waits i script J (pieces ++ p ∷ []) ≡ waits i script J pieces + cond (is_waiting i script ((J ++ joined pieces) ++ p)) 1 0
+-- one more piece adds a wait if a step waits after it
+pub waits-push : (i : InputKind) (script : List PieceStep) (J : List ℕ) (pieces : List (List ℕ))
+    (p : List ℕ)
+    → waits i script J (pieces ++ p ∷ [])
+    ≡ waits i script J pieces + cond (is_waiting i script ((J ++ joined pieces) ++ p)) 1 0
 waits-push i script J [] p = rw (append-nil J) (omega arith)
 waits-push i script J (q ∷ pieces) p = let ih = waits-push i script (J ++ q) pieces p in rw (← append_assoc J q (joined pieces)) (omega (arith, ih))
 
 module _ (i : InputKind) (law : IsInput i) (script : List PieceStep) where
-  out_on-more : (J M : List ℕ) → i.valid J ≡ true → (later : List (PlacedSearchAnswer ℕ)) × (out_on i script (J ++ M) ≡ out_on i script J ++ later)
+  -- the answers that are out on an input are the first of those that are out on a longer one
+  out_on-more : (J M : List ℕ) → i.valid J ≡ true
+      → (later : List (PlacedSearchAnswer ℕ))
+      × (out_on i script (J ++ M) ≡ out_on i script J ++ later)
   out_on-more J M u =
       let grows = out-more i.pieces (i.source J) (i.source M) script in
       (grows.0, ap (λ r. out i.pieces r script) (law.split J M u) ∙ grows.1)
 
-  lets_out-more : (k : ℕ) (J M : List ℕ) → i.valid J ≡ true → lets_out i script k J ≡ true → lets_out i script k (J ++ M) ≡ true
+  -- an answer that is out stays out with more input
+  lets_out-more : (k : ℕ) (J M : List ℕ) → i.valid J ≡ true → lets_out i script k J ≡ true
+      → lets_out i script k (J ++ M) ≡ true
   lets_out-more k J M u h =
       let less = ltb-true k (length (out_on i script J)) h in
       let grows = out_on-more J M u in
       lt-ltb k (length (out_on i script (J ++ M))) (omega (arith, ap length grows.1, length-append (out_on i script J) grows.0))
 
-  -- what is told after one piece more, where the answers that were out are a front of it
-  pub told_of-push : (pieces : List (List ℕ)) (p : List ℕ) (more : List (PlacedSearchAnswer ℕ)) → AreInputs i.valid pieces → out_on i script (joined pieces ++ p) ≡ answers_of (told_of i script pieces) ++ more → told_of i script (pieces ++ p ∷ []) ≡ told_of i script pieces ++ map (under (Some (capped (length pieces + 1)))) more
+  -- the answers after one more piece, if those that were out before are a front of them
+  pub told_of-push : (pieces : List (List ℕ)) (p : List ℕ) (more : List (PlacedSearchAnswer ℕ))
+      → AreInputs i.valid pieces
+      → out_on i script (joined pieces ++ p) ≡ answers_of (told_of i script pieces) ++ more
+      → told_of i script (pieces ++ p ∷ []) ≡ told_of i script pieces
+      ++ map (under (Some (capped (length pieces + 1)))) more
   told_of-push [] p more us h =
       let J : joined (p ∷ []) ≡ p = append-nil p in
       let fits : (n : ℕ) → 0 ≤ n → n < 0 + length (out_on i script (joined (p ∷ []))) → piece_of i script (p ∷ []) n ≡ 1 = λ n l u.
@@ -152,8 +195,9 @@ module _ (i : InputKind) (law : IsInput i) (script : List PieceStep) where
       ap (numbered (piece_of i script (all ++ p ∷ [])) 0) split ∙ numbered-append (piece_of i script (all ++ p ∷ [])) 0 gs more
       ∙ rw (numbered-same (piece_of i script (all ++ p ∷ [])) (piece_of i script all) 0 gs early, numbered-one (piece_of i script (all ++ p ∷ [])) (length all + 1) (0 + length gs) more late) refl
 
-  -- nothing that was told is taken back
-  pub told_of-more : (pieces : List (List ℕ)) (p : List ℕ) → AreInputs i.valid pieces → TellsMore i script pieces p
+  -- one more piece takes no answer back
+  pub told_of-more : (pieces : List (List ℕ)) (p : List ℕ) → AreInputs i.valid pieces
+      → TellsMore i script pieces p
   told_of-more [] p us = record { later = out_on i script p; told = told_of-push [] p (out_on i script p) us refl }
   told_of-more (q ∷ pieces) p us =
       let all = q ∷ pieces in
@@ -166,7 +210,11 @@ module _ (i : InputKind) (law : IsInput i) (script : List PieceStep) where
 
 -- ---- the end
 
-front-rest : {A : Type 0} (xs : List (A × Bool)) → map (λ a. a.0) (take_while (λ a. a.1) xs) ++ drop (length (map {B = A} (λ a. a.0) (take_while (λ a. a.1) xs))) (map (λ a. a.0) xs) ≡ map (λ a. a.0) xs
+-- the definite front of a list, and the rest, are the list
+front-rest : {A : Type 0} (xs : List (A × Bool))
+    → map (λ a. a.0) (take_while (λ a. a.1) xs)
+    ++ drop (length (map {B = A} (λ a. a.0) (take_while (λ a. a.1) xs))) (map (λ a. a.0) xs)
+    ≡ map (λ a. a.0) xs
 front-rest [] = refl
 front-rest (x ∷ xs) =
     elim (cases_Bool x.1) [
@@ -175,18 +223,25 @@ front-rest (x ∷ xs) =
     ]
 
 module _ {T C L : Type 0} (k : PieceKind T C L) (all : Source T) where
-  answers-judged : (s : Cursor) (steps : List (SearchStep C L)) → map (λ a. a.0) (answers_from (judged k all) (search_next all) steps s) ≡ answers_from (search_answer (kind_of k) all) (search_next all) steps s
+  -- the answers without their flags are the answers
+  answers-judged : (s : Cursor) (steps : List (SearchStep C L))
+      → map (λ a. a.0) (answers_from (judged k all) (search_next all) steps s)
+      ≡ answers_from (search_answer (kind_of k) all) (search_next all) steps s
   answers-judged s [] = refl
   answers-judged s (x ∷ steps) = ap (λ r. search_answer (kind_of k) all x s ∷ r) (answers-judged (search_next all x s) steps)
 
-  -- the answers that are out, and those behind them, are all
-  out-rest : (script : List (SearchStep C L)) → out k all script ++ drop (length (out k all script)) (search_answers (kind_of k) all script) ≡ search_answers (kind_of k) all script
+  -- the answers that are out, and those after them, are all answers
+  out-rest : (script : List (SearchStep C L))
+      → out k all script
+      ++ drop (length (out k all script)) (search_answers (kind_of k) all script)
+      ≡ search_answers (kind_of k) all script
   out-rest script =
       let same = answers-judged start script in
       ap (λ r. out k all script ++ drop (length (out k all script)) r) (sym same) ∙ front-rest (answers_from (judged k all) (search_next all) script start) ∙ same
 
--- what is told to the end are all answers
-pub answers-told_to_end : (i : InputKind) (script : List PieceStep) (pieces : List (List ℕ)) → answers_of (told_to_end i script pieces) ≡ all_answers i script pieces
+-- the answers at the end are all answers
+pub answers-told_to_end : (i : InputKind) (script : List PieceStep) (pieces : List (List ℕ))
+    → answers_of (told_to_end i script pieces) ≡ all_answers i script pieces
 answers-told_to_end i script [] = answers-under None (all_answers i script [])
 answers-told_to_end i script (p ∷ pieces) =
     let told = told_of i script (p ∷ pieces) in

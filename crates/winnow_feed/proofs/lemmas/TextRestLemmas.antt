@@ -1,4 +1,5 @@
--- What follows a text in a text is a text: the rest of a literal, and of a needle that stretches.
+-- What follows a text inside a text is text: the rest of a literal, and the rest of a needle that
+-- stretches.
 use Rattle.std.proofs.Common.{◌≡◌, ℕ, zero, suc, ◌-◌, ◌<◌, true, List, [], ◌∷◌, ◌++◌, length, take, drop, get_or, refl, ap, sym, ◌∙◌, arith, subst, inl, inr, length-drop}
 use Rattle.std.specs.List.{list_any, AllByRecursion}
 use Rattle.std.specs.Char.{encode_utf8, len_utf8}
@@ -19,37 +20,45 @@ use Rattle.winnow_match.proofs.lemmas.StretchLemmas.{none-or-some}
 use Rattle.winnow_match.proofs.lemmas.MoveLemmas.{inside, stretch-some, stretch-first, stretch-empty}
 use Rattle.winnow_attempt.specs.Missing.{needle_missing}
 
+-- the rest of a list of scalar values has scalar values alone
 scalars-drop : (k : ℕ) (cs : List ℕ) → all_scalars cs ≡ true → all_scalars (drop k cs) ≡ true
 scalars-drop zero cs h = h
 scalars-drop (suc k) [] h = h
 scalars-drop (suc k) (c ∷ cs) h = scalars-drop k cs (and_parts _ (all_scalars cs) h).1
 
--- what remains of a text is a text
-pub text-drop : (bytes : List ℕ) (n : ℕ) → is_utf8 bytes ≡ true → is_utf8 (written encode_utf8 (drop n (text_source bytes))) ≡ true
+-- what remains of a text is text
+pub text-drop : (bytes : List ℕ) (n : ℕ) → is_utf8 bytes ≡ true
+    → is_utf8 (written encode_utf8 (drop n (text_source bytes))) ≡ true
 text-drop bytes n v =
     let cs : List ℕ = chars bytes in
     let scalars : all_scalars cs ≡ true = scalars-chars bytes (IsUtf8-from_is_utf8 bytes v) in
     let e = ap (written encode_utf8) (drop-map (λ c. let x : ℕ × ℕ = (c, len_utf8 c) in x) n cs) in
     is_utf8-from_IsUtf8 (written encode_utf8 (drop n (text_source bytes))) (drop n cs, (scalars-drop n cs scalars, sym (utf8_of-char_source (drop n cs)) ∙ sym e))
 
+-- the front of a text that is text ends at a character
 rest-boundary : (l b : List ℕ) → IsUtf8 l → IsUtf8 b → IsPrefixOf b l → IsCharBoundary l (length b)
 rest-boundary l b u v f =
     let h = is_prefix-IsPrefixOf b l f in
     let e : take (length b) l ≡ b = ap (take (length b)) (front_rest b l h) ∙ take_at b (drop (length b) l) (length b) refl in
     IsCharBoundary-from_take l (length b) u (length-front b l h) (subst IsUtf8 (sym e) v)
 
+-- the rest of a text after a front that is text is text
 rest-utf8 : (l b : List ℕ) → IsUtf8 l → IsUtf8 b → IsPrefixOf b l → IsUtf8 (drop (length b) l)
 rest-utf8 l b u v f = IsUtf8-drop l (length b) u (rest-boundary l b u v f)
 
-pub rest-text : (l b : List ℕ) → is_utf8 l ≡ true → is_utf8 b ≡ true → IsPrefixOf b l → is_utf8 (drop (length b) l) ≡ true
+-- the same for the test `is_utf8`
+pub rest-text : (l b : List ℕ) → is_utf8 l ≡ true → is_utf8 b ≡ true → IsPrefixOf b l
+    → is_utf8 (drop (length b) l) ≡ true
 rest-text l b u v f = is_utf8-from_IsUtf8 (drop (length b) l) (rest-utf8 l b (IsUtf8-from_is_utf8 l u) (IsUtf8-from_is_utf8 b v) f)
 
+-- the first byte of an appended list is that of the left part, if it has one
 first-of : (xs ys : List ℕ) → 0 < length xs → get_or (xs ++ ys) 0 0 ≡ get_or xs 0 0
 first-of [] ys l = absurd (omega (arith, l))
 first-of (x ∷ xs) ys l = refl
 
--- a text that stretches in a text begins at a character
-stretch-boundary : (n b : List ℕ) (q : ℕ) → IsUtf8 n → q < length b → Stretches n b q → IsCharBoundary b q
+-- a text that stretches at the end of a text begins at a character
+stretch-boundary : (n b : List ℕ) (q : ℕ) → IsUtf8 n → q < length b → Stretches n b q
+    → IsCharBoundary b q
 stretch-boundary n b q u l s =
     let xs : List ℕ = drop q b in
     let some : 0 < length xs = omega (arith, l, length-drop q b) in
@@ -58,17 +67,23 @@ stretch-boundary n b q u l s =
     let first = IsCharBoundary-start n u in
     (omega (arith, l), λ m a. let f = first.1 (omega (arith, some, s.1)) (omega (arith, a, here)) in omega (arith, f, here))
 
-stretch-text : (n b : List ℕ) (q : ℕ) → IsUtf8 n → IsUtf8 b → q < length b → Stretches n b q → IsUtf8 (drop (length b - q) n)
+-- the rest of a needle that stretches is text
+stretch-text : (n b : List ℕ) (q : ℕ) → IsUtf8 n → IsUtf8 b → q < length b → Stretches n b q
+    → IsUtf8 (drop (length b - q) n)
 stretch-text n b q u v l s =
     let e : length (drop q b) ≡ length b - q = omega (arith, length-drop q b) in
     subst (λ k. IsUtf8 (drop k n)) e (rest-utf8 n (drop q b) u (IsUtf8-drop b q v (stretch-boundary n b q u l s)) s.0)
 
-text-needle : (ls : List (List ℕ)) (i : ℕ) → AllByRecursion (λ needle. is_utf8 needle ≡ true) ls → i < length ls → IsUtf8 (needle_of ls i)
+-- each needle of a list of texts is text
+text-needle : (ls : List (List ℕ)) (i : ℕ) → AllByRecursion (λ needle. is_utf8 needle ≡ true) ls
+    → i < length ls → IsUtf8 (needle_of ls i)
 text-needle [] i h l = absurd (omega (arith, l))
 text-needle (n ∷ ls) zero h l = IsUtf8-from_is_utf8 n h.0
 text-needle (n ∷ ls) (suc i) h l = text-needle ls i h.1 (omega (arith, l))
 
-needle-utf8 : (ls : List (List ℕ)) (b : List ℕ) → 0 < length ls → AllByRecursion (λ needle. is_utf8 needle ≡ true) ls → IsUtf8 b → IsUtf8 (needle_missing ls b)
+-- what a search for texts is missing is text
+needle-utf8 : (ls : List (List ℕ)) (b : List ℕ) → 0 < length ls
+    → AllByRecursion (λ needle. is_utf8 needle ≡ true) ls → IsUtf8 b → IsUtf8 (needle_missing ls b)
 needle-utf8 ls b some us v =
     elim (none-or-some (hit ls b)) [
       | inl e ↦ rw e (text-needle ls 0 us some)
@@ -86,5 +101,8 @@ needle-utf8 ls b some us v =
       ]
     ]
 
-pub needle-text : (ls : List (List ℕ)) (b : List ℕ) → 0 < length ls → AllByRecursion (λ needle. is_utf8 needle ≡ true) ls → is_utf8 b ≡ true → is_utf8 (needle_missing ls b) ≡ true
+-- the same for the test `is_utf8`
+pub needle-text : (ls : List (List ℕ)) (b : List ℕ) → 0 < length ls
+    → AllByRecursion (λ needle. is_utf8 needle ≡ true) ls → is_utf8 b ≡ true
+    → is_utf8 (needle_missing ls b) ≡ true
 needle-text ls b some us v = is_utf8-from_IsUtf8 (needle_missing ls b) (needle-utf8 ls b some us (IsUtf8-from_is_utf8 b v))

@@ -1,4 +1,4 @@
--- What a feed waits for, from the pieces that it fits.
+-- What a feed waits for, derived from the pieces that it fits.
 use Rattle.std.proofs.Common.{◌≡◌, ℕ, zero, suc, ◌<◌, Bool, true, false, List, [], ◌∷◌, ◌++◌, length, take, get_or, Option, Some, None, Result, Ok, Err, refl, sym, ap, ◌∙◌, arith, Bor}
 use Rattle.std.specs.Prelude.{slice_get, is_some, option_map, IfSome, IsSome, IfOk, OnErr}
 use Rattle.std.specs.List.{AllByRecursion}
@@ -34,56 +34,79 @@ use Rattle.winnow_feed.proofs.lemmas.KeepingLemmas.{stands-inside}
 use Rattle.winnow_feed.proofs.lemmas.FeedLemmas.{out-is}
 use Rattle.winnow_feed.proofs.lemmas.MissingLemmas.{step-changes, missing-valid, first-never}
 
+-- a fact that holds also holds if the result is an error
 pub on-err : {A E : Type 0} (r : Result A E) (P : Type 0) → P → OnErr r P
 on-err (Ok a) P p = tt
 on-err (Err e) P p = p
 
+-- a number below the length has an element
 at-exists : {X : Type 0} (xs : List X) (n : ℕ) → n < length xs → (x : X) × (slice_get xs n ≡ Some x)
 at-exists [] n l = absurd (omega arith)
 at-exists (x ∷ xs) zero l = (x, refl)
 at-exists (x ∷ xs) (suc n) l = at-exists xs n (omega arith)
 
--- ---- what a step is missing where the kept input remains is what it is missing on the joined one
+-- ---- what a step is missing on the kept input is what it is missing on the joined input
 
 module _ {T L : Type 0} (k : PieceKind T CharSet L) (greatest : ℕ) (spell : ℕ → List ℕ) (kept : Source T) (p : Progress T L) (x : SearchStep CharSet L) (next : next_step p ≡ Some x) (r : Source T) (is : (all : Source T) (h : IsRunOver true k all kept p) → r ≡ rest all h.at) where
-  missing-same : (all : Source T) (h : IsRunOver true k all kept p) (s : SearchStep CharSet L) → next_step p ≡ Some s → missing k greatest spell r x ≡ missing k greatest spell (rest all h.at) s
+  -- a step is missing the same on the kept input as on the joined one
+  missing-same : (all : Source T) (h : IsRunOver true k all kept p) (s : SearchStep CharSet L)
+      → next_step p ≡ Some s
+      → missing k greatest spell r x ≡ missing k greatest spell (rest all h.at) s
   missing-same all h s e = ap (λ b. missing k greatest spell b x) (is all h) ∙ ap (missing k greatest spell (rest all h.at)) (same_Some x s (sym next ∙ e))
 
-  pub ok-missing : {A E : Type 0} (bytes : A → List ℕ) (result : Result (Option A) E) → IfOk result (λ m. option_map bytes m ≡ missing k greatest spell r x) → IfOk result (λ m. GivesMissing k greatest spell kept p (option_map bytes m))
+  -- the code returns what the step is missing, and is refused memory only if that is something
+  pub ok-missing : {A E : Type 0} (bytes : A → List ℕ) (result : Result (Option A) E)
+      → IfOk result (λ m. option_map bytes m ≡ missing k greatest spell r x)
+      → IfOk result (λ m. GivesMissing k greatest spell kept p (option_map bytes m))
   ok-missing bytes (Ok m) e = λ all h s n. e ∙ missing-same all h s n
   ok-missing bytes (Err f) e = tt
 
-  pub err-missing : {A E : Type 0} (result : Result A E) → OnErr result (IsSome (missing k greatest spell r x)) → OnErr result (MissesSome k greatest spell kept p)
+  pub err-missing : {A E : Type 0} (result : Result A E)
+      → OnErr result (IsSome (missing k greatest spell r x))
+      → OnErr result (MissesSome k greatest spell kept p)
   err-missing (Ok a) e = tt
   err-missing (Err f) e = λ all h s n. ap is_some (sym (missing-same all h s n)) ∙ e
 
--- what the next step answers is the answer of that number
-reached-answer : {T C L : Type 0} (strict : Bool) (k : PieceKind T C L) (all : Source T) (s t : Cursor) (steps : List (SearchStep C L)) (gs : List (PlacedSearchAnswer T)) (x : SearchStep C L) → Reaches strict k all s steps gs t → slice_get steps (length gs) ≡ Some x → slice_get (answers_from (search_answer (kind_of k) all) (search_next all) steps s) (length gs) ≡ Some (search_answer (kind_of k) all x t)
+-- the next step's answer is the answer of the script with its number
+reached-answer : {T C L : Type 0} (strict : Bool) (k : PieceKind T C L) (all : Source T)
+    (s t : Cursor) (steps : List (SearchStep C L)) (gs : List (PlacedSearchAnswer T))
+    (x : SearchStep C L) → Reaches strict k all s steps gs t → slice_get steps (length gs) ≡ Some x
+    → slice_get (answers_from (search_answer (kind_of k) all) (search_next all) steps s)
+    (length gs) ≡ Some (search_answer (kind_of k) all x t)
 reached-answer strict k all s t [] [] x r e = absurd (none-some x e)
 reached-answer strict k all s t (y ∷ steps) [] x r e = let same : y ≡ x = same_Some y x e in rw (r, same) refl
 reached-answer strict k all s t [] (a ∷ gs) x r e = elim r [ ]
 reached-answer strict k all s t (y ∷ steps) (a ∷ gs) x r e = reached-answer strict k all (search_next all y s) t steps gs x r.2 e
 
--- ---- a feed that stands for an input, where its next step waits
+-- ---- a feed that holds an input, where its next step waits
 
-pub next-exists : {T L : Type 0} (p : Progress T L) → length p.told.items < length p.script.now → (s : SearchStep CharSet L) × (next_step p ≡ Some s)
+-- if a step remains, there is a next step
+pub next-exists : {T L : Type 0} (p : Progress T L) → length p.told.items < length p.script.now
+    → (s : SearchStep CharSet L) × (next_step p ≡ Some s)
 next-exists p l = at-exists p.script.now (length p.told.items) l
 
-pub next-spelt : (i : InputKind) (p : Progress ℕ (Bor (List ℕ))) (n : ℕ) (d : PieceStep) → n ≡ length p.told.items → n < length p.script.now → IsSpelt i (get_or p.script.now n d) → (s : PieceStep) × (next_step p ≡ Some s) × IsSpelt i s
+-- the next step names what fits the kind of input, if the step of the script at its number does
+pub next-spelt : (i : InputKind) (p : Progress ℕ (Bor (List ℕ))) (n : ℕ) (d : PieceStep)
+    → n ≡ length p.told.items → n < length p.script.now → IsSpelt i (get_or p.script.now n d)
+    → (s : PieceStep) × (next_step p ≡ Some s) × IsSpelt i s
 next-spelt i p n d e l spelt = (get_or p.script.now n d, ap (slice_get p.script.now) (sym e) ∙ slice_get-get_or p.script.now n d l, spelt)
 
 module _ (i : InputKind) (law : IsInput i) (spelling : IsSpelling i) (f : FeedState) (J : List ℕ) (h : HoldsInput i f J) (rests : IsAtRest i.pieces (i.source J) f.run) (s : PieceStep) (next : next_step f.run ≡ Some s) where
+  -- the cursor is inside the input
   pub inside : Inside (i.source J) h.stands.at
   inside = stands-inside i.pieces (i.source J) (i.source f.kept) f.run h.stands
 
+  -- the step is not definite there
   pub waits : is_definite i.pieces s (rest (i.source J) h.stands.at) ≡ false
   waits = ap (is_definite i.pieces s) (sym (rest-back true i.pieces (i.source J) (i.source f.kept) f.run h.stands s next)) ∙ rests s next
 
-  -- what it is missing is an input
-  pub missing-input : (m : List ℕ) → IsSpelt i s → Some m ≡ missing i.pieces i.greatest i.pieces.write (rest (i.source J) h.stands.at) s → i.valid m ≡ true
+  -- what the step is missing is valid input
+  pub missing-input : (m : List ℕ) → IsSpelt i s
+      → Some m ≡ missing i.pieces i.greatest i.pieces.write (rest (i.source J) h.stands.at) s
+      → i.valid m ≡ true
   missing-input m u e = missing-valid i law spelling J h.stands.at inside m h.is_input s waits u (sym e)
 
--- ---- the same of pieces that it fits
+-- ---- the same for pieces that the feed fits
 
 module _ (i : InputKind) (law : IsInput i) (spelling : IsSpelling i) (f : FeedState) (pieces : List (List ℕ)) (h : Fits i f pieces) (some : 0 < length pieces) (s : PieceStep) (next : next_step f.run ≡ Some s) where
   abbrev J : List ℕ
@@ -95,46 +118,62 @@ module _ (i : InputKind) (law : IsInput i) (spelling : IsSpelling i) (f : FeedSt
   abbrev st : IsRunOver true i.pieces (i.source (joined pieces)) (i.source f.kept) f.run
   st = h.stands.stands
 
+  -- the answers are as many as were appended
   told-length : length (answers_out f.run) ≡ length f.run.told.items
   told-length = length-map f.run.told.items (λ t. t.answer)
 
+  -- the number of the waiting step is the number of answers
   number-is : waiting_number i (script_of f) J ≡ length (answers_out f.run)
   number-is = ap length (out-is i law all (i.source f.kept) f.run st (h.rests some))
 
+  -- the step with that number is the next step
   next-told : slice_get f.run.script.now (length (answers_out f.run)) ≡ Some s
   next-told = ap (slice_get f.run.script.now) told-length ∙ next
 
+  -- the waiting step on the input is the next step of the run
   pub step-is : waiting_step i (script_of f) J ≡ Some s
   step-is = ap (slice_get f.run.script.now) number-is ∙ next-told
 
+  -- what remains on the input is what remains at the run's cursor
   pub rest-is : waiting_rest i (script_of f) J ≡ rest all st.at
   rest-is =
       ap (λ n. rest all (cursor_after (search_next all) (take n f.run.script.now) start)) number-is
       ∙ ap (rest all) (Reaches-cursor true i.pieces all start st.at f.run.script.now (answers_out f.run) st.reaches)
 
-  pub missing-is : missing_on i (script_of f) J s ≡ missing i.pieces i.greatest i.pieces.write (rest all st.at) s
+  -- what the waiting step is missing is what the run's next step is missing
+  pub missing-is : missing_on i (script_of f) J s
+      ≡ missing i.pieces i.greatest i.pieces.write (rest all st.at) s
   missing-is = ap (λ r. missing i.pieces i.greatest i.pieces.write r s) rest-is
 
+  -- the cursor is inside the input
   within : Inside all st.at
   within = inside i law spelling f J h.stands (h.rests some) s next
 
+  -- the step is not definite there
   indefinite : is_definite i.pieces s (rest all st.at) ≡ false
   indefinite = waits i law spelling f J h.stands (h.rests some) s next
 
-  answer-is : answer_on i (script_of f) (waiting_number i (script_of f) J) J ≡ Some (search_answer (kind_of i.pieces) all s st.at)
+  -- the answer on the input is the step's answer at the run's cursor
+  answer-is : answer_on i (script_of f) (waiting_number i (script_of f) J) J
+      ≡ Some (search_answer (kind_of i.pieces) all s st.at)
   answer-is =
       ap (slice_get (answers_from (search_answer (kind_of i.pieces) all) (search_next all) f.run.script.now start)) number-is
       ∙ reached-answer true i.pieces all start st.at f.run.script.now (answers_out f.run) s st.reaches next-told
 
-  -- the answers that are out are those of any longer input
-  answer-more : (m : List ℕ) → answer_on i (script_of f) (waiting_number i (script_of f) J) (J ++ m) ≡ Some (search_answer (kind_of i.pieces) (all ++ i.source m) s st.at)
+  -- with more input, the step's answer is the answer of the script with its number
+  answer-more : (m : List ℕ)
+      → answer_on i (script_of f) (waiting_number i (script_of f) J) (J ++ m)
+      ≡ Some (search_answer (kind_of i.pieces) (all ++ i.source m) s st.at)
   answer-more m =
       let longer = Reaches-more i.pieces all (i.source m) start st.at f.run.script.now (answers_out f.run) (start-inside all) st.reaches in
       ap (λ src. slice_get (answers_from (search_answer (kind_of i.pieces) src) (search_next src) f.run.script.now start) (waiting_number i (script_of f) J)) (law.split J m h.stands.is_input)
       ∙ ap (slice_get (answers_from (search_answer (kind_of i.pieces) (all ++ i.source m)) (search_next (all ++ i.source m)) f.run.script.now start)) number-is
       ∙ reached-answer true i.pieces (all ++ i.source m) start st.at f.run.script.now (answers_out f.run) s longer next-told
 
-  pub is-missing : (m : List ℕ) → IsSpelt i s → Some m ≡ missing i.pieces i.greatest i.pieces.write (rest all st.at) s → IsMissing i (script_of f) J m
+  -- what the step is missing is valid and changes its answer
+  pub is-missing : (m : List ℕ) → IsSpelt i s
+      → Some m ≡ missing i.pieces i.greatest i.pieces.write (rest all st.at) s
+      → IsMissing i (script_of f) J m
   is-missing m u e =
       let v = missing-input i law spelling f J h.stands (h.rests some) s next m u e in
       record {
@@ -145,21 +184,31 @@ module _ (i : InputKind) (law : IsInput i) (spelling : IsSpelling i) (f : FeedSt
         changes = λ same. step-changes i law spelling J st.at within m s indefinite u v (sym e) (same_Some _ _ (sym (answer-more m) ∙ same ∙ answer-is));
       }
 
-  pub misses-more : IsSome (missing i.pieces i.greatest i.pieces.write (rest all st.at) s) → MissesMore i (script_of f) pieces
+  -- a step waits and is missing something
+  pub misses-more : IsSome (missing i.pieces i.greatest i.pieces.write (rest all st.at) s)
+      → MissesMore i (script_of f) pieces
   misses-more e = (some, (s, step-is, ap is_some missing-is ∙ e))
 
--- ---- and none changes its answer
+-- ---- no input changes the answer of a step that waits to the end
 
+-- an option whose mapped value is `None` is `None`
 mapped-none : (spell : ℕ → List ℕ) (o : Option ℕ) → None ≡ option_map spell o → o ≡ None
 mapped-none spell None e = refl
 mapped-none spell (Some t) e = absurd (none-some (spell t) e)
 
-none-hold : (i : InputKind) (holds : ℕ → Bool) (m : Source ℕ) → ((t : ℕ) → i.is_token t ≡ true → holds t ≡ false) → AllByRecursion (λ (x : ℕ × ℕ). i.is_token x.0 ≡ true) m → AllByRecursion (λ (x : ℕ × ℕ). holds x.0 ≡ false) m
+-- if a set holds no token of the kind, it holds none of these tokens
+none-hold : (i : InputKind) (holds : ℕ → Bool) (m : Source ℕ)
+    → ((t : ℕ) → i.is_token t ≡ true → holds t ≡ false)
+    → AllByRecursion (λ (x : ℕ × ℕ). i.is_token x.0 ≡ true) m
+    → AllByRecursion (λ (x : ℕ × ℕ). holds x.0 ≡ false) m
 none-hold i holds [] f h = tt
 none-hold i holds (x ∷ m) f h = (f x.0 h.0, none-hold i holds m f h.1)
 
 module _ (i : InputKind) (law : IsInput i) (spelling : IsSpelling i) (f : FeedState) (pieces : List (List ℕ)) (h : Fits i f pieces) (some : 0 < length pieces) where
-  first-waits : (set : CharSet) → next_step f.run ≡ Some (step.Call (call.First set)) → least_of_first i.greatest (char_ranges set) ≡ None → WaitsToEnd i (script_of f) (joined pieces)
+  -- a `First` over such a set waits to the end
+  first-waits : (set : CharSet) → next_step f.run ≡ Some (step.Call (call.First set))
+      → least_of_first i.greatest (char_ranges set) ≡ None
+      → WaitsToEnd i (script_of f) (joined pieces)
   first-waits set next e =
       let s : PieceStep = step.Call (call.First set) in
       let at : Cursor = h.stands.stands.at in
@@ -175,7 +224,12 @@ module _ (i : InputKind) (law : IsInput i) (spelling : IsSpelling i) (f : FeedSt
             answer-more i law spelling f pieces h some s next m ∙ ap (λ o. Some (search_answered.Call (answer.First o))) same ∙ sym (answer-is i law spelling f pieces h some s next);
       }
 
-  pub to-end : (s : PieceStep) → next_step f.run ≡ Some s → None ≡ missing i.pieces i.greatest i.pieces.write (rest (i.source (joined pieces)) h.stands.stands.at) s → WaitsToEnd i (script_of f) (joined pieces)
+  -- a step that is missing nothing waits to the end
+  pub to-end : (s : PieceStep) → next_step f.run ≡ Some s
+      → None
+      ≡ missing i.pieces i.greatest i.pieces.write
+      (rest (i.source (joined pieces)) h.stands.stands.at) s
+      → WaitsToEnd i (script_of f) (joined pieces)
   to-end (step.Call call.Next) next e = absurd (none-some _ e)
   to-end (step.Call call.Peek) next e = absurd (none-some _ e)
   to-end (step.Call (call.Take n)) next e = absurd (none-some _ e)
@@ -193,16 +247,20 @@ module _ (i : InputKind) (law : IsInput i) (spelling : IsSpelling i) (f : FeedSt
   to-end (step.Compare l) next e = absurd (none-some _ e)
   to-end (step.Find ns) next e = absurd (none-some _ e)
 
--- ---- bytes are spelt, whatever the step
+-- ---- a step over bytes always names valid bytes
 
+-- all needles are valid bytes
 all-valid : (ls : List (List ℕ)) → AllByRecursion (λ needle. byte_input.valid needle ≡ true) ls
 all-valid [] = tt
 all-valid (l ∷ ls) = (refl, all-valid ls)
 
-least-byte : (ranges : List (ℕ × ℕ)) (o : Option ℕ) → least_of_first 255 ranges ≡ o → IfSome o (λ t. byte_input.is_token t ≡ true)
+-- a lower bound that is at most 255 is a byte
+least-byte : (ranges : List (ℕ × ℕ)) (o : Option ℕ) → least_of_first 255 ranges ≡ o
+    → IfSome o (λ t. byte_input.is_token t ≡ true)
 least-byte ranges None e = tt
 least-byte ranges (Some t) e = le-leb t 255 (least_within 255 ranges t e)
 
+-- each step over bytes names what fits bytes
 pub bytes-spelt : (s : PieceStep) → IsSpelt byte_input s
 bytes-spelt (step.Call call.Next) = tt
 bytes-spelt (step.Call call.Peek) = tt

@@ -1,4 +1,4 @@
--- What is written under any options, and one item after the other.
+-- Writes under any options, and writes of one item after the other.
 use Rattle.std.proofs.Common.{◌≡◌, ◌+◌, ◌<◌, ◌≤◌, ℕ, false, nat_lt, IsTrue, List, [], ◌++◌, length, get_or, take, sym, ap, subst, ◌∙◌, arith, ⊎_elim, true≢false}
 use Rattle.std.proofs.lemmas.Bool.{cases_lt}
 use Rattle.std.proofs.lemmas.Bool.Decides.{nat_tests}
@@ -12,20 +12,22 @@ use Rattle.std.specs.declared.fmt.Formatter.{Formatter}
 use Rattle.winnow_kinds.specs.Escapes.{is_ascii}
 
 module _ {W : Type 0} (took : W → List ℕ → W → Type 0) where
-  -- what is written whatever the options are is written without any
-  pub WritesOnOk-from_styled : (f g : Formatter W) (r : Result (Unit {0}) Error) (text : List ℕ) → WritesStyledOnOk took f r text g → WritesOnOk took f r text g
+  -- what is written under any options is written without options
+  pub WritesOnOk-from_styled : (f g : Formatter W) (r : Result (Unit {0}) Error) (text : List ℕ)
+      → WritesStyledOnOk took f r text g → WritesOnOk took f r text g
   WritesOnOk-from_styled f g r text writes plain ok =
       let wrote = writes plain.flush ok in
       record { wrote = wrote.wrote; plain = record { bare = subst IsDefaultSpec (sym wrote.spec) plain.bare; flush = wrote.flush } }
 
--- the text of one item more
+-- the text of one more item is appended
 pub flat_map-more : (text : ℕ → List ℕ) (xs : List ℕ) (i : ℕ) → i < length xs
     → flat_map text (take i xs) ++ text (get_or xs i 0) ≡ flat_map text (take (i + 1) xs)
 flat_map-more text xs i within =
     flat_map_more text [] (take i xs) (get_or xs i 0) ∙ sym (ap (flat_map text) (take_more xs i 0 within))
 
--- a byte of ASCII
-pub is_ascii-byte : (bytes : List ℕ) (i : ℕ) → i < length bytes → IsTrue (is_ascii bytes) → get_or bytes i 0 < 128
+-- each of some ASCII bytes is below 128
+pub is_ascii-byte : (bytes : List ℕ) (i : ℕ) → i < length bytes → IsTrue (is_ascii bytes)
+    → get_or bytes i 0 < 128
 is_ascii-byte bytes i within ascii =
     let byte = get_or bytes i 0 in
     ⊎_elim

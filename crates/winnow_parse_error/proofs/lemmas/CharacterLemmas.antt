@@ -15,7 +15,7 @@ use Rattle.winnow_stream.proofs.lemmas.TextLemmas.{is_offset-from_boundary, back
 use Rattle.winnow_parse_error.specs.CharSpan.{char_span, IsCharAt}
 use Rattle.winnow_parse_error.proofs.lemmas.SpanLemmas.{char_span-inside}
 
--- inside the first token there is no offset
+-- no offset is valid inside the first token
 no_offset : (w i : ℕ) (b : Bool) → 0 < i → i < w → cond (i == 0) true (nat_le w i && b) ≡ false
 no_offset w i b above below =
     let none : (i == 0) ≡ false = grind (arith, nat_tests) in
@@ -29,22 +29,25 @@ module _ (before after : List ℕ) (c : ℕ) (first : IsUtf8 before) (scalar : I
   abbrev text : List ℕ
   text = before ++ encode_utf8 c ++ after
 
+  -- the text is what stands before the character, then the tail
   parts : text ≡ before ++ tail
   parts = append_assoc before (encode_utf8 c) after
 
+  -- the tail and the text are UTF-8
   IsUtf8-tail : IsUtf8 tail
   IsUtf8-tail = IsUtf8-append (encode_utf8 c) after (IsUtf8-encode c scalar) last
 
   IsUtf8-text : IsUtf8 text
   IsUtf8-text = IsUtf8-append (before ++ encode_utf8 c) after (IsUtf8-append before (encode_utf8 c) first (IsUtf8-encode c scalar)) last
 
+  -- the character begins and ends at boundaries
   begins : IsCharBoundary text (length before)
   begins = IsCharBoundary-at_seam text before tail parts IsUtf8-tail
 
   ends : IsCharBoundary text (length before + length (encode_utf8 c))
   ends = subst (IsCharBoundary text) (length-append before (encode_utf8 c)) (IsCharBoundary-at_seam text (before ++ encode_utf8 c) after refl last)
 
-  -- what remains where the character begins
+  -- what remains where the character begins is the character, then the text after it
   tail_source : back (text_source text) (length before) ≡ (c, len_utf8 c) ∷ text_source after
   tail_source =
       sym (back-cut text (length before) IsUtf8-text begins)
@@ -52,7 +55,9 @@ module _ (before after : List ℕ) (c : ℕ) (first : IsUtf8 before) (scalar : I
       ∙ ap text_source (drop-append_seam before tail)
       ∙ ap char_source (chars_past_char tail after c IsUtf8-tail refl)
 
-  whole : (k : ℕ) → length before < k → k < length before + length (encode_utf8 c) → ¬ (IsCharBoundary text k)
+  -- no boundary is inside the character
+  whole : (k : ℕ) → length before < k → k < length before + length (encode_utf8 c)
+      → ¬ (IsCharBoundary text k)
   whole k above below = λ boundary. (
       let i : ℕ = k - length before in
       let on : is_offset (back (text_source text) (length before)) i ≡ is_offset (text_source text) k =
@@ -64,9 +69,12 @@ module _ (before after : List ℕ) (c : ℕ) (first : IsUtf8 before) (scalar : I
       let both : true ≡ false = sym yes ∙ is_offset-cons (c, len_utf8 c) (text_source after) i ∙ no in
       cc)
 
+  -- the character is at the place between the two texts
   pub IsCharAt-between : IsCharAt text (length before) (length before + length (encode_utf8 c))
   IsCharAt-between = record { begins = begins; ends = ends; whole = whole }
 
-  -- the span of each of its bytes
-  pub char_span-between : (offset : ℕ) → length before ≤ offset → offset < length before + length (encode_utf8 c) → char_span text offset ≡ span (length before) (length (encode_utf8 c))
+  -- at each byte of the character, the span is the character's
+  pub char_span-between : (offset : ℕ) → length before ≤ offset
+      → offset < length before + length (encode_utf8 c)
+      → char_span text offset ≡ span (length before) (length (encode_utf8 c))
   char_span-between offset low high = char_span-inside text (length before) (length before + length (encode_utf8 c)) offset IsCharAt-between low high

@@ -1,4 +1,5 @@
--- Of the first range that holds a number up to the greatest: its lower bound is held, and where there is none no number is.
+-- The first range with a number up to `greatest`: its lower bound is in the set; without one, no
+-- such number is.
 use Rattle.std.proofs.Common.{◌≡◌, ℕ, ◌≤◌, true, false, List, [], ◌∷◌, Some, None, refl, ap, sym, ◌∙◌, arith, inl, inr}
 use Rattle.std.specs.Prelude.{nat_le}
 use Rattle.std.specs.Int.{is_in_range}
@@ -6,7 +7,9 @@ use Rattle.std.proofs.lemmas.Bool.{and_parts, and_from, or_left, or_right, false
 use Rattle.std.proofs.lemmas.Option.{same_Some, none-some}
 use Rattle.winnow_sets.specs.Sets.{holds_up_to, in_ranges, least_of_first}
 
-pub least_held : (greatest : ℕ) (ranges : List (ℕ × ℕ)) (t : ℕ) → least_of_first greatest ranges ≡ Some t → in_ranges ranges t ≡ true
+-- the lower bound of that range is in the set
+pub least_held : (greatest : ℕ) (ranges : List (ℕ × ℕ)) (t : ℕ)
+    → least_of_first greatest ranges ≡ Some t → in_ranges ranges t ≡ true
 least_held greatest [] t e = absurd (none-some t e)
 least_held greatest (first ∷ ranges) t e =
     elim (cases_Bool (holds_up_to greatest first)) [
@@ -18,7 +21,9 @@ least_held greatest (first ∷ ranges) t e =
       | inr fails ↦ or_right (is_in_range first.0 first.1 t) (in_ranges ranges t) (least_held greatest ranges t (rw fails at e))
     ]
 
-pub least_within : (greatest : ℕ) (ranges : List (ℕ × ℕ)) (t : ℕ) → least_of_first greatest ranges ≡ Some t → t ≤ greatest
+-- that lower bound is at most `greatest`
+pub least_within : (greatest : ℕ) (ranges : List (ℕ × ℕ)) (t : ℕ)
+    → least_of_first greatest ranges ≡ Some t → t ≤ greatest
 least_within greatest [] t e = absurd (none-some t e)
 least_within greatest (first ∷ ranges) t e =
     elim (cases_Bool (holds_up_to greatest first)) [
@@ -29,7 +34,9 @@ least_within greatest (first ∷ ranges) t e =
       | inr fails ↦ least_within greatest ranges t (rw fails at e)
     ]
 
-pub none_held : (greatest : ℕ) (ranges : List (ℕ × ℕ)) → least_of_first greatest ranges ≡ None → (c : ℕ) → c ≤ greatest → in_ranges ranges c ≡ false
+-- without such a range, no number up to `greatest` is in the set
+pub none_held : (greatest : ℕ) (ranges : List (ℕ × ℕ)) → least_of_first greatest ranges ≡ None
+    → (c : ℕ) → c ≤ greatest → in_ranges ranges c ≡ false
 none_held greatest [] e c low = refl
 none_held greatest (first ∷ ranges) e c low =
     elim (cases_Bool (holds_up_to greatest first)) [

@@ -2,7 +2,7 @@ use crate::byte_reader::ByteReader;
 use crate::fields::field;
 use winnow_base::stream::{Needed, Stream};
 
-// Two fields, one after the other.
+// Returns two fields, one after the other.
 fn two_fields<S: Stream<Token = u8>>(input: &mut S) -> [Result<S::Slice, Needed>; 2]
     requires { S.valid input.old }
 {

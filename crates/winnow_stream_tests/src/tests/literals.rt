@@ -6,7 +6,7 @@ use winnow_base::stream::{Compare, FindSlice, LocatingSlice, Partial, StreamIsPa
 
 type Taken<T> = ([Option<T>; 4], [Option<(T, T)>; 2]);
 
-// What literals and needles take of bytes, one after the other.
+// Returns what literals and needles take of bytes, one after the other.
 fn take_bytes<S>(input: &mut S) -> Taken<S::Slice>
 where
     S: Compare<&'static [u8; 1]> + Compare<&'static [u8; 2]>,
@@ -54,7 +54,7 @@ fn what_lacks_of_a_literal_is_told(rt: HostRuntime) {
     assert_eq!(rt; literal_or_lack(&mut input, b"a".as_slice()), Ok(taken));
 }
 
-// What literals and needles take of a text.
+// Returns what literals and needles take of a text.
 fn take_text<S>(input: &mut S) -> Taken<S::Slice>
 where
     S: Compare<char> + Compare<&'static str> + FindSlice<&'static str>,
@@ -82,7 +82,7 @@ fn texts_are_taken_by_what_they_hold(rt: HostRuntime) {
     assert_eq!(rt; input, "");
 }
 
-// The same of a text in two wrappers, proved once for every text inside.
+// Returns the same for a text in two wrappers. It is proved once for all texts inside.
 fn take_wrapped_text<I>(inner: I) -> Taken<I::Slice>
 where
     I: Compare<char> + Compare<&'static str> + FindSlice<&'static str>,

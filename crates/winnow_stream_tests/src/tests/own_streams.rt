@@ -30,7 +30,7 @@ fn a_list_stream_runs_a_script(rt: HostRuntime) -> Result<(), Fail> {
     Ok(())
 }
 
-// Offsets in bytes over tokens of two bytes: what counts tokens and what counts widths part here.
+// Offsets in bytes over tokens of two bytes: here the count of tokens and the width differ.
 #[test]
 fn a_stream_of_wider_tokens_runs_a_script(rt: HostRuntime) -> Result<(), Fail> {
     let mut s = PairReader::new(&[10, 20, 30]);
@@ -59,7 +59,7 @@ fn a_stream_of_wider_tokens_runs_a_script(rt: HostRuntime) -> Result<(), Fail> {
     Ok(())
 }
 
-// Whether another alternative may be tried, and whether more input was wanted.
+// Returns whether another alternative may be tried, and whether more input is needed.
 fn kind<S: Stream, E: ParserError<S> + Drop>(alloc: Global, input: &S) -> (bool, bool) {
     let failed = E::from_input(alloc, input);
     (failed.is_backtrack(), failed.is_incomplete())

@@ -94,13 +94,13 @@ fn comparisons_and_searches_move_nothing(rt: HostRuntime) -> Result<(), Fail> {
     Ok(())
 }
 
-// It does nothing: that it is called shows that it can be.
+// The law does nothing. The call shows that it can be called.
 #[test]
 fn definite_answers_stay(_rt: HostRuntime) {
     definite_law::<u8, NoSet, &'static [u8]>();
 }
 
-// Memory is there: no number of items or of steps is refused.
+// There is memory, so no number of items or of steps is refused.
 #[test]
 fn as_many_answers_as_steps(rt: HostRuntime) -> Result<(), Fail> {
     let alloc = rt.alloc();

@@ -4,12 +4,12 @@ use std::test::Fail;
 use winnow_tree::TreeErrorFrame::{Context, Kind};
 use winnow_tree::{TreeError, TreeErrorBase, TreeErrorContext, TreeErrorFrame};
 
-// The text plain, under `#`, with a width and with a precision.
+// Returns the text plain, under `#`, with a width and with a precision.
 fn debugged<T: Debug>(alloc: Global, value: &T) -> Result<String, AllocError> {
     format!(in alloc; "{value:?}|{value:#?}|{value:>4?}|{value:.1?}")
 }
 
-// An error with a cause, under a frame of each kind.
+// Returns an error with a cause, under a frame of each kind.
 fn stacked(alloc: Global) -> Result<TreeError<u8, u8>, AllocError> {
     let cause = Some(String::from_str(alloc, "bad")?);
     let base = Box::new(alloc, TreeError::Base(TreeErrorBase { input: 1, cause }))?;
@@ -27,7 +27,7 @@ fn stacked(alloc: Global) -> Result<TreeError<u8, u8>, AllocError> {
     Ok(TreeError::Stack { base, stack })
 }
 
-// That error beside another, as debug texts.
+// Returns the debug texts of that error beside another.
 fn alternatives_debugged(alloc: Global) -> Result<String, AllocError> {
     let other = TreeErrorBase {
         input: 5,

@@ -12,7 +12,7 @@ use winnow_tree::{TreeError, TreeErrorBase};
 use winnow_views::TokenSlice;
 use winnow_wrap::{LocatingSlice, Partial, Stateful};
 
-// What remains of an input, and what it knows beside that: a place, a state or a mark.
+// What remains of an input, and a number that it keeps: a place, a state or a mark.
 #[derive(Drop)]
 struct Seen<T>(T, usize);
 
@@ -23,7 +23,8 @@ impl<T: Display> Display for Seen<T> {
     }
 }
 
-// Two alternatives, of which one failed at the start, and the other after the first token in a parser that began at the start.
+// Returns the error of two alternatives. One failed at the start, and the other after the first
+// token, in a parser that began at the start.
 fn tried<I: Stream, E: ParserError<I> + AddContext<I, StrContext>>(
     alloc: Global,
     mut input: I,
@@ -43,7 +44,8 @@ where
     )
 }
 
-// Whether the text of them is that of an input that knows one number at the start, and the other after the first token.
+// Returns whether their text is that of an input that keeps one number at the start, and the other
+// after the first token.
 fn knows<I: Stream + Copy, J: Display + Drop, O: Fn(I) -> J + Drop>(
     alloc: Global,
     input: I,
@@ -114,7 +116,8 @@ fn frames_have_the_tokens_before_their_start(rt: HostRuntime) -> Result<(), Fail
 
 type Recorder = Recoverable<&'static str, ErrMode<EmptyError>>;
 
-// It is not `Copy`, so no error of a parser holds it: a tree at it is made by hand.
+// Returns a tree at a stream that records. The stream is not `Copy`, so no error of a parser holds
+// it, and the tree is made by hand.
 fn at_recorder(alloc: Global) -> TreeError<Recorder, StrContext> {
     let input = Recoverable::new(alloc, "12x");
     TreeError::Base(TreeErrorBase { input, cause: None })
@@ -124,7 +127,7 @@ fn recorder_text(alloc: Global) -> Result<String, AllocError> {
     at_recorder(alloc).text(alloc)
 }
 
-// The text of the tree at the text inside, which it owns.
+// Returns the text of the tree at the text inside, which the tree owns.
 fn text_inside(alloc: Global) -> Result<String, AllocError> {
     let plain = at_recorder(alloc).map_input(alloc, |s: Recorder| *s.inner())?;
     plain.into_owned(alloc)?.text(alloc)

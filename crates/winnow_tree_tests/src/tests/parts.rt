@@ -3,7 +3,7 @@ use std::test::Fail;
 use winnow_context::StrContext::Label;
 use winnow_tree::{TreeErrorBase, TreeErrorContext};
 
-// The text of a base, and of what it is once its bytes are owned and their number is its input.
+// Returns the text of a base, and its text after its input is owned and replaced by its length.
 fn base_texts(alloc: Global) -> Result<String, AllocError> {
     let base = TreeErrorBase {
         input: "12x",
@@ -15,7 +15,7 @@ fn base_texts(alloc: Global) -> Result<String, AllocError> {
     format!(in alloc; "{text}, {mapped}")
 }
 
-// The same of a context.
+// Returns the same for a context.
 fn context_texts(alloc: Global) -> Result<String, AllocError> {
     let told = TreeErrorContext {
         input: "12x",

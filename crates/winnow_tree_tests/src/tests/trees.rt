@@ -13,7 +13,7 @@ use winnow_views::Bits;
 
 type Tree<'i> = TreeError<&'i str, StrContext>;
 
-// How an error is made, of three inputs at most.
+// The ways to make an error of up to three inputs.
 #[derive(Clone, Copy)]
 enum Shape {
     Alone,
@@ -88,7 +88,7 @@ const TEXTS: [(Shape, [&str; 3], &str); 8] = [
         ["12x", "", ""],
         "caused by bad digit at '12x'\n  0:  at '12x'\n",
     ),
-    // An input is told by its front.
+    // An input is shown by its front.
     (
         Shape::Alone,
         ["aaaaaaaaaaaaaaaaaaaaa", "", ""],
@@ -103,7 +103,7 @@ const TEXTS: [(Shape, [&str; 3], &str); 8] = [
     (Shape::Alone, ["", "", ""], " at ''\n"),
 ];
 
-// The text of a tree.
+// Returns the text of a tree.
 fn text(
     alloc: Global,
     shape: Shape,
@@ -121,13 +121,13 @@ fn texts_of_trees(rt: HostRuntime) -> Result<(), Fail> {
     Ok(())
 }
 
-// The text of a tree with a frame and a context, of texts that it owns.
+// Returns the text of a tree with a frame and a context, at texts that it owns.
 fn owned_text(alloc: Global) -> Result<String, AllocError> {
     let tree: Tree = shaped(alloc, Shape::UnderItsStart, &"ab", &"", &"")?;
     tree.into_owned(alloc)?.text(alloc)
 }
 
-// That of the same with the lengths of the texts.
+// Returns the text of the same tree at the lengths of the texts.
 fn mapped_text(alloc: Global) -> Result<String, AllocError> {
     let tree: Tree = shaped(alloc, Shape::UnderItsStart, &"ab", &"", &"")?;
     let owned = tree.into_owned(alloc)?;
@@ -149,7 +149,7 @@ fn inputs_are_owned_and_mapped(rt: HostRuntime) -> Result<(), Fail> {
     Ok(())
 }
 
-// Three alternatives, bracketed from the right, and then combined.
+// Returns the error of three alternatives, bracketed from the right and then combined.
 fn combined<I: Stream + Copy>(
     alloc: Global,
     first: I,
@@ -160,7 +160,7 @@ fn combined<I: Stream + Copy>(
     combine_trees(alloc, joined(alloc, one(alloc, first), right)?)
 }
 
-// An error at an input, as the only alternative.
+// Returns an error at an input, as the only alternative.
 fn one<I: Stream + Copy>(alloc: Global, input: I) -> OrTree<ErrMode<TreeError<I, StrContext>>> {
     OrTree::One(Backtrack(TreeError::from_input(alloc, &input)))
 }
@@ -177,7 +177,7 @@ fn brackets_keep_the_entries(rt: HostRuntime) -> Result<(), Fail> {
     Ok(())
 }
 
-// The lengths of the inputs of the alternatives, from the least on.
+// Returns the lengths of the inputs of the alternatives, from the least on.
 fn lengths(
     alloc: Global,
     error: &ErrMode<TreeError<&[u8], StrContext>>,
@@ -197,7 +197,7 @@ fn lengths(
 
 type Leaves = OrTree<ErrMode<TreeError<&'static [u8], StrContext>>>;
 
-// Errors at 1 to 200 bytes, bracketed from the left or from the right.
+// Returns errors at 1 to 200 bytes, bracketed from the left or from the right.
 fn many(alloc: Global, is_from_left: bool) -> Result<Leaves, AllocError> {
     let bytes = [0; 200].as_slice();
     let mut tree = one(alloc, bytes);
@@ -213,7 +213,7 @@ fn many(alloc: Global, is_from_left: bool) -> Result<Leaves, AllocError> {
     Ok(tree)
 }
 
-// Whether each of them is an entry of what they combine to.
+// Returns whether each of them is an entry of what they combine to.
 fn has_all(alloc: Global, tree: Leaves) -> Result<bool, AllocError> {
     let error = combine_trees::<&[u8], StrContext>(alloc, tree)?;
     let wanted: Vec<usize> = (1..201).collect(alloc)?;
@@ -229,7 +229,7 @@ fn two_hundred_alternatives(rt: HostRuntime) -> Result<(), Fail> {
     Ok(())
 }
 
-// Laws do nothing: that each is called here shows that it can be.
+// Laws do nothing. The calls show that each can be called.
 #[test]
 fn laws_of_trees(_rt: HostRuntime) {
     tree_or_law::<&str, StrContext>();
@@ -249,7 +249,7 @@ fn errors_at_bits(rt: HostRuntime) -> Result<(), Fail> {
     Ok(())
 }
 
-// A hundred frames, each beside an alternative.
+// Returns an error with a hundred frames, each beside an alternative.
 fn deep<I: Stream, E: ParserError<I>>(alloc: Global, input: &I) -> Result<E, AllocError>
     requires { I.valid input.now }
 {
@@ -264,7 +264,8 @@ fn deep<I: Stream, E: ParserError<I>>(alloc: Global, input: &I) -> Result<E, All
 
 type ByteTree = TreeError<&'static [u8], StrContext>;
 
-// The lines of the lengths of its inputs, once it was a tree at bits.
+// Returns the number of lines of its text at the lengths of its inputs, after it was a tree at
+// bits.
 fn deep_lines(alloc: Global) -> Result<usize, AllocError> {
     let bytes: &'static [u8] = b"ab";
     let deep: ByteTree = deep(alloc, &bytes)?;

@@ -1,4 +1,4 @@
--- The bits of bytes: what each call of a stream of bits answers and leaves.
+-- The bits of bytes: the answer of each call of a stream of bits, and what the call leaves.
 use Rattle.std.proofs.Common.{◌≡◌, ℕ, zero, suc, ◌+◌, ◌-◌, ◌*◌, ◌/◌, ◌%◌, ◌^◌, ◌≤◌, ◌<◌, leb, true, Bool, List, [], ◌∷◌, ◌++◌, length, map, take, drop, Option, Some, None, Ok, Err, refl, sym, ap, ◌∙◌, subst, arith, IsTrue, zero-add}
 use Rattle.std.proofs.lemmas.Bool.Decides.{nat_tests}
 use Rattle.std.proofs.lemmas.List.{length-drop, length-map, drop-drop, drop-take}
@@ -16,31 +16,42 @@ use Rattle.winnow_views.specs.BitStream.{location_in_bits}
 use Rattle.winnow_stream.specs.SliceWidths.{SlicesHaveWidths}
 use Rattle.winnow_views.specs.BitLaws.{units-HasUnits, width-HasUnits, length-bits_past, width-bits_from}
 
--- ---- how many bits there are
+-- ---- the number of bits
 
-pub width-bits : (bytes : List (ℕ × ℕ)) (place : ℕ) → HasUnits bytes → width (bits_from bytes place) ≡ 8 * width bytes - place
+-- the number of bits is eight for each byte, less the place
+pub width-bits : (bytes : List (ℕ × ℕ)) (place : ℕ) → HasUnits bytes
+    → width (bits_from bytes place) ≡ 8 * width bytes - place
 width-bits bytes place h = omega (arith, width-bits_from bytes place, width-HasUnits bytes h)
 
-pub place-le : (bytes : List (ℕ × ℕ)) (place : ℕ) → IsBitSource bytes place → place ≤ 8 * width bytes
+-- the place is at most the number of all bits
+pub place-le : (bytes : List (ℕ × ℕ)) (place : ℕ) → IsBitSource bytes place
+    → place ≤ 8 * width bytes
 place-le [] place h = omega (arith, h.at_end refl)
 place-le (x ∷ xs) place h = omega (arith, h.below, h.units.0)
 
-pub is_offset-bits : (bytes : List (ℕ × ℕ)) (place n : ℕ) → is_offset (bits_from bytes place) n ≡ leb n (width (bits_from bytes place))
+-- an offset is a number of bits up to the number that remain
+pub is_offset-bits : (bytes : List (ℕ × ℕ)) (place n : ℕ)
+    → is_offset (bits_from bytes place) n ≡ leb n (width (bits_from bytes place))
 is_offset-bits bytes place n =
     is_offset-units (drop place (bits_of bytes)) n ∙ ap (leb n) (sym (width-units (drop place (bits_of bytes))))
 
-pub offset_at-bits_short : (bytes : List (ℕ × ℕ)) (place n : ℕ) (m : NonZeroUsize) → non_zero_usize_get m ≡ n - width (bits_from bytes place) → Err (Size m) ≡ offset_at true (bits_from bytes place) n
+-- the answer of `offset_at` if bits are missing, and if none is
+pub offset_at-bits_short : (bytes : List (ℕ × ℕ)) (place n : ℕ) (m : NonZeroUsize)
+    → non_zero_usize_get m ≡ n - width (bits_from bytes place)
+    → Err (Size m) ≡ offset_at true (bits_from bytes place) n
 offset_at-bits_short bytes place n m e =
     offset_at-units_short (drop place (bits_of bytes)) n m (e ∙ ap (λ k. n - k) (width-units (drop place (bits_of bytes))))
 
-pub offset_at-bits_fits : (bytes : List (ℕ × ℕ)) (place n : ℕ) → n - width (bits_from bytes place) ≡ 0 → Ok n ≡ offset_at true (bits_from bytes place) n
+pub offset_at-bits_fits : (bytes : List (ℕ × ℕ)) (place n : ℕ)
+    → n - width (bits_from bytes place) ≡ 0 → Ok n ≡ offset_at true (bits_from bytes place) n
 offset_at-bits_fits bytes place n e =
     offset_at-units_fits (drop place (bits_of bytes)) n (ap (λ k. n - k) (sym (width-units (drop place (bits_of bytes)))) ∙ e)
 
 -- ---- one bit
 
--- the bit at a place in a byte, before those behind it
-pub byte_bits-at : (b place : ℕ) (bits : List Bool) → place < 8 → drop place (byte_bits b ++ bits) ≡ bit_of b place ∷ drop (place + 1) (byte_bits b ++ bits)
+-- the bit at a place in a byte, before those after it
+pub byte_bits-at : (b place : ℕ) (bits : List Bool) → place < 8
+    → drop place (byte_bits b ++ bits) ≡ bit_of b place ∷ drop (place + 1) (byte_bits b ++ bits)
 byte_bits-at b zero bits h = refl
 byte_bits-at b (suc zero) bits h = refl
 byte_bits-at b (suc (suc zero)) bits h = refl
@@ -51,53 +62,73 @@ byte_bits-at b (suc (suc (suc (suc (suc (suc zero)))))) bits h = refl
 byte_bits-at b (suc (suc (suc (suc (suc (suc (suc zero))))))) bits h = refl
 byte_bits-at b (suc (suc (suc (suc (suc (suc (suc (suc place)))))))) bits h = absurd (omega (arith, h))
 
-pub first-bit : (bytes : List (ℕ × ℕ)) (place b : ℕ) → place < 8 → Some b ≡ first_token bytes → Some (bit_of b place) ≡ first_token (bits_from bytes place)
+-- the first bit is the bit at the place in the first byte
+pub first-bit : (bytes : List (ℕ × ℕ)) (place b : ℕ) → place < 8 → Some b ≡ first_token bytes
+    → Some (bit_of b place) ≡ first_token (bits_from bytes place)
 first-bit [] place b h e = absurd (cc)
 first-bit (x ∷ xs) place b h e =
     let k : b ≡ x.0 = cc in
     ap (λ v. Some (bit_of v place)) k ∙ sym (ap (λ bits. first_token (units bits)) (byte_bits-at x.0 place (bits_of xs) h))
 
+-- dropping a bit before or after bits are made tokens is the same
 units-drop_one : (bits : List Bool) → units (drop 1 bits) ≡ drop 1 (units bits)
 units-drop_one [] = refl
 units-drop_one (x ∷ xs) = refl
 
-pub next-bit : (bytes : List (ℕ × ℕ)) (place : ℕ) → bits_from bytes (place + 1) ≡ drop 1 (bits_from bytes place)
+-- at the next place, the first bit is gone
+pub next-bit : (bytes : List (ℕ × ℕ)) (place : ℕ)
+    → bits_from bytes (place + 1) ≡ drop 1 (bits_from bytes place)
 next-bit bytes place = ap units (sym (drop-drop 1 place (bits_of bytes))) ∙ units-drop_one (drop place (bits_of bytes))
 
--- where one bit leaves a stream of bits in the whole input
-width-first_bit : (bits : List Bool) (b : Bool) → Some b ≡ first_token (units bits) → width (take 1 (units bits)) ≡ 1
+-- a first bit has width 1, so it takes the location on by one
+width-first_bit : (bits : List Bool) (b : Bool) → Some b ≡ first_token (units bits)
+    → width (take 1 (units bits)) ≡ 1
 width-first_bit [] b e = absurd (cc)
 width-first_bit (x ∷ xs) b e = refl
 
-one-behind : (bytes : Option ℕ) (place n : ℕ) → n ≡ 1 → location_in_bits bytes (place + 1) ≡ location_behind (location_in_bits bytes place) n
+-- the next place in a byte is one further in the whole input
+one-behind : (bytes : Option ℕ) (place n : ℕ) → n ≡ 1
+    → location_in_bits bytes (place + 1) ≡ location_behind (location_in_bits bytes place) n
 one-behind None place n e = refl
 one-behind (Some bytes) place n e = let f : 8 * bytes + (place + 1) ≡ 8 * bytes + place + n = omega (arith, e) in ap Some f
 
-pub location_in_bits-next : (at : Option ℕ) (bytes : List (ℕ × ℕ)) (place : ℕ) (b : Bool) → Some b ≡ first_token (bits_from bytes place) → location_in_bits at (place + 1) ≡ location_behind (location_in_bits at place) (width (take 1 (bits_from bytes place)))
+-- taking a bit moves the location on by its width
+pub location_in_bits-next : (at : Option ℕ) (bytes : List (ℕ × ℕ)) (place : ℕ) (b : Bool)
+    → Some b ≡ first_token (bits_from bytes place)
+    → location_in_bits at (place + 1)
+    ≡ location_behind (location_in_bits at place) (width (take 1 (bits_from bytes place)))
 location_in_bits-next at bytes place b e = one-behind at place _ (width-first_bit (drop place (bits_of bytes)) b e)
 
 -- ---- slices
 
+-- nothing is left of nothing
 pub drop-none : (n : ℕ) → drop {A = Bool} n [] ≡ []
 drop-none zero = refl
 drop-none (suc n) = refl
 
--- behind whole bytes stand the bits of the others
-drop-bits_of : (k e : ℕ) (bytes : List (ℕ × ℕ)) → drop (8 * k + e) (bits_of bytes) ≡ drop e (bits_of (drop k bytes))
+-- after whole bytes come the bits of the other bytes
+drop-bits_of : (k e : ℕ) (bytes : List (ℕ × ℕ))
+    → drop (8 * k + e) (bits_of bytes) ≡ drop e (bits_of (drop k bytes))
 drop-bits_of zero e bytes = ap (λ m. drop m (bits_of bytes)) (zero-add e)
 drop-bits_of (suc k) e [] = let m : 8 * suc k + e ≡ suc (7 + 8 * k + e) = omega arith in rw m (sym (drop-none e))
 drop-bits_of (suc k) e (x ∷ xs) =
     let m : 8 * suc k + e ≡ suc (suc (suc (suc (suc (suc (suc (suc (8 * k + e)))))))) = omega arith in
     ap (λ n. drop n (bits_of (x ∷ xs))) m ∙ drop-bits_of k e xs
 
-le-offset : (bytes : List (ℕ × ℕ)) (place n : ℕ) → IsTrue (is_offset (bits_from bytes place) n) → n ≤ 8 * length bytes - place
+-- an offset is at most the number of bits that remain
+le-offset : (bytes : List (ℕ × ℕ)) (place n : ℕ) → IsTrue (is_offset (bits_from bytes place) n)
+    → n ≤ 8 * length bytes - place
 le-offset bytes place n o = omega (arith, le-from_is_offset (drop place (bits_of bytes)) n o, length-bits_past bytes place)
 
-place_at_end : (bytes : List (ℕ × ℕ)) (place : ℕ) → IsBitSource bytes place → length bytes ≡ 0 → place ≡ 0
+-- the place is 0 if no byte remains
+place_at_end : (bytes : List (ℕ × ℕ)) (place : ℕ) → IsBitSource bytes place → length bytes ≡ 0
+    → place ≡ 0
 place_at_end [] place h e = h.at_end refl
 place_at_end (x ∷ xs) place h e = absurd (omega (arith, e))
 
-whole-le : (bytes : List (ℕ × ℕ)) (place n : ℕ) → IsBitSource bytes place → IsTrue (is_offset (bits_from bytes place) n) → (n + place) / 8 ≤ length bytes
+-- the whole bytes of a slice are at most the bytes that remain
+whole-le : (bytes : List (ℕ × ℕ)) (place n : ℕ) → IsBitSource bytes place
+    → IsTrue (is_offset (bits_from bytes place) n) → (n + place) / 8 ≤ length bytes
 whole-le bytes place n h o =
     let a : n ≤ 8 * length bytes - place = le-offset bytes place n o in
     let b : length bytes ≡ 0 → place ≡ 0 = place_at_end bytes place h in
@@ -105,33 +136,41 @@ whole-le bytes place n h o =
     omega (arith, a, b, l)
 
 module _ {T : Type 0} where
+  -- bytes of width 1 stay so when some are dropped
   HasUnits-drop : (n : ℕ) (r : List (T × ℕ)) → HasUnits r → HasUnits (drop n r)
   HasUnits-drop zero r h = h
   HasUnits-drop (suc n) [] h = tt
   HasUnits-drop (suc n) (x ∷ xs) h = HasUnits-drop n xs h.1
 
+  -- each number of tokens of width 1, up to all, is an offset
   is_offset-HasUnits : (r : List (T × ℕ)) (n : ℕ) → HasUnits r → n ≤ length r → is_offset r n ≡ true
   is_offset-HasUnits r n h l =
       ap (λ s. is_offset s n) (units-HasUnits r h) ∙ is_offset-units (map (λ x. x.0) r) n ∙ grind (arith, nat_tests, l, length-map r (λ x. x.0))
 
+  -- what follows n tokens of width 1 is the list without them
   back-HasUnits : (r : List (T × ℕ)) (n : ℕ) → HasUnits r → n ≤ length r → back r n ≡ drop n r
   back-HasUnits r n h l =
       ap (λ k. drop k r) (ap (λ s. count_to s n) (units-HasUnits r h) ∙ count_to-units (map (λ x. x.0) r) n (omega (arith, l, length-map r (λ x. x.0))))
 
 -- the whole bytes of n bits are a front of the bytes
-pub is_offset-whole : (bytes : List (ℕ × ℕ)) (place n whole : ℕ) → IsBitSource bytes place → IsTrue (is_offset (bits_from bytes place) n) → whole ≡ (n + place) / 8 → is_offset bytes whole ≡ true
+pub is_offset-whole : (bytes : List (ℕ × ℕ)) (place n whole : ℕ) → IsBitSource bytes place
+    → IsTrue (is_offset (bits_from bytes place) n) → whole ≡ (n + place) / 8
+    → is_offset bytes whole ≡ true
 is_offset-whole bytes place n whole h o e = is_offset-HasUnits bytes whole h.units (omega (arith, e, whole-le bytes place n h o))
 
--- where a slice takes all bytes, it takes no bit behind them
-rest-at_end : (bytes : List (ℕ × ℕ)) (place n : ℕ) → IsBitSource bytes place → n ≤ 8 * length bytes - place → length bytes ≤ (n + place) / 8 → (n + place) % 8 ≡ 0
+-- a slice that takes all bytes takes no further bit
+rest-at_end : (bytes : List (ℕ × ℕ)) (place n : ℕ) → IsBitSource bytes place
+    → n ≤ 8 * length bytes - place → length bytes ≤ (n + place) / 8 → (n + place) % 8 ≡ 0
 rest-at_end [] place n h a l = let p : place ≡ 0 = h.at_end refl in omega (arith, a, p)
 rest-at_end (x ∷ xs) place n h a l = let p : place < 8 = h.below in omega (arith, a, p, l)
 
--- what remains of bytes and bits behind a slice
+-- the bytes and bits that remain after a slice
 module _ (bytes left : List (ℕ × ℕ)) (place n whole rest : ℕ) (h : IsBitSource bytes place) (o : IsTrue (is_offset (bits_from bytes place) n)) (w : whole ≡ (n + place) / 8) (r : rest ≡ (n + place) % 8) (b : left ≡ back bytes whole) where
+  -- the bytes that remain are those after the whole bytes
   left-drop : left ≡ drop whole bytes
   left-drop = b ∙ back-HasUnits bytes whole h.units (omega (arith, w, whole-le bytes place n h o))
 
+  -- the bits that remain are those after the slice
   pub back-bits : bits_from left rest ≡ back (bits_from bytes place) n
   back-bits =
       ap (λ l. bits_from l rest) left-drop
@@ -140,6 +179,7 @@ module _ (bytes left : List (ℕ × ℕ)) (place n whole rest : ℕ) (h : IsBitS
       ∙ sym (drop-drop n place (bits_of bytes)))
       ∙ units-drop (drop place (bits_of bytes)) n (le-from_is_offset (drop place (bits_of bytes)) n o)
 
+  -- the bits that remain may be streamed
   pub IsBitSource-left : IsBitSource left rest
   IsBitSource-left =
       let k : whole ≤ length bytes = omega (arith, w, whole-le bytes place n h o) in
@@ -153,18 +193,24 @@ module _ (bytes left : List (ℕ × ℕ)) (place n whole rest : ℕ) (h : IsBitS
         fits = omega (arith, width-bits_from left rest, l, k, a, f, w, r);
       }
 
--- where a slice of n bits leaves a stream of bits in the whole input
-pub location_in_bits-behind : (bytes : Option ℕ) (place n whole rest : ℕ) → whole ≡ (n + place) / 8 → rest ≡ (n + place) % 8 → location_in_bits (location_behind bytes whole) rest ≡ location_behind (location_in_bits bytes place) n
+-- a slice of n bits moves the location on by n
+pub location_in_bits-behind : (bytes : Option ℕ) (place n whole rest : ℕ) → whole ≡ (n + place) / 8
+    → rest ≡ (n + place) % 8
+    → location_in_bits (location_behind bytes whole) rest
+    ≡ location_behind (location_in_bits bytes place) n
 location_in_bits-behind None place n whole rest w r = refl
 location_in_bits-behind (Some bytes) place n whole rest w r = let e : 8 * (bytes + whole) + rest ≡ 8 * bytes + place + n = omega (arith, w, r) in ap Some e
 
--- ---- laws
+-- ---- facts for the laws
 
+-- each element as a token has width 1
 HasUnits-units : {T : Type 0} (xs : List T) → HasUnits (units xs)
 HasUnits-units [] = tt
 HasUnits-units (x ∷ xs) = (refl, HasUnits-units xs)
 
-pub IsBitSource-units : (bytes : List ℕ) (place : ℕ) → place < 8 → (length bytes ≡ 0 → place ≡ 0) → 8 * length bytes - place < 2 ^ 64 → IsBitSource (units bytes) place
+-- `bit_source_law`, from its premises
+pub IsBitSource-units : (bytes : List ℕ) (place : ℕ) → place < 8 → (length bytes ≡ 0 → place ≡ 0)
+    → 8 * length bytes - place < 2 ^ 64 → IsBitSource (units bytes) place
 IsBitSource-units bytes place below at_end fits = record {
   units = HasUnits-units bytes;
   below = below;
@@ -172,9 +218,11 @@ IsBitSource-units bytes place below at_end fits = record {
   fits = omega (arith, fits, width-bits_from (units bytes) place, length-units bytes);
 }
 
--- a slice of bits is as long as the offset that it was taken at, where a slice of bytes is
+-- a slice of bits is as long as the offset that it was taken at, if slices of bytes are
 module _ {S : Type 0} (is_slice : S → Source ℕ → ℕ → Type 0) (has_width : S → Type 0) (width_of : S → ℕ) (known : SlicesHaveWidths is_slice has_width width_of) where
-  pub bits-have-widths : (s : S × ℕ × ℕ) (r : Source Bool) (n : ℕ) → IsTrue (is_offset r n) → IsBitSlice is_slice s r n
+  -- `bit_slice_law` for one slice
+  pub bits-have-widths : (s : S × ℕ × ℕ) (r : Source Bool) (n : ℕ) → IsTrue (is_offset r n)
+      → IsBitSlice is_slice s r n
       → (has_width s.0 × (s.1 ≤ 8 * width_of s.0 + s.2) × (8 * width_of s.0 + s.2 - s.1 < 2 ^ 64)) × (8 * width_of s.0 + s.2 - s.1 ≡ n)
   bits-have-widths s r n o h =
       let bytes : Source ℕ = h.0 in
@@ -186,36 +234,46 @@ module _ {S : Type 0} (is_slice : S → Source ℕ → ℕ → Type 0) (has_widt
       let same : 8 * width_of s.0 + s.2 - s.1 ≡ n = omega (arith, inner.1, rest) in
       ((inner.0, omega (arith, inner.1, rest), omega (arith, same, short)), same)
 
--- where a list of bits has a first bit, it tells the place
-pub place-of_width : (bytes : List (ℕ × ℕ)) (place : ℕ) → IsBitSource bytes place → (width (bits_from bytes place) + place) % 8 ≡ 0
+-- the number of bits determines the place
+pub place-of_width : (bytes : List (ℕ × ℕ)) (place : ℕ) → IsBitSource bytes place
+    → (width (bits_from bytes place) + place) % 8 ≡ 0
 place-of_width bytes place h =
     let e : width (bits_from bytes place) ≡ 8 * width bytes - place = width-bits bytes place h.units in
     let l : place ≤ 8 * width bytes = place-le bytes place h in
     omega (arith, e, l)
 
--- all bits from a place on reach to the end of the bytes
-pub width-bits_whole : (bytes : List (ℕ × ℕ)) (place : ℕ) → IsBitSource bytes place → (width (bits_from bytes place) + place) / 8 ≡ width bytes
+-- the bits that remain reach to the end of the bytes
+pub width-bits_whole : (bytes : List (ℕ × ℕ)) (place : ℕ) → IsBitSource bytes place
+    → (width (bits_from bytes place) + place) / 8 ≡ width bytes
 width-bits_whole bytes place h =
     let e : width (bits_from bytes place) ≡ 8 * width bytes - place = width-bits bytes place h.units in
     let l : place ≤ 8 * width bytes = place-le bytes place h in
     omega (arith, e, l)
 
-bits_of-take : (k : ℕ) (bytes : List (ℕ × ℕ)) → bits_of (take k bytes) ≡ take (8 * k) (bits_of bytes)
+-- the bits of the first k bytes are the first 8 * k bits
+bits_of-take : (k : ℕ) (bytes : List (ℕ × ℕ))
+    → bits_of (take k bytes) ≡ take (8 * k) (bits_of bytes)
 bits_of-take zero bytes = refl
 bits_of-take (suc k) [] = let m : 8 * suc k ≡ suc (7 + 8 * k) = omega arith in rw m refl
 bits_of-take (suc k) (x ∷ xs) =
     let m : 8 * suc k ≡ suc (suc (suc (suc (suc (suc (suc (suc (8 * k)))))))) = omega arith in
     rw m (ap (λ bits. byte_bits x.0 ++ bits) (bits_of-take k xs))
 
-front-HasUnits : {T : Type 0} (r : List (T × ℕ)) (n : ℕ) → HasUnits r → n ≤ length r → front r n ≡ take n r
+-- the front of width n of tokens of width 1 is the first n of them
+front-HasUnits : {T : Type 0} (r : List (T × ℕ)) (n : ℕ) → HasUnits r → n ≤ length r
+    → front r n ≡ take n r
 front-HasUnits r n h l =
     ap (λ k. take k r) (ap (λ s. count_to s n) (units-HasUnits r h) ∙ count_to-units (map (λ x. x.0) r) n (omega (arith, l, length-map r (λ x. x.0))))
 
-drop-take_within : (p n : ℕ) (bits : List Bool) → p ≤ n → drop p (take n bits) ≡ take (n - p) (drop p bits)
+-- dropping p of the first n bits leaves n - p of those after p
+drop-take_within : (p n : ℕ) (bits : List Bool) → p ≤ n
+    → drop p (take n bits) ≡ take (n - p) (drop p bits)
 drop-take_within p n bits h = let e : n ≡ p + (n - p) = omega (arith, h) in ap (λ m. drop p (take m bits)) e ∙ drop-take p (n - p) bits
 
 -- the bits of a front of the bytes are a front of the bits
-pub bits_from-front : (bytes : List (ℕ × ℕ)) (place count : ℕ) → IsBitSource bytes place → count ≤ length bytes → bits_from (front bytes count) place ≡ front (bits_from bytes place) (8 * count - place)
+pub bits_from-front : (bytes : List (ℕ × ℕ)) (place count : ℕ) → IsBitSource bytes place
+    → count ≤ length bytes
+    → bits_from (front bytes count) place ≡ front (bits_from bytes place) (8 * count - place)
 bits_from-front bytes place zero h l = ap (λ b. bits_from b place) (front-HasUnits bytes 0 h.units l) ∙ ap units (drop-none place) ∙ let z : 8 * 0 - place ≡ 0 = omega arith in rw z (units-take (drop place (bits_of bytes)) 0 (omega arith))
 bits_from-front bytes place (suc k) h l =
     ap (λ b. bits_from b place) (front-HasUnits bytes (suc k) h.units l)
@@ -223,4 +281,5 @@ bits_from-front bytes place (suc k) h l =
     ∙ ap units (drop-take_within place (8 * suc k) (bits_of bytes) (omega (arith, h.below)))
     ∙ units-take (drop place (bits_of bytes)) (8 * suc k - place) (omega (arith, l, length-bits_past bytes place))
 
+-- the rules for the calls of streams of bits
 pub ruleset bit_steps = (width-bits, place-le, is_offset-bits, offset_at-bits_short, offset_at-bits_fits, first-bit, next-bit)

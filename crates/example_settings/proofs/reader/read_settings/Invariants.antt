@@ -4,7 +4,7 @@ use Rattle.winnow_parser.specs.Answer.{ahead}
 use Rattle.example_settings.specs.Lines.{AreRead}
 use Rattle.example_settings.proofs.reader.read_settings.Given as goal
 
--- the lines so far are read
+-- all lines so far are read
 abbrev pub invariant-lines : goal.invariant-lines
 invariant-lines g l =
     let stands = ahead g.I.Rest.location g.I.Stream.remaining in
@@ -12,7 +12,9 @@ invariant-lines g l =
       valid : g.I.Stream.valid (recoverable_inner l.input);
       complete : g.I.StreamIsPartial.expects_more (recoverable_inner l.input) ≡ false;
       records : IsTrue (records_errors l.input);
-      read : AreRead g.I.Stream.is_slice (stands (recoverable_inner l.fn.input)) l.settings.items (recorded_errors l.fn.input) (recorded_errors l.input) (stands (recoverable_inner l.input));
+      read : AreRead g.I.Stream.is_slice (stands (recoverable_inner l.fn.input)) l.settings.items
+          (recorded_errors l.fn.input) (recorded_errors l.input)
+          (stands (recoverable_inner l.input));
     }
 
 abbrev pub decreases-lines : goal.decreases-lines

@@ -11,14 +11,19 @@ use Rattle.winnow_attempt.specs.declared.looking.Seen.{Seen}
 use Rattle.winnow_attempt.specs.declared.told.Told.{Told}
 use Rattle.winnow_attempt.proofs.looking.look_call.Goals as goal
 
--- what an arm showed is what the step shows, where the parts are the same
-seen-same : (s : Seen) (d e : Bool) (p q : ℕ) → s ≡ record { definite = d; place = p; marks = false } → d ≡ e → p ≡ q → s ≡ record { definite = e; place = q; marks = false }
+-- what an arm of the code gives is what the look gives, if their parts are equal
+seen-same : (s : Seen) (d e : Bool) (p q : ℕ)
+    → s ≡ record { definite = d; place = p; marks = false } → d ≡ e → p ≡ q
+    → s ≡ record { definite = e; place = q; marks = false }
 seen-same s d e p q is definite place = rw (← definite, ← place) is
 
-told-same : {T : Type 0} (new old : List (Told T)) (piece : Option ℕ) (a b : PlacedAnswer T) → new ≡ old ++ under piece (search_answered.Call a) ∷ [] → a ≡ b → new ≡ old ++ under piece (search_answered.Call b) ∷ []
+told-same : {T : Type 0} (new old : List (Told T)) (piece : Option ℕ) (a b : PlacedAnswer T)
+    → new ≡ old ++ under piece (search_answered.Call a) ∷ [] → a ≡ b
+    → new ≡ old ++ under piece (search_answered.Call b) ∷ []
 told-same new old piece a b is same = rw (← same) is
 
 module _ {T : Type 0} (r : Source T) (at n : ℕ) (v : Bool) (e : v ≡ is_offset r n) where
+  -- the place and the slice, for a valid offset and for one that is not valid
   offset-place : v ≡ true → at + n ≡ cond (is_offset r n) (at + n) at
   offset-place h = rw (sym e ∙ h) refl
 

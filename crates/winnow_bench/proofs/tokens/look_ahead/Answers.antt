@@ -1,4 +1,4 @@
--- Two tokens on, what remains is an end of what remained at the start.
+-- After two tokens, what remains is an end of what remained at the start.
 use Rattle.std.proofs.Common.{drop, sym, ap, ◌∙◌}
 use Rattle.std.proofs.lemmas.List.{drop-drop}
 use Rattle.winnow_bench.proofs.tokens.look_ahead.Goals as goal

@@ -1,7 +1,7 @@
 use Rattle.winnow_context.proofs.lemmas.RefusedLemmas.{displays-refused}
 use Rattle.winnow_context.proofs.variants.write_variant.Goals as goal
 
--- where a text could not be written, nothing is promised
+-- if a text could not be written, nothing is promised
 pub returns-in_err-write_str : goal.returns-in_err-write_str
 returns-in_err-write_str g c = displays-refused _ _ _ _ _ c.from_residual.ensures.0
 

@@ -2,7 +2,7 @@ use Rattle.std.proofs.Common.{◌≡◌, ◌++◌}
 use Rattle.std.specs.Vec.Iter.{into_iter_items}
 use Rattle.winnow_count.proofs.accumulate.accumulate_all.Given as goal
 
--- what came so far is held, and it stands before what is still to come
+-- the accumulator holds the items that came so far, and they stand before those to come
 abbrev pub invariant-loop-item : goal.invariant-loop-item
 invariant-loop-item g l = record {
   front : l.yielded ++ into_iter_items l.item-iterator ≡ into_iter_items l.initial.item-iterator;

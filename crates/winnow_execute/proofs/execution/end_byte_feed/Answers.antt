@@ -1,7 +1,7 @@
 use Rattle.std.proofs.lemmas.Result.{on_ok_weaker}
 use Rattle.winnow_execute.proofs.execution.end_byte_feed.Goals as goal
 
--- what the end gave is told
+-- the report has the answers that the end gave
 pub returns : goal.returns
 returns c =
     on_ok_weaker c.push_answers.result (λ text. record {

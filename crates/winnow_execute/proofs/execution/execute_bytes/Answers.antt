@@ -2,7 +2,7 @@ use Rattle.std.proofs.Common.{◌∙◌}
 use Rattle.winnow_execute.proofs.GivenLemmas.{byte_lines-given}
 use Rattle.winnow_execute.proofs.execution.execute_bytes.Goals as goal
 
--- the steps that were read are lent, and run on the input that was read
+-- the steps that were read are lent and run on the input that was read
 pub returns-clause-printed : goal.returns-clause-printed
 returns-clause-printed c =
     let script = c.in_ok-steps-2.steps.items in

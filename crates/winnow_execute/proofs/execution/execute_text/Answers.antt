@@ -3,7 +3,7 @@ use Rattle.winnow_read.proofs.FaultLemmas.{IfErr-handed, IsLineWhere-more}
 use Rattle.winnow_execute.proofs.GivenLemmas.{text_lines-given}
 use Rattle.winnow_execute.proofs.execution.execute_text.Goals as goal
 
--- the steps that were read are lent, and run on the input that was read
+-- the steps that were read are lent and run on the input that was read
 pub returns-clause-printed : goal.returns-clause-printed
 returns-clause-printed c =
     let script = c.in_ok-steps-2.steps.items in
@@ -17,7 +17,7 @@ returns-clause-printed c =
       given.2 ∙ text_lines-given (string_bytes c.in_ok-input.input) script given.0 given.1,
     )
 
--- what is behind the steps is no input
+-- what follows the steps is no input
 pub returns-in_err-input-clause-fault : goal.returns-in_err-input-clause-fault
 returns-in_err-input-clause-fault c =
     let steps = c.in_ok-steps.ensures in

@@ -1,12 +1,12 @@
 use Rattle.std.proofs.Common.{arith}
 use Rattle.winnow_execute.proofs.execution.execute_text_pieces.Goals as goal
 
--- the pieces are no longer than the lines that told them
+-- the pieces are no longer than the lines that mean them
 pub feed_text_lines-requires-clause-short : goal.feed_text_lines-requires-clause-short
 feed_text_lines-requires-clause-short c =
     rw c.deref-3.ensures.value (omega (arith, c.in_ok-fed.ensures.short, c.read_steps.new.lines.in_range))
 
--- the steps that were read are lent, and fed the lines that were read
+-- the steps that were read are lent, and the lines that were read are fed to them
 pub returns-clause-printed : goal.returns-clause-printed
 returns-clause-printed c =
     let printed = rw (c.deref-2.ensures.value, c.deref-3.ensures.value) at c.in_ok-feed_text_lines.ensures in

@@ -6,8 +6,9 @@ use Rattle.winnow_feed.specs.Telling.{capped}
 use Rattle.winnow_feed.proofs.lemmas.JoinedInputLemmas.{AddsAnswers-none, AddsAnswers-more}
 use Rattle.winnow_feed.proofs.progress.advance.Goals as goal
 
--- What follows of numbers alone, so that no goal below reads all that is known there. Of the answers, `o` were told at first,
--- `a` before the step and `b` after it, where a vector's own length is `m` or `n`; `s` steps are in the script.
+-- Facts about numbers alone, so that no goal below has to read all that is known there. There are
+-- `o` answers at first, `a` before the step and `b` after it; a vector's own length is `m` or `n`;
+-- the script has `s` steps.
 smaller : (s s' n m i : ℕ) → s' ≡ s → m ≡ n + 1 → i ≡ n → i < s → s' - m < s - n
 smaller s s' n m i same one at left = omega arith
 
@@ -47,13 +48,16 @@ over-after i n a s at e over = omega arith
 past : (i n a s : ℕ) → i ≡ n → n ≡ a → s ≤ i → a < s → ⊥
 past i n a s at e over left = omega arith
 
+-- the count of attempts, after no step, one more step, a waiting step, and all steps
 tried-none : (u o : ℕ) → u < 2 ^ 64 → u ≡ capped (u + (o - o))
 tried-none u o fits = omega arith
 
-tried-one : (u v w o a b : ℕ) → v ≡ capped (u + (a - o)) → w ≡ capped (v + 1) → o ≤ a → b ≡ a + 1 → w ≡ capped (u + (b - o))
+tried-one : (u v w o a b : ℕ) → v ≡ capped (u + (a - o)) → w ≡ capped (v + 1) → o ≤ a → b ≡ a + 1
+    → w ≡ capped (u + (b - o))
 tried-one u v w o a b before step l one = omega arith
 
-tried-last : (u v w o a b : ℕ) → v ≡ capped (u + (a - o)) → w ≡ capped (v + 1) → b ≡ a → w ≡ capped (u + (b - o) + 1)
+tried-last : (u v w o a b : ℕ) → v ≡ capped (u + (a - o)) → w ≡ capped (v + 1) → b ≡ a
+    → w ≡ capped (u + (b - o) + 1)
 tried-last u v w o a b before step same = omega arith
 
 tried-all : (v n : ℕ) → v ≡ capped n → v ≡ capped (n + 0)
@@ -125,7 +129,7 @@ loop-progress-preserved g c =
       marks = e.marks;
     }
 
--- ---- where a step waits
+-- ---- a step waits
 
 pub returns-then-not-attempt_next-clause-stands : goal.returns-then-not-attempt_next-clause-stands
 returns-then-not-attempt_next-clause-stands g c = λ all h.
@@ -177,7 +181,7 @@ returns-then-not-attempt_next-clause-mark_room g c = le_trans c.loop-progress.in
 pub returns-then-not-attempt_next-clause-marks : goal.returns-then-not-attempt_next-clause-marks
 returns-then-not-attempt_next-clause-marks g c = c.attempt_next.ensures.marks
 
--- ---- where no step is left
+-- ---- no step remains
 
 pub returns-clause-stands : goal.returns-clause-stands
 returns-clause-stands g c = λ all h. (

@@ -7,9 +7,18 @@ use Rattle.winnow_feed.proofs.progress.advance.Given as goal
 
 abbrev pub invariant-loop-progress : goal.invariant-loop-progress
 invariant-loop-progress g l = record {
-  stands : (all : Source _) → IsRunOver (g.S.StreamIsPartial.expects_more l.kept) (piece_kind g.S.Token.AsChar.code g.S.Stream.counts_missing g.S.Kept.write g.L.AsBStr.text_bytes) all (g.S.Stream.remaining l.kept) l.initial.progress → IsRunOver (g.S.StreamIsPartial.expects_more l.kept) (piece_kind g.S.Token.AsChar.code g.S.Stream.counts_missing g.S.Kept.write g.L.AsBStr.text_bytes) all (g.S.Stream.remaining l.kept) l.progress;
+  stands : (all : Source _)
+      → IsRunOver (g.S.StreamIsPartial.expects_more l.kept)
+      (piece_kind g.S.Token.AsChar.code g.S.Stream.counts_missing g.S.Kept.write
+      g.L.AsBStr.text_bytes) all (g.S.Stream.remaining l.kept) l.initial.progress
+      → IsRunOver (g.S.StreamIsPartial.expects_more l.kept)
+      (piece_kind g.S.Token.AsChar.code g.S.Stream.counts_missing g.S.Kept.write
+      g.L.AsBStr.text_bytes) all (g.S.Stream.remaining l.kept) l.progress;
   adds : AddsAnswers l.piece l.initial.progress l.progress;
-  tried : l.progress.tried ≡ capped (l.initial.progress.tried + (length l.progress.told.items - length l.initial.progress.told.items));
+  tried : l.progress.tried
+      ≡ capped
+      (l.initial.progress.tried +
+      (length l.progress.told.items - length l.initial.progress.told.items));
   still : StaysWithoutAnswer l.initial.progress l.progress;
   script : l.progress.script ≡ l.initial.progress.script;
   base : l.progress.base ≡ l.initial.progress.base;

@@ -17,17 +17,22 @@ use Rattle.winnow_feed.specs.JoinedInput.{next_step}
 use Rattle.winnow_feed.proofs.lemmas.JoinedInputLemmas.{next-is, base-le, kept-offset, kept-rest, kept-room, rest-back, IsRunOver-waits, IsRunOver-answered, AddsAnswers-none}
 use Rattle.winnow_feed.proofs.progress.attempt_next.Goals as goal
 
--- orders over plain numbers, so that no goal below reads all that is known there
+-- facts about numbers alone, so that no goal below has to read all that is known there
 lt-within : (a b c : ℕ) → a < b → b ≤ c → a < c
 lt-within a b c l h = omega arith
 
 le-lt-within : (a b c d : ℕ) → a ≤ b → b < c → c ≤ d → a < d
 le-lt-within a b c d l m h = omega arith
 
-same-lengths : {X : Type 0} (m n : ℕ) (xs ys : List X) → m ≡ length xs → n ≡ length ys → xs ≡ ys → m ≡ n
+-- equal lists have the same length
+same-lengths : {X : Type 0} (m n : ℕ) (xs ys : List X) → m ≡ length xs → n ≡ length ys → xs ≡ ys
+    → m ≡ n
 same-lengths m n xs ys e f same = e ∙ ap length same ∙ sym f
 
-next-here : {T L : Type 0} (p : Progress T L) (i : ℕ) (x : SearchStep CharSet L) → i ≡ vec_len p.told → vec_len p.told ≡ length p.told.items → vec_len p.told < length p.script.now → x ≡ get_or p.script.now i x → next_step p ≡ Some x
+-- the step at the number of answers is the next step
+next-here : {T L : Type 0} (p : Progress T L) (i : ℕ) (x : SearchStep CharSet L)
+    → i ≡ vec_len p.told → vec_len p.told ≡ length p.told.items
+    → vec_len p.told < length p.script.now → x ≡ get_or p.script.now i x → next_step p ≡ Some x
 next-here p i x e ok left is = next-is p i x (e ∙ ok) (rw e left) is
 
 pub overflow_sub-progress : goal.overflow_sub-progress

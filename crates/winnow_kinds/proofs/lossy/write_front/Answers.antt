@@ -2,8 +2,10 @@ use Rattle.std.proofs.Common.{◌≡◌, ◌-◌, ◌<◌, ℕ, zero, suc, List,
 use Rattle.std.proofs.Output.{has_written_styled_nil, has_written_styled_append, has_written_styled_of_eq}
 use Rattle.winnow_kinds.proofs.lossy.write_front.Goals as goal
 
--- the first of the characters that are left
-take-first : (left : ℕ) (c : ℕ) (cs : List ℕ) → 0 < left → take left (c ∷ cs) ≡ c ∷ take (left - 1) cs
+-- the front of the characters that are left: the first of them and then the others, or nothing at
+-- the end
+take-first : (left : ℕ) (c : ℕ) (cs : List ℕ) → 0 < left
+    → take left (c ∷ cs) ≡ c ∷ take (left - 1) cs
 take-first zero c cs some = absurd (omega arith)
 take-first (suc left) c cs some = let less : left ≡ suc left - 1 = omega arith in ap (λ n. c ∷ take n cs) less
 

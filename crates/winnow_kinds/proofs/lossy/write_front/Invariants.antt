@@ -1,4 +1,4 @@
--- What was written, with the characters that are left to write, is the front of the text.
+-- What was written, and then the characters that are left to write, is the front of the text.
 use Rattle.std.proofs.Common.{◌≡◌, ℕ, List, ◌++◌, take, encode_utf8_all}
 use Rattle.std.specs.Fmt.{HasWrittenStyled, IsFlush}
 use Rattle.bstr.specs.Utf8.{lossy_chars}

@@ -1,4 +1,4 @@
--- What was written, with the text of the bytes that are left, is the text of all bytes.
+-- What was written, and then the text of the bytes that are left, is the text of all bytes.
 use Rattle.std.proofs.Common.{◌≡◌, ℕ, List, ◌++◌}
 use Rattle.std.specs.Fmt.{HasWrittenStyled, IsFlush}
 use Rattle.std.specs.Str.Lossy.{utf8_lossy}

@@ -3,8 +3,9 @@ use Rattle.std.specs.Prelude.{IfSome, option_map}
 use Rattle.std.proofs.lemmas.List.{take_all, length-take}
 use Rattle.winnow_program.proofs.inputs.read_input.Goals as goal
 
--- what was read below the limit is all that there was
-whole_below : (known : Option (List ℕ)) (limit : ℕ) (read : List ℕ) → IfSome (option_map (take limit) known) (λ xs. read ≡ xs)
+-- if fewer bytes than the limit were read, all bytes were read
+whole_below : (known : Option (List ℕ)) (limit : ℕ) (read : List ℕ)
+    → IfSome (option_map (take limit) known) (λ xs. read ≡ xs)
     → length read < limit → IfSome known (λ bytes. read ≡ bytes)
 whole_below None limit read e below = tt
 whole_below (Some bytes) limit read e below =

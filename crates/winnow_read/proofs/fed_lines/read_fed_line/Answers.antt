@@ -6,13 +6,13 @@ use Rattle.winnow_read.proofs.UnreadLemmas.{TellsFed-text, TellsNothing-unread}
 use Rattle.winnow_read.proofs.WordLemmas.{TellsNamed-alone}
 use Rattle.winnow_read.proofs.fed_lines.read_fed_line.Goals as goal
 
--- an empty line
+-- an empty line means neither a piece nor a question
 TellsFed-filled : {L : Type 0} (bytes : L → List ℕ) → TellsNothing (TellsFed bytes) []
 TellsFed-filled bytes (Piece piece) told =
     TellsNamed-alone bytes (codes "piece") [] (λ spaced. omega (arith, spaced)) piece told
 TellsFed-filled bytes Waits told = omega (arith, ap length told)
 
--- no line, or no text
+-- there is no next line, or it is not UTF-8
 pub returns-in_default-clause-fault : goal.returns-in_default-clause-fault
 returns-in_default-clause-fault g c =
     let bytes = g.L.Contents.bytes in

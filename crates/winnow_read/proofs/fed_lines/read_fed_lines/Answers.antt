@@ -23,7 +23,7 @@ loop-alloc-preserved g c =
 pub returns-clause-short : goal.returns-clause-short
 returns-clause-short g c = length-AreLines g.L.Contents.bytes _ _ _ c.loop-alloc.invariant.told
 
--- the line that stands next tells nothing that may follow those before it
+-- the next line means nothing that may follow those before it
 pub returns-in_err-line-clause-fault : goal.returns-in_err-line-clause-fault
 returns-in_err-line-clause-fault g c =
     let before = c.loop-alloc.invariant in
@@ -35,7 +35,7 @@ returns-in_err-line-clause-fault g c =
     IfErr-handed _ c.from_residual.result c.in_err-line.field-0.0 c.from_residual.ensures.1
     (IsLineWhere-more _ _ c.in_err-line.field-0.0 (λ k fault. FaultsFed-line bytes c.args.lines.now.number c.args.lines.now.rest.now told.items left c.is_empty-in-loop-alloc.result k before.told before.first filled empty fault.1 (fault.0 ∙ before.number)) c.in_err-line.ensures.fault)
 
--- where memory is refused, nothing is promised of a value
+-- if memory is refused, there is no value and nothing to promise of it
 pub returns-in_err-line-clause-told : goal.returns-in_err-line-clause-told
 returns-in_err-line-clause-told g c = IfOk-from_err _ _ c.from_residual.ensures.0
 

@@ -5,14 +5,14 @@ use Rattle.winnow_read.specs.declared.inputs.Kind.TheVariants.{Bytes, Text, Byte
 use Rattle.winnow_read.proofs.UnreadLemmas.{TellsKind-text, TellsNothing-unread}
 use Rattle.winnow_read.proofs.inputs.read_kind.Goals as goal
 
--- an empty line
+-- an empty line means no kind
 TellsKind-filled : TellsNothing TellsKind []
 TellsKind-filled Bytes told = omega (arith, ap length told)
 TellsKind-filled Text told = omega (arith, ap length told)
 TellsKind-filled BytePieces told = omega (arith, ap length told)
 TellsKind-filled TextPieces told = omega (arith, ap length told)
 
--- no line, or no text
+-- there is no next line, or it is not UTF-8
 pub returns-in_default-clause-fault : goal.returns-in_default-clause-fault
 returns-in_default-clause-fault c =
     let text = c.args.lines.now.rest.now in

@@ -5,7 +5,7 @@ use Rattle.winnow_read.proofs.WordLemmas.{TellsNamed-alone}
 use Rattle.winnow_read.proofs.UnreadLemmas.{TellsNamed-text, TellsNothing-unread}
 use Rattle.winnow_read.proofs.inputs.read_line.Goals as goal
 
--- no line, or no text
+-- there is no next line, or it is not UTF-8
 pub returns-in_default-clause-fault : goal.returns-in_default-clause-fault
 returns-in_default-clause-fault g c =
     let bytes = g.L.Contents.bytes in
@@ -16,7 +16,7 @@ returns-in_default-clause-fault g c =
       TellsNothing-unread (TellsNamed bytes name) text (λ read. cc (rw c.in_default.is at c.next_line.ensures.found.1 read)) (λ literal. TellsNamed-text bytes name _ literal c.utf8.name) (TellsNamed-alone bytes name [] (λ spaced. omega (arith, spaced))),
     )
 
--- where memory is refused, nothing is promised of a value
+-- if memory is refused, there is no value and nothing to promise of it
 pub returns-in_err-read_named-clause-told : goal.returns-in_err-read_named-clause-told
 returns-in_err-read_named-clause-told g c = IfOk-from_err _ _ c.from_residual.ensures.0
 

@@ -5,7 +5,7 @@ use Rattle.winnow_read.proofs.WordLemmas.{TellsNamed-alone}
 use Rattle.winnow_read.proofs.inputs.read_named.Goals as goal
 use Rattle.winnow_read.proofs.inputs.read_named.Goals.{in_default-via-in-Some+else-eq, in_default-via-in_default}
 
--- another first word, or no word behind it
+-- the line has another first word, or no word after it
 pub returns-in_default : goal.returns-in_default
 returns-in_default g c =
     elim c.in_default.branch [

@@ -11,7 +11,7 @@ loop-step-preserved g c =
     let pushed = AllZip-push (IsSameStep g.L.Contents.bytes g.L.Lend.lent_bytes) _ _ _ _ c.loop-step.invariant c.lend_step.ensures in
     rw (more, sym c.step-item.is, c.in_ok-push.ensures.items) pushed
 
--- where memory is refused, nothing is promised of a value
+-- if memory is refused, there is no value and nothing to promise of it
 pub returns-in_err-lent : goal.returns-in_err-lent
 returns-in_err-lent g c = IfOk-from_err _ _ c.from_residual.ensures.0
 

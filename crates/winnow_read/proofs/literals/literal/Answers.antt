@@ -19,7 +19,7 @@ returns-in-Ok-clause-bytes c =
     let filled : eqb (length c.args.word.now) 0 ≡ false = sym c.is_empty.ensures ∙ c.if-is_empty.false in
     inr ((omega (arith, eqb-false, filled), word.0, word.1), decoded)
 
--- neither `-` nor digits: the first was tested, and digits decode
+-- the word is neither `-`, which was tested, nor digits, which decode
 pub returns-in_default : goal.returns-in_default
 returns-in_default c =
     let is_dash : Decides c.eq.result (c.args.word.now ≡ c.as_slice.result.now) = slice_eq-Decides Decides-eqb _ _ _ c.eq.ensures in

@@ -3,7 +3,7 @@ use Rattle.winnow_read.proofs.StepLemmas.{TellsStep-filled}
 use Rattle.winnow_read.proofs.UnreadLemmas.{TellsStep-text, TellsNothing-unread}
 use Rattle.winnow_read.proofs.steps.next_step.Goals as goal
 
--- no line, or no text
+-- there is no next line, or it is not UTF-8
 pub returns-in-None-clause-step : goal.returns-in-None-clause-step
 returns-in-None-clause-step g c =
     let bytes = g.L.Contents.bytes in

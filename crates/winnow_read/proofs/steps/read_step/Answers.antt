@@ -6,13 +6,13 @@ use Rattle.winnow_read.specs.Words.{first_word}
 use Rattle.winnow_read.proofs.StepLemmas.{TellsStep-nothing, TellsStep-alone}
 use Rattle.winnow_read.proofs.steps.read_step.Goals as goal
 
--- one word, which is that of no call
+-- the line is one word, which is that of no call
 pub returns-in_default-split_word : goal.returns-in_default-split_word
 returns-in_default-split_word g c =
     let call : TellsNothing TellsCall c.args.line.now = rw c.in_default.is at c.read_call.ensures in
     TellsStep-alone g.L.Contents.bytes c.args.line.now call (λ spaced. cc (c.in_default-split_word.ensures.found.1 spaced))
 
--- the word of a search for a set, and no ranges behind it
+-- the line begins with `first`, and no ranges follow
 pub returns-in-None : goal.returns-in-None
 returns-in-None g c =
     let line = c.args.line.now in
@@ -24,7 +24,7 @@ returns-in-None g c =
     (λ compare. absurd (omega (arith, ap length (sym compare ∙ named))))
     (λ find. absurd (omega (arith, ap length (sym find ∙ named))))
 
--- the first word is that of no step
+-- the first word of the line is that of no step
 pub returns-in_default-name : goal.returns-in_default-name
 returns-in_default-name g c =
     let line = c.args.line.now in
@@ -35,7 +35,7 @@ returns-in_default-name g c =
     (λ compare. absurd (c.in_default-name.not-compare (words.first ∙ compare)))
     (λ find. absurd (c.in_default-name.not-find (words.first ∙ find)))
 
--- where memory is refused, nothing is promised of a value
+-- if memory is refused, there is no value and nothing to promise of it
 pub returns-in_err-ranges-in-first : goal.returns-in_err-ranges-in-first
 returns-in_err-ranges-in-first g c = IfOk-from_err _ _ c.from_residual.ensures.0
 

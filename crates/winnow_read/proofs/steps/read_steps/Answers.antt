@@ -17,11 +17,11 @@ loop-steps-preserved g c =
       ahead = refl;
     }
 
--- the line that stands next tells no step
+-- the next line means no step
 pub returns-clause-stops : goal.returns-clause-stops
 returns-clause-stops g c = rw (c.in_default.is, c.loop-steps.invariant.ahead) at c.in_ok-step.ensures.step
 
--- where memory is refused, nothing is promised of a value
+-- if memory is refused, there is no value and nothing to promise of it
 pub returns-in_err-step-clause-steps : goal.returns-in_err-step-clause-steps
 returns-in_err-step-clause-steps g c = IfOk-from_err _ _ c.from_residual.ensures.0
 

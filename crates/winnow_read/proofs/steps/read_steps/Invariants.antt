@@ -5,7 +5,8 @@ use Rattle.winnow_read.proofs.steps.read_steps.Given as goal
 
 abbrev pub invariant-loop-steps : goal.invariant-loop-steps
 invariant-loop-steps g l = record {
-  steps : AreLines (TellsStep g.L.Contents.bytes) l.fn.lines.rest.now l.steps.items l.lines.rest.now;
+  steps : AreLines (TellsStep g.L.Contents.bytes)
+      l.fn.lines.rest.now l.steps.items l.lines.rest.now;
   number : l.lines.number ≡ l.fn.lines.number + length l.steps.items;
   reach : reach l.lines ≤ reach l.fn.lines;
   ahead : l.ahead ≡ l.lines;

@@ -20,7 +20,7 @@ returns c =
     let parts = YieldsList-end (YieldsList-from_str_split 44 c.args.word.now (lit< tt) (rw same split.text) (rw same split.has_more) (rw same split.pattern)) c.loop-part.yielded _ c.loop-part.yielded_by _ _ c.in-None.is c.next.ensures.steps in
     inr (rw parts.0 at (AllZip-map (λ part. part.now) TellsRange c.loop-part.yielded c.loop-part.ranges.items c.loop-part.invariant))
 
--- the part that stands next tells no range, and the word is not the one for no ranges
+-- the next part means no range, and the word is not `-`
 pub returns-in_default : goal.returns-in_default
 returns-in_default c =
     let same = c.into_iter-part-iterator.ensures.into_iter_gives in

@@ -3,7 +3,7 @@ use Rattle.winnow_stream.specs.Source.{width}
 use Rattle.winnow_stream.specs.Cursor.{start}
 use Rattle.winnow_refusal_calls.proofs.scripts.list_items.Goals as goal
 
--- a run that begins here stands at its start
+-- at its beginning a run stands at its start
 pub answer_step-requires-clause-stands : goal.answer_step-requires-clause-stands
 answer_step-requires-clause-stands g c =
     let base : c.new-origin.result.place ≡ 0 = omega (arith, c.new-origin.ensures.place, c.eof_offset.ensures) in

@@ -13,9 +13,16 @@ invariant-loop-step g l = record {
   split : l.script ≡ done ++ l.rest;
   origin : g.S.Stream.valid_checkpoint l.origin.checkpoint;
   base : l.origin.place ≡ 0;
-  placed : AreLocated (g.S.Rest.location l.fn.s) (run_state g.S.Stream.remained l.origin (g.S.Stream.remaining l.s) l.marks) (g.S.Checkpoint.Rest.location l.origin.checkpoint) (g.S.Rest.location l.s);
-  stands : StandsAt (run_state g.S.Stream.remained l.origin (g.S.Stream.remaining l.s) l.marks) (g.S.Stream.remaining l.fn.s) (cursor_after (step_next (g.S.Stream.remaining l.fn.s)) done start);
-  answers : AreGiven (IsAnswer g.C.ScriptSet.may_answer g.S.Stream.is_slice g.S.Stream.counts_missing (g.S.Stream.remaining l.fn.s)) (step_next (g.S.Stream.remaining l.fn.s)) done start l.answers.items;
+  placed : AreLocated (g.S.Rest.location l.fn.s)
+      (run_state g.S.Stream.remained l.origin (g.S.Stream.remaining l.s) l.marks)
+      (g.S.Checkpoint.Rest.location l.origin.checkpoint) (g.S.Rest.location l.s);
+  stands : StandsAt (run_state g.S.Stream.remained l.origin (g.S.Stream.remaining l.s) l.marks)
+      (g.S.Stream.remaining l.fn.s)
+      (cursor_after (step_next (g.S.Stream.remaining l.fn.s)) done start);
+  answers : AreGiven
+      (IsAnswer g.C.ScriptSet.may_answer g.S.Stream.is_slice g.S.Stream.counts_missing
+      (g.S.Stream.remaining l.fn.s)) (step_next (g.S.Stream.remaining l.fn.s))
+      done start l.answers.items;
 }
 
 abbrev pub decreases-loop-step : goal.decreases-loop-step

@@ -14,9 +14,16 @@ invariant-loop-step g l = record {
   split : l.script ≡ done ++ l.rest;
   origin : g.S.Stream.valid_checkpoint l.origin.checkpoint;
   base : l.origin.place ≡ 0;
-  placed : AreLocated (g.S.Rest.location l.fn.s) (run_state g.S.Stream.remained l.origin (g.S.Stream.remaining l.s) l.marks) (g.S.Checkpoint.Rest.location l.origin.checkpoint) (g.S.Rest.location l.s);
-  stands : StandsAt (run_state g.S.Stream.remained l.origin (g.S.Stream.remaining l.s) l.marks) (g.S.Stream.remaining l.fn.s) (cursor_after (search_next (g.S.Stream.remaining l.fn.s)) done start);
-  answers : AreGiven (IsSearchAnswer g.C.ScriptSet.may_answer g.S.Stream.is_slice g.S.Stream.counts_missing g.S.Compare.compared g.S.FindSlice.found (g.S.Stream.remaining l.fn.s)) (search_next (g.S.Stream.remaining l.fn.s)) done start l.answers.items;
+  placed : AreLocated (g.S.Rest.location l.fn.s)
+      (run_state g.S.Stream.remained l.origin (g.S.Stream.remaining l.s) l.marks)
+      (g.S.Checkpoint.Rest.location l.origin.checkpoint) (g.S.Rest.location l.s);
+  stands : StandsAt (run_state g.S.Stream.remained l.origin (g.S.Stream.remaining l.s) l.marks)
+      (g.S.Stream.remaining l.fn.s)
+      (cursor_after (search_next (g.S.Stream.remaining l.fn.s)) done start);
+  answers : AreGiven
+      (IsSearchAnswer g.C.ScriptSet.may_answer g.S.Stream.is_slice g.S.Stream.counts_missing
+      g.S.Compare.compared g.S.FindSlice.found (g.S.Stream.remaining l.fn.s))
+      (search_next (g.S.Stream.remaining l.fn.s)) done start l.answers.items;
 }
 
 abbrev pub decreases-loop-step : goal.decreases-loop-step

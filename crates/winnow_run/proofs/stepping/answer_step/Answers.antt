@@ -364,7 +364,7 @@ returns-in-Some-clause-valid g c = c.next_slice-in-Some.ensures.valid
 pub returns-in-Some-clause-kept : goal.returns-in-Some-clause-kept
 returns-in-Some-clause-kept g c = g.met.S.Stream.keeps_transitive _ _ _ c.reset.ensures.kept c.next_slice-in-Some.ensures.kept
 
--- ---- what remains, told as it stands
+-- ---- what remains after each step
 
 pub returns-in-Next-clause-answer : goal.returns-in-Next-clause-answer
 returns-in-Next-clause-answer g c = λ all cur h q p. rw c.in-Next.is (ap Token (c.next_token.ensures.answer ∙ ap first_token h.rest))
@@ -381,7 +381,7 @@ returns-in-At-clause-answer g c = λ all cur h q p. rw c.in-At.is (ap At (c.offs
 pub returns-in-IsOffset-clause-answer : goal.returns-in-IsOffset-clause-answer
 returns-in-IsOffset-clause-answer g c = λ all cur h q p. rw c.in-IsOffset.is (ap Flag (c.is_offset-in-IsOffset.ensures ∙ ap (λ r. is_offset r c.in-IsOffset.offset) h.rest))
 
--- where memory is refused, nothing is promised of a value
+-- if memory is refused, there is no value and nothing to promise of it
 pub returns-in_err-collect-in-Each-clause-answer : goal.returns-in_err-collect-in-Each-clause-answer
 returns-in_err-collect-in-Each-clause-answer g c = IfOk-from_err _ _ c.from_residual.ensures.0
 

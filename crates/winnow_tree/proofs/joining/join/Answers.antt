@@ -1,7 +1,7 @@
 use Rattle.std.proofs.lemmas.Result.{IfOk-from_err}
 use Rattle.winnow_tree.proofs.joining.join.Goals as goal
 
--- where memory is refused, nothing is promised
+-- if memory is refused, nothing is promised
 pub returns-in_err-append-in-Alt-second : goal.returns-in_err-append-in-Alt-second
 returns-in_err-append-in-Alt-second g c = IfOk-from_err _ _ c.from_residual.ensures.0
 

@@ -18,7 +18,7 @@ returns g c =
     let e = sym (map-id c.loop-frame.yielded) ∙ (YieldsList-end (YieldsList-from_vec c.args.frames.items h.0 (h.1 ∙ c.args.frames.ok.0)) c.loop-frame.yielded c.loop-frame.frame-iterator c.loop-frame.yielded_by c.next.result c.next.new.self c.in-None.is c.next.ensures.steps).0 in
     subst (λ xs. AllZip (FrameMaps (OnOkOf (goal.O-post g c.args.op.now))) (map frame_contents xs) (map frame_contents c.loop-frame.mapped.items)) e c.loop-frame.invariant
 
--- where memory is refused, nothing is promised
+-- if memory is refused, nothing is promised
 pub returns-in_err-one : goal.returns-in_err-one
 returns-in_err-one g c = IfOk-from_err _ _ c.from_residual.ensures.0
 

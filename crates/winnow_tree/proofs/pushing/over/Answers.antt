@@ -1,7 +1,7 @@
 use Rattle.std.proofs.lemmas.Result.{IfOk-from_err}
 use Rattle.winnow_tree.proofs.pushing.over.Goals as goal
 
--- where memory is refused, nothing is promised
+-- if memory is refused, nothing is promised
 pub returns-in_err-base : goal.returns-in_err-base
 returns-in_err-base g c = IfOk-from_err _ _ c.from_residual.ensures.0
 

@@ -25,7 +25,7 @@ returns-after-loop-entry g t c =
     let all = rw (take_all c.loop-entry.entry-index c.deref-entry-items.result.now c.loop-entry-test.false, c.deref-entry-items.ensures.value) at c.loop-entry.invariant in
     writes_alt g.I.Display.output g.C.Display.output c.args.tree.now c.in-Alt.entries c.in-Alt.is c.args.indent.now _ _ _ c.in_ok-write-in-Alt.ensures.bytes all
 
--- where memory is refused, nothing is promised
+-- if memory is refused, nothing is promised
 pub returns-in_err-push_str-in-Base : goal.returns-in_err-push_str-in-Base
 returns-in_err-push_str-in-Base g t c = IfOk-from_err _ _ c.from_residual.ensures.0
 

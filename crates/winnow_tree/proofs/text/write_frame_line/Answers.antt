@@ -1,7 +1,7 @@
 use Rattle.std.proofs.lemmas.Result.{IfOk-from_err}
 use Rattle.winnow_tree.proofs.text.write_frame_line.Goals as goal
 
--- where memory is refused, nothing is promised
+-- if memory is refused, nothing is promised
 pub returns-in_err-write : goal.returns-in_err-write
 returns-in_err-write g c = IfOk-from_err _ _ c.from_residual.ensures.0
 

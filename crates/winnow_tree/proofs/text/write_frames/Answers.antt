@@ -6,6 +6,6 @@ pub loop-level-preserved : goal.loop-level-preserved
 loop-level-preserved g c =
     frames_more g.I.Display.output g.C.Display.output c.args.indent.now c.args.frames.now c.loop-level.level c.index-frames-level.result c.loop-level-test.true c.index-frames-level.is _ _ _ c.loop-level.invariant c.in_ok-write_frame_line.ensures
 
--- where memory is refused, nothing is promised
+-- if memory is refused, nothing is promised
 pub returns-in_err-write_frame_line : goal.returns-in_err-write_frame_line
 returns-in_err-write_frame_line g c = IfOk-from_err _ _ c.from_residual.ensures.0

@@ -9,6 +9,8 @@ use Rattle.winnow_context.proofs.context_text.AllExpectedDisplay.fmt.Given as go
 abbrev pub invariant-loop-context : goal.invariant-loop-context
 invariant-loop-context g l = record {
   lead : l.lead ≡ lead_behind (expected (take l.context-index l.fn.self.0.now));
-  written : IsPlainFormatter l.initial.f → HasWritten g.W.Write.write_str_gives l.initial.f (values_text (expected (take l.context-index l.fn.self.0.now))) l.f;
+  written : IsPlainFormatter l.initial.f
+      → HasWritten g.W.Write.write_str_gives l.initial.f
+      (values_text (expected (take l.context-index l.fn.self.0.now))) l.f;
   text : shadow (Utf8 l.lead);
 }

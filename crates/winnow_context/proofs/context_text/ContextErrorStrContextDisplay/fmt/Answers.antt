@@ -6,7 +6,12 @@ use Rattle.winnow_context.proofs.context_text.ContextErrorStrContextDisplay.fmt.
 use Rattle.winnow_context.proofs.context_text.ContextErrorStrContextDisplay.fmt.Given
 use Rattle.winnow_context.proofs.context_text.ContextErrorStrContextDisplay.fmt.Goals as goal
 
-written : (g : Given.Over) (c : goal.After-write_bare g) → DisplaysOnOk g.W.Write.write_str_gives c.args.f.now c.write_bare.result (Some (explanation_text c.args.self.now)) c.write_bare.new.f × DisplaysStyledOnOk g.W.Write.write_str_gives c.args.f.now c.write_bare.result (Some (explanation_text c.args.self.now)) c.write_bare.new.f
+-- the explanation is written, under no options and under any
+written : (g : Given.Over) (c : goal.After-write_bare g)
+    → DisplaysOnOk g.W.Write.write_str_gives c.args.f.now c.write_bare.result
+    (Some (explanation_text c.args.self.now)) c.write_bare.new.f
+    × DisplaysStyledOnOk g.W.Write.write_str_gives c.args.f.now c.write_bare.result
+    (Some (explanation_text c.args.self.now)) c.write_bare.new.f
 written g c =
     let self = c.args.self.now in
     let cs = c.as_slice-contexts.ensures ∙ c.context.ensures.left in

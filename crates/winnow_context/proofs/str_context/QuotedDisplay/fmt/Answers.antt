@@ -1,7 +1,7 @@
 use Rattle.winnow_context.proofs.lemmas.RefusedLemmas.{not-both}
 use Rattle.winnow_context.proofs.str_context.QuotedDisplay.fmt.Goals as goal
 
--- where a text could not be written, nothing is promised
+-- if a text could not be written, nothing is promised
 pub returns-in_err-write_str-clause-writes : goal.returns-in_err-write_str-clause-writes
 returns-in_err-write_str-clause-writes g c = λ _ ok. absurd (not-both _ c.from_residual.ensures.0 ok)
 

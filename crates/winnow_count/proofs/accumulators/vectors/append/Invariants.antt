@@ -2,7 +2,7 @@ use Rattle.std.proofs.Common.{◌≡◌, ◌++◌, ◌+◌, ◌≤◌, length, t
 use Rattle.std.specs.VecDeque.{deque_len, deque_capacity}
 use Rattle.winnow_count.proofs.accumulators.vectors.append.Given as goal
 
--- so many items are there, and the room for the others
+-- the items that came so far are in the queue, which has room for the others
 abbrev pub invariant-loop-item : goal.invariant-loop-item
 invariant-loop-item g l = record {
   items : l.queue.items ≡ l.initial.queue.items ++ take l.item-index l.slice;

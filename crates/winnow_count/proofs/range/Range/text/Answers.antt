@@ -6,8 +6,9 @@ use Rattle.winnow_count.specs.CountRange.{counts_text}
 use Rattle.winnow_count.proofs.InlineTexts.{inline_text-written}
 use Rattle.winnow_count.proofs.range.Range.text.Goals as goal
 
--- the text where the greatest count is another than the least
-counts_text-apart : (least greatest : ℕ) → greatest ≢ least → decimal least ++ (codes "..=" ++ decimal greatest) ≡ counts_text least (Some greatest)
+-- the text if the greatest count differs from the least
+counts_text-apart : (least greatest : ℕ) → greatest ≢ least
+    → decimal least ++ (codes "..=" ++ decimal greatest) ≡ counts_text least (Some greatest)
 counts_text-apart least greatest other = sym (append_assoc (decimal least) (codes "..=") (decimal greatest)) ∙ elim (eqb_tells greatest least) [
   | inl (_, is) ↦ absurd (other is)
   | inr (differ, _) ↦ ap (λ same. if same then decimal least else decimal least ++ codes "..=" ++ decimal greatest) (sym differ)

@@ -118,7 +118,7 @@ returns-then-self-before-clause-came c = λ pieces h.
     let before = rw (← c.self.view_is) at h in
     rw (← c.self.view_is) (came-out byte_input bytes-input old _ pieces c.args.piece.now 0 before (returns-then-self-before-clause-fits c pieces h) refl (omega arith))
 
--- where memory is refused, nothing is promised of a value
+-- if memory is refused, there is no value and nothing to promise of it
 pub returns-in_err-extend_from_slice-clause-fits : goal.returns-in_err-extend_from_slice-clause-fits
 returns-in_err-extend_from_slice-clause-fits c = IfOk-from_err _ _ c.from_residual.ensures.0
 

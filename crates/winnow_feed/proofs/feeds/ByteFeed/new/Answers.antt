@@ -28,7 +28,7 @@ returns-clause-fits c = record {
   tried = refl;
 }
 
--- where memory is refused, nothing is promised of a value
+-- if memory is refused, there is no value and nothing to promise of it
 pub returns-in_err-told-clause-fits : goal.returns-in_err-told-clause-fits
 returns-in_err-told-clause-fits c = IfOk-from_err _ _ c.from_residual.ensures.0
 

@@ -58,6 +58,6 @@ returns-in-None-clause-waits c = λ pieces h.
     let e = ap (option_map (λ v. v.items)) (sym c.in-None.is) ∙ told (text_input.source (joined pieces)) before.stands.stands n.0 n.1 in
     rw (← c.self.view_is) (some, to-end text_input texts-input text-spelling old pieces before some n.0 n.1 e)
 
--- where memory is refused, nothing is promised of a value
+-- if memory is refused, there is no value and nothing to promise of it
 pub returns-in_err-more-clause-waits : goal.returns-in_err-more-clause-waits
 returns-in_err-more-clause-waits c = IfOk-from_err _ _ c.from_residual.ensures.0

@@ -2,7 +2,7 @@ use Rattle.std.proofs.Common.{◌∙◌, ap}
 use Rattle.std.specs.Prelude.{◌++◌, ◌∷◌, [], refl}
 use Rattle.winnow_recover.proofs.recoverable.RecoverableRecover.record_err.Goals as goal
 
--- The error is converted where the place is there already: the stream that it is told of has that room.
+-- The stream from which the error is converted has the room for it already.
 pub returns-clause-ok : goal.returns-clause-ok
 returns-clause-ok g c =
     let errors = c.args.self.now.errors.items in

@@ -1,4 +1,4 @@
--- Each call moves the place of the trait as it moves that of the slice.
+-- Each call moves the location of the trait as it moves the place of the slice.
 use Rattle.std.specs.Mem.{type_size}
 use Rattle.std.proofs.Common.{ap, Some}
 use Rattle.winnow_window.specs.Contents.{slice_of}
