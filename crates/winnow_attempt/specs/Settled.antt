@@ -20,7 +20,7 @@ pub record NoneHeld {T : Type 0} (holds : T → Bool) (r : Source T) (n : ℕ) :
   pub offset : is_offset r n ≡ true
   pub none : first_offset holds (front r n) ≡ None
 
--- `Find`: a place before which no needle stands, whatever follows
+-- `Find`: a place before which no needle stands, no matter what follows
 pub record NoneOccurs (needles : List (List ℕ)) (bytes : List ℕ) (n : ℕ) : Type 0 where
   pub within : n ≤ length bytes
   pub none : (m : List ℕ) (i : ℕ) → i < n → needle_at needles (drop i (bytes ++ m)) ≡ None
@@ -50,7 +50,7 @@ module _ {T C L : Type 0} (k : PieceKind T C L) where
   IsSettled (step.Compare literal) r n tokens = AreSame (k.literal literal) (written k.write r) n
   IsSettled (step.Find needles) r n tokens = NoneOccurs (needle_list k.literal needles) (written k.write r) n
 
-  -- no needle of a search stands before place n, whatever follows
+  -- no needle of a search stands before place n, no matter what follows
   abbrev pub IsSearched : SearchStep C L → Source T → ℕ → Type 0
   IsSearched (step.Find needles) r n = NoneOccurs (needle_list k.literal needles) (written k.write r) n
   IsSearched _ r n = ⊤

@@ -126,8 +126,8 @@ pub(crate) fn find_from<'n>(
 }
 
 /// Returns whether a hit was found that no further input can move, and a place before which no
-/// needle stands, whatever follows. Without such a hit, that is the first place where a needle
-/// could come to stand.
+/// needle stands, no matter what follows. Without such a hit, that is the first place where a
+/// needle could come to stand.
 #[tactic(auto, using(crate::proofs::lemmas::PassedLemmas::found_hits))]
 #[inline(always)]
 pub(crate) fn searched(

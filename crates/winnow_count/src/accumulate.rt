@@ -17,7 +17,7 @@ pub trait Accumulate<T>: Sized {
     // The accumulator at the start, if this number of items is announced.
     ghost starts: { Option ℕ → Self → Type 0 };
 
-    // The accumulator after one more item, whatever it held before.
+    // The accumulator after one more item, for any value before.
     ghost takes: { Self → T → Self → Type 0 };
 
     // The second accumulator holds what the first one did.

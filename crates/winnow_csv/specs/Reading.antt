@@ -13,14 +13,14 @@ abbrev pub RowInPieces : Meaning RowVec ℕ
 RowInPieces = OneRow IsByteSlice (λ slice. slice.now) ⊥
 
 module _ {R : Type 0} where
-  -- whatever follows, the input and that are these records, one after the other, and then what is
-  -- ahead of the reader and what follows
+  -- no matter what follows, the input and that are these records, one after the other, and then
+  -- what is ahead of the reader and what follows
   abbrev pub BeginsWith : ReaderState R → List ℕ → List RowVec → Type 0
   BeginsWith f input rows = (more : List ℕ) → MayFollow f.ended more false
       → AreRecords (input ++ more) (rows_in rows) (f.ahead ++ more)
 
-  -- whatever follows, no record stands ahead of the reader, and what does is damaged at this place
-  -- of the joined input
+  -- no matter what follows, no record stands ahead of the reader, and what does is damaged at this
+  -- place of the joined input
   abbrev pub FindsDamage : ReaderState R → ℕ → Type 0
   FindsDamage f place = (rest : List ℕ) × ((f.place + length f.ahead ≡ place + length rest)
       × ((more : List ℕ) → MayFollow f.ended more false

@@ -8,7 +8,7 @@
 //! [`read_record`] reads one record. Its contract speaks of bytes alone: which record it gives,
 //! where it fails, and that it misses none. [`read_table`] reads the records of a whole text, and
 //! says where one is damaged. [`write_record`] writes a record, which [`read_record`] reads back.
-//! [`first_uneven`] tells the first record that has another number of fields than the first one.
+//! [`first_uneven`] finds the first record that has another number of fields than the first one.
 //!
 //! A [`Row`] is a record of a reader, too: a `winnow::reader::ByteReader` of it reads records from
 //! bytes that come in pieces. [`rows_in_pieces_law`] says in the words of the format what it reads.

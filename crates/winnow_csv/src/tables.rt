@@ -30,7 +30,8 @@ fn next_row(alloc: Global, input: &mut &[u8]) -> ModalResult<Vec<Vec<u8>>, Empty
 /// Reads all records of a text, in order. The inner error says where a record is damaged, and the
 /// outer one that memory was refused.
 ///
-/// Records may have different numbers of fields; [`first_uneven`](crate::first_uneven) tells.
+/// Records may have different numbers of fields; [`first_uneven`](crate::first_uneven) finds
+/// the first that does.
 pub fn read_table(
     alloc: Global,
     text: &[u8],

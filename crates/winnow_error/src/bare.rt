@@ -22,7 +22,7 @@ impl<W: fmt::Write> fmt::Write for Bare<'_, W> {
     }
 }
 
-/// Writes a value as `{}` does, whatever the options of the formatter are.
+/// Writes a value as `{}` does, for any options of the formatter.
 #[doc(hidden)]
 pub fn write_bare<W: fmt::Write, D: fmt::Display + Drop>(
     f: &mut fmt::Formatter<W>,

@@ -13,7 +13,7 @@ pub enum CompareResult {
     Ok(usize),
     /// What remains is a front of the literal, and shorter: more input may complete the literal
     Incomplete,
-    /// The stream does not begin with the literal, whatever input follows
+    /// The stream does not begin with the literal, no matter what input follows
     Error,
 }
 

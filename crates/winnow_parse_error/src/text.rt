@@ -1,4 +1,4 @@
-ghost use Rattle.std.specs.Prelude.{◌≡◌, Some, length};
+ghost use Rattle.std.specs.Prelude.{◌≡◌, ◌++◌, IfOk, Some, length, string_bytes};
 ghost use Rattle.std.specs.Fmt.{◌++?◌, decimal};
 ghost use Rattle.winnow_parse_error.specs.Position.{line_of, column_of};
 ghost use Rattle.winnow_parse_error.specs.ParseErrorText.{spaces, line_text, heading_text};
@@ -8,6 +8,7 @@ ghost use Rattle.winnow_parse_error.specs.ParseErrorText.{pointer_text};
 use crate::ParseError;
 use crate::line::{has_newline, line_at};
 use crate::position::translate_position;
+use std::alloc::{AllocError, Global};
 use std::fmt;
 use winnow_error::write_bare;
 use winnow_kinds::BStr;
@@ -178,5 +179,21 @@ impl<I: AsBStr, E: fmt::Display> fmt::Display for ParseError<I, E> {
         };
         let inner = self.inner();
         write_bare(f, format_args!("{pointer}{inner}"))
+    }
+}
+
+impl<I: AsBStr, E> ParseError<I, E> {
+    /// Returns the text that this error prints, with `inner` in place of the inner error's text.
+    /// So an error whose text needs memory, as a tree's does, is shown with its place:
+    /// `error.text_with(alloc, error.inner().text(alloc)?.as_str())`. Refused memory is answered.
+    pub fn text_with(&self, alloc: Global, inner: &str) -> Result<String, AllocError>
+        ensures { IfOk result (λ s. string_bytes s
+            ≡ pointer_text (I.text_bytes self.now.input) self.now.offset ++ inner.now) }
+    {
+        let pointer = Pointer {
+            bytes: self.input().as_bstr(),
+            offset: self.offset(),
+        };
+        format!(in alloc; "{pointer}{inner}")
     }
 }

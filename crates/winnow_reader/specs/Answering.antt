@@ -14,12 +14,12 @@ abbrev pub StopsAt : {O : Type 0} → Meaning O ℕ → Bool → Ahead ℕ → A
 StopsAt means partial a b = means partial a (Fails (Backtracks b)) ⊎ means partial a (Fails (Cuts b))
 
 module _ {R O : Type 0} (means : R → Meaning O ℕ) where
-  -- whatever follows, the parser fails there
+  -- no matter what follows, the parser fails there
   abbrev pub FailsAt : ReaderState R → ℕ → Type 0
   FailsAt f place = (rest : List ℕ) × ((more : List ℕ) (partial : Bool) → MayFollow f.ended more partial
       → StopsAt (means f.parser) partial (bytes_at f.place (f.ahead ++ more)) (bytes_at place (rest ++ more)))
 
-  -- whatever follows, the parser gives a value and takes nothing
+  -- no matter what follows, the parser gives a value and takes nothing
   abbrev pub IdlesAt : ReaderState R → ℕ → Type 0
   IdlesAt f place = (place ≡ f.place) × ((x : O) × ((more : List ℕ) (partial : Bool) → MayFollow f.ended more partial
       → means f.parser partial (bytes_at place (f.ahead ++ more)) (Gives x (bytes_at place (f.ahead ++ more)))))
@@ -42,7 +42,7 @@ module _ {R O E : Type 0} (means : R → Meaning O ℕ) where
   WaitsWell old (Ok Done) = ⊤
   WaitsWell old (Err e) = ⊤
 
-  -- a failure is the parser's, and tells its place
+  -- a failure is the parser's, with its place
   abbrev pub FailsWell : ReaderState R → Result (Next O) (ReadError E) → Type 0
   FailsWell old (Ok next) = ⊤
   FailsWell old (Err (Failed error place)) = FailsAt means old place

@@ -41,20 +41,20 @@ module _ {R O : Type 0} (means : R → Meaning O ℕ) where
   Lacks f = (rest : List ℕ) × ((n : ℕ)
       × (Asks (means f.parser) f.place f.ahead rest n × (length rest < n)))
 
-  -- of this joined input a reader has read these values: whatever follows, the parser, repeated
-  -- over all of it, gives just these and stands where the reader does. And where the reader waits,
-  -- the parser asked for what it waits for.
+  -- of this joined input a reader has read these values: no matter what follows, the parser,
+  -- repeated over all of it, gives just these and stands where the reader does. And where the
+  -- reader waits, the parser asked for what it waits for.
   pub record HasRead (f : ReaderState R) (input : List ℕ) (values : List O) : Type 0 where
     pub reads : (more : List ℕ) (partial : Bool) → MayFollow f.ended more partial
         → Reads (means f.parser) partial (bytes_at 0 (input ++ more)) values (bytes_at f.place (f.ahead ++ more))
     pub awaits : AwaitsAsked f
 
-  -- whatever was read, with a piece more the reader has read the same
+  -- no matter what was read, with a piece more the reader has read the same
   abbrev pub ReadsAlso : ReaderState R → List ℕ → ReaderState R → Type 0
   ReadsAlso old piece new = (input : List ℕ) (values : List O)
       → HasRead old input values → HasRead new (input ++ piece) values
 
-  -- whatever was read, the other reader has read the same
+  -- no matter what was read, the other reader has read the same
   abbrev pub ReadsThrough : ReaderState R → ReaderState R → Type 0
   ReadsThrough old new = (input : List ℕ) (values : List O)
       → HasRead old input values → HasRead new input values
@@ -66,7 +66,7 @@ values_in (Ok NeedsMore) = []
 values_in (Ok Done) = []
 values_in (Err e) = []
 
--- whatever was read, the other reader has read that, and the value if there is one
+-- no matter what was read, the other reader has read that, and the value if there is one
 abbrev pub ReadsOn : {R O E : Type 0} → (R → Meaning O ℕ)
     → ReaderState R → Result (Next O) (ReadError E) → ReaderState R → Type 0
 ReadsOn {R} {O} {E} means old result new = (input : List ℕ) (values : List O)

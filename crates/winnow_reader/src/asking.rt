@@ -14,7 +14,7 @@ use winnow_wrap::{LocatingSlice, Partial};
 pub(crate) enum Asked<O, E> {
     // A value, and how many bytes it took
     Value(O, usize),
-    // So many bytes are to be ahead before it is asked again
+    // The number of bytes that must be ahead before it is asked again
     Waits(usize),
     // Nothing remains of an input that has ended
     Done,

@@ -11,10 +11,10 @@
 //! # Work
 //!
 //! A record is asked of all that is ahead, from its beginning, and asked again only when as many
-//! bytes came as it last needed. So a record is asked once for each need that it told, and once for
-//! its value; `push` copies its piece, and at most what is ahead. Where a parser tells its needs
-//! exactly, as one that reads a length and then so many bytes, each byte is looked at a fixed
-//! number of times, whatever the pieces are. A parser that needs one byte more each time, as
+//! bytes came as it last needed. So a record is asked once for each need that it answered, and once
+//! for its value; `push` copies its piece, and at most what is ahead. Where a parser's needs are
+//! exact, as those of one that reads a length and then that many bytes, each byte is looked at a
+//! fixed number of times, for pieces of any sizes. A parser that needs one byte more each time, as
 //! `take_until` and `take_while` do, is asked once for each piece: over pieces of p bytes, a record
 //! of r bytes costs some r * r / p steps. So pieces that are not much shorter than the records keep
 //! the work linear. No contract says so.

@@ -23,7 +23,7 @@ pub trait Record {
     /// What it reads.
     type Output: Drop;
 
-    /// What its failures tell.
+    /// What its failures carry.
     type Error;
 
     // What it may answer of what stands ahead.
@@ -33,7 +33,7 @@ pub trait Record {
     ghost ready: { Self → Type 0 };
 
     /// Reads a value from the front, as a parser does. The stream knows its place in the joined
-    /// input. Nothing is said of which error a failure tells.
+    /// input. Nothing is said of which error a failure carries.
     fn read<'b>(
         &self,
         alloc: Global,

@@ -124,13 +124,13 @@ LineEnd code = Pair (OneOf (λ token. 13 == code token)) (OneOf (λ token. 10 ==
 IsParser-LineEnd : {T : Type 0} (code : T → ℕ) → IsParser (LineEnd code)
 IsParser-LineEnd code = IsParser-Pair _ _ (IsParser-OneOf (λ token. 13 == code token)) (IsParser-OneOf (λ token. 10 == code token))
 
--- the parser takes a text of at most so many bytes, and the end of its line
+-- the parser takes a text of at most that many bytes, and the end of its line
 abbrev pub IsLine : ℕ → FirstOf (OtherTokens (ℕ × ℕ)) (OneOfSet ℕ × OneOfSet ℕ) → Type 0
 IsLine longest p = (p.first.set ≡ (13, 10)) × HasCounts 0 (Some longest) p.first.counts
     × (p.second.0.set ≡ 13) × (p.second.1.set ≡ 10)
 
 module _ {S T : Type 0} (code : T → ℕ) (counts_missing : Bool) (is_slice : S → Source T → ℕ → Type 0) (bytes : S → List ℕ) where
-  -- a text of at most so many bytes, and the end of its line
+  -- a text of at most that many bytes, and the end of its line
   abbrev pub Line : ℕ → Meaning S T
   Line longest = Terminated (HeldFront is_slice (λ token. is_in_line (code token)) 0 (Some longest)) (LineEnd code)
 
@@ -146,7 +146,7 @@ module _ {S T : Type 0} (code : T → ℕ) (counts_missing : Bool) (is_slice : S
   abbrev pub Length : ℕ → Meaning (Option ℕ) T
   Length greatest = CutOff (Chosen (λ slice n. IsSomeExactly (IsLength greatest (bytes slice)) n) (Line most_digits))
 
-  -- so many bytes, and the end of a line; the parser cuts where they are missing
+  -- that many bytes, and the end of a line; the parser cuts where they are missing
   abbrev pub Bytes : ℕ → Meaning (Vec ℕ Global) T
   Bytes n = Gathered ⊤ (HasBytes bytes) (CutOff (Terminated (Counted counts_missing is_slice n) (LineEnd code)))
 
@@ -159,7 +159,7 @@ module _ {S T : Type 0} (code : T → ℕ) (counts_missing : Bool) (is_slice : S
   abbrev pub BulkString : ℕ → Meaning Reply T
   BulkString longest = Continued IsSame BulkOf (Length longest)
 
-  -- so many replies that the inner meaning gives; the parser cuts where one is missing
+  -- that many replies that the inner meaning gives; the parser cuts where one is missing
   abbrev pub Elements : Meaning Reply T → ℕ → Meaning (Vec Reply Global) T
   Elements inner n = CutOff (Ascending n (Some n) (Gathered ⊤ HasReplies (Repeated n (Some n) inner)))
 

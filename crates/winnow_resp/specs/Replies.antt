@@ -19,7 +19,7 @@ abbrev pub AreInLine : List ℕ → Type 0
 AreInLine [] = ⊤
 AreInLine (c ∷ cs) = IsTrue (is_in_line c) × AreInLine cs
 
--- the bytes can stand before the end of a line, and are at most so many
+-- the bytes can stand before the end of a line, and are at most that many
 abbrev pub IsText : ℕ → List ℕ → Type 0
 IsText longest text = AreInLine text × (length text ≤ longest)
 

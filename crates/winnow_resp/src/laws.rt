@@ -6,8 +6,8 @@ ghost use Rattle.winnow_resp.specs.Answers.{IsAhead, StandsAhead};
 ghost use Rattle.winnow_resp.specs.declared.reply.Reply.{Reply};
 
 /// The law of spelling: what is written for a reply within limits spells it, nothing else does, and
-/// the reply stands ahead where that was written, whatever follows. A law does nothing when called:
-/// its contract is the law.
+/// the reply stands ahead where that was written, no matter what follows. A law does nothing when
+/// called: its contract is the law.
 pub fn spelling_law()
     ensures spelled { (longest depth : ℕ) (reply : Reply) → IsWithin longest depth reply
         → Spells longest depth reply (written reply) }

@@ -108,7 +108,7 @@ where
     }
 }
 
-/// Reads so many bytes, and the end of a line. It cuts where they are missing.
+/// Reads that many bytes, and the end of a line. It cuts where they are missing.
 pub(crate) fn read_bytes<I: StreamIsPartial, E: ParserError<I>>(
     alloc: Global,
     input: &mut I,

@@ -16,8 +16,8 @@ use winnow_match::Compare;
 use winnow_stream::Checkpoint;
 
 /// The law of equality. Two slices of tokens are equal if their whole lists are equal and what
-/// remains of them is, whatever their places. Two of their checkpoints are equal if what remained
-/// is equal.
+/// remains of them is, no matter what their places are. Two of their checkpoints are equal if what
+/// remained is equal.
 pub fn token_equality_law<'t, T: PartialEq + 't>()
     ensures slices { (s t : TokenSlice T)
         → ⟦<TokenSlice<'t, T> as PartialEq>⟧.eq s t

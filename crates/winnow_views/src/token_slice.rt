@@ -378,8 +378,8 @@ impl<T: Debug + Eq + Drop> Compare<T> for TokenSlice<'_, T> {
     }
 }
 
-/// Two slices are equal if their whole lists are equal and what remains of them is, whatever their
-/// places.
+/// Two slices are equal if their whole lists are equal and what remains of them is, no matter what
+/// their places are.
 impl<T: PartialEq> PartialEq for TokenSlice<'_, T> {
     ghost eq = { λ s t. pointwise T.eq (whole_of s).now (whole_of t).now && pointwise T.eq
         (rest_of s) (rest_of t) };

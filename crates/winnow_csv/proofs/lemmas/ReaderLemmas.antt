@@ -35,7 +35,7 @@ lawful = IsParser-OneRow IsByteSlice (λ slice. slice.now) SlicesStay-bytes ⊥
 have-bytes : SlicesHaveBytes IsByteSlice (λ slice. slice.now)
 have-bytes s r n o h = h
 
--- the answers that decide, told with an error that says nothing
+-- the answers that decide, with an error that holds nothing
 abbrev RowAnswer : Type 0
 RowAnswer = Result RowVec (Failure (Unit {0}) Needed)
 
@@ -66,7 +66,7 @@ reads-records (row ∷ rows) a b wide (c, (h, less, more)) =
     let wide_c = positive-moved a c (lawful.onward false a (Gives row c) h) wide in
     (bytes_of c.tokens, (given-ahead row a c wide h, reads-records rows c b wide_c more))
 
--- whatever follows, what was read are the records that the input begins with
+-- no matter what follows, what was read are the records that the input begins with
 pub read-records : {R : Type 0} (f : ReaderState R) (input : List ℕ) (rows : List RowVec)
     → HasRead (λ r. RowInPieces) f input rows → BeginsWith f input rows
 read-records f input rows h more may =
@@ -123,7 +123,7 @@ empty-record = (
   ([], (10 ∷ [], (refl, ([], ([], (refl, inl (tt, refl), refl))), inr (inl refl)))),
 )
 
--- where no record stands ahead, whatever follows, something is ahead, if more may follow
+-- where no record stands ahead, no matter what follows, something is ahead, if more may follow
 some-ahead : (ended : Bool) (ahead : List ℕ)
     → ((more : List ℕ) → MayFollow ended more false → HasNoRecord (ahead ++ more))
     → ¬ ((ended ≡ true) × (ahead ≡ [])) → ahead ≢ []
@@ -138,13 +138,13 @@ append-some [] more n e = n refl
 append-some (x ∷ xs) more n e = let f : x ∷ (xs ++ more) ≡ [] = e in cc
 
 module _ {R : Type 0} (f : ReaderState R) (place : ℕ) (fails : FailsAt (λ r. RowInPieces) f place) where
-  -- where a reader fails, no record stands ahead, whatever follows
+  -- where a reader fails, no record stands ahead, no matter what follows
   fails-missed : (more : List ℕ) → MayFollow f.ended more false → HasNoRecord (f.ahead ++ more)
   fails-missed more may =
       subst HasNoRecord (bytes-same (f.ahead ++ more))
       (stops-missed (bytes_at f.place (f.ahead ++ more)) (bytes_at place (fails.0 ++ more)) (HasPositiveWidths-units (f.ahead ++ more)) (fails.1 more false may))
 
-  -- and what does is damaged at the place that the reader tells
+  -- and what does is damaged at the place that the reader gives
   fails-broken : f.ahead ≢ [] → (more : List ℕ) → MayFollow f.ended more false
       → IsDamagedAt (f.ahead ++ more) (fails.0 ++ more)
   fails-broken some more may =

@@ -42,7 +42,7 @@ some : (xs ys : List ℕ) (y : ℕ) → xs ++ y ∷ ys ≢ []
 some [] ys y e = cc
 some (x ∷ xs) ys y e = cc
 
--- a record that is written is read back, whatever follows it
+-- a record that is written is read back, no matter what follows it
 pub read-back : (row : List (Vec ℕ Global)) → 1 ≤ length row
     → IsReadBack (values_in row) (written_record (values_in row) ++ 13 ∷ 10 ∷ [])
 read-back [] l partial rest = absurd (omega (arith, l))

@@ -1,4 +1,4 @@
--- Text that `Bare` passes on unchanged is written to the formatter, whatever its options.
+-- Text that `Bare` passes on unchanged is written to the formatter, for any options.
 use Rattle.std.specs.Prelude.{◌≡◌, ℕ, List, [], ◌∷◌, ◌++◌, Option, Some, None, Result}
 use Rattle.std.proofs.Common.{refl, sym, ap, subst, ◌∙◌}
 use Rattle.std.specs.List.{FoldsTo, concat}
@@ -29,7 +29,7 @@ module _ {W : Type 0} (took : W → List ℕ → W → Type 0) where
     flush = q.flush;
   }
 
-  -- after one call, the inner formatter has written the same text, whatever its options
+  -- after one call, the inner formatter has written the same text, for any options
   abbrev pub PassedOn : Bare W → List ℕ → Bare W → Type 0
   PassedOn s bs t = (IsFlush s.f.now → HasWrittenStyled took s.f.now bs t.f.now) × (t.f.ghost_name ≡ s.f.ghost_name)
 

@@ -142,7 +142,7 @@ first_non_backtrack-one (Incomplete n) = refl
 first_non_backtrack-one (Cut e) = refl
 first_non_backtrack-one (Backtrack e) = refl
 
--- `or` of modes keeps what is no `Backtrack`, whatever the inner `or` gives
+-- `or` of modes keeps what is no `Backtrack`, no matter what the inner `or` gives
 non_backtrack_of-joined : {E : Type 0} (gives : E → E → E → Type 0) (a b r : Mode E)
     → ModeOr gives a b r
     → non_backtrack_of r ≡ non_backtrack_joined (non_backtrack_of a) (non_backtrack_of b)

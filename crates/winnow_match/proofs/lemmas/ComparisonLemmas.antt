@@ -31,7 +31,7 @@ pub ruleset comparisons = (comparison-ok, comparison-incomplete, comparison-diff
 
 -- ---- the meaning of each answer
 
--- each answer of a comparison tells how its two tests came out
+-- each answer of a comparison says how its two tests came out
 ok-parts : (a b : Bool) (m n : ℕ)
     → cond a (compared.Ok m) (cond b compared.Incomplete compared.Error) ≡ compared.Ok n
     → (a ≡ true) × (n ≡ m)

@@ -255,7 +255,7 @@ stands-some ls b some r h =
       | inr e ↦ e
     ]
 
--- before the place of a needle that could move the hit none stands, whatever input follows
+-- before the place of a needle that could move the hit none stands, no matter what input follows
 module _ (ls : List (List ℕ)) (b : List ℕ) (r : Range ℕ) (s : Stretch) (h : hit ls b ≡ Some r) (e : stretch_of ls b ≡ Some s) where
   -- no needle is empty, as there is a stretch
   some-byte : list_any is_empty ls ≡ false

@@ -24,12 +24,12 @@ size_of-positive Unknown = omega arith
 size_of-positive (Size n) = n.ok
 
 module _ {R O : Type 0} (means : R → Meaning O ℕ) (f : ReaderState R) where
-  -- a need that was told of all that is ahead was asked for
+  -- a need that the parser answered for all that is ahead was asked for
   asks-now : (need : Needed) → means f.parser true (bytes_at f.place f.ahead) (Fails (Needs need))
       → Asks (means f.parser) f.place f.ahead [] (size_of need)
   asks-now need h = record { front = f.ahead; need = need; whole = sym (append-nil f.ahead); needs = h; size = refl }
 
-  -- whatever follows, the parser fails where it failed
+  -- no matter what follows, the parser fails where it failed
   stops-stay : IsParser (means f.parser) → (there : ℕ) (rest : List ℕ)
       → StopsAt (means f.parser) (not f.ended) (bytes_at f.place f.ahead) (bytes_at there rest)
       → (more : List ℕ) (partial : Bool) → MayFollow f.ended more partial

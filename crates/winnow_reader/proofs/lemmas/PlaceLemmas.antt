@@ -49,7 +49,7 @@ outcome_longer-none (Fails (Needs n)) = refl
 outcome_longer-none (Fails Refuses) = refl
 
 module _ {O : Type 0} (means : Meaning O ℕ) (p : IsParser means) where
-  -- whatever may follow, a settled answer stays
+  -- no matter what may follow, a settled answer stays
   pub answer-stays : (ended : Bool) (place : ℕ) (bytes : List ℕ) (v : Outcome O ℕ) → IsSettled v
       → means (not ended) (bytes_at place bytes) v
       → (more : List ℕ) (partial : Bool) → MayFollow ended more partial → means partial (bytes_at place (bytes ++ more)) (outcome_longer (units more) v)
@@ -61,7 +61,7 @@ module _ {O : Type 0} (means : Meaning O ℕ) (p : IsParser means) where
       let some = subst (λ xs. means false (bytes_at place (bytes ++ xs)) (outcome_longer (units xs) v)) (sym f.0) none in
       subst (λ q. means q (bytes_at place (bytes ++ more)) (outcome_longer (units more) v)) (sym f.1) some
 
-  -- whatever may follow, a value that is given is given, and as much is taken
+  -- no matter what may follow, a value that is given is given, and as much is taken
   pub value-stays : (ended : Bool) (place : ℕ) (bytes : List ℕ) (x : O) (there : ℕ) (rest : List ℕ)
       → means (not ended) (bytes_at place bytes) (Gives x (bytes_at there rest))
       → (more : List ℕ) (partial : Bool) → MayFollow ended more partial → means partial (bytes_at place (bytes ++ more)) (Gives x (bytes_at there (rest ++ more)))
@@ -69,7 +69,7 @@ module _ {O : Type 0} (means : Meaning O ℕ) (p : IsParser means) where
       subst (λ b. means partial (bytes_at place (bytes ++ more)) (Gives x b)) (longer-bytes there rest more)
       (answer-stays ended place bytes (Gives x (bytes_at there rest)) tt h more partial f)
 
-  -- whatever may follow, where the parser backtracks it backtracks, at the same place
+  -- no matter what may follow, where the parser backtracks it backtracks, at the same place
   pub backtrack-stays : (ended : Bool) (place : ℕ) (bytes : List ℕ) (there : ℕ) (rest : List ℕ)
       → means (not ended) (bytes_at place bytes) (Fails (Backtracks (bytes_at there rest)))
       → (more : List ℕ) (partial : Bool) → MayFollow ended more partial → means partial (bytes_at place (bytes ++ more)) (Fails (Backtracks (bytes_at there (rest ++ more))))
@@ -77,7 +77,7 @@ module _ {O : Type 0} (means : Meaning O ℕ) (p : IsParser means) where
       subst (λ b. means partial (bytes_at place (bytes ++ more)) (Fails (Backtracks b))) (longer-bytes there rest more)
       (answer-stays ended place bytes (Fails (Backtracks (bytes_at there rest))) tt h more partial f)
 
-  -- whatever may follow, where the parser cuts it cuts, at the same place
+  -- no matter what may follow, where the parser cuts it cuts, at the same place
   pub cut-stays : (ended : Bool) (place : ℕ) (bytes : List ℕ) (there : ℕ) (rest : List ℕ)
       → means (not ended) (bytes_at place bytes) (Fails (Cuts (bytes_at there rest)))
       → (more : List ℕ) (partial : Bool) → MayFollow ended more partial → means partial (bytes_at place (bytes ++ more)) (Fails (Cuts (bytes_at there (rest ++ more))))

@@ -261,7 +261,7 @@ module _ {S : Type 0} (counts_missing : Bool) (is_slice : S → Source ℕ → �
       → Reads (Length itself counts_missing is_slice bytes greatest) (line t) (λ m. m ≡ n)
   reads-length greatest = reads-value (IsLength greatest)
 
-  -- so many bytes are accepted
+  -- that many bytes are accepted
   accepts-counted : (n : ℕ) (f s r : Source ℕ) → r ≡ f ++ s → length f ≡ n → HasPositiveWidths r
       → Accepts (Counted counts_missing is_slice n) r (λ slice. bytes slice ≡ bytes_of f) s
   accepts-counted n f s r whole count wide partial a (Gives slice b) e h =
@@ -278,7 +278,7 @@ module _ {S : Type 0} (counts_missing : Bool) (is_slice : S → Source ℕ → �
       absurd (omega (arith, h.0, ap length e, ap length whole, length-append f s, count))
   accepts-counted n f s r whole count wide partial a (Fails Refuses) e h = absurd h
 
-  -- so many bytes and the end of a line are read
+  -- that many bytes and the end of a line are read
   pub reads-bytes : (n : ℕ) (t : List ℕ) → length t ≡ n
       → Reads (Bytes itself counts_missing is_slice bytes n) (line t) (λ v. v.items ≡ t)
   reads-bytes n t count =

@@ -18,7 +18,7 @@ use Rattle.winnow_resp.proofs.lemmas.AheadLemmas.{itself}
 use Rattle.winnow_resp.proofs.lemmas.ReplyLemmas.{yields-nested, reads-nested}
 
 module _ {S : Type 0} (counts_missing : Bool) (is_slice : S → Source ℕ → ℕ → Type 0) (stay : SlicesStay is_slice) (bytes : S → List ℕ) (have : SlicesHaveBytes is_slice bytes) where
-  -- where the parser fails otherwise than by a refusal, no reply stands ahead
+  -- where the parser fails, but not by a refusal, no reply stands ahead
   none-stands : (longest depth : ℕ) (partial : Bool) (a : Ahead ℕ) (f : Failed ℕ)
       → HasPositiveWidths a.tokens
       → Nested itself counts_missing is_slice bytes longest depth partial a (Fails f)

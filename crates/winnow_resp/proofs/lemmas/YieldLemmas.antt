@@ -109,14 +109,14 @@ all-take holds zero (x ∷ xs) h = tt
 all-take holds (suc n) [] h = tt
 all-take holds (suc n) (x ∷ xs) h = (h.0, all-take holds n xs h.1)
 
--- at most so many tokens are taken
+-- at most that many tokens are taken
 take-short : (n : ℕ) (xs : Source ℕ) → length (take n xs) ≤ n
 take-short zero [] = omega arith
 take-short zero (x ∷ xs) = omega arith
 take-short (suc n) [] = omega arith
 take-short (suc n) (x ∷ xs) = let l = take-short n xs in omega (arith, l)
 
--- exactly so many, where there are as many
+-- exactly that many, where there are as many
 take-exact : (n : ℕ) (xs : Source ℕ) → n ≤ length xs → length (take n xs) ≡ n
 take-exact zero [] l = refl
 take-exact zero (x ∷ xs) l = refl
@@ -204,7 +204,7 @@ module _ {S : Type 0} (counts_missing : Bool) (is_slice : S → Source ℕ → �
       × (IsLength greatest text n × (t ≡ line text)))
   yields-length greatest = yields-read (IsLength greatest)
 
-  -- so many bytes stand ahead
+  -- that many bytes stand ahead
   yields-counted : (n : ℕ)
       → Yields (Counted counts_missing is_slice n) (λ slice t. (length t ≡ n) × (bytes slice ≡ t))
   yields-counted n partial a b slice wide h =
@@ -214,7 +214,7 @@ module _ {S : Type 0} (counts_missing : Bool) (is_slice : S → Source ℕ → �
       let rest : b.tokens ≡ drop n a.tokens = ap (λ c. c.tokens) h.3 ∙ got.1 in
       (bytes_of f, ((f, (e ∙ ap (λ t. f ++ t) (sym rest), refl)), (length-bytes_of f ∙ take-exact n a.tokens h.0, got.0)))
 
-  -- so many bytes and the end of a line stand ahead
+  -- that many bytes and the end of a line stand ahead
   pub yields-bytes : (n : ℕ)
       → Yields (Bytes itself counts_missing is_slice bytes n) (λ v t. (length v.items ≡ n)
       × (t ≡ line v.items))
