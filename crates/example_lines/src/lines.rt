@@ -3,9 +3,8 @@ ghost use Rattle.example_lines.specs.Lines.{first_end, IsFed, IsNextLine};
 
 use std::alloc::{AllocError, Global};
 use std::marker::Model;
-use winnow_base::stream::{
-    ByteFeed, CharSet, Needles, SearchAnswer, SearchStep, find_law, one_search_law,
-};
+use winnow_base::stream::laws::{find_law, one_search_law};
+use winnow_base::stream::{ByteFeed, CharSet, Needles, SearchAnswer, SearchStep};
 
 /// The script of the feed, which searches for the end of a line.
 static SCRIPT: [SearchStep<CharSet<'static>, &'static [u8]>; 1] = [SearchStep::Find(Needles::One(

@@ -5,7 +5,8 @@ ghost use Rattle.example_lines.specs.Lines.{AreLines, Splits, first_end, lines_i
 use crate::lines::Lines;
 use std::alloc::AllocError;
 use std::io;
-use winnow_base::stream::{BStr, find_more_law};
+use winnow_base::stream::BStr;
+use winnow_base::stream::laws::find_more_law;
 
 /// Takes all lines that have ended, and appends them to `lines`. When memory is refused, it has
 /// taken some.

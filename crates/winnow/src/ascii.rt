@@ -1,9 +1,10 @@
 //! Parsers of ASCII text.
 
+pub mod laws;
+
 pub use winnow_ascii::{
     Class, DecimalSigned, DecimalUnsigned, HexUint, HexadecimalUnsigned, LineEnd, LineText, alpha0,
-    alpha1, alphanumeric0, alphanumeric1, ascii_law, crlf, dec_int, dec_uint,
-    determined_number_law, digit0, digit1, hex_digit0, hex_digit1, hex_uint, line_ending,
-    multispace0, multispace1, newline, oct_digit0, oct_digit1, space0, space1, tab,
-    till_line_ending,
+    alpha1, alphanumeric0, alphanumeric1, crlf, dec_int, dec_uint, digit0, digit1, hex_digit0,
+    hex_digit1, hex_uint, line_ending, multispace0, multispace1, newline, oct_digit0, oct_digit1,
+    space0, space1, tab, till_line_ending,
 };

@@ -1,9 +1,10 @@
 //! Parsers of binary formats, and the bits of a stream of bytes.
 
+pub mod laws;
+
 pub use winnow_base::binary::bits;
 pub use winnow_binary::{
     Endianness, FixedNumber, Length, LengthRead, LengthRepeated, LengthTaken, Numeral, Width,
-    be_i16, be_i32, be_i64, be_u16, be_u32, be_u64, determined_length_law,
-    determined_slice_read_law, fixed_number_law, i8, i16, i32, i64, le_i16, le_i32, le_i64, le_u16,
-    le_u32, le_u64, length_and_then, length_repeat, length_take, u8, u16, u32, u64,
+    be_i16, be_i32, be_i64, be_u16, be_u32, be_u64, i8, i16, i32, i64, le_i16, le_i32, le_i64,
+    le_u16, le_u32, le_u64, length_and_then, length_repeat, length_take, u8, u16, u32, u64,
 };

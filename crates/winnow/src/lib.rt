@@ -6,21 +6,21 @@
 //! parsers that are made of parsers in [`combinator`], and [`stream`] and [`error`] as
 //! `winnow_base` has them.
 //!
-//! Everything here comes from a crate of its own, with its proofs. `specs/` passes on the
-//! definitions that contracts of parsers name, so a contract of your own imports
-//! `Rattle.winnow.specs.Outcome.{Meaning}`. `winnow_base` passes on those of streams and errors.
+//! Laws stand in modules of their own: [`laws`], [`token::laws`], and so on. Everything here comes
+//! from a crate of its own, with its proofs. `specs/` passes on the definitions that contracts of
+//! parsers name, so a contract of your own imports `Rattle.winnow.specs.Outcome.{Meaning}`.
+//! `winnow_base` passes on those of streams and errors.
 #![tactic(auto)]
 
 pub mod ascii;
 pub mod binary;
 pub mod combinator;
+pub mod laws;
 pub mod token;
 
 pub use winnow_base::{error, stream};
 pub use winnow_parser::{
     Contextual, Failure, FlatMapped, Mapped, ModalResult, Parser, Rule, RuledFunction, Spanned,
     Taken, TryMapped, Valued, Verified, VerifyMapped, Voided, WithSpan, WithTaken, by_rule,
-    determined_function_law, determined_law, determined_pair_law, determined_slice_law,
-    taken_width_law,
 };
 pub use winnow_reader as reader;

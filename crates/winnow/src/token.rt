@@ -1,7 +1,9 @@
 //! Parsers of tokens.
 
+pub mod laws;
+
 pub use winnow_token::{
     AnyToken, Counted, HeldTokens, NoneOf, OneOf, OtherTokens, Remaining, RemainingWidth,
-    TokensBefore, Wanted, any, count_law, determined_token_law, hits_stay_law, literal, none_of,
-    one_of, prompt_law, rest, rest_len, take, take_till, take_until, take_while,
+    TokensBefore, Wanted, any, literal, none_of, one_of, rest, rest_len, take, take_till,
+    take_until, take_while,
 };

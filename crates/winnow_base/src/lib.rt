@@ -9,6 +9,7 @@
 //! - [`error`]: what a parser fails with;
 //! - [`binary::bits`]: the bits of a stream of bytes.
 //!
+//! Laws stand in modules of their own: [`stream::laws`], [`error::laws`], [`binary::bits::laws`].
 //! Each item is defined in a smaller crate, with its proofs. `specs/` passes on what contracts
 //! name: a contract of your own imports `Rattle.winnow_base.specs.Source.{first_token}`.
 #![tactic(auto)]

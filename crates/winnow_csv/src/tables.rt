@@ -5,7 +5,7 @@ ghost use Rattle.winnow_csv.specs.Tables.{rows_in, AreRecords, IsDamage};
 use crate::read_record;
 use std::alloc::{AllocError, Global};
 use winnow::error::EmptyError;
-use winnow::stream::slice_bytes_law;
+use winnow::stream::laws::slice_bytes_law;
 use winnow::{Failure, ModalResult};
 
 /// Where a table is damaged.

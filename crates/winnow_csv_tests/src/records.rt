@@ -3,7 +3,8 @@
 
 use std::alloc::{AllocError, Global};
 use winnow::error::EmptyError;
-use winnow::stream::{Partial, Stream, StreamIsPartial, slice_bytes_law, wrapper_slice_law};
+use winnow::stream::laws::{slice_bytes_law, wrapper_slice_law};
+use winnow::stream::{Partial, Stream, StreamIsPartial};
 use winnow::{Failure, ModalResult};
 use winnow_csv::read_record;
 

@@ -3,7 +3,7 @@
 
 use std::alloc::{AllocError, Global};
 use winnow::error::EmptyError;
-use winnow::stream::slice_bytes_law;
+use winnow::stream::laws::slice_bytes_law;
 use winnow::{Failure, ModalResult};
 use winnow_csv::{Damage, first_uneven, read_record, read_table, write_record};
 

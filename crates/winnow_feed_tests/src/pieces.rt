@@ -5,9 +5,8 @@ use crate::feeding::{ByteStep, TextStep, fed_bytes, told};
 use std::alloc::{AllocError, Global};
 use std::test::Fail;
 use winnow_base::stream::Step::{At, Each, Eof, Finish, Next, Peek, Take};
-use winnow_base::stream::{
-    Needles, SearchStep, one_search_law, run_pieces, run_pieces_text, told_law,
-};
+use winnow_base::stream::laws::{one_search_law, told_law};
+use winnow_base::stream::{Needles, SearchStep, run_pieces, run_pieces_text};
 
 // Returns the answers over the pieces.
 fn told_of(alloc: Global, script: &[ByteStep], pieces: &[&[u8]]) -> Result<String, AllocError>

@@ -2,10 +2,11 @@ use std::fmt::Debug;
 use std::ops::Range;
 use std::process::Abort;
 use std::test::Fail;
-use winnow_base::stream::{
-    Compare, CompareResult, FindSlice, Needles, Stretch, byte_hit_law, compare_law,
-    compare_more_law, definite_hit_law, find_law, find_more_law, stretch, stretch_law,
+use winnow_base::stream::laws::{
+    byte_hit_law, compare_law, compare_more_law, definite_hit_law, find_law, find_more_law,
+    stretch_law,
 };
+use winnow_base::stream::{Compare, CompareResult, FindSlice, Needles, Stretch, stretch};
 use winnow_test_helpers::{compares, debugged, finds, hits};
 
 // Asserts the answer of a comparison, called through its bound. A failure names the case.

@@ -2,10 +2,8 @@ ghost use Rattle.winnow_base.specs.Script.{AreReady};
 
 use std::alloc::{AllocError, Global};
 use std::test::Fail;
-use winnow_base::stream::{
-    AsChar, CharSet, ContainsToken, ScriptSet, Step, Stream, Where, run, union_law,
-    union_of_four_law, union_of_three_law,
-};
+use winnow_base::stream::laws::{union_law, union_of_four_law, union_of_three_law};
+use winnow_base::stream::{AsChar, CharSet, ContainsToken, ScriptSet, Step, Stream, Where, run};
 use winnow_test_helpers::debugged;
 
 // Returns whether a set holds the token, called through its bound.

@@ -3,7 +3,8 @@
 use crate::replies::{ALLOWED, LIMITS};
 use std::alloc::{AllocError, Global};
 use winnow::error::EmptyError;
-use winnow::stream::{Stream, slice_bytes_law};
+use winnow::stream::Stream;
+use winnow::stream::laws::slice_bytes_law;
 use winnow::{Failure, ModalResult};
 use winnow_resp::{Reply, Unwritten, read_reply, spelling_law, write_reply};
 

@@ -1,7 +1,8 @@
 ghost use Rattle.std.specs.Prelude.{◌≡◌, ℕ, ◌≤◌, Some, IfOk, OnErr, length, take, drop};
 ghost use Rattle.winnow_base.specs.Source.{first_token, width};
 
-use winnow_base::stream::{Needed, Stream, offset_law, taken_law};
+use winnow_base::stream::laws::{offset_law, taken_law};
+use winnow_base::stream::{Needed, Stream};
 
 /// Reads a field: a byte that gives the number of its tokens, and then these tokens. Where input is
 /// missing, the stream stays where it is.

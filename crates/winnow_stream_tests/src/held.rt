@@ -1,7 +1,8 @@
 ghost use Rattle.std.specs.Prelude.{◌≡◌, false, not, Some, drop, length};
 ghost use Rattle.winnow_base.specs.Source.{width, first_token, first_offset, held_front, HoldsAll};
 
-use winnow_base::stream::{FixedSet, Stream, held_law};
+use winnow_base::stream::laws::held_law;
+use winnow_base::stream::{FixedSet, Stream};
 
 /// Returns the tokens up to the first that the set does not hold, and moves past them.
 pub fn take_while<S: Stream, C: FixedSet<S::Token>>(input: &mut S, set: &C) -> S::Slice

@@ -6,7 +6,8 @@ ghost use Rattle.winnow_base.specs.Front.{back};
 ghost use Rattle.winnow_match.specs.declared.compare.CompareResult.TheVariants as compared;
 
 use winnow_base::error::Needed;
-use winnow_base::stream::{Compare, CompareResult, FindSlice, SliceLen, front_law};
+use winnow_base::stream::laws::front_law;
+use winnow_base::stream::{Compare, CompareResult, FindSlice, SliceLen};
 
 /// Returns the literal and moves past it, if the stream begins with it. If not, nothing moves.
 pub fn literal<S: Compare<T>, T>(input: &mut S, wanted: T) -> Option<S::Slice>

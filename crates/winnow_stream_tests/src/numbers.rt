@@ -4,10 +4,10 @@ ghost use Rattle.winnow_base.specs.SliceBytes.{SlicesHaveBytes};
 ghost use Rattle.winnow_base.specs.Reading.{IsSomeExactly, ReadsBytes, ReadsUnsigned};
 
 use crate::held::take_while;
-use winnow_base::stream::{
-    AsBytes, FixedSet, LocatingSlice, ParseSlice, Stream, held_law, number_law, parse_slice_law,
-    slice_bytes_law, slice_law,
+use winnow_base::stream::laws::{
+    held_law, number_law, parse_slice_law, slice_bytes_law, slice_law,
 };
+use winnow_base::stream::{AsBytes, FixedSet, LocatingSlice, ParseSlice, Stream};
 
 /// Returns the number that the tokens of a set ahead write, and moves past them. Returns `None`
 /// where they write no number that fits.

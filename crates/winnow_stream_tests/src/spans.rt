@@ -4,7 +4,8 @@ ghost use Rattle.winnow_base.specs.Front.{back};
 ghost use Rattle.winnow_base.specs.Location.{IsLocation};
 
 use std::ops::Range;
-use winnow_base::stream::{Location, Needed, Stream, offset_law, span_law, taken_law};
+use winnow_base::stream::laws::{offset_law, span_law, taken_law};
+use winnow_base::stream::{Location, Needed, Stream};
 
 /// Returns a number of tokens, and where they stand in the whole input. Where fewer remain, nothing
 /// moves.

@@ -2,8 +2,9 @@ use std::test::Fail;
 use winnow_base::stream::Step::{
     At, Each, Eof, Finish, First, IsOffset, Look, Mark, Next, Peek, PeekFinish, Reset, Since, Take,
 };
+use winnow_base::stream::laws::definite_law;
 use winnow_base::stream::{
-    Answer, Needles, NoSet, SearchStep, Step, definite_law, run, run_and_reset, run_search,
+    Answer, Needles, NoSet, SearchStep, Step, run, run_and_reset, run_search,
 };
 use winnow_test_helpers::{debugged, told};
 

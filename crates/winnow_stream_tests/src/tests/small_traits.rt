@@ -1,10 +1,11 @@
 use crate::byte_reader::ByteReader;
 use crate::pair_reader::PairReader;
 use std::test::Fail;
-use winnow_base::stream::{
-    Needed, Stream, checkpoint_equality_law, checkpoint_order_law, first_law, front_law,
-    offset_law, shortage_law, slice_law, taken_law, text_law, text_slice_law,
+use winnow_base::stream::laws::{
+    checkpoint_equality_law, checkpoint_order_law, first_law, front_law, offset_law, shortage_law,
+    slice_law, taken_law, text_law, text_slice_law,
 };
+use winnow_base::stream::{Needed, Stream};
 use winnow_test_helpers::{Traced, debugged, flags, shown, width, width_from, window_of};
 
 #[test]

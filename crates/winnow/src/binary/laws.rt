@@ -1,0 +1,4 @@
+//! The laws of parsers of binary formats: a law does nothing when called, and its contract is the
+//! law.
+
+pub use winnow_binary::{determined_length_law, determined_slice_read_law, fixed_number_law};

@@ -1,0 +1,6 @@
+//! The laws of parsers that are made of parsers: a law does nothing when called, and its contract
+//! is the law.
+
+pub use winnow_combinator::{
+    determined_choice_law, determined_end_law, determined_repeat_law, determined_till_law,
+};
