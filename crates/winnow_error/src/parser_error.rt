@@ -10,6 +10,17 @@ use winnow_stream::{Needed, Stream};
 /// alternatives. A ghost member says what each call gives, so that generic code can cite it. For a
 /// call that takes memory, a further one says whether memory may be refused; the errors that the
 /// call took are then dropped.
+///
+/// An error that keeps those of all alternatives, and needs memory for it:
+///
+/// ```
+/// ghost or_refusable = { ⊤ };
+/// ..
+/// fn or(mut self, _alloc: Global, other: Self) -> Result<Self, AllocError> {
+///     self.0.extend(other.0)?;
+///     Ok(self)
+/// }
+/// ```
 pub trait ParserError<I: Stream>: Sized + Drop {
     /// The error without its mode: `E` for `ErrMode<E>`, and the error itself for an error that has
     /// no mode.

@@ -18,6 +18,12 @@ use winnow_wrap::Partial;
 /// However the input is cut, the answers are those of the script on the joined pieces. After each
 /// piece, the feed has given out the answers that no further input can change. It keeps only those
 /// bytes of the input that a step without an answer can reach.
+///
+/// A feed is made for a script, and then fed:
+///
+/// ```
+/// let mut feed = ByteFeed::new(alloc, script)?;
+/// ```
 #[derive(Drop)]
 pub struct ByteFeed<'k> {
     run: Progress<'k, u8, &'k [u8]>,

@@ -39,6 +39,12 @@ use winnow_stream::{
 use winnow_window::Window;
 
 /// Bytes that are text by convention, as a stream: it streams as `&[u8]` does, and prints as text.
+///
+/// Bytes are printed as text:
+///
+/// ```
+/// println!(rt; "end: {}", BStr::new(&rest))
+/// ```
 #[derive(Clone, Copy)]
 pub struct BStr<'i> {
     window: Window<'i, u8>,

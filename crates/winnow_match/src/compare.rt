@@ -18,6 +18,15 @@ pub enum CompareResult {
 }
 
 /// A stream whose front is compared with a literal `T`.
+///
+/// A function over any such stream takes the literal, if the stream begins with it:
+///
+/// ```
+/// match input.compare(wanted) {
+///     CompareResult::Ok(width) => Some(input.next_slice(width)),
+///     CompareResult::Incomplete | CompareResult::Error => None,
+/// }
+/// ```
 pub trait Compare<T>: Stream {
     // The answer of the comparison, for a literal and what remains.
     ghost compared: { T → Source Self.Token → CompareResult };

@@ -7,6 +7,13 @@ use std::ops::Range;
 use winnow_stream::Stream;
 
 /// A stream that can be searched for a needle, or for one of several. `T` names the needles.
+///
+/// A function over any such stream takes what stands before the needle:
+///
+/// ```
+/// let hit = input.find_slice(needle)?;
+/// Some(input.next_slice(hit.start))
+/// ```
 pub trait FindSlice<T>: Stream {
     // The range that the search finds in what remains.
     ghost found: { T → Source Self.Token → Option (range_declared.Range ℕ) };

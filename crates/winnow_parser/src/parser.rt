@@ -21,6 +21,14 @@ use winnow_stream::StreamIsPartial;
 /// failures carry (`AnyError` allows each). It keeps the laws that [`IsParser`] lists: a settled
 /// answer stays when more input follows, nothing more is needed where nothing more may follow, and
 /// the stream only moves on.
+///
+/// A token with its place, and then the place of the two tokens after it:
+///
+/// ```
+/// let mut input = LocatingSlice::new(text);
+/// let parser = (any().with_span(), (any(), any()).span());
+/// let answer: ModalResult<_, EmptyError> = parser.parse_next(alloc, &mut input);
+/// ```
 pub trait Parser<I: StreamIsPartial, E>: Sized {
     /// What it reads.
     type Output;

@@ -8,6 +8,14 @@ use std::marker::Model;
 ///
 /// Contracts see where the next record begins in the joined input, the bytes ahead of it, how many
 /// bytes are wanted there, and whether the input has ended.
+///
+/// A reader is made for a record, pushed pieces, and told of the end:
+///
+/// ```
+/// let mut reader = ByteReader::new(alloc, Row);
+/// ..
+/// reader.end();
+/// ```
 #[derive(Drop)]
 pub struct ByteReader<R> {
     parser: R,

@@ -21,6 +21,18 @@ use winnow_stream::{
 ///
 /// Contracts speak of the stream inside, of the errors in their order and of whether the stream
 /// records any, but not of the room that the list takes.
+///
+/// A reader records the faults of a text, and they are printed after it:
+///
+/// ```
+/// let mut input: Recoverable<LocatingSlice<&str>, Fault> = Recoverable::new(rt.alloc(), text);
+/// let settings = reader::read_settings(rt.alloc(), &mut input)?;
+/// ..
+/// for fault in input.into_parts().1 {
+///     let error = fault.located(rt.alloc(), TEXT)?;
+///     println!(rt; "{error}")?;
+/// }
+/// ```
 #[derive(Debug, Drop)]
 pub struct Recoverable<I, E> {
     pub(crate) input: I,

@@ -39,6 +39,25 @@ pub trait Rest {
 /// `reset` goes back to a checkpoint.
 ///
 /// An author of a stream gives the ghost members below, and proves the laws at the end.
+///
+/// A function over any stream of bytes reads a count, and then that many bytes:
+///
+/// ```
+/// let start = input.checkpoint();
+/// let Some(count) = input.next_token() else {
+///     return Err(Needed::new(1));
+/// };
+/// match input.offset_at(count as usize) {
+///     Ok(offset) => {
+///         ..
+///         Ok(input.next_slice(offset))
+///     }
+///     Err(needed) => {
+///         input.reset(&start);
+///         Err(needed)
+///     }
+/// }
+/// ```
 pub trait Stream: Rest + Debug {
     /// The smallest unit: a `u8` of `&[u8]`, a `char` of `&str`.
     type Token: Debug;

@@ -11,6 +11,16 @@ use winnow_stream::{Rest, Stream};
 /// streams are compared by the checkpoints of their starts, and then by the streams inside.
 ///
 /// `C` is always the checkpoint of `I`: write `LocatingSlice<I>`.
+///
+/// Places are counted in bytes of the whole text; `spanned` takes that many tokens:
+///
+/// ```
+/// let mut input = LocatingSlice::new("größe");
+/// ..
+/// spanned(&mut input, 3),
+/// ..
+/// [Ok(("grö", 0..4)),
+/// ```
 #[derive(Drop)]
 #[derive_where(PartialEq, Eq, PartialOrd, Ord; I, C)]
 pub struct LocatingSlice<I: Rest, C: Rest = <I as Stream>::Checkpoint> {

@@ -17,6 +17,12 @@ use winnow_stream::{
 ///
 /// At the end of what remains, a parser calls `is_partial`. If more may follow, the parser answers
 /// that it needs more.
+///
+/// Wrappers nest, in this order or another:
+///
+/// ```
+/// let mut input = Partial::new(LocatingSlice::new(inner));
+/// ```
 #[derive(Clone, Copy, Debug, Drop, PartialEq, Eq, PartialOrd, Ord)]
 pub struct Partial<I> {
     input: I,

@@ -15,6 +15,12 @@ use winnow_stream::{
 /// a log.
 ///
 /// Both are public: a parser may read and write the state, and take from the stream inside.
+///
+/// A stream gets a state:
+///
+/// ```
+/// let mut input = Stateful { input, state: () };
+/// ```
 #[derive(Clone, Copy, Debug, Default, Drop, PartialEq, Eq)]
 pub struct Stateful<I, S> {
     /// The stream inside
