@@ -13,6 +13,7 @@ mod feeds;
 mod growing;
 mod items;
 mod modes;
+mod parse_errors;
 mod parsers;
 mod records;
 mod recovery;
@@ -55,6 +56,7 @@ fn all(alloc: Global, text: &str) -> Result<Vec<Call>, AllocError> {
     calls.extend_from_slice(&modes::calls(alloc, text))?;
     calls.extend_from_slice(&trees::calls(alloc, text))?;
     calls.extend_from_slice(&tree_parts::calls(alloc, text))?;
+    calls.extend_from_slice(&parse_errors::calls(alloc, text))?;
     calls.extend_from_slice(&recovery::calls(alloc, text))?;
     calls.extend_from_slice(&parsers::gathers(alloc, text))?;
     calls.extend_from_slice(&parsers::readings(alloc, text))?;
