@@ -1,13 +1,14 @@
 -- Which errors the failures of a parser carry. The meaning of a parser does not say so: a settled
 -- answer stays when more input follows, but an error that is made of a longer input differs.
-use Rattle.std.specs.Prelude.{◌≡◌, Bool, false, Result, Err, ◌⊎◌, ⊤}
+use Rattle.std.specs.Prelude.{◌≡◌, Bool, Result, Err, ◌⊎◌, ⊤}
 use Rattle.std.specs.Fn.{Shared}
 use Rattle.std.specs.Borrow.{MutBor}
 use Rattle.std.specs.declared.alloc.Global.{Global}
 use Rattle.winnow_stream.specs.declared.needed.Needed.{Needed}
 use Rattle.winnow_parser.specs.declared.failure.Failure.{Failure}
 use Rattle.winnow_parser.specs.declared.failure.Failure.TheVariants.{Incomplete, Backtrack, Cut, Refused}
-use Rattle.winnow_parser.specs.Outcome.{Ahead, Gives, Meaning}
+use Rattle.winnow_parser.specs.Outcome.{Ahead, Gives, Fails, Meaning}
+use Rattle.winnow_parser.specs.Answer.{failed}
 
 -- which failures a parser may answer: by whether more may follow, where the stream stands, and the
 -- stream as it is left
@@ -107,9 +108,9 @@ ContractErrors {F} {S} {O} {E} {T} call valid expects stands f partial a s failu
     × (call.post f (alloc, (old, tt)) (Err failure, (new, tt)) × valid old.now
     × (expects old.now ≡ partial) × (stands old.now ≡ a) × (new.now ≡ s))))
 
--- the error for a whole input that a parser does not read: that of its failure, or one that is made
--- of the stream after its value
-abbrev pub StopsWith : {O E S T : Type 0} → (S → Ahead T) → (S → E → Type 0) → Meaning O T
-    → Errors E S T → Ahead T → E → Type 0
-StopsWith {O} {E} {S} {T} stands makes means errors a e = (s : S) × (errors false a s (Backtrack e)
-    ⊎ (errors false a s (Cut e) ⊎ ((x : O) × (means false a (Gives x (stands s)) × makes s e))))
+-- the failure is one of the parser, with an error that it may carry, both of one stream as it is
+-- left
+abbrev pub FailsLeaving : {O E S T : Type 0} → (S → Ahead T) → Meaning O T → Errors E S T → Bool
+    → Ahead T → Failure E Needed → Type 0
+FailsLeaving {S = S} stands means errors partial a failure = (s : S)
+    × (errors partial a s failure × means partial a (Fails (failed failure (stands s))))

@@ -1,9 +1,9 @@
 ghost use Rattle.std.specs.Prelude.{◌≡◌, false, IfOk, IfErr};
-ghost use Rattle.winnow_parser.specs.Outcome.{Ahead, Meaning, Gives, Fails, Refuses};
-ghost use Rattle.winnow_parser.specs.Answer.{outcome, ahead, failed};
-ghost use Rattle.winnow_parser.specs.Errors.{Errors, StopsWith};
+ghost use Rattle.winnow_parser.specs.Outcome.{Meaning, Gives, Fails, Refuses};
+ghost use Rattle.winnow_parser.specs.Answer.{outcome, ahead};
+ghost use Rattle.winnow_parser.specs.Errors.{Errors, FailsLeaving};
 ghost use Rattle.winnow_parser.specs.Laws.{IsParser};
-ghost use Rattle.winnow_parser.specs.Whole.{ReadsWhole, StopsAfter};
+ghost use Rattle.winnow_parser.specs.Whole.{ReadsWhole, StopsAfter, StopsWith, KeepsButFlag};
 
 use crate::whole::read_whole;
 use crate::{
@@ -179,9 +179,12 @@ pub trait Parser<I: StreamIsPartial, E>: Sized {
             (ahead I.location I.remaining input) error.offset)) }
         ensures error { IfOk result (λ answer. IfErr answer (λ error. StopsWith
             (ahead I.location I.remaining) E.from_input_gives (means self.now) (errors self.now)
-            (ahead I.location I.remaining input) error.inner)) }
+            (ahead I.location I.remaining input) error.offset error.inner)) }
         ensures input { IfOk result (λ answer. IfErr answer (λ error.
             ahead I.location I.remaining error.input ≡ ahead I.location I.remaining input)) }
+        ensures valid { IfOk result (λ answer. IfErr answer (λ error. I.valid error.input)) }
+        ensures kept { IfOk result (λ answer. IfErr answer (λ error.
+            KeepsButFlag I.same_but_flag I.keeps input error.input)) }
         ensures refused { IfErr result (λ _. means self.now false
             (ahead I.location I.remaining input) (Fails Refuses)) }
     {
@@ -199,11 +202,9 @@ pub trait Parser<I: StreamIsPartial, E>: Sized {
             (Gives both.1 (ahead I.location I.remaining both.0))) }
         ensures valid { IfOk result (λ both. I.valid both.0) }
         ensures kept { IfOk result (λ both. I.keeps input both.0) }
-        ensures failure { IfErr result (λ failure. (b : Ahead I.Token) × means self.now
-            (I.expects_more input) (ahead I.location I.remaining input)
-            (Fails (failed failure b))) }
-        ensures error { IfErr result (λ failure. (s : I) × errors self.now
-            (I.expects_more input) (ahead I.location I.remaining input) s failure) }
+        ensures failure { IfErr result (FailsLeaving (ahead I.location I.remaining)
+            (means self.now) (errors self.now) (I.expects_more input)
+            (ahead I.location I.remaining input)) }
     {
         let mut input = input;
         match self.parse_next(alloc, &mut input) {

@@ -2,8 +2,7 @@ ghost use Rattle.std.specs.Prelude.{◌≡◌, ◌-◌, false, IfOk, IfErr};
 ghost use Rattle.winnow_stream.specs.Source.{width};
 ghost use Rattle.winnow_parser.specs.Outcome.{Refuses, Fails, Moves};
 ghost use Rattle.winnow_parser.specs.Answer.{ahead};
-ghost use Rattle.winnow_parser.specs.Errors.{StopsWith};
-ghost use Rattle.winnow_parser.specs.Whole.{ReadsWhole, StopsAfter};
+ghost use Rattle.winnow_parser.specs.Whole.{ReadsWhole, StopsAfter, StopsWith, KeepsButFlag};
 
 use crate::{Failure, Parser, taken_width_law};
 use std::alloc::{AllocError, Global};
@@ -31,9 +30,12 @@ where
         (ahead I.location I.remaining input) error.offset)) }
     ensures error { IfOk result (λ answer. IfErr answer (λ error. StopsWith
         (ahead I.location I.remaining) E.from_input_gives (P.means parser.now) (P.errors parser.now)
-        (ahead I.location I.remaining input) error.inner)) }
+        (ahead I.location I.remaining input) error.offset error.inner)) }
     ensures input { IfOk result (λ answer. IfErr answer (λ error.
         ahead I.location I.remaining error.input ≡ ahead I.location I.remaining input)) }
+    ensures valid { IfOk result (λ answer. IfErr answer (λ error. I.valid error.input)) }
+    ensures kept { IfOk result (λ answer. IfErr answer (λ error.
+        KeepsButFlag I.same_but_flag I.keeps input error.input)) }
     ensures refused { IfErr result (λ _. P.means parser.now false
         (ahead I.location I.remaining input) (Fails Refuses)) }
 {
@@ -62,9 +64,11 @@ where
         (ahead I.location I.remaining input) error.offset)) }
     ensures error { IfOk result (λ answer. IfErr answer (λ error. StopsWith
         (ahead I.location I.remaining) E.from_input_gives (P.means parser.now) (P.errors parser.now)
-        (ahead I.location I.remaining input) error.inner)) }
+        (ahead I.location I.remaining input) error.offset error.inner)) }
     ensures input { IfOk result (λ answer. IfErr answer (λ error.
         ahead I.location I.remaining error.input ≡ ahead I.location I.remaining input)) }
+    ensures valid { IfOk result (λ answer. IfErr answer (λ error. I.valid error.input)) }
+    ensures kept { IfOk result (λ answer. IfErr answer (λ error. I.keeps input error.input)) }
     ensures refused { IfErr result (λ _. P.means parser.now false
         (ahead I.location I.remaining input) (Fails Refuses)) }
 {
@@ -100,6 +104,8 @@ fn stopped<I: Stream, E: ParserError<I>>(
     ensures offset { result.offset ≡ width (I.remained start) - width (I.remaining input) }
     ensures input { ahead I.location I.remaining result.input
         ≡ ahead I.Checkpoint.location I.remained start }
+    ensures valid { I.valid result.input }
+    ensures kept { I.keeps input result.input }
 {
     taken_width_law::<I::Token>();
     ParseError::new(input, start, inner)

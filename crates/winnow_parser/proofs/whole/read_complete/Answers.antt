@@ -63,4 +63,6 @@ returns-else-eof_offset-eq0-clause-error g c =
     let stands = ahead g.I.Rest.location g.I.Stream.remaining in
     let next = c.parse_next.new.input in
     let means = subst (λ partial. g.P.Parser.means c.args.parser.now partial (stands c.args.input) (Gives c.in-Ok.value (stands next))) c.requires.complete c.in-Ok.ensures.means in
-    (next, inr (inr (c.in-Ok.value, (means, subst (g.E.ParserError.from_input_gives next) (sym c.stopped.ensures.inner) c.from_input-error.ensures))))
+    let made = subst (g.E.ParserError.from_input_gives next) (sym c.stopped.ensures.inner) c.from_input-error.ensures in
+    let offset = c.stopped.ensures.offset ∙ ap (λ r. width r - width (g.I.Stream.remaining next)) c.checkpoint-start.ensures.means in
+    (next, (inr (inr (c.in-Ok.value, (made, means, λ none. c.if-eof_offset-eq0.false (c.eof_offset.ensures ∙ ap width none)))), offset))
