@@ -23,6 +23,7 @@ pub use Rattle.winnow_token.specs.Remaining
 pub use Rattle.winnow_token.specs.Prompt
 pub use Rattle.winnow_token.specs.Run
 pub use Rattle.winnow_combinator.specs.Ending
+pub use Rattle.winnow_combinator.specs.Misuse
 pub use Rattle.winnow_combinator.specs.Repetition
 pub use Rattle.winnow_combinator.specs.Counts
 pub use Rattle.winnow_combinator.specs.Gathering

@@ -1,6 +1,7 @@
 ghost use Rattle.std.specs.Prelude.{◌≡◌};
 ghost use Rattle.winnow_parser.specs.Errors.{PairErrors};
-ghost use Rattle.winnow_combinator.specs.Repetition.{MisuseErrors, RepeatedErrors};
+ghost use Rattle.winnow_combinator.specs.Repetition.{RepeatedErrors};
+ghost use Rattle.winnow_combinator.specs.Misuse.{TakingErrors, GatheredErrors};
 ghost use Rattle.winnow_binary.specs.Lengths.{CountedValues, IsParser-CountedValues};
 
 use crate::Length;
@@ -49,7 +50,8 @@ where
         (λ values whole. A.holds whole values) (P.means p.length) (Q.means p.inner) };
 
     ghost errors = { λ p. PairErrors (P.means p.length) (P.errors p.length)
-        (MisuseErrors E.assert_gives (RepeatedErrors (Q.means p.inner) (Q.errors p.inner))) };
+        (GatheredErrors (RepeatedErrors (Q.means p.inner)
+        (TakingErrors E.assert_gives (Q.means p.inner) (Q.errors p.inner)))) };
 
     ghost ready = { λ p. P.ready p.length × Q.ready p.inner };
 

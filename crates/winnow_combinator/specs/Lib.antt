@@ -4,6 +4,7 @@ pub mod Counts
 pub mod DeterminedLists
 pub mod Ending
 pub mod Gathering
+pub mod Misuse
 pub mod Repetition
 pub mod Separation
 pub mod Till

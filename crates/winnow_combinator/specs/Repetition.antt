@@ -3,9 +3,6 @@ use Rattle.std.specs.Prelude.{◌≡◌, ℕ, ◌<◌, ◌≤◌, Bool, true, Li
 use Rattle.std.proofs.Common.{refl, ap, sym, subst, inl, inr, arith}
 use Rattle.winnow_stream.specs.Source.{Source, width}
 use Rattle.winnow_stream.proofs.lemmas.FrontLemmas.{width-append}
-use Rattle.winnow_stream.specs.declared.needed.Needed.{Needed}
-use Rattle.winnow_parser.specs.declared.failure.Failure.{Failure}
-use Rattle.winnow_parser.specs.declared.failure.Failure.TheVariants.{Incomplete, Backtrack, Cut, Refused}
 use Rattle.winnow_parser.specs.Outcome.{Ahead, Failed, Backtracks, Cuts, Needs, Refuses, Gives, Fails, Meaning, Moves}
 use Rattle.winnow_parser.specs.Errors.{Errors}
 use Rattle.winnow_parser.specs.Laws.{longer, outcome_longer, IsSettled, IsStable, IsFinal, IsOnward, IsParser}
@@ -51,18 +48,6 @@ Repeated least greatest inner partial a (Gives xs b) = InTurn (Taking inner) par
 Repeated {O} {T} least greatest inner partial a (Fails f) = (xs : List O) × ((b : Ahead T)
     × (InTurn (Taking inner) partial xs a b × IsBelow greatest (length xs)
     × OneMore least (length xs) (Taking inner) partial b (Fails f)))
-
--- the failure of a wrong use: a cut with an error that is made of the stream as it is left, or
--- refused memory
-abbrev pub IsMisuse : {E S : Type 0} → (S → E → Type 0) → S → Failure E Needed → Type 0
-IsMisuse cuts s (Backtrack e) = ⊥
-IsMisuse cuts s (Cut e) = cuts s e
-IsMisuse cuts s (Incomplete n) = ⊥
-IsMisuse cuts s (Refused r) = ⊤
-
--- the errors of the inner parser, or that of a wrong use
-abbrev pub MisuseErrors : {E S T : Type 0} → (S → E → Type 0) → Errors E S T → Errors E S T
-MisuseErrors cuts inner partial a s failure = inner partial a s failure ⊎ IsMisuse cuts s failure
 
 -- the errors of the inner parser after some of its values
 abbrev pub RepeatedErrors : {O E S T : Type 0} → Meaning O T → Errors E S T → Errors E S T

@@ -8,6 +8,7 @@ use Rattle.winnow_parser.specs.Laws.{IsStable, IsOnward, IsParser}
 use Rattle.winnow_parser.specs.Meanings.{Returns, Maps, Pair, Preceded, Optional}
 use Rattle.winnow_parser.specs.Parts.{IsParser-Returns, IsParser-Maps, IsParser-Pair, IsParser-Preceded, IsParser-Optional}
 use Rattle.winnow_combinator.specs.Counts.{fewer}
+use Rattle.winnow_combinator.specs.Misuse.{TakingErrors}
 use Rattle.winnow_combinator.specs.Repetition.{Repeated, RepeatedErrors, IsParser-Repeated}
 
 -- the list has the first value and then the others
@@ -57,11 +58,11 @@ abbrev pub FoldedLeft : {O S T : Type 0} → (O → S × O → O → Type 0) →
 FoldedLeft step separator inner = Maps (FoldsLeft step) (Pair inner (Repeated 0 None (Pair separator inner)))
 
 -- the errors of the first value; or, after it and some pairs, those of the next separator and its
--- value
-abbrev pub ListErrors : {O P Q E S T : Type 0} → Meaning Q T → Meaning P T → Errors E S T
-    → Meaning O T → Errors E S T → Errors E S T
-ListErrors pairs separator separator_errors inner errors =
-    PairErrors inner errors (RepeatedErrors pairs (PairErrors separator separator_errors errors))
+-- value, which together take something
+abbrev pub ListErrors : {O P Q E S T : Type 0} → (S → E → Type 0) → Meaning Q T → Meaning P T
+    → Errors E S T → Meaning O T → Errors E S T → Errors E S T
+ListErrors cuts pairs separator separator_errors inner errors =
+    PairErrors inner errors (RepeatedErrors pairs (TakingErrors cuts pairs (PairErrors separator separator_errors errors)))
 
 module _ {O S T : Type 0} {separator : Meaning S T} {inner : Meaning O T} (q : IsParser separator) (p : IsParser inner) where
   -- `FoldedLeft` keeps the laws of a parser

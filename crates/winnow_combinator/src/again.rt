@@ -3,8 +3,9 @@ ghost use Rattle.std.specs.List.{FoldsTo};
 ghost use Rattle.winnow_stream.specs.Source.{width};
 ghost use Rattle.winnow_parser.specs.Answer.{ahead, outcome};
 ghost use Rattle.winnow_combinator.specs.Counts.{Ascends};
+ghost use Rattle.winnow_combinator.specs.Misuse.{TakingErrors, GatheredErrors};
 ghost use Rattle.winnow_combinator.specs.Repetition.{Taking, IsParser-Taking, OneMore, Repeated};
-ghost use Rattle.winnow_combinator.specs.Repetition.{MisuseErrors, RepeatedErrors};
+ghost use Rattle.winnow_combinator.specs.Repetition.{RepeatedErrors};
 ghost use Rattle.winnow_combinator.specs.Gathering.{Gathered};
 
 use crate::Gather;
@@ -29,7 +30,8 @@ where
 
     ghost means = { λ p. Taking (P.means p.inner.now) };
 
-    ghost errors = { λ p. MisuseErrors E.assert_gives (P.errors p.inner.now) };
+    ghost errors = { λ p.
+        TakingErrors E.assert_gives (P.means p.inner.now) (P.errors p.inner.now) };
 
     ghost ready = { λ p. P.ready p.inner.now };
 
@@ -112,8 +114,9 @@ where
         (I.expects_more input.old)
         (ahead I.location I.remaining input.old)
         (outcome result (ahead I.location I.remaining input.new)) }
-    ensures error { IfErr result (MisuseErrors E.assert_gives
-        (RepeatedErrors (P.means again.now.parser.now) (P.errors again.now.parser.now))
+    ensures error { IfErr result (GatheredErrors (RepeatedErrors (P.means again.now.parser.now)
+        (TakingErrors E.assert_gives (P.means again.now.parser.now)
+        (P.errors again.now.parser.now)))
         (I.expects_more input.old) (ahead I.location I.remaining input.old) input.new) }
     ensures valid { I.valid input.new }
     ensures kept { I.keeps input.old input.new }

@@ -1,6 +1,6 @@
 ghost use Rattle.std.specs.Prelude.{◌≡◌, ⊤};
 ghost use Rattle.winnow_parser.specs.Meanings.{Pair};
-ghost use Rattle.winnow_combinator.specs.Repetition.{MisuseErrors};
+ghost use Rattle.winnow_combinator.specs.Misuse.{GatheredErrors};
 ghost use Rattle.winnow_combinator.specs.Separation.{FoldedLeft, ListErrors, IsParser-FoldedLeft};
 
 use crate::Gather;
@@ -83,8 +83,8 @@ where
     ghost means = { λ p. FoldedLeft (λ left pair new. F.post p.op left pair.0 pair.1 new)
         (S.means p.separator) (P.means p.inner) };
 
-    ghost errors = { λ p. MisuseErrors E.assert_gives
-        (ListErrors (Pair (S.means p.separator) (P.means p.inner))
+    ghost errors = { λ p. GatheredErrors
+        (ListErrors E.assert_gives (Pair (S.means p.separator) (P.means p.inner))
         (S.means p.separator) (S.errors p.separator) (P.means p.inner) (P.errors p.inner)) };
 
     ghost ready = { λ p. P.ready p.inner × S.ready p.separator × F.IsAlwaysCallable p.op };

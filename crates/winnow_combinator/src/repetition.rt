@@ -2,7 +2,8 @@ ghost use Rattle.std.specs.Prelude.{◌≡◌};
 ghost use Rattle.winnow_count.specs.CountRange.{least_count, greatest_count};
 ghost use Rattle.winnow_combinator.specs.Counts.{Ascending, IsParser-Ascending};
 ghost use Rattle.winnow_combinator.specs.Repetition.{Repeated, IsParser-Repeated};
-ghost use Rattle.winnow_combinator.specs.Repetition.{MisuseErrors, RepeatedErrors};
+ghost use Rattle.winnow_combinator.specs.Repetition.{RepeatedErrors};
+ghost use Rattle.winnow_combinator.specs.Misuse.{TakingErrors, GatheredErrors, AscendingErrors};
 ghost use Rattle.winnow_combinator.specs.Gathering.{Gathered, IsParser-Gathered};
 
 use crate::again::{Again, go_on};
@@ -73,8 +74,10 @@ where
         (Gathered G.refusable (G.makes p.gather)
         (Repeated (least_count p.counts) (greatest_count p.counts) (P.means p.inner))) };
 
-    ghost errors = { λ p. MisuseErrors E.assert_gives
-        (RepeatedErrors (P.means p.inner) (P.errors p.inner)) };
+    ghost errors = { λ p.
+        AscendingErrors (least_count p.counts) (greatest_count p.counts) E.assert_gives
+        (GatheredErrors (RepeatedErrors (P.means p.inner)
+        (TakingErrors E.assert_gives (P.means p.inner) (P.errors p.inner)))) };
 
     ghost ready = { λ p. P.ready p.inner × G.ready p.gather };
 

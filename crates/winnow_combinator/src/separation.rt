@@ -5,7 +5,8 @@ ghost use Rattle.winnow_parser.specs.Meanings.{Preceded};
 ghost use Rattle.winnow_parser.specs.Errors.{PairErrors};
 ghost use Rattle.winnow_count.specs.CountRange.{least_count, greatest_count};
 ghost use Rattle.winnow_combinator.specs.Counts.{Ascends, fewer, Ascending, IsParser-Ascending};
-ghost use Rattle.winnow_combinator.specs.Repetition.{Repeated, MisuseErrors, RepeatedErrors};
+ghost use Rattle.winnow_combinator.specs.Repetition.{Repeated, RepeatedErrors};
+ghost use Rattle.winnow_combinator.specs.Misuse.{TakingErrors, GatheredErrors, AscendingErrors};
 ghost use Rattle.winnow_combinator.specs.Gathering.{Gathered, IsParser-Gathered};
 ghost use Rattle.winnow_combinator.specs.Separation.{Chained, IfNeeded, ListErrors};
 ghost use Rattle.winnow_combinator.specs.Separation.{Separated, IsParser-Separated};
@@ -85,10 +86,12 @@ where
         (I.expects_more input.old)
         (ahead I.location I.remaining input.old)
         (outcome result (ahead I.location I.remaining input.new)) }
-    ensures error { IfErr result (MisuseErrors E.assert_gives
+    ensures error { IfErr result (GatheredErrors
         (RepeatedErrors (Preceded (S.means list.now.separator) (P.means list.now.inner))
+        (TakingErrors E.assert_gives
+        (Preceded (S.means list.now.separator) (P.means list.now.inner))
         (PairErrors (S.means list.now.separator) (S.errors list.now.separator)
-        (P.errors list.now.inner)))
+        (P.errors list.now.inner))))
         (I.expects_more input.old) (ahead I.location I.remaining input.old) input.new) }
     ensures valid { I.valid input.new }
     ensures kept { I.keeps input.old input.new }
@@ -138,8 +141,8 @@ where
         (I.expects_more input.old)
         (ahead I.location I.remaining input.old)
         (outcome result (ahead I.location I.remaining input.new)) }
-    ensures error { IfErr result (MisuseErrors E.assert_gives
-        (ListErrors (Preceded (S.means list.now.separator) (P.means list.now.inner))
+    ensures error { IfErr result (GatheredErrors (ListErrors E.assert_gives
+        (Preceded (S.means list.now.separator) (P.means list.now.inner))
         (S.means list.now.separator) (S.errors list.now.separator)
         (P.means list.now.inner) (P.errors list.now.inner))
         (I.expects_more input.old) (ahead I.location I.remaining input.old) input.new) }
@@ -174,9 +177,11 @@ where
         (Separated (least_count p.counts) (greatest_count p.counts)
         (S.means p.separator) (P.means p.inner)))) };
 
-    ghost errors = { λ p. MisuseErrors E.assert_gives
-        (ListErrors (Preceded (S.means p.separator) (P.means p.inner))
-        (S.means p.separator) (S.errors p.separator) (P.means p.inner) (P.errors p.inner)) };
+    ghost errors = { λ p.
+        AscendingErrors (least_count p.counts) (greatest_count p.counts) E.assert_gives
+        (GatheredErrors (ListErrors E.assert_gives
+        (Preceded (S.means p.separator) (P.means p.inner))
+        (S.means p.separator) (S.errors p.separator) (P.means p.inner) (P.errors p.inner))) };
 
     ghost ready = { λ p. P.ready p.inner × S.ready p.separator × G.ready p.gather };
 

@@ -4,7 +4,7 @@ ghost use Rattle.winnow_stream.specs.Source.{width};
 ghost use Rattle.winnow_parser.specs.Answer.{ahead, outcome};
 ghost use Rattle.winnow_count.specs.CountRange.{least_count, greatest_count};
 ghost use Rattle.winnow_combinator.specs.Counts.{Ascending, IsParser-Ascending};
-ghost use Rattle.winnow_combinator.specs.Repetition.{MisuseErrors};
+ghost use Rattle.winnow_combinator.specs.Misuse.{TakingErrors, GatheredErrors, AscendingErrors};
 ghost use Rattle.winnow_combinator.specs.Gathering.{Gathered, IsParser-Gathered};
 ghost use Rattle.winnow_combinator.specs.Till.{EndAfter, RepeatedTill, IsParser-RepeatedTill};
 ghost use Rattle.winnow_combinator.specs.Till.{MakesOfFirst, TillErrors};
@@ -121,9 +121,11 @@ where
         (I.expects_more input.old)
         (ahead I.location I.remaining input.old)
         (outcome result (ahead I.location I.remaining input.new)) }
-    ensures error { IfErr result (MisuseErrors E.assert_gives
+    ensures error { IfErr result (GatheredErrors
         (TillErrors again.now.counts.least again.now.counts.greatest
-        (P.means again.now.parser.now) (P.errors again.now.parser.now)
+        (P.means again.now.parser.now)
+        (TakingErrors E.assert_gives (P.means again.now.parser.now)
+        (P.errors again.now.parser.now))
         (Q.means terminator.now) (Q.errors terminator.now))
         (I.expects_more input.old) (ahead I.location I.remaining input.old) input.new) }
     ensures valid { I.valid input.new }
@@ -166,9 +168,11 @@ where
         (RepeatedTill (least_count p.counts) (greatest_count p.counts)
         (P.means p.inner) (Q.means p.terminator))) };
 
-    ghost errors = { λ p. MisuseErrors E.assert_gives
-        (TillErrors (least_count p.counts) (greatest_count p.counts)
-        (P.means p.inner) (P.errors p.inner) (Q.means p.terminator) (Q.errors p.terminator)) };
+    ghost errors = { λ p.
+        AscendingErrors (least_count p.counts) (greatest_count p.counts) E.assert_gives
+        (GatheredErrors (TillErrors (least_count p.counts) (greatest_count p.counts)
+        (P.means p.inner) (TakingErrors E.assert_gives (P.means p.inner) (P.errors p.inner))
+        (Q.means p.terminator) (Q.errors p.terminator))) };
 
     ghost ready = { λ p. P.ready p.inner × Q.ready p.terminator × G.ready p.gather };
 

@@ -2,14 +2,18 @@
 use Rattle.std.specs.Prelude.{◌≡◌, ℕ, Bool, List, Option, Some}
 use Rattle.std.proofs.Common.{sym, ◌∙◌, subst, inl, inr, arith}
 use Rattle.winnow_stream.specs.Source.{Source}
+use Rattle.winnow_stream.specs.declared.needed.Needed.{Needed}
+use Rattle.winnow_parser.specs.declared.failure.Failure.{Failure}
 use Rattle.winnow_parser.specs.Outcome.{Ahead, Outcome, Meaning}
+use Rattle.winnow_parser.specs.Errors.{Errors}
 use Rattle.winnow_parser.specs.Determined.{IsDetermined, Shows, Respects, SlicesRespect}
 use Rattle.winnow_parser.proofs.lemmas.MadeLemmas.{determined-continued}
 use Rattle.winnow_token.specs.Counted.{Counted}
 use Rattle.winnow_token.proofs.lemmas.ToldLemmas.{determined-counted}
-use Rattle.winnow_combinator.specs.Counts.{Ascending}
+use Rattle.winnow_combinator.specs.Counts.{Ascends, Ascending}
 use Rattle.winnow_combinator.specs.DeterminedLists.{AreSameEach}
 use Rattle.winnow_combinator.specs.Gathering.{Gathered}
+use Rattle.winnow_combinator.specs.Misuse.{AscendingErrors}
 use Rattle.winnow_combinator.specs.Repetition.{Repeated}
 use Rattle.winnow_combinator.proofs.lemmas.AgreeingLemmas.{determined-repeated}
 use Rattle.winnow_combinator.proofs.lemmas.CombinedLemmas.{determined-gathered}
@@ -33,6 +37,15 @@ module _ {B O A T : Type 0} (refusable : Type 0) (makes : List O → A → Type 
       let one = subst (λ b. Ascending least greatest (Gathered refusable makes (Repeated least greatest (means b))) partial a v) e asked in
       let two = subst (λ l. Ascending l greatest (Gathered refusable makes (Repeated l greatest (means q))) partial a v) f one in
       times-alone (means q) n partial a v (subst (λ g. Ascending n g (Gathered refusable makes (Repeated n g (means q))) partial a v) h two)
+
+module _ {E S T : Type 0} (cuts : S → E → Type 0) (inner : Errors E S T) (partial : Bool) (a : Ahead T) (s : S) (failure : Failure E Needed) where
+  -- counts that are n alone allow n, so the errors are those of the inner parser
+  pub times-errors : (n least : ℕ) (greatest : Option ℕ) → least ≡ n → greatest ≡ Some n
+      → AscendingErrors least greatest cuts inner partial a s failure → inner partial a s failure
+  times-errors n least greatest f h (inl e) = e
+  times-errors n least greatest f h (inr e) =
+      let alone : Ascends n (Some n) = omega arith in
+      absurd (e.0 (subst (λ l. Ascends l greatest) (sym f) (subst (Ascends n) (sym h) alone)))
 
 -- values that show the same number are the same number
 one-number : {L : Type 0} (number : L → ℕ) (x y : L) (m n : ℕ) → Shows number x y

@@ -6,26 +6,26 @@ use Rattle.winnow_stream.specs.declared.needed.Needed.{Needed}
 use Rattle.winnow_parser.specs.declared.failure.Failure.{Failure}
 use Rattle.winnow_parser.specs.Outcome.{Ahead, Gives, Meaning}
 use Rattle.winnow_parser.specs.Errors.{Errors, PairErrors}
-use Rattle.winnow_combinator.specs.Repetition.{Taking, InTurn, MisuseErrors, RepeatedErrors}
+use Rattle.winnow_combinator.specs.Misuse.{GatheredErrors}
+use Rattle.winnow_combinator.specs.Repetition.{Taking, InTurn, RepeatedErrors}
 
-module _ {O E S T : Type 0} (cuts : S → E → Type 0) (means : Meaning O T) (errors : Errors E S T) (partial : Bool) (a b : Ahead T) (s : S) where
+module _ {O E S T : Type 0} (means : Meaning O T) (errors : Errors E S T) (partial : Bool) (a b : Ahead T) (s : S) where
   -- an error of the parser after some values is one of the repetition
   pub RepeatedErrors-after : (xs : List O) (failure : Failure E Needed)
-      → InTurn (Taking means) partial xs a b → MisuseErrors cuts errors partial b s failure
-      → MisuseErrors cuts (RepeatedErrors means errors) partial a s failure
-  RepeatedErrors-after xs failure turns (inl e) = inl (xs, (b, (turns, e)))
-  RepeatedErrors-after xs failure turns (inr e) = inr e
+      → InTurn (Taking means) partial xs a b → errors partial b s failure
+      → GatheredErrors (RepeatedErrors means errors) partial a s failure
+  RepeatedErrors-after xs failure turns e = inl (xs, (b, (turns, e)))
 
   -- a later error, after a first value, is one of the pair
   after-first : (later : Errors E S T) (x : O) (failure : Failure E Needed)
-      → means partial a (Gives x b) → MisuseErrors cuts later partial b s failure
-      → MisuseErrors cuts (PairErrors means errors later) partial a s failure
+      → means partial a (Gives x b) → GatheredErrors later partial b s failure
+      → GatheredErrors (PairErrors means errors later) partial a s failure
   after-first later x failure gives (inl e) = inl (inr (x, (b, (gives, e))))
   after-first later x failure gives (inr e) = inr e
 
   -- the same for a result, which has an error or none
   pub PairErrors-after : {A : Type 0} (later : Errors E S T) (x : O)
       (r : Result A (Failure E Needed)) → means partial a (Gives x b)
-      → IfErr r (MisuseErrors cuts later partial b s)
-      → IfErr r (MisuseErrors cuts (PairErrors means errors later) partial a s)
+      → IfErr r (GatheredErrors later partial b s)
+      → IfErr r (GatheredErrors (PairErrors means errors later) partial a s)
   PairErrors-after later x r gives = IfErr-weaker r _ _ (λ failure e. after-first later x failure gives e)

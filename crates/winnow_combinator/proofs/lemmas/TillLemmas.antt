@@ -5,7 +5,8 @@ use Rattle.winnow_stream.specs.declared.needed.Needed.{Needed}
 use Rattle.winnow_parser.specs.declared.failure.Failure.{Failure}
 use Rattle.winnow_parser.specs.Outcome.{Ahead, Failed, Gives, Fails, Meaning}
 use Rattle.winnow_parser.specs.Errors.{Errors}
-use Rattle.winnow_combinator.specs.Repetition.{Taking, MisuseErrors}
+use Rattle.winnow_combinator.specs.Misuse.{GatheredErrors}
+use Rattle.winnow_combinator.specs.Repetition.{Taking}
 use Rattle.winnow_combinator.specs.Till.{EndAfter, InTurnTill, InTurnTill-more, RepeatedTill, TillErrors}
 
 module _ {O P T : Type 0} (least : ℕ) (greatest : Option ℕ) (inner : Meaning O T) (terminator : Meaning P T) (partial : Bool) (n : ℕ) (xs : List O) (a b : Ahead T) (counted : n ≡ length xs) (turns : InTurnTill least greatest 0 terminator (Taking inner) partial xs a b) where
@@ -41,17 +42,17 @@ module _ {O P T : Type 0} (least : ℕ) (greatest : Option ℕ) (inner : Meaning
       → RepeatedTill least greatest inner terminator partial a (Fails f)
   RepeatedTill-no_more f c none means = (xs, (b, (turns, inr (no_end-at c none, subst (λ s. Taking inner partial s (Fails f)) (sym none.0) means))))
 
-  module _ {E S : Type 0} (cuts : S → E → Type 0) (errors terminator_errors : Errors E S T) (s : S) (failure : Failure E Needed) where
+  module _ {E S : Type 0} (errors terminator_errors : Errors E S T) (s : S) (failure : Failure E Needed) where
     -- an error of the terminator is one of the whole
     pub TillErrors-end : least ≤ n → terminator_errors partial b s failure
-        → MisuseErrors cuts (TillErrors least greatest inner errors terminator terminator_errors)
+        → GatheredErrors (TillErrors least greatest inner errors terminator terminator_errors)
         partial a s failure
     TillErrors-end enough e = inl (xs, (b, (turns, inl (subst (λ m. least ≤ m) counted enough, e))))
 
     -- an error of the parser, where there is no end, is one of the whole
     pub TillErrors-more : (c : Ahead T)
         → EndAfter least greatest n terminator partial b (Gives None c)
-        → MisuseErrors cuts errors partial c s failure
-        → MisuseErrors cuts (TillErrors least greatest inner errors terminator terminator_errors) partial a s failure
-    TillErrors-more c none (inl e) = inl (xs, (b, (turns, inr (no_end-at c none, subst (λ p. errors partial p s failure) (sym none.0) e))))
-    TillErrors-more c none (inr e) = inr e
+        → errors partial c s failure
+        → GatheredErrors (TillErrors least greatest inner errors terminator terminator_errors)
+        partial a s failure
+    TillErrors-more c none e = inl (xs, (b, (turns, inr (no_end-at c none, subst (λ p. errors partial p s failure) (sym none.0) e))))

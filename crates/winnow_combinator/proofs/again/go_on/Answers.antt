@@ -6,7 +6,8 @@ use Rattle.winnow_stream.specs.Source.{width}
 use Rattle.winnow_parser.specs.Outcome.{Gives, Fails}
 use Rattle.winnow_parser.specs.Answer.{ahead, failed}
 use Rattle.winnow_combinator.specs.Counts.{IsBelow}
-use Rattle.winnow_combinator.specs.Repetition.{Taking, OneMore, InTurn-more, Repeated, MisuseErrors}
+use Rattle.winnow_combinator.specs.Repetition.{Taking, OneMore, InTurn-more, Repeated}
+use Rattle.winnow_combinator.specs.Misuse.{TakingErrors}
 use Rattle.winnow_combinator.proofs.lemmas.CountLemmas.{IsUpTo-more, IsUpTo-full, Ascends-full}
 use Rattle.winnow_combinator.proofs.lemmas.GatherLemmas.{Gathered-fails}
 use Rattle.winnow_combinator.proofs.lemmas.RepetitionLemmas.{Repeated-ended, Repeated-full}
@@ -105,5 +106,7 @@ returns-in-Err-clause-error g c =
     let left = c.one_more.new.input in
     let partial = g.I.StreamIsPartial.expects_more c.args.input.now in
     let flag = g.met.I.StreamIsPartial.keeps_flag c.args.input.now c.loop-parser.input so_far.kept in
-    let error = subst (λ more. MisuseErrors g.E.ParserError.assert_gives (g.P.Parser.errors parser) more here left c.in-Err.failure) flag c.in-Err.ensures.error in
-    RepeatedErrors-after g.E.ParserError.assert_gives (g.P.Parser.means parser) (g.P.Parser.errors parser) partial (stands c.args.input.now) here left xs c.in-Err.failure so_far.values error
+    let means = g.P.Parser.means parser in
+    let errors = TakingErrors g.E.ParserError.assert_gives means (g.P.Parser.errors parser) in
+    let error = subst (λ more. errors more here left c.in-Err.failure) flag c.in-Err.ensures.error in
+    RepeatedErrors-after means errors partial (stands c.args.input.now) here left xs c.in-Err.failure so_far.values error

@@ -6,7 +6,8 @@ use Rattle.winnow_parser.specs.Answer.{ahead, outcome}
 use Rattle.winnow_parser.specs.Meanings.{Preceded}
 use Rattle.winnow_parser.specs.Errors.{PairErrors}
 use Rattle.winnow_combinator.specs.Counts.{fewer}
-use Rattle.winnow_combinator.specs.Repetition.{OneMore, Repeated, MisuseErrors, RepeatedErrors}
+use Rattle.winnow_combinator.specs.Misuse.{TakingErrors, GatheredErrors}
+use Rattle.winnow_combinator.specs.Repetition.{OneMore, Repeated, RepeatedErrors}
 use Rattle.winnow_combinator.specs.Gathering.{Gathered}
 use Rattle.winnow_combinator.proofs.lemmas.SeparationLemmas.{IfNeeded-first}
 use Rattle.winnow_combinator.proofs.lemmas.ErrorLemmas.{PairErrors-after}
@@ -52,11 +53,12 @@ returns-in-Ok-Some-clause-error g c =
     let separator = g.S.Parser.means list.separator in
     let inner = g.P.Parser.means list.inner in
     let errors = g.P.Parser.errors list.inner in
-    let later = RepeatedErrors (Preceded separator inner) (PairErrors separator (g.S.Parser.errors list.separator) errors) in
+    let pairs = Preceded separator inner in
+    let later = RepeatedErrors pairs (TakingErrors g.E.ParserError.assert_gives pairs (PairErrors separator (g.S.Parser.errors list.separator) errors)) in
     let here = stands c.args.input.now in
     let next = stands c.one_more.new.input in
     let left = c.rest.new.input in
     let means = subst (λ o. OneMore c.args.counts.now.least 0 inner partial here (Gives o next)) c.in-Ok-Some.field-0-is c.in-Ok-Some.ensures.means in
     let flag = g.met.I.StreamIsPartial.keeps_flag c.args.input.now c.one_more.new.input c.in-Ok-Some.ensures.kept in
-    let rest = subst (λ more. IfErr c.rest.result (MisuseErrors g.E.ParserError.assert_gives later more next left)) flag c.rest.ensures.error in
-    PairErrors-after g.E.ParserError.assert_gives inner errors partial here next left later first c.rest.result means rest
+    let rest = subst (λ more. IfErr c.rest.result (GatheredErrors later more next left)) flag c.rest.ensures.error in
+    PairErrors-after inner errors partial here next left later first c.rest.result means rest

@@ -4,7 +4,8 @@ use Rattle.std.specs.List.{FoldsTo}
 use Rattle.winnow_stream.specs.Source.{width}
 use Rattle.winnow_parser.specs.Outcome.{Gives, Fails}
 use Rattle.winnow_parser.specs.Answer.{ahead, failed}
-use Rattle.winnow_combinator.specs.Repetition.{Taking, MisuseErrors}
+use Rattle.winnow_combinator.specs.Misuse.{TakingErrors}
+use Rattle.winnow_combinator.specs.Repetition.{Taking}
 use Rattle.winnow_combinator.specs.Till.{EndAfter, RepeatedTill, MakesOfFirst}
 use Rattle.winnow_combinator.proofs.lemmas.GatherLemmas.{Gathered-fails}
 use Rattle.winnow_combinator.proofs.lemmas.TillLemmas.{RepeatedTill-more, RepeatedTill-ended, RepeatedTill-no_end, RepeatedTill-no_more, TillErrors-end, TillErrors-more}
@@ -97,7 +98,7 @@ returns-in-Err-clause-error g c =
     let counts = again.counts in
     let inner = g.P.Parser.means again.parser.now in
     let terminator = g.Q.Parser.means c.args.terminator.now in
-    let errors = g.P.Parser.errors again.parser.now in
+    let errors = TakingErrors g.E.ParserError.assert_gives inner (g.P.Parser.errors again.parser.now) in
     let terminator_errors = g.Q.Parser.errors c.args.terminator.now in
     let xs = c.loop-end.invariant.0 in
     let so_far = c.loop-end.invariant.1.1 in
@@ -108,7 +109,7 @@ returns-in-Err-clause-error g c =
     let partial = g.I.StreamIsPartial.expects_more start in
     let flag = g.met.I.StreamIsPartial.keeps_flag start asked so_far.kept in
     let error = subst (λ more. terminator_errors more (stands asked) left c.in-Err.failure) flag c.in-Err.ensures.error in
-    TillErrors-end counts.least counts.greatest inner terminator partial count xs (stands start) (stands asked) so_far.counted so_far.values g.E.ParserError.assert_gives errors terminator_errors left c.in-Err.failure c.in-Err.ensures.means.0 error
+    TillErrors-end counts.least counts.greatest inner terminator partial count xs (stands start) (stands asked) so_far.counted so_far.values errors terminator_errors left c.in-Err.failure c.in-Err.ensures.means.0 error
 
 pub returns-in-Err-parse_next-clause-means : goal.returns-in-Err-parse_next-clause-means
 returns-in-Err-parse_next-clause-means g c =
@@ -141,7 +142,7 @@ returns-in-Err-parse_next-clause-error g c =
     let counts = again.counts in
     let inner = g.P.Parser.means again.parser.now in
     let terminator = g.Q.Parser.means c.args.terminator.now in
-    let errors = g.P.Parser.errors again.parser.now in
+    let errors = TakingErrors g.E.ParserError.assert_gives inner (g.P.Parser.errors again.parser.now) in
     let terminator_errors = g.Q.Parser.errors c.args.terminator.now in
     let xs = c.loop-end.invariant.0 in
     let so_far = c.loop-end.invariant.1.1 in
@@ -157,5 +158,5 @@ returns-in-Err-parse_next-clause-error g c =
     let flag_between = g.met.I.StreamIsPartial.keeps_flag start between kept in
     let at_none = subst (λ o. EndAfter counts.least counts.greatest count terminator (g.I.StreamIsPartial.expects_more asked) (stands asked) (Gives o (stands between))) c.in-Ok-None.field-0-is c.in-Ok-None.ensures.means in
     let none = subst (λ more. EndAfter counts.least counts.greatest count terminator more (stands asked) (Gives None (stands between))) flag at_none in
-    let error = subst (λ more. MisuseErrors g.E.ParserError.assert_gives errors more (stands between) left failure) flag_between c.in-Err-parse_next.ensures.error in
-    TillErrors-more counts.least counts.greatest inner terminator partial count xs (stands start) (stands asked) so_far.counted so_far.values g.E.ParserError.assert_gives errors terminator_errors left failure (stands between) none error
+    let error = subst (λ more. errors more (stands between) left failure) flag_between c.in-Err-parse_next.ensures.error in
+    TillErrors-more counts.least counts.greatest inner terminator partial count xs (stands start) (stands asked) so_far.counted so_far.values errors terminator_errors left failure (stands between) none error

@@ -1,9 +1,10 @@
 use Rattle.std.proofs.Common.{inr, subst}
 use Rattle.winnow_parser.specs.Outcome.{Fails}
 use Rattle.winnow_parser.specs.Answer.{ahead, failed}
-use Rattle.winnow_combinator.specs.Repetition.{MisuseErrors, RepeatedErrors}
+use Rattle.winnow_combinator.specs.Repetition.{RepeatedErrors}
+use Rattle.winnow_combinator.specs.Misuse.{TakingErrors, GatheredErrors}
 use Rattle.winnow_binary.specs.Lengths.{Times}
-use Rattle.winnow_binary.proofs.lemmas.LengthLemmas.{times-asked}
+use Rattle.winnow_binary.proofs.lemmas.LengthLemmas.{times-asked, times-errors}
 use Rattle.winnow_binary.proofs.repeated.LengthRepeatedParser.parse_next.Goals as goal
 
 pub returns-in-Err-clause-means : goal.returns-in-Err-clause-means
@@ -25,6 +26,12 @@ returns-in-Err-clause-error g c =
     let left = c.parse_next-2.new.input in
     let asserts = g.E.ParserError.assert_gives in
     let flag = g.met.I.StreamIsPartial.keeps_flag c.args.input.now c.parse_next.new.input c.in_ok-count.ensures.kept in
-    let asked = subst (λ q. MisuseErrors asserts (RepeatedErrors (g.Q.Parser.means q.now) (g.Q.Parser.errors q.now)) (g.I.StreamIsPartial.expects_more c.parse_next.new.input) between left c.in-Err.failure) c.repeat.ensures.inner c.in-Err.ensures.error in
-    let second = subst (λ partial. MisuseErrors asserts (RepeatedErrors (g.Q.Parser.means c.args.self.now.inner) (g.Q.Parser.errors c.args.self.now.inner)) partial between left c.in-Err.failure) flag asked in
+    let expects = g.I.StreamIsPartial.expects_more c.parse_next.new.input in
+    let counts = c.repeat.ensures.counts in
+    let held = c.repeat.result.inner.now in
+    let given = GatheredErrors (RepeatedErrors (g.Q.Parser.means held) (TakingErrors asserts (g.Q.Parser.means held) (g.Q.Parser.errors held))) in
+    let asked = times-errors asserts given expects between left c.in-Err.failure c.length-count.result _ _ counts.0 counts.1 c.in-Err.ensures.error in
+    let own = subst (λ q. GatheredErrors (RepeatedErrors (g.Q.Parser.means q.now) (TakingErrors asserts (g.Q.Parser.means q.now) (g.Q.Parser.errors q.now))) expects between left c.in-Err.failure) c.repeat.ensures.inner asked in
+    let inner = c.args.self.now.inner in
+    let second = subst (λ partial. GatheredErrors (RepeatedErrors (g.Q.Parser.means inner) (TakingErrors asserts (g.Q.Parser.means inner) (g.Q.Parser.errors inner))) partial between left c.in-Err.failure) flag own in
     inr (c.in_ok-count.count, (between, (c.in_ok-count.ensures.means, second)))

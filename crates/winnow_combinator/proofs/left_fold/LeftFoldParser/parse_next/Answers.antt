@@ -3,7 +3,8 @@ use Rattle.std.specs.List.{FoldsTo}
 use Rattle.winnow_parser.specs.Answer.{ahead, outcome}
 use Rattle.winnow_parser.specs.Meanings.{Pair}
 use Rattle.winnow_parser.specs.Errors.{PairErrors}
-use Rattle.winnow_combinator.specs.Repetition.{Repeated, MisuseErrors, RepeatedErrors}
+use Rattle.winnow_combinator.specs.Misuse.{TakingErrors, GatheredErrors}
+use Rattle.winnow_combinator.specs.Repetition.{Repeated, RepeatedErrors}
 use Rattle.winnow_combinator.specs.Gathering.{Gathered}
 use Rattle.winnow_combinator.proofs.lemmas.SeparationLemmas.{FoldedLeft-first}
 use Rattle.winnow_combinator.proofs.lemmas.ErrorLemmas.{PairErrors-after}
@@ -37,6 +38,7 @@ returns-clause-error g c =
     let separator = g.S.Parser.means parser.separator in
     let inner = g.P.Parser.means parser.inner in
     let errors = g.P.Parser.errors parser.inner in
-    let later = RepeatedErrors (Pair separator inner) (PairErrors separator (g.S.Parser.errors parser.separator) errors) in
-    let rest = subst (λ more. IfErr c.go_on.result (MisuseErrors g.E.ParserError.assert_gives later more between left)) flag c.go_on.ensures.error in
-    PairErrors-after g.E.ParserError.assert_gives inner errors partial here between left later c.in_ok-first.first c.go_on.result c.in_ok-first.ensures.means rest
+    let pairs = Pair separator inner in
+    let later = RepeatedErrors pairs (TakingErrors g.E.ParserError.assert_gives pairs (PairErrors separator (g.S.Parser.errors parser.separator) errors)) in
+    let rest = subst (λ more. IfErr c.go_on.result (GatheredErrors later more between left)) flag c.go_on.ensures.error in
+    PairErrors-after inner errors partial here between left later c.in_ok-first.first c.go_on.result c.in_ok-first.ensures.means rest
