@@ -26,9 +26,13 @@ where
     ghost lawful = { λ p. IsParser-Pair (A.means p.0) (B.means p.1) (A.lawful p.0) (B.lawful p.1) };
 
     fn parse_next(&self, alloc: Global, input: &mut I) -> ModalResult<(A::Output, B::Output), E> {
-        let first = self.0.parse_next(alloc, input)?;
-        let second = self.1.parse_next(alloc, input)?;
-        Ok((first, second))
+        match self.0.parse_next(alloc, input) {
+            Ok(first) => match self.1.parse_next(alloc, input) {
+                Ok(second) => Ok((first, second)),
+                Err(failure) => Err(failure),
+            },
+            Err(failure) => Err(failure),
+        }
     }
 }
 
@@ -56,9 +60,11 @@ where
         alloc: Global,
         input: &mut I,
     ) -> ModalResult<(A::Output, B::Output, C::Output), E> {
-        let first = self.0.parse_next(alloc, input)?;
-        match (&self.1, &self.2).parse_next(alloc, input) {
-            Ok((second, third)) => Ok((first, second, third)),
+        match self.0.parse_next(alloc, input) {
+            Ok(first) => match (&self.1, &self.2).parse_next(alloc, input) {
+                Ok((second, third)) => Ok((first, second, third)),
+                Err(failure) => Err(failure),
+            },
             Err(failure) => Err(failure),
         }
     }
@@ -92,9 +98,11 @@ where
         (A.lawful p.0) (B.lawful p.1) (C.lawful p.2) (D.lawful p.3) };
 
     fn parse_next(&self, alloc: Global, input: &mut I) -> ModalResult<Self::Output, E> {
-        let first = self.0.parse_next(alloc, input)?;
-        match (&self.1, &self.2, &self.3).parse_next(alloc, input) {
-            Ok((second, third, fourth)) => Ok((first, second, third, fourth)),
+        match self.0.parse_next(alloc, input) {
+            Ok(first) => match (&self.1, &self.2, &self.3).parse_next(alloc, input) {
+                Ok((second, third, fourth)) => Ok((first, second, third, fourth)),
+                Err(failure) => Err(failure),
+            },
             Err(failure) => Err(failure),
         }
     }
@@ -132,9 +140,11 @@ where
         (A.lawful p.0) (B.lawful p.1) (C.lawful p.2) (D.lawful p.3) (F.lawful p.4) };
 
     fn parse_next(&self, alloc: Global, input: &mut I) -> ModalResult<Self::Output, E> {
-        let first = self.0.parse_next(alloc, input)?;
-        match (&self.1, &self.2, &self.3, &self.4).parse_next(alloc, input) {
-            Ok((second, third, fourth, fifth)) => Ok((first, second, third, fourth, fifth)),
+        match self.0.parse_next(alloc, input) {
+            Ok(first) => match (&self.1, &self.2, &self.3, &self.4).parse_next(alloc, input) {
+                Ok((second, third, fourth, fifth)) => Ok((first, second, third, fourth, fifth)),
+                Err(failure) => Err(failure),
+            },
             Err(failure) => Err(failure),
         }
     }
@@ -183,11 +193,15 @@ where
         (A.lawful p.0) (B.lawful p.1) (C.lawful p.2) (D.lawful p.3) (F.lawful p.4) (G.lawful p.5) };
 
     fn parse_next(&self, alloc: Global, input: &mut I) -> ModalResult<Self::Output, E> {
-        let first = self.0.parse_next(alloc, input)?;
-        match (&self.1, &self.2, &self.3, &self.4, &self.5).parse_next(alloc, input) {
-            Ok((second, third, fourth, fifth, sixth)) => Ok((
-                first, second, third, fourth, fifth, sixth,
-            )),
+        match self.0.parse_next(alloc, input) {
+            Ok(first) => match (&self.1, &self.2, &self.3, &self.4, &self.5).parse_next(
+                alloc, input,
+            ) {
+                Ok((second, third, fourth, fifth, sixth)) => Ok((
+                    first, second, third, fourth, fifth, sixth,
+                )),
+                Err(failure) => Err(failure),
+            },
             Err(failure) => Err(failure),
         }
     }
@@ -240,11 +254,15 @@ where
         (H.lawful p.6) };
 
     fn parse_next(&self, alloc: Global, input: &mut I) -> ModalResult<Self::Output, E> {
-        let first = self.0.parse_next(alloc, input)?;
-        match (&self.1, &self.2, &self.3, &self.4, &self.5, &self.6).parse_next(alloc, input) {
-            Ok((second, third, fourth, fifth, sixth, seventh)) => Ok((
-                first, second, third, fourth, fifth, sixth, seventh,
-            )),
+        match self.0.parse_next(alloc, input) {
+            Ok(first) => match (&self.1, &self.2, &self.3, &self.4, &self.5, &self.6).parse_next(
+                alloc, input,
+            ) {
+                Ok((second, third, fourth, fifth, sixth, seventh)) => Ok((
+                    first, second, third, fourth, fifth, sixth, seventh,
+                )),
+                Err(failure) => Err(failure),
+            },
             Err(failure) => Err(failure),
         }
     }
@@ -301,15 +319,17 @@ where
         (H.lawful p.6) (J.lawful p.7) };
 
     fn parse_next(&self, alloc: Global, input: &mut I) -> ModalResult<Self::Output, E> {
-        let first = self.0.parse_next(alloc, input)?;
-        match (
-            &self.1, &self.2, &self.3, &self.4, &self.5, &self.6, &self.7,
-        )
-            .parse_next(alloc, input)
-        {
-            Ok((second, third, fourth, fifth, sixth, seventh, eighth)) => Ok((
-                first, second, third, fourth, fifth, sixth, seventh, eighth,
-            )),
+        match self.0.parse_next(alloc, input) {
+            Ok(first) => match (
+                &self.1, &self.2, &self.3, &self.4, &self.5, &self.6, &self.7,
+            )
+                .parse_next(alloc, input)
+            {
+                Ok((second, third, fourth, fifth, sixth, seventh, eighth)) => Ok((
+                    first, second, third, fourth, fifth, sixth, seventh, eighth,
+                )),
+                Err(failure) => Err(failure),
+            },
             Err(failure) => Err(failure),
         }
     }
@@ -369,15 +389,17 @@ where
         (H.lawful p.6) (J.lawful p.7) (K.lawful p.8) };
 
     fn parse_next(&self, alloc: Global, input: &mut I) -> ModalResult<Self::Output, E> {
-        let first = self.0.parse_next(alloc, input)?;
-        match (
-            &self.1, &self.2, &self.3, &self.4, &self.5, &self.6, &self.7, &self.8,
-        )
-            .parse_next(alloc, input)
-        {
-            Ok((second, third, fourth, fifth, sixth, seventh, eighth, ninth)) => Ok((
-                first, second, third, fourth, fifth, sixth, seventh, eighth, ninth,
-            )),
+        match self.0.parse_next(alloc, input) {
+            Ok(first) => match (
+                &self.1, &self.2, &self.3, &self.4, &self.5, &self.6, &self.7, &self.8,
+            )
+                .parse_next(alloc, input)
+            {
+                Ok((second, third, fourth, fifth, sixth, seventh, eighth, ninth)) => Ok((
+                    first, second, third, fourth, fifth, sixth, seventh, eighth, ninth,
+                )),
+                Err(failure) => Err(failure),
+            },
             Err(failure) => Err(failure),
         }
     }
@@ -441,15 +463,17 @@ where
         (H.lawful p.6) (J.lawful p.7) (K.lawful p.8) (L.lawful p.9) };
 
     fn parse_next(&self, alloc: Global, input: &mut I) -> ModalResult<Self::Output, E> {
-        let first = self.0.parse_next(alloc, input)?;
-        match (
-            &self.1, &self.2, &self.3, &self.4, &self.5, &self.6, &self.7, &self.8, &self.9,
-        )
-            .parse_next(alloc, input)
-        {
-            Ok((second, third, fourth, fifth, sixth, seventh, eighth, ninth, tenth)) => Ok((
-                first, second, third, fourth, fifth, sixth, seventh, eighth, ninth, tenth,
-            )),
+        match self.0.parse_next(alloc, input) {
+            Ok(first) => match (
+                &self.1, &self.2, &self.3, &self.4, &self.5, &self.6, &self.7, &self.8, &self.9,
+            )
+                .parse_next(alloc, input)
+            {
+                Ok((second, third, fourth, fifth, sixth, seventh, eighth, ninth, tenth)) => Ok((
+                    first, second, third, fourth, fifth, sixth, seventh, eighth, ninth, tenth,
+                )),
+                Err(failure) => Err(failure),
+            },
             Err(failure) => Err(failure),
         }
     }
