@@ -12,13 +12,15 @@ use Rattle.winnow_json.specs.declared.numbers.Number.{Number}
 abbrev pub NumberAhead : Bool → List ℕ → List ℕ → List ℕ → Type 0
 NumberAhead partial bytes text rest = (bytes ≡ text ++ rest) × IsNumber text × EndsRun is_number_byte partial rest
 
--- the answer and what remains: a number; or a backtrack, which takes nothing; or more input is
--- needed, where more may follow and all bytes may be those of a number; or memory was refused
+-- the answer and what remains: a number; or a backtrack, which takes nothing, where no byte may
+-- follow or one stands that a number does not have; or more input is needed, where more may follow
+-- and all bytes may be those of a number; or memory was refused
 abbrev pub IsNumberAnswer : {E : Type 0} → Bool → List ℕ → Result Number (Failure E Needed)
     → List ℕ → Type 0
 IsNumberAnswer partial bytes (Ok number) rest =
     (text : List ℕ) × (NumberAhead partial bytes text rest × IsNumberOf text number)
-IsNumberAnswer partial bytes (Err (Backtrack e)) rest = rest ≡ bytes
+IsNumberAnswer partial bytes (Err (Backtrack e)) rest =
+    (rest ≡ bytes) × (partial ≡ true → ¬ (Each is_number_byte bytes))
 IsNumberAnswer partial bytes (Err (Cut e)) rest = ⊥
 IsNumberAnswer partial bytes (Err (Incomplete n)) rest = (partial ≡ true) × Each is_number_byte bytes
 IsNumberAnswer partial bytes (Err (Refused e)) rest = ⊤

@@ -91,9 +91,10 @@ module _ {S : Type 0} (is_slice : S → Source ℕ → ℕ → Type 0) (bytes : 
       let given = run-given is_slice bytes have is_number_byte IsNumber partial slice a b wide h in
       (bytes slice, ((given.0, given.1, given.3), is))
   number-answers (Err (Backtrack e)) wide h =
-      ap (λ p. bytes_of p.tokens) (run-fails is_slice bytes have is_number_byte IsNumber partial (Backtracks b) a h)
-  number-answers (Err (Cut e)) wide h = run-fails is_slice bytes have is_number_byte IsNumber partial (Cuts b) a h
-  number-answers (Err (Incomplete n)) wide h = run-fails is_slice bytes have is_number_byte IsNumber partial (Needs n) a h
+      let fails = run-fails is_slice bytes have is_number_byte IsNumber partial (Backtracks b) a wide h in
+      (ap (λ p. bytes_of p.tokens) fails.0, fails.1)
+  number-answers (Err (Cut e)) wide h = run-fails is_slice bytes have is_number_byte IsNumber partial (Cuts b) a wide h
+  number-answers (Err (Incomplete n)) wide h = run-fails is_slice bytes have is_number_byte IsNumber partial (Needs n) a wide h
   number-answers (Err (Refused e)) wide h = tt
 
   -- no longer number stands ahead

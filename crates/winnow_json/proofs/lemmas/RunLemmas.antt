@@ -83,21 +83,26 @@ module _ {S : Type 0} (is_slice : S → Source ℕ → ℕ → Type 0) (bytes : 
         held.2,
       )
 
-  -- a failure takes nothing, or more may follow
+  -- a failure takes nothing, and where more may follow, not all bytes are of the set; or more is
+  -- needed, where it may follow and they are
   abbrev pub RunFails : Ahead ℕ → Failed ℕ → Type 0
-  RunFails a (Backtracks b) = b ≡ a
+  RunFails a (Backtracks b) = (b ≡ a) × (partial ≡ true → ¬ (Each holds (bytes_of a.tokens)))
   RunFails a (Cuts b) = ⊥
   RunFails a (Needs n) = (partial ≡ true) × Each holds (bytes_of a.tokens)
   RunFails a Refuses = ⊥
 
   -- a run fails as `RunFails` says
-  pub run-fails : (f : Failed ℕ) (a : Ahead ℕ)
+  pub run-fails : (f : Failed ℕ) (a : Ahead ℕ) → HasPositiveWidths a.tokens
       → Run itself is_slice bytes holds fact partial a (Fails f) → RunFails a f
-  run-fails (Backtracks b) a (inl h) = (held-fails is_slice holds 1 partial a (Backtracks b) (omega arith) h).0
-  run-fails (Backtracks b) a (inr h) = sym h.0
-  run-fails (Cuts b) a h = held-fails is_slice holds 1 partial a (Cuts b) (omega arith) h
-  run-fails (Needs n) a h = held-fails is_slice holds 1 partial a (Needs n) (omega arith) h
-  run-fails Refuses a h = held-fails is_slice holds 1 partial a Refuses (omega arith) h
+  run-fails (Backtracks b) a wide (inl h) =
+      let fails = held-fails is_slice holds 1 partial a (Backtracks b) (omega arith) h in
+      (fails.0, λ p all. ended-not holds partial (bytes_of a.tokens) fails.1 p all)
+  run-fails (Backtracks b) a wide (inr (same, (x, (c, (h, never))))) =
+      let held = held-given is_slice holds 1 bytes have partial a c x wide h in
+      (sym same, λ p all. ended-not holds partial (bytes_of c.tokens) held.2 p (each-after holds (bytes x) (bytes_of c.tokens) (subst (Each holds) held.0 all)))
+  run-fails (Cuts b) a wide h = held-fails is_slice holds 1 partial a (Cuts b) (omega arith) h
+  run-fails (Needs n) a wide h = held-fails is_slice holds 1 partial a (Needs n) (omega arith) h
+  run-fails Refuses a wide h = held-fails is_slice holds 1 partial a Refuses (omega arith) h
 
   module _ (t s : List ℕ) (some : 1 ≤ length t) (is : fact t) (each : Each holds t) (ends : EndsRun holds partial s) where
     -- the run that stands ahead is the one that is given
@@ -112,7 +117,7 @@ module _ {S : Type 0} (is_slice : S → Source ℕ → ℕ → Type 0) (bytes : 
     pub run-missed : (f : Failed ℕ) (a : Ahead ℕ) → HasPositiveWidths a.tokens
         → bytes_of a.tokens ≡ t ++ s → ¬ (Run itself is_slice bytes holds fact partial a (Fails f))
     run-missed (Backtracks b) a wide e (inl h) =
-        (held-fails is_slice holds 1 partial a (Backtracks b) (omega arith) h).1 (run-starts holds t s (bytes_of a.tokens) e some each)
+        (held-fails is_slice holds 1 partial a (Backtracks b) (omega arith) h).1.0 (run-starts holds t s (bytes_of a.tokens) e some each)
     run-missed (Backtracks b) a wide e (inr (same, (x, (c, (h, never))))) =
         let held = held-given is_slice holds 1 bytes have partial a c x wide h in
         let one = split-once holds (bytes x) (bytes_of c.tokens) t s held.1 held.2.0 each ends.0 (sym held.0 ∙ e) in

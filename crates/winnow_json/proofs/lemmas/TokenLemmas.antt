@@ -75,10 +75,10 @@ all-held : (holds : ℕ → Bool) (r : Source ℕ) → length r ≤ length (held
 all-held holds [] l = tt
 all-held holds (x ∷ xs) l = all-step holds (holds x.0) x xs (held_front holds xs) refl (all-held holds xs) l
 
--- where a set fails whose least count is at most 1: it holds no first byte; or more may follow what
--- it holds, which is all that remains
+-- where a set fails whose least count is at most 1: its run ends before the first byte; or more may
+-- follow what it holds, which is all that remains
 abbrev pub HeldFails : (ℕ → Bool) → Bool → Ahead ℕ → Failed ℕ → Type 0
-HeldFails holds partial a (Backtracks b) = (b ≡ a) × ¬ (Starts holds (bytes_of a.tokens))
+HeldFails holds partial a (Backtracks b) = (b ≡ a) × EndsRun holds partial (bytes_of a.tokens)
 HeldFails holds partial a (Cuts b) = ⊥
 HeldFails holds partial a (Needs n) = (partial ≡ true) × Each holds (bytes_of a.tokens)
 HeldFails holds partial a Refuses = ⊥
@@ -88,8 +88,11 @@ module _ {S : Type 0} (is_slice : S → Source ℕ → ℕ → Type 0) (holds : 
   pub held-fails : (partial : Bool) (a : Ahead ℕ) (f : Failed ℕ) → least ≤ 1
       → HeldFront is_slice holds least None partial a (Fails f) → HeldFails holds partial a f
   held-fails partial a (Backtracks b) small h =
-      let none : length (held_front holds a.tokens) ≡ 0 = omega (arith, h.1, small) in
-      (h.0, not-held holds a.tokens (subst (λ n. (x : ℕ) → first_token (drop n a.tokens) ≡ Some x → holds x ≡ false) none (next-held_front holds a.tokens)))
+      let none : length (held_front holds a.tokens) ≡ 0 = omega (arith, h.1, small) in (
+        h.0,
+        not-held holds a.tokens (subst (λ n. (x : ℕ) → first_token (drop n a.tokens) ≡ Some x → holds x ≡ false) none (next-held_front holds a.tokens)),
+        λ more e. omega (arith, grows partial (length a.tokens) (length (held_front holds a.tokens)) h.3 more, ap length (none-left a.tokens e)),
+      )
   held-fails partial a (Cuts b) small h = absurd (let e = h.1 in cc)
   held-fails true a (Needs n) small h = (refl, each-held holds a.tokens (all-held holds a.tokens (grind (arith, nat_tests, h.2))))
   held-fails false a (Needs n) small h = absurd (let e = h.2 in cc)

@@ -1,0 +1,5 @@
+//! Numbers of JSON as their users read them. Nothing here is part of the library.
+#![tactic(auto)]
+
+#[cfg(test)]
+mod numbers;
