@@ -32,16 +32,21 @@ BreaksOff partial bytes rest = (values : List (List ℕ)) × ((text : List ℕ) 
 abbrev pub IsUnclosed : List ℕ → Type 0
 IsUnclosed bytes = (values : List (List ℕ)) × SpellsRecord values (bytes ++ 34 ∷ [])
 
+-- more input can make a record of the bytes: with some after them, they are a record and its end
+abbrev pub IsBegun : List ℕ → Type 0
+IsBegun bytes = (more : List ℕ) × ((values : List (List ℕ)) × RecordAhead true (bytes ++ more) values [])
+
 -- the answer and what remains: a record; or a backtrack, where the input has ended; or a cut, where
--- a record breaks off or a closing quote is missing; or more input is needed, where more may
--- follow; or memory was refused
+-- a record breaks off or a closing quote is missing, and no input that may follow mends it; or more
+-- input is needed, where more may follow and can make a record of the bytes; or memory was refused
 abbrev pub IsAnswer : {E : Type 0} → Bool → List ℕ
     → Result (Vec (Vec ℕ Global) Global) (Failure E Needed) → List ℕ → Type 0
 IsAnswer partial bytes (Ok row) rest = RecordAhead partial bytes (values_of row) rest
 IsAnswer partial bytes (Err (Backtrack e)) rest = (bytes ≡ []) × (rest ≡ []) × (partial ≡ false)
 IsAnswer partial bytes (Err (Cut e)) rest =
-    BreaksOff partial bytes rest ⊎ (IsUnclosed bytes × (rest ≡ []) × (partial ≡ false))
-IsAnswer partial bytes (Err (Incomplete n)) rest = partial ≡ true
+    (BreaksOff partial bytes rest ⊎ (IsUnclosed bytes × (rest ≡ []) × (partial ≡ false)))
+    × (partial ≡ true → ¬ (IsBegun bytes))
+IsAnswer partial bytes (Err (Incomplete n)) rest = (partial ≡ true) × IsBegun bytes
 IsAnswer partial bytes (Err (Refused e)) rest = ⊤
 
 -- the answer is these values, with this rest after them, unless memory was refused

@@ -1,21 +1,55 @@
 -- The answers of the reader of records, in the words of the format.
-use Rattle.std.proofs.Common.{◌≡◌, ℕ, Bool, true, false, List, [], inl, inr, ap, sym, ◌∙◌, subst}
+use Rattle.std.proofs.Common.{◌≡◌, ℕ, Bool, true, false, List, [], ◌∷◌, ◌++◌, inl, inr, ap, sym, ◌∙◌, subst, refl, append_assoc}
 use Rattle.std.specs.Prelude.{◌⊎◌, ⊤, Result, Ok, Err}
 use Rattle.std.specs.declared.vec.Vec.{Vec}
 use Rattle.std.specs.declared.alloc.Global.{Global}
-use Rattle.winnow_stream.specs.Source.{Source, HasPositiveWidths}
+use Rattle.std.proofs.lemmas.List.{append-nil, map-append}
+use Rattle.winnow_stream.specs.Source.{Source, units, HasPositiveWidths}
+use Rattle.winnow_stream.specs.Units.{HasPositiveWidths-units}
 use Rattle.winnow_stream.specs.Longer.{SlicesStay}
 use Rattle.winnow_stream.specs.SliceBytes.{SlicesHaveBytes}
 use Rattle.winnow_stream.specs.declared.needed.Needed.{Needed}
 use Rattle.winnow_parser.specs.declared.failure.Failure.{Failure}
 use Rattle.winnow_parser.specs.declared.failure.Failure.TheVariants.{Incomplete, Backtrack, Cut, Refused}
 use Rattle.winnow_parser.specs.Outcome.{Ahead, Failed, Backtracks, Cuts, Needs, Refuses, Gives, Fails}
+use Rattle.winnow_parser.specs.Laws.{longer}
 use Rattle.winnow_parser.specs.Answer.{outcome}
 use Rattle.winnow_csv.specs.Records.{SpellsRecord, EndsRecord, RecordAhead}
-use Rattle.winnow_csv.specs.Meanings.{OneRow}
-use Rattle.winnow_csv.specs.Answers.{bytes_of, values_of, IsAnswer, GivesEach, BreaksOff, IsUnclosed}
+use Rattle.winnow_csv.specs.Meanings.{OneRow, IsParser-OneRow}
+use Rattle.winnow_csv.specs.Answers.{bytes_of, values_of, IsAnswer, GivesEach, BreaksOff, IsUnclosed, IsBegun}
+use Rattle.winnow_csv.proofs.lemmas.ByteLemmas.{some}
+use Rattle.winnow_csv.proofs.lemmas.TokenLemmas.{bytes-units}
 use Rattle.winnow_csv.proofs.lemmas.FieldLemmas.{none-left, IsRefusal}
-use Rattle.winnow_csv.proofs.lemmas.RecordLemmas.{ends-once, end-given, end-fails, end-missed, list-given, list-fails, list-once, list-missed}
+use Rattle.winnow_csv.proofs.lemmas.RecordLemmas.{MayEnd, AreBegun, ends-once, end-given, end-fails, end-missed, list-given, list-fails, list-once, list-missed}
+
+-- ---- What more input can make a record of
+
+-- fields that some more bytes complete
+fields-begun : (r : List ℕ) → AreBegun r → IsBegun r
+fields-begun r (more, (values, spells)) =
+    let whole : (r ++ more) ++ 10 ∷ [] ≡ r ++ (more ++ 10 ∷ []) = append_assoc r more (10 ∷ []) in
+    (more ++ 10 ∷ [], (values, (λ none. some (r ++ more) [] 10 (whole ∙ none), (r ++ more, (10 ∷ [], (sym whole, spells, inr (inl refl)))))))
+
+-- fields after which a record may still end
+end-begun : (values : List (List ℕ)) (r text s : List ℕ) → r ≡ text ++ s → SpellsRecord values text
+    → MayEnd s → IsBegun r
+end-begun values r text s e spells (inl f) =
+    let whole : r ++ [] ≡ text = append-nil r ∙ e ∙ ap (λ t. text ++ t) f ∙ append-nil text in
+    fields-begun r ([], (values, subst (SpellsRecord values) (sym whole) spells))
+end-begun values r text s e spells (inr f) =
+    let whole : r ++ 10 ∷ [] ≡ text ++ 13 ∷ 10 ∷ [] =
+    ap (λ t. t ++ 10 ∷ []) (e ∙ ap (λ t. text ++ t) f) ∙ append_assoc text (13 ∷ []) (10 ∷ []) in
+    (10 ∷ [], (values, (λ none. some text (10 ∷ []) 13 (sym whole ∙ none), (text, (13 ∷ 10 ∷ [], (whole, spells, inl refl))))))
+
+-- sources in a row have positive widths if both do
+positive-both : (xs ys : Source ℕ) → HasPositiveWidths xs → HasPositiveWidths ys
+    → HasPositiveWidths (xs ++ ys)
+positive-both [] ys h k = k
+positive-both (x ∷ xs) ys h k = (h.0, positive-both xs ys h.1 k)
+
+-- the bytes of a source and of some bytes after it
+bytes-longer : (r : Source ℕ) (more : List ℕ) → bytes_of (r ++ units more) ≡ bytes_of r ++ more
+bytes-longer r more = map-append (λ x. x.0) r (units more) ∙ ap (λ t. bytes_of r ++ t) (bytes-units more)
 
 module _ {S : Type 0} (is_slice : S → Source ℕ → ℕ → Type 0) (bytes : S → List ℕ) (stay : SlicesStay is_slice) (have : SlicesHaveBytes is_slice bytes) (refusable : Type 0) (partial : Bool) where
   -- ---- What is answered
@@ -42,11 +76,11 @@ module _ {S : Type 0} (is_slice : S → Source ℕ → ℕ → Type 0) (bytes : 
       )
 
   -- a failure: at the end; or where a record breaks off, or a closing quote is missing; or where
-  -- more may follow; or memory was refused
+  -- more may follow and can make a record; or memory was refused
   abbrev RowFails : Ahead ℕ → Failed ℕ → Type 0
   RowFails a (Backtracks d) = (bytes_of a.tokens ≡ []) × (bytes_of d.tokens ≡ []) × (partial ≡ false)
   RowFails a (Cuts d) = BreaksOff partial (bytes_of a.tokens) (bytes_of d.tokens) ⊎ (IsUnclosed (bytes_of a.tokens) × (bytes_of d.tokens ≡ []) × (partial ≡ false))
-  RowFails a (Needs n) = partial ≡ true
+  RowFails a (Needs n) = (partial ≡ true) × IsBegun (bytes_of a.tokens)
   RowFails a Refuses = ⊤
 
   -- a row fails as `RowFails` says
@@ -67,10 +101,15 @@ module _ {S : Type 0} (is_slice : S → Source ℕ → ℕ → Type 0) (bytes : 
       inl (subst (λ p. BreaksOff partial (bytes_of a.tokens) (bytes_of p.tokens)) (sym fails.1)
       (values_of row, (one.0, (ap (λ p. bytes_of p.tokens) at ∙ one.1.0, one.1.1, one.1.2, fails.0))))
   row-fails (Cuts d) a wide (inr (u, (b, (n, inr (row, (c, (list, inr close))))))) = absurd (end-fails refusable partial (Cuts d) c close)
-  row-fails (Needs n) a wide (inl h) = h.1
+  row-fails (Needs n) a wide (inl h) =
+      (h.1, end-begun ([] ∷ []) (bytes_of a.tokens) [] (bytes_of a.tokens) refl ([], ([], (refl, inl (tt, refl), refl))) (inl (ap bytes_of h.0)))
   row-fails (Needs n) a wide (inr (u, (b, ((at, started), inl h)))) =
-      list-fails is_slice bytes stay have refusable partial (Needs n) b (subst (λ p. HasPositiveWidths p.tokens) at wide) h
-  row-fails (Needs n) a wide (inr (u, (b, (m, inr (row, (c, (list, close))))))) = (end-fails refusable partial (Needs n) c close).0
+      let fails = list-fails is_slice bytes stay have refusable partial (Needs n) b (subst (λ p. HasPositiveWidths p.tokens) at wide) h in
+      (fails.0, subst (λ p. IsBegun (bytes_of p.tokens)) (sym at) (fields-begun (bytes_of b.tokens) fails.1))
+  row-fails (Needs n) a wide (inr (u, (b, ((at, started), inr (row, (c, (list, close))))))) =
+      let one = list-given is_slice bytes stay have refusable partial row b c (subst (λ p. HasPositiveWidths p.tokens) at wide) list in
+      let fails = end-fails refusable partial (Needs n) c close in
+      (fails.0, end-begun (values_of row) (bytes_of a.tokens) one.0 (bytes_of c.tokens) (ap (λ p. bytes_of p.tokens) at ∙ one.1.0) one.1.1 fails.2)
   row-fails Refuses a wide h = tt
 
   -- ---- No record is missed
@@ -104,6 +143,16 @@ module _ {S : Type 0} (is_slice : S → Source ℕ → ℕ → Type 0) (bytes : 
       let one = list-once is_slice bytes stay have refusable partial row ws b c text more after wide_b (sym (ap (λ p. bytes_of p.tokens) at) ∙ e) spells ends list in
       end-missed refusable partial f c after (subst (λ r. EndsRecord partial r after) (sym one.1) ends) close
 
+  -- a cut is one for each longer input, so no record can stand ahead
+  cut-final : (a b : Ahead ℕ) → HasPositiveWidths a.tokens
+      → OneRow is_slice bytes refusable partial a (Fails (Cuts b)) → partial ≡ true
+      → ¬ (IsBegun (bytes_of a.tokens))
+  cut-final a b wide h p (more, (values, stands)) =
+      let lawful = IsParser-OneRow is_slice bytes stay refusable in
+      let far = lawful.stable (units more) partial a (Fails (Cuts b)) tt (subst (λ q. OneRow is_slice bytes refusable q a (Fails (Cuts b))) p h) in
+      let here : RecordAhead partial (bytes_of a.tokens ++ more) values [] = subst (λ q. RecordAhead q (bytes_of a.tokens ++ more) values []) (sym p) stands in
+      row-missed (Cuts (longer (units more) b)) (longer (units more) a) values [] (positive-both a.tokens (units more) wide (HasPositiveWidths-units more)) (subst (λ r. RecordAhead partial r values []) (sym (bytes-longer a.tokens more)) here) far
+
   -- ---- Answers
 
   -- the answer of a row is one that `IsAnswer` allows
@@ -113,7 +162,7 @@ module _ {S : Type 0} (is_slice : S → Source ℕ → ℕ → Type 0) (bytes : 
       → IsAnswer partial (bytes_of a.tokens) result (bytes_of b.tokens)
   answers a b (Ok row) wide h = row-given row a b wide h
   answers a b (Err (Backtrack e)) wide h = row-fails (Backtracks b) a wide h
-  answers a b (Err (Cut e)) wide h = row-fails (Cuts b) a wide h
+  answers a b (Err (Cut e)) wide h = (row-fails (Cuts b) a wide h, cut-final a b wide h)
   answers a b (Err (Incomplete n)) wide h = row-fails (Needs n) a wide h
   answers a b (Err (Refused r)) wide h = tt
 

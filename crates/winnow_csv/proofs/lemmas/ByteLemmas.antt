@@ -1,6 +1,6 @@
 -- Fields as bytes: how chunks between quotes make a quoted field, and that a field is spelled in
 -- one way.
-use Rattle.std.proofs.Common.{◌≡◌, ℕ, ◌≤◌, ◌==◌, Bool, true, false, List, [], ◌∷◌, ◌++◌, length, inl, inr, ap, sym, ◌∙◌, subst, refl, arith, append_assoc}
+use Rattle.std.proofs.Common.{◌≡◌, ◌≢◌, ℕ, ◌≤◌, ◌==◌, Bool, true, false, List, [], ◌∷◌, ◌++◌, length, inl, inr, ap, sym, ◌∙◌, subst, refl, arith, append_assoc}
 use Rattle.std.specs.Prelude.{⊤, cond}
 use Rattle.std.specs.List.{flat_map}
 use Rattle.std.proofs.lemmas.Bool.Decides.{nat_tests, eqb_tells}
@@ -35,6 +35,11 @@ tails x y xs ys e = ap tail e
 -- a list that is a number and a rest starts with the number
 pub begins : (n : ℕ) (r s : List ℕ) → r ≡ n ∷ s → StartsWith n r
 begins n r s e = subst (StartsWith n) (sym e) refl
+
+-- bytes with a byte among them are not nothing
+pub some : (xs ys : List ℕ) (y : ℕ) → xs ++ y ∷ ys ≢ []
+some [] ys y e = cc
+some (x ∷ xs) ys y e = cc
 
 -- the bytes begin with one of which the test holds
 abbrev pub Starts : (ℕ → Bool) → List ℕ → Type 0

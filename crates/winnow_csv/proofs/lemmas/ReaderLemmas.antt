@@ -23,8 +23,8 @@ use Rattle.winnow_csv.specs.Meanings.{IsParser-OneRow}
 use Rattle.winnow_csv.specs.Widths.{RowVec}
 use Rattle.winnow_csv.specs.Tables.{rows_in, AreRecords, HasNoRecord, IsDamagedAt}
 use Rattle.winnow_csv.specs.Reading.{RowInPieces, BeginsWith, FindsDamage}
-use Rattle.winnow_csv.proofs.lemmas.TokenLemmas.{positive-moved}
-use Rattle.winnow_csv.proofs.lemmas.TableLemmas.{record-shorter, bytes-same, cut-damaged}
+use Rattle.winnow_csv.proofs.lemmas.TokenLemmas.{positive-moved, bytes-units}
+use Rattle.winnow_csv.proofs.lemmas.TableLemmas.{record-shorter, cut-damaged}
 use Rattle.winnow_csv.proofs.lemmas.AnswerLemmas.{answers, gives-each}
 
 -- `RowInPieces` keeps the laws of a parser
@@ -71,8 +71,8 @@ pub read-records : {R : Type 0} (f : ReaderState R) (input : List ℕ) (rows : L
     → HasRead (λ r. RowInPieces) f input rows → BeginsWith f input rows
 read-records f input rows h more may =
     let far = reads-records rows (bytes_at 0 (input ++ more)) (bytes_at f.place (f.ahead ++ more)) (HasPositiveWidths-units (input ++ more)) (h.reads more false may) in
-    subst (λ xs. AreRecords xs (rows_in rows) (f.ahead ++ more)) (bytes-same (input ++ more))
-    (subst (λ ys. AreRecords (bytes_of (units (input ++ more))) (rows_in rows) ys) (bytes-same (f.ahead ++ more)) far)
+    subst (λ xs. AreRecords xs (rows_in rows) (f.ahead ++ more)) (bytes-units (input ++ more))
+    (subst (λ ys. AreRecords (bytes_of (units (input ++ more))) (rows_in rows) ys) (bytes-units (f.ahead ++ more)) far)
 
 -- nothing may follow
 none-follows : (ended : Bool) → MayFollow ended [] false
@@ -103,7 +103,7 @@ stops-damaged : (a b : Ahead ℕ) → HasPositiveWidths a.tokens → StopsAt Row
 stops-damaged a b wide (inl h) some =
     absurd (some (answers IsByteSlice (λ slice. slice.now) SlicesStay-bytes have-bytes ⊥ false a b backtracked wide h).0)
 stops-damaged a b wide (inr h) some =
-    cut-damaged (bytes_of a.tokens) (bytes_of b.tokens) (answers IsByteSlice (λ slice. slice.now) SlicesStay-bytes have-bytes ⊥ false a b cut wide h)
+    cut-damaged (bytes_of a.tokens) (bytes_of b.tokens) ((answers IsByteSlice (λ slice. slice.now) SlicesStay-bytes have-bytes ⊥ false a b cut wide h).0)
 
 -- where a record fails, the stream moved on
 stops-moved : (a b : Ahead ℕ) → StopsAt RowInPieces false a b → Moves a b
@@ -141,7 +141,7 @@ module _ {R : Type 0} (f : ReaderState R) (place : ℕ) (fails : FailsAt (λ r. 
   -- where a reader fails, no record stands ahead, no matter what follows
   fails-missed : (more : List ℕ) → MayFollow f.ended more false → HasNoRecord (f.ahead ++ more)
   fails-missed more may =
-      subst HasNoRecord (bytes-same (f.ahead ++ more))
+      subst HasNoRecord (bytes-units (f.ahead ++ more))
       (stops-missed (bytes_at f.place (f.ahead ++ more)) (bytes_at place (fails.0 ++ more)) (HasPositiveWidths-units (f.ahead ++ more)) (fails.1 more false may))
 
   -- and what does is damaged at the place that the reader gives
@@ -150,9 +150,9 @@ module _ {R : Type 0} (f : ReaderState R) (place : ℕ) (fails : FailsAt (λ r. 
   fails-broken some more may =
       let a = bytes_at f.place (f.ahead ++ more) in
       let b = bytes_at place (fails.0 ++ more) in
-      let damaged = stops-damaged a b (HasPositiveWidths-units (f.ahead ++ more)) (fails.1 more false may) (λ e. append-some f.ahead more some (sym (bytes-same (f.ahead ++ more)) ∙ e)) in
-      subst (λ xs. IsDamagedAt xs (fails.0 ++ more)) (bytes-same (f.ahead ++ more))
-      (subst (λ ys. IsDamagedAt (bytes_of a.tokens) ys) (bytes-same (fails.0 ++ more)) damaged)
+      let damaged = stops-damaged a b (HasPositiveWidths-units (f.ahead ++ more)) (fails.1 more false may) (λ e. append-some f.ahead more some (sym (bytes-units (f.ahead ++ more)) ∙ e)) in
+      subst (λ xs. IsDamagedAt xs (fails.0 ++ more)) (bytes-units (f.ahead ++ more))
+      (subst (λ ys. IsDamagedAt (bytes_of a.tokens) ys) (bytes-units (fails.0 ++ more)) damaged)
 
   -- that place is where as much follows as remains
   fails-place : f.place + length f.ahead ≡ place + length fails.0

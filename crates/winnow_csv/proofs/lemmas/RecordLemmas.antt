@@ -16,13 +16,13 @@ use Rattle.winnow_parser.specs.Meanings.{Preceded, CutOff}
 use Rattle.winnow_token.specs.OneOf.{IsParser-OneOf}
 use Rattle.winnow_combinator.specs.Repetition.{Taking, InTurn, FailsWith}
 use Rattle.winnow_combinator.specs.Separation.{Chained}
-use Rattle.winnow_csv.specs.Fields.{twice, doubled, SpellsField}
+use Rattle.winnow_csv.specs.Fields.{is_plain, twice, doubled, Each, SpellsField}
 use Rattle.winnow_csv.specs.Records.{SpellsMore, SpellsRecord, EndsRecord}
 use Rattle.winnow_csv.specs.Meanings.{Byte, AnyField, FieldList, RecordEnd, IsParser-AnyField}
 use Rattle.winnow_csv.specs.Answers.{bytes_of, values_of, StartsWith, IsUnclosed}
 use Rattle.winnow_csv.proofs.lemmas.ByteLemmas.{heads, tails, begins, doubled-others}
 use Rattle.winnow_csv.proofs.lemmas.TokenLemmas.{positive-moved, byte-given, byte-missing, taking-fails, after-positive}
-use Rattle.winnow_csv.proofs.lemmas.FieldLemmas.{none-left, IsOpen, FieldStands, FieldFails, StopsAt, field-spelled, field-once, IsRefusal, field-missed, field-given, field-fails}
+use Rattle.winnow_csv.proofs.lemmas.FieldLemmas.{none-left, IsOpen, IsClosedOnly, FieldStands, FieldFails, StopsAt, field-spelled, field-once, IsRefusal, field-missed, field-given, field-fails}
 
 -- ---- Ends
 
@@ -83,6 +83,10 @@ no-end-other partial r n m some after (inl f) = m (begins 13 r (10 ∷ after) f)
 no-end-other partial r n m some after (inr (inl f)) = n (begins 10 r after f)
 no-end-other partial r n m some after (inr (inr f)) = some f.0
 
+-- nothing stands here, or CR alone, so that a record may still end
+abbrev pub MayEnd : List ℕ → Type 0
+MayEnd r = (r ≡ []) ⊎ (r ≡ 13 ∷ [])
+
 module _ (refusable : Type 0) (partial : Bool) where
   -- an end that is given stands ahead
   pub end-given : (u : Unit {0}) (a b : Ahead ℕ) → RecordEnd refusable partial a (Gives u b)
@@ -97,12 +101,17 @@ module _ (refusable : Type 0) (partial : Bool) where
   abbrev pub EndFails : Ahead ℕ → Failed ℕ → Type 0
   EndFails a (Backtracks b) = NoEnd partial (bytes_of a.tokens) × (b ≡ a)
   EndFails a (Cuts b) = ⊥
-  EndFails a (Needs n) = (partial ≡ true) × NoEnd partial (bytes_of a.tokens)
+  EndFails a (Needs n) = (partial ≡ true) × NoEnd partial (bytes_of a.tokens) × MayEnd (bytes_of a.tokens)
   EndFails a Refuses = ⊤
 
   -- tokens without a byte among them are none
   some-bytes : (r : Source ℕ) → r ≢ [] → bytes_of r ≢ []
   some-bytes r n = λ e. n (none-left r e)
+
+  -- where nothing stands and more may follow, more is needed
+  needs-end : (a : Ahead ℕ) → a.tokens ≡ [] → partial ≡ true
+      → (partial ≡ true) × NoEnd partial (bytes_of a.tokens) × MayEnd (bytes_of a.tokens)
+  needs-end a e p = (p, no-end-empty partial (bytes_of a.tokens) p (ap bytes_of e), inl (ap bytes_of e))
 
   -- an end fails as `EndFails` says
   pub end-fails : (f : Failed ℕ) (a : Ahead ℕ) → RecordEnd refusable partial a (Fails f)
@@ -115,11 +124,14 @@ module _ (refusable : Type 0) (partial : Bool) where
   end-fails (Cuts b) a (inr (c, (n, inl (inl h)))) = h
   end-fails (Cuts b) a (inr (c, (n, inl (inr (x, (m, (h, k))))))) = k
   end-fails (Cuts b) a (inr (c, (n, inr (d, (m, h))))) = h
-  end-fails (Needs i) a (inl h) = (h.1, no-end-empty partial (bytes_of a.tokens) h.1 (ap bytes_of h.0))
-  end-fails (Needs i) a (inr (c, (n, inl (inl h)))) = (h.1, no-end-empty partial (bytes_of a.tokens) h.1 (ap bytes_of h.0))
-  end-fails (Needs i) a (inr (c, (n, inl (inr (x, (m, (h, k))))))) =
-      (k.1, no-end-return partial (bytes_of a.tokens) (bytes_of m.tokens) (byte-given 13 partial a m x h) (subst (λ r. ¬ (StartsWith 10 r)) (sym (ap bytes_of k.0)) (λ z. z)))
-  end-fails (Needs i) a (inr (c, (n, inr (d, (m, h))))) = (h.1, no-end-empty partial (bytes_of a.tokens) h.1 (ap bytes_of h.0))
+  end-fails (Needs i) a (inl h) = needs-end a h.0 h.1
+  end-fails (Needs i) a (inr (c, (n, inl (inl h)))) = needs-end a h.0 h.1
+  end-fails (Needs i) a (inr (c, (n, inl (inr (x, (m, (h, k))))))) = (
+    k.1,
+    no-end-return partial (bytes_of a.tokens) (bytes_of m.tokens) (byte-given 13 partial a m x h) (subst (λ r. ¬ (StartsWith 10 r)) (sym (ap bytes_of k.0)) (λ z. z)),
+    inr (byte-given 13 partial a m x h ∙ ap (λ t. 13 ∷ bytes_of t) k.0),
+  )
+  end-fails (Needs i) a (inr (c, (n, inr (d, (m, h))))) = needs-end a h.0 h.1
   end-fails Refuses a h = tt
 
   -- where a record ends, only refused memory makes the end fail
@@ -140,6 +152,13 @@ open-spelled r (t, (c, (e, others))) =
     let same : doubled t ++ c ≡ doubled (t ++ c) = ap (λ d. doubled t ++ d) (sym (doubled-others c others)) ∙ sym (flat_map-append twice t c) in
     (t ++ c, inr (ap (λ x. x ++ 34 ∷ []) e ∙ ap (λ x. 34 ∷ (x ++ 34 ∷ [])) same))
 
+-- a field to which more may belong is spelled once some bytes are added
+field-begun : (r : List ℕ) → IsOpen r ⊎ (IsClosedOnly r ⊎ Each is_plain r)
+    → (more : List ℕ) × ((value : List ℕ) × SpellsField value (r ++ more))
+field-begun r (inl is) = (34 ∷ [], open-spelled r is)
+field-begun r (inr (inl (t, e))) = ([], (t, inr (append-nil r ∙ e)))
+field-begun r (inr (inr h)) = ([], (r, inl (h, append-nil r)))
+
 -- one more field after fields with commas before them
 more-then : (ws : List (List ℕ)) (text value field : List ℕ) → SpellsMore ws text
     → SpellsField value field → SpellsMore (ws ++ value ∷ []) (text ++ 44 ∷ field)
@@ -148,6 +167,14 @@ more-then (w ∷ ws) text value field (t, (m, (e, spells, more))) h =
     (t, (m ++ 44 ∷ field, (ap (λ t. t ++ 44 ∷ field) e ∙ ap (λ t. 44 ∷ t) (append_assoc t m (44 ∷ field)), spells, more-then ws m value field more h)))
 
 -- ---- Lists of fields
+
+-- with these bytes after them, the bytes spell a record
+abbrev pub AreSpelled : List ℕ → List ℕ → Type 0
+AreSpelled r more = (values : List (List ℕ)) × SpellsRecord values (r ++ more)
+
+-- with some bytes after them, the bytes spell a record
+abbrev pub AreBegun : List ℕ → Type 0
+AreBegun r = (more : List ℕ) × AreSpelled r more
 
 -- the values of some fields
 abbrev items_of : List (Vec ℕ Global) → List (List ℕ)
@@ -261,38 +288,35 @@ module _ {S : Type 0} (is_slice : S → Source ℕ → ℕ → Type 0) (bytes : 
         ),
       )
 
-  -- a list of fields fails where a field is not closed, or where more may follow
+  -- a list of fields fails where a field is not closed, or where more may follow and complete it
   abbrev pub ListFails : Ahead ℕ → Failed ℕ → Type 0
   ListFails a (Backtracks b) = ⊥
   ListFails a (Cuts b) = IsUnclosed (bytes_of a.tokens) × (bytes_of b.tokens ≡ []) × (partial ≡ false)
-  ListFails a (Needs n) = partial ≡ true
+  ListFails a (Needs n) = (partial ≡ true) × AreBegun (bytes_of a.tokens)
   ListFails a Refuses = ⊤
 
-  -- a first field that is not closed
-  first-unclosed : (r : List ℕ) → IsOpen r → IsUnclosed r
-  first-unclosed r is =
-      let one = open-spelled r is in
-      (one.0 ∷ [], (r ++ 34 ∷ [], ([], (sym (append-nil (r ++ 34 ∷ [])), one.1, refl))))
+  -- a first field that some more bytes complete
+  first-completed : (r more value : List ℕ) → SpellsField value (r ++ more) → AreSpelled r more
+  first-completed r more value h = (value ∷ [], (r ++ more, ([], (sym (append-nil (r ++ more)), h, refl))))
 
-  -- a later field that is not closed
-  next-unclosed : (value : List ℕ) (ws : List (List ℕ)) (r text more s : List ℕ)
-      → r ≡ text ++ (more ++ 44 ∷ s) → SpellsField value text → SpellsMore ws more → IsOpen s
-      → IsUnclosed r
-  next-unclosed value ws r text more s e first spelled is =
-      let one = open-spelled s is in (
-        value ∷ (ws ++ one.0 ∷ []),
+  -- a later field that some more bytes complete
+  next-completed : (value : List ℕ) (ws : List (List ℕ)) (r text others s more field : List ℕ)
+      → r ≡ text ++ (others ++ 44 ∷ s) → SpellsField value text → SpellsMore ws others
+      → SpellsField field (s ++ more) → AreSpelled r more
+  next-completed value ws r text others s more field e first spelled h = (
+    value ∷ (ws ++ field ∷ []),
+    (
+      text,
+      (
+        others ++ 44 ∷ (s ++ more),
         (
-          text,
-          (
-            more ++ 44 ∷ (s ++ 34 ∷ []),
-            (
-              ap (λ t. t ++ 34 ∷ []) e ∙ append_assoc text (more ++ 44 ∷ s) (34 ∷ []) ∙ ap (λ t. text ++ t) (append_assoc more (44 ∷ s) (34 ∷ [])),
-              first,
-              more-then ws more one.0 (s ++ 34 ∷ []) spelled one.1,
-            ),
-          ),
+          ap (λ t. t ++ more) e ∙ append_assoc text (others ++ 44 ∷ s) more ∙ ap (λ t. text ++ t) (append_assoc others (44 ∷ s) more),
+          first,
+          more-then ws others field (s ++ more) spelled h,
         ),
-      )
+      ),
+    ),
+  )
 
   -- a list of fields fails as `ListFails` says
   pub list-fails : (f : Failed ℕ) (a : Ahead ℕ) → HasPositiveWidths a.tokens
@@ -301,24 +325,46 @@ module _ {S : Type 0} (is_slice : S → Source ℕ → ℕ → Type 0) (bytes : 
   list-fails (Backtracks b) a wide (inr (x, (m, (h, (xs, (c, (turns, below, (few, k)))))))) = absurd (omega (arith, few))
   list-fails (Cuts b) a wide (inl h) =
       let fails = field-fails is_slice bytes stay have partial refusable (Cuts b) a wide h in
-      (first-unclosed (bytes_of a.tokens) fails.0, fails.1, fails.2)
+      let one = open-spelled (bytes_of a.tokens) fails.0 in
+      (first-completed (bytes_of a.tokens) (34 ∷ []) one.0 one.1, fails.1, fails.2)
   list-fails (Cuts b) a wide (inr (x, (m, (h, (xs, (c, (turns, below, (few, k)))))))) =
       let first = first-spelled x a m wide h in
       let on = nexts-spelled xs m c (field-positive x a m wide h) turns in
       elim (next-fails (Cuts b) c on.1.2 k) [
         | inl n ↦ absurd n
-        | inr o ↦ (
-          next-unclosed x.items (items_of xs) (bytes_of a.tokens) first.0 on.0 o.0 (first.1.0 ∙ ap (λ r. first.0 ++ r) (on.1.0 ∙ ap (λ r. on.0 ++ r) o.1.0)) first.1.1 on.1.1 o.1.1.0,
-          o.1.1.1,
-          o.1.1.2,
-        )
+        | inr o ↦
+            let one = open-spelled o.0 o.1.1.0 in (
+              next-completed x.items (items_of xs) (bytes_of a.tokens) first.0 on.0 o.0 (34 ∷ []) one.0 (first.1.0 ∙ ap (λ r. first.0 ++ r) (on.1.0 ∙ ap (λ r. on.0 ++ r) o.1.0)) first.1.1 on.1.1 one.1,
+              o.1.1.1,
+              o.1.1.2,
+            )
       ]
-  list-fails (Needs n) a wide (inl h) = (field-fails is_slice bytes stay have partial refusable (Needs n) a wide h).0
+  list-fails (Needs n) a wide (inl h) =
+      let fails = field-fails is_slice bytes stay have partial refusable (Needs n) a wide h in
+      let one = field-begun (bytes_of a.tokens) fails.1 in
+      (fails.0, (one.0, first-completed (bytes_of a.tokens) one.0 one.1.0 one.1.1))
   list-fails (Needs n) a wide (inr (x, (m, (h, (xs, (c, (turns, below, (few, k)))))))) =
+      let first = first-spelled x a m wide h in
       let on = nexts-spelled xs m c (field-positive x a m wide h) turns in
       elim (next-fails (Needs n) c on.1.2 k) [
-        | inl o ↦ o.1
-        | inr o ↦ o.1.1.0
+        | inl o ↦ (
+          o.1,
+          (
+            [],
+            (
+              x.items ∷ items_of xs,
+              (first.0, (on.0, (append-nil (bytes_of a.tokens) ∙ first.1.0 ∙ ap (λ r. first.0 ++ r) (on.1.0 ∙ ap (λ r. on.0 ++ r) o.0 ∙ append-nil on.0), first.1.1, on.1.1))),
+            ),
+          ),
+        )
+        | inr o ↦
+            let one = field-begun o.0 o.1.1.1 in (
+              o.1.1.0,
+              (
+                one.0,
+                next-completed x.items (items_of xs) (bytes_of a.tokens) first.0 on.0 o.0 one.0 one.1.0 (first.1.0 ∙ ap (λ r. first.0 ++ r) (on.1.0 ∙ ap (λ r. on.0 ++ r) o.1.0)) first.1.1 on.1.1 one.1.1,
+              ),
+            )
       ]
   list-fails Refuses a wide h = tt
 

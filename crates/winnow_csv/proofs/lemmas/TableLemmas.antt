@@ -2,9 +2,8 @@
 use Rattle.std.proofs.Common.{◌≡◌, ◌≢◌, ℕ, ◌<◌, ◌≤◌, false, List, [], ◌∷◌, ◌++◌, length, inl, inr, ap, sym, ◌∙◌, subst, refl, arith, length-append}
 use Rattle.std.specs.Prelude.{◌⊎◌}
 use Rattle.std.proofs.lemmas.List.{map_push}
-use Rattle.winnow_stream.specs.Source.{units}
 use Rattle.winnow_csv.specs.Records.{EndsRecord, RecordAhead}
-use Rattle.winnow_csv.specs.Answers.{bytes_of, values_of, BreaksOff, IsUnclosed}
+use Rattle.winnow_csv.specs.Answers.{values_of, BreaksOff, IsUnclosed}
 use Rattle.winnow_csv.specs.Widths.{RowVec}
 use Rattle.winnow_csv.specs.Tables.{rows_in, AreRecords, IsDamagedAt}
 
@@ -37,11 +36,6 @@ pub records-within : (bytes rest : List ℕ) (rows : List (List (List ℕ)))
     → AreRecords bytes rows rest → length rest ≤ length bytes
 records-within bytes rest [] e = omega (arith, ap length e)
 records-within bytes rest (row ∷ rows) h = omega (arith, record-shorter bytes h.0 row h.1.0, records-within h.0 rest rows h.1.1)
-
--- the bytes of some bytes as tokens
-pub bytes-same : (xs : List ℕ) → bytes_of (units xs) ≡ xs
-bytes-same [] = refl
-bytes-same (x ∷ xs) = ap (λ l. x ∷ l) (bytes-same xs)
 
 -- where a record is cut, it is damaged at the rest
 pub cut-damaged : (bytes rest : List ℕ)

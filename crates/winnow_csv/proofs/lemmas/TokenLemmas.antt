@@ -85,7 +85,7 @@ each-held holds [] h = tt
 each-held holds (x ∷ xs) h = (h.0, each-held holds xs h.1)
 
 -- the bytes of some bytes as tokens
-bytes-units : (xs : List ℕ) → bytes_of (units xs) ≡ xs
+pub bytes-units : (xs : List ℕ) → bytes_of (units xs) ≡ xs
 bytes-units [] = refl
 bytes-units (x ∷ xs) = ap (λ l. x ∷ l) (bytes-units xs)
 

@@ -1,5 +1,5 @@
 -- What is written spells the record, and is read back.
-use Rattle.std.proofs.Common.{◌≡◌, ◌≢◌, ℕ, ◌+◌, ◌<◌, ◌≤◌, Bool, true, false, List, [], ◌∷◌, ◌++◌, length, take, get_or, inl, inr, ap, sym, ◌∙◌, refl, arith, append_assoc}
+use Rattle.std.proofs.Common.{◌≡◌, ℕ, ◌+◌, ◌<◌, ◌≤◌, Bool, true, false, List, [], ◌∷◌, ◌++◌, length, take, get_or, inl, inr, ap, sym, ◌∙◌, refl, arith, append_assoc}
 use Rattle.std.specs.Prelude.{◌||◌, not, cond}
 use Rattle.std.specs.List.{flat_map, list_any}
 use Rattle.std.specs.declared.vec.Vec.{Vec}
@@ -8,6 +8,7 @@ use Rattle.std.proofs.lemmas.List.{take_more, map_push, flat_map_more}
 use Rattle.winnow_csv.specs.Fields.{is_special, is_plain, doubled, Each, SpellsField}
 use Rattle.winnow_csv.specs.Records.{SpellsMore}
 use Rattle.winnow_csv.specs.Writing.{values_in, written_field, written_record, IsReadBack}
+use Rattle.winnow_csv.proofs.lemmas.ByteLemmas.{some}
 
 -- where neither of two holds, each does not hold
 or-false : (b c : Bool) → (b || c) ≡ false → (b ≡ false) × (c ≡ false)
@@ -36,11 +37,6 @@ more-written : (values : List (List ℕ))
 more-written [] = refl
 more-written (value ∷ values) =
     (written_field value, (flat_map (λ next. 44 ∷ written_field next) values, (refl, field-written value, more-written values)))
-
--- bytes with a byte among them are not nothing
-some : (xs ys : List ℕ) (y : ℕ) → xs ++ y ∷ ys ≢ []
-some [] ys y e = cc
-some (x ∷ xs) ys y e = cc
 
 -- a record that is written is read back, no matter what follows it
 pub read-back : (row : List (Vec ℕ Global)) → 1 ≤ length row

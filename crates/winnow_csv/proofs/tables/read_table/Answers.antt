@@ -16,7 +16,7 @@ pub overflow_sub-offset : goal.overflow_sub-offset
 overflow_sub-offset c =
     let begun = c.loop-row.input.now in
     let rest = c.next_row.new.input.now in
-    let cut = rw c.in-Err-Cut.field-0-is at c.in-Err-Cut.ensures.answer in
+    let cut = (rw c.in-Err-Cut.field-0-is at c.in-Err-Cut.ensures.answer).0 in
     omega (arith, records-within c.args.text.now begun (rows_in c.loop-row.table.items) c.loop-row.invariant, damaged-within begun rest (cut-damaged begun rest cut))
 
 pub returns-in-Err-Cut-clause-damaged : goal.returns-in-Err-Cut-clause-damaged
@@ -24,7 +24,7 @@ returns-in-Err-Cut-clause-damaged c =
     let begun = c.loop-row.input.now in
     let rest = c.next_row.new.input.now in
     let items = c.loop-row.table.items in
-    let cut = rw c.in-Err-Cut.field-0-is at c.in-Err-Cut.ensures.answer in
+    let cut = (rw c.in-Err-Cut.field-0-is at c.in-Err-Cut.ensures.answer).0 in
     let none = rw c.in-Err-Cut.field-0-is at c.in-Err-Cut.ensures.complete in (
       rows_in items,
       (
