@@ -4,5 +4,6 @@ pub mod YieldLemmas
 pub mod AcceptLemmas
 pub mod NumberLemmas
 pub mod ReplyLemmas
+pub mod DamageLemmas
 pub mod AnswerLemmas
 pub mod WritingLemmas

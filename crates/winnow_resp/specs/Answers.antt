@@ -1,21 +1,14 @@
 -- The answers of a reader of replies, in the words of the protocol.
-use Rattle.std.specs.Prelude.{◌≡◌, ℕ, Bool, true, List, ◌++◌, map, Result, Ok, Err, IfSome, IsFalse, ⊤}
-use Rattle.winnow_stream.specs.Source.{Source, first_token}
+use Rattle.std.specs.Prelude.{◌≡◌, ℕ, Bool, true, false, List, [], ◌++◌, Result, Ok, Err, ⊤}
+use Rattle.winnow_stream.specs.Source.{Source, units}
 use Rattle.winnow_stream.specs.declared.needed.Needed.{Needed}
 use Rattle.winnow_parser.specs.declared.failure.Failure.{Failure}
 use Rattle.winnow_parser.specs.declared.failure.Failure.TheVariants.{Incomplete, Backtrack, Cut, Refused}
 use Rattle.winnow_resp.specs.Replies.{Spells}
 use Rattle.winnow_resp.specs.Contents.{contents}
-use Rattle.winnow_resp.specs.Grammar.{is_kind}
+use Rattle.winnow_resp.specs.Ahead.{IsAhead}
+use Rattle.winnow_resp.specs.Damage.{HasNoKind, StopsAt, BreaksOff}
 use Rattle.winnow_resp.specs.declared.reply.Reply.{Reply}
-
--- the bytes of a source
-abbrev pub bytes_of : Source ℕ → List ℕ
-bytes_of r = map (λ x. x.0) r
-
--- the source is these bytes, and then the rest
-abbrev pub IsAhead : Source ℕ → List ℕ → Source ℕ → Type 0
-IsAhead whole bytes rest = (front : Source ℕ) × ((whole ≡ front ++ rest) × (bytes_of front ≡ bytes))
 
 -- the source begins with bytes that spell the reply, and then the rest
 abbrev pub StandsAhead : ℕ → ℕ → Source ℕ → Reply → Source ℕ → Type 0
@@ -26,16 +19,28 @@ StandsAhead longest depth whole reply rest =
 abbrev pub HasNoReply : ℕ → ℕ → Source ℕ → Type 0
 HasNoReply longest depth whole = (reply : Reply) (rest : Source ℕ) → ¬ (StandsAhead longest depth whole reply rest)
 
--- the answer is a reply that stands ahead, with what remains; or none stands ahead, and the answer
--- is a backtrack where the first byte is that of no kind, and nothing is taken; or a cut; or more
--- input is needed, where more may follow; or memory was refused
+-- more input can make a reply of what stands ahead
+abbrev pub IsBegun : ℕ → ℕ → Source ℕ → Type 0
+IsBegun longest depth whole = (more : List ℕ) × ((reply : Reply) × StandsAhead longest depth (whole ++ units more) reply [])
+
+-- the source does not begin with a reply within the limits, and no input that may follow makes one
+abbrev pub CannotBeReply : ℕ → ℕ → Bool → Source ℕ → Type 0
+CannotBeReply longest depth partial whole =
+    HasNoReply longest depth whole × (partial ≡ true → ¬ (IsBegun longest depth whole))
+
+-- the answer is a reply that stands ahead, with what remains; or none does and none can, and the
+-- answer is a backtrack where the first byte is that of no kind, and nothing is taken, or a cut
+-- where a reply breaks off at what remains; or more input is needed, where more may follow and a
+-- reply breaks off at the end; or memory was refused
 abbrev pub IsAnswer : {E : Type 0} → ℕ → ℕ → Bool → Source ℕ → Result Reply (Failure E Needed)
     → Source ℕ → Type 0
 IsAnswer longest depth partial whole (Ok reply) rest = StandsAhead longest depth whole reply rest
 IsAnswer longest depth partial whole (Err (Backtrack e)) rest =
-    HasNoReply longest depth whole × IfSome (first_token whole) (λ c. IsFalse (is_kind c)) × (whole ≡ rest)
-IsAnswer longest depth partial whole (Err (Cut e)) rest = HasNoReply longest depth whole
-IsAnswer longest depth partial whole (Err (Incomplete n)) rest = HasNoReply longest depth whole × (partial ≡ true)
+    CannotBeReply longest depth partial whole × HasNoKind whole × (whole ≡ rest)
+IsAnswer longest depth partial whole (Err (Cut e)) rest =
+    CannotBeReply longest depth partial whole × BreaksOff false longest depth whole rest
+IsAnswer longest depth partial whole (Err (Incomplete n)) rest =
+    HasNoReply longest depth whole × (partial ≡ true) × StopsAt (BreaksOff true longest depth) whole []
 IsAnswer longest depth partial whole (Err (Refused e)) rest = ⊤
 
 -- the answer is a reply with the contents of this one, and with this rest after it, unless memory

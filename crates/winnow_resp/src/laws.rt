@@ -2,7 +2,8 @@ ghost use Rattle.std.specs.Prelude.{◌≡◌, ℕ, true, List};
 ghost use Rattle.winnow_stream.specs.Source.{Source};
 ghost use Rattle.winnow_resp.specs.Replies.{Spells};
 ghost use Rattle.winnow_resp.specs.Writing.{is_writable, written, IsWithin};
-ghost use Rattle.winnow_resp.specs.Answers.{IsAhead, StandsAhead};
+ghost use Rattle.winnow_resp.specs.Ahead.{IsAhead};
+ghost use Rattle.winnow_resp.specs.Answers.{StandsAhead};
 ghost use Rattle.winnow_resp.specs.declared.reply.Reply.{Reply};
 
 /// The law of spelling: what is written for a reply within limits spells it, nothing else does, and

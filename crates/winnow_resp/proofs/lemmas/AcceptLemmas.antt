@@ -19,7 +19,7 @@ use Rattle.winnow_token.specs.Counted.{Counted}
 use Rattle.winnow_combinator.specs.Gathering.{Gathered}
 use Rattle.winnow_resp.specs.Replies.{line_end, is_in_line, AreInLine, IsText, line, IsInteger, IsLength}
 use Rattle.winnow_resp.specs.Grammar.{most_digits, LineEnd, Line, Text, Number, Length, Bytes, HasBytes}
-use Rattle.winnow_resp.specs.Answers.{bytes_of, IsAhead}
+use Rattle.winnow_resp.specs.Ahead.{bytes_of, IsAhead}
 use Rattle.winnow_resp.proofs.lemmas.AheadLemmas.{itself, ahead-split, ahead-wide, ahead-first, ahead-none, length-bytes_of, take-seam}
 use Rattle.winnow_resp.proofs.lemmas.YieldLemmas.{slice-taken}
 

@@ -4,7 +4,7 @@ use Rattle.std.proofs.lemmas.List.{map-append}
 use Rattle.winnow_stream.specs.Source.{Source, width, units, HasPositiveWidths}
 use Rattle.winnow_stream.specs.Front.{front, back}
 use Rattle.winnow_stream.proofs.lemmas.FrontLemmas.{width-append, count_to-seam}
-use Rattle.winnow_resp.specs.Answers.{bytes_of, IsAhead}
+use Rattle.winnow_resp.specs.Ahead.{bytes_of, IsAhead}
 
 -- the code of a byte
 abbrev pub itself : ℕ → ℕ

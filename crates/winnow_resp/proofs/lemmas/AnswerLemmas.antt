@@ -1,21 +1,44 @@
 -- The answers of the reader, from the meaning of the parser.
-use Rattle.std.proofs.Common.{◌≡◌, ℕ, zero, suc, Bool, true, false, List, inl, inr, Some, None, ap, sym, subst, refl}
+use Rattle.std.proofs.Common.{◌≡◌, ℕ, zero, suc, Bool, true, false, List, [], ◌∷◌, ◌++◌, inl, inr, Some, None, ap, sym, subst, refl}
 use Rattle.std.specs.Prelude.{Result, Ok, Err}
-use Rattle.winnow_stream.specs.Source.{Source, HasPositiveWidths}
+use Rattle.winnow_stream.specs.Source.{Source, units, HasPositiveWidths}
+use Rattle.winnow_stream.specs.Units.{HasPositiveWidths-units}
 use Rattle.winnow_stream.specs.Longer.{SlicesStay}
 use Rattle.winnow_stream.specs.SliceBytes.{SlicesHaveBytes}
 use Rattle.winnow_stream.specs.declared.needed.Needed.{Needed}
 use Rattle.winnow_parser.specs.Outcome.{Ahead, Failed, Backtracks, Cuts, Needs, Refuses, Gives, Fails, Meaning}
+use Rattle.winnow_parser.specs.Laws.{longer, failed_longer, IsDecided}
 use Rattle.winnow_parser.specs.Answer.{outcome}
 use Rattle.winnow_parser.specs.declared.failure.Failure.{Failure}
 use Rattle.winnow_parser.specs.declared.failure.Failure.TheVariants.{Incomplete, Backtrack, Cut, Refused}
 use Rattle.winnow_token.specs.OneOf.{OneOf}
 use Rattle.winnow_combinator.specs.Ending.{Failing}
 use Rattle.winnow_resp.specs.Grammar.{is_kind, BulkOf, ArrayOf, Body, Layer, Nested, IsParser-Nested}
-use Rattle.winnow_resp.specs.Answers.{HasNoReply, IsAnswer, GivesEach}
+use Rattle.winnow_resp.specs.Answers.{HasNoReply, IsBegun, CannotBeReply, IsAnswer, GivesEach}
 use Rattle.winnow_resp.specs.declared.reply.Reply.{Reply}
 use Rattle.winnow_resp.proofs.lemmas.AheadLemmas.{itself}
 use Rattle.winnow_resp.proofs.lemmas.ReplyLemmas.{yields-nested, reads-nested}
+use Rattle.winnow_resp.proofs.lemmas.DamageLemmas.{nested-stops}
+
+-- sources in a row have positive widths if both do
+wide-both : (xs ys : Source ℕ) → HasPositiveWidths xs → HasPositiveWidths ys
+    → HasPositiveWidths (xs ++ ys)
+wide-both [] ys h k = k
+wide-both (x ∷ xs) ys h k = (h.0, wide-both xs ys h.1 k)
+
+-- a decided failure is no refusal
+decided-other : (f : Failed ℕ) → IsDecided f → ¬ (f ≡ Refuses)
+decided-other (Backtracks b) h e = cc
+decided-other (Cuts b) h e = cc
+decided-other (Needs n) h e = h
+decided-other Refuses h e = h
+
+-- nor is the same failure of a longer input
+still-decided : (more : Source ℕ) (f : Failed ℕ) → IsDecided f → ¬ (failed_longer more f ≡ Refuses)
+still-decided more (Backtracks b) h e = cc
+still-decided more (Cuts b) h e = cc
+still-decided more (Needs n) h e = h
+still-decided more Refuses h e = h
 
 module _ {S : Type 0} (counts_missing : Bool) (is_slice : S → Source ℕ → ℕ → Type 0) (stay : SlicesStay is_slice) (bytes : S → List ℕ) (have : SlicesHaveBytes is_slice bytes) where
   -- where the parser fails, but not by a refusal, no reply stands ahead
@@ -25,6 +48,24 @@ module _ {S : Type 0} (counts_missing : Bool) (is_slice : S → Source ℕ → �
       → ¬ (f ≡ Refuses) → HasNoReply longest depth a.tokens
   none-stands longest depth partial a f wide h other = λ y s stands.
       other (reads-nested counts_missing is_slice bytes have longest depth y stands.0 stands.1.1 a.tokens s wide stands.1.0 partial a (Fails f) refl h)
+
+  -- a decided failure is one for each longer input, so no reply can stand ahead
+  none-can : (longest depth : ℕ) (partial : Bool) (a : Ahead ℕ) (f : Failed ℕ)
+      → HasPositiveWidths a.tokens
+      → Nested itself counts_missing is_slice bytes longest depth partial a (Fails f) → IsDecided f
+      → partial ≡ true → ¬ (IsBegun longest depth a.tokens)
+  none-can longest depth partial a f wide h decided p (more, (reply, stands)) =
+      let lawful = IsParser-Nested itself counts_missing is_slice bytes stay longest depth in
+      let far = lawful.stable (units more) true a (Fails f) decided (subst (λ q. Nested itself counts_missing is_slice bytes longest depth q a (Fails f)) p h) in
+      none-stands longest depth true (longer (units more) a) (failed_longer (units more) f) (wide-both a.tokens (units more) wide (HasPositiveWidths-units more)) far (still-decided (units more) f decided) reply [] stands
+
+  -- so no reply stands ahead, whatever follows
+  none-ever : (longest depth : ℕ) (partial : Bool) (a : Ahead ℕ) (f : Failed ℕ)
+      → HasPositiveWidths a.tokens
+      → Nested itself counts_missing is_slice bytes longest depth partial a (Fails f) → IsDecided f
+      → CannotBeReply longest depth partial a.tokens
+  none-ever longest depth partial a f wide h decided =
+      (none-stands longest depth partial a f wide h (decided-other f decided), none-can longest depth partial a f wide h decided)
 
   -- what follows the byte of a kind never backtracks
   body-holds : (longest kind : ℕ) (inner : Meaning Reply ℕ) (partial : Bool) (a b : Ahead ℕ)
@@ -70,11 +111,23 @@ module _ {S : Type 0} (counts_missing : Bool) (is_slice : S → Source ℕ → �
   answers longest depth partial a b (Ok y) wide h =
       let k = yields-nested counts_missing is_slice bytes have longest depth partial a b y wide h in (k.0, (k.1.0, k.1.1))
   answers longest depth partial a b (Err (Backtrack e)) wide h =
-      let kind = nested-backtracks longest depth partial a b h in
-      (none-stands longest depth partial a (Backtracks b) wide h (λ e. cc), kind.0, ap (λ s. s.tokens) (sym kind.2))
-  answers longest depth partial a b (Err (Cut e)) wide h = none-stands longest depth partial a (Cuts b) wide h (λ e. cc)
-  answers longest depth partial a b (Err (Incomplete n)) wide h =
-      (none-stands longest depth partial a (Needs n) wide h (λ e. cc), needs-more longest depth partial a n h)
+      let first = nested-backtracks longest depth partial a b h in
+      (none-ever longest depth partial a (Backtracks b) wide h tt, first.0, ap (λ s. s.tokens) (sym first.2))
+  answers longest depth partial a b (Err (Cut e)) wide h = (
+    none-ever longest depth partial a (Cuts b) wide h tt,
+    elim (nested-stops counts_missing is_slice bytes have longest depth partial (Cuts b) a wide h) [
+      | inl k ↦ absurd k.0
+      | inr k ↦ k
+    ],
+  )
+  answers longest depth partial a b (Err (Incomplete n)) wide h = (
+    none-stands longest depth partial a (Needs n) wide h (λ e. cc),
+    needs-more longest depth partial a n h,
+    elim (nested-stops counts_missing is_slice bytes have longest depth partial (Needs n) a wide h) [
+      | inl k ↦ inl k.1
+      | inr k ↦ inr k
+    ],
+  )
   answers longest depth partial a b (Err (Refused e)) wide h = tt
 
   -- each reply that stands ahead is given

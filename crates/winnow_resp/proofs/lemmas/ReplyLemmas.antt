@@ -16,7 +16,7 @@ use Rattle.winnow_combinator.specs.Repetition.{Repeated, Taking, InTurn}
 use Rattle.winnow_combinator.specs.Gathering.{Gathered}
 use Rattle.winnow_resp.specs.Replies.{line, no_length, IsText, IsInteger, IsLength, greatest_count, SpellAll, SpellsLayer, SpellsNone, Spells}
 use Rattle.winnow_resp.specs.Grammar.{IsSimple, IsError, IsNumber, IsBulk, IsNullBulk, IsArray, IsNullArray, is_kind, HasReplies, IsSame, IsCode, Text, Number, Length, Bytes, BulkOf, BulkString, Elements, ArrayOf, ArrayReply, Body, Layer, Nested}
-use Rattle.winnow_resp.specs.Answers.{IsAhead}
+use Rattle.winnow_resp.specs.Ahead.{IsAhead}
 use Rattle.winnow_resp.specs.Contents.{Value, simple, error, integer, bulk, array, values_of, layer_contents, contents}
 use Rattle.winnow_resp.specs.declared.reply.Reply.{Reply, map-Reply}
 use Rattle.winnow_resp.specs.declared.reply.Reply.TheOpen.{Reply-F, Simple, Error, Integer, Bulk, NullBulk, Array, NullArray}
@@ -28,7 +28,7 @@ use Rattle.winnow_resp.proofs.lemmas.YieldLemmas.{Stands, Yields, yields-one, yi
 use Rattle.winnow_resp.proofs.lemmas.AcceptLemmas.{Reads, reads-weaker, reads-one, reads-continued, reads-maps, reads-gathered, reads-cut, reads-returns, reads-text, reads-number, reads-length, reads-bytes}
 
 -- the list begins with some number
-abbrev Begins : List ℕ → Type 0
+abbrev pub Begins : List ℕ → Type 0
 Begins t = (c : ℕ) × ((u : List ℕ) × (t ≡ c ∷ u))
 
 -- the bytes of a reply begin with a byte
@@ -100,8 +100,8 @@ module _ {S : Type 0} (counts_missing : Bool) (is_slice : S → Source ℕ → �
 
   module _ (longest : ℕ) (spells : Reply → List ℕ → Type 0) (inner : Meaning Reply ℕ) (one : Yields inner spells) where
     -- replies that are given in turn stand one after the other
-    turns-stand : (partial : Bool) (xs : List Reply) (a b : Ahead ℕ) → HasPositiveWidths a.tokens
-        → InTurn (Taking inner) partial xs a b → Stands (SpellAll spells) a.tokens xs b.tokens
+    pub turns-stand : (partial : Bool) (xs : List Reply) (a b : Ahead ℕ)
+        → HasPositiveWidths a.tokens → InTurn (Taking inner) partial xs a b → Stands (SpellAll spells) a.tokens xs b.tokens
     turns-stand partial [] a b wide e = ([], (ahead-nothing _ _ (ap (λ s. s.tokens) e), refl))
     turns-stand partial (x ∷ xs) a b wide h =
         let c = h.0 in
@@ -430,7 +430,8 @@ module _ {S : Type 0} (counts_missing : Bool) (is_slice : S → Source ℕ → �
     reads-layer NullArray t h = subst (LayerIsRead NullArray) (sym h) (reads-kind (line no_length) (λ y. Says NullArray (out-Reply y) (42 ∷ line no_length)) 42 refl (body-array (line no_length) (λ y. Says NullArray (out-Reply y) (42 ∷ line no_length)) reads-null_array))
 
   -- a reply begins with a byte
-  spells-begins : (longest depth : ℕ) (y : Reply) (t : List ℕ) → Spells longest depth y t → Begins t
+  pub spells-begins : (longest depth : ℕ) (y : Reply) (t : List ℕ) → Spells longest depth y t
+      → Begins t
   spells-begins longest zero y t h = layer-begins longest SpellsNone (out-Reply y) t h
   spells-begins longest (suc depth) y t h = layer-begins longest (Spells longest depth) (out-Reply y) t h
 

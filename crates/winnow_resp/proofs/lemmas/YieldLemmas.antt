@@ -1,22 +1,24 @@
 -- Which bytes stand where a parser gives a value.
-use Rattle.std.proofs.Common.{◌≡◌, ℕ, zero, suc, ◌≤◌, ◌==◌, Bool, true, List, [], ◌∷◌, ◌++◌, length, take, drop, Some, ap, sym, ◌∙◌, subst, refl, arith, append_assoc, take-append-drop}
-use Rattle.std.specs.Prelude.{IsTrue}
+use Rattle.std.proofs.Common.{◌≡◌, ℕ, zero, suc, ◌<◌, ◌≤◌, ◌==◌, nat_le, nat_lt, Bool, true, false, ◌&&◌, List, [], ◌∷◌, ◌++◌, length, take, drop, inl, inr, Option, Some, None, ap, sym, ◌∙◌, subst, refl, arith, append_assoc, take-append-drop}
+use Rattle.std.specs.Prelude.{IsTrue, IfSome, ◌⊎◌}
 use Rattle.std.proofs.lemmas.Bool.Decides.{nat_tests}
+use Rattle.std.proofs.lemmas.List.{append-nil}
 use Rattle.std.proofs.lemmas.Option.{none-some, same_Some}
 use Rattle.winnow_stream.specs.Source.{Source, width, first_token, held_front, HoldsAll, HasPositiveWidths}
 use Rattle.winnow_stream.specs.Front.{is_offset, front, back}
 use Rattle.winnow_stream.specs.SliceBytes.{SlicesHaveBytes}
-use Rattle.winnow_stream.proofs.lemmas.HeldLemmas.{append-held_front, HoldsAll-held_front}
+use Rattle.winnow_stream.proofs.lemmas.HeldLemmas.{append-held_front, HoldsAll-held_front, next-held_front, all-held_front}
 use Rattle.winnow_count.specs.Reading.{IsSomeExactly}
 use Rattle.winnow_parser.specs.Outcome.{Ahead, Gives, Meaning}
 use Rattle.winnow_parser.specs.Meanings.{Maps, Pair, Terminated, CutOff, Chosen}
 use Rattle.winnow_parser.specs.Continued.{Continued}
 use Rattle.winnow_token.specs.OneOf.{OneOf}
-use Rattle.winnow_token.specs.Held.{HeldFront, is_offset-within}
+use Rattle.winnow_token.specs.Held.{HeldFront, held_within, may_grow, is_offset-within}
 use Rattle.winnow_token.specs.Counted.{Counted}
 use Rattle.winnow_resp.specs.Replies.{line_end, is_in_line, AreInLine, IsText, line, IsInteger, IsLength}
 use Rattle.winnow_resp.specs.Grammar.{most_digits, LineEnd, Line, Text, Number, Length, Bytes}
-use Rattle.winnow_resp.specs.Answers.{bytes_of, IsAhead}
+use Rattle.winnow_resp.specs.Ahead.{bytes_of, IsAhead}
+use Rattle.winnow_resp.specs.Damage.{EndsText}
 use Rattle.winnow_resp.proofs.lemmas.AheadLemmas.{itself, ahead-join, ahead-wide, wide-front, front-seam, back-seam, bytes_of-units, length-bytes_of}
 
 -- a value stands with bytes that are its own by a relation, and then the rest
@@ -116,6 +118,13 @@ take-short zero (x ∷ xs) = omega arith
 take-short (suc n) [] = omega arith
 take-short (suc n) (x ∷ xs) = let l = take-short n xs in omega (arith, l)
 
+-- and at most as many as there are
+take-less : (n : ℕ) (xs : Source ℕ) → length (take n xs) ≤ length xs
+take-less zero [] = omega arith
+take-less zero (x ∷ xs) = omega arith
+take-less (suc n) [] = omega arith
+take-less (suc n) (x ∷ xs) = let l = take-less n xs in omega (arith, l)
+
 -- exactly that many, where there are as many
 take-exact : (n : ℕ) (xs : Source ℕ) → n ≤ length xs → length (take n xs) ≡ n
 take-exact zero [] l = refl
@@ -125,13 +134,39 @@ take-exact (suc n) (x ∷ xs) l = let e = take-exact n xs (omega (arith, l)) in 
 
 -- the held front, cut off at a count, and what follows it are the whole
 held-whole : (holds : ℕ → Bool) (n : ℕ) (r : Source ℕ)
-    → (s : Source ℕ) × (r ≡ take n (held_front holds r) ++ s)
+    → r ≡ take n (held_front holds r) ++ (drop n (held_front holds r) ++ drop (length (held_front holds r)) r)
 held-whole holds n r =
     let all = held_front holds r in
-    let rest = drop (length all) r in (
-      drop n all ++ rest,
-      sym (append-held_front holds r) ∙ ap (λ t. t ++ rest) (sym (take-append-drop n all)) ∙ append_assoc (take n all) (drop n all) rest,
-    )
+    let rest = drop (length all) r in
+    sym (append-held_front holds r) ∙ ap (λ t. t ++ rest) (sym (take-append-drop n all)) ∙ append_assoc (take n all) (drop n all) rest
+
+-- a list is cut off at a count, or nothing of it is
+take-ends : (n : ℕ) (xs : Source ℕ) → (length (take n xs) ≡ n) ⊎ (drop n xs ≡ [])
+take-ends zero [] = inl refl
+take-ends zero (x ∷ xs) = inl refl
+take-ends (suc n) [] = inr refl
+take-ends (suc n) (x ∷ xs) = elim (take-ends n xs) [
+  | inl e ↦ inl (ap suc e)
+  | inr e ↦ inr e
+]
+
+-- what holds of each value that there may be holds of the one that there is
+if-some : (P : ℕ → Type 0) (o : Option ℕ) → ((x : ℕ) → o ≡ Some x → P x) → IfSome o P
+if-some P None h = tt
+if-some P (Some x) h = h x refl
+
+-- where no token is dropped, none follows
+none-follows : (r : Source ℕ) (n : ℕ) → length r ≤ n → first_token (drop n r) ≡ None
+none-follows [] zero l = refl
+none-follows [] (suc n) l = refl
+none-follows (x ∷ xs) zero l = absurd (omega (arith, l))
+none-follows (x ∷ xs) (suc n) l = none-follows xs n (omega (arith, l))
+
+-- a front that more input may lengthen is all that remains, and below the greatest count
+grows : (partial : Bool) (m n greatest : ℕ)
+    → (partial && (nat_le m n && nat_lt n greatest)) ≡ true → (m ≤ n) × (n < greatest)
+grows true m n greatest h = (grind (arith, nat_tests, h), grind (arith, nat_tests, h))
+grows false m n greatest h = absurd (cc)
 
 -- the bytes of tokens of which the test holds can stand in a line
 in-line : (f : Source ℕ) → HoldsAll is_in_line f → AreInLine (bytes_of f)
@@ -149,22 +184,49 @@ module _ {S : Type 0} (counts_missing : Bool) (is_slice : S → Source ℕ → �
         ap (λ t. back t (width f)) e ∙ back-seam f s narrow,
       )
 
+  -- a text that is taken up to the end of its line stands ahead, and ends there
+  pub held-stands : (longest : ℕ) (partial : Bool) (a b : Ahead ℕ) (slice : S)
+      → HasPositiveWidths a.tokens
+      → HeldFront is_slice is_in_line 0 (Some longest) partial a (Gives slice b)
+      → (t : List ℕ)
+      × (IsAhead a.tokens t b.tokens × IsText longest t × EndsText longest t b.tokens × (bytes slice ≡ t))
+  held-stands longest partial a b slice wide h =
+      let held = held_front is_in_line a.tokens in
+      let f = take longest held in
+      let after = drop (length held) a.tokens in
+      let whole = held-whole is_in_line longest a.tokens in
+      let got = slice-taken a.tokens f (drop longest held ++ after) slice whole wide (is_offset-within is_in_line (Some longest) a.tokens) h.0 in
+      let rest : b.tokens ≡ drop longest held ++ after = ap (λ c. c.tokens) h.1 ∙ got.1 in
+      let all = all-take is_in_line longest held (HoldsAll-held_front is_in_line a.tokens) in
+      let next = if-some (λ c. is_in_line c ≡ false) (first_token after) (next-held_front is_in_line a.tokens) in (
+        bytes_of f,
+        (
+          (f, (whole ∙ ap (λ t. f ++ t) (sym rest), refl)),
+          (in-line f all, omega (arith, take-short longest held, length-bytes_of f)),
+          elim (take-ends longest held) [
+            | inl e ↦ inl (length-bytes_of f ∙ e)
+            | inr e ↦ inr (subst (λ s. IfSome (first_token s) (λ c. is_in_line c ≡ false)) (sym (rest ∙ ap (λ d. d ++ after) e)) next)
+          ],
+          got.0,
+        ),
+      )
+
+  -- where more of a text may follow, all that remains is text
+  pub held-short : (longest : ℕ) (partial : Bool) (r : Source ℕ)
+      → IsTrue (partial && may_grow (Some longest) (held_within (Some longest) is_in_line r) r)
+      → (t : List ℕ) × (IsAhead r t [] × IsText longest t)
+  held-short longest partial r h =
+      let held = held_front is_in_line r in
+      let short = grows partial (length r) (length (take longest held)) longest h in
+      let all = all-held_front is_in_line r (none-follows r (length held) (omega (arith, short.0, take-less longest held))) in
+      (bytes_of r, ((r, (sym (append-nil r), refl)), (in-line r all, omega (arith, short.0, short.1, length-bytes_of r))))
+
   -- a text that is taken up to the end of its line stands ahead
   yields-held : (longest : ℕ)
       → Yields (HeldFront is_slice is_in_line 0 (Some longest)) (λ slice t. IsText longest t
       × (bytes slice ≡ t))
   yields-held longest partial a b slice wide h =
-      let f = take longest (held_front is_in_line a.tokens) in
-      let k = held-whole is_in_line longest a.tokens in
-      let got = slice-taken a.tokens f k.0 slice k.1 wide (is_offset-within is_in_line (Some longest) a.tokens) h.0 in
-      let rest : b.tokens ≡ k.0 = ap (λ c. c.tokens) h.1 ∙ got.1 in
-      let all = all-take is_in_line longest (held_front is_in_line a.tokens) (HoldsAll-held_front is_in_line a.tokens) in (
-        bytes_of f,
-        (
-          (f, (k.1 ∙ ap (λ t. f ++ t) (sym rest), refl)),
-          ((in-line f all, omega (arith, take-short longest (held_front is_in_line a.tokens), length-bytes_of f)), got.0),
-        ),
-      )
+      let k = held-stands longest partial a b slice wide h in (k.0, (k.1.0, (k.1.1, k.1.3)))
 
   -- a line stands ahead, with the text that is given
   pub yields-line : (longest : ℕ)
@@ -205,7 +267,7 @@ module _ {S : Type 0} (counts_missing : Bool) (is_slice : S → Source ℕ → �
   yields-length greatest = yields-read (IsLength greatest)
 
   -- that many bytes stand ahead
-  yields-counted : (n : ℕ)
+  pub yields-counted : (n : ℕ)
       → Yields (Counted counts_missing is_slice n) (λ slice t. (length t ≡ n) × (bytes slice ≡ t))
   yields-counted n partial a b slice wide h =
       let f = take n a.tokens in
