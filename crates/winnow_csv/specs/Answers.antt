@@ -2,24 +2,15 @@
 use Rattle.std.specs.Prelude.{◌≡◌, ℕ, Bool, true, false, List, [], ◌∷◌, ◌++◌, map, Result, Ok, Err, ◌⊎◌, ⊤}
 use Rattle.std.specs.declared.vec.Vec.{Vec}
 use Rattle.std.specs.declared.alloc.Global.{Global}
-use Rattle.winnow_stream.specs.Source.{Source}
 use Rattle.winnow_stream.specs.declared.needed.Needed.{Needed}
 use Rattle.winnow_parser.specs.declared.failure.Failure.{Failure}
 use Rattle.winnow_parser.specs.declared.failure.Failure.TheVariants.{Incomplete, Backtrack, Cut, Refused}
+use Rattle.winnow_format.specs.Bytes.{StartsWith}
 use Rattle.winnow_csv.specs.Records.{SpellsRecord, EndsRecord, RecordAhead}
-
--- the bytes of a source
-abbrev pub bytes_of : Source ℕ → List ℕ
-bytes_of r = map (λ x. x.0) r
 
 -- the values of the fields of a record
 abbrev pub values_of : Vec (Vec ℕ Global) Global → List (List ℕ)
 values_of row = map (λ field. field.items) row.items
-
--- the bytes begin with this byte
-abbrev pub StartsWith : ℕ → List ℕ → Type 0
-StartsWith n [] = ⊥
-StartsWith n (byte ∷ bytes) = byte ≡ n
 
 -- a record breaks off at the rest: fields stand before it, and it begins neither with a comma nor
 -- with the end of a record

@@ -1,6 +1,7 @@
 -- Fields, as RFC 4180 writes them: 34 is a quote, 44 a comma, 13 CR, and 10 LF.
-use Rattle.std.specs.Prelude.{◌≡◌, ℕ, ◌==◌, Bool, true, not, ◌||◌, if◌then◌else◌, List, [], ◌∷◌, ◌++◌, ◌⊎◌, ⊤}
+use Rattle.std.specs.Prelude.{◌≡◌, ℕ, ◌==◌, Bool, not, ◌||◌, if◌then◌else◌, List, [], ◌∷◌, ◌++◌, ◌⊎◌}
 use Rattle.std.specs.List.{flat_map}
+use Rattle.winnow_format.specs.Bytes.{Each}
 
 -- a quote, a comma, CR or LF, which do not stand for themselves outside quotes
 abbrev pub is_special : ℕ → Bool
@@ -9,11 +10,6 @@ is_special byte = 34 == byte || (44 == byte || (13 == byte || 10 == byte))
 -- any other byte, which stands for itself
 abbrev pub is_plain : ℕ → Bool
 is_plain byte = not (is_special byte)
-
--- the test holds of each byte
-abbrev pub Each : (ℕ → Bool) → List ℕ → Type 0
-Each test [] = ⊤
-Each test (byte ∷ bytes) = (test byte ≡ true) × Each test bytes
 
 -- a byte between quotes: a quote is written twice, any other byte once
 abbrev pub twice : ℕ → List ℕ

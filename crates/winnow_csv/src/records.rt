@@ -3,7 +3,8 @@ ghost use Rattle.winnow.specs.Answer.{ahead, outcome};
 ghost use Rattle.winnow.specs.Errors.{AnyError};
 ghost use Rattle.winnow.specs.Laws.{LeavesAfter};
 ghost use Rattle.winnow_stream.specs.SliceBytes.{SlicesHaveBytes};
-ghost use Rattle.winnow_csv.specs.Answers.{bytes_of, IsAnswer, GivesEach};
+ghost use Rattle.winnow_format.specs.Bytes.{bytes_of};
+ghost use Rattle.winnow_csv.specs.Answers.{IsAnswer, GivesEach};
 ghost use Rattle.winnow_csv.specs.Meanings.{FieldList, RecordEnd, OneRow, IsParser-OneRow};
 ghost use Rattle.winnow_csv.specs.Meanings.{IsParser-FieldList, IsParser-RecordEnd};
 

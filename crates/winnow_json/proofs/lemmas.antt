@@ -1,4 +1,3 @@
 pub mod NumberLemmas
-pub mod TokenLemmas
 pub mod RunLemmas
 pub mod NumberAnswerLemmas

@@ -1,5 +1,4 @@
 pub mod Numbers
 pub mod Parts
 pub mod Meanings
-pub mod Answers
 pub mod NumberAnswers

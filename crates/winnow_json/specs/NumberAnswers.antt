@@ -3,8 +3,8 @@ use Rattle.std.specs.Prelude.{◌≡◌, ℕ, ◌≤◌, Bool, true, List, ◌++
 use Rattle.winnow_stream.specs.declared.needed.Needed.{Needed}
 use Rattle.winnow_parser.specs.declared.failure.Failure.{Failure}
 use Rattle.winnow_parser.specs.declared.failure.Failure.TheVariants.{Incomplete, Backtrack, Cut, Refused}
-use Rattle.winnow_json.specs.Numbers.{Each, IsNumber, is_number_byte}
-use Rattle.winnow_json.specs.Answers.{EndsRun}
+use Rattle.winnow_format.specs.Bytes.{Each, EndsRun}
+use Rattle.winnow_json.specs.Numbers.{IsNumber, is_number_byte}
 use Rattle.winnow_json.specs.Meanings.{IsNumberOf}
 use Rattle.winnow_json.specs.declared.numbers.Number.{Number}
 

@@ -3,11 +3,7 @@
 use Rattle.std.specs.Prelude.{◌≡◌, ℕ, ◌==◌, Bool, true, ◌||◌, List, [], ◌∷◌, ◌++◌, ◌⊎◌, ⊤, MatchBool}
 use Rattle.std.specs.Int.{is_in_range}
 use Rattle.std.specs.Char.{is_ascii_digit}
-
--- the test holds of each byte
-abbrev pub Each : (ℕ → Bool) → List ℕ → Type 0
-Each test [] = ⊤
-Each test (byte ∷ bytes) = (test byte ≡ true) × Each test bytes
+use Rattle.winnow_format.specs.Bytes.{Each}
 
 -- one or more digits
 abbrev pub AreDigits : List ℕ → Type 0

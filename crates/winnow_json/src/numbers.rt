@@ -4,9 +4,9 @@ ghost use Rattle.winnow.specs.Answer.{ahead, outcome};
 ghost use Rattle.winnow.specs.Laws.{LeavesAfter};
 ghost use Rattle.winnow_stream.specs.SliceBytes.{SlicesHaveBytes};
 ghost use Rattle.winnow_count.specs.Reading.{IsSomeExactly, ReadsSigned};
+ghost use Rattle.winnow_format.specs.Bytes.{bytes_of};
 ghost use Rattle.winnow_json.specs.Numbers.{IsNumber};
 ghost use Rattle.winnow_json.specs.Meanings.{Keeps, IsNumberOf, NumberRun};
-ghost use Rattle.winnow_json.specs.Answers.{bytes_of};
 ghost use Rattle.winnow_json.specs.NumberAnswers.{IsNumberAnswer, IsLongest, GivesEachNumber};
 
 use crate::parts::is_number;

@@ -2,15 +2,11 @@
 -- it. Where more input is needed, nothing is left, and the missing bytes may still come.
 use Rattle.std.specs.Prelude.{◌≡◌, ℕ, zero, suc, ◌<◌, Bool, true, false, if◌then◌else◌, List, [], ◌∷◌, length, Some, IfSome, IsFalse, ◌⊎◌}
 use Rattle.winnow_stream.specs.Source.{Source, first_token}
+use Rattle.winnow_format.specs.Bytes.{bytes_of, StartsWith}
 use Rattle.winnow_resp.specs.Replies.{is_in_line, IsText, line, IsInteger, IsLength, greatest_count, SpellAll, SpellsNone, Spells}
 use Rattle.winnow_resp.specs.Grammar.{is_kind, most_digits}
 use Rattle.winnow_resp.specs.Ahead.{IsAhead}
 use Rattle.winnow_resp.specs.declared.reply.Reply.{Reply}
-
--- the source begins with this byte
-abbrev pub StartsWith : ℕ → Source ℕ → Type 0
-StartsWith byte [] = ⊥
-StartsWith byte (x ∷ xs) = x.0 ≡ byte
 
 -- the first byte is that of no kind, or nothing stands ahead
 abbrev pub HasNoKind : Source ℕ → Type 0
@@ -18,8 +14,8 @@ HasNoKind whole = IfSome (first_token whole) (λ c. IsFalse (is_kind c))
 
 -- a line end breaks off at the rest: CR is missing there, or LF after CR
 abbrev pub EndBreaksOff : Source ℕ → Source ℕ → Type 0
-EndBreaksOff whole rest = ((whole ≡ rest) × ¬ (StartsWith 13 rest))
-    ⊎ (IsAhead whole (13 ∷ []) rest × ¬ (StartsWith 10 rest))
+EndBreaksOff whole rest = ((whole ≡ rest) × ¬ (StartsWith 13 (bytes_of rest)))
+    ⊎ (IsAhead whole (13 ∷ []) rest × ¬ (StartsWith 10 (bytes_of rest)))
 
 -- the text of a line ends before the rest: it has as many bytes as are allowed, or the rest begins
 -- with CR or LF, or is empty

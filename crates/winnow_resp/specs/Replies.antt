@@ -1,7 +1,8 @@
 -- Replies of the protocol, and the bytes that spell them.
-use Rattle.std.specs.Prelude.{◌≡◌, ℕ, zero, suc, ◌==◌, ◌-◌, ◌<◌, ◌≤◌, ◌^◌, Bool, ◌||◌, not, IsTrue, List, [], ◌∷◌, ◌++◌, length, decimal, Option, Some, None, ℤ, FitsSigned, ⊤}
+use Rattle.std.specs.Prelude.{◌≡◌, ℕ, zero, suc, ◌==◌, ◌-◌, ◌<◌, ◌≤◌, ◌^◌, Bool, ◌||◌, not, List, [], ◌∷◌, ◌++◌, length, decimal, Option, Some, None, ℤ, FitsSigned}
 use Rattle.std.specs.Fmt.{signed_decimal}
 use Rattle.std.specs.Int.{w64}
+use Rattle.winnow_format.specs.Bytes.{Each}
 use Rattle.winnow_resp.specs.declared.reply.Reply.{Reply}
 use Rattle.winnow_resp.specs.declared.reply.Reply.TheOpen.{Reply-F, Simple, Error, Integer, Bulk, NullBulk, Array, NullArray}
 use Rattle.winnow_resp.specs.declared.reply.Reply.TheViews.{out-Reply}
@@ -16,8 +17,7 @@ is_in_line c = not (13 == c || 10 == c)
 
 -- no byte is a carriage return or a newline
 abbrev pub AreInLine : List ℕ → Type 0
-AreInLine [] = ⊤
-AreInLine (c ∷ cs) = IsTrue (is_in_line c) × AreInLine cs
+AreInLine bytes = Each is_in_line bytes
 
 -- the bytes can stand before the end of a line, and are at most that many
 abbrev pub IsText : ℕ → List ℕ → Type 0

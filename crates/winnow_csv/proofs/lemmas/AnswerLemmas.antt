@@ -3,7 +3,7 @@ use Rattle.std.proofs.Common.{◌≡◌, ℕ, Bool, true, false, List, [], ◌�
 use Rattle.std.specs.Prelude.{◌⊎◌, ⊤, Result, Ok, Err}
 use Rattle.std.specs.declared.vec.Vec.{Vec}
 use Rattle.std.specs.declared.alloc.Global.{Global}
-use Rattle.std.proofs.lemmas.List.{append-nil, map-append}
+use Rattle.std.proofs.lemmas.List.{append-nil}
 use Rattle.winnow_stream.specs.Source.{Source, units, HasPositiveWidths}
 use Rattle.winnow_stream.specs.Units.{HasPositiveWidths-units}
 use Rattle.winnow_stream.specs.Longer.{SlicesStay}
@@ -14,12 +14,12 @@ use Rattle.winnow_parser.specs.declared.failure.Failure.TheVariants.{Incomplete,
 use Rattle.winnow_parser.specs.Outcome.{Ahead, Failed, Backtracks, Cuts, Needs, Refuses, Gives, Fails}
 use Rattle.winnow_parser.specs.Laws.{longer}
 use Rattle.winnow_parser.specs.Answer.{outcome}
+use Rattle.winnow_format.specs.Bytes.{bytes_of}
+use Rattle.winnow_format.proofs.lemmas.ByteLemmas.{some, none-left, positive-both, bytes-longer}
 use Rattle.winnow_csv.specs.Records.{SpellsRecord, EndsRecord, RecordAhead}
 use Rattle.winnow_csv.specs.Meanings.{OneRow, IsParser-OneRow}
-use Rattle.winnow_csv.specs.Answers.{bytes_of, values_of, IsAnswer, GivesEach, BreaksOff, IsUnclosed, IsBegun}
-use Rattle.winnow_csv.proofs.lemmas.ByteLemmas.{some}
-use Rattle.winnow_csv.proofs.lemmas.TokenLemmas.{bytes-units}
-use Rattle.winnow_csv.proofs.lemmas.FieldLemmas.{none-left, IsRefusal}
+use Rattle.winnow_csv.specs.Answers.{values_of, IsAnswer, GivesEach, BreaksOff, IsUnclosed, IsBegun}
+use Rattle.winnow_csv.proofs.lemmas.FieldLemmas.{IsRefusal}
 use Rattle.winnow_csv.proofs.lemmas.RecordLemmas.{MayEnd, AreBegun, ends-once, end-given, end-fails, end-missed, list-given, list-fails, list-once, list-missed}
 
 -- ---- What more input can make a record of
@@ -40,16 +40,6 @@ end-begun values r text s e spells (inr f) =
     let whole : r ++ 10 ∷ [] ≡ text ++ 13 ∷ 10 ∷ [] =
     ap (λ t. t ++ 10 ∷ []) (e ∙ ap (λ t. text ++ t) f) ∙ append_assoc text (13 ∷ []) (10 ∷ []) in
     (10 ∷ [], (values, (λ none. some text (10 ∷ []) 13 (sym whole ∙ none), (text, (13 ∷ 10 ∷ [], (whole, spells, inl refl))))))
-
--- sources in a row have positive widths if both do
-positive-both : (xs ys : Source ℕ) → HasPositiveWidths xs → HasPositiveWidths ys
-    → HasPositiveWidths (xs ++ ys)
-positive-both [] ys h k = k
-positive-both (x ∷ xs) ys h k = (h.0, positive-both xs ys h.1 k)
-
--- the bytes of a source and of some bytes after it
-bytes-longer : (r : Source ℕ) (more : List ℕ) → bytes_of (r ++ units more) ≡ bytes_of r ++ more
-bytes-longer r more = map-append (λ x. x.0) r (units more) ∙ ap (λ t. bytes_of r ++ t) (bytes-units more)
 
 module _ {S : Type 0} (is_slice : S → Source ℕ → ℕ → Type 0) (bytes : S → List ℕ) (stay : SlicesStay is_slice) (have : SlicesHaveBytes is_slice bytes) (refusable : Type 0) (partial : Bool) where
   -- ---- What is answered

@@ -1,50 +1,15 @@
 -- Fields as bytes: how chunks between quotes make a quoted field, and that a field is spelled in
 -- one way.
-use Rattle.std.proofs.Common.{◌≡◌, ◌≢◌, ℕ, ◌≤◌, ◌==◌, Bool, true, false, List, [], ◌∷◌, ◌++◌, length, inl, inr, ap, sym, ◌∙◌, subst, refl, arith, append_assoc}
+use Rattle.std.proofs.Common.{◌≡◌, ℕ, ◌≤◌, ◌==◌, true, false, List, [], ◌∷◌, ◌++◌, length, inl, inr, ap, sym, ◌∙◌, subst, refl, arith, append_assoc}
 use Rattle.std.specs.Prelude.{⊤, cond}
 use Rattle.std.specs.List.{flat_map}
 use Rattle.std.proofs.lemmas.Bool.Decides.{nat_tests, eqb_tells}
 use Rattle.std.proofs.lemmas.List.{append_cancel_right, append-nil}
 use Rattle.std.proofs.lemmas.List.Concat.{flat_map-append}
-use Rattle.winnow_csv.specs.Fields.{is_plain, twice, doubled, Each}
+use Rattle.winnow_format.specs.Bytes.{Each, StartsWith, Starts}
+use Rattle.winnow_format.proofs.lemmas.ByteLemmas.{heads, tails, begins}
+use Rattle.winnow_csv.specs.Fields.{is_plain, twice, doubled}
 use Rattle.winnow_csv.specs.Meanings.{is_other}
-use Rattle.winnow_csv.specs.Answers.{StartsWith}
-
--- ---- The first byte
-
--- the first number of a list, or 0
-head : List ℕ → ℕ
-head [] = 0
-head (x ∷ xs) = x
-
--- the rest of a list
-tail : List ℕ → List ℕ
-tail [] = []
-tail (x ∷ xs) = xs
-
--- equal lists have equal first numbers
-pub heads : (x y : ℕ) (xs ys : List ℕ) → x ∷ xs ≡ y ∷ ys → x ≡ y
-unfolding head
-heads x y xs ys e = ap head e
-
--- equal lists have equal rests
-pub tails : (x y : ℕ) (xs ys : List ℕ) → x ∷ xs ≡ y ∷ ys → xs ≡ ys
-unfolding tail
-tails x y xs ys e = ap tail e
-
--- a list that is a number and a rest starts with the number
-pub begins : (n : ℕ) (r s : List ℕ) → r ≡ n ∷ s → StartsWith n r
-begins n r s e = subst (StartsWith n) (sym e) refl
-
--- bytes with a byte among them are not nothing
-pub some : (xs ys : List ℕ) (y : ℕ) → xs ++ y ∷ ys ≢ []
-some [] ys y e = cc
-some (x ∷ xs) ys y e = cc
-
--- the bytes begin with one of which the test holds
-abbrev pub Starts : (ℕ → Bool) → List ℕ → Type 0
-Starts test [] = ⊥
-Starts test (byte ∷ bytes) = test byte ≡ true
 
 -- ---- Quotes between quotes
 

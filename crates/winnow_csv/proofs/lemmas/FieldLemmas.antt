@@ -16,11 +16,13 @@ use Rattle.winnow_parser.specs.Parts.{IsParser-Terminated, IsParser-CutOff}
 use Rattle.winnow_token.specs.OneOf.{IsParser-OneOf}
 use Rattle.winnow_token.specs.Held.{HeldFront, IsParser-HeldFront}
 use Rattle.winnow_combinator.specs.Repetition.{Taking, InTurn, OneMore}
-use Rattle.winnow_csv.specs.Fields.{is_plain, doubled, Each, SpellsField}
+use Rattle.winnow_format.specs.Bytes.{Each, bytes_of, StartsWith, Starts}
+use Rattle.winnow_format.proofs.lemmas.ByteLemmas.{tails, begins, each-after, none-left}
+use Rattle.winnow_format.proofs.lemmas.TokenLemmas.{positive-moved, byte-given, byte-missing, byte-complete, held-given, held-fails}
+use Rattle.winnow_csv.specs.Fields.{is_plain, doubled, SpellsField}
 use Rattle.winnow_csv.specs.Meanings.{Byte, is_other, Chunk, QuotedField, AnyField}
-use Rattle.winnow_csv.specs.Answers.{bytes_of, StartsWith}
-use Rattle.winnow_csv.proofs.lemmas.ByteLemmas.{Starts, tails, begins, ended, quoted, AreOther, quoted-doubled, quoted-value, ended-front, closed-once, not-closed, plain-once, plain-no-quote}
-use Rattle.winnow_csv.proofs.lemmas.TokenLemmas.{positive-moved, byte-given, byte-missing, byte-complete, held-given, held-fails, taking-fails, after-positive}
+use Rattle.winnow_csv.proofs.lemmas.ByteLemmas.{ended, quoted, AreOther, quoted-doubled, quoted-value, ended-front, closed-once, not-closed, plain-once, plain-no-quote}
+use Rattle.winnow_csv.proofs.lemmas.TokenLemmas.{taking-fails, after-positive}
 
 -- a byte is a quote or another byte
 ends-step : (b : ℕ) → ¬ (is_other b ≡ true) → ¬ (b ≡ 34) → ⊥
@@ -33,11 +35,6 @@ ends-step b p q = elim (eqb_tells 34 b) [
 ends : (r : List ℕ) → ¬ (Starts is_other r) → ¬ (StartsWith 34 r) → r ≡ []
 ends [] p q = refl
 ends (b ∷ r) p q = absurd (ends-step b p q)
-
--- no bytes, where the source is empty
-pub none-left : (r : Source ℕ) → bytes_of r ≡ [] → r ≡ []
-none-left [] e = refl
-none-left (x ∷ xs) e = absurd (cc)
 
 -- ---- A quoted field that is not closed
 
@@ -104,11 +101,6 @@ closed-not w text rest (inl h) stops (t, e) = plain-before text w rest (doubled 
 closed-not w text rest (inr h) stops (t, e) =
     stops.2 refl (sym (closed-once t w [] rest (λ n. n) stops.0 (tails 34 34 _ _ (sym e ∙ quoted-before text w rest h))).1)
 
--- the test holds of each byte of the rest, if it holds of all
-each-after : (test : ℕ → Bool) (xs ys : List ℕ) → Each test (xs ++ ys) → Each test ys
-each-after test [] ys h = h
-each-after test (x ∷ xs) ys h = each-after test xs ys h.1
-
 -- a rest where a field may end is not plain, if more may follow
 plain-rest : (rest : List ℕ) → StopsAt true rest → Each is_plain rest → ⊥
 plain-rest [] stops h = stops.2 refl refl
@@ -157,7 +149,7 @@ module _ {S : Type 0} (is_slice : S → Source ℕ → ℕ → Type 0) (bytes : 
       → (bytes_of a.tokens ≡ 34 ∷ (bytes s ++ 34 ∷ bytes_of d.tokens)) × Each is_other (bytes s)
   chunk-given a d s wide (both, (is, (b, (h, (pair, (first, (c, (k, l)))))))) =
       let wide_b = positive-moved a b ((IsParser-OneOf (λ token. 34 == token)).onward partial a (Gives both.0 b) h) wide in
-      let held = held-given is_slice bytes have is_other partial b c pair.0 wide_b k in
+      let held = held-given is_slice is_other 0 bytes have partial b c pair.0 wide_b k in
       let same : pair.0 ≡ s = first ∙ is in (
         byte-given 34 partial a b both.0 h ∙ ap (λ t. 34 ∷ t) (held.0 ∙ ap (λ t. bytes pair.0 ++ t) (byte-given 34 partial c d pair.1 l))
             ∙ ap (λ s. 34 ∷ (bytes s ++ 34 ∷ bytes_of d.tokens)) same,
@@ -174,22 +166,22 @@ module _ {S : Type 0} (is_slice : S → Source ℕ → ℕ → Type 0) (bytes : 
   -- a failure after the opening quote
   inside-fails : (f : Failed ℕ) (a b : Ahead ℕ) → HasPositiveWidths b.tokens
       → bytes_of a.tokens ≡ 34 ∷ bytes_of b.tokens → Inside partial b (Fails f) → ChunkFails a f
-  inside-fails (Backtracks d) a b wide e (inl h) = absurd (held-fails is_slice is_other partial b (Backtracks d) h)
+  inside-fails (Backtracks d) a b wide e (inl h) = absurd (omega (arith, h.1))
   inside-fails (Backtracks d) a b wide e (inr (s, (c, (k, l)))) = absurd l
-  inside-fails (Cuts d) a b wide e (inl h) = absurd (held-fails is_slice is_other partial b (Cuts d) h)
+  inside-fails (Cuts d) a b wide e (inl h) = absurd (held-fails is_slice is_other 0 partial b (Cuts d) (omega arith) h)
   inside-fails (Cuts d) a b wide e (inr (s, (c, (k, inl l)))) =
-      let held = held-given is_slice bytes have is_other partial b c s wide k in
+      let held = held-given is_slice is_other 0 bytes have partial b c s wide k in
       let missing = byte-missing 34 partial c d l in
-      let none = ends (bytes_of c.tokens) held.2 missing.0 in (
+      let none = ends (bytes_of c.tokens) held.2.0 missing.0 in (
         (bytes s, (e ∙ ap (λ t. 34 ∷ t) (held.0 ∙ ap (λ t. bytes s ++ t) none ∙ append-nil (bytes s)), held.1)),
         ap (λ p. bytes_of p.tokens) missing.1 ∙ none,
         byte-complete 34 partial c d l (none-left c.tokens none),
       )
   inside-fails (Cuts d) a b wide e (inr (s, (c, (k, inr l)))) = absurd l
   inside-fails (Needs n) a b wide e (inl h) =
-      let unclosed = held-fails is_slice is_other partial b (Needs n) h in (unclosed.0, inr (bytes_of b.tokens, (e, unclosed.1)))
+      let unclosed = held-fails is_slice is_other 0 partial b (Needs n) (omega arith) h in (unclosed.0, inr (bytes_of b.tokens, (e, unclosed.1)))
   inside-fails (Needs n) a b wide e (inr (s, (c, (k, l)))) =
-      let held = held-given is_slice bytes have is_other partial b c s wide k in
+      let held = held-given is_slice is_other 0 bytes have partial b c s wide k in
       (l.1, inr (bytes s, (e ∙ ap (λ t. 34 ∷ t) (held.0 ∙ ap (λ t. bytes s ++ bytes_of t) l.0 ∙ append-nil (bytes s)), held.1)))
   inside-fails Refuses a b wide e h = tt
 
@@ -301,11 +293,11 @@ module _ {S : Type 0} (is_slice : S → Source ℕ → ℕ → Type 0) (bytes : 
       → FieldStands v.items (bytes_of a.tokens) (bytes_of b.tokens)
   field-given refusable v a b wide (inl h) = inl (quoted-given v a b wide h)
   field-given refusable v a b wide (inr (c, (h, (s, (made, k))))) =
-      let held = held-given is_slice bytes have is_plain partial a b s wide k in
+      let held = held-given is_slice is_plain 0 bytes have partial a b s wide k in
       inr (
         subst (Each is_plain) (sym made) held.1,
         held.0 ∙ ap (λ t. t ++ bytes_of b.tokens) (sym made),
-        held.2,
+        held.2.0,
         quoted-fails (Backtracks c) a wide h,
       )
 
@@ -313,9 +305,9 @@ module _ {S : Type 0} (is_slice : S → Source ℕ → ℕ → Type 0) (bytes : 
   pub field-fails : (refusable : Type 0) (f : Failed ℕ) (a : Ahead ℕ) → HasPositiveWidths a.tokens
       → AnyField is_slice bytes refusable partial a (Fails f)
       → FieldFails partial (bytes_of a.tokens) f
-  field-fails refusable (Backtracks d) a wide (c, (h, k)) = absurd (held-fails is_slice is_plain partial a (Backtracks d) k)
+  field-fails refusable (Backtracks d) a wide (c, (h, k)) = absurd (omega (arith, k.1))
   field-fails refusable (Cuts d) a wide (inl h) = quoted-fails (Cuts d) a wide h
-  field-fails refusable (Cuts d) a wide (inr (c, (h, k))) = absurd (held-fails is_slice is_plain partial a (Cuts d) k)
+  field-fails refusable (Cuts d) a wide (inr (c, (h, k))) = absurd (held-fails is_slice is_plain 0 partial a (Cuts d) (omega arith) k)
   field-fails refusable (Needs n) a wide (inl h) =
       let fails = quoted-fails (Needs n) a wide h in (
         fails.0,
@@ -328,5 +320,5 @@ module _ {S : Type 0} (is_slice : S → Source ℕ → ℕ → Type 0) (bytes : 
         ],
       )
   field-fails refusable (Needs n) a wide (inr (c, (h, k))) =
-      let unclosed = held-fails is_slice is_plain partial a (Needs n) k in (unclosed.0, inr (inr unclosed.1))
+      let unclosed = held-fails is_slice is_plain 0 partial a (Needs n) (omega arith) k in (unclosed.0, inr (inr unclosed.1))
   field-fails refusable Refuses a wide h = tt

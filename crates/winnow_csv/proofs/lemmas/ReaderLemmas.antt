@@ -17,13 +17,15 @@ use Rattle.winnow.specs.State.{ReaderState}
 use Rattle.winnow.specs.Reading.{Reads, MayFollow, HasRead}
 use Rattle.winnow.specs.Answering.{StopsAt, FailsAt, IdlesAt}
 use Rattle.winnow.specs.SameValues.{IsThrough}
+use Rattle.winnow_format.specs.Bytes.{bytes_of}
+use Rattle.winnow_format.proofs.lemmas.TokenLemmas.{positive-moved}
+use Rattle.winnow_format.proofs.lemmas.ByteLemmas.{bytes-units}
 use Rattle.winnow_csv.specs.Records.{RecordAhead}
-use Rattle.winnow_csv.specs.Answers.{bytes_of, values_of}
+use Rattle.winnow_csv.specs.Answers.{values_of}
 use Rattle.winnow_csv.specs.Meanings.{IsParser-OneRow}
 use Rattle.winnow_csv.specs.Widths.{RowVec}
 use Rattle.winnow_csv.specs.Tables.{rows_in, AreRecords, HasNoRecord, IsDamagedAt}
 use Rattle.winnow_csv.specs.Reading.{RowInPieces, BeginsWith, FindsDamage}
-use Rattle.winnow_csv.proofs.lemmas.TokenLemmas.{positive-moved, bytes-units}
 use Rattle.winnow_csv.proofs.lemmas.TableLemmas.{record-shorter, cut-damaged}
 use Rattle.winnow_csv.proofs.lemmas.AnswerLemmas.{answers, gives-each}
 

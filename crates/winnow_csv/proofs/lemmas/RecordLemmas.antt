@@ -16,13 +16,16 @@ use Rattle.winnow_parser.specs.Meanings.{Preceded, CutOff}
 use Rattle.winnow_token.specs.OneOf.{IsParser-OneOf}
 use Rattle.winnow_combinator.specs.Repetition.{Taking, InTurn, FailsWith}
 use Rattle.winnow_combinator.specs.Separation.{Chained}
-use Rattle.winnow_csv.specs.Fields.{is_plain, twice, doubled, Each, SpellsField}
+use Rattle.winnow_format.specs.Bytes.{Each, bytes_of, StartsWith}
+use Rattle.winnow_format.proofs.lemmas.ByteLemmas.{heads, tails, begins, none-left}
+use Rattle.winnow_format.proofs.lemmas.TokenLemmas.{positive-moved, byte-given, byte-missing}
+use Rattle.winnow_csv.specs.Fields.{is_plain, twice, doubled, SpellsField}
 use Rattle.winnow_csv.specs.Records.{SpellsMore, SpellsRecord, EndsRecord}
 use Rattle.winnow_csv.specs.Meanings.{Byte, AnyField, FieldList, RecordEnd, IsParser-AnyField}
-use Rattle.winnow_csv.specs.Answers.{bytes_of, values_of, StartsWith, IsUnclosed}
-use Rattle.winnow_csv.proofs.lemmas.ByteLemmas.{heads, tails, begins, doubled-others}
-use Rattle.winnow_csv.proofs.lemmas.TokenLemmas.{positive-moved, byte-given, byte-missing, taking-fails, after-positive}
-use Rattle.winnow_csv.proofs.lemmas.FieldLemmas.{none-left, IsOpen, IsClosedOnly, FieldStands, FieldFails, StopsAt, field-spelled, field-once, IsRefusal, field-missed, field-given, field-fails}
+use Rattle.winnow_csv.specs.Answers.{values_of, IsUnclosed}
+use Rattle.winnow_csv.proofs.lemmas.ByteLemmas.{doubled-others}
+use Rattle.winnow_csv.proofs.lemmas.TokenLemmas.{taking-fails, after-positive}
+use Rattle.winnow_csv.proofs.lemmas.FieldLemmas.{IsOpen, IsClosedOnly, FieldStands, FieldFails, StopsAt, field-spelled, field-once, IsRefusal, field-missed, field-given, field-fails}
 
 -- ---- Ends
 

@@ -5,10 +5,11 @@ use Rattle.std.specs.List.{flat_map, list_any}
 use Rattle.std.specs.declared.vec.Vec.{Vec}
 use Rattle.std.specs.declared.alloc.Global.{Global}
 use Rattle.std.proofs.lemmas.List.{take_more, map_push, flat_map_more}
-use Rattle.winnow_csv.specs.Fields.{is_special, is_plain, doubled, Each, SpellsField}
+use Rattle.winnow_format.specs.Bytes.{Each}
+use Rattle.winnow_format.proofs.lemmas.ByteLemmas.{some}
+use Rattle.winnow_csv.specs.Fields.{is_special, is_plain, doubled, SpellsField}
 use Rattle.winnow_csv.specs.Records.{SpellsMore}
 use Rattle.winnow_csv.specs.Writing.{values_in, written_field, written_record, IsReadBack}
-use Rattle.winnow_csv.proofs.lemmas.ByteLemmas.{some}
 
 -- where neither of two holds, each does not hold
 or-false : (b c : Bool) → (b || c) ≡ false → (b ≡ false) × (c ≡ false)

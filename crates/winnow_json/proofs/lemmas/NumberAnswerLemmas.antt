@@ -8,14 +8,14 @@ use Rattle.winnow_stream.specs.SliceBytes.{SlicesHaveBytes}
 use Rattle.winnow_stream.specs.declared.needed.Needed.{Needed}
 use Rattle.winnow_parser.specs.declared.failure.Failure.{Failure}
 use Rattle.winnow_parser.specs.declared.failure.Failure.TheVariants.{Incomplete, Backtrack, Cut, Refused}
-use Rattle.winnow_parser.specs.Outcome.{Ahead, Backtracks, Cuts, Needs, Refuses, Gives, Fails}
+use Rattle.winnow_parser.specs.Outcome.{Ahead, Backtracks, Cuts, Needs}
 use Rattle.winnow_parser.specs.Answer.{outcome}
-use Rattle.winnow_json.specs.Numbers.{Each, AreDigits, IsMinus, IsWhole, IsFraction, is_e, is_sign, IsPower, IsExponent, IsNumber, is_number_byte}
-use Rattle.winnow_json.specs.Answers.{bytes_of}
+use Rattle.winnow_format.specs.Bytes.{Each, bytes_of}
+use Rattle.winnow_format.proofs.lemmas.TokenLemmas.{itself}
+use Rattle.winnow_json.specs.Numbers.{AreDigits, IsMinus, IsWhole, IsFraction, IsPower, IsExponent, IsNumber, is_number_byte}
 use Rattle.winnow_json.specs.NumberAnswers.{IsNumberAnswer, IsLongest, GivesEachNumber}
 use Rattle.winnow_json.specs.Meanings.{NumberRun}
 use Rattle.winnow_json.specs.declared.numbers.Number.{Number}
-use Rattle.winnow_json.proofs.lemmas.TokenLemmas.{itself}
 use Rattle.winnow_json.proofs.lemmas.RunLemmas.{longest-run, run-given, run-fails, run-once, run-missed}
 
 -- ---- The bytes of a number

@@ -1,33 +1,14 @@
 -- The parts of a number, and what may follow each.
 use Rattle.std.proofs.Common.{◌≡◌, ℕ, ◌==◌, Bool, true, false, cond, List, [], ◌∷◌, ◌++◌, inl, inr, ap, sym, ◌∙◌, subst, refl, arith}
-use Rattle.std.specs.Int.{is_in_range}
 use Rattle.std.specs.Char.{is_ascii_digit}
 use Rattle.std.proofs.lemmas.Bool.{eqb-true, eqb-false}
 use Rattle.std.proofs.lemmas.Bool.Decides.{nat_tests}
-use Rattle.winnow_json.specs.Numbers.{Each, AreDigits, IsMinus, IsWhole, IsFraction, is_e, is_sign, IsPower, IsExponent, IsNumber, Tells}
+use Rattle.winnow_format.specs.Bytes.{Each}
+use Rattle.winnow_format.proofs.lemmas.ByteLemmas.{heads, tails}
+use Rattle.winnow_json.specs.Numbers.{AreDigits, IsWhole, IsFraction, is_e, is_sign, IsPower, IsExponent, IsNumber, Tells}
 use Rattle.winnow_json.specs.Parts.{whole_part, letter_part, tail_part, power_part, next_part, is_last}
 use Rattle.winnow_json.specs.declared.parts.Part.{Part}
 use Rattle.winnow_json.specs.declared.parts.Part.TheVariants.{Begin, Minus, Nought, Whole, Point, Fraction, Letter, Sign, Exponent, Wrong}
-
--- the first number of a list, or 0
-head : List ℕ → ℕ
-head [] = 0
-head (x ∷ xs) = x
-
--- the rest of a list
-tail : List ℕ → List ℕ
-tail [] = []
-tail (x ∷ xs) = xs
-
--- equal lists have equal first numbers
-pub heads : (x y : ℕ) (xs ys : List ℕ) → x ∷ xs ≡ y ∷ ys → x ≡ y
-unfolding head
-heads x y xs ys e = ap head e
-
--- equal lists have equal rests
-pub tails : (x y : ℕ) (xs ys : List ℕ) → x ∷ xs ≡ y ∷ ys → xs ≡ ys
-unfolding tail
-tails x y xs ys e = ap tail e
 
 -- ---- What may follow a part
 

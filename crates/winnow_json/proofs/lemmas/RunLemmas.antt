@@ -1,25 +1,13 @@
 -- Runs of bytes of a set: where one ends, and that none is missed.
 use Rattle.std.proofs.Common.{◌≡◌, ℕ, ◌≤◌, Bool, true, false, List, [], ◌∷◌, ◌++◌, length, Some, None, inl, inr, ap, sym, ◌∙◌, subst, refl, arith}
-use Rattle.std.specs.Prelude.{⊤}
 use Rattle.winnow_stream.specs.Source.{Source, HasPositiveWidths}
 use Rattle.winnow_stream.specs.SliceBytes.{SlicesHaveBytes}
-use Rattle.winnow_parser.specs.Outcome.{Ahead, Failed, Backtracks, Cuts, Needs, Refuses, Gives, Fails, Meaning}
-use Rattle.winnow_token.specs.Held.{HeldFront}
-use Rattle.winnow_combinator.specs.Gathering.{Gathered}
-use Rattle.winnow_json.specs.Numbers.{Each, Tells}
-use Rattle.winnow_json.specs.Answers.{bytes_of, Starts, EndsRun}
+use Rattle.winnow_parser.specs.Outcome.{Ahead, Failed, Backtracks, Cuts, Needs, Refuses, Gives, Fails}
+use Rattle.winnow_format.specs.Bytes.{Each, bytes_of, Starts, EndsRun}
+use Rattle.winnow_format.proofs.lemmas.ByteLemmas.{heads, tails, each-after}
+use Rattle.winnow_format.proofs.lemmas.TokenLemmas.{itself, held-fails, held-given}
+use Rattle.winnow_json.specs.Numbers.{Tells}
 use Rattle.winnow_json.specs.Meanings.{Keeps, Run}
-use Rattle.winnow_json.proofs.lemmas.NumberLemmas.{heads, tails}
-use Rattle.winnow_json.proofs.lemmas.TokenLemmas.{itself, held-fails, held-given}
-
--- `Gathered` passes each failure on
-pub gathered-fails : {O A T : Type 0} (makes : O → A
-    → Type 0) (inner : Meaning O T) (partial : Bool) (a : Ahead T) (f : Failed T)
-    → inner partial a (Fails f) → Gathered ⊤ makes inner partial a (Fails f)
-gathered-fails makes inner partial a (Backtracks b) h = h
-gathered-fails makes inner partial a (Cuts b) h = h
-gathered-fails makes inner partial a (Needs n) h = h
-gathered-fails makes inner partial a Refuses h = inr h
 
 module _ {S : Type 0} (bytes : S → List ℕ) (fact : List ℕ → Type 0) (s : S) (t : List ℕ) where
   -- a slice is kept where the test holds of its bytes
@@ -52,11 +40,6 @@ module _ (holds : ℕ → Bool) where
   longest-run [] s (y ∷ u) r p g e = absurd (p (subst (Starts holds) (sym e) g.0))
   longest-run (x ∷ t) s (y ∷ u) r p g e =
       let on = longest-run t s u r p g.1 (tails x y (t ++ s) (u ++ r) e) in omega (arith, on)
-
-  -- the test holds of each byte at the end of bytes of which it holds
-  each-after : (t s : List ℕ) → Each holds (t ++ s) → Each holds s
-  each-after [] s h = h
-  each-after (x ∷ t) s h = each-after t s h.1
 
   -- where a run ends, not all bytes are of the set
   ended-not : (partial : Bool) (s : List ℕ) → EndsRun holds partial s → partial ≡ true

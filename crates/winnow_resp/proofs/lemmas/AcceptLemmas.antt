@@ -17,10 +17,13 @@ use Rattle.winnow_token.specs.OneOf.{OneOf}
 use Rattle.winnow_token.specs.Held.{HeldFront, held_within, is_offset-within}
 use Rattle.winnow_token.specs.Counted.{Counted}
 use Rattle.winnow_combinator.specs.Gathering.{Gathered}
+use Rattle.winnow_format.specs.Bytes.{bytes_of}
+use Rattle.winnow_format.proofs.lemmas.TokenLemmas.{itself}
+use Rattle.winnow_format.proofs.lemmas.ByteLemmas.{length-bytes}
 use Rattle.winnow_resp.specs.Replies.{line_end, is_in_line, AreInLine, IsText, line, IsInteger, IsLength}
 use Rattle.winnow_resp.specs.Grammar.{most_digits, LineEnd, Line, Text, Number, Length, Bytes, HasBytes}
-use Rattle.winnow_resp.specs.Ahead.{bytes_of, IsAhead}
-use Rattle.winnow_resp.proofs.lemmas.AheadLemmas.{itself, ahead-split, ahead-wide, ahead-first, ahead-none, length-bytes_of, take-seam}
+use Rattle.winnow_resp.specs.Ahead.{IsAhead}
+use Rattle.winnow_resp.proofs.lemmas.AheadLemmas.{ahead-split, ahead-wide, ahead-first, ahead-none, take-seam}
 use Rattle.winnow_resp.proofs.lemmas.YieldLemmas.{slice-taken}
 
 -- a value of which P holds, with this rest; or memory was refused
@@ -224,7 +227,7 @@ module _ {S : Type 0} (counts_missing : Bool) (is_slice : S → Source ℕ → �
       let x = ahead-first 13 (10 ∷ []) k.0 q k.1.1 in
       let whole : r ≡ f ++ x.0 ∷ x.1.0 = k.1.0.1.0 ∙ ap (λ s. f ++ s) x.1.1.0 in
       let ends : is_in_line x.0.0 ≡ false = ap is_in_line x.1.1.1 in
-      let short : length f ≤ longest = omega (arith, text.1, ap length k.1.0.1.1, length-bytes_of f) in
+      let short : length f ≤ longest = omega (arith, text.1, ap length k.1.0.1.1, length-bytes f) in
       let held = accepts-held longest f x.1.0 x.0 r whole (held-line f t k.1.0.1.1 text.0) ends short wide in
       let end = reads-end k.0 q (ahead-wide t r k.0 k.1.0 wide) k.1.1 in
       accepts-terminated (HeldFront is_slice is_in_line 0 (Some longest)) (LineEnd itself) r k.0 q (λ slice. bytes slice ≡ t) (λ both. ⊤)
@@ -285,6 +288,6 @@ module _ {S : Type 0} (counts_missing : Bool) (is_slice : S → Source ℕ → �
       reads-gathered (HasBytes bytes) (CutOff (Terminated (Counted counts_missing is_slice n) (LineEnd itself))) (line t) (λ slice. bytes slice ≡ t) (λ v. v.items ≡ t)
       (reads-cut (Terminated (Counted counts_missing is_slice n) (LineEnd itself)) (line t) (λ slice. bytes slice ≡ t)
       (reads-terminated (Counted counts_missing is_slice n) (LineEnd itself) t line_end (λ slice. bytes slice ≡ t) (λ both. ⊤)
-      (λ r s wide stands partial a v e h. weaker _ _ s v (λ slice is. is ∙ stands.1.1) (accepts-counted n stands.0 s r stands.1.0 (sym (length-bytes_of stands.0) ∙ ap length stands.1.1 ∙ count) wide partial a v e h))
+      (λ r s wide stands partial a v e h. weaker _ _ s v (λ slice is. is ∙ stands.1.1) (accepts-counted n stands.0 s r stands.1.0 (sym (length-bytes stands.0) ∙ ap length stands.1.1 ∙ count) wide partial a v e h))
       reads-end))
       (λ slice v is has. has ∙ is)

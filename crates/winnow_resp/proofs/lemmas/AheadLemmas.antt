@@ -1,43 +1,16 @@
 -- Bytes that stand ahead in a source: how they are joined and split.
 use Rattle.std.proofs.Common.{◌≡◌, ℕ, ◌<◌, List, [], ◌∷◌, ◌++◌, length, take, drop, ap, sym, ◌∙◌, subst, refl, arith, append_assoc}
 use Rattle.std.proofs.lemmas.List.{map-append}
-use Rattle.winnow_stream.specs.Source.{Source, width, units, HasPositiveWidths}
+use Rattle.winnow_stream.specs.Source.{Source, width, HasPositiveWidths}
 use Rattle.winnow_stream.specs.Front.{front, back}
 use Rattle.winnow_stream.proofs.lemmas.FrontLemmas.{width-append, count_to-seam}
-use Rattle.winnow_resp.specs.Ahead.{bytes_of, IsAhead}
-
--- the code of a byte
-abbrev pub itself : ℕ → ℕ
-itself c = c
-
--- the first number of a list, or 0
-head : List ℕ → ℕ
-head [] = 0
-head (x ∷ xs) = x
-
--- the rest of a list
-tail : List ℕ → List ℕ
-tail [] = []
-tail (x ∷ xs) = xs
-
--- equal lists have equal first numbers
-pub heads : (x y : ℕ) (xs ys : List ℕ) → x ∷ xs ≡ y ∷ ys → x ≡ y
-unfolding head
-heads x y xs ys e = ap head e
-
--- equal lists have equal rests
-pub tails : (x y : ℕ) (xs ys : List ℕ) → x ∷ xs ≡ y ∷ ys → xs ≡ ys
-unfolding tail
-tails x y xs ys e = ap tail e
+use Rattle.winnow_format.specs.Bytes.{bytes_of}
+use Rattle.winnow_format.proofs.lemmas.ByteLemmas.{heads, tails, positive-after}
+use Rattle.winnow_resp.specs.Ahead.{IsAhead}
 
 -- lists that begin with the same number are equal if their rests are
 pub conses : (x y : ℕ) (xs ys : List ℕ) → x ≡ y → xs ≡ ys → x ∷ xs ≡ y ∷ ys
 conses x y xs ys e f = ap (λ z. z ∷ xs) e ∙ ap (λ zs. y ∷ zs) f
-
--- the tokens after a front have positive widths too
-pub wide-after : (front s : Source ℕ) → HasPositiveWidths (front ++ s) → HasPositiveWidths s
-wide-after [] s h = h
-wide-after (x ∷ xs) s h = wide-after xs s h.1
 
 -- the tokens of a front have positive widths too
 pub wide-front : (front s : Source ℕ) → HasPositiveWidths (front ++ s) → HasPositiveWidths front
@@ -61,16 +34,6 @@ front-seam xs ys h = ap (λ n. take n (xs ++ ys)) (count_to-seam xs ys h) ∙ ta
 -- the second follows it
 pub back-seam : (xs ys : Source ℕ) → HasPositiveWidths xs → back (xs ++ ys) (width xs) ≡ ys
 back-seam xs ys h = ap (λ n. drop n (xs ++ ys)) (count_to-seam xs ys h) ∙ drop-seam xs ys
-
--- the bytes of tokens of width 1
-pub bytes_of-units : (bytes : List ℕ) → bytes_of (units bytes) ≡ bytes
-bytes_of-units [] = refl
-bytes_of-units (c ∷ cs) = ap (λ t. c ∷ t) (bytes_of-units cs)
-
--- a source has as many tokens as bytes
-pub length-bytes_of : (r : Source ℕ) → length (bytes_of r) ≡ length r
-length-bytes_of [] = refl
-length-bytes_of (x ∷ xs) = let e = length-bytes_of xs in omega (arith, e)
 
 -- no bytes stand before the whole
 pub ahead-nothing : (r s : Source ℕ) → r ≡ s → IsAhead r [] s
@@ -106,7 +69,7 @@ ahead-split t u r q h =
 -- what follows bytes that stand ahead has positive widths
 pub ahead-wide : (t : List ℕ) (r s : Source ℕ) → IsAhead r t s → HasPositiveWidths r
     → HasPositiveWidths s
-ahead-wide t r s h wide = wide-after h.0 s (subst HasPositiveWidths h.1.0 wide)
+ahead-wide t r s h wide = positive-after h.0 s (subst HasPositiveWidths h.1.0 wide)
 
 -- after no bytes stands the whole
 pub ahead-none : (r s : Source ℕ) → IsAhead r [] s → r ≡ s

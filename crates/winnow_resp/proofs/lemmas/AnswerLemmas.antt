@@ -1,5 +1,5 @@
 -- The answers of the reader, from the meaning of the parser.
-use Rattle.std.proofs.Common.{◌≡◌, ℕ, zero, suc, Bool, true, false, List, [], ◌∷◌, ◌++◌, inl, inr, Some, None, ap, sym, subst, refl}
+use Rattle.std.proofs.Common.{◌≡◌, ℕ, zero, suc, Bool, true, false, List, [], inl, inr, Some, None, ap, sym, subst, refl}
 use Rattle.std.specs.Prelude.{Result, Ok, Err}
 use Rattle.winnow_stream.specs.Source.{Source, units, HasPositiveWidths}
 use Rattle.winnow_stream.specs.Units.{HasPositiveWidths-units}
@@ -13,18 +13,13 @@ use Rattle.winnow_parser.specs.declared.failure.Failure.{Failure}
 use Rattle.winnow_parser.specs.declared.failure.Failure.TheVariants.{Incomplete, Backtrack, Cut, Refused}
 use Rattle.winnow_token.specs.OneOf.{OneOf}
 use Rattle.winnow_combinator.specs.Ending.{Failing}
+use Rattle.winnow_format.proofs.lemmas.TokenLemmas.{itself}
+use Rattle.winnow_format.proofs.lemmas.ByteLemmas.{positive-both}
 use Rattle.winnow_resp.specs.Grammar.{is_kind, BulkOf, ArrayOf, Body, Layer, Nested, IsParser-Nested}
 use Rattle.winnow_resp.specs.Answers.{HasNoReply, IsBegun, CannotBeReply, IsAnswer, GivesEach}
 use Rattle.winnow_resp.specs.declared.reply.Reply.{Reply}
-use Rattle.winnow_resp.proofs.lemmas.AheadLemmas.{itself}
 use Rattle.winnow_resp.proofs.lemmas.ReplyLemmas.{yields-nested, reads-nested}
 use Rattle.winnow_resp.proofs.lemmas.DamageLemmas.{nested-stops}
-
--- sources in a row have positive widths if both do
-wide-both : (xs ys : Source ℕ) → HasPositiveWidths xs → HasPositiveWidths ys
-    → HasPositiveWidths (xs ++ ys)
-wide-both [] ys h k = k
-wide-both (x ∷ xs) ys h k = (h.0, wide-both xs ys h.1 k)
 
 -- a decided failure is no refusal
 decided-other : (f : Failed ℕ) → IsDecided f → ¬ (f ≡ Refuses)
@@ -57,7 +52,7 @@ module _ {S : Type 0} (counts_missing : Bool) (is_slice : S → Source ℕ → �
   none-can longest depth partial a f wide h decided p (more, (reply, stands)) =
       let lawful = IsParser-Nested itself counts_missing is_slice bytes stay longest depth in
       let far = lawful.stable (units more) true a (Fails f) decided (subst (λ q. Nested itself counts_missing is_slice bytes longest depth q a (Fails f)) p h) in
-      none-stands longest depth true (longer (units more) a) (failed_longer (units more) f) (wide-both a.tokens (units more) wide (HasPositiveWidths-units more)) far (still-decided (units more) f decided) reply [] stands
+      none-stands longest depth true (longer (units more) a) (failed_longer (units more) f) (positive-both a.tokens (units more) wide (HasPositiveWidths-units more)) far (still-decided (units more) f decided) reply [] stands
 
   -- so no reply stands ahead, whatever follows
   none-ever : (longest depth : ℕ) (partial : Bool) (a : Ahead ℕ) (f : Failed ℕ)

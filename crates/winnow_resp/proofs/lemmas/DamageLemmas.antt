@@ -1,27 +1,27 @@
 -- Where a parser fails, what it reads breaks off.
-use Rattle.std.proofs.Common.{◌≡◌, ℕ, zero, suc, ◌<◌, ◌≤◌, ◌==◌, Bool, true, false, List, [], ◌∷◌, ◌++◌, length, take, drop, inl, inr, Option, Some, None, ap, sym, ◌∙◌, subst, refl, arith}
-use Rattle.std.specs.Prelude.{⊤, ◌⊎◌, IfSome}
+use Rattle.std.proofs.Common.{◌≡◌, ℕ, zero, suc, ◌<◌, ◌==◌, Bool, true, false, List, [], ◌∷◌, inl, inr, Option, Some, None, ap, sym, ◌∙◌, subst, refl, arith}
+use Rattle.std.specs.Prelude.{⊤, ◌⊎◌}
 use Rattle.std.proofs.lemmas.Bool.Decides.{nat_tests}
-use Rattle.std.proofs.lemmas.List.{append-nil}
 use Rattle.std.proofs.lemmas.Option.{none-some}
-use Rattle.winnow_stream.specs.Source.{Source, width, first_token, HasPositiveWidths}
+use Rattle.winnow_stream.specs.Source.{Source, width, HasPositiveWidths}
 use Rattle.winnow_stream.specs.SliceBytes.{SlicesHaveBytes}
 use Rattle.winnow_count.specs.Reading.{IsSomeExactly}
 use Rattle.winnow_parser.specs.Outcome.{Ahead, Failed, Backtracks, Cuts, Needs, Refuses, Gives, Fails, Meaning}
 use Rattle.winnow_parser.specs.Meanings.{Terminated, CutOff, Chosen}
 use Rattle.winnow_token.specs.OneOf.{OneOf}
-use Rattle.winnow_token.specs.Held.{HeldFront}
 use Rattle.winnow_token.specs.Counted.{Counted}
 use Rattle.winnow_combinator.specs.Counts.{Ascending}
 use Rattle.winnow_combinator.specs.Ending.{Failing}
 use Rattle.winnow_combinator.specs.Repetition.{Repeated, Taking}
 use Rattle.winnow_combinator.specs.Gathering.{Gathered}
-use Rattle.winnow_resp.specs.Replies.{line, is_in_line, IsText, IsInteger, IsLength, greatest_count, SpellsNone, Spells}
-use Rattle.winnow_resp.specs.Grammar.{is_kind, most_digits, HasReplies, LineEnd, Line, Text, Length, Bytes, BulkOf, BulkString, Elements, ArrayOf, ArrayReply, Body, Layer, Nested}
+use Rattle.winnow_format.specs.Bytes.{bytes_of, StartsWith}
+use Rattle.winnow_format.proofs.lemmas.TokenLemmas.{itself, byte-missing}
+use Rattle.winnow_resp.specs.Replies.{line, IsInteger, IsLength, greatest_count, SpellsNone, Spells}
+use Rattle.winnow_resp.specs.Grammar.{is_kind, most_digits, HasReplies, LineEnd, Line, Text, Length, Bytes, BulkString, Elements, ArrayReply, Body, Layer, Nested}
 use Rattle.winnow_resp.specs.Ahead.{IsAhead}
-use Rattle.winnow_resp.specs.Damage.{StartsWith, HasNoKind, EndBreaksOff, LineBreaksOff, NumberBreaksOff, BytesBreakOff, BulkBreaksOff, ElementsBreakOff, ArrayBreaksOff, BodyBreaksOff, LayerBreaksOff, IsTooDeep, StopsAt, BreaksOff}
+use Rattle.winnow_resp.specs.Damage.{HasNoKind, EndBreaksOff, LineBreaksOff, NumberBreaksOff, BytesBreakOff, BulkBreaksOff, ElementsBreakOff, ArrayBreaksOff, BodyBreaksOff, LayerBreaksOff, IsTooDeep, StopsAt, BreaksOff}
 use Rattle.winnow_resp.specs.declared.reply.Reply.{Reply}
-use Rattle.winnow_resp.proofs.lemmas.AheadLemmas.{itself, ahead-wide, ahead-narrower}
+use Rattle.winnow_resp.proofs.lemmas.AheadLemmas.{ahead-wide, ahead-narrower}
 use Rattle.winnow_resp.proofs.lemmas.YieldLemmas.{Yields, yields-one, held-stands, held-short, yields-line, yields-length, yields-counted}
 use Rattle.winnow_resp.proofs.lemmas.ReplyLemmas.{Begins, turns-stand, spells-begins, yields-nested}
 
@@ -44,21 +44,16 @@ stops-on A B q r Refuses on h = tt
 
 -- ---- Line ends
 
--- a source whose first token is not the byte does not start with it
-other : (c : ℕ) (r : Source ℕ) → IfSome (first_token r) (λ x. (c == x) ≡ false)
-    → ¬ (StartsWith c r)
-other c [] h = λ e. e
-other c (x ∷ xs) h = λ e. grind (arith, nat_tests, h, e)
-
 -- a byte is missing at the rest, which is all that stands there
 abbrev IsMissing : ℕ → Bool → Source ℕ → Source ℕ → Type 0
-IsMissing c needs_more r s = (r ≡ s) × ¬ (StartsWith c s)
+IsMissing c needs_more r s = (r ≡ s) × ¬ (StartsWith c (bytes_of s))
 
 -- a byte fails where it is missing
 byte-stops : (c : ℕ) (partial : Bool) (f : Failed ℕ) (a : Ahead ℕ)
     → OneOf (λ token. c == token) partial a (Fails f) → Stops (IsMissing c) a.tokens f
 byte-stops c partial (Backtracks b) a h =
-    (ap (λ p. p.tokens) (sym h.2), subst (λ p. ¬ (StartsWith c p.tokens)) (sym h.2) (other c a.tokens h.0))
+    let missing = byte-missing c partial a b h in
+    (ap (λ p. p.tokens) (sym missing.1), subst (λ p. ¬ (StartsWith c (bytes_of p.tokens))) (sym missing.1) missing.0)
 byte-stops c partial (Cuts b) a h = absurd h
 byte-stops c partial (Needs n) a h = (h.0, λ e. e)
 byte-stops c partial Refuses a h = tt
@@ -288,7 +283,7 @@ module _ {S : Type 0} (counts_missing : Bool) (is_slice : S → Source ℕ → �
 
   -- no reply stands in an array at depth 0
   deep-stops : (partial : Bool) (f : Failed ℕ) (a : Ahead ℕ) → HasPositiveWidths a.tokens
-      → Failing partial a (Fails f) → Stops IsTooDeep a.tokens f
+      → Failing {O = Reply} partial a (Fails f) → Stops IsTooDeep a.tokens f
   deep-stops partial (Backtracks b) a wide h = (ap (λ p. p.tokens) h, refl)
   deep-stops partial (Cuts b) a wide h = absurd h
   deep-stops partial (Needs n) a wide h = absurd h

@@ -1,18 +1,7 @@
 -- What combinators pass on.
 use Rattle.std.proofs.Common.{Bool, inr}
-use Rattle.std.specs.Prelude.{⊤}
-use Rattle.winnow_parser.specs.Outcome.{Ahead, Failed, Backtracks, Cuts, Needs, Refuses, Outcome, Gives, Fails, Meaning}
+use Rattle.winnow_parser.specs.Outcome.{Ahead, Outcome, Gives, Fails, Meaning}
 use Rattle.winnow_parser.specs.Continued.{Continued}
-use Rattle.winnow_combinator.specs.Gathering.{Gathered}
-
--- `Gathered` passes each failure on
-pub gathered-fails : {O A T : Type 0} (makes : O → A
-    → Type 0) (inner : Meaning O T) (partial : Bool) (a : Ahead T) (f : Failed T)
-    → inner partial a (Fails f) → Gathered ⊤ makes inner partial a (Fails f)
-gathered-fails makes inner partial a (Backtracks b) h = h
-gathered-fails makes inner partial a (Cuts b) h = h
-gathered-fails makes inner partial a (Needs n) h = h
-gathered-fails makes inner partial a Refuses h = inr h
 
 -- `Continued` answers as the parser that is made of the value
 pub continued-goes : {O P V T : Type 0} (makes : O → V → Type 0) (means : V

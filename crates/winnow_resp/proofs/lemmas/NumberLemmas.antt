@@ -10,10 +10,10 @@ use Rattle.std.proofs.lemmas.Str.{IsUtf8-from_ascii}
 use Rattle.std.proofs.lemmas.Str.Parse.{digit_from_value, numerals_by_value, tells_digits}
 use Rattle.std.proofs.lemmas.Fmt.{decimal_is_IsNumeral, decimal-digits_value, decimal_digit, first_decimal, length-decimal-le, IsAscii-decimal}
 use Rattle.winnow_count.specs.Reading.{IsSomeExactly, Writes, WritesUpward, ReadsUnsigned}
+use Rattle.winnow_format.proofs.lemmas.ByteLemmas.{heads, tails}
 use Rattle.winnow_resp.specs.Replies.{AreInLine, IsText, no_length, IsInteger, IsLength}
 use Rattle.winnow_resp.specs.Grammar.{most_digits}
 use Rattle.winnow_resp.specs.Numbers.{is_plain, IsNegative, IsPositive}
-use Rattle.winnow_resp.proofs.lemmas.AheadLemmas.{heads, tails}
 
 -- a plain text that writes a number is what std writes of it
 plain-decimal : (text : List ℕ) (n : ℕ) → n < 2 ^ 64 → is_plain text ≡ true → WritesUpward text n

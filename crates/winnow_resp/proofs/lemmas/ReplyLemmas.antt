@@ -14,6 +14,7 @@ use Rattle.winnow_combinator.specs.Counts.{Ascending}
 use Rattle.winnow_combinator.specs.Ending.{Failing}
 use Rattle.winnow_combinator.specs.Repetition.{Repeated, Taking, InTurn}
 use Rattle.winnow_combinator.specs.Gathering.{Gathered}
+use Rattle.winnow_format.proofs.lemmas.TokenLemmas.{itself}
 use Rattle.winnow_resp.specs.Replies.{line, no_length, IsText, IsInteger, IsLength, greatest_count, SpellAll, SpellsLayer, SpellsNone, Spells}
 use Rattle.winnow_resp.specs.Grammar.{IsSimple, IsError, IsNumber, IsBulk, IsNullBulk, IsArray, IsNullArray, is_kind, HasReplies, IsSame, IsCode, Text, Number, Length, Bytes, BulkOf, BulkString, Elements, ArrayOf, ArrayReply, Body, Layer, Nested}
 use Rattle.winnow_resp.specs.Ahead.{IsAhead}
@@ -22,7 +23,7 @@ use Rattle.winnow_resp.specs.declared.reply.Reply.{Reply, map-Reply}
 use Rattle.winnow_resp.specs.declared.reply.Reply.TheOpen.{Reply-F, Simple, Error, Integer, Bulk, NullBulk, Array, NullArray}
 use Rattle.winnow_resp.specs.declared.reply.Reply.TheViews.{out-Reply}
 use Rattle.winnow_resp.specs.declared.reply.Reply.TheFolds.{fold_out-Reply}
-use Rattle.winnow_resp.proofs.lemmas.AheadLemmas.{itself, ahead-nothing, ahead-join, ahead-split, ahead-wide, ahead-none, ahead-narrower}
+use Rattle.winnow_resp.proofs.lemmas.AheadLemmas.{ahead-nothing, ahead-join, ahead-split, ahead-wide, ahead-none, ahead-narrower}
 use Rattle.winnow_resp.proofs.lemmas.NumberLemmas.{integer-line, length-line, no_length-line}
 use Rattle.winnow_resp.proofs.lemmas.YieldLemmas.{Stands, Yields, yields-one, yields-continued, yields-text, yields-number, yields-length, yields-bytes}
 use Rattle.winnow_resp.proofs.lemmas.AcceptLemmas.{Reads, reads-weaker, reads-one, reads-continued, reads-maps, reads-gathered, reads-cut, reads-returns, reads-text, reads-number, reads-length, reads-bytes}

@@ -7,7 +7,7 @@ use Rattle.std.proofs.lemmas.Option.{none-some, same_Some}
 use Rattle.winnow_stream.specs.Source.{Source, width, first_token, held_front, HoldsAll, HasPositiveWidths}
 use Rattle.winnow_stream.specs.Front.{is_offset, front, back}
 use Rattle.winnow_stream.specs.SliceBytes.{SlicesHaveBytes}
-use Rattle.winnow_stream.proofs.lemmas.HeldLemmas.{append-held_front, HoldsAll-held_front, next-held_front, all-held_front}
+use Rattle.winnow_stream.proofs.lemmas.HeldLemmas.{append-held_front, HoldsAll-held_front, next-held_front}
 use Rattle.winnow_count.specs.Reading.{IsSomeExactly}
 use Rattle.winnow_parser.specs.Outcome.{Ahead, Gives, Meaning}
 use Rattle.winnow_parser.specs.Meanings.{Maps, Pair, Terminated, CutOff, Chosen}
@@ -15,11 +15,14 @@ use Rattle.winnow_parser.specs.Continued.{Continued}
 use Rattle.winnow_token.specs.OneOf.{OneOf}
 use Rattle.winnow_token.specs.Held.{HeldFront, held_within, may_grow, is_offset-within}
 use Rattle.winnow_token.specs.Counted.{Counted}
-use Rattle.winnow_resp.specs.Replies.{line_end, is_in_line, AreInLine, IsText, line, IsInteger, IsLength}
+use Rattle.winnow_format.specs.Bytes.{bytes_of}
+use Rattle.winnow_format.proofs.lemmas.TokenLemmas.{itself, each-held, all-held}
+use Rattle.winnow_format.proofs.lemmas.ByteLemmas.{bytes-units, length-bytes}
+use Rattle.winnow_resp.specs.Replies.{line_end, is_in_line, IsText, line, IsInteger, IsLength}
 use Rattle.winnow_resp.specs.Grammar.{most_digits, LineEnd, Line, Text, Number, Length, Bytes}
-use Rattle.winnow_resp.specs.Ahead.{bytes_of, IsAhead}
+use Rattle.winnow_resp.specs.Ahead.{IsAhead}
 use Rattle.winnow_resp.specs.Damage.{EndsText}
-use Rattle.winnow_resp.proofs.lemmas.AheadLemmas.{itself, ahead-join, ahead-wide, wide-front, front-seam, back-seam, bytes_of-units, length-bytes_of}
+use Rattle.winnow_resp.proofs.lemmas.AheadLemmas.{ahead-join, ahead-wide, wide-front, front-seam, back-seam}
 
 -- a value stands with bytes that are its own by a relation, and then the rest
 abbrev pub Stands : {O : Type 0} → (O → List ℕ → Type 0) → Source ℕ → O → Source ℕ → Type 0
@@ -155,23 +158,11 @@ if-some : (P : ℕ → Type 0) (o : Option ℕ) → ((x : ℕ) → o ≡ Some x 
 if-some P None h = tt
 if-some P (Some x) h = h x refl
 
--- where no token is dropped, none follows
-none-follows : (r : Source ℕ) (n : ℕ) → length r ≤ n → first_token (drop n r) ≡ None
-none-follows [] zero l = refl
-none-follows [] (suc n) l = refl
-none-follows (x ∷ xs) zero l = absurd (omega (arith, l))
-none-follows (x ∷ xs) (suc n) l = none-follows xs n (omega (arith, l))
-
 -- a front that more input may lengthen is all that remains, and below the greatest count
 grows : (partial : Bool) (m n greatest : ℕ)
     → (partial && (nat_le m n && nat_lt n greatest)) ≡ true → (m ≤ n) × (n < greatest)
 grows true m n greatest h = (grind (arith, nat_tests, h), grind (arith, nat_tests, h))
 grows false m n greatest h = absurd (cc)
-
--- the bytes of tokens of which the test holds can stand in a line
-in-line : (f : Source ℕ) → HoldsAll is_in_line f → AreInLine (bytes_of f)
-in-line [] h = tt
-in-line (x ∷ f) h = (h.0, in-line f h.1)
 
 module _ {S : Type 0} (counts_missing : Bool) (is_slice : S → Source ℕ → ℕ → Type 0) (bytes : S → List ℕ) (have : SlicesHaveBytes is_slice bytes) where
   -- a slice that was taken has the bytes of the front, and the rest follows the front
@@ -180,7 +171,7 @@ module _ {S : Type 0} (counts_missing : Bool) (is_slice : S → Source ℕ → �
       → (bytes slice ≡ bytes_of f) × (back r (width f) ≡ s)
   slice-taken r f s slice e wide offset is =
       let narrow = wide-front f s (subst HasPositiveWidths e wide) in (
-        sym (bytes_of-units (bytes slice)) ∙ ap bytes_of (have slice r (width f) offset is ∙ ap (λ t. front t (width f)) e ∙ front-seam f s narrow),
+        sym (bytes-units (bytes slice)) ∙ ap bytes_of (have slice r (width f) offset is ∙ ap (λ t. front t (width f)) e ∙ front-seam f s narrow),
         ap (λ t. back t (width f)) e ∙ back-seam f s narrow,
       )
 
@@ -202,9 +193,9 @@ module _ {S : Type 0} (counts_missing : Bool) (is_slice : S → Source ℕ → �
         bytes_of f,
         (
           (f, (whole ∙ ap (λ t. f ++ t) (sym rest), refl)),
-          (in-line f all, omega (arith, take-short longest held, length-bytes_of f)),
+          (each-held is_in_line f all, omega (arith, take-short longest held, length-bytes f)),
           elim (take-ends longest held) [
-            | inl e ↦ inl (length-bytes_of f ∙ e)
+            | inl e ↦ inl (length-bytes f ∙ e)
             | inr e ↦ inr (subst (λ s. IfSome (first_token s) (λ c. is_in_line c ≡ false)) (sym (rest ∙ ap (λ d. d ++ after) e)) next)
           ],
           got.0,
@@ -218,8 +209,8 @@ module _ {S : Type 0} (counts_missing : Bool) (is_slice : S → Source ℕ → �
   held-short longest partial r h =
       let held = held_front is_in_line r in
       let short = grows partial (length r) (length (take longest held)) longest h in
-      let all = all-held_front is_in_line r (none-follows r (length held) (omega (arith, short.0, take-less longest held))) in
-      (bytes_of r, ((r, (sym (append-nil r), refl)), (in-line r all, omega (arith, short.0, short.1, length-bytes_of r))))
+      let all = all-held is_in_line r (omega (arith, short.0, take-less longest held)) in
+      (bytes_of r, ((r, (sym (append-nil r), refl)), (each-held is_in_line r all, omega (arith, short.0, short.1, length-bytes r))))
 
   -- a text that is taken up to the end of its line stands ahead
   yields-held : (longest : ℕ)
@@ -274,7 +265,7 @@ module _ {S : Type 0} (counts_missing : Bool) (is_slice : S → Source ℕ → �
       let e : a.tokens ≡ f ++ drop n a.tokens = sym (take-append-drop n a.tokens) in
       let got = slice-taken a.tokens f (drop n a.tokens) slice e wide h.1 h.2 in
       let rest : b.tokens ≡ drop n a.tokens = ap (λ c. c.tokens) h.3 ∙ got.1 in
-      (bytes_of f, ((f, (e ∙ ap (λ t. f ++ t) (sym rest), refl)), (length-bytes_of f ∙ take-exact n a.tokens h.0, got.0)))
+      (bytes_of f, ((f, (e ∙ ap (λ t. f ++ t) (sym rest), refl)), (length-bytes f ∙ take-exact n a.tokens h.0, got.0)))
 
   -- that many bytes and the end of a line stand ahead
   pub yields-bytes : (n : ℕ)

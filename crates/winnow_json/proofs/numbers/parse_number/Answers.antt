@@ -1,8 +1,8 @@
 use Rattle.std.proofs.Common.{subst}
 use Rattle.winnow_parser.specs.Answer.{ahead, failed}
+use Rattle.winnow_format.proofs.lemmas.GatheredLemmas.{gathered-fails}
 use Rattle.winnow_json.specs.Numbers.{is_number_byte, IsNumber}
 use Rattle.winnow_json.specs.Meanings.{IsNumberOf, Run}
-use Rattle.winnow_json.proofs.lemmas.RunLemmas.{gathered-fails}
 use Rattle.winnow_json.proofs.numbers.parse_number.Goals as goal
 
 pub returns-in-Ok-number_of-clause-means : goal.returns-in-Ok-number_of-clause-means

@@ -1,6 +1,6 @@
 use Rattle.winnow_parser.specs.Answer.{ahead}
+use Rattle.winnow_format.proofs.lemmas.TokenLemmas.{itself}
 use Rattle.winnow_json.specs.Meanings.{IsParser-NumberRun}
-use Rattle.winnow_json.proofs.lemmas.TokenLemmas.{itself}
 use Rattle.winnow_json.proofs.lemmas.NumberAnswerLemmas.{number-answers, number-longest, number-each}
 use Rattle.winnow_json.proofs.numbers.read_number.Goals as goal
 

@@ -2,8 +2,8 @@ use Rattle.std.proofs.Common.{◌∙◌}
 use Rattle.winnow_parser.specs.Answer.{ahead, failed}
 use Rattle.winnow_parser.specs.Meanings.{Terminated, CutOff}
 use Rattle.winnow_token.specs.Counted.{Counted}
+use Rattle.winnow_format.proofs.lemmas.GatheredLemmas.{gathered-fails}
 use Rattle.winnow_resp.specs.Grammar.{HasBytes, LineEnd}
-use Rattle.winnow_resp.proofs.lemmas.FailLemmas.{gathered-fails}
 use Rattle.winnow_resp.proofs.lines.read_bytes.Goals as goal
 
 pub returns-in-Ok-from_slice-clause-means : goal.returns-in-Ok-from_slice-clause-means

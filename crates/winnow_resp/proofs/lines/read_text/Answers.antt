@@ -1,8 +1,8 @@
 use Rattle.std.proofs.Common.{◌∙◌}
 use Rattle.winnow_parser.specs.Answer.{ahead, failed}
 use Rattle.winnow_parser.specs.Meanings.{CutOff}
+use Rattle.winnow_format.proofs.lemmas.GatheredLemmas.{gathered-fails}
 use Rattle.winnow_resp.specs.Grammar.{HasBytes, Line}
-use Rattle.winnow_resp.proofs.lemmas.FailLemmas.{gathered-fails}
 use Rattle.winnow_resp.proofs.lines.read_text.Goals as goal
 
 pub returns-in-Ok-from_slice-clause-means : goal.returns-in-Ok-from_slice-clause-means

@@ -1,6 +1,6 @@
 use Rattle.winnow_parser.specs.Answer.{ahead}
+use Rattle.winnow_format.proofs.lemmas.TokenLemmas.{itself}
 use Rattle.winnow_resp.specs.Grammar.{IsParser-Nested}
-use Rattle.winnow_resp.proofs.lemmas.AheadLemmas.{itself}
 use Rattle.winnow_resp.proofs.lemmas.AnswerLemmas.{answers, gives-each}
 use Rattle.winnow_resp.proofs.nested.read_reply.Goals as goal
 

@@ -1,48 +1,79 @@
 -- From the meanings of parsers of bytes to the bytes that stand ahead.
-use Rattle.std.proofs.Common.{◌≡◌, ◌≢◌, ℕ, ◌<◌, ◌≤◌, nat_le, Bool, true, false, ◌&&◌, List, [], ◌∷◌, ◌++◌, length, drop, cond, Some, None, ap, sym, ◌∙◌, subst, refl, arith, length-append}
+use Rattle.std.proofs.Common.{◌≡◌, ◌≢◌, ℕ, ◌<◌, ◌≤◌, ◌==◌, nat_le, Bool, true, false, ◌&&◌, List, [], ◌∷◌, ◌++◌, length, drop, cond, Some, None, ap, sym, ◌∙◌, subst, refl, arith, length-append}
+use Rattle.std.specs.Prelude.{IfSome}
 use Rattle.std.proofs.lemmas.Bool.Decides.{nat_tests}
 use Rattle.std.proofs.lemmas.List.{map-append}
-use Rattle.winnow_stream.specs.Source.{Source, units, width, first_token, held_front, HoldsAll, HasPositiveWidths}
+use Rattle.std.proofs.lemmas.Option.{none-some, same_Some}
+use Rattle.winnow_stream.specs.Source.{Source, width, first_token, held_front, HoldsAll, HasPositiveWidths}
 use Rattle.winnow_stream.specs.SliceBytes.{SlicesHaveBytes}
 use Rattle.winnow_stream.proofs.lemmas.HeldLemmas.{HoldsAll-held_front, next-held_front, is_offset-held_front, back-held_front, front-held_front, append-held_front}
 use Rattle.winnow_parser.specs.Outcome.{Ahead, Failed, Backtracks, Cuts, Needs, Refuses, Gives, Fails, Moves}
+use Rattle.winnow_token.specs.OneOf.{OneOf}
 use Rattle.winnow_token.specs.Held.{HeldFront}
-use Rattle.winnow_json.specs.Numbers.{Each}
-use Rattle.winnow_json.specs.Answers.{bytes_of, Starts, EndsRun}
+use Rattle.winnow_format.specs.Bytes.{bytes_of, Each, StartsWith, Starts, EndsRun}
+use Rattle.winnow_format.proofs.lemmas.ByteLemmas.{bytes-units, none-left, positive-after}
 
 -- the code of a byte
 abbrev pub itself : ℕ → ℕ
 itself c = c
-
--- ---- Widths
-
--- the tokens after a front have positive widths too
-positive-after : (front rest : Source ℕ) → HasPositiveWidths (front ++ rest)
-    → HasPositiveWidths rest
-positive-after [] rest h = h
-positive-after (x ∷ xs) rest h = positive-after xs rest h.1
 
 -- where a stream moves on, the tokens that remain have positive widths, too
 pub positive-moved : (a b : Ahead ℕ) → Moves a b → HasPositiveWidths a.tokens
     → HasPositiveWidths b.tokens
 positive-moved a b m h = positive-after m.taken b.tokens (subst HasPositiveWidths m.whole h)
 
--- a source without bytes has no tokens
-pub none-left : (r : Source ℕ) → bytes_of r ≡ [] → r ≡ []
-none-left [] e = refl
-none-left (x ∷ xs) e = absurd (cc)
+-- ---- One byte
+
+-- a first token that passes the test of a byte is this byte
+first : (n : ℕ) (r : Source ℕ) (x : ℕ) → first_token r ≡ Some x → (n == x) ≡ true
+    → (y : ℕ × ℕ) × ((r ≡ y ∷ drop 1 r) × (y.0 ≡ n))
+first n [] x e is = absurd (none-some _ e)
+first n (y ∷ ys) x e is = let same : y.0 ≡ x = same_Some _ _ e in (y, (refl, grind (arith, nat_tests, same, is)))
+
+-- a source whose first token fails the test does not begin with the byte
+other : (n : ℕ) (r : Source ℕ) → IfSome (first_token r) (λ x. (n == x) ≡ false)
+    → ¬ (StartsWith n (bytes_of r))
+other n [] h = λ e. e
+other n (y ∷ ys) h = λ e. absurd (grind (arith, nat_tests, h, e))
+
+module _ (n : ℕ) (partial : Bool) (a b : Ahead ℕ) where
+  -- the token that was taken, which is the byte, and the rest
+  taken : (x : ℕ) → OneOf (λ token. n == token) partial a (Gives x b)
+      → (y : ℕ × ℕ) × ((a.tokens ≡ y ∷ b.tokens) × (y.0 ≡ n))
+  taken x h =
+      let at = first n a.tokens x h.0 h.1 in
+      (at.0, (at.1.0 ∙ ap (λ s. at.0 ∷ s) (sym (ap (λ s. s.tokens) h.2)), at.1.1))
+
+  -- a byte that is taken stands first
+  pub byte-given : (x : ℕ) → OneOf (λ token. n == token) partial a (Gives x b)
+      → bytes_of a.tokens ≡ n ∷ bytes_of b.tokens
+  byte-given x h = let at = taken x h in ap bytes_of at.1.0 ∙ ap (λ m. m ∷ bytes_of b.tokens) at.1.1
+
+  -- fewer widths remain after a byte that is taken
+  pub byte-narrower : (x : ℕ) → HasPositiveWidths a.tokens
+      → OneOf (λ token. n == token) partial a (Gives x b) → width b.tokens < width a.tokens
+  byte-narrower x wide h =
+      let at = taken x h in
+      let one = subst HasPositiveWidths at.1.0 wide in omega (arith, one.0, ap width at.1.0)
+
+  -- where a byte is wanted and backtracks, it does not stand first, and nothing moves
+  pub byte-missing : OneOf (λ token. n == token) partial a (Fails (Backtracks b))
+      → ¬ (StartsWith n (bytes_of a.tokens)) × (b ≡ a)
+  byte-missing h = (other n a.tokens h.0, h.2)
+
+-- where it backtracks at the end, nothing more may follow
+pub byte-complete : (n : ℕ) (partial : Bool) (a b : Ahead ℕ)
+    → OneOf (λ token. n == token) partial a (Fails (Backtracks b)) → a.tokens ≡ []
+    → partial ≡ false
+byte-complete n true a b h e = absurd (h.1 refl e)
+byte-complete n false a b h e = refl
 
 -- ---- The bytes of a set
 
 -- tokens that a set holds are bytes that it holds
-each-held : (holds : ℕ → Bool) (r : Source ℕ) → HoldsAll holds r → Each holds (bytes_of r)
+pub each-held : (holds : ℕ → Bool) (r : Source ℕ) → HoldsAll holds r → Each holds (bytes_of r)
 each-held holds [] h = tt
 each-held holds (x ∷ xs) h = (h.0, each-held holds xs h.1)
-
--- the bytes of some bytes as tokens
-pub bytes-units : (xs : List ℕ) → bytes_of (units xs) ≡ xs
-bytes-units [] = refl
-bytes-units (x ∷ xs) = ap (λ l. x ∷ l) (bytes-units xs)
 
 -- a source whose first token a set does not hold begins with no byte of the set
 not-held : (holds : ℕ → Bool) (r : Source ℕ) → ((x : ℕ) → first_token r ≡ Some x → holds x ≡ false)
@@ -70,7 +101,7 @@ all-step holds true x xs held e later l = (e, later (omega (arith, l)))
 all-step holds false x xs held e later l = absurd (omega (arith, l))
 
 -- where the held front is all that remains, the set holds each token
-all-held : (holds : ℕ → Bool) (r : Source ℕ) → length r ≤ length (held_front holds r)
+pub all-held : (holds : ℕ → Bool) (r : Source ℕ) → length r ≤ length (held_front holds r)
     → HoldsAll holds r
 all-held holds [] l = tt
 all-held holds (x ∷ xs) l = all-step holds (holds x.0) x xs (held_front holds xs) refl (all-held holds xs) l
@@ -90,8 +121,10 @@ module _ {S : Type 0} (is_slice : S → Source ℕ → ℕ → Type 0) (holds : 
   held-fails partial a (Backtracks b) small h =
       let none : length (held_front holds a.tokens) ≡ 0 = omega (arith, h.1, small) in (
         h.0,
-        not-held holds a.tokens (subst (λ n. (x : ℕ) → first_token (drop n a.tokens) ≡ Some x → holds x ≡ false) none (next-held_front holds a.tokens)),
-        λ more e. omega (arith, grows partial (length a.tokens) (length (held_front holds a.tokens)) h.3 more, ap length (none-left a.tokens e)),
+        (
+          not-held holds a.tokens (subst (λ n. (x : ℕ) → first_token (drop n a.tokens) ≡ Some x → holds x ≡ false) none (next-held_front holds a.tokens)),
+          λ more e. omega (arith, grows partial (length a.tokens) (length (held_front holds a.tokens)) h.3 more, ap length (none-left a.tokens e)),
+        ),
       )
   held-fails partial a (Cuts b) small h = absurd (let e = h.1 in cc)
   held-fails true a (Needs n) small h = (refl, each-held holds a.tokens (all-held holds a.tokens (grind (arith, nat_tests, h.2))))

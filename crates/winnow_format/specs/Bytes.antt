@@ -1,10 +1,20 @@
 -- The bytes that stand ahead.
-use Rattle.std.specs.Prelude.{◌≡◌, ◌≢◌, ℕ, Bool, true, List, [], ◌∷◌, map}
+use Rattle.std.specs.Prelude.{◌≡◌, ◌≢◌, ℕ, Bool, true, List, [], ◌∷◌, map, ⊤}
 use Rattle.winnow_stream.specs.Source.{Source}
 
 -- the bytes of a source
 abbrev pub bytes_of : Source ℕ → List ℕ
 bytes_of r = map (λ x. x.0) r
+
+-- the test holds of each byte
+abbrev pub Each : (ℕ → Bool) → List ℕ → Type 0
+Each test [] = ⊤
+Each test (byte ∷ bytes) = (test byte ≡ true) × Each test bytes
+
+-- the bytes begin with this byte
+abbrev pub StartsWith : ℕ → List ℕ → Type 0
+StartsWith n [] = ⊥
+StartsWith n (byte ∷ bytes) = byte ≡ n
 
 -- the bytes begin with one of which the test holds
 abbrev pub Starts : (ℕ → Bool) → List ℕ → Type 0

@@ -1,0 +1,3 @@
+pub mod ByteLemmas
+pub mod TokenLemmas
+pub mod GatheredLemmas
