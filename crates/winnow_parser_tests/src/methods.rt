@@ -1,26 +1,32 @@
+ghost use Rattle.winnow_stream.specs.Location.{IsLocation};
+
 use std::alloc::Global;
 use std::ops::Range;
 use winnow_error::EmptyError;
-use winnow_parser::{Failure, ModalResult, Parser};
-use winnow_stream::{Stream, StreamIsPartial};
+use winnow_match::Compare;
+use winnow_parser::{ModalResult, Parser};
+use winnow_stream::{Location, Stream, StreamIsPartial};
 use winnow_token::{any, literal, one_of, take};
 use winnow_wrap::{LocatingSlice, Partial};
 
-// Returns the value of a parser, if it gives one.
-fn value<O, E: Drop>(answer: ModalResult<O, E>) -> Option<O> {
-    match answer {
-        Ok(value) => Some(value),
-        Err(_) => None,
-    }
+// The first token with its place, and where the second and the third stand.
+type Places = ((char, Range<usize>), Range<usize>);
+
+fn read_places<I: StreamIsPartial + Location + Stream<Token = char>>(
+    alloc: Global,
+    input: &mut I,
+) -> ModalResult<Places, EmptyError>
+    requires valid { I.valid input.old }
+    requires location { IsLocation I.location I.token_end I.token_start }
+{
+    let first = any().with_span();
+    let others = (any(), any()).span();
+    (first, others).parse_next(alloc, input)
 }
 
-// Returns where in the text the second and the third token stand, and the first token with its
-// place.
-fn places(alloc: Global, text: &str) -> Option<((char, Range<usize>), Range<usize>)> {
+fn places(alloc: Global, text: &str) -> Option<Places> {
     let mut input = LocatingSlice::new(text);
-    let parser = (any().with_span(), (any(), any()).span());
-    let answer: ModalResult<_, EmptyError> = parser.parse_next(alloc, &mut input);
-    value(answer)
+    read_places(alloc, &mut input).ok()
 }
 
 #[test]
@@ -29,14 +35,25 @@ fn places_are_those_of_the_whole_input(rt: HostRuntime) {
     assert_eq!(rt; places(rt.alloc(), "aß"), None);
 }
 
-// Returns what is taken of a whole text, or where the parser stopped.
-fn whole(alloc: Global, text: &'static str) -> Option<Result<&'static str, usize>> {
-    let input = Partial::new(text);
+// Returns what is taken of a whole input, or where the parser stopped.
+fn read_whole<I: StreamIsPartial + Compare<&'static str> + Drop>(
+    alloc: Global,
+    input: I,
+) -> Option<Result<I::Slice, usize>>
+where
+    I::PartialState: Drop,
+    I::Slice: Drop,
+    requires { I.valid input }
+{
     match Parser::<_, EmptyError>::parse(&literal("ab"), alloc, input) {
         Ok(Ok(taken)) => Some(Ok(taken)),
         Ok(Err(error)) => Some(Err(error.offset())),
         Err(_) => None,
     }
+}
+
+fn whole(alloc: Global, text: &'static str) -> Option<Result<&'static str, usize>> {
+    read_whole(alloc, Partial::new(text))
 }
 
 #[test]
@@ -47,12 +64,20 @@ fn a_whole_text_is_read_to_its_end(rt: HostRuntime) {
     assert_eq!(rt; whole(rt.alloc(), "xb"), Some(Err(0)));
 }
 
-// Returns the first token and what remains, and the same by a reference to the parser.
-fn peeked(alloc: Global, text: &'static str) -> Option<(&'static str, char)> {
+// Returns what remains and the first token, by a reference to the parser.
+fn peek_by_reference<I: StreamIsPartial + Drop>(
+    alloc: Global,
+    input: I,
+) -> ModalResult<(I, I::Token), EmptyError>
+    requires { I.valid input }
+{
     let parser = any();
-    let reference = Parser::<&str, EmptyError>::by_ref(&parser);
-    let answer: ModalResult<_, EmptyError> = reference.parse_peek(alloc, text);
-    value(answer)
+    let reference = Parser::<I, EmptyError>::by_ref(&parser);
+    reference.parse_peek(alloc, input)
+}
+
+fn peeked(alloc: Global, text: &'static str) -> Option<(&'static str, char)> {
+    peek_by_reference(alloc, text).ok()
 }
 
 #[test]
@@ -61,14 +86,22 @@ fn what_remains_comes_with_the_value(rt: HostRuntime) {
     assert_eq!(rt; peeked(rt.alloc(), ""), None);
 }
 
-// Returns as many characters as the digit before them says.
+// Reads as many characters as the digit before them says.
+fn read_counted<I: StreamIsPartial + Stream<Token = char>>(
+    alloc: Global,
+    input: &mut I,
+) -> ModalResult<I::Slice, EmptyError>
+    requires { I.valid input.old }
+{
+    let count = one_of('0'..='9').map(|digit: char| (digit as usize).saturating_sub(48));
+    count
+        .flat_map(|count: usize| take(count))
+        .parse_next(alloc, input)
+}
+
 fn counted(alloc: Global, text: &'static str) -> Option<&'static str> {
     let mut input = text;
-    let count = one_of('0'..='9').map(|digit: char| (digit as usize).saturating_sub(48));
-    let answer: ModalResult<_, EmptyError> = count
-        .flat_map(|count: usize| take(count))
-        .parse_next(alloc, &mut input);
-    value(answer)
+    read_counted(alloc, &mut input).ok()
 }
 
 #[test]

@@ -1,141 +1,108 @@
-//! `repeat_till` on a whole text, and on each front of the text to which more may come, where it
-//! must give the same answer or need more.
+//! `repeat_till` on whole texts and on their fronts: the examples of winnow's documentation, and
+//! when the end is asked for.
 
+use Answer::{Backtrack, Cut, Read};
 use std::alloc::Global;
 use winnow_combinator::{cut_err, repeat_till};
 use winnow_error::EmptyError;
-use winnow_parser::{Failure, ModalResult, Parser};
+use winnow_match::Compare;
+use winnow_parser::{ModalResult, Parser};
+use winnow_parser_test_helpers::{Answer, Fronts, TextRow, first_other, first_other_of};
 use winnow_stream::{Stream, StreamIsPartial};
 use winnow_token::{literal, take};
 use winnow_wrap::Partial;
 
-// A parser of values up to `end`: of `abc`, of three characters, or of nothing.
-#[derive(Clone, Copy, Debug, PartialEq, Eq)]
-enum Example {
-    Any,
-    TwoToFour,
-    Descending,
-    CutEnd,
-    OneTriple,
-    Nothing,
-}
+type Text = Partial<&'static str>;
 
-// The kind of an answer. A value has the number of values and the number of bytes after the end.
-#[derive(Clone, Copy, Debug, PartialEq, Eq)]
-enum Told {
-    Read(usize, usize),
-    Backtrack,
-    Cut,
-    More,
-    Refused,
-}
+type Word = &'static str;
 
-use Told::{Backtrack, Cut, Read};
+// The number of values, and the end.
+type Till = (usize, Word);
 
-fn tell(example: Example, alloc: Global, input: &mut Partial<&'static str>) -> Told {
-    let item = literal("abc");
-    let end = literal("end");
-    let answer: ModalResult<(usize, &'static str), EmptyError> = match example {
-        Example::Any => repeat_till(0.., item, end).parse_next(alloc, input),
-        Example::TwoToFour => repeat_till(2..=4, item, end).parse_next(alloc, input),
-        Example::Descending => repeat_till(4..=2, item, end).parse_next(alloc, input),
-        Example::CutEnd => repeat_till(0.., item, cut_err(end)).parse_next(alloc, input),
-        Example::OneTriple => repeat_till(1.., take(3), end).parse_next(alloc, input),
-        Example::Nothing => repeat_till(0.., take(0), end).parse_next(alloc, input),
-    };
-    match answer {
-        Ok((count, "end")) => Told::Read(count, input.eof_offset()),
-        Ok(_) | Err(Failure::Refused(_)) => Told::Refused,
-        Err(Failure::Backtrack(_)) => Told::Backtrack,
-        Err(Failure::Cut(_)) => Told::Cut,
-        Err(Failure::Incomplete(_)) => Told::More,
-    }
-}
+const ANY: &[TextRow<Till>] = &[
+    ("abcabcend", 9, Read((2, "end"), "")),
+    ("abc123end", 4, Backtrack("123end")),
+    ("123123end", 1, Backtrack("123123end")),
+    ("", 1, Backtrack("")),
+    ("abcendefg", 6, Read((1, "end"), "efg")),
+    ("endabc", 3, Read((0, "end"), "abc")),
+];
 
-// The end of the first front of the text that is not answered as wanted: one to which more may come
-// may also need more; the last turn asks of the whole.
-fn first_other(
+const TWO_TO_FOUR: &[TextRow<Till>] = &[
+    ("end", 1, Backtrack("end")),
+    ("abcend", 4, Backtrack("end")),
+    ("abcabcend", 9, Read((2, "end"), "")),
+    ("abcabcabcabcend", 15, Read((4, "end"), "")),
+    ("abcabcabcabcabcend", 13, Backtrack("abcend")),
+];
+
+const DESCENDING: &[TextRow<Till>] = &[("abcabcabcend", 0, Cut("abcabcabcend"))];
+
+fn of_words<I: Fronts<Whole = Word> + Stream<Token = char, Slice = Word> + Compare<Word>>(
     alloc: Global,
-    example: Example,
-    text: &'static str,
-    wanted: Told,
-) -> Option<(usize, Told)> {
-    let mut whole = Partial::new(text);
-    let _ = whole.complete();
-    let told = tell(example, alloc, &mut whole);
-    if told != wanted {
-        return Some((text.len(), told));
-    }
-    for end in 0..=text.len() {
-        let mut front = Partial::new(text.get(..end).unwrap_or(""));
-        let told = match tell(example, alloc, &mut front) {
-            Read(count, left) => Read(count, (text.len() - end).saturating_add(left)),
-            other => other,
-        };
-        if told != wanted && told != Told::More {
-            return Some((end, told));
-        }
-    }
-    None
+) -> Option<(usize, usize)> {
+    let (item, end) = (literal("abc"), literal("end"));
+    let tables = [
+        (repeat_till(0.., item, end), ANY),
+        (repeat_till(2..=4, item, end), TWO_TO_FOUR),
+        (repeat_till(4..=2, item, end), DESCENDING),
+    ];
+    first_other_of::<I, _, _>(alloc, &tables)
 }
 
 #[test]
 fn values_up_to_an_end_are_read_as_documented(rt: HostRuntime) {
-    let rows = [
-        (Example::Any, "abcabcend", Read(2, 0)),
-        (Example::Any, "abc123end", Backtrack),
-        (Example::Any, "123123end", Backtrack),
-        (Example::Any, "", Backtrack),
-        (Example::Any, "abcendefg", Read(1, 3)),
-        (Example::Any, "endabc", Read(0, 3)),
-        (Example::TwoToFour, "end", Backtrack),
-        (Example::TwoToFour, "abcend", Backtrack),
-        (Example::TwoToFour, "abcabcend", Read(2, 0)),
-        (Example::TwoToFour, "abcabcabcabcend", Read(4, 0)),
-        (Example::TwoToFour, "abcabcabcabcabcend", Backtrack),
+    assert_eq!(rt; of_words::<Text>(rt.alloc()), None);
+}
+
+const ONE_TRIPLE: &[TextRow<Till>] = &[
+    ("endend123", 6, Read((1, "end"), "123")),
+    ("end123", 7, Backtrack("")),
+];
+
+const NOTHING: &[TextRow<Till>] = &[("end", 3, Read((0, "end"), "")), ("abc", 1, Cut("abc"))];
+
+const CUT_END: &[TextRow<Till>] = &[
+    ("end", 3, Read((0, "end"), "")),
+    ("abcend", 1, Cut("abcend")),
+];
+
+fn of_slices<I: Fronts<Whole = Word> + Stream<Token = char, Slice = Word> + Compare<Word>>(
+    alloc: Global,
+) -> Option<(usize, usize)> {
+    let end = literal("end");
+    let tables = [
+        (repeat_till(1.., take(3), end), ONE_TRIPLE),
+        (repeat_till(0.., take(0), end), NOTHING),
     ];
-    for (example, text, wanted) in rows {
-        assert_eq!(rt;
-            first_other(rt.alloc(), example, text, wanted),
-            None,
-            "{example:?} {text}"
-        );
-    }
+    first_other_of::<I, _, _>(alloc, &tables)
+}
+
+fn with_a_cut_end<I: Fronts<Whole = Word> + Stream<Token = char, Slice = Word> + Compare<Word>>(
+    alloc: Global,
+) -> Option<usize> {
+    let parser = repeat_till(0.., literal("abc"), cut_err(literal("end")));
+    first_other::<I, _, _>(alloc, &parser, CUT_END)
 }
 
 #[test]
 fn an_end_is_asked_for_once_the_values_are_enough(rt: HostRuntime) {
-    let rows = [
-        (Example::OneTriple, "endend123", Read(1, 3)),
-        (Example::OneTriple, "end123", Backtrack),
-        (Example::CutEnd, "end", Read(0, 0)),
-        (Example::CutEnd, "abcend", Cut),
-        (Example::Nothing, "end", Read(0, 0)),
-        (Example::Nothing, "abc", Cut),
-        (Example::Descending, "abcabcabcend", Cut),
-    ];
-    for (example, text, wanted) in rows {
-        assert_eq!(rt;
-            first_other(rt.alloc(), example, text, wanted),
-            None,
-            "{example:?} {text}"
-        );
-    }
+    assert_eq!(rt; of_slices::<Text>(rt.alloc()), None);
+    assert_eq!(rt; with_a_cut_end::<Text>(rt.alloc()), None);
 }
 
 // Returns the values, the end and what remains.
-fn gather(
+fn gather<I: StreamIsPartial + Stream<Token = char, Slice = Word> + Compare<Word> + Drop>(
     alloc: Global,
-    text: &'static str,
-) -> Option<(Vec<&'static str>, &'static str, &'static str)> {
-    let mut input = text;
-    let answer: ModalResult<(Vec<&'static str>, &'static str), EmptyError> = repeat_till(
-        0..,
-        literal("abc"),
-        literal("end"),
-    ).parse_next(alloc, &mut input);
+    input: I,
+) -> Option<(Vec<Word>, Word, Word)>
+    requires { I.valid input }
+{
+    let mut input = input;
+    let parser = repeat_till(0.., literal("abc"), literal("end"));
+    let answer: ModalResult<(Vec<Word>, Word), EmptyError> = parser.parse_next(alloc, &mut input);
     match answer {
-        Ok((values, end)) => Some((values, end, input)),
+        Ok((values, end)) => Some((values, end, input.finish())),
         Err(_) => None,
     }
 }
