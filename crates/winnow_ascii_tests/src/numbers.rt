@@ -1,168 +1,129 @@
-//! Numbers. Each parser is asked on a whole text, and on each front of the text to which more may
-//! come, where it must give the same answer or need more.
+//! Numbers, on whole texts and on their fronts.
 
+use Answer::{Backtrack, Read};
 use std::alloc::Global;
 use winnow_ascii::{dec_int, dec_uint, hex_uint};
-use winnow_error::EmptyError;
-use winnow_parser::{Failure, ModalResult, Parser};
-use winnow_stream::{Stream, StreamIsPartial};
+use winnow_parser_test_helpers::{Answer, Fronts, TextRow, first_other};
+use winnow_stream::Stream;
 use winnow_wrap::Partial;
 
-// How a number is written, and its type.
-#[derive(Clone, Copy, Debug)]
-enum Number {
-    DecU8,
-    DecU64,
-    DecI8,
-    DecI64,
-    HexU8,
-    HexU16,
-    HexU32,
-    HexU64,
-    HexUsize,
-}
+type Text = Partial<&'static str>;
 
-use Number::{DecI8, DecI64, DecU8, DecU64, HexU8, HexU16, HexU32, HexU64, HexUsize};
+type Word = &'static str;
 
-fn read(
+const DEC_U8: &[TextRow<u8>] = &[
+    ("0", 1, Read(0, "")),
+    ("01", 1, Read(0, "1")),
+    ("12;", 3, Read(12, ";")),
+    ("255", 4, Read(255, "")),
+    ("256", 4, Backtrack("256")),
+    ("1000", 5, Backtrack("1000")),
+    ("", 1, Backtrack("")),
+    ("c1", 1, Backtrack("c1")),
+    ("+1", 1, Backtrack("+1")),
+    ("-1", 1, Backtrack("-1")),
+];
+
+const DEC_U64: &[TextRow<u64>] = &[
+    ("18446744073709551615", 21, Read(18446744073709551615, "")),
+    (
+        "18446744073709551616",
+        21,
+        Backtrack("18446744073709551616"),
+    ),
+];
+
+fn decimals<I: Fronts<Whole = Word> + Stream<Token = char, Slice = Word>>(
     alloc: Global,
-    number: Number,
-    input: &mut Partial<&'static str>,
-) -> ModalResult<i128, EmptyError> {
-    Ok(match number {
-        Number::DecU8 => dec_uint::<u8>().parse_next(alloc, input)? as i128,
-        Number::DecU64 => dec_uint::<u64>().parse_next(alloc, input)? as i128,
-        Number::DecI8 => dec_int::<i8>().parse_next(alloc, input)? as i128,
-        Number::DecI64 => dec_int::<i64>().parse_next(alloc, input)? as i128,
-        Number::HexU8 => hex_uint::<u8>().parse_next(alloc, input)? as i128,
-        Number::HexU16 => hex_uint::<u16>().parse_next(alloc, input)? as i128,
-        Number::HexU32 => hex_uint::<u32>().parse_next(alloc, input)? as i128,
-        Number::HexU64 => hex_uint::<u64>().parse_next(alloc, input)? as i128,
-        Number::HexUsize => hex_uint::<usize>().parse_next(alloc, input)? as i128,
-    })
-}
-
-// The end of the first front of the text that is not answered as wanted: one to which more may come
-// may also need more; the last turn asks of the whole. `wanted` has the number and the count of
-// bytes that are left.
-fn first_other(
-    alloc: Global,
-    number: Number,
-    text: &'static str,
-    wanted: Option<(i128, usize)>,
-) -> Option<usize> {
-    // The last turn asks of the whole.
-    for turn in 0..=text.len().saturating_add(1) {
-        let is_whole = turn > text.len();
-        let mut input = Partial::new(text.get(..turn).unwrap_or(text));
-        if is_whole {
-            let _ = input.complete();
-        }
-        let to_come = text.len().saturating_sub(turn);
-        let is_right = match read(alloc, number, &mut input) {
-            Ok(value) => wanted == Some((value, input.eof_offset().saturating_add(to_come))),
-            Err(Failure::Incomplete(_)) => !is_whole,
-            Err(Failure::Backtrack(_)) => wanted == None,
-            Err(_) => false,
-        };
-        if !is_right {
-            return Some(turn);
-        }
-    }
-    None
+) -> [Option<usize>; 2] {
+    [
+        first_other::<I, _, _>(alloc, &dec_uint(), DEC_U8),
+        first_other::<I, _, _>(alloc, &dec_uint(), DEC_U64),
+    ]
 }
 
 #[test]
 fn decimal_numbers_are_answered(rt: HostRuntime) {
-    let rows = [
-        (DecU8, "0", Some((0, 0))),
-        (DecU8, "01", Some((0, 1))),
-        (DecU8, "12;", Some((12, 1))),
-        (DecU8, "255", Some((255, 0))),
-        (DecU8, "256", None),
-        (DecU8, "1000", None),
-        (DecU8, "", None),
-        (DecU8, "c1", None),
-        (DecU8, "+1", None),
-        (DecU8, "-1", None),
-        (
-            DecU64,
-            "18446744073709551615",
-            Some((18446744073709551615, 0)),
-        ),
-        (DecU64, "18446744073709551616", None),
-    ];
-    for (number, text, wanted) in rows {
-        assert_eq!(rt;
-            first_other(rt.alloc(), number, text, wanted),
-            None,
-            "{number:?} {text}"
-        );
-    }
+    assert_eq!(rt; decimals::<Text>(rt.alloc()), [None; 2]);
+}
+
+const DEC_I8: &[TextRow<i8>] = &[
+    ("0", 1, Read(0, "")),
+    ("01", 1, Read(0, "1")),
+    ("+12;", 4, Read(12, ";")),
+    ("-12;", 4, Read(-12, ";")),
+    ("127", 4, Read(127, "")),
+    ("128", 4, Backtrack("128")),
+    ("-128", 5, Read(-128, "")),
+    ("-129", 5, Backtrack("-129")),
+    ("-0", 2, Backtrack("-0")),
+    ("+01", 2, Backtrack("+01")),
+    ("+", 2, Backtrack("+")),
+    ("--1", 2, Backtrack("--1")),
+    ("", 1, Backtrack("")),
+];
+
+const DEC_I64: &[TextRow<i64>] = &[
+    ("-9223372036854775808", 21, Read(-9223372036854775808, "")),
+    ("9223372036854775808", 20, Backtrack("9223372036854775808")),
+];
+
+fn signed_decimals<I: Fronts<Whole = Word> + Stream<Token = char, Slice = Word>>(
+    alloc: Global,
+) -> [Option<usize>; 2] {
+    [
+        first_other::<I, _, _>(alloc, &dec_int(), DEC_I8),
+        first_other::<I, _, _>(alloc, &dec_int(), DEC_I64),
+    ]
 }
 
 #[test]
 fn decimal_numbers_with_a_sign_are_answered(rt: HostRuntime) {
-    let rows = [
-        (DecI8, "0", Some((0, 0))),
-        (DecI8, "01", Some((0, 1))),
-        (DecI8, "+12;", Some((12, 1))),
-        (DecI8, "-12;", Some((-12, 1))),
-        (DecI8, "127", Some((127, 0))),
-        (DecI8, "128", None),
-        (DecI8, "-128", Some((-128, 0))),
-        (DecI8, "-129", None),
-        (DecI8, "-0", None),
-        (DecI8, "+01", None),
-        (DecI8, "+", None),
-        (DecI8, "--1", None),
-        (DecI8, "", None),
-        (
-            DecI64,
-            "-9223372036854775808",
-            Some((-9223372036854775808, 0)),
-        ),
-        (DecI64, "9223372036854775808", None),
-    ];
-    for (number, text, wanted) in rows {
-        assert_eq!(rt;
-            first_other(rt.alloc(), number, text, wanted),
-            None,
-            "{number:?} {text}"
-        );
-    }
+    assert_eq!(rt; signed_decimals::<Text>(rt.alloc()), [None; 2]);
+}
+
+const HEX_U8: &[TextRow<u8>] = &[("fF", 3, Read(255, "")), ("000", 3, Backtrack("000"))];
+
+const HEX_U16: &[TextRow<u16>] = &[
+    ("ffffg", 5, Read(65535, "g")),
+    ("10000", 5, Backtrack("10000")),
+];
+
+const HEX_U32: &[TextRow<u32>] = &[
+    ("01AE;", 5, Read(0x01AE, ";")),
+    ("abc", 4, Read(0x0ABC, "")),
+    ("ggg", 1, Backtrack("ggg")),
+    ("", 1, Backtrack("")),
+    ("+1", 1, Backtrack("+1")),
+    ("c5a31be2", 9, Read(0xC5A31BE2, "")),
+    ("C5A31BE2;", 9, Read(0xC5A31BE2, ";")),
+    ("00c5a31be2", 9, Backtrack("00c5a31be2")),
+    ("c5a31be201", 9, Backtrack("c5a31be201")),
+];
+
+const HEX_U64: &[TextRow<u64>] = &[
+    ("ffffffffffffffff", 17, Read(18446744073709551615, "")),
+    ("10000000000000000", 17, Backtrack("10000000000000000")),
+];
+
+const HEX_USIZE: &[TextRow<usize>] = &[
+    ("ffffffffffffffff", 17, Read(18446744073709551615, "")),
+    ("10000000000000000", 17, Backtrack("10000000000000000")),
+];
+
+fn hexadecimals<I: Fronts<Whole = Word> + Stream<Token = char, Slice = Word>>(
+    alloc: Global,
+) -> [Option<usize>; 5] {
+    [
+        first_other::<I, _, _>(alloc, &hex_uint(), HEX_U8),
+        first_other::<I, _, _>(alloc, &hex_uint(), HEX_U16),
+        first_other::<I, _, _>(alloc, &hex_uint(), HEX_U32),
+        first_other::<I, _, _>(alloc, &hex_uint(), HEX_U64),
+        first_other::<I, _, _>(alloc, &hex_uint(), HEX_USIZE),
+    ]
 }
 
 #[test]
 fn hexadecimal_numbers_are_answered(rt: HostRuntime) {
-    let rows = [
-        (HexU32, "01AE;", Some((0x01AE, 1))),
-        (HexU32, "abc", Some((0x0ABC, 0))),
-        (HexU32, "ggg", None),
-        (HexU32, "", None),
-        (HexU32, "+1", None),
-        (HexU32, "c5a31be2", Some((0xC5A31BE2, 0))),
-        (HexU32, "C5A31BE2;", Some((0xC5A31BE2, 1))),
-        (HexU32, "00c5a31be2", None),
-        (HexU32, "c5a31be201", None),
-        (HexU8, "fF", Some((255, 0))),
-        (HexU8, "000", None),
-        (HexU16, "ffffg", Some((65535, 1))),
-        (HexU16, "10000", None),
-        (HexU64, "ffffffffffffffff", Some((18446744073709551615, 0))),
-        (HexU64, "10000000000000000", None),
-        (
-            HexUsize,
-            "ffffffffffffffff",
-            Some((18446744073709551615, 0)),
-        ),
-        (HexUsize, "10000000000000000", None),
-    ];
-    for (number, text, wanted) in rows {
-        assert_eq!(rt;
-            first_other(rt.alloc(), number, text, wanted),
-            None,
-            "{number:?} {text}"
-        );
-    }
+    assert_eq!(rt; hexadecimals::<Text>(rt.alloc()), [None; 5]);
 }
