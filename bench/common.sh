@@ -1,33 +1,11 @@
-# What the benches share: the repository of their crates, where the Rust crate comes from, our static libraries, and the build of bench/rust.
-# `offline` is what Cargo may do without a local copy: `--offline`, or nothing where it may ask its registry.
+# What bench/run and bench/agree share: where the Rust crate comes from, our static libraries, and the build of bench/rust.
+# Both set `offline` to what Cargo may do without a local copy: `--offline`, or nothing where it may ask its registry.
 
 libraries=(winnow_bench winnow_bench_agree winnow_bench_values)
 manifest=$PWD/rust/Cargo.toml
 programs=$PWD/rust/target/release
 flags=()
 wanted_level=
-tree=out/tree
-
-# Lays out the repository of the benches in bench/out: their crates are copied, and those of the library linked, so both trees share what is
-# built of these. The gate of the library does not prove the benches: they are proved here, where they are built.
-lay_out() {
-    local crate name part
-    mkdir -p "$tree/crates"
-    cp ../HANDLES "$tree"
-    cat ../crates.txt crates.txt >"$tree/crates.new"
-    cmp -s "$tree/crates.new" "$tree/crates.txt" || cp "$tree/crates.new" "$tree/crates.txt"
-    find "$tree/crates" -type l -delete
-    for crate in ../crates/*/; do
-        ln -s "$(realpath "$crate")" "$tree/crates/$(basename "$crate")"
-    done
-    for crate in crates/*/; do
-        name=$(basename "$crate")
-        for part in src specs proofs; do
-            [[ ! -d $tree/crates/$name/$part ]] || rm -r "$tree/crates/$name/$part"
-            [[ ! -d $crate$part ]] || cp -Rp --parents "$crate$part" "$tree"
-        done
-    done
-}
 
 # Whether Cargo finds the Rust crate: in the local copies that WINNOW_SOURCE and MEMCHR_SOURCE name, else where it finds crates itself.
 find_crate() {
@@ -56,19 +34,18 @@ find_crate() {
 # where it was built in the same way after the last change of a source.
 build_ours() {
     local library built way
-    lay_out
     mkdir -p rust/target
     way="$(rt version) ${wanted_level:-at the default level}"
     for library in "${libraries[@]}"; do
         built=rust/target/$library.built
-        if [[ -f $built && $(<"$built") == "$way" && ! $tree/crates/$library/out/lib$library.a -nt rust/$library.log ]] &&
-            [[ -f $tree/crates/$library/out/lib$library.a ]] &&
-            [[ -z $(find ../crates.txt crates.txt {..,.}/crates/*/{src,specs,proofs} -newer "$built" -print -quit 2>/dev/null) ]]; then
+        if [[ -f $built && $(<"$built") == "$way" && ! ../crates/$library/out/lib$library.a -nt rust/$library.log ]] &&
+            [[ -f ../crates/$library/out/lib$library.a ]] &&
+            [[ -z $(find ../crates.txt ../crates/*/{src,specs,proofs} -newer "$built" -print -quit 2>/dev/null) ]]; then
             continue
         fi
         rm -f "$built"
         echo "$way" >"$built.new"
-        if ! (cd "$tree/crates/$library" && rt lib $wanted_level) >"rust/$library.log" 2>&1; then
+        if ! (cd "../crates/$library" && rt lib $wanted_level) >"rust/$library.log" 2>&1; then
             grep -E 'error|no proof|not proved' "rust/$library.log" || tail "rust/$library.log"
             echo "bench: our library $library is not built"
             exit 1
@@ -83,7 +60,7 @@ build_ours() {
 
 # Builds a program of bench/rust for the same processor level.
 build_rust() {
-    WINNOW_BENCH_CRATES=$(realpath "$tree/crates") WINNOW_BENCH_LIBRARIES="${libraries[*]}" RATTLE_C_FOLDER=$(dirname "$(rt doc)")/c RUSTFLAGS="-C target-cpu=$level" \
+    WINNOW_BENCH_CRATES=$(realpath ../crates) WINNOW_BENCH_LIBRARIES="${libraries[*]}" RATTLE_C_FOLDER=$(dirname "$(rt doc)")/c RUSTFLAGS="-C target-cpu=$level" \
         cargo build --release --quiet --manifest-path "$manifest" --target-dir rust/target "${flags[@]}" --bin "$1" 2>rust/build.log && return
     tail -40 rust/build.log
     echo "bench: $1 is not built"

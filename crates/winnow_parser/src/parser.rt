@@ -25,9 +25,9 @@ use winnow_stream::StreamIsPartial;
 /// A token with its place, and then the place of the two tokens after it:
 ///
 /// ```
-/// let mut input = LocatingSlice::new(text);
-/// let parser = (any().with_span(), (any(), any()).span());
-/// let answer: ModalResult<_, EmptyError> = parser.parse_next(alloc, &mut input);
+/// let first = any().with_span();
+/// let others = (any(), any()).span();
+/// (first, others).parse_next(alloc, input)
 /// ```
 pub trait Parser<I: StreamIsPartial, E>: Sized {
     /// What it reads.
