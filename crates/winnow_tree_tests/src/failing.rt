@@ -22,6 +22,24 @@ where
     ParseError::new(input, start, inner)
 }
 
+/// Returns that error of a parse that fails after the front of width `offset`, or at the start where
+/// no front has that width.
+pub fn fail_with<I: Stream, E: ParserError<I>>(
+    mut input: I,
+    offset: usize,
+    inner: E,
+) -> ParseError<I, E>
+where
+    I::Slice: Drop,
+    requires { I.valid input }
+{
+    let start = input.checkpoint();
+    if input.is_offset(offset) {
+        let _ = input.next_slice(offset);
+    }
+    ParseError::new(input, start, inner)
+}
+
 /// Returns two groups of alternatives, joined.
 pub fn joined<E: Drop>(
     alloc: Global,

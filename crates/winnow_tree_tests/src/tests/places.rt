@@ -1,9 +1,9 @@
+use crate::failing::fail_with;
 use std::alloc::{AllocError, Global};
 use std::test::Fail;
 use winnow_context::StrContext;
 use winnow_context::StrContext::Label;
 use winnow_error::{AddContext, ParserError};
-use winnow_parse_error::ParseError;
 use winnow_stream::Stream;
 use winnow_tree::TreeError;
 
@@ -21,7 +21,7 @@ fn failed(alloc: Global, rest: &'static str, name: &'static str) -> Result<Tree,
 fn shown(alloc: Global) -> Result<String, AllocError> {
     let rest = TEXT.get(10..).unwrap_or("");
     let tree = failed(alloc, rest, "number")?.or(alloc, failed(alloc, rest, "word")?)?;
-    let error = ParseError::new(rest, TEXT.checkpoint(), tree);
+    let error = fail_with(TEXT, 10, tree);
     let reasons = error.inner().text(alloc)?;
     error.text_with(alloc, reasons.as_str())
 }
