@@ -6,107 +6,75 @@ ghost use Rattle.std.specs.Prelude.{◌<◌};
 use crate::lines::{Nothing, NumberLine, number_line, word_line};
 use std::alloc::{AllocError, Global};
 use std::test::Fail;
-use winnow_reader::{ByteReader, Next, ReadError, Record, determined_reading_law};
+use winnow_reader::{ByteReader, Next, ReadError, determined_reading_law};
 
-// How a reader stopped; `Never` where it gave more values than there are bytes.
+// How a reader stopped.
 #[derive(Clone, Copy, Debug, PartialEq, Eq)]
 enum Stop {
     Waits,
     Done,
     Fails(usize),
     Idles(usize),
-    Never,
 }
 
-// What was read: each value with the place where it ended; how the reader stopped after the last
-// piece, when it was asked again, and after the end; the bytes that no record took; and how many
-// bytes the reader kept after the last piece, and at most.
-#[derive(Drop)]
-struct Told<O> {
-    values: Vec<(O, usize)>,
-    stops: [Stop; 3],
-    ahead: Vec<u8>,
-    held: usize,
+// What was read: each value with the place where it ended, how the reader stopped, and the most
+// bytes that it kept.
+#[derive(Debug, Drop)]
+struct Told {
+    values: Vec<(u32, usize)>,
+    stop: Stop,
     most: usize,
 }
 
-// Reads until there is no value, notes the values, and returns how the reader stopped.
-fn read_on<R: Record>(
-    reader: &mut ByteReader<R>,
-    values: &mut Vec<(R::Output, usize)>,
-) -> Result<Stop, AllocError>
-where
-    R::Error: Drop,
-    requires { (r : R) → R.ready r }
-{
+// Reads until there is no value, and notes the values.
+fn read_on(reader: &mut ByteReader<NumberLine>, told: &mut Told) -> Result<(), AllocError> {
     for _ in 0..=reader.fed() {
         match reader.read_next() {
-            Ok(Next::Value(value)) => values.push((value, reader.place()))?,
-            Ok(Next::NeedsMore) => return Ok(Stop::Waits),
-            Ok(Next::Done) => return Ok(Stop::Done),
-            Err(ReadError::Failed { error: _, place }) => return Ok(Stop::Fails(place)),
-            Err(ReadError::TakesNothing { place }) => return Ok(Stop::Idles(place)),
+            Ok(Next::Value(value)) => told.values.push((value, reader.place()))?,
+            Ok(Next::NeedsMore) => {
+                told.stop = Stop::Waits;
+                return Ok(());
+            }
+            Ok(Next::Done) => {
+                told.stop = Stop::Done;
+                return Ok(());
+            }
+            Err(ReadError::Failed { error: _, place }) => {
+                told.stop = Stop::Fails(place);
+                return Ok(());
+            }
+            Err(ReadError::TakesNothing { place }) => {
+                told.stop = Stop::Idles(place);
+                return Ok(());
+            }
             Err(ReadError::Refused(refused)) => return Err(refused),
         }
     }
-    Ok(Stop::Never)
+    Ok(())
 }
 
 // Pushes a piece, where the reader may be pushed to, and reads.
-fn push<R: Record>(
-    reader: &mut ByteReader<R>,
-    told: &mut Told<R::Output>,
+fn push(
+    reader: &mut ByteReader<NumberLine>,
+    told: &mut Told,
     piece: &[u8],
-) -> Result<(), AllocError>
-where
-    R::Error: Drop,
-    requires { (r : R) → R.ready r }
-{
+) -> Result<(), AllocError> {
     if reader.has_ended() || piece.len() > usize::MAX - reader.fed() {
         return Ok(());
     }
     reader.push(piece)?;
-    told.held = reader.held();
-    told.most = told.most.max(told.held);
-    told.stops[0] = read_on(reader, &mut told.values)?;
-    Ok(())
-}
-
-// Reads again, then ends the input, and reads what it still gives.
-fn finish<R: Record>(
-    alloc: Global,
-    reader: &mut ByteReader<R>,
-    told: &mut Told<R::Output>,
-) -> Result<(), AllocError>
-where
-    R::Error: Drop,
-    requires { (r : R) → R.ready r }
-{
-    told.stops[1] = read_on(reader, &mut told.values)?;
-    reader.end();
-    told.stops[2] = read_on(reader, &mut told.values)?;
-    told.ahead = reader.ahead().to_vec(alloc)?;
-    Ok(())
+    told.most = told.most.max(reader.held());
+    read_on(reader, told)
 }
 
 // Reads a text in pieces of this size, of which the last may be shorter.
-fn read_pieces<R: Record + Drop>(
-    alloc: Global,
-    parser: R,
-    text: &[u8],
-    size: usize,
-) -> Result<Told<R::Output>, AllocError>
-where
-    R::Error: Drop,
-    requires size { 0 < size }
-    requires ready { (r : R) → R.ready r }
+fn read_pieces(alloc: Global, text: &[u8], size: usize) -> Result<Told, AllocError>
+    requires { 0 < size }
 {
-    let mut reader = ByteReader::new(alloc, parser);
+    let mut reader = ByteReader::new(alloc, number_line());
     let mut told = Told {
         values: Vec::new(alloc),
-        stops: [Stop::Waits; 3],
-        ahead: Vec::new(alloc),
-        held: 0,
+        stop: Stop::Waits,
         most: 0,
     };
     for start in 0..text.len() {
@@ -115,14 +83,9 @@ where
             push(&mut reader, &mut told, &text[start..end])?;
         }
     }
-    finish(alloc, &mut reader, &mut told)?;
+    reader.end();
+    read_on(&mut reader, &mut told)?;
     Ok(told)
-}
-
-fn read_numbers(alloc: Global, text: &[u8], size: usize) -> Result<Told<u32>, AllocError>
-    requires { 0 < size }
-{
-    read_pieces(alloc, number_line(), text, size)
 }
 
 const ROWS: &[(&str, &[(u32, usize)], Stop)] = &[
@@ -139,9 +102,9 @@ const ROWS: &[(&str, &[(u32, usize)], Stop)] = &[
 fn pieces_of_each_length_are_read_alike(rt: HostRuntime) -> Result<(), Fail> {
     for (text, values, stop) in ROWS {
         for size in 1..13 {
-            let told = read_numbers(rt.alloc(), text.as_bytes(), size)?;
+            let told = read_pieces(rt.alloc(), text.as_bytes(), size)?;
             assert_eq!(rt;
-                (told.values.as_slice(), told.stops[2]),
+                (told.values.as_slice(), told.stop),
                 (*values, *stop),
                 "{text:?} in pieces of {size}"
             );
@@ -153,39 +116,58 @@ fn pieces_of_each_length_are_read_alike(rt: HostRuntime) -> Result<(), Fail> {
 #[test]
 fn no_more_is_kept_than_a_record_and_a_piece(rt: HostRuntime) -> Result<(), Fail> {
     let text = b"12\n7\n300\n12\n7\n300\n12\n7\n300\n12\n7\n300\n";
-    assert_eq!(rt; read_numbers(rt.alloc(), text, 1)?.most, 4);
-    assert_eq!(rt; read_numbers(rt.alloc(), text, 9)?.most, 9);
-    assert_eq!(rt; read_numbers(rt.alloc(), text, 36)?.most, 36);
+    assert_eq!(rt; read_pieces(rt.alloc(), text, 1)?.most, 4);
+    assert_eq!(rt; read_pieces(rt.alloc(), text, 9)?.most, 9);
+    assert_eq!(rt; read_pieces(rt.alloc(), text, 36)?.most, 36);
     Ok(())
 }
 
 #[test]
 fn a_record_that_takes_nothing_is_an_error(rt: HostRuntime) -> Result<(), Fail> {
-    let told = read_pieces(rt.alloc(), Nothing, b"ab", 2)?;
-    assert_eq!(rt; told.stops, [Stop::Idles(0); 3]);
-    assert_eq!(rt; told.ahead.as_slice(), b"ab".as_slice());
+    let mut reader = ByteReader::new(rt.alloc(), Nothing);
+    reader.push(b"ab")?;
+    for _ in 0..2 {
+        match reader.read_next() {
+            Err(ReadError::TakesNothing { place }) => assert_eq!(rt; place, 0),
+            _ => assert!(rt; false, "a value that takes nothing"),
+        }
+    }
+    reader.end();
+    assert_eq!(rt; reader.ahead(), b"ab".as_slice());
     Ok(())
 }
 
 #[test]
 fn a_record_without_its_end_waits_and_then_fails(rt: HostRuntime) -> Result<(), Fail> {
-    let told = read_numbers(rt.alloc(), b"7\n12", 4)?;
-    assert_eq!(rt; told.values.as_slice(), [(7, 2)].as_slice());
-    assert_eq!(rt; told.stops, [Stop::Waits, Stop::Waits, Stop::Fails(4)]);
-    assert_eq!(rt; told.ahead.as_slice(), b"12".as_slice());
+    let mut reader = ByteReader::new(rt.alloc(), number_line());
+    reader.push(b"7\n12")?;
+    assert!(rt; matches!(reader.read_next(), Ok(Next::Value(7))));
+    assert!(rt; matches!(reader.read_next(), Ok(Next::NeedsMore)));
+    assert!(rt; matches!(reader.read_next(), Ok(Next::NeedsMore)));
+    reader.end();
+    let failed = matches!(reader.read_next(), Err(ReadError::Failed { place: 4, .. }));
+    assert!(rt; failed);
+    assert_eq!(rt; (reader.place(), reader.ahead()), (2, b"12".as_slice()));
     Ok(())
 }
 
 #[test]
 fn words_are_copied_out_of_the_pieces(rt: HostRuntime) -> Result<(), Fail> {
-    let told = read_pieces(rt.alloc(), word_line(), b"ab\ncd\n", 4)?;
-    let [(first, 3), (second, 6)] = told.values.as_slice() else {
-        panic!(rt; "two words");
-    };
-    assert_eq!(rt; first.as_slice(), b"ab".as_slice());
-    assert_eq!(rt; second.as_slice(), b"cd".as_slice());
-    assert_eq!(rt; told.stops, [Stop::Waits, Stop::Waits, Stop::Done]);
-    assert_eq!(rt; told.held, 3);
+    let mut reader = ByteReader::new(rt.alloc(), word_line());
+    reader.push(b"ab\nc")?;
+    match reader.read_next() {
+        Ok(Next::Value(word)) => assert_eq!(rt; word.as_slice(), b"ab".as_slice()),
+        _ => assert!(rt; false, "the first word"),
+    }
+    assert!(rt; matches!(reader.read_next(), Ok(Next::NeedsMore)));
+    reader.push(b"d\n")?;
+    assert_eq!(rt; reader.held(), 3);
+    match reader.read_next() {
+        Ok(Next::Value(word)) => assert_eq!(rt; word.as_slice(), b"cd".as_slice()),
+        _ => assert!(rt; false, "the second word"),
+    }
+    reader.end();
+    assert!(rt; matches!(reader.read_next(), Ok(Next::Done)));
     Ok(())
 }
 
