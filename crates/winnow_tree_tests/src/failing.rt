@@ -22,7 +22,7 @@ where
     ParseError::new(input, start, inner)
 }
 
-/// Returns that error of a parse that fails after the front of width `offset`, or at the start where
+/// Returns that error of a parse that fails after the front of width `offset`, or at the start if
 /// no front has that width.
 pub fn fail_with<I: Stream, E: ParserError<I>>(
     mut input: I,
