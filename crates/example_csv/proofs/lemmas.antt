@@ -1,0 +1,5 @@
+pub mod KnownLemmas
+pub mod FeedLemmas
+pub mod CopyLemmas
+pub mod DamageLemmas
+pub mod CopiedLemmas

@@ -1,0 +1,4 @@
+pub mod Positions
+pub mod Lines
+pub mod Failures
+pub mod Copying
