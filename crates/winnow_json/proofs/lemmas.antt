@@ -1,3 +1,9 @@
 pub mod NumberLemmas
 pub mod RunLemmas
 pub mod NumberAnswerLemmas
+pub mod SpellingLemmas
+pub mod EscapeLemmas
+pub mod CutCharLemmas
+pub mod PlainLemmas
+pub mod StringLemmas
+pub mod StringStreamLemmas

@@ -2,3 +2,8 @@ pub mod Numbers
 pub mod Parts
 pub mod Meanings
 pub mod NumberAnswers
+pub mod Strings
+pub mod StringAnswers
+pub mod Escapes
+pub mod Steps
+pub mod CutChars

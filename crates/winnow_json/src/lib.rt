@@ -3,9 +3,16 @@
 //! [`read_number`] reads a number. Its contract speaks of bytes alone: which number it gives, that
 //! its text is the longest one that stands there, and that it misses none. A number ends where no
 //! byte follows that a number may have, so that of `01` or `1-2` nothing is read.
+//!
+//! [`read_string`] reads a string. Its contract says which characters the string has, that no
+//! string is missed, and where a damaged one is wrong.
 #![tactic(auto)]
 
+mod characters;
+mod escapes;
 mod numbers;
 mod parts;
+mod strings;
 
 pub use numbers::{Number, read_number};
+pub use strings::read_string;

@@ -1,4 +1,4 @@
-use Rattle.std.proofs.Common.{ℕ, List, [], ◌≤◌, length, drop, ap, sym, ◌∙◌}
+use Rattle.std.proofs.Common.{ap, sym, ◌∙◌}
 use Rattle.std.proofs.lemmas.List.{drop_all}
 use Rattle.winnow_json.specs.Parts.{is_last}
 use Rattle.winnow_json.proofs.lemmas.NumberLemmas.{run, run-tells}
