@@ -1,5 +1,7 @@
-//! Numbers of JSON as their users read them. Nothing here is part of the library.
+//! Numbers and strings of JSON as their users read them. Nothing here is part of the library.
 #![tactic(auto)]
 
 #[cfg(test)]
 mod numbers;
+#[cfg(test)]
+mod strings;
