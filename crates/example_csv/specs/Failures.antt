@@ -1,7 +1,8 @@
 -- What is wrong where a record breaks off, and how the program ends.
-use Rattle.std.specs.Prelude.{ℕ, ◌==◌, if◌then◌else◌, List, [], ◌∷◌}
+use Rattle.std.specs.Prelude.{ℕ, ◌==◌, if◌then◌else◌, List, [], ◌∷◌, ◌++◌, codes, decimal}
 use Rattle.std.specs.declared.io.ErrorKind.{ErrorKind}
 use Rattle.std.specs.declared.io.ErrorKind.TheVariants as kind
+use Rattle.example_csv.specs.Positions.{position_text}
 use Rattle.example_csv.specs.declared.failure.Fault.{Fault}
 use Rattle.example_csv.specs.declared.failure.Fault.TheVariants.{Unclosed, QuoteInside, LoneReturn, AfterQuote}
 use Rattle.example_csv.specs.declared.failure.Failure.{Failure}
@@ -25,3 +26,18 @@ status_of InputOrOutput = 4
 abbrev pub failure_of : ErrorKind → Failure
 failure_of kind.OutOfMemory = OutOfMemory
 failure_of _ = InputOrOutput
+
+-- the text of a fault
+abbrev pub fault_text : Fault → List ℕ
+fault_text Unclosed = codes "the input ends inside a quoted field"
+fault_text QuoteInside = codes "a quote inside a field that does not begin with one"
+fault_text LoneReturn = codes "a carriage return with no line feed after it"
+fault_text AfterQuote = codes "neither a comma nor a line end follows the closing quote"
+
+-- the text of a failure
+abbrev pub failure_text : Failure → List ℕ
+failure_text (Damaged position fault) = position_text position ++ codes ": " ++ fault_text fault
+failure_text (Uneven line fields first) = codes "line " ++ (decimal line ++ (codes ": "
+    ++ (decimal fields ++ (codes " fields, but the first record has " ++ decimal first))))
+failure_text OutOfMemory = codes "out of memory"
+failure_text InputOrOutput = codes "input or output failed"

@@ -1,5 +1,5 @@
 -- Lines and columns of bytes: 10 is a line feed.
-use Rattle.std.specs.Prelude.{◌≡◌, ℕ, ◌+◌, ◌==◌, if◌then◌else◌, List}
+use Rattle.std.specs.Prelude.{◌≡◌, ℕ, ◌+◌, ◌==◌, if◌then◌else◌, List, ◌++◌, codes, decimal}
 use Rattle.std.specs.List.{fold, count_by, sum_by}
 use Rattle.std.specs.declared.vec.Vec.{Vec}
 use Rattle.std.specs.declared.alloc.Global.{Global}
@@ -21,3 +21,8 @@ IsPositionAfter bytes position =
 -- how many line feeds a record takes: those in its fields, and the one at its end
 abbrev pub feeds_of : List (Vec ℕ Global) → ℕ
 feeds_of fields = 1 + sum_by (λ field. line_feeds field.items) fields
+
+-- the text of a position
+abbrev pub position_text : Position → List ℕ
+position_text position =
+    codes "line " ++ decimal position.line ++ codes ", column " ++ decimal position.column

@@ -1,6 +1,7 @@
-ghost use Rattle.std.specs.Prelude.{◌≡◌};
+ghost use Rattle.std.specs.Prelude.{◌≡◌, Some};
 ghost use Rattle.std.specs.IoError.{error_kind};
-ghost use Rattle.example_csv.specs.Failures.{fault_at, status_of, failure_of};
+ghost use Rattle.example_csv.specs.Failures.{fault_at, fault_text};
+ghost use Rattle.example_csv.specs.Failures.{status_of, failure_of, failure_text};
 ghost use Rattle.example_csv.specs.declared.failure.Failure.TheVariants.{OutOfMemory};
 
 use crate::positions::Position;
@@ -70,6 +71,8 @@ impl Failure {
 }
 
 impl fmt::Display for Fault {
+    ghost output = { λ fault. Some (fault_text fault) };
+
     fn fmt<W: fmt::Write>(&self, f: &mut fmt::Formatter<W>) -> fmt::Result {
         match self {
             Fault::Unclosed => write!(f, "the input ends inside a quoted field"),
@@ -86,6 +89,8 @@ impl fmt::Display for Fault {
 }
 
 impl fmt::Display for Failure {
+    ghost output = { λ failure. Some (failure_text failure) };
+
     fn fmt<W: fmt::Write>(&self, f: &mut fmt::Formatter<W>) -> fmt::Result {
         match self {
             Failure::Damaged(position, fault) => write!(f, "{position}: {fault}"),

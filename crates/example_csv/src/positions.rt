@@ -1,5 +1,5 @@
-ghost use Rattle.std.specs.Prelude.{◌≡◌, ◌+◌, ◌<◌, ◌^◌, length};
-ghost use Rattle.example_csv.specs.Positions.{line_feeds, after_feed, feeds_of};
+ghost use Rattle.std.specs.Prelude.{Some, ◌≡◌, ◌+◌, ◌<◌, ◌^◌, length};
+ghost use Rattle.example_csv.specs.Positions.{line_feeds, after_feed, feeds_of, position_text};
 
 use std::fmt;
 
@@ -13,6 +13,8 @@ pub struct Position {
 }
 
 impl fmt::Display for Position {
+    ghost output = { λ position. Some (position_text position) };
+
     fn fmt<W: fmt::Write>(&self, f: &mut fmt::Formatter<W>) -> fmt::Result {
         write!(f, "line {}, column {}", self.line, self.column)
     }
