@@ -1,0 +1,5 @@
+pub mod Positions
+pub mod Failure
+pub mod Printing
+pub mod Placing
+pub mod Session

@@ -1,0 +1,80 @@
+-- What the program has read of its input, where it stands, and what it prints.
+use Rattle.std.specs.Prelude.{◌≡◌, ℕ, ◌+◌, ◌-◌, ◌<◌, ◌^◌, true, false, List, [], ◌∷◌, ◌++◌, length, take, map, Option, Some, None, Result, Ok, Err, ⊤, ◌⊎◌}
+use Rattle.std.specs.List.{flat_map}
+use Rattle.winnow.specs.Outcome.{Meaning}
+use Rattle.winnow.specs.State.{ReaderState, fed_of}
+use Rattle.winnow.specs.Reading.{HasRead, Lacks}
+use Rattle.winnow.specs.Answering.{FailsAt, IdlesAt}
+use Rattle.winnow_resp.specs.declared.reply.Reply.{Reply}
+use Rattle.example_resp.specs.declared.placed.Placed.{Placed}
+use Rattle.example_resp.specs.declared.placed.PlacedReply.{PlacedReply}
+use Rattle.example_resp.specs.declared.positions.Position.{Position}
+use Rattle.example_resp.specs.declared.failure.Failure.{Failure}
+use Rattle.example_resp.specs.declared.failure.Failure.TheVariants.{NoReply, EndsInside, OutOfMemory, InputOrOutput}
+use Rattle.example_resp.specs.Positions.{start, position_after, IsPosition}
+use Rattle.example_resp.specs.Printing.{shown}
+
+-- the replies of what was read
+abbrev pub replies_of : List Placed → List Reply
+replies_of values = map (λ placed. placed.reply) values
+
+-- the lines that show these replies, one after the other
+abbrev pub shown_all : List Reply → List ℕ
+shown_all replies = flat_map (λ reply. shown reply []) replies
+
+-- the place is that of the reader, and no number of it comes to its limit
+pub record IsSteady (f : ReaderState PlacedReply) (place : Position) : Type 0 where
+  pub counted : IsPosition place
+  pub same : place.byte ≡ f.place
+  pub fits : fed_of f + 1 < 2 ^ 64
+
+-- of this joined input the reader took a front, which leads to the place; the rest is ahead
+pub record StandsAt (input : List ℕ) (f : ReaderState PlacedReply) (place : Position) : Type 0 where
+  pub front : List ℕ
+  pub whole : input ≡ front ++ f.ahead
+  pub count : f.place ≡ length front
+  pub leads : place ≡ position_after start front
+
+-- the other reader has the same parser and the same input
+pub record HasSameInput (old new : ReaderState PlacedReply) : Type 0 where
+  pub parser : new.parser ≡ old.parser
+  pub ended : new.ended ≡ old.ended
+  pub fed : fed_of new ≡ fed_of old
+
+-- of each joined input where the one stands, the other stands too
+abbrev pub StandsOn : ReaderState PlacedReply → Position → ReaderState PlacedReply → Position → Type 0
+StandsOn old place new there = (input : List ℕ) → StandsAt input old place → StandsAt input new there
+
+-- the reply that came next, if one did
+abbrev pub next_replies : Option Reply → List Reply
+next_replies None = []
+next_replies (Some reply) = reply ∷ []
+
+-- this holds, unless memory was refused, or reading or writing failed
+abbrev pub OnAnswer : Result (Unit {0}) Failure → Type 0 → Type 0
+OnAnswer (Ok done) p = p
+OnAnswer (Err (NoReply place)) p = p
+OnAnswer (Err (EndsInside place)) p = p
+OnAnswer (Err OutOfMemory) p = ⊤
+OnAnswer (Err InputOrOutput) p = ⊤
+
+module _ (means : PlacedReply → Meaning Placed ℕ) where
+  -- no matter what was read, the other reader has read that, and these replies after it
+  abbrev pub ReadsReplies : ReaderState PlacedReply → List Reply → ReaderState PlacedReply → Type 0
+  ReadsReplies old replies new = (input : List ℕ) (values : List Placed) → HasRead means old input values
+      → (more : List Placed) × (HasRead means new input (values ++ more) × (replies_of more ≡ replies))
+
+  -- the other reader has given all that there is: after the end of the input nothing is left, and
+  -- before it the parser asked for more than came since, whatever was read
+  abbrev pub HasNoneLeft : ReaderState PlacedReply → ReaderState PlacedReply → Type 0
+  HasNoneLeft old new = (new.ended ≡ true → new.ahead ≡ []) × (new.ended ≡ false → (input : List ℕ) (values : List Placed)
+      → HasRead means old input values → Lacks means new)
+
+  -- the failure is that of the parser, no matter what follows: it fails there or takes nothing. And
+  -- the bytes from the reader's place on lead there
+  abbrev pub FailsThere : ReaderState PlacedReply → Position → Failure → Type 0
+  FailsThere f place (NoReply p) = (FailsAt means f p.byte ⊎ IdlesAt means f p.byte)
+      × (p ≡ position_after place (take (p.byte - f.place) f.ahead))
+  FailsThere f place (EndsInside p) = ⊥
+  FailsThere f place OutOfMemory = ⊤
+  FailsThere f place InputOrOutput = ⊤

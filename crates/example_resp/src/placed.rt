@@ -1,0 +1,58 @@
+//! The record that is read.
+
+ghost use Rattle.winnow.specs.Place.{IsByteSlice, SlicesStay-bytes};
+ghost use Rattle.winnow_resp.specs.Grammar.{IsParser-Nested};
+ghost use Rattle.example_resp.specs.Placing.{Placing, IsParser-Placing};
+
+use crate::positions::Position;
+use std::alloc::Global;
+use winnow::error::EmptyError;
+use winnow::reader::{Record, RecordInput};
+use winnow::stream::{AsBytes, AsChar, Stream};
+use winnow::{ModalResult, Parser};
+use winnow_resp::{Reply, ReplyTo};
+
+/// A reply, and the place that its bytes lead to from the start.
+#[derive(Drop)]
+pub struct Placed {
+    pub reply: Reply,
+    pub end: Position,
+}
+
+/// The record of a reply within limits. A reader drops the bytes that a record took, so what a
+/// failure later needs of them is counted here.
+#[derive(Clone, Copy, Drop)]
+pub struct PlacedReply {
+    pub limits: ReplyTo,
+}
+
+impl Record for PlacedReply {
+    type Output = Placed;
+
+    type Error = EmptyError;
+
+    ghost means = { λ r.
+        Placing (⟦<ReplyTo as Parser<RecordInput<'static>, EmptyError>>⟧.means r.limits) };
+
+    ghost ready = { λ _. Unit {0} };
+
+    ghost lawful = { λ r. IsParser-Placing
+        (⟦<ReplyTo as Parser<RecordInput<'static>, EmptyError>>⟧.means r.limits)
+        (IsParser-Nested ⟦<u8 as AsChar>⟧.code
+        ⟦<RecordInput<'static> as Stream>⟧.counts_missing IsByteSlice
+        ⟦<&'static [u8] as AsBytes>⟧.bytes SlicesStay-bytes r.limits.longest r.limits.depth) };
+
+    fn read<'b>(
+        &self,
+        alloc: Global,
+        input: &mut RecordInput<'b>,
+    ) -> ModalResult<Placed, EmptyError> {
+        match self.limits.with_taken().parse_next(alloc, input) {
+            Ok((reply, taken)) => Ok(Placed {
+                reply,
+                end: Position::start().after(taken),
+            }),
+            Err(failure) => Err(failure),
+        }
+    }
+}

@@ -1,0 +1,221 @@
+ghost use Rattle.std.specs.Prelude.{◌≡◌, ℕ, ◌++◌, ◌+◌, ◌-◌, ◌<◌, ◌≤◌, take, length, IfOk, IfErr, OnOk, OnErr};
+ghost use Rattle.std.specs.Prelude.{OnSome, IfNone, List, [], false};
+ghost use Rattle.std.specs.Io.KnownBytes.{Appends};
+ghost use Rattle.winnow.specs.State.{ReaderState};
+ghost use Rattle.winnow.specs.Answering.{FailsAt};
+ghost use Rattle.winnow_resp.specs.declared.reply.Reply.{Reply};
+ghost use Rattle.example_resp.specs.Positions.{position_after};
+ghost use Rattle.example_resp.specs.Session.{IsSteady, HasSameInput, StandsOn, next_replies};
+ghost use Rattle.example_resp.specs.Session.{ReadsReplies, HasNoneLeft, FailsThere, shown_all, OnAnswer};
+ghost use Rattle.example_resp.specs.Printing.{shown};
+ghost use Rattle.example_resp.specs.declared.failure.Failure.TheVariants.{OutOfMemory};
+
+use crate::failure::Failure;
+use crate::placed::{Placed, PlacedReply};
+use crate::positions::Position;
+use crate::printing::append_reply;
+use std::alloc::{AllocError, Global};
+use std::io::{ErrorKind, Read, Write};
+use winnow::reader::{ByteReader, Next, ReadError, Record};
+use winnow_resp::{Reply, ReplyTo};
+
+// A read of a pipe gives at most as much.
+const PIECE: usize = 64 * 1024;
+
+const LIMITS: ReplyTo = ReplyTo {
+    // Calls are nested as deep as arrays, so this bounds the stack. Replies of the server's own
+    // commands are not a quarter as deep.
+    depth: 32,
+    // The server's own limit on a string, unless its configuration says otherwise.
+    longest: 512 * 1024 * 1024,
+};
+
+/// Reads replies to the end of the input, and prints each as soon as its bytes are there.
+pub fn print_replies<R: Read, W: Write>(
+    alloc: Global,
+    input: &mut R,
+    output: &mut W,
+) -> Result<(), Failure> {
+    let mut piece = new_piece(alloc)?;
+    let mut reader = ByteReader::new(alloc, PlacedReply { limits: LIMITS });
+    let mut place = Position::start();
+    // No input has so many pieces that the turns are used up.
+    for _turn in 0..u64::MAX {
+        match input.read(&mut piece) {
+            Ok(0) => return print_last(alloc, &mut reader, &mut place, output),
+            Ok(count) => {
+                print_piece(alloc, &piece[..count], &mut reader, &mut place, output)?;
+            }
+            Err(error) => {
+                if !matches!(error.kind(), ErrorKind::Interrupted) {
+                    return Err(Failure::from(error));
+                }
+            }
+        }
+    }
+    Err(Failure::InputOrOutput)
+}
+
+// Returns the memory that pieces are read into. Nothing needs to be known of its bytes.
+fn new_piece(alloc: Global) -> Result<Vec<u8>, AllocError> {
+    vec![in alloc; 0; PIECE]
+}
+
+// Reads on at the end of the input, and prints the replies that are there. What is left then is a
+// reply that needed more.
+fn print_last<W: Write>(
+    alloc: Global,
+    reader: &mut ByteReader<PlacedReply>,
+    place: &mut Position,
+    output: &mut W,
+) -> Result<(), Failure>
+    requires { IsSteady reader.old place.old }
+{
+    reader.end();
+    match print_ready(alloc, reader, place, output) {
+        Err(Failure::NoReply(_)) => Err(Failure::EndsInside(*place)),
+        other => other,
+    }
+}
+
+// Reads on with a piece more, and prints the replies that are there.
+fn print_piece<W: Write>(
+    alloc: Global,
+    piece: &[u8],
+    reader: &mut ByteReader<PlacedReply>,
+    place: &mut Position,
+    output: &mut W,
+) -> Result<(), Failure>
+    requires steady { IsSteady reader.old place.old }
+    requires goes_on { reader.old.ended ≡ false }
+    ensures steady { IsSteady reader.new place.new }
+    ensures goes_on { reader.new.ended ≡ false }
+{
+    if piece.len() >= usize::MAX - reader.fed() {
+        return Err(Failure::InputOrOutput);
+    }
+    reader.push(piece)?;
+    print_ready(alloc, reader, place, output)
+}
+
+// Prints the replies that are there.
+fn print_ready<W: Write>(
+    alloc: Global,
+    reader: &mut ByteReader<PlacedReply>,
+    place: &mut Position,
+    output: &mut W,
+) -> Result<(), Failure>
+    requires { IsSteady reader.old place.old }
+    ensures steady { IsSteady reader.new place.new }
+    ensures same { HasSameInput reader.old reader.new }
+    ensures stands { StandsOn reader.old place.old reader.new place.new }
+    ensures printed { OnAnswer result ((replies : List Reply)
+        × (ReadsReplies ⟦<PlacedReply as Record>⟧.means reader.old replies reader.new
+        × Appends (W.contents output.old) (W.contents output.new) (shown_all replies))) }
+    ensures all { OnOk result
+        (HasNoneLeft ⟦<PlacedReply as Record>⟧.means reader.old reader.new) }
+    ensures failed { IfErr result
+        (FailsThere ⟦<PlacedReply as Record>⟧.means reader.new place.new) }
+{
+    let mut text = Vec::new(alloc);
+    let taken = take_replies(reader, place, &mut text);
+    match output.write_all(&text) {
+        Ok(()) => taken,
+        Err(error) => Err(Failure::from(error)),
+    }
+}
+
+// Takes the replies that are there, and appends the lines that show them to the text.
+fn take_replies(
+    reader: &mut ByteReader<PlacedReply>,
+    place: &mut Position,
+    text: &mut Vec<u8>,
+) -> Result<(), Failure>
+    requires { IsSteady reader.old place.old }
+    ensures steady { IsSteady reader.new place.new }
+    ensures same { HasSameInput reader.old reader.new }
+    ensures stands { StandsOn reader.old place.old reader.new place.new }
+    ensures printed { OnAnswer result ((replies : List Reply)
+        × (ReadsReplies ⟦<PlacedReply as Record>⟧.means reader.old replies reader.new
+        × (text.new.items ≡ text.old.items ++ shown_all replies))) }
+    ensures all { OnOk result
+        (HasNoneLeft ⟦<PlacedReply as Record>⟧.means reader.old reader.new) }
+    ensures failed { IfErr result
+        (FailsThere ⟦<PlacedReply as Record>⟧.means reader.new place.new) }
+{
+    loop {
+        match next_reply(reader, place) {
+            Ok(Some(reply)) => append_lines(reply, text)?,
+            Ok(None) => return Ok(()),
+            Err(failure) => return Err(failure),
+        }
+    }
+}
+
+// Appends the lines that show a reply, and drops the reply.
+fn append_lines(reply: Reply, text: &mut Vec<u8>) -> Result<(), Failure>
+    ensures shown { OnOk result (text.new.items ≡ text.old.items ++ shown reply []) }
+    ensures refused { IfErr result (λ failure. failure ≡ OutOfMemory) }
+{
+    append_reply(&reply, text)?;
+    Ok(())
+}
+
+// Takes the next reply, if its bytes are there, and moves the place on by them.
+fn next_reply(
+    reader: &mut ByteReader<PlacedReply>,
+    place: &mut Position,
+) -> Result<Option<Reply>, Failure>
+    requires { IsSteady reader.old place.old }
+    ensures steady { IsSteady reader.new place.new }
+    ensures same { HasSameInput reader.old reader.new }
+    ensures stands { StandsOn reader.old place.old reader.new place.new }
+    ensures reads { IfOk result (λ next.
+        ReadsReplies ⟦<PlacedReply as Record>⟧.means reader.old (next_replies next) reader.new) }
+    ensures kept { OnErr result (reader.new ≡ reader.old) }
+    ensures fewer { IfOk result (λ next.
+        OnSome next (length reader.new.ahead < length reader.old.ahead)) }
+    ensures none { IfOk result (λ next.
+        IfNone next (HasNoneLeft ⟦<PlacedReply as Record>⟧.means reader.old reader.new)) }
+    ensures failed { IfErr result
+        (FailsThere ⟦<PlacedReply as Record>⟧.means reader.new place.new) }
+{
+    failure_law::<PlacedReply>();
+    match reader.read_next() {
+        Ok(Next::Value(placed)) => {
+            let Placed { reply, end } = placed;
+            *place = place.joined_with(end);
+            Ok(Some(reply))
+        }
+        Ok(Next::NeedsMore) => Ok(None),
+        Ok(Next::Done) => Ok(None),
+        Err(
+            ReadError::Failed {
+                error: _,
+                place: failed,
+            },
+        ) => Err(Failure::NoReply(place_ahead(reader, *place, failed))),
+        Err(ReadError::TakesNothing { place: failed }) => {
+            Err(Failure::NoReply(place_ahead(reader, *place, failed)))
+        }
+        Err(ReadError::Refused(refused)) => Err(Failure::from(refused)),
+    }
+}
+
+// Returns the place that this many bytes of the joined input lead to, from that of the reader on.
+fn place_ahead(reader: &ByteReader<PlacedReply>, place: Position, bytes: usize) -> Position
+    requires { IsSteady reader.now place }
+    ensures { result
+        ≡ position_after place (take (bytes - reader.now.place) reader.now.ahead) }
+{
+    let ahead = reader.ahead();
+    let width = bytes.saturating_sub(reader.place()).min(ahead.len());
+    place.after(&ahead[..width])
+}
+
+// The law of failures: where a reader's record fails, no matter what follows, is in what is ahead.
+// It does nothing when called.
+fn failure_law<R: Record>()
+    ensures { (f : ReaderState R) (there : ℕ) → FailsAt R.means f there
+        → (n : ℕ) × ((n ≤ length f.ahead) × (there ≡ f.place + n)) }
+{}
