@@ -1,6 +1,7 @@
 -- What the program has read of its input, where it stands, and what it prints.
 use Rattle.std.specs.Prelude.{◌≡◌, ℕ, ◌+◌, ◌-◌, ◌<◌, ◌^◌, true, false, List, [], ◌∷◌, ◌++◌, length, take, map, Option, Some, None, Result, Ok, Err, ⊤, ◌⊎◌}
 use Rattle.std.specs.List.{flat_map}
+use Rattle.std.specs.Io.KnownBytes.{Appends}
 use Rattle.winnow.specs.Outcome.{Meaning}
 use Rattle.winnow.specs.State.{ReaderState, fed_of}
 use Rattle.winnow.specs.Reading.{HasRead, Lacks}
@@ -42,13 +43,23 @@ pub record HasSameInput (old new : ReaderState PlacedReply) : Type 0 where
   pub fed : fed_of new ≡ fed_of old
 
 -- of each joined input where the one stands, the other stands too
-abbrev pub StandsOn : ReaderState PlacedReply → Position → ReaderState PlacedReply → Position → Type 0
+abbrev pub StandsOn : ReaderState PlacedReply → Position → ReaderState PlacedReply → Position
+    → Type 0
 StandsOn old place new there = (input : List ℕ) → StandsAt input old place → StandsAt input new there
 
 -- the reply that came next, if one did
 abbrev pub next_replies : Option Reply → List Reply
 next_replies None = []
 next_replies (Some reply) = reply ∷ []
+
+-- what the program answers at the end of the input, where its last replies answered so: no reply
+-- stands where the input ends inside one
+abbrev pub ended_as : Result (Unit {0}) Failure → Position → Result (Unit {0}) Failure
+ended_as (Ok done) place = Ok done
+ended_as (Err (NoReply p)) place = Err (EndsInside place)
+ended_as (Err (EndsInside p)) place = Err (EndsInside p)
+ended_as (Err OutOfMemory) place = Err OutOfMemory
+ended_as (Err InputOrOutput) place = Err InputOrOutput
 
 -- this holds, unless memory was refused, or reading or writing failed
 abbrev pub OnAnswer : Result (Unit {0}) Failure → Type 0 → Type 0
@@ -62,7 +73,8 @@ module _ (means : PlacedReply → Meaning Placed ℕ) where
   -- no matter what was read, the other reader has read that, and these replies after it
   abbrev pub ReadsReplies : ReaderState PlacedReply → List Reply → ReaderState PlacedReply → Type 0
   ReadsReplies old replies new = (input : List ℕ) (values : List Placed) → HasRead means old input values
-      → (more : List Placed) × (HasRead means new input (values ++ more) × (replies_of more ≡ replies))
+      → (more : List Placed) × (HasRead means new input (values ++ more) ×
+      (replies_of more ≡ replies))
 
   -- the other reader has given all that there is: after the end of the input nothing is left, and
   -- before it the parser asked for more than came since, whatever was read
@@ -78,3 +90,57 @@ module _ (means : PlacedReply → Meaning Placed ℕ) where
   FailsThere f place (EndsInside p) = ⊥
   FailsThere f place OutOfMemory = ⊤
   FailsThere f place InputOrOutput = ⊤
+
+  -- of this input the reader has read these replies, and stands at this place of it
+  pub record Follows (input : List ℕ) (replies : List Reply) (f : ReaderState PlacedReply)
+      (place : Position) : Type 0 where
+    pub stands : StandsAt input f place
+    pub values : List Placed
+    pub read : HasRead means f input values
+    pub shows : replies_of values ≡ replies
+
+  -- of this input the reader has read these replies and more, and what shows the others was written
+  pub record Continues (input : List ℕ) (replies : List Reply) (f : ReaderState PlacedReply)
+      (place : Position)
+      (old new : Option (List ℕ)) : Type 0 where
+    pub more : List Reply
+    pub follows : Follows input (replies ++ more) f place
+    pub written : Appends old new (shown_all more)
+
+  -- a front of this input was read, and the rest is what the source still gives; the lines of the
+  -- replies were written after what the output had before
+  pub record HasPrinted (whole before : List ℕ) (source output : Option (List ℕ))
+      (f : ReaderState PlacedReply) (place : Position) : Type 0 where
+    pub input : List ℕ
+    pub rest : List ℕ
+    pub splits : whole ≡ input ++ rest
+    pub left : source ≡ Some rest
+    pub replies : List Reply
+    pub follows : Follows input replies f place
+    pub written : output ≡ Some (before ++ shown_all replies)
+
+  -- how a reader stands when the program ends, with this rest of its input unread: at the end with
+  -- nothing left; where no reply stands, no matter what follows; or at the end, before the reply
+  -- that is not whole
+  abbrev pub EndsAs : ReaderState PlacedReply → Position → List ℕ → Result (Unit {0}) Failure
+      → Type 0
+  EndsAs f place rest (Ok done) = (rest ≡ []) × (f.ended ≡ true) × (f.ahead ≡ [])
+  EndsAs f place rest (Err (NoReply p)) = FailsThere f place (NoReply p)
+  EndsAs f place rest (Err (EndsInside p)) = (rest ≡ []) × (f.ended ≡ true) × (p ≡ place)
+  EndsAs f place rest (Err OutOfMemory) = ⊤
+  EndsAs f place rest (Err InputOrOutput) = ⊤
+
+  -- the program read a front of this input with that parser and wrote the lines of its replies, and
+  -- ended as it says
+  pub record Tells (parser : PlacedReply) (whole before : List ℕ) (new : Option (List ℕ))
+      (result : Result (Unit {0}) Failure) : Type 0 where
+    pub input : List ℕ
+    pub rest : List ℕ
+    pub splits : whole ≡ input ++ rest
+    pub replies : List Reply
+    pub reader : ReaderState PlacedReply
+    pub place : Position
+    pub same : reader.parser ≡ parser
+    pub follows : Follows input replies reader place
+    pub written : new ≡ Some (before ++ shown_all replies)
+    pub ends : EndsAs reader place rest result

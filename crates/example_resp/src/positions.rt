@@ -1,5 +1,6 @@
 ghost use Rattle.std.specs.Prelude.{◌≡◌, ◌+◌, ◌<◌, ◌≤◌, ◌^◌, length};
-ghost use Rattle.example_resp.specs.Positions.{start, next, position_after, joined_with, IsPosition};
+ghost use Rattle.example_resp.specs.Positions.{start, next, position_after};
+ghost use Rattle.example_resp.specs.Positions.{joined_with, IsPosition};
 
 /// A place between the bytes of an input.
 #[derive(Clone, Copy, Drop)]

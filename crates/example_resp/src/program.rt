@@ -1,13 +1,15 @@
-ghost use Rattle.std.specs.Prelude.{◌≡◌, ℕ, ◌++◌, ◌+◌, ◌-◌, ◌<◌, ◌≤◌, take, length, IfOk, IfErr, OnOk, OnErr};
-ghost use Rattle.std.specs.Prelude.{OnSome, IfNone, List, [], false};
-ghost use Rattle.std.specs.Io.KnownBytes.{Appends};
+ghost use Rattle.std.specs.Prelude.{◌≡◌, ℕ, ◌++◌, ◌+◌, ◌-◌, ◌<◌, ◌≤◌, List, [], false, Some};
+ghost use Rattle.std.specs.Prelude.{take, length, vec_len};
+ghost use Rattle.std.specs.Prelude.{IfOk, IfErr, OnOk, OnErr, OnSome, IfNone};
+ghost use Rattle.std.specs.Io.KnownBytes.{Appends, ReadConsumes};
 ghost use Rattle.winnow.specs.State.{ReaderState};
 ghost use Rattle.winnow.specs.Answering.{FailsAt};
 ghost use Rattle.winnow_resp.specs.declared.reply.Reply.{Reply};
 ghost use Rattle.example_resp.specs.Positions.{position_after};
-ghost use Rattle.example_resp.specs.Session.{IsSteady, HasSameInput, StandsOn, next_replies};
-ghost use Rattle.example_resp.specs.Session.{ReadsReplies, HasNoneLeft, FailsThere, shown_all, OnAnswer};
 ghost use Rattle.example_resp.specs.Printing.{shown};
+ghost use Rattle.example_resp.specs.Session.{IsSteady, HasSameInput, StandsOn, next_replies};
+ghost use Rattle.example_resp.specs.Session.{ReadsReplies, HasNoneLeft, FailsThere, shown_all};
+ghost use Rattle.example_resp.specs.Session.{OnAnswer, ended_as, Follows, Continues, EndsAs, Tells};
 ghost use Rattle.example_resp.specs.declared.failure.Failure.TheVariants.{OutOfMemory};
 
 use crate::failure::Failure;
@@ -15,7 +17,7 @@ use crate::placed::{Placed, PlacedReply};
 use crate::positions::Position;
 use crate::printing::append_reply;
 use std::alloc::{AllocError, Global};
-use std::io::{ErrorKind, Read, Write};
+use std::io::{self, ErrorKind, Read, Write};
 use winnow::reader::{ByteReader, Next, ReadError, Record};
 use winnow_resp::{Reply, ReplyTo};
 
@@ -31,20 +33,31 @@ const LIMITS: ReplyTo = ReplyTo {
 };
 
 /// Reads replies to the end of the input, and prints each as soon as its bytes are there.
+///
+/// Where it fails, the replies before are printed, unless memory was refused, or reading or writing
+/// failed.
 pub fn print_replies<R: Read, W: Write>(
     alloc: Global,
     input: &mut R,
     output: &mut W,
-) -> Result<(), Failure> {
+) -> Result<(), Failure>
+    ensures { (whole before : List ℕ) → R.remaining input.old ≡ Some whole
+        → W.contents output.old ≡ Some before
+        → OnAnswer result (Tells ⟦<PlacedReply as Record>⟧.means (record { limits = LIMITS })
+        whole before (W.contents output.new) result) }
+{
     let mut piece = new_piece(alloc)?;
     let mut reader = ByteReader::new(alloc, PlacedReply { limits: LIMITS });
     let mut place = Position::start();
     // No input has so many pieces that the turns are used up.
     for _turn in 0..u64::MAX {
-        match input.read(&mut piece) {
+        match read_piece(input, &mut piece) {
             Ok(0) => return print_last(alloc, &mut reader, &mut place, output),
             Ok(count) => {
-                print_piece(alloc, &piece[..count], &mut reader, &mut place, output)?;
+                match print_piece(alloc, &piece[..count], &mut reader, &mut place, output) {
+                    Ok(()) => {}
+                    Err(failure) => return Err(failure),
+                }
             }
             Err(error) => {
                 if !matches!(error.kind(), ErrorKind::Interrupted) {
@@ -57,12 +70,23 @@ pub fn print_replies<R: Read, W: Write>(
 }
 
 // Returns the memory that pieces are read into. Nothing needs to be known of its bytes.
-fn new_piece(alloc: Global) -> Result<Vec<u8>, AllocError> {
+fn new_piece(alloc: Global) -> Result<Vec<u8>, AllocError>
+    ensures { IfOk result (λ piece. 0 < vec_len piece) }
+{
     vec![in alloc; 0; PIECE]
 }
 
-// Reads on at the end of the input, and prints the replies that are there. What is left then is a
-// reply that needed more.
+// Reads into the memory what one read gives.
+fn read_piece<R: Read>(input: &mut R, piece: &mut Vec<u8>) -> io::Result<usize>
+    ensures room { vec_len piece.new ≡ vec_len piece.old }
+    ensures bound { IfOk result (λ count. count ≤ vec_len piece.new) }
+    ensures bytes { ReadConsumes (R.remaining input.old) (R.remaining input.new) result
+        piece.new.items }
+{
+    input.read(piece.as_mut_slice())
+}
+
+// Reads on at the end of the input, and prints the replies that are there.
 fn print_last<W: Write>(
     alloc: Global,
     reader: &mut ByteReader<PlacedReply>,
@@ -70,11 +94,29 @@ fn print_last<W: Write>(
     output: &mut W,
 ) -> Result<(), Failure>
     requires { IsSteady reader.old place.old }
+    ensures parser { reader.new.parser ≡ reader.old.parser }
+    ensures told { (input : List ℕ) (replies : List Reply)
+        → Follows ⟦<PlacedReply as Record>⟧.means input replies reader.old place.old
+        → OnAnswer result (Continues ⟦<PlacedReply as Record>⟧.means input replies
+        reader.new place.new (W.contents output.old) (W.contents output.new)) }
+    ensures ends { EndsAs ⟦<PlacedReply as Record>⟧.means reader.new place.new [] result }
 {
     reader.end();
-    match print_ready(alloc, reader, place, output) {
-        Err(Failure::NoReply(_)) => Err(Failure::EndsInside(*place)),
-        other => other,
+    let taken = print_ready(alloc, reader, place, output);
+    ended_as(taken, *place)
+}
+
+// Returns what the program answers at the end of the input, where its last replies answered so.
+// What is left then is a reply that needed more.
+fn ended_as(taken: Result<(), Failure>, place: Position) -> Result<(), Failure>
+    ensures { result ≡ ended_as taken place }
+{
+    match taken {
+        Ok(()) => Ok(()),
+        Err(Failure::NoReply(_)) => Err(Failure::EndsInside(place)),
+        Err(Failure::EndsInside(inside)) => Err(Failure::EndsInside(inside)),
+        Err(Failure::OutOfMemory) => Err(Failure::OutOfMemory),
+        Err(Failure::InputOrOutput) => Err(Failure::InputOrOutput),
     }
 }
 
@@ -90,6 +132,13 @@ fn print_piece<W: Write>(
     requires goes_on { reader.old.ended ≡ false }
     ensures steady { IsSteady reader.new place.new }
     ensures goes_on { reader.new.ended ≡ false }
+    ensures parser { reader.new.parser ≡ reader.old.parser }
+    ensures told { (input : List ℕ) (replies : List Reply)
+        → Follows ⟦<PlacedReply as Record>⟧.means input replies reader.old place.old
+        → OnAnswer result (Continues ⟦<PlacedReply as Record>⟧.means (input ++ piece.now)
+        replies reader.new place.new (W.contents output.old) (W.contents output.new)) }
+    ensures failed { IfErr result
+        (FailsThere ⟦<PlacedReply as Record>⟧.means reader.new place.new) }
 {
     if piece.len() >= usize::MAX - reader.fed() {
         return Err(Failure::InputOrOutput);
@@ -170,8 +219,8 @@ fn next_reply(
     ensures steady { IsSteady reader.new place.new }
     ensures same { HasSameInput reader.old reader.new }
     ensures stands { StandsOn reader.old place.old reader.new place.new }
-    ensures reads { IfOk result (λ next.
-        ReadsReplies ⟦<PlacedReply as Record>⟧.means reader.old (next_replies next) reader.new) }
+    ensures reads { IfOk result (λ next. ReadsReplies ⟦<PlacedReply as Record>⟧.means
+        reader.old (next_replies next) reader.new) }
     ensures kept { OnErr result (reader.new ≡ reader.old) }
     ensures fewer { IfOk result (λ next.
         OnSome next (length reader.new.ahead < length reader.old.ahead)) }

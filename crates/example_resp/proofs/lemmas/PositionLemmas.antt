@@ -37,7 +37,8 @@ same-place a b a' b' a'' b'' p q r =
 
 -- where the place after a byte is one of positions
 next-counted : (c : Bool) (p : Position) → IsPosition p
-    → IsPosition (place_of (p.byte + 1) (if c then p.line + 1 else p.line) (if c then 1 else p.column + 1))
+    → IsPosition (place_of (p.byte + 1) (if c then p.line + 1 else p.line)
+    (if c then 1 else p.column + 1))
 next-counted true p h = record { a_line = omega arith; lines = omega (arith, h.lines); a_column = omega arith; columns = omega arith }
 next-counted false p h = record { a_line = h.a_line; lines = omega (arith, h.lines); a_column = omega arith; columns = omega (arith, h.columns) }
 
@@ -62,7 +63,8 @@ later-line n h = grind (arith, nat_tests)
 
 -- a place that is joined with another moves on as the other does, after a byte
 joined-byte : (c : Bool) (p q : Position) → IsPosition q
-    → joined_with p (place_of (q.byte + 1) (if c then q.line + 1 else q.line) (if c then 1 else q.column + 1))
+    → joined_with p (place_of (q.byte + 1) (if c then q.line + 1 else q.line)
+    (if c then 1 else q.column + 1))
     ≡ (let j = joined_with p q in place_of (j.byte + 1) (if c then j.line + 1 else j.line) (if c then 1 else j.column + 1))
 joined-byte true p q h =
     same-place _ _ _ _ _ _ (omega arith) (omega (arith, h.a_line))

@@ -18,7 +18,8 @@ shown-array y v margin e =
     ap (λ f. f margin) (ap shown (e ∙ sym (rolls-Array v)) ∙ fold-roll-Reply (List ℕ → List ℕ) layer_shown (Array v))
 
 -- the entries of one more reply
-pub entries-more : (margin : List ℕ) (width i : ℕ) (xs : List (List ℕ → List ℕ)) (x : List ℕ → List ℕ)
+pub entries-more : (margin : List ℕ) (width i : ℕ) (xs : List (List ℕ → List ℕ)) (x : List ℕ
+    → List ℕ)
     → entries margin width i (xs ++ x ∷ [])
     ≡ entries margin width i xs ++ entry_start margin width (i + length xs) ++ x (widened margin (width + 2))
 entries-more margin width i [] x =

@@ -1,8 +1,9 @@
 -- What a reader's answers say of the place in its input.
 use Rattle.std.proofs.Common.{◌≡◌, ℕ, ◌+◌, ◌-◌, ◌<◌, ◌≤◌, ◌^◌, Bool, true, false, List, [], ◌∷◌, ◌++◌, length, take, drop, refl, ap, sym, ◌∙◌, subst, inl, inr, arith, append_assoc}
-use Rattle.std.specs.Prelude.{Result, Ok, Err, ◌⊎◌}
+use Rattle.std.specs.Prelude.{Option, None, Some, Result, Ok, Err, OnOk, IfErr, ◌⊎◌}
 use Rattle.std.proofs.lemmas.List.{append-nil, map-append, length-take-le, length-drop, length-append, take-append-drop}
-use Rattle.std.proofs.lemmas.Option.{same_Some}
+use Rattle.std.proofs.lemmas.Option.{same_Some, none-some}
+use Rattle.std.specs.Io.KnownBytes.{Appends, Consumes, Keeps, IsAtEnd}
 use Rattle.winnow_stream.proofs.lemmas.UnitLemmas.{units-same, units-take, le-from_is_offset}
 use Rattle.winnow_parser.specs.Outcome.{Ahead, Fails, Backtracks, Cuts, Meaning, Moves}
 use Rattle.winnow_parser.specs.Laws.{IsParser}
@@ -11,8 +12,8 @@ use Rattle.std.specs.Borrow.{Bor}
 use Rattle.example_resp.specs.declared.failure.Failure.{Failure}
 use Rattle.example_resp.specs.declared.failure.Failure.TheVariants.{NoReply, EndsInside, OutOfMemory, InputOrOutput}
 use Rattle.winnow_reader.specs.Place.{bytes_at, IsByteSlice}
-use Rattle.winnow_reader.specs.State.{ReaderState, taken_by, waiting_for}
-use Rattle.winnow_reader.specs.Reading.{MayFollow, HasRead, Lacks}
+use Rattle.winnow_reader.specs.State.{ReaderState, taken_by, waiting_for, at_start, pushed, ended_after}
+use Rattle.winnow_reader.specs.Reading.{MayFollow, HasRead, Lacks, ReadsAlso, ReadsThrough}
 use Rattle.winnow_reader.specs.Answering.{StopsAt, FailsAt, IdlesAt}
 use Rattle.winnow_reader.proofs.lemmas.PlaceLemmas.{moved-bytes}
 use Rattle.winnow_resp.specs.declared.reply.Reply.{Reply}
@@ -21,7 +22,7 @@ use Rattle.example_resp.specs.declared.placed.PlacedReply.{PlacedReply}
 use Rattle.example_resp.specs.declared.positions.Position.{Position}
 use Rattle.example_resp.specs.Positions.{start, position_after, joined_with, IsPosition}
 use Rattle.example_resp.specs.Placing.{IsPlaced}
-use Rattle.example_resp.specs.Session.{IsSteady, HasSameInput, StandsAt, OnAnswer, ReadsReplies, HasNoneLeft, FailsThere, replies_of, shown_all}
+use Rattle.example_resp.specs.Session.{StandsOn, ended_as, Follows, Continues, HasPrinted, EndsAs, Tells, IsSteady, HasSameInput, StandsAt, OnAnswer, ReadsReplies, HasNoneLeft, FailsThere, replies_of, shown_all}
 use Rattle.example_resp.specs.Printing.{shown}
 use Rattle.example_resp.proofs.lemmas.PositionLemmas.{position_after-append, position_after-byte, joined-after, after-counted, start-counted}
 
@@ -37,7 +38,8 @@ placed-end place n ahead new placed both is (m, front) at =
     is.1 ∙ ap (position_after start) (slice ∙ ap (λ k. take k ahead) e)
 
 -- the end of a reply is counted
-pub end-counted : (n : ℕ) (ahead : List ℕ) (end : Position) → end ≡ position_after start (take n ahead)
+pub end-counted : (n : ℕ) (ahead : List ℕ) (end : Position)
+    → end ≡ position_after start (take n ahead)
     → IsPosition end
 end-counted n ahead end e = subst IsPosition (sym e) (after-counted start (take n ahead) start-counted)
 
@@ -54,7 +56,8 @@ taken-byte n ahead end h e =
 
 -- after a reply, the reader stands where the place is joined with the end of the reply
 pub stands-after : (input : List ℕ) (old : ReaderState PlacedReply) (place end : Position) (n : ℕ)
-    → n ≤ length old.ahead → end ≡ position_after start (take n old.ahead) → StandsAt input old place
+    → n ≤ length old.ahead → end ≡ position_after start (take n old.ahead)
+    → StandsAt input old place
     → StandsAt input (taken_by old n) (joined_with place end)
 stands-after input old place end n h e s =
     let taken = take n old.ahead in
@@ -89,11 +92,18 @@ may-end false = tt
 may-end true = (refl, refl)
 
 -- where a stream moved on, it stands in what was ahead
-moved-ahead : (place there : ℕ) (ahead rest : List ℕ) → Moves (bytes_at place ahead) (bytes_at there rest)
+moved-ahead : (place there : ℕ) (ahead rest : List ℕ)
+    → Moves (bytes_at place ahead) (bytes_at there rest)
     → (k : ℕ) × ((k ≤ length ahead) × (there ≡ place + k))
 moved-ahead place there ahead rest m =
-    let n : ℕ = length ahead - length rest in
-    (n, (omega arith, same_Some _ _ (ap (λ (a : Ahead ℕ). a.location) (moved-bytes place ahead there rest n m refl))))
+    let n : ℕ = length ahead - length rest in (
+      n,
+      (
+        omega arith,
+        same_Some _ _ (ap (λ (a : Ahead ℕ). a.location)
+            (moved-bytes place ahead there rest n m refl)),
+      ),
+    )
 
 module _ {R O : Type 0} (means : R → Meaning O ℕ) (lawful : (r : R) → IsParser (means r)) where
   -- where a parser stops, it is in what is ahead
@@ -113,9 +123,12 @@ module _ {R O : Type 0} (means : R → Meaning O ℕ) (lawful : (r : R) → IsPa
       let here = subst (λ xs. StopsAt (means f.parser) false (bytes_at f.place xs) (bytes_at there (h.0 ++ []))) (append-nil f.ahead) stops in
       stops-ahead f.parser f.place there f.ahead (h.0 ++ []) here
 
-module _ (means : PlacedReply → Meaning Placed ℕ) (law : (f : ReaderState PlacedReply) (there : ℕ) → FailsAt means f there → (k : ℕ) × ((k ≤ length f.ahead) × (there ≡ f.place + k))) where
+module _ (means : PlacedReply
+    → Meaning Placed ℕ) (law : (f : ReaderState PlacedReply) (there : ℕ) → FailsAt means f there
+    → (k : ℕ) × ((k ≤ length f.ahead) × (there ≡ f.place + k))) where
   -- the place of a failure, or of a parser that takes nothing, is in what is ahead
-  pub stuck-ahead : (f : ReaderState PlacedReply) (there : ℕ) → FailsAt means f there ⊎ IdlesAt means f there
+  pub stuck-ahead : (f : ReaderState PlacedReply) (there : ℕ)
+      → FailsAt means f there ⊎ IdlesAt means f there
       → (k : ℕ) × ((k ≤ length f.ahead) × (there ≡ f.place + k))
   stuck-ahead f there (inl h) = law f there h
   stuck-ahead f there (inr h) = (0, (omega arith, omega (arith, h.0)))
@@ -136,12 +149,16 @@ module _ (means : PlacedReply → Meaning Placed ℕ) (law : (f : ReaderState Pl
   -- what a reader that is stuck says of the failure that is told
   pub stuck-there : (old new : ReaderState PlacedReply) (place p : Position) (there : ℕ) → new ≡ old
       → IsSteady old place → FailsAt means old there ⊎ IdlesAt means old there
-      → p ≡ position_after place (take (there - new.place) new.ahead) → FailsThere means new place (NoReply p)
+      → p ≡ position_after place (take (there - new.place) new.ahead)
+      → FailsThere means new place (NoReply p)
   stuck-there old new place p there kept s h e =
       let stuck = subst (λ f. FailsAt means f there ⊎ IdlesAt means f there) (sym kept) h in
       let steady = subst (λ f. IsSteady f place) (sym kept) s in
-      let byte = stuck-byte new place p there steady stuck e in
-      (subst (λ n. FailsAt means new n ⊎ IdlesAt means new n) byte stuck, e ∙ ap (λ n. position_after place (take (n - new.place) new.ahead)) byte)
+      let byte = stuck-byte new place p there steady stuck e in (
+        subst (λ n. FailsAt means new n ⊎ IdlesAt means new n) byte stuck,
+        e ∙ ap
+            (λ n. position_after place (take (n - new.place) new.ahead)) byte,
+      )
 
 -- nothing is both true and false
 no-both : (b : Bool) → b ≡ true → b ≡ false → ⊥
@@ -168,7 +185,8 @@ on-answer (Err OutOfMemory) P h = tt
 on-answer (Err InputOrOutput) P h = tt
 
 -- a reader with the same input as another has that of a third
-pub same-trans : (f g h : ReaderState PlacedReply) → HasSameInput f g → HasSameInput g h → HasSameInput f h
+pub same-trans : (f g h : ReaderState PlacedReply) → HasSameInput f g → HasSameInput g h
+    → HasSameInput f h
 same-trans f g h p q = record { parser = q.parser ∙ p.parser; ended = q.ended ∙ p.ended; fed = q.fed ∙ p.fed }
 
 -- the lines of one reply more
@@ -195,8 +213,14 @@ module _ (means : PlacedReply → Meaning Placed ℕ) where
 
   -- a reader that read nothing more
   pub reads-none : (f g : ReaderState PlacedReply) → g ≡ f → ReadsReplies means f [] g
-  reads-none f g e input values r =
-      ([], (subst (λ vs. HasRead means g input vs) (sym (append-nil values)) (subst (λ x. HasRead means x input values) (sym e) r), refl))
+  reads-none f g e input values r = (
+    [],
+    (
+      subst (λ vs. HasRead means g input vs) (sym (append-nil values)) (subst
+          (λ x. HasRead means x input values) (sym e) r),
+      refl,
+    ),
+  )
 
   -- a reader that has none left after other replies has none left after all of them
   pub none-trans : (f g h : ReaderState PlacedReply) (xs : List Reply)
@@ -205,7 +229,8 @@ module _ (means : PlacedReply → Meaning Placed ℕ) where
       (n.0, λ goes input values r. let first = p input values r in n.1 goes input (values ++ first.0) first.1.0)
 
   -- replies that are printed after others are printed after all of them
-  pub printed-more : (f g h : ReaderState PlacedReply) (replies : List Reply) (reply : Reply) (base mid new : List ℕ)
+  pub printed-more : (f g h : ReaderState PlacedReply) (replies : List Reply) (reply : Reply)
+      (base mid new : List ℕ)
       → ReadsReplies means f replies g → mid ≡ base ++ shown_all replies
       → ReadsReplies means g (reply ∷ []) h → new ≡ mid ++ shown reply []
       → (all : List Reply) × (ReadsReplies means f all h × (new ≡ base ++ shown_all all))
@@ -222,5 +247,275 @@ module _ (means : PlacedReply → Meaning Placed ℕ) where
   pub printed-still : (f g h : ReaderState PlacedReply) (replies : List Reply) (base new : List ℕ)
       → ReadsReplies means f replies g → new ≡ base ++ shown_all replies → ReadsReplies means g [] h
       → (all : List Reply) × (ReadsReplies means f all h × (new ≡ base ++ shown_all all))
-  printed-still f g h replies base new p e q =
-      (replies, (subst (λ all. ReadsReplies means f all h) (append-nil replies) (reads-trans f g h replies [] p q), e))
+  printed-still f g h replies base new p e q = (
+    replies,
+    (
+      subst (λ all. ReadsReplies means f all h) (append-nil replies)
+          (reads-trans f g h replies [] p q),
+      e,
+    ),
+  )
+
+-- what follows from what holds, holds unless a call failed
+pub on-answer-map : (r : Result (Unit {0}) Failure) (P Q : Type 0) → (P → Q) → OnAnswer r P
+    → OnAnswer r Q
+on-answer-map (Ok done) P Q f h = f h
+on-answer-map (Err (NoReply place)) P Q f h = f h
+on-answer-map (Err (EndsInside place)) P Q f h = f h
+on-answer-map (Err OutOfMemory) P Q f h = tt
+on-answer-map (Err InputOrOutput) P Q f h = tt
+
+-- what holds of an answer holds of it at the end
+pub on-ended : (r : Result (Unit {0}) Failure) (place : Position) (P : Type 0) → OnAnswer r P
+    → OnAnswer (ended_as r place) P
+on-ended (Ok done) place P h = h
+on-ended (Err (NoReply p)) place P h = h
+on-ended (Err (EndsInside p)) place P h = h
+on-ended (Err OutOfMemory) place P h = tt
+on-ended (Err InputOrOutput) place P h = tt
+
+module _ (means : PlacedReply → Meaning Placed ℕ) where
+  -- a reader that is given a piece follows the input with that piece
+  pub follows-pushed : (input piece : List ℕ) (replies : List Reply)
+      (f g : ReaderState PlacedReply) (place : Position)
+      → g ≡ pushed f piece → ReadsAlso means f piece g → Follows means input replies f place
+      → Follows means (input ++ piece) replies g place
+  follows-pushed input piece replies f g place e reads h =
+      record {
+        stands = record {
+          front = h.stands.front;
+          whole = ap (λ t. t ++ piece) h.stands.whole ∙ append_assoc h.stands.front f.ahead piece
+              ∙ ap (λ (x : ReaderState PlacedReply). h.stands.front ++ x.ahead) (sym e);
+          count = ap (λ (x : ReaderState PlacedReply). x.place) e ∙ h.stands.count;
+          leads = h.stands.leads;
+        };
+        values = h.values;
+        read = reads input h.values h.read;
+        shows = h.shows;
+      }
+
+  -- a reader whose input ends follows the same input
+  pub follows-ended : (input : List ℕ) (replies : List Reply) (f g : ReaderState PlacedReply)
+      (place : Position)
+      → g ≡ ended_after f → ReadsThrough means f g → Follows means input replies f place
+      → Follows means input replies g place
+  follows-ended input replies f g place e reads h =
+      record {
+        stands = record {
+          front = h.stands.front;
+          whole = h.stands.whole ∙ ap (λ (x : ReaderState PlacedReply). h.stands.front ++ x.ahead) (sym e);
+          count = ap (λ (x : ReaderState PlacedReply). x.place) e ∙ h.stands.count;
+          leads = h.stands.leads;
+        };
+        values = h.values;
+        read = reads input h.values h.read;
+        shows = h.shows;
+      }
+
+  -- a reader that reads on, continues
+  pub continues : (input : List ℕ) (replies : List Reply) (f g : ReaderState PlacedReply)
+      (place there : Position)
+      (old new : Option (List ℕ)) → Follows means input replies f place → StandsOn f place g there
+      → ((more : List Reply) × (ReadsReplies means f more g × Appends old new (shown_all more)))
+      → Continues means input replies g there old new
+  continues input replies f g place there old new h stands (more, (reads, written)) =
+      let read = reads input h.values h.read in
+      record {
+        more = more;
+        follows = record {
+          stands = stands input h.stands;
+          values = h.values ++ read.0;
+          read = read.1.0;
+          shows = map-append (λ (placed : Placed). placed.reply) h.values read.0
+              ∙ ap (λ t. t ++ replies_of read.0) h.shows ∙ ap (λ t. replies ++ t) read.1.1;
+        };
+        written = written;
+      }
+
+  -- how a reader stands at the end of the input
+  pub ends-as : (r : Result (Unit {0}) Failure) (old f : ReaderState PlacedReply)
+      (place : Position) → f.ended ≡ true
+      → OnOk r (HasNoneLeft means old f) → IfErr r (FailsThere means f place)
+      → EndsAs means f place [] (ended_as r place)
+  ends-as (Ok done) old f place e none failed = (refl, e, none.0 e)
+  ends-as (Err (NoReply p)) old f place e none failed = (refl, e, refl)
+  ends-as (Err (EndsInside p)) old f place e none failed = absurd failed
+  ends-as (Err OutOfMemory) old f place e none failed = tt
+  ends-as (Err InputOrOutput) old f place e none failed = tt
+
+  -- a reader that failed before the end of the input ends so, with any rest of the input
+  pub fails-as : (e : Failure) (f : ReaderState PlacedReply) (place : Position) (rest : List ℕ)
+      → FailsThere means f place e → EndsAs means f place rest (Err e)
+  fails-as (NoReply p) f place rest h = h
+  fails-as (EndsInside p) f place rest h = absurd h
+  fails-as OutOfMemory f place rest h = tt
+  fails-as InputOrOutput f place rest h = tt
+
+-- bytes that are known are known once more are appended
+pub appends-some : (o new : Option (List ℕ)) (xs bytes : List ℕ) → o ≡ Some xs → Appends o new bytes
+    → new ≡ Some (xs ++ bytes)
+appends-some None new xs bytes e h = absurd (none-some _ e)
+appends-some (Some ys) None xs bytes e h = absurd h
+appends-some (Some ys) (Some zs) xs bytes e h = ap Some (h ∙ ap (λ t. t ++ bytes) (same_Some ys xs e))
+
+-- bytes that are known are known once some are read
+pub consumes-some : (o new : Option (List ℕ)) (xs bytes : List ℕ) → o ≡ Some xs
+    → Consumes o new bytes
+    → (rest : List ℕ) × ((new ≡ Some rest) × (xs ≡ bytes ++ rest))
+consumes-some None new xs bytes e h = absurd (none-some _ e)
+consumes-some (Some ys) None xs bytes e h = absurd h
+consumes-some (Some ys) (Some zs) xs bytes e h = (zs, (refl, sym (same_Some ys xs e) ∙ h))
+
+-- bytes that are known stay where nothing was read
+keeps-some : (o new : Option (List ℕ)) (xs : List ℕ) → o ≡ Some xs → Keeps o new → new ≡ Some xs
+keeps-some None new xs e h = absurd (none-some _ e)
+keeps-some (Some ys) None xs e h = absurd h
+keeps-some (Some ys) (Some zs) xs e h = ap Some (h ∙ same_Some ys xs e)
+
+-- at the end no byte is left
+at-end : (o : Option (List ℕ)) (xs : List ℕ) → o ≡ Some xs → IsAtEnd o → xs ≡ []
+at-end None xs e h = absurd (none-some _ e)
+at-end (Some ys) xs e h = sym (same_Some ys xs e) ∙ h
+
+-- the lines of two lists of replies
+shown-append : (xs ys : List Reply) → shown_all (xs ++ ys) ≡ shown_all xs ++ shown_all ys
+shown-append [] ys = refl
+shown-append (x ∷ xs) ys = ap (λ t. shown x [] ++ t) (shown-append xs ys) ∙ sym (append_assoc (shown x []) (shown_all xs) (shown_all ys))
+
+-- the lines of more replies are written after those before
+written-more : (before : List ℕ) (replies more : List Reply) (o new : Option (List ℕ))
+    → o ≡ Some (before ++ shown_all replies) → Appends o new (shown_all more)
+    → new ≡ Some (before ++ shown_all (replies ++ more))
+written-more before replies more o new e h =
+    appends-some o new (before ++ shown_all replies) (shown_all more) e h
+    ∙ ap Some (append_assoc before (shown_all replies) (shown_all more) ∙ ap (λ t. before ++ t) (sym (shown-append replies more)))
+
+module _ (means : PlacedReply → Meaning Placed ℕ) where
+  -- a reader that nothing was pushed to
+  pub printed-start : (f : ReaderState PlacedReply) (place : Position) (parser : PlacedReply)
+      (whole before : List ℕ)
+      (source output : Option (List ℕ)) → f ≡ at_start parser → HasRead means f [] []
+      → place ≡ start
+      → source ≡ Some whole → output ≡ Some before
+      → HasPrinted means whole before source output f place
+  printed-start f place parser whole before source output e read is left written =
+      record {
+        input = [];
+        rest = whole;
+        splits = refl;
+        left = left;
+        replies = [];
+        follows = record {
+          stands = record {
+            front = [];
+            whole = sym (ap (λ (x : ReaderState PlacedReply). x.ahead) e);
+            count = ap (λ (x : ReaderState PlacedReply). x.place) e;
+            leads = is;
+          };
+          values = [];
+          read = read;
+          shows = refl;
+        };
+        written = written ∙ ap Some (sym (append-nil before));
+      }
+
+  -- a reader that read on with a piece
+  pub printed-piece : (whole before piece : List ℕ) (source left output new : Option (List ℕ))
+      (f g : ReaderState PlacedReply) (place there : Position)
+      → HasPrinted means whole before source output f place
+      → Consumes source left piece
+      → ((input : List ℕ) (replies : List Reply) → Follows means input replies f place
+      → Continues means (input ++ piece) replies g there output new)
+      → HasPrinted means whole before left new g there
+  printed-piece whole before piece source left output new f g place there h consumes told =
+      let read = consumes-some source left h.rest piece h.left consumes in
+      let more = told h.input h.replies h.follows in
+      record {
+        input = h.input ++ piece;
+        rest = read.0;
+        splits = h.splits ∙ ap (λ t. h.input ++ t) read.1.1 ∙ sym (append_assoc h.input piece read.0);
+        left = read.1.0;
+        replies = h.replies ++ more.more;
+        follows = more.follows;
+        written = written-more before h.replies more.more output new h.written more.written;
+      }
+
+  -- a reader where nothing was read
+  pub printed-kept : (whole before : List ℕ) (source left output : Option (List ℕ))
+      (f : ReaderState PlacedReply)
+      (place : Position) → HasPrinted means whole before source output f place → Keeps source left
+      → HasPrinted means whole before left output f place
+  printed-kept whole before source left output f place h keeps =
+      record {
+        input = h.input;
+        rest = h.rest;
+        splits = h.splits;
+        left = keeps-some source left h.rest h.left keeps;
+        replies = h.replies;
+        follows = h.follows;
+        written = h.written;
+      }
+
+  -- what was printed is told, with how the reader stands
+  tells-printed : (parser : PlacedReply) (whole before : List ℕ) (source output : Option (List ℕ))
+      (f : ReaderState PlacedReply) (place : Position) (r : Result (Unit {0}) Failure)
+      → (h : HasPrinted means whole before source output f place) → f.parser ≡ parser
+      → EndsAs means f place h.rest r
+      → Tells means parser whole before output r
+  tells-printed parser whole before source output f place r h same ends =
+      record {
+        input = h.input;
+        rest = h.rest;
+        splits = h.splits;
+        replies = h.replies;
+        reader = f;
+        place = place;
+        same = same;
+        follows = h.follows;
+        written = h.written;
+        ends = ends;
+      }
+
+  -- what the program tells where a piece made it fail
+  pub tells-failed : (parser : PlacedReply) (whole before piece : List ℕ)
+      (source left output new : Option (List ℕ))
+      (f g : ReaderState PlacedReply) (place there : Position) (e : Failure)
+      → HasPrinted means whole before source output f place
+      → Consumes source left piece → g.parser ≡ parser
+      → ((input : List ℕ) (replies : List Reply) → Follows means input replies f place
+      → OnAnswer (Err e) (Continues means (input ++ piece) replies g there output new))
+      → FailsThere means g there e → OnAnswer (Err e) (Tells means parser whole before new (Err e))
+  tells-failed parser whole before piece source left output new f g place there (NoReply p) h consumes same told failed =
+      tells-printed parser whole before left new g there (Err (NoReply p))
+      (printed-piece whole before piece source left output new f g place there h consumes told) same failed
+  tells-failed parser whole before piece source left output new f g place there (EndsInside p) h consumes same told failed = absurd failed
+  tells-failed parser whole before piece source left output new f g place there OutOfMemory h consumes same told failed = tt
+  tells-failed parser whole before piece source left output new f g place there InputOrOutput h consumes same told failed = tt
+
+  -- what the program tells at the end of the input
+  pub tells-last : (parser : PlacedReply) (whole before bytes : List ℕ)
+      (source left output new : Option (List ℕ))
+      (f g : ReaderState PlacedReply) (place there : Position) (r : Result (Unit {0}) Failure)
+      → HasPrinted means whole before source output f place → Consumes source left bytes
+      → bytes ≡ [] → IsAtEnd left
+      → g.parser ≡ parser
+      → ((input : List ℕ) (replies : List Reply) → Follows means input replies f place
+      → OnAnswer r (Continues means input replies g there output new))
+      → EndsAs means g there [] r → OnAnswer r (Tells means parser whole before new r)
+  tells-last parser whole before bytes source left output new f g place there r h consumes none end same told ends =
+      let read = consumes-some source left h.rest bytes h.left consumes in
+      let empty : h.rest ≡ [] = read.1.1 ∙ ap (λ t. bytes ++ t) (at-end left read.0 read.1.0 end) ∙ append-nil bytes ∙ none in
+      on-answer-map r (Continues means h.input h.replies g there output new) (Tells means parser whole before new r)
+      (λ more. record {
+        input = h.input;
+        rest = [];
+        splits = h.splits ∙ ap (λ t. h.input ++ t) empty;
+        replies = h.replies ++ more.more;
+        reader = g;
+        place = there;
+        same = same;
+        follows = more.follows;
+        written = written-more before h.replies more.more output new h.written more.written;
+        ends = ends;
+      })
+      (told h.input h.replies h.follows)

@@ -43,8 +43,10 @@ returns-in-Ok-Value-clause-stands c = λ input s.
     subst (λ p. StandsAt input c.read_next.new.self p) (sym c.joined_with.ensures.joined) moved
 
 pub returns-in-Ok-Value-clause-reads : goal.returns-in-Ok-Value-clause-reads
-returns-in-Ok-Value-clause-reads c = λ input values h.
-    (c.in-Ok-Value.placed ∷ [], ((rw c.in-Ok-Value.field-0-is at c.in-Ok-Value.ensures.read) input values h, refl))
+returns-in-Ok-Value-clause-reads c = λ input values h. (
+  c.in-Ok-Value.placed ∷ [],
+  ((rw c.in-Ok-Value.field-0-is at c.in-Ok-Value.ensures.read) input values h, refl),
+)
 
 pub returns-in-Ok-NeedsMore-clause-reads : goal.returns-in-Ok-NeedsMore-clause-reads
 returns-in-Ok-NeedsMore-clause-reads c = λ input values h.
