@@ -107,6 +107,8 @@ fn push(reader: &mut ByteReader<Row>, piece: &[u8]) -> Result<(), Failure>
     ensures read { OnOk result (ReadsAlso (λ r. RowInPieces) reader.old piece.now reader.new) }
     ensures counted { OnOk result (fed_of reader.new + 1 < 2 ^ 64) }
     ensures failed { IfErr result (λ failure. ¬ (IsOfInput failure)) }
+    ensures long { IfErr result (λ failure. failure ≡ Failure.InputOrOutput
+        → 2 ^ 64 ≤ fed_of reader.old + length piece.now + 1) }
 {
     if piece.len() >= usize::MAX - reader.fed() {
         return Err(Failure::InputOrOutput);
