@@ -1,2 +1,2 @@
-pub mod FedLemmas
-pub mod SplitLemmas
+pub mod LineLemmas
+pub mod ReadingLemmas

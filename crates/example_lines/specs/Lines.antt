@@ -1,12 +1,21 @@
--- The lines of an input, each ended by CR LF, and a feed that searches for their ends.
+-- The lines of an input, each ended by CR LF, and what the parser of one means.
 use Rattle.std.specs.Prelude.{◌≡◌, ℕ, List, [], ◌∷◌, ◌++◌, length, map, Option, None, Some, option_map}
 use Rattle.std.specs.Borrow.{Bor}
 use Rattle.std.specs.Global.{Vec}
+use Rattle.winnow_base.specs.Bytes.{bytes_of}
+use Rattle.winnow_base.specs.Comparison.{comparison}
+use Rattle.winnow_base.specs.Staying.{ComparisonsStay-written}
 use Rattle.winnow_base.specs.Search.{hit}
-use Rattle.winnow_base.specs.Inputs.{byte_input, joined}
-use Rattle.winnow_base.specs.Feeding.{FeedState, Fits, script_of}
-use Rattle.winnow_base.specs.Needles.TheVariants.{One}
-use Rattle.winnow_base.specs.SearchStep.TheVariants as step
+use Rattle.winnow.specs.Outcome.{Meaning}
+use Rattle.winnow.specs.Laws.{IsParser}
+use Rattle.winnow.specs.Meanings.{Terminated}
+use Rattle.winnow.specs.Parts.{IsParser-Terminated}
+use Rattle.winnow.specs.Until.{Until, IsParser-Until}
+use Rattle.winnow.specs.Literal.{Literal, IsParser-Literal}
+use Rattle.winnow.specs.Place.{IsByteSlice, SlicesStay-bytes}
+use Rattle.winnow.specs.State.{ReaderState}
+use Rattle.winnow.specs.Reading.{HasRead}
+use Rattle.winnow.specs.Copied.{Copied, IsParser-Copied}
 
 -- the bytes that end a line
 abbrev pub line_end : List ℕ
@@ -18,7 +27,7 @@ first_end bytes = option_map (λ p. p.start) (hit (line_end ∷ []) bytes)
 
 -- the bytes are a line, the first line end in them, and the bytes after it
 abbrev pub IsNextLine : List ℕ → List ℕ → List ℕ → Type 0
-IsNextLine bytes line behind = (bytes ≡ line ++ line_end ++ behind) × (first_end bytes ≡ Some (length line))
+IsNextLine bytes line rest = (bytes ≡ line ++ line_end ++ rest) × (first_end bytes ≡ Some (length line))
 
 -- the bytes are these lines, one after the other, and a rest
 abbrev pub Splits : List ℕ → List (List ℕ) → List ℕ → Type 0
@@ -33,11 +42,21 @@ AreLines bytes lines rest = Splits bytes lines rest × (first_end rest ≡ None)
 abbrev pub lines_in : List (Vec ℕ) → List (List ℕ)
 lines_in lines = map (λ line. line.items) lines
 
--- the feed searches for the end of a line, and was fed these bytes, in any pieces
-pub record IsFed (f : FeedState) (bytes : List ℕ) : Type 0 where
-  pub literal : Bor (List ℕ)
-  pub script : script_of f ≡ step.Find (One literal) ∷ []
-  pub looks : literal.now ≡ line_end
-  pub pieces : List (List ℕ)
-  pub fits : Fits byte_input f pieces
-  pub fed : joined pieces ≡ bytes
+-- the slice before the first line end, which is taken too
+abbrev pub LineSlice : Meaning (Bor (List ℕ)) ℕ
+LineSlice = Terminated (Until IsByteSlice (λ r. hit (line_end ∷ []) (bytes_of r)) 0 None)
+    (Literal IsByteSlice (λ r. comparison line_end (bytes_of r)))
+
+-- a copy of it
+abbrev pub OneLine : Meaning (Vec ℕ) ℕ
+OneLine = Copied (λ slice. slice.now) (λ line. line.items) LineSlice
+
+-- the parser of a line keeps the laws of a parser
+pub IsParser-OneLine : IsParser OneLine
+IsParser-OneLine = IsParser-Copied _ _ _ (IsParser-Terminated _ _
+    (IsParser-Until IsByteSlice SlicesStay-bytes (λ r. hit (line_end ∷ []) (bytes_of r)) 0 None)
+    (IsParser-Literal IsByteSlice SlicesStay-bytes (λ r. comparison line_end (bytes_of r)) (ComparisonsStay-written (λ byte. byte ∷ []) line_end)))
+
+-- of this joined input a reader of lines, which goes on, has read these
+abbrev pub HasLines : {R : Type 0} → ReaderState R → List ℕ → List (Vec ℕ) → Type 0
+HasLines f input lines = HasRead (λ r. OneLine) f input lines

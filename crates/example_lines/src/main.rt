@@ -9,7 +9,7 @@ mod lines;
 mod program;
 
 use std::io;
-use winnow_base::stream::BStr;
+use winnow::stream::BStr;
 
 const PIECES: [&[u8]; 3] = [
     b"HTTP/1.1 200 OK\r",

@@ -1,9 +1,11 @@
-use Rattle.std.proofs.Common.{◌≡◌, ℕ, ◌+◌, List, [], ◌++◌, take, get_or, ap, sym, ◌∙◌, subst}
+use Rattle.std.proofs.Common.{rules, ◌≡◌, ℕ, ◌+◌, List, [], ◌++◌, take, get_or, ap, sym, ◌∙◌, subst, arith}
+use Rattle.std.proofs.lemmas.List.{take_all}
 use Rattle.std.specs.Borrow.{Bor}
 use Rattle.winnow_base.specs.Inputs.{joined, pieces_in}
-use Rattle.example_lines.specs.Lines.{Splits, lines_in}
-use Rattle.example_lines.proofs.lemmas.FedLemmas.{joined-push, taken-more}
-use Rattle.example_lines.proofs.lemmas.SplitLemmas.{Splits-more}
+use Rattle.winnow_feed.proofs.lemmas.InputLemmas.{joined-push}
+use Rattle.winnow_feed.proofs.lemmas.PieceLemmas.{taken-more}
+use Rattle.example_lines.specs.Lines.{HasLines, Splits, first_end, lines_in}
+use Rattle.example_lines.proofs.lemmas.ReadingLemmas.{lacks-end, has-split}
 use Rattle.example_lines.proofs.program.print_lines.Goals as goal
 
 pub loop-i-preserved : goal.loop-i-preserved
@@ -13,12 +15,23 @@ loop-i-preserved g c =
     let none : Bor (List ℕ) = record { ref_ptr = (0, 0); now = [] } in
     let piece : List ℕ = (get_or pieces i none).now in
     let before : List ℕ = joined (pieces_in (take i pieces)) in
-    let more : joined (pieces_in (take (i + 1) pieces)) ≡ before ++ piece =
-    ap joined (taken-more pieces i none c.loop-i-test.true) ∙ joined-push (pieces_in (take i pieces)) piece in
-    let held = Splits-more c.find_more_law.ensures (lines_in c.loop-i.lines.items) before c.loop-i.reader piece c.loop-i.invariant.split in
-    let pushed : Splits (before ++ piece) (lines_in c.loop-i.lines.items) c.push.new.self =
-    subst (λ rest. Splits (before ++ piece) (lines_in c.loop-i.lines.items) rest) (sym c.in_ok-push.ensures.pushed) held in
+    let more : before ++ piece ≡ joined (pieces_in (take (i + 1) pieces)) =
+    sym (ap joined (taken-more pieces i none c.loop-i-test.true) ∙ joined-push (pieces_in (take i pieces)) piece) in
+    let fed = c.in_ok-push.ensures.read before c.loop-i.lines.items c.loop-i.invariant.read in
     record {
-      split = subst (λ b. Splits b (lines_in c.take_lines.new.lines.items) c.take_lines.new.reader) (sym more) (c.in_ok-take_lines.ensures.split (before ++ piece) pushed);
-      all = c.in_ok-take_lines.ensures.all;
+      goes_on = c.in_ok-read_lines.ensures.ended;
+      read = subst (λ input. HasLines c.read_lines.new.reader input c.read_lines.new.lines.items) more (c.in_ok-read_lines.ensures.read (before ++ piece) fed);
+      all = lacks-end c.read_lines.new.reader (c.in_ok-read_lines.ensures.all (before ++ piece) fed);
     }
+
+pub returns : goal.returns
+returns g c =
+    let i = c.loop-i.i in
+    let pieces = c.args.pieces.now in
+    let lines = lines_in c.loop-i.lines.items in
+    let whole : take i pieces ≡ pieces = take_all i pieces (omega (arith, c.loop-i-test.false)) in
+    let rest : c.in_ok-rest.rest.items ≡ c.loop-i.reader.ahead = search rules in
+    let split = has-split c.loop-i.reader c.loop-i.invariant.goes_on (joined (pieces_in (take i pieces))) c.loop-i.lines.items c.loop-i.invariant.read in (
+      subst (λ ps. Splits (joined (pieces_in ps)) lines c.in_ok-rest.rest.items) whole (subst (λ r. Splits (joined (pieces_in (take i pieces))) lines r) (sym rest) split),
+      ap first_end rest ∙ c.loop-i.invariant.all,
+    )

@@ -1,12 +1,13 @@
-use Rattle.std.proofs.Common.{◌≡◌, take}
+use Rattle.std.proofs.Common.{◌≡◌, false, take}
 use Rattle.std.specs.Prelude.{None}
 use Rattle.winnow_base.specs.Inputs.{joined, pieces_in}
-use Rattle.example_lines.specs.Lines.{Splits, first_end, lines_in}
+use Rattle.example_lines.specs.Lines.{HasLines, first_end}
 use Rattle.example_lines.proofs.program.print_lines.Given as goal
 
--- the pieces so far are the lines so far and a rest in which no line ends
+-- of the pieces so far the reader has read the lines so far, and no line end stands ahead
 abbrev pub invariant-loop-i : goal.invariant-loop-i
 invariant-loop-i g l = record {
-  split : Splits (joined (pieces_in (take l.i l.pieces))) (lines_in l.lines.items) l.reader;
-  all : first_end l.reader ≡ None;
+  goes_on : l.reader.ended ≡ false;
+  read : HasLines l.reader (joined (pieces_in (take l.i l.pieces))) l.lines.items;
+  all : first_end l.reader.ahead ≡ None;
 }

@@ -1,0 +1,6 @@
+use Rattle.std.proofs.Common.{inr}
+use Rattle.winnow.specs.Place.{stands}
+use Rattle.example_lines.proofs.lines.LineRecord.read.Goals as goal
+
+pub returns-in-Err-to_vec : goal.returns-in-Err-to_vec
+returns-in-Err-to_vec c = inr (tt, (c.in-Ok.line, (stands c.next_line.new.input, c.in-Ok.ensures)))
