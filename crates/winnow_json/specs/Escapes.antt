@@ -13,8 +13,8 @@ MayBeChar bytes = (more : List ℕ) × ((c : ℕ) × ((more ≢ []) × SpellsCha
 abbrev pub IsNoChar : List ℕ → Type 0
 IsNoChar bytes = (more : List ℕ) → ¬ (BeginsChar (bytes ++ more))
 
--- the bytes begin with the spelling of a character, of so many bytes; or they may be the spelling of
--- one; or no character begins there
+-- the bytes begin with the spelling of a character, which has n bytes; or they may be the spelling
+-- of one; or no character begins there
 abbrev pub IsEscape : List ℕ → Escape → Type 0
 IsEscape bytes (Whole c n) = (0 < n) × (n ≤ length bytes) × SpellsChar c (take n bytes)
 IsEscape bytes Begun = MayBeChar bytes

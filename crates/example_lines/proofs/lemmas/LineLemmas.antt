@@ -137,7 +137,8 @@ module _ (place : ℕ) (bytes : List ℕ) where
   needs-end need (inr (refusal, given)) = absurd refusal
 
   -- where more may follow, a line never fails
-  pub never-backtracks : (b : Ahead ℕ) → ¬ (OneLine true (bytes_at place bytes) (Fails (Backtracks b)))
+  pub never-backtracks : (b : Ahead ℕ)
+      → ¬ (OneLine true (bytes_at place bytes) (Fails (Backtracks b)))
   never-backtracks b (inl (inl (stays, (is, allowed, inl (none, whole))))) = absurd (cc)
   never-backtracks b (inl (inl (stays, (is, allowed, inr (r, (at, few)))))) = absurd (false≢true (sym few ∙ any-count (units bytes) r.start))
   never-backtracks b (inl (inr (slice, (c, (start, (is, inl differ)))))) =

@@ -6,7 +6,8 @@ use Rattle.example_lines.proofs.program.read_lines.Given as goal
 abbrev pub invariant-loop-reader : goal.invariant-loop-reader
 invariant-loop-reader l = record {
   goes_on : l.reader.ended ≡ false;
-  read : (input : List ℕ) → HasLines l.initial.reader input l.initial.lines.items → HasLines l.reader input l.lines.items;
+  read : (input : List ℕ) → HasLines l.initial.reader input l.initial.lines.items
+      → HasLines l.reader input l.lines.items;
 }
 
 abbrev pub decreases-loop-reader : goal.decreases-loop-reader
