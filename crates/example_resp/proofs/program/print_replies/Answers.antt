@@ -25,9 +25,9 @@ pub loop-turn-preserved : goal.loop-turn-preserved
 loop-turn-preserved g c =
     elim c.match-read_piece.branch [
       | in-Ok+in-Ok-print_piece w ↦
-          let steady : IsSteady c.match-read_piece.reader c.match-read_piece.place = search rules in
-          let goes : c.match-read_piece.reader.ended ≡ false = search rules in
-          let parser : c.match-read_piece.reader.parser ≡ c.new-reader.result.parser = search rules in
+          let steady : IsSteady c.match-read_piece.reader c.match-read_piece.place = rw (w.reader-is, w.place-is) w.print_piece.ensures.steady in
+          let goes : c.match-read_piece.reader.ended ≡ false = rw w.reader-is w.print_piece.ensures.goes_on in
+          let parser : c.match-read_piece.reader.parser ≡ c.new-reader.result.parser = rw w.reader-is (w.print_piece.ensures.parser ∙ c.loop-turn.invariant.parser) in
           let room : 0 < vec_len c.read_piece.new.piece = search rules in
           let same : w.deref.result.now ≡ c.read_piece.new.piece.items = search rules in
           let source = g.R.Read.remaining c.loop-turn.input in
@@ -48,9 +48,9 @@ loop-turn-preserved g c =
                 (c.loop-turn.invariant.told whole before known written) read w.in-Ok-print_piece.ensures.told);
           }
       | in-Err+else-not-matches w ↦
-          let steady : IsSteady c.match-read_piece.reader c.match-read_piece.place = search rules in
-          let goes : c.match-read_piece.reader.ended ≡ false = search rules in
-          let parser : c.match-read_piece.reader.parser ≡ c.new-reader.result.parser = search rules in
+          let steady : IsSteady c.match-read_piece.reader c.match-read_piece.place = rw (w.reader-is, w.place-is) c.loop-turn.invariant.steady in
+          let goes : c.match-read_piece.reader.ended ≡ false = rw w.reader-is c.loop-turn.invariant.goes_on in
+          let parser : c.match-read_piece.reader.parser ≡ c.new-reader.result.parser = rw w.reader-is c.loop-turn.invariant.parser in
           let room : 0 < vec_len c.read_piece.new.piece = search rules in
           record {
             steady = steady;
