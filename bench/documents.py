@@ -1,4 +1,4 @@
-"""What csv_documents and resp_documents share: the built program, damage, and the comparison.
+"""What csv_documents and resp_documents share: the built program, damage, pieces, the comparison.
 
 A script names its program, makes a document from a source of random numbers, and says what the
 program must answer to it. Each document has a source of its own, made from the seed and the
@@ -9,6 +9,7 @@ import collections
 import multiprocessing
 import os
 import random
+import socket
 import subprocess
 import sys
 import time
@@ -68,28 +69,57 @@ def damaged(chance, document, special):
     return bytes(held)
 
 
+def pieces_of(chance, document):
+    """Returns the document in pieces: as a whole, byte by byte, or of sizes up to a small one."""
+    longest = chance.choice([1, 5, 20, None])
+    pieces = []
+    while document:
+        size = chance.randint(1, longest) if longest else len(document)
+        pieces.append(document[:size])
+        document = document[size:]
+    return pieces
+
+
 def document_at(make, special, seed, number):
-    """Returns the document with this number: as it was made, or damaged where the number is odd."""
+    """Returns the document with this number, damaged where the number is odd, and its pieces."""
     chance = random.Random(f"{seed} {number}")
     document = make(chance)
-    return damaged(chance, document, special) if number % 2 else document
+    if number % 2:
+        document = damaged(chance, document, special)
+    return document, pieces_of(chance, document)
+
+
+def printed(program, pieces):
+    """Returns what the program prints, its status and its message, where a read gives a piece."""
+    # A read of a socket of this kind gives exactly what was sent at once.
+    ours, theirs = socket.socketpair(socket.AF_UNIX, socket.SOCK_SEQPACKET)
+    with ours:
+        with theirs:
+            process = subprocess.Popen(
+                [program], stdin=theirs, stdout=subprocess.PIPE, stderr=subprocess.PIPE)
+        try:
+            for piece in pieces:
+                ours.sendall(piece)
+        except (BrokenPipeError, ConnectionResetError):
+            # The program refused the document and ended.
+            pass
+    output, message = process.communicate()
+    return output, process.returncode, message
 
 
 def compare(program, make, special, answer, seed, numbers):
     """Returns how often each outcome came, and the first documents that nothing explains."""
     counts, unexplained = collections.Counter(), []
     for number in numbers:
-        document = document_at(make, special, seed, number)
-        wanted = answer(document)
-        done = subprocess.run([program], input=document, capture_output=True, check=False)
-        counts["accepted" if done.returncode == 0 else "refused"] += 1
-        if (done.stdout, done.returncode) == (wanted.output, wanted.status):
+        document, pieces = document_at(make, special, seed, number)
+        wanted, said = answer(document), printed(program, pieces)
+        counts["accepted" if said[1] == 0 else "refused"] += 1
+        if said[:2] == (wanted.output, wanted.status):
             counts[wanted.rule] += wanted.rule is not None
         else:
             counts["unexplained"] += 1
             if len(unexplained) < PRINTED:
-                said = (done.stdout, done.returncode, done.stderr)
-                unexplained.append((number, document, said, wanted))
+                unexplained.append((number, document, pieces, said, wanted))
     return counts, unexplained
 
 
@@ -100,10 +130,11 @@ def compare_share(share):
 
 def report(counts, unexplained, rules, seconds):
     """Prints the unexplained documents and the line of counts, and returns the exit status."""
-    for number, document, (output, status, message), wanted in unexplained[:PRINTED]:
+    for number, document, pieces, (output, status, message), wanted in unexplained[:PRINTED]:
         print(f"document {number}: {document!r}")
-        print(f"  prints {output!r} with status {status}: {message!r}")
-        print(f"  but must print {wanted.output!r} with status {wanted.status}")
+        print(f"  in pieces of {[*map(len, pieces)]} bytes")
+        print(f"  makes the program print {output!r} with status {status}: {message!r}")
+        print(f"  but it must print {wanted.output!r} with status {wanted.status}")
     by_rule = "; ".join(f"{counts[rule]} differing by rule ({rule})" for rule in rules)
     print(f"{counts['accepted'] + counts['refused']} documents: {counts['accepted']} accepted, "
           f"{counts['refused']} refused; {by_rule}; {counts['unexplained']} unexplained; "
