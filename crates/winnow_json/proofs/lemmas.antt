@@ -7,3 +7,10 @@ pub mod CutCharLemmas
 pub mod PlainLemmas
 pub mod StringLemmas
 pub mod StringStreamLemmas
+pub mod GrammarLemmas
+pub mod FoundLemmas
+pub mod ScalarLemmas
+pub mod LayerLemmas
+pub mod NestedLemmas
+pub mod ValueStreamLemmas
+pub mod DocumentLemmas

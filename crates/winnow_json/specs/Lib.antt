@@ -7,3 +7,7 @@ pub mod StringAnswers
 pub mod Escapes
 pub mod Steps
 pub mod CutChars
+pub mod Values
+pub mod Founds
+pub mod ValueAnswers
+pub mod Documents

@@ -9,10 +9,19 @@
 #![tactic(auto)]
 
 mod characters;
+mod documents;
 mod escapes;
+mod found;
+mod nested;
 mod numbers;
 mod parts;
+mod scalars;
 mod strings;
+mod value;
+mod values;
 
+pub use documents::{Damage, read_document};
 pub use numbers::{Number, read_number};
 pub use strings::read_string;
+pub use value::Value;
+pub use values::read_value;

@@ -32,8 +32,8 @@ fn integer_in(text: &[u8]) -> Option<i64>
     text.parse_slice()
 }
 
-// Returns the number with this text.
-fn number_of(alloc: Global, text: &[u8]) -> Result<Number, AllocError>
+/// Returns the number with this text.
+pub(crate) fn number_of(alloc: Global, text: &[u8]) -> Result<Number, AllocError>
     ensures { IfOk result (IsNumberOf text.now) }
 {
     let integer = integer_in(text);

@@ -14,18 +14,18 @@ use winnow::error::ParserError;
 use winnow::stream::{AsBytes, Needed, Stream, StreamIsPartial};
 use winnow::{Failure, ModalResult};
 
-// What some bytes are as a string.
+/// What some bytes are as a string.
 #[derive(Debug, Drop)]
-enum Reading {
-    // There are no bytes
+pub(crate) enum Reading {
+    /// There are no bytes
     Nothing,
-    // No quote stands first
+    /// No quote stands first
     Missing,
-    // A string of this value, and of so many bytes
+    /// A string of this value, and of so many bytes
     Whole(String, usize),
-    // So many bytes of a string, after which more bytes can make it whole
+    /// So many bytes of a string, after which more bytes can make it whole
     Begun(usize),
-    // So many bytes of a string, after which it is damaged
+    /// So many bytes of a string, after which it is damaged
     Damaged(usize),
 }
 
@@ -52,8 +52,8 @@ fn append_next(value: &mut String, bytes: &[u8]) -> Result<Step, AllocError>
     }
 }
 
-// Reads a string at the front of the bytes.
-fn read_bytes(alloc: Global, bytes: &[u8]) -> Result<Reading, AllocError>
+/// Reads a string at the front of the bytes.
+pub(crate) fn read_bytes(alloc: Global, bytes: &[u8]) -> Result<Reading, AllocError>
     ensures { IfOk result (IsReading bytes.now) }
 {
     if bytes.is_empty() {

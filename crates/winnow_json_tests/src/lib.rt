@@ -5,3 +5,5 @@
 mod numbers;
 #[cfg(test)]
 mod strings;
+#[cfg(test)]
+mod values;

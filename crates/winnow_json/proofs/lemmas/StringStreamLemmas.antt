@@ -42,7 +42,7 @@ moved-to a b r new n fits place rest =
 
 module _ (r : Source ℕ) (t : List ℕ) (same : r ≡ units t) where
   -- the bytes that remain
-  text-is : bytes_of r ≡ t
+  pub text-is : bytes_of r ≡ t
   text-is = ap bytes_of same ∙ bytes-units t
 
   -- the lengths of fronts are offsets
@@ -50,7 +50,7 @@ module _ (r : Source ℕ) (t : List ℕ) (same : r ≡ units t) where
   offset-fits n h = subst (λ q. IsTrue (is_offset q n)) (sym same) (is_offset-from_le t n h)
 
   -- the bytes that remain after a front
-  rest-is : (n : ℕ) (new : Source ℕ) → n ≤ length t → new ≡ back r n → bytes_of new ≡ drop n t
+  pub rest-is : (n : ℕ) (new : Source ℕ) → n ≤ length t → new ≡ back r n → bytes_of new ≡ drop n t
   rest-is n new h e =
       ap bytes_of (e ∙ ap (λ q. back q n) same ∙ sym (units-drop t n h)) ∙ bytes-units (drop n t)
 

@@ -1,0 +1,15 @@
+-- Texts that are one value.
+use Rattle.std.specs.Prelude.{◌≡◌, ℕ, ◌≤◌, false, List, [], length}
+use Rattle.winnow_json.specs.Values.{after_blanks, ValueAhead}
+use Rattle.winnow_json.specs.declared.value.Value.{Value}
+use Rattle.winnow_json.specs.declared.documents.Damage.{Damage}
+
+-- the text is this value, with blanks around it
+abbrev pub IsDocument : ℕ → List ℕ → Value → Type 0
+IsDocument depth text value =
+    (rest : List ℕ) × (ValueAhead false depth value text rest × (after_blanks rest ≡ []))
+
+-- the text is no value, and its damage stands in it or at its end
+abbrev pub IsDamage : ℕ → List ℕ → Damage → Type 0
+IsDamage depth text damage =
+    (damage.offset ≤ length text) × ((value : Value) → ¬ (IsDocument depth text value))

@@ -1,0 +1,57 @@
+-- The answers of the reader of values, in the words of the format.
+use Rattle.std.specs.Prelude.{◌≡◌, ℕ, Bool, true, false, List, [], Result, Ok, Err, ⊤}
+use Rattle.winnow_stream.specs.declared.needed.Needed.{Needed}
+use Rattle.winnow_parser.specs.declared.failure.Failure.{Failure}
+use Rattle.winnow_parser.specs.declared.failure.Failure.TheVariants.{Incomplete, Backtrack, Cut, Refused}
+use Rattle.winnow_json.specs.Values.{after_blanks, ValueAhead}
+use Rattle.winnow_json.specs.Founds.{HasNone, IsFound}
+use Rattle.winnow_json.specs.declared.value.Value.{Value}
+use Rattle.winnow_json.specs.declared.found.Found.TheVariants as found
+use Rattle.winnow_json.specs.declared.values.Reading.{Reading}
+use Rattle.winnow_json.specs.declared.values.Reading.TheVariants as reading
+
+-- no value within the limit stands ahead
+abbrev pub NoValueAhead : ℕ → Bool → List ℕ → Type 0
+NoValueAhead depth partial bytes =
+    (value : Value) (rest : List ℕ) → ¬ (ValueAhead partial depth value bytes rest)
+
+-- the answer and what remains: a value that stands ahead; or a backtrack, which takes nothing,
+-- where only blanks stand ahead and nothing may follow; or a cut, where no value stands ahead,
+-- whatever follows; or more input is needed, where more may follow and no value stands ahead yet;
+-- or memory was refused
+abbrev pub IsValueAnswer : {E : Type 0} → ℕ → Bool → List ℕ → Result Value (Failure E Needed)
+    → List ℕ → Type 0
+IsValueAnswer depth partial bytes (Ok value) rest = ValueAhead partial depth value bytes rest
+IsValueAnswer depth partial bytes (Err (Backtrack e)) rest =
+    (rest ≡ bytes) × (partial ≡ false) × (after_blanks bytes ≡ [])
+IsValueAnswer depth partial bytes (Err (Cut e)) rest =
+    HasNone (ValueAhead partial depth) partial bytes
+IsValueAnswer depth partial bytes (Err (Incomplete n)) rest =
+    (partial ≡ true) × NoValueAhead depth partial bytes
+IsValueAnswer depth partial bytes (Err (Refused e)) rest = ⊤
+
+-- the answer is a value with this rest after it, unless memory was refused
+abbrev pub IsValueGiven : {E : Type 0} → Result Value (Failure E Needed) → List ℕ → List ℕ → Type 0
+IsValueGiven (Ok value) rest after = rest ≡ after
+IsValueGiven (Err (Backtrack e)) rest after = ⊥
+IsValueGiven (Err (Cut e)) rest after = ⊥
+IsValueGiven (Err (Incomplete n)) rest after = ⊥
+IsValueGiven (Err (Refused e)) rest after = ⊤
+
+-- wherever a value within the limit stands ahead, one is given that ends at the same place, unless
+-- memory was refused: none is missed, and no bytes have two rests
+abbrev pub GivesEachValue : {E : Type 0} → ℕ → Bool → List ℕ → Result Value (Failure E Needed)
+    → List ℕ → Type 0
+GivesEachValue depth partial bytes result rest = (value : Value) (after : List ℕ)
+    → ValueAhead partial depth value bytes after → IsValueGiven result rest after
+
+-- what the bytes are as a value: blanks, after which nothing may follow; a value; one that is begun;
+-- or none, whatever follows
+abbrev pub IsReading : ℕ → Bool → List ℕ → Reading → Type 0
+IsReading depth partial bytes reading.Nothing = (partial ≡ false) × (after_blanks bytes ≡ [])
+IsReading depth partial bytes (reading.Whole value n) =
+    IsFound (ValueAhead partial depth) partial bytes (found.Whole value n)
+IsReading depth partial bytes reading.Begun =
+    IsFound (ValueAhead partial depth) partial bytes found.Begun
+IsReading depth partial bytes (reading.Damaged n) =
+    IsFound (ValueAhead partial depth) partial bytes (found.Damaged n)
