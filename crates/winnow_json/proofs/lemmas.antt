@@ -12,5 +12,6 @@ pub mod FoundLemmas
 pub mod ScalarLemmas
 pub mod LayerLemmas
 pub mod NestedLemmas
+pub mod SameLemmas
 pub mod ValueStreamLemmas
 pub mod DocumentLemmas

@@ -9,5 +9,6 @@ pub mod Steps
 pub mod CutChars
 pub mod Values
 pub mod Founds
+pub mod SameValues
 pub mod ValueAnswers
 pub mod Documents

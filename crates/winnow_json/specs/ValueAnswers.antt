@@ -1,9 +1,10 @@
 -- The answers of the reader of values, in the words of the format.
-use Rattle.std.specs.Prelude.{◌≡◌, ℕ, Bool, true, false, List, [], Result, Ok, Err, ⊤}
+use Rattle.std.specs.Prelude.{◌≡◌, ℕ, suc, Bool, true, false, List, [], Result, Ok, Err, ⊤}
 use Rattle.winnow_stream.specs.declared.needed.Needed.{Needed}
 use Rattle.winnow_parser.specs.declared.failure.Failure.{Failure}
 use Rattle.winnow_parser.specs.declared.failure.Failure.TheVariants.{Incomplete, Backtrack, Cut, Refused}
 use Rattle.winnow_json.specs.Values.{after_blanks, ValueAhead}
+use Rattle.winnow_json.specs.SameValues.{SameValue}
 use Rattle.winnow_json.specs.Founds.{HasNone, IsFound}
 use Rattle.winnow_json.specs.declared.value.Value.{Value}
 use Rattle.winnow_json.specs.declared.found.Found.TheVariants as found
@@ -30,20 +31,22 @@ IsValueAnswer depth partial bytes (Err (Incomplete n)) rest =
     (partial ≡ true) × NoValueAhead depth partial bytes
 IsValueAnswer depth partial bytes (Err (Refused e)) rest = ⊤
 
--- the answer is a value with this rest after it, unless memory was refused
-abbrev pub IsValueGiven : {E : Type 0} → Result Value (Failure E Needed) → List ℕ → List ℕ → Type 0
-IsValueGiven (Ok value) rest after = rest ≡ after
-IsValueGiven (Err (Backtrack e)) rest after = ⊥
-IsValueGiven (Err (Cut e)) rest after = ⊥
-IsValueGiven (Err (Incomplete n)) rest after = ⊥
-IsValueGiven (Err (Refused e)) rest after = ⊤
+-- the answer is the same value, with this rest after it, unless memory was refused
+abbrev pub IsValueGiven : {E : Type 0} → ℕ → Result Value (Failure E Needed) → List ℕ → Value
+    → List ℕ → Type 0
+IsValueGiven depth (Ok given) rest value after =
+    SameValue (suc depth) given value × (rest ≡ after)
+IsValueGiven depth (Err (Backtrack e)) rest value after = ⊥
+IsValueGiven depth (Err (Cut e)) rest value after = ⊥
+IsValueGiven depth (Err (Incomplete n)) rest value after = ⊥
+IsValueGiven depth (Err (Refused e)) rest value after = ⊤
 
--- wherever a value within the limit stands ahead, one is given that ends at the same place, unless
--- memory was refused: none is missed, and no bytes have two rests
+-- each value within the limit that stands ahead is given, unless memory was refused: none is
+-- missed, and no bytes are two values
 abbrev pub GivesEachValue : {E : Type 0} → ℕ → Bool → List ℕ → Result Value (Failure E Needed)
     → List ℕ → Type 0
 GivesEachValue depth partial bytes result rest = (value : Value) (after : List ℕ)
-    → ValueAhead partial depth value bytes after → IsValueGiven result rest after
+    → ValueAhead partial depth value bytes after → IsValueGiven depth result rest value after
 
 -- what the bytes are as a value: blanks, after which nothing may follow; a value; one that is begun;
 -- or none, whatever follows

@@ -82,7 +82,8 @@ fn elements_at(
     partial: bool,
     depth: usize,
 ) -> Result<Found<Vec<Value>>, AllocError>
-    ensures { IfOk result (IsFound (λ v. Elements (Nested partial depth) 93 v.items) partial bytes.now) }
+    ensures { IfOk result (IsFound (λ v. Elements (Nested partial depth) 93 v.items)
+        partial bytes.now) }
 {
     let mut elements = Vec::new(alloc);
     let mut at = 0;
@@ -113,7 +114,8 @@ fn array_at(
     depth: usize,
 ) -> Result<Found<Vec<Value>>, AllocError>
     requires { StartsWith 91 bytes.now }
-    ensures { IfOk result (IsFound (λ v. Bracketed (Nested partial depth) 93 91 v.items) partial bytes.now) }
+    ensures { IfOk result (IsFound (λ v. Bracketed (Nested partial depth) 93 91 v.items)
+        partial bytes.now) }
 {
     match byte_at(&bytes[1..], partial, b']') {
         Found::Whole(_, width) => Ok(Found::Whole(Vec::new(alloc), 1 + width)),
@@ -180,7 +182,8 @@ fn members_at(
     partial: bool,
     depth: usize,
 ) -> Result<Found<Vec<(String, Value)>>, AllocError>
-    ensures { IfOk result (IsFound (λ v. Elements (MemberAhead (Nested partial depth)) 125 v.items) partial bytes.now) }
+    ensures { IfOk result (IsFound (λ v. Elements (MemberAhead (Nested partial depth)) 125 v.items)
+        partial bytes.now) }
 {
     let mut members = Vec::new(alloc);
     let mut at = 0;
@@ -211,7 +214,8 @@ fn object_at(
     depth: usize,
 ) -> Result<Found<Vec<(String, Value)>>, AllocError>
     requires { StartsWith 123 bytes.now }
-    ensures { IfOk result (IsFound (λ v. Bracketed (MemberAhead (Nested partial depth)) 125 123 v.items) partial bytes.now) }
+    ensures { IfOk result (IsFound
+        (λ v. Bracketed (MemberAhead (Nested partial depth)) 125 123 v.items) partial bytes.now) }
 {
     match byte_at(&bytes[1..], partial, b'}') {
         Found::Whole(_, width) => Ok(Found::Whole(Vec::new(alloc), 1 + width)),

@@ -142,7 +142,7 @@ name-quote v b r (cs, ((t, (e, spells)), has)) = (t ++ 34 ∷ r, e)
 
 module _ (inner : Value → List ℕ → List ℕ → Type 0) where
   -- members end in one way
-  member-once : Once inner → Once (MemberAhead inner)
+  pub member-once : Once inner → Once (MemberAhead inner)
   member-once once v w b r s (a, (m, (h, e, k))) (c, (n, (g, f, l))) =
       let same = name-once v.0 w.0 (after_blanks b) a c h g in
       let next = tails 58 58 m n (sym e ∙ ap after_blanks same ∙ f) in
@@ -165,7 +165,7 @@ module _ (inner : Value → List ℕ → List ℕ → Type 0) where
       )
 
   -- no member begins with a closing bracket
-  member-none : NoneAt 125 (MemberAhead inner)
+  pub member-none : NoneAt 125 (MemberAhead inner)
   member-none v b r q e (a, (n, (h, f, k))) =
       let quote = name-quote v.0 (after_blanks b) a h in
       let same = heads 125 34 q quote.0 (sym e ∙ quote.1) in omega (arith, same)
@@ -218,7 +218,7 @@ module _ (partial : Bool) (inner : Value → List ℕ → List ℕ → Type 0) w
       sym k.1.1.1 ∙ ap kind_of (heads k.0 c k.1.0 q (sym k.1.1.0 ∙ e))
 
   -- so are two layers of the same bytes
-  same-kind : (x y : Value-F Value) (b r s : List ℕ) → Layer partial inner x b r
+  pub same-kind : (x y : Value-F Value) (b r s : List ℕ) → Layer partial inner x b r
       → Layer partial inner y b s → kind y ≡ kind x
   same-kind x y b r s h g =
       let k = layer-kind x b r h in kind-at k.0 k.1.0 y b s k.1.1.0 g ∙ k.1.1.1

@@ -7,12 +7,14 @@ use Rattle.winnow_stream.specs.Front.{back}
 use Rattle.winnow_format.specs.Bytes.{bytes_of}
 use Rattle.winnow_json.specs.Values.{after_blanks, ValueAhead}
 use Rattle.winnow_json.specs.Founds.{HasNone}
+use Rattle.winnow_json.specs.SameValues.{SameValue}
 use Rattle.winnow_json.specs.ValueAnswers.{NoValueAhead, IsReading}
 use Rattle.winnow_json.specs.declared.value.Value.{Value}
 use Rattle.winnow_json.specs.declared.values.Reading.{Reading}
 use Rattle.winnow_json.specs.declared.values.Reading.TheVariants as reading
 use Rattle.winnow_json.proofs.lemmas.StringStreamLemmas.{text-is, rest-is}
 use Rattle.winnow_json.proofs.lemmas.GrammarLemmas.{nested-once}
+use Rattle.winnow_json.proofs.lemmas.SameLemmas.{nested-same}
 use Rattle.winnow_json.proofs.lemmas.FoundLemmas.{none-here}
 use Rattle.winnow_json.proofs.lemmas.NestedLemmas.{nested-some}
 
@@ -51,8 +53,8 @@ module _ (depth : ℕ) (partial : Bool) where
           subst (λ l. ValueAhead partial depth v l (bytes_of new)) (sym (text-is r t same))
           (subst (ValueAhead partial depth v t) (sym (rest-is r t same n new is.0 e)) is.1)
 
-      -- and ends where each does
+      -- and each that does is the same
       pub value-once : (w : Value) (after : List ℕ) → ValueAhead partial depth w (bytes_of r) after
-          → bytes_of new ≡ after
+          → SameValue (suc depth) v w × (bytes_of new ≡ after)
       value-once w after h =
-          nested-once partial (suc depth) v w (bytes_of r) (bytes_of new) after value-answers h
+          (nested-same partial (suc depth) v w (bytes_of r) (bytes_of new) after value-answers h, nested-once partial (suc depth) v w (bytes_of r) (bytes_of new) after value-answers h)
