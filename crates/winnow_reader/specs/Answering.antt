@@ -1,5 +1,5 @@
 -- What a reader answers, and when.
-use Rattle.std.specs.Prelude.{◌≡◌, ℕ, ◌+◌, ◌≤◌, ◌<◌, Bool, true, false, not, List, [], ◌++◌, length, drop, Result, Ok, Err, ◌⊎◌, ⊤, ◌↔◌}
+use Rattle.std.specs.Prelude.{◌≡◌, ℕ, ◌≤◌, ◌<◌, Bool, true, false, not, List, [], ◌++◌, length, Result, Ok, Err, ◌⊎◌, ⊤, ◌↔◌}
 use Rattle.winnow_parser.specs.Outcome.{Ahead, Gives, Fails, Backtracks, Cuts, Refuses, Meaning}
 use Rattle.winnow_reader.specs.declared.next.Next.{Next}
 use Rattle.winnow_reader.specs.declared.next.Next.TheVariants.{Value, NeedsMore, Done}

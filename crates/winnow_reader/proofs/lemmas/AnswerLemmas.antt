@@ -1,8 +1,8 @@
 -- What a record answered of a stream over the bytes ahead.
 use Rattle.std.specs.Prelude.{Bool, true, false, not}
-use Rattle.std.proofs.Common.{◌≡◌, ℕ, ◌+◌, ◌-◌, List, [], length, drop, refl, ap, sym, ◌∙◌, subst, arith}
+use Rattle.std.proofs.Common.{◌≡◌, ℕ, ◌+◌, ◌-◌, List, length, drop, refl, subst, arith}
 use Rattle.winnow_stream.specs.declared.needed.Needed.{Needed}
-use Rattle.winnow_parser.specs.Outcome.{Ahead, Needs, Outcome, Gives, Fails, Meaning, Moves}
+use Rattle.winnow_parser.specs.Outcome.{Ahead, Needs, Outcome, Gives, Fails, Meaning}
 use Rattle.winnow_parser.specs.Laws.{IsParser}
 use Rattle.winnow_reader.specs.Place.{bytes_at}
 use Rattle.winnow_reader.proofs.lemmas.PlaceLemmas.{moved-bytes}

@@ -1,6 +1,6 @@
 -- What a reader makes of an answer of its record keeps what its calls promise.
-use Rattle.std.specs.Prelude.{Bool, true, false, not, ◌⊎◌, Ok, Err}
-use Rattle.std.proofs.Common.{◌≡◌, ℕ, ◌+◌, ◌≤◌, ◌<◌, List, [], ◌∷◌, ◌++◌, length, refl, ap, sym, ◌∙◌, subst, inl, inr, arith}
+use Rattle.std.specs.Prelude.{Bool, true, not}
+use Rattle.std.proofs.Common.{ℕ, ◌<◌, List, [], ◌++◌, refl, sym, inl, inr, arith}
 use Rattle.std.proofs.lemmas.List.{append-nil}
 use Rattle.winnow_stream.specs.declared.needed.Needed.{Needed}
 use Rattle.winnow_stream.specs.declared.needed.Needed.TheVariants.{Unknown, Size}
@@ -8,13 +8,12 @@ use Rattle.winnow_parser.specs.Outcome.{Fails, Needs, Meaning}
 use Rattle.winnow_parser.specs.Laws.{IsParser}
 use Rattle.winnow_reader.specs.declared.asking.Asked.{Asked}
 use Rattle.winnow_reader.specs.declared.asking.Asked.TheVariants as asked
-use Rattle.winnow_reader.specs.declared.next.Next.TheVariants.{Value, NeedsMore, Done}
 use Rattle.winnow_reader.specs.Place.{bytes_at}
 use Rattle.winnow_reader.specs.Wanted.{size_of}
-use Rattle.winnow_reader.specs.State.{ReaderState, waiting_for}
-use Rattle.winnow_reader.specs.Reading.{MayFollow, Asks, AwaitsAsked, HasRead, Lacks, ReadsOn}
+use Rattle.winnow_reader.specs.State.{ReaderState}
+use Rattle.winnow_reader.specs.Reading.{MayFollow, Asks, ReadsOn}
 use Rattle.winnow_reader.specs.Answering.{StopsAt, GivesValue, WaitsWell, IsDoneAtEnd, FailsWell, StaysWithout}
-use Rattle.winnow_reader.specs.Asked.{IsAnswer, IsKnown, IsAsked, IsWithin, settled, answer_of}
+use Rattle.winnow_reader.specs.Asked.{IsAsked, IsWithin, settled, answer_of}
 use Rattle.winnow_reader.proofs.lemmas.PlaceLemmas.{value-stays, backtrack-stays, cut-stays}
 use Rattle.winnow_reader.proofs.lemmas.ReadingLemmas.{HasRead-value, HasRead-waits, HasRead-still}
 

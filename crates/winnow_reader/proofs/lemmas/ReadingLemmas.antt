@@ -8,7 +8,7 @@ use Rattle.winnow_parser.specs.Outcome.{Ahead, Gives, Meaning}
 use Rattle.winnow_parser.specs.Laws.{IsParser}
 use Rattle.winnow_reader.specs.Place.{bytes_at}
 use Rattle.winnow_reader.specs.State.{ReaderState, at_start, pushed, ended_after, taken_by, waiting_for}
-use Rattle.winnow_reader.specs.Reading.{Reads, MayFollow, Asks, AwaitsAsked, HasRead, ReadsAlso, ReadsThrough}
+use Rattle.winnow_reader.specs.Reading.{Reads, MayFollow, AwaitsAsked, HasRead, ReadsAlso, ReadsThrough}
 use Rattle.winnow_reader.proofs.lemmas.PlaceLemmas.{value-stays}
 
 module _ {O : Type 0} (means : Meaning O ℕ) (partial : Bool) where

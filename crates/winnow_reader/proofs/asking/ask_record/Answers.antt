@@ -1,5 +1,5 @@
 use Rattle.std.specs.Prelude.{not}
-use Rattle.std.proofs.Common.{◌≡◌, ℕ, ◌+◌, ◌-◌, length, subst, sym, ◌∙◌, ap, arith}
+use Rattle.std.proofs.Common.{◌≡◌, ◌-◌, length, subst, arith}
 use Rattle.winnow_stream.specs.Units.{width-units}
 use Rattle.winnow_parser.specs.Outcome.{Gives, Fails, Needs}
 use Rattle.winnow_parser.specs.Answer.{failed}

@@ -1,7 +1,7 @@
 use Rattle.std.proofs.Common.{subst, sym}
 use Rattle.winnow_reader.specs.Reading.{ReadsOn}
 use Rattle.winnow_reader.specs.Answering.{GivesValue, WaitsWell, IsDoneAtEnd, FailsWell, StaysWithout}
-use Rattle.winnow_reader.specs.Asked.{settled, answer_of}
+use Rattle.winnow_reader.specs.Asked.{answer_of}
 use Rattle.winnow_reader.proofs.lemmas.AskedLemmas.{IsWithin-asked, ReadsOn-settled, GivesValue-settled, WaitsWell-settled, IsDoneAtEnd-settled, FailsWell-settled, StaysWithout-settled}
 use Rattle.winnow_reader.proofs.byte_reader.ByteReader.read_next.Goals as goal
 
