@@ -6,3 +6,7 @@ pub mod Answering
 pub mod Copied
 pub mod SameValues
 pub mod Asked
+pub mod TextPlace
+pub mod InUtf8
+pub mod TextFrontLaws
+pub mod Utf8Laws

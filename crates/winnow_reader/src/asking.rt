@@ -27,7 +27,7 @@ pub(crate) enum Asked<O, E> {
 }
 
 // How many bytes more a record needs: one where it cannot say.
-fn size_of(needed: Needed) -> usize
+pub(crate) fn size_of(needed: Needed) -> usize
     ensures { result ≡ size_of needed }
 {
     match needed {

@@ -1,10 +1,11 @@
-ghost use Rattle.std.specs.Prelude.{◌≡◌, ℕ, List, [], true};
+ghost use Rattle.std.specs.Prelude.{◌≡◌, ℕ, List, [], ◌++◌, true, false, IsUtf8};
 ghost use Rattle.winnow_parser.specs.Determined.{IsDetermined, Shows};
 ghost use Rattle.winnow_reader.specs.State.{ReaderState};
 ghost use Rattle.winnow_reader.specs.Reading.{HasRead};
 ghost use Rattle.winnow_reader.specs.SameValues.{AreFronts, AreAlike, IsThrough};
+ghost use Rattle.winnow_reader.specs.InUtf8.{InUtf8, text_in, past_text, is_damaged};
 
-use crate::Record;
+use crate::{Record, TextRecord};
 
 /// The law of readers whose record has one answer to each question: of one joined input they read
 /// the same values, however it was cut. While they read, the values of one are a front of the
@@ -19,4 +20,22 @@ pub fn determined_reading_law<R: Record, V>()
         (xs ys : List R.Output) → IsDetermined (Shows view) (R.means f.parser)
         → f.parser ≡ g.parser → HasRead R.means f input xs → HasRead R.means g input ys
         → IsThrough f → IsThrough g → AreAlike (Shows view) xs ys }
+{}
+
+/// The law of damage in text. Where no damage follows the text at the front of bytes, some more
+/// bytes make all of them UTF-8; where damage follows it, no bytes make that text longer. It does
+/// nothing when called: its contract is the law.
+pub fn damage_law()
+    ensures mends { (bytes : List ℕ) → is_damaged true (past_text bytes) ≡ false
+        → (more : List ℕ) × IsUtf8 (bytes ++ more) }
+    ensures stays { (bytes more : List ℕ) → is_damaged true (past_text bytes) ≡ true
+        → text_in (bytes ++ more) ≡ text_in bytes }
+{}
+
+/// The law of records of text that have one answer to each question: read from bytes they have one
+/// too, so `determined_reading_law` speaks of their readers. It does nothing when called: its
+/// contract is the law.
+pub fn determined_text_law<R: TextRecord, V>()
+    ensures { (view : R.Output → V) (r : R) → IsDetermined (Shows view) (R.means r)
+        → IsDetermined (Shows view) (InUtf8 (R.means r)) }
 {}

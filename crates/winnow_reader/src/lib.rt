@@ -8,6 +8,12 @@
 //!
 //! What is read is a [`Record`]: a type of its own, whose method calls the parser.
 //!
+//! # Text
+//!
+//! A [`TextRecord`] is read from characters. [`Utf8Record`] makes a record of bytes of it, and a
+//! [`TextReader`] reads it from bytes that are UTF-8, cut anywhere: a character that breaks off is
+//! waited for, and bytes that are no UTF-8 are a failure at their place.
+//!
 //! # Work
 //!
 //! A record is asked of all that is ahead, from its beginning, and asked again only when as many
@@ -17,17 +23,24 @@
 //! fixed number of times, for pieces of any sizes. A parser that needs one byte more each time, as
 //! `take_until` and `take_while` do, is asked once for each piece: over pieces of p bytes, a record
 //! of r bytes costs some r * r / p steps. So pieces that are not much shorter than the records keep
-//! the work linear. No contract says so.
+//! the work linear. A record of text is asked of longer and longer fronts of what is ahead, 256
+//! bytes first, so the bytes whose UTF-8 is looked at are a few times those that it reads. No
+//! contract says so.
 #![tactic(auto)]
 
 mod asking;
+mod asking_text;
 mod buffers;
 mod byte_reader;
 mod laws;
 mod next;
 mod record;
+mod text_record;
+mod utf8_record;
 
 pub use byte_reader::ByteReader;
-pub use laws::determined_reading_law;
+pub use laws::{damage_law, determined_reading_law, determined_text_law};
 pub use next::{Next, ReadError};
 pub use record::{Record, RecordInput};
+pub use text_record::{TextRecord, TextRecordInput};
+pub use utf8_record::{TextError, TextReader, Utf8Record};
