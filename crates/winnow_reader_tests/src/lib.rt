@@ -6,3 +6,7 @@
 mod lines;
 #[cfg(test)]
 mod pieces;
+#[cfg(test)]
+mod text_lines;
+#[cfg(test)]
+mod text_pieces;
