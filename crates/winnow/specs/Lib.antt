@@ -45,6 +45,8 @@ pub use Rattle.winnow_reader.specs.Reading
 pub use Rattle.winnow_reader.specs.Answering
 pub use Rattle.winnow_reader.specs.Copied
 pub use Rattle.winnow_reader.specs.SameValues
+pub use Rattle.winnow_reader.specs.TextPlace
+pub use Rattle.winnow_reader.specs.InUtf8
 pub use Rattle.winnow_binary.specs.Lengths
 pub use Rattle.winnow_binary.specs.Numerals
 pub use Rattle.winnow_binary.specs.Within

@@ -41,7 +41,8 @@ unfolding utf8_valid_len
 IsUtf8-text_in bs = (longest_front bs (length bs)).0
 
 -- no longer front is
-pub no-longer : (bs : List ℕ) (m : ℕ) → utf8_valid_len bs < m → m ≤ length bs → ¬ (IsUtf8 (take m bs))
+pub no-longer : (bs : List ℕ) (m : ℕ) → utf8_valid_len bs < m → m ≤ length bs
+    → ¬ (IsUtf8 (take m bs))
 unfolding utf8_valid_len
 no-longer bs m = (longest_front bs (length bs)).1 m
 

@@ -52,7 +52,8 @@ module _ (a : Ahead ℕ) (more : Source ℕ) where
       omega (arith, width-text_source (text_in bs) (IsUtf8-text_in bs), length-take (utf8_valid_len bs) bs, length-map a.tokens (λ x. x.0))
 
   -- what is taken of the text is the same
-  left_at-longer : (c : Ahead ℕ) → left_at (longer more a) (longer came c) ≡ longer more (left_at a c)
+  left_at-longer : (c : Ahead ℕ)
+      → left_at (longer more a) (longer came c) ≡ longer more (left_at a c)
   left_at-longer c =
       let n = width (text_ahead a).tokens - width c.tokens in
       let same : width (text_ahead (longer more a)).tokens - width (c.tokens ++ came) ≡ n =
@@ -61,7 +62,8 @@ module _ (a : Ahead ℕ) (more : Source ℕ) where
 
   module _ (damage : is_damaged true (past_text (bytes_in a.tokens)) ≡ true) where
     -- what follows the text where it is damaged
-    rest-damaged : past_text (bytes_in (a.tokens ++ more)) ≡ past_text (bytes_in a.tokens) ++ bytes_in more
+    rest-damaged : past_text (bytes_in (a.tokens ++ more))
+        ≡ past_text (bytes_in a.tokens) ++ bytes_in more
     rest-damaged = ap past_text bytes-longer ∙ past_text-damaged (bytes_in a.tokens) (bytes_in more) damage
 
     -- the text is the same
