@@ -14,10 +14,10 @@ use winnow_count::Accumulate;
 use winnow_parser::Parser;
 use winnow_stream::StreamIsPartial;
 
-/// The laws of numbers. A parser of a number has one answer, and where it needs k more bytes, it
-/// has no settled answer before k have come. Bytes write, the most significant first, what they
-/// write from the last to the first, the least significant first. It does nothing when called: its
-/// contract is the law.
+/// The laws of numbers. A parser of a number has one answer. Where it needs k more bytes, its
+/// answer is not settled before k have come. Bytes read with the most significant one first are the
+/// number that the reversed bytes are with the least significant one first. It does nothing when
+/// called: its contract is the law.
 pub fn fixed_number_law<R: FixedNumber>()
     ensures determined { (counts_missing : Bool) (order : Endianness)
         → IsDetermined (λ x y. x ≡ y)

@@ -5,6 +5,12 @@ use Rattle.winnow_parser.specs.Laws.{IsParser}
 use Rattle.winnow_parser.specs.Meanings.{Maps, Pair}
 use Rattle.winnow_parser.specs.Parts.{IsParser-Maps, IsParser-Pair}
 
+-- two parsers in a row, of whose values one is made, keep the laws of a parser
+pub IsParser-joined : {A B O T : Type 0} (joins : A × B → O → Type 0) {a : Meaning A T}
+    {b : Meaning B T}
+    → IsParser a → IsParser b → IsParser (Maps joins (Pair a b))
+IsParser-joined joins {a} {b} pa pb = IsParser-Maps joins (Pair a b) (IsParser-Pair a b pa pb)
+
 -- the first value and the tuple of the others, as one tuple of three
 abbrev pub Flat3 : {A B C : Type 0} → A × (B × C) → A × B × C → Type 0
 Flat3 p all = (p.0, p.1.0, p.1.1) ≡ all
@@ -17,8 +23,7 @@ Row3 a b c = Maps Flat3 (Pair a (Pair b c))
 -- three parsers in a row keep the laws of a parser
 pub IsParser-Row3 : {A B C T : Type 0} (a : Meaning A T) (b : Meaning B T) (c : Meaning C T)
     → IsParser a → IsParser b → IsParser c → IsParser (Row3 a b c)
-IsParser-Row3 a b c pa pb pc =
-    IsParser-Maps Flat3 (Pair a (Pair b c)) (IsParser-Pair a (Pair b c) pa (IsParser-Pair b c pb pc))
+IsParser-Row3 a b c pa pb pc = IsParser-joined Flat3 pa (IsParser-Pair b c pb pc)
 
 -- the first value and the tuple of the others, as one tuple of four
 abbrev pub Flat4 : {A B C D : Type 0} → A × (B × C × D) → A × B × C × D → Type 0
@@ -32,8 +37,7 @@ Row4 a b c d = Maps Flat4 (Pair a (Row3 b c d))
 -- four parsers in a row keep the laws of a parser
 pub IsParser-Row4 : {A B C D T : Type 0} (a : Meaning A T) (b : Meaning B T) (c : Meaning C T)
     (d : Meaning D T) → IsParser a → IsParser b → IsParser c → IsParser d → IsParser (Row4 a b c d)
-IsParser-Row4 a b c d pa pb pc pd =
-    IsParser-Maps Flat4 (Pair a (Row3 b c d)) (IsParser-Pair a (Row3 b c d) pa (IsParser-Row3 b c d pb pc pd))
+IsParser-Row4 a b c d pa pb pc pd = IsParser-joined Flat4 pa (IsParser-Row3 b c d pb pc pd)
 
 -- the first value and the tuple of the others, as one tuple of five
 abbrev pub Flat5 : {A B C D E : Type 0} → A × (B × C × D × E) → A × B × C × D × E → Type 0
@@ -48,8 +52,7 @@ Row5 a b c d e = Maps Flat5 (Pair a (Row4 b c d e))
 pub IsParser-Row5 : {A B C D E T : Type 0} (a : Meaning A T) (b : Meaning B T) (c : Meaning C T)
     (d : Meaning D T) (e : Meaning E T) → IsParser a → IsParser b → IsParser c → IsParser d
     → IsParser e → IsParser (Row5 a b c d e)
-IsParser-Row5 a b c d e pa pb pc pd pe =
-    IsParser-Maps Flat5 (Pair a (Row4 b c d e)) (IsParser-Pair a (Row4 b c d e) pa (IsParser-Row4 b c d e pb pc pd pe))
+IsParser-Row5 a b c d e pa pb pc pd pe = IsParser-joined Flat5 pa (IsParser-Row4 b c d e pb pc pd pe)
 
 -- the first value and the tuple of the others, as one tuple of six
 abbrev pub Flat6 : {A B C D E F : Type 0} → A × (B × C × D × E × F) → A × B × C × D × E × F → Type 0
@@ -64,8 +67,7 @@ Row6 a b c d e f = Maps Flat6 (Pair a (Row5 b c d e f))
 pub IsParser-Row6 : {A B C D E F T : Type 0} (a : Meaning A T) (b : Meaning B T) (c : Meaning C T)
     (d : Meaning D T) (e : Meaning E T) (f : Meaning F T) → IsParser a → IsParser b → IsParser c
     → IsParser d → IsParser e → IsParser f → IsParser (Row6 a b c d e f)
-IsParser-Row6 a b c d e f pa pb pc pd pe pf =
-    IsParser-Maps Flat6 (Pair a (Row5 b c d e f)) (IsParser-Pair a (Row5 b c d e f) pa (IsParser-Row5 b c d e f pb pc pd pe pf))
+IsParser-Row6 a b c d e f pa pb pc pd pe pf = IsParser-joined Flat6 pa (IsParser-Row5 b c d e f pb pc pd pe pf)
 
 -- the first value and the tuple of the others, as one tuple of seven
 abbrev pub Flat7 : {A B C D E F G : Type 0} → A × (B × C × D × E × F × G)
@@ -82,8 +84,7 @@ pub IsParser-Row7 : {A B C D E F G T : Type 0} (a : Meaning A T) (b : Meaning B 
     (c : Meaning C T) (d : Meaning D T) (e : Meaning E T) (f : Meaning F T) (g : Meaning G T)
     → IsParser a → IsParser b → IsParser c → IsParser d → IsParser e → IsParser f → IsParser g
     → IsParser (Row7 a b c d e f g)
-IsParser-Row7 a b c d e f g pa pb pc pd pe pf pg =
-    IsParser-Maps Flat7 (Pair a (Row6 b c d e f g)) (IsParser-Pair a (Row6 b c d e f g) pa (IsParser-Row6 b c d e f g pb pc pd pe pf pg))
+IsParser-Row7 a b c d e f g pa pb pc pd pe pf pg = IsParser-joined Flat7 pa (IsParser-Row6 b c d e f g pb pc pd pe pf pg)
 
 -- the first value and the tuple of the others, as one tuple of eight
 abbrev pub Flat8 : {A B C D E F G H : Type 0} → A × (B × C × D × E × F × G × H)
@@ -101,8 +102,7 @@ pub IsParser-Row8 : {A B C D E F G H T : Type 0} (a : Meaning A T) (b : Meaning 
     (c : Meaning C T) (d : Meaning D T) (e : Meaning E T) (f : Meaning F T) (g : Meaning G T)
     (h : Meaning H T) → IsParser a → IsParser b → IsParser c → IsParser d → IsParser e → IsParser f
     → IsParser g → IsParser h → IsParser (Row8 a b c d e f g h)
-IsParser-Row8 a b c d e f g h pa pb pc pd pe pf pg ph =
-    IsParser-Maps Flat8 (Pair a (Row7 b c d e f g h)) (IsParser-Pair a (Row7 b c d e f g h) pa (IsParser-Row7 b c d e f g h pb pc pd pe pf pg ph))
+IsParser-Row8 a b c d e f g h pa pb pc pd pe pf pg ph = IsParser-joined Flat8 pa (IsParser-Row7 b c d e f g h pb pc pd pe pf pg ph)
 
 -- the first value and the tuple of the others, as one tuple of nine
 abbrev pub Flat9 : {A B C D E F G H I : Type 0} → A × (B × C × D × E × F × G × H × I)
@@ -121,8 +121,7 @@ pub IsParser-Row9 : {A B C D E F G H I T : Type 0} (a : Meaning A T) (b : Meanin
     (h : Meaning H T) (i : Meaning I T) → IsParser a → IsParser b → IsParser c → IsParser d
     → IsParser e → IsParser f → IsParser g → IsParser h → IsParser i
     → IsParser (Row9 a b c d e f g h i)
-IsParser-Row9 a b c d e f g h i pa pb pc pd pe pf pg ph pi =
-    IsParser-Maps Flat9 (Pair a (Row8 b c d e f g h i)) (IsParser-Pair a (Row8 b c d e f g h i) pa (IsParser-Row8 b c d e f g h i pb pc pd pe pf pg ph pi))
+IsParser-Row9 a b c d e f g h i pa pb pc pd pe pf pg ph pi = IsParser-joined Flat9 pa (IsParser-Row8 b c d e f g h i pb pc pd pe pf pg ph pi)
 
 -- the first value and the tuple of the others, as one tuple of ten
 abbrev pub Flat10 : {A B C D E F G H I J : Type 0} → A × (B × C × D × E × F × G × H × I × J)
@@ -141,5 +140,4 @@ pub IsParser-Row10 : {A B C D E F G H I J T : Type 0} (a : Meaning A T) (b : Mea
     (h : Meaning H T) (i : Meaning I T) (j : Meaning J T) → IsParser a → IsParser b → IsParser c
     → IsParser d → IsParser e → IsParser f → IsParser g → IsParser h → IsParser i → IsParser j
     → IsParser (Row10 a b c d e f g h i j)
-IsParser-Row10 a b c d e f g h i j pa pb pc pd pe pf pg ph pi pj =
-    IsParser-Maps Flat10 (Pair a (Row9 b c d e f g h i j)) (IsParser-Pair a (Row9 b c d e f g h i j) pa (IsParser-Row9 b c d e f g h i j pb pc pd pe pf pg ph pi pj))
+IsParser-Row10 a b c d e f g h i j pa pb pc pd pe pf pg ph pi pj = IsParser-joined Flat10 pa (IsParser-Row9 b c d e f g h i j pb pc pd pe pf pg ph pi pj)

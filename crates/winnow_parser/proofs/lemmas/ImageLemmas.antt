@@ -161,7 +161,7 @@ Made-mode mode a (Gives x b) (Fails g) = ⊥
 Made-mode mode a (Fails f) v = Keeps-failure (mode f) v
 
 module _ {O T : Type 0} (inner : Meaning O T) (same : O → O → Type 0) (d : IsDetermined same inner) where
-  -- answers whose failures one function turns agree where those that they are made of agree
+  -- where two outcomes agree, they still agree once one function has turned their failures
   mode-respects : (mode : Failed T → Failed T) (a : Ahead T) (u t v w : Outcome O T)
       → Agree same u t → Made-mode mode a u v → Made-mode mode a t w → Agree same v w
   mode-respects mode a (Gives x b) (Gives y c) (Gives p i) (Gives q j) e h k =
