@@ -1,6 +1,7 @@
 -- Texts that are one value.
-use Rattle.std.specs.Prelude.{◌≡◌, ℕ, ◌≤◌, false, List, [], length}
+use Rattle.std.specs.Prelude.{◌≡◌, ℕ, suc, ◌≤◌, false, List, [], length}
 use Rattle.winnow_json.specs.Values.{after_blanks, ValueAhead}
+use Rattle.winnow_json.specs.SameValues.{SameValue}
 use Rattle.winnow_json.specs.declared.value.Value.{Value}
 use Rattle.winnow_json.specs.declared.documents.Damage.{Damage}
 
@@ -8,6 +9,11 @@ use Rattle.winnow_json.specs.declared.documents.Damage.{Damage}
 abbrev pub IsDocument : ℕ → List ℕ → Value → Type 0
 IsDocument depth text value =
     (rest : List ℕ) × (ValueAhead false depth value text rest × (after_blanks rest ≡ []))
+
+-- each value that the text is, is this one
+abbrev pub IsOnlyDocument : ℕ → List ℕ → Value → Type 0
+IsOnlyDocument depth text value =
+    (other : Value) → IsDocument depth text other → SameValue (suc depth) value other
 
 -- the text is no value, and its damage stands in it or at its end
 abbrev pub IsDamage : ℕ → List ℕ → Damage → Type 0

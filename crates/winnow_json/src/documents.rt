@@ -1,5 +1,5 @@
 ghost use Rattle.std.specs.Prelude.{IfOk, IfErr};
-ghost use Rattle.winnow_json.specs.Documents.{IsDocument, IsDamage};
+ghost use Rattle.winnow_json.specs.Documents.{IsDocument, IsOnlyDocument, IsDamage};
 
 use crate::Value;
 use crate::found::{Found, blank_count};
@@ -22,6 +22,7 @@ pub fn read_document(
     text: &[u8],
 ) -> Result<Result<Value, Damage>, AllocError>
     ensures document { IfOk result (λ answer. IfOk answer (IsDocument depth text.now)) }
+    ensures only { IfOk result (λ answer. IfOk answer (IsOnlyDocument depth text.now)) }
     ensures damaged { IfOk result (λ answer. IfErr answer (IsDamage depth text.now)) }
 {
     match value_at(alloc, text, false, depth)? {

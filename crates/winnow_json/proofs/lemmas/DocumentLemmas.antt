@@ -3,10 +3,11 @@ use Rattle.std.proofs.Common.{◌≡◌, ℕ, suc, ◌+◌, ◌-◌, ◌≤◌, 
 use Rattle.std.proofs.lemmas.List.{take_rest}
 use Rattle.winnow_json.specs.Values.{after_blanks, ValueAhead}
 use Rattle.winnow_json.specs.Founds.{IsFound}
-use Rattle.winnow_json.specs.Documents.{IsDocument}
+use Rattle.winnow_json.specs.Documents.{IsDocument, IsOnlyDocument}
 use Rattle.winnow_json.specs.declared.value.Value.{Value}
 use Rattle.winnow_json.specs.declared.found.Found.TheVariants.{Whole, Damaged}
 use Rattle.winnow_json.proofs.lemmas.GrammarLemmas.{nested-once}
+use Rattle.winnow_json.proofs.lemmas.SameLemmas.{nested-same}
 use Rattle.winnow_json.proofs.lemmas.FoundLemmas.{none-here}
 
 module _ (depth : ℕ) (text : List ℕ) where
@@ -21,6 +22,11 @@ module _ (depth : ℕ) (text : List ℕ) where
     blanks-fit =
         let fit = subst (λ l. k ≤ length l) (take_rest text n) within in
         omega (arith, fit, found.0, length-drop n text)
+
+    -- each value that the text is, is the one that stands ahead
+    pub only-document : IsOnlyDocument depth text v
+    only-document w (rest, (h, e)) =
+        nested-same false (suc depth) v w text (drop n text) rest found.1 h
 
     -- where something else follows the value and blanks, the text is no value
     pub more-follows : ¬ (n + k ≡ length text) → (w : Value) → ¬ (IsDocument depth text w)

@@ -2,7 +2,7 @@ use Rattle.std.proofs.Common.{false, refl}
 use Rattle.winnow_json.specs.Values.{ValueAhead}
 use Rattle.winnow_json.specs.declared.found.Found.TheVariants.{Whole, Damaged}
 use Rattle.winnow_json.proofs.lemmas.FoundLemmas.{found-same}
-use Rattle.winnow_json.proofs.lemmas.DocumentLemmas.{no-document, blanks-fit, more-follows}
+use Rattle.winnow_json.proofs.lemmas.DocumentLemmas.{no-document, blanks-fit, only-document, more-follows}
 use Rattle.winnow_json.proofs.documents.read_document.Goals as goal
 
 pub returns-else-offset-text-clause-damaged : goal.returns-else-offset-text-clause-damaged
@@ -14,6 +14,14 @@ returns-else-offset-text-clause-damaged c =
       blanks-fit c.args.depth text v n c.blank_count.result found c.blank_count.ensures.within c.blank_count.ensures.rest,
       more-follows c.args.depth text v n c.blank_count.result found c.blank_count.ensures.within c.blank_count.ensures.rest c.if-offset-text.false,
     )
+
+pub returns-then-offset-text-clause-only : goal.returns-then-offset-text-clause-only
+returns-then-offset-text-clause-only c =
+    let text = c.args.text.now in
+    let v = c.in-Whole.value in
+    let n = c.in-Whole.width in
+    let found = found-same (ValueAhead false c.args.depth) false text text c.in_ok-value.field-0 (Whole v n) c.in_ok-value.ensures refl c.in-Whole.is in
+    only-document c.args.depth text v n c.blank_count.result found c.blank_count.ensures.within c.blank_count.ensures.rest
 
 pub returns-in-Damaged-clause-damaged : goal.returns-in-Damaged-clause-damaged
 returns-in-Damaged-clause-damaged c =
