@@ -48,7 +48,8 @@ abbrev pub GivesEachValue : {E : Type 0} → ℕ → Bool → List ℕ → Resul
 GivesEachValue depth partial bytes result rest = (value : Value) (after : List ℕ)
     → ValueAhead partial depth value bytes after → IsValueGiven depth result rest value after
 
--- what the bytes are as a value: blanks, after which nothing may follow; a value; one that is begun;
+-- what the bytes are as a value: blanks, after which nothing may follow; a value; one that is
+-- begun;
 -- or none, whatever follows
 abbrev pub IsReading : ℕ → Bool → List ℕ → Reading → Type 0
 IsReading depth partial bytes reading.Nothing = (partial ≡ false) × (after_blanks bytes ≡ [])

@@ -148,7 +148,8 @@ module _ {T : Type 0} (inner : T → List ℕ → List ℕ → Type 0) (close : 
 
     module _ (comma : ¬ (close ≡ 44)) (once : Once inner) (stable : Stable partial inner) (v : T) (n : ℕ) (is : inner v (drop at bytes) (drop n (drop at bytes))) where
       -- the bytes after the element
-      after-is : (u : T) (a more : List ℕ) → MayFollow partial more → inner u (drop at bytes ++ more) a
+      after-is : (u : T) (a more : List ℕ) → MayFollow partial more
+          → inner u (drop at bytes ++ more) a
           → drop (at + n) bytes ++ more ≡ a
       after-is u a more may h =
           ap (λ l. l ++ more) (sym (drop-drop n at bytes)) ∙ once v u (drop at bytes ++ more) (drop n (drop at bytes) ++ more) a (stable v (drop at bytes) (drop n (drop at bytes)) more may is) h
@@ -160,7 +161,8 @@ module _ {T : Type 0} (inner : T → List ℕ → List ℕ → Type 0) (close : 
           comma-is = goes ∙ ap (λ l. 44 ∷ l) (drop-drop m (at + n) bytes)
 
           -- the elements after the comma
-          on-sound : (vs : List T) (r : List ℕ) → Elements inner close vs (drop (at + n + m) bytes) r
+          on-sound : (vs : List T) (r : List ℕ)
+              → Elements inner close vs (drop (at + n + m) bytes) r
               → Elements inner close ((items ++ v ∷ []) ++ vs) bytes r
           on-sound [] r h = absurd h
           on-sound (w ∷ ws) r h =
@@ -214,7 +216,8 @@ module _ {T : Type 0} (inner : T → List ℕ → List ℕ → Type 0) (close : 
           stops-rest more may none.0 none.1 k.0 r k.1
 
       -- or begun
-      pub read-begun : {U : Type 0} (items_of : U → List T) → after_blanks (drop (at + n) bytes) ≡ []
+      pub read-begun : {U : Type 0} (items_of : U → List T)
+          → after_blanks (drop (at + n) bytes) ≡ []
           → (u : U) (r : List ℕ) → ¬ (Elements inner close (items_of u) bytes r)
       read-begun items_of e u r h =
           let k = read.onward [] (λ p. refl) (items_of u) r (subst (λ l. Elements inner close (items_of u) l r) (sym (append-nil bytes)) h) in

@@ -40,7 +40,8 @@ out-string v = search (rules, the_lemmas)
 out-array : (vs : Vec Value Global) → out-Value (value.Array vs) ≡ open_value.Array vs
 out-array vs = search (rules, the_lemmas)
 
-out-object : (ms : Vec (String Global × Value) Global) → out-Value (value.Object ms) ≡ open_value.Object ms
+out-object : (ms : Vec (String Global × Value) Global)
+    → out-Value (value.Object ms) ≡ open_value.Object ms
 out-object ms = search (rules, the_lemmas)
 
 module _ (partial : Bool) (depth : ℕ) (b : List ℕ) where
@@ -65,7 +66,8 @@ module _ (partial : Bool) (depth : ℕ) (b : List ℕ) where
       (fits, none-as (IsWord word v) (ValueHere partial depth) partial b b (λ more may w r h. (more, (λ e. e, (v, (r, (refl, only w more r h)))))) none)
 
   -- null
-  pub null-found : StartsWith 110 b → (x : Found Value) → IsFound (IsWord null_word value.Null) partial b x
+  pub null-found : StartsWith 110 b → (x : Found Value)
+      → IsFound (IsWord null_word value.Null) partial b x
       → IsFound (ValueHere partial depth) partial b x
   null-found s =
       word-found null_word value.Null
@@ -73,7 +75,8 @@ module _ (partial : Bool) (depth : ℕ) (b : List ℕ) where
       (λ w more r h. null-only partial (Nested partial depth) (out-Value w) (b ++ more) r (here-kind 110 s w more r h) h)
 
   -- true
-  pub true-found : StartsWith 116 b → (x : Found Value) → IsFound (IsWord (bool_word true) (value.Bool true)) partial b x
+  pub true-found : StartsWith 116 b → (x : Found Value)
+      → IsFound (IsWord (bool_word true) (value.Bool true)) partial b x
       → IsFound (ValueHere partial depth) partial b x
   true-found s =
       word-found (bool_word true) (value.Bool true)
@@ -81,7 +84,8 @@ module _ (partial : Bool) (depth : ℕ) (b : List ℕ) where
       (λ w more r h. true-only partial (Nested partial depth) (out-Value w) (b ++ more) r (here-kind 116 s w more r h) h)
 
   -- false
-  pub false-found : StartsWith 102 b → (x : Found Value) → IsFound (IsWord (bool_word false) (value.Bool false)) partial b x
+  pub false-found : StartsWith 102 b → (x : Found Value)
+      → IsFound (IsWord (bool_word false) (value.Bool false)) partial b x
       → IsFound (ValueHere partial depth) partial b x
   false-found s =
       word-found (bool_word false) (value.Bool false)
@@ -102,7 +106,8 @@ module _ (partial : Bool) (depth : ℕ) (b : List ℕ) where
     part-damaged n (fits, none) = (fits, none-as part (ValueHere partial depth) partial b b part-covers none)
 
   -- a string
-  string-is : StartsWith 34 b → (w : Value) (more r : List ℕ) → ValueHere partial depth w (b ++ more) r
+  string-is : StartsWith 34 b → (w : Value) (more r : List ℕ)
+      → ValueHere partial depth w (b ++ more) r
       → (t : String Global) × StringHere t (b ++ more) r
   string-is s w more r h = string-only partial (Nested partial depth) (out-Value w) (b ++ more) r (here-kind 34 s w more r h) h
 
@@ -119,7 +124,8 @@ module _ (partial : Bool) (depth : ℕ) (b : List ℕ) where
   string-damaged s = part-damaged StringHere (string-is s)
 
   -- an array
-  array-is : StartsWith 91 b → (w : Value) (more r : List ℕ) → ValueHere partial depth w (b ++ more) r
+  array-is : StartsWith 91 b → (w : Value) (more r : List ℕ)
+      → ValueHere partial depth w (b ++ more) r
       → (t : Vec Value Global) × Bracketed (Nested partial depth) 93 91 t.items (b ++ more) r
   array-is s w more r h = array-only partial (Nested partial depth) (out-Value w) (b ++ more) r (here-kind 91 s w more r h) h
 
@@ -139,14 +145,16 @@ module _ (partial : Bool) (depth : ℕ) (b : List ℕ) where
   array-damaged s = part-damaged ArrayHere (array-is s)
 
   -- an object
-  object-is : StartsWith 123 b → (w : Value) (more r : List ℕ) → ValueHere partial depth w (b ++ more) r
+  object-is : StartsWith 123 b → (w : Value) (more r : List ℕ)
+      → ValueHere partial depth w (b ++ more) r
       → (t : Vec (String Global × Value) Global) × Bracketed (MemberAhead (Nested partial depth)) 125 123 t.items (b ++ more) r
   object-is s w more r h = object-only partial (Nested partial depth) (out-Value w) (b ++ more) r (here-kind 123 s w more r h) h
 
   abbrev pub ObjectHere : Vec (String Global × Value) Global → List ℕ → List ℕ → Type 0
   ObjectHere t = Bracketed (MemberAhead (Nested partial depth)) 125 123 t.items
 
-  pub object-whole : (t : Vec (String Global × Value) Global) (n : ℕ) → IsFound ObjectHere partial b (Whole t n)
+  pub object-whole : (t : Vec (String Global × Value) Global) (n : ℕ)
+      → IsFound ObjectHere partial b (Whole t n)
       → IsFound (ValueHere partial depth) partial b (Whole (value.Object t) n)
   object-whole t n (fits, h) = (fits, subst (λ z. Layer partial (Nested partial depth) z b (drop n b)) (sym (out-object t)) h)
 
@@ -161,7 +169,8 @@ module _ (partial : Bool) (depth : ℕ) (b : List ℕ) where
   -- a number, where no other value begins with the first byte
   module _ (some : 0 < length b) (no_null : ¬ (get_or b 0 0 ≡ 110)) (no_true : ¬ (get_or b 0 0 ≡ 116)) (no_false : ¬ (get_or b 0 0 ≡ 102)) (no_quote : ¬ (get_or b 0 0 ≡ 34)) (no_array : ¬ (StartsWith 91 b)) (no_object : ¬ (StartsWith 123 b)) where
     -- a layer that begins with another byte is a number
-    of-number : (t : Bool) (x : Value-F Value) → kind x ≡ (if t then 0 else get_or b 0 0) → kind x ≡ 0
+    of-number : (t : Bool) (x : Value-F Value) → kind x ≡ (if t then 0 else get_or b 0 0)
+        → kind x ≡ 0
     of-number true x e = e
     of-number false Null e = absurd (no_null (sym e))
     of-number false (open_value.Bool true) e = absurd (no_true (sym e))

@@ -23,7 +23,8 @@ module _ (partial : Bool) (depth : ℕ) (b : List ℕ) (at : ℕ) (within : at �
   value-covers : Covers (ValueHere partial depth) (drop at b) (ValueAhead partial depth) b partial
   value-covers = after-covers (ValueHere partial depth) partial b (drop at b) e
 
-  pub value-whole : (v : Value) (n : ℕ) → IsFound (ValueHere partial depth) partial (drop at b) (Whole v n)
+  pub value-whole : (v : Value) (n : ℕ)
+      → IsFound (ValueHere partial depth) partial (drop at b) (Whole v n)
       → IsFound (ValueAhead partial depth) partial b (Whole v (at + n))
   value-whole v n (fits, h) =
       (fits-both b at n within fits, subst (λ l. ValueHere partial depth v l (drop (at + n) b)) e (subst (ValueHere partial depth v (drop at b)) (drop-drop n at b) h))
@@ -101,7 +102,8 @@ module _ {T U : Type 0} (inner : T → List ℕ → List ℕ → Type 0) (close 
   inside-elements (v ∷ vs) n r never h = h
 
   module _ (never : HasNone (ByteAhead close) partial (drop 1 b)) where
-    elements-cover : Covers (λ u. Elements inner close (items_of u)) (drop 1 b) (λ u. Bracketed inner close begin (items_of u)) b partial
+    elements-cover : Covers (λ u. Elements inner close (items_of u)) (drop 1 b)
+        (λ u. Bracketed inner close begin (items_of u)) b partial
     elements-cover more may u r (n, (e, h)) =
         let same = inside-at n more e in
         let here = subst (λ l. Inside inner close (items_of u) l r) (sym same) h in
@@ -119,7 +121,8 @@ module _ {T U : Type 0} (inner : T → List ℕ → List ℕ → Type 0) (close 
         (fit, none-as (λ u. Elements inner close (items_of u)) (λ u. Bracketed inner close begin (items_of u)) partial (drop 1 b) b elements-cover none)
 
   -- elements stand inside
-  elements-inside : (vs : List T) (n r : List ℕ) → Elements inner close vs n r → Inside inner close vs n r
+  elements-inside : (vs : List T) (n r : List ℕ) → Elements inner close vs n r
+      → Inside inner close vs n r
   elements-inside [] n r h = absurd h
   elements-inside (v ∷ vs) n r h = h
 
@@ -167,7 +170,8 @@ module _ (partial : Bool) (inner : Value → List ℕ → List ℕ → Type 0) (
           let same = tails 58 58 n (drop at b ++ more) (sym f ∙ ap after_blanks (sym (after-name m.0 a more h)) ∙ there) in
           (more, (λ none. none, (m.1, (r, subst (λ l. inner m.1 l r) same k))))
 
-      pub member-whole : (v : Value) (n : ℕ) → at ≤ length b → IsFound inner partial (drop at b) (Whole v n)
+      pub member-whole : (v : Value) (n : ℕ) → at ≤ length b
+          → IsFound inner partial (drop at b) (Whole v n)
           → IsFound (MemberAhead inner) partial b (Whole (name, v) (at + n))
       member-whole v n within (fits, h) =
           (fits-both b at n within fits, (drop start b, (drop at b, (named, colon, subst (inner v (drop at b)) (drop-drop n at b) h))))

@@ -49,7 +49,8 @@ module _ {T : Type 0} (inner : T → List ℕ → List ℕ → Type 0) (close : 
       let first = elements-first inner close v vs b r h in absurd (none v b first.0 s f first.1)
   inside-same (v ∷ vs) (w ∷ ws) b r s h g = elements-same (v ∷ vs) (w ∷ ws) b r s h g
 
-  bracketed-same : (begin : ℕ) (vs ws : List T) (b r s : List ℕ) → Bracketed inner close begin vs b r
+  bracketed-same : (begin : ℕ) (vs ws : List T) (b r s : List ℕ)
+      → Bracketed inner close begin vs b r
       → Bracketed inner close begin ws b s → SameAll same vs ws
   bracketed-same begin vs ws b r s (m, (e, h)) (n, (f, g)) =
       inside-same vs ws n r s (subst (λ t. Inside inner close vs t r) (tails begin begin m n (sym e ∙ f)) h) g
@@ -69,14 +70,16 @@ some-once R None (Some v) f g = (f v).1 ((g v).0 refl)
 
 module _ (partial : Bool) where
   -- the same bytes are the same number
-  number-same : (n m : Number) (b r s : List ℕ) → NumberHere partial n b r → NumberHere partial m b s
+  number-same : (n m : Number) (b r s : List ℕ) → NumberHere partial n b r
+      → NumberHere partial m b s
       → (n.text.items ≡ m.text.items) × (n.integer ≡ m.integer)
   number-same n m b r s (t, ((e, is, ends), of)) (u, ((f, js, fends), og)) =
       let split = split-once is_number_byte t r u s (number-bytes t is) ends.0 (number-bytes u js) fends.0 (sym e ∙ f) in
       (of.0 ∙ split.0 ∙ sym og.0, some-once (ReadsSigned w64 u) n.integer m.integer (subst (λ l. IsSomeExactly (ReadsSigned w64 l) n.integer) split.0 of.1) og.1)
 
 -- the same bytes are the same member
-member-same : (inner : Value → List ℕ → List ℕ → Type 0) (same : Value → Value → Type 0) → Once inner
+member-same : (inner : Value → List ℕ → List ℕ → Type 0) (same : Value → Value → Type 0)
+    → Once inner
     → Agree inner same → Agree (MemberAhead inner) (SameMember same)
 member-same inner same once agree v w b r s (a, (m, (h, e, k))) (c, (n, (g, f, l))) =
     let after = name-once v.0 w.0 (after_blanks b) a c h g in

@@ -99,7 +99,8 @@ module _ (place : ℕ) (bs : List ℕ) where
       ∙ ap (λ r. record { location = location_behind (Some place) (width (take n (units bs))); tokens = r }) tokens_is
 
 -- what was answered of the bytes of a stream is an answer of the stream
-pub asked-of : {O : Type 0} (inner : Meaning O ℕ) (answer : Ahead ℕ → Outcome O ℕ) (told flag : Bool)
+pub asked-of : {O : Type 0} (inner : Meaning O ℕ) (answer : Ahead ℕ → Outcome O ℕ)
+    (told flag : Bool)
     (place location : ℕ) (bs now : List ℕ) (n : ℕ) (b : Ahead ℕ) → told ≡ flag → place ≡ location
     → bs ≡ now → b ≡ past (bytes_at location now) n
     → InUtf8 inner told (bytes_at place bs) (answer (past (bytes_at place bs) n))
@@ -110,7 +111,8 @@ asked-of inner answer told flag place location bs now n b flag_is place_is bs_is
     (subst (λ a. InUtf8 inner flag a (answer (past a n))) at (subst (λ q. InUtf8 inner q (bytes_at place bs) (answer (past (bytes_at place bs) n))) flag_is h))
 
 -- an answer, at a place with more input after it
-answer-longer : {O E : Type 0} (answer : Result O (Failure E Needed)) (more : Source ℕ) (a : Ahead ℕ)
+answer-longer : {O E : Type 0} (answer : Result O (Failure E Needed)) (more : Source ℕ)
+    (a : Ahead ℕ)
     → outcome_longer more (outcome answer a) ≡ outcome answer (longer more a)
 answer-longer (Ok x) more a = refl
 answer-longer (Err (Backtrack e)) more a = refl
