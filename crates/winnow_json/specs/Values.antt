@@ -43,9 +43,8 @@ NumberHere partial number bytes rest =
 abbrev pub StringHere : String Global → List ℕ → List ℕ → Type 0
 StringHere value bytes rest = (cs : List ℕ) × (StringAhead bytes cs rest × HasChars value cs)
 
--- after blanks the bytes begin with a name, after blanks with a colon, and then with a value, of
--- which a
--- relation says which bytes begin with it; and the rest follows
+-- after blanks the bytes begin with a name, after blanks with a colon, and then with a value, where
+-- a relation says which bytes begin with one; and the rest follows
 abbrev pub MemberAhead : (Value → List ℕ → List ℕ → Type 0) → String Global × Value → List ℕ
     → List ℕ → Type 0
 MemberAhead inner member bytes rest = (after : List ℕ) × ((next : List ℕ)

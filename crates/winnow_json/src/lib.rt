@@ -6,6 +6,9 @@
 //!
 //! [`read_string`] reads a string. Its contract says which characters the string has, that no
 //! string is missed, and where a damaged one is wrong.
+//!
+//! [`read_value`] reads a [`Value`] within a limit on its depth, and [`read_document`] a whole text
+//! that is one value. Their contracts say that the value is the only one that stands there.
 #![tactic(auto)]
 
 mod characters;
