@@ -15,3 +15,6 @@ pub mod NestedLemmas
 pub mod SameLemmas
 pub mod ValueStreamLemmas
 pub mod DocumentLemmas
+pub mod JsonTokenLemmas
+pub mod TokenStreamLemmas
+pub mod TokenReadingLemmas

@@ -12,3 +12,7 @@ pub mod Founds
 pub mod SameValues
 pub mod ValueAnswers
 pub mod Documents
+pub mod Tokens
+pub mod TokenAnswers
+pub mod TokenLaws
+pub mod TokenReading

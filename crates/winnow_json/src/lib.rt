@@ -9,6 +9,9 @@
 //!
 //! [`read_value`] reads a [`Value`] within a limit on its depth, and [`read_document`] a whole text
 //! that is one value. Their contracts say that the value is the only one that stands there.
+//!
+//! [`JsonToken`] is the record of a [`Token`], for a `ByteReader` over bytes that come in pieces;
+//! [`tokens_in_pieces_law`] says what such a reader reads.
 #![tactic(auto)]
 
 mod characters;
@@ -20,11 +23,15 @@ mod numbers;
 mod parts;
 mod scalars;
 mod strings;
+mod token_laws;
+mod tokens;
 mod value;
 mod values;
 
 pub use documents::{Damage, read_document};
 pub use numbers::{Number, read_number};
 pub use strings::read_string;
+pub use token_laws::tokens_in_pieces_law;
+pub use tokens::{JsonToken, Token};
 pub use value::Value;
 pub use values::read_value;

@@ -12,14 +12,14 @@ use crate::{Number, Value};
 use std::alloc::{AllocError, Global};
 
 // Returns whether a number may have the byte.
-fn is_number_byte(byte: u8) -> bool
+pub(crate) fn is_number_byte(byte: u8) -> bool
     ensures { result ≡ is_number_byte byte }
 {
     matches!(byte, b'0'..=b'9' | b'-' | b'+' | b'.' | b'e' | b'E')
 }
 
 // Returns how many bytes stand first that a number may have.
-fn number_count(bytes: &[u8]) -> usize
+pub(crate) fn number_count(bytes: &[u8]) -> usize
     ensures within { result ≤ length bytes.now }
     ensures run { Each is_number_byte (take result bytes.now) }
     ensures ends { ¬ (Starts is_number_byte (drop result bytes.now)) }

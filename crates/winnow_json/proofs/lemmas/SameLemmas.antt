@@ -62,8 +62,8 @@ name-same v w b r s (cs, (h, has)) (ds, (g, gas)) =
     has ∙ ap encode_utf8_all (string-once b cs r ds s h g).0 ∙ sym gas
 
 -- two values that are given exactly where a fact holds are the same
-some-once : {V : Type 0} (R : V → Type 0) (o p : Option V) → IsSomeExactly R o → IsSomeExactly R p
-    → o ≡ p
+pub some-once : {V : Type 0} (R : V → Type 0) (o p : Option V) → IsSomeExactly R o
+    → IsSomeExactly R p → o ≡ p
 some-once R None None f g = refl
 some-once R (Some v) p f g = sym ((g v).1 ((f v).0 refl))
 some-once R None (Some v) f g = (f v).1 ((g v).0 refl)
