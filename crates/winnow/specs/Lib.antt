@@ -35,9 +35,12 @@ pub use Rattle.winnow_combinator.specs.DeterminedLists
 pub use Rattle.winnow_combinator.specs.Words
 pub use Rattle.winnow_ascii.specs.Alike
 pub use Rattle.winnow_ascii.specs.Classes
+pub use Rattle.winnow_ascii.specs.EscapeLaws
+pub use Rattle.winnow_ascii.specs.Escapes
 pub use Rattle.winnow_ascii.specs.Hexadecimal
 pub use Rattle.winnow_ascii.specs.Lines
 pub use Rattle.winnow_ascii.specs.Numbers
+pub use Rattle.winnow_ascii.specs.Spelling
 pub use Rattle.winnow_reader.specs.Place
 pub use Rattle.winnow_reader.specs.Wanted
 pub use Rattle.winnow_reader.specs.State

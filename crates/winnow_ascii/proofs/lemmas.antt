@@ -1,2 +1,4 @@
+pub mod EscapeLemmas
+pub mod EscapedOnceLemmas
 pub mod NumberLemmas
 pub mod OneAnswerLemmas

@@ -1,5 +1,8 @@
 pub mod Alike
 pub mod Classes
+pub mod EscapeLaws
+pub mod Escapes
 pub mod Hexadecimal
 pub mod Lines
 pub mod Numbers
+pub mod Spelling

@@ -1,15 +1,18 @@
 ghost use Rattle.std.specs.Prelude.{◌≡◌, ℕ};
-ghost use Rattle.winnow_parser.specs.Determined.{IsDetermined, Shows, SlicesRespect};
+ghost use Rattle.winnow_parser.specs.Determined.{IsDetermined, Shows, Respects, SlicesRespect};
 ghost use Rattle.winnow_token.specs.declared.held.HeldTokens.{HeldTokens};
+ghost use Rattle.winnow_combinator.specs.DeterminedLists.{AreSameEach};
+ghost use Rattle.winnow_combinator.specs.Gathering.{Gathered};
 ghost use Rattle.winnow_ascii.specs.declared.class.Class.{Class};
 ghost use Rattle.winnow_ascii.specs.Alike.{AllowSame};
 ghost use Rattle.winnow_ascii.specs.Classes.{TakesAll, AllOf};
+ghost use Rattle.winnow_ascii.specs.Escapes.{Fragments, AreSameFragments};
 ghost use Rattle.winnow_ascii.specs.Hexadecimal.{Hexadecimal, ReadsText};
 ghost use Rattle.winnow_ascii.specs.Lines.{LineText, IsTillLineEnding, TillLineEnding};
 ghost use Rattle.winnow_ascii.specs.Numbers.{Unsigned, Signed, ReadAs, ReadsAlike};
 
-use crate::{Class, HexUint, LineText};
-use winnow_count::ParseSlice;
+use crate::{Class, Fragment, HexUint, LineText};
+use winnow_count::{Accumulate, ParseSlice};
 use winnow_error::ParserError;
 use winnow_parser::Parser;
 use winnow_sets::AsChar;
@@ -47,4 +50,35 @@ where
         → ReadsAlike view (λ s. ReadsText H.reads (I.Slice.text_bytes s))
         → IsDetermined (λ x y. x ≡ y) (Hexadecimal (λ s. ReadsText H.reads (I.Slice.text_bytes s))
         I.is_slice I.Token.code H.nibbles) }
+{}
+
+/// The law of one answer for text with escapes: where its parts have one answer each, so have the
+/// fragments, and so has what is gathered of them, where the same fragments make the same. It does
+/// nothing when called: its contract is the law.
+pub fn determined_escaped_law<
+    I: StreamIsPartial,
+    E,
+    P: Parser<I, E>,
+    C: Parser<I, E>,
+    Q: Parser<I, E>,
+    A: Accumulate<Fragment<P::Output, Q::Output>>,
+    U,
+    V,
+    W,
+    X,
+>()
+    ensures fragments { (view : P.Output → U) (control : C.Output → V) (other : Q.Output → W)
+        (p : P) (c : C) (q : Q) → IsDetermined (Shows view) (P.means p)
+        → IsDetermined (Shows control) (C.means c) → IsDetermined (Shows other) (Q.means q)
+        → IsDetermined (AreSameEach (AreSameFragments (Shows view) (Shows other)))
+        (Fragments (P.means p) (C.means c) (Q.means q)) }
+    ensures gathered { (view : P.Output → U) (control : C.Output → V) (other : Q.Output → W)
+        (whole : A → X) (p : P) (c : C) (q : Q)
+        → Respects (AreSameEach (AreSameFragments (Shows view) (Shows other))) (Shows whole)
+        (λ fragments made. A.holds made fragments)
+        → IsDetermined (Shows view) (P.means p)
+        → IsDetermined (Shows control) (C.means c) → IsDetermined (Shows other) (Q.means q)
+        → IsDetermined (Shows whole)
+        (Gathered A.refusable (λ fragments made. A.holds made fragments)
+        (Fragments (P.means p) (C.means c) (Q.means q))) }
 {}

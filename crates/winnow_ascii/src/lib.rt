@@ -1,8 +1,10 @@
-//! Parsers of ASCII text: letters, digits and blanks, the ends of lines, and the numbers that
-//! digits write.
+//! Parsers of ASCII text: letters, digits and blanks, the ends of lines, text with escapes, and the
+//! numbers that digits write.
 #![tactic(auto)]
 
 mod class;
+mod escapes;
+mod fragment;
 mod hexadecimal;
 mod laws;
 mod lines;
@@ -10,8 +12,10 @@ mod numbers;
 mod runs;
 
 pub use class::Class;
+pub use escapes::{EscapedText, escaped, take_escaped};
+pub use fragment::{Fragment, Spell};
 pub use hexadecimal::{HexUint, HexadecimalUnsigned, hex_uint};
-pub use laws::{ascii_law, determined_number_law};
+pub use laws::{ascii_law, determined_escaped_law, determined_number_law};
 pub use lines::{LineEnd, LineText, crlf, line_ending, newline, tab, till_line_ending};
 pub use numbers::{DecimalSigned, DecimalUnsigned, dec_int, dec_uint};
 pub use runs::{

@@ -5,4 +5,6 @@
 #[cfg(test)]
 mod documented;
 #[cfg(test)]
+mod escapes;
+#[cfg(test)]
 mod numbers;
