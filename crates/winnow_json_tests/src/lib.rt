@@ -1,8 +1,11 @@
-//! Numbers and strings of JSON as their users read them. Nothing here is part of the library.
+//! Numbers, strings and values of JSON as their users read them. Nothing here is part of the
+//! library.
 #![tactic(auto)]
 
 #[cfg(test)]
 mod numbers;
+#[cfg(test)]
+mod rows;
 #[cfg(test)]
 mod strings;
 #[cfg(test)]

@@ -1,65 +1,8 @@
-//! What is read of a whole text, and that the same is read of each front of the text to which more
-//! may come, from the byte on after which no input can change it; of each shorter front more is
-//! wanted. Python's `json` reads the texts that are strings, as the same characters, and refuses
+//! Strings. Python's `json` reads the texts that are strings, as the same characters, and refuses
 //! the damaged ones, but for a surrogate alone, which it takes.
 
-use std::alloc::{AllocError, Global};
-use winnow::error::EmptyError;
-use winnow::stream::laws::{slice_bytes_law, wrapper_slice_law};
-use winnow::stream::{Partial, Stream, StreamIsPartial};
-use winnow::{Failure, ModalResult};
-use winnow_json::read_string;
-
-type Text = Partial<&'static [u8]>;
-
-// A text, what is read of it, how much of the text is left then, and of how many of its bytes that
-// is read already where more may come.
-type Row = (&'static [u8], Read, usize, usize);
-
-// What is read of a text.
-#[derive(Clone, Copy, Debug)]
-enum Read {
-    // A string of these characters
-    Value(&'static str),
-    // A damaged string, where the rest is left
-    Damaged,
-    // No string
-    Nothing,
-}
-
-// Returns whether that is read of the input, to which `to_come` more bytes come.
-fn is_read(alloc: Global, input: &mut Text, to_come: usize, row: &Row) -> Result<bool, AllocError> {
-    slice_bytes_law();
-    wrapper_slice_law::<&'static [u8], ()>();
-    let is_partial = input.is_partial();
-    let begun = row.0.len().saturating_sub(to_come) < row.3;
-    let answer: ModalResult<String, EmptyError> = read_string(alloc, input);
-    let left = input.eof_offset().saturating_add(to_come);
-    Ok(match (answer, row.1) {
-        (Err(Failure::Incomplete(_)), _) => is_partial && begun,
-        (Err(Failure::Refused(refused)), _) => return Err(refused),
-        _ if is_partial && begun => false,
-        (Ok(value), Read::Value(wanted)) => &value[..] == wanted && left == row.2,
-        (Err(Failure::Cut(_)), Read::Damaged) => left == row.2,
-        (Err(Failure::Backtrack(_)), Read::Nothing) => left == row.2,
-        _ => false,
-    })
-}
-
-// Returns whether the row's answer is that of the whole text, and of each front of it from which
-// on it is settled, and more is wanted of each shorter front.
-fn answers(alloc: Global, row: &Row) -> Result<bool, AllocError> {
-    let text = row.0;
-    for turn in 0..=text.len() {
-        let mut input = Partial::new(&text[..turn]);
-        if !is_read(alloc, &mut input, text.len() - turn, row)? {
-            return Ok(false);
-        }
-    }
-    let mut whole = Partial::new(text);
-    let _ = whole.complete();
-    is_read(alloc, &mut whole, 0, row)
-}
+use crate::rows::{Kind, Read, Row, ask};
+use std::alloc::AllocError;
 
 const STRINGS: &[Row] = &[
     (br#""""#, Read::Value(""), 0, 2),
@@ -149,24 +92,15 @@ const OTHERS: &[Row] = &[
 
 #[test]
 fn strings_are_read(rt: HostRuntime) -> Result<(), AllocError> {
-    for (index, row) in STRINGS.iter().enumerate() {
-        assert!(rt; answers(rt.alloc(), row)?, "row {}", index);
-    }
-    Ok(())
+    ask(&rt, rt.alloc(), Kind::String, STRINGS)
 }
 
 #[test]
 fn damaged_strings_are_cut_at_their_place(rt: HostRuntime) -> Result<(), AllocError> {
-    for (index, row) in DAMAGED.iter().enumerate() {
-        assert!(rt; answers(rt.alloc(), row)?, "row {}", index);
-    }
-    Ok(())
+    ask(&rt, rt.alloc(), Kind::String, DAMAGED)
 }
 
 #[test]
 fn other_texts_are_no_strings(rt: HostRuntime) -> Result<(), AllocError> {
-    for (index, row) in OTHERS.iter().enumerate() {
-        assert!(rt; answers(rt.alloc(), row)?, "row {}", index);
-    }
-    Ok(())
+    ask(&rt, rt.alloc(), Kind::String, OTHERS)
 }

@@ -1,72 +1,10 @@
-//! What is read of a whole text, and that the same is read of each front of the text to which more
-//! may come, from the byte on after which no input can change it; of each shorter front more is
-//! wanted. Python's `json` reads the same values at the front of the texts that have one. Of the
-//! others it reads `NaN`, the one that is too deep here, and the fronts `0` and `1` of `01` and
-//! `1.`.
+//! Values and documents. Python's `json` reads the same values at the front of the texts that have
+//! one. Of the others it reads `NaN`, the one that is too deep here, and the fronts `0` and `1` of
+//! `01` and `1.`.
 
-use std::alloc::{AllocError, Global};
-use winnow::error::EmptyError;
-use winnow::stream::laws::{slice_bytes_law, wrapper_slice_law};
-use winnow::stream::{Partial, Stream, StreamIsPartial};
-use winnow::{Failure, ModalResult};
-use winnow_json::{Value, read_document, read_value};
-
-type Text = Partial<&'static [u8]>;
-
-// A text, what is read of it, how much of the text is left then, and of how many of its bytes that
-// is read already where more may come.
-type Row = (&'static [u8], Read, usize, usize);
-
-// What is read of a text.
-#[derive(Clone, Copy, Debug)]
-enum Read {
-    // A value that is shown so
-    Value(&'static str),
-    // A damaged value, where the rest is left
-    Damaged,
-    // No value
-    Nothing,
-}
-
-// The number of arrays and objects in which a value may stand.
-const DEPTH: usize = 2;
-
-// Returns whether that is read of the input, to which `to_come` more bytes come.
-fn is_read(alloc: Global, input: &mut Text, to_come: usize, row: &Row) -> Result<bool, AllocError> {
-    slice_bytes_law();
-    wrapper_slice_law::<&'static [u8], ()>();
-    let is_partial = input.is_partial();
-    let begun = row.0.len().saturating_sub(to_come) < row.3;
-    let answer: ModalResult<Value, EmptyError> = read_value(alloc, DEPTH, input);
-    let left = input.eof_offset().saturating_add(to_come);
-    Ok(match (answer, row.1) {
-        (Err(Failure::Incomplete(_)), _) => is_partial && begun,
-        (Err(Failure::Refused(refused)), _) => return Err(refused),
-        _ if is_partial && begun => false,
-        (Ok(value), Read::Value(wanted)) => {
-            let shown = format!(in alloc; "{value:?}")?;
-            &shown[..] == wanted && left == row.2
-        }
-        (Err(Failure::Cut(_)), Read::Damaged) => left == row.2,
-        (Err(Failure::Backtrack(_)), Read::Nothing) => left == row.2,
-        _ => false,
-    })
-}
-
-// Returns whether the row's answer is that of the whole text, and of each front of it from which
-// on it is settled, and more is wanted of each shorter front.
-fn answers(alloc: Global, row: &Row) -> Result<bool, AllocError> {
-    let text = row.0;
-    for turn in 0..=text.len() {
-        let mut input = Partial::new(&text[..turn]);
-        if !is_read(alloc, &mut input, text.len() - turn, row)? {
-            return Ok(false);
-        }
-    }
-    let mut whole = Partial::new(text);
-    let _ = whole.complete();
-    is_read(alloc, &mut whole, 0, row)
-}
+use crate::rows::{DEPTH, Kind, Read, Row, ask};
+use std::alloc::AllocError;
+use winnow_json::read_document;
 
 const VALUES: &[Row] = &[
     (b"null", Read::Value("Null"), 0, 4),
@@ -208,26 +146,17 @@ const OTHERS: &[Row] = &[
 
 #[test]
 fn values_are_read(rt: HostRuntime) -> Result<(), AllocError> {
-    for (index, row) in VALUES.iter().enumerate() {
-        assert!(rt; answers(rt.alloc(), row)?, "row {}", index);
-    }
-    Ok(())
+    ask(&rt, rt.alloc(), Kind::Value, VALUES)
 }
 
 #[test]
 fn damaged_values_are_cut_at_their_place(rt: HostRuntime) -> Result<(), AllocError> {
-    for (index, row) in DAMAGED.iter().enumerate() {
-        assert!(rt; answers(rt.alloc(), row)?, "row {}", index);
-    }
-    Ok(())
+    ask(&rt, rt.alloc(), Kind::Value, DAMAGED)
 }
 
 #[test]
 fn blanks_are_no_values(rt: HostRuntime) -> Result<(), AllocError> {
-    for (index, row) in OTHERS.iter().enumerate() {
-        assert!(rt; answers(rt.alloc(), row)?, "row {}", index);
-    }
-    Ok(())
+    ask(&rt, rt.alloc(), Kind::Value, OTHERS)
 }
 
 // A text, and the offset where it is damaged.
