@@ -18,3 +18,6 @@ pub mod DocumentLemmas
 pub mod JsonTokenLemmas
 pub mod TokenStreamLemmas
 pub mod TokenReadingLemmas
+pub mod NumberTextLemmas
+pub mod QuotingLemmas
+pub mod WritingLemmas

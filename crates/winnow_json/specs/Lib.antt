@@ -16,3 +16,6 @@ pub mod Tokens
 pub mod TokenAnswers
 pub mod TokenLaws
 pub mod TokenReading
+pub mod Quoting
+pub mod Writing
+pub mod Appending

@@ -23,6 +23,10 @@ Keeps fact value (Some same) = (same ≡ value) × fact value
 abbrev pub IsNumberOf : List ℕ → Number → Type 0
 IsNumberOf text number = (number.text.items ≡ text) × IsSomeExactly (ReadsSigned w64 text) number.integer
 
+-- the number is the one that its own text writes
+abbrev pub IsWritten : Number → Type 0
+IsWritten number = IsNumber number.text.items × IsNumberOf number.text.items number
+
 module _ {S T : Type 0} (code : T → ℕ) (is_slice : S → Source T → ℕ → Type 0) (bytes : S → List ℕ) where
   -- the longest run of bytes of a set, if there is one and a fact holds of it
   abbrev pub Run : (ℕ → Bool) → (List ℕ → Type 0) → Meaning S T

@@ -1,4 +1,4 @@
-//! JSON, as RFC 8259 writes it, read from any stream of bytes.
+//! JSON, as RFC 8259 writes it, read from any stream of bytes, and written.
 //!
 //! [`read_number`] reads a number. Its contract speaks of bytes alone: which number it gives, that
 //! its text is the longest one that stands there, and that it misses none. A number ends where no
@@ -12,26 +12,34 @@
 //!
 //! [`JsonToken`] is the record of a [`Token`], for a `ByteReader` over bytes that come in pieces;
 //! [`tokens_in_pieces_law`] says what such a reader reads.
+//!
+//! [`write_value`] appends the text of a value. What it writes is read back as the same value, as
+//! [`round_trip_law`] says.
 #![tactic(auto)]
 
 mod characters;
 mod documents;
 mod escapes;
 mod found;
+mod laws;
 mod nested;
 mod numbers;
 mod parts;
+mod quoting;
 mod scalars;
 mod strings;
 mod token_laws;
 mod tokens;
 mod value;
 mod values;
+mod writing;
 
 pub use documents::{Damage, read_document};
+pub use laws::round_trip_law;
 pub use numbers::{Number, read_number};
 pub use strings::read_string;
 pub use token_laws::tokens_in_pieces_law;
 pub use tokens::{JsonToken, Token};
 pub use value::Value;
 pub use values::read_value;
+pub use writing::{Unwritten, write_value};

@@ -5,8 +5,8 @@ ghost use Rattle.winnow.specs.Laws.{LeavesAfter};
 ghost use Rattle.winnow_stream.specs.SliceBytes.{SlicesHaveBytes};
 ghost use Rattle.winnow_count.specs.Reading.{IsSomeExactly, ReadsSigned};
 ghost use Rattle.winnow_format.specs.Bytes.{bytes_of};
-ghost use Rattle.winnow_json.specs.Numbers.{IsNumber};
-ghost use Rattle.winnow_json.specs.Meanings.{Keeps, IsNumberOf, NumberRun};
+ghost use Rattle.winnow_json.specs.Numbers.{IsNumber, Tells};
+ghost use Rattle.winnow_json.specs.Meanings.{Keeps, IsNumberOf, IsWritten, NumberRun};
 ghost use Rattle.winnow_json.specs.NumberAnswers.{IsNumberAnswer, IsLongest, GivesEachNumber};
 
 use crate::parts::is_number;
@@ -30,6 +30,13 @@ fn integer_in(text: &[u8]) -> Option<i64>
     ensures { IsSomeExactly (ReadsSigned w64 text.now) result }
 {
     text.parse_slice()
+}
+
+/// Returns whether the text is a number, and the integer the one that the text writes.
+pub(crate) fn is_of_text(number: &Number) -> bool
+    ensures { Tells result (IsWritten number.now) }
+{
+    is_number(&number.text) && number.integer == integer_in(&number.text)
 }
 
 /// Returns the number with this text.

@@ -1,5 +1,5 @@
-//! Numbers, strings and values of JSON as their users read them. Nothing here is part of the
-//! library.
+//! Numbers, strings and values of JSON as their users read and write them. Nothing here is part of
+//! the library.
 #![tactic(auto)]
 
 #[cfg(test)]
@@ -10,3 +10,5 @@ mod rows;
 mod strings;
 #[cfg(test)]
 mod values;
+#[cfg(test)]
+mod writing;

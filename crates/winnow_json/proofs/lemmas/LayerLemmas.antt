@@ -31,16 +31,16 @@ out-null = search (rules, the_lemmas)
 out-bool : (t : Bool) → out-Value (value.Bool t) ≡ open_value.Bool t
 out-bool t = search (rules, the_lemmas)
 
-out-number : (n : Number) → out-Value (value.Number n) ≡ open_value.Number n
+pub out-number : (n : Number) → out-Value (value.Number n) ≡ open_value.Number n
 out-number n = search (rules, the_lemmas)
 
-out-string : (v : String Global) → out-Value (value.String v) ≡ open_value.String v
+pub out-string : (v : String Global) → out-Value (value.String v) ≡ open_value.String v
 out-string v = search (rules, the_lemmas)
 
-out-array : (vs : Vec Value Global) → out-Value (value.Array vs) ≡ open_value.Array vs
+pub out-array : (vs : Vec Value Global) → out-Value (value.Array vs) ≡ open_value.Array vs
 out-array vs = search (rules, the_lemmas)
 
-out-object : (ms : Vec (String Global × Value) Global)
+pub out-object : (ms : Vec (String Global × Value) Global)
     → out-Value (value.Object ms) ≡ open_value.Object ms
 out-object ms = search (rules, the_lemmas)
 

@@ -1,0 +1,16 @@
+ghost use Rattle.std.specs.Prelude.{ℕ, suc};
+ghost use Rattle.winnow_json.specs.Documents.{IsDocument, IsOnlyDocument, IsDamage};
+ghost use Rattle.winnow_json.specs.SameValues.{SameValue};
+ghost use Rattle.winnow_json.specs.Writing.{written};
+ghost use Rattle.winnow_json.specs.declared.value.Value.{Value};
+ghost use Rattle.winnow_json.specs.declared.documents.Damage.{Damage};
+
+/// The law of the round trip: what [`write_value`](crate::write_value) wrote for a value,
+/// [`read_document`](crate::read_document) reads as the same value, and it finds no damage there. A
+/// law does nothing when called: its contract is the law.
+pub fn round_trip_law()
+    ensures same { (depth : ℕ) (value read : Value) → IsDocument depth (written value) value
+        → IsOnlyDocument depth (written value) read → SameValue (suc depth) read value }
+    ensures whole { (depth : ℕ) (value : Value) (damage : Damage)
+        → IsDocument depth (written value) value → ¬ (IsDamage depth (written value) damage) }
+{}
