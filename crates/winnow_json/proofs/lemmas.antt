@@ -9,6 +9,7 @@ pub mod StringLemmas
 pub mod StringStreamLemmas
 pub mod GrammarLemmas
 pub mod FoundLemmas
+pub mod DamageLemmas
 pub mod ScalarLemmas
 pub mod LayerLemmas
 pub mod NestedLemmas

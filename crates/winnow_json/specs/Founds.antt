@@ -40,7 +40,8 @@ IsNext close partial bytes (next.More n) =
 IsNext close partial bytes (next.Closed n) =
     (n ≤ length bytes) × (after_blanks bytes ≡ close ∷ drop n bytes)
 IsNext close partial bytes next.Begun = (partial ≡ true) × (after_blanks bytes ≡ [])
-IsNext close partial bytes (next.Damaged n) = (n ≤ length bytes) × GoesNotOn close partial bytes
+IsNext close partial bytes (next.Damaged n) =
+    (n ≤ length bytes) × GoesNotOn close partial bytes × (drop n bytes ≡ after_blanks bytes)
 
 -- after blanks the bytes begin with this byte, and the rest follows
 abbrev pub ByteAhead : ℕ → Unit {0} → List ℕ → List ℕ → Type 0

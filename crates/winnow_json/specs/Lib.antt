@@ -9,6 +9,7 @@ pub mod Steps
 pub mod CutChars
 pub mod Values
 pub mod Founds
+pub mod Damage
 pub mod SameValues
 pub mod ValueAnswers
 pub mod Documents

@@ -1,11 +1,12 @@
 -- The answers of the reader of values, in the words of the format.
-use Rattle.std.specs.Prelude.{◌≡◌, ℕ, suc, Bool, true, false, List, [], Result, Ok, Err, ⊤}
+use Rattle.std.specs.Prelude.{◌≡◌, ℕ, suc, ◌≤◌, Bool, true, false, List, [], length, drop, Result, Ok, Err, ⊤}
 use Rattle.winnow_stream.specs.declared.needed.Needed.{Needed}
 use Rattle.winnow_parser.specs.declared.failure.Failure.{Failure}
 use Rattle.winnow_parser.specs.declared.failure.Failure.TheVariants.{Incomplete, Backtrack, Cut, Refused}
 use Rattle.winnow_json.specs.Values.{after_blanks, ValueAhead}
 use Rattle.winnow_json.specs.SameValues.{SameValue}
 use Rattle.winnow_json.specs.Founds.{HasNone, IsFound}
+use Rattle.winnow_json.specs.Damage.{BreaksOff}
 use Rattle.winnow_json.specs.declared.value.Value.{Value}
 use Rattle.winnow_json.specs.declared.found.Found.TheVariants as found
 use Rattle.winnow_json.specs.declared.values.Reading.{Reading}
@@ -17,16 +18,16 @@ NoValueAhead depth partial bytes =
     (value : Value) (rest : List ℕ) → ¬ (ValueAhead partial depth value bytes rest)
 
 -- the answer and what remains: a value that stands ahead; or a backtrack, which takes nothing,
--- where only blanks stand ahead and nothing may follow; or a cut, where no value stands ahead,
--- whatever follows; or more input is needed, where more may follow and no value stands ahead yet;
--- or memory was refused
+-- where only blanks stand ahead and nothing may follow; or a cut, where no value stands ahead, no
+-- matter what follows, and what remains is where a value breaks off; or more input is needed, where
+-- more may follow and no value stands ahead yet; or memory was refused
 abbrev pub IsValueAnswer : {E : Type 0} → ℕ → Bool → List ℕ → Result Value (Failure E Needed)
     → List ℕ → Type 0
 IsValueAnswer depth partial bytes (Ok value) rest = ValueAhead partial depth value bytes rest
 IsValueAnswer depth partial bytes (Err (Backtrack e)) rest =
     (rest ≡ bytes) × (partial ≡ false) × (after_blanks bytes ≡ [])
 IsValueAnswer depth partial bytes (Err (Cut e)) rest =
-    HasNone (ValueAhead partial depth) partial bytes
+    HasNone (ValueAhead partial depth) partial bytes × BreaksOff partial depth bytes rest
 IsValueAnswer depth partial bytes (Err (Incomplete n)) rest =
     (partial ≡ true) × NoValueAhead depth partial bytes
 IsValueAnswer depth partial bytes (Err (Refused e)) rest = ⊤
@@ -49,12 +50,12 @@ GivesEachValue depth partial bytes result rest = (value : Value) (after : List �
     → ValueAhead partial depth value bytes after → IsValueGiven depth result rest value after
 
 -- what the bytes are as a value: blanks, after which nothing may follow; a value; one that is
--- begun; or none, whatever follows
+-- begun; or none, no matter what follows, which breaks off after so many bytes
 abbrev pub IsReading : ℕ → Bool → List ℕ → Reading → Type 0
 IsReading depth partial bytes reading.Nothing = (partial ≡ false) × (after_blanks bytes ≡ [])
 IsReading depth partial bytes (reading.Whole value n) =
     IsFound (ValueAhead partial depth) partial bytes (found.Whole value n)
 IsReading depth partial bytes reading.Begun =
     IsFound (ValueAhead partial depth) partial bytes found.Begun
-IsReading depth partial bytes (reading.Damaged n) =
-    IsFound (ValueAhead partial depth) partial bytes (found.Damaged n)
+IsReading depth partial bytes (reading.Damaged n) = (n ≤ length bytes)
+    × HasNone (ValueAhead partial depth) partial bytes × BreaksOff partial depth bytes (drop n bytes)

@@ -9,7 +9,8 @@ use std::alloc::{AllocError, Global};
 /// Where a text is damaged.
 #[derive(Clone, Copy, Debug, Drop, PartialEq, Eq)]
 pub struct Damage {
-    /// The offset of the byte that is wrong, or the length of the text where it ends too early
+    /// The offset at which the value breaks off, as for [`read_value`](crate::read_value), or at
+    /// which something else follows it. It is the length of the text where that ends too early.
     pub offset: usize,
 }
 

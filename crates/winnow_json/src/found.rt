@@ -1,6 +1,7 @@
 ghost use Rattle.std.specs.Prelude.{◌≡◌, ◌≤◌, length, drop};
 ghost use Rattle.winnow_json.specs.Values.{is_blank, after_blanks, WordAhead};
 ghost use Rattle.winnow_json.specs.Founds.{IsFound, IsNext, IsByte};
+ghost use Rattle.winnow_json.specs.Damage.{ByteIsMissing, IsPlaced};
 
 // What stands ahead in some bytes.
 #[derive(Debug, Drop)]
@@ -48,7 +49,8 @@ pub(crate) fn blank_count(bytes: &[u8]) -> usize
 
 // Returns what stands ahead where a word must.
 pub(crate) fn word_at(bytes: &[u8], partial: bool, word: &[u8]) -> Found<()>
-    ensures { IsFound (WordAhead word.now) partial bytes.now result }
+    ensures found { IsFound (WordAhead word.now) partial bytes.now result }
+    ensures place { IsPlaced (λ whole rest. rest ≡ whole) bytes.now result }
 {
     for (index, byte) in word.iter().enumerate() {
         if index == bytes.len() {
@@ -66,7 +68,8 @@ pub(crate) fn word_at(bytes: &[u8], partial: bool, word: &[u8]) -> Found<()>
 
 // Returns what stands after blanks where this byte must.
 pub(crate) fn byte_at(bytes: &[u8], partial: bool, byte: u8) -> Found<()>
-    ensures { IsByte byte partial bytes.now result }
+    ensures found { IsByte byte partial bytes.now result }
+    ensures place { IsPlaced (ByteIsMissing byte) bytes.now result }
 {
     let at = blank_count(bytes);
     if at == bytes.len() {

@@ -3,6 +3,8 @@ ghost use Rattle.winnow_format.specs.Bytes.{StartsWith};
 ghost use Rattle.winnow_json.specs.Values.{Nested, Elements, Bracketed, MemberAhead};
 ghost use Rattle.winnow_json.specs.Values.{after_blanks, StringHere, ValueHere, ValueAhead};
 ghost use Rattle.winnow_json.specs.Founds.{IsFound};
+ghost use Rattle.winnow_json.specs.Damage.{IsPlaced, BreaksOff, HereBreaksOff, ElementsIn};
+ghost use Rattle.winnow_json.specs.Damage.{MemberIn, MembersIn, ArrayBreaksOff, ObjectBreaksOff};
 
 use crate::Value;
 use crate::found::{Found, Next, blank_count, byte_at, next_at};
@@ -17,7 +19,8 @@ fn value_here(
     partial: bool,
     depth: usize,
 ) -> Result<Found<Value>, AllocError>
-    ensures { IfOk result (IsFound (ValueHere partial depth) partial bytes.now) }
+    ensures found { IfOk result (IsFound (ValueHere partial depth) partial bytes.now) }
+    ensures place { IfOk result (IsPlaced (HereBreaksOff partial depth) bytes.now) }
 {
     if bytes.is_empty() {
         return scalar_at(alloc, bytes, partial);
@@ -48,7 +51,8 @@ pub(crate) fn value_at(
     partial: bool,
     depth: usize,
 ) -> Result<Found<Value>, AllocError>
-    ensures { IfOk result (IsFound (ValueAhead partial depth) partial bytes.now) }
+    ensures found { IfOk result (IsFound (ValueAhead partial depth) partial bytes.now) }
+    ensures place { IfOk result (IsPlaced (BreaksOff partial depth) bytes.now) }
 {
     let at = blank_count(bytes);
     match value_here(alloc, &bytes[at..], partial, depth)? {
@@ -58,23 +62,8 @@ pub(crate) fn value_at(
     }
 }
 
-// Reads a value after blanks, within fewer than `depth` arrays and objects.
-#[cycle(value)]
-fn nested_at(
-    alloc: Global,
-    bytes: &[u8],
-    partial: bool,
-    depth: usize,
-) -> Result<Found<Value>, AllocError>
-    ensures { IfOk result (IsFound (Nested partial depth) partial bytes.now) }
-{
-    if depth == 0 {
-        return Ok(Found::Damaged(blank_count(bytes)));
-    }
-    value_at(alloc, bytes, partial, depth - 1)
-}
-
-// Reads the elements of an array, of which there is one at least, and its closing bracket.
+// Reads the elements of an array, of which there is one at least, and its closing bracket. Each
+// stands within at most `depth` arrays and objects.
 #[cycle(value)]
 fn elements_at(
     alloc: Global,
@@ -82,13 +71,14 @@ fn elements_at(
     partial: bool,
     depth: usize,
 ) -> Result<Found<Vec<Value>>, AllocError>
-    ensures { IfOk result (IsFound (λ v. Elements (Nested partial depth) 93 v.items)
+    ensures found { IfOk result (IsFound (λ v. Elements (ValueAhead partial depth) 93 v.items)
         partial bytes.now) }
+    ensures place { IfOk result (IsPlaced (ElementsIn partial depth) bytes.now) }
 {
     let mut elements = Vec::new(alloc);
     let mut at = 0;
     loop {
-        match nested_at(alloc, &bytes[at..], partial, depth)? {
+        match value_at(alloc, &bytes[at..], partial, depth)? {
             Found::Whole(value, width) => {
                 elements.push(value)?;
                 at += width;
@@ -105,7 +95,7 @@ fn elements_at(
     }
 }
 
-// Reads an array.
+// Reads an array, of which each element stands within fewer than `depth` arrays and objects.
 #[cycle(value)]
 fn array_at(
     alloc: Global,
@@ -114,21 +104,28 @@ fn array_at(
     depth: usize,
 ) -> Result<Found<Vec<Value>>, AllocError>
     requires { StartsWith 91 bytes.now }
-    ensures { IfOk result (IsFound (λ v. Bracketed (Nested partial depth) 93 91 v.items)
+    ensures found { IfOk result (IsFound (λ v. Bracketed (Nested partial depth) 93 91 v.items)
         partial bytes.now) }
+    ensures place { IfOk result (IsPlaced (ArrayBreaksOff partial depth) bytes.now) }
 {
     match byte_at(&bytes[1..], partial, b']') {
         Found::Whole(_, width) => Ok(Found::Whole(Vec::new(alloc), 1 + width)),
         Found::Begun => Ok(Found::Begun),
-        Found::Damaged(_) => match elements_at(alloc, &bytes[1..], partial, depth)? {
-            Found::Whole(elements, width) => Ok(Found::Whole(elements, 1 + width)),
-            Found::Begun => Ok(Found::Begun),
-            Found::Damaged(width) => Ok(Found::Damaged(1 + width)),
-        },
+        Found::Damaged(width) => {
+            if depth == 0 {
+                return Ok(Found::Damaged(1 + width));
+            }
+            match elements_at(alloc, &bytes[1..], partial, depth - 1)? {
+                Found::Whole(elements, width) => Ok(Found::Whole(elements, 1 + width)),
+                Found::Begun => Ok(Found::Begun),
+                Found::Damaged(width) => Ok(Found::Damaged(1 + width)),
+            }
+        }
     }
 }
 
-// Reads a member of an object after its name, which ends after `start` bytes.
+// Reads a member of an object after its name, which ends after `start` bytes. Its value stands
+// within at most `depth` arrays and objects.
 #[cycle(value)]
 fn member_after(
     alloc: Global,
@@ -140,12 +137,14 @@ fn member_after(
 ) -> Result<Found<(String, Value)>, AllocError>
     requires within { start ≤ length bytes.now }
     requires named { StringHere name (after_blanks bytes.now) (drop start bytes.now) }
-    ensures { IfOk result (IsFound (MemberAhead (Nested partial depth)) partial bytes.now) }
+    ensures found { IfOk result
+        (IsFound (MemberAhead (ValueAhead partial depth)) partial bytes.now) }
+    ensures place { IfOk result (IsPlaced (MemberIn partial depth) bytes.now) }
 {
     match byte_at(&bytes[start..], partial, b':') {
         Found::Whole(_, colon) => {
             let at = start + colon;
-            match nested_at(alloc, &bytes[at..], partial, depth)? {
+            match value_at(alloc, &bytes[at..], partial, depth)? {
                 Found::Whole(value, width) => Ok(Found::Whole((name, value), at + width)),
                 Found::Begun => Ok(Found::Begun),
                 Found::Damaged(width) => Ok(Found::Damaged(at + width)),
@@ -156,7 +155,7 @@ fn member_after(
     }
 }
 
-// Reads a member of an object.
+// Reads a member of an object, of which the value stands within at most `depth` arrays and objects.
 #[cycle(value)]
 fn member_at(
     alloc: Global,
@@ -164,7 +163,9 @@ fn member_at(
     partial: bool,
     depth: usize,
 ) -> Result<Found<(String, Value)>, AllocError>
-    ensures { IfOk result (IsFound (MemberAhead (Nested partial depth)) partial bytes.now) }
+    ensures found { IfOk result
+        (IsFound (MemberAhead (ValueAhead partial depth)) partial bytes.now) }
+    ensures place { IfOk result (IsPlaced (MemberIn partial depth) bytes.now) }
 {
     let at = blank_count(bytes);
     match string_at(alloc, &bytes[at..], partial)? {
@@ -174,7 +175,8 @@ fn member_at(
     }
 }
 
-// Reads the members of an object, of which there is one at least, and its closing bracket.
+// Reads the members of an object, of which there is one at least, and its closing bracket. Each
+// value stands within at most `depth` arrays and objects.
 #[cycle(value)]
 fn members_at(
     alloc: Global,
@@ -182,8 +184,10 @@ fn members_at(
     partial: bool,
     depth: usize,
 ) -> Result<Found<Vec<(String, Value)>>, AllocError>
-    ensures { IfOk result (IsFound (λ v. Elements (MemberAhead (Nested partial depth)) 125 v.items)
+    ensures found { IfOk result
+        (IsFound (λ v. Elements (MemberAhead (ValueAhead partial depth)) 125 v.items)
         partial bytes.now) }
+    ensures place { IfOk result (IsPlaced (MembersIn partial depth) bytes.now) }
 {
     let mut members = Vec::new(alloc);
     let mut at = 0;
@@ -205,7 +209,7 @@ fn members_at(
     }
 }
 
-// Reads an object.
+// Reads an object, of which each value stands within fewer than `depth` arrays and objects.
 #[cycle(value)]
 fn object_at(
     alloc: Global,
@@ -214,16 +218,22 @@ fn object_at(
     depth: usize,
 ) -> Result<Found<Vec<(String, Value)>>, AllocError>
     requires { StartsWith 123 bytes.now }
-    ensures { IfOk result (IsFound
+    ensures found { IfOk result (IsFound
         (λ v. Bracketed (MemberAhead (Nested partial depth)) 125 123 v.items) partial bytes.now) }
+    ensures place { IfOk result (IsPlaced (ObjectBreaksOff partial depth) bytes.now) }
 {
     match byte_at(&bytes[1..], partial, b'}') {
         Found::Whole(_, width) => Ok(Found::Whole(Vec::new(alloc), 1 + width)),
         Found::Begun => Ok(Found::Begun),
-        Found::Damaged(_) => match members_at(alloc, &bytes[1..], partial, depth)? {
-            Found::Whole(members, width) => Ok(Found::Whole(members, 1 + width)),
-            Found::Begun => Ok(Found::Begun),
-            Found::Damaged(width) => Ok(Found::Damaged(1 + width)),
-        },
+        Found::Damaged(width) => {
+            if depth == 0 {
+                return Ok(Found::Damaged(1 + width));
+            }
+            match members_at(alloc, &bytes[1..], partial, depth - 1)? {
+                Found::Whole(members, width) => Ok(Found::Whole(members, 1 + width)),
+                Found::Begun => Ok(Found::Begun),
+                Found::Damaged(width) => Ok(Found::Damaged(1 + width)),
+            }
+        }
     }
 }

@@ -3,6 +3,7 @@ ghost use Rattle.winnow_format.specs.Bytes.{Each, Starts, StartsWith};
 ghost use Rattle.winnow_json.specs.Numbers.{is_number_byte};
 ghost use Rattle.winnow_json.specs.Values.{NumberHere, StringHere, ValueHere};
 ghost use Rattle.winnow_json.specs.Founds.{IsFound, IsWord};
+ghost use Rattle.winnow_json.specs.Damage.{StringBreaksOff, ScalarBreaksOff, IsPlaced};
 
 use crate::found::{Found, word_at};
 use crate::numbers::number_of;
@@ -38,7 +39,8 @@ pub(crate) fn number_at(
     bytes: &[u8],
     partial: bool,
 ) -> Result<Found<Number>, AllocError>
-    ensures { IfOk result (IsFound (NumberHere partial) partial bytes.now) }
+    ensures found { IfOk result (IsFound (NumberHere partial) partial bytes.now) }
+    ensures place { IfOk result (IsPlaced (λ whole rest. rest ≡ whole) bytes.now) }
 {
     let count = number_count(bytes);
     if partial && count == bytes.len() {
@@ -57,7 +59,8 @@ pub(crate) fn string_at(
     bytes: &[u8],
     partial: bool,
 ) -> Result<Found<String>, AllocError>
-    ensures { IfOk result (IsFound StringHere partial bytes.now) }
+    ensures found { IfOk result (IsFound StringHere partial bytes.now) }
+    ensures place { IfOk result (IsPlaced (StringBreaksOff partial) bytes.now) }
 {
     match read_bytes(alloc, bytes)? {
         Reading::Whole(value, width) => Ok(Found::Whole(value, width)),
@@ -72,7 +75,8 @@ pub(crate) fn string_at(
 
 // Reads a word that spells the value.
 fn word_value(bytes: &[u8], partial: bool, word: &[u8], value: Value) -> Found<Value>
-    ensures { IsFound (IsWord word.now value) partial bytes.now result }
+    ensures found { IsFound (IsWord word.now value) partial bytes.now result }
+    ensures place { IsPlaced (λ whole rest. rest ≡ whole) bytes.now result }
 {
     match word_at(bytes, partial, word) {
         Found::Whole(_, width) => Found::Whole(value, width),
@@ -89,7 +93,9 @@ pub(crate) fn scalar_at(
 ) -> Result<Found<Value>, AllocError>
     requires no_array { ¬ (StartsWith 91 bytes.now) }
     requires no_object { ¬ (StartsWith 123 bytes.now) }
-    ensures { (depth : ℕ) → IfOk result (IsFound (ValueHere partial depth) partial bytes.now) }
+    ensures found { (depth : ℕ)
+        → IfOk result (IsFound (ValueHere partial depth) partial bytes.now) }
+    ensures place { IfOk result (IsPlaced (ScalarBreaksOff partial) bytes.now) }
 {
     if bytes.is_empty() {
         if partial {

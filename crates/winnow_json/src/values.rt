@@ -22,7 +22,7 @@ enum Reading {
     Whole(Value, usize),
     // The bytes end too early, and more may follow
     Begun,
-    // No value, whatever follows: so many bytes stand before the place that is wrong
+    // No value, no matter what follows: so many bytes stand before the place where it breaks off
     Damaged(usize),
 }
 
@@ -52,11 +52,11 @@ fn read_bytes(
 /// array or an object is read only if it is empty.
 ///
 /// The parser backtracks where blanks alone stand ahead and nothing may follow, and does not move.
-/// Elsewhere it cuts where no value stands ahead, at the place that is wrong: where no value
-/// begins, or one that stands too deep; at the start of a word or a number that is none; where a
-/// string is damaged, as in [`read_string`](crate::read_string); and where a comma, a colon or a
-/// closing bracket is missing. The contract says that no value stands ahead at a cut, whatever
-/// follows; it does not name the place. A number ends as in [`read_number`](crate::read_number).
+/// Elsewhere it cuts where no value stands ahead, no matter what follows, at the place where the
+/// value breaks off: where no value begins, or one that stands too deep; at the start of a word or
+/// a number that is none; where a string is damaged, as in [`read_string`](crate::read_string); and
+/// where a comma, a colon or a closing bracket is missing. A number ends as in
+/// [`read_number`](crate::read_number).
 ///
 /// More input is needed where the bytes end before the value does, and also after a number, which
 /// may go on. The contract says that no value stands ahead yet; it does not say that one still can.

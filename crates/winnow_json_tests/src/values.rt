@@ -1,5 +1,5 @@
 //! Values and documents. Python's `json` reads the same values at the front of the texts that have
-//! one. Of the others it reads `NaN`, the one that is too deep here, and the fronts `0` and `1` of
+//! one. Of the others it reads `NaN`, those that are too deep here, and the fronts `0` and `1` of
 //! `01` and `1.`.
 
 use crate::rows::{DEPTH, Kind, Read, Row, ask};
@@ -129,6 +129,7 @@ const DAMAGED: &[Row] = &[
     (b"[\"a\\x\"]", Read::Damaged, 4, 5),
     (b" x", Read::Damaged, 1, 2),
     (b"[[[0]]]", Read::Damaged, 4, 4),
+    (b"{\"a\":{\"b\":{\"c\":1}}}", Read::Damaged, 8, 12),
     (b"'a'", Read::Damaged, 3, 1),
     (b"[nul]", Read::Damaged, 4, 5),
     (b"}", Read::Damaged, 1, 1),

@@ -1,9 +1,9 @@
 -- Texts that are no value, from what is found in them.
-use Rattle.std.proofs.Common.{◌≡◌, ℕ, suc, ◌+◌, ◌-◌, ◌≤◌, false, List, length, take, drop, ap, ◌∙◌, subst, arith, length-drop}
-use Rattle.std.proofs.lemmas.List.{take_rest}
+use Rattle.std.proofs.Common.{◌≡◌, ℕ, suc, ◌+◌, ◌-◌, ◌≤◌, false, List, length, take, drop, inr, ap, sym, ◌∙◌, subst, arith, length-drop}
+use Rattle.std.proofs.lemmas.List.{take_rest, drop-drop}
 use Rattle.winnow_json.specs.Values.{after_blanks, ValueAhead}
 use Rattle.winnow_json.specs.Founds.{IsFound}
-use Rattle.winnow_json.specs.Documents.{IsDocument, IsOnlyDocument}
+use Rattle.winnow_json.specs.Documents.{IsDocument, IsOnlyDocument, TextBreaksOff}
 use Rattle.winnow_json.specs.declared.value.Value.{Value}
 use Rattle.winnow_json.specs.declared.found.Found.TheVariants.{Whole, Damaged}
 use Rattle.winnow_json.proofs.lemmas.GrammarLemmas.{nested-once}
@@ -22,6 +22,24 @@ module _ (depth : ℕ) (text : List ℕ) where
     blanks-fit =
         let fit = subst (λ l. k ≤ length l) (take_rest text n) within in
         omega (arith, fit, found.0, length-drop n text)
+
+    -- where something else follows the value and blanks, the text breaks off there
+    pub follows-place : ¬ (n + k ≡ length text) → TextBreaksOff depth text (drop (n + k) text)
+    follows-place left =
+        let here = subst (λ l. drop k l ≡ after_blanks l) (take_rest text n) blanks in
+        inr (
+          v,
+          (
+            drop n text,
+            (
+              found.1,
+              sym (drop-drop k n text) ∙ here,
+              λ none.
+                  let left_over = ap length none in
+                  left (omega (arith, blanks-fit, left_over, length-drop (n + k) text)),
+            ),
+          ),
+        )
 
     -- each value that the text is, is the one that stands ahead
     pub only-document : IsOnlyDocument depth text v

@@ -5,6 +5,7 @@ use Rattle.winnow_format.specs.Bytes.{Each, StartsWith}
 use Rattle.winnow_format.proofs.lemmas.ByteLemmas.{heads, tails}
 use Rattle.winnow_json.specs.Values.{after_blanks, Elements}
 use Rattle.winnow_json.specs.Founds.{MayFollow, HasNone, IsFound, GoesNotOn}
+use Rattle.winnow_json.specs.Damage.{EachWithComma}
 use Rattle.winnow_json.specs.declared.found.Found.{Found}
 use Rattle.winnow_json.specs.declared.found.Found.TheVariants.{Begun, Damaged}
 use Rattle.winnow_json.proofs.lemmas.GrammarLemmas.{Once, Stable, blanks-more, blanks-past, elements-first}
@@ -113,6 +114,16 @@ after-covers R partial b (x ∷ c) e more may v r h =
 
 -- ---- Lists of elements
 
+-- one more element and its comma
+chain-more : {T : Type 0} (inner : T → List ℕ → List ℕ → Type 0) (vs : List T) (v : T)
+    (bytes b after next : List ℕ)
+    → EachWithComma inner vs bytes b → inner v b after → after_blanks after ≡ 44 ∷ next
+    → EachWithComma inner (vs ++ v ∷ []) bytes next
+chain-more inner [] v bytes b after next e h f =
+    (after, (next, (subst (λ l. inner v l after) (sym e) h, f, refl)))
+chain-more inner (w ∷ ws) v bytes b after next (a, (n, (k, g, rest))) h f =
+    (a, (n, (k, g, chain-more inner ws v n b after next rest h f)))
+
 module _ {T : Type 0} (inner : T → List ℕ → List ℕ → Type 0) (close : ℕ) (partial : Bool) (bytes : List ℕ) where
   -- so many bytes are these elements, each with a comma after it
   pub record HasRead (at : ℕ) (items : List T) : Type 0 where
@@ -122,6 +133,7 @@ module _ {T : Type 0} (inner : T → List ℕ → List ℕ → Type 0) (close : 
     pub onward : (more : List ℕ) → MayFollow partial more → (ws : List T) (r : List ℕ)
         → Elements inner close ws (bytes ++ more) r
         → (vs : List T) × Elements inner close vs (drop at bytes ++ more) r
+    pub chain : EachWithComma inner items bytes (drop at bytes)
 
   -- no bytes are no elements
   pub read-begins : HasRead 0 []
@@ -129,6 +141,7 @@ module _ {T : Type 0} (inner : T → List ℕ → List ℕ → Type 0) (close : 
     within = omega arith;
     sound = λ vs r h. h;
     onward = λ more may ws r h. (ws, h);
+    chain = refl;
   }
 
   module _ (at : ℕ) (items : List T) (read : HasRead at items) where
@@ -187,6 +200,7 @@ module _ {T : Type 0} (inner : T → List ℕ → List ℕ → Type 0) (close : 
             within = fits-both bytes (at + n) m fit fits;
             sound = on-sound;
             onward = λ more may ws r h. let k = read.onward more may ws r h in on-rest more may k.0 r k.1;
+            chain = chain-more inner items v bytes (drop at bytes) (drop (at + n) bytes) (drop (at + n + m) bytes) read.chain (subst (inner v (drop at bytes)) (drop-drop n at bytes) is) comma-is;
           }
 
         -- the last element and the bracket after it are read

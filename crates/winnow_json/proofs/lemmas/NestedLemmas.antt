@@ -8,7 +8,6 @@ use Rattle.winnow_format.specs.Bytes.{StartsWith}
 use Rattle.winnow_format.proofs.lemmas.ByteLemmas.{tails}
 use Rattle.winnow_json.specs.Values.{after_blanks, StringHere, MemberAhead, Elements, Inside, Bracketed, Nested, ValueHere, ValueAhead}
 use Rattle.winnow_json.specs.Founds.{HasNone, IsFound, IsByte, ByteAhead}
-use Rattle.winnow_json.specs.declared.found.Found.{Found}
 use Rattle.winnow_json.specs.declared.found.Found.TheVariants.{Whole, Begun, Damaged}
 use Rattle.winnow_json.specs.declared.value.Value.{Value}
 use Rattle.winnow_json.specs.declared.value.Value.TheViews.{out-Value}
@@ -39,17 +38,6 @@ module _ (partial : Bool) (depth : ℕ) (b : List ℕ) (at : ℕ) (within : at �
   value-damaged n (fits, none) =
       (fits-both b at n within fits, none-as (ValueHere partial depth) (ValueAhead partial depth) partial (drop at b) b value-covers none)
 
--- a value at one level less is one inside
-pub nested-is : (partial : Bool) (depth less : ℕ) (b : List ℕ) (x : Found Value) → depth ≡ suc less
-    → IsFound (ValueAhead partial less) partial b x → IsFound (Nested partial depth) partial b x
-nested-is partial depth less b x e h = subst (λ d. IsFound (Nested partial d) partial b x) (sym e) h
-
--- at the last level there is none
-pub too-deep : (partial : Bool) (depth : ℕ) (b : List ℕ) (n : ℕ) → depth ≡ 0 → n ≤ length b
-    → IsFound (Nested partial depth) partial b (Damaged n)
-too-deep partial depth b n e fits =
-    subst (λ d. IsFound (Nested partial d) partial b (Damaged n)) (sym e) (fits, λ more may v r h. h)
-
 -- ---- Brackets
 
 -- where only blanks stand, nothing stands ahead
@@ -70,10 +58,6 @@ members-some partial depth v b r e (a, (n, (h, f, k))) =
     let g = sym e ∙ quote.1 in cc g
 
 module _ {T U : Type 0} (inner : T → List ℕ → List ℕ → Type 0) (close begin : ℕ) (items_of : U → List T) (partial : Bool) (b : List ℕ) (first : StartsWith begin b) where
-  -- what stands between the brackets
-  BetweenHere : U → List ℕ → List ℕ → Type 0
-  BetweenHere u = Bracketed inner close begin (items_of u)
-
   -- the bytes after the opening bracket
   inside-at : (n more : List ℕ) → b ++ more ≡ begin ∷ n → drop 1 b ++ more ≡ n
   inside-at n more e =
@@ -119,6 +103,17 @@ module _ {T U : Type 0} (inner : T → List ℕ → List ℕ → Type 0) (close 
         → IsFound (λ u. Bracketed inner close begin (items_of u)) partial b (Damaged (1 + n))
     brackets-damaged n fit (fits, none) =
         (fit, none-as (λ u. Elements inner close (items_of u)) (λ u. Bracketed inner close begin (items_of u)) partial (drop 1 b) b elements-cover none)
+
+    -- where no element may stand, none does
+    pub brackets-deep : ((v : T) (c r : List ℕ) → ¬ (inner v c r)) → (n : ℕ) → 1 + n ≤ length b
+        → n ≤ length (drop 1 b)
+        → IsFound (λ u. Bracketed inner close begin (items_of u)) partial b (Damaged (1 + n))
+    brackets-deep none n fit fits =
+        brackets-damaged n fit (fits, λ more may u r h. elements-none (items_of u) (drop 1 b ++ more) r h)
+      where
+        elements-none : (vs : List T) (c r : List ℕ) → ¬ (Elements inner close vs c r)
+        elements-none [] c r h = h
+        elements-none (v ∷ vs) c r h = let first = elements-first inner close v vs c r h in none v c first.0 first.1
 
   -- elements stand inside
   elements-inside : (vs : List T) (n r : List ℕ) → Elements inner close vs n r

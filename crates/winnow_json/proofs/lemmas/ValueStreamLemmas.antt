@@ -1,5 +1,5 @@
 -- From the value that is found in the bytes of a slice to the stream that it was taken of.
-use Rattle.std.proofs.Common.{◌≡◌, ℕ, suc, Bool, List, [], sym, subst}
+use Rattle.std.proofs.Common.{◌≡◌, ℕ, suc, ◌≤◌, Bool, List, [], length, drop, sym, subst}
 use Rattle.std.specs.Prelude.{Result, Ok, IfOk}
 use Rattle.std.specs.declared.alloc.AllocError.{AllocError}
 use Rattle.winnow_stream.specs.Source.{Source, units}
@@ -7,6 +7,7 @@ use Rattle.winnow_stream.specs.Front.{back}
 use Rattle.winnow_format.specs.Bytes.{bytes_of}
 use Rattle.winnow_json.specs.Values.{after_blanks, ValueAhead}
 use Rattle.winnow_json.specs.Founds.{HasNone}
+use Rattle.winnow_json.specs.Damage.{BreaksOff}
 use Rattle.winnow_json.specs.SameValues.{SameValue}
 use Rattle.winnow_json.specs.ValueAnswers.{NoValueAhead, IsReading}
 use Rattle.winnow_json.specs.declared.value.Value.{Value}
@@ -32,7 +33,7 @@ module _ (depth : ℕ) (partial : Bool) where
     value-missed none v after h =
         none v after (subst (λ l. ValueAhead partial depth v l after) (text-is r t same) h)
 
-    -- whatever follows
+    -- no matter what follows
     pub value-none : HasNone (ValueAhead partial depth) partial t
         → HasNone (ValueAhead partial depth) partial (bytes_of r)
     value-none none = subst (HasNone (ValueAhead partial depth) partial) (sym (text-is r t same)) none
@@ -45,6 +46,13 @@ module _ (depth : ℕ) (partial : Bool) where
     pub damaged-missed : HasNone (ValueAhead partial depth) partial t
         → NoValueAhead depth partial (bytes_of r)
     damaged-missed none = value-missed (none-here (ValueAhead partial depth) partial t none)
+
+    -- the place where a value breaks off
+    pub value-place : (n : ℕ) (new : Source ℕ) → n ≤ length t → BreaksOff partial depth t (drop n t)
+        → new ≡ back r n → BreaksOff partial depth (bytes_of r) (bytes_of new)
+    value-place n new fits place e =
+        subst (λ l. BreaksOff partial depth l (bytes_of new)) (sym (text-is r t same))
+        (subst (BreaksOff partial depth t) (sym (rest-is r t same n new fits e)) place)
 
     module _ (v : Value) (n : ℕ) (new : Source ℕ) (is : IsReading depth partial t (reading.Whole v n)) (e : new ≡ back r n) where
       -- a value that is found stands ahead of the stream

@@ -2,8 +2,8 @@ use Rattle.std.proofs.Common.{arith}
 use Rattle.winnow_json.proofs.lemmas.FoundLemmas.{byte-starts, other-byte}
 use Rattle.winnow_json.proofs.found.byte_at.Goals as goal
 
-pub returns : goal.returns
-returns c =
+pub returns-clause-found : goal.returns-clause-found
+returns-clause-found c =
     let bytes = c.args.bytes.now in
     let at = c.blank_count-at.result in (
       c.blank_count-at.ensures.within,

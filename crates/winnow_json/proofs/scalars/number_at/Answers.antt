@@ -2,14 +2,14 @@ use Rattle.winnow_json.proofs.lemmas.ScalarLemmas.{number-begun, number-none, nu
 use Rattle.std.proofs.Common.{arith}
 use Rattle.winnow_json.proofs.scalars.number_at.Goals as goal
 
-pub returns-then-count-bytes : goal.returns-then-count-bytes
-returns-then-count-bytes c =
+pub returns-then-count-bytes-clause-found : goal.returns-then-count-bytes-clause-found
+returns-then-count-bytes-clause-found c =
     (c.if-partial.true, number-begun c.args.partial c.args.bytes.now c.number_count-count.result c.if-partial.true c.if-count-bytes.true c.number_count-count.ensures.run)
 
-pub returns-then-not-is_number : goal.returns-then-not-is_number
-returns-then-not-is_number c =
+pub returns-then-not-is_number-clause-found : goal.returns-then-not-is_number-clause-found
+returns-then-not-is_number-clause-found c =
     (omega arith, number-none c.args.partial c.args.bytes.now c.number_count-count.result c.number_count-count.ensures.within c.number_count-count.ensures.run c.number_count-count.ensures.ends c.else-partial.either (c.if-not-is_number.ensures))
 
-pub returns : goal.returns
-returns c =
+pub returns-clause-found : goal.returns-clause-found
+returns-clause-found c =
     number-whole c.args.partial c.args.bytes.now c.number_count-count.result c.in_ok-number_of.field-0 c.number_count-count.ensures.within c.number_count-count.ensures.ends c.else-partial.either (c.if-not-is_number.ensures) (c.in_ok-number_of.ensures)

@@ -4,7 +4,7 @@ use Rattle.winnow_json.specs.Values.{after_blanks}
 use Rattle.winnow_json.specs.ValueAnswers.{IsReading}
 use Rattle.winnow_json.specs.declared.values.Reading.TheVariants.{Nothing, Whole, Begun, Damaged}
 use Rattle.winnow_json.proofs.lemmas.StringStreamLemmas.{source-is, moved-to, offset-fits, text-is}
-use Rattle.winnow_json.proofs.lemmas.ValueStreamLemmas.{value-as, value-missed, value-none, blank-missed, damaged-missed, value-answers, value-once}
+use Rattle.winnow_json.proofs.lemmas.ValueStreamLemmas.{value-as, value-missed, value-none, value-place, blank-missed, damaged-missed, value-answers, value-once}
 use Rattle.winnow_json.proofs.values.read_value.Goals as goal
 
 pub returns-in-Ok-Nothing-clause-answer : goal.returns-in-Ok-Nothing-clause-answer
@@ -115,7 +115,7 @@ returns-clause-answer g c =
     let same : r ≡ units t =
     source-is g.I.Stream.is_slice g.I.Slice.AsBytes.bytes c.requires.bytes r c.peek_finish-ahead.result t (g.met.I.Stream.positive_widths c.args.input.now c.requires.valid) c.peek_finish-ahead.ensures c.as_bytes.ensures in
     let is = subst (λ p. IsReading depth p t (Damaged c.in-Ok-Damaged.width)) c.is_partial.ensures (value-as depth c.is_partial.result t c.read_bytes.result c.in-Ok-Damaged.field-0 (Damaged c.in-Ok-Damaged.width) c.read_bytes.ensures c.in-Ok-Damaged.is c.in-Ok-Damaged.field-0-is) in
-    value-none depth partial r t same is.1
+    (value-none depth partial r t same is.1, value-place depth partial r t same c.in-Ok-Damaged.width (g.I.Stream.remaining c.next_slice-in-Ok-Damaged.new.self) is.0 is.2 c.next_slice-in-Ok-Damaged.ensures.remains)
 
 pub returns-clause-complete : goal.returns-clause-complete
 returns-clause-complete g c =
