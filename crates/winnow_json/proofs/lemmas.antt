@@ -10,6 +10,7 @@ pub mod StringStreamLemmas
 pub mod GrammarLemmas
 pub mod FoundLemmas
 pub mod DamageLemmas
+pub mod BegunLemmas
 pub mod ScalarLemmas
 pub mod LayerLemmas
 pub mod NestedLemmas

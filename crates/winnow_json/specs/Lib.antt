@@ -10,6 +10,7 @@ pub mod CutChars
 pub mod Values
 pub mod Founds
 pub mod Damage
+pub mod Begun
 pub mod SameValues
 pub mod ValueAnswers
 pub mod Documents

@@ -47,6 +47,10 @@ IsNumber bytes = (minus : List ℕ) × ((whole : List ℕ) × ((fraction : List 
     × ((bytes ≡ minus ++ (whole ++ (fraction ++ exponent)))
     × IsMinus minus × IsWhole whole × IsFraction fraction × IsExponent exponent))))
 
+-- more bytes make the bytes a number
+abbrev pub BeginsNumber : List ℕ → Type 0
+BeginsNumber bytes = (more : List ℕ) × IsNumber (bytes ++ more)
+
 -- a byte that a number may have: a digit, a sign, a point or an e
 abbrev pub is_number_byte : ℕ → Bool
 is_number_byte byte = is_in_range 48 57 byte || (45 == byte || (43 == byte || (46 == byte || (101 == byte || 69 == byte))))

@@ -1,5 +1,5 @@
 -- The parts of numbers, as the reader goes through them byte by byte.
-use Rattle.std.specs.Prelude.{ℕ, ◌==◌, Bool, true, false, if◌then◌else◌}
+use Rattle.std.specs.Prelude.{ℕ, ◌==◌, Bool, true, false, if◌then◌else◌, List, [], ◌∷◌}
 use Rattle.std.specs.Char.{is_ascii_digit}
 use Rattle.winnow_json.specs.Numbers.{is_e, is_sign}
 use Rattle.winnow_json.specs.declared.parts.Part.{Part}
@@ -34,6 +34,11 @@ next_part Sign byte = power_part byte
 next_part Exponent byte = power_part byte
 next_part Wrong byte = Wrong
 
+-- the part of the last of some bytes
+abbrev pub run : Part → List ℕ → Part
+run part [] = part
+run part (byte ∷ bytes) = run (next_part part byte) bytes
+
 -- a number may end with this part
 abbrev pub is_last : Part → Bool
 is_last Begin = false
@@ -46,3 +51,16 @@ is_last Letter = false
 is_last Sign = false
 is_last Exponent = true
 is_last Wrong = false
+
+-- bytes with this last part begin no number
+abbrev pub is_wrong : Part → Bool
+is_wrong Begin = false
+is_wrong Minus = false
+is_wrong Nought = false
+is_wrong Whole = false
+is_wrong Point = false
+is_wrong Fraction = false
+is_wrong Letter = false
+is_wrong Sign = false
+is_wrong Exponent = false
+is_wrong Wrong = true

@@ -7,6 +7,7 @@ use Rattle.winnow_json.specs.Values.{after_blanks, ValueAhead}
 use Rattle.winnow_json.specs.SameValues.{SameValue}
 use Rattle.winnow_json.specs.Founds.{HasNone, IsFound}
 use Rattle.winnow_json.specs.Damage.{BreaksOff}
+use Rattle.winnow_json.specs.Begun.{BeginsValue}
 use Rattle.winnow_json.specs.declared.value.Value.{Value}
 use Rattle.winnow_json.specs.declared.found.Found.TheVariants as found
 use Rattle.winnow_json.specs.declared.values.Reading.{Reading}
@@ -20,7 +21,7 @@ NoValueAhead depth partial bytes =
 -- the answer and what remains: a value that stands ahead; or a backtrack, which takes nothing,
 -- where only blanks stand ahead and nothing may follow; or a cut, where no value stands ahead, no
 -- matter what follows, and what remains is where a value breaks off; or more input is needed, where
--- more may follow and no value stands ahead yet; or memory was refused
+-- more may follow, and no value stands ahead yet, but one is begun; or memory was refused
 abbrev pub IsValueAnswer : {E : Type 0} → ℕ → Bool → List ℕ → Result Value (Failure E Needed)
     → List ℕ → Type 0
 IsValueAnswer depth partial bytes (Ok value) rest = ValueAhead partial depth value bytes rest
@@ -29,7 +30,7 @@ IsValueAnswer depth partial bytes (Err (Backtrack e)) rest =
 IsValueAnswer depth partial bytes (Err (Cut e)) rest =
     HasNone (ValueAhead partial depth) partial bytes × BreaksOff partial depth bytes rest
 IsValueAnswer depth partial bytes (Err (Incomplete n)) rest =
-    (partial ≡ true) × NoValueAhead depth partial bytes
+    (partial ≡ true) × NoValueAhead depth partial bytes × BeginsValue partial depth bytes
 IsValueAnswer depth partial bytes (Err (Refused e)) rest = ⊤
 
 -- the answer is the same value, with this rest after it, unless memory was refused
@@ -56,6 +57,6 @@ IsReading depth partial bytes reading.Nothing = (partial ≡ false) × (after_bl
 IsReading depth partial bytes (reading.Whole value n) =
     IsFound (ValueAhead partial depth) partial bytes (found.Whole value n)
 IsReading depth partial bytes reading.Begun =
-    IsFound (ValueAhead partial depth) partial bytes found.Begun
+    (partial ≡ true) × NoValueAhead depth partial bytes × BeginsValue partial depth bytes
 IsReading depth partial bytes (reading.Damaged n) = (n ≤ length bytes)
     × HasNone (ValueAhead partial depth) partial bytes × BreaksOff partial depth bytes (drop n bytes)

@@ -2,6 +2,7 @@ ghost use Rattle.std.specs.Prelude.{◌≡◌, ◌≤◌, length, drop};
 ghost use Rattle.winnow_json.specs.Values.{is_blank, after_blanks, WordAhead};
 ghost use Rattle.winnow_json.specs.Founds.{IsFound, IsNext, IsByte};
 ghost use Rattle.winnow_json.specs.Damage.{ByteIsMissing, IsPlaced};
+ghost use Rattle.winnow_json.specs.Begun.{BeginsWord, IsOpen};
 
 // What stands ahead in some bytes.
 #[derive(Debug, Drop)]
@@ -51,6 +52,7 @@ pub(crate) fn blank_count(bytes: &[u8]) -> usize
 pub(crate) fn word_at(bytes: &[u8], partial: bool, word: &[u8]) -> Found<()>
     ensures found { IsFound (WordAhead word.now) partial bytes.now result }
     ensures place { IsPlaced (λ whole rest. rest ≡ whole) bytes.now result }
+    ensures begun { IsOpen (BeginsWord word.now) bytes.now result }
 {
     for (index, byte) in word.iter().enumerate() {
         if index == bytes.len() {

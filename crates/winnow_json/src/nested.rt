@@ -5,6 +5,9 @@ ghost use Rattle.winnow_json.specs.Values.{after_blanks, StringHere, ValueHere, 
 ghost use Rattle.winnow_json.specs.Founds.{IsFound};
 ghost use Rattle.winnow_json.specs.Damage.{IsPlaced, BreaksOff, HereBreaksOff, ElementsIn};
 ghost use Rattle.winnow_json.specs.Damage.{MemberIn, MembersIn, ArrayBreaksOff, ObjectBreaksOff};
+ghost use Rattle.winnow_json.specs.Begun.{IsOpen, BeginsValue, BeginsHere, BeginsElementsIn};
+ghost use Rattle.winnow_json.specs.Begun.{BeginsMemberIn, BeginsMembersIn, BeginsArray};
+ghost use Rattle.winnow_json.specs.Begun.{BeginsObject};
 
 use crate::Value;
 use crate::found::{Found, Next, blank_count, byte_at, next_at};
@@ -21,6 +24,7 @@ fn value_here(
 ) -> Result<Found<Value>, AllocError>
     ensures found { IfOk result (IsFound (ValueHere partial depth) partial bytes.now) }
     ensures place { IfOk result (IsPlaced (HereBreaksOff partial depth) bytes.now) }
+    ensures begun { IfOk result (IsOpen (BeginsHere partial depth) bytes.now) }
 {
     if bytes.is_empty() {
         return scalar_at(alloc, bytes, partial);
@@ -53,6 +57,7 @@ pub(crate) fn value_at(
 ) -> Result<Found<Value>, AllocError>
     ensures found { IfOk result (IsFound (ValueAhead partial depth) partial bytes.now) }
     ensures place { IfOk result (IsPlaced (BreaksOff partial depth) bytes.now) }
+    ensures begun { IfOk result (IsOpen (BeginsValue partial depth) bytes.now) }
 {
     let at = blank_count(bytes);
     match value_here(alloc, &bytes[at..], partial, depth)? {
@@ -74,6 +79,7 @@ fn elements_at(
     ensures found { IfOk result (IsFound (λ v. Elements (ValueAhead partial depth) 93 v.items)
         partial bytes.now) }
     ensures place { IfOk result (IsPlaced (ElementsIn partial depth) bytes.now) }
+    ensures begun { IfOk result (IsOpen (BeginsElementsIn partial depth) bytes.now) }
 {
     let mut elements = Vec::new(alloc);
     let mut at = 0;
@@ -107,6 +113,7 @@ fn array_at(
     ensures found { IfOk result (IsFound (λ v. Bracketed (Nested partial depth) 93 91 v.items)
         partial bytes.now) }
     ensures place { IfOk result (IsPlaced (ArrayBreaksOff partial depth) bytes.now) }
+    ensures begun { IfOk result (IsOpen (BeginsArray partial depth) bytes.now) }
 {
     match byte_at(&bytes[1..], partial, b']') {
         Found::Whole(_, width) => Ok(Found::Whole(Vec::new(alloc), 1 + width)),
@@ -140,6 +147,7 @@ fn member_after(
     ensures found { IfOk result
         (IsFound (MemberAhead (ValueAhead partial depth)) partial bytes.now) }
     ensures place { IfOk result (IsPlaced (MemberIn partial depth) bytes.now) }
+    ensures begun { IfOk result (IsOpen (BeginsMemberIn partial depth) bytes.now) }
 {
     match byte_at(&bytes[start..], partial, b':') {
         Found::Whole(_, colon) => {
@@ -166,6 +174,7 @@ fn member_at(
     ensures found { IfOk result
         (IsFound (MemberAhead (ValueAhead partial depth)) partial bytes.now) }
     ensures place { IfOk result (IsPlaced (MemberIn partial depth) bytes.now) }
+    ensures begun { IfOk result (IsOpen (BeginsMemberIn partial depth) bytes.now) }
 {
     let at = blank_count(bytes);
     match string_at(alloc, &bytes[at..], partial)? {
@@ -188,6 +197,7 @@ fn members_at(
         (IsFound (λ v. Elements (MemberAhead (ValueAhead partial depth)) 125 v.items)
         partial bytes.now) }
     ensures place { IfOk result (IsPlaced (MembersIn partial depth) bytes.now) }
+    ensures begun { IfOk result (IsOpen (BeginsMembersIn partial depth) bytes.now) }
 {
     let mut members = Vec::new(alloc);
     let mut at = 0;
@@ -221,6 +231,7 @@ fn object_at(
     ensures found { IfOk result (IsFound
         (λ v. Bracketed (MemberAhead (Nested partial depth)) 125 123 v.items) partial bytes.now) }
     ensures place { IfOk result (IsPlaced (ObjectBreaksOff partial depth) bytes.now) }
+    ensures begun { IfOk result (IsOpen (BeginsObject partial depth) bytes.now) }
 {
     match byte_at(&bytes[1..], partial, b'}') {
         Found::Whole(_, width) => Ok(Found::Whole(Vec::new(alloc), 1 + width)),

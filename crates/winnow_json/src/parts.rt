@@ -1,7 +1,8 @@
 ghost use Rattle.std.specs.Prelude.{◌≡◌};
-ghost use Rattle.winnow_json.specs.Numbers.{IsNumber, Tells};
+ghost use Rattle.winnow_json.specs.Numbers.{IsNumber, BeginsNumber, Tells};
 ghost use Rattle.winnow_json.specs.Parts.{whole_part, letter_part, tail_part, power_part};
-ghost use Rattle.winnow_json.specs.Parts.{next_part, is_last};
+ghost use Rattle.winnow_json.specs.Parts.{next_part, run, is_last, is_wrong};
+ghost use Rattle.winnow_json.specs.declared.parts.Part.TheVariants.{Begin};
 
 // The part of a number to which a byte belongs.
 #[derive(Clone, Copy, Debug, Drop, PartialEq, Eq)]
@@ -100,13 +101,37 @@ fn is_last(part: Part) -> bool
     }
 }
 
-/// Returns whether the text is a number.
-pub(crate) fn is_number(text: &[u8]) -> bool
-    ensures { Tells result (IsNumber text.now) }
+// Returns whether bytes with this last part begin no number.
+fn is_wrong(part: Part) -> bool
+    ensures { result ≡ is_wrong part }
+{
+    match part {
+        Part::Wrong => true,
+        _ => false,
+    }
+}
+
+// Returns the part of the last byte.
+fn last_part(text: &[u8]) -> Part
+    ensures { result ≡ run Begin text.now }
 {
     let mut part = Part::Begin;
     for byte in text {
         part = next_part(part, *byte);
     }
-    is_last(part)
+    part
+}
+
+/// Returns whether the text is a number.
+pub(crate) fn is_number(text: &[u8]) -> bool
+    ensures { Tells result (IsNumber text.now) }
+{
+    is_last(last_part(text))
+}
+
+/// Returns whether more bytes can make the text a number.
+pub(crate) fn begins_number(text: &[u8]) -> bool
+    ensures { Tells result (BeginsNumber text.now) }
+{
+    !is_wrong(last_part(text))
 }

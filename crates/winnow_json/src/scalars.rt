@@ -1,13 +1,15 @@
 ghost use Rattle.std.specs.Prelude.{◌≡◌, ◌≤◌, ℕ, length, take, drop, IfOk};
 ghost use Rattle.winnow_format.specs.Bytes.{Each, Starts, StartsWith};
-ghost use Rattle.winnow_json.specs.Numbers.{is_number_byte};
+ghost use Rattle.winnow_json.specs.Numbers.{is_number_byte, BeginsNumber};
+ghost use Rattle.winnow_json.specs.StringAnswers.{IsBegun};
 ghost use Rattle.winnow_json.specs.Values.{NumberHere, StringHere, ValueHere};
 ghost use Rattle.winnow_json.specs.Founds.{IsFound, IsWord};
 ghost use Rattle.winnow_json.specs.Damage.{StringBreaksOff, ScalarBreaksOff, IsPlaced};
+ghost use Rattle.winnow_json.specs.Begun.{BeginsWord, BeginsScalar, IsOpen};
 
 use crate::found::{Found, word_at};
 use crate::numbers::number_of;
-use crate::parts::is_number;
+use crate::parts::{begins_number, is_number};
 use crate::strings::{Reading, read_bytes};
 use crate::{Number, Value};
 use std::alloc::{AllocError, Global};
@@ -41,12 +43,16 @@ pub(crate) fn number_at(
 ) -> Result<Found<Number>, AllocError>
     ensures found { IfOk result (IsFound (NumberHere partial) partial bytes.now) }
     ensures place { IfOk result (IsPlaced (λ whole rest. rest ≡ whole) bytes.now) }
+    ensures begun { IfOk result (IsOpen BeginsNumber bytes.now) }
 {
     let count = number_count(bytes);
-    if partial && count == bytes.len() {
-        return Ok(Found::Begun);
-    }
     let text = &bytes[..count];
+    if partial && count == bytes.len() {
+        if begins_number(text) {
+            return Ok(Found::Begun);
+        }
+        return Ok(Found::Damaged(0));
+    }
     if !is_number(text) {
         return Ok(Found::Damaged(0));
     }
@@ -61,6 +67,7 @@ pub(crate) fn string_at(
 ) -> Result<Found<String>, AllocError>
     ensures found { IfOk result (IsFound StringHere partial bytes.now) }
     ensures place { IfOk result (IsPlaced (StringBreaksOff partial) bytes.now) }
+    ensures begun { IfOk result (IsOpen IsBegun bytes.now) }
 {
     match read_bytes(alloc, bytes)? {
         Reading::Whole(value, width) => Ok(Found::Whole(value, width)),
@@ -77,6 +84,7 @@ pub(crate) fn string_at(
 fn word_value(bytes: &[u8], partial: bool, word: &[u8], value: Value) -> Found<Value>
     ensures found { IsFound (IsWord word.now value) partial bytes.now result }
     ensures place { IsPlaced (λ whole rest. rest ≡ whole) bytes.now result }
+    ensures begun { IsOpen (BeginsWord word.now) bytes.now result }
 {
     match word_at(bytes, partial, word) {
         Found::Whole(_, width) => Found::Whole(value, width),
@@ -96,6 +104,7 @@ pub(crate) fn scalar_at(
     ensures found { (depth : ℕ)
         → IfOk result (IsFound (ValueHere partial depth) partial bytes.now) }
     ensures place { IfOk result (IsPlaced (ScalarBreaksOff partial) bytes.now) }
+    ensures begun { IfOk result (IsOpen BeginsScalar bytes.now) }
 {
     if bytes.is_empty() {
         if partial {

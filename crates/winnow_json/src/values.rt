@@ -58,8 +58,8 @@ fn read_bytes(
 /// where a comma, a colon or a closing bracket is missing. A number ends as in
 /// [`read_number`](crate::read_number).
 ///
-/// More input is needed where the bytes end before the value does, and also after a number, which
-/// may go on. The contract says that no value stands ahead yet; it does not say that one still can.
+/// More input is needed where no value stands ahead yet and one is begun, which more bytes can make
+/// whole: also after a number, which may go on.
 ///
 /// Calls are nested as deep as the arrays and objects that are read, so `depth` limits the stack.
 pub fn read_value<I: StreamIsPartial + Stream<Token = u8>, E: ParserError<I>>(

@@ -113,7 +113,7 @@ const DAMAGED: &[Row] = &[
     (b"nulx", Read::Damaged, 4, 4),
     (b"tru e", Read::Damaged, 5, 4),
     (b"fals", Read::Damaged, 4, 5),
-    (b"01 ", Read::Damaged, 3, 3),
+    (b"01 ", Read::Damaged, 3, 2),
     (b"- ", Read::Damaged, 2, 2),
     (b"1.", Read::Damaged, 2, 3),
     (b"[1", Read::Damaged, 0, 3),
@@ -121,6 +121,7 @@ const DAMAGED: &[Row] = &[
     (b"[1,]", Read::Damaged, 1, 4),
     (b"[,1]", Read::Damaged, 3, 2),
     (b"[1 2]", Read::Damaged, 2, 4),
+    (b"[1-2]", Read::Damaged, 4, 3),
     (b"{\"a\" 1}", Read::Damaged, 2, 6),
     (b"{\"a\":}", Read::Damaged, 1, 6),
     (b"{\"a\":1,}", Read::Damaged, 1, 8),
@@ -136,8 +137,8 @@ const DAMAGED: &[Row] = &[
     (b"[1}", Read::Damaged, 1, 3),
     (b"\x0C1", Read::Damaged, 2, 1),
     (b"NaN", Read::Damaged, 3, 1),
-    (b"+1 ", Read::Damaged, 3, 3),
-    (b".5 ", Read::Damaged, 3, 3),
+    (b"+1 ", Read::Damaged, 3, 1),
+    (b".5 ", Read::Damaged, 3, 1),
 ];
 
 const OTHERS: &[Row] = &[

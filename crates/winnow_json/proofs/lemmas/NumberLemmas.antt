@@ -1,12 +1,12 @@
 -- The parts of a number, and what may follow each.
-use Rattle.std.proofs.Common.{◌≡◌, ℕ, ◌==◌, Bool, true, false, cond, List, [], ◌∷◌, ◌++◌, inl, inr, ap, sym, ◌∙◌, subst, refl, arith}
+use Rattle.std.proofs.Common.{◌≡◌, ℕ, ◌==◌, Bool, true, false, not, cond, List, [], ◌∷◌, ◌++◌, inl, inr, ap, sym, ◌∙◌, subst, refl, arith}
 use Rattle.std.specs.Char.{is_ascii_digit}
 use Rattle.std.proofs.lemmas.Bool.{eqb-true, eqb-false}
 use Rattle.std.proofs.lemmas.Bool.Decides.{nat_tests}
 use Rattle.winnow_format.specs.Bytes.{Each}
 use Rattle.winnow_format.proofs.lemmas.ByteLemmas.{heads, tails}
-use Rattle.winnow_json.specs.Numbers.{AreDigits, IsWhole, IsFraction, is_e, is_sign, IsPower, IsExponent, IsNumber, Tells}
-use Rattle.winnow_json.specs.Parts.{whole_part, letter_part, tail_part, power_part, next_part, is_last}
+use Rattle.winnow_json.specs.Numbers.{AreDigits, IsWhole, IsFraction, is_e, is_sign, IsPower, IsExponent, IsNumber, BeginsNumber, Tells}
+use Rattle.winnow_json.specs.Parts.{whole_part, letter_part, tail_part, power_part, next_part, run, is_last, is_wrong}
 use Rattle.winnow_json.specs.declared.parts.Part.{Part}
 use Rattle.winnow_json.specs.declared.parts.Part.TheVariants.{Begin, Minus, Nought, Whole, Point, Fraction, Letter, Sign, Exponent, Wrong}
 
@@ -350,11 +350,6 @@ last-back Wrong h = absurd h
 
 -- ---- All bytes
 
--- the part of the last of some bytes
-abbrev pub run : Part → List ℕ → Part
-run p [] = p
-run p (b ∷ bs) = run (next_part p b) bs
-
 -- bytes whose last part may be the last follow the part before them
 run-on : (p : Part) (bs : List ℕ) → is_last (run p bs) ≡ true → Follows p bs
 run-on p [] e = last-on p e
@@ -370,3 +365,57 @@ pub run-tells : (bs : List ℕ) (answer : Bool) → answer ≡ is_last (run Begi
     → Tells answer (IsNumber bs)
 run-tells bs true e = run-on Begin bs (sym e)
 run-tells bs false e = λ h. let f = e ∙ run-back Begin bs h in cc
+
+-- ---- The beginning of a number
+
+-- the last part of bytes in a row
+run-append : (p : Part) (xs ys : List ℕ) → run p (xs ++ ys) ≡ run (run p xs) ys
+run-append p [] ys = refl
+run-append p (x ∷ xs) ys = run-append (next_part p x) xs ys
+
+-- no bytes make a number of bytes that begin none
+run-wrong : (ys : List ℕ) → is_last (run Wrong ys) ≡ false
+run-wrong [] = refl
+run-wrong (y ∷ ys) = run-wrong ys
+
+-- some bytes make each other part the last of a number
+run-ends : (p : Part) → is_wrong p ≡ false → (more : List ℕ) × (is_last (run p more) ≡ true)
+run-ends Begin e = (48 ∷ [], refl)
+run-ends Minus e = (48 ∷ [], refl)
+run-ends Nought e = ([], refl)
+run-ends Whole e = ([], refl)
+run-ends Point e = (48 ∷ [], refl)
+run-ends Fraction e = ([], refl)
+run-ends Letter e = (48 ∷ [], refl)
+run-ends Sign e = (48 ∷ [], refl)
+run-ends Exponent e = ([], refl)
+run-ends Wrong e = absurd (cc e)
+
+-- the part of bytes that begin no number
+wrong-is : (p : Part) → is_wrong p ≡ true → p ≡ Wrong
+wrong-is Begin e = absurd (cc e)
+wrong-is Minus e = absurd (cc e)
+wrong-is Nought e = absurd (cc e)
+wrong-is Whole e = absurd (cc e)
+wrong-is Point e = absurd (cc e)
+wrong-is Fraction e = absurd (cc e)
+wrong-is Letter e = absurd (cc e)
+wrong-is Sign e = absurd (cc e)
+wrong-is Exponent e = absurd (cc e)
+wrong-is Wrong e = refl
+
+-- the last part says whether more bytes can make the bytes a number
+pub run-begins : (bs : List ℕ) (answer : Bool) → answer ≡ not (is_wrong (run Begin bs))
+    → Tells answer (BeginsNumber bs)
+run-begins bs answer e = by-part (is_wrong (run Begin bs)) answer refl e
+  where
+    by-part : (wrong answer : Bool) → is_wrong (run Begin bs) ≡ wrong → answer ≡ not wrong
+        → Tells answer (BeginsNumber bs)
+    by-part true true is e = absurd (cc e)
+    by-part true false is e = λ h.
+        let last = run-append Begin bs h.0 ∙ ap (λ p. run p h.0) (wrong-is (run Begin bs) is) in
+        let f = sym (run-back Begin (bs ++ h.0) h.1) ∙ ap is_last last ∙ run-wrong h.0 in cc f
+    by-part false true is e =
+        let ends = run-ends (run Begin bs) is in
+        (ends.0, run-on Begin (bs ++ ends.0) (ap is_last (run-append Begin bs ends.0) ∙ ends.1))
+    by-part false false is e = absurd (cc e)

@@ -3,8 +3,8 @@ use Rattle.std.proofs.Common.{◌≡◌, ℕ, ◌≤◌, Bool, true, false, List
 use Rattle.std.proofs.lemmas.List.{drop-append-le}
 use Rattle.std.proofs.lemmas.Str.{encode_ascii}
 use Rattle.winnow_format.specs.Bytes.{Each, Starts, StartsWith, EndsRun}
-use Rattle.winnow_format.proofs.lemmas.ByteLemmas.{each-after}
-use Rattle.winnow_json.specs.Numbers.{IsNumber, is_number_byte}
+use Rattle.winnow_format.proofs.lemmas.ByteLemmas.{heads, tails, each-after}
+use Rattle.winnow_json.specs.Numbers.{IsNumber, BeginsNumber, is_number_byte}
 use Rattle.winnow_json.specs.Meanings.{IsNumberOf}
 use Rattle.winnow_json.specs.Strings.{StringAhead}
 use Rattle.winnow_json.specs.Escapes.{IsNoChar}
@@ -38,6 +38,25 @@ number-begun partial bytes count p all each n r (t, ((e, is, ends), of)) =
     none : (r : List ℕ) → Each is_number_byte r → EndsRun is_number_byte partial r → ⊥
     none [] h ends = ends.1 p refl
     none (x ∷ r) h ends = ends.0 h.0
+
+-- a number that stands ahead begins with each run of bytes of numbers that does
+front-of : (b t more r : List ℕ) → Each is_number_byte b → ¬ (Starts is_number_byte r)
+    → b ++ more ≡ t ++ r → (m : List ℕ) × (t ≡ b ++ m)
+front-of [] t more r h never e = (t, refl)
+front-of (x ∷ b) [] more r h never e = absurd (never (subst (Starts is_number_byte) e h.0))
+front-of (x ∷ b) (y ∷ t) more r h never e =
+    let on = front-of b t more r h.1 never (tails x y (b ++ more) (t ++ r) e) in
+    (on.0, ap (λ z. z ∷ t) (sym (heads x y (b ++ more) (t ++ r) e)) ∙ ap (λ l. x ∷ l) on.1)
+
+-- where all bytes may be those of a number and none begins with them, none does, no matter what
+-- follows
+pub number-never : (partial : Bool) (bytes : List ℕ) (count : ℕ) → count ≡ length bytes
+    → Each is_number_byte (take count bytes) → ¬ (BeginsNumber (take count bytes))
+    → HasNone (NumberHere partial) partial bytes
+number-never partial bytes count all each never more may n r (t, ((e, is, ends), of)) =
+    let same = take_all count bytes (omega (arith, all)) in
+    let on = front-of (take count bytes) t more r each ends.0 (ap (λ l. l ++ more) same ∙ e) in
+    never (on.0, subst IsNumber on.1 is)
 
 -- a run that is not all bytes of an input to which more may follow
 abbrev pub Settled : Bool → List ℕ → ℕ → Type 0

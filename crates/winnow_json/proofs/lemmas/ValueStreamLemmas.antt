@@ -8,6 +8,7 @@ use Rattle.winnow_format.specs.Bytes.{bytes_of}
 use Rattle.winnow_json.specs.Values.{after_blanks, ValueAhead}
 use Rattle.winnow_json.specs.Founds.{HasNone}
 use Rattle.winnow_json.specs.Damage.{BreaksOff}
+use Rattle.winnow_json.specs.Begun.{BeginsValue}
 use Rattle.winnow_json.specs.SameValues.{SameValue}
 use Rattle.winnow_json.specs.ValueAnswers.{NoValueAhead, IsReading}
 use Rattle.winnow_json.specs.declared.value.Value.{Value}
@@ -46,6 +47,10 @@ module _ (depth : ℕ) (partial : Bool) where
     pub damaged-missed : HasNone (ValueAhead partial depth) partial t
         → NoValueAhead depth partial (bytes_of r)
     damaged-missed none = value-missed (none-here (ValueAhead partial depth) partial t none)
+
+    -- a value that is begun in the bytes is begun in the stream
+    pub value-open : BeginsValue partial depth t → BeginsValue partial depth (bytes_of r)
+    value-open = subst (BeginsValue partial depth) (sym (text-is r t same))
 
     -- the place where a value breaks off
     pub value-place : (n : ℕ) (new : Source ℕ) → n ≤ length t → BreaksOff partial depth t (drop n t)

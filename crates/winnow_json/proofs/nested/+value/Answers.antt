@@ -1,9 +1,11 @@
-use Rattle.std.proofs.Common.{◌≡◌, ◌∷◌, ◌<◌, suc, ◌+◌, ◌-◌, length, take, drop, ap, refl, sym, ◌∙◌, subst, arith}
+use Rattle.std.proofs.Common.{inl, rules, ◌≡◌, ◌∷◌, ◌<◌, suc, ◌+◌, ◌-◌, length, take, drop, ap, refl, sym, ◌∙◌, subst, arith}
 use Rattle.std.proofs.lemmas.Result.{IfOk-weaker}
 use Rattle.std.proofs.lemmas.List.{take_rest, drop-drop}
 use Rattle.std.proofs.lemmas.Bool.Decides.{nat_tests}
 use Rattle.winnow_json.specs.Values.{after_blanks, Nested, Elements, Bracketed, MemberAhead, StringHere, ValueHere}
 use Rattle.winnow_json.specs.Founds.{IsFound, IsNext, IsByte, ByteAhead}
+use Rattle.winnow_json.specs.StringAnswers.{IsBegun}
+use Rattle.winnow_json.specs.Begun.{BeginsScalar, BeginsHere, BeginsValue, BeginsElementsIn, BeginsMemberIn, BeginsMembersIn, BeginsArray, BeginsObject, IsOpen}
 use Rattle.winnow_json.specs.Damage.{StringBreaksOff, ByteIsMissing, IsTooDeep, HereBreaksOff, BreaksOff, ElementsIn, MemberIn, MembersIn, ArrayBreaksOff, ObjectBreaksOff, ScalarBreaksOff, IsPlaced}
 use Rattle.winnow_json.specs.declared.found.Found.TheVariants.{Whole, Begun, Damaged}
 use Rattle.winnow_json.specs.declared.found.Next.TheVariants as next
@@ -12,6 +14,7 @@ use Rattle.winnow_json.proofs.lemmas.GrammarLemmas.{nested-once, nested-stable, 
 use Rattle.winnow_json.proofs.lemmas.FoundLemmas.{HasRead, found-same, begun-as, damaged-as, missed-as, fits-both, element-covers, read-on, read-ends, read-stops, read-begun}
 use Rattle.winnow_json.proofs.lemmas.LayerLemmas.{ArrayHere, ObjectHere, array-begun, array-damaged, object-begun, object-damaged}
 use Rattle.winnow_json.proofs.lemmas.NestedLemmas.{vec_items, starts-some, value-whole, value-begun, value-damaged, nested-some, members-some, brackets-begun, brackets-missed, brackets-damaged, brackets-deep, brackets-whole, name-covers, colon-covers, member-covers}
+use Rattle.winnow_json.proofs.lemmas.BegunLemmas.{open-same, open-as, elements-begin, elements-wait, brackets-begin, array-waits, object-waits, here-begins-scalar, here-begins-array, here-begins-object, name-waits, value-begins}
 use Rattle.winnow_json.proofs.lemmas.DamageLemmas.{placed-same, elements-stop, elements-end, brackets-stop, here-array, here-object, here-scalar, ahead-placed, name-stop, colon-stop, value-stop}
 use Rattle.winnow_json.proofs.nested.+value.Goals as goal
 
@@ -574,3 +577,150 @@ value_here-returns-in-Damaged-2-clause-place t c =
     let b = c.args.bytes.now in
     let p = c.args.partial in
     here-object p c.args.depth b (drop c.in-Damaged-2.width b) (placed-same (ObjectBreaksOff p c.args.depth) b b c.in_ok-members.field-0 (Damaged c.in-Damaged-2.width) c.in_ok-members.ensures.place refl c.in-Damaged-2.is)
+
+pub elements_at-returns-in-Begun-clause-begun : goal.elements_at-returns-in-Begun-clause-begun
+elements_at-returns-in-Begun-clause-begun t c =
+    let b = c.args.bytes.now in
+    let p = c.args.partial in
+    let begins = BeginsValue p c.args.depth in
+    let at = c.loop-elements.at in
+    let begun = open-same begins (take (length b - at) (drop at b)) (drop at b) c.in_ok-value.field-0 Begun c.in_ok-value.ensures.begun (take_rest b at) c.in-Begun.is in
+    elements-begin (Nested c.args.partial (suc c.args.depth)) begins b at c.loop-elements.elements.items c.loop-elements.invariant.chain begun
+
+pub elements_at-returns-in-Begun-next_at-clause-begun :
+    goal.elements_at-returns-in-Begun-next_at-clause-begun
+elements_at-returns-in-Begun-next_at-clause-begun t c =
+    let b = c.args.bytes.now in
+    let p = c.args.partial in
+    let inner = Nested c.args.partial (suc c.args.depth) in
+    let at = c.loop-elements.at in
+    let v = c.in-Whole.value in
+    let n = c.in-Whole.width in
+    let found = found-same inner p (take (length b - at) (drop at b)) (drop at b) c.in_ok-value.field-0 (Whole v n) c.in_ok-value.ensures.found (take_rest b at) c.in-Whole.is in
+    let ahead = subst (λ l. IsNext 93 p l next.Begun) (take_rest b (at + n)) c.in-Begun-next_at.ensures in
+    elements-wait inner (BeginsValue p c.args.depth) b at c.loop-elements.elements.items c.loop-elements.invariant.chain v n found.1 ahead.1
+
+pub members_at-returns-in-Begun-clause-begun : goal.members_at-returns-in-Begun-clause-begun
+members_at-returns-in-Begun-clause-begun t c =
+    let b = c.args.bytes.now in
+    let p = c.args.partial in
+    let begins = BeginsMemberIn p c.args.depth in
+    let at = c.loop-members.at in
+    let begun = open-same begins (take (length b - at) (drop at b)) (drop at b) c.in_ok-member.field-0 Begun c.in_ok-member.ensures.begun (take_rest b at) c.in-Begun.is in
+    elements-begin (MemberAhead (Nested c.args.partial (suc c.args.depth))) begins b at c.loop-members.members.items c.loop-members.invariant.chain begun
+
+pub members_at-returns-in-Begun-next_at-clause-begun :
+    goal.members_at-returns-in-Begun-next_at-clause-begun
+members_at-returns-in-Begun-next_at-clause-begun t c =
+    let b = c.args.bytes.now in
+    let p = c.args.partial in
+    let inner = MemberAhead (Nested c.args.partial (suc c.args.depth)) in
+    let at = c.loop-members.at in
+    let v = c.in-Whole.member in
+    let n = c.in-Whole.width in
+    let found = found-same inner p (take (length b - at) (drop at b)) (drop at b) c.in_ok-member.field-0 (Whole v n) c.in_ok-member.ensures.found (take_rest b at) c.in-Whole.is in
+    let ahead = subst (λ l. IsNext 125 p l next.Begun) (take_rest b (at + n)) c.in-Begun-next_at.ensures in
+    elements-wait inner (BeginsMemberIn p c.args.depth) b at c.loop-members.members.items c.loop-members.invariant.chain v n found.1 ahead.1
+
+pub array_at-returns-in-Begun-clause-begun : goal.array_at-returns-in-Begun-clause-begun
+array_at-returns-in-Begun-clause-begun t c =
+    let b = c.args.bytes.now in
+    let p = c.args.partial in
+    let byte = subst (λ l. IsByte 93 p l Begun) (take_rest b 1) c.in-Begun.ensures.found in
+    array-waits p c.args.depth b c.requires byte.1
+
+pub array_at-returns-in-Begun-2-clause-begun : goal.array_at-returns-in-Begun-2-clause-begun
+array_at-returns-in-Begun-2-clause-begun t c =
+    let b = c.args.bytes.now in
+    let p = c.args.partial in
+    let less : suc (c.args.depth - 1) ≡ c.args.depth = omega (arith, c.if-depth-eq0.false) in
+    let inside = BeginsElementsIn p (c.args.depth - 1) in
+    let begun = open-same inside (take (length b - 1) (drop 1 b)) (drop 1 b) c.in_ok-elements-in-Damaged.field-0 Begun c.in_ok-elements-in-Damaged.ensures.begun (take_rest b 1) c.in-Begun-2.is in
+    subst (λ d. BeginsArray p d b) less (brackets-begin inside 91 b c.requires begun)
+
+pub object_at-returns-in-Begun-clause-begun : goal.object_at-returns-in-Begun-clause-begun
+object_at-returns-in-Begun-clause-begun t c =
+    let b = c.args.bytes.now in
+    let p = c.args.partial in
+    let byte = subst (λ l. IsByte 125 p l Begun) (take_rest b 1) c.in-Begun.ensures.found in
+    object-waits p c.args.depth b c.requires byte.1
+
+pub object_at-returns-in-Begun-2-clause-begun : goal.object_at-returns-in-Begun-2-clause-begun
+object_at-returns-in-Begun-2-clause-begun t c =
+    let b = c.args.bytes.now in
+    let p = c.args.partial in
+    let less : suc (c.args.depth - 1) ≡ c.args.depth = omega (arith, c.if-depth-eq0.false) in
+    let inside = BeginsMembersIn p (c.args.depth - 1) in
+    let begun = open-same inside (take (length b - 1) (drop 1 b)) (drop 1 b) c.in_ok-members-in-Damaged.field-0 Begun c.in_ok-members-in-Damaged.ensures.begun (take_rest b 1) c.in-Begun-2.is in
+    subst (λ d. BeginsObject p d b) less (brackets-begin inside 123 b c.requires begun)
+
+pub member_after-returns-in-Begun-clause-begun : goal.member_after-returns-in-Begun-clause-begun
+member_after-returns-in-Begun-clause-begun t c =
+    let b = c.args.bytes.now in
+    let p = c.args.partial in
+    let start = c.args.start in
+    let byte = subst (λ l. IsByte 58 p l Begun) (take_rest b start) c.in-Begun.ensures.found in
+    name-waits p (BeginsValue p c.args.depth) b c.args.name start c.requires.named byte.1
+
+pub member_after-returns-in-Begun-2-clause-begun : goal.member_after-returns-in-Begun-2-clause-begun
+member_after-returns-in-Begun-2-clause-begun t c =
+    let b = c.args.bytes.now in
+    let p = c.args.partial in
+    let begins = BeginsValue p c.args.depth in
+    let start = c.args.start in
+    let colon = c.in-Whole.colon in
+    let byte = subst (λ l. IsByte 58 p l (Whole tt colon)) (take_rest b start) c.in-Whole.ensures.found in
+    let at = start + colon in
+    let is : after_blanks (drop start b) ≡ 58 ∷ drop at b = byte.1 ∙ ap (λ l. 58 ∷ l) (drop-drop colon start b) in
+    let begun = open-same begins (take (length b - at) (drop at b)) (drop at b) c.in_ok-value-in-Whole.field-0 Begun c.in_ok-value-in-Whole.ensures.begun (take_rest b at) c.in-Begun-2.is in
+    value-begins p begins b c.args.name start c.requires.named at is begun
+
+pub member_at-returns-in-Begun-clause-begun : goal.member_at-returns-in-Begun-clause-begun
+member_at-returns-in-Begun-clause-begun t c =
+    let b = c.args.bytes.now in
+    let at = c.blank_count-at.result in
+    let begun = open-same IsBegun (take (length b - at) (drop at b)) (drop at b) c.in_ok-name.field-0 Begun c.in_ok-name.ensures.begun (take_rest b at) c.in-Begun.is in
+    inl (subst IsBegun c.blank_count-at.ensures.rest begun)
+
+pub value_at-returns-in-Begun-clause-begun : goal.value_at-returns-in-Begun-clause-begun
+value_at-returns-in-Begun-clause-begun t c =
+    let b = c.args.bytes.now in
+    let p = c.args.partial in
+    let at = c.blank_count-at.result in
+    let begun = open-same (BeginsHere p c.args.depth) (take (length b - at) (drop at b)) (drop at b) c.in_ok-value.field-0 Begun c.in_ok-value.ensures.begun (take_rest b at) c.in-Begun.is in
+    subst (BeginsHere p c.args.depth) c.blank_count-at.ensures.rest begun
+
+pub value_here-returns-then-is_empty-clause-begun :
+    goal.value_here-returns-then-is_empty-clause-begun
+value_here-returns-then-is_empty-clause-begun t c =
+    let b = c.args.bytes.now in
+    let p = c.args.partial in
+    IfOk-weaker c.scalar_at.result (IsOpen BeginsScalar b) (IsOpen (BeginsHere p c.args.depth) b) (open-as BeginsScalar (BeginsHere p c.args.depth) b (here-begins-scalar p c.args.depth b)) c.scalar_at.ensures.begun
+
+pub value_here-returns-clause-begun : goal.value_here-returns-clause-begun
+value_here-returns-clause-begun t c =
+    let b = c.args.bytes.now in
+    let p = c.args.partial in
+    IfOk-weaker c.scalar_at-2.result (IsOpen BeginsScalar b) (IsOpen (BeginsHere p c.args.depth) b) (open-as BeginsScalar (BeginsHere p c.args.depth) b (here-begins-scalar p c.args.depth b)) c.scalar_at-2.ensures.begun
+
+pub value_here-returns-in-Begun-clause-begun : goal.value_here-returns-in-Begun-clause-begun
+value_here-returns-in-Begun-clause-begun t c =
+    let b = c.args.bytes.now in
+    let p = c.args.partial in
+    here-begins-array p c.args.depth b (open-same (BeginsArray p c.args.depth) b b c.in_ok-elements.field-0 Begun c.in_ok-elements.ensures.begun refl c.in-Begun.is)
+
+pub value_here-returns-in-Begun-2-clause-begun : goal.value_here-returns-in-Begun-2-clause-begun
+value_here-returns-in-Begun-2-clause-begun t c =
+    let b = c.args.bytes.now in
+    let p = c.args.partial in
+    here-begins-object p c.args.depth b (open-same (BeginsObject p c.args.depth) b b c.in_ok-members.field-0 Begun c.in_ok-members.ensures.begun refl c.in-Begun-2.is)
+
+pub member_at-member_after-requires : goal.member_at-member_after-requires
+member_at-member_after-requires t c =
+    let b = c.args.bytes.now in
+    let p = c.args.partial in
+    let at = c.blank_count-at.result in
+    let name = c.in-Whole.name in
+    let n = c.in-Whole.width in
+    let found = found-same StringHere p (take (length b - at) (drop at b)) (drop at b) c.in_ok-name.field-0 (Whole name n) c.in_ok-name.ensures.found (take_rest b at) c.in-Whole.is in
+    (search rules, (fits-both b at n c.blank_count-at.ensures.within found.0, subst (λ l. StringHere name l (drop (at + n) b)) c.blank_count-at.ensures.rest (subst (StringHere name (drop at b)) (drop-drop n at b) found.1)))

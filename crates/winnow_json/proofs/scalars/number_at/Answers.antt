@@ -1,10 +1,25 @@
-use Rattle.winnow_json.proofs.lemmas.ScalarLemmas.{number-begun, number-none, number-whole}
-use Rattle.std.proofs.Common.{arith}
+use Rattle.std.proofs.Common.{arith, subst, take, take_all}
+use Rattle.winnow_json.specs.Numbers.{BeginsNumber, Tells}
+use Rattle.winnow_json.proofs.lemmas.ScalarLemmas.{number-begun, number-never, number-none, number-whole}
 use Rattle.winnow_json.proofs.scalars.number_at.Goals as goal
+
+pub returns-then-begins_number-clause-found : goal.returns-then-begins_number-clause-found
+returns-then-begins_number-clause-found c =
+    (c.if-partial.true, number-begun c.args.partial c.args.bytes.now c.number_count-count.result c.if-partial.true c.if-count-bytes.true c.number_count-count.ensures.run)
+
+pub returns-then-begins_number-clause-begun : goal.returns-then-begins_number-clause-begun
+returns-then-begins_number-clause-begun c =
+    let bytes = c.args.bytes.now in
+    let count = c.number_count-count.result in
+    let is = subst (λ t. Tells t (BeginsNumber (take count bytes))) c.if-begins_number.true c.begins_number.ensures in
+    subst BeginsNumber (take_all count bytes (omega (arith, c.if-count-bytes.true))) is
 
 pub returns-then-count-bytes-clause-found : goal.returns-then-count-bytes-clause-found
 returns-then-count-bytes-clause-found c =
-    (c.if-partial.true, number-begun c.args.partial c.args.bytes.now c.number_count-count.result c.if-partial.true c.if-count-bytes.true c.number_count-count.ensures.run)
+    let bytes = c.args.bytes.now in
+    let count = c.number_count-count.result in
+    let never = subst (λ t. Tells t (BeginsNumber (take count bytes))) c.if-begins_number.false c.begins_number.ensures in
+    (omega arith, number-never c.args.partial bytes count c.if-count-bytes.true c.number_count-count.ensures.run never)
 
 pub returns-then-not-is_number-clause-found : goal.returns-then-not-is_number-clause-found
 returns-then-not-is_number-clause-found c =

@@ -5,6 +5,7 @@ use Rattle.winnow_json.specs.declared.found.Found.TheVariants.{Begun, Damaged}
 use Rattle.winnow_json.proofs.lemmas.StringLemmas.{starts-with}
 use Rattle.winnow_json.proofs.lemmas.FoundLemmas.{found-same}
 use Rattle.winnow_json.proofs.lemmas.LayerLemmas.{null-found, true-found, false-found, string-begun, string-damaged, number-begun, number-damaged}
+use Rattle.winnow_json.proofs.lemmas.BegunLemmas.{nothing-begins}
 use Rattle.winnow_json.proofs.scalars.scalar_at.Goals as goal
 
 pub returns-then-first-eq110-clause-found : goal.returns-then-first-eq110-clause-found
@@ -48,3 +49,7 @@ returns-in-Damaged-2-clause-found c depth =
     let b = c.args.bytes.now in
     let some : 0 < length b = grind (arith, nat_tests, c.is_empty.ensures, c.if-is_empty.false) in
     number-damaged c.args.partial depth b some c.if-first-eq110.false c.if-first-eq116.false c.if-first-eq102.false c.if-first-eq34.false c.requires.no_array c.requires.no_object c.in-Damaged-2.width (found-same (NumberHere c.args.partial) c.args.partial b b c.in_ok-value-2.field-0 (Damaged c.in-Damaged-2.width) c.in_ok-value-2.ensures.found refl c.in-Damaged-2.is)
+
+pub returns-then-partial-clause-begun : goal.returns-then-partial-clause-begun
+returns-then-partial-clause-begun c =
+    nothing-begins c.args.bytes.now (grind (arith, nat_tests, c.is_empty.ensures, c.if-is_empty.true))

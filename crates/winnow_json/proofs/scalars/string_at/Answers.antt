@@ -1,7 +1,7 @@
 use Rattle.std.proofs.Common.{inr, subst}
 use Rattle.winnow_json.specs.Steps.{IsReading}
 use Rattle.winnow_json.proofs.lemmas.ScalarLemmas.{string-damaged, string-begun, string-ended}
-use Rattle.winnow_json.proofs.lemmas.StringLemmas.{damaged-at, begun-at}
+use Rattle.winnow_json.proofs.lemmas.StringLemmas.{damaged-at, begun-at, begun-begun, nothing-is-begun}
 use Rattle.winnow_json.proofs.scalars.string_at.Goals as goal
 
 pub returns-in-Damaged-clause-found : goal.returns-in-Damaged-clause-found
@@ -23,3 +23,11 @@ returns-in-Damaged-clause-place c =
 pub returns-in-Begun-2-clause-place : goal.returns-in-Begun-2-clause-place
 returns-in-Begun-2-clause-place c =
     inr (begun-at c.args.partial c.args.bytes.now c.in-Begun.field-0 c.if-partial-2.false (subst (IsReading c.args.bytes.now) c.in-Begun.is c.in_ok-value.ensures))
+
+pub returns-in-Begun-clause-begun : goal.returns-in-Begun-clause-begun
+returns-in-Begun-clause-begun c =
+    begun-begun c.args.bytes.now c.in-Begun.field-0 (subst (IsReading c.args.bytes.now) c.in-Begun.is c.in_ok-value.ensures)
+
+pub returns-in-Nothing-clause-begun : goal.returns-in-Nothing-clause-begun
+returns-in-Nothing-clause-begun c =
+    nothing-is-begun c.args.bytes.now (subst (IsReading c.args.bytes.now) c.in-Nothing.is c.in_ok-value.ensures)

@@ -4,7 +4,7 @@ use Rattle.winnow_json.specs.Values.{after_blanks}
 use Rattle.winnow_json.specs.ValueAnswers.{IsReading}
 use Rattle.winnow_json.specs.declared.values.Reading.TheVariants.{Nothing, Whole, Begun, Damaged}
 use Rattle.winnow_json.proofs.lemmas.StringStreamLemmas.{source-is, moved-to, offset-fits, text-is}
-use Rattle.winnow_json.proofs.lemmas.ValueStreamLemmas.{value-as, value-missed, value-none, value-place, blank-missed, damaged-missed, value-answers, value-once}
+use Rattle.winnow_json.proofs.lemmas.ValueStreamLemmas.{value-as, value-missed, value-none, value-place, value-open, blank-missed, damaged-missed, value-answers, value-once}
 use Rattle.winnow_json.proofs.values.read_value.Goals as goal
 
 pub returns-in-Ok-Nothing-clause-answer : goal.returns-in-Ok-Nothing-clause-answer
@@ -38,7 +38,7 @@ returns-in-Ok-Begun-clause-answer g c =
     let same : r ≡ units t =
     source-is g.I.Stream.is_slice g.I.Slice.AsBytes.bytes c.requires.bytes r c.peek_finish-ahead.result t (g.met.I.Stream.positive_widths c.args.input.now c.requires.valid) c.peek_finish-ahead.ensures c.as_bytes.ensures in
     let is = subst (λ p. IsReading depth p t Begun) c.is_partial.ensures (value-as depth c.is_partial.result t c.read_bytes.result c.in-Ok-Begun.field-0 Begun c.read_bytes.ensures c.in-Ok-Begun.is c.in-Ok-Begun.field-0-is) in
-    (is.0, value-missed depth partial r t same is.1)
+    (is.0, value-missed depth partial r t same is.1, value-open depth partial r t same is.2)
 
 pub returns-in-Ok-Begun-clause-complete : goal.returns-in-Ok-Begun-clause-complete
 returns-in-Ok-Begun-clause-complete g c =

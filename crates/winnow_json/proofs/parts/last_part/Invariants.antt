@@ -1,7 +1,7 @@
 use Rattle.std.proofs.Common.{◌≡◌, drop}
 use Rattle.winnow_json.specs.declared.parts.Part.TheVariants.{Begin}
-use Rattle.winnow_json.proofs.lemmas.NumberLemmas.{run}
-use Rattle.winnow_json.proofs.parts.is_number.Given as goal
+use Rattle.winnow_json.specs.Parts.{run}
+use Rattle.winnow_json.proofs.parts.last_part.Given as goal
 
 -- what is left ends as the whole text does
 abbrev pub invariant-loop-byte : goal.invariant-loop-byte
