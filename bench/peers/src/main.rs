@@ -1,0 +1,119 @@
+//! Times readers of formats, ours and nom's, answers compared first, and prints a table.
+//!
+//!     winnow-bench-formats FOLDER [--turns N] [--ways] [--once FORMAT WAY]
+//!
+//! FOLDER has the files `csv`, `resp` and `json`. `--ways` only lists the ways to read them, and `--once` reads one file once, in one way, so
+//! that a profiler counts that alone.
+
+#[path = "../../rust/src/bin/measure/allocations.rs"]
+mod allocations;
+mod csv;
+mod digest;
+mod json;
+mod ours;
+mod resp;
+
+use digest::Depth;
+use std::hint::black_box;
+use std::path::Path;
+use std::process::ExitCode;
+use std::time::Instant;
+use std::{env, fs};
+
+type Read = fn(&[u8], Depth) -> u64;
+
+/// A format, with each way to read it.
+struct Format {
+    name: &'static str,
+    input: Vec<u8>,
+    ways: Vec<(&'static str, Read)>,
+}
+
+impl Format {
+    // Whether all ways give the same values.
+    fn agrees(&self) -> bool {
+        let answers: Vec<_> = self.ways.iter().map(|(_, read)| read(&self.input, Depth::Whole)).collect();
+        answers.iter().all(|answer| *answer == answers[0])
+    }
+
+    // The least nanoseconds of each way for a byte. The ways begin in turn.
+    fn race(&self, turns: usize) -> Vec<f64> {
+        let mut least = vec![f64::MAX; self.ways.len()];
+        for turn in 0..turns {
+            for way in (0..self.ways.len()).map(|way| (way + turn) % self.ways.len()) {
+                let start = Instant::now();
+                black_box(self.ways[way].1(black_box(&self.input), Depth::Front));
+                least[way] = least[way].min(start.elapsed().as_secs_f64() * 1e9 / self.input.len() as f64);
+            }
+        }
+        least
+    }
+
+    fn print(&self, turns: usize) {
+        let times = self.race(turns);
+        for ((way, read), time) in self.ways.iter().zip(&times) {
+            let (_, used) = allocations::during(|| read(&self.input, Depth::Front));
+            let part = time / times[0];
+            let blocks = used.blocks as f64 / self.input.len() as f64 * 1000.0;
+            println!("| {} | {way} | {time:.2} | {part:.2} | {blocks:.1} | {} |", self.name, used.bytes >> 10);
+        }
+    }
+}
+
+fn formats(folder: &Path) -> Vec<Format> {
+    let file = |name| fs::read(folder.join(name)).expect("the folder has a file for each format");
+    vec![
+        Format {
+            name: "CSV",
+            input: file("csv"),
+            ways: vec![
+                ("ours", ours::csv),
+                ("ours, in pieces of 64 KB", ours::csv_in_pieces),
+                ("nom", csv::read_owned),
+                ("nom, fields borrowed", csv::read_borrowed),
+            ],
+        },
+        Format {
+            name: "RESP",
+            input: file("resp"),
+            ways: vec![
+                ("ours", ours::resp),
+                ("ours, in pieces of 64 KB", ours::resp_in_pieces),
+                ("nom", resp::read_owned),
+                ("nom, strings borrowed", resp::read_borrowed),
+            ],
+        },
+        Format { name: "JSON", input: file("json"), ways: vec![("ours", ours::json), ("nom", json::read_owned)] },
+    ]
+}
+
+fn read_once(formats: &[Format], name: &str, way: &str) -> Option<u64> {
+    let format = formats.iter().find(|format| format.name == name)?;
+    let (_, read) = format.ways.iter().find(|(other, _)| *other == way)?;
+    Some(read(&format.input, Depth::Front))
+}
+
+fn main() -> ExitCode {
+    let words: Vec<String> = env::args().skip(1).collect();
+    let after = |word: &str| words.iter().skip_while(|other| *other != word).skip(1).map(String::as_str).collect::<Vec<_>>();
+    let formats = formats(Path::new(&words[0]));
+    if let [name, way] = after("--once")[..] {
+        println!("{}", read_once(&formats, name, way).expect("there is such a way"));
+        return ExitCode::SUCCESS;
+    }
+    if words.iter().any(|word| word == "--ways") {
+        for format in &formats {
+            format.ways.iter().for_each(|(way, _)| println!("{}:{way}", format.name));
+        }
+        return ExitCode::SUCCESS;
+    }
+    let turns = after("--turns").first().map_or(15, |turns| turns.parse().expect("a number of turns"));
+    if let Some(format) = formats.iter().find(|format| !format.agrees()) {
+        println!("values differ: {}", format.name);
+        return ExitCode::FAILURE;
+    }
+    println!("| Format | Read by | ns a byte | part of ours | allocations a KB | most memory, KiB |");
+    println!("|---|---|--:|--:|--:|--:|");
+    formats.iter().for_each(|format| format.print(turns));
+    ExitCode::SUCCESS
+}

@@ -1,0 +1,87 @@
+//! Replies of the Redis protocol, version 2.
+
+use crate::digest::{Depth, digest, digest_of_integer, join};
+use nom::bytes::complete::{tag, take, take_till};
+use nom::character::complete::i64 as integer;
+use nom::combinator::map;
+use nom::multi::count;
+use nom::number::complete::u8 as byte;
+use nom::sequence::terminated;
+use nom::{Err, IResult};
+
+type Answer<'i, O> = IResult<&'i [u8], O, ()>;
+
+// `B` is how bytes are held: lent by the input, or copied.
+enum Reply<B> {
+    Simple(B),
+    Error(B),
+    Integer(i64),
+    Bulk(B),
+    NullBulk,
+    Array(Vec<Reply<B>>),
+    NullArray,
+}
+
+fn text(input: &[u8]) -> Answer<'_, &[u8]> {
+    terminated(take_till(|byte| byte == b'\r' || byte == b'\n'), tag("\r\n"))(input)
+}
+
+fn number(input: &[u8]) -> Answer<'_, i64> {
+    terminated(integer, tag("\r\n"))(input)
+}
+
+fn reply<'i, B: From<&'i [u8]>>(input: &'i [u8]) -> Answer<'i, Reply<B>> {
+    let (input, kind) = byte(input)?;
+    match kind {
+        b'+' => map(text, |text| Reply::Simple(text.into()))(input),
+        b'-' => map(text, |text| Reply::Error(text.into()))(input),
+        b':' => map(number, Reply::Integer)(input),
+        b'$' => {
+            let (input, length) = number(input)?;
+            let Ok(length) = usize::try_from(length) else {
+                return Ok((input, Reply::NullBulk));
+            };
+            map(terminated(take(length), tag("\r\n")), |bytes: &[u8]| Reply::Bulk(bytes.into()))(input)
+        }
+        b'*' => {
+            let (input, length) = number(input)?;
+            let Ok(length) = usize::try_from(length) else {
+                return Ok((input, Reply::NullArray));
+            };
+            map(count(reply, length), Reply::Array)(input)
+        }
+        _ => Err(Err::Error(())),
+    }
+}
+
+fn digest_of<B: AsRef<[u8]>>(reply: &Reply<B>, depth: Depth) -> u64 {
+    match reply {
+        Reply::Simple(text) => join(1, digest(text.as_ref(), depth)),
+        Reply::Error(text) => join(2, digest(text.as_ref(), depth)),
+        Reply::Integer(number) => join(3, digest_of_integer(*number)),
+        Reply::Bulk(bytes) => join(4, digest(bytes.as_ref(), depth)),
+        Reply::NullBulk => 5,
+        Reply::NullArray => 6,
+        Reply::Array(replies) => replies.iter().fold(replies.len() as u64, |sum, one| join(sum, digest_of(one, depth))),
+    }
+}
+
+fn read<'i, B: AsRef<[u8]> + From<&'i [u8]>>(input: &'i [u8], depth: Depth) -> u64 {
+    let mut rest = input;
+    let mut sum = 0;
+    while let Ok((after, one)) = reply::<B>(rest) {
+        sum = join(sum, digest_of(&one, depth));
+        rest = after;
+    }
+    join(sum, rest.len() as u64)
+}
+
+/// Reads replies that own their bytes.
+pub fn read_owned(input: &[u8], depth: Depth) -> u64 {
+    read::<Vec<u8>>(input, depth)
+}
+
+/// Reads replies that borrow their bytes from the input.
+pub fn read_borrowed(input: &[u8], depth: Depth) -> u64 {
+    read::<&[u8]>(input, depth)
+}
