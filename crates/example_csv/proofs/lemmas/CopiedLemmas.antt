@@ -4,37 +4,26 @@ use Rattle.std.specs.Prelude.{Option, None, Some, IfSome, Result, Ok, Err, OnOk,
 use Rattle.std.specs.Io.KnownBytes.{Appends, Consumes, IsAtEnd}
 use Rattle.std.proofs.lemmas.List.{append-nil}
 use Rattle.std.proofs.lemmas.Grind.{flat_map-append}
-use Rattle.winnow.specs.State.{ReaderState, at_start, pushed, ended_after, fed_of}
-use Rattle.winnow.specs.Reading.{MayFollow, HasRead, ReadsAlso, ReadsThrough}
+use Rattle.winnow.specs.State.{ReaderState, pushed, ended_after, fed_of}
+use Rattle.winnow.specs.Reading.{MayFollow, ReadsAlso, ReadsThrough}
+use Rattle.winnow_csv.proofs.lemmas.ReaderLemmas.{none-follows}
 use Rattle.winnow_csv.specs.Answers.{values_of}
 use Rattle.winnow_csv.specs.Widths.{RowVec}
 use Rattle.winnow_csv.specs.Tables.{rows_in, AreRecords}
 use Rattle.winnow_csv.specs.Reading.{RowInPieces}
 use Rattle.winnow_csv.specs.declared.records.Row.{Row}
 use Rattle.example_csv.specs.Lines.{line_of}
-use Rattle.example_csv.specs.Copying.{lines_of, HasCounted, HasCopied, IsFailureOf, IsOfInput, IsBegun, WritesOn, StopsWith, CopiesAll, CopiesUntil}
+use Rattle.example_csv.specs.Copying.{lines_of, HasCounted, HasCopied, IsFailureOf, IsBegun, WritesOn, StopsWith, CopiesAll, CopiesUntil}
 use Rattle.example_csv.specs.declared.progress.Progress.{Progress}
 use Rattle.example_csv.specs.declared.failure.Failure.{Failure}
-use Rattle.example_csv.proofs.lemmas.KnownLemmas.{consumes-start, consumes-more, appends-start, appends-more}
-use Rattle.example_csv.proofs.lemmas.CopyLemmas.{Begins, none-follows, counted-start, counted-pushed, counted-ended}
+use Rattle.example_csv.proofs.lemmas.KnownLemmas.{consumes-more, appends-more}
+use Rattle.example_csv.proofs.lemmas.CopyLemmas.{Begins, counted-pushed, counted-ended}
 
 -- the lines of records, and of more after them
 lines-append : (rows more : List RowVec) → lines_of (rows ++ more) ≡ lines_of rows ++ lines_of more
 lines-append rows more = flat_map-append (λ (r : RowVec). line_of (values_of r)) rows more
 
 module _ {R : Type 0} where
-  -- at first nothing was copied
-  pub copied-start : (parser : R) (p : Progress) (had held : Option (List ℕ)) → p.feeds ≡ 0
-      → p.width ≡ None → HasRead (λ r. RowInPieces) (at_start parser) [] []
-      → HasCopied (at_start parser) p had had held held
-  copied-start parser p had held feeds width read = record {
-    fed = [];
-    rows = [];
-    counts = counted-start parser p feeds width read;
-    took = consumes-start had;
-    wrote = appends-start held;
-  }
-
   -- what was copied was begun
   pub copied-begun : (f : ReaderState R) (p : Progress) (had has held now : Option (List ℕ))
       → HasCopied f p had has held now → IsBegun f p
@@ -114,12 +103,6 @@ module _ {R : Type 0} where
       → StopsWith f p now failure new → IfSome had (λ bytes. CopiesUntil bytes failure held new)
   copied-stops f p had has held now new failure h rest stops =
       stops-step f p had has held now new failure h.fed h.rows h.counts h.took h.wrote rest stops
-
--- a failure from elsewhere says nothing of the input
-pub copied-outside : (had held now : Option (List ℕ)) (failure : Failure) → ¬ (IsOfInput failure)
-    → IfSome had (λ bytes. CopiesUntil bytes failure held now)
-copied-outside None held now failure n = tt
-copied-outside (Some xs) held now failure n = λ told. absurd (n told)
 
 -- the step of `copied-all`
 all-step : Begins → (f : ReaderState Row) (p : Progress) (had has held now : Option (List ℕ))

@@ -1,5 +1,5 @@
 -- What was read and written, as one record more comes.
-use Rattle.std.proofs.Common.{◌≡◌, ℕ, ◌+◌, ◌≤◌, ◌<◌, ◌^◌, Bool, true, false, List, [], ◌∷◌, ◌++◌, length, refl, ap, sym, ◌∙◌, subst, arith, append_assoc, length-drop, length-append}
+use Rattle.std.proofs.Common.{◌≡◌, ℕ, ◌+◌, ◌≤◌, ◌<◌, ◌^◌, List, [], ◌∷◌, ◌++◌, length, refl, ap, sym, ◌∙◌, subst, arith, append_assoc, length-drop, length-append}
 use Rattle.std.specs.Prelude.{Option, None, Some, vec_len}
 use Rattle.std.proofs.lemmas.List.{append-nil}
 use Rattle.std.proofs.lemmas.List.Elements.{All-push}
@@ -7,7 +7,8 @@ use Rattle.std.proofs.lemmas.List.Sums.{sum_by_push}
 use Rattle.std.proofs.lemmas.Grind.{flat_map-append}
 use Rattle.std.specs.Io.KnownBytes.{Keeps, Appends}
 use Rattle.winnow.specs.State.{ReaderState, at_start, pushed, ended_after, taken_by, fed_of}
-use Rattle.winnow.specs.Reading.{MayFollow, HasRead, ReadsAlso, ReadsThrough}
+use Rattle.winnow.specs.Reading.{HasRead, ReadsAlso, ReadsThrough}
+use Rattle.winnow_csv.proofs.lemmas.ReaderLemmas.{none-follows}
 use Rattle.winnow_csv.specs.Answers.{values_of}
 use Rattle.winnow_csv.specs.Widths.{RowVec, first_width, HaveWidth}
 use Rattle.winnow_csv.specs.Reading.{RowInPieces, BeginsWith}
@@ -16,7 +17,7 @@ use Rattle.example_csv.specs.Positions.{feeds_of}
 use Rattle.example_csv.specs.Lines.{line_of}
 use Rattle.example_csv.specs.Copying.{lines_of, width_of, HasCounted, FitsWidth, IsBegun, WritesOn}
 use Rattle.example_csv.specs.declared.progress.Progress.{Progress}
-use Rattle.example_csv.proofs.lemmas.KnownLemmas.{appends-start, appends-keeps, appends-more}
+use Rattle.example_csv.proofs.lemmas.KnownLemmas.{appends-keeps, appends-more}
 use Rattle.example_csv.proofs.lemmas.FeedLemmas.{rows-within}
 
 -- the law of readers of records: the values that were read are the records that the input begins
@@ -24,11 +25,6 @@ use Rattle.example_csv.proofs.lemmas.FeedLemmas.{rows-within}
 abbrev pub Begins : Type 0
 Begins = (f : ReaderState Row) (input : List ℕ) (rows : List RowVec)
     → HasRead (λ r. RowInPieces) f input rows → BeginsWith f input rows
-
--- nothing may follow
-pub none-follows : (ended : Bool) → MayFollow ended [] false
-none-follows false = tt
-none-follows true = (refl, refl)
 
 -- the width of the first record, with one more of that width
 width-push : (rows : List RowVec) (row : RowVec) (old new : Option ℕ) → old ≡ width_of rows
@@ -124,12 +120,6 @@ module _ {R : Type 0} where
     width = width-push rows row p.width q.width h.width fits width;
     even = even-push rows row p.width h.width fits h.even;
   }
-
-  -- at first no record more was read
-  pub writes-start : (f : ReaderState R) (p : Progress) (held : Option (List ℕ))
-      → WritesOn f p held f p held
-  writes-start f p held input rows h =
-      ([], (subst (λ rs. HasCounted f p input rs) (sym (append-nil rows)) h, appends-start held))
 
   -- what was begun goes on
   pub begun-now : (f g : ReaderState R) (p q : Progress) (held now : Option (List ℕ))

@@ -10,16 +10,17 @@ use Rattle.winnow.specs.SameValues.{IsThrough}
 use Rattle.winnow_csv.specs.Records.{RecordAhead}
 use Rattle.winnow_csv.specs.Answers.{values_of}
 use Rattle.winnow_csv.specs.Widths.{RowVec}
-use Rattle.winnow_csv.specs.Tables.{rows_in, AreRecords, HasNoRecord, IsDamagedAt}
+use Rattle.winnow_csv.specs.Tables.{rows_in, AreRecords, IsDamagedAt}
 use Rattle.winnow_csv.specs.Reading.{RowInPieces, FindsDamage}
 use Rattle.winnow_csv.specs.declared.records.Row.{Row}
+use Rattle.winnow_csv.proofs.lemmas.ReaderLemmas.{none-follows, some-ahead, append-some}
 use Rattle.example_csv.specs.Failures.{fault_at}
-use Rattle.example_csv.specs.Copying.{lines_of, HasCounted, BreaksAt, IsUneven, IsFailureOf, IsOfInput, IsOtherWidth, IsDamageAfter, IsBegun, WritesOn, StopsWith}
+use Rattle.example_csv.specs.Copying.{lines_of, HasCounted, BreaksAt, IsUneven, IsFailureOf, IsOtherWidth, IsDamageAfter, IsBegun, WritesOn, StopsWith}
 use Rattle.example_csv.specs.declared.progress.Progress.{Progress}
 use Rattle.example_csv.specs.declared.failure.Failure.{Failure}
 use Rattle.example_csv.proofs.lemmas.KnownLemmas.{appends-keeps}
 use Rattle.example_csv.proofs.lemmas.FeedLemmas.{rows-lines, feeds-within, feeds-append, after-begun}
-use Rattle.example_csv.proofs.lemmas.CopyLemmas.{Begins, none-follows}
+use Rattle.example_csv.proofs.lemmas.CopyLemmas.{Begins}
 
 -- the rest of a damaged record is no longer than what it begins
 damaged-within : (bytes rest : List ℕ) → IsDamagedAt bytes rest → length rest ≤ length bytes
@@ -48,31 +49,10 @@ fault-stays ended ahead (b ∷ bs) follow d may = refl
 fault-stays true ahead [] follow d may = ap fault_at (sym may.0)
 fault-stays false ahead [] follow d may = absurd (never-feed (ahead ++ 10 ∷ []) (d (10 ∷ []) tt))
 
--- a line end alone is a record of one empty field
-empty-record : RecordAhead false (10 ∷ []) ([] ∷ []) []
-empty-record = (
-  λ e. let f = e in cc,
-  ([], (10 ∷ [], (refl, ([], ([], (refl, inl (tt, refl), refl))), inr (inl refl)))),
-)
-
--- where no record stands ahead, no matter what follows, something is ahead, if more may follow
-some-step : (ended : Bool) (ahead : List ℕ)
-    → ((more : List ℕ) → MayFollow ended more false → HasNoRecord (ahead ++ more))
-    → ¬ ((ended ≡ true) × (ahead ≡ [])) → ahead ≢ []
-some-step true ahead missed n e = n (refl, e)
-some-step false ahead missed n e =
-    let alone : HasNoRecord (10 ∷ []) = subst (λ xs. HasNoRecord (xs ++ 10 ∷ [])) e (missed (10 ∷ []) tt) in
-    alone ([] ∷ []) [] empty-record
-
--- something, and what follows it, is something
-some-more : (xs more : List ℕ) → xs ≢ [] → xs ++ more ≢ []
-some-more [] more n e = n refl
-some-more (x ∷ xs) more n e = let f : x ∷ (xs ++ more) ≡ [] = e in cc
-
 -- where a reader finds damage, something is ahead
 pub damage-some : (f : ReaderState Row) (place : ℕ) → FindsDamage f place → ¬ (IsThrough f)
     → f.ahead ≢ []
-damage-some f place finds n = some-step f.ended f.ahead (λ more may. (finds.1.1 more may).0) n
+damage-some f place finds n = some-ahead f.ended f.ahead (λ more may. (finds.1.1 more may).0) n
 
 -- the damage lies in what is ahead
 pub damage-within : (f : ReaderState Row) (place : ℕ) → FindsDamage f place
@@ -95,7 +75,7 @@ module _ (begins : Begins) where
       → HasCounted f p input rows → f.ahead ≢ [] → p.feeds + length f.ahead + 1 < 2 ^ 64
   ahead-fits f p input rows h some =
       let all = begins f input rows h.read [] (none-follows f.ended) in
-      let lines = rows-lines (input ++ []) rows (f.ahead ++ []) all (some-more f.ahead [] some) in
+      let lines = rows-lines (input ++ []) rows (f.ahead ++ []) all (append-some f.ahead [] some) in
       omega (arith, ap length lines.whole, length-append lines.text (f.ahead ++ []), length-append f.ahead [], length-append input [], feeds-within lines.text, lines.counted, h.feeds, h.fed, h.fits)
 
   -- the same of what was begun
@@ -114,7 +94,7 @@ module _ (begins : Begins) where
       let before = take n f.ahead in
       let rest = finds.0 in
       let reads = begins f input rows h.read follow may in
-      let lines = rows-lines (input ++ follow) rows (f.ahead ++ follow) reads (some-more f.ahead follow some) in
+      let lines = rows-lines (input ++ follow) rows (f.ahead ++ follow) reads (append-some f.ahead follow some) in
       let cut : f.ahead ≡ before ++ rest = sym (take-append-drop n f.ahead) ∙ ap (λ r. before ++ r) (damage-rest f place finds) in
       let breaks : BreaksAt (input ++ follow) rows position (fault_at (drop n f.ahead)) = record {
         begun = f.ahead ++ follow;
@@ -197,11 +177,6 @@ module _ (begins : Begins) where
           λ follow may. counted-uneven g k q input (rows ++ w.0) row failure follow w.1.0 (reads input (rows ++ w.0) w.1.0.read) is (subst (λ b. MayFollow b follow false) (sym e) may),
         ),
       )
-
--- a failure from elsewhere says nothing of the input
-pub stops-outside : (f : ReaderState Row) (p : Progress) (held now : Option (List ℕ))
-    (failure : Failure) → ¬ (IsOfInput failure) → StopsWith f p held failure now
-stops-outside f p held now failure n told = absurd (n told)
 
 -- what was written before a failure is kept
 pub stops-kept : (f : ReaderState Row) (p : Progress) (held now kept : Option (List ℕ))

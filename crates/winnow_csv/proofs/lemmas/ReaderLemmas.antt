@@ -77,7 +77,7 @@ read-records f input rows h more may =
     (subst (λ ys. AreRecords (bytes_of (units (input ++ more))) (rows_in rows) ys) (bytes-units (f.ahead ++ more)) far)
 
 -- nothing may follow
-none-follows : (ended : Bool) → MayFollow ended [] false
+pub none-follows : (ended : Bool) → MayFollow ended [] false
 none-follows false = tt
 none-follows true = (refl, refl)
 
@@ -126,7 +126,7 @@ empty-record = (
 )
 
 -- where no record stands ahead, no matter what follows, something is ahead, if more may follow
-some-ahead : (ended : Bool) (ahead : List ℕ)
+pub some-ahead : (ended : Bool) (ahead : List ℕ)
     → ((more : List ℕ) → MayFollow ended more false → HasNoRecord (ahead ++ more))
     → ¬ ((ended ≡ true) × (ahead ≡ [])) → ahead ≢ []
 some-ahead true ahead missed n e = n (refl, e)
@@ -135,7 +135,7 @@ some-ahead false ahead missed n e =
     alone ([] ∷ []) [] empty-record
 
 -- something, and what follows it, is something
-append-some : (xs more : List ℕ) → xs ≢ [] → xs ++ more ≢ []
+pub append-some : (xs more : List ℕ) → xs ≢ [] → xs ++ more ≢ []
 append-some [] more n e = n refl
 append-some (x ∷ xs) more n e = let f : x ∷ (xs ++ more) ≡ [] = e in cc
 
