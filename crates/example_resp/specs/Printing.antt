@@ -42,7 +42,7 @@ quoted bytes = 34 ∷ flat_map escaped bytes ++ codes "\"\n"
 abbrev pub line_of : List ℕ → List ℕ → List ℕ
 line_of kind text = kind ++ text ++ 10 ∷ []
 
--- the margin, wider by so many spaces
+-- the margin, wider by this many spaces
 abbrev pub widened : List ℕ → ℕ → List ℕ
 widened margin more = margin ++ replicate more 32
 

@@ -77,7 +77,7 @@ module _ (means : PlacedReply → Meaning Placed ℕ) where
       (replies_of more ≡ replies))
 
   -- the other reader has given all that there is: after the end of the input nothing is left, and
-  -- before it the parser asked for more than came since, whatever was read
+  -- before it the parser asked for more than came since, no matter what was read
   abbrev pub HasNoneLeft : ReaderState PlacedReply → ReaderState PlacedReply → Type 0
   HasNoneLeft old new = (new.ended ≡ true → new.ahead ≡ []) × (new.ended ≡ false → (input : List ℕ) (values : List Placed)
       → HasRead means old input values → Lacks means new)

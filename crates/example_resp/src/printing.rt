@@ -79,7 +79,7 @@ fn digits_of(number: usize) -> usize
     digits.format(number).len()
 }
 
-// Returns the margin, wider by so many spaces.
+// Returns the margin, wider by this many spaces.
 fn widened(alloc: Global, margin: &[u8], more: usize) -> Result<Vec<u8>, AllocError>
     ensures { IfOk result (λ wider. wider.items ≡ widened margin.now more) }
 {
@@ -88,7 +88,7 @@ fn widened(alloc: Global, margin: &[u8], more: usize) -> Result<Vec<u8>, AllocEr
     Ok(wider)
 }
 
-// Appends so many spaces.
+// Appends this many spaces.
 fn append_spaces(count: usize, text: &mut Vec<u8>) -> Result<(), AllocError>
     ensures { OnOk result (text.new.items ≡ text.old.items ++ replicate count 32) }
 {

@@ -28,7 +28,7 @@ const LIMITS: ReplyTo = ReplyTo {
     // Calls are nested as deep as arrays, so this bounds the stack. Replies of the server's own
     // commands are not a quarter as deep.
     depth: 32,
-    // The server's own limit on a string, unless its configuration says otherwise.
+    // The server's own limit on a string, if its configuration names no other.
     longest: 512 * 1024 * 1024,
 };
 

@@ -4,7 +4,7 @@ use Rattle.winnow_reader.specs.State.{ReaderState}
 use Rattle.example_resp.specs.declared.placed.PlacedReply.{PlacedReply}
 use Rattle.example_resp.specs.Session.{IsSteady}
 use Rattle.example_resp.specs.contracts.placed.PlacedReplyRecord.TheImpl.{ghosts}
-use Rattle.example_resp.proofs.lemmas.SessionLemmas.{printed-start, printed-piece, printed-kept, tells-failed, tells-last}
+use Rattle.example_resp.proofs.lemmas.PrintedLemmas.{printed-start, printed-piece, printed-kept, tells-failed, tells-last}
 use Rattle.example_resp.proofs.program.print_replies.Goals as goal
 use Rattle.example_resp.proofs.program.print_replies.Goals.{in-Ok+in-Ok-print_piece, in-Err+else-not-matches}
 
