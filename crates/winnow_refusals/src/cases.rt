@@ -21,7 +21,7 @@ pub fn tell(refused: bool, right: bool) -> Result<bool, AllocError> {
 }
 
 /// Each case, made once.
-pub fn all(alloc: Global) -> [Case; 48] {
+pub fn all(alloc: Global) -> [Case; 49] {
     [
         ("run", scripts::run_script(alloc)),
         ("run_and_reset", scripts::look_ahead(alloc)),
@@ -79,6 +79,7 @@ pub fn all(alloc: Global) -> [Case; 48] {
         ("waits_for of text", waiting::wait_for_text(alloc)),
         ("repeat into a Vec", parsers::repeat_in_vector(alloc)),
         ("repeat into a String", parsers::repeat_in_text(alloc)),
+        ("repeat_till", parsers::repeat_to_end(alloc)),
         ("separated", parsers::separate(alloc)),
         ("parse", parsers::parse(alloc)),
         ("alt", parsers::join(alloc)),

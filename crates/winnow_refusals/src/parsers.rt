@@ -5,7 +5,7 @@ use crate::cases::tell;
 use crate::items::{Item, TEXT};
 use crate::trees::prints;
 use std::alloc::{AllocError, Global};
-use winnow_combinator::{alt, empty, fail, repeat, separated};
+use winnow_combinator::{alt, empty, eof, fail, repeat, repeat_till, separated};
 use winnow_context::{ContextError, StrContext};
 use winnow_error::EmptyError;
 use winnow_parser::{Failure, ModalResult, Parser};
@@ -45,6 +45,12 @@ pub fn repeat_in_vector(alloc: Global) -> Result<bool, AllocError> {
 /// The same in a text.
 pub fn repeat_in_text(alloc: Global) -> Result<bool, AllocError> {
     gather(alloc, &repeat::<_, String, _>(0.., any()))
+}
+
+/// The same up to a parser that ends them.
+pub fn repeat_to_end(alloc: Global) -> Result<bool, AllocError> {
+    let all = repeat_till::<_, _, Vec<char>, _>(0.., any(), eof());
+    gather(alloc, &all.map(|(all, _end)| all))
 }
 
 /// Values with separators between them.
