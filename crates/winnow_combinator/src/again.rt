@@ -95,6 +95,9 @@ pub(crate) struct Again<'a, P, G> {
 
 // Asks the parser until it backtracks or has given the greatest count of values, and adds them to
 // those that are gathered already.
+//
+// Inlined: a call that takes the stream by reference keeps it in memory in its caller's loops too.
+#[inline(always)]
 pub(crate) fn go_on<I: StreamIsPartial, E: ParserError<I>, P: Parser<I, E>, G: Gather<P::Output>>(
     again: &Again<P, G>,
     alloc: Global,

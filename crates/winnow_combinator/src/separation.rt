@@ -58,6 +58,7 @@ pub fn separated<P, S, A, C: Into<Range>>(
 }
 
 // Reads what follows the first value.
+#[inline(always)]
 fn rest<
     I: StreamIsPartial,
     E: ParserError<I>,
@@ -114,6 +115,7 @@ where
 }
 
 // Reads the values, where at least one is allowed.
+#[inline(always)]
 fn values<
     I: StreamIsPartial,
     E: ParserError<I>,

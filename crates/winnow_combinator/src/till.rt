@@ -93,6 +93,7 @@ fn end_after<I: StreamIsPartial, E: ParserError<I>, Q: Parser<I, E>>(
 
 // Asks the terminator and the parser in turn until the terminator gives a value, and adds the
 // parser's values to those that are gathered already.
+#[inline(always)]
 fn go_till<
     I: StreamIsPartial,
     E: ParserError<I>,
