@@ -9,6 +9,7 @@
 mod accumulators;
 mod contexts;
 mod copies;
+mod escapes;
 mod feeds;
 mod growing;
 mod items;
@@ -62,6 +63,7 @@ fn all(alloc: Global, text: &str) -> Result<Vec<Call>, AllocError> {
     calls.extend_from_slice(&parsers::readings(alloc, text))?;
     calls.extend_from_slice(&parsers::failures(alloc, text))?;
     calls.extend_from_slice(&parsers::numbers(alloc, text))?;
+    calls.extend_from_slice(&escapes::calls(alloc, text))?;
     calls.extend_from_slice(&records::calls(alloc, text))?;
     calls.extend_from_slice(&script_words::calls(alloc, text.len()))?;
     Ok(calls)
