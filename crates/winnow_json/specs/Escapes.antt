@@ -9,7 +9,7 @@ use Rattle.winnow_json.specs.declared.escapes.Escape.TheVariants.{Whole, Begun, 
 abbrev pub MayBeChar : List ℕ → Type 0
 MayBeChar bytes = (more : List ℕ) × ((c : ℕ) × ((more ≢ []) × SpellsChar c (bytes ++ more)))
 
--- whatever follows the bytes, they do not begin with the spelling of a character
+-- no matter what follows the bytes, they do not begin with the spelling of a character
 abbrev pub IsNoChar : List ℕ → Type 0
 IsNoChar bytes = (more : List ℕ) → ¬ (BeginsChar (bytes ++ more))
 

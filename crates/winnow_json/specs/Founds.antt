@@ -12,13 +12,13 @@ use Rattle.winnow_json.specs.declared.found.Next.TheVariants as next
 abbrev pub MayFollow : Bool → List ℕ → Type 0
 MayFollow partial more = partial ≡ false → more ≡ []
 
--- whatever follows the bytes, they begin with no value
+-- no matter what follows the bytes, they begin with no value
 abbrev pub HasNone : {T : Type 0} → (T → List ℕ → List ℕ → Type 0) → Bool → List ℕ → Type 0
 HasNone {T} ahead partial bytes = (more : List ℕ) → MayFollow partial more
     → (value : T) (rest : List ℕ) → ¬ (ahead value (bytes ++ more) rest)
 
 -- where a relation says which bytes begin with a value: the bytes begin with this value, of so many
--- bytes; or they begin with none, and more may follow; or with none, whatever follows
+-- bytes; or they begin with none, and more may follow; or with none, no matter what follows
 abbrev pub IsFound : {T : Type 0} → (T → List ℕ → List ℕ → Type 0) → Bool → List ℕ → Found T
     → Type 0
 IsFound ahead partial bytes (Whole value n) = (n ≤ length bytes) × ahead value bytes (drop n bytes)
@@ -26,14 +26,15 @@ IsFound {T} ahead partial bytes Begun =
     (partial ≡ true) × ((value : T) (rest : List ℕ) → ¬ (ahead value bytes rest))
 IsFound ahead partial bytes (Damaged n) = (n ≤ length bytes) × HasNone ahead partial bytes
 
--- whatever follows the bytes, after blanks they begin neither with a comma nor with the bracket
+-- no matter what follows the bytes, after blanks they begin neither with a comma nor with the
+-- bracket
 abbrev pub GoesNotOn : ℕ → Bool → List ℕ → Type 0
 GoesNotOn close partial bytes = (more : List ℕ) → MayFollow partial more
     → ¬ (StartsWith 44 (after_blanks (bytes ++ more)))
     × ¬ (StartsWith close (after_blanks (bytes ++ more)))
 
 -- after blanks the bytes begin with a comma, which ends so many bytes; or with the bracket, which
--- does; or they are blanks, and more may follow; or neither, whatever follows
+-- does; or they are blanks, and more may follow; or neither, no matter what follows
 abbrev pub IsNext : ℕ → Bool → List ℕ → Next → Type 0
 IsNext close partial bytes (next.More n) =
     (0 < n) × (n ≤ length bytes) × (after_blanks bytes ≡ 44 ∷ drop n bytes)
@@ -48,7 +49,7 @@ abbrev pub ByteAhead : ℕ → Unit {0} → List ℕ → List ℕ → Type 0
 ByteAhead byte done bytes rest = after_blanks bytes ≡ byte ∷ rest
 
 -- after blanks the bytes begin with this byte, which ends so many bytes; or they are blanks, and
--- more may follow; or the byte does not stand there, whatever follows
+-- more may follow; or the byte does not stand there, no matter what follows
 abbrev pub IsByte : ℕ → Bool → List ℕ → Found (Unit {0}) → Type 0
 IsByte byte partial bytes (Whole done n) =
     (n ≤ length bytes) × (after_blanks bytes ≡ byte ∷ drop n bytes)

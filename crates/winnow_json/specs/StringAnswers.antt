@@ -18,7 +18,8 @@ abbrev pub BeginsChar : List ℕ → Type 0
 BeginsChar bytes = (c : ℕ) × ((front : List ℕ) × ((rest : List ℕ)
     × ((bytes ≡ front ++ rest) × SpellsChar c front)))
 
--- neither a character nor a closing quote stands at the rest, whatever follows where more may
+-- neither a character nor a closing quote stands at the rest; and where more may follow, no matter
+-- what does
 abbrev pub IsWrong : Bool → List ℕ → Type 0
 IsWrong partial rest = ¬ (StartsWith 34 rest)
     × ((more : List ℕ) → (partial ≡ false → more ≡ []) → ¬ (BeginsChar (rest ++ more)))

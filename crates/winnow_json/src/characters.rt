@@ -16,7 +16,7 @@ pub(crate) enum Step {
     Ended,
     // Bytes that more bytes can make the spelling of a character
     Begun,
-    // Neither, whatever follows
+    // Neither, no matter what follows
     Wrong,
 }
 

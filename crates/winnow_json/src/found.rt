@@ -11,7 +11,7 @@ pub(crate) enum Found<T> {
     Whole(T, usize),
     // The bytes end too early, and more may follow
     Begun,
-    // No value, whatever follows: so many bytes stand before the place that is wrong
+    // No value, no matter what follows: so many bytes stand before the place that is wrong
     Damaged(usize),
 }
 
@@ -24,7 +24,7 @@ pub(crate) enum Next {
     Closed(usize),
     // The bytes end too early, and more may follow
     Begun,
-    // Neither, whatever follows: so many bytes stand before the place that is wrong
+    // Neither, no matter what follows: so many bytes stand before the place that is wrong
     Damaged(usize),
 }
 

@@ -47,10 +47,6 @@ module _ {T : Type 0} (inner : T → List ℕ → List ℕ → Type 0) (begins :
       (items, (drop at b, (chain, inr (v, (drop (at + n) b, (subst (inner v (drop at b)) (drop-drop n at b) is, blanks))))))
 
 module _ (inside : List ℕ → Type 0) (begin : ℕ) (b : List ℕ) (first : StartsWith begin b) where
-  -- brackets are begun where only blanks follow the opening one
-  pub brackets-wait : after_blanks (drop 1 b) ≡ [] → BeginsBrackets inside begin b
-  brackets-wait blanks = (drop 1 b, (starts-split b begin first, inl blanks))
-
   -- or where what stands inside is
   pub brackets-begin : inside (drop 1 b) → BeginsBrackets inside begin b
   brackets-begin h = (drop 1 b, (starts-split b begin first, inr h))

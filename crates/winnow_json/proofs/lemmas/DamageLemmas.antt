@@ -23,27 +23,6 @@ pub place-after : (R : List ℕ → List ℕ → Type 0) (whole b : List ℕ) (a
     → R whole (drop n (drop at b)) → R whole (drop (at + n) b)
 place-after R whole b at n h = subst (R whole) (drop-drop n at b) h
 
--- ---- Scalars
-
--- bytes that begin with one byte do not begin with another
-pub starts-other : (c d : ℕ) (b : List ℕ) → StartsWith c b → ¬ (c ≡ d) → ¬ (StartsWith d b)
-starts-other c d [] is other s = s
-starts-other c d (x ∷ b) is other s = other (sym is ∙ s)
-
--- a word or a number breaks off where it begins
-pub scalar-placed : {T : Type 0} (partial : Bool) (b : List ℕ) (x : Found T)
-    → ¬ (StartsWith 34 b) → ¬ (StartsWith 91 b) → ¬ (StartsWith 123 b)
-    → IsPlaced (λ whole rest. rest ≡ whole) b x → IsPlaced (ScalarBreaksOff partial) b x
-scalar-placed partial b (Whole v n) quote array object h = tt
-scalar-placed partial b Begun quote array object h = tt
-scalar-placed partial b (Damaged n) quote array object h = inl (h, quote, array, object)
-
--- a string breaks off where it is damaged
-pub string-placed : (partial : Bool) (b rest : List ℕ) → StartsWith 34 b
-    → StringBreaksOff partial b rest → ScalarBreaksOff partial b rest
-string-placed partial b rest quote (inl h) = absurd (h.1 quote)
-string-placed partial b rest quote (inr h) = inr h
-
 -- ---- Arrays and objects
 
 module _ {T : Type 0} (inner : T → List ℕ → List ℕ → Type 0) (breaks : List ℕ → List ℕ → Type 0) (close : ℕ) (partial : Bool) (b : List ℕ) (at : ℕ) (items : List T) (chain : EachWithComma inner items b (drop at b)) where

@@ -18,29 +18,12 @@ pub each-grows : (test : ℕ → Bool) (xs : List ℕ) (b : ℕ) → Each test x
 each-grows test [] b h e = (e, tt)
 each-grows test (x ∷ xs) b h e = (h.0, each-grows test xs b h.1 e)
 
--- bytes that differ from a word at a place do not begin with it
-pub word-differs : (b w more rest : List ℕ) (i : ℕ) → i < length b → i < length w
-    → ¬ (get_or b i 0 ≡ get_or w i 0) → ¬ (b ++ more ≡ w ++ rest)
-word-differs [] w more rest i l k other e = omega (arith, l)
-word-differs (x ∷ b) [] more rest i l k other e = omega (arith, k)
-word-differs (x ∷ b) (y ∷ w) more rest zero l k other e = other (heads x y (b ++ more) (w ++ rest) e)
-word-differs (x ∷ b) (y ∷ w) more rest (suc i) l k other e =
-    word-differs b w more rest i (omega (arith, l)) (omega (arith, k)) other (tails x y (b ++ more) (w ++ rest) e)
-
--- bytes that are shorter than a word do not begin with it
-pub word-longer : (b w more rest : List ℕ) → more ≡ [] → length b < length w
-    → ¬ (b ++ more ≡ w ++ rest)
-word-longer b w more rest none l e =
-    let n = ap length e ∙ length-append w rest in
-    let m = sym (length-append b more) ∙ n in
-    let o = ap length none in omega (arith, l, m, o)
-
 module _ (bytes : List ℕ) (at : ℕ) (inside : at < length bytes) (e : drop at bytes ≡ after_blanks bytes) where
   -- the first byte after blanks, and those after it
   pub blanks-first : after_blanks bytes ≡ get_or bytes at 0 ∷ drop (at + 1) bytes
   blanks-first = sym e ∙ drop_more bytes at 0 inside
 
-  -- where another byte stands, this one does not, whatever follows
+  -- where another byte stands, this one does not, no matter what follows
   pub other-byte : (byte : ℕ) → ¬ (get_or bytes at 0 ≡ byte) → (more : List ℕ)
       → ¬ (StartsWith byte (after_blanks (bytes ++ more)))
   other-byte byte other more s =
@@ -58,7 +41,7 @@ byte-starts byte bytes rest e = subst (StartsWith byte) (sym e) refl
 
 -- ---- Parts
 
--- each value that begins bytes has a part that begins other bytes, whatever follows
+-- each value that begins bytes has a part that begins other bytes, no matter what follows
 abbrev pub Covers : {T U : Type 0} → (T → List ℕ → List ℕ → Type 0) → List ℕ
     → (U → List ℕ → List ℕ → Type 0) → List ℕ → Bool → Type 0
 Covers {T} {U} part c whole b partial = (more : List ℕ) → MayFollow partial more → (v : U) (r : List ℕ)
@@ -72,7 +55,7 @@ found-same R partial t u x y h e f =
     subst (λ z. IsFound R partial u z) f (subst (λ l. IsFound R partial l x) e h)
 
 module _ {T U : Type 0} (part : T → List ℕ → List ℕ → Type 0) (whole : U → List ℕ → List ℕ → Type 0) (partial : Bool) (c b : List ℕ) (covers : Covers part c whole b partial) where
-  -- where no part stands, no value does, whatever follows
+  -- where no part stands, no value does, no matter what follows
   pub none-as : HasNone part partial c → HasNone whole partial b
   none-as none more may v r h =
       let k = covers more may v r h in
@@ -93,7 +76,7 @@ module _ {T U : Type 0} (part : T → List ℕ → List ℕ → Type 0) (whole :
   pub begun-as : IsFound part partial c Begun → IsFound whole partial b Begun
   begun-as (may, none) = (may, missed-as none)
 
--- where no value stands whatever follows, none stands there
+-- where no value stands no matter what follows, none stands there
 pub none-here : {T : Type 0} (ahead : T → List ℕ → List ℕ → Type 0) (partial : Bool) (b : List ℕ)
     → HasNone ahead partial b → (v : T) (r : List ℕ) → ¬ (ahead v b r)
 none-here ahead partial b none v r h =

@@ -404,7 +404,3 @@ module _ (partial : Bool) where
   -- a member stays where more follows
   pub members-stable : (depth : ℕ) → Stable partial (MemberAhead (Nested partial depth))
   members-stable depth = member-stable (Nested partial depth) partial (nested-stable depth)
-
-  -- no member begins with a closing bracket
-  pub members-none : (depth : ℕ) → NoneAt 125 (MemberAhead (Nested partial depth))
-  members-none depth = member-none (Nested partial depth)

@@ -111,10 +111,6 @@ module _ (partial : Bool) (depth : ℕ) (b : List ℕ) where
       → (t : String Global) × StringHere t (b ++ more) r
   string-is s w more r h = string-only partial (Nested partial depth) (out-Value w) (b ++ more) r (here-kind 34 s w more r h) h
 
-  pub string-whole : (t : String Global) (n : ℕ) → IsFound StringHere partial b (Whole t n)
-      → IsFound (ValueHere partial depth) partial b (Whole (value.String t) n)
-  string-whole t n (fits, h) = (fits, subst (λ z. Layer partial (Nested partial depth) z b (drop n b)) (sym (out-string t)) h)
-
   pub string-begun : StartsWith 34 b → IsFound StringHere partial b Begun
       → IsFound (ValueHere partial depth) partial b Begun
   string-begun s = part-begun StringHere (string-is s)
@@ -132,10 +128,6 @@ module _ (partial : Bool) (depth : ℕ) (b : List ℕ) where
   abbrev pub ArrayHere : Vec Value Global → List ℕ → List ℕ → Type 0
   ArrayHere t = Bracketed (Nested partial depth) 93 91 t.items
 
-  pub array-whole : (t : Vec Value Global) (n : ℕ) → IsFound ArrayHere partial b (Whole t n)
-      → IsFound (ValueHere partial depth) partial b (Whole (value.Array t) n)
-  array-whole t n (fits, h) = (fits, subst (λ z. Layer partial (Nested partial depth) z b (drop n b)) (sym (out-array t)) h)
-
   pub array-begun : StartsWith 91 b → IsFound ArrayHere partial b Begun
       → IsFound (ValueHere partial depth) partial b Begun
   array-begun s = part-begun ArrayHere (array-is s)
@@ -152,11 +144,6 @@ module _ (partial : Bool) (depth : ℕ) (b : List ℕ) where
 
   abbrev pub ObjectHere : Vec (String Global × Value) Global → List ℕ → List ℕ → Type 0
   ObjectHere t = Bracketed (MemberAhead (Nested partial depth)) 125 123 t.items
-
-  pub object-whole : (t : Vec (String Global × Value) Global) (n : ℕ)
-      → IsFound ObjectHere partial b (Whole t n)
-      → IsFound (ValueHere partial depth) partial b (Whole (value.Object t) n)
-  object-whole t n (fits, h) = (fits, subst (λ z. Layer partial (Nested partial depth) z b (drop n b)) (sym (out-object t)) h)
 
   pub object-begun : StartsWith 123 b → IsFound ObjectHere partial b Begun
       → IsFound (ValueHere partial depth) partial b Begun
@@ -192,7 +179,3 @@ module _ (partial : Bool) (depth : ℕ) (b : List ℕ) where
     pub number-damaged : (n : ℕ) → IsFound (NumberHere partial) partial b (Damaged n)
         → IsFound (ValueHere partial depth) partial b (Damaged n)
     number-damaged = part-damaged (NumberHere partial) number-is
-
-  pub number-whole : (t : Number) (n : ℕ) → IsFound (NumberHere partial) partial b (Whole t n)
-      → IsFound (ValueHere partial depth) partial b (Whole (value.Number t) n)
-  number-whole t n (fits, h) = (fits, subst (λ z. Layer partial (Nested partial depth) z b (drop n b)) (sym (out-number t)) h)

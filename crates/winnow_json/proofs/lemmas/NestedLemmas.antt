@@ -127,13 +127,6 @@ module _ {T U : Type 0} (inner : T → List ℕ → List ℕ → Type 0) (close 
   brackets-whole u n fit (fits, h) =
       (fit, (drop 1 b, (starts-split b begin first, subst (Inside inner close (items_of u) (drop 1 b)) (drop-drop n 1 b) (elements-inside (items_of u) (drop 1 b) (drop n (drop 1 b)) h))))
 
-  -- nothing stands between brackets that follow one another
-  pub brackets-empty : (u : U) (n : ℕ) → items_of u ≡ [] → 1 + n ≤ length b
-      → after_blanks (drop 1 b) ≡ close ∷ drop n (drop 1 b)
-      → IsFound (λ u. Bracketed inner close begin (items_of u)) partial b (Whole u (1 + n))
-  brackets-empty u n none fit e =
-      (fit, (drop 1 b, (starts-split b begin first, subst (λ vs. Inside inner close vs (drop 1 b) (drop (1 + n) b)) (sym none) (e ∙ ap (λ l. close ∷ l) (drop-drop n 1 b)))))
-
 -- ---- Members
 
 module _ (partial : Bool) (inner : Value → List ℕ → List ℕ → Type 0) (b : List ℕ) where
@@ -164,12 +157,6 @@ module _ (partial : Bool) (inner : Value → List ℕ → List ℕ → Type 0) (
           let there = blanks-more (drop start b) 58 (drop at b) more colon in
           let same = tails 58 58 n (drop at b ++ more) (sym f ∙ ap after_blanks (sym (after-name m.0 a more h)) ∙ there) in
           (more, (λ none. none, (m.1, (r, subst (λ l. inner m.1 l r) same k))))
-
-      pub member-whole : (v : Value) (n : ℕ) → at ≤ length b
-          → IsFound inner partial (drop at b) (Whole v n)
-          → IsFound (MemberAhead inner) partial b (Whole (name, v) (at + n))
-      member-whole v n within (fits, h) =
-          (fits-both b at n within fits, (drop start b, (drop at b, (named, colon, subst (inner v (drop at b)) (drop-drop n at b) h))))
 
 -- bytes that begin with a byte are at least one
 pub starts-some : (byte : ℕ) (b : List ℕ) → StartsWith byte b → 1 ≤ length b

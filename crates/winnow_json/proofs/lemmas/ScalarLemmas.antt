@@ -69,7 +69,7 @@ left-none bytes count within e =
     let z : length (drop count bytes) ≡ 0 = ap length e in
     omega (arith, within, z, length-drop count bytes)
 
--- where a run is no number, none stands there, whatever follows
+-- where a run is no number, none stands there, no matter what follows
 pub number-none : (partial : Bool) (bytes : List ℕ) (count : ℕ) → count ≤ length bytes
     → Each is_number_byte (take count bytes) → ¬ (Starts is_number_byte (drop count bytes))
     → Settled partial bytes count → ¬ (IsNumber (take count bytes))
@@ -97,7 +97,7 @@ number-whole partial bytes count n within stops settled is of =
 
 -- ---- Strings
 
--- where no character stands whatever follows, no quote does
+-- where no character stands no matter what follows, no quote does
 no-quote-more : (d more : List ℕ) → IsNoChar d → ¬ (StartsWith 34 d) → ¬ (StartsWith 34 (d ++ more))
 no-quote-more [] more none never =
     absurd (none (97 ∷ []) (97, (97 ∷ [], ([], (refl, inl (refl, refl, sym (encode_ascii 97 (omega arith))))))))
@@ -113,7 +113,7 @@ stops-more bytes more n (within, never, (t, (cs, (e, spells)))) none =
       (t, (cs, (ap (λ l. l ++ more) e ∙ ap (λ l. 34 ∷ l) (append_assoc t (drop n bytes) more ∙ ap (λ l. t ++ l) (sym at)), spells))),
     )
 
--- a damaged string is none, whatever follows
+-- a damaged string is none, no matter what follows
 pub string-damaged : (partial : Bool) (bytes : List ℕ) (n : ℕ) → IsReading bytes (reading.Damaged n)
     → IsFound StringHere partial bytes (Damaged n)
 string-damaged partial bytes n (stops, none) = (
@@ -122,13 +122,6 @@ string-damaged partial bytes n (stops, none) = (
       stops-none (bytes ++ more) h.0 r n (stops-more bytes more n stops none)
       (λ begins. none more (subst BeginsChar (drop-append-le n bytes more stops.0) begins)) h.1.0,
 )
-
--- where no quote stands, no string does, whatever follows
-pub string-missing : (partial : Bool) (bytes : List ℕ) → IsReading bytes reading.Missing
-    → IsFound StringHere partial bytes (Damaged 0)
-string-missing partial [] (some, never) = absurd (some refl)
-string-missing partial (x ∷ bytes) (some, never) =
-    (omega arith, λ more may v r h. missing-missed (x ∷ bytes ++ more) h.0 r never h.1.0)
 
 -- a string that is begun is none yet
 pub string-begun : (partial : Bool) (bytes : List ℕ) (n : ℕ) → partial ≡ true

@@ -188,7 +188,7 @@ pub missing-missed : (bytes ds after : List ℕ) → ¬ (StartsWith 34 bytes)
     → ¬ (StringAhead bytes ds after)
 missing-missed bytes ds after no_quote (u, (so, also)) = no_quote (subst (StartsWith 34) (sym so) refl)
 
--- a damaged string is so whatever follows
+-- a damaged string is so no matter what follows
 pub damaged-at : (partial : Bool) (bytes : List ℕ) (n : ℕ) → IsReading bytes (reading.Damaged n)
     → IsDamagedAt partial bytes (drop n bytes)
 damaged-at partial bytes n ((within, no_quote, (t, (cs, (is, spells)))), none) =

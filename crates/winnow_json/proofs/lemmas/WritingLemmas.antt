@@ -73,13 +73,6 @@ module _ {T : Type 0} (inner : Bool → ℕ → T → List ℕ → List ℕ → 
   list-stands depth x xs one all partial rest ends =
       (listed (map text (x ∷ xs)) ++ close ∷ rest, (ap (λ l. begin ∷ l) (append_assoc (listed (map text (x ∷ xs))) (close ∷ []) rest), elements-stand depth x xs one all partial rest))
 
-  -- brackets with nothing between them are appended
-  pub empty-appended : (depth : ℕ) (xs : List T) (old new : List ℕ) → xs ≡ []
-      → new ≡ old ++ begin ∷ close ∷ [] → IsAppended ListHere list_text depth xs old new (Ok tt)
-  empty-appended depth xs old new e is =
-      subst (λ l. IsAppended ListHere list_text depth l old new (Ok tt)) (sym e)
-      (is, λ partial rest ends. (close ∷ rest, (refl, close-first rest)))
-
   -- four texts in a row
   in-row : (old t u : List ℕ)
       → (((old ++ begin ∷ []) ++ t) ++ u) ++ close ∷ [] ≡ old ++ begin ∷ ((t ++ u) ++ close ∷ [])
@@ -129,12 +122,6 @@ module _ {T : Type 0} (inner : Bool → ℕ → T → List ℕ → List ℕ → 
   list-never depth (x ∷ xs) i d inside never partial b r (n, (e, h)) =
       let at = element-at partial depth (x ∷ xs) i d n r inside h in
       never partial at.0 at.1.0 at.1.1
-
-  -- no element stands where none may
-  pub too-deep-list : (depth : ℕ) (xs : List T) (x : T) → depth ≡ 0 → 0 < length xs
-      → Never ListHere depth xs
-  too-deep-list depth xs x e some =
-      list-never depth xs 0 x some (subst (λ n. Never inner n (get_or xs 0 x)) (sym e) (λ partial b r. none partial (get_or xs 0 x) b r))
 
   -- where an element is refused, the elements are
   pub list-refused : (depth less : ℕ) → depth ≡ suc less → (values xs : List T) → values ≡ xs
