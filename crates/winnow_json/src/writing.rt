@@ -37,8 +37,10 @@ impl From<AllocError> for Unwritten {
 /// escaped, by a letter where there is one, and all other characters stand for themselves.
 ///
 /// Each value in it must stand within at most `depth` arrays and objects, as for
-/// [`read_value`](crate::read_value). Where a value has more than one fault, the answer names the
-/// first in the text. Where nothing is written, the bytes are what they were.
+/// [`read_value`](crate::read_value), and each number must be the one that its text writes. No text
+/// is a value that is refused for either. Of several such faults the answer names the first in the
+/// order of the text, which the contract does not say. Where nothing is written, the bytes are what
+/// they were.
 ///
 /// Calls are nested as deep as the arrays and objects, so `depth` limits the stack.
 pub fn write_value(depth: usize, value: &Value, bytes: &mut Vec<u8>) -> Result<(), Unwritten>
