@@ -6,14 +6,20 @@ use Rattle.std.specs.declared.string.String.{String}
 use Rattle.std.specs.declared.alloc.Global.{Global}
 use Rattle.winnow_format.specs.Bytes.{StartsWith}
 use Rattle.winnow_json.specs.StringAnswers.{IsDamagedAt}
-use Rattle.winnow_json.specs.Values.{after_blanks, StringHere, MemberAhead, ValueAhead}
+use Rattle.winnow_json.specs.Values.{after_blanks, StringHere, MemberAhead, ValueAhead, ValueHere}
+use Rattle.winnow_json.specs.Founds.{HasNone}
 use Rattle.winnow_json.specs.declared.found.Found.{Found}
 use Rattle.winnow_json.specs.declared.found.Found.TheVariants.{Whole, Begun, Damaged}
 
 -- the bytes begin neither with a string nor with an array nor with an object, so they are the rest
-abbrev pub NoneBegins : List ℕ → List ℕ → Type 0
-NoneBegins bytes rest =
+abbrev pub BeginsNoOther : List ℕ → List ℕ → Type 0
+BeginsNoOther bytes rest =
     (rest ≡ bytes) × ¬ (StartsWith 34 bytes) × ¬ (StartsWith 91 bytes) × ¬ (StartsWith 123 bytes)
+
+-- nor do they begin with a word or a number, no matter what follows
+abbrev pub NoneBegins : Bool → List ℕ → List ℕ → Type 0
+NoneBegins partial bytes rest =
+    BeginsNoOther bytes rest × HasNone (ValueHere partial zero) partial bytes
 
 -- a string that must stand at the bytes breaks off at the rest: no quote stands first, or the
 -- string is damaged there
@@ -71,7 +77,7 @@ MemberBreaksOff partial breaks bytes rest = StringBreaksOff partial (after_blank
 -- members do: none begins; or a string is damaged; or an array or an object breaks off
 abbrev pub LayerBreaksOff : Bool → (List ℕ → List ℕ → Type 0) → (List ℕ → List ℕ → Type 0)
     → List ℕ → List ℕ → Type 0
-LayerBreaksOff partial elements members bytes rest = NoneBegins bytes rest
+LayerBreaksOff partial elements members bytes rest = NoneBegins partial bytes rest
     ⊎ (IsDamagedAt partial bytes rest ⊎ (BracketsBreakOff elements 93 91 bytes rest
     ⊎ BracketsBreakOff members 125 123 bytes rest))
 
@@ -110,7 +116,7 @@ module _ (partial : Bool) where
 
 -- a value that is neither an array nor an object breaks off at the rest
 abbrev pub ScalarBreaksOff : Bool → List ℕ → List ℕ → Type 0
-ScalarBreaksOff partial bytes rest = NoneBegins bytes rest ⊎ IsDamagedAt partial bytes rest
+ScalarBreaksOff partial bytes rest = BeginsNoOther bytes rest ⊎ IsDamagedAt partial bytes rest
 
 -- where something is damaged, it breaks off there
 abbrev pub IsPlaced : {T : Type 0} → (List ℕ → List ℕ → Type 0) → List ℕ → Found T → Type 0

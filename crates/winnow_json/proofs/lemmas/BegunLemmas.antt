@@ -1,13 +1,12 @@
 -- Where a value is begun, from where a part of it is.
-use Rattle.std.proofs.Common.{◌≡◌, ℕ, zero, suc, ◌+◌, ◌≤◌, Bool, true, List, [], ◌∷◌, ◌++◌, length, take, drop, inl, inr, ap, sym, ◌∙◌, subst, refl, arith, take_all, take-append-drop}
+use Rattle.std.proofs.Common.{◌≡◌, ℕ, zero, suc, ◌+◌, ◌≤◌, Bool, List, [], ◌∷◌, ◌++◌, length, take, drop, inl, inr, ap, sym, ◌∙◌, subst, refl, arith, take_all, take-append-drop}
 use Rattle.std.proofs.lemmas.List.{drop-drop}
 use Rattle.std.specs.declared.string.String.{String}
 use Rattle.std.specs.declared.alloc.Global.{Global}
 use Rattle.winnow_format.specs.Bytes.{StartsWith}
-use Rattle.winnow_json.specs.StringAnswers.{IsBegun}
 use Rattle.winnow_json.specs.Values.{after_blanks, null_word, StringHere}
 use Rattle.winnow_json.specs.Damage.{EachWithComma}
-use Rattle.winnow_json.specs.Begun.{BeginsWord, BeginsScalar, BeginsElements, BeginsBrackets, BeginsMember, BeginsHere, BeginsValue, BeginsElementsIn, BeginsMembersIn, BeginsArray, BeginsObject, IsOpen}
+use Rattle.winnow_json.specs.Begun.{BeginsWord, BeginsScalar, BeginsElements, BeginsBrackets, BeginsMember, BeginsHere, BeginsArray, BeginsObject, IsOpen}
 use Rattle.winnow_json.specs.declared.found.Found.{Found}
 use Rattle.winnow_json.specs.declared.found.Found.TheVariants.{Whole, Begun, Damaged}
 use Rattle.winnow_json.proofs.lemmas.StringLemmas.{starts-split}

@@ -1,16 +1,24 @@
 -- Where a value breaks off, from the place at which a part of it does.
 use Rattle.std.proofs.Common.{◌≡◌, ℕ, zero, suc, ◌+◌, Bool, List, [], ◌∷◌, drop, inl, inr, sym, ◌∙◌, subst, refl, append-nil}
 use Rattle.std.proofs.lemmas.List.{drop-drop}
+use Rattle.std.specs.Prelude.{Result, Ok, Err, IfOk}
 use Rattle.std.specs.declared.string.String.{String}
 use Rattle.std.specs.declared.alloc.Global.{Global}
 use Rattle.winnow_format.specs.Bytes.{StartsWith}
-use Rattle.winnow_json.specs.Values.{after_blanks, StringHere}
-use Rattle.winnow_json.specs.Founds.{IsNext}
+use Rattle.winnow_json.specs.Values.{after_blanks, StringHere, ValueHere}
+use Rattle.winnow_json.specs.Founds.{IsFound, IsNext}
 use Rattle.winnow_json.specs.Damage.{StringBreaksOff, ByteIsMissing, EachWithComma, ElementsBreakOff, BracketsBreakOff, MemberBreaksOff, HereBreaksOff, BreaksOff, ArrayBreaksOff, ObjectBreaksOff, ScalarBreaksOff, IsPlaced}
+use Rattle.winnow_json.specs.declared.value.Value.{Value}
 use Rattle.winnow_json.specs.declared.found.Found.{Found}
 use Rattle.winnow_json.specs.declared.found.Found.TheVariants.{Whole, Begun, Damaged}
 use Rattle.winnow_json.specs.declared.found.Next.TheVariants as next
 use Rattle.winnow_json.proofs.lemmas.StringLemmas.{starts-split}
+
+-- two facts of an answer give a third
+pub if-both : {X Y : Type 0} (r : Result X Y) (P Q R : X → Type 0)
+    → ((x : X) → P x → Q x → R x) → IfOk r P → IfOk r Q → IfOk r R
+if-both (Ok x) P Q R on p q = on x p q
+if-both (Err e) P Q R on p q = tt
 
 -- the place in bytes that are the same
 pub placed-same : {T : Type 0} (R : List ℕ → List ℕ → Type 0) (t u : List ℕ) (x y : Found T)
@@ -64,14 +72,15 @@ module _ (partial : Bool) where
   here-object (suc depth) b rest h = inr (inr (inr h))
 
   -- so does a scalar
-  pub here-scalar : {T : Type 0} (depth : ℕ) (b : List ℕ) (x : Found T)
-      → IsPlaced (ScalarBreaksOff partial) b x → IsPlaced (HereBreaksOff partial depth) b x
-  here-scalar depth b (Whole v n) h = tt
-  here-scalar depth b Begun h = tt
-  here-scalar zero b (Damaged n) (inl h) = inl h
-  here-scalar zero b (Damaged n) (inr h) = inr (inl h)
-  here-scalar (suc depth) b (Damaged n) (inl h) = inl h
-  here-scalar (suc depth) b (Damaged n) (inr h) = inr (inl h)
+  pub here-scalar : (depth : ℕ) (b : List ℕ) (x : Found Value)
+      → IsFound (ValueHere partial zero) partial b x → IsPlaced (ScalarBreaksOff partial) b x
+      → IsPlaced (HereBreaksOff partial depth) b x
+  here-scalar depth b (Whole v n) found h = tt
+  here-scalar depth b Begun found h = tt
+  here-scalar zero b (Damaged n) found (inl h) = inl (h, found.1)
+  here-scalar zero b (Damaged n) found (inr h) = inr (inl h)
+  here-scalar (suc depth) b (Damaged n) found (inl h) = inl (h, found.1)
+  here-scalar (suc depth) b (Damaged n) found (inr h) = inr (inl h)
 
   -- a value after blanks breaks off as the value does
   pub ahead-placed : (depth : ℕ) (b : List ℕ) (at n : ℕ) → drop at b ≡ after_blanks b

@@ -17,7 +17,7 @@ use Rattle.winnow_json.specs.declared.strings.Reading.TheVariants as reading
 use Rattle.winnow_json.specs.declared.found.Found.TheVariants.{Whole, Begun, Damaged}
 use Rattle.winnow_json.proofs.lemmas.NumberAnswerLemmas.{number-bytes}
 use Rattle.winnow_json.proofs.lemmas.RunLemmas.{split-once}
-use Rattle.winnow_json.proofs.lemmas.StringLemmas.{stops-none, begun-missed, missing-missed}
+use Rattle.winnow_json.proofs.lemmas.StringLemmas.{stops-none, begun-missed}
 
 -- ---- Numbers
 

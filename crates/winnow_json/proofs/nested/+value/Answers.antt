@@ -15,7 +15,7 @@ use Rattle.winnow_json.proofs.lemmas.FoundLemmas.{HasRead, found-same, begun-as,
 use Rattle.winnow_json.proofs.lemmas.LayerLemmas.{ArrayHere, ObjectHere, array-begun, array-damaged, object-begun, object-damaged}
 use Rattle.winnow_json.proofs.lemmas.NestedLemmas.{vec_items, starts-some, value-whole, value-begun, value-damaged, nested-some, members-some, brackets-begun, brackets-missed, brackets-damaged, brackets-deep, brackets-whole, name-covers, colon-covers, member-covers}
 use Rattle.winnow_json.proofs.lemmas.BegunLemmas.{open-same, open-as, elements-begin, elements-wait, brackets-begin, array-waits, object-waits, here-begins-scalar, here-begins-array, here-begins-object, name-waits, value-begins}
-use Rattle.winnow_json.proofs.lemmas.DamageLemmas.{placed-same, elements-stop, elements-end, brackets-stop, here-array, here-object, here-scalar, ahead-placed, name-stop, colon-stop, value-stop}
+use Rattle.winnow_json.proofs.lemmas.DamageLemmas.{if-both, placed-same, elements-stop, elements-end, brackets-stop, here-array, here-object, here-scalar, ahead-placed, name-stop, colon-stop, value-stop}
 use Rattle.winnow_json.proofs.nested.+value.Goals as goal
 
 pub elements_at-returns-in-Begun-clause-found : goal.elements_at-returns-in-Begun-clause-found
@@ -559,11 +559,15 @@ value_at-returns-in-Damaged-clause-place t c =
 
 pub value_here-returns-then-is_empty-clause-place : goal.value_here-returns-then-is_empty-clause-place
 value_here-returns-then-is_empty-clause-place t c =
-    IfOk-weaker c.scalar_at.result (IsPlaced (ScalarBreaksOff c.args.partial) c.args.bytes.now) (IsPlaced (HereBreaksOff c.args.partial c.args.depth) c.args.bytes.now) (here-scalar c.args.partial c.args.depth c.args.bytes.now) c.scalar_at.ensures.place
+    let b = c.args.bytes.now in
+    let p = c.args.partial in
+    if-both c.scalar_at.result (IsFound (ValueHere p 0) p b) (IsPlaced (ScalarBreaksOff p) b) (IsPlaced (HereBreaksOff p c.args.depth) b) (here-scalar p c.args.depth b) (c.scalar_at.ensures.found 0) c.scalar_at.ensures.place
 
 pub value_here-returns-clause-place : goal.value_here-returns-clause-place
 value_here-returns-clause-place t c =
-    IfOk-weaker c.scalar_at-2.result (IsPlaced (ScalarBreaksOff c.args.partial) c.args.bytes.now) (IsPlaced (HereBreaksOff c.args.partial c.args.depth) c.args.bytes.now) (here-scalar c.args.partial c.args.depth c.args.bytes.now) c.scalar_at-2.ensures.place
+    let b = c.args.bytes.now in
+    let p = c.args.partial in
+    if-both c.scalar_at-2.result (IsFound (ValueHere p 0) p b) (IsPlaced (ScalarBreaksOff p) b) (IsPlaced (HereBreaksOff p c.args.depth) b) (here-scalar p c.args.depth b) (c.scalar_at-2.ensures.found 0) c.scalar_at-2.ensures.place
 
 pub value_here-returns-in-Damaged-clause-place : goal.value_here-returns-in-Damaged-clause-place
 value_here-returns-in-Damaged-clause-place t c =
