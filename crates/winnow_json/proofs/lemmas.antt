@@ -17,6 +17,7 @@ pub mod NestedLemmas
 pub mod SameLemmas
 pub mod ValueStreamLemmas
 pub mod DocumentLemmas
+pub mod PlaceLemmas
 pub mod JsonTokenLemmas
 pub mod TokenStreamLemmas
 pub mod TokenReadingLemmas

@@ -1,4 +1,6 @@
-ghost use Rattle.std.specs.Prelude.{ℕ, suc};
+ghost use Rattle.std.specs.Prelude.{◌≡◌, ℕ, suc, Bool, List};
+ghost use Rattle.winnow_json.specs.Values.{ValueAhead};
+ghost use Rattle.winnow_json.specs.Damage.{BreaksOff};
 ghost use Rattle.winnow_json.specs.Documents.{IsDocument, IsOnlyDocument, IsDamage};
 ghost use Rattle.winnow_json.specs.SameValues.{SameValue};
 ghost use Rattle.winnow_json.specs.Writing.{written};
@@ -13,4 +15,15 @@ pub fn round_trip_law()
         → IsOnlyDocument depth (written value) read → SameValue (suc depth) read value }
     ensures whole { (depth : ℕ) (value : Value) (damage : Damage)
         → IsDocument depth (written value) value → ¬ (IsDamage depth (written value) damage) }
+{}
+
+/// The law of places: a value breaks off in one place at most, and nowhere where one stands ahead.
+/// A law does nothing when called: its contract is the law.
+pub fn place_law()
+    ensures once { (partial : Bool) (depth : ℕ) (bytes rest other : List ℕ)
+        → BreaksOff partial depth bytes rest → BreaksOff partial depth bytes other
+        → rest ≡ other }
+    ensures none { (partial : Bool) (depth : ℕ) (bytes rest : List ℕ)
+        → BreaksOff partial depth bytes rest → (value : Value) (after : List ℕ)
+        → ¬ (ValueAhead partial depth value bytes after) }
 {}

@@ -8,7 +8,8 @@
 //! string is missed, and where a damaged one is wrong.
 //!
 //! [`read_value`] reads a [`Value`] within a limit on its depth, and [`read_document`] a whole text
-//! that is one value. Their contracts say that the value is the only one that stands there.
+//! that is one value. Their contracts say that the value is the only one that stands there, and
+//! where a damaged one breaks off, which is one place, as [`place_law`] says.
 //!
 //! [`JsonToken`] is the record of a [`Token`], for a `ByteReader` over bytes that come in pieces;
 //! [`tokens_in_pieces_law`] says what such a reader reads.
@@ -35,7 +36,7 @@ mod values;
 mod writing;
 
 pub use documents::{Damage, read_document};
-pub use laws::round_trip_law;
+pub use laws::{place_law, round_trip_law};
 pub use numbers::{Number, read_number};
 pub use strings::read_string;
 pub use token_laws::tokens_in_pieces_law;

@@ -4,7 +4,7 @@
 
 use crate::rows::{DEPTH, Kind, Read, Row, ask};
 use std::alloc::AllocError;
-use winnow_json::read_document;
+use winnow_json::{place_law, read_document};
 
 const VALUES: &[Row] = &[
     (b"null", Read::Value("Null"), 0, 4),
@@ -153,6 +153,7 @@ fn values_are_read(rt: HostRuntime) -> Result<(), AllocError> {
 
 #[test]
 fn damaged_values_are_cut_at_their_place(rt: HostRuntime) -> Result<(), AllocError> {
+    place_law();
     ask(&rt, rt.alloc(), Kind::Value, DAMAGED)
 }
 
