@@ -6,7 +6,7 @@ use Rattle.winnow_stream.specs.Source.{Source}
 use Rattle.winnow_stream.specs.Longer.{SlicesStay}
 use Rattle.winnow_count.specs.Reading.{IsSomeExactly}
 use Rattle.winnow_parser.specs.declared.failure.Failure.TheVariants.{Incomplete, Backtrack, Cut, Refused}
-use Rattle.winnow_parser.specs.Outcome.{Meaning}
+use Rattle.winnow_parser.specs.Outcome.{Ahead, Gives, Meaning}
 use Rattle.winnow_parser.specs.Errors.{Errors}
 use Rattle.winnow_parser.specs.Laws.{IsParser}
 use Rattle.winnow_parser.specs.Meanings.{Maps, IsForgotten, Pair, Either, Optional, Chosen}
@@ -14,6 +14,7 @@ use Rattle.winnow_parser.specs.Taken.{Taken, IsParser-Taken}
 use Rattle.winnow_parser.specs.Parts.{IsParser-Maps, IsParser-Pair, IsParser-Either, IsParser-Optional, IsParser-Chosen}
 use Rattle.winnow_token.specs.OneOf.{OneOf, IsParser-OneOf}
 use Rattle.winnow_token.specs.Held.{HeldFront, IsParser-HeldFront}
+use Rattle.winnow_ascii.specs.Escapes.{IsAbsent}
 
 -- a sign: a plus (43) or a minus (45)
 abbrev pub is_sign : ℕ → Bool
@@ -53,15 +54,26 @@ ReadAs reads is_slice inner = Chosen (λ slice value. IsSomeExactly (reads slice
 abbrev pub ReadsAlike : {S R V : Type 0} → (S → V) → (S → R → Type 0) → Type 0
 ReadsAlike {S} {R} {V} view reads = (s t : S) (x : R) → view s ≡ view t → reads s x → reads t x
 
--- an error that is made of the stream as it is left, or one that joins another error with such an
--- error
-abbrev pub NumberErrors : {E S T : Type 0} → (S → E → Type 0) → (S → E → Type 0)
+-- an error that joins two, each made of the stream as one alternative leaves it
+abbrev pub DigitErrors : {E S T : Type 0} → (S → E → Type 0) → (S → E → Type 0)
     → (E → E → E → Type 0) → Errors E S T
-NumberErrors {E} {S} {T} makes cuts joins partial a s (Backtrack e) =
-    makes s e ⊎ ((one : E) × ((other : E) × ((r : S) × (makes r one × makes s other × joins one other e))))
-NumberErrors makes cuts joins partial a s (Cut e) = cuts s e
-NumberErrors makes cuts joins partial a s (Incomplete n) = ⊤
-NumberErrors makes cuts joins partial a s (Refused r) = ⊤
+DigitErrors {E} {S} {T} makes cuts joins partial a s (Backtrack e) =
+    (one : E) × ((other : E) × ((r : S) × (makes r one × makes s other × joins one other e)))
+DigitErrors makes cuts joins partial a s (Cut e) = cuts s e
+DigitErrors makes cuts joins partial a s (Incomplete n) = ⊤
+DigitErrors makes cuts joins partial a s (Refused r) = ⊤
+
+-- where the inner parser gives a slice that reads as no value, an error that is made of the stream;
+-- and where it fails, its own
+abbrev pub ReadErrors : {S R E I T : Type 0} → (S → R → Type 0) → (I → E → Type 0) → Meaning S T
+    → Errors E I T → Errors E I T
+ReadErrors {S} {R} {E} {I} {T} reads makes means inner partial a s (Backtrack e) =
+    ((slice : S) × ((b : Ahead T) × (means partial a (Gives slice b)
+    × IsSomeExactly (reads slice) None × makes s e)))
+    ⊎ (IsAbsent means partial a × inner partial a s (Backtrack e))
+ReadErrors reads makes means inner partial a s (Cut e) = inner partial a s (Cut e)
+ReadErrors reads makes means inner partial a s (Incomplete n) = inner partial a s (Incomplete n)
+ReadErrors reads makes means inner partial a s (Refused r) = inner partial a s (Refused r)
 
 -- ---- The laws
 

@@ -1,6 +1,9 @@
-ghost use Rattle.std.specs.Prelude.{◌≡◌};
+ghost use Rattle.std.specs.Prelude.{◌≡◌, IfErr};
 ghost use Rattle.winnow_count.specs.Reading.{IsSomeExactly};
-ghost use Rattle.winnow_ascii.specs.Numbers.{Unsigned, Signed, ReadAs, NumberErrors};
+ghost use Rattle.winnow_parser.specs.Answer.{ahead, outcome};
+ghost use Rattle.winnow_parser.specs.Meanings.{Chosen};
+ghost use Rattle.winnow_parser.specs.Taken.{Taken, IsParser-Taken};
+ghost use Rattle.winnow_ascii.specs.Numbers.{Unsigned, Signed, ReadAs, DigitErrors, ReadErrors};
 ghost use Rattle.winnow_ascii.specs.Numbers.{IsParser-Unsigned, IsParser-Signed, IsParser-ReadAs};
 
 use crate::digit0;
@@ -9,10 +12,107 @@ use std::marker::PhantomData;
 use winnow_combinator::{alt, opt};
 use winnow_count::ParseSlice;
 use winnow_error::ParserError;
-use winnow_parser::{ModalResult, Parser};
+use winnow_parser::{Failure, ModalResult, Parser};
 use winnow_sets::AsChar;
 use winnow_stream::StreamIsPartial;
 use winnow_token::one_of;
+
+// A parser of the slice of a number's digits.
+#[derive(Clone, Copy)]
+struct UnsignedDigits;
+
+impl<I: StreamIsPartial, E: ParserError<I>> Parser<I, E> for UnsignedDigits
+where
+    I::Token: AsChar + Copy,
+    I::Slice: Drop,
+{
+    type Output = I::Slice;
+
+    ghost means = { λ _. Taken I.is_slice (Unsigned E.or_refusable I.is_slice I.Token.code) };
+
+    ghost errors = { λ _. DigitErrors E.from_input_gives E.assert_gives E.or_gives };
+
+    ghost ready = { λ _. Unit {0} };
+
+    ghost lawful = { λ _. IsParser-Taken I.is_slice I.slices_stay _
+        (IsParser-Unsigned E.or_refusable I.is_slice I.slices_stay I.Token.code) };
+
+    #[inline(always)]
+    fn parse_next(&self, alloc: Global, input: &mut I) -> ModalResult<I::Slice, E> {
+        let digits = (one_of('1'..='9'), digit0());
+        alt((digits.void(), one_of('0').void()))
+            .take()
+            .parse_next(alloc, input)
+    }
+}
+
+// A parser of the slice of a number's sign and digits.
+#[derive(Clone, Copy)]
+struct SignedDigits;
+
+impl<I: StreamIsPartial, E: ParserError<I>> Parser<I, E> for SignedDigits
+where
+    I::Token: AsChar + Copy,
+    I::Slice: Drop,
+{
+    type Output = I::Slice;
+
+    ghost means = { λ _. Taken I.is_slice (Signed E.or_refusable I.is_slice I.Token.code) };
+
+    ghost errors = { λ _. DigitErrors E.from_input_gives E.assert_gives E.or_gives };
+
+    ghost ready = { λ _. Unit {0} };
+
+    ghost lawful = { λ _. IsParser-Taken I.is_slice I.slices_stay _
+        (IsParser-Signed E.or_refusable I.is_slice I.slices_stay I.Token.code) };
+
+    #[inline(always)]
+    fn parse_next(&self, alloc: Global, input: &mut I) -> ModalResult<I::Slice, E> {
+        let digits = (one_of('1'..='9'), digit0());
+        alt(((opt(one_of(('+', '-'))), digits).void(), one_of('0').void()))
+            .take()
+            .parse_next(alloc, input)
+    }
+}
+
+// Reads the value that the slice of a parser reads as. Where it reads as none, the stream is reset,
+// and a backtrack is returned.
+#[inline(always)]
+fn read_as<I: StreamIsPartial, E: ParserError<I>, P: Parser<I, E, Output = I::Slice>, R>(
+    digits: &P,
+    alloc: Global,
+    input: &mut I,
+) -> ModalResult<R, E>
+where
+    I::Slice: ParseSlice<R> + Drop,
+    requires ready { P.ready digits.now }
+    requires valid { I.valid input.old }
+    ensures means { Chosen (λ slice value. IsSomeExactly (I.Slice.reads slice) value)
+        (P.means digits.now)
+        (I.expects_more input.old)
+        (ahead I.location I.remaining input.old)
+        (outcome result (ahead I.location I.remaining input.new)) }
+    ensures error { IfErr result (ReadErrors I.Slice.reads E.from_input_gives
+        (P.means digits.now) (P.errors digits.now) (I.expects_more input.old)
+        (ahead I.location I.remaining input.old) input.new) }
+    ensures valid { I.valid input.new }
+    ensures kept { I.keeps input.old input.new }
+{
+    let start = input.checkpoint();
+    match digits.parse_next(alloc, input) {
+        Ok(slice) => match slice.parse_slice() {
+            Some(value) => Ok(value),
+            None => {
+                input.reset(&start);
+                Err(Failure::Backtrack(E::from_input(alloc, input)))
+            }
+        },
+        Err(Failure::Backtrack(error)) => Err(Failure::Backtrack(error)),
+        Err(Failure::Cut(error)) => Err(Failure::Cut(error)),
+        Err(Failure::Incomplete(needed)) => Err(Failure::Incomplete(needed)),
+        Err(Failure::Refused(refused)) => Err(Failure::Refused(refused)),
+    }
+}
 
 /// A parser of a number in decimal digits; [`dec_uint`] makes it.
 #[derive_where(Clone, Copy)]
@@ -36,7 +136,9 @@ where
     ghost means = { λ _. ReadAs I.Slice.reads I.is_slice
         (Unsigned E.or_refusable I.is_slice I.Token.code) };
 
-    ghost errors = { λ _. NumberErrors E.from_input_gives E.assert_gives E.or_gives };
+    ghost errors = { λ _. ReadErrors I.Slice.reads E.from_input_gives
+        (Taken I.is_slice (Unsigned E.or_refusable I.is_slice I.Token.code))
+        (DigitErrors E.from_input_gives E.assert_gives E.or_gives) };
 
     ghost ready = { λ _. Unit {0} };
 
@@ -44,15 +146,7 @@ where
         (IsParser-Unsigned E.or_refusable I.is_slice I.slices_stay I.Token.code) };
 
     fn parse_next(&self, alloc: Global, input: &mut I) -> ModalResult<R, E> {
-        let digits = (one_of('1'..='9'), digit0());
-        alt((digits.void(), one_of('0').void()))
-            .take()
-            .verify_map(
-                |slice: I::Slice| -> Option<R>
-                    ensures { IsSomeExactly (I.Slice.reads slice) result }
-                { slice.parse_slice() },
-            )
-            .parse_next(alloc, input)
+        read_as(&UnsignedDigits, alloc, input)
     }
 }
 
@@ -79,7 +173,9 @@ where
     ghost means = { λ _. ReadAs I.Slice.reads I.is_slice
         (Signed E.or_refusable I.is_slice I.Token.code) };
 
-    ghost errors = { λ _. NumberErrors E.from_input_gives E.assert_gives E.or_gives };
+    ghost errors = { λ _. ReadErrors I.Slice.reads E.from_input_gives
+        (Taken I.is_slice (Signed E.or_refusable I.is_slice I.Token.code))
+        (DigitErrors E.from_input_gives E.assert_gives E.or_gives) };
 
     ghost ready = { λ _. Unit {0} };
 
@@ -87,14 +183,6 @@ where
         (IsParser-Signed E.or_refusable I.is_slice I.slices_stay I.Token.code) };
 
     fn parse_next(&self, alloc: Global, input: &mut I) -> ModalResult<R, E> {
-        let digits = (one_of('1'..='9'), digit0());
-        alt(((opt(one_of(('+', '-'))), digits).void(), one_of('0').void()))
-            .take()
-            .verify_map(
-                |slice: I::Slice| -> Option<R>
-                    ensures { IsSomeExactly (I.Slice.reads slice) result }
-                { slice.parse_slice() },
-            )
-            .parse_next(alloc, input)
+        read_as(&SignedDigits, alloc, input)
     }
 }

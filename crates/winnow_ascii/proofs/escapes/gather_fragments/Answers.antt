@@ -33,7 +33,7 @@ returns-in-Ok-None-clause-means g c =
     let after = stands c.fragment_or_end.new.input in
     let partial = g.I.StreamIsPartial.expects_more start in
     let flag = g.met.I.StreamIsPartial.keeps_flag start here so_far.kept in
-    let at_none = subst (λ o. step (g.I.StreamIsPartial.expects_more here) (stands here) (Gives o after)) c.in-Ok-None.field-0-is c.in-Ok-None.ensures.means in
+    let at_none = subst (λ o. step (g.I.StreamIsPartial.expects_more here) (stands here) (Gives o after)) {x = c.in-Ok-None.field-0} c.in-Ok-None.field-0-is c.in-Ok-None.ensures.means in
     let none = subst (λ more. step more (stands here) (Gives None after)) flag at_none in
     (xs, (so_far.made, GivesInTurn-ended step partial xs (stands start) (stands here) (Gives tt after) so_far.values none))
 

@@ -1,14 +1,14 @@
 use Rattle.std.proofs.Common.{ap, ◌∙◌}
 use Rattle.winnow_count.specs.CountRange.{least_count, greatest_count}
 use Rattle.winnow_ascii.proofs.lemmas.NumberLemmas.{signed-as}
-use Rattle.winnow_ascii.proofs.numbers.DecimalSignedParser.parse_next.Goals as goal
+use Rattle.winnow_ascii.proofs.numbers.SignedDigitsParser.parse_next.Goals as goal
 
 pub returns-clause-means : goal.returns-clause-means
 returns-clause-means g c =
-    let list = ap (λ p. p.inner.list) c.verify_map.ensures.inner ∙ ap (λ p. p.list) c.take.ensures.inner ∙ ap (λ p. p.list) c.alt.ensures in
+    let list = ap (λ p. p.list) c.take.ensures.inner ∙ ap (λ p. p.list) c.alt.ensures in
     let row = ap (λ l. l.0.inner) list ∙ c.void.ensures.inner in
     let first = ap (λ r. r.1.0.set) row ∙ ap (λ o. o.set) c.one_of.ensures in
-    signed-as g.I.Slice.ParseSlice.reads g.E.ParserError.or_refusable g.I.Stream.is_slice g.I.Token.AsChar.code _ _ _
+    signed-as g.E.ParserError.or_refusable g.I.Stream.is_slice g.I.Token.AsChar.code _ _ _
     (ap (λ r. r.0.inner.set) row ∙ ap (λ o. o.inner.set) c.opt.ensures ∙ ap (λ o. o.set) c.one_of-2.ensures)
     (ap (λ s. s.start) first ∙ c.new.ensures.start) (ap (λ s. s.end) first ∙ c.new.ensures.end)
     (ap (λ r. r.1.1.set) row ∙ c.digit0.ensures.0)
