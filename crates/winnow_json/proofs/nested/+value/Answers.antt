@@ -24,9 +24,7 @@ elements_at-returns-in-Begun-clause-found t c =
     let p = c.args.partial in
     let inner = Nested c.args.partial (suc c.args.depth) in
     let at = c.loop-elements.at in
-    let read = c.loop-elements.invariant in
-    let items = c.loop-elements.elements.items in
-    begun-as inner (λ u. Elements inner 93 (vec_items u)) p (drop at b) b (element-covers inner 93 p b at items read vec_items) (found-same inner p (take (length b - at) (drop at b)) (drop at b) c.in_ok-value.field-0 Begun c.in_ok-value.ensures.found (take_rest b at) c.in-Begun.is)
+    begun-as inner (λ u. Elements inner 93 (vec_items u)) p (drop at b) b (element-covers inner 93 p b at c.loop-elements.elements.items c.loop-elements.invariant vec_items) (found-same inner p (take (length b - at) (drop at b)) (drop at b) c.in_ok-value.field-0 Begun c.in_ok-value.ensures.found (take_rest b at) c.in-Begun.is)
 
 pub elements_at-returns-in-Damaged-clause-found : goal.elements_at-returns-in-Damaged-clause-found
 elements_at-returns-in-Damaged-clause-found t c =
@@ -35,10 +33,9 @@ elements_at-returns-in-Damaged-clause-found t c =
     let inner = Nested c.args.partial (suc c.args.depth) in
     let at = c.loop-elements.at in
     let read = c.loop-elements.invariant in
-    let items = c.loop-elements.elements.items in
     let n = c.in-Damaged.width in
     let found = found-same inner p (take (length b - at) (drop at b)) (drop at b) c.in_ok-value.field-0 (Damaged n) c.in_ok-value.ensures.found (take_rest b at) c.in-Damaged.is in
-    damaged-as inner (λ u. Elements inner 93 (vec_items u)) p (drop at b) b (element-covers inner 93 p b at items read vec_items) n (at + n) (fits-both b at n read.within found.0) found
+    damaged-as inner (λ u. Elements inner 93 (vec_items u)) p (drop at b) b (element-covers inner 93 p b at c.loop-elements.elements.items read vec_items) n (at + n) (fits-both b at n read.within found.0) found
 
 pub elements_at-loop-elements-preserved : goal.elements_at-loop-elements-preserved
 elements_at-loop-elements-preserved t c =
@@ -47,15 +44,13 @@ elements_at-loop-elements-preserved t c =
     let inner = Nested c.args.partial (suc c.args.depth) in
     let at = c.loop-elements.at in
     let read = c.loop-elements.invariant in
-    let items = c.loop-elements.elements.items in
     let v = c.in-Whole.value in
     let n = c.in-Whole.width in
     let found = found-same inner p (take (length b - at) (drop at b)) (drop at b) c.in_ok-value.field-0 (Whole v n) c.in_ok-value.ensures.found (take_rest b at) c.in-Whole.is in
-    let fit = fits-both b at n read.within found.0 in
     let m = c.in-More.width in
     let ahead = subst (λ l. IsNext 93 p l (next.More m)) (take_rest b (at + n)) c.in-More.ensures in
     subst (HasRead inner 93 p b (at + n + m)) (sym c.in_ok-push-in-Whole.ensures.items)
-    (read-on inner 93 p b at items read (λ e. omega (arith, e)) (nested-once p (suc c.args.depth)) (nested-stable p (suc c.args.depth)) v n found.1 m ahead.1 ahead.2 fit)
+    (read-on inner 93 p b at c.loop-elements.elements.items read (λ e. omega (arith, e)) (nested-once p (suc c.args.depth)) (nested-stable p (suc c.args.depth)) v n found.1 m ahead.1 ahead.2 (fits-both b at n read.within found.0))
 
 pub elements_at-returns-in-Closed-clause-found : goal.elements_at-returns-in-Closed-clause-found
 elements_at-returns-in-Closed-clause-found t c =
@@ -64,14 +59,12 @@ elements_at-returns-in-Closed-clause-found t c =
     let inner = Nested c.args.partial (suc c.args.depth) in
     let at = c.loop-elements.at in
     let read = c.loop-elements.invariant in
-    let items = c.loop-elements.elements.items in
     let v = c.in-Whole.value in
     let n = c.in-Whole.width in
     let found = found-same inner p (take (length b - at) (drop at b)) (drop at b) c.in_ok-value.field-0 (Whole v n) c.in_ok-value.ensures.found (take_rest b at) c.in-Whole.is in
-    let fit = fits-both b at n read.within found.0 in
     let m = c.in-Closed.width in
     let ahead = subst (λ l. IsNext 93 p l (next.Closed m)) (take_rest b (at + n)) c.in-Closed.ensures in
-    (fits-both b (at + n) m fit ahead.0, subst (λ l. Elements inner 93 l b (drop (at + n + m) b)) (sym c.in_ok-push-in-Whole.ensures.items) (read-ends inner 93 p b at items read (λ e. omega (arith, e)) (nested-once p (suc c.args.depth)) (nested-stable p (suc c.args.depth)) v n found.1 m ahead.0 ahead.1))
+    (fits-both b (at + n) m (fits-both b at n read.within found.0) ahead.0, subst (λ l. Elements inner 93 l b (drop (at + n + m) b)) (sym c.in_ok-push-in-Whole.ensures.items) (read-ends inner 93 p b at c.loop-elements.elements.items read (λ e. omega (arith, e)) (nested-once p (suc c.args.depth)) (nested-stable p (suc c.args.depth)) v n found.1 m ahead.0 ahead.1))
 
 pub elements_at-returns-in-Begun-next_at-clause-found : goal.elements_at-returns-in-Begun-next_at-clause-found
 elements_at-returns-in-Begun-next_at-clause-found t c =
@@ -79,14 +72,11 @@ elements_at-returns-in-Begun-next_at-clause-found t c =
     let p = c.args.partial in
     let inner = Nested c.args.partial (suc c.args.depth) in
     let at = c.loop-elements.at in
-    let read = c.loop-elements.invariant in
-    let items = c.loop-elements.elements.items in
     let v = c.in-Whole.value in
     let n = c.in-Whole.width in
     let found = found-same inner p (take (length b - at) (drop at b)) (drop at b) c.in_ok-value.field-0 (Whole v n) c.in_ok-value.ensures.found (take_rest b at) c.in-Whole.is in
-    let fit = fits-both b at n read.within found.0 in
     let ahead = subst (λ l. IsNext 93 p l next.Begun) (take_rest b (at + n)) c.in-Begun-next_at.ensures in
-    (ahead.0, read-begun inner 93 p b at items read (λ e. omega (arith, e)) (nested-once p (suc c.args.depth)) (nested-stable p (suc c.args.depth)) v n found.1 vec_items ahead.1)
+    (ahead.0, read-begun inner 93 p b at c.loop-elements.elements.items c.loop-elements.invariant (λ e. omega (arith, e)) (nested-once p (suc c.args.depth)) (nested-stable p (suc c.args.depth)) v n found.1 vec_items ahead.1)
 
 pub elements_at-returns-in-Damaged-next_at-clause-found : goal.elements_at-returns-in-Damaged-next_at-clause-found
 elements_at-returns-in-Damaged-next_at-clause-found t c =
@@ -95,14 +85,12 @@ elements_at-returns-in-Damaged-next_at-clause-found t c =
     let inner = Nested c.args.partial (suc c.args.depth) in
     let at = c.loop-elements.at in
     let read = c.loop-elements.invariant in
-    let items = c.loop-elements.elements.items in
     let v = c.in-Whole.value in
     let n = c.in-Whole.width in
     let found = found-same inner p (take (length b - at) (drop at b)) (drop at b) c.in_ok-value.field-0 (Whole v n) c.in_ok-value.ensures.found (take_rest b at) c.in-Whole.is in
-    let fit = fits-both b at n read.within found.0 in
     let m = c.in-Damaged-next_at.width in
     let ahead = subst (λ l. IsNext 93 p l (next.Damaged m)) (take_rest b (at + n)) c.in-Damaged-next_at.ensures in
-    (fits-both b (at + n) m fit ahead.0, read-stops inner 93 p b at items read (λ e. omega (arith, e)) (nested-once p (suc c.args.depth)) (nested-stable p (suc c.args.depth)) v n found.1 vec_items ahead.1)
+    (fits-both b (at + n) m (fits-both b at n read.within found.0) ahead.0, read-stops inner 93 p b at c.loop-elements.elements.items read (λ e. omega (arith, e)) (nested-once p (suc c.args.depth)) (nested-stable p (suc c.args.depth)) v n found.1 vec_items ahead.1)
 
 pub members_at-returns-in-Begun-clause-found : goal.members_at-returns-in-Begun-clause-found
 members_at-returns-in-Begun-clause-found t c =
@@ -110,9 +98,7 @@ members_at-returns-in-Begun-clause-found t c =
     let p = c.args.partial in
     let inner = MemberAhead (Nested c.args.partial (suc c.args.depth)) in
     let at = c.loop-members.at in
-    let read = c.loop-members.invariant in
-    let items = c.loop-members.members.items in
-    begun-as inner (λ u. Elements inner 125 (vec_items u)) p (drop at b) b (element-covers inner 125 p b at items read vec_items) (found-same inner p (take (length b - at) (drop at b)) (drop at b) c.in_ok-member.field-0 Begun c.in_ok-member.ensures.found (take_rest b at) c.in-Begun.is)
+    begun-as inner (λ u. Elements inner 125 (vec_items u)) p (drop at b) b (element-covers inner 125 p b at c.loop-members.members.items c.loop-members.invariant vec_items) (found-same inner p (take (length b - at) (drop at b)) (drop at b) c.in_ok-member.field-0 Begun c.in_ok-member.ensures.found (take_rest b at) c.in-Begun.is)
 
 pub members_at-returns-in-Damaged-clause-found : goal.members_at-returns-in-Damaged-clause-found
 members_at-returns-in-Damaged-clause-found t c =
@@ -121,10 +107,9 @@ members_at-returns-in-Damaged-clause-found t c =
     let inner = MemberAhead (Nested c.args.partial (suc c.args.depth)) in
     let at = c.loop-members.at in
     let read = c.loop-members.invariant in
-    let items = c.loop-members.members.items in
     let n = c.in-Damaged.width in
     let found = found-same inner p (take (length b - at) (drop at b)) (drop at b) c.in_ok-member.field-0 (Damaged n) c.in_ok-member.ensures.found (take_rest b at) c.in-Damaged.is in
-    damaged-as inner (λ u. Elements inner 125 (vec_items u)) p (drop at b) b (element-covers inner 125 p b at items read vec_items) n (at + n) (fits-both b at n read.within found.0) found
+    damaged-as inner (λ u. Elements inner 125 (vec_items u)) p (drop at b) b (element-covers inner 125 p b at c.loop-members.members.items read vec_items) n (at + n) (fits-both b at n read.within found.0) found
 
 pub members_at-loop-members-preserved : goal.members_at-loop-members-preserved
 members_at-loop-members-preserved t c =
@@ -133,15 +118,13 @@ members_at-loop-members-preserved t c =
     let inner = MemberAhead (Nested c.args.partial (suc c.args.depth)) in
     let at = c.loop-members.at in
     let read = c.loop-members.invariant in
-    let items = c.loop-members.members.items in
     let v = c.in-Whole.member in
     let n = c.in-Whole.width in
     let found = found-same inner p (take (length b - at) (drop at b)) (drop at b) c.in_ok-member.field-0 (Whole v n) c.in_ok-member.ensures.found (take_rest b at) c.in-Whole.is in
-    let fit = fits-both b at n read.within found.0 in
     let m = c.in-More.width in
     let ahead = subst (λ l. IsNext 125 p l (next.More m)) (take_rest b (at + n)) c.in-More.ensures in
     subst (HasRead inner 125 p b (at + n + m)) (sym c.in_ok-push-in-Whole.ensures.items)
-    (read-on inner 125 p b at items read (λ e. omega (arith, e)) (members-once p (suc c.args.depth)) (members-stable p (suc c.args.depth)) v n found.1 m ahead.1 ahead.2 fit)
+    (read-on inner 125 p b at c.loop-members.members.items read (λ e. omega (arith, e)) (members-once p (suc c.args.depth)) (members-stable p (suc c.args.depth)) v n found.1 m ahead.1 ahead.2 (fits-both b at n read.within found.0))
 
 pub members_at-returns-in-Closed-clause-found : goal.members_at-returns-in-Closed-clause-found
 members_at-returns-in-Closed-clause-found t c =
@@ -150,14 +133,12 @@ members_at-returns-in-Closed-clause-found t c =
     let inner = MemberAhead (Nested c.args.partial (suc c.args.depth)) in
     let at = c.loop-members.at in
     let read = c.loop-members.invariant in
-    let items = c.loop-members.members.items in
     let v = c.in-Whole.member in
     let n = c.in-Whole.width in
     let found = found-same inner p (take (length b - at) (drop at b)) (drop at b) c.in_ok-member.field-0 (Whole v n) c.in_ok-member.ensures.found (take_rest b at) c.in-Whole.is in
-    let fit = fits-both b at n read.within found.0 in
     let m = c.in-Closed.width in
     let ahead = subst (λ l. IsNext 125 p l (next.Closed m)) (take_rest b (at + n)) c.in-Closed.ensures in
-    (fits-both b (at + n) m fit ahead.0, subst (λ l. Elements inner 125 l b (drop (at + n + m) b)) (sym c.in_ok-push-in-Whole.ensures.items) (read-ends inner 125 p b at items read (λ e. omega (arith, e)) (members-once p (suc c.args.depth)) (members-stable p (suc c.args.depth)) v n found.1 m ahead.0 ahead.1))
+    (fits-both b (at + n) m (fits-both b at n read.within found.0) ahead.0, subst (λ l. Elements inner 125 l b (drop (at + n + m) b)) (sym c.in_ok-push-in-Whole.ensures.items) (read-ends inner 125 p b at c.loop-members.members.items read (λ e. omega (arith, e)) (members-once p (suc c.args.depth)) (members-stable p (suc c.args.depth)) v n found.1 m ahead.0 ahead.1))
 
 pub members_at-returns-in-Begun-next_at-clause-found : goal.members_at-returns-in-Begun-next_at-clause-found
 members_at-returns-in-Begun-next_at-clause-found t c =
@@ -165,14 +146,11 @@ members_at-returns-in-Begun-next_at-clause-found t c =
     let p = c.args.partial in
     let inner = MemberAhead (Nested c.args.partial (suc c.args.depth)) in
     let at = c.loop-members.at in
-    let read = c.loop-members.invariant in
-    let items = c.loop-members.members.items in
     let v = c.in-Whole.member in
     let n = c.in-Whole.width in
     let found = found-same inner p (take (length b - at) (drop at b)) (drop at b) c.in_ok-member.field-0 (Whole v n) c.in_ok-member.ensures.found (take_rest b at) c.in-Whole.is in
-    let fit = fits-both b at n read.within found.0 in
     let ahead = subst (λ l. IsNext 125 p l next.Begun) (take_rest b (at + n)) c.in-Begun-next_at.ensures in
-    (ahead.0, read-begun inner 125 p b at items read (λ e. omega (arith, e)) (members-once p (suc c.args.depth)) (members-stable p (suc c.args.depth)) v n found.1 vec_items ahead.1)
+    (ahead.0, read-begun inner 125 p b at c.loop-members.members.items c.loop-members.invariant (λ e. omega (arith, e)) (members-once p (suc c.args.depth)) (members-stable p (suc c.args.depth)) v n found.1 vec_items ahead.1)
 
 pub members_at-returns-in-Damaged-next_at-clause-found : goal.members_at-returns-in-Damaged-next_at-clause-found
 members_at-returns-in-Damaged-next_at-clause-found t c =
@@ -181,28 +159,24 @@ members_at-returns-in-Damaged-next_at-clause-found t c =
     let inner = MemberAhead (Nested c.args.partial (suc c.args.depth)) in
     let at = c.loop-members.at in
     let read = c.loop-members.invariant in
-    let items = c.loop-members.members.items in
     let v = c.in-Whole.member in
     let n = c.in-Whole.width in
     let found = found-same inner p (take (length b - at) (drop at b)) (drop at b) c.in_ok-member.field-0 (Whole v n) c.in_ok-member.ensures.found (take_rest b at) c.in-Whole.is in
-    let fit = fits-both b at n read.within found.0 in
     let m = c.in-Damaged-next_at.width in
     let ahead = subst (λ l. IsNext 125 p l (next.Damaged m)) (take_rest b (at + n)) c.in-Damaged-next_at.ensures in
-    (fits-both b (at + n) m fit ahead.0, read-stops inner 125 p b at items read (λ e. omega (arith, e)) (members-once p (suc c.args.depth)) (members-stable p (suc c.args.depth)) v n found.1 vec_items ahead.1)
+    (fits-both b (at + n) m (fits-both b at n read.within found.0) ahead.0, read-stops inner 125 p b at c.loop-members.members.items read (λ e. omega (arith, e)) (members-once p (suc c.args.depth)) (members-stable p (suc c.args.depth)) v n found.1 vec_items ahead.1)
 
 pub array_at-returns-in-Begun-clause-found : goal.array_at-returns-in-Begun-clause-found
 array_at-returns-in-Begun-clause-found t c =
     let b = c.args.bytes.now in
     let p = c.args.partial in
-    let inner = Nested c.args.partial c.args.depth in
-    brackets-begun inner 93 91 vec_items p b c.requires (nested-some p c.args.depth) (subst (λ l. IsByte 93 p l Begun) (take_rest b 1) c.in-Begun.ensures.found)
+    brackets-begun (Nested c.args.partial c.args.depth) 93 91 vec_items p b c.requires (nested-some p c.args.depth) (subst (λ l. IsByte 93 p l Begun) (take_rest b 1) c.in-Begun.ensures.found)
 
 pub object_at-returns-in-Begun-clause-found : goal.object_at-returns-in-Begun-clause-found
 object_at-returns-in-Begun-clause-found t c =
     let b = c.args.bytes.now in
     let p = c.args.partial in
-    let inner = MemberAhead (Nested c.args.partial c.args.depth) in
-    brackets-begun inner 125 123 vec_items p b c.requires (members-some p c.args.depth) (subst (λ l. IsByte 125 p l Begun) (take_rest b 1) c.in-Begun.ensures.found)
+    brackets-begun (MemberAhead (Nested c.args.partial c.args.depth)) 125 123 vec_items p b c.requires (members-some p c.args.depth) (subst (λ l. IsByte 125 p l Begun) (take_rest b 1) c.in-Begun.ensures.found)
 
 pub member_after-returns-in-Begun-clause-found : goal.member_after-returns-in-Begun-clause-found
 member_after-returns-in-Begun-clause-found t c =
@@ -210,9 +184,8 @@ member_after-returns-in-Begun-clause-found t c =
     let p = c.args.partial in
     let inner = Nested c.args.partial (suc c.args.depth) in
     let start = c.args.start in
-    let name = c.args.name in
     let byte = subst (λ l. IsByte 58 p l Begun) (take_rest b start) c.in-Begun.ensures.found in
-    (byte.0, missed-as (ByteAhead 58) (MemberAhead inner) p (drop start b) b (colon-covers p inner b name start c.requires.named) (λ done s h. let f = sym byte.1 ∙ h in cc f))
+    (byte.0, missed-as (ByteAhead 58) (MemberAhead inner) p (drop start b) b (colon-covers p inner b c.args.name start c.requires.named) (λ done s h. let f = sym byte.1 ∙ h in cc f))
 
 pub member_after-returns-in-Damaged-clause-found : goal.member_after-returns-in-Damaged-clause-found
 member_after-returns-in-Damaged-clause-found t c =
@@ -220,10 +193,9 @@ member_after-returns-in-Damaged-clause-found t c =
     let p = c.args.partial in
     let inner = Nested c.args.partial (suc c.args.depth) in
     let start = c.args.start in
-    let name = c.args.name in
     let n = c.in-Damaged.width in
     let byte = subst (λ l. IsByte 58 p l (Damaged n)) (take_rest b start) c.in-Damaged.ensures.found in
-    damaged-as (ByteAhead 58) (MemberAhead inner) p (drop start b) b (colon-covers p inner b name start c.requires.named) n (start + n) (fits-both b start n c.requires.within byte.0) byte
+    damaged-as (ByteAhead 58) (MemberAhead inner) p (drop start b) b (colon-covers p inner b c.args.name start c.requires.named) n (start + n) (fits-both b start n c.requires.within byte.0) byte
 
 pub member_after-returns-in-Begun-2-clause-found : goal.member_after-returns-in-Begun-2-clause-found
 member_after-returns-in-Begun-2-clause-found t c =
@@ -231,12 +203,10 @@ member_after-returns-in-Begun-2-clause-found t c =
     let p = c.args.partial in
     let inner = Nested c.args.partial (suc c.args.depth) in
     let start = c.args.start in
-    let name = c.args.name in
     let colon = c.in-Whole.colon in
-    let byte = subst (λ l. IsByte 58 p l (Whole tt colon)) (take_rest b start) c.in-Whole.ensures.found in
     let at = start + colon in
-    let is : after_blanks (drop start b) ≡ 58 ∷ drop at b = byte.1 ∙ ap (λ l. 58 ∷ l) (drop-drop colon start b) in
-    begun-as inner (MemberAhead inner) p (drop at b) b (member-covers p inner b name start c.requires.named at is) (found-same inner p (take (length b - at) (drop at b)) (drop at b) c.in_ok-value-in-Whole.field-0 Begun c.in_ok-value-in-Whole.ensures.found (take_rest b at) c.in-Begun-2.is)
+    let is : after_blanks (drop start b) ≡ 58 ∷ drop at b = (subst (λ l. IsByte 58 p l (Whole tt colon)) (take_rest b start) c.in-Whole.ensures.found).1 ∙ ap (λ l. 58 ∷ l) (drop-drop colon start b) in
+    begun-as inner (MemberAhead inner) p (drop at b) b (member-covers p inner b c.args.name start c.requires.named at is) (found-same inner p (take (length b - at) (drop at b)) (drop at b) c.in_ok-value-in-Whole.field-0 Begun c.in_ok-value-in-Whole.ensures.found (take_rest b at) c.in-Begun-2.is)
 
 pub member_after-returns-in-Damaged-2-clause-found : goal.member_after-returns-in-Damaged-2-clause-found
 member_after-returns-in-Damaged-2-clause-found t c =
@@ -244,14 +214,13 @@ member_after-returns-in-Damaged-2-clause-found t c =
     let p = c.args.partial in
     let inner = Nested c.args.partial (suc c.args.depth) in
     let start = c.args.start in
-    let name = c.args.name in
     let colon = c.in-Whole.colon in
     let byte = subst (λ l. IsByte 58 p l (Whole tt colon)) (take_rest b start) c.in-Whole.ensures.found in
     let at = start + colon in
     let is : after_blanks (drop start b) ≡ 58 ∷ drop at b = byte.1 ∙ ap (λ l. 58 ∷ l) (drop-drop colon start b) in
     let n = c.in-Damaged-2.width in
     let found = found-same inner p (take (length b - at) (drop at b)) (drop at b) c.in_ok-value-in-Whole.field-0 (Damaged n) c.in_ok-value-in-Whole.ensures.found (take_rest b at) c.in-Damaged-2.is in
-    damaged-as inner (MemberAhead inner) p (drop at b) b (member-covers p inner b name start c.requires.named at is) n (at + n) (fits-both b at n (fits-both b start colon c.requires.within byte.0) found.0) found
+    damaged-as inner (MemberAhead inner) p (drop at b) b (member-covers p inner b c.args.name start c.requires.named at is) n (at + n) (fits-both b at n (fits-both b start colon c.requires.within byte.0) found.0) found
 
 pub member_at-returns-in-Begun-clause-found : goal.member_at-returns-in-Begun-clause-found
 member_at-returns-in-Begun-clause-found t c =
@@ -276,24 +245,21 @@ value_at-returns-in-Whole-clause-found t c =
     let b = c.args.bytes.now in
     let p = c.args.partial in
     let at = c.blank_count-at.result in
-    let here = ValueHere p c.args.depth in
-    value-whole p c.args.depth b at c.blank_count-at.ensures.within c.blank_count-at.ensures.rest c.in-Whole.value c.in-Whole.width (found-same here p (take (length b - at) (drop at b)) (drop at b) c.in_ok-value.field-0 (Whole c.in-Whole.value c.in-Whole.width) c.in_ok-value.ensures.found (take_rest b at) c.in-Whole.is)
+    value-whole p c.args.depth b at c.blank_count-at.ensures.within c.blank_count-at.ensures.rest c.in-Whole.value c.in-Whole.width (found-same (ValueHere p c.args.depth) p (take (length b - at) (drop at b)) (drop at b) c.in_ok-value.field-0 (Whole c.in-Whole.value c.in-Whole.width) c.in_ok-value.ensures.found (take_rest b at) c.in-Whole.is)
 
 pub value_at-returns-in-Begun-clause-found : goal.value_at-returns-in-Begun-clause-found
 value_at-returns-in-Begun-clause-found t c =
     let b = c.args.bytes.now in
     let p = c.args.partial in
     let at = c.blank_count-at.result in
-    let here = ValueHere p c.args.depth in
-    value-begun p c.args.depth b at c.blank_count-at.ensures.within c.blank_count-at.ensures.rest (found-same here p (take (length b - at) (drop at b)) (drop at b) c.in_ok-value.field-0 Begun c.in_ok-value.ensures.found (take_rest b at) c.in-Begun.is)
+    value-begun p c.args.depth b at c.blank_count-at.ensures.within c.blank_count-at.ensures.rest (found-same (ValueHere p c.args.depth) p (take (length b - at) (drop at b)) (drop at b) c.in_ok-value.field-0 Begun c.in_ok-value.ensures.found (take_rest b at) c.in-Begun.is)
 
 pub value_at-returns-in-Damaged-clause-found : goal.value_at-returns-in-Damaged-clause-found
 value_at-returns-in-Damaged-clause-found t c =
     let b = c.args.bytes.now in
     let p = c.args.partial in
     let at = c.blank_count-at.result in
-    let here = ValueHere p c.args.depth in
-    value-damaged p c.args.depth b at c.blank_count-at.ensures.within c.blank_count-at.ensures.rest c.in-Damaged.width (found-same here p (take (length b - at) (drop at b)) (drop at b) c.in_ok-value.field-0 (Damaged c.in-Damaged.width) c.in_ok-value.ensures.found (take_rest b at) c.in-Damaged.is)
+    value-damaged p c.args.depth b at c.blank_count-at.ensures.within c.blank_count-at.ensures.rest c.in-Damaged.width (found-same (ValueHere p c.args.depth) p (take (length b - at) (drop at b)) (drop at b) c.in_ok-value.field-0 (Damaged c.in-Damaged.width) c.in_ok-value.ensures.found (take_rest b at) c.in-Damaged.is)
 
 pub value_here-returns-then-is_empty-clause-found : goal.value_here-returns-then-is_empty-clause-found
 value_here-returns-then-is_empty-clause-found t c =
@@ -346,11 +312,10 @@ pub array_at-returns-then-depth-eq0-clause-place :
     goal.array_at-returns-then-depth-eq0-clause-place
 array_at-returns-then-depth-eq0-clause-place t c =
     let b = c.args.bytes.now in
-    let p = c.args.partial in
     let n = c.in-Damaged.width in
     let missing = subst (λ l. ByteIsMissing 93 l (drop n l)) (take_rest b 1) c.in-Damaged.ensures.place in
     let deep : 0 ≡ c.args.depth = sym c.if-depth-eq0.true in
-    subst (λ d. ArrayBreaksOff p d b (drop (1 + n) b)) deep (brackets-stop IsTooDeep 93 91 b n n c.requires missing missing.0)
+    subst (λ d. ArrayBreaksOff c.args.partial d b (drop (1 + n) b)) deep (brackets-stop IsTooDeep 93 91 b n n c.requires missing missing.0)
 
 pub array_at-returns-in-Whole-2-clause-found : goal.array_at-returns-in-Whole-2-clause-found
 array_at-returns-in-Whole-2-clause-found t c =
@@ -370,9 +335,8 @@ array_at-returns-in-Begun-2-clause-found t c =
     let p = c.args.partial in
     let inner = (Nested p (suc (c.args.depth - 1))) in
     let less : suc (c.args.depth - 1) ≡ c.args.depth = omega (arith, c.if-depth-eq0.false) in
-    let byte = subst (λ l. IsByte 93 p l (Damaged c.in-Damaged.width)) (take_rest b 1) c.in-Damaged.ensures.found in
     subst (λ d. IsFound (λ v. Bracketed (Nested p d) 93 91 v.items) p b Begun) less
-    (brackets-missed inner 93 91 vec_items p b c.requires byte.1 (found-same (λ u. Elements inner 93 (vec_items u)) p (take (length b - 1) (drop 1 b)) (drop 1 b) c.in_ok-elements-in-Damaged.field-0 Begun c.in_ok-elements-in-Damaged.ensures.found (take_rest b 1) c.in-Begun-2.is))
+    (brackets-missed inner 93 91 vec_items p b c.requires (subst (λ l. IsByte 93 p l (Damaged c.in-Damaged.width)) (take_rest b 1) c.in-Damaged.ensures.found).1 (found-same (λ u. Elements inner 93 (vec_items u)) p (take (length b - 1) (drop 1 b)) (drop 1 b) c.in_ok-elements-in-Damaged.field-0 Begun c.in_ok-elements-in-Damaged.ensures.found (take_rest b 1) c.in-Begun-2.is))
 
 pub array_at-returns-in-Damaged-2-clause-found : goal.array_at-returns-in-Damaged-2-clause-found
 array_at-returns-in-Damaged-2-clause-found t c =
@@ -380,11 +344,10 @@ array_at-returns-in-Damaged-2-clause-found t c =
     let p = c.args.partial in
     let inner = (Nested p (suc (c.args.depth - 1))) in
     let less : suc (c.args.depth - 1) ≡ c.args.depth = omega (arith, c.if-depth-eq0.false) in
-    let byte = subst (λ l. IsByte 93 p l (Damaged c.in-Damaged.width)) (take_rest b 1) c.in-Damaged.ensures.found in
     let n = c.in-Damaged-2.width in
     let found = found-same (λ u. Elements inner 93 (vec_items u)) p (take (length b - 1) (drop 1 b)) (drop 1 b) c.in_ok-elements-in-Damaged.field-0 (Damaged n) c.in_ok-elements-in-Damaged.ensures.found (take_rest b 1) c.in-Damaged-2.is in
     subst (λ d. IsFound (λ v. Bracketed (Nested p d) 93 91 v.items) p b (Damaged (1 + n))) less
-    (brackets-damaged inner 93 91 vec_items p b c.requires byte.1 n (fits-both b 1 n (starts-some 91 b c.requires) found.0) found)
+    (brackets-damaged inner 93 91 vec_items p b c.requires (subst (λ l. IsByte 93 p l (Damaged c.in-Damaged.width)) (take_rest b 1) c.in-Damaged.ensures.found).1 n (fits-both b 1 n (starts-some 91 b c.requires) found.0) found)
 
 pub array_at-returns-in-Damaged-2-clause-place : goal.array_at-returns-in-Damaged-2-clause-place
 array_at-returns-in-Damaged-2-clause-place t c =
@@ -392,11 +355,10 @@ array_at-returns-in-Damaged-2-clause-place t c =
     let p = c.args.partial in
     let less : suc (c.args.depth - 1) ≡ c.args.depth = omega (arith, c.if-depth-eq0.false) in
     let k = c.in-Damaged.width in
-    let missing = subst (λ l. ByteIsMissing 93 l (drop k l)) (take_rest b 1) c.in-Damaged.ensures.place in
     let n = c.in-Damaged-2.width in
     let inside = ElementsIn p (c.args.depth - 1) in
     let place = placed-same inside (take (length b - 1) (drop 1 b)) (drop 1 b) c.in_ok-elements-in-Damaged.field-0 (Damaged n) c.in_ok-elements-in-Damaged.ensures.place (take_rest b 1) c.in-Damaged-2.is in
-    subst (λ d. ArrayBreaksOff p d b (drop (1 + n) b)) less (brackets-stop inside 93 91 b k n c.requires missing place)
+    subst (λ d. ArrayBreaksOff p d b (drop (1 + n) b)) less (brackets-stop inside 93 91 b k n c.requires (subst (λ l. ByteIsMissing 93 l (drop k l)) (take_rest b 1) c.in-Damaged.ensures.place) place)
 
 pub object_at-returns-then-depth-eq0-clause-found :
     goal.object_at-returns-then-depth-eq0-clause-found
@@ -413,11 +375,10 @@ pub object_at-returns-then-depth-eq0-clause-place :
     goal.object_at-returns-then-depth-eq0-clause-place
 object_at-returns-then-depth-eq0-clause-place t c =
     let b = c.args.bytes.now in
-    let p = c.args.partial in
     let n = c.in-Damaged.width in
     let missing = subst (λ l. ByteIsMissing 125 l (drop n l)) (take_rest b 1) c.in-Damaged.ensures.place in
     let deep : 0 ≡ c.args.depth = sym c.if-depth-eq0.true in
-    subst (λ d. ObjectBreaksOff p d b (drop (1 + n) b)) deep (brackets-stop IsTooDeep 125 123 b n n c.requires missing missing.0)
+    subst (λ d. ObjectBreaksOff c.args.partial d b (drop (1 + n) b)) deep (brackets-stop IsTooDeep 125 123 b n n c.requires missing missing.0)
 
 pub object_at-returns-in-Whole-2-clause-found : goal.object_at-returns-in-Whole-2-clause-found
 object_at-returns-in-Whole-2-clause-found t c =
@@ -437,9 +398,8 @@ object_at-returns-in-Begun-2-clause-found t c =
     let p = c.args.partial in
     let inner = (MemberAhead (Nested p (suc (c.args.depth - 1)))) in
     let less : suc (c.args.depth - 1) ≡ c.args.depth = omega (arith, c.if-depth-eq0.false) in
-    let byte = subst (λ l. IsByte 125 p l (Damaged c.in-Damaged.width)) (take_rest b 1) c.in-Damaged.ensures.found in
     subst (λ d. IsFound (λ v. Bracketed (MemberAhead (Nested p d)) 125 123 v.items) p b Begun) less
-    (brackets-missed inner 125 123 vec_items p b c.requires byte.1 (found-same (λ u. Elements inner 125 (vec_items u)) p (take (length b - 1) (drop 1 b)) (drop 1 b) c.in_ok-members-in-Damaged.field-0 Begun c.in_ok-members-in-Damaged.ensures.found (take_rest b 1) c.in-Begun-2.is))
+    (brackets-missed inner 125 123 vec_items p b c.requires (subst (λ l. IsByte 125 p l (Damaged c.in-Damaged.width)) (take_rest b 1) c.in-Damaged.ensures.found).1 (found-same (λ u. Elements inner 125 (vec_items u)) p (take (length b - 1) (drop 1 b)) (drop 1 b) c.in_ok-members-in-Damaged.field-0 Begun c.in_ok-members-in-Damaged.ensures.found (take_rest b 1) c.in-Begun-2.is))
 
 pub object_at-returns-in-Damaged-2-clause-found : goal.object_at-returns-in-Damaged-2-clause-found
 object_at-returns-in-Damaged-2-clause-found t c =
@@ -447,11 +407,10 @@ object_at-returns-in-Damaged-2-clause-found t c =
     let p = c.args.partial in
     let inner = (MemberAhead (Nested p (suc (c.args.depth - 1)))) in
     let less : suc (c.args.depth - 1) ≡ c.args.depth = omega (arith, c.if-depth-eq0.false) in
-    let byte = subst (λ l. IsByte 125 p l (Damaged c.in-Damaged.width)) (take_rest b 1) c.in-Damaged.ensures.found in
     let n = c.in-Damaged-2.width in
     let found = found-same (λ u. Elements inner 125 (vec_items u)) p (take (length b - 1) (drop 1 b)) (drop 1 b) c.in_ok-members-in-Damaged.field-0 (Damaged n) c.in_ok-members-in-Damaged.ensures.found (take_rest b 1) c.in-Damaged-2.is in
     subst (λ d. IsFound (λ v. Bracketed (MemberAhead (Nested p d)) 125 123 v.items) p b (Damaged (1 + n))) less
-    (brackets-damaged inner 125 123 vec_items p b c.requires byte.1 n (fits-both b 1 n (starts-some 123 b c.requires) found.0) found)
+    (brackets-damaged inner 125 123 vec_items p b c.requires (subst (λ l. IsByte 125 p l (Damaged c.in-Damaged.width)) (take_rest b 1) c.in-Damaged.ensures.found).1 n (fits-both b 1 n (starts-some 123 b c.requires) found.0) found)
 
 pub object_at-returns-in-Damaged-2-clause-place : goal.object_at-returns-in-Damaged-2-clause-place
 object_at-returns-in-Damaged-2-clause-place t c =
@@ -459,22 +418,20 @@ object_at-returns-in-Damaged-2-clause-place t c =
     let p = c.args.partial in
     let less : suc (c.args.depth - 1) ≡ c.args.depth = omega (arith, c.if-depth-eq0.false) in
     let k = c.in-Damaged.width in
-    let missing = subst (λ l. ByteIsMissing 125 l (drop k l)) (take_rest b 1) c.in-Damaged.ensures.place in
     let n = c.in-Damaged-2.width in
     let inside = MembersIn p (c.args.depth - 1) in
     let place = placed-same inside (take (length b - 1) (drop 1 b)) (drop 1 b) c.in_ok-members-in-Damaged.field-0 (Damaged n) c.in_ok-members-in-Damaged.ensures.place (take_rest b 1) c.in-Damaged-2.is in
-    subst (λ d. ObjectBreaksOff p d b (drop (1 + n) b)) less (brackets-stop inside 125 123 b k n c.requires missing place)
+    subst (λ d. ObjectBreaksOff p d b (drop (1 + n) b)) less (brackets-stop inside 125 123 b k n c.requires (subst (λ l. ByteIsMissing 125 l (drop k l)) (take_rest b 1) c.in-Damaged.ensures.place) place)
 
 pub elements_at-returns-in-Damaged-clause-place : goal.elements_at-returns-in-Damaged-clause-place
 elements_at-returns-in-Damaged-clause-place t c =
     let b = c.args.bytes.now in
     let p = c.args.partial in
-    let inner = Nested c.args.partial (suc c.args.depth) in
     let breaks = BreaksOff p c.args.depth in
     let at = c.loop-elements.at in
     let n = c.in-Damaged.width in
     let place = placed-same breaks (take (length b - at) (drop at b)) (drop at b) c.in_ok-value.field-0 (Damaged n) c.in_ok-value.ensures.place (take_rest b at) c.in-Damaged.is in
-    elements-stop inner breaks 93 p b at c.loop-elements.elements.items c.loop-elements.invariant.chain n place
+    elements-stop (Nested c.args.partial (suc c.args.depth)) breaks 93 p b at c.loop-elements.elements.items c.loop-elements.invariant.chain n place
 
 pub elements_at-returns-in-Damaged-next_at-clause-place :
     goal.elements_at-returns-in-Damaged-next_at-clause-place
@@ -487,19 +444,17 @@ elements_at-returns-in-Damaged-next_at-clause-place t c =
     let n = c.in-Whole.width in
     let found = found-same inner p (take (length b - at) (drop at b)) (drop at b) c.in_ok-value.field-0 (Whole v n) c.in_ok-value.ensures.found (take_rest b at) c.in-Whole.is in
     let m = c.in-Damaged-next_at.width in
-    let ahead = subst (λ l. IsNext 93 p l (next.Damaged m)) (take_rest b (at + n)) c.in-Damaged-next_at.ensures in
-    elements-end inner (BreaksOff p c.args.depth) 93 p b at c.loop-elements.elements.items c.loop-elements.invariant.chain v n m found.1 ahead
+    elements-end inner (BreaksOff p c.args.depth) 93 p b at c.loop-elements.elements.items c.loop-elements.invariant.chain v n m found.1 (subst (λ l. IsNext 93 p l (next.Damaged m)) (take_rest b (at + n)) c.in-Damaged-next_at.ensures)
 
 pub members_at-returns-in-Damaged-clause-place : goal.members_at-returns-in-Damaged-clause-place
 members_at-returns-in-Damaged-clause-place t c =
     let b = c.args.bytes.now in
     let p = c.args.partial in
-    let inner = MemberAhead (Nested c.args.partial (suc c.args.depth)) in
     let breaks = MemberIn p c.args.depth in
     let at = c.loop-members.at in
     let n = c.in-Damaged.width in
     let place = placed-same breaks (take (length b - at) (drop at b)) (drop at b) c.in_ok-member.field-0 (Damaged n) c.in_ok-member.ensures.place (take_rest b at) c.in-Damaged.is in
-    elements-stop inner breaks 125 p b at c.loop-members.members.items c.loop-members.invariant.chain n place
+    elements-stop (MemberAhead (Nested c.args.partial (suc c.args.depth))) breaks 125 p b at c.loop-members.members.items c.loop-members.invariant.chain n place
 
 pub members_at-returns-in-Damaged-next_at-clause-place :
     goal.members_at-returns-in-Damaged-next_at-clause-place
@@ -512,8 +467,7 @@ members_at-returns-in-Damaged-next_at-clause-place t c =
     let n = c.in-Whole.width in
     let found = found-same inner p (take (length b - at) (drop at b)) (drop at b) c.in_ok-member.field-0 (Whole v n) c.in_ok-member.ensures.found (take_rest b at) c.in-Whole.is in
     let m = c.in-Damaged-next_at.width in
-    let ahead = subst (λ l. IsNext 125 p l (next.Damaged m)) (take_rest b (at + n)) c.in-Damaged-next_at.ensures in
-    elements-end inner (MemberIn p c.args.depth) 125 p b at c.loop-members.members.items c.loop-members.invariant.chain v n m found.1 ahead
+    elements-end inner (MemberIn p c.args.depth) 125 p b at c.loop-members.members.items c.loop-members.invariant.chain v n m found.1 (subst (λ l. IsNext 125 p l (next.Damaged m)) (take_rest b (at + n)) c.in-Damaged-next_at.ensures)
 
 pub member_after-returns-in-Damaged-clause-place : goal.member_after-returns-in-Damaged-clause-place
 member_after-returns-in-Damaged-clause-place t c =
@@ -521,8 +475,7 @@ member_after-returns-in-Damaged-clause-place t c =
     let p = c.args.partial in
     let start = c.args.start in
     let n = c.in-Damaged.width in
-    let missing = subst (λ l. ByteIsMissing 58 l (drop n l)) (take_rest b start) c.in-Damaged.ensures.place in
-    colon-stop p (BreaksOff p c.args.depth) b c.args.name start c.requires.named n missing
+    colon-stop p (BreaksOff p c.args.depth) b c.args.name start c.requires.named n (subst (λ l. ByteIsMissing 58 l (drop n l)) (take_rest b start) c.in-Damaged.ensures.place)
 
 pub member_after-returns-in-Damaged-2-clause-place :
     goal.member_after-returns-in-Damaged-2-clause-place
@@ -532,9 +485,8 @@ member_after-returns-in-Damaged-2-clause-place t c =
     let breaks = BreaksOff p c.args.depth in
     let start = c.args.start in
     let colon = c.in-Whole.colon in
-    let byte = subst (λ l. IsByte 58 p l (Whole tt colon)) (take_rest b start) c.in-Whole.ensures.found in
     let at = start + colon in
-    let is : after_blanks (drop start b) ≡ 58 ∷ drop at b = byte.1 ∙ ap (λ l. 58 ∷ l) (drop-drop colon start b) in
+    let is : after_blanks (drop start b) ≡ 58 ∷ drop at b = (subst (λ l. IsByte 58 p l (Whole tt colon)) (take_rest b start) c.in-Whole.ensures.found).1 ∙ ap (λ l. 58 ∷ l) (drop-drop colon start b) in
     let n = c.in-Damaged-2.width in
     let place = placed-same breaks (take (length b - at) (drop at b)) (drop at b) c.in_ok-value-in-Whole.field-0 (Damaged n) c.in_ok-value-in-Whole.ensures.place (take_rest b at) c.in-Damaged-2.is in
     value-stop p breaks b c.args.name start c.requires.named at n is place
@@ -585,8 +537,7 @@ value_here-returns-in-Damaged-2-clause-place t c =
 pub elements_at-returns-in-Begun-clause-begun : goal.elements_at-returns-in-Begun-clause-begun
 elements_at-returns-in-Begun-clause-begun t c =
     let b = c.args.bytes.now in
-    let p = c.args.partial in
-    let begins = BeginsValue p c.args.depth in
+    let begins = BeginsValue c.args.partial c.args.depth in
     let at = c.loop-elements.at in
     let begun = open-same begins (take (length b - at) (drop at b)) (drop at b) c.in_ok-value.field-0 Begun c.in_ok-value.ensures.begun (take_rest b at) c.in-Begun.is in
     elements-begin (Nested c.args.partial (suc c.args.depth)) begins b at c.loop-elements.elements.items c.loop-elements.invariant.chain begun
@@ -601,14 +552,12 @@ elements_at-returns-in-Begun-next_at-clause-begun t c =
     let v = c.in-Whole.value in
     let n = c.in-Whole.width in
     let found = found-same inner p (take (length b - at) (drop at b)) (drop at b) c.in_ok-value.field-0 (Whole v n) c.in_ok-value.ensures.found (take_rest b at) c.in-Whole.is in
-    let ahead = subst (λ l. IsNext 93 p l next.Begun) (take_rest b (at + n)) c.in-Begun-next_at.ensures in
-    elements-wait inner (BeginsValue p c.args.depth) b at c.loop-elements.elements.items c.loop-elements.invariant.chain v n found.1 ahead.1
+    elements-wait inner (BeginsValue p c.args.depth) b at c.loop-elements.elements.items c.loop-elements.invariant.chain v n found.1 (subst (λ l. IsNext 93 p l next.Begun) (take_rest b (at + n)) c.in-Begun-next_at.ensures).1
 
 pub members_at-returns-in-Begun-clause-begun : goal.members_at-returns-in-Begun-clause-begun
 members_at-returns-in-Begun-clause-begun t c =
     let b = c.args.bytes.now in
-    let p = c.args.partial in
-    let begins = BeginsMemberIn p c.args.depth in
+    let begins = BeginsMemberIn c.args.partial c.args.depth in
     let at = c.loop-members.at in
     let begun = open-same begins (take (length b - at) (drop at b)) (drop at b) c.in_ok-member.field-0 Begun c.in_ok-member.ensures.begun (take_rest b at) c.in-Begun.is in
     elements-begin (MemberAhead (Nested c.args.partial (suc c.args.depth))) begins b at c.loop-members.members.items c.loop-members.invariant.chain begun
@@ -623,15 +572,13 @@ members_at-returns-in-Begun-next_at-clause-begun t c =
     let v = c.in-Whole.member in
     let n = c.in-Whole.width in
     let found = found-same inner p (take (length b - at) (drop at b)) (drop at b) c.in_ok-member.field-0 (Whole v n) c.in_ok-member.ensures.found (take_rest b at) c.in-Whole.is in
-    let ahead = subst (λ l. IsNext 125 p l next.Begun) (take_rest b (at + n)) c.in-Begun-next_at.ensures in
-    elements-wait inner (BeginsMemberIn p c.args.depth) b at c.loop-members.members.items c.loop-members.invariant.chain v n found.1 ahead.1
+    elements-wait inner (BeginsMemberIn p c.args.depth) b at c.loop-members.members.items c.loop-members.invariant.chain v n found.1 (subst (λ l. IsNext 125 p l next.Begun) (take_rest b (at + n)) c.in-Begun-next_at.ensures).1
 
 pub array_at-returns-in-Begun-clause-begun : goal.array_at-returns-in-Begun-clause-begun
 array_at-returns-in-Begun-clause-begun t c =
     let b = c.args.bytes.now in
     let p = c.args.partial in
-    let byte = subst (λ l. IsByte 93 p l Begun) (take_rest b 1) c.in-Begun.ensures.found in
-    array-waits p c.args.depth b c.requires byte.1
+    array-waits p c.args.depth b c.requires (subst (λ l. IsByte 93 p l Begun) (take_rest b 1) c.in-Begun.ensures.found).1
 
 pub array_at-returns-in-Begun-2-clause-begun : goal.array_at-returns-in-Begun-2-clause-begun
 array_at-returns-in-Begun-2-clause-begun t c =
@@ -646,8 +593,7 @@ pub object_at-returns-in-Begun-clause-begun : goal.object_at-returns-in-Begun-cl
 object_at-returns-in-Begun-clause-begun t c =
     let b = c.args.bytes.now in
     let p = c.args.partial in
-    let byte = subst (λ l. IsByte 125 p l Begun) (take_rest b 1) c.in-Begun.ensures.found in
-    object-waits p c.args.depth b c.requires byte.1
+    object-waits p c.args.depth b c.requires (subst (λ l. IsByte 125 p l Begun) (take_rest b 1) c.in-Begun.ensures.found).1
 
 pub object_at-returns-in-Begun-2-clause-begun : goal.object_at-returns-in-Begun-2-clause-begun
 object_at-returns-in-Begun-2-clause-begun t c =
@@ -663,8 +609,7 @@ member_after-returns-in-Begun-clause-begun t c =
     let b = c.args.bytes.now in
     let p = c.args.partial in
     let start = c.args.start in
-    let byte = subst (λ l. IsByte 58 p l Begun) (take_rest b start) c.in-Begun.ensures.found in
-    name-waits p (BeginsValue p c.args.depth) b c.args.name start c.requires.named byte.1
+    name-waits p (BeginsValue p c.args.depth) b c.args.name start c.requires.named (subst (λ l. IsByte 58 p l Begun) (take_rest b start) c.in-Begun.ensures.found).1
 
 pub member_after-returns-in-Begun-2-clause-begun : goal.member_after-returns-in-Begun-2-clause-begun
 member_after-returns-in-Begun-2-clause-begun t c =
@@ -673,9 +618,8 @@ member_after-returns-in-Begun-2-clause-begun t c =
     let begins = BeginsValue p c.args.depth in
     let start = c.args.start in
     let colon = c.in-Whole.colon in
-    let byte = subst (λ l. IsByte 58 p l (Whole tt colon)) (take_rest b start) c.in-Whole.ensures.found in
     let at = start + colon in
-    let is : after_blanks (drop start b) ≡ 58 ∷ drop at b = byte.1 ∙ ap (λ l. 58 ∷ l) (drop-drop colon start b) in
+    let is : after_blanks (drop start b) ≡ 58 ∷ drop at b = (subst (λ l. IsByte 58 p l (Whole tt colon)) (take_rest b start) c.in-Whole.ensures.found).1 ∙ ap (λ l. 58 ∷ l) (drop-drop colon start b) in
     let begun = open-same begins (take (length b - at) (drop at b)) (drop at b) c.in_ok-value-in-Whole.field-0 Begun c.in_ok-value-in-Whole.ensures.begun (take_rest b at) c.in-Begun-2.is in
     value-begins p begins b c.args.name start c.requires.named at is begun
 
@@ -722,9 +666,8 @@ value_here-returns-in-Begun-2-clause-begun t c =
 pub member_at-member_after-requires : goal.member_at-member_after-requires
 member_at-member_after-requires t c =
     let b = c.args.bytes.now in
-    let p = c.args.partial in
     let at = c.blank_count-at.result in
     let name = c.in-Whole.name in
     let n = c.in-Whole.width in
-    let found = found-same StringHere p (take (length b - at) (drop at b)) (drop at b) c.in_ok-name.field-0 (Whole name n) c.in_ok-name.ensures.found (take_rest b at) c.in-Whole.is in
+    let found = found-same StringHere c.args.partial (take (length b - at) (drop at b)) (drop at b) c.in_ok-name.field-0 (Whole name n) c.in_ok-name.ensures.found (take_rest b at) c.in-Whole.is in
     (search rules, (fits-both b at n c.blank_count-at.ensures.within found.0, subst (λ l. StringHere name l (drop (at + n) b)) c.blank_count-at.ensures.rest (subst (StringHere name (drop at b)) (drop-drop n at b) found.1)))
