@@ -38,11 +38,9 @@ pub struct EscapedText<P, C, Q, A> {
 /// After the control character, the failures of `escapable` are those of the whole.
 ///
 /// ```
-/// let letters: ModalResult<String, EmptyError> = escaped(
-///     alpha1(),
-///     '\\',
-///     alt((literal("n").value('\n'), one_of(('"', '\\')))),
-/// ).parse_next(alloc, input);
+/// let escapable = alt((literal("n").value('\n'), one_of(('"', '\\'))));
+/// ..
+/// escaped(alpha1(), '\\', escapable)
 /// ```
 pub fn escaped<P, Q, A>(
     normal: P,
