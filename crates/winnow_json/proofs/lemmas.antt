@@ -24,3 +24,5 @@ pub mod TokenReadingLemmas
 pub mod NumberTextLemmas
 pub mod QuotingLemmas
 pub mod WritingLemmas
+pub mod NextTokenLemmas
+pub mod EventLemmas

@@ -21,3 +21,5 @@ pub mod TokenReading
 pub mod Quoting
 pub mod Writing
 pub mod Appending
+pub mod Turns
+pub mod EventReading

@@ -12,7 +12,8 @@
 //! where a damaged one breaks off, which is one place, as [`place_law`] says.
 //!
 //! [`JsonToken`] is the record of a [`Token`], for a `ByteReader` over bytes that come in pieces;
-//! [`tokens_in_pieces_law`] says what such a reader reads.
+//! [`tokens_in_pieces_law`] says what such a reader reads. An [`EventReader`] gives the events of a
+//! text that comes in pieces, and keeps no more than a token and a piece.
 //!
 //! [`write_value`] appends the text of a value. What it writes is read back as the same value, as
 //! [`round_trip_law`] says.
@@ -21,6 +22,7 @@
 mod characters;
 mod documents;
 mod escapes;
+mod event_reader;
 mod found;
 mod laws;
 mod nested;
@@ -29,13 +31,16 @@ mod parts;
 mod quoting;
 mod scalars;
 mod strings;
+mod syntax;
 mod token_laws;
 mod tokens;
+mod turns;
 mod value;
 mod values;
 mod writing;
 
 pub use documents::{Damage, read_document};
+pub use event_reader::{Event, EventError, EventReader};
 pub use laws::{place_law, round_trip_law};
 pub use numbers::{Number, read_number};
 pub use strings::read_string;

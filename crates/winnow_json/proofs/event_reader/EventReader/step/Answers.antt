@@ -1,0 +1,62 @@
+use Rattle.std.proofs.Common.{◌≡◌, Some, [], ap, sym, ◌∙◌, subst, refl}
+use Rattle.std.specs.Prelude.{Ok, OnOk}
+use Rattle.winnow_json.specs.Turns.{state_of, turn_at}
+use Rattle.winnow_json.specs.EventReading.{GivesOn, IsComing, taken_events}
+use Rattle.winnow_json.specs.declared.tokens.Token.TheVariants as token
+use Rattle.winnow_json.specs.declared.turns.Turn.TheVariants.{Ends}
+use Rattle.winnow_json.proofs.lemmas.EventLemmas.{none-is, reader_of, step-took, step-refused, end-refused, step-ended, step-waits}
+use Rattle.winnow_json.proofs.event_reader.EventReader.step.Goals as goal
+
+pub returns-in-Ok-clause-read : goal.returns-in-Ok-clause-read
+returns-in-Ok-clause-read c =
+    let text = state_of c.self.inside.syntax in
+    let old = reader_of c.self.inside.tokens text c.self.inside.stopped in
+    let f = c.next_token.new.tokens in
+    let going = none-is c.self.inside.stopped (λ x e. c.in_default.not-Some x e) in
+    let b = subst (λ r. IsComing c.self.inside.tokens r f) (c.in-Ok-Token.is ∙ ap Ok c.in-Ok-Token.field-0-is) c.next_token.ensures in
+    subst (λ o. GivesOn o (taken_events c.in-Ok.taken) (reader_of f (state_of c.take.new.self) c.self.inside.stopped)) c.self.view_is
+    (step-took old f going (state_of c.make_room.new.self) (state_of c.take.new.self) c.make_room.ensures.same c.in-Ok-Token.token c.in-Ok.taken b c.take.ensures.state (sym c.take.ensures.answer ∙ c.in-Ok.is))
+
+pub returns-in-Err-take-clause-read : goal.returns-in-Err-take-clause-read
+returns-in-Err-take-clause-read c =
+    let text = state_of c.self.inside.syntax in
+    let old = reader_of c.self.inside.tokens text c.self.inside.stopped in
+    let f = c.next_token.new.tokens in
+    let going = none-is c.self.inside.stopped (λ x e. c.in_default.not-Some x e) in
+    let b = subst (λ r. IsComing c.self.inside.tokens r f) (c.in-Ok-Token.is ∙ ap Ok c.in-Ok-Token.field-0-is) c.next_token.ensures in
+    subst (λ o. GivesOn o [] (reader_of f (state_of c.take.new.self) (Some c.error_at-error.result))) c.self.view_is
+    (step-refused old f going (state_of c.make_room.new.self) (state_of c.take.new.self) c.make_room.ensures.same c.in-Ok-Token.token c.in-Err-take.misplaced c.error_at-error.result c.take.ensures.state (sym c.take.ensures.answer ∙ c.in-Err-take.is) b)
+
+pub returns-in-Ok-take_end-clause-read : goal.returns-in-Ok-take_end-clause-read
+returns-in-Ok-take_end-clause-read c =
+    let text = state_of c.self.inside.syntax in
+    let old = reader_of c.self.inside.tokens text c.self.inside.stopped in
+    let f = c.next_token.new.tokens in
+    let middle = state_of c.make_room.new.self in
+    let going = none-is c.self.inside.stopped (λ x e. c.in_default.not-Some x e) in
+    let b = subst (λ r. IsComing c.self.inside.tokens r f) (c.in-Ok-End.is ∙ ap Ok c.in-Ok-End.field-0-is) c.next_token.ensures in
+    let end = subst (λ r. OnOk r (turn_at middle token.End ≡ Ends)) c.in-Ok-take_end.is c.take_end.ensures.ok in
+    subst (λ o. GivesOn o [] (reader_of f middle c.self.inside.stopped)) c.self.view_is
+    (step-ended old f going middle middle c.make_room.ensures.same refl end b)
+
+pub returns-in-Err-take_end-clause-read : goal.returns-in-Err-take_end-clause-read
+returns-in-Err-take_end-clause-read c =
+    let text = state_of c.self.inside.syntax in
+    let old = reader_of c.self.inside.tokens text c.self.inside.stopped in
+    let f = c.next_token.new.tokens in
+    let middle = state_of c.make_room.new.self in
+    let going = none-is c.self.inside.stopped (λ x e. c.in_default.not-Some x e) in
+    let b = subst (λ r. IsComing c.self.inside.tokens r f) (c.in-Ok-End.is ∙ ap Ok c.in-Ok-End.field-0-is) c.next_token.ensures in
+    subst (λ o. GivesOn o [] (reader_of f middle (Some c.error_at-error-in-Err-take_end.result))) c.self.view_is
+    (end-refused old f going middle middle c.make_room.ensures.same c.error_at-error-in-Err-take_end.result refl b)
+
+pub returns-in-Ok-NeedsMore-clause-read : goal.returns-in-Ok-NeedsMore-clause-read
+returns-in-Ok-NeedsMore-clause-read c =
+    let text = state_of c.self.inside.syntax in
+    let old = reader_of c.self.inside.tokens text c.self.inside.stopped in
+    let f = c.next_token.new.tokens in
+    let middle = state_of c.make_room.new.self in
+    let going = none-is c.self.inside.stopped (λ x e. c.in_default.not-Some x e) in
+    let b = subst (λ r. IsComing c.self.inside.tokens r f) (c.in-Ok-NeedsMore.is ∙ ap Ok c.in-Ok-NeedsMore.field-0-is) c.next_token.ensures in
+    subst (λ o. GivesOn o [] (reader_of f middle c.self.inside.stopped)) c.self.view_is
+    (step-waits old f going middle middle c.make_room.ensures.same refl b.1)

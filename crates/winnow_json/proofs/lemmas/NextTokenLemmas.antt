@@ -1,0 +1,60 @@
+-- The next token, from what a reader of records answers.
+use Rattle.std.proofs.Common.{◌≡◌, ℕ, Bool, true, false, not, List, length, ap, ◌∙◌, subst, refl, arith, append-nil, length-drop, inl}
+use Rattle.std.specs.Prelude.{Result, Ok, Err}
+use Rattle.winnow_stream.specs.Source.{units}
+use Rattle.winnow.specs.State.{ReaderState}
+use Rattle.winnow.specs.Reading.{HasRead, ReadsOn}
+use Rattle.winnow.specs.Answering.{GivesValue, FailsWell, StaysWithout}
+use Rattle.winnow_reader.specs.declared.next.Next.{Next}
+use Rattle.winnow_reader.specs.declared.next.Next.TheVariants as next
+use Rattle.winnow_reader.specs.declared.next.ReadError.{ReadError}
+use Rattle.winnow_reader.specs.declared.next.ReadError.TheVariants.{Failed}
+use Rattle.winnow_format.specs.Bytes.{bytes_of}
+use Rattle.winnow_format.proofs.lemmas.ByteLemmas.{bytes-units}
+use Rattle.winnow_json.specs.Tokens.{TokenAhead}
+use Rattle.winnow_json.specs.TokenAnswers.{OneToken}
+use Rattle.winnow_json.specs.TokenReading.{FindsDamage}
+use Rattle.winnow_json.specs.EventReading.{Brings, BringsEnd}
+use Rattle.winnow_json.specs.declared.tokens.Token.{Token}
+use Rattle.winnow_json.specs.declared.tokens.Token.TheVariants as token
+use Rattle.winnow_json.specs.declared.tokens.JsonToken.{JsonToken}
+use Rattle.winnow_json.proofs.lemmas.TokenReadingLemmas.{fails-damaged}
+
+-- nothing follows the end
+pub end-brings : (old new : ReaderState JsonToken) → Brings old token.End new → BringsEnd old new
+end-brings old new b = ((b.ended ∙ not-false old.ended b.stands.0, b.stands.2), inl b)
+  where
+    not-false : (ended : Bool) → not ended ≡ false → ended ≡ true
+    not-false true e = refl
+    not-false false e = absurd (cc)
+
+module _ {E : Type 0} (old new : ReaderState JsonToken) where
+  -- a token that was read stood ahead
+  pub value-brings : (t : Token) (result : Result (Next Token) (ReadError E))
+      → result ≡ Ok (next.Value t) → GivesValue (λ p. OneToken) old result new
+      → ReadsOn (λ p. OneToken) old result new → Brings old t new
+  value-brings t result e value read =
+      let h = subst (λ r. GivesValue (λ p. OneToken) old r new) e value in
+      record {
+        read = λ input tokens was. subst (λ r. ReadsOn (λ p. OneToken) old r new) e read input tokens was;
+        stands = subst (λ l. TokenAhead (not old.ended) t l new.ahead) (bytes-units old.ahead)
+            (subst (TokenAhead (not old.ended) t (bytes_of (units old.ahead))) (bytes-units new.ahead) h.1.2.1);
+        fewer = omega (arith, h.1.0, h.1.1, ap (λ f. length f.ahead) h.1.3, length-drop h.0 old.ahead);
+        ended = ap (λ f. f.ended) h.1.3;
+      }
+
+  -- where more is needed, what was read was read before
+  pub waits-read : (result : Result (Next Token) (ReadError E)) → result ≡ Ok next.NeedsMore
+      → ReadsOn (λ p. OneToken) old result new → (input : List ℕ) (tokens : List Token)
+      → HasRead (λ p. OneToken) old input tokens → HasRead (λ p. OneToken) new input tokens
+  waits-read result e read input tokens was =
+      subst (HasRead (λ p. OneToken) new input) (append-nil tokens) (subst (λ r. ReadsOn (λ p. OneToken) old r new) e read input tokens was)
+
+  -- where the record failed, the token is damaged, and nothing changed
+  pub failed-there : (x : E) (place : ℕ) (result : Result (Next Token) (ReadError E))
+      → result ≡ Err (Failed x place) → FailsWell (λ p. OneToken) old result
+      → StaysWithout old result new → (new ≡ old) × FindsDamage old place
+  failed-there x place result e fails kept = (
+    subst (λ r. StaysWithout old r new) e kept,
+    fails-damaged old place (subst (FailsWell (λ p. OneToken) old) e fails),
+  )

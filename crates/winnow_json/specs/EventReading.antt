@@ -1,0 +1,192 @@
+-- The events that a reader has given of the joined input.
+use Rattle.std.specs.Prelude.{◌≡◌, ℕ, ◌+◌, ◌-◌, ◌<◌, not, List, [], ◌∷◌, ◌++◌, length, Option, Some, None, Result, Ok, Err, ◌⊎◌, ⊤}
+use Rattle.winnow.specs.State.{ReaderState, at_start, pushed, unspent, ended_after, waiting_for}
+use Rattle.winnow.specs.Reading.{HasRead}
+use Rattle.winnow.specs.Answering.{IdlesAt}
+use Rattle.winnow.specs.SameValues.{IsThrough}
+use Rattle.winnow_reader.specs.declared.next.Next.{Next}
+use Rattle.winnow_reader.specs.declared.next.Next.TheVariants as next
+use Rattle.winnow_json.specs.Values.{after_blanks}
+use Rattle.winnow_json.specs.Tokens.{TokenAhead}
+use Rattle.winnow_json.specs.TokenAnswers.{OneToken}
+use Rattle.winnow_json.specs.TokenReading.{FindsDamage}
+use Rattle.winnow_json.specs.Turns.{TextState, at_begin, turn_at, turn_events, after_turn}
+use Rattle.winnow_json.specs.declared.tokens.Token.{Token}
+use Rattle.winnow_json.specs.declared.tokens.Token.TheVariants as token
+use Rattle.winnow_json.specs.declared.tokens.JsonToken.{JsonToken}
+use Rattle.winnow_json.specs.declared.event_reader.Event.{Event}
+use Rattle.winnow_json.specs.declared.event_reader.EventError.{EventError}
+use Rattle.winnow_json.specs.declared.event_reader.EventError.TheVariants as error
+use Rattle.winnow_json.specs.declared.event_reader.Coming.{Coming}
+use Rattle.winnow_json.specs.declared.event_reader.Coming.TheVariants as coming
+use Rattle.winnow_json.specs.declared.event_reader.Step.{Step}
+use Rattle.winnow_json.specs.declared.event_reader.Step.TheVariants as step
+use Rattle.winnow_json.specs.declared.syntax.Taken.{Taken}
+use Rattle.winnow_json.specs.declared.syntax.Taken.TheVariants as taken
+use Rattle.winnow_json.specs.declared.turns.Misplaced.{Misplaced}
+use Rattle.winnow_json.specs.declared.turns.Misplaced.TheVariants as misplaced
+use Rattle.winnow_json.specs.declared.turns.Expected.TheVariants as expect
+use Rattle.winnow_json.specs.declared.turns.Turn.{Turn}
+use Rattle.winnow_json.specs.declared.turns.Turn.TheVariants.{Opens, Closes, Gives, Names, Passes, Ends, Refuses}
+
+-- ---- Tokens in a text
+
+-- the token may stand there
+abbrev pub IsAllowed : Turn → Type 0
+IsAllowed (Opens b) = ⊤
+IsAllowed (Closes b) = ⊤
+IsAllowed (Gives event) = ⊤
+IsAllowed (Names name) = ⊤
+IsAllowed (Passes expected) = ⊤
+IsAllowed Ends = ⊤
+IsAllowed (Refuses misplaced) = ⊥
+
+-- these tokens may stand there, one after the other; they have these events, and lead there
+abbrev pub Takes : TextState → List Token → List Event → TextState → Type 0
+Takes s [] events t = (events ≡ []) × (t ≡ s)
+Takes s (token ∷ tokens) events t = IsAllowed (turn_at s token) × ((rest : List Event)
+    × ((events ≡ turn_events (turn_at s token) ++ rest) × Takes (after_turn s (turn_at s token)) tokens rest t))
+
+-- ---- The reader
+
+-- what a reader of events shows: the reader of its tokens; where the text stands; and the error
+-- after which it reads no more
+pub record EventState : Type 0 where
+  pub tokens : ReaderState JsonToken
+  pub text : TextState
+  pub stopped : Option EventError
+
+-- a reader that nothing was pushed to
+abbrev pub new_reader : ℕ → EventState
+new_reader depth =
+    record { tokens = at_start (record {}); text = at_begin depth; stopped = None }
+
+-- a reader after a piece
+abbrev pub events_pushed : EventState → List ℕ → EventState
+events_pushed r piece = record r { tokens = pushed r.tokens piece }
+
+-- a reader that dropped what tokens took
+abbrev pub events_unspent : EventState → EventState
+events_unspent r = record r { tokens = unspent r.tokens }
+
+-- a reader after the end
+abbrev pub events_ended : EventState → EventState
+events_ended r = record r { tokens = ended_after r.tokens }
+
+-- of this joined input the reader has given these events: those of the tokens that it took, of
+-- which each may stand where it does. Unless it stopped, these are all that it read.
+pub record HasGiven (r : EventState) (input : List ℕ) (events : List Event) : Type 0 where
+  pub taken : List Token
+  pub others : List Token
+  pub read : HasRead (λ p. OneToken) r.tokens input (taken ++ others)
+  pub going : r.stopped ≡ None → others ≡ []
+  pub takes : Takes (at_begin r.text.depth) taken events r.text
+
+-- no matter what was given, with a piece more the reader has given the same
+abbrev pub GivesAlso : EventState → List ℕ → EventState → Type 0
+GivesAlso old piece new = (input : List ℕ) (events : List Event)
+    → HasGiven old input events → HasGiven new (input ++ piece) events
+
+-- no matter what was given, the other reader has given that, and these events
+abbrev pub GivesOn : EventState → List Event → EventState → Type 0
+GivesOn old events new = (input : List ℕ) (before : List Event)
+    → HasGiven old input before → HasGiven new input (before ++ events)
+
+-- ---- The next token
+
+-- the token stands ahead of the one reader, which reads it and is the other then
+pub record Brings (old : ReaderState JsonToken) (token : Token) (new : ReaderState JsonToken) : Type 0 where
+  pub read : (input : List ℕ) (tokens : List Token) → HasRead (λ p. OneToken) old input tokens
+      → HasRead (λ p. OneToken) new input (tokens ++ token ∷ [])
+  pub stands : TokenAhead (not old.ended) token old.ahead new.ahead
+  pub fewer : length new.ahead < length old.ahead
+  pub ended : new.ended ≡ old.ended
+
+-- no token stands there, no matter what follows, or memory was refused
+abbrev pub IsNoNext : ReaderState JsonToken → EventError → Type 0
+IsNoNext f (error.Damaged place) = FindsDamage f place ⊎ IdlesAt (λ p. OneToken) f place
+IsNoNext f (error.Unexpected place) = ⊥
+IsNoNext f (error.TooDeep place) = ⊥
+IsNoNext f (error.EndsEarly place) = ⊥
+IsNoNext f (error.Refused r) = ⊤
+
+-- the end of the text stands ahead of the one reader, which is the other then
+abbrev pub BringsEnd : ReaderState JsonToken → ReaderState JsonToken → Type 0
+BringsEnd old new = IsThrough new × (Brings old token.End new ⊎ (new ≡ old))
+
+-- the next token, or the end; or it is not there yet; or none stands there, and nothing changes
+abbrev pub IsComing : ReaderState JsonToken → Result Coming EventError → ReaderState JsonToken
+    → Type 0
+IsComing old (Ok (coming.Token t)) new = Brings old t new
+IsComing old (Ok coming.End) new = BringsEnd old new
+IsComing old (Ok coming.NeedsMore) new = (new ≡ waiting_for old new.wanted)
+    × ((input : List ℕ) (tokens : List Token) → HasRead (λ p. OneToken) old input tokens → HasRead (λ p. OneToken) new input tokens)
+IsComing old (Err e) new = (new ≡ old) × IsNoNext old e
+
+-- where the token ahead begins in the joined input: after the blanks before it
+abbrev pub token_place : ReaderState JsonToken → ℕ
+token_place f = (f.place + length f.ahead) - length (after_blanks f.ahead)
+
+-- ---- Answers
+
+-- the error of a token that may not stand at the place
+abbrev pub error_at : Misplaced → ℕ → EventError
+error_at misplaced.Unexpected place = error.Unexpected place
+error_at misplaced.TooDeep place = error.TooDeep place
+error_at misplaced.EndsEarly place = error.EndsEarly place
+
+-- the event of what a token was taken for, if it has one
+abbrev pub taken_events : Taken → List Event
+taken_events (taken.Has event) = event ∷ []
+taken_events taken.Passes = []
+
+-- the event of a step, if it has one
+abbrev pub step_events : Result Step EventError → List Event
+step_events (Ok (step.Took t)) = taken_events t
+step_events (Ok step.Done) = []
+step_events (Ok step.NeedsMore) = []
+step_events (Err e) = []
+
+-- the event that came next, if one did
+abbrev pub next_events : Result (Next Event) EventError → List Event
+next_events (Ok (next.Value event)) = event ∷ []
+next_events (Ok next.NeedsMore) = []
+next_events (Ok next.Done) = []
+next_events (Err e) = []
+
+-- the input has ended, nothing of it remains, and the text is whole
+abbrev pub IsWhole : EventState → Type 0
+IsWhole r = IsThrough r.tokens × (r.text.expected ≡ expect.End)
+
+-- the text stands as before, and no token was taken
+abbrev pub StaysAt : EventState → EventState → Type 0
+StaysAt old new = (new.text ≡ old.text) × (new.tokens ≡ waiting_for old.tokens new.tokens.wanted)
+
+-- a token stands ahead of the one reader, or the end, that may not stand there: so the error says,
+-- with the place where it begins
+abbrev pub IsMisplaced : EventState → EventError → EventState → Type 0
+IsMisplaced old e new = (t : Token) × ((m : Misplaced) × ((turn_at old.text t ≡ Refuses m)
+    × (e ≡ error_at m (token_place old.tokens)) × (Brings old.tokens t new.tokens ⊎ ((t ≡ token.End) × BringsEnd old.tokens new.tokens))))
+
+-- what a step answers: an event, or a token without one; or the end of a whole text; or the next
+-- token is not there yet; or none stands there, and nothing changes; or one that may not
+abbrev pub IsStep : EventState → Result Step EventError → EventState → Type 0
+IsStep old (Ok (step.Took (taken.Has event))) new = new.stopped ≡ None
+IsStep old (Ok (step.Took taken.Passes)) new =
+    (new.stopped ≡ None) × (length new.tokens.ahead < length old.tokens.ahead)
+IsStep old (Ok step.Done) new = (new.stopped ≡ None) × IsWhole new
+IsStep old (Ok step.NeedsMore) new = (new.stopped ≡ None) × StaysAt old new
+IsStep old (Err e) new = ((new ≡ old) × IsNoNext old.tokens e)
+    ⊎ ((new.text ≡ old.text) × (new.stopped ≡ Some e) × IsMisplaced old e new)
+
+-- a reader that has given no more events than the other, after tokens that have none
+abbrev pub Passed : EventState → EventState → Type 0
+Passed old new = GivesOn old [] new × (new.stopped ≡ None)
+
+-- what the reader answers: an event; or done, where the text is whole; or the next token is not
+-- there yet; or, after tokens that have no event, no token stands there, or one that may not
+abbrev pub IsNext : EventState → Result (Next Event) EventError → EventState → Type 0
+IsNext old (Ok (next.Value event)) new = new.stopped ≡ None
+IsNext old (Ok next.NeedsMore) new = new.stopped ≡ None
+IsNext old (Ok next.Done) new = (new.stopped ≡ None) × IsWhole new
+IsNext old (Err e) new = (r : EventState) × (Passed old r × IsStep r (Err e) new)
