@@ -21,7 +21,7 @@ pub fn tell(refused: bool, right: bool) -> Result<bool, AllocError> {
 }
 
 /// Each case, made once.
-pub fn all(alloc: Global) -> [Case; 49] {
+pub fn all(alloc: Global) -> [Case; 50] {
     [
         ("run", scripts::run_script(alloc)),
         ("run_and_reset", scripts::look_ahead(alloc)),
@@ -81,6 +81,7 @@ pub fn all(alloc: Global) -> [Case; 49] {
         ("repeat into a String", parsers::repeat_in_text(alloc)),
         ("repeat_till", parsers::repeat_to_end(alloc)),
         ("separated", parsers::separate(alloc)),
+        ("escaped", parsers::unescape(alloc)),
         ("parse", parsers::parse(alloc)),
         ("alt", parsers::join(alloc)),
         ("context", parsers::tell_context(alloc)),

@@ -5,6 +5,7 @@ use crate::cases::tell;
 use crate::items::{Item, TEXT};
 use crate::trees::prints;
 use std::alloc::{AllocError, Global};
+use winnow_ascii::escaped;
 use winnow_combinator::{alt, empty, eof, fail, repeat, repeat_till, separated};
 use winnow_context::{ContextError, StrContext};
 use winnow_error::EmptyError;
@@ -56,6 +57,11 @@ pub fn repeat_to_end(alloc: Global) -> Result<bool, AllocError> {
 /// Values with separators between them.
 pub fn separate(alloc: Global) -> Result<bool, AllocError> {
     gather(alloc, &separated::<_, _, Vec<char>, _>(0.., any(), empty()))
+}
+
+/// Characters with escapes between them.
+pub fn unescape(alloc: Global) -> Result<bool, AllocError> {
+    gather(alloc, &escaped::<_, _, String>(any(), '%', any()))
 }
 
 /// A whole text. When memory is refused, it is read when it is parsed again.
