@@ -81,6 +81,8 @@ where
 
 /// Reads a line with a length of at most `greatest`, or with `-1`. It cuts where there is none, at
 /// the start of the line.
+// Inlined: most replies begin with a length, which is read in few steps.
+#[inline(always)]
 pub(crate) fn read_length<I: StreamIsPartial, E: ParserError<I>>(
     alloc: Global,
     input: &mut I,

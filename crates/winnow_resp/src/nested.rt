@@ -70,6 +70,8 @@ where
 }
 
 // Reads a reply that is no array, after the byte of its kind.
+// Inlined: a reply that is handed on by a call is copied through memory at each level.
+#[inline(always)]
 fn read_scalar<I: StreamIsPartial, E: ParserError<I>>(
     alloc: Global,
     input: &mut I,
