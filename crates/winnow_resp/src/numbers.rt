@@ -2,9 +2,8 @@ ghost use Rattle.std.specs.Prelude.{◌≡◌, ◌<◌, ◌^◌, suc, negsuc, Fi
 ghost use Rattle.std.specs.Int.{w64};
 ghost use Rattle.winnow_count.specs.Reading.{IsSomeExactly};
 ghost use Rattle.winnow_resp.specs.Replies.{IsInteger, IsLength};
-ghost use Rattle.winnow_resp.specs.Numbers.{is_plain, IsNegative, IsPositive};
-
-use winnow::stream::ParseSlice;
+ghost use Rattle.winnow_resp.specs.Numbers.{is_plain, HasDigit, AreDigitsOf};
+ghost use Rattle.winnow_resp.specs.Numbers.{IsNegative, IsPositive};
 
 // Returns whether a text has neither a plus nor a 0 before other digits.
 fn is_plain(text: &[u8]) -> bool
@@ -16,7 +15,35 @@ fn is_plain(text: &[u8]) -> bool
     }
 }
 
-#[tactic(auto, using(crate::proofs::lemmas::NumberLemmas::number_reading, crate::proofs::lemmas::NumberLemmas::number_none))]
+// Returns the number with one digit more, if the byte is a digit and a `usize` has the number.
+fn with_digit(number: usize, byte: u8) -> Option<usize>
+    ensures { IsSomeExactly (HasDigit number byte) result }
+{
+    if byte < b'0' || byte > b'9' {
+        return None;
+    }
+    let digit = (byte - b'0') as usize;
+    match number.checked_mul(10) {
+        Some(tens) => tens.checked_add(digit),
+        None => None,
+    }
+}
+
+// Returns the number that decimal digits write, if a `usize` has it. A length has few digits, and
+// to look first whether they are UTF-8, as std's reading of a `&str` asks, takes as long again.
+fn digits_in(text: &[u8]) -> Option<usize>
+    ensures { IsSomeExactly (AreDigitsOf text.now) result }
+{
+    let mut number = 0;
+    for byte in text {
+        match with_digit(number, *byte) {
+            Some(longer) => number = longer,
+            None => return None,
+        }
+    }
+    Some(number)
+}
+
 // Returns the number that a text writes as std does, if a `usize` has it.
 fn number_in(text: &[u8]) -> Option<usize>
     ensures { IsSomeExactly (λ n. (n < 2 ^ 64) × (text.now ≡ decimal n)) result }
@@ -24,7 +51,7 @@ fn number_in(text: &[u8]) -> Option<usize>
     if !is_plain(text) {
         return None;
     }
-    text.parse_slice()
+    digits_in(text)
 }
 
 // Returns the negative of a number that is not 0, if an `i64` has it.

@@ -1,19 +1,20 @@
 -- Integers and lengths as std writes them.
-use Rattle.std.proofs.Common.{◌≡◌, ◌≢◌, ℕ, suc, ◌<◌, ◌^◌, inl, inr, true, false, List, [], ◌∷◌, length, get_or, Option, Some, None, ℤ, pos, negsuc, refl, sym, ap, ◌∙◌, subst, arith}
+use Rattle.std.proofs.Common.{◌≡◌, ◌≢◌, ℕ, zero, suc, ◌+◌, ◌*◌, ◌≤◌, ◌<◌, ◌^◌, inl, inr, true, false, List, [], ◌∷◌, length, take, get_or, Option, Some, None, ℤ, pos, negsuc, refl, sym, ap, ◌∙◌, subst, arith}
 use Rattle.std.specs.Prelude.{decimal}
 use Rattle.std.specs.Fmt.{signed_decimal}
-use Rattle.std.specs.Str.{IsUtf8}
-use Rattle.std.specs.Str.Parse.{AllDigits}
+use Rattle.std.specs.Char.{digit_value}
+use Rattle.std.specs.Str.Parse.{AllDigits, digits_value}
+use Rattle.std.proofs.lemmas.Int.Digits.{digits_more, digits_value_more}
 use Rattle.std.proofs.lemmas.Bool.Decides.{nat_tests, eqb_tells}
 use Rattle.std.proofs.lemmas.Option.{none-some, same_Some}
-use Rattle.std.proofs.lemmas.Str.{IsUtf8-from_ascii}
-use Rattle.std.proofs.lemmas.Str.Parse.{digit_from_value, numerals_by_value, tells_digits}
-use Rattle.std.proofs.lemmas.Fmt.{decimal_is_IsNumeral, decimal-digits_value, decimal_digit, first_decimal, length-decimal-le, IsAscii-decimal}
-use Rattle.winnow_count.specs.Reading.{IsSomeExactly, Writes, WritesUpward, ReadsUnsigned}
+use Rattle.std.proofs.lemmas.List.{take_all}
+use Rattle.std.proofs.lemmas.Str.Parse.{digit_from_value, digits_value-take-le, numerals_by_value, tells_digits}
+use Rattle.std.proofs.lemmas.Fmt.{decimal_is_IsNumeral, decimal-digits_value, decimal_digit, first_decimal, length-decimal-le}
+use Rattle.winnow_count.specs.Reading.{IsSomeExactly, WritesUpward}
 use Rattle.winnow_format.proofs.lemmas.ByteLemmas.{heads, tails}
 use Rattle.winnow_resp.specs.Replies.{AreInLine, IsText, no_length, IsInteger, IsLength}
 use Rattle.winnow_resp.specs.Grammar.{most_digits}
-use Rattle.winnow_resp.specs.Numbers.{is_plain, IsNegative, IsPositive}
+use Rattle.winnow_resp.specs.Numbers.{is_plain, HasDigit, AreDigitsOf, IsNegative, IsPositive}
 
 -- a plain text that writes a number is what std writes of it
 plain-decimal : (text : List ℕ) (n : ℕ) → n < 2 ^ 64 → is_plain text ≡ true → WritesUpward text n
@@ -36,21 +37,64 @@ other-plain c cs l = grind (arith, nat_tests, l)
 decimal-plain : (n : ℕ) (text : List ℕ) → n < 2 ^ 64 → decimal n ≡ text → is_plain text ≡ true
 decimal-plain n [] small e = absurd (omega (arith, (decimal_is_IsNumeral n small).0.0, ap length e))
 decimal-plain n (c ∷ cs) small e = elim (eqb_tells n 0) [
-  | inl (_, zero) ↦ zero-plain (c ∷ cs) (sym (decimal_digit 0 (omega arith)) ∙ ap decimal (sym zero) ∙ e)
+  | inl (_, nought) ↦ zero-plain (c ∷ cs) (sym (decimal_digit 0 (omega arith)) ∙ ap decimal (sym nought) ∙ e)
   | inr (_, other) ↦ other-plain c cs (subst (λ t. 48 < get_or t 0 0) e (first_decimal n (omega (arith, other)) small))
 ]
 
--- what std writes of a number is text
-decimal-text : (n : ℕ) (text : List ℕ) → n < 2 ^ 64 → text ≡ decimal n → IsUtf8 text
-decimal-text n text small e = subst IsUtf8 (sym e) (IsUtf8-from_ascii (decimal n) (IsAscii-decimal n small))
+-- each byte of digits is a digit
+digit-below : (ds : List ℕ) (i : ℕ) → AllDigits 10 ds → i < length ds
+    → digit_value (get_or ds i 0) < 10
+digit-below [] i h l = absurd (omega (arith, l))
+digit-below (d ∷ ds) zero h l = h.0
+digit-below (d ∷ ds) (suc i) h l = digit-below ds i h.1 (omega (arith, l))
 
--- the number that a plain text reads as is the one that it writes as std does
-pub number_reading : (text : List ℕ) (r : Option ℕ) → is_plain text ≡ true
-    → IsSomeExactly (λ n. IsUtf8 text × ReadsUnsigned 64 text n) r
+-- after one digit more the digits so far write the number with that digit
+pub digits-more : (text : List ℕ) (i number n : ℕ) (r : Option ℕ) → i < length text
+    → AllDigits 10 (take i text) → number ≡ digits_value 10 (take i text)
+    → IsSomeExactly (HasDigit number (get_or text i 0)) r → r ≡ Some n
+    → AllDigits 10 (take (i + 1) text) × (n ≡ digits_value 10 (take (i + 1) text))
+digits-more text i number n r l all is h some =
+    let k = (h n).0 some in (
+      digits_more 10 text i l all k.0,
+      k.1.0 ∙ ap (λ m. m * 10 + digit_value (get_or text i 0)) is ∙ sym (digits_value_more 10 text i l),
+    )
+
+-- where no digit follows, or the number with it is too great, the text writes no number
+pub digits-none : (text : List ℕ) (i number : ℕ) (r : Option ℕ) → i < length text
+    → number ≡ digits_value 10 (take i text)
+    → IsSomeExactly (HasDigit number (get_or text i 0)) r → r ≡ None
+    → IsSomeExactly (AreDigitsOf text) None
+digits-none text i number r l is h none = λ v. (
+  λ e. absurd (none-some _ e),
+  λ w. (let next = number * 10 + digit_value (get_or text i 0) in
+      let more = ap (λ m. m * 10 + digit_value (get_or text i 0)) is ∙ sym (digits_value_more 10 text i l) in
+      let small : next < 2 ^ 64 = omega (arith, more, digits_value-take-le 10 text (i + 1) (omega arith), w.1.0, w.1.1) in
+      absurd (none-some _ (sym none ∙ (h next).1 (digit-below text i w.0 l, (refl, small))))),
+)
+
+-- where no byte is left, the digits are those of the text
+pub digits-all : (text : List ℕ) (i number : ℕ) → length text ≤ i → number < 2 ^ 64
+    → AllDigits 10 (take i text) → number ≡ digits_value 10 (take i text)
+    → IsSomeExactly (AreDigitsOf text) (Some number)
+digits-all text i number le small all is = λ v. (
+  λ e. (let same = same_Some number v e in let whole = take_all i text le in
+      (subst (AllDigits 10) whole all, (ap (digits_value 10) (sym whole) ∙ sym is ∙ same, subst (λ n. n < 2 ^ 64) same small))),
+  λ w. ap Some (is ∙ ap (digits_value 10) (take_all i text le) ∙ w.1.0),
+)
+
+-- a plain text has a byte
+plain-some : (text : List ℕ) → is_plain text ≡ true → 0 < length text
+plain-some [] plain = absurd (cc)
+plain-some (c ∷ cs) plain = omega arith
+
+-- the number that the digits of a plain text write is the one that it writes as std does
+pub number-digits : (text : List ℕ) (r : Option ℕ) → is_plain text ≡ true
+    → IsSomeExactly (AreDigitsOf text) r
     → IsSomeExactly (λ n. (n < 2 ^ 64) × (text ≡ decimal n)) r
-number_reading text r plain h = λ v. (
-  λ e. (let k = (h v).0 e in (k.1.1, plain-decimal text v k.1.1 plain k.1.0)),
-  λ w. (h v).1 (decimal-text v text w.0 w.1, (inl (subst (λ t. Writes t v) (sym w.1) (decimal_is_IsNumeral v w.0)), w.0)),
+number-digits text r plain h = λ v. (
+  λ e. (let k = (h v).0 e in (k.1.1, plain-decimal text v k.1.1 plain (inl ((plain-some text plain, k.0), k.1.0)))),
+  λ w. (let d = decimal_is_IsNumeral v w.0 in
+      (h v).1 (subst (AllDigits 10) (sym w.1) d.0.1, (subst (λ t. digits_value 10 t ≡ v) (sym w.1) d.1, w.0))),
 )
 
 -- a text that is not plain is what std writes of no number
