@@ -12,7 +12,7 @@ use Rattle.winnow_json.specs.declared.found.Found.{Found}
 use Rattle.winnow_json.specs.declared.found.Found.TheVariants.{Whole, Begun, Damaged}
 use Rattle.winnow_json.specs.declared.tokens.Token.{Token}
 
--- where no quote stands, no token begins, whatever follows; a number has ended
+-- where no quote stands, no token begins, no matter what follows; a number has ended
 abbrev pub IsNoToken : Bool → List ℕ → Type 0
 IsNoToken partial here = ¬ (StartsWith 34 here) × (partial ≡ true → ¬ (Each is_number_byte here))
     × HasNone (TokenHere partial) partial here

@@ -89,9 +89,10 @@ enum Step {
 /// and a byte for each array and object that is open.
 ///
 /// ```
-/// let mut reader = EventReader::new(alloc, 128);
-/// reader.push(b"{\"a\": [1, tr")?;    // StartObject, Key("a"), StartArray, Number(1)
-/// reader.push(b"ue]}")?;             // Bool(true), EndArray, EndObject
+/// let mut reader = EventReader::new(alloc, DEPTH);
+/// ..
+/// push(&mut reader, &text[..cut])?;
+/// ..
 /// reader.end();
 /// ```
 #[derive(Drop)]

@@ -155,7 +155,7 @@ module _ (partial : Bool) where
   damaged-once b r s (t, (cs, (e, p, wr))) (u, (ds, (f, q, ws))) =
       wrong-once cs ds t u r s p q (tails 34 34 (t ++ r) (u ++ s) (sym e ∙ f)) wr ws
 
-  -- no quote stands where a string is wrong, whatever follows
+  -- no quote stands where a string is wrong, no matter what follows
   wrong-quote : (r more after : List ℕ) → MayFollow partial more → IsWrong partial r
       → ¬ (r ++ more ≡ 34 ∷ after)
   wrong-quote [] more after may wrong e = wrong-end partial refl
@@ -165,7 +165,7 @@ module _ (partial : Bool) where
       wrong-end false same = let z = sym (may same) ∙ e in cc z
   wrong-quote (x ∷ r) more after may wrong e = wrong.0 (heads x 34 (r ++ more) after e)
 
-  -- a damaged string is none, whatever follows
+  -- a damaged string is none, no matter what follows
   pub damaged-none : (b r more ds after : List ℕ) → IsDamagedAt partial b r
       → MayFollow partial more → ¬ (StringAhead (b ++ more) ds after)
   damaged-none b r more ds after (t, (cs, (e, p, wrong))) may (u, (f, q)) =
