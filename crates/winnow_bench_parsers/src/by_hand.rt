@@ -14,6 +14,7 @@ fn is_space(byte: u8) -> bool {
 }
 
 /// Takes tokens one by one: all tokens, or only those of words and spaces.
+#[inline(always)]
 pub fn sum_single<I: Stream<Token = u8>>(input: &mut I, every: bool) -> u64
     requires { I.valid input.old }
 {
@@ -31,6 +32,7 @@ pub fn sum_single<I: Stream<Token = u8>>(input: &mut I, every: bool) -> u64
 }
 
 /// Takes one word again and again.
+#[inline(always)]
 pub fn sum_words_alike<I: Compare<&'static str> + Stream>(input: &mut I) -> u64
 where
     I::Slice: Weigh + Drop,
@@ -47,6 +49,7 @@ where
 }
 
 // Takes 16 tokens, if 16 remain.
+#[inline(always)]
 fn next_sixteen<I: Stream>(input: &mut I) -> Option<I::Slice>
     requires { I.valid input.old }
     ensures { I.valid input.new }
@@ -58,6 +61,7 @@ fn next_sixteen<I: Stream>(input: &mut I) -> Option<I::Slice>
 }
 
 /// Takes slices of 16 tokens.
+#[inline(always)]
 pub fn sum_sixteens<I: Stream>(input: &mut I) -> u64
 where
     I::Slice: Weigh + Drop,
@@ -74,6 +78,7 @@ where
 }
 
 // Takes the letters ahead and the token after them, if there are both.
+#[inline(always)]
 fn next_word<I: Stream<Token = u8>>(input: &mut I) -> Option<I::Slice>
 where
     I::Slice: Weigh + Drop,
@@ -90,6 +95,7 @@ where
 }
 
 /// Takes words, each with the token after it.
+#[inline(always)]
 pub fn sum_words<I: Stream<Token = u8>>(input: &mut I) -> u64
 where
     I::Slice: Weigh + Drop,
@@ -106,6 +112,7 @@ where
 }
 
 /// Takes lines, each with its end.
+#[inline(always)]
 pub fn sum_lines<I: Stream<Token = u8>>(input: &mut I) -> u64
 where
     I::Slice: Weigh + Drop,
@@ -123,6 +130,7 @@ where
 }
 
 /// Searches for each newline, and takes what stands before it and the newline.
+#[inline(always)]
 pub fn sum_found<I: FindSlice<&'static str> + Stream<Token = u8>>(input: &mut I) -> u64
 where
     I::Slice: Weigh + Drop,
@@ -140,6 +148,7 @@ where
 }
 
 // Takes a name, if the input begins with it.
+#[inline(always)]
 fn take_name<I: Compare<&'static str> + Stream>(
     input: &mut I,
     name: &'static str,
@@ -156,6 +165,7 @@ where
 }
 
 // Takes the one of four names with which the input begins.
+#[inline(always)]
 fn next_name<I: Compare<&'static str> + Stream>(input: &mut I) -> Option<I::Slice>
 where
     I::Slice: Weigh + Drop,
@@ -175,6 +185,7 @@ where
 }
 
 /// Takes names.
+#[inline(always)]
 pub fn sum_names<I: Compare<&'static str> + Stream>(input: &mut I) -> u64
 where
     I::Slice: Weigh + Drop,
@@ -191,6 +202,7 @@ where
 }
 
 /// Counts words.
+#[inline(always)]
 pub fn count_words<I: Stream<Token = u8>>(input: &mut I) -> u64
 where
     I::Slice: Weigh + Drop,
@@ -206,6 +218,7 @@ where
 }
 
 /// Lists words.
+#[inline(always)]
 pub fn list_words<I: Stream<Token = u8>>(alloc: Global, input: &mut I) -> Option<Vec<I::Slice>>
 where
     I::Slice: Weigh + Drop,

@@ -39,6 +39,7 @@ impl<S: Weigh> Value for Vec<S> {
 }
 
 /// Sums up the values of a parser up to its first failure.
+#[inline(always)]
 pub fn sum_values<I: StreamIsPartial, P: Parser<I, EmptyError>>(
     alloc: Global,
     input: &mut I,
@@ -61,6 +62,7 @@ where
 }
 
 /// Returns the one value of a parser that reads all.
+#[inline(always)]
 pub fn read_once<I: StreamIsPartial, P: Parser<I, EmptyError>>(
     alloc: Global,
     input: &mut I,

@@ -37,6 +37,7 @@ pub extern "C" fn winnow_bench_parse_parts(alloc: Global, input: &[u8], workload
     sum_parts(alloc, &mut input, workload)
 }
 
+#[inline(always)]
 fn sum_tokens_by_hand<I: Compare<&'static str> + Stream<Token = u8>>(
     input: &mut I,
     workload: u64,

@@ -4,6 +4,9 @@
 //! A workload asks one parser again and again, up to its first failure, and sums up the values. It
 //! is one generic function over the stream, so that the same code reads whole input and input to
 //! which more may come.
+//!
+//! These functions are inlined: a loop in a function that gets the stream by reference keeps the
+//! stream in memory, since the compiler is not told that nothing else refers to it.
 #![tactic(auto)]
 
 mod by_hand;

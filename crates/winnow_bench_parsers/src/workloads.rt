@@ -9,6 +9,7 @@ use winnow_stream::StreamIsPartial;
 use winnow_token::{any, literal, one_of, take, take_till, take_until, take_while};
 
 /// Asks one of the parsers of tokens again and again.
+#[inline(always)]
 pub fn sum_tokens<I: Compare<&'static str> + StreamIsPartial<Token = u8>>(
     alloc: Global,
     input: &mut I,
@@ -33,12 +34,14 @@ where
 }
 
 /// Asks the parser of the text before a newline again and again, on whole input.
+#[inline(always)]
 pub fn sum_until(alloc: Global, input: &mut &[u8]) -> u64 {
     sum_values(alloc, input, &terminated(take_until(0.., "\n"), any()))
 }
 
 /// Asks one of the parsers that are made of parsers. `repeat` and `separated` read all input in one
 /// call.
+#[inline(always)]
 pub fn sum_parts<I: Compare<&'static str> + StreamIsPartial<Token = u8>>(
     alloc: Global,
     input: &mut I,
