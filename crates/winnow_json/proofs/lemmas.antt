@@ -24,5 +24,6 @@ pub mod TokenReadingLemmas
 pub mod NumberTextLemmas
 pub mod QuotingLemmas
 pub mod WritingLemmas
+pub mod TakingLemmas
 pub mod NextTokenLemmas
 pub mod EventLemmas

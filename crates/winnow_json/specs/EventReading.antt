@@ -2,7 +2,6 @@
 use Rattle.std.specs.Prelude.{◌≡◌, ℕ, ◌+◌, ◌-◌, ◌<◌, not, List, [], ◌∷◌, ◌++◌, length, Option, Some, None, Result, Ok, Err, ◌⊎◌, ⊤}
 use Rattle.winnow.specs.State.{ReaderState, at_start, pushed, unspent, ended_after, waiting_for}
 use Rattle.winnow.specs.Reading.{HasRead}
-use Rattle.winnow.specs.Answering.{IdlesAt}
 use Rattle.winnow.specs.SameValues.{IsThrough}
 use Rattle.winnow_reader.specs.declared.next.Next.{Next}
 use Rattle.winnow_reader.specs.declared.next.Next.TheVariants as next
@@ -104,7 +103,7 @@ pub record Brings (old : ReaderState JsonToken) (token : Token) (new : ReaderSta
 
 -- no token stands there, no matter what follows, or memory was refused
 abbrev pub IsNoNext : ReaderState JsonToken → EventError → Type 0
-IsNoNext f (error.Damaged place) = FindsDamage f place ⊎ IdlesAt (λ p. OneToken) f place
+IsNoNext f (error.Damaged place) = FindsDamage f place
 IsNoNext f (error.Unexpected place) = ⊥
 IsNoNext f (error.TooDeep place) = ⊥
 IsNoNext f (error.EndsEarly place) = ⊥

@@ -1,14 +1,14 @@
 -- The next token, from what a reader of records answers.
-use Rattle.std.proofs.Common.{◌≡◌, ℕ, Bool, true, false, not, List, length, ap, ◌∙◌, subst, refl, arith, append-nil, length-drop, inl}
+use Rattle.std.proofs.Common.{◌≡◌, ℕ, Bool, true, false, not, List, length, ap, sym, ◌∙◌, subst, refl, arith, append-nil, length-drop, inl}
 use Rattle.std.specs.Prelude.{Result, Ok, Err}
 use Rattle.winnow_stream.specs.Source.{units}
 use Rattle.winnow.specs.State.{ReaderState}
 use Rattle.winnow.specs.Reading.{HasRead, ReadsOn}
-use Rattle.winnow.specs.Answering.{GivesValue, FailsWell, StaysWithout}
+use Rattle.winnow.specs.Answering.{GivesValue, FailsWell, IsDoneAtEnd, StaysWithout}
 use Rattle.winnow_reader.specs.declared.next.Next.{Next}
 use Rattle.winnow_reader.specs.declared.next.Next.TheVariants as next
 use Rattle.winnow_reader.specs.declared.next.ReadError.{ReadError}
-use Rattle.winnow_reader.specs.declared.next.ReadError.TheVariants.{Failed}
+use Rattle.winnow_reader.specs.declared.next.ReadError.TheVariants.{Failed, TakesNothing}
 use Rattle.winnow_format.specs.Bytes.{bytes_of}
 use Rattle.winnow_format.proofs.lemmas.ByteLemmas.{bytes-units}
 use Rattle.winnow_json.specs.Tokens.{TokenAhead}
@@ -19,6 +19,7 @@ use Rattle.winnow_json.specs.declared.tokens.Token.{Token}
 use Rattle.winnow_json.specs.declared.tokens.Token.TheVariants as token
 use Rattle.winnow_json.specs.declared.tokens.JsonToken.{JsonToken}
 use Rattle.winnow_json.proofs.lemmas.TokenReadingLemmas.{fails-damaged}
+use Rattle.winnow_json.proofs.lemmas.TakingLemmas.{idles-at-end}
 
 -- nothing follows the end
 pub end-brings : (old new : ReaderState JsonToken) → Brings old token.End new → BringsEnd old new
@@ -58,3 +59,12 @@ module _ {E : Type 0} (old new : ReaderState JsonToken) where
     subst (λ r. StaysWithout old r new) e kept,
     fails-damaged old place (subst (FailsWell (λ p. OneToken) old) e fails),
   )
+
+-- no token takes nothing: a reader with nothing left is done
+pub never-idle : {E : Type 0} (f : ReaderState JsonToken) (place : ℕ)
+    (result : Result (Next Token) (ReadError E)) → result ≡ Err (TakesNothing place)
+    → FailsWell (λ p. OneToken) f result → IsDoneAtEnd f result → ⊥
+never-idle f place result e fails done =
+    let idles = subst (FailsWell (λ p. OneToken) f) e fails in
+    let both = idles-at-end f.ended f.ahead place idles.1.0 idles.1.1 in
+    absurd (cc (sym (done.1 both) ∙ e))

@@ -1,9 +1,9 @@
-use Rattle.std.proofs.Common.{ap, ◌∙◌, subst, inl}
+use Rattle.std.proofs.Common.{ap, ◌∙◌, subst}
 use Rattle.std.specs.Prelude.{Ok, Err}
 use Rattle.winnow.specs.Answering.{StaysWithout}
 use Rattle.winnow_reader.specs.declared.next.Next.TheVariants as next
 use Rattle.winnow_json.specs.declared.tokens.Token.TheVariants as token
-use Rattle.winnow_json.proofs.lemmas.NextTokenLemmas.{value-brings, end-brings, waits-read, failed-there}
+use Rattle.winnow_json.proofs.lemmas.NextTokenLemmas.{value-brings, end-brings, waits-read, failed-there, never-idle}
 use Rattle.winnow_json.proofs.event_reader.next_token.Goals as goal
 
 pub returns-in-Ok-Value-End : goal.returns-in-Ok-Value-End
@@ -27,5 +27,10 @@ returns-in-Ok-NeedsMore c =
 pub returns-in-Err-Failed : goal.returns-in-Err-Failed
 returns-in-Err-Failed c =
     let e = c.in-Err-Failed.is ∙ ap Err c.in-Err-Failed.field-0-is in
-    let there = failed-there c.args.tokens.now c.read_next.new.self _ c.in-Err-Failed.place c.read_next.result e c.read_next.ensures.failed c.read_next.ensures.kept in
-    (there.0, inl there.1)
+    failed-there c.args.tokens.now c.read_next.new.self _ c.in-Err-Failed.place c.read_next.result e c.read_next.ensures.failed c.read_next.ensures.kept
+
+-- a reader with nothing left is done, and elsewhere a token takes something
+pub returns-in-Err-TakesNothing : goal.returns-in-Err-TakesNothing
+returns-in-Err-TakesNothing c =
+    let e = c.in-Err-TakesNothing.is ∙ ap Err c.in-Err-TakesNothing.field-0-is in
+    absurd (never-idle c.args.tokens.now c.in-Err-TakesNothing.place c.read_next.result e c.read_next.ensures.failed c.read_next.ensures.done)
