@@ -1,7 +1,7 @@
 -- The events that a reader has given of the joined input.
-use Rattle.std.specs.Prelude.{◌≡◌, ℕ, ◌+◌, ◌-◌, ◌<◌, not, List, [], ◌∷◌, ◌++◌, length, Option, Some, None, Result, Ok, Err, ◌⊎◌, ⊤}
+use Rattle.std.specs.Prelude.{◌≡◌, ℕ, ◌+◌, ◌-◌, ◌<◌, false, not, List, [], ◌∷◌, ◌++◌, length, Option, Some, None, Result, Ok, Err, ◌⊎◌, ⊤}
 use Rattle.winnow.specs.State.{ReaderState, at_start, pushed, unspent, ended_after, waiting_for}
-use Rattle.winnow.specs.Reading.{HasRead}
+use Rattle.winnow.specs.Reading.{HasRead, Lacks}
 use Rattle.winnow.specs.SameValues.{IsThrough}
 use Rattle.winnow_reader.specs.declared.next.Next.{Next}
 use Rattle.winnow_reader.specs.declared.next.Next.TheVariants as next
@@ -113,12 +113,17 @@ IsNoNext f (error.Refused r) = ⊤
 abbrev pub BringsEnd : ReaderState JsonToken → ReaderState JsonToken → Type 0
 BringsEnd old new = IsThrough new × (Brings old token.End new ⊎ (new ≡ old))
 
--- the next token, or the end; or it is not there yet; or none stands there, and nothing changes
+-- the input goes on, and the record of the next token asked for more than came since
+abbrev pub Awaits : ReaderState JsonToken → Type 0
+Awaits f = (f.ended ≡ false)
+    × ((input : List ℕ) (tokens : List Token) → HasRead (λ p. OneToken) f input tokens → Lacks (λ p. OneToken) f)
+
+-- the next token, or the end; or it is awaited; or none stands there, and nothing changes
 abbrev pub IsComing : ReaderState JsonToken → Result Coming EventError → ReaderState JsonToken
     → Type 0
 IsComing old (Ok (coming.Token t)) new = Brings old t new
 IsComing old (Ok coming.End) new = BringsEnd old new
-IsComing old (Ok coming.NeedsMore) new = (new ≡ waiting_for old new.wanted)
+IsComing old (Ok coming.NeedsMore) new = (new ≡ waiting_for old new.wanted) × Awaits old
     × ((input : List ℕ) (tokens : List Token) → HasRead (λ p. OneToken) old input tokens → HasRead (λ p. OneToken) new input tokens)
 IsComing old (Err e) new = (new ≡ old) × IsNoNext old e
 
@@ -168,13 +173,13 @@ IsMisplaced old e new = (t : Token) × ((m : Misplaced) × ((turn_at old.text t 
     × (e ≡ error_at m (token_place old.tokens)) × (Brings old.tokens t new.tokens ⊎ ((t ≡ token.End) × BringsEnd old.tokens new.tokens))))
 
 -- what a step answers: an event, or a token without one; or the end of a whole text; or the next
--- token is not there yet; or none stands there, and nothing changes; or one that may not
+-- token is awaited; or none stands there, and nothing changes; or one that may not
 abbrev pub IsStep : EventState → Result Step EventError → EventState → Type 0
 IsStep old (Ok (step.Took (taken.Has event))) new = new.stopped ≡ None
 IsStep old (Ok (step.Took taken.Passes)) new =
     (new.stopped ≡ None) × (length new.tokens.ahead < length old.tokens.ahead)
 IsStep old (Ok step.Done) new = (new.stopped ≡ None) × IsWhole new
-IsStep old (Ok step.NeedsMore) new = (new.stopped ≡ None) × StaysAt old new
+IsStep old (Ok step.NeedsMore) new = (new.stopped ≡ None) × StaysAt old new × Awaits old.tokens
 IsStep old (Err e) new = ((new ≡ old) × IsNoNext old.tokens e)
     ⊎ ((new.text ≡ old.text) × (new.stopped ≡ Some e) × IsMisplaced old e new)
 
@@ -182,10 +187,10 @@ IsStep old (Err e) new = ((new ≡ old) × IsNoNext old.tokens e)
 abbrev pub Passed : EventState → EventState → Type 0
 Passed old new = GivesOn old [] new × (new.stopped ≡ None)
 
--- what the reader answers: an event; or done, where the text is whole; or the next token is not
--- there yet; or, after tokens that have no event, no token stands there, or one that may not
+-- what the reader answers: an event; or done, where the text is whole; or, after tokens that have
+-- no event, the next token is awaited, no token stands there, or one that may not
 abbrev pub IsNext : EventState → Result (Next Event) EventError → EventState → Type 0
 IsNext old (Ok (next.Value event)) new = new.stopped ≡ None
-IsNext old (Ok next.NeedsMore) new = new.stopped ≡ None
+IsNext old (Ok next.NeedsMore) new = (r : EventState) × (Passed old r × IsStep r (Ok step.NeedsMore) new)
 IsNext old (Ok next.Done) new = (new.stopped ≡ None) × IsWhole new
 IsNext old (Err e) new = (r : EventState) × (Passed old r × IsStep r (Err e) new)

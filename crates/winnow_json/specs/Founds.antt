@@ -17,7 +17,7 @@ abbrev pub HasNone : {T : Type 0} → (T → List ℕ → List ℕ → Type 0) �
 HasNone {T} ahead partial bytes = (more : List ℕ) → MayFollow partial more
     → (value : T) (rest : List ℕ) → ¬ (ahead value (bytes ++ more) rest)
 
--- where a relation says which bytes begin with a value: the bytes begin with this value, of so many
+-- where a relation says which bytes begin with a value: the bytes begin with this value, of n
 -- bytes; or they begin with none, and more may follow; or with none, no matter what follows
 abbrev pub IsFound : {T : Type 0} → (T → List ℕ → List ℕ → Type 0) → Bool → List ℕ → Found T
     → Type 0
@@ -33,8 +33,8 @@ GoesNotOn close partial bytes = (more : List ℕ) → MayFollow partial more
     → ¬ (StartsWith 44 (after_blanks (bytes ++ more)))
     × ¬ (StartsWith close (after_blanks (bytes ++ more)))
 
--- after blanks the bytes begin with a comma, which ends so many bytes; or with the bracket, which
--- does; or they are blanks, and more may follow; or neither, no matter what follows
+-- after blanks the bytes begin with a comma, which ends n bytes; or with the bracket, which does;
+-- or they are blanks, and more may follow; or neither, no matter what follows
 abbrev pub IsNext : ℕ → Bool → List ℕ → Next → Type 0
 IsNext close partial bytes (next.More n) =
     (0 < n) × (n ≤ length bytes) × (after_blanks bytes ≡ 44 ∷ drop n bytes)
@@ -48,8 +48,8 @@ IsNext close partial bytes (next.Damaged n) =
 abbrev pub ByteAhead : ℕ → Unit {0} → List ℕ → List ℕ → Type 0
 ByteAhead byte done bytes rest = after_blanks bytes ≡ byte ∷ rest
 
--- after blanks the bytes begin with this byte, which ends so many bytes; or they are blanks, and
--- more may follow; or the byte does not stand there, no matter what follows
+-- after blanks the bytes begin with this byte, which ends n bytes; or they are blanks, and more may
+-- follow; or the byte does not stand there, no matter what follows
 abbrev pub IsByte : ℕ → Bool → List ℕ → Found (Unit {0}) → Type 0
 IsByte byte partial bytes (Whole done n) =
     (n ≤ length bytes) × (after_blanks bytes ≡ byte ∷ drop n bytes)

@@ -11,7 +11,7 @@ use Rattle.winnow_json.specs.declared.strings.Reading.{Reading}
 use Rattle.winnow_json.specs.declared.strings.Reading.TheVariants.{Nothing, Missing, Damaged}
 use Rattle.winnow_json.specs.declared.strings.Reading.TheVariants as reading
 
--- the step takes so many bytes, and appends the characters that they spell to a value; or the
+-- the step takes n bytes, and appends the characters that they spell to a value; or the
 -- closing quote stands ahead; or the bytes may be a character; or neither stands there
 abbrev pub IsStep : List ℕ → List ℕ → Step → List ℕ → Type 0
 IsStep bytes old (Taken n) new = (0 < n) × (n ≤ length bytes)
@@ -20,13 +20,13 @@ IsStep bytes old Ended new = StartsWith 34 bytes × (new ≡ old)
 IsStep bytes old step.Begun new = ¬ (StartsWith 34 bytes) × MayBeChar bytes
 IsStep bytes old step.Wrong new = ¬ (StartsWith 34 bytes) × IsNoChar bytes
 
--- so many bytes are the opening quote and characters, which no closing quote follows
+-- the first n bytes are the opening quote and characters, which no closing quote follows
 abbrev pub StopsAt : List ℕ → ℕ → Type 0
 StopsAt bytes n = (n ≤ length bytes) × ¬ (StartsWith 34 (drop n bytes))
     × ((text : List ℕ) × ((cs : List ℕ)
     × ((bytes ≡ 34 ∷ (text ++ drop n bytes)) × SpellsChars cs text)))
 
--- so many bytes are the opening quote and characters, and the value has these
+-- the first n bytes are the opening quote and characters, and the value has these
 abbrev pub HasRead : List ℕ → ℕ → List ℕ → Type 0
 HasRead bytes n value = (n ≤ length bytes) × ((text : List ℕ) × ((cs : List ℕ)
     × ((bytes ≡ 34 ∷ (text ++ drop n bytes)) × SpellsChars cs text × (value ≡ encode_utf8_all cs))))

@@ -102,7 +102,7 @@ no_token-longer partial here more (quote, number, none) = (
 )
 
 -- a character may stand where nothing does
-begun-char : BeginsChar (97 ∷ [])
+pub begun-char : BeginsChar (97 ∷ [])
 begun-char = (97, (97 ∷ [], ([], (refl, inl (refl, refl, sym (encode_ascii 97 (omega arith)))))))
 
 -- what is wrong in a string where more may follow is wrong where more follows
@@ -122,7 +122,7 @@ damage-longer partial here rest more (inr (e, none)) =
 
 -- ---- After blanks
 
--- one step of `blanks-longer`
+-- one step of `blanks-more`
 longer-if : (t : Bool) (x : ℕ) (b : List ℕ) (c : ℕ) (q more : List ℕ)
     → (after_blanks b ≡ c ∷ q → after_blanks (b ++ more) ≡ c ∷ (q ++ more))
     → (if t then after_blanks b else x ∷ b) ≡ c ∷ q
@@ -131,10 +131,10 @@ longer-if true x b c q more on e = on e
 longer-if false x b c q more on e = ap (λ l. l ++ more) e
 
 -- where a byte that is no blank stands, more bytes come after it
-blanks-longer : (b : List ℕ) (c : ℕ) (q more : List ℕ) → after_blanks b ≡ c ∷ q
+pub blanks-more : (b : List ℕ) (c : ℕ) (q more : List ℕ) → after_blanks b ≡ c ∷ q
     → after_blanks (b ++ more) ≡ c ∷ (q ++ more)
-blanks-longer [] c q more e = absurd (cc e)
-blanks-longer (x ∷ b) c q more e = longer-if (is_blank x) x b c q more (blanks-longer b c q more) e
+blanks-more [] c q more e = absurd (cc e)
+blanks-more (x ∷ b) c q more e = longer-if (is_blank x) x b c q more (blanks-more b c q more) e
 
 -- where something stands after blanks, more bytes come after it
 after-longer : (b more : List ℕ) → after_blanks b ≢ []
@@ -144,7 +144,7 @@ after-longer b more some = at (after_blanks b) refl some
     at : (here : List ℕ) → after_blanks b ≡ here → here ≢ []
         → after_blanks (b ++ more) ≡ here ++ more
     at [] e none = absurd (none refl)
-    at (c ∷ q) e none = blanks-longer b c q more e
+    at (c ∷ q) e none = blanks-more b c q more e
 
 -- a run that ended where more may follow has bytes after it
 run-none : (text r : List ℕ) → [] ≡ text ++ r → EndsRun is_number_byte true r → ⊥

@@ -51,7 +51,7 @@ GivesEachValue depth partial bytes result rest = (value : Value) (after : List �
     → ValueAhead partial depth value bytes after → IsValueGiven depth result rest value after
 
 -- what the bytes are as a value: blanks, after which nothing may follow; a value; one that is
--- begun; or none, no matter what follows, which breaks off after so many bytes
+-- begun; or none, no matter what follows, which breaks off after n bytes
 abbrev pub IsReading : ℕ → Bool → List ℕ → Reading → Type 0
 IsReading depth partial bytes reading.Nothing = (partial ≡ false) × (after_blanks bytes ≡ [])
 IsReading depth partial bytes (reading.Whole value n) =

@@ -8,7 +8,7 @@ ghost use Rattle.winnow_json.specs.Escapes.{FillsCode, code_number};
 // What stands at the front of some bytes that begin with a backslash.
 #[derive(Clone, Copy, Debug, Drop, PartialEq, Eq)]
 pub(crate) enum Escape {
-    // An escape of this character, and of so many bytes
+    // An escape of this character, and the number of its bytes
     Whole(char, usize),
     // Bytes that more bytes can make an escape
     Begun,

@@ -7,24 +7,24 @@ ghost use Rattle.winnow_json.specs.Begun.{BeginsWord, IsOpen};
 // What stands ahead in some bytes.
 #[derive(Debug, Drop)]
 pub(crate) enum Found<T> {
-    // This value, in so many bytes
+    // This value, and the number of its bytes
     Whole(T, usize),
     // The bytes end too early, and more may follow
     Begun,
-    // No value, no matter what follows: so many bytes stand before the place that is wrong
+    // No value, no matter what follows, and the number of bytes before the place that is wrong
     Damaged(usize),
 }
 
 // What stands after an element of an array, or after a member of an object.
 #[derive(Clone, Copy, Debug, Drop)]
 pub(crate) enum Next {
-    // A comma, which ends so many bytes
+    // A comma, and the number of bytes up to its end
     More(usize),
-    // The closing bracket, which ends so many bytes
+    // The closing bracket, and the number of bytes up to its end
     Closed(usize),
     // The bytes end too early, and more may follow
     Begun,
-    // Neither, no matter what follows: so many bytes stand before the place that is wrong
+    // Neither, no matter what follows, and the number of bytes before the place that is wrong
     Damaged(usize),
 }
 

@@ -21,11 +21,11 @@ pub(crate) enum Reading {
     Nothing,
     /// No quote stands first
     Missing,
-    /// A string of this value, and of so many bytes
+    /// A string of this value, and the number of its bytes
     Whole(String, usize),
-    /// So many bytes of a string, after which more bytes can make it whole
+    /// The number of bytes of a string that more bytes can make whole
     Begun(usize),
-    /// So many bytes of a string, after which it is damaged
+    /// The number of bytes of a string before the place where it is damaged
     Damaged(usize),
 }
 

@@ -18,11 +18,12 @@ use winnow::{Failure, ModalResult};
 enum Reading {
     // Blanks alone, and nothing may follow
     Nothing,
-    // This value, in so many bytes
+    // This value, and the number of its bytes
     Whole(Value, usize),
     // The bytes end too early, and more may follow
     Begun,
-    // No value, no matter what follows: so many bytes stand before the place where it breaks off
+    // No value, no matter what follows, and the number of bytes before the place where it breaks
+    // off
     Damaged(usize),
 }
 

@@ -8,7 +8,8 @@ use Rattle.winnow_json.specs.Founds.{MayFollow, HasNone, IsFound, GoesNotOn}
 use Rattle.winnow_json.specs.Damage.{EachWithComma}
 use Rattle.winnow_json.specs.declared.found.Found.{Found}
 use Rattle.winnow_json.specs.declared.found.Found.TheVariants.{Begun, Damaged}
-use Rattle.winnow_json.proofs.lemmas.GrammarLemmas.{Once, Stable, blanks-more, blanks-past, elements-first}
+use Rattle.winnow_json.specs.TokenLaws.{blanks-more}
+use Rattle.winnow_json.proofs.lemmas.GrammarLemmas.{Once, Stable, blanks-past, elements-first}
 
 -- ---- Words and bytes
 
@@ -108,7 +109,7 @@ chain-more inner (w ∷ ws) v bytes b after next (a, (n, (k, g, rest))) h f =
     (a, (n, (k, g, chain-more inner ws v n b after next rest h f)))
 
 module _ {T : Type 0} (inner : T → List ℕ → List ℕ → Type 0) (close : ℕ) (partial : Bool) (bytes : List ℕ) where
-  -- so many bytes are these elements, each with a comma after it
+  -- the first bytes are these elements, each with a comma after it
   pub record HasRead (at : ℕ) (items : List T) : Type 0 where
     pub within : at ≤ length bytes
     pub sound : (vs : List T) (r : List ℕ) → Elements inner close vs (drop at bytes) r

@@ -13,25 +13,12 @@ use Rattle.winnow_json.specs.declared.value.Value.{Value}
 use Rattle.winnow_json.specs.declared.value.Value.TheOpen as open_value
 use Rattle.winnow_json.specs.declared.value.Value.TheOpen.{Value-F, Null}
 use Rattle.winnow_json.specs.declared.value.Value.TheViews.{out-Value}
+use Rattle.winnow_json.specs.TokenLaws.{blanks-more}
 use Rattle.winnow_json.proofs.lemmas.NumberAnswerLemmas.{number-bytes, number-some}
 use Rattle.winnow_json.proofs.lemmas.RunLemmas.{split-once}
 use Rattle.winnow_json.proofs.lemmas.StringLemmas.{string-once}
 
 -- ---- Blanks
-
--- one step of `blanks-more`
-blanks-if : (t : Bool) (x : ℕ) (b : List ℕ) (c : ℕ) (q more : List ℕ)
-    → (after_blanks b ≡ c ∷ q → after_blanks (b ++ more) ≡ c ∷ (q ++ more))
-    → (if t then after_blanks b else x ∷ b) ≡ c ∷ q
-    → (if t then after_blanks (b ++ more) else x ∷ (b ++ more)) ≡ c ∷ (q ++ more)
-blanks-if true x b c q more on e = on e
-blanks-if false x b c q more on e = ap (λ l. l ++ more) e
-
--- where a byte that is no blank stands, more bytes come after it
-pub blanks-more : (b : List ℕ) (c : ℕ) (q more : List ℕ) → after_blanks b ≡ c ∷ q
-    → after_blanks (b ++ more) ≡ c ∷ (q ++ more)
-blanks-more [] c q more e = absurd (cc e)
-blanks-more (x ∷ b) c q more e = blanks-if (is_blank x) x b c q more (blanks-more b c q more) e
 
 -- one step of `blanks-past`
 past-if : (t : Bool) (x : ℕ) (b more : List ℕ)

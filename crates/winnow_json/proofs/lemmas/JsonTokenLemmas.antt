@@ -25,6 +25,7 @@ use Rattle.winnow_json.specs.declared.found.Found.TheVariants as found
 use Rattle.winnow_json.specs.declared.strings.Reading.TheVariants as reading
 use Rattle.winnow_json.specs.declared.tokens.Token.{Token}
 use Rattle.winnow_json.specs.declared.tokens.Token.TheVariants as token
+use Rattle.winnow_json.specs.TokenLaws.{begun-char}
 use Rattle.winnow_json.proofs.lemmas.NumberAnswerLemmas.{number-bytes, number-some}
 use Rattle.winnow_json.proofs.lemmas.RunLemmas.{split-once}
 use Rattle.winnow_json.proofs.lemmas.SpellingLemmas.{spelling-once, spells-past}
@@ -126,10 +127,6 @@ token-once partial t u b r s h g =
     lexeme-once partial b r s (lexeme_of t) (lexeme_of u) (token-begins partial t b r h) (token-begins partial u b s g) h g
 
 -- ---- Damage
-
--- a character may stand where nothing does
-begun-char : BeginsChar (97 ∷ [])
-begun-char = (97, (97 ∷ [], ([], (refl, inl (refl, refl, sym (encode_ascii 97 (omega arith)))))))
 
 module _ (partial : Bool) where
   -- no character stands where a string is wrong
@@ -350,18 +347,6 @@ module _ (first : ℕ) (no_quote : ¬ (first ≡ 34)) (no_number : ¬ (is_number
   word-no_quote (x ∷ b) starts quote = no_quote (sym starts ∙ quote)
 
   module _ (partial : Bool) (b : List ℕ) (starts : StartsWith first b) where
-    -- where no word begins with the byte, no token does
-    pub word-missing : word_from first ≡ [] → IsWrongAt partial b b
-    word-missing none = inr (
-      refl,
-      (
-        word-no_quote b starts,
-        (λ p each. word-no_number b starts each),
-        λ more may t r h.
-            (word-only partial t (b ++ more) r (starts-more first b more starts) h).1 none,
-      ),
-    )
-
     module _ (whole : (rest : List ℕ) → ¬ (b ≡ word_from first ++ rest)) where
       -- where the bytes do not begin with the word, and are no front of it to which more may come,
       -- no token begins there

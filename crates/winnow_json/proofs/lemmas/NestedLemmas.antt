@@ -11,8 +11,9 @@ use Rattle.winnow_json.specs.Founds.{HasNone, IsFound, IsByte, ByteAhead}
 use Rattle.winnow_json.specs.declared.found.Found.TheVariants.{Whole, Begun, Damaged}
 use Rattle.winnow_json.specs.declared.value.Value.{Value}
 use Rattle.winnow_json.specs.declared.value.Value.TheViews.{out-Value}
+use Rattle.winnow_json.specs.TokenLaws.{blanks-more}
 use Rattle.winnow_json.proofs.lemmas.StringLemmas.{starts-split}
-use Rattle.winnow_json.proofs.lemmas.GrammarLemmas.{blanks-more, elements-first, name-once, name-stable, name-quote, layer-kind}
+use Rattle.winnow_json.proofs.lemmas.GrammarLemmas.{elements-first, name-once, name-stable, name-quote, layer-kind}
 use Rattle.winnow_json.proofs.lemmas.FoundLemmas.{Covers, missed-as, none-as, fits-both, after-covers}
 
 -- ---- Values after blanks

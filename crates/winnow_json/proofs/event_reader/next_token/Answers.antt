@@ -1,7 +1,8 @@
 use Rattle.std.proofs.Common.{ap, ◌∙◌, subst}
 use Rattle.std.specs.Prelude.{Ok, Err}
-use Rattle.winnow.specs.Answering.{StaysWithout}
+use Rattle.winnow.specs.Answering.{StaysWithout, WaitsWell}
 use Rattle.winnow_reader.specs.declared.next.Next.TheVariants as next
+use Rattle.winnow_json.specs.TokenAnswers.{OneToken}
 use Rattle.winnow_json.specs.declared.tokens.Token.TheVariants as token
 use Rattle.winnow_json.proofs.lemmas.NextTokenLemmas.{value-brings, end-brings, waits-read, failed-there, never-idle}
 use Rattle.winnow_json.proofs.event_reader.next_token.Goals as goal
@@ -21,6 +22,7 @@ pub returns-in-Ok-NeedsMore : goal.returns-in-Ok-NeedsMore
 returns-in-Ok-NeedsMore c =
     let e = c.in-Ok-NeedsMore.is ∙ ap Ok c.in-Ok-NeedsMore.field-0-is in (
       subst (λ r. StaysWithout c.args.tokens.now r c.read_next.new.self) e c.read_next.ensures.kept,
+      subst (WaitsWell (λ p. OneToken) c.args.tokens.now) e c.read_next.ensures.waits,
       waits-read c.args.tokens.now c.read_next.new.self c.read_next.result e c.read_next.ensures.read,
     )
 

@@ -1,7 +1,7 @@
 use Rattle.std.proofs.Common.{◌≡◌, Some, [], inl, ap, sym, ◌∙◌, subst, refl}
 use Rattle.std.specs.Prelude.{Ok, OnOk}
 use Rattle.winnow_json.specs.Turns.{state_of, turn_at}
-use Rattle.winnow_json.specs.EventReading.{GivesOn, IsComing, IsNoNext, taken_events}
+use Rattle.winnow_json.specs.EventReading.{GivesOn, IsComing, IsNoNext, StaysAt, Awaits, taken_events}
 use Rattle.winnow_json.specs.declared.tokens.Token.TheVariants as token
 use Rattle.winnow_json.specs.declared.turns.Turn.TheVariants.{Ends}
 use Rattle.winnow_json.proofs.lemmas.EventLemmas.{none-is, reader_of, step-took, step-refused, end-refused, step-ended, step-waits}
@@ -59,7 +59,7 @@ returns-in-Ok-NeedsMore-clause-read c =
     let going = none-is c.self.inside.stopped (λ x e. c.in_default.not-Some x e) in
     let b = subst (λ r. IsComing c.self.inside.tokens r f) (c.in-Ok-NeedsMore.is ∙ ap Ok c.in-Ok-NeedsMore.field-0-is) c.next_token.ensures in
     subst (λ o. GivesOn o [] (reader_of f middle c.self.inside.stopped)) c.self.view_is
-    (step-waits old f going middle middle c.make_room.ensures.same refl b.1)
+    (step-waits old f going middle middle c.make_room.ensures.same refl b.2)
 
 pub returns-in-Err-next_token-clause-answer : goal.returns-in-Err-next_token-clause-answer
 returns-in-Err-next_token-clause-answer c going =
@@ -71,3 +71,12 @@ returns-in-Err-next_token-clause-answer c going =
     let b = subst (λ r. IsComing c.self.inside.tokens r f) c.in-Err-next_token.is c.next_token.ensures in
     inl (subst (λ o. (reader_of f middle stopped ≡ o) × IsNoNext o.tokens e) c.self.view_is
     (ap (λ g. reader_of g middle stopped) b.0 ∙ ap (λ t. reader_of c.self.inside.tokens t stopped) c.make_room.ensures.same, b.1))
+
+pub returns-in-Ok-NeedsMore-clause-answer : goal.returns-in-Ok-NeedsMore-clause-answer
+returns-in-Ok-NeedsMore-clause-answer c going =
+    let stopped = c.self.inside.stopped in
+    let f = c.next_token.new.tokens in
+    let middle = state_of c.make_room.new.self in
+    let b = subst (λ r. IsComing c.self.inside.tokens r f) (c.in-Ok-NeedsMore.is ∙ ap Ok c.in-Ok-NeedsMore.field-0-is) c.next_token.ensures in
+    let seen = subst (λ o. StaysAt o (reader_of f middle stopped) × Awaits o.tokens) c.self.view_is ((c.make_room.ensures.same, b.0), b.1) in
+    (ap (λ o. o.stopped) c.self.view_is ∙ going, seen.0, seen.1)
