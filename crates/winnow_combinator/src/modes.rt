@@ -32,6 +32,8 @@ impl<I: StreamIsPartial, E, P: Parser<I, E>> Parser<I, E> for CutOff<P> {
 
     ghost lawful = { λ p. IsParser-CutOff (P.means p.inner) (P.lawful p.inner) };
 
+    // Inlined: an answer that a call hands on is copied through memory.
+    #[inline(always)]
     fn parse_next(&self, alloc: Global, input: &mut I) -> ModalResult<P::Output, E> {
         match self.inner.parse_next(alloc, input) {
             Err(Failure::Backtrack(error)) => Err(Failure::Cut(error)),
@@ -67,6 +69,7 @@ impl<I: StreamIsPartial, E, P: Parser<I, E>> Parser<I, E> for Softened<P> {
 
     ghost lawful = { λ p. IsParser-Softened (P.means p.inner) (P.lawful p.inner) };
 
+    #[inline(always)]
     fn parse_next(&self, alloc: Global, input: &mut I) -> ModalResult<P::Output, E> {
         match self.inner.parse_next(alloc, input) {
             Err(Failure::Backtrack(error)) => Err(Failure::Backtrack(error)),

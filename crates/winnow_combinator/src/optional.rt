@@ -31,6 +31,8 @@ impl<I: StreamIsPartial, E: Drop, P: Parser<I, E>> Parser<I, E> for Optional<P> 
 
     ghost lawful = { λ p. IsParser-Optional (P.means p.inner) (P.lawful p.inner) };
 
+    // Inlined: an answer that a call hands on is copied through memory.
+    #[inline(always)]
     fn parse_next(&self, alloc: Global, input: &mut I) -> ModalResult<Option<P::Output>, E> {
         let start = input.checkpoint();
         match self.inner.parse_next(alloc, input) {

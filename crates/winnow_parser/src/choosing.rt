@@ -59,6 +59,8 @@ where
     ghost lawful = { λ p.
         IsParser-Verified (FnReturnsAt F.Fn p.test) (P.means p.inner) (P.lawful p.inner) };
 
+    // Inlined: an answer that a call hands on is copied through memory.
+    #[inline(always)]
     fn parse_next(&self, alloc: Global, input: &mut I) -> ModalResult<P::Output, E> {
         let start = input.checkpoint();
         let value = self.inner.parse_next(alloc, input)?;
@@ -112,6 +114,7 @@ impl<
 
     ghost lawful = { λ p. IsParser-Chosen (F.post p.f) (P.means p.inner) (P.lawful p.inner) };
 
+    #[inline(always)]
     fn parse_next(&self, alloc: Global, input: &mut I) -> ModalResult<O, E> {
         let start = input.checkpoint();
         let value = self.inner.parse_next(alloc, input)?;
@@ -170,6 +173,7 @@ impl<
     ghost lawful = { λ p.
         IsParser-Chosen (TriesTo (F.post p.f)) (P.means p.inner) (P.lawful p.inner) };
 
+    #[inline(always)]
     fn parse_next(&self, alloc: Global, input: &mut I) -> ModalResult<O, E> {
         let start = input.checkpoint();
         let value = self.inner.parse_next(alloc, input)?;

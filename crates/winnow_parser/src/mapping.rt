@@ -42,6 +42,8 @@ impl<I: StreamIsPartial, E, P: Parser<I, E>, O, F: Fn(P::Output) -> O> Parser<I,
 
     ghost lawful = { λ p. IsParser-Maps (F.post p.f) (P.means p.inner) (P.lawful p.inner) };
 
+    // Inlined: an answer that a call hands on is copied through memory.
+    #[inline(always)]
     fn parse_next(&self, alloc: Global, input: &mut I) -> ModalResult<O, E> {
         let value = self.inner.parse_next(alloc, input)?;
         Ok((self.f)(value))
@@ -86,6 +88,7 @@ where
     ghost lawful = { λ p.
         IsParser-Maps (IsAlways p.value) (P.means p.inner) (P.lawful p.inner) };
 
+    #[inline(always)]
     fn parse_next(&self, alloc: Global, input: &mut I) -> ModalResult<V, E> {
         let _ = self.inner.parse_next(alloc, input)?;
         Ok(self.value)
@@ -126,6 +129,7 @@ where
 
     ghost lawful = { λ p. IsParser-Maps IsForgotten (P.means p.inner) (P.lawful p.inner) };
 
+    #[inline(always)]
     fn parse_next(&self, alloc: Global, input: &mut I) -> ModalResult<(), E> {
         let _ = self.inner.parse_next(alloc, input)?;
         Ok(())

@@ -25,6 +25,8 @@ where
 
     ghost lawful = { λ p. IsParser-Pair (A.means p.0) (B.means p.1) (A.lawful p.0) (B.lawful p.1) };
 
+    // Inlined: an answer that a call hands on is copied through memory.
+    #[inline(always)]
     fn parse_next(&self, alloc: Global, input: &mut I) -> ModalResult<(A::Output, B::Output), E> {
         match self.0.parse_next(alloc, input) {
             Ok(first) => match self.1.parse_next(alloc, input) {
@@ -55,6 +57,7 @@ where
     ghost lawful = { λ p. IsParser-Row3 (A.means p.0) (B.means p.1) (C.means p.2) (A.lawful p.0)
         (B.lawful p.1) (C.lawful p.2) };
 
+    #[inline(always)]
     fn parse_next(
         &self,
         alloc: Global,
@@ -97,6 +100,7 @@ where
     ghost lawful = { λ p. IsParser-Row4 (A.means p.0) (B.means p.1) (C.means p.2) (D.means p.3)
         (A.lawful p.0) (B.lawful p.1) (C.lawful p.2) (D.lawful p.3) };
 
+    #[inline(always)]
     fn parse_next(&self, alloc: Global, input: &mut I) -> ModalResult<Self::Output, E> {
         match self.0.parse_next(alloc, input) {
             Ok(first) => match (&self.1, &self.2, &self.3).parse_next(alloc, input) {
@@ -139,6 +143,7 @@ where
         (F.means p.4)
         (A.lawful p.0) (B.lawful p.1) (C.lawful p.2) (D.lawful p.3) (F.lawful p.4) };
 
+    #[inline(always)]
     fn parse_next(&self, alloc: Global, input: &mut I) -> ModalResult<Self::Output, E> {
         match self.0.parse_next(alloc, input) {
             Ok(first) => match (&self.1, &self.2, &self.3, &self.4).parse_next(alloc, input) {
@@ -192,6 +197,7 @@ where
         (F.means p.4) (G.means p.5)
         (A.lawful p.0) (B.lawful p.1) (C.lawful p.2) (D.lawful p.3) (F.lawful p.4) (G.lawful p.5) };
 
+    #[inline(always)]
     fn parse_next(&self, alloc: Global, input: &mut I) -> ModalResult<Self::Output, E> {
         match self.0.parse_next(alloc, input) {
             Ok(first) => match (&self.1, &self.2, &self.3, &self.4, &self.5).parse_next(
@@ -253,6 +259,7 @@ where
         (A.lawful p.0) (B.lawful p.1) (C.lawful p.2) (D.lawful p.3) (F.lawful p.4) (G.lawful p.5)
         (H.lawful p.6) };
 
+    #[inline(always)]
     fn parse_next(&self, alloc: Global, input: &mut I) -> ModalResult<Self::Output, E> {
         match self.0.parse_next(alloc, input) {
             Ok(first) => match (&self.1, &self.2, &self.3, &self.4, &self.5, &self.6).parse_next(
@@ -318,6 +325,7 @@ where
         (A.lawful p.0) (B.lawful p.1) (C.lawful p.2) (D.lawful p.3) (F.lawful p.4) (G.lawful p.5)
         (H.lawful p.6) (J.lawful p.7) };
 
+    #[inline(always)]
     fn parse_next(&self, alloc: Global, input: &mut I) -> ModalResult<Self::Output, E> {
         match self.0.parse_next(alloc, input) {
             Ok(first) => match (
@@ -388,6 +396,7 @@ where
         (A.lawful p.0) (B.lawful p.1) (C.lawful p.2) (D.lawful p.3) (F.lawful p.4) (G.lawful p.5)
         (H.lawful p.6) (J.lawful p.7) (K.lawful p.8) };
 
+    #[inline(always)]
     fn parse_next(&self, alloc: Global, input: &mut I) -> ModalResult<Self::Output, E> {
         match self.0.parse_next(alloc, input) {
             Ok(first) => match (
@@ -462,6 +471,7 @@ where
         (A.lawful p.0) (B.lawful p.1) (C.lawful p.2) (D.lawful p.3) (F.lawful p.4) (G.lawful p.5)
         (H.lawful p.6) (J.lawful p.7) (K.lawful p.8) (L.lawful p.9) };
 
+    #[inline(always)]
     fn parse_next(&self, alloc: Global, input: &mut I) -> ModalResult<Self::Output, E> {
         match self.0.parse_next(alloc, input) {
             Ok(first) => match (

@@ -44,6 +44,8 @@ where
     ghost lawful = { λ p.
         IsParser-Taken I.is_slice I.slices_stay (P.means p.inner) (P.lawful p.inner) };
 
+    // Inlined: an answer that a call hands on is copied through memory.
+    #[inline(always)]
     fn parse_next(&self, alloc: Global, input: &mut I) -> ModalResult<I::Slice, E> {
         let start = input.checkpoint();
         let _ = self.inner.parse_next(alloc, input)?;
@@ -84,6 +86,7 @@ impl<I: StreamIsPartial, E, P: Parser<I, E>> Parser<I, E> for WithTaken<P, I, E>
     ghost lawful = { λ p.
         IsParser-WithTaken I.is_slice I.slices_stay (P.means p.inner) (P.lawful p.inner) };
 
+    #[inline(always)]
     fn parse_next(&self, alloc: Global, input: &mut I) -> ModalResult<(P::Output, I::Slice), E> {
         let start = input.checkpoint();
         let value = self.inner.parse_next(alloc, input)?;
