@@ -33,7 +33,7 @@ impl Line {
         Line { ended: 0, start: 0 }
     }
 
-    /// Returns the line to which these bytes lead, before which so many bytes of the input stand.
+    /// Returns the line after these bytes. `before` counts the bytes of the input before them.
     pub fn after(self, before: usize, bytes: &[u8]) -> Line {
         let mut line = self;
         for (index, byte) in bytes.iter().enumerate() {
@@ -47,7 +47,7 @@ impl Line {
         line
     }
 
-    /// Returns the place of this line before which so many bytes of the input stand.
+    /// Returns the place on this line of the byte after this many bytes of the input.
     pub fn position(self, bytes: usize) -> Position {
         Position {
             line: self.ended.saturating_add(1),

@@ -33,7 +33,7 @@ pub fn print_events<R: Read, W: Write>(
         reader: EventReader::new(alloc, DEPTH),
         line: Line::first(),
     };
-    // No input has so many pieces that the turns are used up.
+    // No input has enough pieces to use up the turns.
     for _turn in 0..u64::MAX {
         match read_piece(input, &mut piece) {
             Ok(0) => return print_last(alloc, &mut progress, output),
@@ -91,7 +91,7 @@ fn print_last<W: Write>(
     print_ready(alloc, b"", before, progress, output)
 }
 
-// Writes the events that are there. The last piece stands after so many bytes.
+// Writes the events that are there. `before` counts the bytes before the last piece.
 fn print_ready<W: Write>(
     alloc: Global,
     piece: &[u8],
@@ -131,7 +131,7 @@ impl Progress {
 
 // Takes the events that are there, and appends their lines to the text.
 fn take_events(reader: &mut EventReader, text: &mut Vec<u8>) -> Result<(), EventError> {
-    // No text has so many events that the turns are used up.
+    // No text has enough events to use up the turns.
     for _turn in 0..u64::MAX {
         let level = reader.level();
         match reader.next_event() {
