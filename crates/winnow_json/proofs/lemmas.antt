@@ -27,3 +27,9 @@ pub mod WritingLemmas
 pub mod TakingLemmas
 pub mod NextTokenLemmas
 pub mod EventLemmas
+pub mod SameTurnLemmas
+pub mod ValueTurnLemmas
+pub mod AllowedTokenLemmas
+pub mod LeadingLemmas
+pub mod BrokenTurnLemmas
+pub mod EventLawLemmas

@@ -91,6 +91,11 @@ abbrev pub GivesOn : EventState → List Event → EventState → Type 0
 GivesOn old events new = (input : List ℕ) (before : List Event)
     → HasGiven old input before → HasGiven new input (before ++ events)
 
+-- the limit on depth is the same, and so is whether the input has ended
+abbrev pub KeepsLimits : EventState → EventState → Type 0
+KeepsLimits old new =
+    (new.text.depth ≡ old.text.depth) × (new.tokens.ended ≡ old.tokens.ended)
+
 -- ---- The next token
 
 -- the token stands ahead of the one reader, which reads it and is the other then
@@ -185,7 +190,7 @@ IsStep old (Err e) new = ((new ≡ old) × IsNoNext old.tokens e)
 
 -- a reader that has given no more events than the other, after tokens that have none
 abbrev pub Passed : EventState → EventState → Type 0
-Passed old new = GivesOn old [] new × (new.stopped ≡ None)
+Passed old new = GivesOn old [] new × (new.stopped ≡ None) × KeepsLimits old new
 
 -- what the reader answers: an event; or done, where the text is whole; or, after tokens that have
 -- no event, the next token is awaited, no token stands there, or one that may not

@@ -23,3 +23,4 @@ pub mod Writing
 pub mod Appending
 pub mod Turns
 pub mod EventReading
+pub mod ValueEvents

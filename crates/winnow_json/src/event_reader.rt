@@ -122,6 +122,7 @@ impl EventReader {
     ghost use Rattle.winnow.specs.State.{fed_of};
     ghost use Rattle.winnow_json.specs.EventReading.{new_reader, events_pushed, events_unspent};
     ghost use Rattle.winnow_json.specs.EventReading.{events_ended, HasGiven, GivesAlso, GivesOn};
+    ghost use Rattle.winnow_json.specs.EventReading.{KeepsLimits};
     ghost use Rattle.winnow_json.specs.EventReading.{step_events, next_events, IsStep, IsNext};
     ghost use Rattle.winnow_json.specs.declared.event_reader.EventError.{EventError};
 
@@ -164,6 +165,7 @@ impl EventReader {
     /// again. Where more is needed or memory was refused, the call may be made again.
     pub fn next_event(&mut self) -> Result<Next<Event>, EventError>
         ensures read { GivesOn self.old (next_events result) self.new }
+        ensures keeps { KeepsLimits self.old self.new }
         ensures stopped { (e : EventError) → self.old.stopped ≡ Some e
             → (result ≡ Err e) × (self.new ≡ self.old) }
         ensures answer { self.old.stopped ≡ None → IsNext self.old result self.new }
@@ -182,6 +184,7 @@ impl EventReader {
     // Takes the next token, if its bytes are there.
     fn step(&mut self) -> Result<Step, EventError>
         ensures read { GivesOn self.old (step_events result) self.new }
+        ensures keeps { KeepsLimits self.old self.new }
         ensures stopped { (e : EventError) → self.old.stopped ≡ Some e
             → (result ≡ Err e) × (self.new ≡ self.old) }
         ensures answer { self.old.stopped ≡ None → IsStep self.old result self.new }

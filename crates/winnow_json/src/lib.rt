@@ -13,7 +13,8 @@
 //!
 //! [`JsonToken`] is the record of a [`Token`], for a `ByteReader` over bytes that come in pieces;
 //! [`tokens_in_pieces_law`] says what such a reader reads. An [`EventReader`] gives the events of a
-//! text that comes in pieces, and keeps no more than a token and a piece.
+//! text that comes in pieces, and keeps no more than a token and a piece. Of a text that is a value
+//! it gives that value's events, and it is done with no damaged text, as [`events_law`] says.
 //!
 //! [`write_value`] appends the text of a value. What it writes is read back as the same value, as
 //! [`round_trip_law`] says.
@@ -22,6 +23,7 @@
 mod characters;
 mod documents;
 mod escapes;
+mod event_laws;
 mod event_reader;
 mod found;
 mod laws;
@@ -40,6 +42,7 @@ mod values;
 mod writing;
 
 pub use documents::{Damage, read_document};
+pub use event_laws::events_law;
 pub use event_reader::{Event, EventError, EventReader};
 pub use laws::{place_law, round_trip_law};
 pub use numbers::{Number, read_number};

@@ -4,7 +4,7 @@
 
 use std::alloc::{AllocError, Global};
 use winnow::reader::Next;
-use winnow_json::{Event, EventError, EventReader};
+use winnow_json::{Event, EventError, EventReader, events_law};
 
 // A text, its events, a space after each, and how the reader stopped.
 type Row = (&'static [u8], &'static str, Stop);
@@ -163,6 +163,7 @@ const ROWS: &[Row] = &[
 
 #[test]
 fn each_cut_of_a_text_has_its_events(rt: HostRuntime) -> Result<(), AllocError> {
+    events_law();
     for (index, row) in ROWS.iter().enumerate() {
         for cut in 0..=row.0.len() {
             assert!(rt; is_read(rt.alloc(), row, cut, false)?, "row {}", index);

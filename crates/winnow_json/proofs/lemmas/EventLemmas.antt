@@ -5,12 +5,14 @@ use Rattle.winnow.specs.State.{ReaderState}
 use Rattle.winnow.specs.Reading.{HasRead}
 use Rattle.winnow_json.specs.TokenAnswers.{OneToken}
 use Rattle.winnow_json.specs.Turns.{TextState, at_begin, turn_at, turn_events, after_turn, answer_of}
-use Rattle.winnow_json.specs.EventReading.{IsAllowed, Takes, EventState, HasGiven, GivesOn, Brings, BringsEnd, taken_events, step_events, IsStep, Passed}
+use Rattle.winnow_json.specs.EventReading.{IsAllowed, Takes, EventState, HasGiven, GivesOn, KeepsLimits, Brings, BringsEnd, IsComing, taken_events, step_events, IsStep, Passed}
 use Rattle.winnow_json.specs.declared.tokens.Token.{Token}
 use Rattle.winnow_json.specs.declared.tokens.Token.TheVariants as token
 use Rattle.winnow_json.specs.declared.tokens.JsonToken.{JsonToken}
 use Rattle.winnow_json.specs.declared.event_reader.Event.{Event}
 use Rattle.winnow_json.specs.declared.event_reader.EventError.{EventError}
+use Rattle.winnow_json.specs.declared.event_reader.Coming.{Coming}
+use Rattle.winnow_json.specs.declared.event_reader.Coming.TheVariants as coming
 use Rattle.winnow_json.specs.declared.event_reader.Step.{Step}
 use Rattle.winnow_json.specs.declared.event_reader.Step.TheVariants as step
 use Rattle.winnow_json.specs.declared.syntax.Taken.{Taken}
@@ -209,6 +211,21 @@ module _ (old : EventState) (f : ReaderState JsonToken) (going : old.stopped ≡
     step-waits e read =
         subst (λ s. GivesOn old [] (reader_at s old.stopped)) (sym (e ∙ same)) (given-same old.stopped (λ none. none) read)
 
+-- the reader that is there with what comes next has ended as before
+pub coming-ended : (old : ReaderState JsonToken) (r : Result Coming EventError)
+    (new : ReaderState JsonToken) → IsComing old r new → new.ended ≡ old.ended
+coming-ended old (Ok (coming.Token t)) new b = b.ended
+coming-ended old (Ok coming.End) new (through, inl b) = b.ended
+coming-ended old (Ok coming.End) new (through, inr same) = ap (λ f. f.ended) same
+coming-ended old (Ok coming.NeedsMore) new (same, awaits, read) = ap (λ f. f.ended) same
+coming-ended old (Err e) new (same, none) = ap (λ f. f.ended) same
+
+-- values may stand as deep after a token as before
+pub taken-depth : (old middle new : TextState) (t : Token) → middle ≡ old
+    → new ≡ after_turn middle (turn_at middle t) → new.depth ≡ old.depth
+taken-depth old middle new t same after =
+    ap (λ s. s.depth) after ∙ depth-same middle (turn_at middle t) ∙ ap (λ s. s.depth) same
+
 -- nothing has changed
 pub gives-none : (old new : EventState) → new ≡ old → GivesOn old [] new
 gives-none old new e input before g =
@@ -219,6 +236,7 @@ gives-none old new e input before g =
 -- the one reader became the other by tokens that have no event
 pub record IsOnWay (old new : EventState) : Type 0 where
   pub gives : GivesOn old [] new
+  pub keeps : KeepsLimits old new
   pub still : (e : EventError) → old.stopped ≡ Some e → new ≡ old
   pub going : old.stopped ≡ None → new.stopped ≡ None
 
@@ -226,6 +244,7 @@ pub record IsOnWay (old new : EventState) : Type 0 where
 pub way-starts : (r : EventState) → IsOnWay r r
 way-starts r = record {
   gives = gives-none r r refl;
+  keeps = (refl, refl);
   still = λ e stopped. refl;
   going = λ none. none;
 }
@@ -236,10 +255,14 @@ gives-after : (old middle new : EventState) (events : List Event) → GivesOn ol
 gives-after old middle new events first second input before g =
     subst (λ l. HasGiven new input (l ++ events)) (append-nil before) (second input (before ++ []) (first input before g))
 
-module _ (old middle new : EventState) (way : IsOnWay old middle) (r : Result Step EventError) (read : GivesOn middle (step_events r) new) (stopped : (e : EventError) → middle.stopped ≡ Some e → (r ≡ Err e) × (new ≡ middle)) (answer : middle.stopped ≡ None → IsStep middle r new) where
+module _ (old middle new : EventState) (way : IsOnWay old middle) (r : Result Step EventError) (read : GivesOn middle (step_events r) new) (keeps : KeepsLimits middle new) (stopped : (e : EventError) → middle.stopped ≡ Some e → (r ≡ Err e) × (new ≡ middle)) (answer : middle.stopped ≡ None → IsStep middle r new) where
   -- what the next step gives
   pub way-read : GivesOn old (step_events r) new
   way-read = gives-after old middle new (step_events r) way.gives read
+
+  -- no step moves the limits
+  pub way-keeps : KeepsLimits old new
+  way-keeps = (keeps.0 ∙ way.keeps.0, keeps.1 ∙ way.keeps.1)
 
   -- a reader that had stopped gives its error, and stays
   pub way-stopped : (e : EventError) → old.stopped ≡ Some e → (r ≡ Err e) × (new ≡ old)
@@ -254,7 +277,7 @@ module _ (old middle new : EventState) (way : IsOnWay old middle) (r : Result St
 
   -- and from which reader on
   pub way-passed : old.stopped ≡ None → Passed old middle
-  way-passed none = (way.gives, way.going none)
+  way-passed none = (way.gives, way.going none, way.keeps)
 
   module _ (passes : r ≡ Ok (step.Took taken.Passes)) where
     -- no reader that stopped takes a step
@@ -274,6 +297,7 @@ module _ (old middle new : EventState) (way : IsOnWay old middle) (r : Result St
     pub way-goes : IsOnWay old new
     way-goes = record {
       gives = subst (λ q. GivesOn old (step_events q) new) passes way-read;
+      keeps = way-keeps;
       still = λ e is. absurd (let z = sym passes ∙ (way-stopped e is).0 in cc z);
       going = λ none. way-took.0;
     }

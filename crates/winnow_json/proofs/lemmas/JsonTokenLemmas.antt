@@ -2,7 +2,6 @@
 use Rattle.std.proofs.Common.{◌≡◌, ◌≢◌, ℕ, ℤ, ◌≤◌, Bool, true, false, List, [], ◌∷◌, ◌++◌, length, take, drop, Option, Some, ◌↔◌, ◌⊎◌, inl, inr, ap, sym, ◌∙◌, subst, refl, arith, append_assoc, append-nil, take_all, take-append-drop, length-append, length-drop}
 use Rattle.std.proofs.Math.Seq.{drop-append_seam}
 use Rattle.std.proofs.lemmas.List.{append_cancel_left, append_cancel_right}
-use Rattle.std.proofs.lemmas.Str.{encode_ascii}
 use Rattle.std.specs.Int.{w64}
 use Rattle.std.specs.Prelude.{encode_utf8_all}
 use Rattle.winnow_count.specs.Reading.{ReadsSigned}
@@ -210,7 +209,7 @@ number-open t b r each h = of (lexeme_of t) (token-begins true t b r h) h
 
 module _ (partial : Bool) (here : List ℕ) where
   -- no token stands where one is damaged
-  damage-none : (t : Token) (r rest : List ℕ) → IsWrongAt partial here rest
+  pub damage-none : (t : Token) (r rest : List ℕ) → IsWrongAt partial here rest
       → ¬ (TokenHere partial t here r)
   damage-none t r rest (inl d) h =
       let s = token-string partial t here _ r d.1.1.0 h in

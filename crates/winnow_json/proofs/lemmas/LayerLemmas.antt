@@ -25,10 +25,10 @@ starts-is byte [] s = absurd s
 starts-is byte (x ∷ b) s = (b, ap (λ z. z ∷ b) s)
 
 -- the layer of each value
-out-null : out-Value value.Null ≡ open_value.Null
+pub out-null : out-Value value.Null ≡ open_value.Null
 out-null = search (rules, the_lemmas)
 
-out-bool : (t : Bool) → out-Value (value.Bool t) ≡ open_value.Bool t
+pub out-bool : (t : Bool) → out-Value (value.Bool t) ≡ open_value.Bool t
 out-bool t = search (rules, the_lemmas)
 
 pub out-number : (n : Number) → out-Value (value.Number n) ≡ open_value.Number n

@@ -1,10 +1,10 @@
 use Rattle.std.proofs.Common.{◌≡◌, Some, [], inl, ap, sym, ◌∙◌, subst, refl}
 use Rattle.std.specs.Prelude.{Ok, OnOk}
 use Rattle.winnow_json.specs.Turns.{state_of, turn_at}
-use Rattle.winnow_json.specs.EventReading.{GivesOn, IsComing, IsNoNext, StaysAt, Awaits, taken_events}
+use Rattle.winnow_json.specs.EventReading.{GivesOn, KeepsLimits, IsComing, IsNoNext, StaysAt, Awaits, taken_events}
 use Rattle.winnow_json.specs.declared.tokens.Token.TheVariants as token
 use Rattle.winnow_json.specs.declared.turns.Turn.TheVariants.{Ends}
-use Rattle.winnow_json.proofs.lemmas.EventLemmas.{none-is, reader_of, step-took, step-refused, end-refused, step-ended, step-waits}
+use Rattle.winnow_json.proofs.lemmas.EventLemmas.{none-is, coming-ended, taken-depth, reader_of, step-took, step-refused, end-refused, step-ended, step-waits}
 use Rattle.winnow_json.proofs.event_reader.EventReader.step.Goals as goal
 
 pub returns-in-Ok-clause-read : goal.returns-in-Ok-clause-read
@@ -80,3 +80,49 @@ returns-in-Ok-NeedsMore-clause-answer c going =
     let b = subst (λ r. IsComing c.self.inside.tokens r f) (c.in-Ok-NeedsMore.is ∙ ap Ok c.in-Ok-NeedsMore.field-0-is) c.next_token.ensures in
     let seen = subst (λ o. StaysAt o (reader_of f middle stopped) × Awaits o.tokens) c.self.view_is ((c.make_room.ensures.same, b.0), b.1) in
     (ap (λ o. o.stopped) c.self.view_is ∙ going, seen.0, seen.1)
+
+pub returns-in-Ok-clause-keeps : goal.returns-in-Ok-clause-keeps
+returns-in-Ok-clause-keeps c =
+    let text = state_of c.self.inside.syntax in
+    let f = c.next_token.new.tokens in
+    let new = state_of c.take.new.self in
+    let deep = taken-depth text (state_of c.make_room.new.self) new c.in-Ok-Token.token c.make_room.ensures.same c.take.ensures.state in
+    let ended = coming-ended c.self.inside.tokens c.next_token.result f c.next_token.ensures in
+    subst (λ o. KeepsLimits o (reader_of f new c.self.inside.stopped)) c.self.view_is (deep, ended)
+
+pub returns-in-Err-take-clause-keeps : goal.returns-in-Err-take-clause-keeps
+returns-in-Err-take-clause-keeps c =
+    let text = state_of c.self.inside.syntax in
+    let f = c.next_token.new.tokens in
+    let new = state_of c.take.new.self in
+    let deep = taken-depth text (state_of c.make_room.new.self) new c.in-Ok-Token.token c.make_room.ensures.same c.take.ensures.state in
+    let ended = coming-ended c.self.inside.tokens c.next_token.result f c.next_token.ensures in
+    subst (λ o. KeepsLimits o (reader_of f new c.self.inside.stopped)) c.self.view_is (deep, ended)
+
+pub returns-in-Ok-take_end-clause-keeps : goal.returns-in-Ok-take_end-clause-keeps
+returns-in-Ok-take_end-clause-keeps c =
+    let f = c.next_token.new.tokens in
+    let middle = state_of c.make_room.new.self in
+    let ended = coming-ended c.self.inside.tokens c.next_token.result f c.next_token.ensures in
+    subst (λ o. KeepsLimits o (reader_of f middle c.self.inside.stopped)) c.self.view_is (ap (λ s. s.depth) c.make_room.ensures.same, ended)
+
+pub returns-in-Err-take_end-clause-keeps : goal.returns-in-Err-take_end-clause-keeps
+returns-in-Err-take_end-clause-keeps c =
+    let f = c.next_token.new.tokens in
+    let middle = state_of c.make_room.new.self in
+    let ended = coming-ended c.self.inside.tokens c.next_token.result f c.next_token.ensures in
+    subst (λ o. KeepsLimits o (reader_of f middle c.self.inside.stopped)) c.self.view_is (ap (λ s. s.depth) c.make_room.ensures.same, ended)
+
+pub returns-in-Ok-NeedsMore-clause-keeps : goal.returns-in-Ok-NeedsMore-clause-keeps
+returns-in-Ok-NeedsMore-clause-keeps c =
+    let f = c.next_token.new.tokens in
+    let middle = state_of c.make_room.new.self in
+    let ended = coming-ended c.self.inside.tokens c.next_token.result f c.next_token.ensures in
+    subst (λ o. KeepsLimits o (reader_of f middle c.self.inside.stopped)) c.self.view_is (ap (λ s. s.depth) c.make_room.ensures.same, ended)
+
+pub returns-in-Err-next_token-clause-keeps : goal.returns-in-Err-next_token-clause-keeps
+returns-in-Err-next_token-clause-keeps c =
+    let f = c.next_token.new.tokens in
+    let middle = state_of c.make_room.new.self in
+    let ended = coming-ended c.self.inside.tokens c.next_token.result f c.next_token.ensures in
+    subst (λ o. KeepsLimits o (reader_of f middle c.self.inside.stopped)) c.self.view_is (ap (λ s. s.depth) c.make_room.ensures.same, ended)

@@ -1,0 +1,32 @@
+ghost use Rattle.std.specs.Prelude.{◌≡◌, ℕ, List, ◌++◌, None, Err};
+ghost use Rattle.winnow_json.specs.Documents.{IsDamage};
+ghost use Rattle.winnow_json.specs.EventReading.{EventState, HasGiven, GivesOn, KeepsLimits};
+ghost use Rattle.winnow_json.specs.EventReading.{IsWhole, IsNext};
+ghost use Rattle.winnow_json.specs.ValueEvents.{ReadsValue, AreFirstOf, AreAllOf, IsRefusal};
+ghost use Rattle.winnow_json.specs.declared.documents.Damage.{Damage};
+ghost use Rattle.winnow_json.specs.declared.event_reader.Event.{Event};
+ghost use Rattle.winnow_json.specs.declared.event_reader.EventError.{EventError};
+ghost use Rattle.winnow_json.specs.declared.value.Value.{Value};
+
+/// The law of a reader of events. It does nothing when called: its contract is the law.
+///
+/// Let the joined input be a value, or become one with what may follow. The events that the reader
+/// gave are the first ones of that value, and where the text is whole they are all of them. The
+/// reader fails only where memory is refused. After more events all this holds again.
+///
+/// Where the reader has not stopped and the text is whole, the input is not damaged: the reader is
+/// done with no text in which [`read_document`](crate::read_document) finds damage.
+pub fn events_law()
+    ensures begins { (r : EventState) (input : List ℕ) (events : List Event) (value : Value)
+        → ReadsValue r input events value → AreFirstOf events value }
+    ensures whole { (r : EventState) (input : List ℕ) (events : List Event) (value : Value)
+        → ReadsValue r input events value → IsWhole r → AreAllOf events value }
+    ensures sound { (r new : EventState) (input : List ℕ) (events : List Event) (value : Value)
+        (e : EventError) → ReadsValue r input events value → IsNext r (Err e) new → IsRefusal e }
+    ensures only { (r : EventState) (input : List ℕ) (events : List Event) (damage : Damage)
+        → HasGiven r input events → r.stopped ≡ None → IsWhole r
+        → ¬ (IsDamage r.text.depth input damage) }
+    ensures goes_on { (r new : EventState) (input : List ℕ) (events given : List Event)
+        (value : Value) → ReadsValue r input events value → GivesOn r given new
+        → KeepsLimits r new → ReadsValue new input (events ++ given) value }
+{}
