@@ -1,3 +1,8 @@
+ghost use Rattle.std.specs.Prelude.{◌≡◌, Some};
+ghost use Rattle.std.specs.IoError.{error_kind};
+ghost use Rattle.example_json.specs.Failures.{status_of, failure_of, failure_text};
+ghost use Rattle.example_json.specs.declared.failure.Failure.TheVariants.{OutOfMemory};
+
 use crate::positions::Position;
 use std::alloc::AllocError;
 use std::fmt;
@@ -22,7 +27,9 @@ pub enum Failure {
 
 impl Failure {
     /// Returns the exit status for this failure.
-    pub fn status(&self) -> u8 {
+    pub fn status(&self) -> u8
+        ensures { result ≡ status_of self.now }
+    {
         match self {
             Failure::Damaged(_) => 2,
             Failure::Unexpected(_) => 2,
@@ -35,6 +42,8 @@ impl Failure {
 }
 
 impl fmt::Display for Failure {
+    ghost output = { λ failure. Some (failure_text failure) };
+
     fn fmt<W: fmt::Write>(&self, f: &mut fmt::Formatter<W>) -> fmt::Result {
         match self {
             Failure::Damaged(place) => write!(f, "{place}: no token of JSON stands here"),
@@ -50,12 +59,16 @@ impl fmt::Display for Failure {
 }
 
 impl From<AllocError> for Failure {
+    ghost from_gives = { λ _ failure. failure ≡ OutOfMemory };
+
     fn from(_refused: AllocError) -> Failure {
         Failure::OutOfMemory
     }
 }
 
 impl From<io::Error> for Failure {
+    ghost from_gives = { λ error failure. failure ≡ failure_of (error_kind error) };
+
     fn from(error: io::Error) -> Failure {
         match error.kind() {
             ErrorKind::OutOfMemory => Failure::OutOfMemory,

@@ -1,4 +1,6 @@
-ghost use Rattle.std.specs.Prelude.{◌+◌, ◌≤◌, ◌<◌, ◌^◌, length};
+ghost use Rattle.std.specs.Prelude.{◌≡◌, ℕ, ◌∷◌, [], ◌++◌, ◌+◌, ◌<◌, ◌^◌, List, length};
+ghost use Rattle.std.specs.Prelude.{Some, IfSome};
+ghost use Rattle.example_json.specs.Positions.{IsPlaced, LeadsTo, IsWithin, position_text};
 
 use std::fmt;
 
@@ -12,6 +14,8 @@ pub struct Position {
 }
 
 impl fmt::Display for Position {
+    ghost output = { λ position. Some (position_text position) };
+
     fn fmt<W: fmt::Write>(&self, f: &mut fmt::Formatter<W>) -> fmt::Result {
         let (line, column) = (self.line, self.column);
         write!(f, "line {line}, column {column}")
@@ -21,37 +25,84 @@ impl fmt::Display for Position {
 /// The line on which a piece begins.
 #[derive(Clone, Copy, Debug, Drop)]
 pub struct Line {
+    /// How many bytes of the input stand before the piece
+    pub bytes: usize,
     /// How many lines end before it
-    ended: usize,
+    pub ended: usize,
     /// How many bytes of the input stand before the line
-    start: usize,
+    pub start: usize,
 }
 
 impl Line {
     /// Returns the line on which the input begins.
-    pub fn first() -> Line {
-        Line { ended: 0, start: 0 }
+    pub fn first() -> Line
+        ensures leads { LeadsTo [] result }
+        ensures within { IsWithin result }
+    {
+        Line {
+            bytes: 0,
+            ended: 0,
+            start: 0,
+        }
     }
 
-    /// Returns the line after these bytes. `before` counts the bytes of the input before them.
-    pub fn after(self, before: usize, bytes: &[u8]) -> Line {
+    /// Returns the line after these bytes.
+    pub fn after(self, bytes: &[u8]) -> Line
+        requires within { IsWithin self }
+        requires fits { self.bytes + length bytes.now + 1 < 2 ^ 64 }
+        ensures leads { (input : List ℕ) → LeadsTo input self
+            → LeadsTo (input ++ bytes.now) result }
+        ensures within { IsWithin result }
+        ensures counted { result.bytes ≡ self.bytes + length bytes.now }
+    {
         let mut line = self;
-        for (index, byte) in bytes.iter().enumerate() {
-            if *byte == b'\n' {
-                line = Line {
-                    ended: line.ended.saturating_add(1),
-                    start: before.saturating_add(index + 1),
-                };
-            }
+        for byte in bytes {
+            line = line.after_byte(*byte);
         }
         line
     }
 
-    /// Returns the place on this line of the byte after this many bytes of the input.
-    pub fn position(self, bytes: usize) -> Position {
-        Position {
-            line: self.ended.saturating_add(1),
-            column: bytes.saturating_sub(self.start).saturating_add(1),
+    // Returns the line after one byte more.
+    fn after_byte(self, byte: u8) -> Line
+        requires within { IsWithin self }
+        requires fits { self.bytes + 1 < 2 ^ 64 }
+        ensures leads { (input : List ℕ) → LeadsTo input self
+            → LeadsTo (input ++ byte ∷ []) result }
+        ensures within { IsWithin result }
+        ensures counted { result.bytes ≡ self.bytes + 1 }
+    {
+        let bytes = self.bytes + 1;
+        if byte == b'\n' {
+            return Line {
+                bytes,
+                ended: self.ended + 1,
+                start: bytes,
+            };
         }
+        Line {
+            bytes,
+            ended: self.ended,
+            start: self.start,
+        }
+    }
+
+    /// Returns the position after this many bytes of the input, if that is on this line and no
+    /// further on than the piece begins.
+    pub fn position(self, first: usize) -> Option<Position>
+        requires within { IsWithin self }
+        requires fits { self.bytes + 1 < 2 ^ 64 }
+        ensures { IfSome result (λ position. (input : List ℕ) → LeadsTo input self
+            → IsPlaced input first position) }
+    {
+        if first < self.start {
+            return None;
+        }
+        if self.bytes < first {
+            return None;
+        }
+        Some(Position {
+            line: self.ended + 1,
+            column: first - self.start + 1,
+        })
     }
 }

@@ -1,41 +1,99 @@
 //! An event as a line.
 
+ghost use Rattle.std.specs.Prelude.{◌≡◌, ◌∷◌, [], ◌++◌, ◌+◌, ◌<◌, ◌*◌, min, replicate, OnOk, IfOk};
+ghost use Rattle.std.specs.Char.{digit_char};
+ghost use Rattle.winnow_json.specs.Quoting.{letter_of, written_byte, written_string};
+ghost use Rattle.example_json.specs.Lines.{shown, line_of, level_after};
+
 use std::alloc::AllocError;
 use winnow_json::Event;
 
-/// Appends the line of an event that stands in this many arrays and objects.
-pub fn append_line(event: &Event, level: usize, text: &mut Vec<u8>) -> Result<(), AllocError> {
-    for _turn in 0..level {
-        text.extend_from_slice(b"  ")?;
+/// Appends the line of an event, before which this many arrays and objects are open, and moves the
+/// level on by the event.
+pub fn append_line(event: &Event, level: &mut usize, text: &mut Vec<u8>) -> Result<(), AllocError>
+    ensures level { OnOk result (level.new ≡ level_after level.old event.now) }
+    ensures line { OnOk result (text.new.items ≡ text.old.items
+        ++ line_of (min level.old (level_after level.old event.now)) event.now) }
+{
+    let before = *level;
+    let after = level_after(before, event)?;
+    append_within(before.min(after), event, text)?;
+    *level = after;
+    Ok(())
+}
+
+// Returns how many arrays and objects are open after an event. Each that is open takes memory, so
+// there are no more than can be counted.
+fn level_after(level: usize, event: &Event) -> Result<usize, AllocError>
+    ensures { IfOk result (λ after. after ≡ level_after level event.now) }
+{
+    match event {
+        Event::StartArray => next_level(level),
+        Event::StartObject => next_level(level),
+        Event::EndArray => Ok(level.saturating_sub(1)),
+        Event::EndObject => Ok(level.saturating_sub(1)),
+        _ => Ok(level),
     }
+}
+
+// Returns the level within one array or object more.
+fn next_level(level: usize) -> Result<usize, AllocError>
+    ensures { IfOk result (λ next. next ≡ level + 1) }
+{
+    match level.checked_add(1) {
+        Some(next) => Ok(next),
+        None => Err(AllocError),
+    }
+}
+
+// Appends the line of an event that stands in this many arrays and objects.
+fn append_within(level: usize, event: &Event, text: &mut Vec<u8>) -> Result<(), AllocError>
+    ensures { OnOk result (text.new.items ≡ text.old.items ++ line_of level event.now) }
+{
+    append_margin(level, text)?;
     append_event(event, text)?;
     text.push(b'\n')?;
     Ok(())
 }
 
+// Appends two spaces for each array and object.
+fn append_margin(level: usize, text: &mut Vec<u8>) -> Result<(), AllocError>
+    ensures { OnOk result (text.new.items ≡ text.old.items ++ replicate (2 * level) 32) }
+{
+    for _turn in 0..level {
+        text.push(b' ')?;
+        text.push(b' ')?;
+    }
+    Ok(())
+}
+
 // Appends what shows an event.
-fn append_event(event: &Event, text: &mut Vec<u8>) -> Result<(), AllocError> {
+fn append_event(event: &Event, text: &mut Vec<u8>) -> Result<(), AllocError>
+    ensures { OnOk result (text.new.items ≡ text.old.items ++ shown event.now) }
+{
     match event {
         Event::StartArray => text.extend_from_slice(b"["),
         Event::EndArray => text.extend_from_slice(b"]"),
         Event::StartObject => text.extend_from_slice(b"{"),
         Event::EndObject => text.extend_from_slice(b"}"),
         Event::Key(name) => {
-            append_quoted(name.as_bytes(), text)?;
+            append_quoted(name, text)?;
             text.extend_from_slice(b":")
         }
         Event::Null => text.extend_from_slice(b"null"),
         Event::Bool(true) => text.extend_from_slice(b"true"),
         Event::Bool(false) => text.extend_from_slice(b"false"),
         Event::Number(number) => text.extend_from_slice(&number.text),
-        Event::String(value) => append_quoted(value.as_bytes(), text),
+        Event::String(value) => append_quoted(value, text),
     }
 }
 
 // Appends a string between quotes.
-fn append_quoted(bytes: &[u8], text: &mut Vec<u8>) -> Result<(), AllocError> {
+fn append_quoted(value: &str, text: &mut Vec<u8>) -> Result<(), AllocError>
+    ensures { OnOk result (text.new.items ≡ text.old.items ++ written_string value.now) }
+{
     text.push(b'"')?;
-    for byte in bytes {
+    for byte in value.as_bytes() {
         append_escaped(*byte, text)?;
     }
     text.push(b'"')?;
@@ -43,29 +101,45 @@ fn append_quoted(bytes: &[u8], text: &mut Vec<u8>) -> Result<(), AllocError> {
 }
 
 // Appends a byte of a string as it stands between quotes.
-fn append_escaped(byte: u8, text: &mut Vec<u8>) -> Result<(), AllocError> {
+fn append_escaped(byte: u8, text: &mut Vec<u8>) -> Result<(), AllocError>
+    ensures { OnOk result (text.new.items ≡ text.old.items ++ written_byte byte) }
+{
+    if let Some(letter) = letter_of(byte) {
+        text.extend_from_slice(&[b'\\', letter])?;
+        return Ok(());
+    }
+    if byte < 0x20 {
+        text.extend_from_slice(b"\\u00")?;
+        text.push(hex_digit(byte / 16))?;
+        text.push(hex_digit(byte % 16))?;
+        return Ok(());
+    }
+    text.push(byte)?;
+    Ok(())
+}
+
+// Returns the letter that stands for the byte after a backslash, where the byte needs one.
+fn letter_of(byte: u8) -> Option<u8>
+    ensures { result ≡ letter_of byte }
+{
     match byte {
-        b'"' => text.extend_from_slice(b"\\\""),
-        b'\\' => text.extend_from_slice(b"\\\\"),
-        b'\n' => text.extend_from_slice(b"\\n"),
-        b'\r' => text.extend_from_slice(b"\\r"),
-        b'\t' => text.extend_from_slice(b"\\t"),
-        0x08 => text.extend_from_slice(b"\\b"),
-        0x0C => text.extend_from_slice(b"\\f"),
-        0x00..=0x1F => {
-            text.extend_from_slice(b"\\u00")?;
-            text.push(hex_digit(byte / 16))?;
-            text.push(hex_digit(byte % 16))?;
-            Ok(())
-        }
-        _ => text.extend_from_slice(&[byte]),
+        b'"' | b'\\' => Some(byte),
+        0x8 => Some(b'b'),
+        0xC => Some(b'f'),
+        b'\n' => Some(b'n'),
+        b'\r' => Some(b'r'),
+        b'\t' => Some(b't'),
+        _ => None,
     }
 }
 
-// Returns the digit of a number below 16.
-fn hex_digit(number: u8) -> u8 {
+// Returns the hexadecimal digit of a number below 16.
+fn hex_digit(number: u8) -> u8
+    requires { number < 16 }
+    ensures { result ≡ digit_char number }
+{
     if number < 10 {
         return b'0' + number;
     }
-    b'a' + (number.min(15) - 10)
+    b'a' + (number - 10)
 }

@@ -1,12 +1,22 @@
-ghost use Rattle.std.specs.Prelude.{◌≡◌, ◌≤◌, ◌<◌, length, vec_len, false, IfOk};
+ghost use Rattle.std.specs.Prelude.{◌≡◌, ℕ, ◌++◌, ◌+◌, ◌≤◌, ◌<◌, ◌^◌, List, [], true, false, None};
+ghost use Rattle.std.specs.Prelude.{length, take, vec_len, IfOk, OnOk, IfErr, IfSome};
+ghost use Rattle.std.specs.Io.KnownBytes.{Appends, Consumes, IsAtEnd};
+ghost use Rattle.winnow_json.specs.EventReading.{IsWhole};
+ghost use Rattle.example_json.specs.Positions.{IsWithin};
+ghost use Rattle.example_json.specs.Failures.{IsOfText};
+ghost use Rattle.example_json.specs.Faults.{Places};
+ghost use Rattle.example_json.specs.Taking.{IsTaken, PrintsOn, IsDone, Answers};
+ghost use Rattle.example_json.specs.Printing.{IsBegun, BreaksOn, FollowsOn, FailsOn};
+ghost use Rattle.example_json.specs.Printing.{PrintsAll, PrintsUntil};
+ghost use Rattle.example_json.specs.declared.failure.Failure.TheVariants.{InputOrOutput};
 
 use crate::failure::Failure;
 use crate::positions::{Line, Position};
 use crate::printing::append_line;
-use std::alloc::{AllocError, Global};
-use std::io::{self, ErrorKind, Read, Write};
+use std::alloc::Global;
+use std::io::{ErrorKind, Read, Write};
 use winnow::reader::Next;
-use winnow_json::{Event, EventError, EventReader};
+use winnow_json::{EventError, EventReader};
 
 // A read of a pipe gives at most as much.
 const PIECE: usize = 64 * 1024;
@@ -14,35 +24,83 @@ const PIECE: usize = 64 * 1024;
 // Within how many arrays and objects a value may stand.
 const DEPTH: usize = 128;
 
-// What is kept of the input.
-#[derive(Drop)]
-struct Progress {
-    reader: EventReader,
-    // The line on which the last piece begins.
-    line: Line,
+/// What is kept of the input beside the reader.
+#[derive(Clone, Copy, Debug, Drop)]
+pub struct Progress {
+    /// The line on which the last piece begins
+    pub line: Line,
+    /// How many arrays and objects are open after the events that were written
+    pub level: usize,
 }
 
 /// Reads a text to the end of the input, and writes each event as soon as its bytes are there.
+///
+/// Where the bytes of the input are known, those of the output are known too: the lines of all its
+/// events, or of those before the failure, which has the line and column of its place in the whole
+/// input.
 pub fn print_events<R: Read, W: Write>(
     alloc: Global,
     input: &mut R,
     output: &mut W,
-) -> Result<(), Failure> {
-    let mut piece = new_piece(alloc)?;
+) -> Result<(), Failure>
+    ensures printed { OnOk result (IfSome (R.remaining input.old) (λ bytes.
+        PrintsAll bytes (W.contents output.old) (W.contents output.new))) }
+    ensures failed { IfErr result (λ failure. IfSome (R.remaining input.old) (λ bytes.
+        PrintsUntil bytes failure (W.contents output.old) (W.contents output.new))) }
+{
+    let mut buffer = match buffer(alloc) {
+        Ok(buffer) => buffer,
+        Err(failure) => return Err(failure),
+    };
+    let mut reader = EventReader::new(alloc, DEPTH);
     let mut progress = Progress {
-        reader: EventReader::new(alloc, DEPTH),
         line: Line::first(),
+        level: 0,
     };
     // No input has enough pieces to use up the turns.
-    for _turn in 0..u64::MAX {
-        match read_piece(input, &mut piece) {
-            Ok(0) => return print_last(alloc, &mut progress, output),
-            Ok(count) => match print_piece(alloc, &piece[..count], &mut progress, output) {
-                Ok(()) => {}
-                Err(failure) => return Err(failure),
-            },
+    for _ in 0..u64::MAX {
+        let count = match read_piece(input, &mut buffer) {
+            Ok(count) => count,
+            Err(failure) => return Err(failure),
+        };
+        if count == 0 {
+            return print_last(alloc, &mut reader, &mut progress, output);
+        }
+        if let Err(failure) = print_piece(
+            alloc,
+            &buffer[..count],
+            &mut reader,
+            &mut progress,
+            output,
+        ) {
+            return Err(failure);
+        }
+    }
+    Err(Failure::InputOrOutput)
+}
+
+// Returns room for a piece.
+fn buffer(alloc: Global) -> Result<Vec<u8>, Failure>
+    ensures room { IfOk result (λ buffer. 0 < vec_len buffer) }
+    ensures failed { IfErr result (λ failure. ¬ (IsOfText failure)) }
+{
+    Ok(vec![in alloc; 0; PIECE]?)
+}
+
+// Reads once, and again where the read was interrupted. At the end of the input it gives 0.
+fn read_piece<R: Read>(input: &mut R, buffer: &mut [u8]) -> Result<usize, Failure>
+    requires { 0 < length buffer.old }
+    ensures within { IfOk result (λ count. count ≤ length buffer.new) }
+    ensures taken { IfOk result (λ count.
+        Consumes (R.remaining input.old) (R.remaining input.new) (take count buffer.new)) }
+    ensures end { IfOk result (λ count. count ≡ 0 → IsAtEnd (R.remaining input.new)) }
+    ensures failed { IfErr result (λ failure. ¬ (IsOfText failure)) }
+{
+    for _ in 0..u64::MAX {
+        match input.read(buffer) {
+            Ok(count) => return Ok(count),
             Err(error) => {
-                if !matches!(error.kind(), ErrorKind::Interrupted) {
+                if error.kind() != ErrorKind::Interrupted {
                     return Err(Failure::from(error));
                 }
             }
@@ -51,103 +109,175 @@ pub fn print_events<R: Read, W: Write>(
     Err(Failure::InputOrOutput)
 }
 
-// Returns the memory that pieces are read into.
-fn new_piece(alloc: Global) -> Result<Vec<u8>, AllocError> {
-    vec![in alloc; 0; PIECE]
-}
-
-// Reads into the memory what one read gives.
-fn read_piece<R: Read>(input: &mut R, piece: &mut Vec<u8>) -> io::Result<usize>
-    ensures { IfOk result (λ count. count ≤ vec_len piece.new) }
-{
-    input.read(piece.as_mut_slice())
-}
-
-// Writes the events that are there with a piece more.
+// Writes the events that are there with a piece more. An input of more bytes than can be counted is
+// refused.
 fn print_piece<W: Write>(
     alloc: Global,
     piece: &[u8],
+    reader: &mut EventReader,
     progress: &mut Progress,
     output: &mut W,
-) -> Result<(), Failure> {
-    let before = progress.reader.fed();
-    if progress.reader.has_ended() || piece.len() >= usize::MAX - before {
+) -> Result<(), Failure>
+    requires begun { IsBegun reader.old progress.old }
+    requires goes_on { reader.old.tokens.ended ≡ false }
+    ensures goes_on { OnOk result (reader.new.tokens.ended ≡ false) }
+    ensures printed { OnOk result (FollowsOn reader.old progress.old piece.now
+        reader.new progress.new (Appends (W.contents output.old) (W.contents output.new))) }
+    ensures failed { IfErr result (λ failure. FailsOn reader.old progress.old piece.now
+        false failure (Appends (W.contents output.old) (W.contents output.new))) }
+{
+    if piece.len() >= usize::MAX - progress.line.bytes {
         return Err(Failure::InputOrOutput);
     }
-    progress.reader.push(piece)?;
-    print_ready(alloc, piece, before, progress, output)?;
-    progress.line = progress.line.after(before, piece);
+    if let Err(refused) = reader.push(piece) {
+        return Err(Failure::from(refused));
+    }
+    let printed = print_ready(alloc, piece, reader, progress, output);
+    // Only the end of the input ends a reader.
+    if reader.has_ended() {
+        return Err(Failure::InputOrOutput);
+    }
+    if let Err(failure) = printed {
+        return Err(failure);
+    }
+    progress.line = progress.line.after(piece);
     Ok(())
 }
 
 // Writes the events that are there at the end of the input.
 fn print_last<W: Write>(
     alloc: Global,
+    reader: &mut EventReader,
     progress: &mut Progress,
     output: &mut W,
-) -> Result<(), Failure> {
-    let before = progress.reader.fed();
-    progress.reader.end();
-    print_ready(alloc, b"", before, progress, output)
+) -> Result<(), Failure>
+    requires { IsBegun reader.old progress.old }
+    ensures done { OnOk result (IsDone reader.new) }
+    ensures printed { OnOk result (PrintsOn reader.old progress.old.level reader.new
+        progress.new.level (Appends (W.contents output.old) (W.contents output.new))) }
+    ensures failed { IfErr result (λ failure. FailsOn reader.old progress.old []
+        reader.new.tokens.ended failure (Appends (W.contents output.old) (W.contents output.new))) }
+{
+    reader.end();
+    if let Err(failure) = print_ready(alloc, b"", reader, progress, output) {
+        return Err(failure);
+    }
+    // Where the input has ended, no event needs more of it.
+    if !reader.has_ended() {
+        return Err(Failure::InputOrOutput);
+    }
+    Ok(())
 }
 
-// Writes the events that are there. `before` counts the bytes before the last piece.
+// Writes the events that are there, also those before a fault. The piece is the last one.
 fn print_ready<W: Write>(
     alloc: Global,
     piece: &[u8],
-    before: usize,
+    reader: &mut EventReader,
     progress: &mut Progress,
     output: &mut W,
-) -> Result<(), Failure> {
+) -> Result<(), Failure>
+    requires going { reader.old.stopped ≡ None }
+    requires within { IsWithin progress.old.line }
+    requires fits { progress.old.line.bytes + length piece.now + 1 < 2 ^ 64 }
+    ensures going { OnOk result (reader.new.stopped ≡ None) }
+    ensures whole { OnOk result (reader.new.tokens.ended ≡ true → IsWhole reader.new) }
+    ensures line { progress.new.line ≡ progress.old.line }
+    ensures printed { OnOk result (PrintsOn reader.old progress.old.level reader.new
+        progress.new.level (Appends (W.contents output.old) (W.contents output.new))) }
+    ensures failed { IfErr result (λ failure. BreaksOn reader.old progress.old piece.now
+        reader.new.tokens.ended failure (Appends (W.contents output.old) (W.contents output.new))) }
+{
     let mut text = Vec::new(alloc);
-    let taken = take_events(&mut progress.reader, &mut text);
-    output.write_all(&text)?;
+    let mut level = progress.level;
+    let taken = take_events(reader, &mut level, &mut text);
+    progress.level = level;
+    match output.write_all(&text) {
+        Ok(()) => answer(taken, progress.line, piece),
+        Err(error) => Err(Failure::from(error)),
+    }
+}
+
+// Takes the events that are there, and appends their lines to the text.
+fn take_events(
+    reader: &mut EventReader,
+    level: &mut usize,
+    text: &mut Vec<u8>,
+) -> Result<Next<()>, EventError>
+    requires { reader.old.stopped ≡ None }
+    ensures { IsTaken reader.old level.old result reader.new level.new
+        (λ lines. text.new.items ≡ text.old.items ++ lines) }
+{
+    // No text has enough events to use up the turns.
+    for _turn in 0..u64::MAX {
+        match take_event(reader, level, text) {
+            Ok(Next::Value(())) => {}
+            Ok(Next::NeedsMore) => return Ok(Next::NeedsMore),
+            Ok(Next::Done) => return Ok(Next::Done),
+            Err(error) => return Err(error),
+        }
+    }
+    Ok(Next::Value(()))
+}
+
+// Takes the next event, if its bytes are there, and appends its line to the text.
+fn take_event(
+    reader: &mut EventReader,
+    level: &mut usize,
+    text: &mut Vec<u8>,
+) -> Result<Next<()>, EventError>
+    requires { reader.old.stopped ≡ None }
+    ensures { IsTaken reader.old level.old result reader.new level.new
+        (λ lines. text.new.items ≡ text.old.items ++ lines) }
+{
+    match reader.next_event() {
+        Ok(Next::Value(event)) => match append_line(&event, level, text) {
+            Ok(()) => Ok(Next::Value(())),
+            Err(refused) => Err(EventError::Refused(refused)),
+        },
+        Ok(Next::NeedsMore) => Ok(Next::NeedsMore),
+        Ok(Next::Done) => Ok(Next::Done),
+        Err(error) => Err(error),
+    }
+}
+
+// Returns what is answered where the events were taken so. The last piece begins on the line.
+fn answer(taken: Result<Next<()>, EventError>, line: Line, piece: &[u8]) -> Result<(), Failure>
+    requires within { IsWithin line }
+    requires fits { line.bytes + length piece.now + 1 < 2 ^ 64 }
+    ensures { Answers line piece.now taken result }
+{
     match taken {
-        Ok(()) => Ok(()),
+        Ok(Next::Value(())) => Err(Failure::InputOrOutput),
+        Ok(Next::NeedsMore) => Ok(()),
+        Ok(Next::Done) => Ok(()),
         Err(EventError::Damaged { place }) => {
-            Err(Failure::Damaged(progress.position(piece, before, place)))
+            Err(Failure::Damaged(position(line, piece, place)?))
         }
         Err(EventError::Unexpected { place }) => {
-            Err(Failure::Unexpected(progress.position(piece, before, place)))
+            Err(Failure::Unexpected(position(line, piece, place)?))
         }
         Err(EventError::TooDeep { place }) => {
-            Err(Failure::TooDeep(progress.position(piece, before, place)))
+            Err(Failure::TooDeep(position(line, piece, place)?))
         }
         Err(EventError::EndsEarly { place }) => {
-            Err(Failure::EndsEarly(progress.position(piece, before, place)))
+            Err(Failure::EndsEarly(position(line, piece, place)?))
         }
         Err(EventError::Refused(refused)) => Err(Failure::from(refused)),
     }
 }
 
-impl Progress {
-    // Returns the line and column of a place in the last piece, or in the token that began before
-    // it: no line ends in a token.
-    fn position(&self, piece: &[u8], before: usize, place: usize) -> Position {
-        let width = place.saturating_sub(before).min(piece.len());
-        self.line.after(before, &piece[..width]).position(place)
-    }
-}
-
-// Takes the events that are there, and appends their lines to the text.
-fn take_events(reader: &mut EventReader, text: &mut Vec<u8>) -> Result<(), EventError> {
-    // No text has enough events to use up the turns.
-    for _turn in 0..u64::MAX {
-        let level = reader.level();
-        match reader.next_event() {
-            Ok(Next::Value(event)) => append(&event, level.min(reader.level()), text)?,
-            Ok(Next::NeedsMore) => return Ok(()),
-            Ok(Next::Done) => return Ok(()),
-            Err(error) => return Err(error),
-        }
-    }
-    Ok(())
-}
-
-// Appends the line of an event.
-fn append(event: &Event, level: usize, text: &mut Vec<u8>) -> Result<(), EventError> {
-    match append_line(event, level, text) {
-        Ok(()) => Ok(()),
-        Err(refused) => Err(EventError::Refused(refused)),
+// Returns the position of a place in the piece, or in the token that began before it: no line ends
+// in a token.
+fn position(line: Line, piece: &[u8], place: usize) -> Result<Position, Failure>
+    requires within { IsWithin line }
+    requires fits { line.bytes + length piece.now + 1 < 2 ^ 64 }
+    ensures placed { IfOk result (Places line piece.now place) }
+    ensures failed { IfErr result (λ failure. failure ≡ InputOrOutput) }
+{
+    let width = place.saturating_sub(line.bytes).min(piece.len());
+    match line.after(&piece[..width]).position(place) {
+        Some(position) => Ok(position),
+        None => Err(Failure::InputOrOutput),
     }
 }

@@ -1,0 +1,7 @@
+pub mod PositionLemmas
+pub mod LineLemmas
+pub mod ReaderLemmas
+pub mod TakenLemmas
+pub mod FailureLemmas
+pub mod KnownLemmas
+pub mod FollowLemmas

@@ -1,0 +1,167 @@
+-- Events that are taken, and the lines that are written of them.
+use Rattle.std.proofs.Common.{◌≡◌, ℕ, false, List, [], ◌∷◌, ◌++◌, refl, ap, sym, ◌∙◌, subst, inl, inr, append_assoc, append-nil}
+use Rattle.std.specs.Prelude.{min, Result, Ok, Err}
+use Rattle.winnow_reader.specs.declared.next.Next.{Next}
+use Rattle.winnow_reader.specs.declared.next.Next.TheVariants as next
+use Rattle.winnow.specs.State.{ReaderState}
+use Rattle.winnow_json.specs.declared.tokens.JsonToken.{JsonToken}
+use Rattle.winnow_json.specs.EventReading.{EventState, HasGiven, GivesOn, IsMisplaced, StaysAt, Awaits, IsNext}
+use Rattle.winnow_json.specs.declared.event_reader.Event.{Event}
+use Rattle.winnow_json.specs.declared.event_reader.EventError.{EventError}
+use Rattle.winnow_json.specs.declared.event_reader.EventError.TheVariants as error
+use Rattle.example_json.specs.Lines.{line_of, level_after, level_by, lines_at}
+use Rattle.example_json.specs.Taking.{PrintsOn, StopsAfter, IsTaken}
+use Rattle.example_json.proofs.lemmas.LineLemmas.{level-append, lines-append}
+
+-- ---- Texts
+
+-- a text that the lines were appended to
+abbrev pub Adds : List ℕ → List ℕ → List ℕ → Type 0
+Adds old new lines = new ≡ old ++ lines
+
+-- what is written in another way, is printed in another way
+pub prints-map : (old new : EventState) (level there : ℕ) (wrote other : List ℕ → Type 0)
+    → ((lines : List ℕ) → wrote lines → other lines)
+    → PrintsOn old level new there wrote → PrintsOn old level new there other
+prints-map old new level there wrote other f h input before given =
+    let p = h input before given in (p.0, (p.1.0, p.1.1, f (lines_at level p.0) p.1.2))
+
+-- the same of a reader that stops
+stops-map : (old new : EventState) (level : ℕ) (e : EventError) (wrote other : List ℕ → Type 0)
+    → ((lines : List ℕ) → wrote lines → other lines)
+    → StopsAfter old level e new wrote → StopsAfter old level e new other
+stops-map old new level e wrote other f (r, (there, (prints, going, same, stops))) =
+    (r, (there, (prints-map old r level there wrote other f prints, going, same, stops)))
+
+-- the same of what is taken
+pub taken-map : (old new : EventState) (level there : ℕ)
+    (taken : Result (Next (Unit {0})) EventError) (wrote other : List ℕ → Type 0)
+    → ((lines : List ℕ) → wrote lines → other lines)
+    → IsTaken old level taken new there wrote → IsTaken old level taken new there other
+taken-map old new level there (Ok (next.Value u)) wrote other f h =
+    (h.0, prints-map old new level there wrote other f h.1)
+taken-map old new level there (Ok next.NeedsMore) wrote other f h =
+    (h.0, prints-map old new level there wrote other f h.1, h.2)
+taken-map old new level there (Ok next.Done) wrote other f h =
+    (h.0, prints-map old new level there wrote other f h.1, h.2)
+taken-map old new level there (Err (error.Damaged place)) wrote other f h =
+    stops-map old new level (error.Damaged place) wrote other f h
+taken-map old new level there (Err (error.Unexpected place)) wrote other f h =
+    stops-map old new level (error.Unexpected place) wrote other f h
+taken-map old new level there (Err (error.TooDeep place)) wrote other f h =
+    stops-map old new level (error.TooDeep place) wrote other f h
+taken-map old new level there (Err (error.EndsEarly place)) wrote other f h =
+    stops-map old new level (error.EndsEarly place) wrote other f h
+taken-map old new level there (Err (error.Refused r)) wrote other f h = tt
+
+-- ---- One event
+
+-- a reader that gave nothing more
+pub prints-none : (old new : EventState) (level : ℕ) (text : List ℕ) → GivesOn old [] new
+    → PrintsOn old level new level (Adds text text)
+prints-none old new level text gives input before given =
+    ([], (gives input before given, refl, sym (append-nil text)))
+
+-- a reader that gave an event, of which the line was appended
+pub prints-event : (old new : EventState) (level there : ℕ) (text now : List ℕ) (event : Event)
+    → GivesOn old (event ∷ []) new → there ≡ level_after level event
+    → now ≡ text ++ line_of (min level (level_after level event)) event
+    → PrintsOn old level new there (Adds text now)
+prints-event old new level there text now event gives leads wrote input before given = (
+  event ∷ [],
+  (
+    gives input before given,
+    leads,
+    wrote ∙ ap (λ l. text ++ l) (sym (append-nil (line_of (min level (level_after level event)) event))),
+  ),
+)
+
+-- the input of a reader that needs more goes on
+pub waits-open : (old new : EventState) → StaysAt old new → Awaits old.tokens
+    → new.tokens.ended ≡ false
+waits-open old new stays awaits =
+    ap (λ (f : ReaderState JsonToken). f.ended) stays.1 ∙ awaits.0
+
+-- a token that may not stand there leaves the end of the input where it is
+misplaced-ended : (old new : EventState) (e : EventError) → IsMisplaced old e new
+    → old.tokens.ended ≡ new.tokens.ended
+misplaced-ended old new e (t, (m, (turn, is, inl brings))) = sym brings.ended
+misplaced-ended old new e (t, (m, (turn, is, inr (end, (through, inl brings))))) = sym brings.ended
+misplaced-ended old new e (t, (m, (turn, is, inr (end, (through, inr same))))) =
+    ap (λ (f : ReaderState JsonToken). f.ended) (sym same)
+
+-- a reader that stops, after tokens that have no event
+stops-after : (old new : EventState) (level : ℕ) (text : List ℕ) (e : EventError)
+    → IsNext old (Err e) new → StopsAfter old level e new (Adds text text)
+stops-after old new level text e (r, (passed, inl (same, none))) =
+    (r, (level, (prints-none old r level text passed.0, passed.1, ap (λ (s : EventState). s.tokens.ended) (sym same), inl none)))
+stops-after old new level text e (r, (passed, inr (text_same, stopped, misplaced))) =
+    (r, (level, (prints-none old r level text passed.0, passed.1, misplaced-ended r new e misplaced, inr (new, misplaced))))
+
+-- what is taken where the reader has an error
+pub taken-error : (old new : EventState) (level : ℕ) (text : List ℕ) (e : EventError)
+    → IsNext old (Err e) new → IsTaken old level (Err e) new level (Adds text text)
+taken-error old new level text (error.Damaged place) h = stops-after old new level text (error.Damaged place) h
+taken-error old new level text (error.Unexpected place) h = stops-after old new level text (error.Unexpected place) h
+taken-error old new level text (error.TooDeep place) h = stops-after old new level text (error.TooDeep place) h
+taken-error old new level text (error.EndsEarly place) h = stops-after old new level text (error.EndsEarly place) h
+taken-error old new level text (error.Refused r) h = tt
+
+-- ---- Several events
+
+-- at first no event is printed
+pub prints-still : (r : EventState) (level : ℕ) (text : List ℕ)
+    → PrintsOn r level r level (Adds text text)
+prints-still r level text input before given = (
+  [],
+  (
+    subst (λ es. HasGiven r input es) (sym (append-nil before)) given,
+    refl,
+    sym (append-nil text),
+  ),
+)
+
+-- events that are printed after others are printed after all of them
+pub prints-more : (a b c : EventState) (la lb lc : ℕ) (ta tb tc : List ℕ)
+    → PrintsOn a la b lb (Adds ta tb) → PrintsOn b lb c lc (Adds tb tc)
+    → PrintsOn a la c lc (Adds ta tc)
+prints-more a b c la lb lc ta tb tc first second input before given =
+    let p = first input before given in
+    let q = second input (before ++ p.0) p.1.0 in
+    let leads = p.1.1 in (
+      p.0 ++ q.0,
+      (
+        subst (λ es. HasGiven c input es) (append_assoc before p.0 q.0) q.1.0,
+        q.1.1 ∙ ap (λ n. level_by n q.0) leads ∙ sym (level-append la p.0 q.0),
+        q.1.2 ∙ ap (λ t. t ++ lines_at lb q.0) p.1.2 ∙ append_assoc ta (lines_at la p.0) (lines_at lb q.0)
+            ∙ ap (λ n. ta ++ (lines_at la p.0 ++ lines_at n q.0)) leads
+            ∙ ap (λ l. ta ++ l) (sym (lines-append la p.0 q.0)),
+      ),
+    )
+
+-- a reader that stops after others stops after all of them
+stops-more : (a b c : EventState) (la lb : ℕ) (ta tb tc : List ℕ) (e : EventError)
+    → PrintsOn a la b lb (Adds ta tb) → StopsAfter b lb e c (Adds tb tc)
+    → StopsAfter a la e c (Adds ta tc)
+stops-more a b c la lb ta tb tc e first (r, (there, (prints, going, same, stops))) =
+    (r, (there, (prints-more a b r la lb there ta tb tc first prints, going, same, stops)))
+
+-- what is taken after others is taken after all of them
+pub taken-more : (a b c : EventState) (la lb lc : ℕ) (ta tb tc : List ℕ)
+    (taken : Result (Next (Unit {0})) EventError) → PrintsOn a la b lb (Adds ta tb)
+    → IsTaken b lb taken c lc (Adds tb tc) → IsTaken a la taken c lc (Adds ta tc)
+taken-more a b c la lb lc ta tb tc (Ok (next.Value u)) first h =
+    (h.0, prints-more a b c la lb lc ta tb tc first h.1)
+taken-more a b c la lb lc ta tb tc (Ok next.NeedsMore) first h =
+    (h.0, prints-more a b c la lb lc ta tb tc first h.1, h.2)
+taken-more a b c la lb lc ta tb tc (Ok next.Done) first h =
+    (h.0, prints-more a b c la lb lc ta tb tc first h.1, h.2)
+taken-more a b c la lb lc ta tb tc (Err (error.Damaged place)) first h =
+    stops-more a b c la lb ta tb tc (error.Damaged place) first h
+taken-more a b c la lb lc ta tb tc (Err (error.Unexpected place)) first h =
+    stops-more a b c la lb ta tb tc (error.Unexpected place) first h
+taken-more a b c la lb lc ta tb tc (Err (error.TooDeep place)) first h =
+    stops-more a b c la lb ta tb tc (error.TooDeep place) first h
+taken-more a b c la lb lc ta tb tc (Err (error.EndsEarly place)) first h =
+    stops-more a b c la lb ta tb tc (error.EndsEarly place) first h
+taken-more a b c la lb lc ta tb tc (Err (error.Refused r)) first h = tt

@@ -1,0 +1,18 @@
+use Rattle.std.proofs.Common.{[]}
+use Rattle.std.specs.Io.KnownBytes.{Appends}
+use Rattle.example_json.proofs.lemmas.FollowLemmas.{also-none, fails-piece, prints-ended}
+use Rattle.example_json.proofs.program.print_last.Goals as goal
+
+pub returns-in-Err-clause-failed : goal.returns-in-Err-clause-failed
+returns-in-Err-clause-failed g c =
+    let held = g.W.Write.contents c.args.output.now in
+    let now = g.W.Write.contents c.print_ready.new.output in
+    fails-piece c.args.reader.now c.end.new.self c.args.progress.now [] c.print_ready.new.reader.tokens.ended c.in-Err.failure (Appends held now)
+    (also-none c.args.reader.now c.end.new.self c.end.ensures.read) c.in-Err.ensures.failed
+
+pub returns-clause-printed : goal.returns-clause-printed
+returns-clause-printed g c =
+    let held = g.W.Write.contents c.args.output.now in
+    let now = g.W.Write.contents c.print_ready.new.output in
+    prints-ended c.args.reader.now c.end.new.self c.print_ready.new.reader c.args.progress.now.level c.print_ready.new.progress.level (Appends held now)
+    c.end.ensures.read c.in_default.ensures.printed
