@@ -1,7 +1,7 @@
 -- What the program has read of its input, and what it writes.
-use Rattle.std.specs.Prelude.{◌≡◌, ℕ, ◌+◌, ◌<◌, ◌^◌, Bool, true, List, [], ◌++◌, length, Option, None}
+use Rattle.std.specs.Prelude.{◌≡◌, ℕ, ◌+◌, ◌<◌, ◌^◌, true, List, [], ◌++◌, length, Option, None}
 use Rattle.std.specs.Io.KnownBytes.{Appends, Consumes}
-use Rattle.winnow_json.specs.EventReading.{EventState, HasGiven}
+use Rattle.winnow_json.specs.EventReading.{EventState, HasGiven, KeepsLimits}
 use Rattle.winnow_json.specs.declared.event_reader.Event.{Event}
 use Rattle.example_json.specs.Positions.{LeadsTo}
 use Rattle.example_json.specs.Lines.{level_by, lines_at, lines_of}
@@ -26,22 +26,22 @@ pub record Follows (r : EventState) (progress : Progress) (input : List ℕ) (ev
 abbrev pub IsBegun : EventState → Progress → Type 0
 IsBegun r progress = (input : List ℕ) × ((events : List Event) × Follows r progress input events)
 
--- a reader has given these events of the input and more, of which the lines were written, and it
--- stops there, as the failure says
-pub record Breaks (input : List ℕ) (before : List Event) (level : ℕ) (ended : Bool) (failure : Failure) (wrote : List ℕ → Type 0) : Type 0 where
+-- with the limits of the one reader, another has given these events of the input and more, of which
+-- the lines were written, and it stops there, as the failure says
+pub record Breaks (limits : EventState) (input : List ℕ) (before : List Event) (level : ℕ) (failure : Failure) (wrote : List ℕ → Type 0) : Type 0 where
   pub reader : EventState
   pub more : List Event
   pub given : HasGiven reader input (before ++ more)
   pub going : reader.stopped ≡ None
-  pub same : reader.tokens.ended ≡ ended
+  pub keeps : KeepsLimits limits reader
   pub written : wrote (lines_at level more)
   pub told : IsFailureOf input reader failure
 
 -- no matter what was given, with a piece more the reader fails so
-abbrev pub BreaksOn : EventState → Progress → List ℕ → Bool → Failure → (List ℕ → Type 0) → Type 0
-BreaksOn old progress piece ended failure wrote = IsOfText failure → (input : List ℕ) (before : List Event)
+abbrev pub BreaksOn : EventState → Progress → List ℕ → Failure → (List ℕ → Type 0) → Type 0
+BreaksOn old progress piece failure wrote = IsOfText failure → (input : List ℕ) (before : List Event)
     → LeadsTo input progress.line → HasGiven old (input ++ piece) before
-    → Breaks (input ++ piece) before progress.level ended failure wrote
+    → Breaks old (input ++ piece) before progress.level failure wrote
 
 -- no matter what was given, more events were given with the piece, and their lines were written
 abbrev pub FollowsOn : EventState → Progress → List ℕ → EventState → Progress → (List ℕ → Type 0)
@@ -49,10 +49,12 @@ abbrev pub FollowsOn : EventState → Progress → List ℕ → EventState → P
 FollowsOn old p piece new q wrote = (input : List ℕ) (before : List Event) → Follows old p input before
     → (more : List Event) × (Follows new q (input ++ piece) (before ++ more) × wrote (lines_at p.level more))
 
--- no matter what was given, with these bytes more the program fails so
-abbrev pub FailsOn : EventState → Progress → List ℕ → Bool → Failure → (List ℕ → Type 0) → Type 0
-FailsOn old p piece ended failure wrote = IsOfText failure → (input : List ℕ) (before : List Event)
-    → Follows old p input before → Breaks (input ++ piece) before p.level ended failure wrote
+-- no matter what was given, with these bytes more the program fails so, with the limits of the other
+-- reader
+abbrev pub FailsOn : EventState → Progress → List ℕ → EventState → Failure → (List ℕ → Type 0)
+    → Type 0
+FailsOn old p piece limits failure wrote = IsOfText failure → (input : List ℕ) (before : List Event)
+    → Follows old p input before → Breaks limits (input ++ piece) before p.level failure wrote
 
 -- of an input that had the one bytes left and has the other, some were read, and the lines of their
 -- events were written after what was held
@@ -65,19 +67,22 @@ pub record HasPrinted (r : EventState) (progress : Progress) (had has held now :
 
 -- ---- The whole input
 
--- the whole input is a text, a reader has given its events, and their lines were written
-pub record PrintsAll (input : List ℕ) (held now : Option (List ℕ)) : Type 0 where
+-- the whole input is a text, a reader with this limit on depth has given its events, and their lines
+-- were written
+pub record PrintsAll (depth : ℕ) (input : List ℕ) (held now : Option (List ℕ)) : Type 0 where
   pub reader : EventState
   pub events : List Event
+  pub limit : reader.text.depth ≡ depth
   pub given : HasGiven reader input events
   pub done : IsDone reader
   pub wrote : Appends held now (lines_of events)
 
--- a reader has given these events of a front of the input, or of all of it, and read no more; their
--- lines were written; and the reader stops there, as the failure says
-pub record PrintsFront (input : List ℕ) (failure : Failure) (held now : Option (List ℕ)) : Type 0 where
+-- a reader with this limit on depth has given these events of a front of the input, or of all of it,
+-- and read no more; their lines were written; and the reader stops there, as the failure says
+pub record PrintsFront (depth : ℕ) (input : List ℕ) (failure : Failure) (held now : Option (List ℕ)) : Type 0 where
   pub reader : EventState
   pub events : List Event
+  pub limit : reader.text.depth ≡ depth
   pub front : List ℕ
   pub rest : List ℕ
   pub splits : input ≡ front ++ rest
@@ -88,5 +93,6 @@ pub record PrintsFront (input : List ℕ) (failure : Failure) (held now : Option
   pub told : IsFailureOf input reader failure
 
 -- a failure that is one of the text is one of the input, after some events of it
-abbrev pub PrintsUntil : List ℕ → Failure → Option (List ℕ) → Option (List ℕ) → Type 0
-PrintsUntil input failure held now = IsOfText failure → PrintsFront input failure held now
+abbrev pub PrintsUntil : ℕ → List ℕ → Failure → Option (List ℕ) → Option (List ℕ) → Type 0
+PrintsUntil depth input failure held now =
+    IsOfText failure → PrintsFront depth input failure held now

@@ -2,7 +2,7 @@
 use Rattle.std.specs.Prelude.{◌≡◌, ℕ, false, List, ◌++◌, None, Result, Ok, Err, ⊤}
 use Rattle.winnow_reader.specs.declared.next.Next.{Next}
 use Rattle.winnow_reader.specs.declared.next.Next.TheVariants as next
-use Rattle.winnow_json.specs.EventReading.{EventState, HasGiven, IsWhole}
+use Rattle.winnow_json.specs.EventReading.{EventState, HasGiven, KeepsLimits, IsWhole}
 use Rattle.winnow_json.specs.declared.event_reader.Event.{Event}
 use Rattle.winnow_json.specs.declared.event_reader.EventError.{EventError}
 use Rattle.winnow_json.specs.declared.event_reader.EventError.TheVariants as error
@@ -21,9 +21,9 @@ PrintsOn old level new there wrote = (input : List ℕ) (before : List Event) �
 
 -- no matter what was given, a reader that has given more events, and read no more, stops with this
 -- error; their lines were written
-abbrev pub StopsAfter : EventState → ℕ → EventError → EventState → (List ℕ → Type 0) → Type 0
-StopsAfter old level e new wrote = (r : EventState) × ((there : ℕ) × (PrintsOn old level r there wrote
-    × (r.stopped ≡ None) × (r.tokens.ended ≡ new.tokens.ended) × StopsAt r e))
+abbrev pub StopsAfter : EventState → ℕ → EventError → (List ℕ → Type 0) → Type 0
+StopsAfter old level e wrote = (r : EventState) × ((there : ℕ) × (PrintsOn old level r there wrote
+    × (r.stopped ≡ None) × KeepsLimits old r × StopsAt r e))
 
 -- the reader has read all of its input, which is a whole text
 abbrev pub IsDone : EventState → Type 0
@@ -40,13 +40,13 @@ IsTaken old level (Ok next.NeedsMore) new there wrote =
 IsTaken old level (Ok next.Done) new there wrote =
     (new.stopped ≡ None) × PrintsOn old level new there wrote × IsWhole new
 IsTaken old level (Err (error.Damaged place)) new there wrote =
-    StopsAfter old level (error.Damaged place) new wrote
+    StopsAfter old level (error.Damaged place) wrote
 IsTaken old level (Err (error.Unexpected place)) new there wrote =
-    StopsAfter old level (error.Unexpected place) new wrote
+    StopsAfter old level (error.Unexpected place) wrote
 IsTaken old level (Err (error.TooDeep place)) new there wrote =
-    StopsAfter old level (error.TooDeep place) new wrote
+    StopsAfter old level (error.TooDeep place) wrote
 IsTaken old level (Err (error.EndsEarly place)) new there wrote =
-    StopsAfter old level (error.EndsEarly place) new wrote
+    StopsAfter old level (error.EndsEarly place) wrote
 IsTaken old level (Err (error.Refused r)) new there wrote = ⊤
 
 -- what is answered where the events were taken so

@@ -1,7 +1,7 @@
 ghost use Rattle.std.specs.Prelude.{◌≡◌, ℕ, ◌++◌, ◌+◌, ◌≤◌, ◌<◌, ◌^◌, List, [], true, false, None};
 ghost use Rattle.std.specs.Prelude.{length, take, vec_len, IfOk, OnOk, IfErr, IfSome};
 ghost use Rattle.std.specs.Io.KnownBytes.{Appends, Consumes, IsAtEnd};
-ghost use Rattle.winnow_json.specs.EventReading.{IsWhole};
+ghost use Rattle.winnow_json.specs.EventReading.{events_ended, KeepsLimits, IsWhole};
 ghost use Rattle.example_json.specs.Positions.{IsWithin};
 ghost use Rattle.example_json.specs.Failures.{IsOfText};
 ghost use Rattle.example_json.specs.Faults.{Places};
@@ -44,9 +44,9 @@ pub fn print_events<R: Read, W: Write>(
     output: &mut W,
 ) -> Result<(), Failure>
     ensures printed { OnOk result (IfSome (R.remaining input.old) (λ bytes.
-        PrintsAll bytes (W.contents output.old) (W.contents output.new))) }
+        PrintsAll DEPTH bytes (W.contents output.old) (W.contents output.new))) }
     ensures failed { IfErr result (λ failure. IfSome (R.remaining input.old) (λ bytes.
-        PrintsUntil bytes failure (W.contents output.old) (W.contents output.new))) }
+        PrintsUntil DEPTH bytes failure (W.contents output.old) (W.contents output.new))) }
 {
     let mut buffer = match buffer(alloc) {
         Ok(buffer) => buffer,
@@ -120,11 +120,11 @@ fn print_piece<W: Write>(
 ) -> Result<(), Failure>
     requires begun { IsBegun reader.old progress.old }
     requires goes_on { reader.old.tokens.ended ≡ false }
-    ensures goes_on { OnOk result (reader.new.tokens.ended ≡ false) }
+    ensures keeps { OnOk result (KeepsLimits reader.old reader.new) }
     ensures printed { OnOk result (FollowsOn reader.old progress.old piece.now
         reader.new progress.new (Appends (W.contents output.old) (W.contents output.new))) }
     ensures failed { IfErr result (λ failure. FailsOn reader.old progress.old piece.now
-        false failure (Appends (W.contents output.old) (W.contents output.new))) }
+        reader.old failure (Appends (W.contents output.old) (W.contents output.new))) }
 {
     if piece.len() >= usize::MAX - progress.line.bytes {
         return Err(Failure::InputOrOutput);
@@ -132,12 +132,7 @@ fn print_piece<W: Write>(
     if let Err(refused) = reader.push(piece) {
         return Err(Failure::from(refused));
     }
-    let printed = print_ready(alloc, piece, reader, progress, output);
-    // Only the end of the input ends a reader.
-    if reader.has_ended() {
-        return Err(Failure::InputOrOutput);
-    }
-    if let Err(failure) = printed {
+    if let Err(failure) = print_ready(alloc, piece, reader, progress, output) {
         return Err(failure);
     }
     progress.line = progress.line.after(piece);
@@ -152,19 +147,17 @@ fn print_last<W: Write>(
     output: &mut W,
 ) -> Result<(), Failure>
     requires { IsBegun reader.old progress.old }
+    ensures limit { OnOk result (reader.new.text.depth ≡ reader.old.text.depth) }
     ensures done { OnOk result (IsDone reader.new) }
     ensures printed { OnOk result (PrintsOn reader.old progress.old.level reader.new
         progress.new.level (Appends (W.contents output.old) (W.contents output.new))) }
     ensures failed { IfErr result (λ failure. FailsOn reader.old progress.old []
-        reader.new.tokens.ended failure (Appends (W.contents output.old) (W.contents output.new))) }
+        (events_ended reader.old) failure
+        (Appends (W.contents output.old) (W.contents output.new))) }
 {
     reader.end();
     if let Err(failure) = print_ready(alloc, b"", reader, progress, output) {
         return Err(failure);
-    }
-    // Where the input has ended, no event needs more of it.
-    if !reader.has_ended() {
-        return Err(Failure::InputOrOutput);
     }
     Ok(())
 }
@@ -182,11 +175,12 @@ fn print_ready<W: Write>(
     requires fits { progress.old.line.bytes + length piece.now + 1 < 2 ^ 64 }
     ensures going { OnOk result (reader.new.stopped ≡ None) }
     ensures whole { OnOk result (reader.new.tokens.ended ≡ true → IsWhole reader.new) }
+    ensures keeps { KeepsLimits reader.old reader.new }
     ensures line { progress.new.line ≡ progress.old.line }
     ensures printed { OnOk result (PrintsOn reader.old progress.old.level reader.new
         progress.new.level (Appends (W.contents output.old) (W.contents output.new))) }
     ensures failed { IfErr result (λ failure. BreaksOn reader.old progress.old piece.now
-        reader.new.tokens.ended failure (Appends (W.contents output.old) (W.contents output.new))) }
+        failure (Appends (W.contents output.old) (W.contents output.new))) }
 {
     let mut text = Vec::new(alloc);
     let mut level = progress.level;
@@ -205,7 +199,8 @@ fn take_events(
     text: &mut Vec<u8>,
 ) -> Result<Next<()>, EventError>
     requires { reader.old.stopped ≡ None }
-    ensures { IsTaken reader.old level.old result reader.new level.new
+    ensures keeps { KeepsLimits reader.old reader.new }
+    ensures taken { IsTaken reader.old level.old result reader.new level.new
         (λ lines. text.new.items ≡ text.old.items ++ lines) }
 {
     // No text has enough events to use up the turns.
@@ -227,7 +222,8 @@ fn take_event(
     text: &mut Vec<u8>,
 ) -> Result<Next<()>, EventError>
     requires { reader.old.stopped ≡ None }
-    ensures { IsTaken reader.old level.old result reader.new level.new
+    ensures keeps { KeepsLimits reader.old reader.new }
+    ensures taken { IsTaken reader.old level.old result reader.new level.new
         (λ lines. text.new.items ≡ text.old.items ++ lines) }
 {
     match reader.next_event() {

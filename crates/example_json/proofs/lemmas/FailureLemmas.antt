@@ -35,18 +35,18 @@ told-of input piece line r e OutOfMemory leads stops told = tt
 told-of input piece line r e InputOrOutput leads stops told = tt
 
 -- where a reader stops after some events, the failure that tells of its error is one of the input
-stops-breaks : (old new : EventState) (p : Progress) (piece : List ℕ) (e : EventError)
+stops-breaks : (old : EventState) (p : Progress) (piece : List ℕ) (e : EventError)
     (failure : Failure) (wrote : List ℕ → Type 0)
-    → StopsAfter old p.level e new wrote → TellsOf p.line piece e failure
-    → BreaksOn old p piece new.tokens.ended failure wrote
-stops-breaks old new p piece e failure wrote (r, (there, (prints, going, same, stops))) told is input before leads given =
+    → StopsAfter old p.level e wrote → TellsOf p.line piece e failure
+    → BreaksOn old p piece failure wrote
+stops-breaks old p piece e failure wrote (r, (there, (prints, going, keeps, stops))) told is input before leads given =
     let more = prints (input ++ piece) before given in
     record {
       reader = r;
       more = more.0;
       given = more.1.0;
       going = going;
-      same = same;
+      keeps = keeps;
       written = more.1.2;
       told = told-of input piece p.line r e failure leads stops told;
     }
@@ -65,18 +65,18 @@ refused-tells line piece r InputOrOutput told = λ t. t
 pub answer-breaks : (old new : EventState) (p : Progress) (there : ℕ) (piece : List ℕ)
     (taken : Result (Next (Unit {0})) EventError) (failure : Failure) (wrote : List ℕ → Type 0)
     → IsTaken old p.level taken new there wrote → Answers p.line piece taken (Err failure)
-    → BreaksOn old p piece new.tokens.ended failure wrote
+    → BreaksOn old p piece failure wrote
 answer-breaks old new p there piece (Ok (next.Value u)) failure wrote h never = λ is. absurd (never is)
 answer-breaks old new p there piece (Ok next.NeedsMore) failure wrote h never = λ is. absurd (never is)
 answer-breaks old new p there piece (Ok next.Done) failure wrote h never = λ is. absurd (never is)
 answer-breaks old new p there piece (Err (error.Damaged place)) failure wrote h told =
-    stops-breaks old new p piece (error.Damaged place) failure wrote h told
+    stops-breaks old p piece (error.Damaged place) failure wrote h told
 answer-breaks old new p there piece (Err (error.Unexpected place)) failure wrote h told =
-    stops-breaks old new p piece (error.Unexpected place) failure wrote h told
+    stops-breaks old p piece (error.Unexpected place) failure wrote h told
 answer-breaks old new p there piece (Err (error.TooDeep place)) failure wrote h told =
-    stops-breaks old new p piece (error.TooDeep place) failure wrote h told
+    stops-breaks old p piece (error.TooDeep place) failure wrote h told
 answer-breaks old new p there piece (Err (error.EndsEarly place)) failure wrote h told =
-    stops-breaks old new p piece (error.EndsEarly place) failure wrote h told
+    stops-breaks old p piece (error.EndsEarly place) failure wrote h told
 answer-breaks old new p there piece (Err (error.Refused r)) failure wrote h told =
     λ is. absurd (refused-tells p.line piece r failure told is)
 
@@ -112,7 +112,7 @@ pub answer-says : (old new : EventState) (p : Progress) (there : ℕ) (piece : L
     (wrote : List ℕ → Type 0)
     → IsTaken old p.level taken new there wrote → Answers p.line piece taken r
     → OnOk r (IsReady old new p.level there wrote)
-    × IfErr r (λ failure. BreaksOn old p piece new.tokens.ended failure wrote)
+    × IfErr r (λ failure. BreaksOn old p piece failure wrote)
 answer-says old new p there piece taken (Ok done) wrote h says =
     (answer-ready old new p.level there p.line piece taken wrote h says, tt)
 answer-says old new p there piece taken (Err failure) wrote h says =

@@ -3,7 +3,7 @@ use Rattle.std.proofs.Common.{◌≡◌, ℕ, ◌+◌, ◌<◌, ◌^◌, Bool, t
 use Rattle.std.specs.Prelude.{Option, None, Some, IfSome, Result, Ok, Err, OnOk, IfErr}
 use Rattle.std.specs.Io.KnownBytes.{Appends, Consumes, IsAtEnd}
 use Rattle.winnow.specs.State.{fed_of}
-use Rattle.winnow_json.specs.EventReading.{EventState, HasGiven, GivesOn, GivesAlso}
+use Rattle.winnow_json.specs.EventReading.{EventState, HasGiven, GivesOn, GivesAlso, KeepsLimits}
 use Rattle.winnow_json.specs.declared.event_reader.Event.{Event}
 use Rattle.example_json.specs.Positions.{LeadsTo}
 use Rattle.example_json.specs.Lines.{level_by, lines_at, lines_of}
@@ -46,12 +46,20 @@ follows-piece old middle new p q piece wrote also prints going fits leads input 
     )
 
 -- a failure of what is ahead is one with the piece
-pub fails-piece : (old middle : EventState) (p : Progress) (piece : List ℕ) (ended : Bool)
+pub fails-piece : (old middle limits : EventState) (p : Progress) (piece : List ℕ)
     (failure : Failure) (wrote : List ℕ → Type 0)
-    → GivesAlso old piece middle → BreaksOn middle p piece ended failure wrote
-    → FailsOn old p piece ended failure wrote
-fails-piece old middle p piece ended failure wrote also breaks is input before h =
-    breaks is input before h.leads (also input before h.given)
+    → GivesAlso old piece middle → KeepsLimits limits middle → BreaksOn middle p piece failure wrote
+    → FailsOn old p piece limits failure wrote
+fails-piece old middle limits p piece failure wrote also same breaks is input before h =
+    let b = breaks is input before h.leads (also input before h.given) in record {
+      reader = b.reader;
+      more = b.more;
+      given = b.given;
+      going = b.going;
+      keeps = (b.keeps.0 ∙ same.0, b.keeps.1 ∙ same.1);
+      written = b.written;
+      told = b.told;
+    }
 
 -- at the end, nothing more was given and nothing more follows
 pub also-none : (old middle : EventState) → GivesOn old [] middle → GivesAlso old [] middle
@@ -122,35 +130,41 @@ failure-longer input rest r (EndsEarly p) (place, (stops, placed)) =
 failure-longer input rest r OutOfMemory h = tt
 failure-longer input rest r InputOrOutput h = tt
 
+-- nothing is both true and false
+pub no-both : (b : Bool) → b ≡ true → b ≡ false → ⊥
+no-both true e f = absurd (cc)
+no-both false e f = absurd (cc)
+
 -- where the input has ended, nothing is left of it
 abbrev pub LeavesRest : Bool → Option (List ℕ) → Type 0
 LeavesRest ended has = (xs : List ℕ) → has ≡ Some xs → ended ≡ true → xs ≡ []
 
 -- before the end anything may be left
-pub leaves-more : (has : Option (List ℕ)) → LeavesRest false has
-leaves-more has xs is e = absurd (cc e)
+pub leaves-more : (ended : Bool) (has : Option (List ℕ)) → ended ≡ false → LeavesRest ended has
+leaves-more ended has goes xs is e = absurd (no-both ended e goes)
 
 -- at the end nothing is
 pub leaves-none : (ended : Bool) (has : Option (List ℕ)) → IsAtEnd has → LeavesRest ended has
 leaves-none ended has end xs is e = subst (λ o. IsAtEnd o) is end
 
 -- the step of `printed-fails`
-fails-step : (had has held now new : Option (List ℕ)) (level : ℕ) (ended : Bool)
+fails-step : (depth : ℕ) (had has held now new : Option (List ℕ)) (level : ℕ) (limits : EventState)
     (failure : Failure) (front : List ℕ) (events : List Event)
-    → Consumes had has front → LeavesRest ended has
+    → Consumes had has front → LeavesRest limits.tokens.ended has → limits.text.depth ≡ depth
     → Appends held now (lines_of events) → level ≡ level_by 0 events
-    → (IsOfText failure → Breaks front events level ended failure (Appends now new))
-    → IfSome had (λ bytes. PrintsUntil bytes failure held new)
-fails-step None has held now new level ended failure front events took leaves wrote e breaks = tt
-fails-step (Some xs) None held now new level ended failure front events took leaves wrote e breaks = absurd took
-fails-step (Some xs) (Some ys) held now new level ended failure front events took leaves wrote e breaks = λ is.
+    → (IsOfText failure → Breaks limits front events level failure (Appends now new))
+    → IfSome had (λ bytes. PrintsUntil depth bytes failure held new)
+fails-step depth None has held now new level limits failure front events took leaves deep wrote e breaks = tt
+fails-step depth (Some xs) None held now new level limits failure front events took leaves deep wrote e breaks = absurd took
+fails-step depth (Some xs) (Some ys) held now new level limits failure front events took leaves deep wrote e breaks = λ is.
     let b = breaks is in record {
       reader = b.reader;
       events = events ++ b.more;
+      limit = b.keeps.0 ∙ deep;
       front = front;
       rest = ys;
       splits = took;
-      ends = λ end. leaves ys refl (sym b.same ∙ end);
+      ends = λ end. leaves ys refl (sym b.keeps.1 ∙ end);
       given = b.given;
       going = b.going;
       wrote = wrote-more held now new events b.more level wrote e b.written;
@@ -158,50 +172,56 @@ fails-step (Some xs) (Some ys) held now new level ended failure front events too
     }
 
 -- where a piece makes the program fail, the failure is one of the input
-pub printed-fails : (r : EventState) (p : Progress) (had has left held now new : Option (List ℕ))
-    (piece : List ℕ) (ended : Bool) (failure : Failure)
-    → HasPrinted r p had has held now → Consumes has left piece → LeavesRest ended left
-    → FailsOn r p piece ended failure (Appends now new)
-    → IfSome had (λ bytes. PrintsUntil bytes failure held new)
-printed-fails r p had has left held now new piece ended failure h took leaves fails =
-    fails-step had left held now new p.level ended failure (h.input ++ piece) h.events
-    (consumes-more had has left h.input piece h.took took) leaves h.wrote h.follows.level
+pub printed-fails : (depth : ℕ) (r : EventState) (p : Progress)
+    (had has left held now new : Option (List ℕ))
+    (piece : List ℕ) (limits : EventState) (failure : Failure)
+    → HasPrinted r p had has held now → Consumes has left piece
+    → LeavesRest limits.tokens.ended left → limits.text.depth ≡ depth
+    → FailsOn r p piece limits failure (Appends now new)
+    → IfSome had (λ bytes. PrintsUntil depth bytes failure held new)
+printed-fails depth r p had has left held now new piece limits failure h took leaves deep fails =
+    fails-step depth had left held now new p.level limits failure (h.input ++ piece) h.events
+    (consumes-more had has left h.input piece h.took took) leaves deep h.wrote h.follows.level
     (λ is. fails is h.input h.events h.follows)
 
 -- the step of `printed-all`
-all-step : (had has held now : Option (List ℕ)) (r : EventState) (input : List ℕ)
+all-step : (depth : ℕ) (had has held now : Option (List ℕ)) (r : EventState) (input : List ℕ)
     (events : List Event)
-    → Consumes had has input → IsAtEnd has → HasGiven r input events → IsDone r
-    → Appends held now (lines_of events) → IfSome had (λ bytes. PrintsAll bytes held now)
-all-step None has held now r input events took end given done wrote = tt
-all-step (Some xs) None held now r input events took end given done wrote = absurd took
-all-step (Some xs) (Some ys) held now r input events took end given done wrote =
+    → Consumes had has input → IsAtEnd has → HasGiven r input events → r.text.depth ≡ depth
+    → IsDone r → Appends held now (lines_of events)
+    → IfSome had (λ bytes. PrintsAll depth bytes held now)
+all-step depth None has held now r input events took end given deep done wrote = tt
+all-step depth (Some xs) None held now r input events took end given deep done wrote = absurd took
+all-step depth (Some xs) (Some ys) held now r input events took end given deep done wrote =
     let same : xs ≡ input = took ∙ ap (λ l. input ++ l) end ∙ append-nil input in
     record {
       reader = r;
       events = events;
+      limit = deep;
       given = subst (λ bytes. HasGiven r bytes events) (sym same) given;
       done = done;
       wrote = wrote;
     }
 
 -- at the end of a whole text all is printed
-pub printed-all : (r s : EventState) (p q : Progress) (had has left held now new : Option (List ℕ))
+pub printed-all : (depth : ℕ) (r s : EventState) (p q : Progress)
+    (had has left held now new : Option (List ℕ))
     → HasPrinted r p had has held now → Consumes has left [] → IsAtEnd left
-    → PrintsOn r p.level s q.level (Appends now new) → IsDone s
-    → IfSome had (λ bytes. PrintsAll bytes held new)
-printed-all r s p q had has left held now new h took end prints done =
+    → PrintsOn r p.level s q.level (Appends now new) → s.text.depth ≡ depth → IsDone s
+    → IfSome had (λ bytes. PrintsAll depth bytes held new)
+printed-all depth r s p q had has left held now new h took end prints deep done =
     let more = prints h.input h.events h.follows.given in
-    all-step had left held new s h.input (h.events ++ more.0)
+    all-step depth had left held new s h.input (h.events ++ more.0)
     (subst (λ xs. Consumes had left xs) (append-nil h.input) (consumes-more had has left h.input [] h.took took))
-    end more.1.0 done (wrote-more held now new h.events more.0 p.level h.wrote h.follows.level more.1.2)
+    end more.1.0 deep done (wrote-more held now new h.events more.0 p.level h.wrote h.follows.level more.1.2)
 
 -- ---- Answers
 
--- what is said of an answer's value follows from two such
-pub on-both : {T E P Q S : Type 0} (r : Result T E) → (P → Q → S) → OnOk r P → OnOk r Q → OnOk r S
-on-both (Ok x) f h k = f h k
-on-both (Err e) f h k = tt
+-- what is said of an answer's value follows from three such facts
+pub on-three : {T E P Q R S : Type 0} (r : Result T E) → (P → Q → R → S)
+    → OnOk r P → OnOk r Q → OnOk r R → OnOk r S
+on-three (Ok x) f h k l = f h k l
+on-three (Err e) f h k l = tt
 
 -- what is said of an answer's value follows from what is said of it
 pub on-ok : {T E P Q : Type 0} (r : Result T E) → (P → Q) → OnOk r P → OnOk r Q

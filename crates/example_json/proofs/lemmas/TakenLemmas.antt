@@ -5,7 +5,7 @@ use Rattle.winnow_reader.specs.declared.next.Next.{Next}
 use Rattle.winnow_reader.specs.declared.next.Next.TheVariants as next
 use Rattle.winnow.specs.State.{ReaderState}
 use Rattle.winnow_json.specs.declared.tokens.JsonToken.{JsonToken}
-use Rattle.winnow_json.specs.EventReading.{EventState, HasGiven, GivesOn, IsMisplaced, StaysAt, Awaits, IsNext}
+use Rattle.winnow_json.specs.EventReading.{EventState, HasGiven, GivesOn, KeepsLimits, StaysAt, Awaits, IsNext}
 use Rattle.winnow_json.specs.declared.event_reader.Event.{Event}
 use Rattle.winnow_json.specs.declared.event_reader.EventError.{EventError}
 use Rattle.winnow_json.specs.declared.event_reader.EventError.TheVariants as error
@@ -27,11 +27,11 @@ prints-map old new level there wrote other f h input before given =
     let p = h input before given in (p.0, (p.1.0, p.1.1, f (lines_at level p.0) p.1.2))
 
 -- the same of a reader that stops
-stops-map : (old new : EventState) (level : ℕ) (e : EventError) (wrote other : List ℕ → Type 0)
+stops-map : (old : EventState) (level : ℕ) (e : EventError) (wrote other : List ℕ → Type 0)
     → ((lines : List ℕ) → wrote lines → other lines)
-    → StopsAfter old level e new wrote → StopsAfter old level e new other
-stops-map old new level e wrote other f (r, (there, (prints, going, same, stops))) =
-    (r, (there, (prints-map old r level there wrote other f prints, going, same, stops)))
+    → StopsAfter old level e wrote → StopsAfter old level e other
+stops-map old level e wrote other f (r, (there, (prints, going, keeps, stops))) =
+    (r, (there, (prints-map old r level there wrote other f prints, going, keeps, stops)))
 
 -- the same of what is taken
 pub taken-map : (old new : EventState) (level there : ℕ)
@@ -45,13 +45,13 @@ taken-map old new level there (Ok next.NeedsMore) wrote other f h =
 taken-map old new level there (Ok next.Done) wrote other f h =
     (h.0, prints-map old new level there wrote other f h.1, h.2)
 taken-map old new level there (Err (error.Damaged place)) wrote other f h =
-    stops-map old new level (error.Damaged place) wrote other f h
+    stops-map old level (error.Damaged place) wrote other f h
 taken-map old new level there (Err (error.Unexpected place)) wrote other f h =
-    stops-map old new level (error.Unexpected place) wrote other f h
+    stops-map old level (error.Unexpected place) wrote other f h
 taken-map old new level there (Err (error.TooDeep place)) wrote other f h =
-    stops-map old new level (error.TooDeep place) wrote other f h
+    stops-map old level (error.TooDeep place) wrote other f h
 taken-map old new level there (Err (error.EndsEarly place)) wrote other f h =
-    stops-map old new level (error.EndsEarly place) wrote other f h
+    stops-map old level (error.EndsEarly place) wrote other f h
 taken-map old new level there (Err (error.Refused r)) wrote other f h = tt
 
 -- ---- One event
@@ -82,21 +82,13 @@ pub waits-open : (old new : EventState) → StaysAt old new → Awaits old.token
 waits-open old new stays awaits =
     ap (λ (f : ReaderState JsonToken). f.ended) stays.1 ∙ awaits.0
 
--- a token that may not stand there leaves the end of the input where it is
-misplaced-ended : (old new : EventState) (e : EventError) → IsMisplaced old e new
-    → old.tokens.ended ≡ new.tokens.ended
-misplaced-ended old new e (t, (m, (turn, is, inl brings))) = sym brings.ended
-misplaced-ended old new e (t, (m, (turn, is, inr (end, (through, inl brings))))) = sym brings.ended
-misplaced-ended old new e (t, (m, (turn, is, inr (end, (through, inr same))))) =
-    ap (λ (f : ReaderState JsonToken). f.ended) (sym same)
-
 -- a reader that stops, after tokens that have no event
 stops-after : (old new : EventState) (level : ℕ) (text : List ℕ) (e : EventError)
-    → IsNext old (Err e) new → StopsAfter old level e new (Adds text text)
+    → IsNext old (Err e) new → StopsAfter old level e (Adds text text)
 stops-after old new level text e (r, (passed, inl (same, none))) =
-    (r, (level, (prints-none old r level text passed.0, passed.1, ap (λ (s : EventState). s.tokens.ended) (sym same), inl none)))
+    (r, (level, (prints-none old r level text passed.0, passed.1, passed.2, inl none)))
 stops-after old new level text e (r, (passed, inr (text_same, stopped, misplaced))) =
-    (r, (level, (prints-none old r level text passed.0, passed.1, misplaced-ended r new e misplaced, inr (new, misplaced))))
+    (r, (level, (prints-none old r level text passed.0, passed.1, passed.2, inr (new, misplaced))))
 
 -- what is taken where the reader has an error
 pub taken-error : (old new : EventState) (level : ℕ) (text : List ℕ) (e : EventError)
@@ -140,28 +132,28 @@ prints-more a b c la lb lc ta tb tc first second input before given =
     )
 
 -- a reader that stops after others stops after all of them
-stops-more : (a b c : EventState) (la lb : ℕ) (ta tb tc : List ℕ) (e : EventError)
-    → PrintsOn a la b lb (Adds ta tb) → StopsAfter b lb e c (Adds tb tc)
-    → StopsAfter a la e c (Adds ta tc)
-stops-more a b c la lb ta tb tc e first (r, (there, (prints, going, same, stops))) =
-    (r, (there, (prints-more a b r la lb there ta tb tc first prints, going, same, stops)))
+stops-more : (a b : EventState) (la lb : ℕ) (ta tb tc : List ℕ) (e : EventError)
+    → PrintsOn a la b lb (Adds ta tb) → KeepsLimits a b → StopsAfter b lb e (Adds tb tc)
+    → StopsAfter a la e (Adds ta tc)
+stops-more a b la lb ta tb tc e first same (r, (there, (prints, going, keeps, stops))) =
+    (r, (there, (prints-more a b r la lb there ta tb tc first prints, going, (keeps.0 ∙ same.0, keeps.1 ∙ same.1), stops)))
 
 -- what is taken after others is taken after all of them
 pub taken-more : (a b c : EventState) (la lb lc : ℕ) (ta tb tc : List ℕ)
     (taken : Result (Next (Unit {0})) EventError) → PrintsOn a la b lb (Adds ta tb)
-    → IsTaken b lb taken c lc (Adds tb tc) → IsTaken a la taken c lc (Adds ta tc)
-taken-more a b c la lb lc ta tb tc (Ok (next.Value u)) first h =
+    → KeepsLimits a b → IsTaken b lb taken c lc (Adds tb tc) → IsTaken a la taken c lc (Adds ta tc)
+taken-more a b c la lb lc ta tb tc (Ok (next.Value u)) first same h =
     (h.0, prints-more a b c la lb lc ta tb tc first h.1)
-taken-more a b c la lb lc ta tb tc (Ok next.NeedsMore) first h =
+taken-more a b c la lb lc ta tb tc (Ok next.NeedsMore) first same h =
     (h.0, prints-more a b c la lb lc ta tb tc first h.1, h.2)
-taken-more a b c la lb lc ta tb tc (Ok next.Done) first h =
+taken-more a b c la lb lc ta tb tc (Ok next.Done) first same h =
     (h.0, prints-more a b c la lb lc ta tb tc first h.1, h.2)
-taken-more a b c la lb lc ta tb tc (Err (error.Damaged place)) first h =
-    stops-more a b c la lb ta tb tc (error.Damaged place) first h
-taken-more a b c la lb lc ta tb tc (Err (error.Unexpected place)) first h =
-    stops-more a b c la lb ta tb tc (error.Unexpected place) first h
-taken-more a b c la lb lc ta tb tc (Err (error.TooDeep place)) first h =
-    stops-more a b c la lb ta tb tc (error.TooDeep place) first h
-taken-more a b c la lb lc ta tb tc (Err (error.EndsEarly place)) first h =
-    stops-more a b c la lb ta tb tc (error.EndsEarly place) first h
-taken-more a b c la lb lc ta tb tc (Err (error.Refused r)) first h = tt
+taken-more a b c la lb lc ta tb tc (Err (error.Damaged place)) first same h =
+    stops-more a b la lb ta tb tc (error.Damaged place) first same h
+taken-more a b c la lb lc ta tb tc (Err (error.Unexpected place)) first same h =
+    stops-more a b la lb ta tb tc (error.Unexpected place) first same h
+taken-more a b c la lb lc ta tb tc (Err (error.TooDeep place)) first same h =
+    stops-more a b la lb ta tb tc (error.TooDeep place) first same h
+taken-more a b c la lb lc ta tb tc (Err (error.EndsEarly place)) first same h =
+    stops-more a b la lb ta tb tc (error.EndsEarly place) first same h
+taken-more a b c la lb lc ta tb tc (Err (error.Refused r)) first same h = tt

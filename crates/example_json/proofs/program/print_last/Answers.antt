@@ -1,5 +1,6 @@
-use Rattle.std.proofs.Common.{[]}
+use Rattle.std.proofs.Common.{[], ap}
 use Rattle.std.specs.Io.KnownBytes.{Appends}
+use Rattle.winnow_json.specs.EventReading.{EventState, events_ended, KeepsLimits}
 use Rattle.example_json.proofs.lemmas.FollowLemmas.{also-none, fails-piece, prints-ended}
 use Rattle.example_json.proofs.program.print_last.Goals as goal
 
@@ -7,8 +8,9 @@ pub returns-in-Err-clause-failed : goal.returns-in-Err-clause-failed
 returns-in-Err-clause-failed g c =
     let held = g.W.Write.contents c.args.output.now in
     let now = g.W.Write.contents c.print_ready.new.output in
-    fails-piece c.args.reader.now c.end.new.self c.args.progress.now [] c.print_ready.new.reader.tokens.ended c.in-Err.failure (Appends held now)
-    (also-none c.args.reader.now c.end.new.self c.end.ensures.read) c.in-Err.ensures.failed
+    let keeps : KeepsLimits (events_ended c.args.reader.now) c.end.new.self = (ap (λ (r : EventState). r.text.depth) c.end.ensures.state, ap (λ (r : EventState). r.tokens.ended) c.end.ensures.state) in
+    fails-piece c.args.reader.now c.end.new.self (events_ended c.args.reader.now) c.args.progress.now [] c.in-Err.failure (Appends held now)
+    (also-none c.args.reader.now c.end.new.self c.end.ensures.read) keeps c.in-Err.ensures.failed
 
 pub returns-clause-printed : goal.returns-clause-printed
 returns-clause-printed g c =

@@ -15,7 +15,7 @@ returns-in-Ok-clause-printed g c =
     let now = g.W.Write.contents c.write_all.new.self in
     let printed = taken-map old new c.args.progress.now.level there taken _ (Appends held now)
     (λ lines e. subst (λ bs. Appends held now bs) (c.deref.ensures.value ∙ e ∙ ap (λ t. t ++ lines) c.new-text.ensures.items) c.in-Ok.ensures.bytes)
-    c.take_events-taken.ensures in
+    c.take_events-taken.ensures.taken in
     on-ok c.answer.result (λ ready. ready.prints)
     (answer-says old new c.args.progress.now there c.args.piece.now taken c.answer.result (Appends held now) printed c.answer.ensures).0
 
@@ -29,5 +29,5 @@ returns-in-Ok-clause-failed g c =
     let now = g.W.Write.contents c.write_all.new.self in
     let printed = taken-map old new c.args.progress.now.level there taken _ (Appends held now)
     (λ lines e. subst (λ bs. Appends held now bs) (c.deref.ensures.value ∙ e ∙ ap (λ t. t ++ lines) c.new-text.ensures.items) c.in-Ok.ensures.bytes)
-    c.take_events-taken.ensures in
+    c.take_events-taken.ensures.taken in
     (answer-says old new c.args.progress.now there c.args.piece.now taken c.answer.result (Appends held now) printed c.answer.ensures).1

@@ -1,4 +1,5 @@
 use Rattle.std.proofs.Common.{◌≡◌, ◌++◌, None}
+use Rattle.winnow_json.specs.EventReading.{KeepsLimits}
 use Rattle.example_json.specs.Taking.{PrintsOn}
 use Rattle.example_json.proofs.program.take_events.Given as goal
 
@@ -6,6 +7,7 @@ use Rattle.example_json.proofs.program.take_events.Given as goal
 abbrev pub invariant-loop-turn : goal.invariant-loop-turn
 invariant-loop-turn l = record {
   going : l.reader.stopped ≡ None;
+  keeps : KeepsLimits l.initial.reader l.reader;
   prints : PrintsOn l.initial.reader l.initial.level l.reader l.level
       (λ lines. l.text.items ≡ l.initial.text.items ++ lines);
 }
