@@ -49,8 +49,8 @@ abbrev pub FollowsOn : EventState → Progress → List ℕ → EventState → P
 FollowsOn old p piece new q wrote = (input : List ℕ) (before : List Event) → Follows old p input before
     → (more : List Event) × (Follows new q (input ++ piece) (before ++ more) × wrote (lines_at p.level more))
 
--- no matter what was given, with these bytes more the program fails so, with the limits of the other
--- reader
+-- no matter what was given, with these bytes more the program fails so, with the limits of the
+-- other reader
 abbrev pub FailsOn : EventState → Progress → List ℕ → EventState → Failure → (List ℕ → Type 0)
     → Type 0
 FailsOn old p piece limits failure wrote = IsOfText failure → (input : List ℕ) (before : List Event)
@@ -67,8 +67,8 @@ pub record HasPrinted (r : EventState) (progress : Progress) (had has held now :
 
 -- ---- The whole input
 
--- the whole input is a text, a reader with this limit on depth has given its events, and their lines
--- were written
+-- the whole input is a text, a reader with this limit on depth has given its events, and their
+-- lines were written
 pub record PrintsAll (depth : ℕ) (input : List ℕ) (held now : Option (List ℕ)) : Type 0 where
   pub reader : EventState
   pub events : List Event
@@ -77,8 +77,8 @@ pub record PrintsAll (depth : ℕ) (input : List ℕ) (held now : Option (List �
   pub done : IsDone reader
   pub wrote : Appends held now (lines_of events)
 
--- a reader with this limit on depth has given these events of a front of the input, or of all of it,
--- and read no more; their lines were written; and the reader stops there, as the failure says
+-- a reader with this limit on depth has given these events of a front of the input, or of all of
+-- it, and read no more; their lines were written; and the reader stops there, as the failure says
 pub record PrintsFront (depth : ℕ) (input : List ℕ) (failure : Failure) (held now : Option (List ℕ)) : Type 0 where
   pub reader : EventState
   pub events : List Event
