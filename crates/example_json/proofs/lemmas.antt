@@ -5,3 +5,4 @@ pub mod TakenLemmas
 pub mod FailureLemmas
 pub mod KnownLemmas
 pub mod FollowLemmas
+pub mod ValueLemmas

@@ -4,3 +4,4 @@ pub mod Failures
 pub mod Faults
 pub mod Taking
 pub mod Printing
+pub mod Whole

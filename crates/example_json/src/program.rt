@@ -8,6 +8,7 @@ ghost use Rattle.example_json.specs.Faults.{Places};
 ghost use Rattle.example_json.specs.Taking.{IsTaken, PrintsOn, IsDone, Answers};
 ghost use Rattle.example_json.specs.Printing.{IsBegun, BreaksOn, FollowsOn, FailsOn};
 ghost use Rattle.example_json.specs.Printing.{PrintsAll, PrintsUntil};
+ghost use Rattle.example_json.specs.Whole.{PrintsValue, IsOfNoValue};
 ghost use Rattle.example_json.specs.declared.failure.Failure.TheVariants.{InputOrOutput};
 
 use crate::failure::Failure;
@@ -16,7 +17,7 @@ use crate::printing::append_line;
 use std::alloc::Global;
 use std::io::{ErrorKind, Read, Write};
 use winnow::reader::Next;
-use winnow_json::{EventError, EventReader};
+use winnow_json::{EventError, EventReader, events_law};
 
 // A read of a pipe gives at most as much.
 const PIECE: usize = 64 * 1024;
@@ -37,8 +38,28 @@ pub struct Progress {
 ///
 /// Where the bytes of the input are known, those of the output are known too: the lines of all its
 /// events, or of those before the failure, which has the line and column of its place in the whole
-/// input.
+/// input. Where the input is a value within the limit on depth, the events are those of the value,
+/// and no failure is one of the text.
 pub fn print_events<R: Read, W: Write>(
+    alloc: Global,
+    input: &mut R,
+    output: &mut W,
+) -> Result<(), Failure>
+    ensures printed { OnOk result (IfSome (R.remaining input.old) (λ bytes.
+        PrintsAll DEPTH bytes (W.contents output.old) (W.contents output.new))) }
+    ensures failed { IfErr result (λ failure. IfSome (R.remaining input.old) (λ bytes.
+        PrintsUntil DEPTH bytes failure (W.contents output.old) (W.contents output.new))) }
+    ensures value { OnOk result (IfSome (R.remaining input.old) (λ bytes.
+        PrintsValue DEPTH bytes (W.contents output.old) (W.contents output.new))) }
+    ensures none { IfErr result (λ failure. IfSome (R.remaining input.old) (λ bytes.
+        IsOfNoValue DEPTH bytes failure)) }
+{
+    events_law();
+    print_pieces(alloc, input, output)
+}
+
+// Reads the pieces of the input to its end, and writes the events that each brings.
+fn print_pieces<R: Read, W: Write>(
     alloc: Global,
     input: &mut R,
     output: &mut W,

@@ -1,6 +1,6 @@
 use Rattle.std.proofs.Common.{◌≡◌, ◌<◌, false, vec_len}
 use Rattle.example_json.specs.Printing.{HasPrinted}
-use Rattle.example_json.proofs.program.print_events.Given as goal
+use Rattle.example_json.proofs.program.print_pieces.Given as goal
 
 -- the events of the bytes that were read are printed, and more may follow
 abbrev pub invariant-loop : goal.invariant-loop

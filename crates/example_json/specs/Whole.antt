@@ -1,0 +1,21 @@
+-- What the program writes of a text, and when it fails, in the words of the format.
+use Rattle.std.specs.Prelude.{ℕ, List, Option}
+use Rattle.std.specs.Io.KnownBytes.{Appends}
+use Rattle.winnow_json.specs.Documents.{IsDocument, IsDamage}
+use Rattle.winnow_json.specs.ValueEvents.{events_of}
+use Rattle.winnow_json.specs.declared.value.Value.{Value}
+use Rattle.winnow_json.specs.declared.documents.Damage.{Damage}
+use Rattle.example_json.specs.Lines.{lines_of}
+use Rattle.example_json.specs.Failures.{IsOfText}
+use Rattle.example_json.specs.declared.failure.Failure.{Failure}
+
+-- the input is not damaged, and where it is a value, the lines of the events of that were written
+pub record PrintsValue (depth : ℕ) (input : List ℕ) (held now : Option (List ℕ)) : Type 0 where
+  pub sound : (damage : Damage) → ¬ (IsDamage depth input damage)
+  pub lines : (value : Value) → IsDocument depth input value
+      → Appends held now (lines_of (events_of value))
+
+-- a failure that is one of the text comes of no input that is a value
+abbrev pub IsOfNoValue : ℕ → List ℕ → Failure → Type 0
+IsOfNoValue depth input failure =
+    IsOfText failure → (value : Value) → ¬ (IsDocument depth input value)
