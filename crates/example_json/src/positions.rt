@@ -1,5 +1,5 @@
 ghost use Rattle.std.specs.Prelude.{◌≡◌, ℕ, ◌∷◌, [], ◌++◌, ◌+◌, ◌<◌, ◌^◌, List, length};
-ghost use Rattle.std.specs.Prelude.{Some, IfSome};
+ghost use Rattle.std.specs.Prelude.{Some, IfSome, IfNone, ◌⊎◌};
 ghost use Rattle.example_json.specs.Positions.{IsPlaced, LeadsTo, IsWithin, position_text};
 
 use std::fmt;
@@ -91,8 +91,9 @@ impl Line {
     pub fn position(self, first: usize) -> Option<Position>
         requires within { IsWithin self }
         requires fits { self.bytes + 1 < 2 ^ 64 }
-        ensures { IfSome result (λ position. (input : List ℕ) → LeadsTo input self
+        ensures placed { IfSome result (λ position. (input : List ℕ) → LeadsTo input self
             → IsPlaced input first position) }
+        ensures missed { IfNone result ((first < self.start) ⊎ (self.bytes < first)) }
     {
         if first < self.start {
             return None;

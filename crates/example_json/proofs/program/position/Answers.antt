@@ -7,4 +7,4 @@ returns-in-Some-clause-placed c = λ input leads.
     let piece = c.args.piece.now in
     let width = c.min-width.result in
     placed-front input piece width c.args.place c.in-Some.position
-    (c.in-Some.ensures (input ++ take width piece) (c.after.ensures.leads input leads))
+    (c.in-Some.ensures.placed (input ++ take width piece) (c.after.ensures.leads input leads))
