@@ -1,3 +1,1 @@
-mod FedPieceLemmas
-mod GivenLemmas
-mod ReportLemmas
+mod lemmas

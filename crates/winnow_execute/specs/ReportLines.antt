@@ -6,8 +6,8 @@ use Rattle.winnow_feed.specs.Telling.{capped, told_of, told_to_end}
 use Rattle.winnow_feed.specs.Waits.{WaitsFor}
 use Rattle.winnow_feed.specs.declared.waiting.Waiting.{Waiting}
 use Rattle.winnow_feed.specs.declared.waiting.Waiting.TheVariants.{NotFed, NotWaiting, Until, ToEnd}
-use Rattle.winnow_read.specs.declared.fed_lines.FedLine.{FedLine}
-use Rattle.winnow_read.specs.declared.fed_lines.FedLine.TheVariants.{Piece, Waits}
+use Rattle.winnow_execute.specs.declared.fed_lines.FedLine.{FedLine}
+use Rattle.winnow_execute.specs.declared.fed_lines.FedLine.TheVariants.{Piece, Waits}
 use Rattle.winnow_print.specs.AnswerLines.{bytes_word, place_word, line, numbered_line}
 
 -- the line of an answer with its piece, where `code` gives the number of a token

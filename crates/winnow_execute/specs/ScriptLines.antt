@@ -11,15 +11,15 @@ use Rattle.winnow_stream.specs.Front.{part}
 use Rattle.winnow_feed.specs.Inputs.{PieceStep, InputKind, byte_input, text_input}
 use Rattle.winnow_run.specs.Searching.{search_answers}
 use Rattle.winnow_stream.specs.Source.{Source, offsets}
-use Rattle.winnow_read.specs.Inputs.{kind_word, TellsNamed, TellsFed}
-use Rattle.winnow_read.specs.Lending.{IsSameStep}
-use Rattle.winnow_read.specs.Lines.{AreLines}
-use Rattle.winnow_read.specs.Newline.{first_line, rest_lines}
-use Rattle.winnow_read.specs.Steps.{TellsStep}
-use Rattle.winnow_read.specs.declared.fed_lines.FedLine.{FedLine}
-use Rattle.winnow_read.specs.declared.inputs.Kind.{Kind}
-use Rattle.winnow_read.specs.declared.inputs.Kind.TheVariants.{Bytes, Text, BytePieces, TextPieces}
-use Rattle.winnow_read.specs.declared.steps.ScriptStep.{ScriptStep}
+use Rattle.winnow_execute.specs.Inputs.{kind_word, TellsNamed, TellsFed}
+use Rattle.winnow_execute.specs.Loans.{IsSameStep}
+use Rattle.winnow_execute.specs.Lines.{AreLines}
+use Rattle.winnow_execute.specs.Newline.{first_line, rest_lines}
+use Rattle.winnow_execute.specs.Steps.{TellsStep}
+use Rattle.winnow_execute.specs.declared.fed_lines.FedLine.{FedLine}
+use Rattle.winnow_execute.specs.declared.inputs.Kind.{Kind}
+use Rattle.winnow_execute.specs.declared.inputs.Kind.TheVariants.{Bytes, Text, BytePieces, TextPieces}
+use Rattle.winnow_execute.specs.declared.steps.ScriptStep.{ScriptStep}
 use Rattle.winnow_print.specs.AnswerLines.{bytes_word, item_words, answer_lines}
 use Rattle.winnow_execute.specs.ReportLines.{Prints}
 

@@ -2,23 +2,25 @@ ghost use Rattle.std.specs.Prelude.{◌≡◌, ◌+◌, ◌<◌, ◌^◌, [], If
 ghost use Rattle.std.specs.Prelude.{sum_by, OnOk};
 ghost use Rattle.winnow_feed.specs.Feeding.{bytes_fed};
 ghost use Rattle.winnow_feed.specs.Inputs.{byte_input, text_input};
-ghost use Rattle.winnow_execute.specs.FedLines.{TakesLine, TellsAll};
+ghost use Rattle.winnow_execute.specs.TakenLines.{TakesLine, TellsAll};
 ghost use Rattle.winnow_execute.specs.FaultyScripts.{FaultsAs, FaultsScript};
 ghost use Rattle.winnow_execute.specs.ReportLines.{Prints};
 ghost use Rattle.winnow_execute.specs.ScriptLines.{PrintsAs, PrintsScript};
-ghost use Rattle.winnow_read.specs.Fault.{IsLineWhere, IsWithin};
-ghost use Rattle.winnow_read.specs.Inputs.{piece_length};
-ghost use Rattle.winnow_read.specs.Lines.{reach};
-ghost use Rattle.winnow_read.specs.declared.inputs.Kind.TheVariants as kinds;
+ghost use Rattle.winnow_execute.specs.Fault.{IsLineWhere, IsWithin};
+ghost use Rattle.winnow_execute.specs.Inputs.{piece_length};
+ghost use Rattle.winnow_execute.specs.Lines.{reach};
+ghost use Rattle.winnow_execute.specs.declared.inputs.Kind.TheVariants as kinds;
 
+use crate::ScriptFault;
+use crate::fed_lines::{FedLine, read_fed_lines};
+use crate::inputs::{Kind, read_input, read_kind};
+use crate::lines::Lines;
+use crate::loans::lend_steps;
 use crate::report::Report;
+use crate::steps::{ScriptStep, read_steps};
 use std::alloc::{AllocError, Global};
 use winnow_feed::{ByteFeed, TextFeed};
 use winnow_print::print_answers;
-use winnow_read::{
-    FedLine, Kind, Lines, ScriptFault, ScriptStep, lend_steps, read_fed_lines, read_input,
-    read_kind, read_steps,
-};
 use winnow_run::SearchStep;
 use winnow_sets::CharSet;
 

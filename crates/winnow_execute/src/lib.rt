@@ -4,10 +4,30 @@
 //! input: one line, or one for each piece if the input is in pieces. [`execute`] reads all lines,
 //! runs the steps with the calls of streams, and returns a line for each answer, or the
 //! [`ScriptFault`] of the first faulty line.
+//!
+//! [`read_kind`] reads the first line, [`read_steps`] the lines of steps after it, and
+//! [`read_input`] or [`read_fed_lines`] the remaining lines. A script owns what is read, and
+//! [`lend_steps`] lends it for a run.
 #![tactic(auto)]
 
+mod contents;
 mod execution;
+mod fault;
+mod fed_lines;
+mod inputs;
+mod lines;
+mod literals;
+mod loans;
 mod report;
+mod steps;
+mod words;
 
+pub use contents::{Contents, Lend};
 pub use execution::execute;
-pub use winnow_read::{ScriptFault, literal};
+pub use fault::ScriptFault;
+pub use fed_lines::{FedLine, read_fed_lines};
+pub use inputs::{Kind, read_input, read_kind};
+pub use lines::Lines;
+pub use literals::literal;
+pub use loans::lend_steps;
+pub use steps::{ScriptStep, read_steps};

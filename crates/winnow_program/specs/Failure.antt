@@ -2,8 +2,8 @@
 use Rattle.std.specs.Prelude.{ℕ, List, codes}
 use Rattle.std.specs.declared.io.ErrorKind.{ErrorKind}
 use Rattle.std.specs.declared.io.ErrorKind.TheVariants as kind
-use Rattle.winnow_read.specs.Fault.{fault_text}
-use Rattle.winnow_read.specs.declared.fault.ScriptFault.TheVariants as fault
+use Rattle.winnow_execute.specs.Fault.{fault_text}
+use Rattle.winnow_execute.specs.declared.fault.ScriptFault.TheVariants as fault
 use Rattle.winnow_program.specs.declared.failure.Failure.{Failure}
 use Rattle.winnow_program.specs.declared.failure.Failure.TheVariants.{Script, InputOrOutput}
 

@@ -5,7 +5,7 @@ ghost use Rattle.winnow_program.specs.declared.failure.Failure.TheVariants.{Scri
 
 use std::fmt;
 use std::io::{self, ErrorKind};
-use winnow_read::ScriptFault;
+use winnow_execute::ScriptFault;
 
 /// The reason why the program ends with a status other than 0.
 #[derive(Debug, Drop, PartialEq, Eq)]

@@ -1,7 +1,7 @@
 use crate::cases::tell;
 use crate::printing::gives;
 use std::alloc::{AllocError, Global};
-use winnow_read::literal;
+use winnow_execute::literal;
 
 const WORD: &[u8] = b"31327A";
 

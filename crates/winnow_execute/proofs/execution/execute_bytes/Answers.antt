@@ -1,5 +1,5 @@
 use Rattle.std.proofs.Common.{◌∙◌}
-use Rattle.winnow_execute.proofs.GivenLemmas.{byte_lines-given}
+use Rattle.winnow_execute.proofs.lemmas.GivenLemmas.{byte_lines-given}
 use Rattle.winnow_execute.proofs.execution.execute_bytes.Goals as goal
 
 -- the steps that were read are lent and run on the input that was read

@@ -1,6 +1,6 @@
 use Rattle.std.proofs.Common.{◌∙◌, string_bytes}
-use Rattle.winnow_read.proofs.FaultLemmas.{IfErr-handed, IsLineWhere-more}
-use Rattle.winnow_execute.proofs.GivenLemmas.{text_lines-given}
+use Rattle.winnow_execute.proofs.lemmas.FaultLemmas.{IfErr-handed, IsLineWhere-more}
+use Rattle.winnow_execute.proofs.lemmas.GivenLemmas.{text_lines-given}
 use Rattle.winnow_execute.proofs.execution.execute_text.Goals as goal
 
 -- the steps that were read are lent and run on the input that was read

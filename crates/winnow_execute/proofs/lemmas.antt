@@ -1,0 +1,14 @@
+pub mod OptionLemmas
+pub mod ZipLemmas
+pub mod NewlineLemmas
+pub mod LineLemmas
+pub mod WordLemmas
+pub mod RangeLemmas
+pub mod StepLemmas
+pub mod Utf8Lemmas
+pub mod FaultLemmas
+pub mod FedLineLemmas
+pub mod LengthLemmas
+pub mod GivenLemmas
+pub mod FedPieceLemmas
+pub mod ReportLemmas
