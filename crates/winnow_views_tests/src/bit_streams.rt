@@ -1,22 +1,24 @@
-ghost use Rattle.std.specs.Prelude.{◌≡◌, ◌<◌, IfSome};
-ghost use Rattle.winnow_stream.specs.Source.{units};
-ghost use Rattle.winnow_views.specs.BitStream.{bits_inner, bits_place, IsValidBits};
-ghost use Rattle.winnow_views.specs.BitSource.{IsBitSource};
+ghost use Rattle.std.specs.Prelude.{◌≡◌, ◌≤◌, IfSome};
 ghost use Rattle.winnow_stream.specs.SliceWidths.{SlicesHaveWidths};
+ghost use Rattle.winnow_stream.specs.Source.{units};
+ghost use Rattle.winnow_views.specs.BitSource.{IsBitSource};
+ghost use Rattle.winnow_views.specs.BitStream.{bits_inner, bits_place, IsValidBits};
+ghost use Rattle.winnow_views.specs.declared.bits.Bits.{Bits};
 
 use std::alloc::{AllocError, Global};
 use std::process::Abort;
 use std::test::Fail;
-use winnow_bytes::{bytes_equality_law, bytes_hash_law, bytes_order_law};
-use winnow_kinds::{text_equality_law, text_hash_law, text_order_law};
+use winnow_bytes::{Bytes, bytes_equality_law, bytes_hash_law, bytes_order_law};
+use winnow_kinds::{BStr, text_equality_law, text_hash_law, text_order_law};
 use winnow_run::Step;
 use winnow_run::Step::{At, Each, Eof, Finish, Look, Mark, Next, Peek, Reset, Since, Take};
-use winnow_stream::{NoSet, Offset, SliceLen, Stream, StreamIsPartial, byte_slice_law};
+use winnow_stream::{NoSet, SliceLen, Stream, StreamIsPartial, byte_slice_law};
 use winnow_test_helpers::{Traced, flags, tell, width_from};
 use winnow_views::{
-    Bits, bit_equality_law, bit_place_law, bit_slice_law, bit_source_law, token_compare_law,
-    token_equality_law, token_order_law,
+    Bits, bit_checkpoint_law, bit_equality_law, bit_place_law, bit_slice_law, bit_source_law,
+    token_compare_law, token_equality_law, token_order_law,
 };
+use winnow_wrap::LocatingSlice;
 
 // Returns the bits of bytes from a place on, or `None` where there are too many or the place is not
 // in a byte.
@@ -36,20 +38,26 @@ fn bits_at(bytes: &[u8], place: usize) -> Option<Bits<&[u8]>>
     Some(Bits::at_place(bytes, place))
 }
 
-// Returns the answers of a script, which does not depend on bits. It keeps what the stream of bytes
-// keeps.
+// What bits keep and what they say of their flag, spelled out: all that the stream of bytes does.
+fn bits_keep<I: StreamIsPartial + Stream<Token = u8>>()
+    ensures kept { (s t : Bits I) → ⟦<Bits<I> as Stream>⟧.keeps s t
+        → I.keeps (bits_inner s) (bits_inner t) }
+    ensures supported { ⟦<Bits<I> as StreamIsPartial>⟧.supports_partial ≡ I.supports_partial }
+    ensures flag { (s : Bits I) → ⟦<Bits<I> as StreamIsPartial>⟧.expects_more s
+        ≡ I.expects_more (bits_inner s) }
+{}
+
+// Returns the answers of a script, which does not depend on bits.
 fn told_bits<I: Stream<Token = u8>>(
     alloc: Global,
-    s: &mut Bits<I>,
+    bits: &mut Bits<I>,
     script: &[Step<NoSet>],
 ) -> Result<String, AllocError>
 where
     I::Slice: Drop,
-    requires { IsValidBits I.valid I.remaining s.old }
-    ensures valid { IsValidBits I.valid I.remaining s.new }
-    ensures kept { I.keeps (bits_inner s.old) (bits_inner s.new) }
+    requires { IsValidBits I.valid I.remaining bits.old }
 {
-    tell(alloc, s, script)
+    tell(alloc, bits, script)
 }
 
 #[test]
@@ -100,23 +108,12 @@ fn scripts_on_bits(rt: HostRuntime) -> Result<(), Fail> {
     Ok(())
 }
 
-// Returns the bits one by one, without a stream.
-fn slow_bits(alloc: Global, bytes: &[u8]) -> Result<Vec<bool>, AllocError> {
-    let mut bits = Vec::new(alloc);
-    for byte in bytes {
-        for place in 0..8u32 {
-            bits.push(byte >> place & 1 == 1)?;
-        }
-    }
-    Ok(bits)
-}
+// A slice of bits, and its length.
+type Taken<T> = ((T, usize, usize), usize);
 
-/// A slice of bits, and its length.
-pub type Taken<T> = ((T, usize, usize), usize);
-
-/// Returns the slice of `count` bits and its length, which is that number, or `None` where fewer
-/// remain.
-pub fn take<I: Stream<Token = u8>>(bits: &mut Bits<I>, count: usize) -> Option<Taken<I::Slice>>
+// Returns the slice of `count` bits and its length, which is that number, or `None` where fewer
+// remain.
+fn take<I: Stream<Token = u8>>(bits: &mut Bits<I>, count: usize) -> Option<Taken<I::Slice>>
 where
     I::Slice: SliceLen,
     requires valid { IsValidBits I.valid I.remaining bits.old }
@@ -133,27 +130,33 @@ where
     Some((slice, length))
 }
 
-// Returns all bits that are left.
-fn bits_left<I: Stream<Token = u8>>(alloc: Global, bits: &Bits<I>) -> Result<Vec<bool>, AllocError>
-    requires { IsValidBits I.valid I.remaining bits.now }
+// The slices of other streams of bytes are as long as their offset too, so those of their bits are.
+fn slices_have_widths()
+    ensures text { SlicesHaveWidths ⟦<BStr<'static> as Stream>⟧.is_slice
+        ⟦<&'static [u8] as SliceLen>⟧.has_width
+        ⟦<&'static [u8] as SliceLen>⟧.width_of }
+    ensures bytes { SlicesHaveWidths ⟦<Bytes<'static> as Stream>⟧.is_slice
+        ⟦<&'static [u8] as SliceLen>⟧.has_width
+        ⟦<&'static [u8] as SliceLen>⟧.width_of }
+    ensures located { SlicesHaveWidths ⟦<LocatingSlice<BStr<'static>> as Stream>⟧.is_slice
+        ⟦<&'static [u8] as SliceLen>⟧.has_width
+        ⟦<&'static [u8] as SliceLen>⟧.width_of }
 {
-    bits.iter_offsets().map(|(_, bit)| bit).collect(alloc)
+    byte_slice_law();
 }
 
-// Asserts what is taken of bytes from a place on, and what is left.
+// Asserts what is taken of bytes from a place on, and the bytes and the place that are left.
 fn splits_into(
     rt: &impl Abort,
-    alloc: Global,
     (bytes, place, count): (&[u8], usize, usize),
     taken: Option<Taken<&[u8]>>,
-    left: Option<&[bool]>,
+    left: (&[u8], usize),
 ) -> Result<(), Fail> {
     byte_slice_law();
     let mut bits = bits_at(bytes, place).ok_or("no bits")?;
     let slice = take(&mut bits, count);
-    let rest = bits_left(alloc, &bits)?;
     assert_eq!(rt;
-        (slice, Some(rest.as_slice())),
+        (slice, bits.into_parts()),
         (taken, left),
         "{place}, {count}"
     );
@@ -161,73 +164,47 @@ fn splits_into(
 }
 
 #[test]
-fn slices_against_a_slow_reading(rt: HostRuntime) -> Result<(), Fail> {
-    let (alloc, bytes) = (rt.alloc(), b"\xab\x31\xc0".as_slice());
-    let slow = slow_bits(alloc, bytes)?;
+fn slices_from_each_place(rt: HostRuntime) -> Result<(), Fail> {
+    let bytes = b"\xab\x31\xc0".as_slice();
     for place in 0..8usize {
         for count in 0..25 - place {
             let end = place + count;
             let taken = ((&bytes[..end / 8], place, end % 8), count);
-            splits_into(
-                &rt,
-                alloc,
-                (bytes, place, count),
-                Some(taken),
-                slow.get(end..),
-            )?;
+            let left = (&bytes[end / 8..], end % 8);
+            splits_into(&rt, (bytes, place, count), Some(taken), left)?;
         }
-        splits_into(
-            &rt,
-            alloc,
-            (bytes, place, 25 - place),
-            None,
-            slow.get(place..),
-        )?;
-        let none = ((&bytes[..0], place, place), 0);
-        let one_byte = &bytes[..1];
-        splits_into(
-            &rt,
-            alloc,
-            (one_byte, place, 0),
-            Some(none),
-            slow.get(place..8),
-        )?;
+        splits_into(&rt, (bytes, place, 25 - place), None, (bytes, place))?;
     }
     Ok(())
 }
 
-// Returns the width of a token, through the bounds.
-fn token_width<S: Stream + Offset<S::Checkpoint>>(s: &mut S) -> usize
+// Returns the widths of the first bit: from a stream, from a checkpoint, and between checkpoints.
+// Also returns the parts after it, and whether that place is the second and not the start, whether
+// their checkpoints differ, and whether those of two equal places are equal.
+fn after_one<I>(bytes: I) -> ((usize, usize, usize), (I, usize), [bool; 4])
 where
-    S::Token: Drop,
-    requires valid { S.valid s.old }
-    requires measured { (t : S) (c : S.Checkpoint) → S.valid t → S.valid_checkpoint c
-        → S.can_measure t c }
-    ensures { S.valid s.new }
-{
-    let start = s.checkpoint();
-    let _ = s.next_token();
-    s.offset_from(&start)
-}
-
-// Returns the width of the first bit and the parts after it. Also returns whether that place is the
-// second and not the start, whether their checkpoints differ, and whether those of two equal places
-// are equal.
-fn behind_one<I: Stream<Token = u8> + Copy + PartialEq>(bytes: I) -> (usize, (I, usize), [bool; 4])
-where
+    I: Stream<Token = u8> + Copy + PartialEq,
     I::Checkpoint: PartialEq,
     requires { IsValidBits I.valid I.remaining (record { input = bytes; place = 0 }) }
+    ensures width { result.0.2 ≤ 1 }
 {
+    bit_checkpoint_law::<I>();
     let start = Bits::new(bytes);
     let mut end = start;
-    let width = token_width(&mut end);
+    let _ = end.next_token();
+    let (from, to) = (start.checkpoint(), end.checkpoint());
+    let widths = (
+        width_from(&end, &start),
+        width_from(&end, &from),
+        width_from(&to, &from),
+    );
     let told = [
         end == Bits::at_place(bytes, 1),
         end != start,
-        end.checkpoint() != start.checkpoint(),
-        start.checkpoint() == Bits::new(bytes).checkpoint(),
+        to != from,
+        from == Bits::new(bytes).checkpoint(),
     ];
-    (width, end.into_parts(), told)
+    (widths, end.into_parts(), told)
 }
 
 // Returns the place, computed from the number of bits.
@@ -237,17 +214,6 @@ fn place_of<I: Stream<Token = u8>>(s: &Bits<I>) -> usize
 {
     bit_place_law();
     (8 - s.eof_offset() % 8) % 8
-}
-
-// Returns the places of the start and of the bits after `place` bits of the first byte, and the
-// width between them.
-fn places_from_start<I: Stream<Token = u8> + Copy>(bytes: I, place: usize) -> [usize; 3]
-    requires below { place < 8 }
-    requires start { IsValidBits I.valid I.remaining (record { input = bytes; place = 0 }) }
-    requires rest { IsValidBits I.valid I.remaining (record { input = bytes; place = place }) }
-{
-    let (start, rest) = (Bits::new(bytes), Bits::at_place(bytes, place));
-    [place_of(&start), place_of(&rest), width_from(&rest, &start)]
 }
 
 // Clearing the flag of the stream of bytes changes nothing else.
@@ -275,15 +241,15 @@ where
 fn places_of_bits(rt: HostRuntime) {
     let bytes = b"\xab\x31".as_slice();
     bit_source_law();
+    let places = [
+        place_of(&Bits::new(bytes)),
+        place_of(&Bits::at_place(bytes, 5)),
+    ];
     assert_eq!(rt;
+        (after_one(bytes), places, flags_of(bytes)),
         (
-            behind_one(bytes),
-            places_from_start(bytes, 5),
-            flags_of(bytes)
-        ),
-        (
-            (1, (bytes, 1), [true; 4]),
-            [0, 5, 5],
+            ((1, 1, 1), (bytes, 1), [true; 4]),
+            [0, 5],
             ([false; 4], (bytes, 1))
         )
     );
@@ -308,13 +274,12 @@ fn texts_of_bits(rt: HostRuntime) -> Result<(), Fail> {
         Bits::at_place(b"ab".as_slice(), 1),
         Traced(Bits::new(b"ab".as_slice())),
     );
-    let told = format!(in rt.alloc(); "{trace}\n{bits:#?}\n{bits:>6?}\n{bits:.1?}")?;
+    let told = format!(in rt.alloc(); "{trace}\n{bits:#?}\n{bits:>6.1?}")?;
     assert_eq!(rt;
         told.as_str(),
         "Bits {\n    input: [\n        97,\n        98,\n    ],\n    place: 0,\n}\n\
          Bits {\n    input: [\n        97,\n        98,\n    ],\n    place: 1,\n}\n\
-         Bits { input: [    97,     98], place:      1 }\n\
-         Bits { input: [97, 98], place: 1 }"
+         Bits { input: [    97,     98], place:      1 }"
     );
     Ok(())
 }
@@ -322,6 +287,8 @@ fn texts_of_bits(rt: HostRuntime) -> Result<(), Fail> {
 // Laws do nothing. The calls show that each can be called.
 #[test]
 fn the_laws_can_be_called(_rt: HostRuntime) {
+    bits_keep::<&[u8]>();
+    slices_have_widths();
     bit_equality_law::<&[u8]>();
     token_equality_law::<u8>();
     token_order_law::<u8>();

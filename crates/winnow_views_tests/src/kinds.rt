@@ -4,41 +4,39 @@ ghost use Rattle.winnow_bytes.specs.ByteContents.{bytes_contents};
 ghost use Rattle.winnow_kinds.specs.declared.text.BStr.{BStr};
 ghost use Rattle.winnow_bytes.specs.declared.bytes.Bytes.{Bytes};
 
+use crate::token_slices::window;
+use std::alloc::{AllocError, Global};
 use std::cmp::Ordering;
 use std::hash::{DefaultHasher, Hash, Hasher};
-use std::process::Abort;
+use std::ops::Range;
 use std::test::Fail;
 use winnow_bytes::Bytes;
-use winnow_kinds::BStr;
-use winnow_match::{Compare, CompareResult, Needles};
+use winnow_kinds::{BStr, ByteLiteral, ByteNeedles};
+use winnow_match::{CompareResult, Needles};
 use winnow_run::Step;
 use winnow_run::Step::{At, Each, Finish, IsOffset, Look, Mark, Next, Peek, Reset, Since, Take};
 use winnow_stream::{AsBStr, AsBytes, Checkpoint, NoSet, Stream, StreamIsPartial, UpdateSlice};
-use winnow_test_helpers::{Traced, compares, finds, flags, hits, told, width, width_from};
+use winnow_test_helpers::{Traced, flags, told, width, width_from};
+use winnow_views::TokenSlice;
 
-// Each of these makes its call through a bound.
+// Each of these makes its calls through bounds.
 
-fn first_of_window<S: UpdateSlice + Copy>(stream: S, width: usize) -> Option<S::Token>
+// Returns, as one text: the trace, the answers of a script, the first token of a window of width 1,
+// and the answers of the calls of the flag.
+fn calls<S>(alloc: Global, mut stream: S) -> Result<String, AllocError>
+where
+    S: UpdateSlice + StreamIsPartial + Copy,
+    S::Token: Drop,
+    S::Slice: Drop,
     requires { S.valid stream }
 {
-    if !stream.is_offset(width) {
-        return None;
-    }
-    let slice = stream.peek_slice(width);
-    let mut window = stream.update_slice(slice, &stream.checkpoint());
-    window.next_token()
-}
-
-// Returns the first tokens of two windows, and the answers of the calls of the flag.
-fn firsts_and_flags<S: UpdateSlice + StreamIsPartial + Copy>(
-    mut stream: S,
-    widths: [usize; 2],
-) -> ([Option<S::Token>; 2], [bool; 4])
-    requires { S.valid stream }
-{
-    let [one, other] = widths;
-    let firsts = [first_of_window(stream, one), first_of_window(stream, other)];
-    (firsts, flags(&mut stream))
+    let first = match window(stream, 1) {
+        Some(mut front) => front.next_token(),
+        None => None,
+    };
+    let told = told(alloc, stream, &SCRIPT)?;
+    let flags = flags(&mut stream);
+    format!(in alloc; "{} {told} {first:?} {flags:?}", Traced(stream))
 }
 
 // Neither has a flag, so they stay as they are, and streams that agree in all but the flag are
@@ -62,26 +60,19 @@ fn hash_of<T: Hash>(value: &T) -> u64 {
     hasher.finish()
 }
 
-// The order is that of the first byte that differs, or the shorter comes first where none does.
-fn orders_by_contents<S>(rt: &impl Abort)
-where
-    S: From<&'static [u8]> + From<&'static str> + Default + Ord + Copy,
-{
-    assert!(rt; S::from("") == S::default());
-    let table: [(&[u8], &[u8], Ordering); 6] = [
-        (b"", b"", Ordering::Equal),
-        (b"", b"a", Ordering::Less),
-        (b"b", b"ab", Ordering::Greater),
-        (b"a", b"ab", Ordering::Less),
-        (b"ab", b"ab", Ordering::Equal),
-        (b"\xff", b"a", Ordering::Greater),
-    ];
-    for (a, b, order) in table {
-        let (s, t) = (S::from(a), S::from(b));
-        let answers = (s.cmp(&t), s.partial_cmp(&t), s == t);
-        let wanted = (order, Some(order), order == Ordering::Equal);
-        assert_eq!(rt; answers, wanted, "{a:?} and {b:?}");
-    }
+// Returns the order of two values, or `None` where the ways to compare them do not agree.
+fn order_of<T: Ord>(a: &T, b: &T) -> Option<Ordering> {
+    let order = a.cmp(b);
+    let agree = a.partial_cmp(b) == Some(order) && (a == b) == (order == Ordering::Equal);
+    agree.then_some(order)
+}
+
+fn compared<L: ByteLiteral>(literal: L, bytes: &[u8]) -> CompareResult {
+    literal.compare_with(bytes)
+}
+
+fn found<N: ByteNeedles>(needles: N, bytes: &[u8]) -> Option<Range<usize>> {
+    needles.find_in(bytes)
 }
 
 // The results of the conversions, by their contracts.
@@ -127,210 +118,215 @@ const SCRIPT: [Step<NoSet>; 14] = [
     Take(4),
 ];
 
+const ANSWERS: &str =
+    "[Marked(0), Token(Some(97)), Slice([98]), Offset(2), Items([(0, 99)]), Slice([99]), \
+    Token(None), Done, Token(Some(97)), At(Ok(3)), At(Err(Size(1))), Flag(false), Slice([97, 98]), \
+    BadOffset] Some(97) [false, false, false, false]";
+
 #[test]
-fn scripts(rt: HostRuntime) -> Result<(), Fail> {
-    let wanted =
-        "[Marked(0), Token(Some(97)), Slice([98]), Offset(2), Items([(0, 99)]), Slice([99]), Token(None), Done, \
-        Token(Some(97)), At(Ok(3)), At(Err(Size(1))), Flag(false), Slice([97, 98]), BadOffset]";
-    let of_text = told(rt.alloc(), BStr::new(b"abc"), &SCRIPT)?;
-    let of_bytes = told(rt.alloc(), Bytes::new(b"abc"), &SCRIPT)?;
-    assert_eq!(rt; [of_text.as_str(), of_bytes.as_str()], [wanted; 2]);
+fn calls_of_streams(rt: HostRuntime) -> Result<(), Fail> {
+    let alloc = rt.alloc();
+    let text = calls(alloc, BStr::new(b"abc"))?;
+    let bytes = calls(alloc, Bytes::new(b"abc"))?;
+    let tokens = calls(alloc, TokenSlice::new(b"abc"))?;
+    assert_eq!(rt;
+        [
+            text.as_str().strip_prefix("abc "),
+            bytes.as_str().strip_prefix("616263 "),
+            tokens.as_str().strip_prefix("[97, 98, 99] ")
+        ],
+        [Some(ANSWERS); 3]
+    );
     Ok(())
 }
 
-// Returns the comparison with each kind of literal.
-fn comparisons_of<S>(s: S) -> [CompareResult; 6]
-where
-    S: Compare<&'static [u8]> + Compare<[u8; 2]> + Compare<&'static [u8; 2]>,
-    S: Compare<&'static str> + Compare<u8> + Compare<char> + Copy,
-    requires { S.valid s }
-{
-    [
-        compares(s, &b"\xc3\xa9a"[..]),
-        compares(s, *b"\xc3\xa9"),
-        compares(s, b"\xc3\xaa"),
-        compares(s, "éabcd"),
-        compares(s, 0xc3),
-        compares(s, 'é'),
-    ]
-}
-
+// Each kind of literal has one case.
 #[test]
 fn comparisons(rt: HostRuntime) {
-    let bytes = Bytes::new(b"ab");
+    let bytes = b"\xc3\xa9abc";
     assert_eq!(rt;
-        (
-            comparisons_of(BStr::new(b"\xc3\xa9abc")),
-            [compares(bytes, "abc"), compares(bytes, b'a')]
-        ),
-        (
-            [
-                CompareResult::Ok(3),
-                CompareResult::Ok(2),
-                CompareResult::Error,
-                CompareResult::Incomplete,
-                CompareResult::Ok(1),
-                CompareResult::Ok(2)
-            ],
-            [CompareResult::Incomplete, CompareResult::Ok(1)]
-        )
+        [
+            compared(&b"\xc3\xa9a"[..], bytes),
+            compared(*b"\xc3\xa9", bytes),
+            compared(b"\xc3\xaa", bytes),
+            compared("éabcd", bytes),
+            compared(0xc3, bytes),
+            compared('é', bytes),
+        ],
+        [
+            CompareResult::Ok(3),
+            CompareResult::Ok(2),
+            CompareResult::Error,
+            CompareResult::Incomplete,
+            CompareResult::Ok(1),
+            CompareResult::Ok(2)
+        ]
     );
 }
 
 // Each kind of needle has one case.
 #[test]
 fn searches(rt: HostRuntime) {
-    let s = BStr::new(b"abcb\xc3\xa9");
+    let s = b"abcb\xc3\xa9".as_slice();
     let (a, b): (&[u8], &[u8]) = (b"bc", b"cb");
     assert_eq!(rt;
-        (
-            hits(s, a, (b,), (b, a), (b, b, a)),
-            hits(s, b'c', (b'x',), (b'c', b'b'), (b'x', b'y', b'c')),
-            finds(s, Needles::Two(b, b)),
-            finds(s, 'b')
-        ),
-        (
-            [Some(1..3), Some(2..4), Some(1..3), Some(1..3)],
-            [Some(2..3), None, Some(1..2), Some(2..3)],
+        [
+            found(a, s),
+            found((b,), s),
+            found((b, a), s),
+            found((b, b, a), s),
+            found(Needles::Two(b, b), s),
+            found(b'c', s),
+            found((b'x',), s),
+            found((b'c', b'b'), s),
+            found((b'x', b'y', b'c'), s)
+        ],
+        [
+            Some(1..3),
             Some(2..4),
-            Some(1..2)
-        )
+            Some(1..3),
+            Some(1..3),
+            Some(2..4),
+            Some(2..3),
+            None,
+            Some(1..2),
+            Some(2..3)
+        ]
     );
 }
 
 #[test]
 fn searches_for_text(rt: HostRuntime) {
-    let s = Bytes::new(b"abcb\xc3\xa9");
-    let (a, b): (&[u8], &[u8]) = (b"bc", b"cb");
+    let s = b"abcb\xc3\xa9".as_slice();
     assert_eq!(rt;
-        (
-            hits(s, "é", ("b",), ("é", "cb"), ("x", "y", "")),
-            hits(s, 'é', ('b',), ('é', 'c'), ('x', 'y', 'é')),
-            finds(s, (b, a))
-        ),
-        (
-            [Some(4..6), Some(1..2), Some(2..4), Some(0..0)],
-            [Some(4..6), Some(1..2), Some(2..3), Some(4..6)],
-            Some(1..3)
-        )
+        [
+            found("é", s),
+            found(("b",), s),
+            found(("é", "cb"), s),
+            found(("x", "y", ""), s),
+            found('é', s),
+            found(('b',), s),
+            found(('é', 'c'), s),
+            found(('x', 'y', 'é'), s)
+        ],
+        [
+            Some(4..6),
+            Some(1..2),
+            Some(2..4),
+            Some(0..0),
+            Some(4..6),
+            Some(1..2),
+            Some(2..3),
+            Some(4..6)
+        ]
     );
 }
 
 #[test]
 fn small_traits_of_text(rt: HostRuntime) {
     let (whole, rest) = (BStr::new(b"abc"), BStr::new(b"bc"));
-    let (start, place) = (Checkpoint::new(whole), Checkpoint::new(rest));
     let widths = [
         width_from(&rest, &whole),
-        width_from(&rest, &start),
-        width_from::<_, Checkpoint<BStr, BStr>>(&place, &start),
+        width_from(&rest, &Checkpoint::new(whole)),
         width(&rest),
     ];
-    assert_eq!(rt;
-        (widths, firsts_and_flags(rest, [1, 3]), rest.as_bstr()),
-        ([1, 1, 1, 2], ([Some(b'b'), None], [false; 4]), &b"bc"[..])
-    );
+    assert_eq!(rt; (widths, rest.as_bstr()), ([1, 1, 2], &b"bc"[..]));
 }
-
-// Whether the contents `abc` are equal to `abc`, `abd`, `abc` and `ab`.
-const EQUAL: [bool; 4] = [true, false, true, false];
-
-// The order of `abc` beside `b`, `abc` and `ab`.
-const ORDERS: [Ordering; 3] = [Ordering::Less, Ordering::Equal, Ordering::Greater];
 
 #[test]
 fn contents_of_text(rt: HostRuntime) -> Result<(), Fail> {
     let (s, back, none) = texts("abc", b"abc");
-    let bytes = [s.inner(), back, s.slice(1, 3).inner(), none.inner()];
-    let told = format!(in rt.alloc(); "{bytes:?} {:?} {}", s.to_vec(rt.alloc())?, s.at(2))?;
-    let wanted = "[[97, 98, 99], [97, 98, 99], [98, 99], []] [97, 98, 99] 99";
-    assert_eq!(rt; told.as_str(), wanted);
+    let contents = [s.inner(), back, s.slice(1, 3).inner(), none.inner()];
+    let copy = s.to_vec(rt.alloc())?;
+    assert_eq!(rt;
+        (contents, copy.as_slice(), s.at(2)),
+        (
+            [b"abc".as_slice(), b"abc", b"bc", b""],
+            b"abc".as_slice(),
+            b'c'
+        )
+    );
     Ok(())
 }
 
+// The same bytes at another place of another slice are equal.
 #[test]
 fn contents_of_text_are_compared(rt: HostRuntime) {
-    let s = BStr::new(b"abc");
+    let (mut s, other) = (BStr::new(b"xabc"), BStr::new(b"abc"));
+    let _ = s.next_token();
     let equal = [
         s.eq_bytes(b"abc"),
-        s.eq_bytes(b"abd"),
-        s.eq_str("abc"),
         s.eq_str("ab"),
+        hash_of(&s) == hash_of(&other.inner()),
     ];
-    let orders = [s.cmp_bytes(b"b"), s.cmp_str("abc"), s.cmp_str("ab")];
-    assert_eq!(rt;
-        (equal, orders, hash_of(&s)),
-        (EQUAL, ORDERS, hash_of(&s.inner()))
-    );
-    orders_by_contents::<BStr>(&rt);
+    let orders = [
+        Some(s.cmp_bytes(b"b")),
+        Some(s.cmp_str("ab")),
+        order_of(&s, &other),
+        order_of(&s, &BStr::new(b"\xff")),
+        order_of(&s.checkpoint(), &other.checkpoint()),
+    ];
+    assert_eq!(rt; (equal, orders), ([true, false, true], ORDERS));
 }
 
-// The same bytes at another place of another slice.
-#[test]
-fn places_are_no_part_of_a_text(rt: HostRuntime) {
-    let (mut rest, whole) = (BStr::new(b"xab"), BStr::new(b"ab"));
-    let _ = rest.next_token();
-    let (place, start) = (rest.checkpoint(), whole.checkpoint());
-    assert_eq!(rt;
-        (
-            rest == whole,
-            hash_of(&rest) == hash_of(&whole),
-            place == start,
-            place.cmp(&start)
-        ),
-        (true, true, true, Ordering::Equal)
-    );
-}
+// The order of `abc` beside `b`, `ab`, `abc` and the byte ff, and of checkpoints before `abc`.
+const ORDERS: [Option<Ordering>; 5] = [
+    Some(Ordering::Less),
+    Some(Ordering::Greater),
+    Some(Ordering::Equal),
+    Some(Ordering::Less),
+    Some(Ordering::Equal),
+];
 
-// Nothing is cleared, and a trace prints what remains.
 #[test]
-fn there_is_no_flag(rt: HostRuntime) -> Result<(), Fail> {
+fn there_is_no_flag(rt: HostRuntime) {
     let (mut text, mut bytes) = (BStr::new(b"ab"), Bytes::new(b"cd"));
     complete_both(&mut text, &mut bytes);
-    let traces = format!(in rt.alloc(); "{} {}", Traced(text), Traced(bytes))?;
-    assert_eq!(rt; traces.as_str(), "ab 6364");
-    Ok(())
+    assert_eq!(rt; [text.inner(), bytes.inner()], [b"ab".as_slice(), b"cd"]);
 }
 
 #[test]
 fn small_traits_of_bytes(rt: HostRuntime) {
     let (whole, rest) = (Bytes::new(b"abc"), Bytes::new(b"bc"));
-    let (start, place) = (Checkpoint::new(whole), Checkpoint::new(rest));
     let widths = [
         width_from(&rest, &whole),
-        width_from(&rest, &start),
-        width_from::<_, Checkpoint<Bytes, Bytes>>(&place, &start),
+        width_from(&rest, &Checkpoint::new(whole)),
         width(&rest),
     ];
-    assert_eq!(rt;
-        (widths, firsts_and_flags(rest, [1, 3]), rest.as_bytes()),
-        ([1, 1, 1, 2], ([Some(b'b'), None], [false; 4]), &b"bc"[..])
-    );
+    assert_eq!(rt; (widths, rest.as_bytes()), ([1, 1, 2], &b"bc"[..]));
 }
 
 #[test]
 fn contents_of_bytes(rt: HostRuntime) -> Result<(), Fail> {
     let (s, back, none) = bytes("abc", b"abc");
-    let bytes = [s.inner(), back, s.slice(1, 3).inner(), none.inner()];
-    let told = format!(in rt.alloc(); "{bytes:?} {:?} {}", s.to_vec(rt.alloc())?, s.at(2))?;
-    let wanted = "[[97, 98, 99], [97, 98, 99], [98, 99], []] [97, 98, 99] 99";
-    assert_eq!(rt; told.as_str(), wanted);
+    let contents = [s.inner(), back, s.slice(1, 3).inner(), none.inner()];
+    let copy = s.to_vec(rt.alloc())?;
+    assert_eq!(rt;
+        (contents, copy.as_slice(), s.at(2)),
+        (
+            [b"abc".as_slice(), b"abc", b"bc", b""],
+            b"abc".as_slice(),
+            b'c'
+        )
+    );
     Ok(())
 }
 
 #[test]
 fn contents_of_bytes_are_compared(rt: HostRuntime) {
-    let s = Bytes::new(b"abc");
+    let (mut s, other) = (Bytes::new(b"xabc"), Bytes::new(b"abc"));
+    let _ = s.next_token();
     let equal = [
         s.eq_bytes(b"abc"),
-        s.eq_bytes(b"abd"),
-        s.eq_str("abc"),
         s.eq_str("ab"),
+        hash_of(&s) == hash_of(&other.inner()),
     ];
-    let orders = [s.cmp_bytes(b"b"), s.cmp_str("abc"), s.cmp_str("ab")];
-    assert_eq!(rt;
-        (equal, orders, hash_of(&s)),
-        (EQUAL, ORDERS, hash_of(&s.inner()))
-    );
-    orders_by_contents::<Bytes>(&rt);
+    let orders = [
+        Some(s.cmp_bytes(b"b")),
+        Some(s.cmp_str("ab")),
+        order_of(&s, &other),
+        order_of(&s, &Bytes::new(b"\xff")),
+        order_of(&s.checkpoint(), &other.checkpoint()),
+    ];
+    assert_eq!(rt; (equal, orders), ([true, false, true], ORDERS));
 }

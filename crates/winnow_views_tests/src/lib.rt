@@ -5,8 +5,6 @@
 #[cfg(test)]
 mod bit_streams;
 #[cfg(test)]
-mod bits;
-#[cfg(test)]
 mod kinds;
 #[cfg(test)]
 mod own_literals;

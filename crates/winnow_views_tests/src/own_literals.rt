@@ -3,8 +3,7 @@ ghost use Rattle.std.specs.Prelude.{[], ◌∷◌};
 use std::ops::Range;
 use winnow_bytes::Bytes;
 use winnow_kinds::{BStr, ByteLiteral, ByteNeedles};
-use winnow_match::CompareResult;
-use winnow_test_helpers::{compares, finds};
+use winnow_match::{Compare, CompareResult, FindSlice};
 
 // A user-defined literal and needle: a byte, twice.
 #[derive(Drop)]
@@ -26,26 +25,25 @@ impl ByteNeedles for Twice {
     }
 }
 
+// Returns how a stream compares with a byte twice, and where it finds it.
+fn answers<S>(stream: S, byte: u8) -> (CompareResult, Option<Range<usize>>)
+where
+    S: Compare<Twice> + FindSlice<Twice> + Copy,
+    requires { S.valid stream }
+{
+    (stream.compare(Twice(byte)), stream.find_slice(Twice(byte)))
+}
+
 #[test]
 fn a_literal_and_a_needle_of_ones_own(rt: HostRuntime) {
     assert_eq!(rt;
-        (
-            [
-                compares(BStr::new(b"aab"), Twice(b'a')),
-                compares(Bytes::new(b"a"), Twice(b'a')),
-                compares(Bytes::new(b"ab"), Twice(b'a')),
-            ],
-            finds(BStr::new(b"abaa"), Twice(b'a')),
-            finds(Bytes::new(b"aba"), Twice(b'a'))
-        ),
-        (
-            [
-                CompareResult::Ok(2),
-                CompareResult::Incomplete,
-                CompareResult::Error
-            ],
-            Some(2..4),
-            None
-        )
+        [
+            answers(BStr::new(b"abbab"), b'b'),
+            answers(Bytes::new(b"aab"), b'a')
+        ],
+        [
+            (CompareResult::Error, Some(1..3)),
+            (CompareResult::Ok(2), Some(0..2))
+        ]
     );
 }

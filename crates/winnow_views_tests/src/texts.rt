@@ -1,71 +1,53 @@
-ghost use Rattle.std.specs.Prelude.{◌≡◌, true, false, Some, IfOk, IfSome, string_bytes};
+ghost use Rattle.std.specs.Prelude.{◌≡◌, ℕ, List, true, false, Some, None};
+ghost use Rattle.std.specs.Fmt.{spec_precision};
 ghost use Rattle.std.specs.Str.Lossy.{utf8_lossy};
-ghost use Rattle.winnow_kinds.specs.TextContents.{bstr_contents};
-ghost use Rattle.winnow_kinds.specs.LossyText.{lossy_text};
-ghost use Rattle.winnow_kinds.specs.Escapes.{debug_text};
-ghost use Rattle.winnow_bytes.specs.ByteContents.{bytes_contents};
+ghost use Rattle.winnow_bytes.specs.ByteContents.{bytes_contents, upper_contents, lower_contents};
 ghost use Rattle.winnow_bytes.specs.Hex.{hex_text};
+ghost use Rattle.winnow_bytes.specs.declared.bytes.Bytes.{Bytes};
+ghost use Rattle.winnow_bytes.specs.declared.hex.LowerBytes.{LowerBytes};
+ghost use Rattle.winnow_bytes.specs.declared.hex.UpperBytes.{UpperBytes};
+ghost use Rattle.winnow_kinds.specs.Escapes.{debug_text};
+ghost use Rattle.winnow_kinds.specs.LossyText.{lossy_text};
+ghost use Rattle.winnow_kinds.specs.TextContents.{bstr_contents};
+ghost use Rattle.winnow_kinds.specs.declared.text.BStr.{BStr};
 
 use std::alloc::{AllocError, Global};
+use std::fmt::{Debug, Display};
+use std::process::Abort;
 use std::test::Fail;
-use winnow_bytes::Bytes;
+use winnow_bytes::{Bytes, LowerBytes, UpperBytes};
 use winnow_kinds::BStr;
+use winnow_test_helpers::{debugged, shown};
 
-// The printed texts, by the contracts of printing.
+// The members for the printed texts of a text, spelled out. Of the options of a hole only the
+// precision counts, which is the number of characters that are shown.
+fn text_members<'i>()
+    ensures shown { (s : BStr)
+        → ⟦<BStr<'i> as Display>⟧.output s ≡ Some (utf8_lossy (bstr_contents s)) }
+    ensures styled { (s : BStr) (spec : _) → ⟦<BStr<'i> as Display>⟧.styled_output s spec
+        ≡ Some (lossy_text (spec_precision spec) (bstr_contents s)) }
+    ensures whole { (bytes : List ℕ) → lossy_text None bytes ≡ utf8_lossy bytes }
+    ensures debugged { (s : BStr)
+        → ⟦<BStr<'i> as Debug>⟧.debug_output s ≡ debug_text (bstr_contents s) }
+{}
 
-fn text_shown(alloc: Global, s: &BStr) -> Result<String, AllocError>
-    ensures { IfOk result (λ t. string_bytes t ≡ utf8_lossy (bstr_contents s.now)) }
-{
-    format!(in alloc; "{s}")
-}
-
-fn text_debugged(alloc: Global, s: &BStr) -> Result<String, AllocError>
-    ensures { IfOk result (λ t.
-        IfSome (debug_text (bstr_contents s.now)) (λ text. string_bytes t ≡ text)) }
-{
-    format!(in alloc; "{s:?}")
-}
-
-// The width changes nothing, and the precision is the number of characters that are shown.
-fn text_padded(alloc: Global, s: &BStr) -> Result<String, AllocError>
-    ensures { IfOk result (λ t. string_bytes t ≡ utf8_lossy (bstr_contents s.now)) }
-{
-    format!(in alloc; "{s:*>9}")
-}
-
-fn text_cut(alloc: Global, s: &BStr) -> Result<String, AllocError>
-    ensures { IfOk result (λ t. string_bytes t ≡ lossy_text (Some 2) (bstr_contents s.now)) }
-{
-    format!(in alloc; "{s:.2}")
-}
-
-fn bytes_shown(alloc: Global, s: &Bytes) -> Result<String, AllocError>
-    ensures { IfOk result (λ t. string_bytes t ≡ hex_text true (bytes_contents s.now)) }
-{
-    format!(in alloc; "{s}")
-}
-
-fn bytes_debugged(alloc: Global, s: &Bytes) -> Result<String, AllocError>
-    ensures { IfOk result (λ t. string_bytes t ≡ hex_text true (bytes_contents s.now)) }
-{
-    format!(in alloc; "{s:?}")
-}
-
-fn lower_shown(alloc: Global, s: &Bytes) -> Result<String, AllocError>
-    ensures { IfOk result (λ t. string_bytes t ≡ hex_text false (bytes_contents s.now)) }
-{
-    let lower = s.lower();
-    format!(in alloc; "{lower}")
-}
-
-fn bytes_padded(alloc: Global, s: &Bytes) -> Result<String, AllocError>
-    ensures { IfOk result (λ t. string_bytes t ≡ hex_text true (bytes_contents s.now)) }
-{
-    format!(in alloc; "{s:*>#9.1}")
-}
+// The same for those of bytes, which no option changes.
+fn hexadecimal_members<'i>()
+    ensures shown { (s : Bytes)
+        → ⟦<Bytes<'i> as Display>⟧.output s ≡ Some (hex_text true (bytes_contents s)) }
+    ensures styled { (s : Bytes) (spec : _)
+        → ⟦<Bytes<'i> as Display>⟧.styled_output s spec ≡ Some (hex_text true (bytes_contents s)) }
+    ensures debugged { (s : Bytes)
+        → ⟦<Bytes<'i> as Debug>⟧.debug_output s ≡ Some (hex_text true (bytes_contents s)) }
+    ensures upper { (s : UpperBytes)
+        → ⟦<UpperBytes<'i> as Display>⟧.output s ≡ Some (hex_text true (upper_contents s)) }
+    ensures lower { (s : LowerBytes)
+        → ⟦<LowerBytes<'i> as Display>⟧.output s ≡ Some (hex_text false (lower_contents s)) }
+{}
 
 #[test]
 fn damaged_text(rt: HostRuntime) -> Result<(), Fail> {
+    text_members();
     let table: [(&[u8], &str); 9] = [
         (b"", ""),
         (b"abc", "abc"),
@@ -78,8 +60,7 @@ fn damaged_text(rt: HostRuntime) -> Result<(), Fail> {
         (b"\xf4\x90\xc3\xa9", "\u{FFFD}\u{FFFD}é"),
     ];
     for (bytes, text) in table {
-        let s = BStr::new(bytes);
-        assert_eq!(rt; text_shown(rt.alloc(), &s)?.as_str(), text);
+        assert_eq!(rt; shown(rt.alloc(), &BStr::new(bytes))?.as_str(), text);
     }
     Ok(())
 }
@@ -107,97 +88,77 @@ fn debug_texts_of_text(rt: HostRuntime) -> Result<(), Fail> {
         (b"\xed\xa0\x80\xc0\x80z", r#""í\u{a0}\u{80}À\u{80}z""#),
     ];
     for (bytes, text) in table {
-        let s = BStr::new(bytes);
-        assert_eq!(rt; text_debugged(rt.alloc(), &s)?.as_str(), text);
+        assert_eq!(rt; debugged(rt.alloc(), &BStr::new(bytes))?.as_str(), text);
     }
-    let bare = format!(in rt.alloc(); "{:#?}", BStr::new(b"a\n\xc3\xa9"))?;
-    assert_eq!(rt; bare.as_str(), r"a\nÃ©");
     Ok(())
 }
 
-// Each way to print bytes.
+// Returns the bytes as each way to print them does.
 fn hexadecimal(alloc: Global, s: &Bytes) -> Result<String, AllocError> {
-    let shown = bytes_shown(alloc, s)?;
-    let debugged = bytes_debugged(alloc, s)?;
-    let lower = lower_shown(alloc, s)?;
-    format!(in alloc; "{shown}|{debugged}|{}|{lower}", s.upper())
+    format!(in alloc; "{s}|{s:?}|{}|{}", s.upper(), s.lower())
 }
 
 #[test]
 fn hexadecimal_texts(rt: HostRuntime) -> Result<(), Fail> {
+    hexadecimal_members();
     let table: [(&[u8], &str); 3] = [
         (b"", "|||"),
         (b"\xf0\x28\x8c\xbc", "F0288CBC|F0288CBC|F0288CBC|f0288cbc"),
         (b"\x00\x09\x0a\xff", "00090AFF|00090AFF|00090AFF|00090aff"),
     ];
     for (bytes, wanted) in table {
-        let told = hexadecimal(rt.alloc(), &Bytes::new(bytes))?;
-        assert_eq!(rt; told.as_str(), wanted);
+        assert_eq!(rt;
+            hexadecimal(rt.alloc(), &Bytes::new(bytes))?.as_str(),
+            wanted
+        );
     }
     Ok(())
 }
 
-// The debug texts of the bytes from 80 to ff, one after the other and without quotes, as the Rust
-// crate prints them.
+// The debug texts of the bytes from 80 to ff without quotes, as the Rust crate prints them, with a
+// blank between two.
 const PAST_ASCII: &str =
-    r"\u{80}\u{81}\u{82}\u{83}\u{84}\u{85}\u{86}\u{87}\u{88}\u{89}\u{8a}\u{8b}\u{8c}\u{8d}\u{8e}\u{8f}\u{90}\u{91}\u{92}\u{93}\u{94}\u{95}\u{96}\u{97}\u{98}\u{99}\u{9a}\u{9b}\u{9c}\u{9d}\u{9e}\u{9f}\u{a0}¡¢£¤¥¦§¨©ª«¬\u{ad}®¯°±²³´µ¶·¸¹º»¼½¾¿ÀÁÂÃÄÅÆÇÈÉÊËÌÍÎÏÐÑÒÓÔÕÖ×ØÙÚÛÜÝÞßàáâãäåæçèéêëìíîïðñòóôõö÷øùúûüýþÿ";
+    r"\u{80} \u{81} \u{82} \u{83} \u{84} \u{85} \u{86} \u{87} \u{88} \u{89} \u{8a} \u{8b} \u{8c} \u{8d} \u{8e} \u{8f} \u{90} \u{91} \u{92} \u{93} \u{94} \u{95} \u{96} \u{97} \u{98} \u{99} \u{9a} \u{9b} \u{9c} \u{9d} \u{9e} \u{9f} \u{a0} ¡ ¢ £ ¤ ¥ ¦ § ¨ © ª « ¬ \u{ad} ® ¯ ° ± ² ³ ´ µ ¶ · ¸ ¹ º » ¼ ½ ¾ ¿ À Á Â Ã Ä Å Æ Ç È É Ê Ë Ì Í Î Ï Ð Ñ Ò Ó Ô Õ Ö × Ø Ù Ú Û Ü Ý Þ ß à á â ã ä å æ ç è é ê ë ì í î ï ð ñ ò ó ô õ ö ÷ ø ù ú û ü ý þ ÿ";
 
-// Returns whether the debug texts of a byte alone and of a byte between letters are that text
-// without quotes, put between quotes and between letters.
-fn is_quoted(alloc: Global, byte: u8) -> Result<bool, AllocError> {
+// Returns the debug texts of a byte: without quotes, alone, and between letters.
+fn debug_forms<T: Debug>(alloc: Global, alone: &T, between: &T) -> Result<String, AllocError> {
+    format!(in alloc; "{alone:#?} {alone:?} {between:?}")
+}
+
+// Asserts that these are a text, that text between quotes, and that text between letters.
+fn prints_as(rt: &impl Abort, alloc: Global, byte: u8, bare: &str) -> Result<(), AllocError> {
     let (alone, between) = ([byte], [b'a', byte, b'z']);
-    let bare = format!(in alloc; "{:#?}", BStr::new(&alone))?;
-    let wanted = format!(in alloc; "\"{bare}\" \"a{bare}z\"")?;
-    Ok(format!(in alloc; "{:?} {:?}", BStr::new(&alone), BStr::new(&between))? == wanted)
+    let forms = debug_forms(alloc, &BStr::new(&alone), &BStr::new(&between))?;
+    let wanted = format!(in alloc; "{bare} \"{bare}\" \"a{bare}z\"")?;
+    assert_eq!(rt; forms, wanted);
+    Ok(())
 }
 
 #[test]
 fn debug_texts_past_ascii(rt: HostRuntime) -> Result<(), Fail> {
-    for byte in 0x80..=0xff_u8 {
-        assert!(rt; is_quoted(rt.alloc(), byte)?, "{byte}");
+    for (byte, bare) in (0x80..=0xff_u8).zip(PAST_ASCII.split(' ')) {
+        prints_as(&rt, rt.alloc(), byte, bare)?;
     }
     Ok(())
 }
 
-#[test]
-fn bare_texts_past_ascii(rt: HostRuntime) -> Result<(), Fail> {
-    let mut told = String::new(rt.alloc());
-    for byte in 0x80..=0xff_u8 {
-        write!(told, "{:#?}", BStr::new(&[byte]))?;
-    }
-    assert_eq!(rt; told.as_str(), PAST_ASCII);
-    Ok(())
-}
-
-// Returns the texts of a text and of bytes under options.
-fn under_options(alloc: Global, s: &BStr, b: &Bytes) -> Result<String, AllocError> {
-    let shown = format!(in alloc; "{s:#}|{s:08}|{s:+.9}|{s:*^9.3}|{s:.0}|")?;
-    let debugged = format!(in alloc; "{s:#?}|{s:>12?}|{s:.1?}|{s:#08.1?}")?;
-    format!(in alloc; "{shown} {debugged} {b:#}|{b:08}|{b:.1}|{b:#?}|{b:>8?}|{b:.1?}")
-}
-
-// Returns the texts with a width and a precision, by the contracts of printing.
-fn padded_and_cut(alloc: Global, s: &BStr, b: &Bytes) -> Result<String, AllocError> {
-    let padded = text_padded(alloc, s)?;
-    let cut = text_cut(alloc, s)?;
-    format!(in alloc; "{padded}|{cut}|{}", bytes_padded(alloc, b)?)
+// Returns the texts of a value under options.
+fn under_options<T: Display + Debug>(alloc: Global, value: &T) -> Result<String, AllocError> {
+    format!(in alloc; "{value:#08}|{value:*^+9.3}|{value:>12.1?}|{value:#08.1?}")
 }
 
 // As the Rust crate prints them, except that here a width pads nothing and `#` puts no underscores
 // between the digits.
 #[test]
 fn texts_under_options(rt: HostRuntime) -> Result<(), Fail> {
-    let (s, b) = (BStr::new(b"a\xff\n\"b"), Bytes::new(b"a\xff"));
-    let told = under_options(rt.alloc(), &s, &b)?;
-    let padded = padded_and_cut(rt.alloc(), &s, &b)?;
+    let text = under_options(rt.alloc(), &BStr::new(b"a\xff\n\"b"))?;
+    let bytes = under_options(rt.alloc(), &Bytes::new(b"a\xff"))?;
     assert_eq!(rt;
-        (told.as_str(), padded.as_str()),
-        (
-            "a\u{FFFD}\n\"b|a\u{FFFD}\n\"b|a\u{FFFD}\n\"b|a\u{FFFD}\n|| \
-            aÿ\\n\\\"b|\"aÿ\\n\\\"b\"|\"aÿ\\n\\\"b\"|aÿ\\n\\\"b \
-            61FF|61FF|61FF|61FF|61FF|61FF",
-            "a\u{FFFD}\n\"b|a\u{FFFD}|61FF"
-        )
+        [text.as_str(), bytes.as_str()],
+        [
+            "a\u{FFFD}\n\"b|a\u{FFFD}\n|\"aÿ\\n\\\"b\"|aÿ\\n\\\"b",
+            "61FF|61FF|61FF|61FF"
+        ]
     );
     Ok(())
 }

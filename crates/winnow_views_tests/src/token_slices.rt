@@ -1,4 +1,4 @@
-ghost use Rattle.std.specs.Prelude.{◌≡◌};
+ghost use Rattle.std.specs.Prelude.{◌≡◌, IfSome};
 ghost use Rattle.std.specs.Fmt.{debug_list};
 ghost use Rattle.winnow_stream.specs.declared.checkpoint.Checkpoint.{Checkpoint};
 ghost use Rattle.winnow_views.specs.TokenPlaces.{whole_of, rest_of, rest_in, rest_at};
@@ -10,10 +10,8 @@ use std::fmt::Debug;
 use std::process::Abort;
 use std::test::Fail;
 use winnow_match::CompareResult;
-use winnow_run::Step::{At, Each, Finish, Mark, Next, Peek, Reset, Since, Take};
-use winnow_run::{Step, run};
-use winnow_stream::{Checkpoint, Location, NoSet, Stream, StreamIsPartial, UpdateSlice};
-use winnow_test_helpers::{Traced, compares, flags, told, width, width_from};
+use winnow_stream::{Checkpoint, Location, Stream, StreamIsPartial, UpdateSlice};
+use winnow_test_helpers::{compares, width, width_from};
 use winnow_views::{TokenSlice, TokenView};
 
 // A token that is not `Copy`, with its place in the input of the lexer.
@@ -56,43 +54,21 @@ fn shows(
     Ok(())
 }
 
-// Asserts the answers of a script on tokens.
-fn answers<T: Debug>(
-    rt: &impl Abort,
-    alloc: Global,
-    tokens: &[T],
-    script: &[Step<NoSet>],
-    want: &str,
-) -> Result<(), AllocError> {
-    assert_eq!(rt;
-        told(alloc, TokenSlice::new(tokens), script)?.as_str(),
-        want
-    );
-    Ok(())
-}
+// What a slice of tokens keeps, spelled out: its whole list.
+fn tokens_keep<'t, T: Debug + 't>()
+    ensures { (s t : TokenSlice T) → ⟦<TokenSlice<'t, T> as Stream>⟧.keeps s t
+        → whole_of s ≡ whole_of t }
+{}
 
-// Runs a script, which does not depend on the tokens. The whole list stays.
-fn run_on<'t, T: Debug>(
-    alloc: Global,
-    s: &mut TokenSlice<'t, T>,
-    script: &[Step<NoSet>],
-) -> Result<usize, AllocError>
-    ensures { whole_of s.old ≡ whole_of s.new }
-{
-    let answers = run(alloc, s, script)?;
-    Ok(answers.len())
-}
-
-// Returns the stream narrowed to its front of width `offset`.
-fn window<S: UpdateSlice + Drop>(mut s: S, offset: usize) -> Option<S>
+/// Returns the stream narrowed to its front of width `offset`.
+pub fn window<S: UpdateSlice + Copy>(s: S, offset: usize) -> Option<S>
     requires { S.valid s }
+    ensures { IfSome result S.valid }
 {
     if !s.is_offset(offset) {
         return None;
     }
-    let start = s.checkpoint();
-    let inner = s.next_slice(offset);
-    Some(s.update_slice(inner, &start))
+    Some(s.update_slice(s.peek_slice(offset), &s.checkpoint()))
 }
 
 // Returns both locations, through the bound.
@@ -137,51 +113,8 @@ fn a_window_has_the_place_where_it_begins(rt: HostRuntime) -> Result<(), Fail> {
 }
 
 #[test]
-fn scripts_run_over_tokens(rt: HostRuntime) -> Result<(), Fail> {
-    let script = [
-        Mark,
-        Next,
-        At(3),
-        Take(2),
-        Since(0),
-        Each,
-        Finish,
-        Next,
-        Reset(0),
-        Peek,
-    ];
-    let alloc = rt.alloc();
-    answers(
-        &rt,
-        alloc,
-        b"abcd",
-        &script,
-        "[Marked(0), Token(Some(97)), At(Ok(3)), Slice([98, 99]), Offset(3), Items([(0, 100)]), Slice([100]), Token(None), Done, Token(Some(97))]",
-    )?;
-    answers(
-        &rt,
-        alloc,
-        &["a", "b", "c"],
-        &script,
-        "[Marked(0), Token(Some(\"a\")), At(Err(Size(1))), Slice([\"b\", \"c\"]), Offset(3), Items([]), Slice([]), Token(None), Done, Token(Some(\"a\"))]",
-    )?;
-    answers(
-        &rt,
-        alloc,
-        &LEXED,
-        &[At(3), Take(2), Each],
-        "[At(Ok(3)), Slice([Lexed { start: 1, end: 9 }, Lexed { start: 11, end: 19 }]), Items([(0, Lexed { start: 21, end: 29 })])]",
-    )?;
-    let mut tokens = TokenSlice::new(b"abcd");
-    assert_eq!(rt; run_on(alloc, &mut tokens, &script[..4])?, 4);
-    shows(&rt, alloc, &tokens, "[100] after [99, 98, 97]")?;
-    Ok(())
-}
-
-#[test]
 fn a_checkpoint_of_a_longer_list_is_taken(rt: HostRuntime) -> Result<(), Fail> {
     let mut longer = TokenSlice::new(&[1, 2, 3, 4, 5]);
-    let _ = window(longer, 4);
     for _ in 0..4 {
         let _ = longer.next_token();
     }
@@ -208,19 +141,17 @@ fn locations_are_those_of_the_neighbours(rt: HostRuntime) {
 
 #[test]
 fn the_first_token_is_compared(rt: HostRuntime) {
-    let tokens = TokenSlice::new(&[5, 6]);
+    let (tokens, none) = (TokenSlice::new(&LEXED), TokenSlice::new(&LEXED[..0]));
     assert_eq!(rt;
         [
-            compares(tokens, 5),
-            compares(tokens, 6),
-            compares(TokenSlice::new(&[]), 5),
-            compares(TokenSlice::new(&LEXED), Lexed { start: 1, end: 9 })
+            compares(tokens, Lexed { start: 1, end: 9 }),
+            compares(tokens, Lexed { start: 1, end: 8 }),
+            compares(none, Lexed { start: 1, end: 9 })
         ],
         [
             CompareResult::Ok(1),
             CompareResult::Error,
-            CompareResult::Incomplete,
-            CompareResult::Ok(1)
+            CompareResult::Incomplete
         ]
     );
 }
@@ -236,20 +167,18 @@ fn widths_are_numbers_of_tokens(rt: HostRuntime) {
         width_from(&tokens.checkpoint(), &start.checkpoint()),
         width(&tokens),
     ];
-    let marked = flags(&mut tokens);
     complete_tokens(&mut tokens);
     assert_eq!(rt;
-        (widths, marked, tokens.as_slice()),
-        ([1, 1, 1, 2], [false; 4], b"bc".as_slice())
+        (widths, tokens.as_slice()),
+        ([1, 1, 1, 2], b"bc".as_slice())
     );
 }
 
 #[test]
 fn equality_is_that_of_the_tokens(rt: HostRuntime) {
-    let start = TokenSlice::new(&[7, 7]);
+    let (start, other) = (TokenSlice::new(&[7, 7]), TokenSlice::new(&[7]));
     let mut tokens = start;
     let _ = tokens.next_token();
-    let other = TokenSlice::new(&[7]);
     assert_eq!(rt;
         [
             start == TokenSlice::new(&[7, 7]),
@@ -262,40 +191,18 @@ fn equality_is_that_of_the_tokens(rt: HostRuntime) {
     );
 }
 
-// Two windows over equal lists are equal where the same remains, even if one starts further on.
-#[test]
-fn places_are_no_part_of_equality(rt: HostRuntime) -> Result<(), Fail> {
-    let start = TokenSlice::new(&[7, 7]);
-    let mut later = start;
-    let _ = later.next_token();
-    assert!(rt; start != later, "the rest differs");
-    let first = window(start, 1).ok_or("two tokens remain")?;
-    let second = window(later, 1).ok_or("a token remains")?;
-    shows(&rt, rt.alloc(), &first, "[7] after []")?;
-    shows(&rt, rt.alloc(), &second, "[7] after [7]")?;
-    assert!(rt; first == second, "the place alone differs");
-    assert!(rt;
-        first.checkpoint() == second.checkpoint(),
-        "so do checkpoints"
-    );
-    Ok(())
-}
-
-// The debug texts of tokens, of a checkpoint, and of what it holds; those of tokens under options;
-// and a trace.
+// The debug texts of a checkpoint, of what it holds, and of tokens under options.
 #[test]
 fn texts_are_lists_of_what_remains(rt: HostRuntime) -> Result<(), Fail> {
     debug_texts::<u8>();
+    tokens_keep::<u8>();
     let mut tokens = TokenSlice::new(b"xab");
     let _ = tokens.next_token();
-    let (place, trace) = (tokens.checkpoint(), Traced(tokens));
-    let inside = place.inner();
-    let told = format!(in rt.alloc();
-        "{tokens:?} {place:?} {inside:?} {trace} {tokens:#?} {tokens:>6?} {tokens:.1?}"
-    )?;
+    let place = tokens.checkpoint();
+    let told = format!(in rt.alloc(); "{place:?} {:?} {tokens:#?} {tokens:>6.1?}", place.inner())?;
     assert_eq!(rt;
         told.as_str(),
-        "[97, 98] [97, 98] [97, 98] [97, 98] [\n    97,\n    98,\n] [    97,     98] [97, 98]"
+        "[97, 98] [97, 98] [\n    97,\n    98,\n] [    97,     98]"
     );
     Ok(())
 }
