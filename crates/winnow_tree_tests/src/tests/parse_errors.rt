@@ -1,26 +1,24 @@
 use crate::failing::fail_at;
 use std::alloc::{AllocError, Global};
 use std::fmt::Display;
-use std::process::Abort;
 use std::test::Fail;
 use winnow_error::{EmptyError, InputError};
 use winnow_parse_error::{ParseError, translate_position};
 
-// A parse of bytes that failed.
-type AtBytes = ParseError<&'static [u8], EmptyError>;
-
-// The same of a text.
+// A parse of a text that failed.
 type AtText = ParseError<&'static str, InputError<&'static str>>;
 
-// Asserts the text of an error.
-fn prints<T: Display>(
-    rt: &impl Abort,
+// Returns the error of a parse of bytes.
+fn failed(
     alloc: Global,
-    error: &T,
-    wanted: &str,
-) -> Result<(), AllocError> {
-    assert_eq!(rt; format!(in alloc; "{error}")?.as_str(), wanted);
-    Ok(())
+    bytes: &'static [u8],
+    offset: usize,
+) -> ParseError<&'static [u8], EmptyError> {
+    fail_at(alloc, bytes, offset)
+}
+
+fn shown<T: Display>(alloc: Global, error: &T) -> Result<String, AllocError> {
+    format!(in alloc; "{error}")
 }
 
 #[test]
@@ -50,45 +48,38 @@ fn texts_of_parse_errors(rt: HostRuntime) -> Result<(), Fail> {
         (b"\xe2\x82", 1, "\u{FFFD}\n ^\nfailed to parse"),
     ];
     for (bytes, offset, wanted) in rows {
-        let error: AtBytes = fail_at(rt.alloc(), bytes, offset);
-        prints(&rt, rt.alloc(), &error, wanted)?;
+        let text = shown(rt.alloc(), &failed(rt.alloc(), bytes, offset))?;
+        assert_eq!(rt; text.as_str(), wanted);
     }
     Ok(())
 }
 
 #[test]
-fn the_text_of_a_parse_error_over_a_text(rt: HostRuntime) -> Result<(), Fail> {
-    let wanted = "0xZ123\n  ^\nfailed to parse starting at: Z123";
-    let error: AtText = fail_at(rt.alloc(), "0xZ123", 2);
-    prints(&rt, rt.alloc(), &error, wanted)?;
-    Ok(())
-}
-
-#[test]
 fn spans(rt: HostRuntime) {
+    let word = "βèƒôřè".as_bytes();
     let rows: [(&[u8], usize, usize, usize); 8] = [
-        ("βèƒôřè".as_bytes(), 0, 0, 2),
-        ("βèƒôřè".as_bytes(), 1, 0, 2),
-        ("βèƒôřè".as_bytes(), 2, 2, 4),
-        ("βèƒôřè".as_bytes(), 11, 10, 12),
-        ("βèƒôřè".as_bytes(), 12, 12, 12),
+        (word, 0, 0, 2),
+        (word, 1, 0, 2),
+        (word, 2, 2, 4),
+        (word, 11, 10, 12),
+        (word, 12, 12, 12),
         (b"\x80\x80a", 1, 0, 2),
         (b"\x80\x80a", 2, 2, 3),
         (b"\x80\x80a", 3, 3, 3),
     ];
     for (bytes, offset, start, end) in rows {
-        let error: AtBytes = fail_at(rt.alloc(), bytes, offset);
-        let span = error.char_span();
+        let span = failed(rt.alloc(), bytes, offset).char_span();
         assert_eq!(rt; (span.start, span.end), (start, end), "at {offset}");
     }
 }
 
 #[test]
 fn positions(rt: HostRuntime) {
+    let text = "a\nééb".as_bytes();
     let rows: [(&[u8], usize, (usize, usize)); 6] = [
-        ("a\nééb".as_bytes(), 4, (1, 2)),
-        ("a\nééb".as_bytes(), 5, (1, 1)),
-        ("a\nééb".as_bytes(), 6, (1, 2)),
+        (text, 4, (1, 2)),
+        (text, 5, (1, 1)),
+        (text, 6, (1, 2)),
         (b"", 0, (0, 0)),
         (b"Hello", 5, (0, 5)),
         (b"a\nb", usize::MAX, (1, usize::MAX - 2)),
@@ -99,11 +90,17 @@ fn positions(rt: HostRuntime) {
 }
 
 #[test]
-fn what_a_parse_error_holds(rt: HostRuntime) {
-    let error: AtText = fail_at(rt.alloc(), "abc", 1);
+fn what_a_parse_error_holds(rt: HostRuntime) -> Result<(), Fail> {
+    let error: AtText = fail_at(rt.alloc(), "0xZ123", 2);
+    let text = shown(rt.alloc(), &error)?;
+    assert_eq!(rt;
+        text.as_str(),
+        "0xZ123\n  ^\nfailed to parse starting at: Z123"
+    );
     let (input, offset, inner) = (*error.input(), error.offset(), error.inner().input);
     assert_eq!(rt;
         (input, offset, inner, error.into_inner().input),
-        ("abc", 1, "bc", "bc")
+        ("0xZ123", 2, "Z123", "Z123")
     );
+    Ok(())
 }

@@ -3,6 +3,10 @@ use std::test::Fail;
 use winnow_context::StrContext::Label;
 use winnow_tree::{TreeErrorBase, TreeErrorContext};
 
+pub fn width_of(text: String) -> usize {
+    text.len()
+}
+
 // Returns the text of a base, and its text after its input is owned and replaced by its length.
 fn base_texts(alloc: Global) -> Result<String, AllocError> {
     let base = TreeErrorBase {
@@ -10,7 +14,7 @@ fn base_texts(alloc: Global) -> Result<String, AllocError> {
         cause: Some(String::from_str(alloc, "bad digit")?),
     };
     let text = base.text(alloc)?;
-    let width = base.into_owned(alloc)?.map_input(|text: String| text.len());
+    let width = base.into_owned(alloc)?.map_input(width_of);
     let mapped = width.text(alloc)?;
     format!(in alloc; "{text}, {mapped}")
 }
@@ -22,20 +26,20 @@ fn context_texts(alloc: Global) -> Result<String, AllocError> {
         context: Label("digits"),
     };
     let text = told.text(alloc)?;
-    let width = told.into_owned(alloc)?.map_input(|text: String| text.len());
+    let width = told.into_owned(alloc)?.map_input(width_of);
     let mapped = width.text(alloc)?;
     format!(in alloc; "{text}, {mapped}")
 }
 
 #[test]
 fn texts_of_parts(rt: HostRuntime) -> Result<(), Fail> {
+    let (base, told) = (base_texts(rt.alloc())?, context_texts(rt.alloc())?);
     assert_eq!(rt;
-        base_texts(rt.alloc())?.as_str(),
-        "caused by bad digit at '12x', caused by bad digit at '3'"
-    );
-    assert_eq!(rt;
-        context_texts(rt.alloc())?.as_str(),
-        "invalid digits at '12x', invalid digits at '3'"
+        [base.as_str(), told.as_str()],
+        [
+            "caused by bad digit at '12x', caused by bad digit at '3'",
+            "invalid digits at '12x', invalid digits at '3'"
+        ]
     );
     Ok(())
 }

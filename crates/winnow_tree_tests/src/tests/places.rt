@@ -1,27 +1,14 @@
 use crate::failing::fail_with;
+use crate::tests::trees::{Shape, tree};
 use std::alloc::{AllocError, Global};
 use std::test::Fail;
-use winnow_context::StrContext;
-use winnow_context::StrContext::Label;
-use winnow_error::{AddContext, ParserError};
-use winnow_stream::Stream;
-use winnow_tree::TreeError;
-
-type Tree = TreeError<&'static str, StrContext>;
 
 const TEXT: &str = "a = 1\nb = ?";
-
-// Returns the error of an alternative of that name, at what remains of the text.
-fn failed(alloc: Global, rest: &'static str, name: &'static str) -> Result<Tree, AllocError> {
-    let start = rest.checkpoint();
-    Tree::from_input(alloc, &rest).add_context(alloc, &rest, &start, Label(name))
-}
 
 // Returns the text of a whole parse that failed at the question mark, in each of two alternatives.
 fn shown(alloc: Global) -> Result<String, AllocError> {
     let rest = TEXT.get(10..).unwrap_or("");
-    let tree = failed(alloc, rest, "number")?.or(alloc, failed(alloc, rest, "word")?)?;
-    let error = fail_with(TEXT, 10, tree);
+    let error = fail_with(TEXT, 10, tree(alloc, Shape::BothTold, [rest, rest, ""])?);
     let reasons = error.inner().text(alloc)?;
     error.text_with(alloc, reasons.as_str())
 }

@@ -1,4 +1,5 @@
 use crate::failing::joined;
+use crate::tests::parts::width_of;
 use std::alloc::{AllocError, Global};
 use std::test::Fail;
 use winnow_context::StrContext;
@@ -8,20 +9,60 @@ use winnow_error::{
     AddContext, ErrMode, ErrorConvert, FromExternalError, InputError, OrTree, ParserError,
 };
 use winnow_stream::Stream;
-use winnow_tree::{TreeError, combine_trees, tree_bracket_law, tree_or_law};
+use winnow_tree::{TreeError, TreeErrorBase, combine_trees, tree_bracket_law, tree_or_law};
 use winnow_views::Bits;
 
-type Tree<'i> = TreeError<&'i str, StrContext>;
+/// An error at texts.
+pub type Tree<'i> = TreeError<&'i str, StrContext>;
 
-// The ways to make an error of up to three inputs.
+/// The ways to make an error of up to three inputs.
 #[derive(Clone, Copy)]
-enum Shape {
+pub enum Shape {
     Alone,
     FromLeft,
     FromRight,
     BesideTold,
+    BothTold,
     CausedAndAppended,
     UnderItsStart,
+    AfterItsStart,
+}
+
+// Returns the error of a parser of that name which failed where it began.
+fn told<I: Stream, E: ParserError<I> + AddContext<I, StrContext>>(
+    alloc: Global,
+    input: &I,
+    name: &'static str,
+) -> Result<E, AllocError>
+    requires { I.valid input.now }
+{
+    let start = input.checkpoint();
+    E::from_input(alloc, input).add_context(alloc, input, &start, Label(name))
+}
+
+// Returns an error in one of the shapes of no alternatives.
+fn framed<I: Stream, E>(alloc: Global, shape: Shape, first: &I, second: &I) -> Result<E, AllocError>
+where
+    E: ParserError<I> + AddContext<I, StrContext> + FromExternalError<I, String>,
+    requires first { I.valid first.now }
+    requires second { I.valid second.now }
+{
+    let start = first.checkpoint();
+    match shape {
+        Shape::CausedAndAppended => {
+            let cause = String::from_str(alloc, "bad digit")?;
+            E::from_external_error(alloc, first, cause).append(alloc, first, &start)
+        }
+        Shape::UnderItsStart => {
+            let frame = E::from_input(alloc, first).append(alloc, first, &start)?;
+            frame.add_context(alloc, first, &start, Label("x"))
+        }
+        Shape::AfterItsStart => {
+            let later = E::from_input(alloc, second).append(alloc, second, &start)?;
+            later.add_context(alloc, second, &start, Label("a"))
+        }
+        _ => Ok(E::from_input(alloc, first)),
+    }
 }
 
 fn shaped<I: Stream, E>(
@@ -36,37 +77,28 @@ where
     requires first { I.valid first.now }
     requires second { I.valid second.now }
 {
-    let (start, other) = (first.checkpoint(), second.checkpoint());
-    let error = E::from_input(alloc, first);
     match shape {
-        Shape::Alone => Ok(error),
         Shape::FromLeft => {
-            let left = error.or(alloc, E::from_input(alloc, second))?;
+            let left = E::from_input(alloc, first).or(alloc, E::from_input(alloc, second))?;
             left.or(alloc, E::from_input(alloc, third))
         }
         Shape::FromRight => {
             let right = E::from_input(alloc, second).or(alloc, E::from_input(alloc, third))?;
-            error.or(alloc, right)
+            E::from_input(alloc, first).or(alloc, right)
         }
         Shape::BesideTold => {
-            let told = E::from_input(alloc, second);
-            error.or(
-                alloc,
-                told.add_context(alloc, second, &other, Label("number"))?,
-            )
+            let number: E = told(alloc, second, "number")?;
+            E::from_input(alloc, first).or(alloc, number)
         }
-        Shape::CausedAndAppended => {
-            let cause = String::from_str(alloc, "bad digit")?;
-            E::from_external_error(alloc, first, cause).append(alloc, first, &start)
+        Shape::BothTold => {
+            let word: E = told(alloc, second, "word")?;
+            told::<I, E>(alloc, first, "number")?.or(alloc, word)
         }
-        Shape::UnderItsStart => {
-            let frame = error.append(alloc, first, &start)?;
-            frame.add_context(alloc, first, &start, Label("x"))
-        }
+        _ => framed(alloc, shape, first, second),
     }
 }
 
-const TEXTS: [(Shape, [&str; 3], &str); 8] = [
+const TEXTS: &[(Shape, [&str; 3], &str)] = &[
     (
         Shape::FromLeft,
         ["1", "2", "3"],
@@ -88,6 +120,12 @@ const TEXTS: [(Shape, [&str; 3], &str); 8] = [
         ["12x", "", ""],
         "caused by bad digit at '12x'\n  0:  at '12x'\n",
     ),
+    // A frame has the input as it stood at the start of its parser.
+    (
+        Shape::AfterItsStart,
+        ["12x", "2x", ""],
+        " at '2x'\n  0:  at '12x'\n  1: invalid a at '12x'\n",
+    ),
     // An input is shown by its front.
     (
         Shape::Alone,
@@ -103,37 +141,42 @@ const TEXTS: [(Shape, [&str; 3], &str); 8] = [
     (Shape::Alone, ["", "", ""], " at ''\n"),
 ];
 
-// Returns the text of a tree.
-fn text(
+/// Returns the error at texts.
+pub fn tree(
     alloc: Global,
     shape: Shape,
     [first, second, third]: [&'static str; 3],
-) -> Result<String, AllocError> {
-    let tree: Tree = shaped(alloc, shape, &first, &second, &third)?;
-    tree.text(alloc)
+) -> Result<Tree<'static>, AllocError> {
+    shaped(alloc, shape, &first, &second, &third)
+}
+
+// Returns the text of a tree.
+fn text(alloc: Global, shape: Shape, inputs: [&'static str; 3]) -> Result<String, AllocError> {
+    tree(alloc, shape, inputs)?.text(alloc)
 }
 
 #[test]
 fn texts_of_trees(rt: HostRuntime) -> Result<(), Fail> {
-    for (shape, inputs, wanted) in &TEXTS {
-        assert_eq!(rt; text(rt.alloc(), *shape, *inputs)?.as_str(), *wanted);
+    for row in TEXTS {
+        let (shape, inputs, wanted) = *row;
+        assert_eq!(rt; text(rt.alloc(), shape, inputs)?.as_str(), wanted);
     }
     Ok(())
 }
 
-// Returns the text of a tree with a frame and a context, at texts that it owns.
+// Returns a tree with a frame and a context, at texts that it owns.
+fn owned(alloc: Global) -> Result<TreeError<String, StrContext>, AllocError> {
+    tree(alloc, Shape::UnderItsStart, ["ab", "", ""])?.into_owned(alloc)
+}
+
 fn owned_text(alloc: Global) -> Result<String, AllocError> {
-    let tree: Tree = shaped(alloc, Shape::UnderItsStart, &"ab", &"", &"")?;
-    tree.into_owned(alloc)?.text(alloc)
+    owned(alloc)?.text(alloc)
 }
 
 // Returns the text of the same tree at the lengths of the texts.
 fn mapped_text(alloc: Global) -> Result<String, AllocError> {
-    let tree: Tree = shaped(alloc, Shape::UnderItsStart, &"ab", &"", &"")?;
-    let owned = tree.into_owned(alloc)?;
-    owned
-        .map_input(alloc, |text: String| text.len())?
-        .text(alloc)
+    let mapped = owned(alloc)?.map_input(alloc, width_of)?;
+    mapped.text(alloc)
 }
 
 #[test]
@@ -156,13 +199,13 @@ fn combined<I: Stream + Copy>(
     second: I,
     third: I,
 ) -> Result<ErrMode<TreeError<I, StrContext>>, AllocError> {
-    let right = joined(alloc, one(alloc, second), one(alloc, third))?;
-    combine_trees(alloc, joined(alloc, one(alloc, first), right)?)
+    let right = joined(alloc, one(second), one(third))?;
+    combine_trees(alloc, joined(alloc, one(first), right)?)
 }
 
 // Returns an error at an input, as the only alternative.
-fn one<I: Stream + Copy>(alloc: Global, input: I) -> OrTree<ErrMode<TreeError<I, StrContext>>> {
-    OrTree::One(Backtrack(TreeError::from_input(alloc, &input)))
+fn one<I>(input: I) -> OrTree<ErrMode<TreeError<I, StrContext>>> {
+    OrTree::One(Backtrack(TreeError::Base(TreeErrorBase { input, cause: None })))
 }
 
 #[test]
@@ -177,32 +220,13 @@ fn brackets_keep_the_entries(rt: HostRuntime) -> Result<(), Fail> {
     Ok(())
 }
 
-// Returns the lengths of the inputs of the alternatives, from the least on.
-fn lengths(
-    alloc: Global,
-    error: &ErrMode<TreeError<&[u8], StrContext>>,
-) -> Result<Vec<usize>, AllocError> {
-    let mut lengths = Vec::new(alloc);
-    let Backtrack(TreeError::Alt(entries)) = error else {
-        return Ok(lengths);
-    };
-    for entry in entries {
-        if let TreeError::Base(base) = entry {
-            lengths.push(base.input.len())?;
-        }
-    }
-    lengths.sort()?;
-    Ok(lengths)
-}
+type Leaves = OrTree<ErrMode<Tree<'static>>>;
 
-type Leaves = OrTree<ErrMode<TreeError<&'static [u8], StrContext>>>;
-
-// Returns errors at 1 to 200 bytes, bracketed from the left or from the right.
+// Returns 200 errors, bracketed from the left or from the right.
 fn many(alloc: Global, is_from_left: bool) -> Result<Leaves, AllocError> {
-    let bytes = [0; 200].as_slice();
-    let mut tree = one(alloc, bytes);
-    for length in 1..200usize {
-        let leaf = one(alloc, bytes.get(..length).unwrap_or(bytes));
+    let mut tree = one("");
+    for _ in 1..200u8 {
+        let leaf = one("");
         let (left, right) = if is_from_left {
             (tree, leaf)
         } else {
@@ -213,19 +237,20 @@ fn many(alloc: Global, is_from_left: bool) -> Result<Leaves, AllocError> {
     Ok(tree)
 }
 
-// Returns whether each of them is an entry of what they combine to.
-fn has_all(alloc: Global, tree: Leaves) -> Result<bool, AllocError> {
-    let error = combine_trees::<&[u8], StrContext>(alloc, tree)?;
-    let wanted: Vec<usize> = (1..201).collect(alloc)?;
-    Ok(lengths(alloc, &error)? == wanted)
+// Returns the number of entries of what they combine to.
+fn entries(alloc: Global, tree: Leaves) -> Result<usize, AllocError> {
+    match combine_trees(alloc, tree)? {
+        Backtrack(TreeError::Alt(entries)) => Ok(entries.len()),
+        _ => Ok(0),
+    }
 }
 
 #[test]
 fn two_hundred_alternatives(rt: HostRuntime) -> Result<(), Fail> {
     let alloc = rt.alloc();
-    let left = has_all(alloc, many(alloc, true)?)?;
-    let right = has_all(alloc, many(alloc, false)?)?;
-    assert_eq!(rt; [left, right], [true; 2]);
+    let left = entries(alloc, many(alloc, true)?)?;
+    let right = entries(alloc, many(alloc, false)?)?;
+    assert_eq!(rt; [left, right], [200; 2]);
     Ok(())
 }
 
