@@ -59,6 +59,15 @@ where
     ))
 }
 
+// Returns whether the first is equal to itself and to the second; then the order of the second
+// beside the first, and of the third beside the second.
+fn compared<T: Ord>(first: &T, second: &T, third: &T) -> ([bool; 2], [Ordering; 2]) {
+    (
+        [first == first, first == second],
+        [second.cmp(first), third.cmp(second)],
+    )
+}
+
 // Returns whether a stream is equal with its flag set and with it cleared; then the order of a
 // cleared one beside a set one, and that of a lesser one with its flag set beside it.
 fn compared_flags<I: StreamIsPartial + Ord + Copy>(
@@ -69,10 +78,7 @@ fn compared_flags<I: StreamIsPartial + Ord + Copy>(
 {
     let (set, mut clear) = (Partial::new(input), Partial::new(input));
     let _ = clear.complete();
-    (
-        [set == set, set == clear],
-        [clear.cmp(&set), Partial::new(lesser).cmp(&clear)],
-    )
+    compared(&set, &clear, &Partial::new(lesser))
 }
 
 #[test]

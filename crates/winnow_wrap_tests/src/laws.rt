@@ -1,6 +1,7 @@
 //! Laws do nothing. The calls here show that each can be called. Generic code promises only what
 //! the members of a type say, so the laws that spell members out refuse a member that says less.
-ghost use Rattle.std.specs.Prelude.{◌≡◌, ℕ, false};
+ghost use Rattle.std.specs.Prelude.{◌≡◌, ℕ, List, false};
+ghost use Rattle.std.specs.Borrow.{Bor};
 ghost use Rattle.winnow_recover.specs.Recovering.{recoverable_inner, recorded_errors};
 ghost use Rattle.winnow_recover.specs.Recovering.{records_errors, IsSame, Records};
 ghost use Rattle.winnow_recover.specs.declared.recoverable.Recoverable.{Recoverable};
@@ -105,6 +106,30 @@ fn passed_on_law<I: StreamIsPartial + Display, E: Debug>()
         → t ≡ s.input }
 {}
 
+// Whatever a call does to the flag of a stream, a place and a state around it stay as they are; a
+// flag belongs to no other part of the stream; and a plain stream has none.
+fn flag_law<'i, I: StreamIsPartial, S: Debug>()
+    ensures start_stays { (s t : LocatingSlice I I.Checkpoint I.Rest I.Checkpoint.Rest)
+        → ⟦<LocatingSlice<I> as StreamIsPartial>⟧.same_but_flag s t → s.start ≡ t.start }
+    ensures location_stays { (s t : LocatingSlice I I.Checkpoint I.Rest I.Checkpoint.Rest)
+        → ⟦<LocatingSlice<I> as StreamIsPartial>⟧.same_but_flag s t → s.location ≡ t.location }
+    ensures located_stays { (s t : LocatingSlice I I.Checkpoint I.Rest I.Checkpoint.Rest)
+        → ⟦<LocatingSlice<I> as StreamIsPartial>⟧.same_but_flag s t
+        → I.same_but_flag s.input t.input }
+    ensures state_stays { (s t : Stateful I S)
+        → ⟦<Stateful<I, S> as StreamIsPartial>⟧.same_but_flag s t → s.state ≡ t.state }
+    ensures counted_stays { (s t : Stateful I S)
+        → ⟦<Stateful<I, S> as StreamIsPartial>⟧.same_but_flag s t
+        → I.same_but_flag s.input t.input }
+    ensures flagged_stays { (s t : Partial I)
+        → ⟦<Partial<I> as StreamIsPartial>⟧.same_but_flag s t
+        → partial_inner s ≡ partial_inner t }
+    ensures same_bytes { (s t : Bor (List ℕ)) → ⟦<&'i [u8] as StreamIsPartial>⟧.same_but_flag s t
+        → s ≡ t }
+    ensures same_text { (s t : Bor (List ℕ)) → ⟦<&'i str as StreamIsPartial>⟧.same_but_flag s t
+        → s ≡ t }
+{}
+
 fn laws<I: StreamIsPartial + Ord + Display>()
 where
     I::Checkpoint: Ord,
@@ -120,6 +145,7 @@ where
     text_law::<I, u32, Mode>();
     recovery_law::<I, Mode, Mode>();
     passed_on_law::<I, Mode>();
+    flag_law::<I, u32>();
 }
 
 #[test]

@@ -1,24 +1,39 @@
 ghost use Rattle.std.specs.Prelude.{◌≡◌, false};
 
-use crate::fixtures::{Mode, nest};
+use crate::fixtures::{nest, place};
+use crate::recovery::recover_here;
 use std::alloc::{AllocError, Global};
 use std::test::Fail;
 use winnow_error::EmptyError;
-use winnow_error::ErrMode::Backtrack;
-use winnow_recover::{Recover, Recoverable};
+use winnow_recover::Recoverable;
 use winnow_run::Step;
 use winnow_run::Step::{At, Each, Mark, Next, Peek, Reset, Since, Take};
 use winnow_stream::{Location, NoSet, Stream, StreamIsPartial};
 use winnow_test_helpers::{Traced, shown, tell, told};
 use winnow_views::{Bits, bit_source_law};
-use winnow_wrap::{LocatingSlice, Partial, Stateful};
+use winnow_wrap::Stateful;
 
 const SCRIPT: [Step<NoSet>; 8] = [Next, Mark, Take(1), Since(0), Reset(0), At(9), Peek, Each];
 
-// Returns whether an error is recorded, the answers of a script through three wrappers around the
-// stream that recorded it, and what the script leaves: the flag, the state, the place, and the
-// stream inside.
-fn told_round_record<I: Stream + StreamIsPartial + Drop>(
+// Returns the answers of a script, and the place and the flag that it leaves.
+fn told_and_left<S: StreamIsPartial + Location>(
+    alloc: Global,
+    s: &mut S,
+    script: &[Step<NoSet>],
+) -> Result<String, AllocError>
+where
+    S::Token: Drop,
+    S::Slice: Drop,
+    requires { S.valid s.old }
+{
+    let answers = tell(alloc, s, script)?;
+    let (place, flag) = (place(s), s.is_partial());
+    format!(in alloc; "{answers} {place:?} {flag}")
+}
+
+// Returns the answers of a script through three wrappers, and what it leaves: the place, the flag,
+// the state, and the stream inside.
+fn told_in_nest<I: StreamIsPartial + Drop>(
     alloc: Global,
     input: I,
     script: &[Step<NoSet>],
@@ -29,16 +44,38 @@ where
     requires valid { I.valid input }
     requires no_flag { I.supports_partial ≡ false }
 {
-    let mut inside: Recoverable<I, Mode> = Recoverable::new(alloc, input);
-    let start = inside.checkpoint();
-    let recorded = inside
-        .record_err(&start, &start, Backtrack(EmptyError))
-        .is_ok();
-    let mut s = nest(inside, 7);
-    let answers = tell(alloc, &mut s, script)?;
-    let (flag, place) = (s.is_partial(), s.current_token_start());
+    let mut s = nest(input, 7);
+    let told = told_and_left(alloc, &mut s, script)?;
     let Stateful { input, state } = s.into_inner();
-    format!(in alloc; "{recorded} {answers} {flag} {state} {place} {input:?}")
+    format!(in alloc; "{told} {state} {input:?}")
+}
+
+// Returns the same through three wrappers around a stream that recorded an error.
+fn told_round_record<I: StreamIsPartial + Drop>(
+    alloc: Global,
+    input: I,
+    script: &[Step<NoSet>],
+) -> Result<String, AllocError>
+where
+    I::Token: Drop,
+    I::Slice: Drop,
+    requires valid { I.valid input }
+    requires no_flag { I.supports_partial ≡ false }
+{
+    let mut inside: Recoverable<I, EmptyError> = Recoverable::new(alloc, input);
+    let _ = recover_here(&mut inside, EmptyError);
+    told_in_nest(alloc, inside, script)
+}
+
+#[test]
+fn a_script_runs_through_three_wrappers(rt: HostRuntime) -> Result<(), Fail> {
+    let script = [Next, Mark, Take(3), Since(0), Peek, Reset(0), Next];
+    assert_eq!(rt;
+        told_in_nest(rt.alloc(), "abcdef", &script)?.as_str(),
+        "[Token(Some('a')), Marked(0), Slice(\"bcd\"), Offset(3), Token(Some('e')), Done, Token(Some('b'))] \
+        (2, 2) true 7 \"cdef\""
+    );
+    Ok(())
 }
 
 #[test]
@@ -46,48 +83,25 @@ fn bits_under_four_wrappers(rt: HostRuntime) -> Result<(), Fail> {
     bit_source_law();
     let script = [Next, Mark, Take(3), Since(0), Reset(0), Peek];
     let bits = Bits::new(b"\xAB".as_slice());
-    let told = told_round_record(rt.alloc(), bits, &script)?;
     assert_eq!(rt;
-        told.as_str(),
-        "true [Token(Some(true)), Marked(0), Slice(([], 1, 4)), Offset(3), Done, Token(Some(true))] true 7 1 \
-        Recoverable { input: Bits { input: [171], place: 1 }, errors: [Backtrack(EmptyError)], is_recoverable: true }"
+        told_round_record(rt.alloc(), bits, &script)?.as_str(),
+        "[Token(Some(true)), Marked(0), Slice(([], 1, 4)), Offset(3), Done, Token(Some(true))] (1, 1) true 7 \
+        Recoverable { input: Bits { input: [171], place: 1 }, errors: [EmptyError], is_recoverable: true }"
     );
     Ok(())
 }
 
-// Returns the trace through four wrappers, with the stream that records outermost. Also returns
-// whether a script gives the same answers through them as on the stream inside, and so through four
-// wrappers with the stream that records innermost and has no recovery.
-fn told_in_nests<I: Stream + StreamIsPartial + Copy>(
-    alloc: Global,
-    input: I,
-) -> Result<(String, [bool; 2]), AllocError>
+/// Returns the trace, and the answers of a script.
+pub fn traced_and_told<S: Stream + Drop>(alloc: Global, s: S) -> Result<String, AllocError>
 where
-    I::Token: Drop,
-    I::Slice: Drop,
-    requires valid { I.valid input }
-    requires no_flag { I.supports_partial ≡ false }
+    S::Token: Drop,
+    S::Slice: Drop,
+    requires { S.valid s }
 {
-    let plain = told(alloc, input, &SCRIPT)?;
-    let flagged = Partial::new(Stateful { input, state: 7u32 });
-    let recording: Recoverable<_, Mode> = Recoverable::new(alloc, LocatingSlice::new(flagged));
-    let traced = Traced(recording);
+    let traced = Traced(s);
     let trace = shown(alloc, &traced)?;
-    let outermost = told(alloc, traced.0, &SCRIPT)?;
-    let inside: Recoverable<I, Mode> = Recoverable::unrecoverable(alloc, input);
-    let counted = Stateful {
-        input: Partial::new(LocatingSlice::new(inside)),
-        state: 7u32,
-    };
-    let innermost = told(alloc, counted, &SCRIPT)?;
-    Ok((trace, [outermost == plain, innermost == plain]))
-}
-
-#[test]
-fn every_nest_answers_and_prints_as_the_stream_inside(rt: HostRuntime) -> Result<(), Fail> {
-    let (trace, is_same) = told_in_nests(rt.alloc(), "aéb")?;
-    assert_eq!(rt; (trace.as_str(), is_same), ("\"aéb\"", [true; 2]));
-    Ok(())
+    let answers = told(alloc, traced.0, &SCRIPT)?;
+    format!(in alloc; "{trace} {answers}")
 }
 
 /// Five states around a stream.

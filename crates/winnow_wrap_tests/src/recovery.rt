@@ -3,26 +3,25 @@ ghost use Rattle.winnow_recover.specs.Recovering.{recoverable_inner, recorded_er
 ghost use Rattle.winnow_recover.specs.Recovering.{records_errors};
 ghost use Rattle.winnow_views.specs.BitStream.{IsValidBits};
 
-use crate::fixtures::Mode;
+use crate::fixtures::{Mode, passed_on, place};
+use crate::wrappers::widths_from;
 use std::alloc::{AllocError, Global};
 use std::fmt::{Debug, Display};
-use std::ops::Range;
 use std::test::Fail;
 use winnow_bytes::Bytes;
-use winnow_error::ErrMode::{Backtrack, Cut, Incomplete};
+use winnow_error::ErrMode::{Backtrack, Incomplete};
 use winnow_error::{EmptyError, FromRecoverableError, ParserError};
 use winnow_kinds::BStr;
-use winnow_match::{Compare, CompareResult, FindSlice};
+use winnow_match::{Compare, FindSlice};
 use winnow_recover::{RecordError, Recover, Recoverable};
 use winnow_stream::{
-    AsBStr, AsBytes, Location, Needed, Offset, SliceLen, Stream, StreamIsPartial, UpdateSlice,
+    AsBStr, AsBytes, Location, Needed, SliceLen, Stream, StreamIsPartial, UpdateSlice,
 };
-use winnow_test_helpers::{flags, seen, width_from};
 use winnow_views::{Bits, TokenSlice, bit_source_law};
 use winnow_wrap::{LocatingSlice, Partial, Stateful};
 
-// Records an error of a parser that failed where it began, as generic code does.
-fn recover_here<S: Recover<E>, E>(s: &mut S, err: E) -> Result<(), RecordError<E>>
+/// Records an error of a parser that failed where it began, as generic code does.
+pub fn recover_here<S: Recover<E>, E>(s: &mut S, err: E) -> Result<(), RecordError<E>>
     requires { S.valid s.old }
     ensures { S.valid s.new }
 {
@@ -90,13 +89,26 @@ where
     format!(in alloc; "{failed:?}, {cut_short:?}, {errors:?} {is_supported}")
 }
 
+// Returns both texts of a stream whose second error is incomplete.
+fn recorded_and_refused<I: Stream + Copy>(
+    alloc: Global,
+    input: I,
+) -> Result<(String, String), AllocError>
+where
+    I::Token: Drop,
+    requires { I.valid input }
+{
+    let (again, more): (Mode, Mode) = (Backtrack(EmptyError), Incomplete(Needed::Unknown));
+    let recorded = recorded_and_reset::<I, Mode, Mode>(alloc, input, again, more)?;
+    let refused = refused_all::<I, Mode, Mode>(alloc, input, again, more)?;
+    Ok((recorded, refused))
+}
+
 #[test]
 fn reset_leaves_what_was_recorded_and_unrecoverable_records_nothing(
     rt: HostRuntime,
 ) -> Result<(), Fail> {
-    let (again, more): (Mode, Mode) = (Backtrack(EmptyError), Incomplete(Needed::Unknown));
-    let recorded = recorded_and_reset::<&str, Mode, Mode>(rt.alloc(), "abc", again, more)?;
-    let refused = refused_all::<&str, Mode, Mode>(rt.alloc(), "abc", again, more)?;
+    let (recorded, refused) = recorded_and_refused(rt.alloc(), "abc")?;
     assert_eq!(rt;
         (recorded.as_str(), refused.as_str()),
         (
@@ -166,79 +178,77 @@ fn plain_streams_refuse(rt: HostRuntime) {
     );
 }
 
-// Returns whether a flag, a state and a place around a stream that records refuse an error, and
-// whether bits of one do. Also returns whether a single state around one refuses another error, and
-// the number of errors in the stream inside after that.
-fn recorders_refuse<I, E, R>(
-    alloc: Global,
-    bytes: I,
-    err: E,
-    by_state: E,
-) -> ([bool; 4], bool, usize)
+// Returns whether the bits of a stream, and a flag and a state around it, refuse an error; then the
+// stream inside.
+fn wrappers_refuse<I, E>(input: I, err: E) -> ([bool; 3], I)
 where
-    I: StreamIsPartial + Stream<Token = u8> + Copy,
-    E: ParserError<Recoverable<I, R>> + Copy + PartialEq,
-    R: FromRecoverableError<Recoverable<I, R>, E> + Debug + Drop,
-    requires valid { I.valid bytes }
-    requires bits { IsValidBits I.valid I.remaining (record { input = bytes; place = 0 }) }
+    I: Recover<E> + StreamIsPartial + Stream<Token = u8> + Drop,
+    E: Copy + PartialEq,
+    requires valid { I.valid input }
+    requires bits { IsValidBits I.valid I.remaining (record { input = input; place = 0 }) }
     requires no_flag { I.supports_partial ≡ false }
+    ensures { I.valid result.1 }
 {
-    let inside: Recoverable<I, R> = Recoverable::new(alloc, bytes);
-    let mut flagged = Partial::new(Stateful {
-        input: LocatingSlice::new(inside),
-        state: 7u32,
-    });
+    let mut bits = Bits::new(input);
+    let by_bits = refuses(&mut bits, err);
+    let (input, _) = bits.into_parts();
+    let mut flagged = Partial::new(input);
     let by_flag = refuses(&mut flagged, err);
-    let mut counted = flagged.into_inner();
-    let by_count = refuses(&mut counted, err);
-    let by_place = refuses(&mut counted.input, err);
-    let recorder: Recoverable<I, R> = Recoverable::new(alloc, bytes);
-    let by_bits = refuses(&mut Bits::new(recorder), err);
-    let alone: Recoverable<I, R> = Recoverable::new(alloc, bytes);
-    let mut alone = Stateful {
-        input: alone,
+    let mut counted = Stateful {
+        input: flagged.into_inner(),
         state: 7u32,
     };
-    let is_refused = refuses(&mut alone, by_state);
-    let (_, errors) = alone.input.into_parts();
-    (
-        [by_flag, by_count, by_place, by_bits],
-        is_refused,
-        errors.len(),
-    )
+    let by_state = refuses(&mut counted, err);
+    ([by_bits, by_flag, by_state], counted.input)
+}
+
+// Returns whether a place around a stream refuses an error.
+fn place_refuses<I: Recover<E> + Drop, E: Copy + PartialEq>(input: I, err: E) -> bool
+    requires { I.valid input }
+{
+    refuses(&mut LocatingSlice::new(input), err)
+}
+
+// Returns what wrappers around streams that record answer: the bits, a flag and a state around the
+// first, with the number of its errors; then a place around the second.
+fn recorders_refuse<I>(alloc: Global, input: I) -> ([bool; 3], usize, bool)
+where
+    I: StreamIsPartial + Stream<Token = u8> + Copy,
+    requires valid { I.valid input }
+    requires bits { IsValidBits I.valid I.remaining (record { input = input; place = 0 }) }
+    requires no_flag { I.supports_partial ≡ false }
+{
+    let recorder: Recoverable<I, EmptyError> = Recoverable::new(alloc, input);
+    let (refused, recorder) = wrappers_refuse(recorder, EmptyError);
+    let (_, errors) = recorder.into_parts();
+    let recorder: Recoverable<I, EmptyError> = Recoverable::new(alloc, input);
+    (refused, errors.len(), place_refuses(recorder, EmptyError))
 }
 
 #[test]
 fn wrappers_refuse_also_round_one_that_records(rt: HostRuntime) {
     bit_source_law();
-    let (mode, by_state): (Mode, Mode) = (Backtrack(EmptyError), Cut(EmptyError));
-    let bytes: &[u8] = b"ab";
     assert_eq!(rt;
-        recorders_refuse::<&[u8], Mode, Mode>(rt.alloc(), bytes, mode, by_state),
-        ([true; 4], true, 0),
-        "a flag, a state, a place, bits; a state; its errors"
+        recorders_refuse(rt.alloc(), b"ab".as_slice()),
+        ([true; 3], 0, true),
+        "bits, a flag, a state; the errors inside; a place"
     );
 }
 
-// Returns the answers of a comparison, a search, the calls of the flag and the calls that change
-// nothing, and the stream inside in both ways.
-fn passed_on<I>(alloc: Global, input: I) -> Result<String, AllocError>
+// Returns the answers of a comparison, a search and the other calls that are passed on, and the
+// stream inside in both ways.
+fn passed_on_inside<I>(alloc: Global, input: I) -> Result<String, AllocError>
 where
     I: Compare<&'static str> + FindSlice<char> + StreamIsPartial,
     I: SliceLen + AsBStr + Display + Drop,
     requires valid { I.valid input }
     requires width { I.has_width input }
 {
-    let s: Recoverable<I, Mode> = Recoverable::new(alloc, input);
-    let text = seen(alloc, &s)?;
+    let mut s: Recoverable<I, EmptyError> = Recoverable::new(alloc, input);
     let (compared, found) = (s.compare("abd"), s.find_slice('c'));
-    let mut flagged = s;
-    let flags = flags(&mut flagged);
-    let inside: &I = &flagged;
-    format!(in alloc;
-        "{compared:?} {found:?} {flags:?} {text} {inside} {}",
-        flagged.inner()
-    )
+    let text = passed_on(alloc, &mut s)?;
+    let inside: &I = &s;
+    format!(in alloc; "{compared:?} {found:?} {text} {inside} {}", s.inner())
 }
 
 // Takes the front of width `offset`, and makes a window of it. Returns all that the window holds,
@@ -250,7 +260,7 @@ fn window_inside<I: UpdateSlice + Drop>(
 ) -> Option<(I::Slice, I::Slice, usize)>
     requires { I.valid input }
 {
-    let mut s: Recoverable<I, Mode> = Recoverable::new(alloc, input);
+    let mut s: Recoverable<I, EmptyError> = Recoverable::new(alloc, input);
     if !s.is_offset(offset) {
         return None;
     }
@@ -265,11 +275,11 @@ fn window_inside<I: UpdateSlice + Drop>(
 fn every_call_is_passed_on(rt: HostRuntime) -> Result<(), Fail> {
     assert_eq!(rt;
         (
-            passed_on(rt.alloc(), "abcd")?.as_str(),
+            passed_on_inside(rt.alloc(), "abcd")?.as_str(),
             window_inside(rt.alloc(), "abcd", 2)
         ),
         (
-            "Error Some(2..3) [false, false, false, false] abcd 4 [97, 98, 99, 100] abcd abcd",
+            "Error Some(2..3) abcd 4 [97, 98, 99, 100] [false, false, false, false] abcd abcd",
             Some(("ab", "ab", 2))
         )
     );
@@ -281,29 +291,21 @@ fn place_and_bytes<S: Location + AsBytes>(s: &S) -> ((usize, usize), &[u8])
     ensures place { result.0 ≡ (S.token_end s.now, S.token_start s.now) }
     ensures bytes { result.1.now ≡ S.bytes s.now }
 {
-    (
-        (s.previous_token_end(), s.current_token_start()),
-        s.as_bytes(),
-    )
-}
-
-type Placed<'i> = Recoverable<LocatingSlice<&'i [u8]>, Mode>;
-
-// Returns the width from a stream to its rest, and the width from where it stands.
-fn widths(alloc: Global) -> (usize, usize) {
-    let bytes: &[u8] = b"abc";
-    let s: Placed = Recoverable::new(alloc, LocatingSlice::new(bytes));
-    let rest: Placed = Recoverable::new(alloc, LocatingSlice::new(&bytes[2..]));
-    (width_from(&rest, &s), s.offset_from(&s.checkpoint()))
+    (place(s), s.as_bytes())
 }
 
 #[test]
 fn places_and_widths_are_passed_on(rt: HostRuntime) {
     let bytes: &[u8] = b"abc";
-    let mut s: Placed = Recoverable::new(rt.alloc(), LocatingSlice::new(bytes));
-    let _ = s.next_token();
+    let rest: Recoverable<&[u8], Mode> = Recoverable::new(rt.alloc(), &bytes[2..]);
+    let start: Recoverable<&[u8], Mode> = Recoverable::new(rt.alloc(), bytes);
+    let mut placed: Recoverable<LocatingSlice<&[u8]>, Mode> = Recoverable::new(
+        rt.alloc(),
+        LocatingSlice::new(bytes),
+    );
+    let _ = placed.next_token();
     assert_eq!(rt;
-        (widths(rt.alloc()), place_and_bytes(&s)),
-        ((2, 0), ((1, 1), &bytes[1..]))
+        (widths_from(&rest, &start), place_and_bytes(&placed)),
+        ([2; 3], ((1, 1), &bytes[1..]))
     );
 }

@@ -1,108 +1,111 @@
-ghost use Rattle.std.specs.Prelude.{◌≡◌, ◌≤◌, ℕ, List, IsOk, IfOk, false};
-ghost use Rattle.std.specs.Borrow.{Bor};
+ghost use Rattle.std.specs.Prelude.{◌≡◌, ◌≤◌, IsOk, IfOk, IfSome, false};
 ghost use Rattle.winnow_stream.specs.Source.{first_token};
-ghost use Rattle.winnow_wrap.specs.Flag.{partial_inner, flag};
+ghost use Rattle.winnow_wrap.specs.Flag.{partial_inner};
 
-use crate::fixtures::{Nest, nest, place};
-use std::alloc::{AllocError, Global};
-use std::fmt::{Debug, Display};
-use std::ops::Range;
+use crate::fixtures::{Nest, nest, passed_on, place};
+use std::alloc::AllocError;
 use std::test::Fail;
-use winnow_match::{Compare, CompareResult, FindSlice};
-use winnow_run::Step;
-use winnow_stream::{
-    AsBStr, AsBytes, NoSet, Offset, SliceLen, Stream, StreamIsPartial, UpdateSlice,
-};
-use winnow_test_helpers::{compares, debugged, finds, flags, seen, tell, width_from, window_of};
+use winnow_stream::{AsBytes, Location, Offset, Stream, StreamIsPartial, UpdateSlice};
+use winnow_test_helpers::{flags, width_from};
 use winnow_wrap::{LocatingSlice, Partial, Stateful};
 
-// Takes a token, and then a window of width `offset`. Returns all that the window holds, peeked and
-// then taken, and the places before and after. Returns `None` where there is no such window.
-fn window_of_nest<I: StreamIsPartial + UpdateSlice + Drop>(
-    input: I,
-    offset: usize,
-) -> Option<((I::Slice, I::Slice), [(usize, usize); 2])>
-where
-    I::Token: Drop,
-    requires valid { I.valid input }
-    requires no_flag { I.supports_partial ≡ false }
-{
-    let mut s = nest(input, 7);
-    let _ = s.next_token();
-    if !s.is_offset(offset) {
-        return None;
-    }
-    let mut window = window_of(s, offset);
-    let (front, start) = (window.peek_finish(), place(&window));
-    Some(((front, window.finish()), [start, place(&window)]))
-}
+// What is read around a window: its slice, all that it holds, its first token and what is after
+// that; then the places after the slice, at the start of the window, after its first token, and at
+// its end.
+type Around<T, C> = ((T, T, Option<C>, T), [(usize, usize); 4]);
 
-#[test]
-fn the_place_in_a_window_is_that_in_the_whole(rt: HostRuntime) {
-    assert_eq!(rt;
-        window_of_nest("abcdef", 3),
-        Some((("bcd", "bcd"), [(1, 1), (4, 4)]))
-    );
-}
-
-// Takes two tokens, then the slice of width `offset`, and then its window. Returns the slice, what
-// the window holds and its first token; the places after the slice, at the start of the window,
-// after the first token there, and after `reset_to_start`; then the stream inside. Returns `None`
-// where there is no such slice.
-fn window_started_anew<I: UpdateSlice + Copy>(
-    input: I,
+// Takes a token, and then the slice of width `offset`, and reads the window of that slice to its
+// end. Returns `None` where there is no such slice.
+fn window_ahead<S: UpdateSlice + Location + Drop>(
+    mut s: S,
     offset: usize,
-) -> Option<
-    (
-        (I::Slice, I::Slice, Option<I::Token>),
-        [(usize, usize); 4],
-        I,
-    ),
->
+) -> Option<(Around<S::Slice, S::Token>, S)>
 where
-    I::Token: Drop,
-    I::Slice: Copy,
-    requires { I.valid input }
+    S::Token: Drop,
+    S::Slice: Copy,
+    requires { S.valid s }
+    ensures { IfSome result (λ read. S.valid read.1) }
 {
-    let mut s = LocatingSlice::new(input);
     let _ = s.next_token();
-    let _ = s.next_token();
-    let at = s.checkpoint();
+    let start = s.checkpoint();
     if !s.is_offset(offset) {
         return None;
     }
     let slice = s.next_slice(offset);
     let after = place(&s);
-    let mut window = s.update_slice(slice, &at);
-    let (front, start) = (window.peek_finish(), place(&window));
+    let mut window = s.update_slice(slice, &start);
+    let (held, at) = (window.peek_finish(), place(&window));
     let token = window.next_token();
     let later = place(&window);
+    let rest = window.finish();
+    let places = [after, at, later, place(&window)];
+    Some((((slice, held, token, rest), places), window))
+}
+
+// Reads a window, and then resets it to the start. Returns what was read, the place, and the stream
+// inside.
+fn window_started_anew<I: UpdateSlice + Copy>(
+    input: I,
+    offset: usize,
+) -> Option<(Around<I::Slice, I::Token>, (usize, usize), I)>
+where
+    I::Token: Drop,
+    I::Slice: Copy,
+    requires { I.valid input }
+{
+    let (read, mut window) = window_ahead(LocatingSlice::new(input), offset)?;
     window.reset_to_start();
-    let places = [after, start, later, place(&window)];
-    Some(((slice, front, token), places, *window.inner()))
+    Some((read, place(&window), *window.inner()))
+}
+
+// Returns what is read of a window in three wrappers.
+fn window_of_nest<I: StreamIsPartial + UpdateSlice + Drop>(
+    input: I,
+    offset: usize,
+) -> Option<Around<I::Slice, I::Token>>
+where
+    I::Token: Drop,
+    I::Slice: Copy,
+    requires valid { I.valid input }
+    requires no_flag { I.supports_partial ≡ false }
+{
+    let (read, _) = window_ahead(nest(input, 7), offset)?;
+    Some(read)
+}
+
+const AROUND: Around<&str, char> = (
+    ("bcd", "bcd", Some('b'), "cd"),
+    [(4, 4), (1, 1), (2, 2), (4, 4)],
+);
+
+#[test]
+fn the_place_in_a_window_is_that_in_the_whole(rt: HostRuntime) {
+    assert_eq!(rt; window_of_nest("abcdef", 3), Some(AROUND));
 }
 
 #[test]
 fn a_window_starts_anew_as_the_whole(rt: HostRuntime) {
     assert_eq!(rt;
         window_started_anew("abcdef", 3),
-        Some((
-            ("cde", "cde", Some('c')),
-            [(5, 5), (2, 2), (3, 3), (0, 0)],
-            "abcdef"
-        ))
+        Some((AROUND, (0, 0), "abcdef"))
     );
+}
+
+// Returns what clearing the flag returns, and the flag after going back to before that.
+fn flags_after_reset<I: Stream>(s: &mut Partial<I>) -> [bool; 2]
+    requires { I.valid (partial_inner s.old) }
+{
+    let start = s.checkpoint();
+    let state = s.complete();
+    s.reset(&start);
+    [state, s.is_partial()]
 }
 
 #[test]
 fn the_flag_is_no_part_of_a_checkpoint(rt: HostRuntime) {
     let mut partial = Partial::new(b"".as_slice());
-    let start = partial.checkpoint();
-    let flagged = flags(&mut partial);
-    let state = partial.complete();
-    partial.reset(&start);
     assert_eq!(rt;
-        (flagged, [state, partial.is_partial()]),
+        (flags(&mut partial), flags_after_reset(&mut partial)),
         ([true, true, false, true], [true, false])
     );
 }
@@ -123,96 +126,45 @@ fn peek_complete<S: StreamIsPartial>(s: &mut S) -> (bool, Option<S::Token>)
     (is_partial, token)
 }
 
-// Clearing an inner flag changes nothing else.
-fn complete_inside<I: Stream, S: Debug>(
-    s: &mut Stateful<LocatingSlice<Partial<I>>, S>,
-) -> (bool, bool)
-    ensures before { result.0 ≡ flag s.old.input.input }
-    ensures cleared { (flag s.new.input.input ≡ false) × (result.1 ≡ false) }
-    ensures input { partial_inner s.new.input.input ≡ partial_inner s.old.input.input }
-    ensures kept { (s.old.state ≡ s.new.state) × (s.old.input.start ≡ s.new.input.start)
-        × (s.old.input.location ≡ s.new.input.location) }
+// Returns the first token with the flag cleared, and then the answers of all calls of the flag.
+fn told_of_flag<S: StreamIsPartial>(s: &mut S) -> ((bool, Option<S::Token>), [bool; 4])
+    requires { S.valid s.old }
 {
-    (s.complete(), s.is_partial())
+    (peek_complete(s), flags(s))
 }
 
-// Returns the first token with the flag inside two wrappers cleared, and the flag after it is set
-// again; then the flag before and after it is cleared for good, and the state and the place that
-// are left.
-fn told_of_flag<I: StreamIsPartial + Drop>(
+// Returns the same of a place and of a state around a stream.
+fn told_of_flag_inside<I: StreamIsPartial + Copy>(
     input: I,
-) -> (
-    ((bool, Option<I::Token>), bool),
-    ((bool, bool), u32, (usize, usize)),
-)
-    requires valid { I.valid input }
-    requires no_flag { I.supports_partial ≡ false }
+) -> [((bool, Option<I::Token>), [bool; 4]); 2]
+    requires { I.valid input }
 {
-    let mut s = Stateful {
-        input: LocatingSlice::new(Partial::new(input)),
-        state: 7u32,
-    };
-    let peeked = (peek_complete(&mut s), s.is_partial());
-    (peeked, (complete_inside(&mut s), s.state, place(&s)))
-}
-
-type Plain<I> = Stateful<LocatingSlice<I>, u32>;
-
-// Returns whether the types have a flag: a place and a state around a flag, a place around a flag,
-// a flag around both, and both without a flag. Also returns whether both around a stream without a
-// flag await more.
-fn supported<I: StreamIsPartial + Drop>(input: I) -> ([bool; 4], bool)
-    requires valid { I.valid input }
-    requires no_flag { I.supports_partial ≡ false }
-    ensures awaits { result.1 ≡ false }
-{
-    let plain: Plain<I> = Stateful {
-        input: LocatingSlice::new(input),
-        state: 7,
-    };
-    (
-        [
-            Plain::<Partial<I>>::is_partial_supported(),
-            LocatingSlice::<Partial<I>>::is_partial_supported(),
-            Nest::<I>::is_partial_supported(),
-            Plain::<I>::is_partial_supported(),
-        ],
-        plain.is_partial(),
-    )
+    let (mut located, mut counted) = (LocatingSlice::new(input), Stateful { input, state: 7u32 });
+    [told_of_flag(&mut located), told_of_flag(&mut counted)]
 }
 
 #[test]
-fn a_flag_inside_two_wrappers(rt: HostRuntime) {
+fn a_place_and_a_state_have_the_flag_of_the_stream_inside(rt: HostRuntime) {
+    let token = (false, Some('a'));
     assert_eq!(rt;
-        (told_of_flag("ab"), supported("")),
         (
-            (((false, Some('a')), true), ((true, false), 7, (0, 0))),
-            ([true, true, true, false], false)
+            told_of_flag_inside("ab"),
+            told_of_flag_inside(Partial::new("ab"))
+        ),
+        (
+            [(token, [false; 4]); 2],
+            [(token, [true, true, false, true]); 2]
         )
     );
 }
 
-// A plain stream has no flag, so it stays as it is, and streams that agree in all but the flag are
-// equal.
-fn complete_plain<'i>(bytes: &mut &'i [u8], text: &mut &'i str)
-    ensures bytes { bytes.old ≡ bytes.new }
-    ensures text { text.old ≡ text.new }
-    ensures same_bytes { (s t : Bor (List ℕ)) → ⟦<&'i [u8] as StreamIsPartial>⟧.same_but_flag s t
-        → s ≡ t }
-    ensures same_text { (s t : Bor (List ℕ)) → ⟦<&'i str as StreamIsPartial>⟧.same_but_flag s t
-        → s ≡ t }
-{
-    bytes.complete();
-    bytes.restore_partial(());
-    text.complete();
-    text.restore_partial(());
-}
-
 #[test]
-fn a_plain_stream_has_no_flag(rt: HostRuntime) {
-    let (mut bytes, mut text) = (b"ab".as_slice(), "cd");
-    complete_plain(&mut bytes, &mut text);
-    assert_eq!(rt; (bytes, text), (b"ab".as_slice(), "cd"));
+fn each_call_is_passed_on_through_three_wrappers(rt: HostRuntime) -> Result<(), Fail> {
+    assert_eq!(rt;
+        passed_on(rt.alloc(), &mut nest("abc", 7))?.as_str(),
+        "abc 3 [97, 98, 99] [true, true, false, true]"
+    );
+    Ok(())
 }
 
 // Returns the stream inside three wrappers.
@@ -231,77 +183,6 @@ fn cloned<T: Clone>(value: &T) -> Result<T, AllocError>
     value.clone()
 }
 
-// Returns the answers of a script through three wrappers, and what it leaves: the place, the state,
-// the flag, the rest, and the rest of a clone.
-fn told_and_left<I: StreamIsPartial + Copy>(
-    alloc: Global,
-    input: I,
-    script: &[Step<NoSet>],
-) -> Result<String, AllocError>
-where
-    I::Token: Drop,
-    I::Slice: Drop,
-    requires valid { I.valid input }
-    requires no_flag { I.supports_partial ≡ false }
-{
-    let mut s = nest(input, 7);
-    let answers = tell(alloc, &mut s, script)?;
-    let (place, flag, state) = (place(&s), s.is_partial(), s.state);
-    let rest = debugged(alloc, inside(&s))?;
-    let copied = cloned(&s)?;
-    let copied_rest = debugged(alloc, inside(&copied))?;
-    format!(in alloc; "{answers} {place:?} {state} {flag} {rest} {copied_rest}")
-}
-
-#[test]
-fn a_script_runs_through_three_wrappers(rt: HostRuntime) -> Result<(), Fail> {
-    let script = [
-        Step::Next,
-        Step::Mark,
-        Step::Take(3),
-        Step::Since(0),
-        Step::Peek,
-        Step::Reset(0),
-        Step::Next,
-    ];
-    assert_eq!(rt;
-        told_and_left(rt.alloc(), "abcdef", &script)?.as_str(),
-        "[Token(Some('a')), Marked(0), Slice(\"bcd\"), Offset(3), Token(Some('e')), Done, Token(Some('b'))] \
-        (2, 2) 7 true \"cdef\" \"cdef\""
-    );
-    Ok(())
-}
-
-// Returns the answers of a comparison, a search and the calls that change nothing, through three
-// wrappers.
-fn passed_on<I>(
-    alloc: Global,
-    input: I,
-    literal: &'static str,
-    needle: char,
-) -> Result<(CompareResult, Option<Range<usize>>, String), AllocError>
-where
-    I: Compare<&'static str> + FindSlice<char> + SliceLen + AsBStr + Display,
-    I: StreamIsPartial + Copy,
-    requires valid { I.valid input }
-    requires no_flag { I.supports_partial ≡ false }
-    requires width { I.has_width input }
-{
-    let s = nest(input, 7);
-    let text = seen(alloc, &s)?;
-    Ok((compares(s, literal), finds(s, needle), text))
-}
-
-#[test]
-fn each_call_is_passed_on_through_three_wrappers(rt: HostRuntime) -> Result<(), Fail> {
-    let (compared, found, text) = passed_on(rt.alloc(), "abc", "abc", 'b')?;
-    assert_eq!(rt;
-        (compared, found, text.as_str()),
-        (CompareResult::Ok(3), Some(1..2), "abc 3 [97, 98, 99]")
-    );
-    Ok(())
-}
-
 // Returns a checkpoint, where the rest is as wide as that of the stream.
 fn checkpoint_of<S: Stream>(s: &S) -> S::Checkpoint
     requires { S.valid s.now }
@@ -312,7 +193,7 @@ fn checkpoint_of<S: Stream>(s: &S) -> S::Checkpoint
 }
 
 // Returns the width from a stream, from its checkpoint, and between checkpoints.
-fn widths_from<S>(rest: &S, start: &S) -> [usize; 3]
+pub fn widths_from<S>(rest: &S, start: &S) -> [usize; 3]
 where
     S: Stream + Offset<S> + Offset<S::Checkpoint>,
     S::Checkpoint: Offset<S::Checkpoint>,
@@ -331,27 +212,19 @@ where
     ]
 }
 
-// Returns whether these bytes remain, the slice of all that remains, and the stream inside.
-fn held<I: StreamIsPartial + AsBytes + Copy>(input: I, wanted: &[u8]) -> (bool, I::Slice, I)
-    requires valid { I.valid input }
-    requires no_flag { I.supports_partial ≡ false }
-    ensures inside { result.2 ≡ input }
-{
-    let s = nest(input, 7);
-    (s.as_bytes() == wanted, s.peek_finish(), *inside(&s))
-}
-
 #[test]
-fn widths_and_bytes_through_three_wrappers(rt: HostRuntime) {
+fn widths_bytes_and_clones_of_three_wrappers(rt: HostRuntime) -> Result<(), Fail> {
     let bytes: &[u8] = b"abc";
-    let (rest, start) = (nest(&bytes[2..], 8), nest(bytes, 7));
+    let (rest, start): (Nest<&[u8]>, Nest<&[u8]>) = (nest(&bytes[2..], 8), nest(bytes, 7));
+    let copied = cloned(&rest)?;
     let one: &[u8] = b"c";
     assert_eq!(rt;
         (
             widths_from(&rest, &start),
-            held(bytes, bytes),
-            held(one, one)
+            start.as_bytes(),
+            *inside(&copied)
         ),
-        ([2; 3], (true, bytes, bytes), (true, one, one))
+        ([2; 3], bytes, one)
     );
+    Ok(())
 }
