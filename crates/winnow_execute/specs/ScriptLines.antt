@@ -37,26 +37,33 @@ module _ (kind : PieceKind ℕ CharSet (Bor (List ℕ))) (all : Source ℕ) wher
       answer_lines (λ t. t) slice_word listed_words (search_answers (kind_of kind) all script)
 
 -- literals are read as values of L, and lent for a run
-module _ {L : Type 0} (bytes : L → List ℕ) where
-  -- the first lines of a text mean the steps of this script, and leave the rest
-  abbrev pub TellsScript : List ℕ → List PieceStep → List ℕ → Type 0
-  TellsScript text script rest =
-      (steps : List (ScriptStep L)) × AreLines (TellsStep bytes) text steps rest
-      × AllZip (IsSameStep bytes (λ lent. lent.now)) steps script
-
-  -- the text means a script and one input, and `printed` is the lines of the script's answers on it
-  abbrev pub PrintsWhole : InputKind → List ℕ → List ℕ → Type 0
-  PrintsWhole i text printed =
-      (script : List PieceStep) × (rest : List ℕ) × (input : L) × TellsScript text script rest
-      × AreLines (TellsNamed bytes (codes "input")) rest (input ∷ []) []
+module _ {L : Type 0} (bytes : L → List ℕ) (i : InputKind) where
+  -- owned steps, lent as a script, print this on an input: the lines of the script's answers
+  abbrev pub RunsWhole : List (ScriptStep L) → L → List ℕ → Type 0
+  RunsWhole steps input printed =
+      (script : List PieceStep) × AllZip (IsSameStep bytes (λ lent. lent.now)) steps script
       × (printed ≡ whole_lines i.pieces (i.source (bytes input)) script)
 
-  -- the text means a script and lines of pieces, and `printed` is the lines that they print
-  abbrev pub PrintsPieces : InputKind → List ℕ → List ℕ → Type 0
-  PrintsPieces i text printed =
-      (script : List PieceStep) × (rest : List ℕ) × (lines : List (FedLine L))
-      × TellsScript text script rest × AreLines (TellsFed bytes) rest lines []
+  -- owned steps, lent as a script, print this on lines of pieces
+  abbrev pub RunsPieces : List (ScriptStep L) → List (FedLine L) → List ℕ → Type 0
+  RunsPieces steps lines printed =
+      (script : List PieceStep) × AllZip (IsSameStep bytes (λ lent. lent.now)) steps script
       × Prints i script bytes [] 0 lines printed
+
+  -- the text means steps and one input, and `printed` is what they print on it
+  abbrev pub PrintsWhole : List ℕ → List ℕ → Type 0
+  PrintsWhole text printed =
+      (steps : List (ScriptStep L)) × (rest : List ℕ) × (input : L)
+      × AreLines (TellsStep bytes) text steps rest
+      × AreLines (TellsNamed bytes (codes "input")) rest (input ∷ []) []
+      × RunsWhole steps input printed
+
+  -- the text means steps and lines of pieces, and `printed` is what they print on these
+  abbrev pub PrintsPieces : List ℕ → List ℕ → Type 0
+  PrintsPieces text printed =
+      (steps : List (ScriptStep L)) × (rest : List ℕ) × (lines : List (FedLine L))
+      × AreLines (TellsStep bytes) text steps rest × AreLines (TellsFed bytes) rest lines []
+      × RunsPieces steps lines printed
 
 -- the bytes of literals and inputs that a script owns
 abbrev pub owned_bytes : Vec ℕ → List ℕ

@@ -19,6 +19,7 @@ mod lines;
 mod literals;
 mod loans;
 mod report;
+mod runs;
 mod steps;
 mod words;
 

@@ -3,7 +3,7 @@ use Rattle.winnow_feed.specs.Inputs.{byte_input}
 use Rattle.winnow_feed.proofs.lemmas.InputLemmas.{bytes-input}
 use Rattle.winnow_execute.proofs.lemmas.FedPieceLemmas.{bytes_fed-le}
 use Rattle.winnow_execute.proofs.lemmas.ReportLemmas.{printed-none, printed-line, printed-all}
-use Rattle.winnow_execute.proofs.execution.feed_byte_lines.Goals as goal
+use Rattle.winnow_execute.proofs.runs.feed_byte_lines.Goals as goal
 
 pub loop-line-init : goal.loop-line-init
 loop-line-init c =

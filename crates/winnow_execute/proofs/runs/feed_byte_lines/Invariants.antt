@@ -1,7 +1,7 @@
 use Rattle.std.proofs.Common.{string_bytes}
 use Rattle.winnow_feed.specs.Inputs.{byte_input}
 use Rattle.winnow_execute.proofs.lemmas.ReportLemmas.{HasPrinted}
-use Rattle.winnow_execute.proofs.execution.feed_byte_lines.Given as goal
+use Rattle.winnow_execute.proofs.runs.feed_byte_lines.Given as goal
 
 abbrev pub invariant-loop-line : goal.invariant-loop-line
 invariant-loop-line l =

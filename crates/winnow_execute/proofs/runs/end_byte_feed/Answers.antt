@@ -1,5 +1,5 @@
 use Rattle.std.proofs.lemmas.Result.{on_ok_weaker}
-use Rattle.winnow_execute.proofs.execution.end_text_feed.Goals as goal
+use Rattle.winnow_execute.proofs.runs.end_byte_feed.Goals as goal
 
 -- the report has the answers that the end gave
 pub returns : goal.returns
