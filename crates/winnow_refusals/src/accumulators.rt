@@ -48,6 +48,13 @@ impl Holds<char> for Vec<char> {
     }
 }
 
+/// What ends the items is nothing.
+impl Holds<char> for (Vec<char>, ()) {
+    fn holds_first(&self, count: usize) -> bool {
+        self.0.holds_first(count)
+    }
+}
+
 impl<T: Item> Holds<T> for VecDeque<usize> {
     fn holds_first(&self, count: usize) -> bool {
         self.iter().copied().eq(0..count.saturating_mul(T::WIDTH))

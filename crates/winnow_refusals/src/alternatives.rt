@@ -84,7 +84,8 @@ fn one<I: Stream + Copy, E: ParserError<I>>(
     Ok(OrTree::One(error))
 }
 
-fn both<E: Drop>(
+/// Returns the errors of two alternatives.
+pub fn both<E: Drop>(
     alloc: Global,
     first: Result<OrTree<E>, AllocError>,
     second: Result<OrTree<E>, AllocError>,
@@ -94,25 +95,24 @@ fn both<E: Drop>(
     Ok(OrTree::Both(first, second))
 }
 
-// Returns three errors, of parsers that failed at these inputs.
-fn three<I: Stream + Copy, E: ParserError<I>>(
+// Combines three errors, of parsers that failed at these inputs.
+fn combined<I: Stream + Copy, E: ParserError<I>>(
     alloc: Global,
     first: I,
     second: I,
     third: I,
-) -> Result<OrTree<E>, AllocError>
+) -> Result<ErrMode<E>, AllocError>
     requires first { I.valid first }
     requires second { I.valid second }
     requires third { I.valid third }
 {
     let later = both(alloc, one(alloc, second), one(alloc, third));
-    both(alloc, one(alloc, first), later)
+    combine::<I, E>(alloc, both(alloc, one(alloc, first), later)?)
 }
 
 /// Errors that are appended to and combined. A refusal gives them up.
 pub fn combine_three(alloc: Global) -> Result<bool, AllocError> {
-    let tree: OrTree<ErrMode<Failures>> = three(alloc, "12x", "2x", "x")?;
-    match combine::<&'static str, Failures>(alloc, tree)? {
+    match combined::<&'static str, Failures>(alloc, "12x", "2x", "x")? {
         Backtrack(error) => Ok(error.0.as_slice() == [3, 2, 1].as_slice()),
         _ => Ok(false),
     }

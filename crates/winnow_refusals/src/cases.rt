@@ -20,8 +20,25 @@ pub fn tell(refused: bool, right: bool) -> Result<bool, AllocError> {
     }
 }
 
+/// The cases by their subjects.
+pub type Cases = ([Case; 14], [Case; 15], [Case; 13], [Case; 8]);
+
 /// Each case, made once.
-pub fn all(alloc: Global) -> [Case; 50] {
+pub fn all(alloc: Global) -> Cases {
+    (
+        values(alloc),
+        accumulators(alloc),
+        trees_and_feeds(alloc),
+        parsers::cases(alloc),
+    )
+}
+
+/// Returns the cases, one subject after the other.
+pub fn subjects(all: &Cases) -> [&[Case]; 4] {
+    [&all.0, &all.1, &all.2, &all.3]
+}
+
+fn values(alloc: Global) -> [Case; 14] {
     [
         ("run", scripts::run_script(alloc)),
         ("run_and_reset", scripts::look_ahead(alloc)),
@@ -37,33 +54,40 @@ pub fn all(alloc: Global) -> [Case; 50] {
         ("to_vec of Bytes", kinds::bytes_to_vec(alloc)),
         ("literal", words::read_literal(alloc)),
         ("record_err", recovery::record_err(alloc)),
+    ]
+}
+
+type Slice = &'static [usize];
+
+type Text = &'static str;
+
+type Pair = (usize, usize);
+
+fn accumulators(alloc: Global) -> [Case; 15] {
+    [
         ("Vec of items", gather::<Vec<usize>, usize>(alloc)),
-        (
-            "Vec of slices",
-            gather::<Vec<usize>, &'static [usize]>(alloc),
-        ),
+        ("Vec of slices", gather::<Vec<usize>, Slice>(alloc)),
         (
             "VecDeque of slices",
-            gather::<VecDeque<usize>, &'static [usize]>(alloc),
+            gather::<VecDeque<usize>, Slice>(alloc),
         ),
         ("String of characters", gather::<String, char>(alloc)),
-        ("String of texts", gather::<String, &'static str>(alloc)),
+        ("String of texts", gather::<String, Text>(alloc)),
         ("String of cows", gather::<String, Cow>(alloc)),
         ("String of strings", gather::<String, String>(alloc)),
         ("CowStr of characters", gather::<Cow, char>(alloc)),
-        ("CowStr of texts", gather::<Cow, &'static str>(alloc)),
+        ("CowStr of texts", gather::<Cow, Text>(alloc)),
         ("CowStr of cows", gather::<Cow, Cow>(alloc)),
         ("CowStr of strings", gather::<Cow, String>(alloc)),
-        (
-            "BTreeMap",
-            gather::<BTreeMap<usize, usize>, (usize, usize)>(alloc),
-        ),
-        (
-            "HashMap",
-            gather::<HashMap<usize, usize>, (usize, usize)>(alloc),
-        ),
+        ("BTreeMap", gather::<BTreeMap<usize, usize>, Pair>(alloc)),
+        ("HashMap", gather::<HashMap<usize, usize>, Pair>(alloc)),
         ("BTreeSet", gather::<BTreeSet<usize>, usize>(alloc)),
         ("HashSet", gather::<HashSet<usize>, usize>(alloc)),
+    ]
+}
+
+fn trees_and_feeds(alloc: Global) -> [Case; 13] {
+    [
         ("tree append", trees::append(alloc)),
         ("tree or", trees::or(alloc)),
         ("tree text", trees::text(alloc)),
@@ -77,13 +101,5 @@ pub fn all(alloc: Global) -> [Case; 50] {
         ("run_pieces_text", feeds::all_text(alloc)),
         ("waits_for of bytes", waiting::wait_for_bytes(alloc)),
         ("waits_for of text", waiting::wait_for_text(alloc)),
-        ("repeat into a Vec", parsers::repeat_in_vector(alloc)),
-        ("repeat into a String", parsers::repeat_in_text(alloc)),
-        ("repeat_till", parsers::repeat_to_end(alloc)),
-        ("separated", parsers::separate(alloc)),
-        ("escaped", parsers::unescape(alloc)),
-        ("parse", parsers::parse(alloc)),
-        ("alt", parsers::join(alloc)),
-        ("context", parsers::tell_context(alloc)),
     ]
 }

@@ -1,4 +1,5 @@
 use crate::cases::tell;
+use crate::feeding::Feed;
 use std::alloc::{AllocError, Global};
 use std::ops::Range;
 use std::str;
@@ -19,9 +20,6 @@ const TEXTS: [TextStep<'static>; 4] = [Call(Next), Call(Next), Call(Peek), Call(
 // The length of a piece for which the buffer has to grow.
 const LONG: usize = 65_536;
 
-// No place comes near the greatest `usize`.
-pub(crate) const MOST: usize = 1_000_000;
-
 // Returns the answers over an `a`, an empty piece, and `LONG` times `b`.
 fn answers<T>(a: T, b: T, again: T) -> [Told<T>; 4] {
     [
@@ -39,15 +37,6 @@ fn told<T>(piece: Option<u64>, answer: Answer<T, Range<usize>, Range<usize>>) ->
     }
 }
 
-// Returns the numbers of fed and kept bytes, of attempts and of answers of a feed.
-pub(crate) fn counts(feed: &ByteFeed) -> (usize, usize, u64, usize) {
-    (feed.fed(), feed.held(), feed.tried(), feed.answers().len())
-}
-
-pub(crate) fn text_counts(feed: &TextFeed) -> (usize, usize, u64, usize) {
-    (feed.fed(), feed.held(), feed.tried(), feed.answers().len())
-}
-
 // Returns whether the answers in `out` are the first of `all`.
 fn are_first<T: PartialEq>(out: &[Told<T>], all: &[Told<T>]) -> bool {
     match all.get(..out.len()) {
@@ -56,81 +45,62 @@ fn are_first<T: PartialEq>(out: &[Told<T>], all: &[Told<T>]) -> bool {
     }
 }
 
-// Feeds a piece. When memory is refused, the feed is as it was, and takes the same piece again.
-fn feed_again(feed: &mut ByteFeed, piece: &[u8], all: &[Told<u8>]) -> Result<bool, AllocError> {
-    if feed.fed() > MOST || piece.len() > MOST {
-        return Ok(false);
-    }
-    let before = counts(feed);
-    if feed.feed(piece).is_ok() {
-        return Ok(true);
-    }
-    let kept = counts(feed) == before && are_first(feed.answers(), all);
-    tell(true, kept && feed.feed(piece).is_ok())
-}
-
-fn feed_text_again(
-    feed: &mut TextFeed,
-    piece: &str,
-    all: &[Told<char>],
-) -> Result<bool, AllocError> {
-    if feed.fed() > MOST || piece.len() > MOST {
-        return Ok(false);
-    }
-    let before = text_counts(feed);
-    if feed.feed(piece).is_ok() {
-        return Ok(true);
-    }
-    let kept = text_counts(feed) == before && are_first(feed.answers(), all);
-    tell(true, kept && feed.feed(piece).is_ok())
-}
-
 // Returns whether these are all answers, and the final place.
 fn is_finished<T: PartialEq>(finished: &Finished<T>, answers: &[Told<T>]) -> bool {
     finished.answers() == answers && finished.cursor() == LONG + 1
 }
 
-/// A feed of bytes. When memory is refused, it is as it was, and takes the same piece again.
-pub fn feed_bytes(alloc: Global) -> Result<bool, AllocError> {
-    let long = vec![in alloc; b'b'; LONG]?;
-    feed_pieces(alloc, &[b"a", b"", long.as_slice()], &answers(97, 98, 98))
+// Feeds a piece. When memory is refused, the feed is as it was, and takes the same piece again.
+fn feed_again<F: Feed>(
+    feed: &mut F,
+    piece: &str,
+    all: &[Told<F::Token>],
+) -> Result<bool, AllocError> {
+    let before = feed.counts();
+    match feed.take(piece) {
+        Ok(fits) => Ok(fits),
+        Err(_) => {
+            let kept = feed.counts() == before && are_first(feed.told(), all);
+            tell(true, kept && feed.take(piece).unwrap_or(false))
+        }
+    }
 }
 
-fn feed_pieces(alloc: Global, pieces: &[&[u8]], wanted: &[Told<u8>]) -> Result<bool, AllocError> {
-    let mut feed = ByteFeed::new(alloc, &BYTES)?;
+// Feeds an `a`, an empty piece, and a long one. When memory is refused, the feed is as it was, and
+// takes the same piece again.
+fn feed_pieces<F: Feed>(
+    mut feed: F,
+    long: &[u8],
+    wanted: &[Told<F::Token>],
+) -> Result<bool, AllocError> {
+    let Ok(long) = str::from_utf8(long) else {
+        return Ok(false);
+    };
     let mut refused = false;
-    for piece in pieces {
-        match feed_again(&mut feed, *piece, wanted) {
+    for piece in ["a", "", long] {
+        match feed_again(&mut feed, piece, wanted) {
             Ok(true) => {}
             Ok(false) => return Ok(false),
             Err(_) => refused = true,
         }
     }
-    let waits = feed.answers().len() == 3 && feed.held() == LONG - 1;
-    tell(refused, waits && is_finished(&feed.end(), wanted))
+    let (_, held, _, out) = feed.counts();
+    let waits = out == 3 && held == LONG - 1;
+    tell(refused, waits && is_finished(&feed.finished(), wanted))
+}
+
+/// A feed of bytes. When memory is refused, it is as it was, and takes the same piece again.
+pub fn feed_bytes(alloc: Global) -> Result<bool, AllocError> {
+    let long = vec![in alloc; b'b'; LONG]?;
+    let feed = ByteFeed::new(alloc, &BYTES)?;
+    feed_pieces(feed, long.as_slice(), &answers(97, 98, 98))
 }
 
 /// A feed of text. When memory is refused, it is as it was, and takes the same piece again.
 pub fn feed_text(alloc: Global) -> Result<bool, AllocError> {
     let long = vec![in alloc; b'b'; LONG]?;
-    let Ok(long) = str::from_utf8(long.as_slice()) else {
-        return Ok(false);
-    };
-    feed_texts(alloc, &["a", "", long], &answers('a', 'b', 'b'))
-}
-
-fn feed_texts(alloc: Global, pieces: &[&str], wanted: &[Told<char>]) -> Result<bool, AllocError> {
-    let mut feed = TextFeed::new(alloc, &TEXTS)?;
-    let mut refused = false;
-    for piece in pieces {
-        match feed_text_again(&mut feed, *piece, wanted) {
-            Ok(true) => {}
-            Ok(false) => return Ok(false),
-            Err(_) => refused = true,
-        }
-    }
-    let waits = feed.answers().len() == 3 && feed.held() == LONG - 1;
-    tell(refused, waits && is_finished(&feed.end(), wanted))
+    let feed = TextFeed::new(alloc, &TEXTS)?;
+    feed_pieces(feed, long.as_slice(), &answers('a', 'b', 'b'))
 }
 
 /// The same pieces of bytes at once.
@@ -150,61 +120,35 @@ pub fn all_text(alloc: Global) -> Result<bool, AllocError> {
     Ok(is_finished(&finished, &answers('a', 'b', 'b')))
 }
 
-// Feeds `pieces` pieces of this length, and returns whether the feed kept none of their bytes.
-fn keeps_none(
-    feed: &mut ByteFeed,
-    bytes: &[u8],
+// Feeds `pieces` pieces of this length, and returns whether the feed kept none of their bytes, and
+// answered a step for each 1,024 of them.
+fn keeps_none<F: Feed>(
+    alloc: Global,
+    mut feed: F,
     length: usize,
     pieces: usize,
 ) -> Result<bool, AllocError> {
-    for piece in bytes.chunks(length.max(1)).take(pieces) {
-        if feed.fed() > MOST || piece.len() > MOST {
-            return Ok(false);
-        }
-        feed.feed(piece)?;
-        if feed.held() != 0 {
-            return Ok(false);
-        }
-    }
-    Ok(feed.fed() == length.saturating_mul(pieces))
-}
-
-// The same for text.
-fn keeps_no_text(
-    feed: &mut TextFeed,
-    bytes: &[u8],
-    length: usize,
-    pieces: usize,
-) -> Result<bool, AllocError> {
-    for piece in bytes.chunks(length.max(1)).take(pieces) {
+    let bytes = vec![in alloc; b'a'; 262_144]?;
+    for piece in bytes.as_slice().chunks(length.max(1)).take(pieces) {
         let Ok(piece) = str::from_utf8(piece) else {
             return Ok(false);
         };
-        if feed.fed() > MOST || piece.len() > MOST {
-            return Ok(false);
-        }
-        feed.feed(piece)?;
-        if feed.held() != 0 {
+        if !feed.take(piece)? || feed.counts().1 != 0 {
             return Ok(false);
         }
     }
-    Ok(feed.fed() == length.saturating_mul(pieces))
+    let (fed, _, _, out) = feed.counts();
+    Ok(fed == length.saturating_mul(pieces) && out == fed / 1024)
 }
 
 /// Feeds pieces of this length, from which a script takes parts of 1,024 characters as they come.
 pub fn drain_text(alloc: Global, length: usize, pieces: usize) -> Result<bool, AllocError> {
     let script: [TextStep; 256] = [Call(Take(1024)); 256];
-    let bytes = vec![in alloc; b'a'; 262_144]?;
-    let mut feed = TextFeed::new(alloc, &script)?;
-    let kept_none = keeps_no_text(&mut feed, bytes.as_slice(), length, pieces)?;
-    Ok(kept_none && feed.answers().len() == feed.fed() / 1024)
+    keeps_none(alloc, TextFeed::new(alloc, &script)?, length, pieces)
 }
 
 /// Feeds pieces of this length, from which a script takes parts of 1,024 bytes as they come.
 pub fn drain(alloc: Global, length: usize, pieces: usize) -> Result<bool, AllocError> {
     let script: [ByteStep; 256] = [Call(Take(1024)); 256];
-    let bytes = vec![in alloc; b'a'; 262_144]?;
-    let mut feed = ByteFeed::new(alloc, &script)?;
-    let kept_none = keeps_none(&mut feed, bytes.as_slice(), length, pieces)?;
-    Ok(kept_none && feed.answers().len() == feed.fed() / 1024)
+    keeps_none(alloc, ByteFeed::new(alloc, &script)?, length, pieces)
 }

@@ -13,6 +13,7 @@ mod accumulators;
 mod alternatives;
 mod cases;
 mod errors;
+mod feeding;
 mod feeds;
 mod items;
 mod kinds;
@@ -24,7 +25,7 @@ mod trees;
 mod waiting;
 mod words;
 
-use cases::{Case, all};
+use cases::{Case, Cases, all, subjects};
 use std::alloc::{AllocError, Global};
 use std::{env, io};
 
@@ -42,11 +43,28 @@ fn main(rt: HostRuntime) -> io::Result<()> {
         };
         return println!(rt; "drain: {}", outcome(drained, Err(AllocError)));
     }
-    let first = all(alloc);
-    let refused = first.iter().filter(|case| case.1.is_err()).count();
-    let again = if refused == 0 { first } else { all(alloc) };
-    report(&rt, &first, &again)?;
+    let refused = report_all(&rt, alloc)?;
     println!(rt; "refused: {}", refused.saturating_add(without))
+}
+
+// Prints how each case went, and returns how many were refused memory. Then each is made again.
+fn report_all(rt: &impl Print, alloc: Global) -> io::Result<usize> {
+    let first = all(alloc);
+    let refused = count_refused(&first);
+    let again = if refused == 0 { first } else { all(alloc) };
+    for (first, again) in subjects(&first).iter().zip(&subjects(&again)) {
+        report(rt, first, again)?;
+    }
+    Ok(refused)
+}
+
+// Returns how many cases were refused memory.
+fn count_refused(all: &Cases) -> usize {
+    let mut refused: usize = 0;
+    for cases in subjects(all) {
+        refused = refused.saturating_add(cases.iter().filter(|case| case.1.is_err()).count());
+    }
+    refused
 }
 
 // Prints how each case went, and how it went the second time if it was refused memory.

@@ -3,6 +3,7 @@ use std::alloc::{AllocError, Global};
 use winnow_error::ErrMode::{Backtrack, Cut};
 use winnow_error::{EmptyError, ErrMode};
 use winnow_recover::{RecordError, Recover, Recoverable};
+use winnow_stream::Stream;
 
 type Mode = ErrMode<EmptyError>;
 
@@ -38,17 +39,27 @@ fn record_all<S: Recover<Mode>>(s: &mut S) -> Option<bool>
     Some(refused)
 }
 
-/// Errors that are recorded, of which some grow the list. A refused error comes back, and is then
-/// recorded after those from before.
-pub fn record_err(alloc: Global) -> Result<bool, AllocError> {
-    let mut s: Recoverable<&str, Mode> = Recoverable::new(alloc, "12x");
+// Records all errors over an input. A refused error comes back, and is then recorded after those
+// from before.
+fn record_over<I: Stream + Copy + PartialEq + Drop>(
+    alloc: Global,
+    input: I,
+) -> Result<bool, AllocError>
+    requires { I.valid input }
+{
+    let mut s: Recoverable<I, Mode> = Recoverable::new(alloc, input);
     let recorded = record_all(&mut s);
     let (rest, errors) = s.into_parts();
     match recorded {
         Some(refused) => tell(
             refused,
-            rest == "12x" && errors.as_slice() == ERRORS.as_slice(),
+            rest == input && errors.as_slice() == ERRORS.as_slice(),
         ),
         None => Ok(false),
     }
+}
+
+/// Errors that are recorded, of which some grow the list.
+pub fn record_err(alloc: Global) -> Result<bool, AllocError> {
+    record_over(alloc, "12x")
 }

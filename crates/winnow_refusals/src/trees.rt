@@ -1,3 +1,4 @@
+use crate::alternatives::both;
 use crate::cases::tell;
 use std::alloc::{AllocError, Global};
 use std::fmt::Display;
@@ -125,18 +126,17 @@ pub fn convert(alloc: Global) -> Result<bool, AllocError> {
 }
 
 // Returns an error beside a stacked one.
-fn both<I: Stream + Copy>(alloc: Global, input: I) -> Result<OrTree<ErrMode<Tree<I>>>, AllocError>
+fn beside<I: Stream + Copy>(alloc: Global, input: I) -> Result<OrTree<ErrMode<Tree<I>>>, AllocError>
     requires { I.valid input }
 {
-    let second = Box::new(alloc, OrTree::One(Backtrack(stacked(alloc, input)?)))?;
+    let second = OrTree::One(Backtrack(stacked(alloc, input)?));
     let first = <Tree<I> as ParserError<I>>::from_input(alloc, &input);
-    let first = Box::new(alloc, OrTree::One(Backtrack(first)))?;
-    Ok(OrTree::Both(first, second))
+    both(alloc, Ok(OrTree::One(Backtrack(first))), Ok(second))
 }
 
 /// Two alternatives, bracketed.
 pub fn combine(alloc: Global) -> Result<bool, AllocError> {
-    match combine_trees(alloc, both(alloc, INPUT)?)? {
+    match combine_trees(alloc, beside(alloc, INPUT)?)? {
         Backtrack(error) => prints(alloc, &error, ALTERNATIVES),
         _ => Ok(false),
     }
