@@ -1,30 +1,22 @@
-ghost use Rattle.std.specs.Prelude.{◌≡◌, IfOk, string_bytes};
+ghost use Rattle.std.specs.Prelude.{◌≡◌, Some};
 ghost use Rattle.winnow_count.specs.CountRange.{range_text};
+ghost use Rattle.winnow_count.specs.declared.range.Range.{Range};
 
 use std::alloc::{AllocError, Global};
+use std::fmt::{Debug, Display};
 use std::ops::RangeBounds;
-use std::process::Abort;
 use std::test::Fail;
 use winnow_count::Range;
 
-fn display(alloc: Global, range: &Range) -> Result<String, AllocError>
-    ensures { IfOk result (λ text. string_bytes text ≡ range_text range.now) }
-{
-    format!(in alloc; "{range}")
-}
-
-fn debug(alloc: Global, range: &Range) -> Result<String, AllocError>
-    ensures { IfOk result (λ text. string_bytes text ≡ range_text range.now) }
-{
-    format!(in alloc; "{range:?}")
-}
-
-// Returns the text with a width, a fill and a precision, which change nothing.
-fn padded(alloc: Global, range: &Range) -> Result<String, AllocError>
-    ensures { IfOk result (λ text. string_bytes text ≡ range_text range.now) }
-{
-    format!(in alloc; "{range:*>9.1}")
-}
+// The members for the printed text of a range, spelled out. No option of a hole changes it.
+fn text_members()
+    ensures shown { (range : Range)
+        → ⟦<Range as Display>⟧.output range ≡ Some (range_text range) }
+    ensures styled { (range : Range) (spec : _)
+        → ⟦<Range as Display>⟧.styled_output range spec ≡ Some (range_text range) }
+    ensures debugged { (range : Range)
+        → ⟦<Range as Debug>⟧.debug_output range ≡ Some (range_text range) }
+{}
 
 // Returns a range, made through the bound.
 fn range_of<C: Into<Range>>(counts: C) -> Range
@@ -38,15 +30,9 @@ fn contains<R: RangeBounds<usize>>(range: &R, count: usize) -> bool {
     range.contains(&count)
 }
 
-// Asserts the text of a range: printed, under options, and for debugging.
-fn prints(rt: &impl Abort, alloc: Global, range: &Range, want: &str) -> Result<(), AllocError> {
-    let shown = display(alloc, range)?;
-    let (padded, debugged) = (padded(alloc, range)?, debug(alloc, range)?);
-    assert_eq!(rt;
-        [shown.as_str(), padded.as_str(), debugged.as_str()],
-        [want; 3]
-    );
-    Ok(())
+// Returns the text of a range: printed, under options, and for debugging.
+fn texts(alloc: Global, range: &Range) -> Result<String, AllocError> {
+    format!(in alloc; "{range} {range:*>9.1} {range:?}")
 }
 
 #[test]
@@ -66,8 +52,10 @@ fn a_range_prints_its_counts(rt: HostRuntime) -> Result<(), Fail> {
             "18446744073709551614..=18446744073709551615",
         ),
     ];
+    text_members();
     for (range, want) in table {
-        prints(&rt, rt.alloc(), &range, want)?;
+        let wanted = format!(in rt.alloc(); "{want} {want} {want}")?;
+        assert!(rt; texts(rt.alloc(), &range)? == wanted, "{wanted}");
     }
     Ok(())
 }

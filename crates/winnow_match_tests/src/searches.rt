@@ -7,7 +7,7 @@ use winnow_base::stream::laws::{
     stretch_law,
 };
 use winnow_base::stream::{Compare, CompareResult, FindSlice, Needles, Stretch, stretch};
-use winnow_test_helpers::{compares, debugged, finds, hits};
+use winnow_test_helpers::{compares, finds, hits};
 
 // Asserts the answer of a comparison, called through its bound. A failure names the case.
 fn is_compared<T, S>(rt: &impl Abort, stream: S, literal: T, want: CompareResult)
@@ -49,22 +49,20 @@ fn other_literals_on_bytes(rt: HostRuntime) {
         compares(input, b"abc"),
         compares(input, b"abd"),
         compares(input, "abcde"),
+        compares(input, b'a'),
+        compares(input, b'b'),
+        compares(&input[..0], b'a'),
     ];
     let wanted = [
         CompareResult::Ok(3),
         CompareResult::Ok(3),
         CompareResult::Error,
         CompareResult::Incomplete,
+        CompareResult::Ok(1),
+        CompareResult::Error,
+        CompareResult::Incomplete,
     ];
     assert_eq!(rt; answers, wanted);
-    let table = [
-        (input, b'a', CompareResult::Ok(1)),
-        (input, b'b', CompareResult::Error),
-        (&input[..0], b'a', CompareResult::Incomplete),
-    ];
-    for (input, literal, want) in table {
-        is_compared(&rt, input, literal, want);
-    }
 }
 
 #[test]
@@ -160,30 +158,20 @@ fn needles_in_order(rt: HostRuntime) {
     }
 }
 
-const WANTED: [Option<Range<usize>>; 4] = [Some(4..6), Some(4..6), Some(2..4), Some(1..2)];
-
 #[test]
-fn slices_and_texts_on_bytes(rt: HostRuntime) {
-    let input: &[u8] = b"xa\xc3\xa9bc";
-    let (a, e, bc, none): (&[u8], &[u8], &[u8], &[u8]) = (b"a", b"\xc3\xa9", b"bc", b"zz");
-    assert_eq!(rt; hits(input, bc, (bc,), (bc, e), (none, bc, a)), WANTED);
-    assert_eq!(rt;
-        hits(input, "bc", ("bc",), ("bc", "é"), ("zz", "bc", "a")),
-        WANTED
-    );
-}
-
-#[test]
-fn bytes_and_characters_on_bytes(rt: HostRuntime) {
+fn needles_on_bytes(rt: HostRuntime) {
     let input: &[u8] = b"xa\xc3\xa9bc";
     assert_eq!(rt;
-        hits(input, b'b', (b'z',), (b'c', b'b'), (b'z', b'b', b'\xa9')),
-        [Some(4..5), None, Some(4..5), Some(3..4)]
-    );
-    let short: &[u8] = b"a\xc3\xa9";
-    assert_eq!(rt;
-        hits(short, 'é', ('é',), ('é', 'a'), ('z', 'c', 'é')),
-        [Some(1..3), Some(1..3), Some(0..1), Some(1..3)]
+        [
+            hits(input, "bc", ("bc",), ("bc", "é"), ("zz", "bc", "a")),
+            hits(input, b'b', (b'z',), (b'c', b'b'), (b'z', b'b', b'\xa9')),
+            hits(input, 'é', ('é',), ('é', 'a'), ('z', 'c', 'é'))
+        ],
+        [
+            [Some(4..6), Some(4..6), Some(2..4), Some(1..2)],
+            [Some(4..5), None, Some(4..5), Some(3..4)],
+            [Some(2..4), Some(2..4), Some(1..2), Some(2..4)]
+        ]
     );
 }
 
@@ -191,12 +179,11 @@ fn bytes_and_characters_on_bytes(rt: HostRuntime) {
 fn needles_on_text(rt: HostRuntime) {
     let input = "xaébc";
     assert_eq!(rt;
-        hits(input, "bc", ("bc",), ("bc", "é"), ("zz", "bc", "a")),
-        WANTED
-    );
-    assert_eq!(rt;
-        hits(input, 'é', ('é',), ('é', 'a'), ('z', 'c', 'é')),
-        [Some(2..4), Some(2..4), Some(1..2), Some(2..4)]
+        (
+            hits(input, 'é', ('é',), ('é', 'a'), ('z', 'c', 'é')),
+            finds(input, "bc")
+        ),
+        ([Some(2..4), Some(2..4), Some(1..2), Some(2..4)], Some(4..6))
     );
 }
 
@@ -313,9 +300,8 @@ fn the_laws_can_be_called() {
 
 #[test]
 fn debug_texts(rt: HostRuntime) -> Result<(), Fail> {
-    let needles = debugged(rt.alloc(), &Needles::Two(1, 2))?;
-    assert_eq!(rt; needles.as_str(), "Two(1, 2)");
-    let compared = debugged(rt.alloc(), &CompareResult::Ok(3))?;
-    assert_eq!(rt; compared.as_str(), "Ok(3)");
+    let (needles, compared) = (Needles::Two(1, 2), CompareResult::Ok(3));
+    let text = format!(in rt.alloc(); "{needles:?} {compared:?}")?;
+    assert_eq!(rt; text.as_str(), "Two(1, 2) Ok(3)");
     Ok(())
 }

