@@ -23,6 +23,21 @@ fn gather<A: Accumulate<T> + Drop, T: Item>(alloc: Global, count: usize) -> Resu
     Ok(())
 }
 
+// Starts an accumulator, and fills one.
+fn grow<A: Accumulate<T> + Drop, T: Item>(
+    alloc: Global,
+    count: usize,
+    start_name: &'static str,
+    gather_name: &'static str,
+) -> [Call; 2]
+    requires { (a : A) → A.can_accumulate a }
+{
+    [
+        (start_name, start::<A, T>(alloc, count)),
+        (gather_name, gather::<A, T>(alloc, count)),
+    ]
+}
+
 // Gathers `count` items at once.
 fn gather_all(alloc: Global, count: usize) -> Result<(), AllocError> {
     let items = vec![in alloc; 7usize; count]?;
@@ -36,135 +51,123 @@ type Text = &'static str;
 
 type Pair = (usize, usize);
 
-/// Each accumulator, started.
-pub fn starts(alloc: Global, count: usize) -> [Call; 15] {
+// Each collection, started and filled.
+fn collections(alloc: Global, count: usize) -> [[Call; 2]; 7] {
     [
-        (
+        grow::<Vec<usize>, usize>(
+            alloc,
+            count,
             "<Vec<T> as Accumulate<T>>::initial",
-            start::<Vec<usize>, usize>(alloc, count),
+            "<Vec<T> as Accumulate<T>>::accumulate",
         ),
-        (
+        grow::<Vec<usize>, Slice>(
+            alloc,
+            count,
             "<Vec<T> as Accumulate<&[T]>>::initial",
-            start::<Vec<usize>, Slice>(alloc, count),
+            "<Vec<T> as Accumulate<&[T]>>::accumulate",
         ),
-        (
+        grow::<VecDeque<usize>, Slice>(
+            alloc,
+            count,
             "<VecDeque<T> as Accumulate<&[T]>>::initial",
-            start::<VecDeque<usize>, Slice>(alloc, count),
+            "<VecDeque<T> as Accumulate<&[T]>>::accumulate",
         ),
-        (
-            "<String as Accumulate<char>>::initial",
-            start::<String, char>(alloc, count),
-        ),
-        (
-            "<String as Accumulate<&str>>::initial",
-            start::<String, Text>(alloc, count),
-        ),
-        (
-            "<String as Accumulate<CowStr<Global>>>::initial",
-            start::<String, Cow>(alloc, count),
-        ),
-        (
-            "<String as Accumulate<String>>::initial",
-            start::<String, String>(alloc, count),
-        ),
-        (
-            "<CowStr<Global> as Accumulate<char>>::initial",
-            start::<Cow, char>(alloc, count),
-        ),
-        (
-            "<CowStr<Global> as Accumulate<&str>>::initial",
-            start::<Cow, Text>(alloc, count),
-        ),
-        (
-            "<CowStr<Global> as Accumulate<CowStr<Global>>>::initial",
-            start::<Cow, Cow>(alloc, count),
-        ),
-        (
-            "<CowStr<Global> as Accumulate<String>>::initial",
-            start::<Cow, String>(alloc, count),
-        ),
-        (
+        grow::<HashMap<usize, usize>, Pair>(
+            alloc,
+            count,
             "<HashMap<K, V> as Accumulate<(K, V)>>::initial",
-            start::<HashMap<usize, usize>, Pair>(alloc, count),
+            "<HashMap<K, V> as Accumulate<(K, V)>>::accumulate",
         ),
-        (
+        grow::<HashSet<usize>, usize>(
+            alloc,
+            count,
             "<HashSet<K> as Accumulate<K>>::initial",
-            start::<HashSet<usize>, usize>(alloc, count),
+            "<HashSet<K> as Accumulate<K>>::accumulate",
         ),
-        (
+        grow::<BTreeMap<usize, usize>, Pair>(
+            alloc,
+            count,
             "<BTreeMap<K, V> as Accumulate<(K, V)>>::initial",
-            start::<BTreeMap<usize, usize>, Pair>(alloc, count),
+            "<BTreeMap<K, V> as Accumulate<(K, V)>>::accumulate",
         ),
-        (
+        grow::<BTreeSet<usize>, usize>(
+            alloc,
+            count,
             "<BTreeSet<K> as Accumulate<K>>::initial",
-            start::<BTreeSet<usize>, usize>(alloc, count),
+            "<BTreeSet<K> as Accumulate<K>>::accumulate",
         ),
     ]
 }
 
-/// Each accumulator, filled.
-pub fn gathers(alloc: Global, count: usize) -> [Call; 16] {
+// Each text, started and filled.
+fn texts(alloc: Global, count: usize) -> [[Call; 2]; 8] {
     [
-        ("accumulate_all", gather_all(alloc, count)),
-        (
-            "<Vec<T> as Accumulate<T>>::accumulate",
-            gather::<Vec<usize>, usize>(alloc, count),
-        ),
-        (
-            "<Vec<T> as Accumulate<&[T]>>::accumulate",
-            gather::<Vec<usize>, Slice>(alloc, count),
-        ),
-        (
-            "<VecDeque<T> as Accumulate<&[T]>>::accumulate",
-            gather::<VecDeque<usize>, Slice>(alloc, count),
-        ),
-        (
+        grow::<String, char>(
+            alloc,
+            count,
+            "<String as Accumulate<char>>::initial",
             "<String as Accumulate<char>>::accumulate",
-            gather::<String, char>(alloc, count),
         ),
-        (
+        grow::<String, Text>(
+            alloc,
+            count,
+            "<String as Accumulate<&str>>::initial",
             "<String as Accumulate<&str>>::accumulate",
-            gather::<String, Text>(alloc, count),
         ),
-        (
+        grow::<String, Cow>(
+            alloc,
+            count,
+            "<String as Accumulate<CowStr<Global>>>::initial",
             "<String as Accumulate<CowStr<Global>>>::accumulate",
-            gather::<String, Cow>(alloc, count),
         ),
-        (
+        grow::<String, String>(
+            alloc,
+            count,
+            "<String as Accumulate<String>>::initial",
             "<String as Accumulate<String>>::accumulate",
-            gather::<String, String>(alloc, count),
         ),
-        (
+        grow::<Cow, char>(
+            alloc,
+            count,
+            "<CowStr<Global> as Accumulate<char>>::initial",
             "<CowStr<Global> as Accumulate<char>>::accumulate",
-            gather::<Cow, char>(alloc, count),
         ),
-        (
+        grow::<Cow, Text>(
+            alloc,
+            count,
+            "<CowStr<Global> as Accumulate<&str>>::initial",
             "<CowStr<Global> as Accumulate<&str>>::accumulate",
-            gather::<Cow, Text>(alloc, count),
         ),
-        (
+        grow::<Cow, Cow>(
+            alloc,
+            count,
+            "<CowStr<Global> as Accumulate<CowStr<Global>>>::initial",
             "<CowStr<Global> as Accumulate<CowStr<Global>>>::accumulate",
-            gather::<Cow, Cow>(alloc, count),
         ),
-        (
+        grow::<Cow, String>(
+            alloc,
+            count,
+            "<CowStr<Global> as Accumulate<String>>::initial",
             "<CowStr<Global> as Accumulate<String>>::accumulate",
-            gather::<Cow, String>(alloc, count),
-        ),
-        (
-            "<HashMap<K, V> as Accumulate<(K, V)>>::accumulate",
-            gather::<HashMap<usize, usize>, Pair>(alloc, count),
-        ),
-        (
-            "<HashSet<K> as Accumulate<K>>::accumulate",
-            gather::<HashSet<usize>, usize>(alloc, count),
-        ),
-        (
-            "<BTreeMap<K, V> as Accumulate<(K, V)>>::accumulate",
-            gather::<BTreeMap<usize, usize>, Pair>(alloc, count),
-        ),
-        (
-            "<BTreeSet<K> as Accumulate<K>>::accumulate",
-            gather::<BTreeSet<usize>, usize>(alloc, count),
         ),
     ]
+}
+
+/// Adds the calls of accumulators.
+pub fn push_calls(calls: &mut Vec<Call>, alloc: Global, count: usize) -> Result<(), AllocError> {
+    calls.push(("accumulate_all", gather_all(alloc, count)))?;
+    for pairs in [
+        collections(alloc, count).as_slice(),
+        texts(alloc, count).as_slice(),
+    ] {
+        push_pairs(calls, pairs)?;
+    }
+    Ok(())
+}
+
+fn push_pairs(calls: &mut Vec<Call>, pairs: &[[Call; 2]]) -> Result<(), AllocError> {
+    for pair in pairs {
+        calls.extend_from_slice(pair)?;
+    }
+    Ok(())
 }

@@ -1,7 +1,7 @@
 //! Errors with as many contexts as there are items, or with a cause as long.
 
-use crate::Call;
 use crate::growing::tell_all;
+use crate::{Call, outcome};
 use std::alloc::{AllocError, Global};
 use winnow_context::StrContext::Label;
 use winnow_context::{ContextError, StrContext};
@@ -37,10 +37,9 @@ fn caused_by(alloc: Global, cause: &str) -> Result<Told, AllocError> {
 
 // Clones an error that has a cause or nothing, before and after it has contexts.
 fn clone_both(mut error: Told, count: usize) -> Result<(), AllocError> {
-    let _alone = error.clone()?;
+    outcome(error.clone())?;
     push_all(&mut error, count)?;
-    let _told = error.clone()?;
-    Ok(())
+    outcome(error.clone())
 }
 
 fn clone(alloc: Global, text: &str) -> Result<(), AllocError> {
@@ -49,8 +48,7 @@ fn clone(alloc: Global, text: &str) -> Result<(), AllocError> {
 }
 
 fn add_contexts(alloc: Global, text: &str) -> Result<(), AllocError> {
-    let _error = tell_all(alloc, &text, Told::new(alloc), text.len())?;
-    Ok(())
+    outcome(tell_all(alloc, &text, Told::new(alloc), text.len()))
 }
 
 /// The calls of such errors.

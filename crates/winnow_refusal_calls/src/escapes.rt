@@ -2,11 +2,8 @@
 
 use crate::Call;
 use std::alloc::{AllocError, Global};
-use winnow_ascii::{Fragment, Spell, escaped};
+use winnow_ascii::{Fragment, Spell};
 use winnow_count::Accumulate;
-use winnow_error::EmptyError;
-use winnow_parser::{Failure, Parser};
-use winnow_token::any;
 
 // Gathers `count` fragments of each kind.
 fn gather<A: Accumulate<Fragment<N, E>> + Drop, N: Copy, E: Copy>(
@@ -34,18 +31,8 @@ fn spell<S: Spell + Copy>(alloc: Global, count: usize, piece: S) -> Result<(), A
     Ok(())
 }
 
-// Gathers the characters of a text.
-fn read(alloc: Global, text: &str) -> Result<(), AllocError> {
-    let mut input = text;
-    let parser = escaped::<_, _, String>(any(), '%', any());
-    match Parser::<_, EmptyError>::parse_next(&parser, alloc, &mut input) {
-        Err(Failure::Refused(refused)) => Err(refused),
-        _ => Ok(()),
-    }
-}
-
-/// The calls that read text with escapes.
-pub fn calls(alloc: Global, text: &str) -> [Call; 7] {
+/// The calls of what gathers and spells text with escapes.
+pub fn calls(alloc: Global, text: &str) -> [Call; 6] {
     let count = text.len();
     let spelled = gather::<String, _, _>(alloc, count, "abc", 'é');
     let listed = gather::<Vec<usize>, _, _>(alloc, count, [1, 2].as_slice(), 3);
@@ -62,9 +49,5 @@ pub fn calls(alloc: Global, text: &str) -> [Call; 7] {
         ),
         ("<char as Spell>::push_to", spell(alloc, count, 'é')),
         ("<&str as Spell>::push_to", spell(alloc, count, "abc")),
-        (
-            "<EscapedText<P, C, Q, A> as Parser<I, E>>::parse_next",
-            read(alloc, text),
-        ),
     ]
 }

@@ -1,7 +1,7 @@
 //! Feeds over scripts of as many steps as there are items, pieces of one byte and of all bytes, and
 //! steps that wait for as many bytes.
 
-use crate::Call;
+use crate::{Call, outcome};
 use std::alloc::{AllocError, Global};
 use winnow_attempt::{Kept, Passed, step_missing};
 use winnow_feed::{ByteFeed, TextFeed, run_pieces, run_pieces_text};
@@ -29,89 +29,97 @@ fn text_script(alloc: Global, count: usize) -> Result<Vec<TextStep<'static>>, Al
 }
 
 fn new_byte_feed(alloc: Global, count: usize) -> Result<(), AllocError> {
-    let script = byte_script(alloc, count)?;
-    let _feed = ByteFeed::new(alloc, &script)?;
-    Ok(())
+    outcome(ByteFeed::new(alloc, &byte_script(alloc, count)?))
 }
 
 fn new_text_feed(alloc: Global, count: usize) -> Result<(), AllocError> {
-    let script = text_script(alloc, count)?;
-    let _feed = TextFeed::new(alloc, &script)?;
-    Ok(())
+    outcome(TextFeed::new(alloc, &text_script(alloc, count)?))
 }
 
-fn feed_piece(feed: &mut ByteFeed, piece: &[u8]) -> Result<(), AllocError> {
-    if feed.fed() > MOST || piece.len() > MOST {
-        return Err(AllocError);
-    }
-    feed.feed(piece)?;
-    Ok(())
+/// A feed, whose pieces are text.
+trait Feed: Drop {
+    /// Feeds a piece. A piece that is too long counts as refused.
+    fn take(&mut self, piece: &str) -> Result<(), AllocError>;
+
+    /// Asks what it waits for.
+    fn wait(&self) -> Result<(), AllocError>;
 }
 
-fn feed_text(feed: &mut TextFeed, piece: &str) -> Result<(), AllocError> {
-    if feed.fed() > MOST || piece.len() > MOST {
-        return Err(AllocError);
+impl<'k> Feed for ByteFeed<'k> {
+    fn take(&mut self, piece: &str) -> Result<(), AllocError> {
+        if self.fed() > MOST || piece.len() > MOST {
+            return Err(AllocError);
+        }
+        outcome(self.feed(piece.as_bytes()))
     }
-    feed.feed(piece)?;
-    Ok(())
+
+    fn wait(&self) -> Result<(), AllocError> {
+        outcome(self.waits_for())
+    }
+}
+
+impl<'k> Feed for TextFeed<'k> {
+    fn take(&mut self, piece: &str) -> Result<(), AllocError> {
+        if self.fed() > MOST || piece.len() > MOST {
+            return Err(AllocError);
+        }
+        outcome(self.feed(piece))
+    }
+
+    fn wait(&self) -> Result<(), AllocError> {
+        outcome(self.waits_for())
+    }
 }
 
 const BYTES_TO_END: [ByteStep<'static>; 1] = [CallOf(Take(usize::MAX))];
 
 const TEXT_TO_END: [TextStep<'static>; 1] = [CallOf(Take(usize::MAX))];
 
-// Feeds bytes that are kept to the end: all at once, and then one by one.
-fn feed_bytes(alloc: Global, bytes: &[u8]) -> Result<(), AllocError> {
-    let mut feed = ByteFeed::new(alloc, &BYTES_TO_END)?;
-    feed_piece(&mut feed, bytes)?;
-    for _ in 0..bytes.len() {
-        feed_piece(&mut feed, b"a")?;
-    }
-    Ok(())
-}
-
-fn feed_texts(alloc: Global, text: &str) -> Result<(), AllocError> {
-    let mut feed = TextFeed::new(alloc, &TEXT_TO_END)?;
-    feed_text(&mut feed, text)?;
+// Feeds a text that is kept to the end: all at once, and then one by one.
+fn feed_all<F: Feed>(feed: Result<F, AllocError>, text: &str) -> Result<(), AllocError> {
+    let mut feed = feed?;
+    feed.take(text)?;
     for _ in 0..text.len() {
-        feed_text(&mut feed, "a")?;
+        feed.take("a")?;
     }
     Ok(())
 }
 
 // Asks what a step waits for before the first piece.
-fn wait_at(alloc: Global, step: ByteStep) -> Result<(), AllocError> {
-    let script = [step];
-    let mut feed = ByteFeed::new(alloc, &script)?;
-    feed_piece(&mut feed, b"")?;
-    let _waiting = feed.waits_for()?;
-    Ok(())
-}
-
-fn wait_at_text(alloc: Global, step: TextStep) -> Result<(), AllocError> {
-    let script = [step];
-    let mut feed = TextFeed::new(alloc, &script)?;
-    feed_text(&mut feed, "")?;
-    let _waiting = feed.waits_for()?;
-    Ok(())
+fn wait_at<F: Feed>(feed: Result<F, AllocError>) -> Result<(), AllocError> {
+    let mut feed = feed?;
+    feed.take("")?;
+    feed.wait()
 }
 
 const LETTERS: [(char, char); 1] = [('a', 'z')];
 
 fn wait_for_bytes(alloc: Global, bytes: &[u8]) -> Result<(), AllocError> {
-    wait_at(alloc, Compare(bytes))?;
-    wait_at(alloc, Find(Needles::One(bytes)))?;
-    wait_at(alloc, CallOf(Take(bytes.len())))?;
-    wait_at(alloc, CallOf(At(bytes.len())))?;
-    wait_at(alloc, CallOf(First(CharSet::new(&LETTERS))))
+    let steps: [ByteStep; 5] = [
+        Compare(bytes),
+        Find(Needles::One(bytes)),
+        CallOf(Take(bytes.len())),
+        CallOf(At(bytes.len())),
+        CallOf(First(CharSet::new(&LETTERS))),
+    ];
+    for script in steps.chunks(1) {
+        wait_at(ByteFeed::new(alloc, script))?;
+    }
+    Ok(())
 }
 
 fn wait_for_text(alloc: Global, text: &str) -> Result<(), AllocError> {
-    wait_at_text(alloc, Compare(text))?;
-    wait_at_text(alloc, Find(Needles::One(text)))?;
-    wait_at_text(alloc, CallOf(Take(text.len())))?;
-    wait_at_text(alloc, CallOf(At(text.len())))?;
-    wait_at_text(alloc, CallOf(First(CharSet::new(&LETTERS))))
+    let steps: [TextStep; 5] = [
+        Compare(text),
+        Find(Needles::One(text)),
+        CallOf(Take(text.len())),
+        CallOf(At(text.len())),
+        CallOf(First(CharSet::new(&LETTERS))),
+    ];
+    for script in steps.chunks(1) {
+        wait_at(TextFeed::new(alloc, script))?;
+    }
+    Ok(())
 }
 
 fn run_on_pieces(alloc: Global, bytes: &[u8]) -> Result<(), AllocError> {
@@ -119,8 +127,7 @@ fn run_on_pieces(alloc: Global, bytes: &[u8]) -> Result<(), AllocError> {
         return Err(AllocError);
     }
     let script = byte_script(alloc, bytes.len())?;
-    let _finished = run_pieces(alloc, &script, &[bytes, b"", bytes])?;
-    Ok(())
+    outcome(run_pieces(alloc, &script, &[bytes, b"", bytes]))
 }
 
 fn run_on_texts(alloc: Global, text: &str) -> Result<(), AllocError> {
@@ -128,8 +135,7 @@ fn run_on_texts(alloc: Global, text: &str) -> Result<(), AllocError> {
         return Err(AllocError);
     }
     let script = text_script(alloc, text.len())?;
-    let _finished = run_pieces_text(alloc, &script, &[text, "", text])?;
-    Ok(())
+    outcome(run_pieces_text(alloc, &script, &[text, "", text]))
 }
 
 // Asks what a comparison with the text is missing where nothing remains.
@@ -139,23 +145,20 @@ fn miss(alloc: Global, text: &str) -> Result<(), AllocError> {
         tokens: 0,
     };
     let step: TextStep = Compare(text);
-    let _missing = step_missing(alloc, &step, Partial::new(""), none)?;
-    Ok(())
+    outcome(step_missing(alloc, &step, Partial::new(""), none))
 }
 
 // Asks for the first byte of a set of `count` ranges.
 fn spell_byte(alloc: Global, count: usize) -> Result<(), AllocError> {
     let ranges = vec![in alloc; ('a', 'z'); count]?;
     let kept = Partial::new(b"".as_slice());
-    let _byte = kept.spell_one(alloc, &CharSet::new(&ranges))?;
-    Ok(())
+    outcome(kept.spell_one(alloc, &CharSet::new(&ranges)))
 }
 
 fn spell_char(alloc: Global, count: usize) -> Result<(), AllocError> {
     let ranges = vec![in alloc; ('a', 'z'); count]?;
     let kept = Partial::new("");
-    let _char = kept.spell_one(alloc, &CharSet::new(&ranges))?;
-    Ok(())
+    outcome(kept.spell_one(alloc, &CharSet::new(&ranges)))
 }
 
 /// The calls of feeds, and of what they are made of.
@@ -163,10 +166,16 @@ pub fn calls(alloc: Global, text: &str) -> [Call; 11] {
     let bytes = text.as_bytes();
     [
         ("ByteFeed::new", new_byte_feed(alloc, bytes.len())),
-        ("ByteFeed::feed", feed_bytes(alloc, bytes)),
+        (
+            "ByteFeed::feed",
+            feed_all(ByteFeed::new(alloc, &BYTES_TO_END), text),
+        ),
         ("ByteFeed::waits_for", wait_for_bytes(alloc, bytes)),
         ("TextFeed::new", new_text_feed(alloc, text.len())),
-        ("TextFeed::feed", feed_texts(alloc, text)),
+        (
+            "TextFeed::feed",
+            feed_all(TextFeed::new(alloc, &TEXT_TO_END), text),
+        ),
         ("TextFeed::waits_for", wait_for_text(alloc, text)),
         ("run_pieces", run_on_pieces(alloc, bytes)),
         ("run_pieces_text", run_on_texts(alloc, text)),

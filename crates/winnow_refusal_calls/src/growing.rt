@@ -1,22 +1,22 @@
 //! Errors that grow: through parsers, by contexts, and by alternatives.
 
+use crate::outcome;
 use std::alloc::{AllocError, Global};
 use winnow_context::StrContext;
 use winnow_context::StrContext::Label;
 use winnow_error::{AddContext, ErrMode, OrTree, ParserError};
 use winnow_stream::Stream;
 
-/// Returns an error that passes through `count` parsers.
-pub fn append_all<I: Stream, E: ParserError<I>>(
+// Returns an error that passes through `count` parsers.
+fn append_all<I: Stream, E: ParserError<I>>(
     alloc: Global,
     input: &I,
-    error: E,
     count: usize,
 ) -> Result<E, AllocError>
     requires { I.valid input.now }
 {
     let start = input.checkpoint();
-    let mut error = error;
+    let mut error = E::from_input(alloc, input);
     for _ in 0..count {
         error = error.append(alloc, input, &start)?;
     }
@@ -40,8 +40,23 @@ pub fn tell_all<I: Stream, E: AddContext<I, StrContext> + Drop>(
     Ok(error)
 }
 
-/// Returns the error of one parser and of `count` others that failed at the same place.
-pub fn join_all<I: Stream, E: ParserError<I>>(
+// Adds contexts to the error of a parser that failed, and to that of one that was misused: with a
+// mode the first lets others be tried, and the second does not.
+fn tell_both<I: Stream, E: ParserError<I> + AddContext<I, StrContext>>(
+    alloc: Global,
+    input: &I,
+    count: usize,
+) -> Result<(), AllocError>
+    requires { I.valid input.now }
+{
+    let failed = E::from_input(alloc, input);
+    outcome(tell_all(alloc, input, failed, count))?;
+    let misused = E::assert(alloc, input, "misused");
+    outcome(tell_all(alloc, input, misused, count))
+}
+
+// Returns the error of one parser and of `count` others that failed at the same place.
+fn join_all<I: Stream, E: ParserError<I>>(
     alloc: Global,
     input: &I,
     count: usize,
@@ -51,6 +66,21 @@ pub fn join_all<I: Stream, E: ParserError<I>>(
         error = error.or(alloc, E::from_input(alloc, input))?;
     }
     Ok(error)
+}
+
+/// Lets errors pass through `count` parsers, join as many others, and get as many contexts.
+pub fn grow<I: Stream, E: ParserError<I> + AddContext<I, StrContext>>(
+    alloc: Global,
+    input: &I,
+    count: usize,
+) -> [Result<(), AllocError>; 3]
+    requires { I.valid input.now }
+{
+    [
+        outcome(append_all::<I, E>(alloc, input, count)),
+        outcome(join_all::<I, E>(alloc, input, count)),
+        tell_both::<I, E>(alloc, input, count),
+    ]
 }
 
 /// Returns the error of bracketed alternatives: rows of them, one row inside the other.

@@ -47,26 +47,44 @@ fn all_on(alloc: Global, count: usize) -> Result<Vec<Call>, AllocError> {
 
 // Makes all calls on as many items as the text has bytes, or on the text itself.
 fn all(alloc: Global, text: &str) -> Result<Vec<Call>, AllocError> {
-    let mut calls = Vec::new(alloc);
-    calls.extend_from_slice(&accumulators::starts(alloc, text.len()))?;
-    calls.extend_from_slice(&accumulators::gathers(alloc, text.len()))?;
+    let mut calls: Vec<Call> = Vec::new(alloc);
+    accumulators::push_calls(&mut calls, alloc, text.len())?;
+    push_values(&mut calls, alloc, text)?;
+    push_parsers(&mut calls, alloc, text)?;
+    Ok(calls)
+}
+
+// Adds the calls of streams, of scripts and of errors.
+fn push_values(calls: &mut Vec<Call>, alloc: Global, text: &str) -> Result<(), AllocError> {
     calls.extend_from_slice(&scripts::calls(alloc, text))?;
     calls.extend_from_slice(&feeds::calls(alloc, text))?;
     calls.extend_from_slice(&copies::calls(alloc, text))?;
     calls.extend_from_slice(&contexts::calls(alloc, text))?;
     calls.extend_from_slice(&modes::calls(alloc, text))?;
     calls.extend_from_slice(&trees::calls(alloc, text))?;
+    calls.extend_from_slice(&trees::copies(alloc, text))?;
     calls.extend_from_slice(&tree_parts::calls(alloc, text))?;
     calls.extend_from_slice(&parse_errors::calls(alloc, text))?;
-    calls.extend_from_slice(&recovery::calls(alloc, text))?;
+    calls.extend_from_slice(&recovery::calls(alloc, text))
+}
+
+// Adds the calls of parsers, of readers and of the program of scripts.
+fn push_parsers(calls: &mut Vec<Call>, alloc: Global, text: &str) -> Result<(), AllocError> {
     calls.extend_from_slice(&parsers::gathers(alloc, text))?;
-    calls.extend_from_slice(&parsers::readings(alloc, text))?;
-    calls.extend_from_slice(&parsers::failures(alloc, text))?;
-    calls.extend_from_slice(&parsers::numbers(alloc, text))?;
+    let (alternatives, others) = parsers::failures(alloc, text);
+    calls.extend_from_slice(&alternatives)?;
+    calls.extend_from_slice(&others)?;
     calls.extend_from_slice(&escapes::calls(alloc, text))?;
     calls.extend_from_slice(&records::calls(alloc, text))?;
-    calls.extend_from_slice(&script_words::calls(alloc, text.len()))?;
-    Ok(calls)
+    calls.extend_from_slice(&script_words::calls(alloc, text.len()))
+}
+
+/// Lets go of what a call made, and returns whether it was refused.
+fn outcome<T: Drop>(made: Result<T, AllocError>) -> Result<(), AllocError> {
+    match made {
+        Ok(_) => Ok(()),
+        Err(refused) => Err(refused),
+    }
 }
 
 // Prints for each call whether it was done each time.

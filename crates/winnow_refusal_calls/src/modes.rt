@@ -1,71 +1,63 @@
 //! Errors with a mode. A mode takes no memory, so the inner errors here take none either.
 
-use crate::Call;
-use crate::growing::{append_all, bracketed, join_all, tell_all};
+use crate::growing::{bracketed, grow};
+use crate::{Call, outcome};
 use std::alloc::{AllocError, Global};
+use winnow_context::StrContext;
 use winnow_error::ErrMode::{Backtrack, Cut};
-use winnow_error::{EmptyError, ErrMode, ErrorConvert, combine};
+use winnow_error::{AddContext, EmptyError, ErrMode, ErrorConvert, ParserError, combine};
+use winnow_stream::Stream;
 
-type Mode = ErrMode<EmptyError>;
-
-const SOFT: Mode = Backtrack(EmptyError);
-
-fn append(alloc: Global, text: &str) -> Result<(), AllocError> {
-    append_all(alloc, &text, SOFT, text.len())?;
-    Ok(())
+fn combine_all<I: Stream, E: ParserError<I>>(
+    alloc: Global,
+    input: &I,
+    count: usize,
+) -> Result<(), AllocError> {
+    let tree = bracketed::<I, E>(alloc, input, count)?;
+    outcome(combine::<I, E>(alloc, tree))
 }
 
-fn or(alloc: Global, text: &str) -> Result<(), AllocError> {
-    let _error: Mode = join_all(alloc, &text, text.len())?;
-    Ok(())
+fn convert<E: ErrorConvert<E> + Copy + Drop>(alloc: Global, error: E) -> Result<(), AllocError> {
+    outcome(Backtrack(error).convert::<E>(alloc))?;
+    outcome(Cut(error).convert::<E>(alloc))
 }
 
-// Adds contexts to an error that lets others be tried, and to one that does not.
-fn add_contexts(alloc: Global, text: &str) -> Result<(), AllocError> {
-    tell_all(alloc, &text, SOFT, text.len())?;
-    tell_all(alloc, &text, Cut(EmptyError), text.len())?;
-    Ok(())
+fn convert_by<E: ErrorConvert<E> + Drop>(alloc: Global, error: E) -> Result<(), AllocError> {
+    outcome(error.convert(alloc))
 }
 
-fn combine_all(alloc: Global, text: &str) -> Result<(), AllocError> {
-    let tree = bracketed::<&str, EmptyError>(alloc, &text, text.len())?;
-    combine::<&str, EmptyError>(alloc, tree)?;
-    Ok(())
+fn convert_by_trait<E: ErrorConvert<E> + Copy + Drop>(
+    alloc: Global,
+    error: E,
+) -> Result<(), AllocError> {
+    convert_by::<ErrMode<E>>(alloc, Backtrack(error))?;
+    convert_by::<ErrMode<E>>(alloc, Cut(error))
 }
 
-fn convert(alloc: Global) -> Result<(), AllocError> {
-    let _soft: Mode = SOFT.convert(alloc)?;
-    let _hard: Mode = Cut(EmptyError).convert(alloc)?;
-    Ok(())
-}
-
-fn convert_by<E: ErrorConvert<E2>, E2: Drop>(alloc: Global, error: E) -> Result<(), AllocError> {
-    let _error = error.convert(alloc)?;
-    Ok(())
-}
-
-fn convert_by_trait(alloc: Global) -> Result<(), AllocError> {
-    convert_by::<Mode, Mode>(alloc, SOFT)?;
-    convert_by::<Mode, Mode>(alloc, Cut(EmptyError))
+// The calls of modes of this error.
+fn rows<I: Stream, E: ParserError<I> + AddContext<I, StrContext> + ErrorConvert<E> + Copy>(
+    alloc: Global,
+    input: &I,
+    error: E,
+    count: usize,
+) -> [Call; 6]
+    requires { I.valid input.now }
+{
+    let [appended, joined, told] = grow::<I, ErrMode<E>>(alloc, input, count);
+    [
+        ("<ErrMode<E> as ParserError<I>>::append", appended),
+        ("<ErrMode<E> as ParserError<I>>::or", joined),
+        ("<ErrMode<E> as AddContext<I, C>>::add_context", told),
+        ("combine", combine_all::<I, E>(alloc, input, count)),
+        ("ErrMode<E>::convert", convert(alloc, error)),
+        (
+            "<ErrMode<E> as ErrorConvert<ErrMode<E2>>>::convert",
+            convert_by_trait(alloc, error),
+        ),
+    ]
 }
 
 /// The calls of modes.
 pub fn calls(alloc: Global, text: &str) -> [Call; 6] {
-    [
-        (
-            "<ErrMode<E> as ParserError<I>>::append",
-            append(alloc, text),
-        ),
-        ("<ErrMode<E> as ParserError<I>>::or", or(alloc, text)),
-        (
-            "<ErrMode<E> as AddContext<I, C>>::add_context",
-            add_contexts(alloc, text),
-        ),
-        ("combine", combine_all(alloc, text)),
-        ("ErrMode<E>::convert", convert(alloc)),
-        (
-            "<ErrMode<E> as ErrorConvert<ErrMode<E2>>>::convert",
-            convert_by_trait(alloc),
-        ),
-    ]
+    rows::<&str, EmptyError>(alloc, &text, EmptyError, text.len())
 }

@@ -1,14 +1,17 @@
 //! Parsers that gather as many values as there are items, that join the errors of alternatives, and
 //! that add what was being read.
 
-use crate::Call;
+use crate::{Call, outcome};
 use std::alloc::{AllocError, Global};
-use winnow_ascii::{dec_int, dec_uint};
+use winnow_ascii::{dec_int, dec_uint, escaped};
 use winnow_binary::length_repeat;
 use winnow_combinator::{alt, empty, eof, fail, repeat, repeat_till, separated};
+use winnow_count::ParseSlice;
 use winnow_error::{AddContext, EmptyError, ParserError};
+use winnow_match::Compare;
 use winnow_parser::{Failure, Parser};
-use winnow_stream::StreamIsPartial;
+use winnow_sets::AsChar;
+use winnow_stream::{Stream, StreamIsPartial};
 use winnow_token::any;
 use winnow_tree::TreeError;
 
@@ -33,75 +36,92 @@ where
     Ok(())
 }
 
-/// Parsers that gather the characters of the text.
-pub fn gathers(alloc: Global, text: &str) -> [Call; 6] {
+// Reads a whole input, and the input after its first character.
+fn read_whole<I, E: ParserError<I>>(alloc: Global, input: I) -> Result<(), AllocError>
+where
+    I: Stream<Token = char> + StreamIsPartial + Copy + Drop,
+    I::PartialState: Drop,
+    requires { I.valid input }
+{
     let list = repeat::<_, Vec<char>, _>(0.., any());
-    let word = repeat::<_, String, _>(0.., any());
-    let separate = separated::<_, _, Vec<char>, _>(0.., any(), empty());
-    let till = repeat_till::<_, _, Vec<char>, _>(0.., any(), eof());
-    let counted = length_repeat::<_, _, Vec<char>>(empty().value(text.len()), any());
-    let word = ask::<_, EmptyError, _>(alloc, text, 0, &word);
-    [
-        ("<Accumulated<A> as Begin<T>>::begin", word),
-        ("<Accumulated<A> as Gather<T>>::take", word),
-        (
-            "<Repeated<P, G> as Parser<I, E>>::parse_next",
-            ask::<_, EmptyError, _>(alloc, text, 0, &list),
-        ),
-        (
-            "<Separation<P, S, G> as Parser<I, E>>::parse_next",
-            ask::<_, EmptyError, _>(alloc, text, 0, &separate),
-        ),
-        (
-            "<RepetitionTill<P, Q, G> as Parser<I, E>>::parse_next",
-            ask::<_, EmptyError, _>(alloc, text, 0, &till),
-        ),
-        (
-            "<LengthRepeated<P, Q, A> as Parser<I, E>>::parse_next",
-            ask::<_, EmptyError, _>(alloc, text, 0, &counted),
-        ),
-    ]
+    outcome(Parser::<I, E>::parse(&list, alloc, input))?;
+    outcome(Parser::<I, E>::parse(&any(), alloc, input))
 }
 
-// Reads the whole text, and the text after its first character.
-fn read_whole(alloc: Global, text: &str) -> Result<(), AllocError> {
+// Reads an input, and returns what remains.
+fn read_front<I, E: ParserError<I>>(alloc: Global, input: I) -> Result<(), AllocError>
+where
+    I: Stream<Token = char> + StreamIsPartial + Drop,
+    requires { I.valid input }
+{
     let list = repeat::<_, Vec<char>, _>(0.., any());
-    let _read = Parser::<_, EmptyError>::parse(&list, alloc, text)?;
-    let _stopped = Parser::<_, EmptyError>::parse(&any(), alloc, text)?;
-    Ok(())
-}
-
-// Reads the text, and returns what remains.
-fn read_front(alloc: Global, text: &str) -> Result<(), AllocError> {
-    let list = repeat::<_, Vec<char>, _>(0.., any());
-    match Parser::<_, EmptyError>::parse_peek(&list, alloc, text) {
+    match Parser::<I, E>::parse_peek(&list, alloc, input) {
         Err(Failure::Refused(refused)) => Err(refused),
         _ => Ok(()),
     }
 }
 
-/// The calls of a parser that ask it.
-pub fn readings(alloc: Global, text: &str) -> [Call; 2] {
+// Parsers that gather `count` characters, which are all of the input.
+fn gather_all<I, E: ParserError<I>>(alloc: Global, input: I, count: usize) -> [Call; 9]
+where
+    I: Stream<Token = char> + StreamIsPartial + Compare<char> + Copy + Drop,
+    I::Slice: Drop,
+    I::PartialState: Drop,
+    requires { I.valid input }
+{
+    let list = repeat::<_, Vec<char>, _>(0.., any());
+    let word = repeat::<_, String, _>(0.., any());
+    let separate = separated::<_, _, Vec<char>, _>(0.., any(), empty());
+    let till = repeat_till::<_, _, Vec<char>, _>(0.., any(), eof());
+    let counted = length_repeat::<_, _, Vec<char>>(empty().value(count), any());
+    let spelled = escaped::<_, _, String>(any(), '%', any());
+    let word = ask::<I, E, _>(alloc, input, 0, &word);
     [
-        ("Parser::parse", read_whole(alloc, text)),
-        ("Parser::parse_peek", read_front(alloc, text)),
+        ("<Accumulated<A> as Begin<T>>::begin", word),
+        ("<Accumulated<A> as Gather<T>>::take", word),
+        (
+            "<Repeated<P, G> as Parser<I, E>>::parse_next",
+            ask::<I, E, _>(alloc, input, 0, &list),
+        ),
+        (
+            "<Separation<P, S, G> as Parser<I, E>>::parse_next",
+            ask::<I, E, _>(alloc, input, 0, &separate),
+        ),
+        (
+            "<RepetitionTill<P, Q, G> as Parser<I, E>>::parse_next",
+            ask::<I, E, _>(alloc, input, 0, &till),
+        ),
+        (
+            "<LengthRepeated<P, Q, A> as Parser<I, E>>::parse_next",
+            ask::<I, E, _>(alloc, input, 0, &counted),
+        ),
+        (
+            "<EscapedText<P, C, Q, A> as Parser<I, E>>::parse_next",
+            ask::<I, E, _>(alloc, input, 0, &spelled),
+        ),
+        ("Parser::parse", read_whole::<I, E>(alloc, input)),
+        ("Parser::parse_peek", read_front::<I, E>(alloc, input)),
     ]
 }
 
-// Parsers that fail, once and `count` times more: two to ten alternatives, and one with a context.
-fn fail_all<I: StreamIsPartial + Copy + Drop, E: AddContext<I, char> + ParserError<I>>(
+/// Parsers that gather the characters of the text.
+pub fn gathers(alloc: Global, text: &str) -> [Call; 9] {
+    gather_all::<&str, EmptyError>(alloc, text, text.len())
+}
+
+// Two to ten alternatives of one parser, asked once and `count` times more.
+fn alternatives<I: StreamIsPartial + Copy + Drop, E: ParserError<I>, F: Parser<I, E> + Copy>(
     alloc: Global,
     input: I,
     count: usize,
-) -> [Call; 10]
-    requires { I.valid input }
+    f: F,
+) -> [Call; 9]
+where
+    F::Output: Drop,
+    requires ready { F.ready f }
+    requires valid { I.valid input }
 {
-    let f = fail();
     [
-        (
-            "<Contextual<P, C, I, E> as Parser<I, E>>::parse_next",
-            ask::<I, E, _>(alloc, input, count, &f.context('a')),
-        ),
         (
             "<Alternatives<(A, B)> as Parser<I, E>>::parse_next",
             ask::<I, E, _>(alloc, input, count, &alt((f, f))),
@@ -141,22 +161,35 @@ fn fail_all<I: StreamIsPartial + Copy + Drop, E: AddContext<I, char> + ParserErr
     ]
 }
 
-/// Parsers whose failures take memory.
-pub fn failures(alloc: Global, text: &str) -> [Call; 10] {
-    fail_all::<&str, TreeError<&str, char>>(alloc, text, text.len())
-}
-
-/// Parsers of numbers whose alternatives all fail.
-pub fn numbers(alloc: Global, text: &str) -> [Call; 2] {
-    let count = text.len();
-    [
+// Parsers that fail, once and `count` times more: alternatives, one with a context, and numbers.
+fn fail_all<I: StreamIsPartial + Copy + Drop, E: AddContext<I, char> + ParserError<I>>(
+    alloc: Global,
+    input: I,
+    count: usize,
+) -> ([Call; 9], [Call; 3])
+where
+    I::Token: AsChar + Copy,
+    I::Slice: ParseSlice<u8> + ParseSlice<i8> + Drop,
+    requires { I.valid input }
+{
+    let others = [
+        (
+            "<Contextual<P, C, I, E> as Parser<I, E>>::parse_next",
+            ask::<I, E, _>(alloc, input, count, &fail().context('a')),
+        ),
         (
             "<DecimalUnsigned<R> as Parser<I, E>>::parse_next",
-            ask::<&str, TreeError<&str, char>, _>(alloc, text, count, &dec_uint::<u8>()),
+            ask::<I, E, _>(alloc, input, count, &dec_uint::<u8>()),
         ),
         (
             "<DecimalSigned<R> as Parser<I, E>>::parse_next",
-            ask::<&str, TreeError<&str, char>, _>(alloc, text, count, &dec_int::<i8>()),
+            ask::<I, E, _>(alloc, input, count, &dec_int::<i8>()),
         ),
-    ]
+    ];
+    (alternatives::<I, E, _>(alloc, input, count, fail()), others)
+}
+
+/// Parsers whose failures take memory.
+pub fn failures(alloc: Global, text: &str) -> ([Call; 9], [Call; 3]) {
+    fail_all::<&str, TreeError<&str, char>>(alloc, text, text.len())
 }

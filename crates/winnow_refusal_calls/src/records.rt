@@ -43,20 +43,24 @@ fn push_piece(reader: &mut ByteReader<OneByte>, piece: &[u8]) -> Result<(), Allo
     reader.push(piece)
 }
 
-// Pushes bytes that are not read: all at once, and then one by one.
-fn push_bytes(alloc: Global, bytes: &[u8]) -> Result<(), AllocError> {
-    let mut reader = ByteReader::new(alloc, OneByte);
-    push_piece(&mut reader, bytes)?;
+// Pushes bytes: all at once, and then one by one.
+fn push_all(reader: &mut ByteReader<OneByte>, bytes: &[u8]) -> Result<(), AllocError> {
+    push_piece(reader, bytes)?;
     for _ in 0..bytes.len() {
-        push_piece(&mut reader, b"a")?;
+        push_piece(reader, b"a")?;
     }
     Ok(())
 }
 
-// Reads all bytes, each a record, and asks once more after the end.
-fn read_bytes(alloc: Global, bytes: &[u8]) -> Result<(), AllocError> {
+// Pushes bytes that are not read.
+fn push_bytes(alloc: Global, bytes: &[u8]) -> Result<(), AllocError> {
     let mut reader = ByteReader::new(alloc, OneByte);
-    push_piece(&mut reader, bytes)?;
+    push_all(&mut reader, bytes)
+}
+
+// Reads all bytes, each a record, and asks once more after the end.
+fn read_all(reader: &mut ByteReader<OneByte>, bytes: &[u8]) -> Result<(), AllocError> {
+    push_piece(reader, bytes)?;
     reader.end();
     for _ in 0..=bytes.len() {
         match reader.read_next() {
@@ -65,6 +69,11 @@ fn read_bytes(alloc: Global, bytes: &[u8]) -> Result<(), AllocError> {
         }
     }
     Ok(())
+}
+
+fn read_bytes(alloc: Global, bytes: &[u8]) -> Result<(), AllocError> {
+    let mut reader = ByteReader::new(alloc, OneByte);
+    read_all(&mut reader, bytes)
 }
 
 /// A reader that is pushed to, and one that is asked.

@@ -1,6 +1,6 @@
 //! Scripts of as many steps as there are items, and the calls that a run is made of.
 
-use crate::Call;
+use crate::{Call, outcome};
 use std::alloc::{AllocError, Global};
 use winnow_match::Needles;
 use winnow_run::SearchStep::{Call as CallOf, Compare, Find};
@@ -37,15 +37,13 @@ fn script(alloc: Global, count: usize) -> Result<Vec<Step<NoSet>>, AllocError> {
 fn run_text(alloc: Global, text: &str) -> Result<(), AllocError> {
     let script = script(alloc, text.len())?;
     let mut input = text;
-    let _answers = run(alloc, &mut input, &script)?;
-    Ok(())
+    outcome(run(alloc, &mut input, &script))
 }
 
 fn look_ahead(alloc: Global, text: &str) -> Result<(), AllocError> {
     let script = script(alloc, text.len())?;
     let mut input = text.as_bytes();
-    let _answers = run_and_reset(alloc, &mut input, &script)?;
-    Ok(())
+    outcome(run_and_reset(alloc, &mut input, &script))
 }
 
 type TextStep<'k> = SearchStep<NoSet, &'k str>;
@@ -63,8 +61,7 @@ fn search_script<'k>(alloc: Global, text: &'k str) -> Result<Vec<TextStep<'k>>, 
 fn search(alloc: Global, text: &str) -> Result<(), AllocError> {
     let script = search_script(alloc, text)?;
     let mut input = text;
-    let _answers = run_search(alloc, &mut input, &script)?;
-    Ok(())
+    outcome(run_search(alloc, &mut input, &script))
 }
 
 // Runs one step by itself, which lists all tokens.

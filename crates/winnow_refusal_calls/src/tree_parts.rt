@@ -1,6 +1,6 @@
 //! The parts of a tree, at inputs that are as long as there are items.
 
-use crate::Call;
+use crate::{Call, outcome};
 use std::alloc::{AllocError, Global};
 use winnow_context::StrContext;
 use winnow_context::StrContext::Label;
@@ -19,31 +19,6 @@ pub fn context<I>(input: I) -> TreeErrorContext<I, StrContext> {
     }
 }
 
-fn own_base_of_text(alloc: Global, text: &str) -> Result<(), AllocError> {
-    let _base = base(text).into_owned(alloc)?;
-    Ok(())
-}
-
-fn own_base_of_bytes(alloc: Global, bytes: &[u8]) -> Result<(), AllocError> {
-    let _base = base(bytes).into_owned(alloc)?;
-    Ok(())
-}
-
-fn own_context_of_text(alloc: Global, text: &str) -> Result<(), AllocError> {
-    let _context = context(text).into_owned(alloc)?;
-    Ok(())
-}
-
-fn own_context_of_bytes(alloc: Global, bytes: &[u8]) -> Result<(), AllocError> {
-    let _context = context(bytes).into_owned(alloc)?;
-    Ok(())
-}
-
-fn write_context(alloc: Global, text: &str) -> Result<(), AllocError> {
-    let _text = context(text).text(alloc)?;
-    Ok(())
-}
-
 // Writes the text of an error without a cause, and of one with the text as its cause.
 fn write_base(alloc: Global, text: &str) -> Result<(), AllocError> {
     let _alone = base(text).text(alloc)?;
@@ -59,21 +34,24 @@ pub fn calls(alloc: Global, text: &str) -> [Call; 6] {
     [
         (
             "TreeErrorBase<&str>::into_owned",
-            own_base_of_text(alloc, text),
+            outcome(base(text).into_owned(alloc)),
         ),
         (
             "TreeErrorBase<&[u8]>::into_owned",
-            own_base_of_bytes(alloc, bytes),
+            outcome(base(bytes).into_owned(alloc)),
         ),
         (
             "TreeErrorContext<&str, C>::into_owned",
-            own_context_of_text(alloc, text),
+            outcome(context(text).into_owned(alloc)),
         ),
         (
             "TreeErrorContext<&[u8], C>::into_owned",
-            own_context_of_bytes(alloc, bytes),
+            outcome(context(bytes).into_owned(alloc)),
         ),
         ("TreeErrorBase<I>::text", write_base(alloc, text)),
-        ("TreeErrorContext<I, C>::text", write_context(alloc, text)),
+        (
+            "TreeErrorContext<I, C>::text",
+            outcome(context(text).text(alloc)),
+        ),
     ]
 }

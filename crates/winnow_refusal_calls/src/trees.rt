@@ -1,11 +1,13 @@
 //! Trees with as many alternatives and frames as there are items, and with inputs as long.
 
-use crate::Call;
-use crate::growing::{append_all, bracketed, join_all, tell_all};
+use crate::growing::{bracketed, grow};
 use crate::tree_parts::{base, context};
+use crate::{Call, outcome};
 use std::alloc::{AllocError, Global};
+use std::fmt::Display;
 use winnow_context::StrContext;
-use winnow_error::{ErrorConvert, ParserError};
+use winnow_error::ErrorConvert;
+use winnow_stream::Stream;
 use winnow_tree::{TreeError, TreeErrorFrame, combine_trees};
 use winnow_views::Bits;
 
@@ -31,91 +33,85 @@ fn grown<I: Copy>(alloc: Global, short: I, long: I, count: usize) -> Result<Tree
     Ok(TreeError::Stack { base, stack })
 }
 
-fn append(alloc: Global, text: &str) -> Result<(), AllocError> {
-    let error: Tree<&str> = TreeError::Base(base(text));
-    let _error = append_all(alloc, &text, error, text.len())?;
-    Ok(())
+fn combine<I: Stream + Copy>(alloc: Global, input: &I, count: usize) -> Result<(), AllocError> {
+    let tree = bracketed::<I, Tree<I>>(alloc, input, count)?;
+    outcome(combine_trees(alloc, tree))
 }
 
-fn or(alloc: Global, text: &str) -> Result<(), AllocError> {
-    let _error: Tree<&str> = join_all(alloc, &text, text.len())?;
-    Ok(())
+fn map_inputs<I: Copy>(alloc: Global, short: I, long: I, count: usize) -> Result<(), AllocError> {
+    outcome(grown(alloc, short, long, count)?.map_input(alloc, |input: I| input))
 }
 
-fn add_contexts(alloc: Global, text: &str) -> Result<(), AllocError> {
-    let error: Tree<&str> = TreeError::Base(base(text));
-    let _error = tell_all(alloc, &text, error, text.len())?;
-    Ok(())
+fn write<I: Copy + Display>(
+    alloc: Global,
+    short: I,
+    long: I,
+    count: usize,
+) -> Result<(), AllocError> {
+    let error = grown(alloc, short, long, count)?;
+    outcome(error.text(alloc))
 }
 
-fn combine(alloc: Global, text: &str) -> Result<(), AllocError> {
-    let tree = bracketed::<&str, Tree<&str>>(alloc, &text, text.len())?;
-    let _error = combine_trees(alloc, tree)?;
-    Ok(())
+fn to_bits<I: Copy>(
+    alloc: Global,
+    short: I,
+    long: I,
+    count: usize,
+) -> Result<Tree<Bits<I>>, AllocError> {
+    grown(alloc, short, long, count)?.convert(alloc)
 }
 
-fn map_inputs(alloc: Global, text: &str) -> Result<(), AllocError> {
-    let error = grown(alloc, "", text, text.len())?;
-    let _error = error.map_input(alloc, |input: &str| input.len())?;
-    Ok(())
+fn convert_back<I: Copy>(alloc: Global, short: I, long: I, count: usize) -> Result<(), AllocError> {
+    let back: Result<Tree<I>, AllocError> = to_bits(alloc, short, long, count)?.convert(alloc);
+    outcome(back)
 }
 
-fn own_texts(alloc: Global, text: &str) -> Result<(), AllocError> {
-    let _error = grown(alloc, "", text, text.len())?.into_owned(alloc)?;
-    Ok(())
-}
-
-fn own_bytes(alloc: Global, bytes: &[u8]) -> Result<(), AllocError> {
-    let _error = grown(alloc, b"".as_slice(), bytes, bytes.len())?.into_owned(alloc)?;
-    Ok(())
-}
-
-fn write(alloc: Global, text: &str) -> Result<(), AllocError> {
-    let error = grown(alloc, "", text, text.len())?;
-    let _text = error.text(alloc)?;
-    Ok(())
-}
-
-// Converts a tree at numbers in place of inputs.
-fn to_bits(alloc: Global, count: usize) -> Result<Tree<Bits<usize>>, AllocError> {
-    grown(alloc, 0, count, count)?.convert(alloc)
-}
-
-fn convert_to_bits(alloc: Global, count: usize) -> Result<(), AllocError> {
-    let _error = to_bits(alloc, count)?;
-    Ok(())
-}
-
-fn convert_back(alloc: Global, count: usize) -> Result<(), AllocError> {
-    let _error: Tree<usize> = to_bits(alloc, count)?.convert(alloc)?;
-    Ok(())
-}
-
-/// The calls of trees.
-pub fn calls(alloc: Global, text: &str) -> [Call; 10] {
-    let bytes = text.as_bytes();
+// The calls of trees at these inputs.
+fn rows<I: Stream + Copy + Display>(alloc: Global, short: I, long: I, count: usize) -> [Call; 8]
+    requires { I.valid long }
+{
+    let [appended, joined, told] = grow::<I, Tree<I>>(alloc, &long, count);
     [
+        ("<TreeError<I, C> as ParserError<I>>::append", appended),
+        ("<TreeError<I, C> as ParserError<I>>::or", joined),
+        ("<TreeError<I, C> as AddContext<I, C>>::add_context", told),
+        ("combine_trees", combine(alloc, &long, count)),
         (
-            "<TreeError<I, C> as ParserError<I>>::append",
-            append(alloc, text),
+            "TreeError<I, C>::map_input",
+            map_inputs(alloc, short, long, count),
         ),
-        ("<TreeError<I, C> as ParserError<I>>::or", or(alloc, text)),
-        (
-            "<TreeError<I, C> as AddContext<I, C>>::add_context",
-            add_contexts(alloc, text),
-        ),
-        ("combine_trees", combine(alloc, text)),
-        ("TreeError<I, C>::map_input", map_inputs(alloc, text)),
-        ("TreeError<&str, C>::into_owned", own_texts(alloc, text)),
-        ("TreeError<&[u8], C>::into_owned", own_bytes(alloc, bytes)),
-        ("TreeError<I, C>::text", write(alloc, text)),
+        ("TreeError<I, C>::text", write(alloc, short, long, count)),
         (
             "<TreeError<I, C> as ErrorConvert<TreeError<Bits<I>, C>>>::convert",
-            convert_to_bits(alloc, text.len()),
+            outcome(to_bits(alloc, short, long, count)),
         ),
         (
             "<TreeError<Bits<I>, C> as ErrorConvert<TreeError<I, C>>>::convert",
-            convert_back(alloc, text.len()),
+            convert_back(alloc, short, long, count),
+        ),
+    ]
+}
+
+/// The calls of trees.
+pub fn calls(alloc: Global, text: &str) -> [Call; 8] {
+    rows(alloc, "", text, text.len())
+}
+
+fn own_texts(alloc: Global, text: &str) -> Result<(), AllocError> {
+    outcome(grown(alloc, "", text, text.len())?.into_owned(alloc))
+}
+
+fn own_bytes(alloc: Global, bytes: &[u8]) -> Result<(), AllocError> {
+    outcome(grown(alloc, b"".as_slice(), bytes, bytes.len())?.into_owned(alloc))
+}
+
+/// The calls that copy the inputs of trees.
+pub fn copies(alloc: Global, text: &str) -> [Call; 2] {
+    [
+        ("TreeError<&str, C>::into_owned", own_texts(alloc, text)),
+        (
+            "TreeError<&[u8], C>::into_owned",
+            own_bytes(alloc, text.as_bytes()),
         ),
     ]
 }
