@@ -106,8 +106,9 @@ fn passed_on_law<I: StreamIsPartial + Display, E: Debug>()
         → t ≡ s.input }
 {}
 
-// Whatever a call does to the flag of a stream, a place and a state around it stay as they are; a
-// flag belongs to no other part of the stream; and a plain stream has none.
+// Whatever a call does to the flag of a stream, a place and a state around it stay as they are, and
+// their flag is that of the stream; a flag belongs to no other part of the stream; and a plain
+// stream has none.
 fn flag_law<'i, I: StreamIsPartial, S: Debug>()
     ensures start_stays { (s t : LocatingSlice I I.Checkpoint I.Rest I.Checkpoint.Rest)
         → ⟦<LocatingSlice<I> as StreamIsPartial>⟧.same_but_flag s t → s.start ≡ t.start }
@@ -116,11 +117,19 @@ fn flag_law<'i, I: StreamIsPartial, S: Debug>()
     ensures located_stays { (s t : LocatingSlice I I.Checkpoint I.Rest I.Checkpoint.Rest)
         → ⟦<LocatingSlice<I> as StreamIsPartial>⟧.same_but_flag s t
         → I.same_but_flag s.input t.input }
+    ensures located_flag { (s : LocatingSlice I I.Checkpoint I.Rest I.Checkpoint.Rest)
+        → ⟦<LocatingSlice<I> as StreamIsPartial>⟧.partial_state s ≡ I.partial_state s.input }
+    ensures located_more { (s : LocatingSlice I I.Checkpoint I.Rest I.Checkpoint.Rest)
+        → ⟦<LocatingSlice<I> as StreamIsPartial>⟧.expects_more s ≡ I.expects_more s.input }
     ensures state_stays { (s t : Stateful I S)
         → ⟦<Stateful<I, S> as StreamIsPartial>⟧.same_but_flag s t → s.state ≡ t.state }
     ensures counted_stays { (s t : Stateful I S)
         → ⟦<Stateful<I, S> as StreamIsPartial>⟧.same_but_flag s t
         → I.same_but_flag s.input t.input }
+    ensures counted_flag { (s : Stateful I S)
+        → ⟦<Stateful<I, S> as StreamIsPartial>⟧.partial_state s ≡ I.partial_state s.input }
+    ensures counted_more { (s : Stateful I S)
+        → ⟦<Stateful<I, S> as StreamIsPartial>⟧.expects_more s ≡ I.expects_more s.input }
     ensures flagged_stays { (s t : Partial I)
         → ⟦<Partial<I> as StreamIsPartial>⟧.same_but_flag s t
         → partial_inner s ≡ partial_inner t }
