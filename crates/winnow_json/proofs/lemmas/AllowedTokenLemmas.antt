@@ -13,15 +13,15 @@ use Rattle.winnow_json.specs.declared.turns.Expected.TheVariants as expect
 use Rattle.winnow_json.specs.declared.turns.Turn.{Turn}
 use Rattle.winnow_json.proofs.lemmas.ValueTurnLemmas.{closing}
 
--- a value begins with it
-abbrev pub BeginsValue : Token → Type 0
-BeginsValue token.StartArray = ⊤
-BeginsValue token.StartObject = ⊤
-BeginsValue token.Null = ⊤
-BeginsValue (token.Bool b) = ⊤
-BeginsValue (token.Number n) = ⊤
-BeginsValue (token.String v) = ⊤
-BeginsValue other = ⊥
+-- a value starts with the token
+abbrev pub StartsValue : Token → Type 0
+StartsValue token.StartArray = ⊤
+StartsValue token.StartObject = ⊤
+StartsValue token.Null = ⊤
+StartsValue (token.Bool b) = ⊤
+StartsValue (token.Number n) = ⊤
+StartsValue (token.String v) = ⊤
+StartsValue other = ⊥
 
 -- a value begins only where it does not stand too deep
 within-shallow : (deep : Bool) (x : Turn) → IsAllowed (within deep x) → deep ≡ false
@@ -31,7 +31,7 @@ within-shallow false x may = refl
 module _ (deep : Bool) (i : Bracket) where
   -- where a value is expected, one begins
   pub value-allowed : (t : Token) → IsAllowed (turn_of deep i expect.Value t)
-      → BeginsValue t × (deep ≡ false)
+      → StartsValue t × (deep ≡ false)
   value-allowed token.StartArray may = (tt, within-shallow deep _ may)
   value-allowed token.EndArray may = absurd may
   value-allowed token.StartObject may = (tt, within-shallow deep _ may)
@@ -46,7 +46,7 @@ module _ (deep : Bool) (i : Bracket) where
 
   -- after the bracket of an array, one does or the array ends
   pub first-allowed : (t : Token) → IsAllowed (turn_of deep i expect.FirstValue t)
-      → (t ≡ token.EndArray) ⊎ (BeginsValue t × (deep ≡ false))
+      → (t ≡ token.EndArray) ⊎ (StartsValue t × (deep ≡ false))
   first-allowed token.StartArray may = inr (value-allowed token.StartArray may)
   first-allowed token.EndArray may = inl refl
   first-allowed token.StartObject may = inr (value-allowed token.StartObject may)

@@ -25,7 +25,7 @@ use Rattle.winnow_json.proofs.lemmas.FoundLemmas.{none-here}
 use Rattle.winnow_json.proofs.lemmas.LayerLemmas.{out-null, out-bool, out-number}
 use Rattle.winnow_json.proofs.lemmas.JsonTokenLemmas.{damage-none}
 use Rattle.winnow_json.proofs.lemmas.ValueTurnLemmas.{Runs, runs-one, past, closing, close_byte, later_in, comma-next, inside, inner-is, next-turn, IsItem, ExpectsValue, HasRoom, value-begins, name-turn, array-place, value-inside, member-inside, value-runs}
-use Rattle.winnow_json.proofs.lemmas.AllowedTokenLemmas.{BeginsValue, value-allowed, first-allowed, key-allowed, first_key-allowed, colon-allowed, next-allowed, end-token}
+use Rattle.winnow_json.proofs.lemmas.AllowedTokenLemmas.{StartsValue, value-allowed, first-allowed, key-allowed, first_key-allowed, colon-allowed, next-allowed, end-token}
 use Rattle.winnow_json.proofs.lemmas.LeadingLemmas.{Leads, one-stands, goes-on, tokens-follow}
 
 -- ---- Ways to the end
@@ -75,7 +75,7 @@ module _ (s : TextState) where
 
   -- where no array ends, a token that may come begins a value that is not too deep
   value-place : ExpectsValue s → (b c : List ℕ) → Unclosed bracket.Array s.expected b → (t : Token)
-      → TokenAhead false t b c → IsAllowed (turn_at s t) → BeginsValue t × (deep_at ≡ false)
+      → TokenAhead false t b c → IsAllowed (turn_at s t) → StartsValue t × (deep_at ≡ false)
   value-place (inl e) b c apart t h may =
       let i = inner_of s.open_brackets in
       value-allowed deep_at i t (subst (λ x. IsAllowed (turn_of deep_at i x t)) e may)
@@ -83,8 +83,8 @@ module _ (s : TextState) where
       let i = inner_of s.open_brackets in
       by (first-allowed deep_at i t (subst (λ x. IsAllowed (turn_of deep_at i x t)) e may))
     where
-      by : (t ≡ token.EndArray) ⊎ (BeginsValue t × (deep_at ≡ false))
-          → BeginsValue t × (deep_at ≡ false)
+      by : (t ≡ token.EndArray) ⊎ (StartsValue t × (deep_at ≡ false))
+          → StartsValue t × (deep_at ≡ false)
       by (inl is) =
           absurd (apart e (starts-first 93 (after_blanks b) c (subst (λ u. TokenAhead false u b c) is h)))
       by (inr x) = x
@@ -97,7 +97,7 @@ module _ (s : TextState) where
       omega (arith, deep, within))
 
 -- where no value begins, no token that begins one stands
-none-begins : (b rest c : List ℕ) (t : Token) → NoneBegins false b rest → BeginsValue t
+none-begins : (b rest c : List ℕ) (t : Token) → NoneBegins false b rest → StartsValue t
     → ¬ (TokenHere false t b c)
 none-begins b rest c token.StartArray none begins h = none.0.2 (starts-first 91 b c h)
 none-begins b rest c token.EndArray none begins h = begins
@@ -213,7 +213,7 @@ module _ (s : TextState) (k : Bracket) {T : Type 0} (inner : T → List ℕ → 
 
 -- ---- Values
 
--- no way leads on from where a value breaks off, which stands within so many arrays and objects
+-- no way leads on from where a value breaks off that stands within `d` more arrays and objects
 abbrev Broken : ℕ → Type 0
 Broken d = (b r : List ℕ) → HereBreaksOff false d (after_blanks b) r → (s : TextState)
     → ExpectsValue s → length s.open_brackets + d ≡ s.depth

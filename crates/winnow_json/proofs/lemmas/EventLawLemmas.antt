@@ -14,13 +14,13 @@ use Rattle.winnow_json.specs.ValueEvents.{events_of, ReadsValue, AreFirstOf, Are
 use Rattle.winnow_json.specs.declared.tokens.Token.{Token}
 use Rattle.winnow_json.specs.declared.tokens.Token.TheVariants as token
 use Rattle.winnow_json.specs.declared.tokens.JsonToken.{JsonToken}
+use Rattle.winnow_json.specs.declared.documents.Damage.{Damage}
 use Rattle.winnow_json.specs.declared.event_reader.Event.{Event}
 use Rattle.winnow_json.specs.declared.event_reader.EventError.{EventError}
 use Rattle.winnow_json.specs.declared.event_reader.EventError.TheVariants as error
 use Rattle.winnow_json.specs.declared.value.Value.{Value}
 use Rattle.winnow_json.proofs.lemmas.JsonTokenLemmas.{damage-none}
 use Rattle.winnow_json.proofs.lemmas.TokenReadingLemmas.{read-tokens}
-use Rattle.winnow_json.specs.declared.documents.Damage.{Damage}
 use Rattle.winnow_json.proofs.lemmas.BrokenTurnLemmas.{text-broken}
 use Rattle.winnow_json.proofs.lemmas.LeadingLemmas.{Follows, document-leads, goes-on, one-stands, none-left, tokens-follow}
 
@@ -63,8 +63,8 @@ module _ (r : EventState) (input : List ℕ) (events : List Event) (value : Valu
       tokens-led r.tokens r.text.depth input h.more value h.whole h.may h.given.taken h.given.others events r.text h.given.read h.given.takes
 
   -- so it gave the first events
-  pub value-begins : AreFirstOf events value
-  value-begins = (value-led.follows.left, value-led.follows.same)
+  pub value-first : AreFirstOf events value
+  value-first = (value-led.follows.left, value-led.follows.same)
 
   -- and all where the text is whole
   pub value-whole : IsWhole r → AreAllOf events value

@@ -199,7 +199,7 @@ module _ (s : TextState) (k : Bracket) where
 abbrev pub ExpectsValue : TextState → Type 0
 ExpectsValue s = (s.expected ≡ expect.Value) ⊎ (s.expected ≡ expect.FirstValue)
 
--- within fewer than so many more arrays and objects
+-- it may stand there within fewer than `depth` more arrays and objects
 abbrev pub HasRoom : TextState → ℕ → Type 0
 HasRoom s depth = length s.open_brackets + depth ≤ suc s.depth
 

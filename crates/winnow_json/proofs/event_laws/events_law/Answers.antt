@@ -1,8 +1,8 @@
-use Rattle.winnow_json.proofs.lemmas.EventLawLemmas.{value-begins, value-whole, value-sound, value-goes_on, whole-unbroken}
+use Rattle.winnow_json.proofs.lemmas.EventLawLemmas.{value-first, value-whole, value-sound, value-goes_on, whole-unbroken}
 use Rattle.winnow_json.proofs.event_laws.events_law.Goals as goal
 
 pub returns-clause-begins : goal.returns-clause-begins
-returns-clause-begins c r input events value h = value-begins r input events value h
+returns-clause-begins c r input events value h = value-first r input events value h
 
 pub returns-clause-whole : goal.returns-clause-whole
 returns-clause-whole c r input events value h whole = value-whole r input events value h whole
