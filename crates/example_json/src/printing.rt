@@ -1,12 +1,10 @@
 //! An event as a line.
 
-ghost use Rattle.std.specs.Prelude.{◌≡◌, ◌∷◌, [], ◌++◌, ◌+◌, ◌<◌, ◌*◌, min, replicate, OnOk, IfOk};
-ghost use Rattle.std.specs.Char.{digit_char};
-ghost use Rattle.winnow_json.specs.Quoting.{letter_of, written_byte, written_string};
+ghost use Rattle.std.specs.Prelude.{◌≡◌, ◌++◌, ◌+◌, ◌*◌, min, replicate, OnOk, IfOk};
 ghost use Rattle.example_json.specs.Lines.{shown, line_of, level_after};
 
 use std::alloc::AllocError;
-use winnow_json::Event;
+use winnow_json::{Event, write_string};
 
 /// Appends the line of an event, before which this many arrays and objects are open, and moves the
 /// level on by the event.
@@ -77,69 +75,13 @@ fn append_event(event: &Event, text: &mut Vec<u8>) -> Result<(), AllocError>
         Event::StartObject => text.extend_from_slice(b"{"),
         Event::EndObject => text.extend_from_slice(b"}"),
         Event::Key(name) => {
-            append_quoted(name, text)?;
+            write_string(name, text)?;
             text.extend_from_slice(b":")
         }
         Event::Null => text.extend_from_slice(b"null"),
         Event::Bool(true) => text.extend_from_slice(b"true"),
         Event::Bool(false) => text.extend_from_slice(b"false"),
         Event::Number(number) => text.extend_from_slice(&number.text),
-        Event::String(value) => append_quoted(value, text),
+        Event::String(value) => write_string(value, text),
     }
-}
-
-// Appends a string between quotes.
-fn append_quoted(value: &str, text: &mut Vec<u8>) -> Result<(), AllocError>
-    ensures { OnOk result (text.new.items ≡ text.old.items ++ written_string value.now) }
-{
-    text.push(b'"')?;
-    for byte in value.as_bytes() {
-        append_escaped(*byte, text)?;
-    }
-    text.push(b'"')?;
-    Ok(())
-}
-
-// Appends a byte of a string as it stands between quotes.
-fn append_escaped(byte: u8, text: &mut Vec<u8>) -> Result<(), AllocError>
-    ensures { OnOk result (text.new.items ≡ text.old.items ++ written_byte byte) }
-{
-    if let Some(letter) = letter_of(byte) {
-        text.extend_from_slice(&[b'\\', letter])?;
-        return Ok(());
-    }
-    if byte < 0x20 {
-        text.extend_from_slice(b"\\u00")?;
-        text.push(hex_digit(byte / 16))?;
-        text.push(hex_digit(byte % 16))?;
-        return Ok(());
-    }
-    text.push(byte)?;
-    Ok(())
-}
-
-// Returns the letter that stands for the byte after a backslash, where the byte needs one.
-fn letter_of(byte: u8) -> Option<u8>
-    ensures { result ≡ letter_of byte }
-{
-    match byte {
-        b'"' | b'\\' => Some(byte),
-        0x8 => Some(b'b'),
-        0xC => Some(b'f'),
-        b'\n' => Some(b'n'),
-        b'\r' => Some(b'r'),
-        b'\t' => Some(b't'),
-        _ => None,
-    }
-}
-
-// Returns the hexadecimal digit of a number below 16.
-fn hex_digit(number: u8) -> u8
-    requires { number < 16 }
-    ensures { result ≡ digit_char number }
-{
-    if number < 10 {
-        return b'0' + number;
-    }
-    b'a' + (number - 10)
 }

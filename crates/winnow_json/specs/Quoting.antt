@@ -1,5 +1,5 @@
 -- How strings are written: 34 is a quote, 92 a backslash, 117 a u and 48 a 0.
-use Rattle.std.specs.Prelude.{ℕ, ◌==◌, ◌/◌, ◌%◌, nat_lt, ◌||◌, if◌then◌else◌, List, [], ◌∷◌, ◌++◌, Option, Some, None}
+use Rattle.std.specs.Prelude.{◌≡◌, ℕ, ◌==◌, ◌/◌, ◌%◌, nat_lt, ◌||◌, if◌then◌else◌, List, [], ◌∷◌, ◌++◌, Option, Some, None}
 use Rattle.std.specs.List.{flat_map}
 use Rattle.std.specs.Char.{digit_char}
 
@@ -31,3 +31,7 @@ written_byte byte =
 -- a string: its bytes, between quotes
 abbrev pub written_string : List ℕ → List ℕ
 written_string bytes = 34 ∷ (flat_map written_byte bytes ++ 34 ∷ [])
+
+-- the bytes after it begin with those before
+abbrev pub Extends : List ℕ → List ℕ → Type 0
+Extends before after = (more : List ℕ) × (after ≡ before ++ more)

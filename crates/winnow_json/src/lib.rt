@@ -16,8 +16,8 @@
 //! text that comes in pieces, and keeps no more than a token and a piece. Of a text that is a value
 //! it gives that value's events, and it is done with no damaged text, as [`events_law`] says.
 //!
-//! [`write_value`] appends the text of a value. What it writes is read back as the same value, as
-//! [`round_trip_law`] says.
+//! [`write_value`] appends the text of a value, and [`write_string`] that of a string. What the
+//! first writes is read back as the same value, as [`round_trip_law`] says.
 #![tactic(auto)]
 
 mod characters;
@@ -46,6 +46,7 @@ pub use event_laws::events_law;
 pub use event_reader::{Event, EventError, EventReader};
 pub use laws::{place_law, round_trip_law};
 pub use numbers::{Number, read_number};
+pub use quoting::write_string;
 pub use strings::read_string;
 pub use token_laws::tokens_in_pieces_law;
 pub use tokens::{JsonToken, Token};

@@ -1,6 +1,6 @@
-ghost use Rattle.std.specs.Prelude.{◌≡◌, ◌++◌, ◌<◌, OnOk};
+ghost use Rattle.std.specs.Prelude.{◌≡◌, ◌++◌, ◌<◌, OnOk, OnErr};
 ghost use Rattle.std.specs.Char.{digit_char};
-ghost use Rattle.winnow_json.specs.Quoting.{letter_of, written_byte, written_string};
+ghost use Rattle.winnow_json.specs.Quoting.{letter_of, written_byte, written_string, Extends};
 
 use std::alloc::AllocError;
 
@@ -32,7 +32,8 @@ fn digit_char(number: u8) -> u8
 
 // Appends a byte of a string, as an escape where it is a quote, a backslash or a control character.
 fn append_byte(byte: u8, bytes: &mut Vec<u8>) -> Result<(), AllocError>
-    ensures { OnOk result (bytes.new.items ≡ bytes.old.items ++ written_byte byte) }
+    ensures written { OnOk result (bytes.new.items ≡ bytes.old.items ++ written_byte byte) }
+    ensures refused { OnErr result (bytes.new.items ≡ bytes.old.items) }
 {
     if let Some(letter) = letter_of(byte) {
         bytes.extend_from_slice(&[b'\\', letter])?;
@@ -53,9 +54,11 @@ fn append_byte(byte: u8, bytes: &mut Vec<u8>) -> Result<(), AllocError>
     Ok(())
 }
 
-/// Appends a string between quotes.
+// Appends a string between quotes, or a front of that where memory is refused.
 pub(crate) fn append_string(text: &str, bytes: &mut Vec<u8>) -> Result<(), AllocError>
-    ensures { OnOk result (bytes.new.items ≡ bytes.old.items ++ written_string text.now) }
+    ensures written { OnOk result (bytes.new.items
+        ≡ bytes.old.items ++ written_string text.now) }
+    ensures refused { OnErr result (Extends bytes.old.items bytes.new.items) }
 {
     bytes.push(b'"')?;
     for byte in text.as_bytes() {
@@ -63,4 +66,22 @@ pub(crate) fn append_string(text: &str, bytes: &mut Vec<u8>) -> Result<(), Alloc
     }
     bytes.push(b'"')?;
     Ok(())
+}
+
+/// Appends a string as JSON writes it: between quotes, with escapes for quotes, backslashes and
+/// control characters, and all other characters as they are. When memory is refused, the bytes
+/// stay as they were.
+pub fn write_string(text: &str, bytes: &mut Vec<u8>) -> Result<(), AllocError>
+    ensures written { OnOk result (bytes.new.items
+        ≡ bytes.old.items ++ written_string text.now) }
+    ensures refused { OnErr result (bytes.new.items ≡ bytes.old.items) }
+{
+    let length = bytes.len();
+    match append_string(text, bytes) {
+        Ok(()) => Ok(()),
+        Err(refused) => {
+            bytes.truncate(length);
+            Err(refused)
+        }
+    }
 }

@@ -110,7 +110,7 @@ append_object-returns t c =
 
 pub append_member-returns : goal.append_member-returns
 append_member-returns t c =
-    member-appended c.args.depth c.args.member.now c.args.bytes.now.items c.append_string.new.bytes.items c.extend_from_slice.new.self.items c.append_value.new.bytes.items (c.in_ok-append_string.ensures ∙ ap (λ l. c.args.bytes.now.items ++ written_string l) c.deref.ensures) c.in_ok-extend_from_slice.ensures.items c.in_ok-append_value.ensures
+    member-appended c.args.depth c.args.member.now c.args.bytes.now.items c.append_string.new.bytes.items c.extend_from_slice.new.self.items c.append_value.new.bytes.items (c.in_ok-append_string.ensures.written ∙ ap (λ l. c.args.bytes.now.items ++ written_string l) c.deref.ensures) c.in_ok-extend_from_slice.ensures.items c.in_ok-append_value.ensures
 
 pub append_value-returns-in_err-append_number-in-Number :
     goal.append_value-returns-in_err-append_number-in-Number
@@ -146,7 +146,7 @@ pub append_value-returns-in_ok-append_string-in-String :
     goal.append_value-returns-in_ok-append_string-in-String
 append_value-returns-in_ok-append_string-in-String t c =
     string-appended c.args.depth c.args.value.now c.in-String.text c.in-String.is c.args.bytes.now.items c.append_string.new.bytes.items
-    (c.in_ok-append_string-in-String.ensures ∙ ap (λ l. c.args.bytes.now.items ++ written_string l) c.deref.ensures)
+    (c.in_ok-append_string-in-String.ensures.written ∙ ap (λ l. c.args.bytes.now.items ++ written_string l) c.deref.ensures)
 
 pub append_value-returns-in_ok-append_array-in-Array :
     goal.append_value-returns-in_ok-append_array-in-Array
