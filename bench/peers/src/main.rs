@@ -84,6 +84,11 @@ fn formats(folder: &Path) -> Vec<Format> {
             ],
         },
         Format { name: "JSON", input: file("json"), ways: vec![("ours", ours::json), ("nom", json::read_owned)] },
+        Format {
+            name: "JSON events",
+            input: file("json"),
+            ways: vec![("ours", ours::json_events), ("ours, in pieces of 64 KB", ours::json_events_in_pieces)],
+        },
     ]
 }
 

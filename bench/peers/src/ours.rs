@@ -6,6 +6,7 @@ unsafe extern "C" {
     fn winnow_bench_read_csv(input: *const u8, length: usize, piece: usize, depth: u64) -> u64;
     fn winnow_bench_read_resp(input: *const u8, length: usize, piece: usize, depth: u64) -> u64;
     fn winnow_bench_read_json(input: *const u8, length: usize, depth: u64) -> u64;
+    fn winnow_bench_read_json_events(input: *const u8, length: usize, piece: usize, depth: u64) -> u64;
 }
 
 const PIECE: usize = 64 * 1024;
@@ -28,4 +29,12 @@ pub fn resp_in_pieces(input: &[u8], depth: Depth) -> u64 {
 
 pub fn json(input: &[u8], depth: Depth) -> u64 {
     unsafe { winnow_bench_read_json(input.as_ptr(), input.len(), depth as u64) }
+}
+
+pub fn json_events(input: &[u8], depth: Depth) -> u64 {
+    unsafe { winnow_bench_read_json_events(input.as_ptr(), input.len(), 0, depth as u64) }
+}
+
+pub fn json_events_in_pieces(input: &[u8], depth: Depth) -> u64 {
+    unsafe { winnow_bench_read_json_events(input.as_ptr(), input.len(), PIECE, depth as u64) }
 }

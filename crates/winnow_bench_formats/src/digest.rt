@@ -1,7 +1,7 @@
 //! The values of the formats as numbers.
 
 use winnow_bench_common::Weigh;
-use winnow_json::Value;
+use winnow_json::{Event, Number, Value};
 use winnow_resp::Reply;
 
 /// How much of a value goes into its number.
@@ -35,6 +35,14 @@ fn digest_of_bytes(bytes: &[u8], depth: Depth) -> u64 {
 
 fn digest_of_integer(integer: i64) -> u64 {
     join(u64::from(integer < 0), integer.unsigned_abs())
+}
+
+fn digest_of_number(number: &Number, depth: Depth) -> u64 {
+    let integer = number.integer.unwrap_or(7);
+    join(
+        digest_of_bytes(&number.text, depth),
+        digest_of_integer(integer),
+    )
 }
 
 /// A record of comma-separated values.
@@ -82,13 +90,7 @@ fn digest_of_value(value: &Value, depth: Depth) -> u64 {
     match value {
         Value::Null => 1,
         Value::Bool(truth) => join(2, u64::from(*truth)),
-        Value::Number(number) => {
-            let integer = number.integer.unwrap_or(7);
-            join(
-                digest_of_bytes(&number.text, depth),
-                digest_of_integer(integer),
-            )
-        }
+        Value::Number(number) => digest_of_number(number, depth),
         Value::String(text) => join(3, digest_of_bytes(text.as_bytes(), depth)),
         Value::Array(elements) => {
             let mut sum = elements.len() as u64;
@@ -104,6 +106,22 @@ fn digest_of_value(value: &Value, depth: Depth) -> u64 {
                 sum = join(join(sum, named), digest_of_value(member, depth));
             }
             sum
+        }
+    }
+}
+
+impl Digest for Event {
+    fn digest(&self, depth: Depth) -> u64 {
+        match self {
+            Event::StartArray => 1,
+            Event::EndArray => 2,
+            Event::StartObject => 3,
+            Event::EndObject => 4,
+            Event::Key(name) => join(5, digest_of_bytes(name.as_bytes(), depth)),
+            Event::Null => 6,
+            Event::Bool(truth) => join(7, u64::from(*truth)),
+            Event::Number(number) => digest_of_number(number, depth),
+            Event::String(text) => join(8, digest_of_bytes(text.as_bytes(), depth)),
         }
     }
 }

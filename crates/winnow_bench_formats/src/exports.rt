@@ -1,6 +1,8 @@
-//! The exports: a function for each format. A piece of no bytes stands for the whole text.
+//! The exports: a function for each format, and one for the events of JSON. A piece of no bytes
+//! stands for the whole text.
 
 use crate::digest::{Depth, Digest};
+use crate::events::read_events;
 use crate::reading::{read_pieces, read_whole};
 use std::alloc::Global;
 use winnow_csv::Row;
@@ -53,4 +55,17 @@ pub extern "C" fn winnow_bench_read_json(alloc: Global, input: &[u8], depth: u64
         Ok(Err(damage)) => damage.offset as u64,
         Err(_) => u64::MAX,
     }
+}
+
+#[unsafe(no_mangle)]
+pub extern "C" fn winnow_bench_read_json_events(
+    alloc: Global,
+    input: &[u8],
+    piece: usize,
+    depth: u64,
+) -> u64 {
+    if piece > 0 {
+        return read_events(alloc, input, piece, depth_of(depth));
+    }
+    read_events(alloc, input, input.len().max(1), depth_of(depth))
 }

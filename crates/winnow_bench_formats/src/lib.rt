@@ -6,5 +6,6 @@
 #![tactic(auto)]
 
 mod digest;
+mod events;
 mod exports;
 mod reading;
