@@ -41,5 +41,5 @@ where
     }
     reader.end();
     sum = read_ahead(&mut reader, sum, depth);
-    join(sum, reader.held() as u64)
+    join(sum, reader.fed() as u64)
 }

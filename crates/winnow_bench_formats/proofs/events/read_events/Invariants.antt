@@ -2,4 +2,4 @@ use Rattle.std.proofs.Common.{◌≡◌, false}
 use Rattle.winnow_bench_formats.proofs.events.read_events.Given as goal
 
 abbrev pub invariant-loop-piece : goal.invariant-loop-piece
-invariant-loop-piece g l = l.reader.tokens.ended ≡ false
+invariant-loop-piece l = l.reader.tokens.ended ≡ false
