@@ -8,14 +8,16 @@ use Rattle.winnow_match.specs.declared.compare.CompareResult.TheVariants as comp
 use Rattle.winnow_stream.specs.Source.{Source, first_offset}
 use Rattle.winnow_stream.specs.Front.{is_offset, count_to, front}
 use Rattle.winnow_run.specs.declared.script.Step.{Step}
-use Rattle.winnow_run.specs.declared.script.Step.TheVariants as call
+use Rattle.winnow_run.specs.declared.need.Need.{Need}
+use Rattle.winnow_run.specs.declared.need.Need.TheVariants as need
+use Rattle.winnow_run.specs.Needs.{call_need}
 use Rattle.winnow_match.specs.Bytes.{written}
 use Rattle.winnow_match.specs.Search.{needle_at, needle_list}
 use Rattle.winnow_run.specs.declared.search_script.SearchStep.{SearchStep}
 use Rattle.winnow_run.specs.declared.search_script.SearchStep.TheVariants as step
 use Rattle.winnow_run.specs.Definite.{PieceKind}
 
--- `First`: an offset up to which the set holds no token
+-- a token of a set: an offset up to which the set holds none
 pub record NoneHeld {T : Type 0} (holds : T → Bool) (r : Source T) (n : ℕ) : Type 0 where
   pub offset : is_offset r n ≡ true
   pub none : first_offset holds (front r n) ≡ None
@@ -31,18 +33,22 @@ pub record AreSame (literal bytes : List ℕ) (n : ℕ) : Type 0 where
   pub fits : n ≤ length literal
   pub same : take n bytes ≡ take n literal
 
--- `At`: the offset after `count` tokens, which are no more than the step asks for
+-- a number of tokens: the offset after `count` of them, which are no more than are asked for
 pub record AreCounted {T : Type 0} (asked : ℕ) (r : Source T) (n count : ℕ) : Type 0 where
   pub offset : is_offset r n ≡ true
   pub counted : count_to r n ≡ count
   pub fits : count ≤ asked
 
--- a waiting step has settled the width n, and `tokens` if it counts tokens
+-- where a need waits, the width n is settled, and `tokens` if tokens are counted
 module _ {T C : Type 0} (holds : C → T → Bool) where
-  abbrev pub IsCallSettled : Step C → Source T → ℕ → ℕ → Type 0
-  IsCallSettled (call.First c) r n tokens = NoneHeld (holds c) r n
-  IsCallSettled (call.At asked) r n tokens = AreCounted asked r n tokens
-  IsCallSettled _ r n tokens = ⊤
+  abbrev pub IsNeedSettled : Need C → Source T → ℕ → ℕ → Type 0
+  IsNeedSettled (need.TokenOf c) r n tokens = NoneHeld (holds c) r n
+  IsNeedSettled (need.Tokens asked) r n tokens = AreCounted asked r n tokens
+  IsNeedSettled _ r n tokens = ⊤
+
+-- a waiting call has settled what its need has
+abbrev pub IsCallSettled : {T C : Type 0} → (C → T → Bool) → Step C → Source T → ℕ → ℕ → Type 0
+IsCallSettled holds s r n tokens = IsNeedSettled holds (call_need s) r n tokens
 
 module _ {T C L : Type 0} (k : PieceKind T C L) where
   abbrev pub IsSettled : SearchStep C L → Source T → ℕ → ℕ → Type 0

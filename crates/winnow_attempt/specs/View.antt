@@ -1,13 +1,11 @@
 -- What a step answers and where it leads, in terms of what remains, the place of the cursor and the
 -- places of the marks. A feed knows these, however much it has kept of the input.
 use Rattle.std.specs.Prelude.{◌≡◌, ℕ, ◌+◌, ◌-◌, nat_le, Bool, true, false, cond, List, [], ◌∷◌, ◌++◌, length, Option, None, Some, unwrap_or, slice_get}
-use Rattle.winnow_stream.specs.Source.{Source, width, first_token, first_offset}
-use Rattle.winnow_stream.specs.Front.{front_count, is_offset}
-use Rattle.winnow_stream.specs.Shortage.{offset_at}
-use Rattle.winnow_stream.specs.Span.{span}
-use Rattle.winnow_run.specs.Script.{PlacedAnswer, slice_answer, reset_answer}
+use Rattle.winnow_stream.specs.Source.{Source, width}
+use Rattle.winnow_stream.specs.Front.{is_offset}
+use Rattle.winnow_run.specs.Needs.{call_need, call_mark, mark_of, is_end, Move, stays, past_token, past_width, to_end, to_mark, marking, call_move}
+use Rattle.winnow_run.specs.Script.{PlacedAnswer, call_answer, reset_answer}
 use Rattle.winnow_run.specs.declared.script.Step.{Step}
-use Rattle.winnow_run.specs.declared.script.Step.TheVariants as call
 use Rattle.winnow_run.specs.declared.script.Answer.TheVariants as answer
 use Rattle.winnow_match.specs.Bytes.{written}
 use Rattle.winnow_match.specs.Comparison.{comparison}
@@ -38,39 +36,31 @@ abbrev pub since_view : {T : Type 0} → ℕ → Option ℕ → PlacedAnswer T
 since_view at None = answer.NoMark
 since_view at (Some mark) = cond (nat_le mark at) (answer.Offset (at - mark)) answer.LaterMark
 
-module _ {T C : Type 0} (holds : C → T → Bool) (counts_missing : Bool) (at : ℕ) (marks : List ℕ) (r : Source T) where
-  abbrev pub call_view : Step C → PlacedAnswer T
-  call_view call.Next = answer.Token (first_token r)
-  call_view call.Peek = answer.Token (first_token r)
-  call_view (call.Take n) = slice_answer at n (front_count r n)
-  call_view (call.Look n) = slice_answer at n (front_count r n)
-  call_view call.Finish = answer.Slice (span at (width r))
-  call_view call.PeekFinish = answer.Slice (span at (width r))
-  call_view call.Eof = answer.Offset (width r)
-  call_view (call.At n) = answer.At (offset_at counts_missing r n)
-  call_view (call.IsOffset n) = answer.Flag (is_offset r n)
-  call_view (call.First c) = answer.First (first_offset (holds c) r)
-  call_view call.Each = answer.Items (span at (width r))
-  call_view call.Mark = answer.Marked (length marks)
-  call_view (call.Reset k) = reset_answer (slice_get marks k)
-  call_view (call.Since k) = since_view at (slice_get marks k)
+-- what a call answers
+abbrev pub call_view : {T C : Type 0} → (C → T → Bool) → Bool → ℕ → List ℕ → Source T → Step C
+    → PlacedAnswer T
+call_view holds counts_missing at marks r s =
+    let mark = mark_of marks (call_mark s) in
+    call_answer holds counts_missing at r (length marks) (reset_answer mark) (since_view at mark) s
 
 -- the width of the first token, if there is one
 abbrev pub first_width : {T : Type 0} → Source T → ℕ
 first_width [] = 0
 first_width (x ∷ r) = x.1
 
-module _ {T C : Type 0} (at : ℕ) (marks : List ℕ) (r : Source T) where
-  abbrev pub call_place : Step C → ℕ
-  call_place call.Next = at + first_width r
-  call_place (call.Take n) = cond (is_offset r n) (at + n) at
-  call_place call.Finish = at + width r
-  call_place (call.Reset k) = unwrap_or (slice_get marks k) at
-  call_place _ = at
+-- the place after a move, for a call that names this mark
+module _ {T : Type 0} (at : ℕ) (marks : List ℕ) (r : Source T) (mark : Option ℕ) where
+  abbrev pub place_after : Move → ℕ
+  place_after stays = at
+  place_after past_token = at + first_width r
+  place_after (past_width n) = cond (is_offset r n) (at + n) at
+  place_after to_end = at + width r
+  place_after to_mark = unwrap_or (mark_of marks mark) at
+  place_after marking = at
 
-abbrev pub makes_mark : {C : Type 0} → Step C → Bool
-makes_mark call.Mark = true
-makes_mark _ = false
+abbrev pub is_marking : Move → Bool
+is_marking marking = true
+is_marking _ = false
 
 -- all that a look at a step gives: its answer, whether the answer is definite, the place to which
 -- the step leads, and whether it marks the place where it stood
@@ -93,8 +83,8 @@ module _ {T C : Type 0} (holds : C → T → Bool) (counts_missing : Bool) (at :
   call_look s = record {
     answer = search_answered.Call (call_view holds counts_missing at marks r s);
     definite = is_call_definite holds counts_missing s r;
-    place = call_place at marks r s;
-    marks = makes_mark s;
+    place = place_after at marks r (call_mark s) (call_move s);
+    marks = is_marking (call_move s);
   }
 
 module _ {T C L : Type 0} (k : PieceKind T C L) (at : ℕ) (marks : List ℕ) (r : Source T) where
@@ -115,11 +105,9 @@ module _ {T C L : Type 0} (k : PieceKind T C L) (at : ℕ) (marks : List ℕ) (r
 
 -- the step is one that no input makes definite
 abbrev pub never_definite : {C L : Type 0} → SearchStep C L → Bool
-never_definite (step.Call call.Finish) = true
-never_definite (step.Call call.PeekFinish) = true
-never_definite (step.Call call.Eof) = true
-never_definite (step.Call call.Each) = true
-never_definite _ = false
+never_definite (step.Call s) = is_end (call_need s)
+never_definite (step.Compare literal) = false
+never_definite (step.Find needles) = false
 
 -- an attempt at a step: either the answer is appended with the number of the piece, and it is
 -- definite or no more may follow; or nothing is appended, and the step waits and has settled what

@@ -13,7 +13,7 @@ use crate::kept::Kept;
 use crate::literals::{compare_from, find_from, needle_bytes, searched};
 use crate::looking::{Passed, Seen, look_call, tell};
 use winnow_match::{CompareResult, Finders};
-use winnow_run::{SearchAnswer, SearchStep, Step};
+use winnow_run::{Need, SearchAnswer, SearchStep};
 use winnow_sets::{AsChar, CharSet};
 use winnow_stream::{AsBStr, Stream, StreamIsPartial};
 
@@ -174,12 +174,14 @@ where
         step.now (S.remaining rest) result.width result.tokens }
 {
     match step {
-        SearchStep::Call(Step::First(_)) => Passed {
-            width: rest.eof_offset(),
-            tokens: 0,
+        SearchStep::Call(call) => match call.need() {
+            Need::TokenOf(_) => Passed {
+                width: rest.eof_offset(),
+                tokens: 0,
+            },
+            Need::Tokens(asked) => count_on(rest, asked, passed),
+            _ => passed,
         },
-        SearchStep::Call(Step::At(asked)) => count_on(rest, *asked, passed),
-        SearchStep::Call(_) => passed,
         SearchStep::Compare(_) => Passed {
             width: rest.bytes().len(),
             tokens: 0,
@@ -196,8 +198,10 @@ fn waits_to_the_end<L>(step: &SearchStep<CharSet, L>) -> bool
     ensures { result ≡ never_definite step.now }
 {
     match step {
-        SearchStep::Call(Step::Finish | Step::PeekFinish | Step::Eof | Step::Each) => true,
-        SearchStep::Call(_) => false,
+        SearchStep::Call(call) => match call.need() {
+            Need::End => true,
+            _ => false,
+        },
         SearchStep::Compare(_) => false,
         SearchStep::Find(_) => false,
     }

@@ -3,7 +3,7 @@ ghost use Rattle.std.specs.Prelude.{IfOk, OnErr, IsSome};
 ghost use Rattle.winnow_match.specs.Search.{hit, bytes_of_needles, needle_of};
 ghost use Rattle.winnow_attempt.specs.Settled.{IsSettled, NoneOccurs};
 ghost use Rattle.winnow_attempt.specs.View.{piece_kind};
-ghost use Rattle.winnow_attempt.specs.Missing.{letters, needle_missing, call_missing, missing};
+ghost use Rattle.winnow_attempt.specs.Missing.{letters, needle_missing, need_missing, missing};
 
 use crate::kept::Kept;
 use crate::literals::{find_from, needle_bytes};
@@ -11,7 +11,7 @@ use crate::looking::Passed;
 use std::alloc::{AllocError, Global};
 use std::ops::Range;
 use winnow_match::{Needles, stretch};
-use winnow_run::{SearchStep, Step};
+use winnow_run::{Need, SearchStep};
 use winnow_sets::{AsChar, CharSet};
 use winnow_stream::{AsBStr, Stream, StreamIsPartial};
 
@@ -78,27 +78,25 @@ fn needle_missing<'n>(needles: &Needles<&'n [u8]>, bytes: &[u8], passed: usize) 
     }
 }
 
-// Returns what a call is missing.
-fn call_missing<S: Kept>(
+// Returns what is missing to meet a need.
+fn need_missing<S: Kept>(
     alloc: Global,
-    call: &Step<CharSet>,
+    need: &Need<CharSet>,
     rest: S,
 ) -> Result<Option<Vec<u8>>, AllocError>
 where
     S::Token: AsChar + Drop,
     S::Slice: Drop,
     requires { S.valid rest }
-    ensures told { IfOk result (λ more. option_map (λ bytes. bytes.items) more ≡ call_missing
-        S.counts_missing S.greatest S.spell (S.remaining rest) call.now) }
+    ensures told { IfOk result (λ more. option_map (λ bytes. bytes.items) more ≡ need_missing
+        S.counts_missing S.greatest S.spell (S.remaining rest) need.now) }
     ensures refused { OnErr result
-        (IsSome (call_missing S.counts_missing S.greatest S.spell (S.remaining rest) call.now)) }
+        (IsSome (need_missing S.counts_missing S.greatest S.spell (S.remaining rest) need.now)) }
 {
-    match call {
-        Step::Take(n) => letters(alloc, n.saturating_sub(rest.eof_offset())),
-        Step::Look(n) => letters(alloc, n.saturating_sub(rest.eof_offset())),
-        Step::IsOffset(n) => letters(alloc, n.saturating_sub(rest.eof_offset())),
-        Step::At(n) => letters(alloc, rest.letters_to(*n)),
-        Step::First(set) => rest.spell_one(alloc, set),
+    match need {
+        Need::Width(n) => letters(alloc, n.saturating_sub(rest.eof_offset())),
+        Need::Tokens(n) => letters(alloc, rest.letters_to(*n)),
+        Need::TokenOf(set) => rest.spell_one(alloc, set),
         _ => letters(alloc, 1),
     }
 }
@@ -126,7 +124,7 @@ where
         S.greatest S.spell (S.remaining rest) step.now)) }
 {
     match step {
-        SearchStep::Call(call) => call_missing(alloc, call, rest),
+        SearchStep::Call(call) => need_missing(alloc, &call.need(), rest),
         SearchStep::Compare(literal) => {
             let more = after(literal.as_bstr(), rest.bytes().len());
             copied(alloc, more)

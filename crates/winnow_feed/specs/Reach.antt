@@ -1,9 +1,9 @@
 -- How far a run over pieces has come on the joined input, and how far back its remaining steps can
 -- reach.
-use Rattle.std.specs.Prelude.{◌≡◌, ℕ, min, Bool, true, List, [], ◌∷◌, length, unwrap_or, slice_get}
+use Rattle.std.specs.Prelude.{◌≡◌, ℕ, min, Bool, true, List, [], ◌∷◌, length, Option, None, unwrap_or}
 use Rattle.winnow_stream.specs.Source.{Source}
 use Rattle.winnow_stream.specs.Cursor.{Cursor, rest}
-use Rattle.winnow_run.specs.declared.script.Step.TheVariants as call
+use Rattle.winnow_run.specs.Needs.{call_mark, mark_of}
 use Rattle.winnow_run.specs.declared.search_script.SearchStep.{SearchStep}
 use Rattle.winnow_run.specs.declared.search_script.SearchStep.TheVariants as step
 use Rattle.winnow_run.specs.Searching.{PlacedSearchAnswer, search_answer, search_next}
@@ -18,11 +18,15 @@ module _ {T C L : Type 0} (strict : Bool) (k : PieceKind T C L) (all : Source T)
   Reaches from [] (a ∷ answers) to = ⊥
   Reaches from (s ∷ steps) (a ∷ answers) to = (strict ≡ true → is_definite k s (rest all from) ≡ true) × (a ≡ search_answer (kind_of k) all s from) × Reaches (search_next all s from) steps answers to
 
+-- the number of the mark that a step names, if it names one
+abbrev pub step_mark : {C L : Type 0} → SearchStep C L → Option ℕ
+step_mark (step.Call s) = call_mark s
+step_mark (step.Compare literal) = None
+step_mark (step.Find needles) = None
+
 -- the index of the mark that a step names, or that of the cursor
 abbrev pub named_index : {C L : Type 0} → Cursor → SearchStep C L → ℕ
-named_index at (step.Call (call.Reset k)) = unwrap_or (slice_get at.marks k) at.index
-named_index at (step.Call (call.Since k)) = unwrap_or (slice_get at.marks k) at.index
-named_index at _ = at.index
+named_index at s = unwrap_or (mark_of at.marks (step_mark s)) at.index
 
 -- the least of the cursor's index and those of the marks made so far that the steps name
 abbrev pub least_index : {C L : Type 0} → List (SearchStep C L) → Cursor → ℕ
@@ -38,9 +42,7 @@ needed_from all (s ∷ steps) at = least_index (s ∷ steps) at
 
 -- the place of the mark that a step names, or the cursor's place
 abbrev pub named_place : {C L : Type 0} → ℕ → List ℕ → SearchStep C L → ℕ
-named_place at marks (step.Call (call.Reset k)) = unwrap_or (slice_get marks k) at
-named_place at marks (step.Call (call.Since k)) = unwrap_or (slice_get marks k) at
-named_place at marks _ = at
+named_place at marks s = unwrap_or (mark_of marks (step_mark s)) at
 
 -- the least of a place and those that the steps name
 abbrev pub least_place : {C L : Type 0} → ℕ → List ℕ → ℕ → List (SearchStep C L) → ℕ
@@ -54,15 +56,17 @@ needed_place end at marks (s ∷ steps) = least_place at marks at (s ∷ steps)
 
 -- ---- which marks are still named
 
--- the number of the mark that a step names, or the greatest `u64`, which no mark has
+-- the greatest `u64`, which no mark has as its number
+abbrev pub no_mark : ℕ
+no_mark = 18446744073709551615
+
+-- the number of the mark that a step names, or `no_mark`
 abbrev pub mark_named : {C L : Type 0} → SearchStep C L → ℕ
-mark_named (step.Call (call.Reset k)) = k
-mark_named (step.Call (call.Since k)) = k
-mark_named _ = 18446744073709551615
+mark_named s = unwrap_or (step_mark s) no_mark
 
 -- the least number of a mark that the steps name
 abbrev pub least_mark : {C L : Type 0} → List (SearchStep C L) → ℕ
-least_mark [] = 18446744073709551615
+least_mark [] = no_mark
 least_mark (s ∷ steps) = min (mark_named s) (least_mark steps)
 
 -- for each step, the least number of a mark that it or a later step names

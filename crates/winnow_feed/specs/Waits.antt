@@ -6,7 +6,10 @@ use Rattle.winnow_stream.specs.Cursor.{start, rest, cursor_after}
 use Rattle.winnow_sets.specs.declared.char_set.CharSet.{CharSet}
 use Rattle.winnow_sets.specs.Sets.{char_ranges, least_of_first}
 use Rattle.winnow_match.specs.Search.{needle_list}
-use Rattle.winnow_run.specs.declared.script.Step.TheVariants as call
+use Rattle.winnow_run.specs.declared.need.Need.{Need}
+use Rattle.winnow_run.specs.declared.need.Need.TheVariants as need
+use Rattle.winnow_run.specs.declared.script.Step.{Step}
+use Rattle.winnow_run.specs.Needs.{call_need}
 use Rattle.winnow_run.specs.declared.search_script.SearchStep.{SearchStep}
 use Rattle.winnow_run.specs.declared.search_script.SearchStep.TheVariants as step
 use Rattle.winnow_run.specs.Searching.{PlacedSearchAnswer, search_answers, search_next}
@@ -34,11 +37,16 @@ MissesSome {T} {L} k greatest spell kept p =
     (all : Source T) (stands : IsRunOver true k all kept p) (s : SearchStep CharSet L)
     → next_step p ≡ Some s → IsSome (missing k greatest spell (rest all stands.at) s)
 
--- what a step names fits the kind of input: its literals are valid, and the token that
--- `least_of_first` gives for its set, if any, is one of the kind
+-- the token that `least_of_first` gives for the set of which a token is needed, if there is one, is
+-- one of the kind
+abbrev pub IsNeedSpelt : InputKind → Need CharSet → Type 0
+IsNeedSpelt i (need.TokenOf set) = IfSome (least_of_first i.greatest (char_ranges set)) (λ token. i.is_token token ≡ true)
+IsNeedSpelt i _ = ⊤
+
+-- what a step names fits the kind of input: its literals are valid, and so is the token that stands
+-- for its set
 abbrev pub IsSpelt : InputKind → PieceStep → Type 0
-IsSpelt i (step.Call (call.First set)) = IfSome (least_of_first i.greatest (char_ranges set)) (λ token. i.is_token token ≡ true)
-IsSpelt i (step.Call s) = ⊤
+IsSpelt i (step.Call s) = IsNeedSpelt i (call_need s)
 IsSpelt i (step.Compare literal) = i.valid (i.pieces.literal literal) ≡ true
 IsSpelt i (step.Find needles) = AllByRecursion (λ needle. i.valid needle ≡ true) (needle_list i.pieces.literal needles)
 
@@ -71,11 +79,13 @@ module _ (i : InputKind) (script : List PieceStep) where
     pub changes : ¬ (answer_on (waiting_number input) (input ++ more)
         ≡ answer_on (waiting_number input) input)
 
-  -- the waiting step is `First` over a set that holds no token, and no further input changes its
-  -- answer
+  -- the waiting step needs a token of a set that holds none, as `First` may, and no further input
+  -- changes its answer
   pub record WaitsToEnd (input : List ℕ) : Type 0 where
+    pub call : Step CharSet
+    pub waits : waiting_step input ≡ Some (step.Call call)
     pub set : CharSet
-    pub waits : waiting_step input ≡ Some (step.Call (call.First set))
+    pub needs : call_need call ≡ need.TokenOf set
     pub holds_none : (token : ℕ) → i.is_token token ≡ true → i.pieces.holds set token ≡ false
     pub never : (more : List ℕ) → AllByRecursion (λ byte. byte ≤ 255) more → i.valid more ≡ true
         → answer_on (waiting_number input) (input ++ more) ≡ answer_on (waiting_number input) input

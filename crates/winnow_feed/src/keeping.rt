@@ -1,8 +1,9 @@
 ghost use Rattle.std.specs.Prelude.{◌≡◌, ℕ, ◌+◌, ◌≤◌, ◌<◌, ◌^◌, true, length, vec_len};
-ghost use Rattle.std.specs.Prelude.{vec_capacity, IsTrue, Some};
+ghost use Rattle.std.specs.Prelude.{vec_capacity, IsTrue, Some, unwrap_or};
 ghost use Rattle.winnow_stream.specs.Source.{width};
 ghost use Rattle.winnow_stream.specs.Front.{is_offset};
 ghost use Rattle.winnow_attempt.specs.View.{piece_kind};
+ghost use Rattle.winnow_run.specs.Needs.{call_mark, mark_of};
 ghost use Rattle.winnow_feed.specs.Reach.{named_place, least_place, needed_place, least_marks};
 ghost use Rattle.winnow_feed.specs.JoinedInput.{IsRun, TakesIn, KeepsLeast, KeepsNeeded};
 ghost use Rattle.winnow_feed.specs.JoinedInput.{AddsAnswers, Tries, steps_left};
@@ -15,14 +16,24 @@ use winnow_run::{SearchStep, Step};
 use winnow_sets::{AsChar, CharSet};
 use winnow_stream::{AsBStr, Stream, StreamIsPartial};
 
+// Returns the place of the mark that a call names, or the cursor's place.
+fn named_by_call(call: &Step<CharSet>, place: usize, marks: &[usize]) -> usize
+    ensures { result ≡ unwrap_or (mark_of marks.now (call_mark call.now)) place }
+{
+    match call.mark() {
+        Some(number) => mark_at(marks, number).unwrap_or(place),
+        None => place,
+    }
+}
+
 // Returns the place of the mark that a step names, or the cursor's place.
 fn named_place<L>(step: &SearchStep<CharSet, L>, place: usize, marks: &[usize]) -> usize
     ensures { result ≡ named_place place marks.now step.now }
 {
     match step {
-        SearchStep::Call(Step::Reset(k)) => mark_at(marks, *k).unwrap_or(place),
-        SearchStep::Call(Step::Since(k)) => mark_at(marks, *k).unwrap_or(place),
-        _ => place,
+        SearchStep::Call(call) => named_by_call(call, place, marks),
+        SearchStep::Compare(_) => place,
+        SearchStep::Find(_) => place,
     }
 }
 

@@ -2,7 +2,7 @@ ghost use Rattle.std.specs.Prelude.{◌≡◌, IfOk};
 ghost use Rattle.winnow_feed.specs.Reach.{mark_named, least_marks};
 
 use std::alloc::{AllocError, Global};
-use winnow_run::{SearchStep, Step};
+use winnow_run::SearchStep;
 use winnow_sets::CharSet;
 
 // Returns the number of the mark that a step names, or `usize::MAX` if it names none.
@@ -10,9 +10,9 @@ fn mark_named<L>(step: &SearchStep<CharSet, L>) -> usize
     ensures { result ≡ mark_named step.now }
 {
     match step {
-        SearchStep::Call(Step::Reset(k)) => *k,
-        SearchStep::Call(Step::Since(k)) => *k,
-        _ => usize::MAX,
+        SearchStep::Call(call) => call.mark().unwrap_or(usize::MAX),
+        SearchStep::Compare(_) => usize::MAX,
+        SearchStep::Find(_) => usize::MAX,
     }
 }
 

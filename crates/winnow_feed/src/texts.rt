@@ -7,7 +7,7 @@ ghost use Rattle.winnow_feed.specs.Inputs.{text_input};
 ghost use Rattle.winnow_feed.specs.Waits.{IsSpelt};
 
 use winnow_match::Needles;
-use winnow_run::{SearchStep, Step};
+use winnow_run::{Need, SearchStep};
 use winnow_sets::CharSet;
 
 // States that a text is UTF-8.
@@ -55,8 +55,10 @@ pub(crate) fn is_spelt(step: &SearchStep<CharSet, &str>)
     ensures { IsSpelt text_input step.now }
 {
     match step {
-        SearchStep::Call(Step::First(set)) => begins_with_one(set),
-        SearchStep::Call(_) => {}
+        SearchStep::Call(call) => match call.need() {
+            Need::TokenOf(set) => begins_with_one(&set),
+            _ => {}
+        },
         SearchStep::Compare(literal) => is_text(literal),
         SearchStep::Find(needles) => are_needles(needles),
     }

@@ -1,11 +1,10 @@
 -- Which answers no further input can change, and which answers of a script are given out.
-use Rattle.std.specs.Prelude.{◌≡◌, ℕ, nat_le, Bool, true, false, List, ◌++◌, take, map, is_some, is_ok}
+use Rattle.std.specs.Prelude.{◌≡◌, ℕ, Bool, true, false, List, ◌++◌, take, map}
 use Rattle.std.specs.List.{All, take_while}
-use Rattle.winnow_stream.specs.Source.{Source, width, first_token, first_offset}
-use Rattle.winnow_stream.specs.Shortage.{offset_at}
+use Rattle.winnow_stream.specs.Source.{Source}
 use Rattle.winnow_stream.specs.Cursor.{Cursor, start, rest, answers_from}
+use Rattle.winnow_run.specs.Needs.{call_need, is_met}
 use Rattle.winnow_run.specs.declared.script.Step.{Step}
-use Rattle.winnow_run.specs.declared.script.Step.TheVariants as call
 use Rattle.winnow_match.specs.declared.compare.CompareResult.{CompareResult}
 use Rattle.winnow_match.specs.declared.compare.CompareResult.TheVariants as compared
 use Rattle.winnow_match.specs.Bytes.{written}
@@ -38,23 +37,9 @@ is_decided (compared.Ok n) = true
 is_decided compared.Incomplete = false
 is_decided compared.Error = true
 
--- whether no further input can change what a step answers if r remains
-module _ {T C : Type 0} (holds : C → T → Bool) (counts_missing : Bool) where
-  abbrev pub is_call_definite : Step C → Source T → Bool
-  is_call_definite call.Next r = is_some (first_token r)
-  is_call_definite call.Peek r = is_some (first_token r)
-  is_call_definite (call.Take n) r = nat_le n (width r)
-  is_call_definite (call.Look n) r = nat_le n (width r)
-  is_call_definite call.Finish r = false
-  is_call_definite call.PeekFinish r = false
-  is_call_definite call.Eof r = false
-  is_call_definite (call.At n) r = is_ok (offset_at counts_missing r n)
-  is_call_definite (call.IsOffset n) r = nat_le n (width r)
-  is_call_definite (call.First c) r = is_some (first_offset (holds c) r)
-  is_call_definite call.Each r = false
-  is_call_definite call.Mark r = true
-  is_call_definite (call.Reset i) r = true
-  is_call_definite (call.Since i) r = true
+-- whether no further input can change what a call answers if r remains: what it needs is there
+abbrev pub is_call_definite : {T C : Type 0} → (C → T → Bool) → Bool → Step C → Source T → Bool
+is_call_definite holds counts_missing s r = is_met holds counts_missing (call_need s) r
 
 module _ {T C L : Type 0} (k : PieceKind T C L) where
   abbrev pub is_definite : SearchStep C L → Source T → Bool

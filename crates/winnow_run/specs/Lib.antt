@@ -1,4 +1,5 @@
 pub mod Marks
+pub mod Needs
 pub mod Script
 pub mod RunState
 pub mod Searching

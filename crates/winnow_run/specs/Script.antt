@@ -9,6 +9,9 @@ use Rattle.winnow_stream.specs.Shortage.{offset_at}
 use Rattle.winnow_stream.specs.Cursor.{Cursor, start, rest, place, answers_from, cursor_after}
 use Rattle.winnow_stream.specs.Span.{span}
 use Rattle.winnow_stream.specs.declared.needed.Needed.{Needed}
+use Rattle.winnow_run.specs.Needs.{call_need, call_mark, mark_of, Move, stays, past_token, past_width, to_end, to_mark, marking, call_move}
+use Rattle.winnow_run.specs.declared.need.Need.{Need}
+use Rattle.winnow_run.specs.declared.need.Need.TheVariants as need
 use Rattle.winnow_run.specs.declared.script.Step.{Step}
 use Rattle.winnow_run.specs.declared.script.Step.TheVariants as step
 use Rattle.winnow_run.specs.declared.script.Answer.{Answer}
@@ -33,35 +36,46 @@ abbrev pub since_answer : {T : Type 0} → Source T → ℕ → Option ℕ → P
 since_answer all i None = answer.NoMark
 since_answer all i (Some mark) = cond (nat_le mark i) (answer.Offset (width (drop mark all) - width (drop i all))) answer.LaterMark
 
--- what a step answers at the cursor. `holds` says what each set holds, `counts_missing` whether a
--- shortage is counted
-module _ {C T : Type 0} (holds : C → T → Bool) (counts_missing : Bool) (all : Source T) where
-  abbrev pub step_answer : Step C → Cursor → PlacedAnswer T
-  step_answer step.Next at = answer.Token (first_token (rest all at))
-  step_answer step.Peek at = answer.Token (first_token (rest all at))
-  step_answer (step.Take n) at = slice_answer (place all at.index) n (front_count (rest all at) n)
-  step_answer (step.Look n) at = slice_answer (place all at.index) n (front_count (rest all at) n)
-  step_answer step.Finish at = answer.Slice (span (place all at.index) (width (rest all at)))
-  step_answer step.PeekFinish at = answer.Slice (span (place all at.index) (width (rest all at)))
-  step_answer step.Eof at = answer.Offset (width (rest all at))
-  step_answer (step.At n) at = answer.At (offset_at counts_missing (rest all at) n)
-  step_answer (step.IsOffset n) at = answer.Flag (is_offset (rest all at) n)
-  step_answer (step.First c) at = answer.First (first_offset (holds c) (rest all at))
-  step_answer step.Each at = answer.Items (span (place all at.index) (width (rest all at)))
-  step_answer step.Mark at = answer.Marked (length at.marks)
-  step_answer (step.Reset k) at = reset_answer (slice_get at.marks k)
-  step_answer (step.Since k) at = since_answer all at.index (slice_get at.marks k)
+-- what a call answers where r remains at a place. `holds` says what each set holds,
+-- `counts_missing` whether a shortage is counted, `count` how many marks were made, and `back` and
+-- `since` what a `Reset` and a `Since` answer for the mark that the call names
+module _ {C T : Type 0} (holds : C → T → Bool) (counts_missing : Bool) (here : ℕ) (r : Source T) (count : ℕ) (back since : PlacedAnswer T) where
+  abbrev pub call_answer : Step C → PlacedAnswer T
+  call_answer step.Next = answer.Token (first_token r)
+  call_answer step.Peek = answer.Token (first_token r)
+  call_answer (step.Take n) = slice_answer here n (front_count r n)
+  call_answer (step.Look n) = slice_answer here n (front_count r n)
+  call_answer step.Finish = answer.Slice (span here (width r))
+  call_answer step.PeekFinish = answer.Slice (span here (width r))
+  call_answer step.Eof = answer.Offset (width r)
+  call_answer (step.At n) = answer.At (offset_at counts_missing r n)
+  call_answer (step.IsOffset n) = answer.Flag (is_offset r n)
+  call_answer (step.First c) = answer.First (first_offset (holds c) r)
+  call_answer step.Each = answer.Items (span here (width r))
+  call_answer step.Mark = answer.Marked count
+  call_answer (step.Reset k) = back
+  call_answer (step.Since k) = since
 
--- the cursor after a step: `Next`, `Take`, `Finish` and `Reset` move it, and `Mark` adds it to the
--- marks
-module _ {C T : Type 0} (all : Source T) where
-  abbrev pub step_next : Step C → Cursor → Cursor
-  step_next step.Next at = record at { index = min (at.index + 1) (length all) }
-  step_next (step.Take n) at = record at { index = at.index + unwrap_or (front_count (rest all at) n) 0 }
-  step_next step.Finish at = record at { index = length all }
-  step_next step.Mark at = record at { marks = at.marks ++ at.index ∷ [] }
-  step_next (step.Reset k) at = record at { index = unwrap_or (slice_get at.marks k) at.index }
-  step_next _ at = at
+-- what a step answers at the cursor
+abbrev pub step_answer : {C T : Type 0} → (C → T → Bool) → Bool → Source T → Step C → Cursor
+    → PlacedAnswer T
+step_answer holds counts_missing all s at =
+    let mark = mark_of at.marks (call_mark s) in
+    call_answer holds counts_missing (place all at.index) (rest all at) (length at.marks) (reset_answer mark) (since_answer all at.index mark) s
+
+-- the cursor after a move, for a call that names this mark
+module _ {T : Type 0} (all : Source T) (at : Cursor) (mark : Option ℕ) where
+  abbrev pub moved : Move → Cursor
+  moved stays = at
+  moved past_token = record at { index = min (at.index + 1) (length all) }
+  moved (past_width n) = record at { index = at.index + unwrap_or (front_count (rest all at) n) 0 }
+  moved to_end = record at { index = length all }
+  moved to_mark = record at { index = unwrap_or (mark_of at.marks mark) at.index }
+  moved marking = record at { marks = at.marks ++ at.index ∷ [] }
+
+-- the cursor after a step
+abbrev pub step_next : {C T : Type 0} → Source T → Step C → Cursor → Cursor
+step_next all s at = moved all at (call_mark s) (call_move s)
 
 -- the answers of a script on a list
 abbrev pub answers : {C T : Type 0} → (C → T → Bool) → Bool → Source T → List (Step C)
@@ -89,10 +103,15 @@ module _ {T S : Type 0} (is_slice : S → Source T → ℕ → Type 0) (all : So
   StandsFor answer.NoMark given = given ≡ answer.NoMark
   StandsFor answer.LaterMark given = given ≡ answer.LaterMark
 
+-- the set of which a token is needed, if any, answers what `holds` says
+abbrev pub NeedComputes : {C T : Type 0} → (C → T → Bool → Type 0) → (C → T → Bool) → Need C
+    → Type 0
+NeedComputes may_answer holds (need.TokenOf c) = Computes (may_answer c) (holds c)
+NeedComputes may_answer holds _ = ⊤
+
 -- the set that a step names, if any, answers what `holds` says
 abbrev pub SetComputes : {C T : Type 0} → (C → T → Bool → Type 0) → (C → T → Bool) → Step C → Type 0
-SetComputes may_answer holds (step.First c) = Computes (may_answer c) (holds c)
-SetComputes may_answer holds _ = ⊤
+SetComputes may_answer holds s = NeedComputes may_answer holds (call_need s)
 
 -- each set that a script names answers what `holds` says
 abbrev pub SetsCompute : {C T : Type 0} → (C → T → Bool → Type 0) → (C → T → Bool) → List (Step C)

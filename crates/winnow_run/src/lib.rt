@@ -8,6 +8,7 @@
 
 mod laws;
 mod marks;
+mod need;
 mod running;
 mod script;
 mod search_script;
@@ -16,6 +17,7 @@ mod stepping;
 
 pub use laws::{answers_law, definite_law, run_and_reset};
 pub use marks::{Marks, Origin};
+pub use need::Need;
 pub use running::run;
 pub use script::{Answer, Step};
 pub use search_script::{PieceAnswer, SearchAnswer, SearchStep};

@@ -19,7 +19,9 @@ use Rattle.winnow_match.specs.Stretch.{stretch_of, longest}
 use Rattle.winnow_match.proofs.lemmas.MoveLemmas.{stretch-within, none-before_stretch}
 use Rattle.winnow_match.proofs.lemmas.RuleLemmas.{none-definite}
 use Rattle.winnow_match.proofs.lemmas.ComparisonLemmas.{incomplete-says}
-use Rattle.winnow_run.specs.declared.script.Step.TheVariants as call
+use Rattle.winnow_run.specs.declared.need.Need.{Need}
+use Rattle.winnow_run.specs.declared.need.Need.TheVariants as need
+use Rattle.winnow_run.specs.Needs.{call_need, is_met, is_end}
 use Rattle.winnow_run.specs.declared.search_script.SearchStep.{SearchStep}
 use Rattle.winnow_run.specs.declared.search_script.SearchStep.TheVariants as step
 use Rattle.winnow_attempt.specs.View.{never_definite, look_of}
@@ -111,23 +113,20 @@ one-left (x ∷ r) h = omega arith
 
 -- ---- attempts
 
+-- a need that waits for the end is not met
+never_met : {T C : Type 0} (holds : C → T → Bool) (counts_missing : Bool) (n : Need C)
+    (r : Source T) → is_end n ≡ true → is_met holds counts_missing n r ≡ false
+never_met holds counts_missing need.End r h = refl
+never_met holds counts_missing need.Nothing r h = absurd (cc)
+never_met holds counts_missing need.Token r h = absurd (cc)
+never_met holds counts_missing (need.Width n) r h = absurd (cc)
+never_met holds counts_missing (need.Tokens n) r h = absurd (cc)
+never_met holds counts_missing (need.TokenOf c) r h = absurd (cc)
+
 -- a step that no input makes definite is not definite
 pub never : {T C L : Type 0} (k : PieceKind T C L) (s : SearchStep C L) (r : Source T)
     → never_definite s ≡ true → is_definite k s r ≡ false
-never k (step.Call call.Next) r h = absurd (cc)
-never k (step.Call call.Peek) r h = absurd (cc)
-never k (step.Call (call.Take n)) r h = absurd (cc)
-never k (step.Call (call.Look n)) r h = absurd (cc)
-never k (step.Call call.Finish) r h = refl
-never k (step.Call call.PeekFinish) r h = refl
-never k (step.Call call.Eof) r h = refl
-never k (step.Call (call.At n)) r h = absurd (cc)
-never k (step.Call (call.IsOffset n)) r h = absurd (cc)
-never k (step.Call (call.First c)) r h = absurd (cc)
-never k (step.Call call.Each) r h = refl
-never k (step.Call call.Mark) r h = absurd (cc)
-never k (step.Call (call.Reset n)) r h = absurd (cc)
-never k (step.Call (call.Since n)) r h = absurd (cc)
+never k (step.Call s) r h = never_met k.holds k.counts_missing (call_need s) r h
 never k (step.Compare l) r h = absurd (cc)
 never k (step.Find ns) r h = absurd (cc)
 

@@ -12,7 +12,9 @@ use Rattle.winnow_stream.specs.Source.{Source, width, HasPositiveWidths, first_h
 use Rattle.winnow_stream.specs.Front.{is_offset, count_to, front, back}
 use Rattle.winnow_stream.specs.Shortage.{shortage, offset_at}
 use Rattle.winnow_stream.specs.Span.{span}
-use Rattle.winnow_run.specs.declared.script.Step.TheVariants as call
+use Rattle.winnow_run.specs.declared.need.Need.{Need}
+use Rattle.winnow_run.specs.declared.need.Need.TheVariants as need
+use Rattle.winnow_run.specs.Needs.{call_need}
 use Rattle.winnow_stream.specs.Longer.{count_to-le, front_count-longer, is_offset-longer, front-longer}
 use Rattle.winnow_stream.proofs.lemmas.FrontLemmas.{width-front, width-back, is_offset-whole, front-whole, HasPositiveWidths-drop}
 use Rattle.winnow_stream.proofs.lemmas.OffsetLemmas.{is_offset-offset_at, is_offset-first_offset}
@@ -27,7 +29,7 @@ use Rattle.winnow_stream.specs.declared.needed.Needed.{Needed}
 use Rattle.winnow_run.specs.declared.search_script.SearchStep.{SearchStep}
 use Rattle.winnow_run.specs.declared.search_script.SearchStep.TheVariants as step
 use Rattle.winnow_run.specs.Definite.{PieceKind}
-use Rattle.winnow_attempt.specs.Settled.{NoneHeld, NoneOccurs, AreSame, AreCounted, IsSettled, shifted, longer, further}
+use Rattle.winnow_attempt.specs.Settled.{NoneHeld, NoneOccurs, AreSame, AreCounted, IsNeedSettled, IsSettled, shifted, longer, further}
 use Rattle.winnow_match.specs.Staying.{written-append}
 
 -- ---- `First`
@@ -295,22 +297,19 @@ offset_at-fits counts_missing r n i o w h e =
 
 -- ---- all of them
 
+-- what a need has settled stays settled with more input appended
+need_settled-more : {T C : Type 0} (holds : C → T → Bool) (s : Need C) (r more : Source T)
+    (n tokens : ℕ) → IsNeedSettled holds s r n tokens → IsNeedSettled holds s (r ++ more) n tokens
+need_settled-more holds (need.TokenOf c) r more n tokens h = NoneHeld-more (holds c) r more n h
+need_settled-more holds (need.Tokens asked) r more n tokens h = AreCounted-more asked r more n tokens h
+need_settled-more holds need.Nothing r more n tokens h = tt
+need_settled-more holds need.Token r more n tokens h = tt
+need_settled-more holds (need.Width i) r more n tokens h = tt
+need_settled-more holds need.End r more n tokens h = tt
+
 -- what a step has settled stays settled with more input appended
 pub settled-more : (T C L : Type 0) (k : PieceKind T C L) (s : SearchStep C L) (r more : Source T)
     (n tokens : ℕ) → IsSettled k s r n tokens → IsSettled k s (r ++ more) n tokens
-settled-more T C L k (step.Call (call.First c)) r more n tokens h = NoneHeld-more (k.holds c) r more n h
-settled-more T C L k (step.Call (call.At asked)) r more n tokens h = AreCounted-more asked r more n tokens h
+settled-more T C L k (step.Call s) r more n tokens h = need_settled-more k.holds (call_need s) r more n tokens h
 settled-more T C L k (step.Compare l) r more n tokens h = rw (written-append k.write r more) (AreSame-more (k.literal l) (written k.write r) (written k.write more) n h)
 settled-more T C L k (step.Find ns) r more n tokens h = rw (written-append k.write r more) (NoneOccurs-more (needle_list k.literal ns) (written k.write r) (written k.write more) n h)
-settled-more T C L k (step.Call call.Next) r more n tokens h = tt
-settled-more T C L k (step.Call call.Peek) r more n tokens h = tt
-settled-more T C L k (step.Call (call.Take i)) r more n tokens h = tt
-settled-more T C L k (step.Call (call.Look i)) r more n tokens h = tt
-settled-more T C L k (step.Call call.Finish) r more n tokens h = tt
-settled-more T C L k (step.Call call.PeekFinish) r more n tokens h = tt
-settled-more T C L k (step.Call call.Eof) r more n tokens h = tt
-settled-more T C L k (step.Call (call.IsOffset i)) r more n tokens h = tt
-settled-more T C L k (step.Call call.Each) r more n tokens h = tt
-settled-more T C L k (step.Call call.Mark) r more n tokens h = tt
-settled-more T C L k (step.Call (call.Reset i)) r more n tokens h = tt
-settled-more T C L k (step.Call (call.Since i)) r more n tokens h = tt

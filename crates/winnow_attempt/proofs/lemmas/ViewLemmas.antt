@@ -8,9 +8,9 @@ use Rattle.std.proofs.lemmas.List.{length-map, map-append}
 use Rattle.winnow_stream.specs.Source.{Source, width, HasPositiveWidths}
 use Rattle.winnow_stream.specs.Front.{front_count, is_offset, count_to}
 use Rattle.winnow_stream.specs.Cursor.{Cursor, rest, place}
-use Rattle.winnow_run.specs.Script.{since_answer, reset_answer, step_answer}
+use Rattle.winnow_run.specs.Needs.{call_mark, mark_of, call_move, Move, stays, past_token, past_width, to_end, to_mark, marking}
+use Rattle.winnow_run.specs.Script.{since_answer, reset_answer, step_answer, moved}
 use Rattle.winnow_run.specs.declared.script.Step.{Step}
-use Rattle.winnow_run.specs.declared.script.Step.TheVariants as call
 use Rattle.winnow_run.specs.declared.script.Answer.TheVariants as answer
 use Rattle.winnow_stream.proofs.lemmas.FrontLemmas.{front_count-found, front_count-missing, width-front, width-take_drop}
 use Rattle.winnow_run.proofs.lemmas.PlaceLemmas.{width-later, width-antitone}
@@ -19,7 +19,7 @@ use Rattle.winnow_run.specs.declared.search_script.SearchStep.TheVariants as ste
 use Rattle.winnow_run.specs.declared.search_script.SearchAnswer.TheVariants as search_answered
 use Rattle.winnow_run.specs.Searching.{search_answer, search_next}
 use Rattle.winnow_run.specs.Definite.{PieceKind, kind_of}
-use Rattle.winnow_attempt.specs.View.{since_view, call_view, first_width, look_of}
+use Rattle.winnow_attempt.specs.View.{since_view, call_view, first_width, place_after, is_marking, look_of}
 use Rattle.winnow_run.proofs.lemmas.StepLemmas.{Inside}
 use Rattle.winnow_attempt.proofs.lemmas.SettledLemmas.{width-split}
 
@@ -100,24 +100,25 @@ since-marked all i (m ∷ marks) zero w hi h = since-same all i m w hi h.0
 since-marked all i (m ∷ marks) (suc k) w hi h = since-marked all i marks k w hi h.1
 
 module _ {T C L : Type 0} (k : PieceKind T C L) (all : Source T) (at : Cursor) (w : HasPositiveWidths all) (inside : Inside all at) where
+  -- the mark that a call names answers the same for the places as at the cursor
+  back-view : (mark : Option ℕ)
+      → reset_answer {T = T} (mark_of (map (place all) at.marks) mark)
+      ≡ reset_answer (mark_of at.marks mark)
+  back-view None = refl
+  back-view (Some i) = ap reset_answer (marked (place all) at.marks i) ∙ reset-same (place all) (slice_get at.marks i)
+
+  since-view : (mark : Option ℕ)
+      → since_view {T = T} (place all at.index) (mark_of (map (place all) at.marks) mark)
+      ≡ since_answer all at.index (mark_of at.marks mark)
+  since-view None = refl
+  since-view (Some i) = since-marked all at.index at.marks i w inside.index inside.marks
+
   -- a call answers the same for the places as at the cursor
   call-view : (s : Step C)
       → call_view k.holds k.counts_missing (place all at.index) (map (place all) at.marks)
       (rest all at) s ≡ step_answer k.holds k.counts_missing all s at
-  call-view call.Next = refl
-  call-view call.Peek = refl
-  call-view (call.Take n) = refl
-  call-view (call.Look n) = refl
-  call-view call.Finish = refl
-  call-view call.PeekFinish = refl
-  call-view call.Eof = refl
-  call-view (call.At n) = refl
-  call-view (call.IsOffset n) = refl
-  call-view (call.First c) = refl
-  call-view call.Each = refl
-  call-view call.Mark = ap (λ n. answer.Marked n) (length-map at.marks (place all))
-  call-view (call.Reset i) = ap reset_answer (marked (place all) at.marks i) ∙ reset-same (place all) (slice_get at.marks i)
-  call-view (call.Since i) = since-marked all at.index at.marks i w inside.index inside.marks
+  call-view s =
+      rw (length-map at.marks (place all), back-view (call_mark s), since-view (call_mark s)) refl
 
   -- a step answers the same, leads to the same place and makes the same marks for the places as at
   -- the cursor
@@ -128,43 +129,43 @@ module _ {T C L : Type 0} (k : PieceKind T C L) (all : Source T) (at : Cursor) (
   view-answer (step.Compare l) = refl
   view-answer (step.Find ns) = refl
 
+  back-place : (mark : Option ℕ)
+      → unwrap_or (mark_of (map (place all) at.marks) mark) (place all at.index)
+      ≡ place all (unwrap_or (mark_of at.marks mark) at.index)
+  back-place None = refl
+  back-place (Some i) = ap (λ o. unwrap_or o (place all at.index)) (marked (place all) at.marks i) ∙ reset-place (place all) (slice_get at.marks i) at.index
+
+  move-place : (mark : Option ℕ) (m : Move)
+      → place_after (place all at.index) (map (place all) at.marks) (rest all at) mark m
+      ≡ place all (moved all at mark m).index
+  move-place mark stays = refl
+  move-place mark past_token = place-next all at.index inside.index
+  move-place mark (past_width n) = taken-place all at.index n
+  move-place mark to_end = end-place all at.index
+  move-place mark to_mark = back-place mark
+  move-place mark marking = refl
+
   pub view-place : (s : SearchStep C L)
       → (look_of k (place all at.index) (map (place all) at.marks) (rest all at) s).place
       ≡ place all (search_next all s at).index
-  view-place (step.Call call.Next) = place-next all at.index inside.index
-  view-place (step.Call call.Peek) = refl
-  view-place (step.Call (call.Take n)) = taken-place all at.index n
-  view-place (step.Call (call.Look n)) = refl
-  view-place (step.Call call.Finish) = end-place all at.index
-  view-place (step.Call call.PeekFinish) = refl
-  view-place (step.Call call.Eof) = refl
-  view-place (step.Call (call.At n)) = refl
-  view-place (step.Call (call.IsOffset n)) = refl
-  view-place (step.Call (call.First c)) = refl
-  view-place (step.Call call.Each) = refl
-  view-place (step.Call call.Mark) = refl
-  view-place (step.Call (call.Reset i)) = ap (λ o. unwrap_or o (place all at.index)) (marked (place all) at.marks i) ∙ reset-place (place all) (slice_get at.marks i) at.index
-  view-place (step.Call (call.Since i)) = refl
+  view-place (step.Call s) = move-place (call_mark s) (call_move s)
   view-place (step.Compare l) = refl
   view-place (step.Find ns) = refl
+
+  move-marks : (mark : Option ℕ) (m : Move)
+      → cond (is_marking m) (map (place all) at.marks ++ place all at.index ∷ [])
+      (map (place all) at.marks) ≡ map (place all) (moved all at mark m).marks
+  move-marks mark stays = refl
+  move-marks mark past_token = refl
+  move-marks mark (past_width n) = refl
+  move-marks mark to_end = refl
+  move-marks mark to_mark = refl
+  move-marks mark marking = sym (map-append (place all) at.marks (at.index ∷ []))
 
   pub view-marks : (s : SearchStep C L)
       → cond (look_of k (place all at.index) (map (place all) at.marks) (rest all at) s).marks
       (map (place all) at.marks ++ place all at.index ∷ []) (map (place all) at.marks)
       ≡ map (place all) (search_next all s at).marks
-  view-marks (step.Call call.Next) = refl
-  view-marks (step.Call call.Peek) = refl
-  view-marks (step.Call (call.Take n)) = refl
-  view-marks (step.Call (call.Look n)) = refl
-  view-marks (step.Call call.Finish) = refl
-  view-marks (step.Call call.PeekFinish) = refl
-  view-marks (step.Call call.Eof) = refl
-  view-marks (step.Call (call.At n)) = refl
-  view-marks (step.Call (call.IsOffset n)) = refl
-  view-marks (step.Call (call.First c)) = refl
-  view-marks (step.Call call.Each) = refl
-  view-marks (step.Call call.Mark) = sym (map-append (place all) at.marks (at.index ∷ []))
-  view-marks (step.Call (call.Reset i)) = refl
-  view-marks (step.Call (call.Since i)) = refl
+  view-marks (step.Call s) = move-marks (call_mark s) (call_move s)
   view-marks (step.Compare l) = refl
   view-marks (step.Find ns) = refl

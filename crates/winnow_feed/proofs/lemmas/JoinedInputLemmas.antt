@@ -6,7 +6,9 @@ use Rattle.std.proofs.lemmas.Option.{same_Some, slice_get-get_or}
 use Rattle.winnow_stream.specs.Source.{Source, width, HasPositiveWidths}
 use Rattle.winnow_stream.specs.Front.{is_offset, back}
 use Rattle.winnow_stream.specs.Cursor.{start, rest, place}
-use Rattle.winnow_run.specs.declared.script.Step.TheVariants as call
+use Rattle.winnow_run.specs.declared.need.Need.{Need}
+use Rattle.winnow_run.specs.declared.need.Need.TheVariants as need
+use Rattle.winnow_run.specs.Needs.{call_need}
 use Rattle.winnow_stream.proofs.lemmas.FrontLemmas.{front_count-place, back-place, HasPositiveWidths-drop, width-take_drop}
 use Rattle.winnow_sets.specs.declared.char_set.CharSet.{CharSet}
 use Rattle.winnow_match.specs.Bytes.{written}
@@ -16,7 +18,7 @@ use Rattle.winnow_run.specs.declared.search_script.SearchStep.TheVariants as ste
 use Rattle.winnow_feed.specs.declared.progress.Progress.{Progress}
 use Rattle.winnow_run.specs.Searching.{search_answer, search_next}
 use Rattle.winnow_run.specs.Definite.{PieceKind, kind_of, is_definite}
-use Rattle.winnow_attempt.specs.Settled.{IsSettled}
+use Rattle.winnow_attempt.specs.Settled.{IsNeedSettled, IsSettled}
 use Rattle.winnow_attempt.specs.View.{Look, look_of}
 use Rattle.winnow_feed.specs.Reach.{least_index, needed_from}
 use Rattle.winnow_attempt.specs.View.{under}
@@ -39,23 +41,20 @@ pub next-is : {T L : Type 0} (p : Progress T L) (i : ℕ) (x : SearchStep CharSe
     → next_step p ≡ Some x
 next-is p i x e l is = ap (slice_get p.script.now) (sym e) ∙ slice_get-get_or p.script.now i x l ∙ ap Some (sym is)
 
+-- at first, a need has settled nothing
+need-none_passed : {T C : Type 0} (holds : C → T → Bool) (n : Need C) (r : Source T)
+    → IsNeedSettled holds n r 0 0
+need-none_passed holds (need.TokenOf c) r = NoneHeld-none (holds c) r
+need-none_passed holds (need.Tokens asked) r = AreCounted-none asked r
+need-none_passed holds need.Nothing r = tt
+need-none_passed holds need.Token r = tt
+need-none_passed holds (need.Width n) r = tt
+need-none_passed holds need.End r = tt
+
 -- at first, a step has settled nothing
 pub none-passed : {T C L : Type 0} (k : PieceKind T C L) (s : SearchStep C L) (r : Source T)
     → IsSettled k s r 0 0
-none-passed k (step.Call (call.First c)) r = NoneHeld-none (k.holds c) r
-none-passed k (step.Call (call.At asked)) r = AreCounted-none asked r
-none-passed k (step.Call call.Next) r = tt
-none-passed k (step.Call call.Peek) r = tt
-none-passed k (step.Call (call.Take n)) r = tt
-none-passed k (step.Call (call.Look n)) r = tt
-none-passed k (step.Call call.Finish) r = tt
-none-passed k (step.Call call.PeekFinish) r = tt
-none-passed k (step.Call call.Eof) r = tt
-none-passed k (step.Call (call.IsOffset n)) r = tt
-none-passed k (step.Call call.Each) r = tt
-none-passed k (step.Call call.Mark) r = tt
-none-passed k (step.Call (call.Reset n)) r = tt
-none-passed k (step.Call (call.Since n)) r = tt
+none-passed k (step.Call s) r = need-none_passed k.holds (call_need s) r
 none-passed k (step.Compare l) r = AreSame-none (k.literal l) (written k.write r)
 none-passed k (step.Find ns) r = NoneOccurs-none (needle_list k.literal ns) (written k.write r)
 

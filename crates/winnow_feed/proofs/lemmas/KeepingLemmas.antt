@@ -1,20 +1,20 @@
 -- What is kept: the least place that the steps name, more input appended, and a front dropped.
 use Rattle.std.proofs.Common.{◌≡◌, ℕ, ◌+◌, ◌-◌, ◌≤◌, ◌<◌, min, true, false, List, [], ◌∷◌, ◌++◌, length, take, drop, map, refl, sym, ap, ◌∙◌, arith, subst, inl, inr, length-drop}
-use Rattle.std.specs.Prelude.{slice_get, unwrap_or, is_some}
+use Rattle.std.specs.Prelude.{Option, None, Some, slice_get, unwrap_or, is_some}
 use Rattle.std.specs.List.{AllByRecursion}
 use Rattle.std.proofs.lemmas.Bool.{cases_lt}
 use Rattle.std.proofs.lemmas.List.{drop-drop, take-append-le, drop-append-le, length-append, drop_all}
 use Rattle.winnow_stream.specs.Source.{Source, width, HasPositiveWidths}
 use Rattle.winnow_stream.specs.Front.{is_offset, back}
 use Rattle.winnow_stream.specs.Cursor.{Cursor, start, rest, place}
-use Rattle.winnow_run.specs.declared.script.Step.TheVariants as call
+use Rattle.winnow_run.specs.Needs.{mark_of}
 use Rattle.winnow_stream.proofs.lemmas.FrontLemmas.{front_count-place, back-place, HasPositiveWidths-drop, width-take_drop}
 use Rattle.winnow_sets.specs.declared.char_set.CharSet.{CharSet}
 use Rattle.winnow_run.specs.declared.search_script.SearchStep.{SearchStep}
 use Rattle.winnow_run.specs.declared.search_script.SearchStep.TheVariants as step
 use Rattle.winnow_feed.specs.declared.progress.Progress.{Progress}
 use Rattle.winnow_run.specs.Definite.{PieceKind}
-use Rattle.winnow_feed.specs.Reach.{named_index, least_index, needed_from, named_place, least_place, needed_place}
+use Rattle.winnow_feed.specs.Reach.{step_mark, named_index, least_index, needed_from, named_place, least_place, needed_place}
 use Rattle.winnow_feed.specs.JoinedInput.{IsRunOver, StaysWithoutAnswer, KeepsLeast, steps_left, answers_out}
 use Rattle.winnow_run.proofs.lemmas.MoreLemmas.{width-append}
 use Rattle.winnow_run.proofs.lemmas.StepLemmas.{Inside, start-inside}
@@ -45,31 +45,17 @@ place-min all i j =
     ]
 
 -- the place of a mark is the place of its index, and that of the cursor without one
-named-mark : {T : Type 0} (all : Source T) (at : Cursor) (k : ℕ)
-    → unwrap_or (slice_get (map (place all) at.marks) k) (place all at.index)
-    ≡ place all (unwrap_or (slice_get at.marks k) at.index)
-named-mark all at k = ap (λ o. unwrap_or o (place all at.index)) (marked (place all) at.marks k) ∙ reset-place (place all) (slice_get at.marks k) at.index
+named-mark : {T : Type 0} (all : Source T) (at : Cursor) (mark : Option ℕ)
+    → unwrap_or (mark_of (map (place all) at.marks) mark) (place all at.index)
+    ≡ place all (unwrap_or (mark_of at.marks mark) at.index)
+named-mark all at None = refl
+named-mark all at (Some k) = ap (λ o. unwrap_or o (place all at.index)) (marked (place all) at.marks k) ∙ reset-place (place all) (slice_get at.marks k) at.index
 
 module _ {T C L : Type 0} (all : Source T) (at : Cursor) where
   -- the place that a step names is the place of the index that it names
   named-same : (s : SearchStep C L)
       → named_place (place all at.index) (map (place all) at.marks) s ≡ place all (named_index at s)
-  named-same (step.Call call.Next) = refl
-  named-same (step.Call call.Peek) = refl
-  named-same (step.Call (call.Take i)) = refl
-  named-same (step.Call (call.Look i)) = refl
-  named-same (step.Call call.Finish) = refl
-  named-same (step.Call call.PeekFinish) = refl
-  named-same (step.Call call.Eof) = refl
-  named-same (step.Call (call.At i)) = refl
-  named-same (step.Call (call.IsOffset i)) = refl
-  named-same (step.Call (call.First c)) = refl
-  named-same (step.Call call.Each) = refl
-  named-same (step.Call call.Mark) = refl
-  named-same (step.Call (call.Reset k)) = named-mark all at k
-  named-same (step.Call (call.Since k)) = named-mark all at k
-  named-same (step.Compare l) = refl
-  named-same (step.Find ns) = refl
+  named-same s = named-mark all at (step_mark s)
 
   -- the least place is the place of the least index
   least-same : (steps : List (SearchStep C L))

@@ -27,6 +27,9 @@ use Rattle.winnow_match.proofs.lemmas.ByteFrontLemmas.{front_rest, is_prefix-IsP
 use Rattle.winnow_sets.specs.declared.char_set.CharSet.{CharSet}
 use Rattle.winnow_sets.specs.Sets.{char_ranges, least_of_first}
 use Rattle.winnow_sets.proofs.lemmas.RangeLemmas.{least_held}
+use Rattle.winnow_run.specs.declared.need.Need.{Need}
+use Rattle.winnow_run.specs.declared.need.Need.TheVariants as need
+use Rattle.winnow_run.specs.Needs.{call_need}
 use Rattle.winnow_run.specs.declared.script.Step.{Step}
 use Rattle.winnow_run.specs.declared.script.Step.TheVariants as call
 use Rattle.winnow_run.specs.declared.script.Answer.TheVariants as answer
@@ -39,8 +42,8 @@ use Rattle.winnow_run.proofs.lemmas.StepLemmas.{Inside, rest-more}
 use Rattle.winnow_match.specs.Staying.{written-append}
 use Rattle.winnow_run.proofs.lemmas.MoreLemmas.{width-append}
 use Rattle.winnow_feed.specs.Inputs.{PieceStep, InputKind}
-use Rattle.winnow_attempt.specs.Missing.{letters, needle_missing, call_missing, missing}
-use Rattle.winnow_feed.specs.Waits.{IsSpelt}
+use Rattle.winnow_attempt.specs.Missing.{letters, needle_missing, need_missing, missing}
+use Rattle.winnow_feed.specs.Waits.{IsNeedSpelt, IsSpelt}
 use Rattle.winnow_feed.proofs.lemmas.InputLemmas.{IsInput}
 use Rattle.winnow_feed.proofs.lemmas.KeepingLemmas.{HasPositiveWidths-append}
 use Rattle.winnow_feed.proofs.lemmas.SpellingLemmas.{IsSpelling}
@@ -305,7 +308,8 @@ module _ (i : InputKind) (law : IsInput i) (spelling : IsSpelling i) (J : List �
     call-changes : (s : Step CharSet)
         → is_call_definite i.pieces.holds i.pieces.counts_missing s r ≡ false
         → IsSpelt i (step.Call s)
-        → call_missing i.pieces.counts_missing i.greatest i.pieces.write r s ≡ Some m → Differs s m
+        → need_missing i.pieces.counts_missing i.greatest i.pieces.write r (call_need s) ≡ Some m
+        → Differs s m
     call-changes call.Next h u is = by-letters call.Next 1 (token-differs h) is
     call-changes call.Peek h u is = by-letters call.Peek 1 (token-differs h) is
     call-changes (call.Take n) h u is = by-letters (call.Take n) (n - width r) (slice-differs n h) is
@@ -359,29 +363,21 @@ module _ (i : InputKind) (law : IsInput i) (spelling : IsSpelling i) (J : List �
     of-token None u is = absurd (none-some m is)
     of-token (Some t) u is = subst (λ x. i.valid x ≡ true) (same_Some (i.pieces.write t) m is) (spelling.token_valid t u)
 
-    -- what a call is missing is valid input
-    call-valid : (s : Step CharSet) → IsSpelt i (step.Call s)
-        → call_missing i.pieces.counts_missing i.greatest i.pieces.write r s ≡ Some m
+    -- what a need is missing is valid input
+    need-valid : (n : Need CharSet) → IsNeedSpelt i n
+        → need_missing i.pieces.counts_missing i.greatest i.pieces.write r n ≡ Some m
         → i.valid m ≡ true
-    call-valid call.Next u is = of-letters 1 is
-    call-valid call.Peek u is = of-letters 1 is
-    call-valid (call.Take n) u is = of-letters (n - width r) is
-    call-valid (call.Look n) u is = of-letters (n - width r) is
-    call-valid call.Finish u is = of-letters 1 is
-    call-valid call.PeekFinish u is = of-letters 1 is
-    call-valid call.Eof u is = of-letters 1 is
-    call-valid (call.At n) u is = of-letters (cond i.pieces.counts_missing 1 (n - length r)) is
-    call-valid (call.IsOffset n) u is = of-letters (n - width r) is
-    call-valid (call.First set) u is = of-token (least_of_first i.greatest (char_ranges set)) u is
-    call-valid call.Each u is = of-letters 1 is
-    call-valid call.Mark u is = of-letters 1 is
-    call-valid (call.Reset k) u is = of-letters 1 is
-    call-valid (call.Since k) u is = of-letters 1 is
+    need-valid need.Nothing u is = of-letters 1 is
+    need-valid need.Token u is = of-letters 1 is
+    need-valid (need.Width n) u is = of-letters (n - width r) is
+    need-valid (need.Tokens n) u is = of-letters (cond i.pieces.counts_missing 1 (n - length r)) is
+    need-valid (need.TokenOf set) u is = of-token (least_of_first i.greatest (char_ranges set)) u is
+    need-valid need.End u is = of-letters 1 is
 
     -- what a step is missing is valid input
     pub missing-valid : i.valid J ≡ true → (s : PieceStep) → is_definite i.pieces s r ≡ false
         → IsSpelt i s → missing i.pieces i.greatest i.pieces.write r s ≡ Some m → i.valid m ≡ true
-    missing-valid w (step.Call s) h u is = call-valid s u is
+    missing-valid w (step.Call s) h u is = need-valid (call_need s) u is
     missing-valid w (step.Compare literal) h u is =
         let l : List ℕ = i.pieces.literal literal in
         let b : List ℕ = written i.pieces.write r in

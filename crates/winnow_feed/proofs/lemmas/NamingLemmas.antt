@@ -1,36 +1,21 @@
 -- Marks that remaining steps name; the walk may stop once none of them is made.
 use Rattle.std.proofs.Common.{◌≡◌, ℕ, zero, suc, ◌≤◌, ◌<◌, ◌-◌, List, [], ◌∷◌, length, take, drop, length-drop, take_all, get_or, refl, sym, ap, ◌∙◌, arith}
-use Rattle.std.specs.Prelude.{slice_get, unwrap_or}
+use Rattle.std.specs.Prelude.{Option, None, Some, unwrap_or}
 use Rattle.std.proofs.lemmas.Option.{slice_get_past}
-use Rattle.winnow_run.specs.declared.script.Step.TheVariants as call
+use Rattle.winnow_run.specs.Needs.{mark_of}
 use Rattle.winnow_run.specs.declared.search_script.SearchStep.{SearchStep}
-use Rattle.winnow_run.specs.declared.search_script.SearchStep.TheVariants as step
-use Rattle.winnow_feed.specs.Reach.{named_place, least_place, mark_named, least_mark, least_marks}
+use Rattle.winnow_feed.specs.Reach.{step_mark, no_mark, named_place, least_place, mark_named, least_mark, least_marks}
 
 -- a mark that is not made stands for the cursor's place
-not-made : (at : ℕ) (marks : List ℕ) (k : ℕ) → length marks ≤ k
-    → unwrap_or (slice_get marks k) at ≡ at
-not-made at marks k h = ap (λ o. unwrap_or o at) (slice_get_past marks k h)
+not-made : (at : ℕ) (marks : List ℕ) (mark : Option ℕ) → length marks ≤ unwrap_or mark no_mark
+    → unwrap_or (mark_of marks mark) at ≡ at
+not-made at marks None h = refl
+not-made at marks (Some k) h = ap (λ o. unwrap_or o at) (slice_get_past marks k h)
 
 module _ {C L : Type 0} (at : ℕ) (marks : List ℕ) where
   -- a step that names no mark made so far names the cursor's place
   unnamed-place : (s : SearchStep C L) → length marks ≤ mark_named s → named_place at marks s ≡ at
-  unnamed-place (step.Call call.Next) h = refl
-  unnamed-place (step.Call call.Peek) h = refl
-  unnamed-place (step.Call (call.Take n)) h = refl
-  unnamed-place (step.Call (call.Look n)) h = refl
-  unnamed-place (step.Call call.Finish) h = refl
-  unnamed-place (step.Call call.PeekFinish) h = refl
-  unnamed-place (step.Call call.Eof) h = refl
-  unnamed-place (step.Call (call.At n)) h = refl
-  unnamed-place (step.Call (call.IsOffset n)) h = refl
-  unnamed-place (step.Call (call.First c)) h = refl
-  unnamed-place (step.Call call.Each) h = refl
-  unnamed-place (step.Call call.Mark) h = refl
-  unnamed-place (step.Call (call.Reset k)) h = not-made at marks k h
-  unnamed-place (step.Call (call.Since k)) h = not-made at marks k h
-  unnamed-place (step.Compare l) h = refl
-  unnamed-place (step.Find ns) h = refl
+  unnamed-place s h = not-made at marks (step_mark s) h
 
   -- steps that name no mark made so far leave the least place as it is
   pub unnamed : (least : ℕ) (steps : List (SearchStep C L)) → length marks ≤ least_mark steps

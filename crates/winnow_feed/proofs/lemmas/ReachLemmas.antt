@@ -6,12 +6,14 @@ use Rattle.std.proofs.lemmas.Bool.{false≢true}
 use Rattle.std.specs.List.{take_while}
 use Rattle.winnow_stream.specs.Source.{Source}
 use Rattle.winnow_stream.specs.Cursor.{Cursor, rest, answers_from, cursor_after}
-use Rattle.winnow_run.specs.declared.script.Step.TheVariants as call
+use Rattle.winnow_run.specs.Needs.{call_mark, mark_of, call_move, Move, stays, past_token, past_width, to_end, to_mark, marking}
+use Rattle.winnow_run.specs.Script.{moved}
+use Rattle.winnow_run.specs.declared.script.Step.{Step}
 use Rattle.winnow_run.specs.declared.search_script.SearchStep.{SearchStep}
 use Rattle.winnow_run.specs.declared.search_script.SearchStep.TheVariants as step
 use Rattle.winnow_run.specs.Searching.{PlacedSearchAnswer, search_answer, search_next}
 use Rattle.winnow_run.specs.Definite.{PieceKind, kind_of, is_definite, judged}
-use Rattle.winnow_feed.specs.Reach.{Reaches, named_index, least_index}
+use Rattle.winnow_feed.specs.Reach.{Reaches, step_mark, named_index, least_index}
 use Rattle.winnow_run.proofs.lemmas.StepLemmas.{Inside, step-more, step-inside}
 
 -- `take_while` stops at an element that fails the test, and goes on after one that passes
@@ -110,25 +112,18 @@ pub least-at : {C L : Type 0} (steps : List (SearchStep C L)) (s : Cursor)
 least-at [] s = omega arith
 least-at (x ∷ steps) s = omega (arith, least-at steps s)
 
+-- if the cursor and the marks of t are at n or later, so is the mark that is named
+mark-above : (n : ℕ) (s t : Cursor) (there : n ≤ t.index)
+    (marks : (k : ℕ) → n ≤ unwrap_or (slice_get s.marks k) s.index
+    → n ≤ unwrap_or (slice_get t.marks k) t.index) (mark : Option ℕ)
+    → n ≤ unwrap_or (mark_of s.marks mark) s.index → n ≤ unwrap_or (mark_of t.marks mark) t.index
+mark-above n s t there marks None h = there
+mark-above n s t there marks (Some k) h = marks k h
+
 module _ {C L : Type 0} (n : ℕ) (s t : Cursor) (there : n ≤ t.index) (marks : (k : ℕ) → n ≤ unwrap_or (slice_get s.marks k) s.index → n ≤ unwrap_or (slice_get t.marks k) t.index) where
-  -- if the cursor and the marks of t are at n or later, so is each index that a step names
+  -- so is the index that a step names
   named-above : (x : SearchStep C L) → n ≤ named_index s x → n ≤ named_index t x
-  named-above (step.Call call.Next) h = there
-  named-above (step.Call call.Peek) h = there
-  named-above (step.Call (call.Take i)) h = there
-  named-above (step.Call (call.Look i)) h = there
-  named-above (step.Call call.Finish) h = there
-  named-above (step.Call call.PeekFinish) h = there
-  named-above (step.Call call.Eof) h = there
-  named-above (step.Call (call.At i)) h = there
-  named-above (step.Call (call.IsOffset i)) h = there
-  named-above (step.Call (call.First c)) h = there
-  named-above (step.Call call.Each) h = there
-  named-above (step.Call call.Mark) h = there
-  named-above (step.Call (call.Reset k)) h = marks k h
-  named-above (step.Call (call.Since k)) h = marks k h
-  named-above (step.Compare l) h = there
-  named-above (step.Find ns) h = there
+  named-above x h = mark-above n s t there marks (step_mark x) h
 
   least-above : (steps : List (SearchStep C L)) → n ≤ least_index steps s → n ≤ least_index steps t
   least-above [] h = there
@@ -163,25 +158,23 @@ module _ {T C L : Type 0} (all : Source T) (s : Cursor) (x : SearchStep C L) (st
   at_cursor : least_index (x ∷ steps) s ≤ s.index
   at_cursor = least-at (x ∷ steps) s
 
+-- no move of a call makes the remaining steps reach further back
+move-back : {T C L : Type 0} (all : Source T) (s : Cursor) (inside : Inside all s) (x : Step C)
+    (m : Move) (steps : List (SearchStep C L))
+    → least_index (step.Call x ∷ steps) s ≤ least_index steps (moved all s (call_mark x) m)
+move-back all s inside x stays steps = omega arith
+move-back all s inside x past_token steps = on all s (step.Call x) steps _ (omega (arith, inside.index, at_cursor all s (step.Call x) steps))
+move-back all s inside x (past_width n) steps = on all s (step.Call x) steps _ (omega (arith, at_cursor all s (step.Call x) steps))
+move-back all s inside x to_end steps = on all s (step.Call x) steps _ (omega (arith, inside.index, at_cursor all s (step.Call x) steps))
+move-back all s inside x to_mark steps = on all s (step.Call x) steps _ (omega arith)
+move-back all s inside x marking steps =
+    to all s (step.Call x) steps (record s { marks = s.marks ++ s.index ∷ [] }) (at_cursor all s (step.Call x) steps)
+    (λ k g. more-marks (least_index (step.Call x ∷ steps) s) s.index s.marks k (at_cursor all s (step.Call x) steps) g)
+
 -- no step makes the remaining steps reach further back
 pub never_back : {T C L : Type 0} (all : Source T) (s : Cursor) (inside : Inside all s)
     (x : SearchStep C L) (steps : List (SearchStep C L))
     → least_index (x ∷ steps) s ≤ least_index steps (search_next all x s)
-never_back all s inside (step.Call call.Next) steps = on all s (step.Call call.Next) steps _ (omega (arith, inside.index, at_cursor all s (step.Call call.Next) steps))
-never_back all s inside (step.Call (call.Take n)) steps = on all s (step.Call (call.Take n)) steps _ (omega (arith, at_cursor all s (step.Call (call.Take n)) steps))
-never_back all s inside (step.Call call.Finish) steps = on all s (step.Call call.Finish) steps _ (omega (arith, inside.index, at_cursor all s (step.Call call.Finish) steps))
-never_back all s inside (step.Call call.Mark) steps =
-    to all s (step.Call call.Mark) steps (record s { marks = s.marks ++ s.index ∷ [] }) (at_cursor all s (step.Call call.Mark) steps)
-    (λ k g. more-marks (least_index (step.Call call.Mark ∷ steps) s) s.index s.marks k (at_cursor all s (step.Call call.Mark) steps) g)
-never_back all s inside (step.Call (call.Reset k)) steps = on all s (step.Call (call.Reset k)) steps _ (omega arith)
-never_back all s inside (step.Call call.Peek) steps = omega arith
-never_back all s inside (step.Call (call.Look n)) steps = omega arith
-never_back all s inside (step.Call call.PeekFinish) steps = omega arith
-never_back all s inside (step.Call call.Eof) steps = omega arith
-never_back all s inside (step.Call (call.At n)) steps = omega arith
-never_back all s inside (step.Call (call.IsOffset n)) steps = omega arith
-never_back all s inside (step.Call (call.First c)) steps = omega arith
-never_back all s inside (step.Call call.Each) steps = omega arith
-never_back all s inside (step.Call (call.Since k)) steps = omega arith
+never_back all s inside (step.Call x) steps = move-back all s inside x (call_move x) steps
 never_back all s inside (step.Compare l) steps = omega arith
 never_back all s inside (step.Find ns) steps = omega arith

@@ -1,5 +1,5 @@
 -- What a feed waits for, derived from the pieces that it fits.
-use Rattle.std.proofs.Common.{◌≡◌, ℕ, zero, suc, ◌<◌, Bool, true, false, List, [], ◌∷◌, ◌++◌, length, take, get_or, Option, Some, None, Result, Ok, Err, refl, sym, ap, ◌∙◌, arith, Bor}
+use Rattle.std.proofs.Common.{◌≡◌, ℕ, zero, suc, ◌<◌, Bool, true, false, List, [], ◌∷◌, ◌++◌, length, take, get_or, Option, Some, None, Result, Ok, Err, refl, sym, ap, ◌∙◌, arith, subst, Bor}
 use Rattle.std.specs.Prelude.{slice_get, is_some, option_map, IfSome, IsSome, IfOk, OnErr}
 use Rattle.std.specs.List.{AllByRecursion}
 use Rattle.std.proofs.lemmas.Bool.{le-leb}
@@ -11,21 +11,23 @@ use Rattle.winnow_match.specs.Search.{needle_list}
 use Rattle.winnow_sets.specs.declared.char_set.CharSet.{CharSet}
 use Rattle.winnow_sets.specs.Sets.{char_ranges, least_of_first}
 use Rattle.winnow_sets.proofs.lemmas.RangeLemmas.{none_held, least_within}
-use Rattle.winnow_run.specs.declared.script.Step.TheVariants as call
-use Rattle.winnow_run.specs.declared.script.Answer.TheVariants as answer
+use Rattle.winnow_run.specs.declared.need.Need.{Need}
+use Rattle.winnow_run.specs.declared.need.Need.TheVariants as need
+use Rattle.winnow_run.specs.Needs.{call_need, is_met}
+use Rattle.winnow_run.specs.declared.script.Step.{Step}
 use Rattle.winnow_run.specs.declared.search_script.SearchStep.{SearchStep}
 use Rattle.winnow_run.specs.declared.search_script.SearchStep.TheVariants as step
 use Rattle.winnow_run.specs.declared.search_script.SearchAnswer.TheVariants as search_answered
 use Rattle.winnow_run.specs.Searching.{PlacedSearchAnswer, search_answer, search_next}
 use Rattle.winnow_run.specs.Definite.{PieceKind, kind_of, is_definite}
-use Rattle.winnow_run.proofs.lemmas.StepLemmas.{Inside, start-inside, rest-more}
+use Rattle.winnow_run.proofs.lemmas.StepLemmas.{Inside, start-inside, rest-more, SameReading, answer-read}
 use Rattle.winnow_feed.specs.declared.progress.Progress.{Progress}
 use Rattle.winnow_feed.specs.Inputs.{PieceStep, InputKind, byte_input, joined}
 use Rattle.winnow_feed.specs.Reach.{Reaches}
 use Rattle.winnow_feed.specs.JoinedInput.{IsRunOver, IsAtRest, next_step, answers_out}
 use Rattle.winnow_feed.specs.Feeding.{FeedState, HoldsInput, Fits, script_of}
-use Rattle.winnow_attempt.specs.Missing.{missing}
-use Rattle.winnow_feed.specs.Waits.{GivesMissing, MissesSome, IsSpelt, answer_on, waiting_number, waiting_step, waiting_rest, missing_on, IsMissing, WaitsToEnd, MissesMore}
+use Rattle.winnow_attempt.specs.Missing.{need_missing, missing}
+use Rattle.winnow_feed.specs.Waits.{GivesMissing, MissesSome, IsNeedSpelt, IsSpelt, answer_on, waiting_number, waiting_step, waiting_rest, missing_on, IsMissing, WaitsToEnd, MissesMore}
 use Rattle.winnow_feed.proofs.lemmas.InputLemmas.{IsInput}
 use Rattle.winnow_feed.proofs.lemmas.SpellingLemmas.{IsSpelling}
 use Rattle.winnow_feed.proofs.lemmas.ReachLemmas.{Reaches-cursor, Reaches-more}
@@ -205,24 +207,45 @@ none-hold i holds [] f h = tt
 none-hold i holds (x ∷ m) f h = (f x.0 h.0, none-hold i holds m f h.1)
 
 module _ (i : InputKind) (law : IsInput i) (spelling : IsSpelling i) (f : FeedState) (pieces : List (List ℕ)) (h : Fits i f pieces) (some : 0 < length pieces) where
-  -- a `First` over such a set waits to the end
-  first-waits : (set : CharSet) → next_step f.run ≡ Some (step.Call (call.First set))
-      → least_of_first i.greatest (char_ranges set) ≡ None
+  -- a call that needs a token of such a set waits to the end
+  set-waits : (x : Step CharSet) (set : CharSet) → call_need x ≡ need.TokenOf set
+      → next_step f.run ≡ Some (step.Call x) → least_of_first i.greatest (char_ranges set) ≡ None
       → WaitsToEnd i (script_of f) (joined pieces)
-  first-waits set next e =
-      let s : PieceStep = step.Call (call.First set) in
+  set-waits x set needs next e =
+      let s : PieceStep = step.Call x in
       let at : Cursor = h.stands.stands.at in
+      let all : Source ℕ = i.source (joined pieces) in
       let none : (t : ℕ) → i.is_token t ≡ true → i.pieces.holds set t ≡ false = λ t u. spelling.holds_is set t ∙ none_held i.greatest (char_ranges set) e t (spelling.token_most t u) in
+      let waits : is_met i.pieces.holds i.pieces.counts_missing (need.TokenOf set) (rest all at) ≡ false = subst (λ n. is_met i.pieces.holds i.pieces.counts_missing n (rest all at) ≡ false) needs (indefinite i law spelling f pieces h some s next) in
       record {
-        set = set;
+        call = x;
         waits = step-is i law spelling f pieces h some s next;
+        set = set;
+        needs = needs;
         holds_none = none;
         never = λ m bytes v.
             let tokens = none-hold i (i.pieces.holds set) (i.source m) none (spelling.tokens m bytes v) in
-            let more = rest-more i.pieces (i.source (joined pieces)) (i.source m) at (within i law spelling f pieces h some s next) in
-            let same = ap (first_offset (i.pieces.holds set)) more ∙ first-never (i.pieces.holds set) (rest (i.source (joined pieces)) at) (i.source m) (indefinite i law spelling f pieces h some s next) tokens in
-            answer-more i law spelling f pieces h some s next m ∙ ap (λ o. Some (search_answered.Call (answer.First o))) same ∙ sym (answer-is i law spelling f pieces h some s next);
+            let more = rest-more i.pieces all (i.source m) at (within i law spelling f pieces h some s next) in
+            let same = ap (first_offset (i.pieces.holds set)) more ∙ first-never (i.pieces.holds set) (rest all at) (i.source m) waits tokens in
+            let reads : SameReading i.pieces.holds i.pieces.counts_missing (call_need x) (rest (all ++ i.source m) at) (rest all at) = subst (λ n. SameReading i.pieces.holds i.pieces.counts_missing n (rest (all ++ i.source m) at) (rest all at)) (sym needs) same in
+            answer-more i law spelling f pieces h some s next m
+            ∙ ap (λ a. Some (search_answered.Call a)) (answer-read i.pieces all (i.source m) at (within i law spelling f pieces h some s next) x reads)
+            ∙ sym (answer-is i law spelling f pieces h some s next);
       }
+
+  -- a call that is missing nothing waits to the end
+  call-to_end : (x : Step CharSet) (n : Need CharSet) → call_need x ≡ n
+      → next_step f.run ≡ Some (step.Call x)
+      → None
+      ≡ need_missing i.pieces.counts_missing i.greatest i.pieces.write
+      (rest (i.source (joined pieces)) h.stands.stands.at) n
+      → WaitsToEnd i (script_of f) (joined pieces)
+  call-to_end x (need.TokenOf set) needs next e = set-waits x set needs next (mapped-none i.pieces.write (least_of_first i.greatest (char_ranges set)) e)
+  call-to_end x need.Nothing needs next e = absurd (none-some _ e)
+  call-to_end x need.Token needs next e = absurd (none-some _ e)
+  call-to_end x (need.Width n) needs next e = absurd (none-some _ e)
+  call-to_end x (need.Tokens n) needs next e = absurd (none-some _ e)
+  call-to_end x need.End needs next e = absurd (none-some _ e)
 
   -- a step that is missing nothing waits to the end
   pub to-end : (s : PieceStep) → next_step f.run ≡ Some s
@@ -230,20 +253,7 @@ module _ (i : InputKind) (law : IsInput i) (spelling : IsSpelling i) (f : FeedSt
       ≡ missing i.pieces i.greatest i.pieces.write
       (rest (i.source (joined pieces)) h.stands.stands.at) s
       → WaitsToEnd i (script_of f) (joined pieces)
-  to-end (step.Call call.Next) next e = absurd (none-some _ e)
-  to-end (step.Call call.Peek) next e = absurd (none-some _ e)
-  to-end (step.Call (call.Take n)) next e = absurd (none-some _ e)
-  to-end (step.Call (call.Look n)) next e = absurd (none-some _ e)
-  to-end (step.Call call.Finish) next e = absurd (none-some _ e)
-  to-end (step.Call call.PeekFinish) next e = absurd (none-some _ e)
-  to-end (step.Call call.Eof) next e = absurd (none-some _ e)
-  to-end (step.Call (call.At n)) next e = absurd (none-some _ e)
-  to-end (step.Call (call.IsOffset n)) next e = absurd (none-some _ e)
-  to-end (step.Call (call.First set)) next e = first-waits set next (mapped-none i.pieces.write (least_of_first i.greatest (char_ranges set)) e)
-  to-end (step.Call call.Each) next e = absurd (none-some _ e)
-  to-end (step.Call call.Mark) next e = absurd (none-some _ e)
-  to-end (step.Call (call.Reset k)) next e = absurd (none-some _ e)
-  to-end (step.Call (call.Since k)) next e = absurd (none-some _ e)
+  to-end (step.Call x) next e = call-to_end x (call_need x) refl next e
   to-end (step.Compare l) next e = absurd (none-some _ e)
   to-end (step.Find ns) next e = absurd (none-some _ e)
 
@@ -260,21 +270,17 @@ least-byte : (ranges : List (ℕ × ℕ)) (o : Option ℕ) → least_of_first 25
 least-byte ranges None e = tt
 least-byte ranges (Some t) e = le-leb t 255 (least_within 255 ranges t e)
 
+-- each need over bytes names what fits bytes
+need-spelt : (n : Need CharSet) → IsNeedSpelt byte_input n
+need-spelt (need.TokenOf set) = least-byte (char_ranges set) (least_of_first 255 (char_ranges set)) refl
+need-spelt need.Nothing = tt
+need-spelt need.Token = tt
+need-spelt (need.Width n) = tt
+need-spelt (need.Tokens n) = tt
+need-spelt need.End = tt
+
 -- each step over bytes names what fits bytes
 pub bytes-spelt : (s : PieceStep) → IsSpelt byte_input s
-bytes-spelt (step.Call call.Next) = tt
-bytes-spelt (step.Call call.Peek) = tt
-bytes-spelt (step.Call (call.Take n)) = tt
-bytes-spelt (step.Call (call.Look n)) = tt
-bytes-spelt (step.Call call.Finish) = tt
-bytes-spelt (step.Call call.PeekFinish) = tt
-bytes-spelt (step.Call call.Eof) = tt
-bytes-spelt (step.Call (call.At n)) = tt
-bytes-spelt (step.Call (call.IsOffset n)) = tt
-bytes-spelt (step.Call (call.First set)) = least-byte (char_ranges set) (least_of_first 255 (char_ranges set)) refl
-bytes-spelt (step.Call call.Each) = tt
-bytes-spelt (step.Call call.Mark) = tt
-bytes-spelt (step.Call (call.Reset k)) = tt
-bytes-spelt (step.Call (call.Since k)) = tt
+bytes-spelt (step.Call s) = need-spelt (call_need s)
 bytes-spelt (step.Compare l) = refl
 bytes-spelt (step.Find ns) = all-valid (needle_list byte_input.pieces.literal ns)

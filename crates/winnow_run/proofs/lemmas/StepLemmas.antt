@@ -1,6 +1,6 @@
 -- A definite step, and then a script, answers the same with more input appended.
 use Rattle.std.proofs.Common.{◌≡◌, ℕ, zero, suc, ◌+◌, ◌-◌, ◌≤◌, ◌<◌, min, true, leb, List, [], ◌∷◌, ◌++◌, length, take, drop, refl, sym, ap, ◌∙◌, arith}
-use Rattle.std.specs.Prelude.{is_some, is_ok, unwrap_or, slice_get}
+use Rattle.std.specs.Prelude.{Bool, Option, None, Some, ⊤, is_some, is_ok, unwrap_or, slice_get}
 use Rattle.std.specs.List.{All, AllByRecursion}
 use Rattle.std.proofs.lemmas.Bool.{leb-true, le-leb}
 use Rattle.std.proofs.lemmas.List.{take-append-le, drop-append-le, length-append}
@@ -9,7 +9,11 @@ use Rattle.winnow_stream.specs.Source.{Source, width, first_token, first_offset}
 use Rattle.winnow_stream.specs.Front.{front_count}
 use Rattle.winnow_stream.specs.Shortage.{offset_at}
 use Rattle.winnow_stream.specs.Cursor.{Cursor, start, rest, place, answers_from}
-use Rattle.winnow_run.specs.Script.{step_answer, step_next, slice_answer, since_answer}
+use Rattle.winnow_run.specs.Needs.{call_need, is_met, call_mark, mark_of, call_move, Move, stays, past_token, past_width, to_end, to_mark, marking}
+use Rattle.winnow_run.specs.Script.{PlacedAnswer, call_answer, step_answer, step_next, moved, slice_answer, since_answer}
+use Rattle.winnow_run.specs.declared.need.Need.{Need}
+use Rattle.winnow_run.specs.declared.need.Need.TheVariants as need
+use Rattle.winnow_stream.specs.Span.{span}
 use Rattle.winnow_run.specs.declared.script.Step.{Step}
 use Rattle.winnow_run.specs.declared.script.Step.TheVariants as call
 use Rattle.winnow_run.specs.declared.script.Answer.TheVariants as answer
@@ -66,6 +70,53 @@ some-left [] (suc i) h = absurd (cc)
 some-left (x ∷ all) zero h = omega arith
 some-left (x ∷ all) (suc i) h = omega (arith, some-left all i h)
 
+-- of two rests a need reads the same
+abbrev pub SameReading : {T C : Type 0} → (C → T → Bool) → Bool → Need C → Source T → Source T
+    → Type 0
+SameReading holds counts_missing need.Nothing r q = ⊤
+SameReading holds counts_missing need.Token r q = first_token r ≡ first_token q
+SameReading holds counts_missing (need.Width n) r q = front_count r n ≡ front_count q n
+SameReading holds counts_missing (need.Tokens n) r q = offset_at counts_missing r n ≡ offset_at counts_missing q n
+SameReading holds counts_missing (need.TokenOf c) r q = first_offset (holds c) r ≡ first_offset (holds c) q
+SameReading holds counts_missing need.End r q = r ≡ q
+
+-- what a move needs of what remains, so that no further input changes where it leads
+abbrev pub move_need : {C : Type 0} → Move → Need C
+move_need stays = need.Nothing
+move_need past_token = need.Token
+move_need (past_width n) = need.Width n
+move_need to_end = need.End
+move_need to_mark = need.Nothing
+move_need marking = need.Nothing
+
+module _ {T C : Type 0} (holds : C → T → Bool) (counts_missing : Bool) (r q : Source T) where
+  -- a call answers the same of r and q
+  abbrev pub AnswersSame : Step C → Type 0
+  AnswersSame s =
+      (here count : ℕ) (back since : PlacedAnswer T)
+      → call_answer holds counts_missing here r count back since s
+      ≡ call_answer holds counts_missing here q count back since s
+
+  -- a call answers from what its need reads, and it needs what its move needs
+  pub call-reads : (s : Step C)
+      → (SameReading holds counts_missing (call_need s) r q → AnswersSame s)
+      × (is_met holds counts_missing (call_need s) r ≡ true
+      → is_met holds counts_missing (move_need (call_move s)) r ≡ true)
+  call-reads call.Next = (λ e here count back since. ap (λ t. answer.Token t) e, λ h. h)
+  call-reads call.Peek = (λ e here count back since. ap (λ t. answer.Token t) e, λ h. refl)
+  call-reads (call.Take n) = (λ e here count back since. ap (slice_answer here n) e, λ h. h)
+  call-reads (call.Look n) = (λ e here count back since. ap (slice_answer here n) e, λ h. refl)
+  call-reads call.Finish = (λ e here count back since. ap (λ x. answer.Slice (span here (width x))) e, λ h. h)
+  call-reads call.PeekFinish = (λ e here count back since. ap (λ x. answer.Slice (span here (width x))) e, λ h. refl)
+  call-reads call.Eof = (λ e here count back since. ap (λ x. answer.Offset (width x)) e, λ h. refl)
+  call-reads (call.At n) = (λ e here count back since. ap (λ o. answer.At o) e, λ h. refl)
+  call-reads (call.IsOffset n) = (λ e here count back since. ap (λ o. answer.Flag (is_some o)) e, λ h. refl)
+  call-reads (call.First c) = (λ e here count back since. ap (λ o. answer.First o) e, λ h. refl)
+  call-reads call.Each = (λ e here count back since. ap (λ x. answer.Items (span here (width x))) e, λ h. refl)
+  call-reads call.Mark = (λ e here count back since. refl, λ h. refl)
+  call-reads (call.Reset k) = (λ e here count back since. refl, λ h. refl)
+  call-reads (call.Since k) = (λ e here count back since. refl, λ h. refl)
+
 module _ {T C L : Type 0} (k : PieceKind T C L) (all more : Source T) (at : Cursor) (inside : Inside all at) where
   -- with more input appended, the rest at the cursor is the old rest followed by it
   pub rest-more : rest (all ++ more) at ≡ rest all at ++ more
@@ -80,22 +131,55 @@ module _ {T C L : Type 0} (k : PieceKind T C L) (all more : Source T) (at : Curs
       → f (rest (all ++ more) at) ≡ f (rest all at)
   of_rest f e = ap f rest-more ∙ e
 
-  -- an offset that fits in the rest still fits with more input appended
-  long-more : (n : ℕ) → leb n (width (rest all at)) ≡ true
-      → leb n (width (rest (all ++ more) at)) ≡ true
-  long-more n h = let w = leb-true n _ h in let a = width-append (rest all at) more in rw rest-more (le-leb n _ (omega arith))
+  -- what a need reads is the same with more input appended, and there is still enough
+  need-more : (n : Need C) → is_met k.holds k.counts_missing n (rest all at) ≡ true
+      → SameReading k.holds k.counts_missing n (rest (all ++ more) at) (rest all at)
+      × (is_met k.holds k.counts_missing n (rest (all ++ more) at) ≡ true)
+  need-more need.Nothing h = (tt, refl)
+  need-more need.Token h =
+      let e = of_rest first_token (first_token-more (rest all at) more h) in (e, ap is_some e ∙ h)
+  need-more (need.Width n) h =
+      let w = leb-true n _ h in
+      let a = width-append (rest all at) more in
+      (of_rest (λ r. front_count r n) (front_count-more (rest all at) more n w), rw rest-more (le-leb n _ (omega arith)))
+  need-more (need.Tokens n) h =
+      let e = of_rest (λ r. offset_at k.counts_missing r n) (offset_at-more k.counts_missing (rest all at) more n h) in
+      (e, ap is_ok e ∙ h)
+  need-more (need.TokenOf c) h =
+      let e = of_rest (first_offset (k.holds c)) (first_offset-more (k.holds c) (rest all at) more h) in
+      (e, ap is_some e ∙ h)
+  need-more need.End h = absurd (cc)
 
-  -- an offset that fits counts the same tokens with more input appended
-  counted : (n : ℕ) → leb n (width (rest all at)) ≡ true
-      → front_count (rest (all ++ more) at) n ≡ front_count (rest all at) n
-  counted n h = of_rest (λ r. front_count r n) (front_count-more (rest all at) more n (leb-true n _ h))
+  -- a move whose need is met leads to the same cursor with more input appended
+  move-more : (mark : Option ℕ) (m : Move)
+      → is_met k.holds k.counts_missing (move_need m) (rest all at) ≡ true
+      → moved (all ++ more) at mark m ≡ moved all at mark m
+  move-more mark stays h = refl
+  move-more mark past_token h =
+      let l = some-left all at.index h in
+      let a = length-append all more in
+      let o : min (at.index + 1) (length (all ++ more)) ≡ min (at.index + 1) (length all) = omega arith in
+      ap (λ n. record at { index = n }) o
+  move-more mark (past_width n) h = ap (λ o. record at { index = at.index + unwrap_or o 0 }) (need-more (need.Width n) h).0
+  move-more mark to_end h = absurd (cc)
+  move-more mark to_mark h = refl
+  move-more mark marking h = refl
 
-  -- a slice that fits is the same with more input appended
-  slice-more : (n : ℕ) → leb n (width (rest all at)) ≡ true
-      → slice_answer {T = T} (place (all
-      ++ more) at.index) n (front_count (rest (all ++ more) at) n)
-      ≡ slice_answer (place all at.index) n (front_count (rest all at) n)
-  slice-more n h = ap (λ p. slice_answer p n (front_count (rest (all ++ more) at) n)) here-more ∙ ap (slice_answer (place all at.index) n) (counted n h)
+  -- the width since a mark stays the same with more input appended
+  mark-more : (mark : Option ℕ)
+      → since_answer {T = T} (all ++ more) at.index (mark_of at.marks mark)
+      ≡ since_answer all at.index (mark_of at.marks mark)
+  mark-more None = refl
+  mark-more (Some i) = since-more all more at.index at.marks i inside.index inside.marks
+
+  -- a call whose need reads the same answers the same with more input appended
+  pub answer-read : (s : Step C)
+      → SameReading k.holds k.counts_missing (call_need s) (rest (all ++ more) at) (rest all at)
+      → step_answer k.holds k.counts_missing (all ++ more) s at
+      ≡ step_answer k.holds k.counts_missing all s at
+  answer-read s e =
+      rw (here-more, mark-more (call_mark s))
+      ((call-reads k.holds k.counts_missing (rest (all ++ more) at) (rest all at) s).0 e _ _ _ _)
 
   -- a definite call answers the same, moves the same and stays definite with more input appended
   pub call-more : (s : Step C) → is_call_definite k.holds k.counts_missing s (rest all at) ≡ true
@@ -103,30 +187,10 @@ module _ {T C L : Type 0} (k : PieceKind T C L) (all more : Source T) (at : Curs
       ≡ step_answer k.holds k.counts_missing all s at)
       × (step_next (all ++ more) s at ≡ step_next all s at)
       × (is_call_definite k.holds k.counts_missing s (rest (all ++ more) at) ≡ true)
-  call-more call.Next h =
-      let e = of_rest first_token (first_token-more (rest all at) more h) in
-      let l = some-left all at.index h in
-      let a = length-append all more in
-      let o : min (at.index + 1) (length (all ++ more)) ≡ min (at.index + 1) (length all) = omega arith in
-      (ap (λ t. answer.Token t) e, ap (λ n. record at { index = n }) o, ap is_some e ∙ h)
-  call-more call.Peek h =
-      let e = of_rest first_token (first_token-more (rest all at) more h) in (ap (λ t. answer.Token t) e, refl, ap is_some e ∙ h)
-  call-more (call.Take n) h = (slice-more n h, ap (λ o. record at { index = at.index + unwrap_or o 0 }) (counted n h), long-more n h)
-  call-more (call.Look n) h = (slice-more n h, refl, long-more n h)
-  call-more call.Finish h = absurd (cc)
-  call-more call.PeekFinish h = absurd (cc)
-  call-more call.Eof h = absurd (cc)
-  call-more (call.At n) h =
-      let e = of_rest (λ r. offset_at k.counts_missing r n) (offset_at-more k.counts_missing (rest all at) more n h) in
-      (ap (λ o. answer.At o) e, refl, ap is_ok e ∙ h)
-  call-more (call.IsOffset n) h = (ap (λ o. answer.Flag (is_some o)) (counted n h), refl, long-more n h)
-  call-more (call.First c) h =
-      let e = of_rest (first_offset (k.holds c)) (first_offset-more (k.holds c) (rest all at) more h) in
-      (ap (λ o. answer.First o) e, refl, ap is_some e ∙ h)
-  call-more call.Each h = absurd (cc)
-  call-more call.Mark h = (refl, refl, refl)
-  call-more (call.Reset i) h = (refl, refl, refl)
-  call-more (call.Since i) h = (since-more all more at.index at.marks i inside.index inside.marks, refl, refl)
+  call-more s h =
+      let e = need-more (call_need s) h in
+      let move = (call-reads k.holds k.counts_missing (rest all at) (rest all at) s).1 h in
+      (answer-read s e.0, move-more (call_mark s) (call_move s) move, e.1)
 
   -- a function of the bytes that more bytes do not change gives the same at the cursor
   bytes-more : {A : Type 0} (f : List ℕ → A)
@@ -158,6 +222,11 @@ marked-inside n i [] k h inside = h
 marked-inside n i (m ∷ marks) zero h inside = inside.0
 marked-inside n i (m ∷ marks) (suc k) h inside = marked-inside n i marks k h inside.1
 
+back-inside : (n i : ℕ) (marks : List ℕ) (mark : Option ℕ) → i ≤ n
+    → AllByRecursion (λ m. m ≤ n) marks → unwrap_or (mark_of marks mark) i ≤ n
+back-inside n i marks None h inside = h
+back-inside n i marks (Some k) h inside = marked-inside n i marks k h inside
+
 -- marks stay inside the list when a further one inside it is added
 pub marks-push : (n i : ℕ) (marks : List ℕ) → i ≤ n → AllByRecursion (λ m. m ≤ n) marks
     → AllByRecursion (λ m. m ≤ n) (marks ++ i ∷ [])
@@ -165,26 +234,18 @@ marks-push n i [] h inside = (h, tt)
 marks-push n i (m ∷ marks) h inside = (inside.0, marks-push n i marks h inside.1)
 
 module _ {T : Type 0} (all : Source T) (at : Cursor) (inside : Inside all at) where
-  -- after a call the cursor and its marks are inside the list
-  pub call-inside : {C : Type 0} (s : Step C) → Inside all (step_next all s at)
-  call-inside call.Next = record { index = omega arith; marks = inside.marks }
-  call-inside call.Peek = inside
-  call-inside (call.Take n) = record { index = within-back all at.index n inside.index; marks = inside.marks }
-  call-inside (call.Look n) = inside
-  call-inside call.Finish = record { index = omega arith; marks = inside.marks }
-  call-inside call.PeekFinish = inside
-  call-inside call.Eof = inside
-  call-inside (call.At n) = inside
-  call-inside (call.IsOffset n) = inside
-  call-inside (call.First c) = inside
-  call-inside call.Each = inside
-  call-inside call.Mark = record { index = inside.index; marks = marks-push _ at.index at.marks inside.index inside.marks }
-  call-inside (call.Reset k) = record { index = marked-inside (length all) at.index at.marks k inside.index inside.marks; marks = inside.marks }
-  call-inside (call.Since k) = inside
+  -- after a move the cursor and its marks are inside the list
+  pub move-inside : (mark : Option ℕ) (m : Move) → Inside all (moved all at mark m)
+  move-inside mark stays = inside
+  move-inside mark past_token = record { index = omega arith; marks = inside.marks }
+  move-inside mark (past_width n) = record { index = within-back all at.index n inside.index; marks = inside.marks }
+  move-inside mark to_end = record { index = omega arith; marks = inside.marks }
+  move-inside mark to_mark = record { index = back-inside (length all) at.index at.marks mark inside.index inside.marks; marks = inside.marks }
+  move-inside mark marking = record { index = inside.index; marks = marks-push _ at.index at.marks inside.index inside.marks }
 
   -- after a step the cursor and its marks are inside the list
   pub step-inside : {C L : Type 0} (s : SearchStep C L) → Inside all (search_next all s at)
-  step-inside (step.Call s) = call-inside s
+  step-inside (step.Call s) = move-inside (call_mark s) (call_move s)
   step-inside (step.Compare l) = inside
   step-inside (step.Find ns) = inside
 
