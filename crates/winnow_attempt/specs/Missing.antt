@@ -14,6 +14,13 @@ use Rattle.winnow_run.specs.declared.search_script.SearchStep.{SearchStep}
 use Rattle.winnow_run.specs.declared.search_script.SearchStep.TheVariants as step
 use Rattle.winnow_run.specs.Definite.{PieceKind}
 
+-- the greatest number of a byte, and that of a character
+abbrev pub greatest_byte : ℕ
+greatest_byte = 255
+
+abbrev pub greatest_char : ℕ
+greatest_char = 1114111
+
 -- n letters `a`
 abbrev pub letters : ℕ → List ℕ
 letters n = replicate n 97

@@ -4,6 +4,7 @@ ghost use Rattle.std.proofs.Common.{sym};
 ghost use Rattle.std.specs.Char.{encode_utf8};
 ghost use Rattle.winnow_match.specs.Bytes.{written};
 ghost use Rattle.winnow_sets.specs.Sets.{char_ranges, least_of_first};
+ghost use Rattle.winnow_attempt.specs.Missing.{greatest_byte, greatest_char};
 
 use crate::attempts::tokens_left;
 use std::alloc::{AllocError, Global};
@@ -49,7 +50,7 @@ pub trait Kept: Stream + StreamIsPartial + Copy {
 impl<'b> Kept for Partial<&'b [u8]> {
     ghost write = { λ byte. byte ∷ [] };
 
-    ghost greatest = { 255 };
+    ghost greatest = { greatest_byte };
 
     ghost spell = { λ byte. byte ∷ [] };
 
@@ -75,7 +76,7 @@ impl<'b> Kept for Partial<&'b [u8]> {
 impl<'b> Kept for Partial<&'b str> {
     ghost write = { encode_utf8 };
 
-    ghost greatest = { 1114111 };
+    ghost greatest = { greatest_char };
 
     ghost spell = { encode_utf8 };
 

@@ -10,7 +10,7 @@ use Rattle.winnow_feed.specs.declared.progress.Progress.{Progress}
 use Rattle.winnow_run.specs.Searching.{search_next}
 use Rattle.winnow_feed.specs.Inputs.{PieceStep, InputKind, joined}
 use Rattle.winnow_feed.specs.Reach.{needed_from, least_marks}
-use Rattle.winnow_feed.specs.JoinedInput.{IsRunOver, IsAtRest, KeepsLeast}
+use Rattle.winnow_feed.specs.JoinedInput.{IsRunOver, IsAtRest, HasRoom, KeepsLeast}
 use Rattle.winnow_feed.specs.Telling.{capped, out_on, told_of, tried_of, told_to_end, last_place}
 
 -- what a feed stores: the progress of the script, and the bytes that are kept
@@ -58,11 +58,8 @@ module _ (i : InputKind) where
     pub input : List ℕ
     pub stands : HoldsInput f input
     pub rests : 0 < f.run.pieces → IsAtRest i.pieces (i.source input) f.run
-    pub told_room : length f.run.script.now ≤ vec_capacity f.run.told
-    pub mark_room : length f.run.script.now ≤ vec_capacity f.run.marks
-    pub marks : vec_len f.run.marks ≤ vec_len f.run.told
+    pub room : HasRoom f.run
     pub fits : f.run.base + length f.kept < 2 ^ 64
-    pub counted : f.run.tried < 2 ^ 64
     pub named_is : named ≡ least_marks f.run.script.now
 
   -- the feed fits these pieces: it stands for the joined pieces, its next step waits once there is

@@ -8,6 +8,7 @@ use Rattle.winnow_stream.specs.Text.{text_source}
 use Rattle.winnow_sets.specs.declared.char_set.CharSet.{CharSet}
 use Rattle.winnow_run.specs.declared.search_script.SearchStep.{SearchStep}
 use Rattle.winnow_run.specs.Definite.{PieceKind}
+use Rattle.winnow_attempt.specs.Missing.{greatest_byte, greatest_char}
 use Rattle.winnow_attempt.specs.View.{piece_kind}
 
 -- a step over bytes or text: a literal is its bytes, and a token is a byte or the number of a
@@ -31,10 +32,10 @@ pub record InputKind : Type 0 where
   pub greatest : ℕ
 
 abbrev pub byte_input : InputKind
-byte_input = record { valid = λ _. true; source = units; pieces = byte_kind; is_token = λ n. nat_le n 255; greatest = 255 }
+byte_input = record { valid = λ _. true; source = units; pieces = byte_kind; is_token = λ n. nat_le n greatest_byte; greatest = greatest_byte }
 
 abbrev pub text_input : InputKind
-text_input = record { valid = is_utf8; source = text_source; pieces = text_kind; is_token = λ n. all_scalars (n ∷ []); greatest = 1114111 }
+text_input = record { valid = is_utf8; source = text_source; pieces = text_kind; is_token = λ n. all_scalars (n ∷ []); greatest = greatest_char }
 
 -- the pieces, appended one after the other
 abbrev pub joined : List (List ℕ) → List ℕ

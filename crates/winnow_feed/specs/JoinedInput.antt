@@ -1,7 +1,7 @@
 -- What a run over pieces stores, in terms of the joined input.
-use Rattle.std.specs.Prelude.{◌≡◌, ℕ, ◌+◌, ◌-◌, ◌≤◌, Bool, true, false, nat_lt, if◌then◌else◌, List, ◌++◌, map, length, drop, Option, Some, slice_get}
-use Rattle.winnow_stream.specs.Source.{Source, HasPositiveWidths}
-use Rattle.winnow_stream.specs.Front.{back}
+use Rattle.std.specs.Prelude.{◌≡◌, ℕ, ◌+◌, ◌-◌, ◌≤◌, ◌<◌, ◌^◌, Bool, true, false, nat_lt, if◌then◌else◌, List, ◌++◌, map, length, drop, Option, Some, slice_get, vec_len, vec_capacity}
+use Rattle.winnow_stream.specs.Source.{Source, HasPositiveWidths, width}
+use Rattle.winnow_stream.specs.Front.{back, is_offset}
 use Rattle.winnow_stream.specs.Cursor.{Cursor, start, rest, place}
 use Rattle.winnow_sets.specs.declared.char_set.CharSet.{CharSet}
 use Rattle.winnow_run.specs.declared.search_script.SearchStep.{SearchStep}
@@ -49,6 +49,21 @@ IsAtRest {T} {L} k all p = (s : SearchStep CharSet L) → next_step p ≡ Some s
 abbrev pub IsRun : {T L : Type 0} → Bool → PieceKind T CharSet L → Source T → Progress T L → Type 0
 IsRun {T} strict k kept p = (all : Source T) × IsRunOver strict k all kept p
 
+-- there is room for each answer and mark that the steps make, no more marks than answers were made,
+-- and the attempts are counted in `u64`
+pub record HasRoom {T L : Type 0} (p : Progress T L) : Type 0 where
+  pub told : length p.script.now ≤ vec_capacity p.told
+  pub marks : length p.script.now ≤ vec_capacity p.marks
+  pub made : vec_len p.marks ≤ vec_len p.told
+  pub counted : p.tried < 2 ^ 64
+
+-- the run may go on over what is kept: it stands for some joined input, its places fit in `usize`,
+-- and it has room
+pub record MayGoOn {T L : Type 0} (strict : Bool) (k : PieceKind T CharSet L) (kept : Source T) (p : Progress T L) : Type 0 where
+  pub stands : IsRun strict k kept p
+  pub fits : p.base + width kept < 2 ^ 64
+  pub room : HasRoom p
+
 -- for each joined input that the old run stands for, so does the new one
 abbrev pub KeepsRun : {T L : Type 0} → Bool → PieceKind T CharSet L → Source T → Progress T L
     → Progress T L → Type 0
@@ -72,12 +87,6 @@ KeepsLeast end p = p.base ≡ needed_place end p.place p.marks.items (steps_left
 abbrev pub KeepsNeeded : {T L : Type 0} → ℕ → ℕ → Progress T L → Type 0
 KeepsNeeded before end p = length p.told.items ≡ before → KeepsLeast end p
 
--- the new run stands for what the old one stands for, with a front of width `unneeded` dropped, and
--- its next step, if one remains, waits
-abbrev pub TakesIn : {T L : Type 0} → PieceKind T CharSet L → Source T → ℕ → Progress T L
-    → Progress T L → Type 0
-TakesIn {T} k kept unneeded old new = (all : Source T) → IsRunOver true k all kept old → IsRunOver true k all (back kept unneeded) new × IsAtRest k all new
-
 -- the answers that were added, all with one number of a piece or with none
 pub record AddsAnswers {T L : Type 0} (piece : Option ℕ) (old new : Progress T L) : Type 0 where
   pub more : List (PlacedSearchAnswer T)
@@ -91,3 +100,34 @@ Tries old new =
 -- if no answer was added, the cursor and the marks are where they were
 abbrev pub StaysWithoutAnswer : {T L : Type 0} → Progress T L → Progress T L → Type 0
 StaysWithoutAnswer old new = length new.told.items ≡ length old.told.items → (new.place ≡ old.place) × (new.marks ≡ old.marks)
+
+-- the run went on: it has the same script, keeps the same input, and has more answers or is where it
+-- was
+pub record GoesOn {T L : Type 0} (piece : Option ℕ) (old new : Progress T L) : Type 0 where
+  pub script : new.script ≡ old.script
+  pub base : new.base ≡ old.base
+  pub pieces : new.pieces ≡ old.pieces
+  pub adds : AddsAnswers piece old new
+  pub still : StaysWithoutAnswer old new
+  pub told : vec_len old.told ≤ vec_len new.told
+  pub room : HasRoom new
+
+-- for each joined input that the old run stands for, the new one stands for it with a front of width
+-- `unneeded` dropped, and its next step, if one remains, waits; that front is one of what was kept,
+-- and the remaining steps need all the rest
+pub record TakesIn {T L : Type 0} (k : PieceKind T CharSet L) (kept : Source T) (unneeded : ℕ) (old new : Progress T L) : Type 0 where
+  pub stands : (all : Source T) → IsRunOver true k all kept old
+      → IsRunOver true k all (back kept unneeded) new × IsAtRest k all new
+  pub offset : is_offset kept unneeded ≡ true
+  pub base : new.base ≡ old.base + unneeded
+  pub least : KeepsLeast (old.base + width kept) new
+
+-- one piece was taken: it is counted, the same script gave its answers with the piece's number, each
+-- of them and the waiting step were tried once, and there is room
+pub record TakesPiece {T L : Type 0} (old new : Progress T L) : Type 0 where
+  pub script : new.script ≡ old.script
+  pub pieces : new.pieces ≡ capped (old.pieces + 1)
+  pub adds : AddsAnswers (Some new.pieces) old new
+  pub tried : Tries old new
+  pub told : vec_len old.told ≤ vec_len new.told
+  pub room : HasRoom new

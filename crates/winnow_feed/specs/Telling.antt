@@ -13,8 +13,11 @@ use Rattle.winnow_run.specs.Definite.{kind_of, out}
 use Rattle.winnow_feed.specs.Inputs.{PieceStep, InputKind, joined}
 
 -- a count that stops at the greatest `u64`
+abbrev pub greatest_count : ℕ
+greatest_count = 18446744073709551615
+
 abbrev pub capped : ℕ → ℕ
-capped n = min n 18446744073709551615
+capped n = min n greatest_count
 
 -- the length of the shortest nonempty front of the pieces that, joined and appended to `before`,
 -- passes the test

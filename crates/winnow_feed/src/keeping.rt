@@ -5,9 +5,8 @@ ghost use Rattle.winnow_stream.specs.Front.{is_offset};
 ghost use Rattle.winnow_attempt.specs.View.{piece_kind};
 ghost use Rattle.winnow_run.specs.Needs.{call_mark, mark_of};
 ghost use Rattle.winnow_feed.specs.Reach.{named_place, least_place, needed_place, least_marks};
-ghost use Rattle.winnow_feed.specs.JoinedInput.{IsRun, TakesIn, KeepsLeast, KeepsNeeded};
-ghost use Rattle.winnow_feed.specs.JoinedInput.{AddsAnswers, Tries, steps_left};
-ghost use Rattle.winnow_feed.specs.Telling.{capped};
+ghost use Rattle.winnow_feed.specs.JoinedInput.{MayGoOn, TakesIn, TakesPiece, KeepsLeast};
+ghost use Rattle.winnow_feed.specs.JoinedInput.{KeepsNeeded, steps_left};
 
 use crate::progress::{Progress, advance};
 use winnow_attempt::{Kept, mark_at};
@@ -104,32 +103,17 @@ where
     requires valid { S.valid kept }
     requires more { IsTrue (S.expects_more kept) }
     requires left { vec_len progress.old.told < length progress.old.script.now }
-    requires room { progress.old.base + width (S.remaining kept) < 2 ^ 64 }
-    requires told_room { length progress.old.script.now ≤ vec_capacity progress.old.told }
-    requires mark_room { length progress.old.script.now ≤ vec_capacity progress.old.marks }
-    requires marks { vec_len progress.old.marks ≤ vec_len progress.old.told }
-    requires counted { progress.old.tried < 2 ^ 64 }
-    requires stands { IsRun true
+    requires ready { MayGoOn true
         (piece_kind S.Token.code S.counts_missing S.write L.text_bytes)
         (S.remaining kept)
         progress.old }
     requires least { (end : ℕ) → KeepsLeast end progress.old }
     requires named { named.now ≡ least_marks progress.old.script.now }
-    ensures stands { TakesIn
+    ensures takes { TakesIn
         (piece_kind S.Token.code S.counts_missing S.write L.text_bytes)
         (S.remaining kept)
         result progress.old progress.new }
-    ensures offset { IsTrue (is_offset (S.remaining kept) result) }
-    ensures base { progress.new.base ≡ progress.old.base + result }
-    ensures least { KeepsLeast (progress.old.base + width (S.remaining kept)) progress.new }
-    ensures script { progress.new.script ≡ progress.old.script }
-    ensures pieces { progress.new.pieces ≡ capped (progress.old.pieces + 1) }
-    ensures adds { AddsAnswers (Some progress.new.pieces) progress.old progress.new }
-    ensures tried { Tries progress.old progress.new }
-    ensures told { vec_len progress.old.told ≤ vec_len progress.new.told }
-    ensures told_room { vec_capacity progress.old.told ≤ vec_capacity progress.new.told }
-    ensures mark_room { vec_capacity progress.old.marks ≤ vec_capacity progress.new.marks }
-    ensures marks { vec_len progress.new.marks ≤ vec_len progress.new.told }
+    ensures piece { TakesPiece progress.old progress.new }
 {
     let before = progress.told.len();
     progress.pieces = progress.pieces.saturating_add(1);

@@ -1,10 +1,8 @@
-ghost use Rattle.std.specs.Prelude.{◌≡◌, ◌+◌, ◌≤◌, ◌<◌, ◌^◌, ◌∷◌, ◌++◌, [], false, length};
+ghost use Rattle.std.specs.Prelude.{◌≡◌, ◌+◌, ◌≤◌, ◌<◌, ◌∷◌, ◌++◌, [], false, length};
 ghost use Rattle.std.specs.Prelude.{IsTrue, vec_len, vec_capacity, if◌then◌else◌};
-ghost use Rattle.winnow_stream.specs.Source.{width};
 ghost use Rattle.winnow_attempt.specs.View.{piece_kind};
-ghost use Rattle.winnow_feed.specs.JoinedInput.{IsRun, KeepsRun, KeepsRunAtRest};
-ghost use Rattle.winnow_feed.specs.JoinedInput.{ComesToRest, AddsAnswers, Tries};
-ghost use Rattle.winnow_feed.specs.JoinedInput.{StaysWithoutAnswer};
+ghost use Rattle.winnow_feed.specs.JoinedInput.{MayGoOn, KeepsRun, KeepsRunAtRest};
+ghost use Rattle.winnow_feed.specs.JoinedInput.{ComesToRest, GoesOn, Tries};
 ghost use Rattle.winnow_feed.specs.Telling.{capped};
 
 use winnow_attempt::{Attempt, Kept, Passed, Told, attempt_step};
@@ -57,11 +55,7 @@ where
     S::Slice: Drop,
     requires valid { S.valid kept }
     requires left { vec_len progress.old.told < length progress.old.script.now }
-    requires room { progress.old.base + width (S.remaining kept) < 2 ^ 64 }
-    requires told_room { length progress.old.script.now ≤ vec_capacity progress.old.told }
-    requires mark_room { length progress.old.script.now ≤ vec_capacity progress.old.marks }
-    requires marks { vec_len progress.old.marks ≤ vec_len progress.old.told }
-    requires stands { IsRun (S.expects_more kept)
+    requires ready { MayGoOn (S.expects_more kept)
         (piece_kind S.Token.code S.counts_missing S.write L.text_bytes)
         (S.remaining kept)
         progress.old }
@@ -69,22 +63,15 @@ where
         (piece_kind S.Token.code S.counts_missing S.write L.text_bytes)
         (S.remaining kept)
         progress.old progress.new }
-    ensures more { result ≡ false → IsTrue (S.expects_more kept) }
-    ensures waits { result ≡ false → ComesToRest (S.expects_more kept)
+    ensures waits { result ≡ false → IsTrue (S.expects_more kept)
+        × ComesToRest (S.expects_more kept)
         (piece_kind S.Token.code S.counts_missing S.write L.text_bytes)
         (S.remaining kept)
         progress.old progress.new }
-    ensures script { progress.new.script ≡ progress.old.script }
-    ensures base { progress.new.base ≡ progress.old.base }
-    ensures pieces { progress.new.pieces ≡ progress.old.pieces }
+    ensures on { GoesOn piece progress.old progress.new }
     ensures tried { progress.new.tried ≡ capped (progress.old.tried + 1) }
-    ensures adds { AddsAnswers piece progress.old progress.new }
-    ensures came { IsTrue result → vec_len progress.new.told ≡ vec_len progress.old.told + 1 }
-    ensures same { result ≡ false → vec_len progress.new.told ≡ vec_len progress.old.told }
-    ensures still { StaysWithoutAnswer progress.old progress.new }
-    ensures told_room { vec_capacity progress.old.told ≤ vec_capacity progress.new.told }
-    ensures mark_room { vec_capacity progress.old.marks ≤ vec_capacity progress.new.marks }
-    ensures marks { vec_len progress.new.marks ≤ vec_len progress.new.told }
+    ensures count { vec_len progress.new.told
+        ≡ vec_len progress.old.told + (if result then 1 else 0) }
 {
     let script = progress.script;
     let step = &script[progress.told.len()];
@@ -129,12 +116,7 @@ where
     S::Token: AsChar + Drop,
     S::Slice: Drop,
     requires valid { S.valid kept }
-    requires room { progress.old.base + width (S.remaining kept) < 2 ^ 64 }
-    requires told_room { length progress.old.script.now ≤ vec_capacity progress.old.told }
-    requires mark_room { length progress.old.script.now ≤ vec_capacity progress.old.marks }
-    requires marks { vec_len progress.old.marks ≤ vec_len progress.old.told }
-    requires counted { progress.old.tried < 2 ^ 64 }
-    requires stands { IsRun (S.expects_more kept)
+    requires ready { MayGoOn (S.expects_more kept)
         (piece_kind S.Token.code S.counts_missing S.write L.text_bytes)
         (S.remaining kept)
         progress.old }
@@ -144,16 +126,8 @@ where
         progress.old progress.new }
     ensures done { S.expects_more kept ≡ false
         → length progress.new.script.now ≤ vec_len progress.new.told }
-    ensures script { progress.new.script ≡ progress.old.script }
-    ensures base { progress.new.base ≡ progress.old.base }
-    ensures pieces { progress.new.pieces ≡ progress.old.pieces }
-    ensures adds { AddsAnswers piece progress.old progress.new }
+    ensures on { GoesOn piece progress.old progress.new }
     ensures tried { Tries progress.old progress.new }
-    ensures still { StaysWithoutAnswer progress.old progress.new }
-    ensures told { vec_len progress.old.told ≤ vec_len progress.new.told }
-    ensures told_room { vec_capacity progress.old.told ≤ vec_capacity progress.new.told }
-    ensures mark_room { vec_capacity progress.old.marks ≤ vec_capacity progress.new.marks }
-    ensures marks { vec_len progress.new.marks ≤ vec_len progress.new.told }
 {
     while progress.told.len() < progress.script.len() {
         if !attempt_next(progress, finders, kept, piece) {

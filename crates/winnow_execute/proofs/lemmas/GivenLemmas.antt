@@ -15,7 +15,9 @@ use Rattle.winnow_run.specs.Searching.{PlacedSearchAnswer, search_answer, search
 use Rattle.winnow_stream.specs.Source.{Source}
 use Rattle.winnow_run.specs.declared.script.Answer.{Answer}
 use Rattle.winnow_run.specs.declared.script.Answer.TheVariants as answer
-use Rattle.winnow_run.specs.declared.script.Step.TheVariants as call
+use Rattle.winnow_run.specs.declared.need.Need.{Need}
+use Rattle.winnow_run.specs.declared.need.Need.TheVariants as need
+use Rattle.winnow_run.specs.Needs.{call_need}
 use Rattle.winnow_run.specs.declared.search_script.SearchAnswer.{SearchAnswer}
 use Rattle.winnow_run.specs.declared.search_script.SearchAnswer.TheVariants as search
 use Rattle.winnow_run.specs.declared.search_script.SearchStep.TheVariants as step
@@ -24,12 +26,11 @@ use Rattle.winnow_print.specs.AnswerLines.{bytes_word, item_words, call_words, a
 use Rattle.winnow_execute.specs.ScriptLines.{slice_word, listed_words}
 use Rattle.std.specs.Prelude.{true, false}
 use Rattle.winnow_match.proofs.lemmas.ByteLemmas.{bytes_of-units}
-use Rattle.winnow_run.specs.declared.script.Step.{Step}
 use Rattle.winnow_run.specs.declared.search_script.SearchStep.{SearchStep}
 use Rattle.winnow_attempt.specs.View.{held}
 use Rattle.winnow_feed.specs.Inputs.{byte_kind, text_kind}
 use Rattle.winnow_match.specs.Bytes.{bytes_of, utf8_of}
-use Rattle.winnow_run.specs.Script.{SetComputes}
+use Rattle.winnow_run.specs.Script.{NeedComputes}
 use Rattle.winnow_match.specs.Search.{bytes_of_needles}
 use Rattle.winnow_run.specs.Searching.{AreSearchAnswers}
 use Rattle.winnow_stream.specs.Source.{units}
@@ -78,26 +79,18 @@ module _ {S : Type 0} (k : PieceKind ℕ CharSet (Bor (List ℕ))) (all : Source
 
 -- each set answers whether it holds a token
 module _ {T : Type 0} (code : T → ℕ) where
-  call-computes : (s : Step CharSet) → SetComputes (HoldsNumber code) (held code) s
-  call-computes call.Next = tt
-  call-computes call.Peek = tt
-  call-computes (call.Take n) = tt
-  call-computes (call.Look n) = tt
-  call-computes call.Finish = tt
-  call-computes call.PeekFinish = tt
-  call-computes call.Eof = tt
-  call-computes (call.At n) = tt
-  call-computes (call.IsOffset n) = tt
-  call-computes (call.First set) = λ token answer is. is
-  call-computes call.Each = tt
-  call-computes call.Mark = tt
-  call-computes (call.Reset n) = tt
-  call-computes (call.Since n) = tt
+  need-computes : (n : Need CharSet) → NeedComputes (HoldsNumber code) (held code) n
+  need-computes (need.TokenOf set) = λ token answer is. is
+  need-computes need.Nothing = tt
+  need-computes need.Token = tt
+  need-computes (need.Width n) = tt
+  need-computes (need.Tokens n) = tt
+  need-computes need.End = tt
 
   -- the same for the set of any step
   step-computes : {L : Type 0} (s : SearchStep CharSet L)
       → SearchComputes (HoldsNumber code) (held code) s
-  step-computes (step.Call s) = call-computes s
+  step-computes (step.Call s) = need-computes (call_need s)
   step-computes (step.Compare literal) = tt
   step-computes (step.Find needles) = tt
 

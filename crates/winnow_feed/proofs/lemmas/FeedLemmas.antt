@@ -27,6 +27,17 @@ use Rattle.winnow_feed.proofs.lemmas.ReachLemmas.{Reaches-out, Reaches-cursor, R
 abbrev Run : Type 0
 Run = Progress ℕ (Bor (List ℕ))
 
+-- a feed took a piece: with what was kept before it made `xs`, the run took it in, and the unneeded
+-- front of it was dropped
+pub record TookPiece (i : InputKind) (old new : FeedState) (piece : List ℕ) : Type 0 where
+  pub xs : List ℕ
+  pub unneeded : ℕ
+  pub is_piece : i.valid piece ≡ true
+  pub is_kept : i.valid new.kept ≡ true
+  pub joins : xs ≡ old.kept ++ piece
+  pub left : i.source new.kept ≡ back (i.source xs) unneeded
+  pub takes : TakesIn i.pieces (i.source xs) unneeded old.run new.run
+
 module _ (i : InputKind) (law : IsInput i) where
   -- the run stands for the input with a piece appended to what is kept
   pub grow : (J piece xs : List ℕ) (f : FeedState) → i.valid piece ≡ true → xs ≡ f.kept ++ piece
@@ -41,25 +52,25 @@ module _ (i : InputKind) (law : IsInput i) where
   least-anywhere f least left end = least ∙ needed-same_end (bytes_fed f) end f.run.place f.run.marks.items (steps_left f.run) (omega (arith, left, length-drop (length f.run.told.items) f.run.script.now))
 
   -- a piece that was taken in, whose unneeded front was dropped
-  module _ (old new : FeedState) (piece xs : List ℕ) (unneeded : ℕ) (u : i.valid piece ≡ true) (v : i.valid new.kept ≡ true) (joins : xs ≡ old.kept ++ piece) (left : i.source new.kept ≡ back (i.source xs) unneeded) (offset : is_offset (i.source xs) unneeded ≡ true) (base : new.run.base ≡ old.run.base + unneeded) (least : KeepsLeast (old.run.base + width (i.source xs)) new.run) (takes : TakesIn i.pieces (i.source xs) unneeded old.run new.run) where
+  module _ (old new : FeedState) (piece : List ℕ) (took : TookPiece i old new piece) where
     -- what is kept, with the piece, is as wide as it is long
-    whole : i.valid old.kept ≡ true → width (i.source xs) ≡ length old.kept + length piece
-    whole w = law.width_is xs (rw joins (law.joins old.kept piece w u)) ∙ ap length joins ∙ length-append old.kept piece
+    whole : i.valid old.kept ≡ true → width (i.source took.xs) ≡ length old.kept + length piece
+    whole w = law.width_is took.xs (rw took.joins (law.joins old.kept piece w took.is_piece)) ∙ ap length took.joins ∙ length-append old.kept piece
 
     -- the bytes that were fed end where what is kept ends
-    taken-fed : i.valid old.kept ≡ true → bytes_fed new ≡ old.run.base + width (i.source xs)
-    taken-fed w = omega (arith, base, width-back (i.source xs) unneeded offset, ap width left, law.width_is new.kept v)
+    taken-fed : i.valid old.kept ≡ true → bytes_fed new ≡ old.run.base + width (i.source took.xs)
+    taken-fed w = omega (arith, took.takes.base, width-back (i.source took.xs) took.unneeded took.takes.offset, ap width took.left, law.width_is new.kept took.is_kept)
 
     -- the feed holds the input with the piece appended, and its next step waits
     pub taken : (J : List ℕ) → HoldsInput i old J
         → HoldsInput i new (J ++ piece) × IsAtRest i.pieces (i.source (J ++ piece)) new.run
     taken J h =
-        let after = takes (i.source (J ++ piece)) (grow J piece xs old u joins h) in (
+        let after = took.takes.stands (i.source (J ++ piece)) (grow J piece took.xs old took.is_piece took.joins h) in (
           record {
-            is_input = law.joins J piece h.is_input u;
-            is_kept = v;
-            stands = rw left after.0;
-            least = rw (taken-fed h.is_kept) least;
+            is_input = law.joins J piece h.is_input took.is_piece;
+            is_kept = took.is_kept;
+            stands = rw took.left after.0;
+            least = rw (taken-fed h.is_kept) took.takes.least;
           },
           after.1,
         )

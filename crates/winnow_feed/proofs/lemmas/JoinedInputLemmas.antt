@@ -1,5 +1,6 @@
 -- A run over pieces and the joined input: where the next step looks, and what an attempt leaves.
 use Rattle.std.proofs.Common.{◌≡◌, ℕ, zero, suc, ◌+◌, ◌-◌, ◌≤◌, ◌<◌, Bool, true, cond, List, [], ◌∷◌, ◌++◌, length, take, drop, map, Option, Some, refl, sym, ap, ◌∙◌, arith, subst, length-drop, get_or}
+use Rattle.std.proofs.Math.Nat.{le_trans}
 use Rattle.std.specs.Prelude.{slice_get, is_some}
 use Rattle.std.proofs.lemmas.List.{drop-drop, length-map, length-append, map-append, append_assoc, append-nil}
 use Rattle.std.proofs.lemmas.Option.{same_Some, slice_get-get_or}
@@ -22,7 +23,7 @@ use Rattle.winnow_attempt.specs.Settled.{IsNeedSettled, IsSettled}
 use Rattle.winnow_attempt.specs.View.{Look, look_of}
 use Rattle.winnow_feed.specs.Reach.{least_index, needed_from}
 use Rattle.winnow_attempt.specs.View.{under}
-use Rattle.winnow_feed.specs.JoinedInput.{IsRunOver, AddsAnswers, next_step, steps_left, answers_out}
+use Rattle.winnow_feed.specs.JoinedInput.{GoesOn, IsRunOver, AddsAnswers, next_step, steps_left, answers_out}
 use Rattle.winnow_run.proofs.lemmas.StepLemmas.{Inside, start-inside}
 use Rattle.winnow_attempt.proofs.lemmas.SettledLemmas.{width-split, NoneHeld-none, NoneOccurs-none, AreCounted-none, AreSame-none}
 use Rattle.winnow_attempt.proofs.lemmas.ViewLemmas.{view-answer, view-place, view-marks}
@@ -88,6 +89,23 @@ pub AddsAnswers-more : {T L : Type 0} (piece : Option ℕ) (p q r : Progress T L
 AddsAnswers-more piece p q r h g = record {
   more = h.more ++ g.more;
   told = g.told ∙ ap (λ t. t ++ map (under piece) g.more) h.told ∙ append_assoc p.told.items (map (under piece) h.more) (map (under piece) g.more) ∙ ap (λ t. p.told.items ++ t) (sym (map-append (under piece) h.more g.more));
+}
+
+-- a run that went on twice went on
+pub GoesOn-more : {T L : Type 0} (piece : Option ℕ) (p q r : Progress T L) → GoesOn piece p q
+    → GoesOn piece q r → length p.told.items ≤ length q.told.items
+    → length q.told.items ≤ length r.told.items → GoesOn piece p r
+GoesOn-more piece p q r h g first second = record {
+  script = g.script ∙ h.script;
+  base = g.base ∙ h.base;
+  pieces = g.pieces ∙ h.pieces;
+  adds = AddsAnswers-more piece p q r h.adds g.adds;
+  still = λ same.
+      let a = h.still (omega (arith, same, first, second)) in
+      let b = g.still (omega (arith, same, first, second)) in
+      (b.0 ∙ a.0, b.1 ∙ a.1);
+  told = le_trans h.told g.told;
+  room = g.room;
 }
 
 module _ {T L : Type 0} (strict : Bool) (k : PieceKind T CharSet L) (all kept : Source T) (p : Progress T L) (h : IsRunOver strict k all kept p) (x : SearchStep CharSet L) (next : next_step p ≡ Some x) where

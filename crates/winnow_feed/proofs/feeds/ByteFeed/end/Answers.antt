@@ -7,19 +7,15 @@ use Rattle.winnow_feed.proofs.lemmas.KeepingLemmas.{IsRunOver-loose}
 use Rattle.winnow_feed.proofs.lemmas.FeedLemmas.{finished}
 use Rattle.winnow_feed.proofs.feeds.ByteFeed.end.Goals as goal
 
-pub advance-requires-clause-room : goal.advance-requires-clause-room
-advance-requires-clause-room c =
-    let is = sym c.complete.ensures.same ∙ c.new-rest.ensures.input in
-    rw is (omega (arith, width-units c.as_slice.result.now, ap length c.as_slice.ensures.value, c.self.invariant.fits))
-
-pub advance-requires-clause-counted : goal.advance-requires-clause-counted
-advance-requires-clause-counted c = c.self.invariant.counted
-
-pub advance-requires-clause-stands : goal.advance-requires-clause-stands
-advance-requires-clause-stands c =
+pub advance-requires-clause-ready : goal.advance-requires-clause-ready
+advance-requires-clause-ready c =
     let i = c.self.invariant in
     let is = sym c.complete.ensures.same ∙ c.new-rest.ensures.input in
-    rw (c.complete.ensures.complete, is, c.as_slice.ensures.value) (units i.input, IsRunOver-loose byte_kind (units i.input) (units c.self.inside.kept.items) c.self.inside.run i.stands.stands)
+    record {
+      stands = rw (c.complete.ensures.complete, is, c.as_slice.ensures.value) (units i.input, IsRunOver-loose byte_kind (units i.input) (units c.self.inside.kept.items) c.self.inside.run i.stands.stands);
+      fits = rw is (omega (arith, width-units c.as_slice.result.now, ap length c.as_slice.ensures.value, i.fits));
+      room = i.room;
+    }
 
 pub returns : goal.returns
 returns c = λ pieces h.
@@ -30,4 +26,4 @@ returns c = λ pieces h.
     let loose = IsRunOver-loose byte_kind (units (joined pieces)) (units c.self.inside.kept.items) c.self.inside.run before.stands.stands in
     let after = (rw (c.complete.ensures.complete, is, c.as_slice.ensures.value) at a.stands) (units (joined pieces)) loose in
     let done : length c.advance.new.progress.script.now ≤ length c.advance.new.progress.told.items = omega (arith, a.done c.complete.ensures.complete, c.advance.new.progress.told.ok.0) in
-    rw (← c.self.view_is) (finished byte_input old pieces (units c.self.inside.kept.items) c.advance.new.progress before after.0 a.adds a.script done _ refl refl)
+    rw (← c.self.view_is) (finished byte_input old pieces (units c.self.inside.kept.items) c.advance.new.progress before after.0 a.on.adds a.on.script done _ refl refl)

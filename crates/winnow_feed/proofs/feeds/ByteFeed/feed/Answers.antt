@@ -7,27 +7,24 @@ use Rattle.winnow_feed.specs.Inputs.{byte_input, joined}
 use Rattle.winnow_feed.specs.Feeding.{FeedState, bytes_fed}
 use Rattle.winnow_feed.specs.Reach.{least_marks}
 use Rattle.winnow_feed.proofs.lemmas.InputLemmas.{bytes-input}
-use Rattle.winnow_feed.proofs.lemmas.FeedLemmas.{grow, least-anywhere, taken, taken-room, skips, Fits-fed, Fits-skipped, came-out}
+use Rattle.winnow_feed.proofs.lemmas.FeedLemmas.{grow, least-anywhere, TookPiece, taken, taken-room, skips, Fits-fed, Fits-skipped, came-out}
 use Rattle.winnow_stream.specs.Source.{units}
 use Rattle.winnow_stream.specs.Units.{width-units}
 use Rattle.winnow_feed.proofs.feeds.ByteFeed.feed.Goals as goal
 
-pub take_in-unneeded-requires-clause-room : goal.take_in-unneeded-requires-clause-room
-take_in-unneeded-requires-clause-room c =
-    let e = c.as_slice.ensures.value ∙ c.in_ok-extend_from_slice.ensures.items in
-    rw c.new.ensures.input (omega (arith, width-units c.as_slice.result.now, ap length e, length-append c.self.inside.kept.items c.args.piece.now, ap bytes_fed c.self.view_is, c.requires))
-
 pub take_in-unneeded-requires-clause-more : goal.take_in-unneeded-requires-clause-more
 take_in-unneeded-requires-clause-more c = c.new.ensures.flag
 
-pub take_in-unneeded-requires-clause-counted : goal.take_in-unneeded-requires-clause-counted
-take_in-unneeded-requires-clause-counted c = c.self.invariant.counted
-
-pub take_in-unneeded-requires-clause-stands : goal.take_in-unneeded-requires-clause-stands
-take_in-unneeded-requires-clause-stands c =
+pub take_in-unneeded-requires-clause-ready : goal.take_in-unneeded-requires-clause-ready
+take_in-unneeded-requires-clause-ready c =
     let i = c.self.invariant in
     let old : FeedState = record { run = c.self.inside.run; kept = c.self.inside.kept.items } in
-    rw c.new.ensures.input (units (i.input ++ c.args.piece.now), grow byte_input bytes-input i.input c.args.piece.now c.as_slice.result.now old refl (c.as_slice.ensures.value ∙ c.in_ok-extend_from_slice.ensures.items) i.stands)
+    let e = c.as_slice.ensures.value ∙ c.in_ok-extend_from_slice.ensures.items in
+    record {
+      stands = rw c.new.ensures.input (units (i.input ++ c.args.piece.now), grow byte_input bytes-input i.input c.args.piece.now c.as_slice.result.now old refl (c.as_slice.ensures.value ∙ c.in_ok-extend_from_slice.ensures.items) i.stands);
+      fits = rw c.new.ensures.input (omega (arith, width-units c.as_slice.result.now, ap length e, length-append c.self.inside.kept.items c.args.piece.now, ap bytes_fed c.self.view_is, c.requires));
+      room = i.room;
+    }
 
 pub take_in-unneeded-requires-clause-least : goal.take_in-unneeded-requires-clause-least
 take_in-unneeded-requires-clause-least c =
@@ -35,7 +32,7 @@ take_in-unneeded-requires-clause-least c =
     least-anywhere byte_input bytes-input old c.self.invariant.stands.least (omega (arith, c.if-self-before.false, c.len-before.ensures, c.self.inside.run.told.ok.0))
 
 pub forget_bytes-requires : goal.forget_bytes-requires
-forget_bytes-requires c = rw (← c.as_slice.ensures.value) (rw c.new.ensures.input at c.take_in-unneeded.ensures.offset)
+forget_bytes-requires c = rw (← c.as_slice.ensures.value) (rw c.new.ensures.input at c.take_in-unneeded.ensures.takes.offset)
 
 pub invariant_of-self-2 : goal.invariant_of-self-2
 invariant_of-self-2 c =
@@ -45,17 +42,22 @@ invariant_of-self-2 c =
     let t = c.take_in-unneeded.ensures in
     let is = c.new.ensures.input in
     let left = c.forget_bytes.ensures.source ∙ ap (λ x. back (units x) c.take_in-unneeded.result) (sym c.as_slice.ensures.value) in
-    let script = ap (λ s. length s.now) t.script in
+    let took : TookPiece byte_input old new c.args.piece.now = record {
+      xs = c.as_slice.result.now;
+      unneeded = c.take_in-unneeded.result;
+      is_piece = refl;
+      is_kept = refl;
+      joins = c.as_slice.ensures.value ∙ c.in_ok-extend_from_slice.ensures.items;
+      left = left;
+      takes = rw is at t.takes;
+    } in
     record {
       input = i.input ++ c.args.piece.now;
-      stands = (taken byte_input bytes-input old new c.args.piece.now c.as_slice.result.now c.take_in-unneeded.result refl refl (c.as_slice.ensures.value ∙ c.in_ok-extend_from_slice.ensures.items) left (rw is at t.offset) t.base (rw is at t.least) (rw is at t.stands) i.input i.stands).0;
-      rests = λ _. (taken byte_input bytes-input old new c.args.piece.now c.as_slice.result.now c.take_in-unneeded.result refl refl (c.as_slice.ensures.value ∙ c.in_ok-extend_from_slice.ensures.items) left (rw is at t.offset) t.base (rw is at t.least) (rw is at t.stands) i.input i.stands).1;
-      told_room = omega (arith, script, i.told_room, t.told_room);
-      mark_room = omega (arith, script, i.mark_room, t.mark_room);
-      marks = t.marks;
-      fits = omega (arith, taken-room byte_input bytes-input old new c.args.piece.now c.as_slice.result.now c.take_in-unneeded.result refl refl (c.as_slice.ensures.value ∙ c.in_ok-extend_from_slice.ensures.items) left (rw is at t.offset) t.base (rw is at t.least) (rw is at t.stands) i.input i.stands, ap bytes_fed c.self.view_is, c.requires);
-      counted = omega (arith, t.tried);
-      named_is = i.named_is ∙ ap (λ s. least_marks s.now) (sym t.script);
+      stands = (taken byte_input bytes-input old new c.args.piece.now took i.input i.stands).0;
+      rests = λ _. (taken byte_input bytes-input old new c.args.piece.now took i.input i.stands).1;
+      room = t.piece.room;
+      fits = omega (arith, taken-room byte_input bytes-input old new c.args.piece.now took i.input i.stands, ap bytes_fed c.self.view_is, c.requires);
+      named_is = i.named_is ∙ ap (λ s. least_marks s.now) (sym t.piece.script);
     }
 
 pub returns-clause-fits : goal.returns-clause-fits
@@ -66,8 +68,17 @@ returns-clause-fits c = λ pieces h.
     let t = c.take_in-unneeded.ensures in
     let is = c.new.ensures.input in
     let left = c.forget_bytes.ensures.source ∙ ap (λ x. back (units x) c.take_in-unneeded.result) (sym c.as_slice.ensures.value) in
-    let after = taken byte_input bytes-input old new c.args.piece.now c.as_slice.result.now c.take_in-unneeded.result refl refl (c.as_slice.ensures.value ∙ c.in_ok-extend_from_slice.ensures.items) left (rw is at t.offset) t.base (rw is at t.least) (rw is at t.stands) (joined pieces) before.stands in
-    Fits-fed byte_input bytes-input old new pieces c.args.piece.now before refl t.script after.0 after.1 t.adds t.pieces t.tried
+    let took : TookPiece byte_input old new c.args.piece.now = record {
+      xs = c.as_slice.result.now;
+      unneeded = c.take_in-unneeded.result;
+      is_piece = refl;
+      is_kept = refl;
+      joins = c.as_slice.ensures.value ∙ c.in_ok-extend_from_slice.ensures.items;
+      left = left;
+      takes = rw is at t.takes;
+    } in
+    let after = taken byte_input bytes-input old new c.args.piece.now took (joined pieces) before.stands in
+    Fits-fed byte_input bytes-input old new pieces c.args.piece.now before refl t.piece.script after.0 after.1 t.piece.adds t.piece.pieces t.piece.tried
 
 pub returns-clause-came : goal.returns-clause-came
 returns-clause-came c = λ pieces h.
@@ -76,7 +87,7 @@ returns-clause-came c = λ pieces h.
     let before = rw (← c.self.view_is) at h in
     let t = c.take_in-unneeded.ensures in
     let told = c.take_in-unneeded.new.progress.told.ok.0 in
-    rw (← c.self.view_is) (came-out byte_input bytes-input old new pieces c.args.piece.now _ before (returns-clause-fits c pieces h) t.script (omega (arith, c.len.ensures, c.len-before.ensures, t.told, c.self.inside.run.told.ok.0, told)))
+    rw (← c.self.view_is) (came-out byte_input bytes-input old new pieces c.args.piece.now _ before (returns-clause-fits c pieces h) t.piece.script (omega (arith, c.len.ensures, c.len-before.ensures, t.piece.told, c.self.inside.run.told.ok.0, told)))
 
 pub returns-clause-grows : goal.returns-clause-grows
 returns-clause-grows c =
@@ -86,7 +97,16 @@ returns-clause-grows c =
     let t = c.take_in-unneeded.ensures in
     let is = c.new.ensures.input in
     let left = c.forget_bytes.ensures.source ∙ ap (λ x. back (units x) c.take_in-unneeded.result) (sym c.as_slice.ensures.value) in
-    taken-room byte_input bytes-input old new c.args.piece.now c.as_slice.result.now c.take_in-unneeded.result refl refl (c.as_slice.ensures.value ∙ c.in_ok-extend_from_slice.ensures.items) left (rw is at t.offset) t.base (rw is at t.least) (rw is at t.stands) i.input i.stands ∙ ap (λ f. bytes_fed f + length c.args.piece.now) c.self.view_is
+    let took : TookPiece byte_input old new c.args.piece.now = record {
+      xs = c.as_slice.result.now;
+      unneeded = c.take_in-unneeded.result;
+      is_piece = refl;
+      is_kept = refl;
+      joins = c.as_slice.ensures.value ∙ c.in_ok-extend_from_slice.ensures.items;
+      left = left;
+      takes = rw is at t.takes;
+    } in
+    taken-room byte_input bytes-input old new c.args.piece.now took i.input i.stands ∙ ap (λ f. bytes_fed f + length c.args.piece.now) c.self.view_is
 
 pub invariant_of-self : goal.invariant_of-self
 invariant_of-self c =
@@ -97,11 +117,8 @@ invariant_of-self c =
       input = i.input ++ c.args.piece.now;
       stands = skips byte_input bytes-input old i.input c.args.piece.now _ refl i.stands done refl refl refl refl refl refl;
       rests = λ _ s e. absurd (omega (arith, slice_get_within c.self.inside.run.script.now (length c.self.inside.run.told.items) s e, done));
-      told_room = i.told_room;
-      mark_room = i.mark_room;
-      marks = i.marks;
+      room = record { told = i.room.told; marks = i.room.marks; made = i.room.made; counted = i.room.counted };
       fits = omega (arith, c.requires, ap bytes_fed c.self.view_is);
-      counted = i.counted;
       named_is = i.named_is;
     }
 

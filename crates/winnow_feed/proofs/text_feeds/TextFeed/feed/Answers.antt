@@ -7,29 +7,26 @@ use Rattle.winnow_feed.specs.Inputs.{text_input, joined}
 use Rattle.winnow_feed.specs.Feeding.{FeedState, bytes_fed}
 use Rattle.winnow_feed.specs.Reach.{least_marks}
 use Rattle.winnow_feed.proofs.lemmas.InputLemmas.{texts-input}
-use Rattle.winnow_feed.proofs.lemmas.FeedLemmas.{grow, least-anywhere, taken, taken-room, skips, Fits-fed, Fits-skipped, came-out}
+use Rattle.winnow_feed.proofs.lemmas.FeedLemmas.{grow, least-anywhere, TookPiece, taken, taken-room, skips, Fits-fed, Fits-skipped, came-out}
 use Rattle.std.specs.String.{string_bytes}
 use Rattle.std.proofs.lemmas.Str.{is_utf8-from_IsUtf8, IsUtf8-string_bytes}
 use Rattle.winnow_stream.specs.Text.{text_source}
 use Rattle.winnow_stream.proofs.lemmas.TextLemmas.{width-text_source}
 use Rattle.winnow_feed.proofs.text_feeds.TextFeed.feed.Goals as goal
 
-pub take_in-unneeded-requires-clause-room : goal.take_in-unneeded-requires-clause-room
-take_in-unneeded-requires-clause-room c =
-    let e = c.as_str.ensures.value ∙ c.in_ok-push_str.ensures.bytes in
-    rw c.new.ensures.input (omega (arith, width-text_source c.as_str.result.now c.as_str.utf8, ap length e, length-append (string_bytes c.self.inside.kept) c.args.piece.now, ap bytes_fed c.self.view_is, c.requires))
-
 pub take_in-unneeded-requires-clause-more : goal.take_in-unneeded-requires-clause-more
 take_in-unneeded-requires-clause-more c = c.new.ensures.flag
 
-pub take_in-unneeded-requires-clause-counted : goal.take_in-unneeded-requires-clause-counted
-take_in-unneeded-requires-clause-counted c = c.self.invariant.counted
-
-pub take_in-unneeded-requires-clause-stands : goal.take_in-unneeded-requires-clause-stands
-take_in-unneeded-requires-clause-stands c =
+pub take_in-unneeded-requires-clause-ready : goal.take_in-unneeded-requires-clause-ready
+take_in-unneeded-requires-clause-ready c =
     let i = c.self.invariant in
     let old : FeedState = record { run = c.self.inside.run; kept = (string_bytes c.self.inside.kept) } in
-    rw c.new.ensures.input (text_source (i.input ++ c.args.piece.now), grow text_input texts-input i.input c.args.piece.now c.as_str.result.now old (is_utf8-from_IsUtf8 c.args.piece.now c.utf8.piece) (c.as_str.ensures.value ∙ c.in_ok-push_str.ensures.bytes) i.stands)
+    let e = c.as_str.ensures.value ∙ c.in_ok-push_str.ensures.bytes in
+    record {
+      stands = rw c.new.ensures.input (text_source (i.input ++ c.args.piece.now), grow text_input texts-input i.input c.args.piece.now c.as_str.result.now old (is_utf8-from_IsUtf8 c.args.piece.now c.utf8.piece) (c.as_str.ensures.value ∙ c.in_ok-push_str.ensures.bytes) i.stands);
+      fits = rw c.new.ensures.input (omega (arith, width-text_source c.as_str.result.now c.as_str.utf8, ap length e, length-append (string_bytes c.self.inside.kept) c.args.piece.now, ap bytes_fed c.self.view_is, c.requires));
+      room = i.room;
+    }
 
 pub take_in-unneeded-requires-clause-least : goal.take_in-unneeded-requires-clause-least
 take_in-unneeded-requires-clause-least c =
@@ -37,7 +34,7 @@ take_in-unneeded-requires-clause-least c =
     least-anywhere text_input texts-input old c.self.invariant.stands.least (omega (arith, c.if-self-before.false, c.len-before.ensures, c.self.inside.run.told.ok.0))
 
 pub forget_text-requires : goal.forget_text-requires
-forget_text-requires c = rw (← c.as_str.ensures.value) (rw c.new.ensures.input at c.take_in-unneeded.ensures.offset)
+forget_text-requires c = rw (← c.as_str.ensures.value) (rw c.new.ensures.input at c.take_in-unneeded.ensures.takes.offset)
 
 pub invariant_of-self-2 : goal.invariant_of-self-2
 invariant_of-self-2 c =
@@ -47,17 +44,22 @@ invariant_of-self-2 c =
     let t = c.take_in-unneeded.ensures in
     let is = c.new.ensures.input in
     let left = c.forget_text.ensures.source ∙ ap (λ x. back (text_source x) c.take_in-unneeded.result) (sym c.as_str.ensures.value) in
-    let script = ap (λ s. length s.now) t.script in
+    let took : TookPiece text_input old new c.args.piece.now = record {
+      xs = c.as_str.result.now;
+      unneeded = c.take_in-unneeded.result;
+      is_piece = is_utf8-from_IsUtf8 c.args.piece.now c.utf8.piece;
+      is_kept = is_utf8-from_IsUtf8 _ (IsUtf8-string_bytes c.forget_text.new.kept);
+      joins = c.as_str.ensures.value ∙ c.in_ok-push_str.ensures.bytes;
+      left = left;
+      takes = rw is at t.takes;
+    } in
     record {
       input = i.input ++ c.args.piece.now;
-      stands = (taken text_input texts-input old new c.args.piece.now c.as_str.result.now c.take_in-unneeded.result (is_utf8-from_IsUtf8 c.args.piece.now c.utf8.piece) (is_utf8-from_IsUtf8 _ (IsUtf8-string_bytes c.forget_text.new.kept)) (c.as_str.ensures.value ∙ c.in_ok-push_str.ensures.bytes) left (rw is at t.offset) t.base (rw is at t.least) (rw is at t.stands) i.input i.stands).0;
-      rests = λ _. (taken text_input texts-input old new c.args.piece.now c.as_str.result.now c.take_in-unneeded.result (is_utf8-from_IsUtf8 c.args.piece.now c.utf8.piece) (is_utf8-from_IsUtf8 _ (IsUtf8-string_bytes c.forget_text.new.kept)) (c.as_str.ensures.value ∙ c.in_ok-push_str.ensures.bytes) left (rw is at t.offset) t.base (rw is at t.least) (rw is at t.stands) i.input i.stands).1;
-      told_room = omega (arith, script, i.told_room, t.told_room);
-      mark_room = omega (arith, script, i.mark_room, t.mark_room);
-      marks = t.marks;
-      fits = omega (arith, taken-room text_input texts-input old new c.args.piece.now c.as_str.result.now c.take_in-unneeded.result (is_utf8-from_IsUtf8 c.args.piece.now c.utf8.piece) (is_utf8-from_IsUtf8 _ (IsUtf8-string_bytes c.forget_text.new.kept)) (c.as_str.ensures.value ∙ c.in_ok-push_str.ensures.bytes) left (rw is at t.offset) t.base (rw is at t.least) (rw is at t.stands) i.input i.stands, ap bytes_fed c.self.view_is, c.requires);
-      counted = omega (arith, t.tried);
-      named_is = i.named_is ∙ ap (λ s. least_marks s.now) (sym t.script);
+      stands = (taken text_input texts-input old new c.args.piece.now took i.input i.stands).0;
+      rests = λ _. (taken text_input texts-input old new c.args.piece.now took i.input i.stands).1;
+      room = t.piece.room;
+      fits = omega (arith, taken-room text_input texts-input old new c.args.piece.now took i.input i.stands, ap bytes_fed c.self.view_is, c.requires);
+      named_is = i.named_is ∙ ap (λ s. least_marks s.now) (sym t.piece.script);
     }
 
 pub returns-clause-fits : goal.returns-clause-fits
@@ -68,8 +70,17 @@ returns-clause-fits c = λ pieces h.
     let t = c.take_in-unneeded.ensures in
     let is = c.new.ensures.input in
     let left = c.forget_text.ensures.source ∙ ap (λ x. back (text_source x) c.take_in-unneeded.result) (sym c.as_str.ensures.value) in
-    let after = taken text_input texts-input old new c.args.piece.now c.as_str.result.now c.take_in-unneeded.result (is_utf8-from_IsUtf8 c.args.piece.now c.utf8.piece) (is_utf8-from_IsUtf8 _ (IsUtf8-string_bytes c.forget_text.new.kept)) (c.as_str.ensures.value ∙ c.in_ok-push_str.ensures.bytes) left (rw is at t.offset) t.base (rw is at t.least) (rw is at t.stands) (joined pieces) before.stands in
-    Fits-fed text_input texts-input old new pieces c.args.piece.now before (is_utf8-from_IsUtf8 c.args.piece.now c.utf8.piece) t.script after.0 after.1 t.adds t.pieces t.tried
+    let took : TookPiece text_input old new c.args.piece.now = record {
+      xs = c.as_str.result.now;
+      unneeded = c.take_in-unneeded.result;
+      is_piece = is_utf8-from_IsUtf8 c.args.piece.now c.utf8.piece;
+      is_kept = is_utf8-from_IsUtf8 _ (IsUtf8-string_bytes c.forget_text.new.kept);
+      joins = c.as_str.ensures.value ∙ c.in_ok-push_str.ensures.bytes;
+      left = left;
+      takes = rw is at t.takes;
+    } in
+    let after = taken text_input texts-input old new c.args.piece.now took (joined pieces) before.stands in
+    Fits-fed text_input texts-input old new pieces c.args.piece.now before (is_utf8-from_IsUtf8 c.args.piece.now c.utf8.piece) t.piece.script after.0 after.1 t.piece.adds t.piece.pieces t.piece.tried
 
 pub returns-clause-came : goal.returns-clause-came
 returns-clause-came c = λ pieces h.
@@ -78,7 +89,7 @@ returns-clause-came c = λ pieces h.
     let before = rw (← c.self.view_is) at h in
     let t = c.take_in-unneeded.ensures in
     let told = c.take_in-unneeded.new.progress.told.ok.0 in
-    rw (← c.self.view_is) (came-out text_input texts-input old new pieces c.args.piece.now _ before (returns-clause-fits c pieces h) t.script (omega (arith, c.len.ensures, c.len-before.ensures, t.told, c.self.inside.run.told.ok.0, told)))
+    rw (← c.self.view_is) (came-out text_input texts-input old new pieces c.args.piece.now _ before (returns-clause-fits c pieces h) t.piece.script (omega (arith, c.len.ensures, c.len-before.ensures, t.piece.told, c.self.inside.run.told.ok.0, told)))
 
 pub returns-clause-grows : goal.returns-clause-grows
 returns-clause-grows c =
@@ -88,7 +99,16 @@ returns-clause-grows c =
     let t = c.take_in-unneeded.ensures in
     let is = c.new.ensures.input in
     let left = c.forget_text.ensures.source ∙ ap (λ x. back (text_source x) c.take_in-unneeded.result) (sym c.as_str.ensures.value) in
-    taken-room text_input texts-input old new c.args.piece.now c.as_str.result.now c.take_in-unneeded.result (is_utf8-from_IsUtf8 c.args.piece.now c.utf8.piece) (is_utf8-from_IsUtf8 _ (IsUtf8-string_bytes c.forget_text.new.kept)) (c.as_str.ensures.value ∙ c.in_ok-push_str.ensures.bytes) left (rw is at t.offset) t.base (rw is at t.least) (rw is at t.stands) i.input i.stands ∙ ap (λ f. bytes_fed f + length c.args.piece.now) c.self.view_is
+    let took : TookPiece text_input old new c.args.piece.now = record {
+      xs = c.as_str.result.now;
+      unneeded = c.take_in-unneeded.result;
+      is_piece = is_utf8-from_IsUtf8 c.args.piece.now c.utf8.piece;
+      is_kept = is_utf8-from_IsUtf8 _ (IsUtf8-string_bytes c.forget_text.new.kept);
+      joins = c.as_str.ensures.value ∙ c.in_ok-push_str.ensures.bytes;
+      left = left;
+      takes = rw is at t.takes;
+    } in
+    taken-room text_input texts-input old new c.args.piece.now took i.input i.stands ∙ ap (λ f. bytes_fed f + length c.args.piece.now) c.self.view_is
 
 pub invariant_of-self : goal.invariant_of-self
 invariant_of-self c =
@@ -99,11 +119,8 @@ invariant_of-self c =
       input = i.input ++ c.args.piece.now;
       stands = skips text_input texts-input old i.input c.args.piece.now _ (is_utf8-from_IsUtf8 c.args.piece.now c.utf8.piece) i.stands done refl refl refl refl refl refl;
       rests = λ _ s e. absurd (omega (arith, slice_get_within c.self.inside.run.script.now (length c.self.inside.run.told.items) s e, done));
-      told_room = i.told_room;
-      mark_room = i.mark_room;
-      marks = i.marks;
+      room = record { told = i.room.told; marks = i.room.marks; made = i.room.made; counted = i.room.counted };
       fits = omega (arith, c.requires, ap bytes_fed c.self.view_is);
-      counted = i.counted;
       named_is = i.named_is;
     }
 

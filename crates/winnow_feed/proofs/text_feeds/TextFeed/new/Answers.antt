@@ -10,11 +10,8 @@ invariant_of-result c = record {
   input = [];
   stands = new-stands text_input texts-input _ _ c.in_ok-told.ensures.items c.in_ok-marks.ensures.items c.new.ensures.bytes refl refl refl refl;
   rests = λ l. absurd (omega arith);
-  told_room = omega (arith, c.in_ok-told.ensures.capacity);
-  mark_room = omega (arith, c.in_ok-marks.ensures.capacity);
-  marks = omega (arith, c.in_ok-told.ensures.len, c.in_ok-marks.ensures.len);
+  room = record { told = omega (arith, c.in_ok-told.ensures.capacity); marks = omega (arith, c.in_ok-marks.ensures.capacity); made = omega (arith, c.in_ok-told.ensures.len, c.in_ok-marks.ensures.len); counted = omega arith };
   fits = omega (arith, ap length c.new.ensures.bytes);
-  counted = omega arith;
   named_is = c.in_ok-named.ensures;
 }
 
