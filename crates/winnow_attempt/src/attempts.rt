@@ -11,7 +11,7 @@ ghost use Rattle.winnow_run.specs.Searching.{PlacedSearchAnswer};
 use crate::Told;
 use crate::kept::Kept;
 use crate::literals::{compare_from, find_from, needle_bytes, searched};
-use crate::looking::{Passed, Seen, look_call, tell};
+use crate::looking::{Passed, Seen, Standing, look_call, tell};
 use winnow_match::{CompareResult, Finders};
 use winnow_run::{Need, SearchAnswer, SearchStep};
 use winnow_sets::{AsChar, CharSet};
@@ -55,51 +55,48 @@ fn seen_at(definite: bool, place: usize) -> Seen
 pub(crate) fn look<'k, S: Kept, L: AsBStr>(
     step: &'k SearchStep<CharSet<'k>, L>,
     rest: S,
-    place: usize,
-    marks: &[usize],
-    passed: Passed,
+    here: Standing,
     finders: &mut Option<Finders<'k>>,
     told: &mut Vec<Told<S::Token>>,
-    piece: Option<u64>,
 ) -> (Seen, usize)
 where
     S::Token: AsChar + Drop,
     S::Slice: Drop,
     requires valid { S.valid rest }
-    requires room { place + width (S.remaining rest) < 2 ^ 64 }
+    requires room { here.place + width (S.remaining rest) < 2 ^ 64 }
     requires settled { IsSettled
         (piece_kind S.Token.code S.counts_missing S.write L.text_bytes)
-        step.now (S.remaining rest) passed.width passed.tokens }
+        step.now (S.remaining rest) here.passed.width here.passed.tokens }
     requires told_room { vec_len told.old < vec_capacity told.old }
     ensures seen { result.0 ≡ seen_of (look_of
         (piece_kind S.Token.code S.counts_missing S.write L.text_bytes)
-        place marks.now (S.remaining rest) step.now) }
+        here.entry.place here.entry.marks.now (S.remaining rest) step.now) }
     ensures searched { IsSearched
         (piece_kind S.Token.code S.counts_missing S.write L.text_bytes)
         step.now (S.remaining rest) result.1 }
-    ensures items { told.new.items ≡ told.old.items ++ under piece (look_of
+    ensures items { told.new.items ≡ told.old.items ++ under here.entry.piece (look_of
         (piece_kind S.Token.code S.counts_missing S.write L.text_bytes)
-        place marks.now (S.remaining rest) step.now).answer ∷ [] }
+        here.entry.place here.entry.marks.now (S.remaining rest) step.now).answer ∷ [] }
     ensures len { vec_len told.new ≡ vec_len told.old + 1 }
     ensures capacity { vec_capacity told.old ≤ vec_capacity told.new }
 {
     match step {
         SearchStep::Call(call) => {
-            let seen = look_call(call, rest, place, marks, passed, told, piece);
+            let seen = look_call(call, rest, here, told);
             (seen, 0)
         }
         SearchStep::Compare(literal) => {
-            let compared = compare_from(literal.as_bstr(), rest.bytes(), passed.width);
+            let compared = compare_from(literal.as_bstr(), rest.bytes(), here.passed.width);
             let definite = is_decided_now(&compared);
-            tell(told, piece, SearchAnswer::Compared(compared));
-            (seen_at(definite, place), 0)
+            tell(told, here.piece, SearchAnswer::Compared(compared));
+            (seen_at(definite, here.place), 0)
         }
         SearchStep::Find(needles) => {
             let needles = needle_bytes(needles);
-            let found = find_from(&needles, rest.bytes(), passed.width, finders);
+            let found = find_from(&needles, rest.bytes(), here.passed.width, finders);
             let (definite, width) = searched(&needles, rest.bytes(), &found);
-            tell(told, piece, SearchAnswer::Hit(found));
-            (seen_at(definite, place), width)
+            tell(told, here.piece, SearchAnswer::Hit(found));
+            (seen_at(definite, here.place), width)
         }
     }
 }
@@ -216,37 +213,34 @@ fn waits_to_the_end<L>(step: &SearchStep<CharSet, L>) -> bool
 pub fn attempt_step<'k, S: Kept, L: AsBStr>(
     step: &'k SearchStep<CharSet<'k>, L>,
     rest: S,
-    place: usize,
-    marks: &[usize],
-    passed: Passed,
+    here: Standing,
     finders: &mut Option<Finders<'k>>,
     told: &mut Vec<Told<S::Token>>,
-    piece: Option<u64>,
 ) -> Attempt
 where
     S::Token: AsChar + Drop,
     S::Slice: Drop,
     requires valid { S.valid rest }
-    requires room { place + width (S.remaining rest) < 2 ^ 64 }
+    requires room { here.place + width (S.remaining rest) < 2 ^ 64 }
     requires settled { IsSettled
         (piece_kind S.Token.code S.counts_missing S.write L.text_bytes)
-        step.now (S.remaining rest) passed.width passed.tokens }
+        step.now (S.remaining rest) here.passed.width here.passed.tokens }
     requires told_room { vec_len told.old < vec_capacity told.old }
     ensures attempts { Attempts
         (piece_kind S.Token.code S.counts_missing S.write L.text_bytes)
-        place marks.now (S.remaining rest) step.now (S.expects_more rest)
-        piece told.old.items told.new.items result }
+        here.entry.place here.entry.marks.now (S.remaining rest) step.now (S.expects_more rest)
+        here.entry.piece told.old.items told.new.items result }
     ensures capacity { vec_capacity told.old ≤ vec_capacity told.new }
 {
     let partial = rest.is_partial();
     if partial && waits_to_the_end(step) {
-        return Attempt::Waits(passed);
+        return Attempt::Waits(here.passed);
     }
-    let (seen, searched) = look(step, rest, place, marks, passed, finders, told, piece);
+    let (seen, searched) = look(step, rest, here, finders, told);
     if seen.definite || !partial {
         Attempt::Answered(seen)
     } else {
         take_back(told);
-        Attempt::Waits(settle(step, rest, searched, passed))
+        Attempt::Waits(settle(step, rest, searched, here.passed))
     }
 }

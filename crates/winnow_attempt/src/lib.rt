@@ -19,6 +19,6 @@ mod told;
 pub use attempts::{Attempt, attempt_step};
 pub use kept::Kept;
 pub use laws::told_equality_law;
-pub use looking::{Passed, Seen, mark_at};
+pub use looking::{Passed, Seen, Standing, mark_at};
 pub use missing::step_missing;
 pub use told::Told;

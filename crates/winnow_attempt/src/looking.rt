@@ -81,6 +81,16 @@ pub struct Passed {
     pub tokens: usize,
 }
 
+/// Where a run stands when it attempts a step: the place of its cursor, the places of its marks,
+/// what the step has settled, and the number under which an answer is given out.
+#[derive(Clone, Copy)]
+pub struct Standing<'m> {
+    pub place: usize,
+    pub marks: &'m [usize],
+    pub passed: Passed,
+    pub piece: Option<u64>,
+}
+
 /// Appends an answer to the others. There is room for it.
 #[inline(always)]
 pub(crate) fn tell<T: Drop>(told: &mut Vec<Told<T>>, piece: Option<u64>, answer: PieceAnswer<T>)
@@ -163,28 +173,31 @@ fn has_offset<S: Stream>(rest: &S, offset: usize) -> bool
 pub(crate) fn look_call<S: Kept>(
     call: &Step<CharSet>,
     rest: S,
-    place: usize,
-    marks: &[usize],
-    passed: Passed,
+    here: Standing,
     told: &mut Vec<Told<S::Token>>,
-    piece: Option<u64>,
 ) -> Seen
 where
     S::Token: AsChar + Drop,
     S::Slice: Drop,
     requires valid { S.valid rest }
-    requires room { place + width (S.remaining rest) < 2 ^ 64 }
-    requires settled { IsCallSettled (held S.Token.code) call.now (S.remaining rest) passed.width
-        passed.tokens }
+    requires room { here.place + width (S.remaining rest) < 2 ^ 64 }
+    requires settled { IsCallSettled (held S.Token.code) call.now (S.remaining rest) here.passed.width
+        here.passed.tokens }
     requires told_room { vec_len told.old < vec_capacity told.old }
     ensures seen { result ≡ seen_of (call_look
-        (held S.Token.code) S.counts_missing place marks.now (S.remaining rest) call.now) }
-    ensures items { told.new.items ≡ told.old.items ++ under piece (call_look
-        (held S.Token.code) S.counts_missing place marks.now (S.remaining rest) call.now).answer
+        (held S.Token.code) S.counts_missing here.entry.place here.entry.marks.now (S.remaining rest) call.now) }
+    ensures items { told.new.items ≡ told.old.items ++ under here.entry.piece (call_look
+        (held S.Token.code) S.counts_missing here.entry.place here.entry.marks.now (S.remaining rest) call.now).answer
         ∷ [] }
     ensures len { vec_len told.new ≡ vec_len told.old + 1 }
     ensures capacity { vec_capacity told.old ≤ vec_capacity told.new }
 {
+    let Standing {
+        place,
+        marks,
+        passed,
+        piece,
+    } = here;
     let left = rest.eof_offset();
     match call {
         Step::Next => {

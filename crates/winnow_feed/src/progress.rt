@@ -5,7 +5,7 @@ ghost use Rattle.winnow_feed.specs.JoinedInput.{MayGoOn, KeepsRun, KeepsRunAtRes
 ghost use Rattle.winnow_feed.specs.JoinedInput.{ComesToRest, GoesOn, Tries};
 ghost use Rattle.winnow_feed.specs.Telling.{capped};
 
-use winnow_attempt::{Attempt, Kept, Passed, Told, attempt_step};
+use winnow_attempt::{Attempt, Kept, Passed, Standing, Told, attempt_step};
 use winnow_match::Finders;
 use winnow_run::SearchStep;
 use winnow_sets::{AsChar, CharSet};
@@ -81,12 +81,14 @@ where
     match attempt_step(
         step,
         rest,
-        progress.place,
-        &progress.marks,
-        progress.passed,
+        Standing {
+            place: progress.place,
+            marks: &progress.marks,
+            passed: progress.passed,
+            piece,
+        },
         finders,
         &mut progress.told,
-        piece,
     ) {
         Attempt::Waits(passed) => {
             progress.passed = passed;

@@ -37,7 +37,7 @@ module _ {T : Type 0} (r : Source T) (at n : ℕ) (v : Bool) (e : v ≡ is_offse
   no_offset-slice h = rw (front_count-missing r n (sym e ∙ h)) refl
 
 pub returns-in-Next-clause-seen : goal.returns-in-Next-clause-seen
-returns-in-Next-clause-seen g c = rw c.in-Next.is (seen-same _ _ _ _ _ c.shown.ensures.seen (c.is_some-definite.ensures ∙ ap is_some c.peek_token-token.ensures) (ap (λ n. c.args.place + n) c.width_of_first.ensures))
+returns-in-Next-clause-seen g c = rw c.in-Next.is (seen-same _ _ _ _ _ c.shown.ensures.seen (c.is_some-definite.ensures ∙ ap is_some c.peek_token-token.ensures) (ap (λ n. c.args.here.place + n) c.width_of_first.ensures))
 
 pub returns-in-Next-clause-items : goal.returns-in-Next-clause-items
 returns-in-Next-clause-items g c = rw c.in-Next.is (told-same _ _ _ _ _ c.shown.ensures.items (ap Token c.peek_token-token.ensures))
@@ -61,10 +61,10 @@ pub returns-in-Peek-clause-capacity : goal.returns-in-Peek-clause-capacity
 returns-in-Peek-clause-capacity g c = c.shown-in-Peek.ensures.capacity
 
 pub returns-then-has_offset-clause-seen : goal.returns-then-has_offset-clause-seen
-returns-then-has_offset-clause-seen g c = rw c.in-Take.is (seen-same _ _ _ _ _ c.shown-then-has_offset.ensures.seen (ap (nat_le c.in-Take.n) c.eof_offset-left.ensures) (offset-place (g.S.Stream.remaining c.args.rest) c.args.place c.in-Take.n _ c.has_offset.ensures.value c.if-has_offset.true))
+returns-then-has_offset-clause-seen g c = rw c.in-Take.is (seen-same _ _ _ _ _ c.shown-then-has_offset.ensures.seen (ap (nat_le c.in-Take.n) c.eof_offset-left.ensures) (offset-place (g.S.Stream.remaining c.args.rest) c.args.here.place c.in-Take.n _ c.has_offset.ensures.value c.if-has_offset.true))
 
 pub returns-then-has_offset-clause-items : goal.returns-then-has_offset-clause-items
-returns-then-has_offset-clause-items g c = rw c.in-Take.is (told-same _ _ _ _ _ c.shown-then-has_offset.ensures.items (offset-slice (g.S.Stream.remaining c.args.rest) c.args.place c.in-Take.n _ c.has_offset.ensures.value c.if-has_offset.true))
+returns-then-has_offset-clause-items g c = rw c.in-Take.is (told-same _ _ _ _ _ c.shown-then-has_offset.ensures.items (offset-slice (g.S.Stream.remaining c.args.rest) c.args.here.place c.in-Take.n _ c.has_offset.ensures.value c.if-has_offset.true))
 
 pub returns-then-has_offset-clause-len : goal.returns-then-has_offset-clause-len
 returns-then-has_offset-clause-len g c = c.shown-then-has_offset.ensures.len
@@ -73,10 +73,10 @@ pub returns-then-has_offset-clause-capacity : goal.returns-then-has_offset-claus
 returns-then-has_offset-clause-capacity g c = c.shown-then-has_offset.ensures.capacity
 
 pub returns-else-has_offset-clause-seen : goal.returns-else-has_offset-clause-seen
-returns-else-has_offset-clause-seen g c = rw c.in-Take.is (seen-same _ _ _ _ _ c.shown-else-has_offset.ensures.seen (ap (nat_le c.in-Take.n) c.eof_offset-left.ensures) (no_offset-place (g.S.Stream.remaining c.args.rest) c.args.place c.in-Take.n _ c.has_offset.ensures.value c.if-has_offset.false))
+returns-else-has_offset-clause-seen g c = rw c.in-Take.is (seen-same _ _ _ _ _ c.shown-else-has_offset.ensures.seen (ap (nat_le c.in-Take.n) c.eof_offset-left.ensures) (no_offset-place (g.S.Stream.remaining c.args.rest) c.args.here.place c.in-Take.n _ c.has_offset.ensures.value c.if-has_offset.false))
 
 pub returns-else-has_offset-clause-items : goal.returns-else-has_offset-clause-items
-returns-else-has_offset-clause-items g c = rw c.in-Take.is (told-same _ _ _ _ _ c.shown-else-has_offset.ensures.items (no_offset-slice (g.S.Stream.remaining c.args.rest) c.args.place c.in-Take.n _ c.has_offset.ensures.value c.if-has_offset.false))
+returns-else-has_offset-clause-items g c = rw c.in-Take.is (told-same _ _ _ _ _ c.shown-else-has_offset.ensures.items (no_offset-slice (g.S.Stream.remaining c.args.rest) c.args.here.place c.in-Take.n _ c.has_offset.ensures.value c.if-has_offset.false))
 
 pub returns-else-has_offset-clause-len : goal.returns-else-has_offset-clause-len
 returns-else-has_offset-clause-len g c = c.shown-else-has_offset.ensures.len
@@ -88,7 +88,7 @@ pub returns-then-has_offset-2-clause-seen : goal.returns-then-has_offset-2-claus
 returns-then-has_offset-2-clause-seen g c = rw c.in-Look.is (seen-same _ _ _ _ _ c.shown-then-has_offset-2.ensures.seen (ap (nat_le c.in-Look.n) c.eof_offset-left.ensures) refl)
 
 pub returns-then-has_offset-2-clause-items : goal.returns-then-has_offset-2-clause-items
-returns-then-has_offset-2-clause-items g c = rw c.in-Look.is (told-same _ _ _ _ _ c.shown-then-has_offset-2.ensures.items (offset-slice (g.S.Stream.remaining c.args.rest) c.args.place c.in-Look.n _ c.has_offset-in-Look.ensures.value c.if-has_offset-2.true))
+returns-then-has_offset-2-clause-items g c = rw c.in-Look.is (told-same _ _ _ _ _ c.shown-then-has_offset-2.ensures.items (offset-slice (g.S.Stream.remaining c.args.rest) c.args.here.place c.in-Look.n _ c.has_offset-in-Look.ensures.value c.if-has_offset-2.true))
 
 pub returns-then-has_offset-2-clause-len : goal.returns-then-has_offset-2-clause-len
 returns-then-has_offset-2-clause-len g c = c.shown-then-has_offset-2.ensures.len
@@ -100,7 +100,7 @@ pub returns-else-has_offset-2-clause-seen : goal.returns-else-has_offset-2-claus
 returns-else-has_offset-2-clause-seen g c = rw c.in-Look.is (seen-same _ _ _ _ _ c.shown-else-has_offset-2.ensures.seen (ap (nat_le c.in-Look.n) c.eof_offset-left.ensures) refl)
 
 pub returns-else-has_offset-2-clause-items : goal.returns-else-has_offset-2-clause-items
-returns-else-has_offset-2-clause-items g c = rw c.in-Look.is (told-same _ _ _ _ _ c.shown-else-has_offset-2.ensures.items (no_offset-slice (g.S.Stream.remaining c.args.rest) c.args.place c.in-Look.n _ c.has_offset-in-Look.ensures.value c.if-has_offset-2.false))
+returns-else-has_offset-2-clause-items g c = rw c.in-Look.is (told-same _ _ _ _ _ c.shown-else-has_offset-2.ensures.items (no_offset-slice (g.S.Stream.remaining c.args.rest) c.args.here.place c.in-Look.n _ c.has_offset-in-Look.ensures.value c.if-has_offset-2.false))
 
 pub returns-else-has_offset-2-clause-len : goal.returns-else-has_offset-2-clause-len
 returns-else-has_offset-2-clause-len g c = c.shown-else-has_offset-2.ensures.len
@@ -109,10 +109,10 @@ pub returns-else-has_offset-2-clause-capacity : goal.returns-else-has_offset-2-c
 returns-else-has_offset-2-clause-capacity g c = c.shown-else-has_offset-2.ensures.capacity
 
 pub returns-in-Finish-clause-seen : goal.returns-in-Finish-clause-seen
-returns-in-Finish-clause-seen g c = rw c.in-Finish.is (seen-same _ _ _ _ _ c.shown-in-Finish.ensures.seen refl (ap (λ n. c.args.place + n) c.eof_offset-left.ensures))
+returns-in-Finish-clause-seen g c = rw c.in-Finish.is (seen-same _ _ _ _ _ c.shown-in-Finish.ensures.seen refl (ap (λ n. c.args.here.place + n) c.eof_offset-left.ensures))
 
 pub returns-in-Finish-clause-items : goal.returns-in-Finish-clause-items
-returns-in-Finish-clause-items g c = rw c.in-Finish.is (told-same _ _ _ _ _ c.shown-in-Finish.ensures.items (ap (λ n. Slice (span c.args.place n)) c.eof_offset-left.ensures))
+returns-in-Finish-clause-items g c = rw c.in-Finish.is (told-same _ _ _ _ _ c.shown-in-Finish.ensures.items (ap (λ n. Slice (span c.args.here.place n)) c.eof_offset-left.ensures))
 
 pub returns-in-Finish-clause-len : goal.returns-in-Finish-clause-len
 returns-in-Finish-clause-len g c = c.shown-in-Finish.ensures.len
@@ -124,7 +124,7 @@ pub returns-in-PeekFinish-clause-seen : goal.returns-in-PeekFinish-clause-seen
 returns-in-PeekFinish-clause-seen g c = rw c.in-PeekFinish.is (seen-same _ _ _ _ _ c.shown-in-PeekFinish.ensures.seen refl refl)
 
 pub returns-in-PeekFinish-clause-items : goal.returns-in-PeekFinish-clause-items
-returns-in-PeekFinish-clause-items g c = rw c.in-PeekFinish.is (told-same _ _ _ _ _ c.shown-in-PeekFinish.ensures.items (ap (λ n. Slice (span c.args.place n)) c.eof_offset-left.ensures))
+returns-in-PeekFinish-clause-items g c = rw c.in-PeekFinish.is (told-same _ _ _ _ _ c.shown-in-PeekFinish.ensures.items (ap (λ n. Slice (span c.args.here.place n)) c.eof_offset-left.ensures))
 
 pub returns-in-PeekFinish-clause-len : goal.returns-in-PeekFinish-clause-len
 returns-in-PeekFinish-clause-len g c = c.shown-in-PeekFinish.ensures.len
@@ -184,7 +184,7 @@ pub returns-in-Each-clause-seen : goal.returns-in-Each-clause-seen
 returns-in-Each-clause-seen g c = rw c.in-Each.is (seen-same _ _ _ _ _ c.shown-in-Each.ensures.seen refl refl)
 
 pub returns-in-Each-clause-items : goal.returns-in-Each-clause-items
-returns-in-Each-clause-items g c = rw c.in-Each.is (told-same _ _ _ _ _ c.shown-in-Each.ensures.items (ap (λ n. Items (span c.args.place n)) c.eof_offset-left.ensures))
+returns-in-Each-clause-items g c = rw c.in-Each.is (told-same _ _ _ _ _ c.shown-in-Each.ensures.items (ap (λ n. Items (span c.args.here.place n)) c.eof_offset-left.ensures))
 
 pub returns-in-Each-clause-len : goal.returns-in-Each-clause-len
 returns-in-Each-clause-len g c = c.shown-in-Each.ensures.len
