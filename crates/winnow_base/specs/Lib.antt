@@ -66,23 +66,23 @@ pub use Rattle.winnow_wrap.specs.Located
 pub use Rattle.winnow_recover.specs.Recording
 pub use Rattle.winnow_recover.specs.Recovering
 pub use Rattle.winnow_feed.specs.Inputs
-pub use Rattle.winnow_feed.specs.Telling
+pub use Rattle.winnow_feed.specs.ToldAnswers
 pub use Rattle.winnow_feed.specs.Reach
 pub use Rattle.winnow_feed.specs.JoinedInput
 pub use Rattle.winnow_feed.specs.Feeding
-pub use Rattle.winnow_attempt.specs.View
-pub use Rattle.winnow_attempt.specs.Settled
-pub use Rattle.winnow_attempt.specs.Missing
+pub use Rattle.winnow_feed_step.specs.Looks
+pub use Rattle.winnow_feed_step.specs.Settled
+pub use Rattle.winnow_feed_step.specs.Missing
 pub use Rattle.winnow_feed.specs.Waits
 pub use Rattle.winnow_feed.specs.SameWaiting
 -- The types of a script and of its answers, with their variants.
 pub use Rattle.winnow_match.specs.declared.needles.Needles
 pub use Rattle.winnow_sets.specs.declared.char_set.CharSet
 pub use Rattle.winnow_run.specs.declared.script.Step
-pub use Rattle.winnow_run.specs.declared.search_script.SearchStep
+pub use Rattle.winnow_run.specs.declared.search_steps.SearchStep
 pub use Rattle.winnow_run.specs.declared.script.Answer
-pub use Rattle.winnow_run.specs.declared.search_script.SearchAnswer
-pub use Rattle.winnow_attempt.specs.declared.told.Told
+pub use Rattle.winnow_run.specs.declared.search_steps.SearchAnswer
+pub use Rattle.winnow_feed_step.specs.declared.told.Told
 pub use Rattle.winnow_feed.specs.declared.finished.Finished
 pub use Rattle.winnow_feed.specs.declared.waiting.Waiting
 -- The types of other answers and of errors, with their variants.

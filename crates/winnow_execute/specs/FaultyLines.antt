@@ -1,11 +1,11 @@
 -- Which line of a text is the first that is faulty or missing. Lines are counted from the number of
 -- the text's first line.
 use Rattle.std.specs.Prelude.{◌≡◌, ◌≢◌, ◌⊎◌, ℕ, ◌+◌, List, [], ◌∷◌, ◌++◌, codes, length}
-use Rattle.winnow_execute.specs.Inputs.{TellsNamed, TellsFed, BeginsWithPiece}
+use Rattle.winnow_execute.specs.Inputs.{DenotesNamed, DenotesFed, BeginsWithPiece}
 use Rattle.winnow_execute.specs.Lines.{AreLines}
 use Rattle.winnow_execute.specs.Newline.{first_line, rest_lines}
-use Rattle.winnow_execute.specs.Readings.{TellsNothing}
-use Rattle.winnow_execute.specs.Steps.{TellsStep}
+use Rattle.winnow_execute.specs.Readings.{DenotesNothing}
+use Rattle.winnow_execute.specs.Steps.{DenotesStep}
 use Rattle.winnow_execute.specs.declared.fed_lines.FedLine.{FedLine}
 use Rattle.winnow_execute.specs.declared.steps.ScriptStep.{ScriptStep}
 
@@ -14,25 +14,25 @@ module _ {L : Type 0} (bytes : L → List ℕ) where
   -- follows
   abbrev pub FaultsInput : ℕ → List ℕ → ℕ → Type 0
   FaultsInput first text k =
-      ((k ≡ first) × TellsNothing (TellsNamed bytes (codes "input")) (first_line text))
+      ((k ≡ first) × DenotesNothing (DenotesNamed bytes (codes "input")) (first_line text))
       ⊎ ((k ≡ first + 1) × (rest_lines text ≢ [])
-      × ((input : L) × TellsNamed bytes (codes "input") (first_line text) input))
+      × ((input : L) × DenotesNamed bytes (codes "input") (first_line text) input))
 
   -- after lines that mean this, the next line means nothing that may follow them
   abbrev pub EndsFed : List (FedLine L) → List ℕ → Type 0
   EndsFed told line =
-      TellsNothing (λ next item. TellsFed bytes next item × BeginsWithPiece (told ++ item ∷ [])) line
+      DenotesNothing (λ next item. DenotesFed bytes next item × BeginsWithPiece (told ++ item ∷ [])) line
 
   -- the text does not consist of lines of pieces: a line remains after those that are, and means
   -- nothing that may follow them
   abbrev pub FaultsFed : ℕ → List ℕ → ℕ → Type 0
   FaultsFed first text k =
-      (told : List (FedLine L)) × (rest : List ℕ) × AreLines (TellsFed bytes) text told rest
+      (told : List (FedLine L)) × (rest : List ℕ) × AreLines (DenotesFed bytes) text told rest
       × BeginsWithPiece told × (rest ≢ []) × EndsFed told (first_line rest)
       × (k ≡ first + length told)
 
   -- after all lines of steps, the rest of the text has a fault
   abbrev pub FaultsAfterSteps : (ℕ → List ℕ → ℕ → Type 0) → ℕ → List ℕ → ℕ → Type 0
   FaultsAfterSteps Faults first text k =
-      (steps : List (ScriptStep L)) × (rest : List ℕ) × AreLines (TellsStep bytes) text steps rest
-      × TellsNothing (TellsStep bytes) (first_line rest) × Faults (first + length steps) rest k
+      (steps : List (ScriptStep L)) × (rest : List ℕ) × AreLines (DenotesStep bytes) text steps rest
+      × DenotesNothing (DenotesStep bytes) (first_line rest) × Faults (first + length steps) rest k

@@ -1,9 +1,9 @@
 -- Which line of a script of lines is the first that is faulty or missing.
 use Rattle.std.specs.Prelude.{◌≡◌, ◌⊎◌, ℕ, List}
 use Rattle.winnow_execute.specs.FaultyLines.{FaultsInput, FaultsFed, FaultsAfterSteps}
-use Rattle.winnow_execute.specs.Inputs.{kind_word, TellsKind}
+use Rattle.winnow_execute.specs.Inputs.{kind_word, DenotesKind}
 use Rattle.winnow_execute.specs.Newline.{first_line, rest_lines}
-use Rattle.winnow_execute.specs.Readings.{TellsNothing}
+use Rattle.winnow_execute.specs.Readings.{DenotesNothing}
 use Rattle.winnow_execute.specs.declared.inputs.Kind.{Kind}
 use Rattle.winnow_execute.specs.declared.inputs.Kind.TheVariants.{Bytes, Text, BytePieces, TextPieces}
 use Rattle.winnow_execute.specs.ScriptLines.{owned_bytes, owned_text}
@@ -21,5 +21,5 @@ FaultsAs TextPieces first text k = FaultsAfterSteps owned_text (FaultsFed owned_
 -- line k is faulty in a whole text
 abbrev pub FaultsScript : List ℕ → ℕ → Type 0
 FaultsScript text k =
-    ((k ≡ 1) × TellsNothing TellsKind (first_line text))
+    ((k ≡ 1) × DenotesNothing DenotesKind (first_line text))
     ⊎ ((kind : Kind) × (first_line text ≡ kind_word kind) × FaultsAs kind 2 (rest_lines text) k)

@@ -1,6 +1,6 @@
 -- The lines of the kind and of the input.
 use Rattle.std.specs.Prelude.{◌≡◌, ℕ, List, ◌∷◌, codes, length, ⊤}
-use Rattle.winnow_execute.specs.Literals.{TellsBytes}
+use Rattle.winnow_execute.specs.Literals.{DenotesBytes}
 use Rattle.winnow_execute.specs.Words.{first_word, later_words}
 use Rattle.winnow_execute.specs.declared.fed_lines.FedLine.{FedLine}
 use Rattle.winnow_execute.specs.declared.fed_lines.FedLine.TheVariants.{Piece, Waits}
@@ -15,19 +15,19 @@ kind_word BytePieces = codes "byte-pieces"
 kind_word TextPieces = codes "text-pieces"
 
 -- the line is the word of this kind
-abbrev pub TellsKind : List ℕ → Kind → Type 0
-TellsKind line kind = line ≡ kind_word kind
+abbrev pub DenotesKind : List ℕ → Kind → Type 0
+DenotesKind line kind = line ≡ kind_word kind
 
 -- the line means the bytes of this literal: it is the name, a space, and the word for the bytes
-abbrev pub TellsNamed : {L : Type 0} → (L → List ℕ) → List ℕ → List ℕ → L → Type 0
-TellsNamed bytes name line literal =
-    (first_word line ≡ name) × TellsBytes (later_words line) (bytes literal)
+abbrev pub DenotesNamed : {L : Type 0} → (L → List ℕ) → List ℕ → List ℕ → L → Type 0
+DenotesNamed bytes name line literal =
+    (first_word line ≡ name) × DenotesBytes (later_words line) (bytes literal)
 
 -- the line of an input in pieces means this: a piece, or the question what is waited for
 module _ {L : Type 0} (bytes : L → List ℕ) where
-  abbrev pub TellsFed : List ℕ → FedLine L → Type 0
-  TellsFed line (Piece piece) = TellsNamed bytes (codes "piece") line piece
-  TellsFed line Waits = line ≡ codes "waits"
+  abbrev pub DenotesFed : List ℕ → FedLine L → Type 0
+  DenotesFed line (Piece piece) = DenotesNamed bytes (codes "piece") line piece
+  DenotesFed line Waits = line ≡ codes "waits"
 
   -- the number of bytes in the piece of a line
   abbrev pub piece_length : FedLine L → ℕ

@@ -8,8 +8,8 @@ abbrev pub reach : Lines → ℕ
 reach lines = lines.number + length lines.rest.now
 
 -- the first lines of a text mean these items, one each and in order, and leave the rest
-module _ {T : Type 0} (Tells : List ℕ → T → Type 0) where
+module _ {T : Type 0} (Denotes : List ℕ → T → Type 0) where
   abbrev pub AreLines : List ℕ → List T → List ℕ → Type 0
   AreLines text [] rest = text ≡ rest
   AreLines text (item ∷ items) rest =
-      Tells (first_line text) item × AreLines (rest_lines text) items rest
+      Denotes (first_line text) item × AreLines (rest_lines text) items rest

@@ -1,8 +1,8 @@
 -- What a script that owns its steps lends to a run.
 use Rattle.std.specs.Prelude.{◌≡◌, ℕ, List}
 use Rattle.winnow_run.specs.declared.script.Step.TheVariants as step
-use Rattle.winnow_run.specs.declared.search_script.SearchStep.{SearchStep}
-use Rattle.winnow_run.specs.declared.search_script.SearchStep.TheVariants as search
+use Rattle.winnow_run.specs.declared.search_steps.SearchStep.{SearchStep}
+use Rattle.winnow_run.specs.declared.search_steps.SearchStep.TheVariants as search
 use Rattle.winnow_match.specs.declared.needles.Needles.{Needles}
 use Rattle.winnow_match.specs.declared.needles.Needles.TheVariants.{One, Two, Three}
 use Rattle.winnow_sets.specs.Sets.{char_ranges}

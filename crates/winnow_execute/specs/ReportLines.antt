@@ -1,8 +1,8 @@
 -- The lines of a run over pieces.
 use Rattle.std.specs.Prelude.{◌≡◌, ℕ, List, [], ◌∷◌, ◌++◌, length, drop, flat_map, codes, decimal}
-use Rattle.winnow_attempt.specs.declared.told.Told.{Told}
-use Rattle.winnow_feed.specs.Inputs.{PieceStep, InputKind}
-use Rattle.winnow_feed.specs.Telling.{capped, told_of, told_to_end}
+use Rattle.winnow_feed_step.specs.declared.told.Told.{Told}
+use Rattle.winnow_feed.specs.Inputs.{PieceStep, InputRules}
+use Rattle.winnow_feed.specs.ToldAnswers.{capped, told_of, told_to_end}
 use Rattle.winnow_feed.specs.Waits.{WaitsFor}
 use Rattle.winnow_feed.specs.declared.waiting.Waiting.{Waiting}
 use Rattle.winnow_feed.specs.declared.waiting.Waiting.TheVariants.{NotFed, NotWaiting, Until, ToEnd}
@@ -33,7 +33,7 @@ waiting_line words pieces waiting =
 -- what the lines after some pieces print, if the first n answers are printed: for a line that asks
 -- what is waited for, the further answers that are out by then and the line that says it; at the
 -- end, all further answers
-module _ {P : Type 0} (i : InputKind) (script : List PieceStep) (bytes : P → List ℕ) where
+module _ {P : Type 0} (i : InputRules) (script : List PieceStep) (bytes : P → List ℕ) where
   abbrev pub Prints : List (List ℕ) → ℕ → List (FedLine P) → List ℕ → Type 0
   Prints pieces n [] printed = printed ≡ told_lines (λ t. t) (drop n (told_to_end i script pieces))
   Prints pieces n (Piece piece ∷ lines) printed =

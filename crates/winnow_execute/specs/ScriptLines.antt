@@ -6,16 +6,16 @@ use Rattle.std.specs.List.{AllZip}
 use Rattle.std.specs.declared.ops.Range.{Range}
 use Rattle.winnow_match.specs.Bytes.{written}
 use Rattle.winnow_sets.specs.declared.char_set.CharSet.{CharSet}
-use Rattle.winnow_run.specs.Definite.{PieceKind, kind_of}
+use Rattle.winnow_run.specs.Definite.{PieceReading, kind_on_pieces}
 use Rattle.winnow_stream.specs.Front.{part}
-use Rattle.winnow_feed.specs.Inputs.{PieceStep, InputKind, byte_input, text_input}
+use Rattle.winnow_feed.specs.Inputs.{PieceStep, InputRules, byte_input, text_input}
 use Rattle.winnow_run.specs.Searching.{search_answers}
 use Rattle.winnow_stream.specs.Source.{Source, offsets}
-use Rattle.winnow_execute.specs.Inputs.{kind_word, TellsNamed, TellsFed}
+use Rattle.winnow_execute.specs.Inputs.{kind_word, DenotesNamed, DenotesFed}
 use Rattle.winnow_execute.specs.Loans.{IsSameStep}
 use Rattle.winnow_execute.specs.Lines.{AreLines}
 use Rattle.winnow_execute.specs.Newline.{first_line, rest_lines}
-use Rattle.winnow_execute.specs.Steps.{TellsStep}
+use Rattle.winnow_execute.specs.Steps.{DenotesStep}
 use Rattle.winnow_execute.specs.declared.fed_lines.FedLine.{FedLine}
 use Rattle.winnow_execute.specs.declared.inputs.Kind.{Kind}
 use Rattle.winnow_execute.specs.declared.inputs.Kind.TheVariants.{Bytes, Text, BytePieces, TextPieces}
@@ -24,7 +24,7 @@ use Rattle.winnow_print.specs.AnswerLines.{bytes_word, item_words, answer_lines}
 use Rattle.winnow_execute.specs.ReportLines.{Prints}
 
 -- the word of the slice at a place of a list, and the words of the items there
-module _ (kind : PieceKind ℕ CharSet (Bor (List ℕ))) (all : Source ℕ) where
+module _ (kind : PieceReading ℕ CharSet (Bor (List ℕ))) (all : Source ℕ) where
   abbrev pub slice_word : Range ℕ → List ℕ
   slice_word place = bytes_word (written kind.write (part all place))
 
@@ -34,10 +34,10 @@ module _ (kind : PieceKind ℕ CharSet (Bor (List ℕ))) (all : Source ℕ) wher
   -- the lines of the answers that a script gives on the list
   abbrev pub whole_lines : List PieceStep → List ℕ
   whole_lines script =
-      answer_lines (λ t. t) slice_word listed_words (search_answers (kind_of kind) all script)
+      answer_lines (λ t. t) slice_word listed_words (search_answers (kind_on_pieces kind) all script)
 
 -- literals are read as values of L, and lent for a run
-module _ {L : Type 0} (bytes : L → List ℕ) (i : InputKind) where
+module _ {L : Type 0} (bytes : L → List ℕ) (i : InputRules) where
   -- owned steps, lent as a script, print this on an input: the lines of the script's answers
   abbrev pub RunsWhole : List (ScriptStep L) → L → List ℕ → Type 0
   RunsWhole steps input printed =
@@ -54,15 +54,15 @@ module _ {L : Type 0} (bytes : L → List ℕ) (i : InputKind) where
   abbrev pub PrintsWhole : List ℕ → List ℕ → Type 0
   PrintsWhole text printed =
       (steps : List (ScriptStep L)) × (rest : List ℕ) × (input : L)
-      × AreLines (TellsStep bytes) text steps rest
-      × AreLines (TellsNamed bytes (codes "input")) rest (input ∷ []) []
+      × AreLines (DenotesStep bytes) text steps rest
+      × AreLines (DenotesNamed bytes (codes "input")) rest (input ∷ []) []
       × RunsWhole steps input printed
 
   -- the text means steps and lines of pieces, and `printed` is what they print on these
   abbrev pub PrintsPieces : List ℕ → List ℕ → Type 0
   PrintsPieces text printed =
       (steps : List (ScriptStep L)) × (rest : List ℕ) × (lines : List (FedLine L))
-      × AreLines (TellsStep bytes) text steps rest × AreLines (TellsFed bytes) rest lines []
+      × AreLines (DenotesStep bytes) text steps rest × AreLines (DenotesFed bytes) rest lines []
       × RunsPieces steps lines printed
 
 -- the bytes of literals and inputs that a script owns

@@ -4,8 +4,8 @@ use Rattle.std.specs.Str.{bytes_eq}
 use Rattle.winnow_run.specs.declared.script.Step.{Step}
 use Rattle.winnow_run.specs.declared.script.Step.TheVariants as step
 use Rattle.winnow_sets.specs.declared.char_set.CharSet.{CharSet}
-use Rattle.winnow_execute.specs.Literals.{TellsBytes}
-use Rattle.winnow_execute.specs.Words.{first_word, later_words, TellsNumber, TellsRanges, TellsNeedles}
+use Rattle.winnow_execute.specs.Literals.{DenotesBytes}
+use Rattle.winnow_execute.specs.Words.{first_word, later_words, DenotesNumber, DenotesRanges, DenotesNeedles}
 use Rattle.winnow_execute.specs.declared.steps.ScriptStep.{ScriptStep}
 use Rattle.winnow_execute.specs.declared.steps.ScriptStep.TheVariants.{Call, First, Compare, Find}
 
@@ -29,19 +29,19 @@ numbered_calls number =
     ∷ (codes "reset", step.Reset number) ∷ (codes "since", step.Since number) ∷ []
 
 -- the line means this call: by the whole line, or by its first word and the number after it
-abbrev pub TellsCall : List ℕ → Step CharSet → Type 0
-TellsCall line call =
+abbrev pub DenotesCall : List ℕ → Step CharSet → Type 0
+DenotesCall line call =
     (entry plain_calls line ≡ Some call)
-    ⊎ ((number : ℕ) × TellsNumber (later_words line) number
+    ⊎ ((number : ℕ) × DenotesNumber (later_words line) number
     × (entry (numbered_calls number) (first_word line) ≡ Some call))
 
 -- the line means this step, where `bytes` gives the bytes of its literals
 module _ {L : Type 0} (bytes : L → List ℕ) where
-  abbrev pub TellsStep : List ℕ → ScriptStep L → Type 0
-  TellsStep line (Call call) = TellsCall line call
-  TellsStep line (First ranges) =
-      (first_word line ≡ codes "first") × TellsRanges (later_words line) ranges.items
-  TellsStep line (Compare literal) =
-      (first_word line ≡ codes "compare") × TellsBytes (later_words line) (bytes literal)
-  TellsStep line (Find needles) =
-      (first_word line ≡ codes "find") × TellsNeedles bytes (later_words line) needles
+  abbrev pub DenotesStep : List ℕ → ScriptStep L → Type 0
+  DenotesStep line (Call call) = DenotesCall line call
+  DenotesStep line (First ranges) =
+      (first_word line ≡ codes "first") × DenotesRanges (later_words line) ranges.items
+  DenotesStep line (Compare literal) =
+      (first_word line ≡ codes "compare") × DenotesBytes (later_words line) (bytes literal)
+  DenotesStep line (Find needles) =
+      (first_word line ≡ codes "find") × DenotesNeedles bytes (later_words line) needles

@@ -1,9 +1,9 @@
 -- What a line of pieces does to a feed and to a report.
 use Rattle.std.specs.Prelude.{◌≡◌, ℕ, ◌+◌, List, ◌++◌, length, drop, string_bytes}
-use Rattle.winnow_attempt.specs.declared.told.Told.{Told}
+use Rattle.winnow_feed_step.specs.declared.told.Told.{Told}
 use Rattle.winnow_feed.specs.Feeding.{FeedState, Fits, FitsWith, Finishes, answers_in, script_of}
-use Rattle.winnow_feed.specs.Inputs.{InputKind}
-use Rattle.winnow_feed.specs.Telling.{capped, told_of}
+use Rattle.winnow_feed.specs.Inputs.{InputRules}
+use Rattle.winnow_feed.specs.ToldAnswers.{capped, told_of}
 use Rattle.winnow_feed.specs.Waits.{GivesWaiting}
 use Rattle.winnow_feed.specs.declared.finished.Finished.{Finished}
 use Rattle.winnow_feed.specs.declared.waiting.Waiting.{Waiting}
@@ -13,9 +13,9 @@ use Rattle.winnow_print.specs.AnswerLines.{bytes_word}
 use Rattle.winnow_execute.specs.ReportLines.{told_lines, waiting_line}
 use Rattle.winnow_execute.specs.declared.report.Report.{Report}
 
-module _ {P : Type 0} (i : InputKind) (bytes : P → List ℕ) where
+module _ {P : Type 0} (i : InputRules) (bytes : P → List ℕ) where
   -- the report has the further answers that are out, then what the feed waits for
-  pub record TellsWaiting (f : FeedState) (r s : Report) : Type 0 where
+  pub record DenotesWaiting (f : FeedState) (r s : Report) : Type 0 where
     pub answers : List (Told ℕ)
     pub waiting : Waiting P
     pub out : (pieces : List (List ℕ)) → Fits i f pieces → answers ≡ told_of i (script_of f) pieces
@@ -37,10 +37,10 @@ module _ {P : Type 0} (i : InputKind) (bytes : P → List ℕ) where
   -- the feed and the report have taken the line
   abbrev pub TakesLine : FedLine P → FeedState → Report → FeedState → Report → Type 0
   TakesLine (Piece piece) f r g s = CountsPiece piece f r g s
-  TakesLine Waits f r g s = (g ≡ f) × TellsWaiting f r s
+  TakesLine Waits f r g s = (g ≡ f) × DenotesWaiting f r s
 
 -- the report has all answers that it did not have before, after the input has ended
-pub record TellsAll (i : InputKind) (f : FeedState) (r s : Report) : Type 0 where
+pub record ReportsAll (i : InputRules) (f : FeedState) (r s : Report) : Type 0 where
   pub finished : Finished ℕ
   pub ends : (pieces : List (List ℕ)) → Fits i f pieces → Finishes i (script_of f) pieces finished
   pub text : string_bytes s.text ≡ string_bytes r.text

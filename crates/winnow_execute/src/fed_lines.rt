@@ -2,10 +2,10 @@ ghost use Rattle.std.specs.Prelude.{◌≡◌, ◌≢◌, ◌+◌, ◌<◌, ◌�
 ghost use Rattle.std.specs.Prelude.{length, sum_by};
 ghost use Rattle.winnow_execute.specs.Fault.{IsLineWhere, IsWithin};
 ghost use Rattle.winnow_execute.specs.FaultyLines.{FaultsFed};
-ghost use Rattle.winnow_execute.specs.Inputs.{TellsFed, BeginsWithPiece, piece_length};
+ghost use Rattle.winnow_execute.specs.Inputs.{DenotesFed, BeginsWithPiece, piece_length};
 ghost use Rattle.winnow_execute.specs.Lines.{reach, AreLines};
 ghost use Rattle.winnow_execute.specs.Newline.{first_line, rest_lines};
-ghost use Rattle.winnow_execute.specs.Readings.{TellsNothing};
+ghost use Rattle.winnow_execute.specs.Readings.{DenotesNothing};
 ghost use Rattle.winnow_execute.specs.declared.fed_lines.FedLine.TheVariants.{Waits};
 
 use crate::ScriptFault;
@@ -27,7 +27,7 @@ pub fn read_fed_lines<L: Contents>(
     lines: &mut Lines,
 ) -> Result<Vec<FedLine<L>>, ScriptFault>
     ensures told { IfOk result (λ told.
-        AreLines (TellsFed L.bytes) lines.old.rest.now told.items []) }
+        AreLines (DenotesFed L.bytes) lines.old.rest.now told.items []) }
     ensures first { IfOk result (λ told. BeginsWithPiece told.items) }
     ensures short { IfOk result (λ told.
         sum_by (piece_length L.bytes) told.items ≤ length lines.old.rest.now) }
@@ -49,14 +49,15 @@ fn read_fed_line<L: Contents>(
     lines: &mut Lines,
     is_first: bool,
 ) -> Result<FedLine<L>, ScriptFault>
-    ensures told { IfOk result (TellsFed L.bytes (first_line lines.old.rest.now)) }
+    ensures told { IfOk result (DenotesFed L.bytes (first_line lines.old.rest.now)) }
     ensures first { IsTrue is_first → IfOk result (λ line. line ≢ Waits) }
     ensures rest { OnOk result (lines.new.rest.now ≡ rest_lines lines.old.rest.now) }
     ensures shorter { OnOk result (length lines.new.rest.now < length lines.old.rest.now) }
     ensures number { OnOk result (lines.new.number ≡ lines.old.number + 1) }
     ensures reach { reach lines.new ≤ reach lines.old }
     ensures fault { IfErr result (IsLineWhere (λ k. (k ≡ lines.old.number)
-        × TellsNothing (λ line told. TellsFed L.bytes line told × (IsTrue is_first → told ≢ Waits))
+        × DenotesNothing (λ line told.
+        DenotesFed L.bytes line told × (IsTrue is_first → told ≢ Waits))
         (first_line lines.old.rest.now))) }
     ensures err { IfErr result (IsWithin (reach lines.old)) }
 {

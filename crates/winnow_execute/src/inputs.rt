@@ -2,10 +2,10 @@ ghost use Rattle.std.specs.Prelude.{◌≡◌, ◌+◌, ◌<◌, ◌≤◌, [], 
 ghost use Rattle.std.specs.Prelude.{length};
 ghost use Rattle.winnow_execute.specs.Fault.{IsLineWhere, IsWithin};
 ghost use Rattle.winnow_execute.specs.FaultyLines.{FaultsInput};
-ghost use Rattle.winnow_execute.specs.Inputs.{TellsKind, TellsNamed};
+ghost use Rattle.winnow_execute.specs.Inputs.{DenotesKind, DenotesNamed};
 ghost use Rattle.winnow_execute.specs.Lines.{reach, AreLines};
 ghost use Rattle.winnow_execute.specs.Newline.{first_line, rest_lines};
-ghost use Rattle.winnow_execute.specs.Readings.{IsReading, TellsNothing};
+ghost use Rattle.winnow_execute.specs.Readings.{IsReading, DenotesNothing};
 
 use crate::ScriptFault;
 use crate::contents::Contents;
@@ -24,23 +24,23 @@ pub enum Kind {
 
 /// Reads the kind of the script from the next line.
 pub fn read_kind(lines: &mut Lines) -> Result<Kind, ScriptFault>
-    ensures kind { IfOk result (TellsKind (first_line lines.old.rest.now)) }
+    ensures kind { IfOk result (DenotesKind (first_line lines.old.rest.now)) }
     ensures rest { lines.new.rest.now ≡ rest_lines lines.old.rest.now }
     ensures number { OnOk result (lines.new.number ≡ lines.old.number + 1) }
     ensures reach { reach lines.new ≤ reach lines.old }
     ensures fault { IfErr result (IsLineWhere (λ k.
-        (k ≡ lines.old.number) × TellsNothing TellsKind (first_line lines.old.rest.now))) }
+        (k ≡ lines.old.number) × DenotesNothing DenotesKind (first_line lines.old.rest.now))) }
     ensures err { IfErr result (IsWithin (reach lines.old)) }
 {
     let fault = lines.fault();
     let Some(line) = lines.next_line() else {
         return Err(fault);
     };
-    kind_of(line).ok_or(fault)
+    kind_on_pieces(line).ok_or(fault)
 }
 
-fn kind_of(word: &str) -> Option<Kind>
-    ensures { IsReading TellsKind word.now result }
+fn kind_on_pieces(word: &str) -> Option<Kind>
+    ensures { IsReading DenotesKind word.now result }
 {
     match word {
         "bytes" => Some(Kind::Bytes),
@@ -54,7 +54,7 @@ fn kind_of(word: &str) -> Option<Kind>
 /// Reads the input from the last line.
 pub fn read_input<L: Contents>(alloc: Global, lines: &mut Lines) -> Result<L, ScriptFault>
     ensures input { IfOk result (λ input.
-        AreLines (TellsNamed L.bytes (codes "input")) lines.old.rest.now (input ∷ []) []) }
+        AreLines (DenotesNamed L.bytes (codes "input")) lines.old.rest.now (input ∷ []) []) }
     ensures fault { IfErr result (IsLineWhere
         (FaultsInput L.bytes lines.old.number lines.old.rest.now)) }
     ensures err { IfErr result (IsWithin (reach lines.old)) }
@@ -72,13 +72,13 @@ pub fn read_line<L: Contents>(
     lines: &mut Lines,
     name: &str,
 ) -> Result<L, ScriptFault>
-    ensures told { IfOk result (TellsNamed L.bytes name.now (first_line lines.old.rest.now)) }
+    ensures told { IfOk result (DenotesNamed L.bytes name.now (first_line lines.old.rest.now)) }
     ensures rest { lines.new.rest.now ≡ rest_lines lines.old.rest.now }
     ensures shorter { OnOk result (length lines.new.rest.now < length lines.old.rest.now) }
     ensures number { OnOk result (lines.new.number ≡ lines.old.number + 1) }
     ensures reach { reach lines.new ≤ reach lines.old }
     ensures fault { IfErr result (IsLineWhere (λ k. (k ≡ lines.old.number)
-        × TellsNothing (TellsNamed L.bytes name.now) (first_line lines.old.rest.now))) }
+        × DenotesNothing (DenotesNamed L.bytes name.now) (first_line lines.old.rest.now))) }
     ensures err { IfErr result (IsWithin (reach lines.old)) }
 {
     let fault = lines.fault();
@@ -95,7 +95,7 @@ pub fn read_named<L: Contents>(
     line: &str,
     name: &str,
 ) -> Result<Option<L>, AllocError>
-    ensures { IfOk result (IsReading (TellsNamed L.bytes name.now) line.now) }
+    ensures { IfOk result (IsReading (DenotesNamed L.bytes name.now) line.now) }
 {
     match split_word(line) {
         Some((first, word)) if first == name => read_literal(alloc, word),

@@ -1,5 +1,5 @@
 ghost use Rattle.std.specs.Prelude.{◌≡◌, ◌⊎◌, ◌↔◌, codes, IfOk, IsSome, IfSome};
-ghost use Rattle.winnow_execute.specs.Literals.{IsHexWord, TellsBytes};
+ghost use Rattle.winnow_execute.specs.Literals.{IsHexWord, DenotesBytes};
 
 use hex::FromHexError;
 use std::alloc::{AllocError, Global};
@@ -9,7 +9,8 @@ use std::alloc::{AllocError, Global};
 pub fn literal(alloc: Global, word: &[u8]) -> Result<Option<Vec<u8>>, AllocError>
     ensures found { IfOk result (λ found.
         IsSome found ↔ ((word.now ≡ codes "-") ⊎ IsHexWord word.now)) }
-    ensures bytes { IfOk result (λ found. IfSome found (λ bytes. TellsBytes word.now bytes.items)) }
+    ensures bytes { IfOk result (λ found.
+        IfSome found (λ bytes. DenotesBytes word.now bytes.items)) }
 {
     if word.is_empty() {
         return Ok(None);

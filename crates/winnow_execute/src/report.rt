@@ -1,5 +1,5 @@
 ghost use Rattle.std.specs.Prelude.{◌≡◌, ◌++◌, ◌+◌, [], drop, length, min, string_bytes, OnOk};
-ghost use Rattle.winnow_feed.specs.Telling.{capped};
+ghost use Rattle.winnow_feed.specs.ToldAnswers.{capped};
 ghost use Rattle.winnow_execute.specs.ReportLines.{told_lines, waiting_line};
 
 use std::alloc::{AllocError, Global};

@@ -1,10 +1,10 @@
 ghost use Rattle.std.specs.Prelude.{◌≡◌, ◌+◌, ◌<◌, ◌^◌, [], IfOk, OnOk, string_bytes, sum_by};
 ghost use Rattle.winnow_feed.specs.Feeding.{bytes_fed};
-ghost use Rattle.winnow_feed.specs.Inputs.{InputKind, byte_input, text_input};
+ghost use Rattle.winnow_feed.specs.Inputs.{InputRules, byte_input, text_input};
 ghost use Rattle.winnow_execute.specs.Inputs.{piece_length};
 ghost use Rattle.winnow_execute.specs.ReportLines.{Prints};
 ghost use Rattle.winnow_execute.specs.ScriptLines.{RunsWhole, RunsPieces};
-ghost use Rattle.winnow_execute.specs.TakenLines.{TakesLine, TellsAll};
+ghost use Rattle.winnow_execute.specs.TakenLines.{TakesLine, ReportsAll};
 
 use crate::contents::Contents;
 use crate::fed_lines::FedLine;
@@ -20,7 +20,7 @@ use winnow_sets::CharSet;
 /// Contents that a script runs on, whole or in pieces.
 pub trait ScriptInput: Contents {
     // The kind of input that the contents are.
-    ghost kind: { InputKind };
+    ghost kind: { InputRules };
 
     /// Runs the steps on the contents, and returns the lines of their answers.
     fn run_whole<'k>(
@@ -114,7 +114,7 @@ fn feed_byte_lines(
 
 // Ends the input, and reports the answers that were not reported before.
 fn end_byte_feed(feed: ByteFeed, report: &mut Report) -> Result<(), AllocError>
-    ensures { OnOk result (TellsAll byte_input feed.entry report.old report.new) }
+    ensures { OnOk result (ReportsAll byte_input feed.entry report.old report.new) }
 {
     report.push_answers(feed.end().answers())
 }
@@ -166,7 +166,7 @@ fn feed_text_lines(
 
 // Ends the input, and reports the answers that were not reported before.
 fn end_text_feed(feed: TextFeed, report: &mut Report) -> Result<(), AllocError>
-    ensures { OnOk result (TellsAll text_input feed.entry report.old report.new) }
+    ensures { OnOk result (ReportsAll text_input feed.entry report.old report.new) }
 {
     report.push_answers(feed.end().answers())
 }

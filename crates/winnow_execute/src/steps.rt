@@ -1,9 +1,9 @@
 ghost use Rattle.std.specs.Prelude.{◌≡◌, ◌+◌, ◌<◌, ◌≤◌, IfOk, IsSome, OnOk, ℕ, is_some, length};
 ghost use Rattle.winnow_execute.specs.Lines.{reach, AreLines};
 ghost use Rattle.winnow_execute.specs.Newline.{first_line, rest_lines};
-ghost use Rattle.winnow_execute.specs.Readings.{IsReading, TellsNothing};
+ghost use Rattle.winnow_execute.specs.Readings.{IsReading, DenotesNothing};
 ghost use Rattle.winnow_execute.specs.Steps.{entry, plain_calls, numbered_calls};
-ghost use Rattle.winnow_execute.specs.Steps.{TellsCall, TellsStep};
+ghost use Rattle.winnow_execute.specs.Steps.{DenotesCall, DenotesStep};
 
 use crate::contents::Contents;
 use crate::lines::Lines;
@@ -29,9 +29,9 @@ pub fn read_steps<'s, L: Contents>(
     lines: &mut Lines,
 ) -> Result<Vec<ScriptStep<'s, L>>, AllocError>
     ensures steps { IfOk result (λ steps.
-        AreLines (TellsStep L.bytes) lines.old.rest.now steps.items lines.new.rest.now) }
+        AreLines (DenotesStep L.bytes) lines.old.rest.now steps.items lines.new.rest.now) }
     ensures stops { OnOk result
-        (TellsNothing (TellsStep L.bytes) (first_line lines.new.rest.now)) }
+        (DenotesNothing (DenotesStep L.bytes) (first_line lines.new.rest.now)) }
     ensures number { IfOk result (λ steps.
         lines.new.number ≡ lines.old.number + length steps.items) }
     ensures reach { reach lines.new ≤ reach lines.old }
@@ -51,7 +51,7 @@ fn next_step<'s, L: Contents>(
     lines: &mut Lines,
 ) -> Result<Option<ScriptStep<'s, L>>, AllocError>
     ensures step { IfOk result
-        (IsReading (TellsStep L.bytes) (first_line lines.old.rest.now)) }
+        (IsReading (DenotesStep L.bytes) (first_line lines.old.rest.now)) }
     ensures rest { lines.new.rest.now ≡ rest_lines lines.old.rest.now }
     ensures shorter { IfOk result (λ found.
         IsSome found → length lines.new.rest.now < length lines.old.rest.now) }
@@ -69,7 +69,7 @@ fn read_step<'s, L: Contents>(
     alloc: Global,
     line: &str,
 ) -> Result<Option<ScriptStep<'s, L>>, AllocError>
-    ensures { IfOk result (IsReading (TellsStep L.bytes) line.now) }
+    ensures { IfOk result (IsReading (DenotesStep L.bytes) line.now) }
 {
     if let Some(call) = read_call(line) {
         return Ok(Some(ScriptStep::Call(call)));
@@ -97,7 +97,7 @@ fn read_step<'s, L: Contents>(
 // Returns the call that a line means, which names no set: the line is a word, or a word and a
 // number.
 fn read_call<'s>(line: &str) -> Option<Step<CharSet<'s>>>
-    ensures { IsReading TellsCall line.now result }
+    ensures { IsReading DenotesCall line.now result }
 {
     match split_word(line) {
         Some((name, word)) if takes_number(name) => numbered_call(name, read_number(word)?),

@@ -2,10 +2,10 @@ ghost use Rattle.std.specs.Prelude.{◌≡◌, ◌↔◌, ◌^◌, ◌<◌, IfOk
 ghost use Rattle.std.specs.Char.{IsScalar};
 ghost use Rattle.std.specs.Option.{SomeIff};
 ghost use Rattle.std.specs.Str.Parse.{IsNumeral, digits_value};
-ghost use Rattle.winnow_execute.specs.Literals.{TellsLiteral};
+ghost use Rattle.winnow_execute.specs.Literals.{DenotesLiteral};
 ghost use Rattle.winnow_execute.specs.Readings.{IsReading};
-ghost use Rattle.winnow_execute.specs.Words.{first_word, later_words, HasSpace, TellsRange};
-ghost use Rattle.winnow_execute.specs.Words.{TellsRanges, TellsNeedles};
+ghost use Rattle.winnow_execute.specs.Words.{first_word, later_words, HasSpace, DenotesRange};
+ghost use Rattle.winnow_execute.specs.Words.{DenotesRanges, DenotesNeedles};
 
 use crate::contents::Contents;
 use crate::literals::literal;
@@ -36,7 +36,7 @@ pub fn read_number(word: &str) -> Option<usize>
 /// Returns the literal that a word means, or `None` if the word means no bytes, or bytes that are
 /// no literal.
 pub fn read_literal<L: Contents>(alloc: Global, word: &str) -> Result<Option<L>, AllocError>
-    ensures { IfOk result (IsReading (TellsLiteral L.bytes) word.now) }
+    ensures { IfOk result (IsReading (DenotesLiteral L.bytes) word.now) }
 {
     match literal(alloc, word.as_bytes())? {
         Some(bytes) => Ok(L::from_bytes(bytes)),
@@ -49,7 +49,7 @@ pub fn read_needles<L: Contents>(
     alloc: Global,
     words: &str,
 ) -> Result<Option<Needles<L>>, AllocError>
-    ensures { IfOk result (IsReading (TellsNeedles L.bytes) words.now) }
+    ensures { IfOk result (IsReading (DenotesNeedles L.bytes) words.now) }
 {
     let Some((first, later)) = split_word(words) else {
         return match read_literal(alloc, words)? {
@@ -78,7 +78,7 @@ pub fn read_needles<L: Contents>(
 /// Returns the ranges that a word means: none for `-`, and else those between its commas. Returns
 /// `None` for a word that means no ranges.
 pub fn read_ranges(alloc: Global, word: &str) -> Result<Option<Vec<(char, char)>>, AllocError>
-    ensures { IfOk result (IsReading (λ told ranges. TellsRanges told ranges.items) word.now) }
+    ensures { IfOk result (IsReading (λ told ranges. DenotesRanges told ranges.items) word.now) }
 {
     let mut ranges = Vec::new(alloc);
     if word == "-" {
@@ -94,7 +94,7 @@ pub fn read_ranges(alloc: Global, word: &str) -> Result<Option<Vec<(char, char)>
 }
 
 fn read_range(word: &str) -> Option<(char, char)>
-    ensures { IsReading TellsRange word.now result }
+    ensures { IsReading DenotesRange word.now result }
 {
     let (low, high) = word.split_once("..")?;
     Some((read_char(low)?, read_char(high)?))

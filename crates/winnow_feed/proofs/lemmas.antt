@@ -8,6 +8,6 @@ pub mod PieceLemmas
 pub mod ReachLemmas
 pub mod SpellingLemmas
 pub mod JoinedInputLemmas
-pub mod TellingLemmas
+pub mod ToldLemmas
 pub mod TextRestLemmas
 pub mod WaitingLemmas

@@ -1,17 +1,17 @@
 -- What a feed stores, and what it means that a feed fits a list of pieces.
-use Rattle.std.specs.Prelude.{◌≡◌, ℕ, ◌+◌, ◌≤◌, ◌<◌, ◌^◌, true, List, [], ◌∷◌, ◌++◌, length, take, drop, vec_len, vec_capacity}
+use Rattle.std.specs.Prelude.{◌≡◌, ℕ, ◌+◌, ◌≤◌, ◌<◌, ◌^◌, true, List, [], ◌∷◌, ◌++◌, length, take, drop}
 use Rattle.std.specs.List.{AllByRecursion}
 use Rattle.std.specs.Borrow.{Bor}
 use Rattle.winnow_stream.specs.Source.{width}
 use Rattle.winnow_stream.specs.Cursor.{start, cursor_after}
-use Rattle.winnow_attempt.specs.declared.told.Told.{Told}
+use Rattle.winnow_feed_step.specs.declared.told.Told.{Told}
 use Rattle.winnow_feed.specs.declared.finished.Finished.{Finished}
 use Rattle.winnow_feed.specs.declared.progress.Progress.{Progress}
 use Rattle.winnow_run.specs.Searching.{search_next}
-use Rattle.winnow_feed.specs.Inputs.{PieceStep, InputKind, joined}
+use Rattle.winnow_feed.specs.Inputs.{PieceStep, InputRules, joined}
 use Rattle.winnow_feed.specs.Reach.{needed_from, least_marks}
 use Rattle.winnow_feed.specs.JoinedInput.{IsRunOver, IsAtRest, HasRoom, KeepsLeast}
-use Rattle.winnow_feed.specs.Telling.{capped, out_on, told_of, tried_of, told_to_end, last_place}
+use Rattle.winnow_feed.specs.ToldAnswers.{capped, out_on, told_of, tried_of, told_to_end, last_place}
 
 -- what a feed stores: the progress of the script, and the bytes that are kept
 pub record FeedState : Type 0 where
@@ -32,7 +32,7 @@ answers_in finished = finished.told.items
 abbrev pub place_in : {T : Type 0} → Finished T → ℕ
 place_in finished = finished.place
 
-module _ (i : InputKind) where
+module _ (i : InputRules) where
   -- the number of bytes that are kept of a joined input: all from the first one that the remaining
   -- steps need
   abbrev pub held_of : List PieceStep → List ℕ → ℕ

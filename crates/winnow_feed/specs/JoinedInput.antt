@@ -4,14 +4,14 @@ use Rattle.winnow_stream.specs.Source.{Source, HasPositiveWidths, width}
 use Rattle.winnow_stream.specs.Front.{back, is_offset}
 use Rattle.winnow_stream.specs.Cursor.{Cursor, start, rest, place}
 use Rattle.winnow_sets.specs.declared.char_set.CharSet.{CharSet}
-use Rattle.winnow_run.specs.declared.search_script.SearchStep.{SearchStep}
+use Rattle.winnow_run.specs.declared.search_steps.SearchStep.{SearchStep}
 use Rattle.winnow_feed.specs.declared.progress.Progress.{Progress}
 use Rattle.winnow_run.specs.Searching.{PlacedSearchAnswer}
-use Rattle.winnow_run.specs.Definite.{PieceKind, is_definite}
-use Rattle.winnow_attempt.specs.Settled.{IsSettled}
+use Rattle.winnow_run.specs.Definite.{PieceReading, is_definite}
+use Rattle.winnow_feed_step.specs.Settled.{IsSettled}
 use Rattle.winnow_feed.specs.Reach.{Reaches, needed_from, needed_place}
-use Rattle.winnow_feed.specs.Telling.{capped}
-use Rattle.winnow_attempt.specs.View.{under}
+use Rattle.winnow_feed.specs.ToldAnswers.{capped}
+use Rattle.winnow_feed_step.specs.Looks.{under}
 
 -- the next step, if one remains
 abbrev pub next_step : {T L : Type 0} → Progress T L → Option (SearchStep CharSet L)
@@ -27,8 +27,8 @@ answers_out p = map (λ t. t.answer) p.told.items
 
 -- the run stands for the joined input `all`, of which the tokens `kept` are kept: the answers that
 -- are out lead to the cursor, and are definite if `strict`; all that remaining steps can reach is
--- kept; and the next step has settled what `passed` says
-pub record IsRunOver {T L : Type 0} (strict : Bool) (k : PieceKind T CharSet L) (all kept : Source T) (p : Progress T L) : Type 0 where
+-- kept; and the next step has settled what `settled` says
+pub record IsRunOver {T L : Type 0} (strict : Bool) (k : PieceReading T CharSet L) (all kept : Source T) (p : Progress T L) : Type 0 where
   pub widths : HasPositiveWidths all
   pub at : Cursor
   pub reaches : Reaches strict k all start p.script.now (answers_out p) at
@@ -39,14 +39,15 @@ pub record IsRunOver {T L : Type 0} (strict : Bool) (k : PieceKind T CharSet L) 
   pub based : p.base ≡ place all first
   pub is_kept : kept ≡ drop first all
   pub settled : (s : SearchStep CharSet L) → next_step p ≡ Some s
-      → IsSettled k s (rest all at) p.passed.width p.passed.tokens
+      → IsSettled k s (rest all at) p.settled.width p.settled.tokens
 
 -- the next step, if one remains, waits
-abbrev pub IsAtRest : {T L : Type 0} → PieceKind T CharSet L → Source T → Progress T L → Type 0
+abbrev pub IsAtRest : {T L : Type 0} → PieceReading T CharSet L → Source T → Progress T L → Type 0
 IsAtRest {T} {L} k all p = (s : SearchStep CharSet L) → next_step p ≡ Some s → is_definite k s (back all p.place) ≡ false
 
 -- the run stands for some joined input
-abbrev pub IsRun : {T L : Type 0} → Bool → PieceKind T CharSet L → Source T → Progress T L → Type 0
+abbrev pub IsRun : {T L : Type 0} → Bool → PieceReading T CharSet L → Source T → Progress T L
+    → Type 0
 IsRun {T} strict k kept p = (all : Source T) × IsRunOver strict k all kept p
 
 -- there is room for each answer and mark that the steps make, no more marks than answers were made,
@@ -59,24 +60,24 @@ pub record HasRoom {T L : Type 0} (p : Progress T L) : Type 0 where
 
 -- the run may go on over what is kept: it stands for some joined input, its places fit in `usize`,
 -- and it has room
-pub record MayGoOn {T L : Type 0} (strict : Bool) (k : PieceKind T CharSet L) (kept : Source T) (p : Progress T L) : Type 0 where
+pub record MayGoOn {T L : Type 0} (strict : Bool) (k : PieceReading T CharSet L) (kept : Source T) (p : Progress T L) : Type 0 where
   pub stands : IsRun strict k kept p
   pub fits : p.base + width kept < 2 ^ 64
   pub room : HasRoom p
 
 -- for each joined input that the old run stands for, so does the new one
-abbrev pub KeepsRun : {T L : Type 0} → Bool → PieceKind T CharSet L → Source T → Progress T L
+abbrev pub KeepsRun : {T L : Type 0} → Bool → PieceReading T CharSet L → Source T → Progress T L
     → Progress T L → Type 0
 KeepsRun {T} strict k kept old new = (all : Source T) → IsRunOver strict k all kept old → IsRunOver strict k all kept new
 
 -- for each joined input that the old run stands for, the next step of the new one waits
-abbrev pub ComesToRest : {T L : Type 0} → Bool → PieceKind T CharSet L → Source T → Progress T L
+abbrev pub ComesToRest : {T L : Type 0} → Bool → PieceReading T CharSet L → Source T → Progress T L
     → Progress T L → Type 0
 ComesToRest {T} strict k kept old new = (all : Source T) → IsRunOver strict k all kept old → IsAtRest k all new
 
 -- the new run stands for what the old one stands for, and its next step, if one remains, waits
-abbrev pub KeepsRunAtRest : {T L : Type 0} → Bool → PieceKind T CharSet L → Source T → Progress T L
-    → Progress T L → Type 0
+abbrev pub KeepsRunAtRest : {T L : Type 0} → Bool → PieceReading T CharSet L → Source T
+    → Progress T L → Progress T L → Type 0
 KeepsRunAtRest {T} strict k kept old new = (all : Source T) → IsRunOver strict k all kept old → IsRunOver strict k all kept new × IsAtRest k all new
 
 -- the remaining steps need all that is kept of an input that ends at `end`
@@ -101,8 +102,8 @@ Tries old new =
 abbrev pub StaysWithoutAnswer : {T L : Type 0} → Progress T L → Progress T L → Type 0
 StaysWithoutAnswer old new = length new.told.items ≡ length old.told.items → (new.place ≡ old.place) × (new.marks ≡ old.marks)
 
--- the run went on: it has the same script, keeps the same input, and has more answers or is where it
--- was
+-- the run went on: it has the same script, keeps the same input, and has more answers or is where
+-- it was
 pub record GoesOn {T L : Type 0} (piece : Option ℕ) (old new : Progress T L) : Type 0 where
   pub script : new.script ≡ old.script
   pub base : new.base ≡ old.base
@@ -112,18 +113,18 @@ pub record GoesOn {T L : Type 0} (piece : Option ℕ) (old new : Progress T L) :
   pub told : vec_len old.told ≤ vec_len new.told
   pub room : HasRoom new
 
--- for each joined input that the old run stands for, the new one stands for it with a front of width
--- `unneeded` dropped, and its next step, if one remains, waits; that front is one of what was kept,
--- and the remaining steps need all the rest
-pub record TakesIn {T L : Type 0} (k : PieceKind T CharSet L) (kept : Source T) (unneeded : ℕ) (old new : Progress T L) : Type 0 where
+-- for each joined input that the old run stands for, the new one stands for it with a front of
+-- width `unneeded` dropped, and its next step, if one remains, waits; that front is one of what was
+-- kept, and the remaining steps need all the rest
+pub record TakesIn {T L : Type 0} (k : PieceReading T CharSet L) (kept : Source T) (unneeded : ℕ) (old new : Progress T L) : Type 0 where
   pub stands : (all : Source T) → IsRunOver true k all kept old
       → IsRunOver true k all (back kept unneeded) new × IsAtRest k all new
   pub offset : is_offset kept unneeded ≡ true
   pub base : new.base ≡ old.base + unneeded
   pub least : KeepsLeast (old.base + width kept) new
 
--- one piece was taken: it is counted, the same script gave its answers with the piece's number, each
--- of them and the waiting step were tried once, and there is room
+-- one piece was taken: it is counted, the same script gave its answers with the piece's number,
+-- each of them and the waiting step were tried once, and there is room
 pub record TakesPiece {T L : Type 0} (old new : Progress T L) : Type 0 where
   pub script : new.script ≡ old.script
   pub pieces : new.pieces ≡ capped (old.pieces + 1)

@@ -1,6 +1,6 @@
 pub mod Inputs
 pub mod Reach
-pub mod Telling
+pub mod ToldAnswers
 pub mod JoinedInput
 pub mod Feeding
 pub mod Waits

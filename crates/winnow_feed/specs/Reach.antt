@@ -4,19 +4,19 @@ use Rattle.std.specs.Prelude.{◌≡◌, ℕ, min, Bool, true, List, [], ◌∷�
 use Rattle.winnow_stream.specs.Source.{Source}
 use Rattle.winnow_stream.specs.Cursor.{Cursor, rest}
 use Rattle.winnow_run.specs.Needs.{call_mark, mark_of}
-use Rattle.winnow_run.specs.declared.search_script.SearchStep.{SearchStep}
-use Rattle.winnow_run.specs.declared.search_script.SearchStep.TheVariants as step
+use Rattle.winnow_run.specs.declared.search_steps.SearchStep.{SearchStep}
+use Rattle.winnow_run.specs.declared.search_steps.SearchStep.TheVariants as step
 use Rattle.winnow_run.specs.Searching.{PlacedSearchAnswer, search_answer, search_next}
-use Rattle.winnow_run.specs.Definite.{PieceKind, kind_of, is_definite}
+use Rattle.winnow_run.specs.Definite.{PieceReading, kind_on_pieces, is_definite}
 
 -- from the cursor `from`, the first steps have these answers and leave the cursor `to`; if
 -- `strict`, each answer is definite
-module _ {T C L : Type 0} (strict : Bool) (k : PieceKind T C L) (all : Source T) where
+module _ {T C L : Type 0} (strict : Bool) (k : PieceReading T C L) (all : Source T) where
   abbrev pub Reaches : Cursor → List (SearchStep C L) → List (PlacedSearchAnswer T) → Cursor
       → Type 0
   Reaches from steps [] to = from ≡ to
   Reaches from [] (a ∷ answers) to = ⊥
-  Reaches from (s ∷ steps) (a ∷ answers) to = (strict ≡ true → is_definite k s (rest all from) ≡ true) × (a ≡ search_answer (kind_of k) all s from) × Reaches (search_next all s from) steps answers to
+  Reaches from (s ∷ steps) (a ∷ answers) to = (strict ≡ true → is_definite k s (rest all from) ≡ true) × (a ≡ search_answer (kind_on_pieces k) all s from) × Reaches (search_next all s from) steps answers to
 
 -- the number of the mark that a step names, if it names one
 abbrev pub step_mark : {C L : Type 0} → SearchStep C L → Option ℕ

@@ -10,28 +10,28 @@ use Rattle.winnow_run.specs.declared.need.Need.{Need}
 use Rattle.winnow_run.specs.declared.need.Need.TheVariants as need
 use Rattle.winnow_run.specs.declared.script.Step.{Step}
 use Rattle.winnow_run.specs.Needs.{call_need}
-use Rattle.winnow_run.specs.declared.search_script.SearchStep.{SearchStep}
-use Rattle.winnow_run.specs.declared.search_script.SearchStep.TheVariants as step
+use Rattle.winnow_run.specs.declared.search_steps.SearchStep.{SearchStep}
+use Rattle.winnow_run.specs.declared.search_steps.SearchStep.TheVariants as step
 use Rattle.winnow_run.specs.Searching.{PlacedSearchAnswer, search_answers, search_next}
-use Rattle.winnow_run.specs.Definite.{PieceKind, kind_of}
+use Rattle.winnow_run.specs.Definite.{PieceReading, kind_on_pieces}
 use Rattle.winnow_feed.specs.declared.progress.Progress.{Progress}
 use Rattle.winnow_feed.specs.declared.waiting.Waiting.{Waiting}
 use Rattle.winnow_feed.specs.declared.waiting.Waiting.TheVariants as waiting
-use Rattle.winnow_feed.specs.Inputs.{PieceStep, InputKind, joined}
-use Rattle.winnow_attempt.specs.Missing.{missing}
+use Rattle.winnow_feed.specs.Inputs.{PieceStep, InputRules, joined}
+use Rattle.winnow_feed_step.specs.Missing.{missing}
 use Rattle.winnow_feed.specs.JoinedInput.{IsRunOver, next_step}
-use Rattle.winnow_feed.specs.Telling.{out_on, told_of}
+use Rattle.winnow_feed.specs.ToldAnswers.{out_on, told_of}
 use Rattle.winnow_feed.specs.Feeding.{FeedState, Fits, script_of}
 
 -- for each joined input that the run stands for, this is what its next step is missing there
-abbrev pub GivesMissing : {T L : Type 0} → PieceKind T CharSet L → ℕ → (ℕ → List ℕ) → Source T
+abbrev pub GivesMissing : {T L : Type 0} → PieceReading T CharSet L → ℕ → (ℕ → List ℕ) → Source T
     → Progress T L → Option (List ℕ) → Type 0
 GivesMissing {T} {L} k greatest spell kept p told =
     (all : Source T) (stands : IsRunOver true k all kept p) (s : SearchStep CharSet L)
     → next_step p ≡ Some s → told ≡ missing k greatest spell (rest all stands.at) s
 
 -- for each joined input that the run stands for, its next step is missing something there
-abbrev pub MissesSome : {T L : Type 0} → PieceKind T CharSet L → ℕ → (ℕ → List ℕ) → Source T
+abbrev pub MissesSome : {T L : Type 0} → PieceReading T CharSet L → ℕ → (ℕ → List ℕ) → Source T
     → Progress T L → Type 0
 MissesSome {T} {L} k greatest spell kept p =
     (all : Source T) (stands : IsRunOver true k all kept p) (s : SearchStep CharSet L)
@@ -39,21 +39,21 @@ MissesSome {T} {L} k greatest spell kept p =
 
 -- the token that `least_of_first` gives for the set of which a token is needed, if there is one, is
 -- one of the kind
-abbrev pub IsNeedSpelt : InputKind → Need CharSet → Type 0
+abbrev pub IsNeedSpelt : InputRules → Need CharSet → Type 0
 IsNeedSpelt i (need.TokenOf set) = IfSome (least_of_first i.greatest (char_ranges set)) (λ token. i.is_token token ≡ true)
 IsNeedSpelt i _ = ⊤
 
 -- what a step names fits the kind of input: its literals are valid, and so is the token that stands
 -- for its set
-abbrev pub IsSpelt : InputKind → PieceStep → Type 0
+abbrev pub IsSpelt : InputRules → PieceStep → Type 0
 IsSpelt i (step.Call s) = IsNeedSpelt i (call_need s)
 IsSpelt i (step.Compare literal) = i.valid (i.pieces.literal literal) ≡ true
 IsSpelt i (step.Find needles) = AllByRecursion (λ needle. i.valid needle ≡ true) (needle_list i.pieces.literal needles)
 
-module _ (i : InputKind) (script : List PieceStep) where
+module _ (i : InputRules) (script : List PieceStep) where
   -- what a step of the script answers on a joined input
   abbrev pub answer_on : ℕ → List ℕ → Option (PlacedSearchAnswer ℕ)
-  answer_on n input = slice_get (search_answers (kind_of i.pieces) (i.source input) script) n
+  answer_on n input = slice_get (search_answers (kind_on_pieces i.pieces) (i.source input) script) n
 
   -- the number of the step that waits on a joined input, the step, and what remains there
   abbrev pub waiting_number : List ℕ → ℕ
@@ -102,9 +102,9 @@ module _ (i : InputKind) (script : List PieceStep) where
   MissesMore pieces = (0 < length pieces) × ((s : PieceStep) × (waiting_step (joined pieces) ≡ Some s) × IsSome (missing_on (joined pieces) s))
 
 -- this is what the feed waits for, for all pieces that it fits
-abbrev pub GivesWaiting : {P : Type 0} → InputKind → (P → List ℕ) → FeedState → Waiting P → Type 0
+abbrev pub GivesWaiting : {P : Type 0} → InputRules → (P → List ℕ) → FeedState → Waiting P → Type 0
 GivesWaiting i bytes f waiting = (pieces : List (List ℕ)) → Fits i f pieces → WaitsFor i (script_of f) bytes pieces waiting
 
 -- for all pieces that the feed fits, a step waits and is missing something
-abbrev pub WantsMore : InputKind → FeedState → Type 0
+abbrev pub WantsMore : InputRules → FeedState → Type 0
 WantsMore i f = (pieces : List (List ℕ)) → Fits i f pieces → MissesMore i (script_of f) pieces

@@ -3,9 +3,9 @@ ghost use Rattle.std.specs.Prelude.{map, true};
 ghost use Rattle.std.specs.List.{AllByRecursion};
 ghost use Rattle.std.specs.Borrow.{Bor};
 ghost use Rattle.std.specs.Str.{is_utf8};
-ghost use Rattle.winnow_feed.specs.Inputs.{InputKind, PieceStep, byte_input, text_input};
+ghost use Rattle.winnow_feed.specs.Inputs.{InputRules, PieceStep, byte_input, text_input};
 ghost use Rattle.winnow_feed.specs.Inputs.{joined, pieces_in};
-ghost use Rattle.winnow_feed.specs.Telling.{TellsHit, TellsMore, all_answers, told_to_end};
+ghost use Rattle.winnow_feed.specs.ToldAnswers.{TellsHit, TellsMore, all_answers, told_to_end};
 ghost use Rattle.winnow_feed.specs.SameWaiting.{same_waiting};
 ghost use Rattle.winnow_feed.specs.declared.waiting.Waiting.{Waiting};
 
@@ -21,7 +21,7 @@ pub fn told_law()
     ensures text { (script : List PieceStep) (pieces : List (List ℕ)) (piece : List ℕ)
         → AllByRecursion (λ bytes. is_utf8 bytes ≡ true) pieces
         → TellsMore text_input script pieces piece }
-    ensures all { (input : InputKind) (script : List PieceStep) (pieces : List (List ℕ))
+    ensures all { (input : InputRules) (script : List PieceStep) (pieces : List (List ℕ))
         → map (λ t. t.answer) (told_to_end input script pieces) ≡ all_answers input script pieces }
 {}
 

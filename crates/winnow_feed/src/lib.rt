@@ -7,22 +7,22 @@
 //! change the waiting step's answer, if there is one.
 //!
 //! `ByteFeed` and `TextFeed` take the pieces one by one; `run_pieces` and `run_pieces_text` take a
-//! list of them. They share `winnow_attempt`, which attempts one step on what is kept, and the
-//! private modules: `progress` runs steps until one waits; `naming` and `keeping` say what may then
-//! be dropped, and `buffers` drops it; `missing` says what the waiting step is missing.
+//! list of them. They share `winnow_feed_step`, which attempts one step on what is kept, and the
+//! private modules: `progress` runs steps until one waits; `named_marks` and `reach` say what may
+//! then be dropped, and `buffers` drops it; `missing` says what the waiting step is missing.
 #![tactic(auto)]
 
 mod buffers;
 mod feeds;
 mod finished;
-mod keeping;
 mod laws;
 mod missing;
-mod naming;
+mod named_marks;
 mod progress;
+mod reach;
 mod runs;
+mod spelling;
 mod text_feeds;
-mod texts;
 mod waiting;
 
 pub use feeds::ByteFeed;
@@ -31,4 +31,4 @@ pub use laws::{one_search_law, pieces_law, told_law, waiting_equality_law};
 pub use runs::{run_pieces, run_pieces_text};
 pub use text_feeds::TextFeed;
 pub use waiting::Waiting;
-pub use winnow_attempt::{Told, told_equality_law};
+pub use winnow_feed_step::{Told, told_equality_law};

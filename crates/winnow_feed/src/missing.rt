@@ -1,11 +1,11 @@
 ghost use Rattle.std.specs.Prelude.{◌<◌, true, length, vec_len, option_map, IfOk, OnErr};
-ghost use Rattle.winnow_attempt.specs.View.{piece_kind};
+ghost use Rattle.winnow_feed_step.specs.Looks.{piece_reading};
 ghost use Rattle.winnow_feed.specs.JoinedInput.{IsRun};
 ghost use Rattle.winnow_feed.specs.Waits.{GivesMissing, MissesSome};
 
 use crate::progress::Progress;
 use std::alloc::{AllocError, Global};
-use winnow_attempt::{Kept, step_missing};
+use winnow_feed_step::{Kept, step_missing};
 use winnow_sets::AsChar;
 use winnow_stream::{AsBStr, Stream, StreamIsPartial};
 
@@ -22,20 +22,20 @@ where
     requires valid { S.valid kept }
     requires left { vec_len progress.now.told < length progress.now.script.now }
     requires stands { IsRun true
-        (piece_kind S.Token.code S.counts_missing S.write L.text_bytes)
+        (piece_reading S.Token.code S.counts_missing S.write L.text_bytes)
         (S.remaining kept)
         progress.now }
     ensures told { IfOk result (λ more. GivesMissing
-        (piece_kind S.Token.code S.counts_missing S.write L.text_bytes)
+        (piece_reading S.Token.code S.counts_missing S.write L.text_bytes)
         S.greatest S.spell (S.remaining kept) progress.now
         (option_map (λ bytes. bytes.items) more)) }
     ensures refused { OnErr result (MissesSome
-        (piece_kind S.Token.code S.counts_missing S.write L.text_bytes)
+        (piece_reading S.Token.code S.counts_missing S.write L.text_bytes)
         S.greatest S.spell (S.remaining kept) progress.now) }
 {
     let script = progress.script;
     let step = &script[progress.told.len()];
     let mut rest = kept;
     rest.next_slice(progress.place - progress.base);
-    step_missing(alloc, step, rest, progress.passed)
+    step_missing(alloc, step, rest, progress.settled)
 }

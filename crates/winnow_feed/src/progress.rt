@@ -1,11 +1,11 @@
 ghost use Rattle.std.specs.Prelude.{◌≡◌, ◌+◌, ◌≤◌, ◌<◌, ◌∷◌, ◌++◌, [], false, length};
 ghost use Rattle.std.specs.Prelude.{IsTrue, vec_len, vec_capacity, if◌then◌else◌};
-ghost use Rattle.winnow_attempt.specs.View.{piece_kind};
+ghost use Rattle.winnow_feed_step.specs.Looks.{piece_reading};
 ghost use Rattle.winnow_feed.specs.JoinedInput.{MayGoOn, KeepsRun, KeepsRunAtRest};
 ghost use Rattle.winnow_feed.specs.JoinedInput.{ComesToRest, GoesOn, Tries};
-ghost use Rattle.winnow_feed.specs.Telling.{capped};
+ghost use Rattle.winnow_feed.specs.ToldAnswers.{capped};
 
-use winnow_attempt::{Attempt, Kept, Passed, Standing, Told, attempt_step};
+use winnow_feed_step::{Attempt, Kept, Settled, Standing, Told, attempt_step};
 use winnow_match::Finders;
 use winnow_run::SearchStep;
 use winnow_sets::{AsChar, CharSet};
@@ -19,7 +19,7 @@ pub(crate) struct Progress<'k, T, L> {
     pub(crate) told: Vec<Told<T>>,
     pub(crate) place: usize,
     pub(crate) marks: Vec<usize>,
-    pub(crate) passed: Passed,
+    pub(crate) settled: Settled,
     pub(crate) base: usize,
     pub(crate) pieces: u64,
     pub(crate) tried: u64,
@@ -56,16 +56,16 @@ where
     requires valid { S.valid kept }
     requires left { vec_len progress.old.told < length progress.old.script.now }
     requires ready { MayGoOn (S.expects_more kept)
-        (piece_kind S.Token.code S.counts_missing S.write L.text_bytes)
+        (piece_reading S.Token.code S.counts_missing S.write L.text_bytes)
         (S.remaining kept)
         progress.old }
     ensures stands { KeepsRun (S.expects_more kept)
-        (piece_kind S.Token.code S.counts_missing S.write L.text_bytes)
+        (piece_reading S.Token.code S.counts_missing S.write L.text_bytes)
         (S.remaining kept)
         progress.old progress.new }
     ensures waits { result ≡ false → IsTrue (S.expects_more kept)
         × ComesToRest (S.expects_more kept)
-        (piece_kind S.Token.code S.counts_missing S.write L.text_bytes)
+        (piece_reading S.Token.code S.counts_missing S.write L.text_bytes)
         (S.remaining kept)
         progress.old progress.new }
     ensures on { GoesOn piece progress.old progress.new }
@@ -84,20 +84,20 @@ where
         Standing {
             place: progress.place,
             marks: &progress.marks,
-            passed: progress.passed,
+            settled: progress.settled,
             piece,
         },
         finders,
         &mut progress.told,
     ) {
-        Attempt::Waits(passed) => {
-            progress.passed = passed;
+        Attempt::Waits(settled) => {
+            progress.settled = settled;
             false
         }
         Attempt::Answered(seen) => {
             push_mark(&mut progress.marks, progress.place, seen.marks);
             progress.place = seen.place;
-            progress.passed = Passed {
+            progress.settled = Settled {
                 width: 0,
                 tokens: 0,
             };
@@ -119,11 +119,11 @@ where
     S::Slice: Drop,
     requires valid { S.valid kept }
     requires ready { MayGoOn (S.expects_more kept)
-        (piece_kind S.Token.code S.counts_missing S.write L.text_bytes)
+        (piece_reading S.Token.code S.counts_missing S.write L.text_bytes)
         (S.remaining kept)
         progress.old }
     ensures stands { KeepsRunAtRest (S.expects_more kept)
-        (piece_kind S.Token.code S.counts_missing S.write L.text_bytes)
+        (piece_reading S.Token.code S.counts_missing S.write L.text_bytes)
         (S.remaining kept)
         progress.old progress.new }
     ensures done { S.expects_more kept ≡ false

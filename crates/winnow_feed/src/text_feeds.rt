@@ -1,13 +1,13 @@
 use crate::buffers::forget_text;
-use crate::keeping::take_in;
 use crate::missing::next_missing;
-use crate::naming::marks_named;
+use crate::named_marks::marks_named;
 use crate::progress::{Progress, advance};
-use crate::texts::is_spelt;
+use crate::reach::take_in;
+use crate::spelling::is_spelt;
 use crate::{Finished, Told, Waiting};
 use std::alloc::{AllocError, Global};
 use std::marker::Model;
-use winnow_attempt::Passed;
+use winnow_feed_step::Settled;
 use winnow_match::Finders;
 use winnow_run::SearchStep;
 use winnow_sets::CharSet;
@@ -46,7 +46,7 @@ impl<'k> TextFeed<'k> {
     ghost use Rattle.std.specs.Prelude.{◌≡◌, ℕ, ◌+◌, ◌<◌, ◌^◌, [], List, length};
     ghost use Rattle.std.specs.Prelude.{IfOk, IsOk, OnOk, OnErr};
     ghost use Rattle.winnow_feed.specs.Inputs.{text_input, joined};
-    ghost use Rattle.winnow_feed.specs.Telling.{told_of, tried_of};
+    ghost use Rattle.winnow_feed.specs.ToldAnswers.{told_of, tried_of};
     ghost use Rattle.winnow_feed.specs.Feeding.{Fits, FitsWith, LetsOut, IsAnswered, Finishes};
     ghost use Rattle.winnow_feed.specs.Feeding.{held_after, bytes_fed, script_of};
     ghost use Rattle.std.specs.String.{string_bytes};
@@ -71,7 +71,7 @@ impl<'k> TextFeed<'k> {
                 told,
                 place: 0,
                 marks,
-                passed: Passed {
+                settled: Settled {
                     width: 0,
                     tokens: 0,
                 },

@@ -6,8 +6,8 @@ use Rattle.winnow_match.specs.declared.compare.CompareResult.{CompareResult}
 use Rattle.winnow_match.specs.declared.compare.CompareResult.TheVariants as compared
 use Rattle.winnow_run.specs.declared.script.Answer.{Answer}
 use Rattle.winnow_run.specs.declared.script.Answer.TheVariants as answer
-use Rattle.winnow_run.specs.declared.search_script.SearchAnswer.{SearchAnswer}
-use Rattle.winnow_run.specs.declared.search_script.SearchAnswer.TheVariants as search
+use Rattle.winnow_run.specs.declared.search_steps.SearchAnswer.{SearchAnswer}
+use Rattle.winnow_run.specs.declared.search_steps.SearchAnswer.TheVariants as search
 use Rattle.winnow_stream.specs.declared.needed.Needed.{Needed}
 use Rattle.winnow_stream.specs.declared.needed.Needed.TheVariants.{Unknown, Size}
 

@@ -3,8 +3,8 @@
 
 use crate::{Call, outcome};
 use std::alloc::{AllocError, Global};
-use winnow_attempt::{Kept, Passed, step_missing};
 use winnow_feed::{ByteFeed, TextFeed, run_pieces, run_pieces_text};
+use winnow_feed_step::{Kept, Settled, step_missing};
 use winnow_match::Needles;
 use winnow_run::SearchStep;
 use winnow_run::SearchStep::{Call as CallOf, Compare, Find};
@@ -140,7 +140,7 @@ fn run_on_texts(alloc: Global, text: &str) -> Result<(), AllocError> {
 
 // Asks what a comparison with the text is missing where nothing remains.
 fn miss(alloc: Global, text: &str) -> Result<(), AllocError> {
-    let none = Passed {
+    let none = Settled {
         width: 0,
         tokens: 0,
     };

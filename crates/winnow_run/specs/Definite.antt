@@ -11,21 +11,21 @@ use Rattle.winnow_match.specs.Bytes.{written}
 use Rattle.winnow_match.specs.Comparison.{comparison}
 use Rattle.winnow_match.specs.Search.{hit, needle_list}
 use Rattle.winnow_match.specs.Stretch.{hit_is_definite}
-use Rattle.winnow_run.specs.declared.search_script.SearchStep.{SearchStep}
-use Rattle.winnow_run.specs.declared.search_script.SearchStep.TheVariants as step
-use Rattle.winnow_run.specs.Searching.{Kind, PlacedSearchAnswer, search_answer, search_next}
+use Rattle.winnow_run.specs.declared.search_steps.SearchStep.{SearchStep}
+use Rattle.winnow_run.specs.declared.search_steps.SearchStep.TheVariants as step
+use Rattle.winnow_run.specs.Searching.{ScriptKind, PlacedSearchAnswer, search_answer, search_next}
 
 -- what a kind of pieces determines: what a set holds, whether a shortage is counted, and the bytes
 -- of a token and of a literal
-pub record PieceKind (T C L : Type 0) : Type 0 where
+pub record PieceReading (T C L : Type 0) : Type 0 where
   pub holds : C → T → Bool
   pub counts_missing : Bool
   pub write : T → List ℕ
   pub literal : L → List ℕ
 
 -- the kind of stream whose comparisons and searches are those of the bytes
-abbrev pub kind_of : {T C L : Type 0} → PieceKind T C L → Kind T C L
-kind_of k = record {
+abbrev pub kind_on_pieces : {T C L : Type 0} → PieceReading T C L → ScriptKind T C L
+kind_on_pieces k = record {
   holds = k.holds;
   counts_missing = k.counts_missing;
   compared = λ literal r. comparison (k.literal literal) (written k.write r);
@@ -41,7 +41,7 @@ is_decided compared.Error = true
 abbrev pub is_call_definite : {T C : Type 0} → (C → T → Bool) → Bool → Step C → Source T → Bool
 is_call_definite holds counts_missing s r = is_met holds counts_missing (call_need s) r
 
-module _ {T C L : Type 0} (k : PieceKind T C L) where
+module _ {T C L : Type 0} (k : PieceReading T C L) where
   abbrev pub is_definite : SearchStep C L → Source T → Bool
   is_definite (step.Call s) r = is_call_definite k.holds k.counts_missing s r
   is_definite (step.Compare literal) r = is_decided (comparison (k.literal literal) (written k.write r))
@@ -49,7 +49,7 @@ module _ {T C L : Type 0} (k : PieceKind T C L) where
 
   -- each answer, and whether it is definite
   abbrev pub judged : Source T → SearchStep C L → Cursor → PlacedSearchAnswer T × Bool
-  judged all s at = (search_answer (kind_of k) all s at, is_definite s (rest all at))
+  judged all s at = (search_answer (kind_on_pieces k) all s at, is_definite s (rest all at))
 
   abbrev pub judged_answers : Source T → List (SearchStep C L) → List (PlacedSearchAnswer T × Bool)
   judged_answers all script = answers_from (judged all) (search_next all) script start
@@ -61,4 +61,4 @@ module _ {T C L : Type 0} (k : PieceKind T C L) where
 -- if the first n answers are definite, they are also the first n with more input appended, and
 -- definite there
 abbrev pub StableUnderMore : (T C L : Type 0) → Type 0
-StableUnderMore T C L = (k : PieceKind T C L) (script : List (SearchStep C L)) (all more : Source T) (n : ℕ) → All (λ a. a.1 ≡ true) (take n (judged_answers k all script)) → take n (judged_answers k (all ++ more) script) ≡ take n (judged_answers k all script)
+StableUnderMore T C L = (k : PieceReading T C L) (script : List (SearchStep C L)) (all more : Source T) (n : ℕ) → All (λ a. a.1 ≡ true) (take n (judged_answers k all script)) → take n (judged_answers k (all ++ more) script) ≡ take n (judged_answers k all script)

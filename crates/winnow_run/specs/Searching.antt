@@ -11,14 +11,14 @@ use Rattle.winnow_run.specs.Script.{step_answer, step_next, StandsFor, SetComput
 use Rattle.winnow_run.specs.RunState.{RunState, StandsAt, IsInReach}
 use Rattle.winnow_match.specs.declared.compare.CompareResult.{CompareResult}
 use Rattle.winnow_match.specs.declared.needles.Needles.{Needles}
-use Rattle.winnow_run.specs.declared.search_script.SearchStep.{SearchStep}
-use Rattle.winnow_run.specs.declared.search_script.SearchStep.TheVariants as step
-use Rattle.winnow_run.specs.declared.search_script.SearchAnswer.{SearchAnswer}
-use Rattle.winnow_run.specs.declared.search_script.SearchAnswer.TheVariants as answer
+use Rattle.winnow_run.specs.declared.search_steps.SearchStep.{SearchStep}
+use Rattle.winnow_run.specs.declared.search_steps.SearchStep.TheVariants as step
+use Rattle.winnow_run.specs.declared.search_steps.SearchAnswer.{SearchAnswer}
+use Rattle.winnow_run.specs.declared.search_steps.SearchAnswer.TheVariants as answer
 
 -- what a kind of stream determines: what a set holds, whether a shortage is counted, and what
 -- comparisons and searches answer
-pub record Kind (T C L : Type 0) : Type 0 where
+pub record ScriptKind (T C L : Type 0) : Type 0 where
   pub holds : C → T → Bool
   pub counts_missing : Bool
   pub compared : L → Source T → CompareResult
@@ -36,7 +36,7 @@ module _ {T C L : Type 0} (all : Source T) where
   search_next (step.Find needles) at = at
 
 -- what a step answers at the cursor
-module _ {T C L : Type 0} (kind : Kind T C L) (all : Source T) where
+module _ {T C L : Type 0} (kind : ScriptKind T C L) (all : Source T) where
   abbrev pub search_answer : SearchStep C L → Cursor → PlacedSearchAnswer T
   search_answer (step.Call call) at = answer.Call (step_answer kind.holds kind.counts_missing all call at)
   search_answer (step.Compare literal) at = answer.Compared (kind.compared literal (rest all at))
@@ -75,9 +75,9 @@ abbrev pub AreSearchReady : {C L : Type 0} → (C → Type 0) → List (SearchSt
 AreSearchReady can script = All (IsSearchReady can) script
 
 -- the kind of a stream
-abbrev pub stream_kind : {T C L : Type 0} → (C → T → Bool) → Bool → (L → Source T → CompareResult)
-    → (Needles L → Source T → Option (Range ℕ)) → Kind T C L
-stream_kind holds counts_missing compared found = record { holds = holds; counts_missing = counts_missing; compared = compared; found = found }
+abbrev pub script_kind : {T C L : Type 0} → (C → T → Bool) → Bool → (L → Source T → CompareResult)
+    → (Needles L → Source T → Option (Range ℕ)) → ScriptKind T C L
+script_kind holds counts_missing compared found = record { holds = holds; counts_missing = counts_missing; compared = compared; found = found }
 
 -- the given answer stands for the step's answer, for each `holds` that the step's set computes
 abbrev pub IsSearchAnswer : {C T S L : Type 0} → (C → T → Bool → Type 0)
@@ -87,7 +87,7 @@ abbrev pub IsSearchAnswer : {C T S L : Type 0} → (C → T → Bool → Type 0)
 IsSearchAnswer {C} {T} may_answer is_slice counts_missing compared found all step at given =
     (holds : C → T → Bool) → SearchComputes may_answer holds step
     → SearchStandsFor is_slice all
-    (search_answer (stream_kind holds counts_missing compared found) all step at) given
+    (search_answer (script_kind holds counts_missing compared found) all step at) given
 
 -- each given answer is one of its step; a set that does not compute has no effect on other answers
 abbrev pub AreSearchAnswers : {C T S L : Type 0} → (C → T → Bool → Type 0)

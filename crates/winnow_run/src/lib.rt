@@ -6,20 +6,20 @@
 //! further input can change, and states their law, [`definite_law`].
 #![tactic(auto)]
 
+mod answers;
 mod laws;
 mod marks;
 mod need;
-mod running;
+mod runs;
 mod script;
-mod search_script;
-mod searching;
-mod stepping;
+mod search_steps;
+mod searches;
 
+pub use answers::answer_step;
 pub use laws::{answers_law, definite_law, run_and_reset};
 pub use marks::{Marks, Origin};
 pub use need::Need;
-pub use running::run;
+pub use runs::run;
 pub use script::{Answer, Step};
-pub use search_script::{PieceAnswer, SearchAnswer, SearchStep};
-pub use searching::run_search;
-pub use stepping::answer_step;
+pub use search_steps::{PieceAnswer, SearchAnswer, SearchStep};
+pub use searches::run_search;

@@ -1,10 +1,10 @@
 -- Lines that mean pieces, or questions what is waited for.
 use Rattle.std.proofs.Common.{◌≡◌, ◌≢◌, ◌+◌, ℕ, Bool, true, List, [], ◌∷◌, ◌++◌, length, refl}
 use Rattle.winnow_execute.specs.FaultyLines.{FaultsFed}
-use Rattle.winnow_execute.specs.Inputs.{TellsFed, BeginsWithPiece}
+use Rattle.winnow_execute.specs.Inputs.{DenotesFed, BeginsWithPiece}
 use Rattle.winnow_execute.specs.Lines.{AreLines}
 use Rattle.winnow_execute.specs.Newline.{first_line}
-use Rattle.winnow_execute.specs.Readings.{TellsNothing}
+use Rattle.winnow_execute.specs.Readings.{DenotesNothing}
 use Rattle.winnow_execute.specs.declared.fed_lines.FedLine.{FedLine}
 use Rattle.winnow_execute.specs.declared.fed_lines.FedLine.TheVariants.{Piece, Waits}
 
@@ -26,10 +26,10 @@ BeginsWithPiece-first (x ∷ lines) line begins none is = cc none
 module _ {L : Type 0} (bytes : L → List ℕ) where
   -- a line that means nothing that may follow the lines before it is the fault of the text
   pub FaultsFed-line : (first : ℕ) (text : List ℕ) (told : List (FedLine L)) (rest : List ℕ)
-      (is_first : Bool) (k : ℕ) → AreLines (TellsFed bytes) text told rest → BeginsWithPiece told
+      (is_first : Bool) (k : ℕ) → AreLines (DenotesFed bytes) text told rest → BeginsWithPiece told
       → rest ≢ []
       → (is_first ≡ true → told ≡ [])
-      → TellsNothing (λ line item. TellsFed bytes line item × (is_first ≡ true → item ≢ Waits)) (first_line rest) → k ≡ first + length told
+      → DenotesNothing (λ line item. DenotesFed bytes line item × (is_first ≡ true → item ≢ Waits)) (first_line rest) → k ≡ first + length told
       → FaultsFed bytes first text k
   FaultsFed-line first text told rest is_first k lines begins left empty_of none number =
       (told, rest, lines, begins, left, (λ item next. none item (next.0, λ is. BeginsWithPiece-first told item next.1 (empty_of is))), number)

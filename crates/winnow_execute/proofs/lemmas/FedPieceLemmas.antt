@@ -1,7 +1,7 @@
 -- A feed that was fed the pieces of the first n lines.
 use Rattle.std.proofs.Common.{◌≡◌, ℕ, ◌+◌, ◌<◌, ◌≤◌, List, [], ◌∷◌, ◌++◌, length, take, get_or, sum_by, arith, length-append}
 use Rattle.std.proofs.lemmas.List.Sums.{sum_by_more, sum_by_more_le}
-use Rattle.winnow_feed.specs.Inputs.{InputKind, joined}
+use Rattle.winnow_feed.specs.Inputs.{InputRules, joined}
 use Rattle.winnow_feed.specs.Feeding.{FeedState, Fits, bytes_fed}
 use Rattle.winnow_feed.proofs.lemmas.FeedLemmas.{fed}
 use Rattle.winnow_feed.proofs.lemmas.InputLemmas.{IsInput, joined-push}
@@ -10,7 +10,7 @@ use Rattle.winnow_execute.specs.declared.fed_lines.FedLine.{FedLine}
 
 module _ {L : Type 0} (bytes : L → List ℕ) (lines : List (FedLine L)) (n : ℕ) (line : FedLine L) (lt : n < length lines) (pieces : List (List ℕ)) (so_far : length (joined pieces) ≡ sum_by (piece_length bytes) (take n lines)) where
   -- what was fed and the next piece are together no longer than the pieces of all lines
-  pub bytes_fed-le : (i : InputKind) (law : IsInput i) (f : FeedState) → Fits i f pieces
+  pub bytes_fed-le : (i : InputRules) (law : IsInput i) (f : FeedState) → Fits i f pieces
       → bytes_fed f + piece_length bytes (get_or lines n line) ≤ sum_by (piece_length bytes) lines
   bytes_fed-le i law f fits =
       let stored = fed i law (joined pieces) f fits.stands in

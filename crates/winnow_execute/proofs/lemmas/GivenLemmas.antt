@@ -5,7 +5,7 @@ use Rattle.std.specs.Global.{Vec}
 use Rattle.winnow_match.specs.Bytes.{written}
 use Rattle.winnow_sets.specs.declared.char_set.CharSet.{CharSet}
 use Rattle.winnow_stream.specs.Cursor.{Cursor, start, answers_from}
-use Rattle.winnow_run.specs.Definite.{PieceKind, kind_of}
+use Rattle.winnow_run.specs.Definite.{PieceReading, kind_on_pieces}
 use Rattle.winnow_stream.specs.Front.{front}
 use Rattle.winnow_feed.specs.Inputs.{PieceStep}
 use Rattle.winnow_match.specs.Comparison.{comparison}
@@ -18,17 +18,17 @@ use Rattle.winnow_run.specs.declared.script.Answer.TheVariants as answer
 use Rattle.winnow_run.specs.declared.need.Need.{Need}
 use Rattle.winnow_run.specs.declared.need.Need.TheVariants as need
 use Rattle.winnow_run.specs.Needs.{call_need}
-use Rattle.winnow_run.specs.declared.search_script.SearchAnswer.{SearchAnswer}
-use Rattle.winnow_run.specs.declared.search_script.SearchAnswer.TheVariants as search
-use Rattle.winnow_run.specs.declared.search_script.SearchStep.TheVariants as step
+use Rattle.winnow_run.specs.declared.search_steps.SearchAnswer.{SearchAnswer}
+use Rattle.winnow_run.specs.declared.search_steps.SearchAnswer.TheVariants as search
+use Rattle.winnow_run.specs.declared.search_steps.SearchStep.TheVariants as step
 use Rattle.winnow_stream.specs.declared.needed.Needed.{Needed}
 use Rattle.winnow_print.specs.AnswerLines.{bytes_word, item_words, call_words, answer_line, answer_lines}
 use Rattle.winnow_execute.specs.ScriptLines.{slice_word, listed_words}
 use Rattle.std.specs.Prelude.{true, false}
 use Rattle.winnow_match.proofs.lemmas.ByteLemmas.{bytes_of-units}
-use Rattle.winnow_run.specs.declared.search_script.SearchStep.{SearchStep}
-use Rattle.winnow_attempt.specs.View.{held}
-use Rattle.winnow_feed.specs.Inputs.{byte_kind, text_kind}
+use Rattle.winnow_run.specs.declared.search_steps.SearchStep.{SearchStep}
+use Rattle.winnow_feed_step.specs.Looks.{in_set}
+use Rattle.winnow_feed.specs.Inputs.{byte_reading, text_reading}
 use Rattle.winnow_match.specs.Bytes.{bytes_of, utf8_of}
 use Rattle.winnow_run.specs.Script.{NeedComputes}
 use Rattle.winnow_match.specs.Search.{bytes_of_needles}
@@ -39,7 +39,7 @@ use Rattle.winnow_execute.specs.ScriptLines.{whole_lines}
 use Rattle.winnow_print.specs.HeldNumbers.{HoldsNumber}
 
 -- a given answer has the same line as the answer of the definition that it stands for
-module _ {S : Type 0} (k : PieceKind ℕ CharSet (Bor (List ℕ))) (all : Source ℕ) (is_slice : S → Source ℕ → ℕ → Type 0) (words : S → List ℕ) (slice_is : (s : S) (r : Source ℕ) (n : ℕ) → is_slice s r n → words s ≡ bytes_word (written k.write (front r n))) where
+module _ {S : Type 0} (k : PieceReading ℕ CharSet (Bor (List ℕ))) (all : Source ℕ) (is_slice : S → Source ℕ → ℕ → Type 0) (words : S → List ℕ) (slice_is : (s : S) (r : Source ℕ) (n : ℕ) → is_slice s r n → words s ≡ bytes_word (written k.write (front r n))) where
   call-line : (a : PlacedAnswer ℕ) (given : Answer ℕ S (Vec (ℕ × ℕ)) Needed)
       → StandsFor is_slice all a given
       → call_words (λ t. t) words (λ v. item_words (λ t. t) v.items) given ≡ call_words (λ t. t) (slice_word k all) (listed_words k all) a
@@ -69,17 +69,17 @@ module _ {S : Type 0} (k : PieceKind ℕ CharSet (Bor (List ℕ))) (all : Source
     pub lines-given : (script : List PieceStep) (at : Cursor)
         (given : List (SearchAnswer ℕ S (Vec (ℕ × ℕ))))
         → AreGiven (IsSearchAnswer may_answer is_slice k.counts_missing (λ literal r. comparison (k.literal literal) (written k.write r)) (λ needles r. hit (needle_list k.literal needles) (written k.write r)) all) (search_next all) script at given
-        → answer_lines (λ t. t) words (λ v. item_words (λ t. t) v.items) given ≡ answer_lines (λ t. t) (slice_word k all) (listed_words k all) (answers_from (search_answer (kind_of k) all) (search_next all) script at)
+        → answer_lines (λ t. t) words (λ v. item_words (λ t. t) v.items) given ≡ answer_lines (λ t. t) (slice_word k all) (listed_words k all) (answers_from (search_answer (kind_on_pieces k) all) (search_next all) script at)
     lines-given [] at [] are = refl
     lines-given [] at (g ∷ given) are = absurd are
     lines-given (s ∷ script) at [] are = absurd are
     lines-given (s ∷ script) at (g ∷ given) are =
         ap (λ l. l ++ answer_lines (λ t. t) words (λ v. item_words (λ t. t) v.items) given) (line-given _ g (are.0 k.holds (computes s)))
-        ∙ ap (λ l. answer_line (λ t. t) (slice_word k all) (listed_words k all) (search_answer (kind_of k) all s at) ++ l) (lines-given script (search_next all s at) given are.1)
+        ∙ ap (λ l. answer_line (λ t. t) (slice_word k all) (listed_words k all) (search_answer (kind_on_pieces k) all s at) ++ l) (lines-given script (search_next all s at) given are.1)
 
 -- each set answers whether it holds a token
 module _ {T : Type 0} (code : T → ℕ) where
-  need-computes : (n : Need CharSet) → NeedComputes (HoldsNumber code) (held code) n
+  need-computes : (n : Need CharSet) → NeedComputes (HoldsNumber code) (in_set code) n
   need-computes (need.TokenOf set) = λ token answer is. is
   need-computes need.Nothing = tt
   need-computes need.Token = tt
@@ -89,7 +89,7 @@ module _ {T : Type 0} (code : T → ℕ) where
 
   -- the same for the set of any step
   step-computes : {L : Type 0} (s : SearchStep CharSet L)
-      → SearchComputes (HoldsNumber code) (held code) s
+      → SearchComputes (HoldsNumber code) (in_set code) s
   step-computes (step.Call s) = need-computes (call_need s)
   step-computes (step.Compare literal) = tt
   step-computes (step.Find needles) = tt
@@ -98,14 +98,14 @@ module _ {T : Type 0} (code : T → ℕ) where
 pub byte_lines-given : (input : List ℕ) (script : List PieceStep)
     (given : List (SearchAnswer ℕ (Bor (List ℕ)) (Vec (ℕ × ℕ))))
     → AreSearchAnswers (HoldsNumber (λ byte. byte)) (λ s r n. units s.now ≡ front r n) true (λ literal r. comparison literal.now (bytes_of r)) (λ needles r. hit (bytes_of_needles needles) (bytes_of r)) (units input) script given
-    → answer_lines (λ byte. byte) (λ s. bytes_word s.now) (λ v. item_words (λ byte. byte) v.items) given ≡ whole_lines byte_kind (units input) script
+    → answer_lines (λ byte. byte) (λ s. bytes_word s.now) (λ v. item_words (λ byte. byte) v.items) given ≡ whole_lines byte_reading (units input) script
 byte_lines-given input script given are =
-    lines-given byte_kind (units input) (λ s r n. units s.now ≡ front r n) (λ s. bytes_word s.now) (λ s r n e. ap bytes_word (sym (bytes_of-units s.now) ∙ ap bytes_of e)) (HoldsNumber (λ byte. byte)) (step-computes (λ byte. byte)) script start given are
+    lines-given byte_reading (units input) (λ s r n. units s.now ≡ front r n) (λ s. bytes_word s.now) (λ s r n e. ap bytes_word (sym (bytes_of-units s.now) ∙ ap bytes_of e)) (HoldsNumber (λ byte. byte)) (step-computes (λ byte. byte)) script start given are
 
 -- the lines that a run on text gives are those of the script's answers
 pub text_lines-given : (input : List ℕ) (script : List PieceStep)
     (given : List (SearchAnswer ℕ (Bor (List ℕ)) (Vec (ℕ × ℕ))))
     → AreSearchAnswers (HoldsNumber (λ c. c)) (λ s r n. text_source s.now ≡ front r n) false (λ literal r. comparison literal.now (utf8_of r)) (λ needles r. hit (bytes_of_needles needles) (utf8_of r)) (text_source input) script given
-    → answer_lines (λ c. c) (λ s. bytes_word (utf8_of (text_source s.now))) (λ v. item_words (λ c. c) v.items) given ≡ whole_lines text_kind (text_source input) script
+    → answer_lines (λ c. c) (λ s. bytes_word (utf8_of (text_source s.now))) (λ v. item_words (λ c. c) v.items) given ≡ whole_lines text_reading (text_source input) script
 text_lines-given input script given are =
-    lines-given text_kind (text_source input) (λ s r n. text_source s.now ≡ front r n) (λ s. bytes_word (utf8_of (text_source s.now))) (λ s r n e. ap (λ r. bytes_word (utf8_of r)) e) (HoldsNumber (λ c. c)) (step-computes (λ c. c)) script start given are
+    lines-given text_reading (text_source input) (λ s r n. text_source s.now ≡ front r n) (λ s. bytes_word (utf8_of (text_source s.now))) (λ s r n e. ap (λ r. bytes_word (utf8_of r)) e) (HoldsNumber (λ c. c)) (step-computes (λ c. c)) script start given are

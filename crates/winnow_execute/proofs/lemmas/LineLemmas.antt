@@ -4,12 +4,12 @@ use Rattle.winnow_execute.specs.Newline.{first_line, rest_lines}
 use Rattle.winnow_execute.specs.Lines.{AreLines}
 
 -- one more line means one more item
-pub AreLines-push : {T : Type 0} (Tells : List ℕ → T
+pub AreLines-push : {T : Type 0} (Denotes : List ℕ → T
     → Type 0) (text : List ℕ) (items : List T) (rest : List ℕ) (item : T)
-    → AreLines Tells text items rest → Tells (first_line rest) item → AreLines Tells text (items ++ item ∷ []) (rest_lines rest)
-AreLines-push Tells text [] rest item e told = (rw e told, ap rest_lines e)
-AreLines-push Tells text (x ∷ items) rest item lines told =
-    (lines.0, AreLines-push Tells (rest_lines text) items rest item lines.1 told)
+    → AreLines Denotes text items rest → Denotes (first_line rest) item → AreLines Denotes text (items ++ item ∷ []) (rest_lines rest)
+AreLines-push Denotes text [] rest item e told = (rw e told, ap rest_lines e)
+AreLines-push Denotes text (x ∷ items) rest item lines told =
+    (lines.0, AreLines-push Denotes (rest_lines text) items rest item lines.1 told)
 
 -- a list of length 0 is empty
 pub empty_of_length : {T : Type 0} (items : List T) → length items ≡ 0 → items ≡ []

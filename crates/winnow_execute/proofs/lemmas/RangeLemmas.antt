@@ -7,14 +7,14 @@ use Rattle.std.specs.Str.Parse.{AllDigits, IsNumeral, digits_value}
 use Rattle.std.specs.Str.Pattern.{FindsText, LacksTextAt}
 use Rattle.std.proofs.lemmas.Grind.{common_steps}
 use Rattle.std.proofs.lemmas.Str.Pattern.{split_text_parts}
-use Rattle.winnow_execute.specs.Readings.{TellsNothing}
-use Rattle.winnow_execute.specs.Words.{TellsChar, TellsRange, TellsRanges}
+use Rattle.winnow_execute.specs.Readings.{DenotesNothing}
+use Rattle.winnow_execute.specs.Words.{DenotesChar, DenotesRange, DenotesRanges}
 
 -- a word that is read as a character means it, since a character's number fits
-pub TellsChar-read : (word : List ℕ) (c : ℕ)
+pub DenotesChar-read : (word : List ℕ) (c : ℕ)
     → (IsNumeral 10 word × IsScalar (digits_value 10 word)) × (c ≡ digits_value 10 word)
-    → TellsChar word c
-TellsChar-read word c read =
+    → DenotesChar word c
+DenotesChar-read word c read =
     let scalar : IsScalar c = rw read.1 read.0.1 in
     let fits : c < 2 ^ 64 = grind (arith, common_steps, scalar) in
     ((read.0.0, sym read.1, fits), scalar)
@@ -38,7 +38,7 @@ dots_first (x ∷ low) high (y ∷ found_low) found_high digits same first =
 -- means
 module _ (word : List ℕ) (low high : Bor (List ℕ)) (split : (i : ℕ) × (j : ℕ) × FindsText (codes "..") word (Some (i, j)) × (low.now ≡ take i word) × (high.now ≡ drop j word) × (i ≤ j) × (length low.now ≡ i) × (length high.now + j ≡ length word)) where
   -- low and high are the two parts of a range that the word means
-  range-parts : (range : ℕ × ℕ) (told : TellsRange word range)
+  range-parts : (range : ℕ × ℕ) (told : DenotesRange word range)
       → (low.now ≡ told.0) × (high.now ≡ told.1)
   range-parts range told =
       let whole = split_text_parts (codes "..") word (Some (low, high)) split in
@@ -47,41 +47,41 @@ module _ (word : List ℕ) (low high : Bor (List ℕ)) (split : (i : ℕ) × (j 
       (λ i lt. rw same at (split.2.0 i (omega (arith, lt, split.6))))
 
   -- the word means no range if one of the parts means no character
-  pub TellsRange-low : ¬ (IsNumeral 10 low.now × IsScalar (digits_value 10 low.now))
-      → TellsNothing TellsRange word
-  TellsRange-low none range told =
+  pub DenotesRange-low : ¬ (IsNumeral 10 low.now × IsScalar (digits_value 10 low.now))
+      → DenotesNothing DenotesRange word
+  DenotesRange-low none range told =
       none (rw (range-parts range told).0 (told.3.0.0, rw told.3.0.1 told.3.1))
 
-  pub TellsRange-high : ¬ (IsNumeral 10 high.now × IsScalar (digits_value 10 high.now))
-      → TellsNothing TellsRange word
-  TellsRange-high none range told =
+  pub DenotesRange-high : ¬ (IsNumeral 10 high.now × IsScalar (digits_value 10 high.now))
+      → DenotesNothing DenotesRange word
+  DenotesRange-high none range told =
       none (rw (range-parts range told).1 (told.4.0.0, rw told.4.0.1 told.4.1))
 
 -- a word without two dots means no range
-pub TellsRange-dotless : (word : List ℕ) → FindsText (codes "..") word None
-    → TellsNothing TellsRange word
-TellsRange-dotless word none range told = split_text_parts (codes "..") word None none told.0 told.1 (told.2 ∙ append_assoc told.0 (codes "..") told.1)
+pub DenotesRange-dotless : (word : List ℕ) → FindsText (codes "..") word None
+    → DenotesNothing DenotesRange word
+DenotesRange-dotless word none range told = split_text_parts (codes "..") word None none told.0 told.1 (told.2 ∙ append_assoc told.0 (codes "..") told.1)
 
 -- parts mean no ranges if one of them means no range
-pub TellsRanges-nothing : (parts : List (List ℕ)) (k : ℕ) (d : List ℕ) → k < length parts
-    → TellsNothing TellsRange (get_or parts k d) → (ranges : List (ℕ × ℕ))
-    → ¬ (AllZip TellsRange parts ranges)
-TellsRanges-nothing [] k d lt none ranges told = omega (arith, lt)
-TellsRanges-nothing (part ∷ parts) k d lt none [] told = told
-TellsRanges-nothing (part ∷ parts) zero d lt none (range ∷ ranges) told = none range told.0
-TellsRanges-nothing (part ∷ parts) (suc k) d lt none (range ∷ ranges) told =
-    TellsRanges-nothing parts k d (omega (arith, lt)) none ranges told.1
+pub DenotesRanges-nothing : (parts : List (List ℕ)) (k : ℕ) (d : List ℕ) → k < length parts
+    → DenotesNothing DenotesRange (get_or parts k d) → (ranges : List (ℕ × ℕ))
+    → ¬ (AllZip DenotesRange parts ranges)
+DenotesRanges-nothing [] k d lt none ranges told = omega (arith, lt)
+DenotesRanges-nothing (part ∷ parts) k d lt none [] told = told
+DenotesRanges-nothing (part ∷ parts) zero d lt none (range ∷ ranges) told = none range told.0
+DenotesRanges-nothing (part ∷ parts) (suc k) d lt none (range ∷ ranges) told =
+    DenotesRanges-nothing parts k d (omega (arith, lt)) none ranges told.1
 
 -- the empty word means no range, since it has no dots
-TellsRange-filled : TellsNothing TellsRange []
-TellsRange-filled range told =
+DenotesRange-filled : DenotesNothing DenotesRange []
+DenotesRange-filled range told =
     let gone = ap length (told.2 ∙ append_assoc told.0 (codes "..") told.1) in
     omega (arith, gone, length-append told.0 (46 ∷ 46 ∷ told.1))
 
 -- the empty word means no ranges
-pub TellsRanges-filled : (ranges : List (ℕ × ℕ)) → ¬ (TellsRanges [] ranges)
-TellsRanges-filled ranges told =
+pub DenotesRanges-filled : (ranges : List (ℕ × ℕ)) → ¬ (DenotesRanges [] ranges)
+DenotesRanges-filled ranges told =
     elim told [
       | inl dash ↦ omega (arith, ap length dash.0)
-      | inr parts ↦ TellsRanges-nothing ([] ∷ []) 0 [] (omega arith) TellsRange-filled ranges parts
+      | inr parts ↦ DenotesRanges-nothing ([] ∷ []) 0 [] (omega arith) DenotesRange-filled ranges parts
     ]

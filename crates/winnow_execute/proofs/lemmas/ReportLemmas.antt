@@ -1,10 +1,10 @@
 -- What a run over pieces has printed, line by line.
 use Rattle.std.proofs.Common.{◌≡◌, ℕ, ◌+◌, ◌<◌, ◌≤◌, List, [], ◌∷◌, ◌++◌, length, take, drop, get_or, sum_by, refl, ap, sym, ◌∙◌, append_assoc, arith, length-append, string_bytes}
 use Rattle.std.proofs.lemmas.List.{drop_more, drop_all}
-use Rattle.winnow_attempt.specs.declared.told.Told.{Told}
+use Rattle.winnow_feed_step.specs.declared.told.Told.{Told}
 use Rattle.winnow_feed.specs.Feeding.{FeedState, Fits, FitsWith, Finishes, answers_in, script_of}
-use Rattle.winnow_feed.specs.Inputs.{InputKind, PieceStep, joined}
-use Rattle.winnow_feed.specs.Telling.{capped, told_of}
+use Rattle.winnow_feed.specs.Inputs.{InputRules, PieceStep, joined}
+use Rattle.winnow_feed.specs.ToldAnswers.{capped, told_of}
 use Rattle.winnow_feed.specs.Waits.{WaitsFor, GivesWaiting}
 use Rattle.winnow_feed.specs.declared.finished.Finished.{Finished}
 use Rattle.winnow_feed.specs.declared.waiting.Waiting.{Waiting}
@@ -17,7 +17,7 @@ use Rattle.winnow_execute.specs.ReportLines.{told_lines, waiting_line, Prints}
 use Rattle.winnow_execute.specs.declared.report.Report.{Report}
 use Rattle.winnow_execute.proofs.lemmas.FedPieceLemmas.{length-joined_push, length-joined_same}
 
-module _ {L : Type 0} (i : InputKind) (script : List PieceStep) (bytes : L → List ℕ) (lines : List (FedLine L)) where
+module _ {L : Type 0} (i : InputRules) (script : List PieceStep) (bytes : L → List ℕ) (lines : List (FedLine L)) where
   -- the first k lines were run: their pieces were fed, n answers are printed, and what the further
   -- lines print is appended to the text
   pub record HasPrinted (k : ℕ) (f : FeedState) (n count : ℕ) (text : List ℕ) : Type 0 where

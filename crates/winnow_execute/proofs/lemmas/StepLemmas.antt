@@ -3,30 +3,30 @@ use Rattle.std.proofs.Common.{◌≡◌, ◌≢◌, ℕ, List, [], codes, Some, 
 use Rattle.std.specs.Global.{Vec}
 use Rattle.winnow_run.specs.declared.script.Step.{Step}
 use Rattle.winnow_sets.specs.declared.char_set.CharSet.{CharSet}
-use Rattle.winnow_execute.specs.Literals.{TellsLiteral}
-use Rattle.winnow_execute.specs.Readings.{TellsNothing}
-use Rattle.winnow_execute.specs.Steps.{entry, plain_calls, numbered_calls, TellsCall, TellsStep}
-use Rattle.winnow_execute.specs.Words.{first_word, later_words, HasSpace, TellsNumber, TellsRanges, TellsNeedles}
+use Rattle.winnow_execute.specs.Literals.{DenotesLiteral}
+use Rattle.winnow_execute.specs.Readings.{DenotesNothing}
+use Rattle.winnow_execute.specs.Steps.{entry, plain_calls, numbered_calls, DenotesCall, DenotesStep}
+use Rattle.winnow_execute.specs.Words.{first_word, later_words, HasSpace, DenotesNumber, DenotesRanges, DenotesNeedles}
 use Rattle.winnow_execute.specs.declared.steps.ScriptStep.TheVariants.{Call, First, Compare, Find}
-use Rattle.winnow_execute.proofs.lemmas.WordLemmas.{entry-alone, later_words-alone, TellsBytes-filled, TellsNeedles-alone}
-use Rattle.winnow_execute.proofs.lemmas.RangeLemmas.{TellsRanges-filled}
+use Rattle.winnow_execute.proofs.lemmas.WordLemmas.{entry-alone, later_words-alone, DenotesBytes-filled, DenotesNeedles-alone}
+use Rattle.winnow_execute.proofs.lemmas.RangeLemmas.{DenotesRanges-filled}
 
 -- a line means no call if it does so neither as one word nor as a word and a number
-pub TellsCall-nothing : (line : List ℕ)
+pub DenotesCall-nothing : (line : List ℕ)
     → ((call : Step CharSet) → entry plain_calls line ≢ Some call)
-    → ((number : ℕ) (call : Step CharSet) → TellsNumber (later_words line) number → entry (numbered_calls number) (first_word line) ≢ Some call)
-    → TellsNothing TellsCall line
-TellsCall-nothing line plain numbered call told =
+    → ((number : ℕ) (call : Step CharSet) → DenotesNumber (later_words line) number → entry (numbered_calls number) (first_word line) ≢ Some call)
+    → DenotesNothing DenotesCall line
+DenotesCall-nothing line plain numbered call told =
     elim told [
       | inl word ↦ plain call word
       | inr words ↦ numbered words.0 call words.1 words.2
     ]
 
 -- a line of one word that is no call's word means no call
-pub TellsCall-alone : (line : List ℕ) → ¬ (HasSpace line) → entry plain_calls line ≡ None
-    → TellsNothing TellsCall line
-TellsCall-alone line alone none =
-    TellsCall-nothing line (λ call found. cc (sym none ∙ found))
+pub DenotesCall-alone : (line : List ℕ) → ¬ (HasSpace line) → entry plain_calls line ≡ None
+    → DenotesNothing DenotesCall line
+DenotesCall-alone line alone none =
+    DenotesCall-nothing line (λ call found. cc (sym none ∙ found))
     (λ number call told. omega (arith, rw (later_words-alone line alone) at told.0.0))
 
 -- a line with a space means no call that is one word
@@ -35,29 +35,29 @@ pub plain_calls-spaced : (line : List ℕ) → HasSpace line → (call : Step Ch
 plain_calls-spaced line spaced call found =
     entry-alone plain_calls line call (λ lt. omega (arith, lt), (λ lt. omega (arith, lt), (λ lt. omega (arith, lt), (λ lt. omega (arith, lt), (λ lt. omega (arith, lt), (λ lt. omega (arith, lt), (λ lt. omega (arith, lt), tt))))))) found spaced
 
-module _ {L : Type 0} (bytes : L → List ℕ) (line : List ℕ) (call : TellsNothing TellsCall line) where
+module _ {L : Type 0} (bytes : L → List ℕ) (line : List ℕ) (call : DenotesNothing DenotesCall line) where
   -- a line means no step if it means no call, and nothing after the word of another step is what
   -- that step takes
-  pub TellsStep-nothing : (first_word line ≡ codes "first" → (ranges : Vec (ℕ × ℕ))
-      → ¬ (TellsRanges (later_words line) ranges.items))
-      → (first_word line ≡ codes "compare" → TellsNothing (TellsLiteral bytes) (later_words line))
-      → (first_word line ≡ codes "find" → TellsNothing (TellsNeedles bytes) (later_words line))
-      → TellsNothing (TellsStep bytes) line
-  TellsStep-nothing first compare find (Call c) told = call c told
-  TellsStep-nothing first compare find (First ranges) told = first told.0 ranges told.1
-  TellsStep-nothing first compare find (Compare literal) told = compare told.0 literal told.1
-  TellsStep-nothing first compare find (Find needles) told = find told.0 needles told.1
+  pub DenotesStep-nothing : (first_word line ≡ codes "first" → (ranges : Vec (ℕ × ℕ))
+      → ¬ (DenotesRanges (later_words line) ranges.items))
+      → (first_word line ≡ codes "compare" → DenotesNothing (DenotesLiteral bytes) (later_words line))
+      → (first_word line ≡ codes "find" → DenotesNothing (DenotesNeedles bytes) (later_words line))
+      → DenotesNothing (DenotesStep bytes) line
+  DenotesStep-nothing first compare find (Call c) told = call c told
+  DenotesStep-nothing first compare find (First ranges) told = first told.0 ranges told.1
+  DenotesStep-nothing first compare find (Compare literal) told = compare told.0 literal told.1
+  DenotesStep-nothing first compare find (Find needles) told = find told.0 needles told.1
 
   -- a line of one word that means no call means no step
-  pub TellsStep-alone : ¬ (HasSpace line) → TellsNothing (TellsStep bytes) line
-  TellsStep-alone alone =
+  pub DenotesStep-alone : ¬ (HasSpace line) → DenotesNothing (DenotesStep bytes) line
+  DenotesStep-alone alone =
       let later = later_words-alone line alone in
-      TellsStep-nothing (λ e ranges told. TellsRanges-filled ranges.items (rw later at told))
-      (λ e literal told. TellsBytes-filled (bytes literal) (rw later at told))
-      (λ e needles told. TellsNeedles-alone bytes [] (λ lt. omega (arith, lt)) (λ literal filled. TellsBytes-filled (bytes literal) filled) needles (rw later at told))
+      DenotesStep-nothing (λ e ranges told. DenotesRanges-filled ranges.items (rw later at told))
+      (λ e literal told. DenotesBytes-filled (bytes literal) (rw later at told))
+      (λ e needles told. DenotesNeedles-alone bytes [] (λ lt. omega (arith, lt)) (λ literal filled. DenotesBytes-filled (bytes literal) filled) needles (rw later at told))
 
 -- an empty line means no step
-pub TellsStep-filled : {L : Type 0} (bytes : L → List ℕ) → TellsNothing (TellsStep bytes) []
-TellsStep-filled bytes =
+pub DenotesStep-filled : {L : Type 0} (bytes : L → List ℕ) → DenotesNothing (DenotesStep bytes) []
+DenotesStep-filled bytes =
     let alone : ¬ (HasSpace []) = λ lt. omega (arith, lt) in
-    TellsStep-alone bytes [] (TellsCall-alone [] alone refl) alone
+    DenotesStep-alone bytes [] (DenotesCall-alone [] alone refl) alone

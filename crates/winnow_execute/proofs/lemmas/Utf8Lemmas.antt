@@ -15,12 +15,12 @@ use Rattle.winnow_match.specs.declared.needles.Needles.{Needles}
 use Rattle.winnow_match.specs.declared.needles.Needles.TheVariants.{One, Two, Three}
 use Rattle.winnow_run.specs.declared.script.Step.{Step}
 use Rattle.winnow_sets.specs.declared.char_set.CharSet.{CharSet}
-use Rattle.winnow_execute.specs.Inputs.{kind_word, TellsKind, TellsNamed, TellsFed}
-use Rattle.winnow_execute.specs.Literals.{TellsBytes}
+use Rattle.winnow_execute.specs.Inputs.{kind_word, DenotesKind, DenotesNamed, DenotesFed}
+use Rattle.winnow_execute.specs.Literals.{DenotesBytes}
 use Rattle.winnow_execute.specs.Newline.{first_line}
-use Rattle.winnow_execute.specs.Readings.{TellsNothing}
-use Rattle.winnow_execute.specs.Steps.{entry, plain_calls, numbered_calls, TellsCall, TellsStep}
-use Rattle.winnow_execute.specs.Words.{is_comma, is_space, first_word, later_words, TellsRange, TellsRanges, TellsNeedles}
+use Rattle.winnow_execute.specs.Readings.{DenotesNothing}
+use Rattle.winnow_execute.specs.Steps.{entry, plain_calls, numbered_calls, DenotesCall, DenotesStep}
+use Rattle.winnow_execute.specs.Words.{is_comma, is_space, first_word, later_words, DenotesRange, DenotesRanges, DenotesNeedles}
 use Rattle.winnow_execute.specs.declared.fed_lines.FedLine.{FedLine}
 use Rattle.winnow_execute.specs.declared.fed_lines.FedLine.TheVariants.{Piece, Waits}
 use Rattle.winnow_execute.specs.declared.inputs.Kind.{Kind}
@@ -71,8 +71,8 @@ hex_digit-small : (byte : ℕ) → is_hex_digit byte ≡ true → byte < 128
 hex_digit-small byte digit = grind (arith, nat_tests)
 
 -- a word that means bytes is text
-TellsBytes-text : (word bytes : List ℕ) → TellsBytes word bytes → IsUtf8 word
-TellsBytes-text word bytes told =
+DenotesBytes-text : (word bytes : List ℕ) → DenotesBytes word bytes → IsUtf8 word
+DenotesBytes-text word bytes told =
     elim told [
       | inl dash ↦ subst IsUtf8 (sym dash.0) (IsUtf8-from_is_ascii (codes "-") refl)
       | inr digits ↦
@@ -80,25 +80,26 @@ TellsBytes-text word bytes told =
     ]
 
 -- a word that means a range is text
-TellsRange-text : (word : List ℕ) (range : ℕ × ℕ) → TellsRange word range → IsUtf8 word
-TellsRange-text word range told =
+DenotesRange-text : (word : List ℕ) (range : ℕ × ℕ) → DenotesRange word range → IsUtf8 word
+DenotesRange-text word range told =
     subst IsUtf8 (sym told.2)
     (IsUtf8-append (told.0 ++ codes "..") told.1 (IsUtf8-append told.0 (codes "..") (IsUtf8-digits told.0 told.3.0.0.1) (IsUtf8-from_is_ascii (codes "..") refl)) (IsUtf8-digits told.1 told.4.0.0.1))
 
 -- ranges with commas between them are text
-ranges-text : (parts : List (List ℕ)) (ranges : List (ℕ × ℕ)) → AllZip TellsRange parts ranges
+ranges-text : (parts : List (List ℕ)) (ranges : List (ℕ × ℕ)) → AllZip DenotesRange parts ranges
     → IsUtf8 (join_with_byte 44 parts)
 ranges-text [] ranges told = IsUtf8-from_is_ascii [] refl
 ranges-text (part ∷ parts) [] told = absurd told
-ranges-text (part ∷ []) (range ∷ ranges) told = TellsRange-text part range told.0
+ranges-text (part ∷ []) (range ∷ ranges) told = DenotesRange-text part range told.0
 ranges-text (part ∷ next ∷ parts) (range ∷ ranges) told =
     let later = join_with_byte 44 (next ∷ parts) in
-    IsUtf8-append part (44 ∷ later) (TellsRange-text part range told.0)
+    IsUtf8-append part (44 ∷ later) (DenotesRange-text part range told.0)
     (IsUtf8-append (44 ∷ []) later (IsUtf8-byte 44 (lit< tt)) (ranges-text (next ∷ parts) ranges told.1))
 
 -- a word that means ranges is text
-TellsRanges-text : (word : List ℕ) (ranges : List (ℕ × ℕ)) → TellsRanges word ranges → IsUtf8 word
-TellsRanges-text word ranges told =
+DenotesRanges-text : (word : List ℕ) (ranges : List (ℕ × ℕ)) → DenotesRanges word ranges
+    → IsUtf8 word
+DenotesRanges-text word ranges told =
     elim told [
       | inl dash ↦ subst IsUtf8 (sym dash.0) (IsUtf8-from_is_ascii (codes "-") refl)
       | inr parts ↦
@@ -122,8 +123,8 @@ entry-text (row ∷ rows) word found ascii is =
     ]
 
 -- a line that means a call is text
-TellsCall-text : (line : List ℕ) (call : Step CharSet) → TellsCall line call → IsUtf8 line
-TellsCall-text line call told =
+DenotesCall-text : (line : List ℕ) (call : Step CharSet) → DenotesCall line call → IsUtf8 line
+DenotesCall-text line call told =
     elim told [
       | inl word ↦ entry-text plain_calls line call refl word
       | inr words ↦
@@ -137,52 +138,53 @@ IsUtf8-named name line text is later =
     IsUtf8-words line (subst IsUtf8 (sym is) (IsUtf8-from_is_ascii name text)) later
 
 -- a line that means a kind is text
-pub TellsKind-text : (line : List ℕ) (kind : Kind) → TellsKind line kind → IsUtf8 line
-TellsKind-text line Bytes told = subst IsUtf8 (sym told) (IsUtf8-from_is_ascii (kind_word Bytes) refl)
-TellsKind-text line Text told = subst IsUtf8 (sym told) (IsUtf8-from_is_ascii (kind_word Text) refl)
-TellsKind-text line BytePieces told = subst IsUtf8 (sym told) (IsUtf8-from_is_ascii (kind_word BytePieces) refl)
-TellsKind-text line TextPieces told = subst IsUtf8 (sym told) (IsUtf8-from_is_ascii (kind_word TextPieces) refl)
+pub DenotesKind-text : (line : List ℕ) (kind : Kind) → DenotesKind line kind → IsUtf8 line
+DenotesKind-text line Bytes told = subst IsUtf8 (sym told) (IsUtf8-from_is_ascii (kind_word Bytes) refl)
+DenotesKind-text line Text told = subst IsUtf8 (sym told) (IsUtf8-from_is_ascii (kind_word Text) refl)
+DenotesKind-text line BytePieces told = subst IsUtf8 (sym told) (IsUtf8-from_is_ascii (kind_word BytePieces) refl)
+DenotesKind-text line TextPieces told = subst IsUtf8 (sym told) (IsUtf8-from_is_ascii (kind_word TextPieces) refl)
 
 module _ {L : Type 0} (bytes : L → List ℕ) where
   -- words that mean needles are text
-  TellsNeedles-text : (words : List ℕ) (needles : Needles L) → TellsNeedles bytes words needles
+  DenotesNeedles-text : (words : List ℕ) (needles : Needles L) → DenotesNeedles bytes words needles
       → IsUtf8 words
-  TellsNeedles-text words (One a) told = TellsBytes-text words (bytes a) told
-  TellsNeedles-text words (Two a b) told =
-      IsUtf8-words words (TellsBytes-text (first_word words) (bytes a) told.0) (TellsBytes-text (later_words words) (bytes b) told.1)
-  TellsNeedles-text words (Three a b c) told =
+  DenotesNeedles-text words (One a) told = DenotesBytes-text words (bytes a) told
+  DenotesNeedles-text words (Two a b) told =
+      IsUtf8-words words (DenotesBytes-text (first_word words) (bytes a) told.0) (DenotesBytes-text (later_words words) (bytes b) told.1)
+  DenotesNeedles-text words (Three a b c) told =
       let later = later_words words in
-      IsUtf8-words words (TellsBytes-text (first_word words) (bytes a) told.0)
-      (IsUtf8-words later (TellsBytes-text (first_word later) (bytes b) told.1) (TellsBytes-text (later_words later) (bytes c) told.2))
+      IsUtf8-words words (DenotesBytes-text (first_word words) (bytes a) told.0)
+      (IsUtf8-words later (DenotesBytes-text (first_word later) (bytes b) told.1) (DenotesBytes-text (later_words later) (bytes c) told.2))
 
   -- a line that means a step is text
-  pub TellsStep-text : (line : List ℕ) (step : ScriptStep L) → TellsStep bytes line step
+  pub DenotesStep-text : (line : List ℕ) (step : ScriptStep L) → DenotesStep bytes line step
       → IsUtf8 line
-  TellsStep-text line (Call call) told = TellsCall-text line call told
-  TellsStep-text line (First ranges) told =
-      IsUtf8-named (codes "first") line refl told.0 (TellsRanges-text (later_words line) ranges.items told.1)
-  TellsStep-text line (Compare literal) told =
-      IsUtf8-named (codes "compare") line refl told.0 (TellsBytes-text (later_words line) (bytes literal) told.1)
-  TellsStep-text line (Find needles) told =
-      IsUtf8-named (codes "find") line refl told.0 (TellsNeedles-text (later_words line) needles told.1)
+  DenotesStep-text line (Call call) told = DenotesCall-text line call told
+  DenotesStep-text line (First ranges) told =
+      IsUtf8-named (codes "first") line refl told.0 (DenotesRanges-text (later_words line) ranges.items told.1)
+  DenotesStep-text line (Compare literal) told =
+      IsUtf8-named (codes "compare") line refl told.0 (DenotesBytes-text (later_words line) (bytes literal) told.1)
+  DenotesStep-text line (Find needles) told =
+      IsUtf8-named (codes "find") line refl told.0 (DenotesNeedles-text (later_words line) needles told.1)
 
   -- a line that means a named literal is text
-  pub TellsNamed-text : (name line : List ℕ) (literal : L) → IsUtf8 name
-      → TellsNamed bytes name line literal → IsUtf8 line
-  TellsNamed-text name line literal text told =
-      IsUtf8-words line (subst IsUtf8 (sym told.0) text) (TellsBytes-text (later_words line) (bytes literal) told.1)
+  pub DenotesNamed-text : (name line : List ℕ) (literal : L) → IsUtf8 name
+      → DenotesNamed bytes name line literal → IsUtf8 line
+  DenotesNamed-text name line literal text told =
+      IsUtf8-words line (subst IsUtf8 (sym told.0) text) (DenotesBytes-text (later_words line) (bytes literal) told.1)
 
   -- a line that means a piece or a question is text
-  pub TellsFed-text : (line : List ℕ) (told : FedLine L) → TellsFed bytes line told → IsUtf8 line
-  TellsFed-text line (Piece piece) told =
-      TellsNamed-text (codes "piece") line piece (IsUtf8-from_is_ascii (codes "piece") refl) told
-  TellsFed-text line Waits told = subst IsUtf8 (sym told) (IsUtf8-from_is_ascii (codes "waits") refl)
+  pub DenotesFed-text : (line : List ℕ) (told : FedLine L) → DenotesFed bytes line told
+      → IsUtf8 line
+  DenotesFed-text line (Piece piece) told =
+      DenotesNamed-text (codes "piece") line piece (IsUtf8-from_is_ascii (codes "piece") refl) told
+  DenotesFed-text line Waits told = subst IsUtf8 (sym told) (IsUtf8-from_is_ascii (codes "waits") refl)
 
 -- a line that is missing or is no text means nothing, if each line with a meaning is text and an
 -- empty line has no meaning
-pub TellsNothing-unread : {T : Type 0} (Tells : List ℕ → T → Type 0) (text : List ℕ)
+pub DenotesNothing-unread : {T : Type 0} (Denotes : List ℕ → T → Type 0) (text : List ℕ)
     → ¬ ((0 < length text) × IsUtf8 (first_line text))
-    → ((item : T) → Tells (first_line text) item → IsUtf8 (first_line text)) → TellsNothing Tells []
-    → TellsNothing Tells (first_line text)
-TellsNothing-unread Tells [] unread texts empty = empty
-TellsNothing-unread Tells (byte ∷ text) unread texts empty = λ item told. unread (omega arith, texts item told)
+    → ((item : T) → Denotes (first_line text) item → IsUtf8 (first_line text)) → DenotesNothing Denotes []
+    → DenotesNothing Denotes (first_line text)
+DenotesNothing-unread Denotes [] unread texts empty = empty
+DenotesNothing-unread Denotes (byte ∷ text) unread texts empty = λ item told. unread (omega arith, texts item told)

@@ -5,22 +5,22 @@ use Rattle.std.proofs.lemmas.Bool.{le-ltb}
 use Rattle.std.proofs.lemmas.Option.{slice_get_within}
 use Rattle.std.specs.Prelude.{slice_get}
 use Rattle.winnow_stream.specs.Source.{Source, width}
-use Rattle.winnow_stream.specs.Front.{is_offset, back}
+use Rattle.winnow_stream.specs.Front.{back}
 use Rattle.winnow_stream.specs.Cursor.{start, place, rest, cursor_after}
 use Rattle.winnow_stream.proofs.lemmas.FrontLemmas.{width-back, width-take_drop}
 use Rattle.winnow_feed.specs.declared.progress.Progress.{Progress}
 use Rattle.winnow_feed.specs.declared.finished.Finished.{Finished}
-use Rattle.winnow_run.specs.Definite.{kind_of, out, is_definite}
+use Rattle.winnow_run.specs.Definite.{kind_on_pieces, out, is_definite}
 use Rattle.winnow_run.specs.Searching.{search_next, search_answers, search_cursor}
-use Rattle.winnow_feed.specs.Inputs.{InputKind, joined}
+use Rattle.winnow_feed.specs.Inputs.{InputRules, joined}
 use Rattle.winnow_feed.specs.Reach.{needed_place, needed_from}
 use Rattle.winnow_feed.specs.JoinedInput.{IsRunOver, IsAtRest, KeepsLeast, TakesIn, AddsAnswers, Tries, next_step, steps_left, answers_out}
-use Rattle.winnow_feed.specs.Telling.{capped, out_on, is_waiting, told_of, waits, tried_of, all_answers}
-use Rattle.winnow_attempt.specs.View.{under}
+use Rattle.winnow_feed.specs.ToldAnswers.{capped, out_on, is_waiting, told_of, waits, tried_of, all_answers}
+use Rattle.winnow_feed_step.specs.Looks.{under}
 use Rattle.winnow_feed.specs.Feeding.{FeedState, Fits, HoldsInput, Finishes, held_after, script_of, bytes_fed}
 use Rattle.winnow_feed.proofs.lemmas.InputLemmas.{IsInput, joined-push}
-use Rattle.winnow_feed.proofs.lemmas.TellingLemmas.{AreInputs, answers_of, answers-under, told_of-push, waits-push}
-use Rattle.winnow_feed.proofs.lemmas.JoinedInputLemmas.{rest-back, none-passed}
+use Rattle.winnow_feed.proofs.lemmas.ToldLemmas.{AreInputs, answers_of, answers-under, told_of-push, waits-push}
+use Rattle.winnow_feed.proofs.lemmas.JoinedInputLemmas.{rest-back, none-settled}
 use Rattle.winnow_feed.proofs.lemmas.KeepingLemmas.{IsRunOver-more, IsRunOver-skips, place-kept, fed-is, end-is, needed-none, needed-done, needed-same_end}
 use Rattle.winnow_feed.proofs.lemmas.ReachLemmas.{Reaches-out, Reaches-cursor, Reaches-all}
 
@@ -29,7 +29,7 @@ Run = Progress ℕ (Bor (List ℕ))
 
 -- a feed took a piece: with what was kept before it made `xs`, the run took it in, and the unneeded
 -- front of it was dropped
-pub record TookPiece (i : InputKind) (old new : FeedState) (piece : List ℕ) : Type 0 where
+pub record TookPiece (i : InputRules) (old new : FeedState) (piece : List ℕ) : Type 0 where
   pub xs : List ℕ
   pub unneeded : ℕ
   pub is_piece : i.valid piece ≡ true
@@ -38,7 +38,7 @@ pub record TookPiece (i : InputKind) (old new : FeedState) (piece : List ℕ) : 
   pub left : i.source new.kept ≡ back (i.source xs) unneeded
   pub takes : TakesIn i.pieces (i.source xs) unneeded old.run new.run
 
-module _ (i : InputKind) (law : IsInput i) where
+module _ (i : InputRules) (law : IsInput i) where
   -- the run stands for the input with a piece appended to what is kept
   pub grow : (J piece xs : List ℕ) (f : FeedState) → i.valid piece ≡ true → xs ≡ f.kept ++ piece
       → HoldsInput i f J → IsRunOver true i.pieces (i.source (J ++ piece)) (i.source xs) f.run
@@ -86,7 +86,7 @@ module _ (i : InputKind) (law : IsInput i) where
 
   -- a feed that was fed nothing holds the empty input
   pub new-stands : (run : Run) (kept : List ℕ) → run.told.items ≡ [] → run.marks.items ≡ []
-      → kept ≡ [] → run.place ≡ 0 → run.base ≡ 0 → run.passed.width ≡ 0 → run.passed.tokens ≡ 0
+      → kept ≡ [] → run.place ≡ 0 → run.base ≡ 0 → run.settled.width ≡ 0 → run.settled.tokens ≡ 0
       → HoldsInput i (record { run = run; kept = kept }) []
   new-stands run kept told marks none here base w t =
       record {
@@ -103,7 +103,7 @@ module _ (i : InputKind) (law : IsInput i) where
           reached = omega arith;
           based = base;
           is_kept = ap i.source none;
-          settled = λ s e. rw (w, t) (none-passed i.pieces s (rest (i.source []) start));
+          settled = λ s e. rw (w, t) (none-settled i.pieces s (rest (i.source []) start));
         };
       }
 
@@ -136,9 +136,9 @@ module _ (i : InputKind) (law : IsInput i) where
   pub skips : (f : FeedState) (J piece : List ℕ) (q : Run) → i.valid piece ≡ true
       → HoldsInput i f J → length f.run.script.now ≤ length f.run.told.items
       → q.script ≡ f.run.script → q.told ≡ f.run.told → q.place ≡ f.run.place
-      → q.marks ≡ f.run.marks → q.passed ≡ f.run.passed → q.base ≡ f.run.base + length piece
+      → q.marks ≡ f.run.marks → q.settled ≡ f.run.settled → q.base ≡ f.run.base + length piece
       → HoldsInput i (record { run = q; kept = f.kept }) (J ++ piece)
-  skips f J piece q v h done script told here marks passed base =
+  skips f J piece q v h done script told here marks settled base =
       let none : steps_left f.run ≡ [] = needed-done f.run done in
       let gone : length f.kept ≡ 0 = omega (arith, h.least, ap (needed_place (bytes_fed f) f.run.place f.run.marks.items) none) in
       let is_nil : f.kept ≡ [] = nil_from_length f.kept gone in
@@ -149,7 +149,7 @@ module _ (i : InputKind) (law : IsInput i) where
       record {
         is_input = law.joins J piece h.is_input v;
         is_kept = h.is_kept;
-        stands = rw (law.split J piece h.is_input) (IsRunOver-skips i.pieces (i.source J) (i.source f.kept) f.run h.stands (i.source piece) (law.widths piece) none q (i.source f.kept) nothing script told here marks passed (base ∙ omega (arith, fed_is, ap width nothing, law.width_is piece v)));
+        stands = rw (law.split J piece h.is_input) (IsRunOver-skips i.pieces (i.source J) (i.source f.kept) f.run h.stands (i.source piece) (law.widths piece) none q (i.source f.kept) nothing script told here marks settled (base ∙ omega (arith, fed_is, ap width nothing, law.width_is piece v)));
         least = omega (arith, base, gone, ap (needed_place (q.base + length f.kept) q.place q.marks.items) over);
       }
 
@@ -214,20 +214,21 @@ module _ (i : InputKind) (law : IsInput i) where
       omega (arith, e, now, ap length before.told)
 
 -- a run that has answered each step has all answers, and stands at the last place
-module _ (i : InputKind) (J : List ℕ) (kept : Source ℕ) (run : Run) (h : IsRunOver false i.pieces (i.source J) kept run) (done : length run.script.now ≤ length run.told.items) where
+module _ (i : InputRules) (J : List ℕ) (kept : Source ℕ) (run : Run) (h : IsRunOver false i.pieces (i.source J) kept run) (done : length run.script.now ≤ length run.told.items) where
   -- the answers and the cursor are those of the script on the whole input
-  ended : (answers_out run ≡ search_answers (kind_of i.pieces) (i.source J) run.script.now)
+  ended : (answers_out run ≡ search_answers (kind_on_pieces i.pieces) (i.source J) run.script.now)
       × (h.at ≡ search_cursor (i.source J) run.script.now)
   ended = Reaches-all false i.pieces (i.source J) start h.at run.script.now (answers_out run) h.reaches (omega (arith, done, length-map run.told.items (λ t. t.answer)))
 
   -- the answers, the place and what the end returns are those of the script
-  pub end-answers : answers_out run ≡ search_answers (kind_of i.pieces) (i.source J) run.script.now
+  pub end-answers : answers_out run
+      ≡ search_answers (kind_on_pieces i.pieces) (i.source J) run.script.now
   end-answers = ended.0
 
   pub end-place : run.place ≡ place (i.source J) (search_cursor (i.source J) run.script.now).index
   end-place = h.here ∙ ap (λ at. place (i.source J) at.index) ended.1
 
-module _ (i : InputKind) (old : FeedState) (pieces : List (List ℕ)) (kept : Source ℕ) (run : Run) (fits : Fits i old pieces) (h : IsRunOver false i.pieces (i.source (joined pieces)) kept run) (adds : AddsAnswers None old.run run) (script : run.script ≡ old.run.script) (done : length run.script.now ≤ length run.told.items) where
+module _ (i : InputRules) (old : FeedState) (pieces : List (List ℕ)) (kept : Source ℕ) (run : Run) (fits : Fits i old pieces) (h : IsRunOver false i.pieces (i.source (joined pieces)) kept run) (adds : AddsAnswers None old.run run) (script : run.script ≡ old.run.script) (done : length run.script.now ≤ length run.told.items) where
   pub finished : (all : Finished ℕ) → all.told ≡ run.told → all.place ≡ run.place
       → Finishes i (script_of old) pieces all
   finished all is_told is_place =

@@ -7,7 +7,7 @@ use Rattle.winnow_stream.specs.Source.{width, HasPositiveWidths}
 use Rattle.winnow_stream.specs.Units.{width-units, HasPositiveWidths-units}
 use Rattle.winnow_stream.specs.Text.{HasPositiveWidths-char_source}
 use Rattle.winnow_stream.proofs.lemmas.TextLemmas.{text_source-append, width-text_source, text_source-nil}
-use Rattle.winnow_feed.specs.Inputs.{InputKind, byte_input, text_input, joined}
+use Rattle.winnow_feed.specs.Inputs.{InputRules, byte_input, text_input, joined}
 
 -- one more piece is appended to the joined pieces
 pub joined-push : (pieces : List (List ℕ)) (p : List ℕ)
@@ -16,7 +16,7 @@ joined-push [] p = append-nil p
 joined-push (q ∷ pieces) p = ap (λ x. q ++ x) (joined-push pieces p) ∙ sym (append_assoc q (joined pieces) p)
 
 -- what the proofs need of an input's bytes: they may be joined, and their width is their length
-pub record IsInput (i : InputKind) : Type 0 where
+pub record IsInput (i : InputRules) : Type 0 where
   pub joins : (xs ys : List ℕ) → i.valid xs ≡ true → i.valid ys ≡ true → i.valid (xs ++ ys) ≡ true
   pub split : (xs ys : List ℕ) → i.valid xs ≡ true
       → i.source (xs ++ ys) ≡ i.source xs ++ i.source ys

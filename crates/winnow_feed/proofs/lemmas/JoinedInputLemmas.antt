@@ -14,19 +14,19 @@ use Rattle.winnow_stream.proofs.lemmas.FrontLemmas.{front_count-place, back-plac
 use Rattle.winnow_sets.specs.declared.char_set.CharSet.{CharSet}
 use Rattle.winnow_match.specs.Bytes.{written}
 use Rattle.winnow_match.specs.Search.{needle_list}
-use Rattle.winnow_run.specs.declared.search_script.SearchStep.{SearchStep}
-use Rattle.winnow_run.specs.declared.search_script.SearchStep.TheVariants as step
+use Rattle.winnow_run.specs.declared.search_steps.SearchStep.{SearchStep}
+use Rattle.winnow_run.specs.declared.search_steps.SearchStep.TheVariants as step
 use Rattle.winnow_feed.specs.declared.progress.Progress.{Progress}
 use Rattle.winnow_run.specs.Searching.{search_answer, search_next}
-use Rattle.winnow_run.specs.Definite.{PieceKind, kind_of, is_definite}
-use Rattle.winnow_attempt.specs.Settled.{IsNeedSettled, IsSettled}
-use Rattle.winnow_attempt.specs.View.{Look, look_of}
+use Rattle.winnow_run.specs.Definite.{PieceReading, kind_on_pieces, is_definite}
+use Rattle.winnow_feed_step.specs.Settled.{IsNeedSettled, IsSettled}
+use Rattle.winnow_feed_step.specs.Looks.{Look, look_of}
 use Rattle.winnow_feed.specs.Reach.{least_index, needed_from}
-use Rattle.winnow_attempt.specs.View.{under}
+use Rattle.winnow_feed_step.specs.Looks.{under}
 use Rattle.winnow_feed.specs.JoinedInput.{GoesOn, IsRunOver, AddsAnswers, next_step, steps_left, answers_out}
 use Rattle.winnow_run.proofs.lemmas.StepLemmas.{Inside, start-inside}
-use Rattle.winnow_attempt.proofs.lemmas.SettledLemmas.{width-split, NoneHeld-none, NoneOccurs-none, AreCounted-none, AreSame-none}
-use Rattle.winnow_attempt.proofs.lemmas.ViewLemmas.{view-answer, view-place, view-marks}
+use Rattle.winnow_feed_step.proofs.lemmas.SettledLemmas.{width-split, NoneInSet-none, NoneOccurs-none, AreCounted-none, AreSame-none}
+use Rattle.winnow_feed_step.proofs.lemmas.CursorLemmas.{cursor-answer, cursor-place, cursor-marks}
 use Rattle.winnow_feed.proofs.lemmas.ReachLemmas.{Reaches-inside, Reaches-push, least-at, never_back}
 
 -- the rest of a list begins with the element there
@@ -43,28 +43,28 @@ pub next-is : {T L : Type 0} (p : Progress T L) (i : ℕ) (x : SearchStep CharSe
 next-is p i x e l is = ap (slice_get p.script.now) (sym e) ∙ slice_get-get_or p.script.now i x l ∙ ap Some (sym is)
 
 -- at first, a need has settled nothing
-need-none_passed : {T C : Type 0} (holds : C → T → Bool) (n : Need C) (r : Source T)
+need-none_settled : {T C : Type 0} (holds : C → T → Bool) (n : Need C) (r : Source T)
     → IsNeedSettled holds n r 0 0
-need-none_passed holds (need.TokenOf c) r = NoneHeld-none (holds c) r
-need-none_passed holds (need.Tokens asked) r = AreCounted-none asked r
-need-none_passed holds need.Nothing r = tt
-need-none_passed holds need.Token r = tt
-need-none_passed holds (need.Width n) r = tt
-need-none_passed holds need.End r = tt
+need-none_settled holds (need.TokenOf c) r = NoneInSet-none (holds c) r
+need-none_settled holds (need.Tokens asked) r = AreCounted-none asked r
+need-none_settled holds need.Nothing r = tt
+need-none_settled holds need.Token r = tt
+need-none_settled holds (need.Width n) r = tt
+need-none_settled holds need.End r = tt
 
 -- at first, a step has settled nothing
-pub none-passed : {T C L : Type 0} (k : PieceKind T C L) (s : SearchStep C L) (r : Source T)
+pub none-settled : {T C L : Type 0} (k : PieceReading T C L) (s : SearchStep C L) (r : Source T)
     → IsSettled k s r 0 0
-none-passed k (step.Call s) r = need-none_passed k.holds (call_need s) r
-none-passed k (step.Compare l) r = AreSame-none (k.literal l) (written k.write r)
-none-passed k (step.Find ns) r = NoneOccurs-none (needle_list k.literal ns) (written k.write r)
+none-settled k (step.Call s) r = need-none_settled k.holds (call_need s) r
+none-settled k (step.Compare l) r = AreSame-none (k.literal l) (written k.write r)
+none-settled k (step.Find ns) r = NoneOccurs-none (needle_list k.literal ns) (written k.write r)
 
 -- a run that differs only in what it counts stands for the same input
-pub IsRunOver-same : {T L : Type 0} (strict : Bool) (k : PieceKind T CharSet L)
+pub IsRunOver-same : {T L : Type 0} (strict : Bool) (k : PieceReading T CharSet L)
     (all kept : Source T) (p : Progress T L) → IsRunOver strict k all kept p → (q : Progress T L)
     → q.script ≡ p.script → q.told.items ≡ p.told.items → q.place ≡ p.place → q.marks ≡ p.marks
-    → q.passed ≡ p.passed → q.base ≡ p.base → IsRunOver strict k all kept q
-IsRunOver-same strict k all kept p h q script told here marks passed base = record {
+    → q.settled ≡ p.settled → q.base ≡ p.base → IsRunOver strict k all kept q
+IsRunOver-same strict k all kept p h q script told here marks settled base = record {
   widths = h.widths;
   at = h.at;
   reaches = rw (script, told) h.reaches;
@@ -74,7 +74,7 @@ IsRunOver-same strict k all kept p h q script told here marks passed base = reco
   reached = rw (script, told) h.reached;
   based = base ∙ h.based;
   is_kept = h.is_kept;
-  settled = λ s i. rw passed (h.settled s (rw (script, told) at i));
+  settled = λ s i. rw settled (h.settled s (rw (script, told) at i));
 }
 
 -- ---- the answers that were added
@@ -108,7 +108,7 @@ GoesOn-more piece p q r h g first second = record {
   room = g.room;
 }
 
-module _ {T L : Type 0} (strict : Bool) (k : PieceKind T CharSet L) (all kept : Source T) (p : Progress T L) (h : IsRunOver strict k all kept p) (x : SearchStep CharSet L) (next : next_step p ≡ Some x) where
+module _ {T L : Type 0} (strict : Bool) (k : PieceReading T CharSet L) (all kept : Source T) (p : Progress T L) (h : IsRunOver strict k all kept p) (x : SearchStep CharSet L) (next : next_step p ≡ Some x) where
   -- the cursor is inside the list
   pub inside : Inside all h.at
   inside = Reaches-inside k strict all start h.at p.script.now (answers_out p) (start-inside all) h.reaches
@@ -176,7 +176,7 @@ module _ {T L : Type 0} (strict : Bool) (k : PieceKind T CharSet L) (all kept : 
   -- a run whose next step waits stands for the same input
   pub IsRunOver-waits : (q : Progress T L) → q.script ≡ p.script → q.told.items ≡ p.told.items
       → q.place ≡ p.place → q.marks ≡ p.marks → q.base ≡ p.base
-      → IsSettled k x (rest all h.at) q.passed.width q.passed.tokens → IsRunOver strict k all kept q
+      → IsSettled k x (rest all h.at) q.settled.width q.settled.tokens → IsRunOver strict k all kept q
   IsRunOver-waits q script told here marks base settled =
       let same : next_step q ≡ Some x = rw (script, told) next in
       record {
@@ -189,7 +189,7 @@ module _ {T L : Type 0} (strict : Bool) (k : PieceKind T CharSet L) (all kept : 
         reached = rw (script, told) h.reached;
         based = base ∙ h.based;
         is_kept = h.is_kept;
-        settled = λ s e. subst (λ y. IsSettled k y (rest all h.at) q.passed.width q.passed.tokens) (same_Some x s (sym same ∙ e)) settled;
+        settled = λ s e. subst (λ y. IsSettled k y (rest all h.at) q.settled.width q.settled.tokens) (same_Some x s (sym same ∙ e)) settled;
       }
 
   -- ---- an attempt that was answered
@@ -199,18 +199,18 @@ module _ {T L : Type 0} (strict : Bool) (k : PieceKind T CharSet L) (all kept : 
       → (strict ≡ true → is_definite k x (rest all h.at) ≡ true)
       → look ≡ look_of k p.place p.marks.items (rest all h.at) x → q.script ≡ p.script
       → q.base ≡ p.base
-      → q.told.items ≡ p.told.items ++ record { piece = piece; answer = look.answer } ∷ [] → q.place ≡ look.place → q.marks.items ≡ cond look.marks (p.marks.items ++ p.place ∷ []) p.marks.items → q.passed.width ≡ 0 → q.passed.tokens ≡ 0 → IsRunOver strict k all kept q
+      → q.told.items ≡ p.told.items ++ record { piece = piece; answer = look.answer } ∷ [] → q.place ≡ look.place → q.marks.items ≡ cond look.marks (p.marks.items ++ p.place ∷ []) p.marks.items → q.settled.width ≡ 0 → q.settled.tokens ≡ 0 → IsRunOver strict k all kept q
   IsRunOver-answered q piece look definite is script base told here marks width_none tokens_none =
       let seen : look ≡ look_of k (place all h.at.index) (map (place all) h.at.marks) (rest all h.at) x = is ∙ ap (λ n. look_of k n p.marks.items (rest all h.at) x) h.here ∙ ap (λ ms. look_of k (place all h.at.index) ms (rest all h.at) x) h.marked in
-      let answer : look.answer ≡ search_answer (kind_of k) all x h.at = ap (λ l. l.answer) seen ∙ view-answer k all h.at h.widths inside x in
-      let place_is : look.place ≡ place all (search_next all x h.at).index = ap (λ l. l.place) seen ∙ view-place k all h.at h.widths inside x in
+      let answer : look.answer ≡ search_answer (kind_on_pieces k) all x h.at = ap (λ l. l.answer) seen ∙ cursor-answer k all h.at h.widths inside x in
+      let place_is : look.place ≡ place all (search_next all x h.at).index = ap (λ l. l.place) seen ∙ cursor-place k all h.at h.widths inside x in
       let marks_is : cond look.marks (map (place all) h.at.marks ++ place all h.at.index ∷ []) (map (place all) h.at.marks) ≡ map (place all) (search_next all x h.at).marks =
-      ap (λ l. cond l.marks (map (place all) h.at.marks ++ place all h.at.index ∷ []) (map (place all) h.at.marks)) seen ∙ view-marks k all h.at h.widths inside x
+      ap (λ l. cond l.marks (map (place all) h.at.marks ++ place all h.at.index ∷ []) (map (place all) h.at.marks)) seen ∙ cursor-marks k all h.at h.widths inside x
       in
       let len : length (answers_out p) ≡ length p.told.items = length-map p.told.items (λ t. t.answer) in
       let next_at : slice_get p.script.now (length (answers_out p)) ≡ Some x = ap (slice_get p.script.now) len ∙ next in
       let pushed = Reaches-push k strict all start h.at p.script.now (answers_out p) x h.reaches next_at definite in
-      let told_is : answers_out q ≡ answers_out p ++ search_answer (kind_of k) all x h.at ∷ [] =
+      let told_is : answers_out q ≡ answers_out p ++ search_answer (kind_on_pieces k) all x h.at ∷ [] =
       ap (map (λ t. t.answer)) told ∙ map-append (λ t. t.answer) p.told.items (record { piece = piece; answer = look.answer } ∷ []) ∙ ap (λ a. answers_out p ++ a ∷ []) answer
       in
       let count : length q.told.items ≡ suc (length p.told.items) = ap length told ∙ length-append p.told.items (record { piece = piece; answer = look.answer } ∷ []) ∙ omega arith in
@@ -226,5 +226,5 @@ module _ {T L : Type 0} (strict : Bool) (k : PieceKind T CharSet L) (all kept : 
         reached = rw (script, count) needed;
         based = base ∙ h.based;
         is_kept = h.is_kept;
-        settled = λ s e. rw (width_none, tokens_none) (none-passed k s (rest all (search_next all x h.at)));
+        settled = λ s e. rw (width_none, tokens_none) (none-settled k s (rest all (search_next all x h.at)));
       }

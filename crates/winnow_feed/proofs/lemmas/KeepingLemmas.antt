@@ -10,16 +10,15 @@ use Rattle.winnow_stream.specs.Cursor.{Cursor, start, rest, place}
 use Rattle.winnow_run.specs.Needs.{mark_of}
 use Rattle.winnow_stream.proofs.lemmas.FrontLemmas.{front_count-place, back-place, HasPositiveWidths-drop, width-take_drop}
 use Rattle.winnow_sets.specs.declared.char_set.CharSet.{CharSet}
-use Rattle.winnow_run.specs.declared.search_script.SearchStep.{SearchStep}
-use Rattle.winnow_run.specs.declared.search_script.SearchStep.TheVariants as step
+use Rattle.winnow_run.specs.declared.search_steps.SearchStep.{SearchStep}
 use Rattle.winnow_feed.specs.declared.progress.Progress.{Progress}
-use Rattle.winnow_run.specs.Definite.{PieceKind}
+use Rattle.winnow_run.specs.Definite.{PieceReading}
 use Rattle.winnow_feed.specs.Reach.{step_mark, named_index, least_index, needed_from, named_place, least_place, needed_place}
 use Rattle.winnow_feed.specs.JoinedInput.{IsRunOver, StaysWithoutAnswer, KeepsLeast, steps_left, answers_out}
 use Rattle.winnow_run.proofs.lemmas.MoreLemmas.{width-append}
 use Rattle.winnow_run.proofs.lemmas.StepLemmas.{Inside, start-inside}
-use Rattle.winnow_attempt.proofs.lemmas.SettledLemmas.{width-split, settled-more}
-use Rattle.winnow_attempt.proofs.lemmas.ViewLemmas.{marked, reset-place}
+use Rattle.winnow_feed_step.proofs.lemmas.SettledLemmas.{width-split, settled-more}
+use Rattle.winnow_feed_step.proofs.lemmas.CursorLemmas.{marked, reset-place}
 use Rattle.winnow_feed.proofs.lemmas.ReachLemmas.{Reaches-inside, Reaches-more, Reaches-loose, least-at}
 
 -- the least of two numbers may be taken before or after the steps' places
@@ -124,7 +123,7 @@ pub HasPositiveWidths-append : {T : Type 0} (all more : Source T) → HasPositiv
 HasPositiveWidths-append [] more h g = g
 HasPositiveWidths-append (x ∷ all) more h g = (h.0, HasPositiveWidths-append all more h.1 g)
 
-module _ {T L : Type 0} (k : PieceKind T CharSet L) (all kept : Source T) (p : Progress T L) (h : IsRunOver true k all kept p) where
+module _ {T L : Type 0} (k : PieceReading T CharSet L) (all kept : Source T) (p : Progress T L) (h : IsRunOver true k all kept p) where
   -- the cursor is inside the list
   pub stands-inside : Inside all h.at
   stands-inside = Reaches-inside k true all start h.at p.script.now (answers_out p) (start-inside all) h.reaches
@@ -156,15 +155,15 @@ module _ {T L : Type 0} (k : PieceKind T CharSet L) (all kept : Source T) (p : P
         is_kept = ap (λ r. r ++ more) h.is_kept ∙ sym (drop-append-le h.first all more first-within);
         settled = λ s e.
             let r : drop h.at.index (all ++ more) ≡ rest all h.at ++ more = drop-append-le h.at.index all more i.index in
-            rw r (settled-more T CharSet L k s (rest all h.at) more p.passed.width p.passed.tokens (h.settled s e));
+            rw r (settled-more T CharSet L k s (rest all h.at) more p.settled.width p.settled.tokens (h.settled s e));
       }
 
   -- a run without remaining steps stands for the input with a piece of which nothing is kept
   pub IsRunOver-skips : (more : Source T) → HasPositiveWidths more → steps_left p ≡ []
       → (q : Progress T L) (t : Source T) → t ≡ [] → q.script ≡ p.script → q.told ≡ p.told
-      → q.place ≡ p.place → q.marks ≡ p.marks → q.passed ≡ p.passed
+      → q.place ≡ p.place → q.marks ≡ p.marks → q.settled ≡ p.settled
       → q.base ≡ place all (length all) + width more → IsRunOver true k (all ++ more) t q
-  IsRunOver-skips more w none q t gone script told here marks passed based =
+  IsRunOver-skips more w none q t gone script told here marks settled based =
       let m = IsRunOver-more more w in
       let len = length-append all more in
       record {
@@ -177,7 +176,7 @@ module _ {T L : Type 0} (k : PieceKind T CharSet L) (all kept : Source T) (p : P
         reached = let e : steps_left q ≡ [] = rw (script, told) none in rw e (omega arith);
         based = based ∙ omega (arith, place-end all, place-end (all ++ more), width-append all more);
         is_kept = gone ∙ sym (drop_all (length (all ++ more)) (all ++ more) (omega arith));
-        settled = λ s i. rw passed (m.settled s (rw (script, told) at i));
+        settled = λ s i. rw settled (m.settled s (rw (script, told) at i));
       }
 
   -- ---- a front dropped
@@ -235,8 +234,8 @@ module _ {T L : Type 0} (k : PieceKind T CharSet L) (all kept : Source T) (p : P
   pub IsRunOver-forgets : (q : Progress T L) (t : Source T) (least : ℕ)
       → least ≡ place all (needed_from all (steps_left p) h.at) → t ≡ back kept (least - p.base)
       → q.script ≡ p.script → q.told ≡ p.told → q.place ≡ p.place → q.marks ≡ p.marks
-      → q.passed ≡ p.passed → q.base ≡ least → IsRunOver true k all t q
-  IsRunOver-forgets q t least is left script told here marks passed based =
+      → q.settled ≡ p.settled → q.base ≡ least → IsRunOver true k all t q
+  IsRunOver-forgets q t least is left script told here marks settled based =
       let n = needed_from all (steps_left p) h.at in
       let e : t ≡ drop n all = left ∙ ap (λ m. back kept (m - p.base)) is ∙ kept-back n h.reached (needed-within all h.at (steps_left p) stands-inside.index) in
       record {
@@ -249,7 +248,7 @@ module _ {T L : Type 0} (k : PieceKind T CharSet L) (all kept : Source T) (p : P
         reached = rw (script, told) (omega arith);
         based = based ∙ is;
         is_kept = e;
-        settled = λ s i. rw passed (h.settled s (rw (script, told) at i));
+        settled = λ s i. rw settled (h.settled s (rw (script, told) at i));
       }
 
   -- ---- the front that is not needed
@@ -267,9 +266,9 @@ module _ {T L : Type 0} (k : PieceKind T CharSet L) (all kept : Source T) (p : P
     unneeded-offset = subst (λ n. is_offset kept (n - p.base) ≡ true) (sym least-is) least-offset
 
     pub IsRunOver-needed : (q : Progress T L) → q.script ≡ p.script → q.told ≡ p.told
-        → q.place ≡ p.place → q.marks ≡ p.marks → q.passed ≡ p.passed → q.base ≡ least
+        → q.place ≡ p.place → q.marks ≡ p.marks → q.settled ≡ p.settled → q.base ≡ least
         → IsRunOver true k all (back kept (least - p.base)) q
-    IsRunOver-needed q script told here marks passed based = IsRunOver-forgets q (back kept (least - p.base)) least least-is refl script told here marks passed based
+    IsRunOver-needed q script told here marks settled based = IsRunOver-forgets q (back kept (least - p.base)) least least-is refl script told here marks settled based
 
 -- if no answer was added, the same input is needed as before
 pub least-still : {T L : Type 0} (p q : Progress T L) (end : ℕ) → KeepsLeast end p
@@ -278,7 +277,7 @@ pub least-still : {T L : Type 0} (p q : Progress T L) (end : ℕ) → KeepsLeast
 least-still p q end least script base still same = let s = still same in rw (base, s.0, s.1, script, same) least
 
 -- a run that stands for an input stands for it where indefinite answers count too
-pub IsRunOver-loose : {T L : Type 0} (k : PieceKind T CharSet L) (all kept : Source T)
+pub IsRunOver-loose : {T L : Type 0} (k : PieceReading T CharSet L) (all kept : Source T)
     (p : Progress T L) → IsRunOver true k all kept p → IsRunOver false k all kept p
 IsRunOver-loose k all kept p h = record {
   widths = h.widths;

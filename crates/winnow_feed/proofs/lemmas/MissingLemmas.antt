@@ -34,20 +34,20 @@ use Rattle.winnow_run.specs.declared.script.Step.{Step}
 use Rattle.winnow_run.specs.declared.script.Step.TheVariants as call
 use Rattle.winnow_run.specs.declared.script.Answer.TheVariants as answer
 use Rattle.winnow_run.specs.Script.{PlacedAnswer, slice_answer, step_answer}
-use Rattle.winnow_run.specs.declared.search_script.SearchStep.TheVariants as step
-use Rattle.winnow_run.specs.declared.search_script.SearchAnswer.TheVariants as search_answered
+use Rattle.winnow_run.specs.declared.search_steps.SearchStep.TheVariants as step
+use Rattle.winnow_run.specs.declared.search_steps.SearchAnswer.TheVariants as search_answered
 use Rattle.winnow_run.specs.Searching.{PlacedSearchAnswer, search_answer}
-use Rattle.winnow_run.specs.Definite.{kind_of, is_decided, is_call_definite, is_definite}
+use Rattle.winnow_run.specs.Definite.{kind_on_pieces, is_decided, is_call_definite, is_definite}
 use Rattle.winnow_run.proofs.lemmas.StepLemmas.{Inside, rest-more}
 use Rattle.winnow_match.specs.Staying.{written-append}
 use Rattle.winnow_run.proofs.lemmas.MoreLemmas.{width-append}
-use Rattle.winnow_feed.specs.Inputs.{PieceStep, InputKind}
-use Rattle.winnow_attempt.specs.Missing.{letters, needle_missing, need_missing, missing}
+use Rattle.winnow_feed.specs.Inputs.{PieceStep, InputRules}
+use Rattle.winnow_feed_step.specs.Missing.{letters, needle_missing, need_missing, missing}
 use Rattle.winnow_feed.specs.Waits.{IsNeedSpelt, IsSpelt}
 use Rattle.winnow_feed.proofs.lemmas.InputLemmas.{IsInput}
 use Rattle.winnow_feed.proofs.lemmas.KeepingLemmas.{HasPositiveWidths-append}
 use Rattle.winnow_feed.proofs.lemmas.SpellingLemmas.{IsSpelling}
-use Rattle.winnow_attempt.proofs.lemmas.NeedleLemmas.{needle-changes}
+use Rattle.winnow_feed_step.proofs.lemmas.NeedleLemmas.{needle-changes}
 
 -- ---- one definition at a time
 
@@ -204,7 +204,7 @@ place-more all m n h = ap width (take-append-le n all m h)
 
 -- ---- a call, where m follows
 
-module _ (i : InputKind) (law : IsInput i) (spelling : IsSpelling i) (J : List ℕ) (at : Cursor) (inside : Inside (i.source J) at) where
+module _ (i : InputRules) (law : IsInput i) (spelling : IsSpelling i) (J : List ℕ) (at : Cursor) (inside : Inside (i.source J) at) where
   abbrev r : Source ℕ
   r = rest (i.source J) at
 
@@ -336,8 +336,8 @@ module _ (i : InputKind) (law : IsInput i) (spelling : IsSpelling i) (J : List �
     -- each step that is not definite answers differently when what is missing follows
     pub step-changes : (s : PieceStep) → is_definite i.pieces s r ≡ false → IsSpelt i s
         → i.valid m ≡ true → missing i.pieces i.greatest i.pieces.write r s ≡ Some m
-        → ¬ (search_answer (kind_of i.pieces) (i.source J ++ i.source m) s at
-        ≡ search_answer (kind_of i.pieces) (i.source J) s at)
+        → ¬ (search_answer (kind_on_pieces i.pieces) (i.source J ++ i.source m) s at
+        ≡ search_answer (kind_on_pieces i.pieces) (i.source J) s at)
     step-changes (step.Call s) h u v is = λ e. call-changes s h u is (call-parts _ _ e)
     step-changes (step.Compare literal) h u v is = λ e.
         let l : List ℕ = i.pieces.literal literal in

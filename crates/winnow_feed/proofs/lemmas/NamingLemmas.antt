@@ -3,7 +3,7 @@ use Rattle.std.proofs.Common.{◌≡◌, ℕ, zero, suc, ◌≤◌, ◌<◌, ◌
 use Rattle.std.specs.Prelude.{Option, None, Some, unwrap_or}
 use Rattle.std.proofs.lemmas.Option.{slice_get_past}
 use Rattle.winnow_run.specs.Needs.{mark_of}
-use Rattle.winnow_run.specs.declared.search_script.SearchStep.{SearchStep}
+use Rattle.winnow_run.specs.declared.search_steps.SearchStep.{SearchStep}
 use Rattle.winnow_feed.specs.Reach.{step_mark, no_mark, named_place, least_place, mark_named, least_mark, least_marks}
 
 -- a mark that is not made stands for the cursor's place

@@ -13,13 +13,13 @@ use Rattle.winnow_match.specs.declared.needles.Needles.TheVariants.{One}
 use Rattle.winnow_match.proofs.lemmas.ByteLemmas.{bytes_of-units, utf8_of-text_source}
 use Rattle.winnow_match.proofs.lemmas.RuleLemmas.{none-definite}
 use Rattle.winnow_match.proofs.lemmas.TailLemmas.{one-length}
-use Rattle.winnow_run.specs.declared.search_script.SearchStep.TheVariants as step
-use Rattle.winnow_run.specs.declared.search_script.SearchAnswer.TheVariants as answer
+use Rattle.winnow_run.specs.declared.search_steps.SearchStep.TheVariants as step
+use Rattle.winnow_run.specs.declared.search_steps.SearchAnswer.TheVariants as answer
 use Rattle.winnow_run.specs.Searching.{PlacedSearchAnswer}
-use Rattle.winnow_feed.specs.Inputs.{InputKind, byte_input, text_input, joined}
-use Rattle.winnow_feed.specs.Telling.{numbered, piece_of, first_told, TellsHit}
+use Rattle.winnow_feed.specs.Inputs.{InputRules, byte_input, text_input, joined}
+use Rattle.winnow_feed.specs.ToldAnswers.{numbered, piece_of, first_told, TellsHit}
 use Rattle.winnow_feed.proofs.lemmas.InputLemmas.{texts-input}
-use Rattle.winnow_feed.proofs.lemmas.TellingLemmas.{AreInputs, AreInputs-joined}
+use Rattle.winnow_feed.proofs.lemmas.ToldLemmas.{AreInputs, AreInputs-joined}
 
 abbrev hit_answer : Option (Range ℕ) → PlacedSearchAnswer ℕ
 hit_answer found = answer.Hit found
@@ -48,7 +48,7 @@ none-fed [] some = absurd (omega (arith, some refl))
 none-fed (x ∷ literal) some = refl
 
 -- the hit of one literal is out as soon as there is one
-module _ (i : InputKind) (literal : Bor (List ℕ)) where
+module _ (i : InputRules) (literal : Bor (List ℕ)) where
   -- the first answer after some pieces is the hit, if the input's bytes are read back
   told-hit : (pieces : List (List ℕ))
       → written i.pieces.write (i.source (joined pieces)) ≡ joined pieces

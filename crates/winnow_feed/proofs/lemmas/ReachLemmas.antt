@@ -9,10 +9,10 @@ use Rattle.winnow_stream.specs.Cursor.{Cursor, rest, answers_from, cursor_after}
 use Rattle.winnow_run.specs.Needs.{call_mark, mark_of, call_move, Move, stays, past_token, past_width, to_end, to_mark, marking}
 use Rattle.winnow_run.specs.Script.{moved}
 use Rattle.winnow_run.specs.declared.script.Step.{Step}
-use Rattle.winnow_run.specs.declared.search_script.SearchStep.{SearchStep}
-use Rattle.winnow_run.specs.declared.search_script.SearchStep.TheVariants as step
+use Rattle.winnow_run.specs.declared.search_steps.SearchStep.{SearchStep}
+use Rattle.winnow_run.specs.declared.search_steps.SearchStep.TheVariants as step
 use Rattle.winnow_run.specs.Searching.{PlacedSearchAnswer, search_answer, search_next}
-use Rattle.winnow_run.specs.Definite.{PieceKind, kind_of, is_definite, judged}
+use Rattle.winnow_run.specs.Definite.{PieceReading, kind_on_pieces, is_definite, judged}
 use Rattle.winnow_feed.specs.Reach.{Reaches, step_mark, named_index, least_index}
 use Rattle.winnow_run.proofs.lemmas.StepLemmas.{Inside, step-more, step-inside}
 
@@ -25,7 +25,7 @@ pub take_while-go : {X : Type 0} (p : X → Bool) (x : X) (xs : List X) → p x 
     → take_while p (x ∷ xs) ≡ x ∷ take_while p xs
 take_while-go p x xs h = rw (h, one-add)
 
-module _ {T C L : Type 0} (k : PieceKind T C L) where
+module _ {T C L : Type 0} (k : PieceReading T C L) where
   -- definite answers are reached with more input appended too
   pub Reaches-more : (all more : Source T) (s t : Cursor) (steps : List (SearchStep C L))
       (gs : List (PlacedSearchAnswer T)) → Inside all s → Reaches true k all s steps gs t
@@ -50,7 +50,7 @@ module _ {T C L : Type 0} (k : PieceKind T C L) where
       (steps : List (SearchStep C L)) (gs : List (PlacedSearchAnswer T)) (x : SearchStep C L)
       → Reaches strict k all s steps gs t → slice_get steps (length gs) ≡ Some x
       → (strict ≡ true → is_definite k x (rest all t) ≡ true)
-      → Reaches strict k all s steps (gs ++ search_answer (kind_of k) all x t
+      → Reaches strict k all s steps (gs ++ search_answer (kind_on_pieces k) all x t
       ∷ []) (search_next all x t)
   Reaches-push strict all s t [] [] x r e d = cc
   Reaches-push strict all s t (next ∷ steps) [] x r e d = let same : next ≡ x = cc in rw (r, same) (d, refl, refl)
@@ -73,7 +73,7 @@ module _ {T C L : Type 0} (k : PieceKind T C L) where
       let ih = Reaches-out all (search_next all x s) t steps gs r.2 stop in
       ap (map (λ a. a.0)) (take_while-go (λ a. a.1) (judged k all x s) (answers_from (judged k all) (search_next all) steps (search_next all x s)) (r.0 refl)) ∙ rw (ih, r.1) refl
 
-module _ {T C L : Type 0} (strict : Bool) (k : PieceKind T C L) (all : Source T) where
+module _ {T C L : Type 0} (strict : Bool) (k : PieceReading T C L) (all : Source T) where
   -- the cursor that is reached is the one after as many steps
   pub Reaches-cursor : (s t : Cursor) (steps : List (SearchStep C L))
       (gs : List (PlacedSearchAnswer T)) → Reaches strict k all s steps gs t
@@ -87,7 +87,7 @@ module _ {T C L : Type 0} (strict : Bool) (k : PieceKind T C L) (all : Source T)
   pub Reaches-all : (s t : Cursor) (steps : List (SearchStep C L))
       (gs : List (PlacedSearchAnswer T)) → Reaches strict k all s steps gs t
       → length steps ≤ length gs
-      → (gs ≡ answers_from (search_answer (kind_of k) all) (search_next all) steps s)
+      → (gs ≡ answers_from (search_answer (kind_on_pieces k) all) (search_next all) steps s)
       × (t ≡ cursor_after (search_next all) steps s)
   Reaches-all s t [] [] r l = (refl, sym r)
   Reaches-all s t (x ∷ steps) [] r l = absurd (omega arith)
@@ -97,7 +97,7 @@ module _ {T C L : Type 0} (strict : Bool) (k : PieceKind T C L) (all : Source T)
       (rw (← ih.0, r.1) refl, ih.1)
 
 -- answers that are all definite are reached where indefinite ones count too
-pub Reaches-loose : {T C L : Type 0} (k : PieceKind T C L) (all : Source T) (s t : Cursor)
+pub Reaches-loose : {T C L : Type 0} (k : PieceReading T C L) (all : Source T) (s t : Cursor)
     (steps : List (SearchStep C L)) (gs : List (PlacedSearchAnswer T))
     → Reaches true k all s steps gs t → Reaches false k all s steps gs t
 Reaches-loose k all s t steps [] r = r

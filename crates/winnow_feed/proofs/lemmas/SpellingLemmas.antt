@@ -13,12 +13,12 @@ use Rattle.winnow_match.specs.Bytes.{written}
 use Rattle.winnow_match.proofs.lemmas.ByteLemmas.{bytes_of-units, utf8_of-text_source}
 use Rattle.winnow_sets.specs.declared.char_set.CharSet.{CharSet}
 use Rattle.winnow_sets.specs.Sets.{char_ranges, in_ranges}
-use Rattle.winnow_feed.specs.Inputs.{InputKind, byte_input, text_input}
+use Rattle.winnow_feed.specs.Inputs.{InputRules, byte_input, text_input}
 use Rattle.winnow_match.specs.Comparison.{IsPrefixOf}
-use Rattle.winnow_attempt.specs.Missing.{letters, needle_missing}
+use Rattle.winnow_feed_step.specs.Missing.{letters, needle_missing}
 use Rattle.winnow_feed.proofs.lemmas.TextRestLemmas.{text-drop, rest-text, needle-text}
 
-pub record IsSpelling (i : InputKind) : Type 0 where
+pub record IsSpelling (i : InputRules) : Type 0 where
   pub letters_valid : (n : ℕ) → i.valid (letters n) ≡ true
   pub letters_width : (n : ℕ) → width (i.source (letters n)) ≡ n
   pub letters_length : (n : ℕ) → length (i.source (letters n)) ≡ n

@@ -18,7 +18,7 @@ use Rattle.winnow_match.proofs.lemmas.ByteLemmas.{utf8_of-char_source}
 use Rattle.winnow_match.proofs.lemmas.ByteFrontLemmas.{front_rest, is_prefix-IsPrefixOf, length-front}
 use Rattle.winnow_match.proofs.lemmas.StretchLemmas.{none-or-some}
 use Rattle.winnow_match.proofs.lemmas.MoveLemmas.{inside, stretch-some, stretch-first, stretch-empty}
-use Rattle.winnow_attempt.specs.Missing.{needle_missing}
+use Rattle.winnow_feed_step.specs.Missing.{needle_missing}
 
 -- the rest of a list of scalar values has scalar values alone
 scalars-drop : (k : ℕ) (cs : List ℕ) → all_scalars cs ≡ true → all_scalars (drop k cs) ≡ true

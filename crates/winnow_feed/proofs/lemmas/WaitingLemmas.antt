@@ -15,18 +15,18 @@ use Rattle.winnow_run.specs.declared.need.Need.{Need}
 use Rattle.winnow_run.specs.declared.need.Need.TheVariants as need
 use Rattle.winnow_run.specs.Needs.{call_need, is_met}
 use Rattle.winnow_run.specs.declared.script.Step.{Step}
-use Rattle.winnow_run.specs.declared.search_script.SearchStep.{SearchStep}
-use Rattle.winnow_run.specs.declared.search_script.SearchStep.TheVariants as step
-use Rattle.winnow_run.specs.declared.search_script.SearchAnswer.TheVariants as search_answered
+use Rattle.winnow_run.specs.declared.search_steps.SearchStep.{SearchStep}
+use Rattle.winnow_run.specs.declared.search_steps.SearchStep.TheVariants as step
+use Rattle.winnow_run.specs.declared.search_steps.SearchAnswer.TheVariants as search_answered
 use Rattle.winnow_run.specs.Searching.{PlacedSearchAnswer, search_answer, search_next}
-use Rattle.winnow_run.specs.Definite.{PieceKind, kind_of, is_definite}
+use Rattle.winnow_run.specs.Definite.{PieceReading, kind_on_pieces, is_definite}
 use Rattle.winnow_run.proofs.lemmas.StepLemmas.{Inside, start-inside, rest-more, SameReading, answer-read}
 use Rattle.winnow_feed.specs.declared.progress.Progress.{Progress}
-use Rattle.winnow_feed.specs.Inputs.{PieceStep, InputKind, byte_input, joined}
+use Rattle.winnow_feed.specs.Inputs.{PieceStep, InputRules, byte_input, joined}
 use Rattle.winnow_feed.specs.Reach.{Reaches}
 use Rattle.winnow_feed.specs.JoinedInput.{IsRunOver, IsAtRest, next_step, answers_out}
 use Rattle.winnow_feed.specs.Feeding.{FeedState, HoldsInput, Fits, script_of}
-use Rattle.winnow_attempt.specs.Missing.{need_missing, missing}
+use Rattle.winnow_feed_step.specs.Missing.{need_missing, missing}
 use Rattle.winnow_feed.specs.Waits.{GivesMissing, MissesSome, IsNeedSpelt, IsSpelt, answer_on, waiting_number, waiting_step, waiting_rest, missing_on, IsMissing, WaitsToEnd, MissesMore}
 use Rattle.winnow_feed.proofs.lemmas.InputLemmas.{IsInput}
 use Rattle.winnow_feed.proofs.lemmas.SpellingLemmas.{IsSpelling}
@@ -49,7 +49,7 @@ at-exists (x ∷ xs) (suc n) l = at-exists xs n (omega arith)
 
 -- ---- what a step is missing on the kept input is what it is missing on the joined input
 
-module _ {T L : Type 0} (k : PieceKind T CharSet L) (greatest : ℕ) (spell : ℕ → List ℕ) (kept : Source T) (p : Progress T L) (x : SearchStep CharSet L) (next : next_step p ≡ Some x) (r : Source T) (is : (all : Source T) (h : IsRunOver true k all kept p) → r ≡ rest all h.at) where
+module _ {T L : Type 0} (k : PieceReading T CharSet L) (greatest : ℕ) (spell : ℕ → List ℕ) (kept : Source T) (p : Progress T L) (x : SearchStep CharSet L) (next : next_step p ≡ Some x) (r : Source T) (is : (all : Source T) (h : IsRunOver true k all kept p) → r ≡ rest all h.at) where
   -- a step is missing the same on the kept input as on the joined one
   missing-same : (all : Source T) (h : IsRunOver true k all kept p) (s : SearchStep CharSet L)
       → next_step p ≡ Some s
@@ -70,11 +70,11 @@ module _ {T L : Type 0} (k : PieceKind T CharSet L) (greatest : ℕ) (spell : �
   err-missing (Err f) e = λ all h s n. ap is_some (sym (missing-same all h s n)) ∙ e
 
 -- the next step's answer is the answer of the script with its number
-reached-answer : {T C L : Type 0} (strict : Bool) (k : PieceKind T C L) (all : Source T)
+reached-answer : {T C L : Type 0} (strict : Bool) (k : PieceReading T C L) (all : Source T)
     (s t : Cursor) (steps : List (SearchStep C L)) (gs : List (PlacedSearchAnswer T))
     (x : SearchStep C L) → Reaches strict k all s steps gs t → slice_get steps (length gs) ≡ Some x
-    → slice_get (answers_from (search_answer (kind_of k) all) (search_next all) steps s)
-    (length gs) ≡ Some (search_answer (kind_of k) all x t)
+    → slice_get (answers_from (search_answer (kind_on_pieces k) all) (search_next all) steps s)
+    (length gs) ≡ Some (search_answer (kind_on_pieces k) all x t)
 reached-answer strict k all s t [] [] x r e = absurd (none-some x e)
 reached-answer strict k all s t (y ∷ steps) [] x r e = let same : y ≡ x = same_Some y x e in rw (r, same) refl
 reached-answer strict k all s t [] (a ∷ gs) x r e = elim r [ ]
@@ -88,12 +88,12 @@ pub next-exists : {T L : Type 0} (p : Progress T L) → length p.told.items < le
 next-exists p l = at-exists p.script.now (length p.told.items) l
 
 -- the next step names what fits the kind of input, if the step of the script at its number does
-pub next-spelt : (i : InputKind) (p : Progress ℕ (Bor (List ℕ))) (n : ℕ) (d : PieceStep)
+pub next-spelt : (i : InputRules) (p : Progress ℕ (Bor (List ℕ))) (n : ℕ) (d : PieceStep)
     → n ≡ length p.told.items → n < length p.script.now → IsSpelt i (get_or p.script.now n d)
     → (s : PieceStep) × (next_step p ≡ Some s) × IsSpelt i s
 next-spelt i p n d e l spelt = (get_or p.script.now n d, ap (slice_get p.script.now) (sym e) ∙ slice_get-get_or p.script.now n d l, spelt)
 
-module _ (i : InputKind) (law : IsInput i) (spelling : IsSpelling i) (f : FeedState) (J : List ℕ) (h : HoldsInput i f J) (rests : IsAtRest i.pieces (i.source J) f.run) (s : PieceStep) (next : next_step f.run ≡ Some s) where
+module _ (i : InputRules) (law : IsInput i) (spelling : IsSpelling i) (f : FeedState) (J : List ℕ) (h : HoldsInput i f J) (rests : IsAtRest i.pieces (i.source J) f.run) (s : PieceStep) (next : next_step f.run ≡ Some s) where
   -- the cursor is inside the input
   pub inside : Inside (i.source J) h.stands.at
   inside = stands-inside i.pieces (i.source J) (i.source f.kept) f.run h.stands
@@ -110,7 +110,7 @@ module _ (i : InputKind) (law : IsInput i) (spelling : IsSpelling i) (f : FeedSt
 
 -- ---- the same for pieces that the feed fits
 
-module _ (i : InputKind) (law : IsInput i) (spelling : IsSpelling i) (f : FeedState) (pieces : List (List ℕ)) (h : Fits i f pieces) (some : 0 < length pieces) (s : PieceStep) (next : next_step f.run ≡ Some s) where
+module _ (i : InputRules) (law : IsInput i) (spelling : IsSpelling i) (f : FeedState) (pieces : List (List ℕ)) (h : Fits i f pieces) (some : 0 < length pieces) (s : PieceStep) (next : next_step f.run ≡ Some s) where
   abbrev J : List ℕ
   J = joined pieces
 
@@ -157,19 +157,19 @@ module _ (i : InputKind) (law : IsInput i) (spelling : IsSpelling i) (f : FeedSt
 
   -- the answer on the input is the step's answer at the run's cursor
   answer-is : answer_on i (script_of f) (waiting_number i (script_of f) J) J
-      ≡ Some (search_answer (kind_of i.pieces) all s st.at)
+      ≡ Some (search_answer (kind_on_pieces i.pieces) all s st.at)
   answer-is =
-      ap (slice_get (answers_from (search_answer (kind_of i.pieces) all) (search_next all) f.run.script.now start)) number-is
+      ap (slice_get (answers_from (search_answer (kind_on_pieces i.pieces) all) (search_next all) f.run.script.now start)) number-is
       ∙ reached-answer true i.pieces all start st.at f.run.script.now (answers_out f.run) s st.reaches next-told
 
   -- with more input, the step's answer is the answer of the script with its number
   answer-more : (m : List ℕ)
       → answer_on i (script_of f) (waiting_number i (script_of f) J) (J ++ m)
-      ≡ Some (search_answer (kind_of i.pieces) (all ++ i.source m) s st.at)
+      ≡ Some (search_answer (kind_on_pieces i.pieces) (all ++ i.source m) s st.at)
   answer-more m =
       let longer = Reaches-more i.pieces all (i.source m) start st.at f.run.script.now (answers_out f.run) (start-inside all) st.reaches in
-      ap (λ src. slice_get (answers_from (search_answer (kind_of i.pieces) src) (search_next src) f.run.script.now start) (waiting_number i (script_of f) J)) (law.split J m h.stands.is_input)
-      ∙ ap (slice_get (answers_from (search_answer (kind_of i.pieces) (all ++ i.source m)) (search_next (all ++ i.source m)) f.run.script.now start)) number-is
+      ap (λ src. slice_get (answers_from (search_answer (kind_on_pieces i.pieces) src) (search_next src) f.run.script.now start) (waiting_number i (script_of f) J)) (law.split J m h.stands.is_input)
+      ∙ ap (slice_get (answers_from (search_answer (kind_on_pieces i.pieces) (all ++ i.source m)) (search_next (all ++ i.source m)) f.run.script.now start)) number-is
       ∙ reached-answer true i.pieces (all ++ i.source m) start st.at f.run.script.now (answers_out f.run) s longer next-told
 
   -- what the step is missing is valid and changes its answer
@@ -199,14 +199,14 @@ mapped-none spell None e = refl
 mapped-none spell (Some t) e = absurd (none-some (spell t) e)
 
 -- if a set holds no token of the kind, it holds none of these tokens
-none-hold : (i : InputKind) (holds : ℕ → Bool) (m : Source ℕ)
+none-hold : (i : InputRules) (holds : ℕ → Bool) (m : Source ℕ)
     → ((t : ℕ) → i.is_token t ≡ true → holds t ≡ false)
     → AllByRecursion (λ (x : ℕ × ℕ). i.is_token x.0 ≡ true) m
     → AllByRecursion (λ (x : ℕ × ℕ). holds x.0 ≡ false) m
 none-hold i holds [] f h = tt
 none-hold i holds (x ∷ m) f h = (f x.0 h.0, none-hold i holds m f h.1)
 
-module _ (i : InputKind) (law : IsInput i) (spelling : IsSpelling i) (f : FeedState) (pieces : List (List ℕ)) (h : Fits i f pieces) (some : 0 < length pieces) where
+module _ (i : InputRules) (law : IsInput i) (spelling : IsSpelling i) (f : FeedState) (pieces : List (List ℕ)) (h : Fits i f pieces) (some : 0 < length pieces) where
   -- a call that needs a token of such a set waits to the end
   set-waits : (x : Step CharSet) (set : CharSet) → call_need x ≡ need.TokenOf set
       → next_step f.run ≡ Some (step.Call x) → least_of_first i.greatest (char_ranges set) ≡ None

@@ -16,8 +16,8 @@ use Rattle.winnow_run.specs.RunState.{RunState, StandsAt, IsMarkAt, IsInReach, A
 use Rattle.winnow_run.specs.Searching.{IsSearchInReach}
 use Rattle.winnow_run.specs.declared.script.Step.{Step}
 use Rattle.winnow_run.specs.declared.script.Step.TheVariants.{Next, Take, Mark, Reset}
-use Rattle.winnow_run.specs.declared.search_script.SearchStep.{SearchStep}
-use Rattle.winnow_run.specs.declared.search_script.SearchStep.TheVariants as search
+use Rattle.winnow_run.specs.declared.search_steps.SearchStep.{SearchStep}
+use Rattle.winnow_run.specs.declared.search_steps.SearchStep.TheVariants as search
 use Rattle.winnow_run.proofs.lemmas.PlaceLemmas.{drop-next, width-later, width-antitone}
 use Rattle.winnow_run.proofs.lemmas.PairLemmas.{AllZip-more, AllZip-found, AllZip-missing}
 

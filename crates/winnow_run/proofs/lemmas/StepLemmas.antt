@@ -1,5 +1,5 @@
 -- A definite step, and then a script, answers the same with more input appended.
-use Rattle.std.proofs.Common.{◌≡◌, ℕ, zero, suc, ◌+◌, ◌-◌, ◌≤◌, ◌<◌, min, true, leb, List, [], ◌∷◌, ◌++◌, length, take, drop, refl, sym, ap, ◌∙◌, arith}
+use Rattle.std.proofs.Common.{◌≡◌, ℕ, zero, suc, ◌+◌, ◌-◌, ◌≤◌, ◌<◌, min, true, List, [], ◌∷◌, ◌++◌, length, take, drop, refl, sym, ap, ◌∙◌, arith}
 use Rattle.std.specs.Prelude.{Bool, Option, None, Some, ⊤, is_some, is_ok, unwrap_or, slice_get}
 use Rattle.std.specs.List.{All, AllByRecursion}
 use Rattle.std.proofs.lemmas.Bool.{leb-true, le-leb}
@@ -23,11 +23,11 @@ use Rattle.winnow_match.specs.Comparison.{comparison}
 use Rattle.winnow_match.specs.Search.{hit, needle_list}
 use Rattle.winnow_match.specs.Stretch.{hit_is_definite}
 use Rattle.winnow_match.proofs.lemmas.MoveLemmas.{find-stable}
-use Rattle.winnow_run.specs.declared.search_script.SearchStep.{SearchStep}
-use Rattle.winnow_run.specs.declared.search_script.SearchStep.TheVariants as step
-use Rattle.winnow_run.specs.declared.search_script.SearchAnswer.TheVariants as search_answered
+use Rattle.winnow_run.specs.declared.search_steps.SearchStep.{SearchStep}
+use Rattle.winnow_run.specs.declared.search_steps.SearchStep.TheVariants as step
+use Rattle.winnow_run.specs.declared.search_steps.SearchAnswer.TheVariants as search_answered
 use Rattle.winnow_run.specs.Searching.{search_answer, search_next}
-use Rattle.winnow_run.specs.Definite.{PieceKind, kind_of, is_decided, is_call_definite, is_definite, judged, StableUnderMore}
+use Rattle.winnow_run.specs.Definite.{PieceReading, kind_on_pieces, is_decided, is_call_definite, is_definite, judged, StableUnderMore}
 use Rattle.winnow_match.specs.Staying.{written-append}
 use Rattle.winnow_run.proofs.lemmas.MoreLemmas.{width-append, first_token-more, front_count-more, first_offset-more, offset_at-more, comparison-more}
 
@@ -117,7 +117,7 @@ module _ {T C : Type 0} (holds : C → T → Bool) (counts_missing : Bool) (r q 
   call-reads (call.Reset k) = (λ e here count back since. refl, λ h. refl)
   call-reads (call.Since k) = (λ e here count back since. refl, λ h. refl)
 
-module _ {T C L : Type 0} (k : PieceKind T C L) (all more : Source T) (at : Cursor) (inside : Inside all at) where
+module _ {T C L : Type 0} (k : PieceReading T C L) (all more : Source T) (at : Cursor) (inside : Inside all at) where
   -- with more input appended, the rest at the cursor is the old rest followed by it
   pub rest-more : rest (all ++ more) at ≡ rest all at ++ more
   rest-more = drop-append-le at.index all more inside.index
@@ -200,7 +200,7 @@ module _ {T C L : Type 0} (k : PieceKind T C L) (all more : Source T) (at : Curs
 
   -- a definite step answers the same, moves the same and stays definite with more input appended
   pub step-more : (s : SearchStep C L) → is_definite k s (rest all at) ≡ true
-      → (search_answer (kind_of k) (all ++ more) s at ≡ search_answer (kind_of k) all s at)
+      → (search_answer (kind_on_pieces k) (all ++ more) s at ≡ search_answer (kind_on_pieces k) all s at)
       × (search_next (all ++ more) s at ≡ search_next all s at)
       × (is_definite k s (rest (all ++ more) at) ≡ true)
   step-more (step.Call s) h = let e = call-more s h in (ap (λ a. search_answered.Call a) e.0, e.1, e.2)
@@ -251,7 +251,7 @@ module _ {T : Type 0} (all : Source T) (at : Cursor) (inside : Inside all at) wh
 
 -- ---- a script, from any cursor inside the list
 
-module _ {T C L : Type 0} (k : PieceKind T C L) where
+module _ {T C L : Type 0} (k : PieceReading T C L) where
   -- the definite front of a script's answers stays with more input appended, from any cursor inside
   judged_from-more : (script : List (SearchStep C L)) (all more : Source T) (at : Cursor) (n : ℕ)
       → Inside all at

@@ -2,7 +2,7 @@ use Rattle.std.proofs.lemmas.Result.{IfOk-from_err}
 use Rattle.std.proofs.Common.{◌≡◌, ◌≢◌, [], ◌∷◌, ◌∙◌, ap, arith, length, length-append, sym, true}
 use Rattle.std.specs.Prelude.{◌==◌}
 use Rattle.std.proofs.lemmas.Bool.{eqb-true}
-use Rattle.winnow_execute.specs.Inputs.{TellsFed}
+use Rattle.winnow_execute.specs.Inputs.{DenotesFed}
 use Rattle.winnow_execute.proofs.lemmas.FaultLemmas.{IfErr-handed, IsLineWhere-more}
 use Rattle.winnow_execute.proofs.lemmas.FedLineLemmas.{BeginsWithPiece-push, FaultsFed-line}
 use Rattle.winnow_execute.proofs.lemmas.LengthLemmas.{length-AreLines}
@@ -12,7 +12,7 @@ use Rattle.winnow_execute.proofs.fed_lines.read_fed_lines.Goals as goal
 pub loop-alloc-preserved : goal.loop-alloc-preserved
 loop-alloc-preserved g c =
     let line = c.in_ok-line.ensures in
-    let more = AreLines-push (TellsFed g.L.Contents.bytes) _ _ _ _ c.loop-alloc.invariant.told line.told in
+    let more = AreLines-push (DenotesFed g.L.Contents.bytes) _ _ _ _ c.loop-alloc.invariant.told line.told in
     record {
       told = rw (c.in_ok-push.ensures.items, line.rest) more;
       first = rw c.in_ok-push.ensures.items (BeginsWithPiece-push _ _ c.loop-alloc.invariant.first (λ none. line.first (c.is_empty-in-loop-alloc.ensures ∙ ap (λ n. n == 0) (c.loop-alloc.told.ok.0 ∙ ap length none))));

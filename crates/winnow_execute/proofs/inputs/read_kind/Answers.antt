@@ -1,16 +1,16 @@
 use Rattle.std.proofs.Common.{[], ap, arith, length, refl}
-use Rattle.winnow_execute.specs.Inputs.{TellsKind}
-use Rattle.winnow_execute.specs.Readings.{TellsNothing}
+use Rattle.winnow_execute.specs.Inputs.{DenotesKind}
+use Rattle.winnow_execute.specs.Readings.{DenotesNothing}
 use Rattle.winnow_execute.specs.declared.inputs.Kind.TheVariants.{Bytes, Text, BytePieces, TextPieces}
-use Rattle.winnow_execute.proofs.lemmas.Utf8Lemmas.{TellsKind-text, TellsNothing-unread}
+use Rattle.winnow_execute.proofs.lemmas.Utf8Lemmas.{DenotesKind-text, DenotesNothing-unread}
 use Rattle.winnow_execute.proofs.inputs.read_kind.Goals as goal
 
 -- an empty line means no kind
-TellsKind-filled : TellsNothing TellsKind []
-TellsKind-filled Bytes told = omega (arith, ap length told)
-TellsKind-filled Text told = omega (arith, ap length told)
-TellsKind-filled BytePieces told = omega (arith, ap length told)
-TellsKind-filled TextPieces told = omega (arith, ap length told)
+DenotesKind-filled : DenotesNothing DenotesKind []
+DenotesKind-filled Bytes told = omega (arith, ap length told)
+DenotesKind-filled Text told = omega (arith, ap length told)
+DenotesKind-filled BytePieces told = omega (arith, ap length told)
+DenotesKind-filled TextPieces told = omega (arith, ap length told)
 
 -- there is no next line, or it is not UTF-8
 pub returns-in_default-clause-fault : goal.returns-in_default-clause-fault
@@ -18,5 +18,5 @@ returns-in_default-clause-fault c =
     let text = c.args.lines.now.rest.now in
     rw c.fault-fault.ensures (
       refl,
-      TellsNothing-unread TellsKind text (λ read. cc (rw c.in_default.is at c.next_line.ensures.found.1 read)) (TellsKind-text _) TellsKind-filled,
+      DenotesNothing-unread DenotesKind text (λ read. cc (rw c.in_default.is at c.next_line.ensures.found.1 read)) (DenotesKind-text _) DenotesKind-filled,
     )

@@ -1,8 +1,8 @@
 use Rattle.std.proofs.lemmas.Result.{IfOk-from_err}
 use Rattle.std.proofs.Common.{[], arith, refl}
-use Rattle.winnow_execute.specs.Inputs.{TellsNamed}
-use Rattle.winnow_execute.proofs.lemmas.WordLemmas.{TellsNamed-alone}
-use Rattle.winnow_execute.proofs.lemmas.Utf8Lemmas.{TellsNamed-text, TellsNothing-unread}
+use Rattle.winnow_execute.specs.Inputs.{DenotesNamed}
+use Rattle.winnow_execute.proofs.lemmas.WordLemmas.{DenotesNamed-alone}
+use Rattle.winnow_execute.proofs.lemmas.Utf8Lemmas.{DenotesNamed-text, DenotesNothing-unread}
 use Rattle.winnow_execute.proofs.inputs.read_line.Goals as goal
 
 -- there is no next line, or it is not UTF-8
@@ -13,7 +13,7 @@ returns-in_default-clause-fault g c =
     let text = c.args.lines.now.rest.now in
     rw c.fault-fault.ensures (
       refl,
-      TellsNothing-unread (TellsNamed bytes name) text (λ read. cc (rw c.in_default.is at c.next_line.ensures.found.1 read)) (λ literal. TellsNamed-text bytes name _ literal c.utf8.name) (TellsNamed-alone bytes name [] (λ spaced. omega (arith, spaced))),
+      DenotesNothing-unread (DenotesNamed bytes name) text (λ read. cc (rw c.in_default.is at c.next_line.ensures.found.1 read)) (λ literal. DenotesNamed-text bytes name _ literal c.utf8.name) (DenotesNamed-alone bytes name [] (λ spaced. omega (arith, spaced))),
     )
 
 -- if memory is refused, there is no value and nothing to promise of it

@@ -1,7 +1,7 @@
 use Rattle.std.proofs.Common.{◌∙◌, sym}
 use Rattle.std.proofs.lemmas.Bool.Decides.{Decides-eqb}
 use Rattle.std.proofs.lemmas.Slice.Eq.{slice_eq-Decides}
-use Rattle.winnow_execute.proofs.lemmas.WordLemmas.{TellsNamed-alone}
+use Rattle.winnow_execute.proofs.lemmas.WordLemmas.{DenotesNamed-alone}
 use Rattle.winnow_execute.proofs.inputs.read_named.Goals as goal
 use Rattle.winnow_execute.proofs.inputs.read_named.Goals.{in_default-via-in-Some+else-eq, in_default-via-in_default}
 
@@ -13,5 +13,5 @@ returns-in_default g c =
           λ literal told. cc (sym ((slice_eq-Decides Decides-eqb _ _ _ w.eq.ensures).1 (w.in-Some.ensures.first ∙ told.0)) ∙ w.if-eq.false)
       | in_default-via-in_default w ↦
           let alone = rw w.in_default.is at c.split_word.ensures.found in
-          TellsNamed-alone g.L.Contents.bytes c.args.name.now c.args.line.now (λ spaced. cc (alone.1 spaced))
+          DenotesNamed-alone g.L.Contents.bytes c.args.name.now c.args.line.now (λ spaced. cc (alone.1 spaced))
     ]

@@ -1,6 +1,6 @@
 use Rattle.std.proofs.lemmas.Result.{IfOk-from_err}
 use Rattle.std.proofs.Common.{[], ◌∷◌, length, length-append, ap, arith, refl}
-use Rattle.winnow_execute.specs.Steps.{TellsStep}
+use Rattle.winnow_execute.specs.Steps.{DenotesStep}
 use Rattle.winnow_execute.proofs.lemmas.LineLemmas.{AreLines-push}
 use Rattle.winnow_execute.proofs.steps.read_steps.Goals as goal
 
@@ -9,7 +9,7 @@ loop-steps-preserved g c =
     let line = c.in_ok-step.ensures in
     let same = c.loop-steps.invariant.ahead in
     let told = rw same at (rw c.in-Some.is at line.step) in
-    let more = AreLines-push (TellsStep g.L.Contents.bytes) _ _ _ _ c.loop-steps.invariant.steps told in
+    let more = AreLines-push (DenotesStep g.L.Contents.bytes) _ _ _ _ c.loop-steps.invariant.steps told in
     record {
       steps = rw (c.in_ok-push.ensures.items, line.rest, same) more;
       number = omega (arith, c.loop-steps.invariant.number, (rw (c.in-Some.is, same) at line.number) refl, ap length c.in_ok-push.ensures.items, length-append c.loop-steps.steps.items (c.in-Some.step ∷ []));

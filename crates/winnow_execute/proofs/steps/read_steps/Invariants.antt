@@ -1,11 +1,11 @@
 use Rattle.std.proofs.Common.{◌≡◌, ◌+◌, ◌≤◌, length}
 use Rattle.winnow_execute.specs.Lines.{reach, AreLines}
-use Rattle.winnow_execute.specs.Steps.{TellsStep}
+use Rattle.winnow_execute.specs.Steps.{DenotesStep}
 use Rattle.winnow_execute.proofs.steps.read_steps.Given as goal
 
 abbrev pub invariant-loop-steps : goal.invariant-loop-steps
 invariant-loop-steps g l = record {
-  steps : AreLines (TellsStep g.L.Contents.bytes)
+  steps : AreLines (DenotesStep g.L.Contents.bytes)
       l.fn.lines.rest.now l.steps.items l.lines.rest.now;
   number : l.lines.number ≡ l.fn.lines.number + length l.steps.items;
   reach : reach l.lines ≤ reach l.fn.lines;

@@ -1,38 +1,38 @@
 use Rattle.std.proofs.Common.{refl}
-use Rattle.winnow_execute.specs.Literals.{TellsLiteral}
-use Rattle.winnow_execute.specs.Readings.{TellsNothing}
+use Rattle.winnow_execute.specs.Literals.{DenotesLiteral}
+use Rattle.winnow_execute.specs.Readings.{DenotesNothing}
 use Rattle.winnow_execute.specs.Words.{first_word, later_words}
-use Rattle.winnow_execute.proofs.lemmas.WordLemmas.{TellsNeedles-first, TellsNeedles-second, TellsNeedles-third}
+use Rattle.winnow_execute.proofs.lemmas.WordLemmas.{DenotesNeedles-first, DenotesNeedles-second, DenotesNeedles-third}
 use Rattle.winnow_execute.proofs.words.read_needles.Goals as goal
 
 pub returns-in_default-2 : goal.returns-in_default-2
 returns-in_default-2 g c =
     let words = c.in-Some.ensures in
-    TellsNeedles-first g.L.Contents.bytes c.args.words.now (words.found.0 refl)
+    DenotesNeedles-first g.L.Contents.bytes c.args.words.now (words.found.0 refl)
     (rw (words.first, c.in_default-2.is) at c.in_ok-first.ensures)
 
 pub returns-in-None-2 : goal.returns-in-None-2
 returns-in-None-2 g c =
     let words = c.in-Some.ensures in
     let alone = rw words.later at c.in_default-split_word.ensures.found in
-    TellsNeedles-second g.L.Contents.bytes c.args.words.now (words.found.0 refl) (λ spaced. cc (alone.1 spaced))
+    DenotesNeedles-second g.L.Contents.bytes c.args.words.now (words.found.0 refl) (λ spaced. cc (alone.1 spaced))
     (rw (words.later, c.in-None-2.is) at c.in_ok-second.ensures)
 
 pub returns-in_default-3 : goal.returns-in_default-3
 returns-in_default-3 g c =
     let words = c.in-Some.ensures in
     let later = rw words.later at c.in-Some-split_word.ensures in
-    let none : TellsNothing (TellsLiteral g.L.Contents.bytes) (first_word (later_words c.args.words.now)) =
+    let none : DenotesNothing (DenotesLiteral g.L.Contents.bytes) (first_word (later_words c.args.words.now)) =
     rw (later.first, c.in_default-3.is) at c.in_ok-second-2.ensures in
-    TellsNeedles-third g.L.Contents.bytes c.args.words.now (words.found.0 refl) (later.found.0 refl) (λ b d second third. none b second)
+    DenotesNeedles-third g.L.Contents.bytes c.args.words.now (words.found.0 refl) (later.found.0 refl) (λ b d second third. none b second)
 
 pub returns-in-None-3 : goal.returns-in-None-3
 returns-in-None-3 g c =
     let words = c.in-Some.ensures in
     let later = rw words.later at c.in-Some-split_word.ensures in
-    let none : TellsNothing (TellsLiteral g.L.Contents.bytes) (later_words (later_words c.args.words.now)) =
+    let none : DenotesNothing (DenotesLiteral g.L.Contents.bytes) (later_words (later_words c.args.words.now)) =
     rw (later.later, c.in-None-3.is) at c.in_ok-third.ensures in
-    TellsNeedles-third g.L.Contents.bytes c.args.words.now (words.found.0 refl) (later.found.0 refl) (λ b d second third. none d third)
+    DenotesNeedles-third g.L.Contents.bytes c.args.words.now (words.found.0 refl) (later.found.0 refl) (λ b d second third. none d third)
 
 pub returns-in-Some-4 : goal.returns-in-Some-4
 returns-in-Some-4 g c =

@@ -1,6 +1,6 @@
 use Rattle.winnow_feed.specs.Inputs.{byte_input, text_input}
 use Rattle.winnow_feed.proofs.lemmas.InputLemmas.{bytes-input, texts-input}
-use Rattle.winnow_feed.proofs.lemmas.TellingLemmas.{are-bytes, told_of-more, answers-told_to_end}
+use Rattle.winnow_feed.proofs.lemmas.ToldLemmas.{are-bytes, told_of-more, answers-told_to_end}
 use Rattle.winnow_feed.proofs.laws.told_law.Goals as goal
 
 pub returns-clause-bytes : goal.returns-clause-bytes

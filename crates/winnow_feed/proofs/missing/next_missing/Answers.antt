@@ -1,6 +1,6 @@
 use Rattle.std.proofs.Common.{sym, ◌∙◌, arith, subst}
-use Rattle.winnow_attempt.specs.View.{piece_kind}
-use Rattle.winnow_attempt.specs.Settled.{IsSettled}
+use Rattle.winnow_feed_step.specs.Looks.{piece_reading}
+use Rattle.winnow_feed_step.specs.Settled.{IsSettled}
 use Rattle.winnow_feed.proofs.lemmas.JoinedInputLemmas.{next-is, base-le, kept-offset, kept-rest}
 use Rattle.winnow_feed.proofs.lemmas.WaitingLemmas.{ok-missing, err-missing}
 use Rattle.winnow_feed.proofs.missing.next_missing.Goals as goal
@@ -19,9 +19,9 @@ pub step_missing-requires-clause-settled : goal.step_missing-requires-clause-set
 step_missing-requires-clause-settled g c =
     let next = next-is c.args.progress.now c.len.result c.index-script-len.result (omega (arith, c.len.ensures, c.args.progress.now.told.ok.0)) (omega (arith, c.len.ensures, c.requires.left)) c.index-script-len.is in
     let h = c.requires.stands.1 in
-    let k = piece_kind g.S.Token.AsChar.code g.S.Stream.counts_missing g.S.Kept.write g.L.AsBStr.text_bytes in
+    let k = piece_reading g.S.Token.AsChar.code g.S.Stream.counts_missing g.S.Kept.write g.L.AsBStr.text_bytes in
     let e = c.next_slice.ensures.remains ∙ kept-rest _ _ _ _ _ h _ next in
-    subst (λ r. IsSettled k c.index-script-len.result r c.args.progress.now.passed.width c.args.progress.now.passed.tokens) (sym e) (h.settled _ next)
+    subst (λ r. IsSettled k c.index-script-len.result r c.args.progress.now.settled.width c.args.progress.now.settled.tokens) (sym e) (h.settled _ next)
 
 pub returns-clause-told : goal.returns-clause-told
 returns-clause-told g c =

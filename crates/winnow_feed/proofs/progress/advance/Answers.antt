@@ -2,7 +2,7 @@ use Rattle.std.proofs.Common.{Bool, true, false, cond, ℕ, ◌+◌, ◌-◌, �
 use Rattle.std.proofs.Math.Nat.{le_refl}
 use Rattle.std.proofs.lemmas.Bool.{true≢false, false≢true, lt-ltb, le-ltb}
 use Rattle.std.proofs.lemmas.Option.{slice_get_within}
-use Rattle.winnow_feed.specs.Telling.{capped}
+use Rattle.winnow_feed.specs.ToldAnswers.{capped}
 use Rattle.winnow_feed.proofs.lemmas.JoinedInputLemmas.{AddsAnswers-none, GoesOn-more}
 use Rattle.winnow_feed.proofs.progress.advance.Goals as goal
 

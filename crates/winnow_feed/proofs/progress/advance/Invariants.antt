@@ -1,18 +1,18 @@
-use Rattle.std.proofs.Common.{◌≡◌, ◌+◌, ◌≤◌, ◌-◌, length, vec_len, vec_capacity}
+use Rattle.std.proofs.Common.{◌≡◌, ◌+◌, ◌-◌, length, vec_len}
 use Rattle.winnow_stream.specs.Source.{Source}
-use Rattle.winnow_attempt.specs.View.{piece_kind}
+use Rattle.winnow_feed_step.specs.Looks.{piece_reading}
 use Rattle.winnow_feed.specs.JoinedInput.{IsRunOver, GoesOn}
-use Rattle.winnow_feed.specs.Telling.{capped}
+use Rattle.winnow_feed.specs.ToldAnswers.{capped}
 use Rattle.winnow_feed.proofs.progress.advance.Given as goal
 
 abbrev pub invariant-loop-progress : goal.invariant-loop-progress
 invariant-loop-progress g l = record {
   stands : (all : Source _)
       → IsRunOver (g.S.StreamIsPartial.expects_more l.kept)
-      (piece_kind g.S.Token.AsChar.code g.S.Stream.counts_missing g.S.Kept.write
+      (piece_reading g.S.Token.AsChar.code g.S.Stream.counts_missing g.S.Kept.write
       g.L.AsBStr.text_bytes) all (g.S.Stream.remaining l.kept) l.initial.progress
       → IsRunOver (g.S.StreamIsPartial.expects_more l.kept)
-      (piece_kind g.S.Token.AsChar.code g.S.Stream.counts_missing g.S.Kept.write
+      (piece_reading g.S.Token.AsChar.code g.S.Stream.counts_missing g.S.Kept.write
       g.L.AsBStr.text_bytes) all (g.S.Stream.remaining l.kept) l.progress;
   on : GoesOn l.piece l.initial.progress l.progress;
   tried : l.progress.tried

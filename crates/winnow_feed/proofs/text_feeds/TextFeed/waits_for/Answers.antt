@@ -5,7 +5,7 @@ use Rattle.std.specs.String.{string_bytes}
 use Rattle.std.proofs.lemmas.Bool.{false≢true}
 use Rattle.std.proofs.lemmas.Str.{IsUtf8-from_is_utf8}
 use Rattle.winnow_run.specs.declared.script.Step.TheVariants as call
-use Rattle.winnow_run.specs.declared.search_script.SearchStep.TheVariants as step
+use Rattle.winnow_run.specs.declared.search_steps.SearchStep.TheVariants as step
 use Rattle.winnow_feed.specs.Inputs.{text_input, joined}
 use Rattle.winnow_feed.specs.Feeding.{FeedState, Fits, script_of}
 use Rattle.winnow_feed.specs.Waits.{MissesMore, IsMissing}

@@ -1,5 +1,0 @@
-pub mod LookLemmas
-pub mod NeedleLemmas
-pub mod PassedLemmas
-pub mod SettledLemmas
-pub mod ViewLemmas

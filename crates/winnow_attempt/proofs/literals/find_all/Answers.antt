@@ -1,8 +1,0 @@
-use Rattle.winnow_match.specs.Search.{bytes_of_needles}
-use Rattle.winnow_match.proofs.lemmas.AnswerLemmas.{AreOffsets-bytes}
-use Rattle.winnow_attempt.proofs.lemmas.LookLemmas.{hit-fits}
-use Rattle.winnow_attempt.proofs.literals.find_all.Goals as goal
-
-pub returns-then-bytes-ge-FAR-clause-fits : goal.returns-then-bytes-ge-FAR-clause-fits
-returns-then-bytes-ge-FAR-clause-fits c =
-    hit-fits _ c.args.bytes.now (AreOffsets-bytes (bytes_of_needles c.args.needles.now) c.args.bytes.now c.find_far.result c.find_far.ensures)
