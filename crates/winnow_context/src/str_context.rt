@@ -10,7 +10,7 @@ use winnow_error::write_bare;
 use winnow_kinds::write_escaped;
 
 /// What a parser was reading, or what it expected.
-#[derive(Clone, PartialEq, Eq, Drop)]
+#[derive(Clone, Copy, PartialEq, Eq, Drop)]
 pub enum StrContext {
     /// What was being read, for example `number`
     Label(&'static str),
@@ -19,7 +19,7 @@ pub enum StrContext {
 }
 
 /// What a parser expected.
-#[derive(Clone, PartialEq, Eq, Drop)]
+#[derive(Clone, Copy, PartialEq, Eq, Drop)]
 pub enum StrContextValue {
     /// A character
     CharLiteral(char),

@@ -312,8 +312,8 @@ fn values_derive_what_is_listed() {
     is_value::<winnow_count::Range>();
     is_value::<ParseError<&'static str, EmptyError>>();
     is_compared::<CompareResult>();
-    is_compared::<StrContext>();
-    is_compared::<StrContextValue>();
+    is_value::<StrContext>();
+    is_value::<StrContextValue>();
     is_compared::<Answer<u8, &'static [u8], bool>>();
     is_compared::<RecordError<EmptyError>>();
     is_copied::<Step<NoSet>>();
