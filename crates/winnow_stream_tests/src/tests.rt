@@ -5,4 +5,5 @@ mod own_streams;
 mod scripts;
 mod small_traits;
 mod spans;
+mod tells;
 mod texts;

@@ -1,25 +1,20 @@
-use crate::byte_reader::ByteReader;
 use crate::fields::field;
-use winnow_base::stream::{Needed, Stream};
-
-// Returns two fields, one after the other.
-fn two_fields<S: Stream<Token = u8>>(input: &mut S) -> [Result<S::Slice, Needed>; 2]
-    requires { S.valid input.old }
-{
-    [field(input), field(input)]
-}
+use winnow_base::stream::Needed;
 
 #[test]
 fn a_field_is_taken_or_nothing_is(rt: HostRuntime) {
-    let mut input: &[u8] = b"\x02ab\x03c";
-    assert_eq!(rt;
-        two_fields(&mut input),
-        [Ok(b"ab".as_slice()), Err(Needed::new(2))]
-    );
-    assert_eq!(rt; input, b"\x03c".as_slice());
-    let mut input = ByteReader::new(b"\x00");
-    assert_eq!(rt;
-        two_fields(&mut input),
-        [Ok(b"".as_slice()), Err(Needed::new(1))]
-    );
+    let none: &[u8] = b"";
+    for (bytes, read, left) in [
+        (
+            b"\x02ab\x03c".as_slice(),
+            Ok(b"ab".as_slice()),
+            b"\x03c".as_slice(),
+        ),
+        (b"\x03c", Err(Needed::new(2)), b"\x03c"),
+        (b"\x00", Ok(none), none),
+        (none, Err(Needed::new(1)), none),
+    ] {
+        let mut input = bytes;
+        assert_eq!(rt; (field(&mut input), input), (read, left), "{bytes:?}");
+    }
 }

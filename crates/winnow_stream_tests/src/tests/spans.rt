@@ -1,6 +1,7 @@
-use crate::held::take_while;
+ghost use Rattle.std.specs.Prelude.{◌≡◌, false};
+
 use crate::spans::spanned;
-use winnow_base::stream::{CharSet, LocatingSlice, Needed, Stateful};
+use winnow_base::stream::{LocatingSlice, Needed, Partial, Stateful, Stream, StreamIsPartial};
 
 #[test]
 fn tokens_are_taken_with_their_spans(rt: HostRuntime) {
@@ -13,26 +14,22 @@ fn tokens_are_taken_with_their_spans(rt: HostRuntime) {
         ],
         [Ok(("grö", 0..4)), Ok(("ß", 4..6)), Err(Needed::Unknown)]
     );
+}
+
+// Returns the first token through a flag and a location, and the one through a state and a
+// location.
+fn first_tokens<I: StreamIsPartial + Copy>(inner: I) -> [Option<I::Token>; 2]
+    requires valid { I.valid inner }
+    requires no_flag { I.supports_partial ≡ false }
+{
+    let mut input = Partial::new(LocatingSlice::new(inner));
+    let first = input.next_token();
+    let input = LocatingSlice::new(inner);
     let mut input = Stateful { input, state: () };
-    assert_eq!(rt; spanned(&mut input, 1), Ok(("e", 6..7)));
+    [first, input.next_token()]
 }
 
 #[test]
-fn tokens_of_a_set_are_taken(rt: HostRuntime) {
-    let mut input: &[u8] = b"12a3";
-    let mut text = LocatingSlice::new("aé1");
-    let set = CharSet::new(&[('a', 'z'), ('é', 'é')]);
-    assert_eq!(rt;
-        (
-            [
-                take_while(&mut input, &(b'0'..=b'9')),
-                take_while(&mut input, &b'1')
-            ],
-            [
-                take_while(&mut text, &set),
-                take_while(&mut text, &('0', '1'))
-            ]
-        ),
-        ([b"12".as_slice(), b"".as_slice()], ["aé", "1"])
-    );
+fn wrapped_texts_give_their_tokens(rt: HostRuntime) {
+    assert_eq!(rt; first_tokens("größe"), [Some('g'); 2]);
 }
