@@ -23,12 +23,15 @@ fn reads<R: PartialEq + Drop, S: ParseSlice<R>>(slice: &S, want: Option<R>) -> b
 }
 
 // Returns whether the first two texts read as the two values, and the last two as none.
-fn reads_bounds<R: Readable + PartialEq + Drop>(least: R, greatest: R, texts: [&str; 4]) -> bool {
-    let [first, second, below, above] = texts;
-    parsed(&first) == Some(least)
-        && parsed(&second) == Some(greatest)
-        && parsed::<R, &str>(&below).is_none()
-        && parsed::<R, &str>(&above).is_none()
+fn reads_bounds<R: Readable + PartialEq + Copy>(
+    least: R,
+    greatest: R,
+    [first, second, below, above]: [&str; 4],
+) -> bool {
+    reads(&first, Some(least))
+        && reads(&second, Some(greatest))
+        && reads(&below, None::<R>)
+        && reads(&above, None::<R>)
 }
 
 #[test]
