@@ -10,7 +10,7 @@ mod search_steps;
 mod steps;
 mod supply;
 mod tell;
-mod texts;
+mod text_inputs;
 mod weigh;
 mod wrapping;
 
@@ -22,6 +22,6 @@ pub use search_steps::{Cut, search_step_of, search_steps_of};
 pub use steps::{Numbers, RawStep, steps_of};
 pub use supply::{Parts, Supply};
 pub use tell::Tell;
-pub use texts::text;
+pub use text_inputs::text;
 pub use weigh::{Number, Weigh, mix};
 pub use wrapping::{Wrapped, wrap};

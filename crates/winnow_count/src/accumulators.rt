@@ -4,7 +4,7 @@ ghost use Rattle.winnow_count.specs.Accumulation.{room_of};
 mod counts;
 mod cows;
 mod hashes;
-mod texts;
+mod strings;
 mod trees;
 mod vectors;
 

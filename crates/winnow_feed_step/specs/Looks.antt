@@ -28,21 +28,21 @@ use Rattle.winnow_run.specs.Definite.{PieceReading, is_call_definite, is_definit
 abbrev pub in_set : {T : Type 0} → (T → ℕ) → CharSet → T → Bool
 in_set code set token = in_ranges (char_ranges set) (code token)
 
--- the kind of a stream and its literals
+-- how pieces are read: by the numbers and the bytes of tokens, and the bytes of literals
 abbrev pub piece_reading : {T L : Type 0} → (T → ℕ) → Bool → (T → List ℕ) → (L → List ℕ)
     → PieceReading T CharSet L
 piece_reading code counts_missing write literal = record { holds = in_set code; counts_missing = counts_missing; write = write; literal = literal }
 
-abbrev pub since_view : {T : Type 0} → ℕ → Option ℕ → PlacedAnswer T
-since_view at None = answer.NoMark
-since_view at (Some mark) = cond (nat_le mark at) (answer.Offset (at - mark)) answer.LaterMark
+abbrev pub placed_since : {T : Type 0} → ℕ → Option ℕ → PlacedAnswer T
+placed_since at None = answer.NoMark
+placed_since at (Some mark) = cond (nat_le mark at) (answer.Offset (at - mark)) answer.LaterMark
 
 -- what a call answers
-abbrev pub call_view : {T C : Type 0} → (C → T → Bool) → Bool → ℕ → List ℕ → Source T → Step C
+abbrev pub placed_call : {T C : Type 0} → (C → T → Bool) → Bool → ℕ → List ℕ → Source T → Step C
     → PlacedAnswer T
-call_view holds counts_missing at marks r s =
+placed_call holds counts_missing at marks r s =
     let mark = mark_of marks (call_mark s) in
-    call_answer holds counts_missing at r (length marks) (reset_answer mark) (since_view at mark) s
+    call_answer holds counts_missing at r (length marks) (reset_answer mark) (placed_since at mark) s
 
 -- the width of the first token, if there is one
 abbrev pub first_width : {T : Type 0} → Source T → ℕ
@@ -86,7 +86,7 @@ under piece answer = record { piece = piece; answer = answer }
 module _ {T C : Type 0} (holds : C → T → Bool) (counts_missing : Bool) (at : ℕ) (marks : List ℕ) (r : Source T) where
   abbrev pub call_look : Step C → Look T
   call_look s = record {
-    answer = search_answered.Call (call_view holds counts_missing at marks r s);
+    answer = search_answered.Call (placed_call holds counts_missing at marks r s);
     definite = is_call_definite holds counts_missing s r;
     place = place_after at marks r (call_mark s) (call_move s);
     marks = is_marking (call_move s);

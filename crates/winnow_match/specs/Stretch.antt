@@ -12,30 +12,30 @@ stretches needle bytes = is_prefix bytes needle && nat_lt (length bytes) (length
 
 -- `None` if the first needle stands here; else its number 0, if it stretches here; else the later
 -- needles' number
-abbrev pub stretching_or : Bool → Bool → Option ℕ → Option ℕ
-stretching_or stands stretches later = if stands then None else (if stretches then Some 0 else option_map (λ i. i + 1) later)
+abbrev pub mover_or : Bool → Bool → Option ℕ → Option ℕ
+mover_or stands stretches later = if stands then None else (if stretches then Some 0 else option_map (λ i. i + 1) later)
 
 -- the number of the first listed needle that stretches here, if no needle listed before it stands
 -- here
-abbrev pub stretching : List (List ℕ) → List ℕ → Option ℕ
-stretching [] bytes = None
-stretching (needle ∷ needles) bytes = stretching_or (is_prefix needle bytes) (stretches needle bytes) (stretching needles bytes)
+abbrev pub mover : List (List ℕ) → List ℕ → Option ℕ
+mover [] bytes = None
+mover (needle ∷ needles) bytes = mover_or (is_prefix needle bytes) (stretches needle bytes) (mover needles bytes)
 
 -- a needle stretches here, or one stands here and ends the search, or a later place decides
-abbrev pub stretch_or : ℕ → Option ℕ → Option ℕ → Option Stretch → Option Stretch
-stretch_or at (Some i) here later = Some (record { needle = i; place = at })
-stretch_or at None (Some n) later = None
-stretch_or at None None later = later
+abbrev pub mover_or_later : ℕ → Option ℕ → Option ℕ → Option Stretch → Option Stretch
+mover_or_later at (Some i) here later = Some (record { needle = i; place = at })
+mover_or_later at None (Some n) later = None
+mover_or_later at None None later = later
 
 -- the least place, counted from `at` and up to the first hit, at which a needle stretches that
 -- would take the place of the hit
-abbrev pub first_stretch : List (List ℕ) → ℕ → List ℕ → Option Stretch
-first_stretch needles at [] = None
-first_stretch needles at (y ∷ bytes) = stretch_or at (stretching needles (y ∷ bytes)) (needle_at needles (y ∷ bytes)) (first_stretch needles (at + 1) bytes)
+abbrev pub first_mover : List (List ℕ) → ℕ → List ℕ → Option Stretch
+first_mover needles at [] = None
+first_mover needles at (y ∷ bytes) = mover_or_later at (mover needles (y ∷ bytes)) (needle_at needles (y ∷ bytes)) (first_mover needles (at + 1) bytes)
 
 -- what could still move the hit: nothing, if some needle is empty
 abbrev pub stretch_of : List (List ℕ) → List ℕ → Option Stretch
-stretch_of needles bytes = if list_any is_empty needles then None else first_stretch needles 0 bytes
+stretch_of needles bytes = if list_any is_empty needles then None else first_mover needles 0 bytes
 
 -- there is a hit, and no more input moves it
 abbrev pub hit_is_definite : List (List ℕ) → List ℕ → Bool

@@ -14,8 +14,8 @@ mod find_text;
 mod finders;
 mod finding;
 mod laws;
+mod movers;
 mod needles;
-mod stretching;
 
 pub use compare::{Compare, CompareResult};
 pub use find_slice::FindSlice;
@@ -24,5 +24,5 @@ pub use laws::{
     byte_hit_law, compare_law, compare_more_law, definite_hit_law, find_law, find_more_law,
     stretch_equality_law, stretch_law,
 };
+pub use movers::stretch;
 pub use needles::{Needles, Stretch};
-pub use stretching::stretch;

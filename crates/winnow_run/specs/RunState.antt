@@ -65,6 +65,10 @@ abbrev pub IsInReach : {C T : Type 0} → Step C → RunState T → Type 0
 IsInReach (step.Reset k) here = IfSome (slice_get here.marks k) (λ mark. here.base ≤ mark)
 IsInReach _ here = ⊤
 
+-- the run stands somewhere from where the step can be taken
+abbrev pub MayTake : {C T : Type 0} → Step C → RunState T → Type 0
+MayTake step here = StandsSomewhere here × IsInReach step here
+
 -- the given answer is the step's answer, at each cursor where the run may stand
 abbrev pub AnswersStep : {C T S : Type 0} → (C → T → Bool → Type 0) → (S → Source T → ℕ → Type 0)
     → Bool → Step C → RunState T → Answer T S (Vec (ℕ × T)) Needed → Type 0
@@ -86,3 +90,10 @@ AreLocated whole here origin place = (origin ≡ location_behind whole here.base
 abbrev pub StayLocated : {T : Type 0} → Option ℕ → RunState T → Option ℕ → RunState T → Option ℕ
     → Type 0
 StayLocated origin here from there to = (whole : Option ℕ) → AreLocated whole here origin from → AreLocated whole there origin to
+
+-- the given answer is the step's, and the run stands where the step leads, as far after its origin
+-- in the whole input as before
+pub record TakesStep {C T S : Type 0} (may_answer : C → T → Bool → Type 0) (is_slice : S → Source T → ℕ → Type 0) (counts_missing : Bool) (step : Step C) (here there : RunState T) (origin from to : Option ℕ) (given : Answer T S (Vec (ℕ × T)) Needed) : Type 0 where
+  pub answer : AnswersStep may_answer is_slice counts_missing step here given
+  pub stands : StandsAfter step here there
+  pub located : StayLocated origin here from there to

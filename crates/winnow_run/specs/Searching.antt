@@ -8,7 +8,7 @@ use Rattle.winnow_stream.specs.declared.needed.Needed.{Needed}
 use Rattle.winnow_stream.specs.Source.{Source}
 use Rattle.winnow_stream.specs.Cursor.{Cursor, start, rest, answers_from, cursor_after}
 use Rattle.winnow_run.specs.Script.{step_answer, step_next, StandsFor, SetComputes, AreGiven, IsReady}
-use Rattle.winnow_run.specs.RunState.{RunState, StandsAt, IsInReach}
+use Rattle.winnow_run.specs.RunState.{RunState, StandsAt, StandsSomewhere, IsInReach, StayLocated}
 use Rattle.winnow_match.specs.declared.compare.CompareResult.{CompareResult}
 use Rattle.winnow_match.specs.declared.needles.Needles.{Needles}
 use Rattle.winnow_run.specs.declared.search_steps.SearchStep.{SearchStep}
@@ -74,7 +74,7 @@ IsSearchReady can (step.Find needles) = ⊤
 abbrev pub AreSearchReady : {C L : Type 0} → (C → Type 0) → List (SearchStep C L) → Type 0
 AreSearchReady can script = All (IsSearchReady can) script
 
--- the kind of a stream
+-- the kind of stream that a set, a shortage, comparisons and searches make
 abbrev pub script_kind : {T C L : Type 0} → (C → T → Bool) → Bool → (L → Source T → CompareResult)
     → (Needles L → Source T → Option (Range ℕ)) → ScriptKind T C L
 script_kind holds counts_missing compared found = record { holds = holds; counts_missing = counts_missing; compared = compared; found = found }
@@ -107,6 +107,10 @@ IsSearchInReach (step.Call call) here = IsInReach call here
 IsSearchInReach (step.Compare literal) here = ⊤
 IsSearchInReach (step.Find needles) here = ⊤
 
+-- the run stands somewhere from where the step can be taken
+abbrev pub MayTakeSearchStep : {C T L : Type 0} → SearchStep C L → RunState T → Type 0
+MayTakeSearchStep step here = StandsSomewhere here × IsSearchInReach step here
+
 -- the given answer is the step's answer, at each cursor where the run may stand
 abbrev pub AnswersSearchStep : {C T S L : Type 0} → (C → T → Bool → Type 0)
     → (S → Source T → ℕ → Type 0) → Bool → (L → Source T → CompareResult)
@@ -121,3 +125,10 @@ AnswersSearchStep {C} {T} may_answer is_slice counts_missing compared found step
 abbrev pub StandsAfterSearchStep : {C T L : Type 0} → SearchStep C L → RunState T → RunState T
     → Type 0
 StandsAfterSearchStep {C} {T} step here there = (all : Source T) (at : Cursor) → StandsAt here all at → StandsAt there all (search_next all step at)
+
+-- the given answer is the step's, and the run stands where the step leads, as far after its origin
+-- in the whole input as before
+pub record TakesSearchStep {C T S L : Type 0} (may_answer : C → T → Bool → Type 0) (is_slice : S → Source T → ℕ → Type 0) (counts_missing : Bool) (compared : L → Source T → CompareResult) (found : Needles L → Source T → Option (Range ℕ)) (step : SearchStep C L) (here there : RunState T) (origin from to : Option ℕ) (given : SearchAnswer T S (Vec (ℕ × T))) : Type 0 where
+  pub answer : AnswersSearchStep may_answer is_slice counts_missing compared found step here given
+  pub stands : StandsAfterSearchStep step here there
+  pub located : StayLocated origin here from there to

@@ -1,8 +1,8 @@
-ghost use Rattle.std.specs.Prelude.{◌≡◌, ◌≤◌, IfOk, IsOk, OnErr, OnOk};
+ghost use Rattle.std.specs.Prelude.{◌≡◌, ◌≤◌, Bool, IfOk, IsOk, OnErr};
+ghost use Rattle.winnow_stream.specs.Source.{Computes, first_offset};
 ghost use Rattle.winnow_run.specs.Marks.{room_of};
 ghost use Rattle.winnow_run.specs.Script.{IsReady};
-ghost use Rattle.winnow_run.specs.RunState.{run_state, StandsSomewhere, IsInReach, TakesNoMemory};
-ghost use Rattle.winnow_run.specs.RunState.{AnswersStep, StandsAfter, StayLocated};
+ghost use Rattle.winnow_run.specs.RunState.{run_state, MayTake, TakesNoMemory, TakesStep};
 
 use crate::{Answer, Marks, Origin, Step};
 use std::alloc::{AllocError, Global};
@@ -27,25 +27,19 @@ pub fn answer_step<S: Stream, C: ScriptSet<S::Token>>(
 where
     S::Token: Drop,
     S::Slice: Drop,
-    requires valid { S.valid s.old }
-    requires origin { S.valid_checkpoint origin.now.checkpoint }
+    requires valid { S.valid s.old × S.valid_checkpoint origin.now.checkpoint }
     requires ready { IsReady C.askable step.now }
-    requires stands { StandsSomewhere
+    requires stands { MayTake step.now
         (run_state S.remained origin.now (S.remaining s.old) marks.old) }
-    requires reach { IsInReach step.now
-        (run_state S.remained origin.now (S.remaining s.old) marks.old) }
-    ensures answer { IfOk result (AnswersStep C.may_answer S.is_slice S.counts_missing
-        step.now (run_state S.remained origin.now (S.remaining s.old) marks.old)) }
-    ensures stands { OnOk result (StandsAfter step.now
+    ensures step { IfOk result (TakesStep C.may_answer S.is_slice S.counts_missing step.now
         (run_state S.remained origin.now (S.remaining s.old) marks.old)
-        (run_state S.remained origin.now (S.remaining s.new) marks.new)) }
-    ensures location { StayLocated (S.Checkpoint.location origin.now.checkpoint)
-        (run_state S.remained origin.now (S.remaining s.old) marks.old) (S.location s.old)
-        (run_state S.remained origin.now (S.remaining s.new) marks.new) (S.location s.new) }
-    ensures refused { OnErr result (run_state S.remained origin.now (S.remaining s.new) marks.new
-        ≡ run_state S.remained origin.now (S.remaining s.old) marks.old) }
-    ensures sure { TakesNoMemory step.now marks.old → IsOk result }
-    ensures room { room_of marks.old ≤ room_of marks.new }
+        (run_state S.remained origin.now (S.remaining s.new) marks.new)
+        (S.Checkpoint.location origin.now.checkpoint) (S.location s.old) (S.location s.new)) }
+    ensures refused { OnErr result ((run_state S.remained origin.now (S.remaining s.new) marks.new
+        ≡ run_state S.remained origin.now (S.remaining s.old) marks.old)
+        × (S.location s.new ≡ S.location s.old)) }
+    ensures memory { (TakesNoMemory step.now marks.old → IsOk result)
+        × (room_of marks.old ≤ room_of marks.new) }
     ensures valid { S.valid s.new }
     ensures kept { S.keeps s.old s.new }
 {
@@ -71,7 +65,7 @@ where
         Step::Eof => Ok(Answer::Offset(s.eof_offset())),
         Step::At(tokens) => Ok(Answer::At(s.offset_at(*tokens))),
         Step::IsOffset(offset) => Ok(Answer::Flag(s.is_offset(*offset))),
-        Step::First(set) => Ok(Answer::First(s.offset_for(|token| set.holds(token)))),
+        Step::First(set) => Ok(Answer::First(first_of(s, set))),
         Step::Each => Ok(Answer::Items(s.iter_offsets().collect(alloc)?)),
         Step::Mark => {
             let number = marks.count();
@@ -98,4 +92,14 @@ where
             None => Ok(Answer::NoMark),
         },
     }
+}
+
+// The first offset whose token a set holds.
+fn first_of<S: Stream, C: ScriptSet<S::Token>>(s: &S, set: &C) -> Option<usize>
+    requires valid { S.valid s.now }
+    requires ready { C.askable set.now }
+    ensures { (holds : S.Token → Bool) → Computes (C.may_answer set.now) holds
+        → result ≡ first_offset holds (S.remaining s.now) }
+{
+    s.offset_for(|token| set.holds(token))
 }

@@ -29,8 +29,8 @@ where
     ensures location { OnOk result (S.location s.new
         ≡ location_behind (S.location s.old)
         (width (S.remaining s.old) - width (S.remaining s.new))) }
-    ensures refused { OnErr result (S.remaining s.new ≡ S.remaining s.old) }
-    ensures stays { OnErr result (S.location s.new ≡ S.location s.old) }
+    ensures refused { OnErr result ((S.remaining s.new ≡ S.remaining s.old)
+        × (S.location s.new ≡ S.location s.old)) }
     ensures valid { S.valid s.new }
     ensures kept { S.keeps s.old s.new }
 {

@@ -2,9 +2,9 @@ ghost use Rattle.std.specs.Prelude.{◌≡◌, ◌-◌, IfOk, OnErr, OnOk};
 ghost use Rattle.winnow_stream.specs.Source.{width};
 ghost use Rattle.winnow_stream.specs.Location.{location_behind};
 ghost use Rattle.winnow_run.specs.Searching.{rest_after_search, AreSearchAnswers, IsSearchReady};
-ghost use Rattle.winnow_run.specs.Searching.{AreSearchReady, IsSearchInReach, AnswersSearchStep};
-ghost use Rattle.winnow_run.specs.Searching.{StandsAfterSearchStep};
-ghost use Rattle.winnow_run.specs.RunState.{run_state, StandsSomewhere, StayLocated};
+ghost use Rattle.winnow_run.specs.Searching.{AreSearchReady, MayTakeSearchStep};
+ghost use Rattle.winnow_run.specs.Searching.{TakesSearchStep};
+ghost use Rattle.winnow_run.specs.RunState.{run_state};
 
 use crate::{Marks, Origin, SearchAnswer, SearchStep, answer_step};
 use std::alloc::{AllocError, Global};
@@ -35,8 +35,8 @@ where
     ensures location { OnOk result (S.location s.new
         ≡ location_behind (S.location s.old)
         (width (S.remaining s.old) - width (S.remaining s.new))) }
-    ensures refused { OnErr result (S.remaining s.new ≡ S.remaining s.old) }
-    ensures stays { OnErr result (S.location s.new ≡ S.location s.old) }
+    ensures refused { OnErr result ((S.remaining s.new ≡ S.remaining s.old)
+        × (S.location s.new ≡ S.location s.old)) }
     ensures valid { S.valid s.new }
     ensures kept { S.keeps s.old s.new }
 {
@@ -94,22 +94,15 @@ fn search_step<S: Stream + Compare<L> + FindSlice<Needles<L>>, C: ScriptSet<S::T
 where
     S::Token: Drop,
     S::Slice: Drop,
-    requires valid { S.valid s.old }
-    requires origin { S.valid_checkpoint origin.now.checkpoint }
+    requires valid { S.valid s.old × S.valid_checkpoint origin.now.checkpoint }
     requires ready { IsSearchReady C.askable step.now }
-    requires stands { StandsSomewhere
+    requires stands { MayTakeSearchStep step.now
         (run_state S.remained origin.now (S.remaining s.old) marks.old) }
-    requires reach { IsSearchInReach step.now
-        (run_state S.remained origin.now (S.remaining s.old) marks.old) }
-    ensures answer { IfOk result
-        (AnswersSearchStep C.may_answer S.is_slice S.counts_missing S.compared S.found
-        step.now (run_state S.remained origin.now (S.remaining s.old) marks.old)) }
-    ensures stands { OnOk result (StandsAfterSearchStep step.now
+    ensures step { IfOk result
+        (TakesSearchStep C.may_answer S.is_slice S.counts_missing S.compared S.found step.now
         (run_state S.remained origin.now (S.remaining s.old) marks.old)
-        (run_state S.remained origin.now (S.remaining s.new) marks.new)) }
-    ensures location { StayLocated (S.Checkpoint.location origin.now.checkpoint)
-        (run_state S.remained origin.now (S.remaining s.old) marks.old) (S.location s.old)
-        (run_state S.remained origin.now (S.remaining s.new) marks.new) (S.location s.new) }
+        (run_state S.remained origin.now (S.remaining s.new) marks.new)
+        (S.Checkpoint.location origin.now.checkpoint) (S.location s.old) (S.location s.new)) }
     ensures valid { S.valid s.new }
     ensures kept { S.keeps s.old s.new }
 {

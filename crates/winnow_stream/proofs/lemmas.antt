@@ -2,7 +2,7 @@ pub mod FrontLemmas
 pub mod FusedLemmas
 pub mod HeldLemmas
 pub mod IndexLemmas
-pub mod LackLemmas
+pub mod CountedShortageLemmas
 pub mod MovingLemmas
 pub mod OffsetLemmas
 pub mod FirstTokenLemmas

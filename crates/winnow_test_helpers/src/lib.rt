@@ -3,11 +3,11 @@
 #![tactic(auto)]
 
 mod calls;
-mod texts;
+mod printed_texts;
 mod traced;
 mod widths;
 
 pub use calls::{compares, finds, hits, tell, told};
-pub use texts::{debugged, seen, shown};
+pub use printed_texts::{debugged, seen, shown};
 pub use traced::Traced;
 pub use widths::{flags, width, width_from, window_of};

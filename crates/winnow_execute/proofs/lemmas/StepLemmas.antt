@@ -8,7 +8,7 @@ use Rattle.winnow_execute.specs.Readings.{DenotesNothing}
 use Rattle.winnow_execute.specs.Steps.{entry, plain_calls, numbered_calls, DenotesCall, DenotesStep}
 use Rattle.winnow_execute.specs.Words.{first_word, later_words, HasSpace, DenotesNumber, DenotesRanges, DenotesNeedles}
 use Rattle.winnow_execute.specs.declared.steps.ScriptStep.TheVariants.{Call, First, Compare, Find}
-use Rattle.winnow_execute.proofs.lemmas.WordLemmas.{entry-alone, later_words-alone, DenotesBytes-filled, DenotesNeedles-alone}
+use Rattle.winnow_execute.proofs.lemmas.WordLemmas.{later_words-alone, DenotesBytes-filled, DenotesNeedles-alone}
 use Rattle.winnow_execute.proofs.lemmas.RangeLemmas.{DenotesRanges-filled}
 
 -- a line means no call if it does so neither as one word nor as a word and a number
@@ -28,12 +28,6 @@ pub DenotesCall-alone : (line : List ℕ) → ¬ (HasSpace line) → entry plain
 DenotesCall-alone line alone none =
     DenotesCall-nothing line (λ call found. cc (sym none ∙ found))
     (λ number call told. omega (arith, rw (later_words-alone line alone) at told.0.0))
-
--- a line with a space means no call that is one word
-pub plain_calls-spaced : (line : List ℕ) → HasSpace line → (call : Step CharSet)
-    → entry plain_calls line ≢ Some call
-plain_calls-spaced line spaced call found =
-    entry-alone plain_calls line call (λ lt. omega (arith, lt), (λ lt. omega (arith, lt), (λ lt. omega (arith, lt), (λ lt. omega (arith, lt), (λ lt. omega (arith, lt), (λ lt. omega (arith, lt), (λ lt. omega (arith, lt), tt))))))) found spaced
 
 module _ {L : Type 0} (bytes : L → List ℕ) (line : List ℕ) (call : DenotesNothing DenotesCall line) where
   -- a line means no step if it means no call, and nothing after the word of another step is what

@@ -38,23 +38,6 @@ DenotesBytes-alone word bytes told spaced =
           cc (rw space at digit)
     ]
 
--- no word of the table has a space
-abbrev pub AreAlone : {T : Type 0} → List (List ℕ × T) → Type 0
-AreAlone [] = Unit
-AreAlone (row ∷ rows) = ¬ (HasSpace row.0) × AreAlone rows
-
--- a line that is a word of such a table has no space
-pub entry-alone : {T : Type 0} (rows : List (List ℕ × T)) (line : List ℕ) (found : T)
-    → AreAlone rows → entry rows line ≡ Some found → ¬ (HasSpace line)
-entry-alone [] line found alone is spaced = cc is
-entry-alone (row ∷ rows) line found alone is spaced =
-    by (bytes_eq line row.0) refl (λ rest. entry-alone rows line found alone.1 rest spaced)
-  where
-    -- the row at the head of the table is the word, or a later row is
-    by : (same : Bool) → bytes_eq line row.0 ≡ same → (entry rows line ≡ Some found → ⊥) → ⊥
-    by true same later = alone.0 (rw ((bytes_eq-Decides line row.0).0 same) at spaced)
-    by false other later = later (rw other at is)
-
 -- words mean no needles if they do so neither as one word nor as two nor as three
 pub DenotesNeedles-nothing : {L : Type 0} (bytes : L → List ℕ) (words : List ℕ)
     → DenotesNothing (DenotesLiteral bytes) words

@@ -7,7 +7,6 @@ use Rattle.std.proofs.lemmas.List.{drop-drop, take-append-le, drop-append-le, le
 use Rattle.winnow_stream.specs.Source.{Source, width, HasPositiveWidths}
 use Rattle.winnow_stream.specs.Front.{is_offset, back}
 use Rattle.winnow_stream.specs.Cursor.{Cursor, start, rest, place}
-use Rattle.winnow_run.specs.Needs.{mark_of}
 use Rattle.winnow_stream.proofs.lemmas.FrontLemmas.{front_count-place, back-place, HasPositiveWidths-drop, width-take_drop}
 use Rattle.winnow_sets.specs.declared.char_set.CharSet.{CharSet}
 use Rattle.winnow_run.specs.declared.search_steps.SearchStep.{SearchStep}
@@ -18,7 +17,7 @@ use Rattle.winnow_feed.specs.JoinedInput.{IsRunOver, StaysWithoutAnswer, KeepsLe
 use Rattle.winnow_run.proofs.lemmas.MoreLemmas.{width-append}
 use Rattle.winnow_run.proofs.lemmas.StepLemmas.{Inside, start-inside}
 use Rattle.winnow_feed_step.proofs.lemmas.SettledLemmas.{width-split, settled-more}
-use Rattle.winnow_feed_step.proofs.lemmas.CursorLemmas.{marked, reset-place}
+use Rattle.winnow_feed_step.proofs.lemmas.CursorLemmas.{mark-place}
 use Rattle.winnow_feed.proofs.lemmas.ReachLemmas.{Reaches-inside, Reaches-more, Reaches-loose, least-at}
 
 -- the least of two numbers may be taken before or after the steps' places
@@ -43,18 +42,11 @@ place-min all i j =
       | inr l ↦ let e : min i j ≡ j = omega arith in let m = place-monotone all j i l in rw e (omega arith)
     ]
 
--- the place of a mark is the place of its index, and that of the cursor without one
-named-mark : {T : Type 0} (all : Source T) (at : Cursor) (mark : Option ℕ)
-    → unwrap_or (mark_of (map (place all) at.marks) mark) (place all at.index)
-    ≡ place all (unwrap_or (mark_of at.marks mark) at.index)
-named-mark all at None = refl
-named-mark all at (Some k) = ap (λ o. unwrap_or o (place all at.index)) (marked (place all) at.marks k) ∙ reset-place (place all) (slice_get at.marks k) at.index
-
 module _ {T C L : Type 0} (all : Source T) (at : Cursor) where
   -- the place that a step names is the place of the index that it names
   named-same : (s : SearchStep C L)
       → named_place (place all at.index) (map (place all) at.marks) s ≡ place all (named_index at s)
-  named-same s = named-mark all at (step_mark s)
+  named-same s = mark-place all at (step_mark s)
 
   -- the least place is the place of the least index
   least-same : (steps : List (SearchStep C L))

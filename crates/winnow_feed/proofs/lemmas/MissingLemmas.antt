@@ -38,7 +38,9 @@ use Rattle.winnow_run.specs.declared.search_steps.SearchStep.TheVariants as step
 use Rattle.winnow_run.specs.declared.search_steps.SearchAnswer.TheVariants as search_answered
 use Rattle.winnow_run.specs.Searching.{PlacedSearchAnswer, search_answer}
 use Rattle.winnow_run.specs.Definite.{kind_on_pieces, is_decided, is_call_definite, is_definite}
-use Rattle.winnow_run.proofs.lemmas.StepLemmas.{Inside, rest-more}
+use Rattle.winnow_run.proofs.lemmas.StepLemmas.{Inside, place-more, rest-more}
+use Rattle.winnow_stream.proofs.lemmas.CountedShortageLemmas.{number, number-needed}
+use Rattle.winnow_feed_step.proofs.lemmas.AttemptLemmas.{none-from_is_some}
 use Rattle.winnow_match.specs.Staying.{written-append}
 use Rattle.winnow_run.proofs.lemmas.MoreLemmas.{width-append}
 use Rattle.winnow_feed.specs.Inputs.{PieceStep, InputRules}
@@ -78,16 +80,6 @@ slice-apart : {T : Type 0} (a b n : ℕ) (o p : Option ℕ) → is_some o ≡ tr
 slice-apart a b n None p h g e = false≢true h
 slice-apart a b n (Some c) None h g e = cc
 slice-apart a b n (Some c) (Some d) h g e = false≢true (sym g)
-
--- the number that a `Needed` gives
-abbrev number : Needed → ℕ
-number Unknown = 0
-number (Size n) = n.value
-
--- a number that is needed is given back
-number-needed : (k : ℕ) → number (needed k) ≡ k
-number-needed zero = refl
-number-needed (suc k) = refl
 
 -- a found offset and a shortage, or two shortages that differ, are different answers
 at-apart : (w : ℕ) (a b : Needed) (c : Bool) → (c ≡ false → ¬ (a ≡ b))
@@ -196,11 +188,6 @@ compared-parts a b e = cc
 hit-parts : (a b : Option (Range ℕ))
     → ◌≡◌ {A = PlacedSearchAnswer ℕ} (search_answered.Hit a) (search_answered.Hit b) → a ≡ b
 hit-parts a b e = cc
-
--- the place of an index inside the list stays the same with more input appended
-place-more : {T : Type 0} (all m : Source T) (n : ℕ) → n ≤ length all
-    → place (all ++ m) n ≡ place all n
-place-more all m n h = ap width (take-append-le n all m h)
 
 -- ---- a call, where m follows
 
@@ -407,12 +394,7 @@ none-reached holds k (x ∷ r) m h g =
       | inr e ↦ rw e (none-reached holds (k + x.1) r m (rw e at h) g)
     ]
 
--- an option that is not `Some` is `None`
-no-some : {A : Type 0} (o : Option A) → is_some o ≡ false → o ≡ None
-no-some None h = refl
-no-some (Some a) h = absurd (false≢true (sym h))
-
 -- a `First` without a hit keeps its answer when tokens follow that are not in the set
 pub first-never : (holds : ℕ → Bool) (r m : Source ℕ) → is_some (first_offset holds r) ≡ false
     → AllByRecursion (λ x. holds x.0 ≡ false) m → first_offset holds (r ++ m) ≡ first_offset holds r
-first-never holds r m h g = none-reached holds 0 r m h g ∙ sym (no-some (first_offset holds r) h)
+first-never holds r m h g = none-reached holds 0 r m h g ∙ sym (none-from_is_some (first_offset holds r) h)

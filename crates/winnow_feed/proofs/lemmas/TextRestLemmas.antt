@@ -9,6 +9,7 @@ use Rattle.std.proofs.lemmas.Option.{none-some}
 use Rattle.std.proofs.lemmas.List.{get_or-drop, take_at, drop-map}
 use Rattle.std.proofs.lemmas.Str.{IsUtf8-nil, IsUtf8-drop, IsUtf8-from_is_utf8, is_utf8-from_IsUtf8, IsCharBoundary-start, IsCharBoundary-from_take, scalars-chars}
 use Rattle.winnow_stream.specs.Text.{text_source}
+use Rattle.winnow_stream.proofs.lemmas.TextLemmas.{scalars-drop}
 use Rattle.winnow_match.specs.Bytes.{written}
 use Rattle.winnow_match.specs.Comparison.{IsPrefixOf}
 use Rattle.winnow_match.specs.Search.{is_empty, needle_of, hit}
@@ -19,12 +20,6 @@ use Rattle.winnow_match.proofs.lemmas.ByteFrontLemmas.{front_rest, is_prefix-IsP
 use Rattle.winnow_match.proofs.lemmas.StretchLemmas.{none-or-some}
 use Rattle.winnow_match.proofs.lemmas.MoveLemmas.{inside, stretch-some, stretch-first, stretch-empty}
 use Rattle.winnow_feed_step.specs.Missing.{needle_missing}
-
--- the rest of a list of scalar values has scalar values alone
-scalars-drop : (k : ℕ) (cs : List ℕ) → all_scalars cs ≡ true → all_scalars (drop k cs) ≡ true
-scalars-drop zero cs h = h
-scalars-drop (suc k) [] h = h
-scalars-drop (suc k) (c ∷ cs) h = scalars-drop k cs (and_parts _ (all_scalars cs) h).1
 
 -- what remains of a text is text
 pub text-drop : (bytes : List ℕ) (n : ℕ) → is_utf8 bytes ≡ true

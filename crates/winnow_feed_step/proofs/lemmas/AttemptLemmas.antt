@@ -30,14 +30,14 @@ use Rattle.winnow_feed_step.specs.Settled.{NoneInSet, NoneOccurs, AreSame, AreCo
 use Rattle.winnow_feed_step.proofs.lemmas.SettledLemmas.{NoneInSet-whole, NoneOccurs-searched, have_most}
 
 -- an option that is not `Some` is `None`
-none_of : {A : Type 0} (o : Option A) → is_some o ≡ false → o ≡ None
-none_of None h = refl
-none_of (Some x) h = absurd (cc)
+pub none-from_is_some : {A : Type 0} (o : Option A) → is_some o ≡ false → o ≡ None
+none-from_is_some None h = refl
+none-from_is_some (Some x) h = absurd (cc)
 
 -- if no token is in the set, `First` has settled all that remains
 pub first-settled : {T : Type 0} (holds : T → Bool) (r : Source T) → HasPositiveWidths r
     → is_some (first_offset holds r) ≡ false → NoneInSet holds r (width r)
-first-settled holds r w h = NoneInSet-whole holds r w (none_of (first_offset holds r) h)
+first-settled holds r w h = NoneInSet-whole holds r w (none-from_is_some (first_offset holds r) h)
 
 -- a conditional that does not answer `Ok` has a false condition
 short : (b : Bool) (w : ℕ) (e : Needed) → is_ok (cond b (Ok w) (Err e)) ≡ false → b ≡ false

@@ -19,7 +19,7 @@ use Rattle.winnow_run.specs.declared.search_steps.SearchStep.TheVariants as step
 use Rattle.winnow_run.specs.declared.search_steps.SearchAnswer.TheVariants as search_answered
 use Rattle.winnow_run.specs.Searching.{search_answer, search_next}
 use Rattle.winnow_run.specs.Definite.{PieceReading, kind_on_pieces}
-use Rattle.winnow_feed_step.specs.Looks.{since_view, call_view, first_width, place_after, is_marking, look_of}
+use Rattle.winnow_feed_step.specs.Looks.{placed_since, placed_call, first_width, place_after, is_marking, look_of}
 use Rattle.winnow_run.proofs.lemmas.StepLemmas.{Inside}
 use Rattle.winnow_feed_step.proofs.lemmas.SettledLemmas.{width-split}
 
@@ -79,7 +79,7 @@ reset-same f (Some m) = refl
 -- a `Since` answers the same for indices as for places
 since-same : {T : Type 0} (all : Source T) (i m : ℕ) → HasPositiveWidths all → i ≤ length all
     → m ≤ length all
-    → since_view {T = T} (place all i) (Some (place all m)) ≡ since_answer all i (Some m)
+    → placed_since {T = T} (place all i) (Some (place all m)) ≡ since_answer all i (Some m)
 since-same all i m w hi hm =
     let a = width-take_drop all i in
     let b = width-take_drop all m in
@@ -93,47 +93,48 @@ since-same all i m w hi hm =
 
 since-marked : {T : Type 0} (all : Source T) (i : ℕ) (marks : List ℕ) (k : ℕ)
     → HasPositiveWidths all → i ≤ length all → AllByRecursion (λ m. m ≤ length all) marks
-    → since_view {T = T} (place all i) (slice_get (map (place all) marks) k)
+    → placed_since {T = T} (place all i) (slice_get (map (place all) marks) k)
     ≡ since_answer all i (slice_get marks k)
 since-marked all i [] k w hi h = refl
 since-marked all i (m ∷ marks) zero w hi h = since-same all i m w hi h.0
 since-marked all i (m ∷ marks) (suc k) w hi h = since-marked all i marks k w hi h.1
 
+-- the place of a mark is the place of its index, and that of the cursor without one
+pub mark-place : {T : Type 0} (all : Source T) (at : Cursor) (mark : Option ℕ)
+    → unwrap_or (mark_of (map (place all) at.marks) mark) (place all at.index)
+    ≡ place all (unwrap_or (mark_of at.marks mark) at.index)
+mark-place all at None = refl
+mark-place all at (Some k) = ap (λ o. unwrap_or o (place all at.index)) (marked (place all) at.marks k) ∙ reset-place (place all) (slice_get at.marks k) at.index
+
 module _ {T C L : Type 0} (k : PieceReading T C L) (all : Source T) (at : Cursor) (w : HasPositiveWidths all) (inside : Inside all at) where
   -- the mark that a call names answers the same for the places as at the cursor
-  back-view : (mark : Option ℕ)
+  back-placed : (mark : Option ℕ)
       → reset_answer {T = T} (mark_of (map (place all) at.marks) mark)
       ≡ reset_answer (mark_of at.marks mark)
-  back-view None = refl
-  back-view (Some i) = ap reset_answer (marked (place all) at.marks i) ∙ reset-same (place all) (slice_get at.marks i)
+  back-placed None = refl
+  back-placed (Some i) = ap reset_answer (marked (place all) at.marks i) ∙ reset-same (place all) (slice_get at.marks i)
 
-  since-view : (mark : Option ℕ)
-      → since_view {T = T} (place all at.index) (mark_of (map (place all) at.marks) mark)
+  since-placed : (mark : Option ℕ)
+      → placed_since {T = T} (place all at.index) (mark_of (map (place all) at.marks) mark)
       ≡ since_answer all at.index (mark_of at.marks mark)
-  since-view None = refl
-  since-view (Some i) = since-marked all at.index at.marks i w inside.index inside.marks
+  since-placed None = refl
+  since-placed (Some i) = since-marked all at.index at.marks i w inside.index inside.marks
 
   -- a call answers the same for the places as at the cursor
-  call-view : (s : Step C)
-      → call_view k.holds k.counts_missing (place all at.index) (map (place all) at.marks)
+  call-placed : (s : Step C)
+      → placed_call k.holds k.counts_missing (place all at.index) (map (place all) at.marks)
       (rest all at) s ≡ step_answer k.holds k.counts_missing all s at
-  call-view s =
-      rw (length-map at.marks (place all), back-view (call_mark s), since-view (call_mark s)) refl
+  call-placed s =
+      rw (length-map at.marks (place all), back-placed (call_mark s), since-placed (call_mark s)) refl
 
   -- a step answers the same, leads to the same place and makes the same marks for the places as at
   -- the cursor
   pub cursor-answer : (s : SearchStep C L)
       → (look_of k (place all at.index) (map (place all) at.marks) (rest all at) s).answer
       ≡ search_answer (kind_on_pieces k) all s at
-  cursor-answer (step.Call s) = ap (λ a. search_answered.Call a) (call-view s)
+  cursor-answer (step.Call s) = ap (λ a. search_answered.Call a) (call-placed s)
   cursor-answer (step.Compare l) = refl
   cursor-answer (step.Find ns) = refl
-
-  back-place : (mark : Option ℕ)
-      → unwrap_or (mark_of (map (place all) at.marks) mark) (place all at.index)
-      ≡ place all (unwrap_or (mark_of at.marks mark) at.index)
-  back-place None = refl
-  back-place (Some i) = ap (λ o. unwrap_or o (place all at.index)) (marked (place all) at.marks i) ∙ reset-place (place all) (slice_get at.marks i) at.index
 
   move-place : (mark : Option ℕ) (m : Move)
       → place_after (place all at.index) (map (place all) at.marks) (rest all at) mark m
@@ -142,7 +143,7 @@ module _ {T C L : Type 0} (k : PieceReading T C L) (all : Source T) (at : Cursor
   move-place mark past_token = place-next all at.index inside.index
   move-place mark (past_width n) = taken-place all at.index n
   move-place mark to_end = end-place all at.index
-  move-place mark to_mark = back-place mark
+  move-place mark to_mark = mark-place all at mark
   move-place mark marking = refl
 
   pub cursor-place : (s : SearchStep C L)

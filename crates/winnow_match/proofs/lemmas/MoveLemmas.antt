@@ -12,8 +12,8 @@ use Rattle.winnow_match.specs.Search.{is_empty, needle_at, needle_of, hit, Occur
 use Rattle.winnow_match.proofs.lemmas.ByteFrontLemmas.{IsPrefixOf-is_prefix, is_prefix-IsPrefixOf, no_front, is_prefix-more, length-front, is_prefix-append, is_prefix-both, is_prefix-long}
 use Rattle.winnow_match.proofs.lemmas.HitLemmas.{no-needle, needle_at-nowhere, some-says}
 use Rattle.winnow_match.specs.declared.needles.Stretch.{Stretch}
-use Rattle.winnow_match.specs.Stretch.{stretching, first_stretch, stretch_of, hit_is_definite, Stretches, CanMove, IsStretch}
-use Rattle.winnow_match.proofs.lemmas.StretchLemmas.{none-or-some, stretches-parts, stretches-from, stretching-some, stretching-none, first_stretch-some, first_stretch-none}
+use Rattle.winnow_match.specs.Stretch.{mover, first_mover, stretch_of, hit_is_definite, Stretches, CanMove, IsStretch}
+use Rattle.winnow_match.proofs.lemmas.StretchLemmas.{none-or-some, stretches-parts, stretches-from, mover-some, mover-none, first_mover-some, first_mover-none}
 
 -- ---- lists of needles
 
@@ -86,11 +86,11 @@ module _ (ls : List (List ℕ)) (bytes : List ℕ) (some : list_any is_empty ls 
         → is_prefix (needle_of ls i) (drop k bytes) ≡ false
     no-front i k l e = no-needle ls (drop k bytes) e i l
 
-    -- if `first_stretch` is `None`, nothing can move the hit
-    pub stretch-none : first_stretch ls 0 bytes ≡ None → (i q : ℕ) → ¬ CanMove ls bytes r i q
+    -- if `first_mover` is `None`, nothing can move the hit
+    pub stretch-none : first_mover ls 0 bytes ≡ None → (i q : ℕ) → ¬ CanMove ls bytes r i q
     stretch-none e i q c =
         let within : q ≤ r.start = elim c.first [ inl l ↦ omega (arith, l) | inr s ↦ omega (arith, s.0) ] in
-        let none : stretching ls (drop q bytes) ≡ None = first_stretch-none ls bytes 0 e q (omega (arith, within, inside)) (λ k l. absent-before k (omega (arith, l, within))) in
+        let none : mover ls (drop q bytes) ≡ None = first_mover-none ls bytes 0 e q (omega (arith, within, inside)) (λ k l. absent-before k (omega (arith, l, within))) in
         let absent : (j : ℕ) → j < suc i → is_prefix (needle_of ls j) (drop q bytes) ≡ false =
         λ j l. elim c.first [
           | inl s ↦ no_front (needle_of ls j) (drop q bytes) (first.first_place j q (omega (arith, l, c.listed)) s)
@@ -102,15 +102,15 @@ module _ (ls : List (List ℕ)) (bytes : List ℕ) (some : list_any is_empty ls 
           ]
         ]
         in
-        false≢true (sym (stretching-none ls (drop q bytes) none i c.listed absent) ∙ stretches-from (needle_of ls i) (drop q bytes) c.stretches)
+        false≢true (sym (mover-none ls (drop q bytes) none i c.listed absent) ∙ stretches-from (needle_of ls i) (drop q bytes) c.stretches)
 
-    -- what `first_stretch` gives is the least stretch, as a fact
-    pub stretch-some : (s : Stretch) → first_stretch ls 0 bytes ≡ Some s → IsStretch ls bytes r s
+    -- what `first_mover` gives is the least stretch, as a fact
+    pub stretch-some : (s : Stretch) → first_mover ls 0 bytes ≡ Some s → IsStretch ls bytes r s
     stretch-some s e =
-        let t = first_stretch-some ls bytes 0 s e in
+        let t = first_mover-some ls bytes 0 s e in
         let at : t.place ≡ s.place = omega (arith, t.is) in
-        let here : stretching ls (drop s.place bytes) ≡ Some s.needle = ap (λ q. stretching ls (drop q bytes)) (sym at) ∙ t.here in
-        let u = stretching-some ls (drop s.place bytes) s.needle here in
+        let here : mover ls (drop s.place bytes) ≡ Some s.needle = ap (λ q. mover ls (drop q bytes)) (sym at) ∙ t.here in
+        let u = mover-some ls (drop s.place bytes) s.needle here in
         let within : s.place ≤ r.start =
         elim (cases_lt r.start s.place) [
           | inl l ↦
@@ -136,7 +136,7 @@ module _ (ls : List (List ℕ)) (bytes : List ℕ) (some : list_any is_empty ls 
                 | inl l ↦
                     let none = t.absent q (omega (arith, l, at)) in
                     let off =
-                    stretching-none ls (drop q bytes) (t.before q (omega (arith, l, at))) i c.listed (λ j k. no-front j q (omega (arith, k, c.listed)) none)
+                    mover-none ls (drop q bytes) (t.before q (omega (arith, l, at))) i c.listed (λ j k. no-front j q (omega (arith, k, c.listed)) none)
                     in
                     absurd (false≢true (sym off ∙ stretches-from (needle_of ls i) (drop q bytes) c.stretches))
                 | inr l ↦ l
@@ -158,8 +158,8 @@ module _ (ls : List (List ℕ)) (b : List ℕ) where
   pub stretch-empty : list_any is_empty ls ≡ true → stretch_of ls b ≡ None
   stretch-empty e = rw e refl
 
-  -- without an empty needle, `stretch_of` is `first_stretch` from place 0
-  pub stretch-first : list_any is_empty ls ≡ false → stretch_of ls b ≡ first_stretch ls 0 b
+  -- without an empty needle, `stretch_of` is `first_mover` from place 0
+  pub stretch-first : list_any is_empty ls ≡ false → stretch_of ls b ≡ first_mover ls 0 b
   stretch-first e = rw e refl
 
   -- a definite hit is a hit that nothing can move, in both directions

@@ -11,10 +11,10 @@ use Rattle.std.proofs.lemmas.List.Prefix.{at_from_reads, at_reads, front_reads}
 use Rattle.memchr.specs.Find.{IsFirst, OccursAt, FindsNeedle}
 use Rattle.winnow_match.specs.Comparison.{is_prefix}
 use Rattle.winnow_match.specs.Search.{is_empty, needle_at, needle_of, hit}
-use Rattle.winnow_match.specs.Stretch.{stretches, stretching, stretch_of, any_stretches, IsLeastPlace}
+use Rattle.winnow_match.specs.Stretch.{stretches, mover, stretch_of, any_stretches, IsLeastPlace}
 use Rattle.winnow_match.proofs.lemmas.MoveLemmas.{absent-before, first, fits, inside}
 use Rattle.winnow_match.proofs.lemmas.StretchLemmas.{stretches-parts}
-use Rattle.winnow_match.proofs.lemmas.TailLemmas.{stretching_or-later, stretch-found, stretch-over}
+use Rattle.winnow_match.proofs.lemmas.TailLemmas.{mover_or-later, stretch-found, stretch-over}
 
 -- ---- one needle
 
@@ -143,14 +143,14 @@ pub ruleset least_places = (least-two, least-three)
 
 -- ---- the hit
 
--- where no needle stretches, `stretching` is `None`
-stretching-never : (ls : List (List ℕ)) (xs : List ℕ) → any_stretches ls xs ≡ false
-    → stretching ls xs ≡ None
-stretching-never [] xs e = refl
-stretching-never (n ∷ ls) xs e =
+-- where no needle stretches, `mover` is `None`
+mover-never : (ls : List (List ℕ)) (xs : List ℕ) → any_stretches ls xs ≡ false
+    → mover ls xs ≡ None
+mover-never [] xs e = refl
+mover-never (n ∷ ls) xs e =
     elim (cases_Bool (stretches n xs)) [
       | inl t ↦ absurd (false≢true (sym e ∙ or_left (stretches n xs) (any_stretches ls xs) t))
-      | inr t ↦ stretching_or-later (is_prefix n xs) (stretches n xs) (stretching ls xs) t (stretching-never ls xs (rw t at e))
+      | inr t ↦ mover_or-later (is_prefix n xs) (stretches n xs) (mover ls xs) t (mover-never ls xs (rw t at e))
     ]
 
 -- an option whose mapped value is `None` is `None`
@@ -159,17 +159,17 @@ mapped-some None e = refl
 mapped-some (Some i) e = absurd (none-some (i + 1) (sym e))
 
 -- if no needle stands and some needle stretches, one is the first that does
-stretching-some-here : (ls : List (List ℕ)) (xs : List ℕ) → needle_at ls xs ≡ None
-    → stretching ls xs ≡ None → any_stretches ls xs ≡ false
-stretching-some-here [] xs none e = refl
-stretching-some-here (n ∷ ls) xs none e =
+mover-some-here : (ls : List (List ℕ)) (xs : List ℕ) → needle_at ls xs ≡ None
+    → mover ls xs ≡ None → any_stretches ls xs ≡ false
+mover-some-here [] xs none e = refl
+mover-some-here (n ∷ ls) xs none e =
     elim (cases_Bool (is_prefix n xs)) [
       | inl f ↦ absurd (none-some (length n) (sym (rw f at none)))
       | inr f ↦ elim (cases_Bool (stretches n xs)) [
         | inl t ↦ absurd (none-some 0 (sym (rw (f, t) at e)))
         | inr t ↦
             or-false (stretches n xs) (any_stretches ls xs) t
-            (stretching-some-here ls xs (rw f at none) (mapped-some (stretching ls xs) (rw (f, t) at e)))
+            (mover-some-here ls xs (rw f at none) (mapped-some (mover ls xs) (rw (f, t) at e)))
       ]
     ]
 
@@ -202,8 +202,8 @@ module _ (ls : List (List ℕ)) (b : List ℕ) (some : list_any is_empty ls ≡ 
 
   module _ (p : ℕ) (least : IsLeastPlace ls b r.start p) where
     -- no needle stretches before the least place
-    never-before : (k : ℕ) → k < p → k ≤ r.start → stretching ls (drop k b) ≡ None
-    never-before k l low = stretching-never ls (drop k b) (least.before k l low)
+    never-before : (k : ℕ) → k < p → k ≤ r.start → mover ls (drop k b) ≡ None
+    never-before k l low = mover-never ls (drop k b) (least.before k l low)
 
     -- if the least place is after the hit, nothing can move it
     pub place-over : r.start < p → stretch_of ls b ≡ None
@@ -212,11 +212,11 @@ module _ (ls : List (List ℕ)) (b : List ℕ) (some : list_any is_empty ls ≡ 
     module _ (low : p ≤ r.start) where
       -- a needle that stretches at the hit, but is listed after the one that stands there, does not
       -- move it
-      pub place-later : stretching ls (drop p b) ≡ None → stretch_of ls b ≡ None
+      pub place-later : mover ls (drop p b) ≡ None → stretch_of ls b ≡ None
       place-later e =
           elim (cases_lt p r.start) [
             | inl l ↦
-                absurd (false≢true (sym (stretching-some-here ls (drop p b) (absent-before ls b some r h p l) e) ∙ least.here low))
+                absurd (false≢true (sym (mover-some-here ls (drop p b) (absent-before ls b some r h p l) e) ∙ least.here low))
             | inr l ↦
                 let at : p ≡ r.start = omega (arith, l, low) in
                 stretch-over ls b some r h (λ k m n.
@@ -224,11 +224,11 @@ module _ (ls : List (List ℕ)) (b : List ℕ) (some : list_any is_empty ls ≡ 
                   | inl t ↦ never-before k t (omega (arith, n))
                   | inr t ↦
                       let is : p ≡ k = omega (arith, t, n, at) in
-                      subst (λ j. stretching ls (drop j b) ≡ None) is e
+                      subst (λ j. mover ls (drop j b) ≡ None) is e
                 ])
           ]
 
       -- a needle that stretches at the least place is what could move the hit
-      pub place-first : (i : ℕ) → stretching ls (drop p b) ≡ Some i
+      pub place-first : (i : ℕ) → mover ls (drop p b) ≡ Some i
           → stretch_of ls b ≡ Some (record { needle = i; place = p })
       place-first i e = stretch-found ls b some r h p i low (λ k m l. never-before k l (omega (arith, l, low))) e

@@ -8,7 +8,7 @@ use Rattle.winnow_match.specs.Search.{needle_at, needle_of}
 use Rattle.winnow_match.proofs.lemmas.ByteFrontLemmas.{IsPrefixOf-is_prefix, is_prefix-IsPrefixOf}
 use Rattle.winnow_match.proofs.lemmas.HitLemmas.{below-suc}
 use Rattle.winnow_match.specs.declared.needles.Stretch.{Stretch}
-use Rattle.winnow_match.specs.Stretch.{stretches, stretching, stretch_or, first_stretch}
+use Rattle.winnow_match.specs.Stretch.{stretches, mover, mover_or_later, first_mover}
 
 -- an option is `None` or has a value
 pub none-or-some : {A : Type 0} (o : Option A) → (o ≡ None) ⊎ ((a : A) × (o ≡ Some a))
@@ -46,12 +46,12 @@ pub record IsFirstStretching (ls : List (List ℕ)) (xs : List ℕ) (i : ℕ) : 
   pub absent : (j : ℕ) → j < i → is_prefix (needle_of ls j) xs ≡ false
   pub before : (j : ℕ) → j < i → stretches (needle_of ls j) xs ≡ false
 
--- `stretching` gives the first listed needle that stretches, with none before it that stands
-pub stretching-some : (ls : List (List ℕ)) (xs : List ℕ) (i : ℕ) → stretching ls xs ≡ Some i
+-- `mover` gives the first listed needle that stretches, with none before it that stands
+pub mover-some : (ls : List (List ℕ)) (xs : List ℕ) (i : ℕ) → mover ls xs ≡ Some i
     → IsFirstStretching ls xs i
-stretching-some [] xs i h = absurd (none-some i h)
-stretching-some (n ∷ ls) xs i h =
-    let e : cond (is_prefix n xs) None (cond (stretches n xs) (Some 0) (option_map (λ k. k + 1) (stretching ls xs))) ≡ Some i = h in
+mover-some [] xs i h = absurd (none-some i h)
+mover-some (n ∷ ls) xs i h =
+    let e : cond (is_prefix n xs) None (cond (stretches n xs) (Some 0) (option_map (λ k. k + 1) (mover ls xs))) ≡ Some i = h in
     elim (cases_Bool (is_prefix n xs)) [
       | inl f ↦ absurd (none-some i (rw f at e))
       | inr f ↦ elim (cases_Bool (stretches n xs)) [
@@ -60,8 +60,8 @@ stretching-some (n ∷ ls) xs i h =
             subst (IsFirstStretching (n ∷ ls) xs) is
             (record { listed = omega arith; stretched = g; absent = λ j l. absurd (omega (arith, l)); before = λ j l. absurd (omega (arith, l)) })
         | inr g ↦
-            let later = mapped-some (stretching ls xs) i (rw (f, g) at e) in
-            let s = stretching-some ls xs later.0 later.1 in
+            let later = mapped-some (mover ls xs) i (rw (f, g) at e) in
+            let s = mover-some ls xs later.0 later.1 in
             subst (IsFirstStretching (n ∷ ls) xs) (sym later.2)
             (record {
               listed = omega (arith, s.listed);
@@ -72,7 +72,7 @@ stretching-some (n ∷ ls) xs i h =
       ]
     ]
 
--- the step of `stretching-none`
+-- the step of `mover-none`
 later-none : (n : List ℕ) (ls : List (List ℕ)) (xs : List ℕ) → stretches n xs ≡ false
     → ((i : ℕ) → i < length ls → ((j : ℕ) → j < suc i → is_prefix (needle_of ls j) xs ≡ false)
     → stretches (needle_of ls i) xs ≡ false) → (i : ℕ) → i < length (n ∷ ls)
@@ -81,19 +81,19 @@ later-none : (n : List ℕ) (ls : List (List ℕ)) (xs : List ℕ) → stretches
 later-none n ls xs g f zero l absent = g
 later-none n ls xs g f (suc i) l absent = f i (omega (arith, l)) (λ j k. absent (suc j) (omega (arith, k)))
 
--- if `stretching` is `None`, no needle stretches that is listed before each one that stands
-pub stretching-none : (ls : List (List ℕ)) (xs : List ℕ) → stretching ls xs ≡ None → (i : ℕ)
+-- if `mover` is `None`, no needle stretches that is listed before each one that stands
+pub mover-none : (ls : List (List ℕ)) (xs : List ℕ) → mover ls xs ≡ None → (i : ℕ)
     → i < length ls → ((j : ℕ) → j < suc i → is_prefix (needle_of ls j) xs ≡ false)
     → stretches (needle_of ls i) xs ≡ false
-stretching-none [] xs h i l absent = absurd (omega (arith, l))
-stretching-none (n ∷ ls) xs h i l absent =
-    let e : cond (is_prefix n xs) None (cond (stretches n xs) (Some 0) (option_map (λ k. k + 1) (stretching ls xs))) ≡ None = h in
+mover-none [] xs h i l absent = absurd (omega (arith, l))
+mover-none (n ∷ ls) xs h i l absent =
+    let e : cond (is_prefix n xs) None (cond (stretches n xs) (Some 0) (option_map (λ k. k + 1) (mover ls xs))) ≡ None = h in
     let f : is_prefix n xs ≡ false = absent 0 (omega arith) in
     elim (cases_Bool (stretches n xs)) [
       | inl g ↦ absurd (none-some 0 (sym (rw (f, g) at e)))
       | inr g ↦
-          let later : stretching ls xs ≡ None = mapped-none (stretching ls xs) (rw (f, g) at e) in
-          later-none n ls xs g (stretching-none ls xs later) i l absent
+          let later : mover ls xs ≡ None = mapped-none (mover ls xs) (rw (f, g) at e) in
+          later-none n ls xs g (mover-none ls xs later) i l absent
     ]
 
 -- ---- places
@@ -102,17 +102,17 @@ stretching-none (n ∷ ls) xs h i l absent =
 pub record IsFirstStretch (ls : List (List ℕ)) (bytes : List ℕ) (base : ℕ) (s : Stretch) : Type 0 where
   pub place : ℕ
   pub is : s.place ≡ base + place
-  pub here : stretching ls (drop place bytes) ≡ Some s.needle
-  pub before : (k : ℕ) → k < place → stretching ls (drop k bytes) ≡ None
+  pub here : mover ls (drop place bytes) ≡ Some s.needle
+  pub before : (k : ℕ) → k < place → mover ls (drop k bytes) ≡ None
   pub absent : (k : ℕ) → k < place → needle_at ls (drop k bytes) ≡ None
 
--- `first_stretch` gives the first place with a needle that stretches, before any that stands
-pub first_stretch-some : (ls : List (List ℕ)) (bytes : List ℕ) (base : ℕ) (s : Stretch)
-    → first_stretch ls base bytes ≡ Some s → IsFirstStretch ls bytes base s
-first_stretch-some ls [] base s h = absurd (none-some s h)
-first_stretch-some ls (y ∷ bytes) base s h =
-    let e : stretch_or base (stretching ls (y ∷ bytes)) (needle_at ls (y ∷ bytes)) (first_stretch ls (base + 1) bytes) ≡ Some s = h in
-    elim (none-or-some (stretching ls (y ∷ bytes))) [
+-- `first_mover` gives the first place with a needle that stretches, before any that stands
+pub first_mover-some : (ls : List (List ℕ)) (bytes : List ℕ) (base : ℕ) (s : Stretch)
+    → first_mover ls base bytes ≡ Some s → IsFirstStretch ls bytes base s
+first_mover-some ls [] base s h = absurd (none-some s h)
+first_mover-some ls (y ∷ bytes) base s h =
+    let e : mover_or_later base (mover ls (y ∷ bytes)) (needle_at ls (y ∷ bytes)) (first_mover ls (base + 1) bytes) ≡ Some s = h in
+    elim (none-or-some (mover ls (y ∷ bytes))) [
       | inr f ↦
           let is : ◌≡◌ {A = Stretch} (record { needle = f.0; place = base }) s = same_Some (record { needle = f.0; place = base }) s (rw f.1 at e) in
           subst (IsFirstStretch ls (y ∷ bytes) base) is
@@ -120,35 +120,35 @@ first_stretch-some ls (y ∷ bytes) base s h =
       | inl f ↦ elim (none-or-some (needle_at ls (y ∷ bytes))) [
         | inr g ↦ absurd (none-some s (rw (f, g.1) at e))
         | inl g ↦
-            let later = first_stretch-some ls bytes (base + 1) s (rw (f, g) at e) in
+            let later = first_mover-some ls bytes (base + 1) s (rw (f, g) at e) in
             record {
               place = suc later.place;
               is = omega (arith, later.is);
               here = later.here;
-              before = below-suc (λ k. stretching ls (drop k (y ∷ bytes)) ≡ None) later.place f later.before;
+              before = below-suc (λ k. mover ls (drop k (y ∷ bytes)) ≡ None) later.place f later.before;
               absent = below-suc (λ k. needle_at ls (drop k (y ∷ bytes)) ≡ None) later.place g later.absent;
             }
       ]
     ]
 
--- the step of `first_stretch-none`
-at-place : (ls : List (List ℕ)) (y : ℕ) (bytes : List ℕ) → stretching ls (y ∷ bytes) ≡ None
+-- the step of `first_mover-none`
+at-place : (ls : List (List ℕ)) (y : ℕ) (bytes : List ℕ) → mover ls (y ∷ bytes) ≡ None
     → (needle_at ls (y ∷ bytes) ≡ None → (q : ℕ) → q < length bytes
-    → ((k : ℕ) → k < q → needle_at ls (drop k bytes) ≡ None) → stretching ls (drop q bytes) ≡ None)
+    → ((k : ℕ) → k < q → needle_at ls (drop k bytes) ≡ None) → mover ls (drop q bytes) ≡ None)
     → (q : ℕ) → q < length (y ∷ bytes)
     → ((k : ℕ) → k < q → needle_at ls (drop k (y ∷ bytes)) ≡ None)
-    → stretching ls (drop q (y ∷ bytes)) ≡ None
+    → mover ls (drop q (y ∷ bytes)) ≡ None
 at-place ls y bytes f later zero l absent = f
 at-place ls y bytes f later (suc q) l absent = later (absent 0 (omega arith)) q (omega (arith, l)) (λ k m. absent (suc k) (omega (arith, m)))
 
--- if `first_stretch` is `None`, none stretches up to the first place at which a needle stands
-pub first_stretch-none : (ls : List (List ℕ)) (bytes : List ℕ) (base : ℕ)
-    → first_stretch ls base bytes ≡ None → (q : ℕ) → q < length bytes
-    → ((k : ℕ) → k < q → needle_at ls (drop k bytes) ≡ None) → stretching ls (drop q bytes) ≡ None
-first_stretch-none ls [] base h q l absent = absurd (omega (arith, l))
-first_stretch-none ls (y ∷ bytes) base h q l absent =
-    let e : stretch_or base (stretching ls (y ∷ bytes)) (needle_at ls (y ∷ bytes)) (first_stretch ls (base + 1) bytes) ≡ None = h in
-    elim (none-or-some (stretching ls (y ∷ bytes))) [
+-- if `first_mover` is `None`, none stretches up to the first place at which a needle stands
+pub first_mover-none : (ls : List (List ℕ)) (bytes : List ℕ) (base : ℕ)
+    → first_mover ls base bytes ≡ None → (q : ℕ) → q < length bytes
+    → ((k : ℕ) → k < q → needle_at ls (drop k bytes) ≡ None) → mover ls (drop q bytes) ≡ None
+first_mover-none ls [] base h q l absent = absurd (omega (arith, l))
+first_mover-none ls (y ∷ bytes) base h q l absent =
+    let e : mover_or_later base (mover ls (y ∷ bytes)) (needle_at ls (y ∷ bytes)) (first_mover ls (base + 1) bytes) ≡ None = h in
+    elim (none-or-some (mover ls (y ∷ bytes))) [
       | inr f ↦ let s : Stretch = record { needle = f.0; place = base } in absurd (none-some s (sym (rw f.1 at e)))
-      | inl f ↦ at-place ls y bytes f (λ g. first_stretch-none ls bytes (base + 1) (rw (f, g) at e)) q l absent
+      | inl f ↦ at-place ls y bytes f (λ g. first_mover-none ls bytes (base + 1) (rw (f, g) at e)) q l absent
     ]

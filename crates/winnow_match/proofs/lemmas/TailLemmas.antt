@@ -8,7 +8,7 @@ use Rattle.std.proofs.lemmas.Option.{none-some}
 use Rattle.winnow_match.specs.Comparison.{is_prefix}
 use Rattle.winnow_match.specs.Search.{is_empty, needle_at, needle_of, hit, have_length, have_one_length}
 use Rattle.winnow_match.specs.declared.needles.Stretch.{Stretch}
-use Rattle.winnow_match.specs.Stretch.{stretches, stretching_or, stretching, first_stretch, stretch_of, hit_is_definite, longest}
+use Rattle.winnow_match.specs.Stretch.{stretches, mover_or, mover, first_mover, stretch_of, hit_is_definite, longest}
 use Rattle.winnow_match.proofs.lemmas.StretchLemmas.{none-or-some}
 use Rattle.winnow_match.proofs.lemmas.MoveLemmas.{first, fits, has-byte, inside, stretch-some, absent-before, stands-some, stretch-first, stretch-empty, definite-from, definite-parts}
 
@@ -19,44 +19,44 @@ longest-bound (n ∷ ls) zero l = omega arith
 longest-bound (n ∷ ls) (suc i) l = omega (arith, longest-bound ls i (omega (arith, l)))
 
 -- the first needle does not stretch and the later ones give nothing, so there is none
-pub stretching_or-later : (a b : Bool) (o : Option ℕ) → b ≡ false → o ≡ None
-    → stretching_or a b o ≡ None
-stretching_or-later true b o h e = refl
-stretching_or-later false b o h e = rw (h, e) refl
+pub mover_or-later : (a b : Bool) (o : Option ℕ) → b ≡ false → o ≡ None
+    → mover_or a b o ≡ None
+mover_or-later true b o h e = refl
+mover_or-later false b o h e = rw (h, e) refl
 
 -- no needle stretches in bytes that are at least as long as each of them
-stretching-long : (ls : List (List ℕ)) (xs : List ℕ) → longest ls ≤ length xs
-    → stretching ls xs ≡ None
-stretching-long [] xs l = refl
-stretching-long (n ∷ ls) xs l =
-    stretching_or-later (is_prefix n xs) (stretches n xs) (stretching ls xs) (and_right (is_prefix xs n) _ (le-ltb (length xs) (length n) (omega (arith, l)))) (stretching-long ls xs (omega (arith, l)))
+mover-long : (ls : List (List ℕ)) (xs : List ℕ) → longest ls ≤ length xs
+    → mover ls xs ≡ None
+mover-long [] xs l = refl
+mover-long (n ∷ ls) xs l =
+    mover_or-later (is_prefix n xs) (stretches n xs) (mover ls xs) (and_right (is_prefix xs n) _ (le-ltb (length xs) (length n) (omega (arith, l)))) (mover-long ls xs (omega (arith, l)))
 
 -- the first place at which a needle stretches, with none that stands before, is the answer
-first_stretch-at : (ls : List (List ℕ)) (bytes : List ℕ) (base q i : ℕ) → q < length bytes
-    → ((k : ℕ) → k < q → stretching ls (drop k bytes) ≡ None)
+first_mover-at : (ls : List (List ℕ)) (bytes : List ℕ) (base q i : ℕ) → q < length bytes
+    → ((k : ℕ) → k < q → mover ls (drop k bytes) ≡ None)
     → ((k : ℕ) → k < q → needle_at ls (drop k bytes) ≡ None)
-    → stretching ls (drop q bytes) ≡ Some i
-    → first_stretch ls base bytes ≡ Some (record { needle = i; place = base + q })
-first_stretch-at ls [] base q i l before absent e = absurd (omega (arith, l))
-first_stretch-at ls (y ∷ bytes) base zero i l before absent e = rw e (ap (λ p. let s : Stretch = record { needle = i; place = p } in Some s) (omega arith))
-first_stretch-at ls (y ∷ bytes) base (suc q) i l before absent e =
-    let here : stretching ls (y ∷ bytes) ≡ None = before 0 (omega arith) in
+    → mover ls (drop q bytes) ≡ Some i
+    → first_mover ls base bytes ≡ Some (record { needle = i; place = base + q })
+first_mover-at ls [] base q i l before absent e = absurd (omega (arith, l))
+first_mover-at ls (y ∷ bytes) base zero i l before absent e = rw e (ap (λ p. let s : Stretch = record { needle = i; place = p } in Some s) (omega arith))
+first_mover-at ls (y ∷ bytes) base (suc q) i l before absent e =
+    let here : mover ls (y ∷ bytes) ≡ None = before 0 (omega arith) in
     let none : needle_at ls (y ∷ bytes) ≡ None = absent 0 (omega arith) in
     rw (here, none)
-    (first_stretch-at ls bytes (base + 1) q i (omega (arith, l)) (λ k m. before (suc k) (omega (arith, m))) (λ k m. absent (suc k) (omega (arith, m))) e
+    (first_mover-at ls bytes (base + 1) q i (omega (arith, l)) (λ k m. before (suc k) (omega (arith, m))) (λ k m. absent (suc k) (omega (arith, m))) e
     ∙ ap (λ p. let s : Stretch = record { needle = i; place = p } in Some s) (omega arith))
 
 -- if a needle stands before any stretches, there is no answer
-first_stretch-over : (ls : List (List ℕ)) (bytes : List ℕ) (base q n : ℕ) → q < length bytes
-    → ((k : ℕ) → k < suc q → stretching ls (drop k bytes) ≡ None)
+first_mover-over : (ls : List (List ℕ)) (bytes : List ℕ) (base q n : ℕ) → q < length bytes
+    → ((k : ℕ) → k < suc q → mover ls (drop k bytes) ≡ None)
     → ((k : ℕ) → k < q → needle_at ls (drop k bytes) ≡ None) → needle_at ls (drop q bytes) ≡ Some n
-    → first_stretch ls base bytes ≡ None
-first_stretch-over ls [] base q n l before absent e = absurd (omega (arith, l))
-first_stretch-over ls (y ∷ bytes) base zero n l before absent e = let here : stretching ls (y ∷ bytes) ≡ None = before 0 (omega arith) in rw (here, e) refl
-first_stretch-over ls (y ∷ bytes) base (suc q) n l before absent e =
-    let here : stretching ls (y ∷ bytes) ≡ None = before 0 (omega arith) in
+    → first_mover ls base bytes ≡ None
+first_mover-over ls [] base q n l before absent e = absurd (omega (arith, l))
+first_mover-over ls (y ∷ bytes) base zero n l before absent e = let here : mover ls (y ∷ bytes) ≡ None = before 0 (omega arith) in rw (here, e) refl
+first_mover-over ls (y ∷ bytes) base (suc q) n l before absent e =
+    let here : mover ls (y ∷ bytes) ≡ None = before 0 (omega arith) in
     let none : needle_at ls (y ∷ bytes) ≡ None = absent 0 (omega arith) in
-    rw (here, none) (first_stretch-over ls bytes (base + 1) q n (omega (arith, l)) (λ k m. before (suc k) (omega (arith, m))) (λ k m. absent (suc k) (omega (arith, m))) e)
+    rw (here, none) (first_mover-over ls bytes (base + 1) q n (omega (arith, l)) (λ k m. before (suc k) (omega (arith, m))) (λ k m. absent (suc k) (omega (arith, m))) e)
 
 module _ (ls : List (List ℕ)) (b : List ℕ) (some : list_any is_empty ls ≡ false) (r : Range ℕ) (h : hit ls b ≡ Some r) where
   -- the hit starts before the end of the bytes
@@ -69,33 +69,33 @@ module _ (ls : List (List ℕ)) (b : List ℕ) (some : list_any is_empty ls ≡ 
 
   -- if none stretches at the places below q that were looked at, none does at any place below q
   passed : (q : ℕ) → q ≤ length b
-      → ((k : ℕ) → length b - (longest ls - 1) ≤ k → k < q → stretching ls (drop k b) ≡ None)
-      → (k : ℕ) → k < q → stretching ls (drop k b) ≡ None
+      → ((k : ℕ) → length b - (longest ls - 1) ≤ k → k < q → mover ls (drop k b) ≡ None)
+      → (k : ℕ) → k < q → mover ls (drop k b) ≡ None
   passed q fits looked k l =
       elim (cases_lt k (length b - (longest ls - 1))) [
-        | inl m ↦ stretching-long ls (drop k b) (omega (arith, m, length-drop k b, longest-positive))
+        | inl m ↦ mover-long ls (drop k b) (omega (arith, m, length-drop k b, longest-positive))
         | inr m ↦ looked k m l
       ]
 
   -- a needle that stretches at a place that is looked at is what could move the hit
   pub stretch-found : (q i : ℕ) → q ≤ r.start
-      → ((k : ℕ) → length b - (longest ls - 1) ≤ k → k < q → stretching ls (drop k b) ≡ None)
-      → stretching ls (drop q b) ≡ Some i
+      → ((k : ℕ) → length b - (longest ls - 1) ≤ k → k < q → mover ls (drop k b) ≡ None)
+      → mover ls (drop q b) ≡ Some i
       → stretch_of ls b ≡ Some (record { needle = i; place = q })
   stretch-found q i l looked e =
       let w = hit-inside in
       stretch-first ls b some
-      ∙ first_stretch-at ls b 0 q i (omega (arith, l, w)) (passed q (omega (arith, l, w)) looked) (λ k m. absent-before ls b some r h k (omega (arith, m, l))) e
+      ∙ first_mover-at ls b 0 q i (omega (arith, l, w)) (passed q (omega (arith, l, w)) looked) (λ k m. absent-before ls b some r h k (omega (arith, m, l))) e
       ∙ ap (λ p. let s : Stretch = record { needle = i; place = p } in Some s) (omega arith)
 
   -- if none stretches up to the hit, nothing can move it
   pub stretch-over : ((k : ℕ) → length b - (longest ls - 1) ≤ k → k < r.start + 1
-      → stretching ls (drop k b) ≡ None) → stretch_of ls b ≡ None
+      → mover ls (drop k b) ≡ None) → stretch_of ls b ≡ None
   stretch-over looked =
       let w = hit-inside in
       let n = stands-some ls b some r h in
       let all = passed (r.start + 1) (omega (arith, w)) looked in
-      stretch-first ls b some ∙ first_stretch-over ls b 0 r.start n.0 w (λ k m. all k (omega (arith, m))) (absent-before ls b some r h) n.1
+      stretch-first ls b some ∙ first_mover-over ls b 0 r.start n.0 w (λ k m. all k (omega (arith, m))) (absent-before ls b some r h) n.1
 
 -- the code answers `None` exactly if the hit is definite
 pub definite-says : (ls : List (List ℕ)) (b : List ℕ) (r : Range ℕ) (o : Option Stretch)

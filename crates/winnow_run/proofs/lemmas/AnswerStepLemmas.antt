@@ -3,7 +3,7 @@ use Rattle.std.proofs.Common.{◌≡◌, ℕ, ◌+◌, ◌-◌, ◌≤◌, ◌<�
 use Rattle.std.specs.Prelude.{slice_get, is_some, IfSome}
 use Rattle.std.proofs.lemmas.Bool.Decides.{nat_tests}
 use Rattle.std.proofs.lemmas.Bool.{cases_lt, le-leb}
-use Rattle.std.proofs.lemmas.List.{drop-drop}
+use Rattle.std.proofs.lemmas.List.{drop-drop, drop_all}
 use Rattle.std.proofs.lemmas.Slice.Zip.{AllZip-long}
 use Rattle.winnow_stream.specs.Source.{Source, width, offsets}
 use Rattle.winnow_stream.specs.Front.{front_count, is_offset, count_to, front, back, part}
@@ -15,7 +15,7 @@ use Rattle.winnow_stream.specs.Location.{location_behind}
 use Rattle.winnow_run.specs.RunState.{RunState, StandsAt, IsMarkAt, IsInReach, AreLocated}
 use Rattle.winnow_run.specs.Searching.{IsSearchInReach}
 use Rattle.winnow_run.specs.declared.script.Step.{Step}
-use Rattle.winnow_run.specs.declared.script.Step.TheVariants.{Next, Take, Mark, Reset}
+use Rattle.winnow_run.specs.declared.script.Step.TheVariants.{Next, Take, Finish, Mark, Reset}
 use Rattle.winnow_run.specs.declared.search_steps.SearchStep.{SearchStep}
 use Rattle.winnow_run.specs.declared.search_steps.SearchStep.TheVariants as search
 use Rattle.winnow_run.proofs.lemmas.PlaceLemmas.{drop-next, width-later, width-antitone}
@@ -225,6 +225,11 @@ module _ {T : Type 0} (here : RunState T) (all : Source T) (at : Cursor) (h : St
   pub stands-take : (n : ℕ) (t : Source T) → t ≡ back here.rest n
       → StandsAt (record here { rest = t }) all (step_next {C = Unit {0}} all (Take n) at)
   stands-take n t e = stands-moved _ t (e ∙ ap (λ x. back x n) h.rest ∙ back-drop all at.index n) (within-back all at.index n h.within)
+
+  -- after `Finish` the run stands at the end
+  pub stands-end : (t : Source T) → t ≡ []
+      → StandsAt (record here { rest = t }) all (step_next {C = Unit {0}} all Finish at)
+  stands-end t e = stands-moved (length all) t (e ∙ sym (drop_all (length all) all (omega arith))) (omega arith)
 
   -- a `Take` that is not valid leaves the run where it stands
   pub stands-not_taken : (n : ℕ) → front_count (drop at.index all) n ≡ None

@@ -41,7 +41,7 @@ pub start-inside : {T : Type 0} (all : Source T) → Inside all start
 start-inside all = record { index = omega arith; marks = tt }
 
 -- the place of an index inside the list stays the same with more input appended
-place-more : {T : Type 0} (all more : Source T) (i : ℕ) → i ≤ length all
+pub place-more : {T : Type 0} (all more : Source T) (i : ℕ) → i ≤ length all
     → place (all ++ more) i ≡ place all i
 place-more all more i h = ap width (take-append-le i all more h)
 

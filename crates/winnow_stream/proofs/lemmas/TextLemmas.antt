@@ -70,8 +70,8 @@ back-cut bs n u b =
     let f = text_source-cut bs n u b in
     sym (ap (λ k. drop k (text_source bs)) e ∙ ap (drop (length (text_source (take n bs)))) f ∙ drop-append_seam (text_source (take n bs)) (text_source (drop n bs)))
 
--- characters stay characters when some are dropped
-scalars-drop : (k : ℕ) (cs : List ℕ) → all_scalars cs ≡ true → all_scalars (drop k cs) ≡ true
+-- the rest of a list of scalar values has scalar values alone
+pub scalars-drop : (k : ℕ) (cs : List ℕ) → all_scalars cs ≡ true → all_scalars (drop k cs) ≡ true
 scalars-drop zero cs h = h
 scalars-drop (suc k) [] h = h
 scalars-drop (suc k) (c ∷ cs) h = scalars-drop k cs (and_parts _ (all_scalars cs) h).1

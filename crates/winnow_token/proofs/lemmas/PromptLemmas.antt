@@ -8,22 +8,13 @@ use Rattle.winnow_stream.specs.Source.{Source, first_token}
 use Rattle.winnow_stream.specs.Shortage.{needed, shortage}
 use Rattle.winnow_stream.specs.declared.needed.Needed.{Needed}
 use Rattle.winnow_stream.specs.declared.needed.Needed.TheVariants.{Unknown, Size}
+use Rattle.winnow_stream.proofs.lemmas.CountedShortageLemmas.{number, number-needed}
 use Rattle.winnow_parser.specs.Outcome.{Ahead, Backtracks, Cuts, Needs, Refuses, Outcome, Gives, Fails, Meaning}
 use Rattle.winnow_parser.specs.Laws.{IsSettled}
 use Rattle.winnow_token.specs.OneOf.{OneOf}
 use Rattle.winnow_token.specs.Counted.{Counted}
 use Rattle.winnow_token.specs.Held.{HeldFront}
 use Rattle.winnow_token.specs.Prompt.{IsPrompt}
-
--- the number of tokens that are needed, and 0 where it is not known
-abbrev number : Needed → ℕ
-number Unknown = 0
-number (Size n) = n.value
-
--- `needed` of k has the number k
-number-needed : (k : ℕ) → number (needed k) ≡ k
-number-needed zero = refl
-number-needed (suc k) = refl
 
 -- a shortage that has a size has the size k
 number-shortage : (counts_missing : Bool) (k : ℕ) (n : NonZeroUsize)

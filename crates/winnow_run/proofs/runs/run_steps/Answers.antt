@@ -60,15 +60,15 @@ loop-step-preserved g c =
       valid = c.answer_step.ensures.valid;
       origin = i.origin;
       base = i.base;
-      placed = c.answer_step.ensures.location _ i.placed;
+      placed = c.in_ok-answer.ensures.step.located _ i.placed;
       kept = g.met.S.Stream.keeps_transitive _ _ _ i.kept c.answer_step.ensures.kept;
       ready = All-tail (IsReady g.C.ScriptSet.askable) c.in-Some.step.now c.in-Some.later.now (subst (All (IsReady g.C.ScriptSet.askable)) e i.ready);
       done = i.done ++ c.in-Some.step.now ∷ [];
       split = i.split ∙ ap (λ xs. i.done ++ xs) e ∙ sym (append_assoc i.done (c.in-Some.step.now ∷ []) c.in-Some.later.now);
-      stands = rw (cursor-append (step_next all) i.done c.in-Some.step.now start) (c.in_ok-answer.ensures.stands _ _ i.stands);
+      stands = rw (cursor-append (step_next all) i.done c.in-Some.step.now start) (c.in_ok-answer.ensures.step.stands _ _ i.stands);
       answers =
           rw c.in_ok-push.ensures.items
-          (AreGiven-append (IsAnswer g.C.ScriptSet.may_answer g.S.Stream.is_slice g.S.Stream.counts_missing all) (step_next all) i.done start _ c.in-Some.step.now _ i.answers (c.in_ok-answer.ensures.answer _ _ i.stands));
+          (AreGiven-append (IsAnswer g.C.ScriptSet.may_answer g.S.Stream.is_slice g.S.Stream.counts_missing all) (step_next all) i.done start _ c.in-Some.step.now _ i.answers (c.in_ok-answer.ensures.step.answer _ _ i.stands));
     }
 
 pub returns-clause-answers : goal.returns-clause-answers
@@ -89,16 +89,10 @@ returns-clause-location g c =
     i.placed.1 ∙ ap (λ n. location_behind (g.S.Rest.location c.args.s.now) (n - width (g.S.Stream.remaining c.loop-step.s))) i.stands.end
 
 pub answer_step-requires-clause-valid : goal.answer_step-requires-clause-valid
-answer_step-requires-clause-valid g c = c.loop-step.invariant.valid
-
-pub answer_step-requires-clause-origin : goal.answer_step-requires-clause-origin
-answer_step-requires-clause-origin g c = c.loop-step.invariant.origin
+answer_step-requires-clause-valid g c = (c.loop-step.invariant.valid, c.loop-step.invariant.origin)
 
 pub answer_step-requires-clause-stands : goal.answer_step-requires-clause-stands
-answer_step-requires-clause-stands g c = (_, _, c.loop-step.invariant.stands)
-
-pub answer_step-requires-clause-reach : goal.answer_step-requires-clause-reach
-answer_step-requires-clause-reach g c = reach-start c.in-Some.step.now _ c.loop-step.invariant.base
+answer_step-requires-clause-stands g c = ((_, _, c.loop-step.invariant.stands), reach-start c.in-Some.step.now _ c.loop-step.invariant.base)
 
 pub loop-step-smaller : goal.loop-step-smaller
 loop-step-smaller g c = later-shorter c.in-Some.step.now _ _ c.in-Some.ensures.cases.0

@@ -60,15 +60,15 @@ loop-step-preserved g c =
       valid = c.search_step.ensures.valid;
       origin = i.origin;
       base = i.base;
-      placed = c.search_step.ensures.location _ i.placed;
+      placed = c.in_ok-answer.ensures.step.located _ i.placed;
       kept = g.met.S.Stream.keeps_transitive _ _ _ i.kept c.search_step.ensures.kept;
       ready = All-tail (IsSearchReady g.C.ScriptSet.askable) c.in-Some.step.now c.in-Some.later.now (subst (All (IsSearchReady g.C.ScriptSet.askable)) e i.ready);
       done = i.done ++ c.in-Some.step.now ∷ [];
       split = i.split ∙ ap (λ xs. i.done ++ xs) e ∙ sym (append_assoc i.done (c.in-Some.step.now ∷ []) c.in-Some.later.now);
-      stands = rw (cursor-append (search_next all) i.done c.in-Some.step.now start) (c.in_ok-answer.ensures.stands _ _ i.stands);
+      stands = rw (cursor-append (search_next all) i.done c.in-Some.step.now start) (c.in_ok-answer.ensures.step.stands _ _ i.stands);
       answers =
           rw c.in_ok-push.ensures.items
-          (AreGiven-append (IsSearchAnswer g.C.ScriptSet.may_answer g.S.Stream.is_slice g.S.Stream.counts_missing g.S.Compare.compared g.S.FindSlice.found all) (search_next all) i.done start _ c.in-Some.step.now _ i.answers (c.in_ok-answer.ensures.answer _ _ i.stands));
+          (AreGiven-append (IsSearchAnswer g.C.ScriptSet.may_answer g.S.Stream.is_slice g.S.Stream.counts_missing g.S.Compare.compared g.S.FindSlice.found all) (search_next all) i.done start _ c.in-Some.step.now _ i.answers (c.in_ok-answer.ensures.step.answer _ _ i.stands));
     }
 
 pub returns-clause-answers : goal.returns-clause-answers
@@ -89,16 +89,10 @@ returns-clause-location g c =
     i.placed.1 ∙ ap (λ n. location_behind (g.S.Rest.location c.args.s.now) (n - width (g.S.Stream.remaining c.loop-step.s))) i.stands.end
 
 pub search_step-requires-clause-valid : goal.search_step-requires-clause-valid
-search_step-requires-clause-valid g c = c.loop-step.invariant.valid
-
-pub search_step-requires-clause-origin : goal.search_step-requires-clause-origin
-search_step-requires-clause-origin g c = c.loop-step.invariant.origin
+search_step-requires-clause-valid g c = (c.loop-step.invariant.valid, c.loop-step.invariant.origin)
 
 pub search_step-requires-clause-stands : goal.search_step-requires-clause-stands
-search_step-requires-clause-stands g c = (_, _, c.loop-step.invariant.stands)
-
-pub search_step-requires-clause-reach : goal.search_step-requires-clause-reach
-search_step-requires-clause-reach g c = reach_search-start c.in-Some.step.now _ c.loop-step.invariant.base
+search_step-requires-clause-stands g c = ((_, _, c.loop-step.invariant.stands), reach_search-start c.in-Some.step.now _ c.loop-step.invariant.base)
 
 pub loop-step-smaller : goal.loop-step-smaller
 loop-step-smaller g c = later-shorter c.in-Some.step.now _ _ c.in-Some.ensures.cases.0

@@ -1,4 +1,4 @@
-use Rattle.winnow_stream.proofs.lemmas.LackLemmas.{refused-more, answered-more}
+use Rattle.winnow_stream.proofs.lemmas.CountedShortageLemmas.{refused-more, answered-more}
 use Rattle.winnow_stream.proofs.laws.shortage_law.Goals as goal
 
 pub returns-clause-refused : goal.returns-clause-refused

@@ -4,7 +4,7 @@ use Rattle.winnow_match.specs.Search.{bytes_of_needles}
 use Rattle.winnow_match.specs.declared.needles.Stretch.{Stretch}
 use Rattle.winnow_match.proofs.lemmas.PlaceLemmas.{hit-span, hit-finds, place-over, place-later, place-first}
 use Rattle.winnow_match.proofs.lemmas.TailLemmas.{definite-says}
-use Rattle.winnow_match.proofs.stretching.stretch.Goals as goal
+use Rattle.winnow_match.proofs.movers.stretch.Goals as goal
 
 pub slice_bounds-stands-count : goal.slice_bounds-stands-count
 slice_bounds-stands-count c =
@@ -38,7 +38,7 @@ returns-then-hit-place-clause-definite c = definite-says (bytes_of_needles c.arg
 pub returns-in-Some-clause-value : goal.returns-in-Some-clause-value
 returns-in-Some-clause-value c =
     let some = sym c.has_empty.ensures ∙ c.if-has_empty.false in
-    sym (place-first (bytes_of_needles c.args.needles.now) c.args.input.now some c.args.hit.now c.requires c.first_place-place.result c.first_place-place.ensures c.if-hit-place.false c.in-Some.needle (sym (rw (take_rest c.args.input.now c.first_place-place.result) at c.stretching.ensures) ∙ c.in-Some.is))
+    sym (place-first (bytes_of_needles c.args.needles.now) c.args.input.now some c.args.hit.now c.requires c.first_place-place.result c.first_place-place.ensures c.if-hit-place.false c.in-Some.needle (sym (rw (take_rest c.args.input.now c.first_place-place.result) at c.mover.ensures) ∙ c.in-Some.is))
 
 pub returns-in-Some-clause-definite : goal.returns-in-Some-clause-definite
 returns-in-Some-clause-definite c =
@@ -49,7 +49,7 @@ returns-in-Some-clause-definite c =
 pub returns-in-None-clause-value : goal.returns-in-None-clause-value
 returns-in-None-clause-value c =
     let some = sym c.has_empty.ensures ∙ c.if-has_empty.false in
-    sym (place-later (bytes_of_needles c.args.needles.now) c.args.input.now some c.args.hit.now c.requires c.first_place-place.result c.first_place-place.ensures c.if-hit-place.false (sym (rw (take_rest c.args.input.now c.first_place-place.result) at c.stretching.ensures) ∙ c.in-None.is))
+    sym (place-later (bytes_of_needles c.args.needles.now) c.args.input.now some c.args.hit.now c.requires c.first_place-place.result c.first_place-place.ensures c.if-hit-place.false (sym (rw (take_rest c.args.input.now c.first_place-place.result) at c.mover.ensures) ∙ c.in-None.is))
 
 pub returns-in-None-clause-definite : goal.returns-in-None-clause-definite
 returns-in-None-clause-definite c = definite-says (bytes_of_needles c.args.needles.now) c.args.input.now c.args.hit.now None c.requires (returns-in-None-clause-value c)

@@ -3,7 +3,7 @@ ghost use Rattle.memchr.specs.Find.{FindsNeedle};
 ghost use Rattle.winnow_match.specs.Comparison.{is_prefix};
 ghost use Rattle.winnow_match.specs.Search.{bytes_of_needles};
 ghost use Rattle.winnow_match.specs.Stretch.{IsHit, IsLeastPlace, hit_is_definite, stretch_of};
-ghost use Rattle.winnow_match.specs.Stretch.{stretches, stretching, stretching_or};
+ghost use Rattle.winnow_match.specs.Stretch.{stretches, mover, mover_or};
 
 use crate::compare_bytes::begins_with;
 use crate::finding::has_empty;
@@ -34,7 +34,7 @@ pub fn stretch(input: &[u8], needles: &Needles<&[u8]>, hit: &Range<usize>) -> Op
     if hit.start < place {
         return None;
     }
-    match stretching(&input[place..], needles) {
+    match mover(&input[place..], needles) {
         Some(needle) => Some(Stretch { needle, place }),
         None => None,
     }
@@ -90,7 +90,7 @@ fn ends_inside(input: &[u8], needle: &[u8]) -> bool
 // the number that the later needles give.
 fn listed(input: &[u8], needle: &[u8], later: Option<usize>) -> Option<usize>
     requires { IfSome later (λ i. i ≤ 2) }
-    ensures { result ≡ stretching_or
+    ensures { result ≡ mover_or
         (is_prefix needle.now input.now) (stretches needle.now input.now) later }
 {
     if begins_with(input, needle) {
@@ -104,8 +104,8 @@ fn listed(input: &[u8], needle: &[u8], later: Option<usize>) -> Option<usize>
 
 // The number of the first listed needle that the input ends inside, if no needle before it stands
 // here.
-fn stretching(input: &[u8], needles: &Needles<&[u8]>) -> Option<usize>
-    ensures { result ≡ stretching (bytes_of_needles needles.now) input.now }
+fn mover(input: &[u8], needles: &Needles<&[u8]>) -> Option<usize>
+    ensures { result ≡ mover (bytes_of_needles needles.now) input.now }
 {
     match needles {
         Needles::One(a) => listed(input, a, None),

@@ -7,13 +7,13 @@ use Rattle.winnow_stream.specs.declared.needed.Needed.TheVariants.{Unknown, Size
 use Rattle.winnow_stream.specs.Source.{Source, width}
 use Rattle.winnow_stream.specs.Shortage.{needed, offset_at}
 
--- the number of tokens that a need names
-abbrev number : Needed → ℕ
+-- the number of tokens that a `Needed` names, and 0 where it is not known
+abbrev pub number : Needed → ℕ
 number Unknown = 0
 number (Size n) = n.value
 
 -- the need of k tokens names k
-number-needed : (k : ℕ) → number (needed k) ≡ k
+pub number-needed : (k : ℕ) → number (needed k) ≡ k
 number-needed zero = refl
 number-needed (suc k) = refl
 

@@ -4,7 +4,7 @@ use Rattle.std.proofs.lemmas.List.{take_rest}
 use Rattle.memchr.specs.Find.{FindsNeedle}
 use Rattle.winnow_match.specs.Stretch.{stretches}
 use Rattle.winnow_match.proofs.lemmas.PlaceLemmas.{place-short, place-behind, place-here}
-use Rattle.winnow_match.proofs.stretching.place_of.Goals as goal
+use Rattle.winnow_match.proofs.movers.place_of.Goals as goal
 
 pub overflow_sub-input : goal.overflow_sub-input
 overflow_sub-input c = omega (arith, c.requires.1.fits)
