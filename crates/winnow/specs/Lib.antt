@@ -29,6 +29,7 @@ pub use Rattle.winnow_combinator.specs.Counts
 pub use Rattle.winnow_combinator.specs.Gathering
 pub use Rattle.winnow_combinator.specs.Separation
 pub use Rattle.winnow_combinator.specs.Till
+pub use Rattle.winnow_combinator.specs.ChoiceErrors
 pub use Rattle.winnow_combinator.specs.Choices
 pub use Rattle.winnow_combinator.specs.Conditional
 pub use Rattle.winnow_combinator.specs.DeterminedLists
@@ -45,6 +46,7 @@ pub use Rattle.winnow_reader.specs.Place
 pub use Rattle.winnow_reader.specs.Wanted
 pub use Rattle.winnow_reader.specs.State
 pub use Rattle.winnow_reader.specs.Reading
+pub use Rattle.winnow_reader.specs.InTurn
 pub use Rattle.winnow_reader.specs.Answering
 pub use Rattle.winnow_reader.specs.Copied
 pub use Rattle.winnow_reader.specs.SameValues

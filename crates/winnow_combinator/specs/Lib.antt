@@ -1,3 +1,4 @@
+pub mod ChoiceErrors
 pub mod Choices
 pub mod Conditional
 pub mod Counts

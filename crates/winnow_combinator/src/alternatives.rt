@@ -2,6 +2,7 @@ ghost use Rattle.std.specs.Prelude.{◌≡◌};
 ghost use Rattle.winnow_parser.specs.Meanings.{Either};
 ghost use Rattle.winnow_parser.specs.Errors.{EitherErrors};
 ghost use Rattle.winnow_parser.specs.Parts.{IsParser-Either};
+ghost use Rattle.winnow_combinator.specs.ChoiceErrors.{ChoiceErrors3};
 ghost use Rattle.winnow_combinator.specs.Choices.{Choice3, IsParser-Choice3};
 
 use std::alloc::Global;
@@ -71,8 +72,8 @@ impl<
     ghost means = { λ p. Choice3 E.or_refusable (A.means p.list.0) (B.means p.list.1)
         (C.means p.list.2) };
 
-    ghost errors = { λ p. EitherErrors E.or_gives (A.errors p.list.0)
-        (EitherErrors E.or_gives (B.errors p.list.1) (C.errors p.list.2)) };
+    ghost errors = { λ p. ChoiceErrors3 E.or_gives (A.errors p.list.0) (B.errors p.list.1)
+        (C.errors p.list.2) };
 
     ghost ready = { λ p. A.ready p.list.0 × B.ready p.list.1 × C.ready p.list.2 };
 
@@ -80,11 +81,11 @@ impl<
         (C.lawful p.list.2) };
 
     fn parse_next(&self, alloc: Global, input: &mut I) -> ModalResult<A::Output, E> {
-        let rest = Alternatives {
-            list: (&self.list.1, &self.list.2),
+        let first = Alternatives {
+            list: (&self.list.0, &self.list.1),
         };
         Alternatives {
-            list: (&self.list.0, rest),
+            list: (first, &self.list.2),
         }
         .parse_next(alloc, input)
     }

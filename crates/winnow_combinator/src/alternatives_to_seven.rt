@@ -1,4 +1,5 @@
-ghost use Rattle.winnow_parser.specs.Errors.{EitherErrors};
+ghost use Rattle.winnow_combinator.specs.ChoiceErrors.{ChoiceErrors4, ChoiceErrors5};
+ghost use Rattle.winnow_combinator.specs.ChoiceErrors.{ChoiceErrors6, ChoiceErrors7};
 ghost use Rattle.winnow_combinator.specs.Choices.{Choice4, IsParser-Choice4};
 ghost use Rattle.winnow_combinator.specs.Choices.{Choice5, IsParser-Choice5};
 ghost use Rattle.winnow_combinator.specs.Choices.{Choice6, IsParser-Choice6};
@@ -24,9 +25,8 @@ impl<
     ghost means = { λ p. Choice4 E.or_refusable (A.means p.list.0) (B.means p.list.1)
         (C.means p.list.2) (D.means p.list.3) };
 
-    ghost errors = { λ p. EitherErrors E.or_gives (A.errors p.list.0)
-        (EitherErrors E.or_gives (B.errors p.list.1) (EitherErrors E.or_gives (C.errors p.list.2)
-        (D.errors p.list.3))) };
+    ghost errors = { λ p. ChoiceErrors4 E.or_gives (A.errors p.list.0) (B.errors p.list.1)
+        (C.errors p.list.2) (D.errors p.list.3) };
 
     ghost ready = { λ p. A.ready p.list.0 × B.ready p.list.1 × C.ready p.list.2
         × D.ready p.list.3 };
@@ -35,11 +35,11 @@ impl<
         (C.lawful p.list.2) (D.lawful p.list.3) };
 
     fn parse_next(&self, alloc: Global, input: &mut I) -> ModalResult<A::Output, E> {
-        let rest = Alternatives {
-            list: (&self.list.1, &self.list.2, &self.list.3),
+        let first = Alternatives {
+            list: (&self.list.0, &self.list.1, &self.list.2),
         };
         Alternatives {
-            list: (&self.list.0, rest),
+            list: (first, &self.list.3),
         }
         .parse_next(alloc, input)
     }
@@ -60,9 +60,8 @@ impl<
     ghost means = { λ p. Choice5 E.or_refusable (A.means p.list.0) (B.means p.list.1)
         (C.means p.list.2) (D.means p.list.3) (F.means p.list.4) };
 
-    ghost errors = { λ p. EitherErrors E.or_gives (A.errors p.list.0)
-        (EitherErrors E.or_gives (B.errors p.list.1) (EitherErrors E.or_gives (C.errors p.list.2)
-        (EitherErrors E.or_gives (D.errors p.list.3) (F.errors p.list.4)))) };
+    ghost errors = { λ p. ChoiceErrors5 E.or_gives (A.errors p.list.0) (B.errors p.list.1)
+        (C.errors p.list.2) (D.errors p.list.3) (F.errors p.list.4) };
 
     ghost ready = { λ p. A.ready p.list.0 × B.ready p.list.1 × C.ready p.list.2 × D.ready p.list.3
         × F.ready p.list.4 };
@@ -71,11 +70,11 @@ impl<
         (C.lawful p.list.2) (D.lawful p.list.3) (F.lawful p.list.4) };
 
     fn parse_next(&self, alloc: Global, input: &mut I) -> ModalResult<A::Output, E> {
-        let rest = Alternatives {
-            list: (&self.list.1, &self.list.2, &self.list.3, &self.list.4),
+        let first = Alternatives {
+            list: (&self.list.0, &self.list.1, &self.list.2, &self.list.3),
         };
         Alternatives {
-            list: (&self.list.0, rest),
+            list: (first, &self.list.4),
         }
         .parse_next(alloc, input)
     }
@@ -97,10 +96,8 @@ impl<
     ghost means = { λ p. Choice6 E.or_refusable (A.means p.list.0) (B.means p.list.1)
         (C.means p.list.2) (D.means p.list.3) (F.means p.list.4) (G.means p.list.5) };
 
-    ghost errors = { λ p. EitherErrors E.or_gives (A.errors p.list.0)
-        (EitherErrors E.or_gives (B.errors p.list.1) (EitherErrors E.or_gives (C.errors p.list.2)
-        (EitherErrors E.or_gives (D.errors p.list.3) (EitherErrors E.or_gives (F.errors p.list.4)
-        (G.errors p.list.5))))) };
+    ghost errors = { λ p. ChoiceErrors6 E.or_gives (A.errors p.list.0) (B.errors p.list.1)
+        (C.errors p.list.2) (D.errors p.list.3) (F.errors p.list.4) (G.errors p.list.5) };
 
     ghost ready = { λ p. A.ready p.list.0 × B.ready p.list.1 × C.ready p.list.2 × D.ready p.list.3
         × F.ready p.list.4 × G.ready p.list.5 };
@@ -109,17 +106,17 @@ impl<
         (C.lawful p.list.2) (D.lawful p.list.3) (F.lawful p.list.4) (G.lawful p.list.5) };
 
     fn parse_next(&self, alloc: Global, input: &mut I) -> ModalResult<A::Output, E> {
-        let rest = Alternatives {
+        let first = Alternatives {
             list: (
+                &self.list.0,
                 &self.list.1,
                 &self.list.2,
                 &self.list.3,
                 &self.list.4,
-                &self.list.5,
             ),
         };
         Alternatives {
-            list: (&self.list.0, rest),
+            list: (first, &self.list.5),
         }
         .parse_next(alloc, input)
     }
@@ -143,10 +140,9 @@ impl<
         (C.means p.list.2) (D.means p.list.3) (F.means p.list.4) (G.means p.list.5)
         (H.means p.list.6) };
 
-    ghost errors = { λ p. EitherErrors E.or_gives (A.errors p.list.0)
-        (EitherErrors E.or_gives (B.errors p.list.1) (EitherErrors E.or_gives (C.errors p.list.2)
-        (EitherErrors E.or_gives (D.errors p.list.3) (EitherErrors E.or_gives (F.errors p.list.4)
-        (EitherErrors E.or_gives (G.errors p.list.5) (H.errors p.list.6)))))) };
+    ghost errors = { λ p. ChoiceErrors7 E.or_gives (A.errors p.list.0) (B.errors p.list.1)
+        (C.errors p.list.2) (D.errors p.list.3) (F.errors p.list.4) (G.errors p.list.5)
+        (H.errors p.list.6) };
 
     ghost ready = { λ p. A.ready p.list.0 × B.ready p.list.1 × C.ready p.list.2 × D.ready p.list.3
         × F.ready p.list.4 × G.ready p.list.5 × H.ready p.list.6 };
@@ -156,18 +152,18 @@ impl<
         (H.lawful p.list.6) };
 
     fn parse_next(&self, alloc: Global, input: &mut I) -> ModalResult<A::Output, E> {
-        let rest = Alternatives {
+        let first = Alternatives {
             list: (
+                &self.list.0,
                 &self.list.1,
                 &self.list.2,
                 &self.list.3,
                 &self.list.4,
                 &self.list.5,
-                &self.list.6,
             ),
         };
         Alternatives {
-            list: (&self.list.0, rest),
+            list: (first, &self.list.6),
         }
         .parse_next(alloc, input)
     }

@@ -1,4 +1,5 @@
-ghost use Rattle.winnow_parser.specs.Errors.{EitherErrors};
+ghost use Rattle.winnow_combinator.specs.ChoiceErrors.{ChoiceErrors8, ChoiceErrors9};
+ghost use Rattle.winnow_combinator.specs.ChoiceErrors.{ChoiceErrors10};
 ghost use Rattle.winnow_combinator.specs.Choices.{Choice8, IsParser-Choice8};
 ghost use Rattle.winnow_combinator.specs.Choices.{Choice9, IsParser-Choice9};
 ghost use Rattle.winnow_combinator.specs.Choices.{Choice10, IsParser-Choice10};
@@ -28,11 +29,9 @@ impl<
         (C.means p.list.2) (D.means p.list.3) (F.means p.list.4) (G.means p.list.5)
         (H.means p.list.6) (J.means p.list.7) };
 
-    ghost errors = { λ p. EitherErrors E.or_gives (A.errors p.list.0)
-        (EitherErrors E.or_gives (B.errors p.list.1) (EitherErrors E.or_gives (C.errors p.list.2)
-        (EitherErrors E.or_gives (D.errors p.list.3) (EitherErrors E.or_gives (F.errors p.list.4)
-        (EitherErrors E.or_gives (G.errors p.list.5) (EitherErrors E.or_gives (H.errors p.list.6)
-        (J.errors p.list.7))))))) };
+    ghost errors = { λ p. ChoiceErrors8 E.or_gives (A.errors p.list.0) (B.errors p.list.1)
+        (C.errors p.list.2) (D.errors p.list.3) (F.errors p.list.4) (G.errors p.list.5)
+        (H.errors p.list.6) (J.errors p.list.7) };
 
     ghost ready = { λ p. A.ready p.list.0 × B.ready p.list.1 × C.ready p.list.2 × D.ready p.list.3
         × F.ready p.list.4 × G.ready p.list.5 × H.ready p.list.6 × J.ready p.list.7 };
@@ -42,19 +41,19 @@ impl<
         (H.lawful p.list.6) (J.lawful p.list.7) };
 
     fn parse_next(&self, alloc: Global, input: &mut I) -> ModalResult<A::Output, E> {
-        let rest = Alternatives {
+        let first = Alternatives {
             list: (
+                &self.list.0,
                 &self.list.1,
                 &self.list.2,
                 &self.list.3,
                 &self.list.4,
                 &self.list.5,
                 &self.list.6,
-                &self.list.7,
             ),
         };
         Alternatives {
-            list: (&self.list.0, rest),
+            list: (first, &self.list.7),
         }
         .parse_next(alloc, input)
     }
@@ -80,11 +79,9 @@ impl<
         (C.means p.list.2) (D.means p.list.3) (F.means p.list.4) (G.means p.list.5)
         (H.means p.list.6) (J.means p.list.7) (K.means p.list.8) };
 
-    ghost errors = { λ p. EitherErrors E.or_gives (A.errors p.list.0)
-        (EitherErrors E.or_gives (B.errors p.list.1) (EitherErrors E.or_gives (C.errors p.list.2)
-        (EitherErrors E.or_gives (D.errors p.list.3) (EitherErrors E.or_gives (F.errors p.list.4)
-        (EitherErrors E.or_gives (G.errors p.list.5) (EitherErrors E.or_gives (H.errors p.list.6)
-        (EitherErrors E.or_gives (J.errors p.list.7) (K.errors p.list.8)))))))) };
+    ghost errors = { λ p. ChoiceErrors9 E.or_gives (A.errors p.list.0) (B.errors p.list.1)
+        (C.errors p.list.2) (D.errors p.list.3) (F.errors p.list.4) (G.errors p.list.5)
+        (H.errors p.list.6) (J.errors p.list.7) (K.errors p.list.8) };
 
     ghost ready = { λ p. A.ready p.list.0 × B.ready p.list.1 × C.ready p.list.2 × D.ready p.list.3
         × F.ready p.list.4 × G.ready p.list.5 × H.ready p.list.6 × J.ready p.list.7
@@ -95,8 +92,9 @@ impl<
         (H.lawful p.list.6) (J.lawful p.list.7) (K.lawful p.list.8) };
 
     fn parse_next(&self, alloc: Global, input: &mut I) -> ModalResult<A::Output, E> {
-        let rest = Alternatives {
+        let first = Alternatives {
             list: (
+                &self.list.0,
                 &self.list.1,
                 &self.list.2,
                 &self.list.3,
@@ -104,11 +102,10 @@ impl<
                 &self.list.5,
                 &self.list.6,
                 &self.list.7,
-                &self.list.8,
             ),
         };
         Alternatives {
-            list: (&self.list.0, rest),
+            list: (first, &self.list.8),
         }
         .parse_next(alloc, input)
     }
@@ -135,12 +132,9 @@ impl<
         (C.means p.list.2) (D.means p.list.3) (F.means p.list.4) (G.means p.list.5)
         (H.means p.list.6) (J.means p.list.7) (K.means p.list.8) (L.means p.list.9) };
 
-    ghost errors = { λ p. EitherErrors E.or_gives (A.errors p.list.0)
-        (EitherErrors E.or_gives (B.errors p.list.1) (EitherErrors E.or_gives (C.errors p.list.2)
-        (EitherErrors E.or_gives (D.errors p.list.3) (EitherErrors E.or_gives (F.errors p.list.4)
-        (EitherErrors E.or_gives (G.errors p.list.5) (EitherErrors E.or_gives (H.errors p.list.6)
-        (EitherErrors E.or_gives (J.errors p.list.7) (EitherErrors E.or_gives (K.errors p.list.8)
-        (L.errors p.list.9))))))))) };
+    ghost errors = { λ p. ChoiceErrors10 E.or_gives (A.errors p.list.0) (B.errors p.list.1)
+        (C.errors p.list.2) (D.errors p.list.3) (F.errors p.list.4) (G.errors p.list.5)
+        (H.errors p.list.6) (J.errors p.list.7) (K.errors p.list.8) (L.errors p.list.9) };
 
     ghost ready = { λ p. A.ready p.list.0 × B.ready p.list.1 × C.ready p.list.2 × D.ready p.list.3
         × F.ready p.list.4 × G.ready p.list.5 × H.ready p.list.6 × J.ready p.list.7
@@ -151,8 +145,9 @@ impl<
         (H.lawful p.list.6) (J.lawful p.list.7) (K.lawful p.list.8) (L.lawful p.list.9) };
 
     fn parse_next(&self, alloc: Global, input: &mut I) -> ModalResult<A::Output, E> {
-        let rest = Alternatives {
+        let first = Alternatives {
             list: (
+                &self.list.0,
                 &self.list.1,
                 &self.list.2,
                 &self.list.3,
@@ -161,11 +156,10 @@ impl<
                 &self.list.6,
                 &self.list.7,
                 &self.list.8,
-                &self.list.9,
             ),
         };
         Alternatives {
-            list: (&self.list.0, rest),
+            list: (first, &self.list.9),
         }
         .parse_next(alloc, input)
     }

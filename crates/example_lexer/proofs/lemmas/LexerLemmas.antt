@@ -50,11 +50,11 @@ module _ {S : Type 0} (is_slice : S → Source ℕ → ℕ → Type 0) {l m n : 
   -- the parser of kinds takes a token of the kind that it gives
   reads : (kind : Kind) (a b : Ahead ℕ) → HasPositiveWidths a.tokens → IsClear a.tokens
       → Kinds false a (Gives kind b) → IsTaken a b kind
-  reads kind a b wide clear (inl (s, (e, h))) =
+  reads kind a b wide clear (inl (inl (s, (e, h)))) =
       subst (IsTaken a b) e (run-taken Name a b clear (held-run is_slice is_ascii_alphabetic false a b 1 one s wide h))
-  reads kind a b wide clear (inr (c, (other, inl (s, (e, h))))) =
+  reads kind a b wide clear (inl (inr (c, (other, (s, (e, h)))))) =
       subst (IsTaken a b) e (run-taken Number a b clear (held-run is_slice is_ascii_digit false a b 1 some s wide h))
-  reads kind a b wide clear (inr (c, (other, inr (d, (none, (x, (e, h))))))) =
+  reads kind a b wide clear (inr (d, ((c, (other, none)), (x, (e, h))))) =
       let first = one_of-taken false a b (λ _. true) x h in
       let name = held-none is_ascii_alphabetic a.tokens x (held-few is_slice is_ascii_alphabetic false a c 1 one other) h.0 in
       let number = held-none is_ascii_digit a.tokens x (held-few is_slice is_ascii_digit false a d 1 some none) h.0 in
@@ -62,9 +62,9 @@ module _ {S : Type 0} (is_slice : S → Source ℕ → ℕ → Type 0) {l m n : 
 
   -- the parser of kinds never cuts
   uncut : (a b : Ahead ℕ) → ¬ (Kinds false a (Fails (Cuts b)))
-  uncut a b (inl h) = held-never-cuts is_slice is_ascii_alphabetic false a b 1 one h
-  uncut a b (inr (c, (other, inl h))) = held-never-cuts is_slice is_ascii_digit false a b 1 some h
-  uncut a b (inr (c, (other, inr (d, (none, h))))) = h
+  uncut a b (inl (inl h)) = held-never-cuts is_slice is_ascii_alphabetic false a b 1 one h
+  uncut a b (inl (inr (c, (other, h)))) = held-never-cuts is_slice is_ascii_digit false a b 1 some h
+  uncut a b (inr (d, ((c, (other, none)), h))) = h
 
   -- the parsers of blanks and kinds make a lexer
   plain : IsLexer (HeldFront is_slice is_blank l i) Kinds (HoldsAll is_blank) IsClear IsWord
@@ -75,7 +75,7 @@ module _ {S : Type 0} (is_slice : S → Source ℕ → ℕ → Type 0) {l m n : 
     skips_uncut = λ a b h. held-never-cuts is_slice is_blank false a b 0 any h;
     reads = reads;
     reads_uncut = uncut;
-    reads_all = λ a b h. any-none false a b h.1.1.1.1;
+    reads_all = λ a b h. any-none false a b h.1.1;
   }
 
   -- the same for sets and values that are equal to these

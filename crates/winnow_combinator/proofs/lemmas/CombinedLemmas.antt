@@ -120,48 +120,48 @@ module _ {O T : Type 0} (r : Type 0) (same : O → O → Type 0) where
   -- the first of three parsers has one answer where each has one
   pub determined-choice3 : (a b c : Meaning O T) → IsDetermined same a → IsDetermined same b
       → IsDetermined same c → IsDetermined same (Choice3 r a b c)
-  determined-choice3 a b c da db dc = determined-either r same a (Either r b c) da (determined-either r same b c db dc)
+  determined-choice3 a b c da db dc = determined-either r same (Either r a b) c (determined-either r same a b da db) dc
 
   -- the first of four parsers has one answer where each has one
   pub determined-choice4 : (a b c d : Meaning O T) → IsDetermined same a → IsDetermined same b
       → IsDetermined same c → IsDetermined same d → IsDetermined same (Choice4 r a b c d)
-  determined-choice4 a b c d da db dc dd = determined-either r same a (Choice3 r b c d) da (determined-choice3 b c d db dc dd)
+  determined-choice4 a b c d da db dc dd = determined-either r same (Choice3 r a b c) d (determined-choice3 a b c da db dc) dd
 
   -- the first of five parsers has one answer where each has one
   pub determined-choice5 : (a b c d e : Meaning O T) → IsDetermined same a → IsDetermined same b
       → IsDetermined same c → IsDetermined same d → IsDetermined same e
       → IsDetermined same (Choice5 r a b c d e)
-  determined-choice5 a b c d e da db dc dd de = determined-either r same a (Choice4 r b c d e) da (determined-choice4 b c d e db dc dd de)
+  determined-choice5 a b c d e da db dc dd de = determined-either r same (Choice4 r a b c d) e (determined-choice4 a b c d da db dc dd) de
 
   -- the first of six parsers has one answer where each has one
   pub determined-choice6 : (a b c d e f : Meaning O T) → IsDetermined same a → IsDetermined same b
       → IsDetermined same c → IsDetermined same d → IsDetermined same e → IsDetermined same f
       → IsDetermined same (Choice6 r a b c d e f)
-  determined-choice6 a b c d e f da db dc dd de df = determined-either r same a (Choice5 r b c d e f) da (determined-choice5 b c d e f db dc dd de df)
+  determined-choice6 a b c d e f da db dc dd de df = determined-either r same (Choice5 r a b c d e) f (determined-choice5 a b c d e da db dc dd de) df
 
   -- the first of seven parsers has one answer where each has one
   pub determined-choice7 : (a b c d e f g : Meaning O T) → IsDetermined same a
       → IsDetermined same b → IsDetermined same c → IsDetermined same d → IsDetermined same e
       → IsDetermined same f → IsDetermined same g → IsDetermined same (Choice7 r a b c d e f g)
-  determined-choice7 a b c d e f g da db dc dd de df dg = determined-either r same a (Choice6 r b c d e f g) da (determined-choice6 b c d e f g db dc dd de df dg)
+  determined-choice7 a b c d e f g da db dc dd de df dg = determined-either r same (Choice6 r a b c d e f) g (determined-choice6 a b c d e f da db dc dd de df) dg
 
   -- the first of eight parsers has one answer where each has one
   pub determined-choice8 : (a b c d e f g h : Meaning O T) → IsDetermined same a
       → IsDetermined same b → IsDetermined same c → IsDetermined same d → IsDetermined same e
       → IsDetermined same f → IsDetermined same g → IsDetermined same h
       → IsDetermined same (Choice8 r a b c d e f g h)
-  determined-choice8 a b c d e f g h da db dc dd de df dg dh = determined-either r same a (Choice7 r b c d e f g h) da (determined-choice7 b c d e f g h db dc dd de df dg dh)
+  determined-choice8 a b c d e f g h da db dc dd de df dg dh = determined-either r same (Choice7 r a b c d e f g) h (determined-choice7 a b c d e f g da db dc dd de df dg) dh
 
   -- the first of nine parsers has one answer where each has one
   pub determined-choice9 : (a b c d e f g h i : Meaning O T) → IsDetermined same a
       → IsDetermined same b → IsDetermined same c → IsDetermined same d → IsDetermined same e
       → IsDetermined same f → IsDetermined same g → IsDetermined same h → IsDetermined same i
       → IsDetermined same (Choice9 r a b c d e f g h i)
-  determined-choice9 a b c d e f g h i da db dc dd de df dg dh di = determined-either r same a (Choice8 r b c d e f g h i) da (determined-choice8 b c d e f g h i db dc dd de df dg dh di)
+  determined-choice9 a b c d e f g h i da db dc dd de df dg dh di = determined-either r same (Choice8 r a b c d e f g h) i (determined-choice8 a b c d e f g h da db dc dd de df dg dh) di
 
   -- the first of ten parsers has one answer where each has one
   pub determined-choice10 : (a b c d e f g h i j : Meaning O T) → IsDetermined same a
       → IsDetermined same b → IsDetermined same c → IsDetermined same d → IsDetermined same e
       → IsDetermined same f → IsDetermined same g → IsDetermined same h → IsDetermined same i
       → IsDetermined same j → IsDetermined same (Choice10 r a b c d e f g h i j)
-  determined-choice10 a b c d e f g h i j da db dc dd de df dg dh di dj = determined-either r same a (Choice9 r b c d e f g h i j) da (determined-choice9 b c d e f g h i j db dc dd de df dg dh di dj)
+  determined-choice10 a b c d e f g h i j da db dc dd de df dg dh di dj = determined-either r same (Choice9 r a b c d e f g h i) j (determined-choice9 a b c d e f g h i da db dc dd de df dg dh di) dj

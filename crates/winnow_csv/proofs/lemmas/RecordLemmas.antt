@@ -94,10 +94,10 @@ module _ (refusable : Type 0) (partial : Bool) where
   -- an end that is given stands ahead
   pub end-given : (u : Unit {0}) (a b : Ahead ℕ) → RecordEnd refusable partial a (Gives u b)
       → EndsRecord partial (bytes_of a.tokens) (bytes_of b.tokens)
-  end-given u a b (inl (x, (f, h))) = inr (inl (byte-given 10 partial a b x h))
-  end-given u a b (inr (c, (n, inl (x, (f, (m, (h, k))))))) =
+  end-given u a b (inl (inl (x, (f, h)))) = inr (inl (byte-given 10 partial a b x h))
+  end-given u a b (inl (inr (c, (n, (x, (f, (m, (h, k)))))))) =
       inl (byte-given 13 partial a m x.0 h ∙ ap (λ r. 13 ∷ r) (byte-given 10 partial m b x.1 k))
-  end-given u a b (inr (c, (n, inr (d, (m, h))))) =
+  end-given u a b (inr (d, ((c, (n, m)), h))) =
       let e = ap bytes_of h.0 in inr (inr (e, sym (ap (λ p. bytes_of p.tokens) h.2) ∙ e, h.1))
 
   -- an end fails where no record ends
@@ -119,22 +119,22 @@ module _ (refusable : Type 0) (partial : Bool) where
   -- an end fails as `EndFails` says
   pub end-fails : (f : Failed ℕ) (a : Ahead ℕ) → RecordEnd refusable partial a (Fails f)
       → EndFails a f
-  end-fails (Backtracks b) a (c, (n, (d, (inl m, e)))) =
+  end-fails (Backtracks b) a (d, ((c, (n, inl m)), e)) =
       (no-end-other partial (bytes_of a.tokens) (byte-missing 10 partial a c n).0 (byte-missing 13 partial a d m).0 (some-bytes a.tokens e.0), sym e.1)
-  end-fails (Backtracks b) a (c, (n, (d, (inr (x, (m, (h, k))), e)))) =
+  end-fails (Backtracks b) a (d, ((c, (n, inr (x, (m, (h, k))))), e)) =
       (no-end-return partial (bytes_of a.tokens) (bytes_of m.tokens) (byte-given 13 partial a m x h) (byte-missing 10 partial m d k).0, sym e.1)
-  end-fails (Cuts b) a (inl h) = h
-  end-fails (Cuts b) a (inr (c, (n, inl (inl h)))) = h
-  end-fails (Cuts b) a (inr (c, (n, inl (inr (x, (m, (h, k))))))) = k
-  end-fails (Cuts b) a (inr (c, (n, inr (d, (m, h))))) = h
-  end-fails (Needs i) a (inl h) = needs-end a h.0 h.1
-  end-fails (Needs i) a (inr (c, (n, inl (inl h)))) = needs-end a h.0 h.1
-  end-fails (Needs i) a (inr (c, (n, inl (inr (x, (m, (h, k))))))) = (
+  end-fails (Cuts b) a (inl (inl h)) = h
+  end-fails (Cuts b) a (inl (inr (c, (n, inl h)))) = h
+  end-fails (Cuts b) a (inl (inr (c, (n, inr (x, (m, (h, k))))))) = k
+  end-fails (Cuts b) a (inr (d, ((c, (n, m)), h))) = h
+  end-fails (Needs i) a (inl (inl h)) = needs-end a h.0 h.1
+  end-fails (Needs i) a (inl (inr (c, (n, inl h)))) = needs-end a h.0 h.1
+  end-fails (Needs i) a (inl (inr (c, (n, inr (x, (m, (h, k))))))) = (
     k.1,
     no-end-return partial (bytes_of a.tokens) (bytes_of m.tokens) (byte-given 13 partial a m x h) (subst (λ r. ¬ (StartsWith 10 r)) (sym (ap bytes_of k.0)) (λ z. z)),
     inr (byte-given 13 partial a m x h ∙ ap (λ t. 13 ∷ bytes_of t) k.0),
   )
-  end-fails (Needs i) a (inr (c, (n, inr (d, (m, h))))) = needs-end a h.0 h.1
+  end-fails (Needs i) a (inr (d, ((c, (n, m)), h))) = needs-end a h.0 h.1
   end-fails Refuses a h = tt
 
   -- where a record ends, only refused memory makes the end fail
