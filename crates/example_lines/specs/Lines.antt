@@ -1,5 +1,5 @@
 -- The lines of an input, each ended by CR LF, and what the parser of one means.
-use Rattle.std.specs.Prelude.{◌≡◌, ℕ, List, [], ◌∷◌, ◌++◌, length, map, Option, None, Some, option_map}
+use Rattle.std.specs.Prelude.{◌≡◌, ℕ, List, [], ◌∷◌, ◌++◌, length, Option, None, Some, option_map}
 use Rattle.std.specs.Borrow.{Bor}
 use Rattle.std.specs.Global.{Vec}
 use Rattle.winnow_base.specs.Bytes.{bytes_of}
@@ -15,6 +15,7 @@ use Rattle.winnow.specs.Literal.{Literal, IsParser-Literal}
 use Rattle.winnow.specs.Place.{IsByteSlice, SlicesStay-bytes}
 use Rattle.winnow.specs.State.{ReaderState}
 use Rattle.winnow.specs.Reading.{HasRead}
+use Rattle.winnow.specs.InTurn.{StandInTurn}
 use Rattle.winnow.specs.Copied.{Copied, IsParser-Copied}
 
 -- the bytes that end a line
@@ -29,18 +30,14 @@ first_end bytes = option_map (λ p. p.start) (hit (line_end ∷ []) bytes)
 abbrev pub IsNextLine : List ℕ → List ℕ → List ℕ → Type 0
 IsNextLine bytes line rest = (bytes ≡ line ++ line_end ++ rest) × (first_end bytes ≡ Some (length line))
 
--- the bytes are these lines, one after the other, and a rest
-abbrev pub Splits : List ℕ → List (List ℕ) → List ℕ → Type 0
-Splits bytes [] rest = bytes ≡ rest
-Splits bytes (line ∷ lines) rest = (behind : List ℕ) × IsNextLine bytes line behind × Splits behind lines rest
+-- the line stands in the bytes, before these
+abbrev pub LineStands : Vec ℕ → List ℕ → List ℕ → Type 0
+LineStands line bytes behind = IsNextLine bytes line.items behind
 
--- the same, and the rest has no line end, so these are all lines that end in the bytes
-abbrev pub AreLines : List ℕ → List (List ℕ) → List ℕ → Type 0
-AreLines bytes lines rest = Splits bytes lines rest × (first_end rest ≡ None)
-
--- the bytes of each line
-abbrev pub lines_in : List (Vec ℕ) → List (List ℕ)
-lines_in lines = map (λ line. line.items) lines
+-- the bytes are these lines, one after the other, and a rest that has no line end: these are all
+-- lines that end in the bytes
+abbrev pub AreLines : List ℕ → List (Vec ℕ) → List ℕ → Type 0
+AreLines bytes lines rest = StandInTurn LineStands bytes lines rest × (first_end rest ≡ None)
 
 -- the slice before the first line end, which is taken too
 abbrev pub LineSlice : Meaning (Bor (List ℕ)) ℕ

@@ -2,7 +2,7 @@ ghost use Rattle.std.specs.Prelude.{◌≡◌, ℕ, false, List, IfOk, OnOk};
 ghost use Rattle.winnow_base.specs.Inputs.{joined, pieces_in};
 ghost use Rattle.winnow.specs.State.{pushed};
 ghost use Rattle.winnow.specs.Reading.{Lacks, ReadsAlso};
-ghost use Rattle.example_lines.specs.Lines.{AreLines, HasLines, OneLine, lines_in};
+ghost use Rattle.example_lines.specs.Lines.{AreLines, HasLines, OneLine};
 
 use crate::lines::Line;
 use std::alloc::AllocError;
@@ -56,7 +56,7 @@ pub fn print_lines(
     pieces: &[&[u8]],
 ) -> io::Result<(Vec<Vec<u8>>, Vec<u8>)>
     ensures { IfOk result (λ read.
-        AreLines (joined (pieces_in pieces.now)) (lines_in read.0.items) read.1.items) }
+        AreLines (joined (pieces_in pieces.now)) read.0.items read.1.items) }
 {
     let mut reader = ByteReader::new(rt.alloc(), Line);
     let mut lines = Vec::new(rt.alloc());

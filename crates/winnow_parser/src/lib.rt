@@ -29,7 +29,7 @@ pub use determined::{
     determined_function_law, determined_law, determined_pair_law, determined_slice_law,
 };
 pub use failure::{Failure, ModalResult};
-pub use laws::taken_width_law;
+pub use laws::{parser_law, taken_width_law};
 pub use mapping::{Mapped, Valued, Voided};
 pub use parser::Parser;
 pub use rule::{Rule, RuledFunction, by_rule};

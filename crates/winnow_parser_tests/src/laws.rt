@@ -1,10 +1,10 @@
 use winnow_combinator::{Accumulated, Ended, determined_choice_law, determined_repeat_law};
 use winnow_error::EmptyError;
 use winnow_parser::{
-    determined_function_law, determined_law, determined_pair_law, determined_slice_law,
-    taken_width_law,
+    Parser, determined_function_law, determined_law, determined_pair_law, determined_slice_law,
+    parser_law, taken_width_law,
 };
-use winnow_token::{AnyToken, count_law, determined_token_law, hits_stay_law, prompt_law};
+use winnow_token::{AnyToken, any, count_law, determined_token_law, hits_stay_law, prompt_law};
 
 type Input = &'static [u8];
 
@@ -20,6 +20,7 @@ fn laws_of_tokens(_rt: HostRuntime) {
 
 #[test]
 fn laws_of_parts(_rt: HostRuntime) {
+    parser_law::<Input, EmptyError, _>(&any().map(|byte: u8| byte));
     determined_law::<Input, EmptyError, AnyToken, u8>();
     determined_slice_law::<Input, EmptyError, AnyToken, u8, u8>();
     determined_pair_law::<Input, EmptyError, AnyToken, Ended, AnyToken, u8, u8>();

@@ -2,6 +2,7 @@ pub mod Place
 pub mod Wanted
 pub mod State
 pub mod Reading
+pub mod InTurn
 pub mod Answering
 pub mod Copied
 pub mod SameValues

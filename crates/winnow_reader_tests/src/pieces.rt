@@ -6,7 +6,7 @@ ghost use Rattle.std.specs.Prelude.{◌<◌};
 use crate::lines::{Nothing, NumberLine, number_line, word_line};
 use std::alloc::{AllocError, Global};
 use std::test::Fail;
-use winnow_reader::{ByteReader, Next, ReadError, determined_reading_law};
+use winnow_reader::{ByteReader, Next, ReadError, bytes_at_law, determined_reading_law};
 
 // How a reader stopped.
 #[derive(Clone, Copy, Debug, PartialEq, Eq)]
@@ -171,8 +171,9 @@ fn words_are_copied_out_of_the_pieces(rt: HostRuntime) -> Result<(), Fail> {
     Ok(())
 }
 
-// It does nothing: that it is called shows that it can be.
+// They do nothing: that they are called shows that they can be.
 #[test]
-fn the_law_of_readings(_rt: HostRuntime) {
+fn laws_of_readings(_rt: HostRuntime) {
     determined_reading_law::<NumberLine, u32>();
+    bytes_at_law();
 }

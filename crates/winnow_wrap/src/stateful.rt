@@ -14,7 +14,8 @@ use winnow_stream::{
 /// A stream with a state that no call of `Stream` touches: a depth of recursion, a table of names,
 /// a log.
 ///
-/// Both are public: a parser may read and write the state, and take from the stream inside.
+/// Both are public. A parser takes from the stream inside and reads the state. It may not change
+/// the state, since it keeps what no call of `Stream` changes: do that between two parsers.
 ///
 /// A stream gets a state:
 ///

@@ -1,12 +1,13 @@
 -- Two readings of one input by a parser that has one answer to each question.
 use Rattle.std.specs.Prelude.{Bool, true, false}
-use Rattle.std.proofs.Common.{◌≡◌, ℕ, List, [], ◌∷◌, ◌++◌, length, refl, ap, sym, subst, inl, inr, arith}
+use Rattle.std.proofs.Common.{◌≡◌, ℕ, List, [], ◌∷◌, ◌++◌, length, ap, sym, subst, inl, inr, arith}
 use Rattle.winnow_stream.specs.Source.{units}
 use Rattle.winnow_parser.specs.Outcome.{Ahead, Gives, Meaning}
 use Rattle.winnow_parser.specs.Determined.{IsDetermined}
 use Rattle.winnow_reader.specs.Place.{bytes_at}
 use Rattle.winnow_reader.specs.State.{ReaderState}
-use Rattle.winnow_reader.specs.Reading.{Reads, MayFollow, HasRead}
+use Rattle.winnow_reader.specs.Reading.{Reads, HasRead}
+use Rattle.winnow_reader.specs.InTurn.{may-follow_none}
 use Rattle.winnow_reader.specs.SameValues.{AreAlike, AreFronts, IsThrough}
 
 module _ {O : Type 0} (same : O → O → Type 0) (means : Meaning O ℕ) (d : IsDetermined same means) (partial : Bool) where
@@ -30,11 +31,6 @@ module _ {O : Type 0} (same : O → O → Type 0) (means : Meaning O ℕ) (d : I
   alike-read a (x ∷ xs) (y ∷ ys) b c r s e g =
       let there = d partial a (Gives x r.0) (Gives y s.0) tt tt r.1.0 s.1.0 in
       (there.0, alike-read r.0 xs ys b c r.1.2 (subst (λ q. Reads means partial q ys c) (sym there.1) s.1.2) e g)
-
--- it may be that nothing follows
-may-follow_none : (ended : Bool) → MayFollow ended [] false
-may-follow_none false = tt
-may-follow_none true = (refl, refl)
 
 module _ {R O : Type 0} (means : R → Meaning O ℕ) (same : O → O → Type 0)
     (f g : ReaderState R) (input : List ℕ) (xs ys : List O)

@@ -1,11 +1,12 @@
 use Rattle.std.proofs.Common.{rules, ◌≡◌, ℕ, ◌+◌, List, [], ◌++◌, take, get_or, ap, sym, ◌∙◌, subst, arith}
 use Rattle.std.proofs.lemmas.List.{take_all}
 use Rattle.std.specs.Borrow.{Bor}
+use Rattle.winnow.specs.InTurn.{StandInTurn, StandInTurn-read}
 use Rattle.winnow_base.specs.Inputs.{joined, pieces_in}
 use Rattle.winnow_feed.proofs.lemmas.InputLemmas.{joined-push}
 use Rattle.winnow_feed.proofs.lemmas.PieceLemmas.{taken-more}
-use Rattle.example_lines.specs.Lines.{HasLines, Splits, first_end, lines_in}
-use Rattle.example_lines.proofs.lemmas.ReadingLemmas.{lacks-end, has-split}
+use Rattle.example_lines.specs.Lines.{HasLines, LineStands, OneLine, IsParser-OneLine, first_end}
+use Rattle.example_lines.proofs.lemmas.ReadingLemmas.{lacks-end, gives-lines}
 use Rattle.example_lines.proofs.program.print_lines.Goals as goal
 
 pub loop-i-preserved : goal.loop-i-preserved
@@ -28,10 +29,10 @@ pub returns : goal.returns
 returns g c =
     let i = c.loop-i.i in
     let pieces = c.args.pieces.now in
-    let lines = lines_in c.loop-i.lines.items in
     let whole : take i pieces ≡ pieces = take_all i pieces (omega (arith, c.loop-i-test.false)) in
     let rest : c.in_ok-rest.rest.items ≡ c.loop-i.reader.ahead = search rules in
-    let split = has-split c.loop-i.reader c.loop-i.invariant.goes_on (joined (pieces_in (take i pieces))) c.loop-i.lines.items c.loop-i.invariant.read in (
-      subst (λ ps. Splits (joined (pieces_in ps)) lines c.in_ok-rest.rest.items) whole (subst (λ r. Splits (joined (pieces_in (take i pieces))) lines r) (sym rest) split),
+    let lines = c.loop-i.lines.items in
+    let split = StandInTurn-read (λ r. OneLine) (λ r. IsParser-OneLine) LineStands c.loop-i.reader (joined (pieces_in (take i pieces))) lines gives-lines c.loop-i.invariant.read in (
+      subst (λ ps. StandInTurn LineStands (joined (pieces_in ps)) lines c.in_ok-rest.rest.items) whole (subst (λ r. StandInTurn LineStands (joined (pieces_in (take i pieces))) lines r) (sym rest) split),
       ap first_end rest ∙ c.loop-i.invariant.all,
     )
