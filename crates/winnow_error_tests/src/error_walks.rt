@@ -21,8 +21,8 @@ pub fn kinds<I: Stream, E: ParserError<I>>(alloc: Global, input: &I) -> [(bool, 
     ]
 }
 
-/// Returns the inner error of two alternatives that failed where the input stands.
-pub fn fail_twice<I: Stream, E: ParserError<I>>(
+/// Returns the inner error of three alternatives that failed where the input stands.
+pub fn fail_thrice<I: Stream, E: AssociativeOr<I>>(
     alloc: Global,
     input: &I,
 ) -> Result<Option<E::Inner>, AllocError>
@@ -31,8 +31,9 @@ where
 {
     let start = input.checkpoint();
     let first = E::from_input(alloc, input);
-    let both = first.or(alloc, E::from_input(alloc, input))?;
-    match both.append(alloc, input, &start)?.into_inner() {
+    let (second, third) = (E::from_input(alloc, input), E::from_input(alloc, input));
+    let all = or_three::<I, E>(alloc, first, second, third)?;
+    match all.append(alloc, input, &start)?.into_inner() {
         Ok(inner) => Ok(Some(inner)),
         Err(_) => Ok(None),
     }
@@ -65,21 +66,6 @@ pub fn cut_and_back<E: ModalError>(e: E) -> E
     e.cut().cut().backtrack().backtrack()
 }
 
-/// Returns the error with a context where the input stands.
-pub fn in_context<I: Stream, C, E: AddContext<I, C>>(
-    alloc: Global,
-    e: E,
-    input: &I,
-    context: C,
-) -> Result<E, AllocError>
-where
-    requires { I.valid input.now }
-    ensures err { OnErr result E.add_context_refusable }
-{
-    let start = input.checkpoint();
-    e.add_context(alloc, input, &start, context)
-}
-
 /// Returns the last of three alternatives: an error of another library, with a context elsewhere,
 /// from which a parser recovered.
 pub fn tell_last<I: Stream, E>(alloc: Global, input: &I, elsewhere: &I) -> Result<E, AllocError>
@@ -95,7 +81,7 @@ where
     let told = error.add_context(alloc, elsewhere, &there, StrContext::Label("number"))?;
     let last = E::from_recoverable_error(&start, &start, input, told);
     let (first, second) = (E::from_input(alloc, input), E::from_input(alloc, elsewhere));
-    Ok(first.join(alloc, second).join(alloc, last))
+    Ok(join_three::<I, E>(alloc, first, second, last))
 }
 
 /// Returns the error, converted to another type.

@@ -2,6 +2,5 @@
 mod alternatives;
 mod contexts;
 mod error_traits;
-mod growing;
 mod modes;
 mod printing;

@@ -6,14 +6,15 @@ ghost use Rattle.winnow_views.specs.BitStream.{bits_inner, bits_place, IsValidBi
 ghost use Rattle.winnow_views.specs.declared.bits.Bits.{Bits};
 
 use std::alloc::{AllocError, Global};
-use std::process::Abort;
 use std::test::Fail;
 use winnow_bytes::{Bytes, bytes_equality_law, bytes_hash_law, bytes_order_law};
 use winnow_kinds::{BStr, text_equality_law, text_hash_law, text_order_law};
 use winnow_run::Step;
-use winnow_run::Step::{At, Each, Eof, Finish, Look, Mark, Next, Peek, Reset, Since, Take};
+use winnow_run::Step::{
+    At, Each, Eof, Finish, Look, Mark, Next, Peek, PeekFinish, Reset, Since, Take,
+};
 use winnow_stream::{NoSet, SliceLen, Stream, StreamIsPartial, byte_slice_law};
-use winnow_test_helpers::{Traced, flags, tell, width_from};
+use winnow_test_helpers::{Traced, tell, width_from};
 use winnow_views::{
     Bits, bit_checkpoint_law, bit_equality_law, bit_place_law, bit_slice_law, bit_source_law,
     token_compare_law, token_equality_law, token_order_law,
@@ -39,12 +40,19 @@ fn bits_at(bytes: &[u8], place: usize) -> Option<Bits<&[u8]>>
 }
 
 // What bits keep and what they say of their flag, spelled out: all that the stream of bytes does.
+// What changes the flag changes nothing else.
 fn bits_keep<I: StreamIsPartial + Stream<Token = u8>>()
     ensures kept { (s t : Bits I) → ⟦<Bits<I> as Stream>⟧.keeps s t
         → I.keeps (bits_inner s) (bits_inner t) }
     ensures supported { ⟦<Bits<I> as StreamIsPartial>⟧.supports_partial ≡ I.supports_partial }
+    ensures state { (s : Bits I) → ⟦<Bits<I> as StreamIsPartial>⟧.partial_state s
+        ≡ I.partial_state (bits_inner s) }
     ensures flag { (s : Bits I) → ⟦<Bits<I> as StreamIsPartial>⟧.expects_more s
         ≡ I.expects_more (bits_inner s) }
+    ensures bytes { (s t : Bits I) → ⟦<Bits<I> as StreamIsPartial>⟧.same_but_flag s t
+        → I.same_but_flag (bits_inner s) (bits_inner t) }
+    ensures place { (s t : Bits I) → ⟦<Bits<I> as StreamIsPartial>⟧.same_but_flag s t
+        → bits_place s ≡ bits_place t }
 {}
 
 // Returns the answers of a script, which does not depend on bits.
@@ -60,50 +68,60 @@ where
     tell(alloc, bits, script)
 }
 
+// Bytes, a place in the first of them, a script, and its answers.
+type Case = (&'static [u8], usize, &'static [Step<NoSet>], &'static str);
+
+const CASES: &[Case] = &[
+    (
+        b"\xab",
+        0,
+        &[Take(4), Peek, Take(4), Next],
+        "[Slice(([], 0, 4)), Token(Some(false)), Slice(([171], 4, 0)), Token(None)]",
+    ),
+    (
+        b"\xab",
+        0,
+        &[Each],
+        "[Items([(0, true), (1, true), (2, false), (3, true), (4, false), (5, true), (6, false), (7, true)])]",
+    ),
+    (
+        b"\xab",
+        3,
+        &[At(6), At(5), Look(5), Look(6), Eof],
+        "[At(Err(Size(1))), At(Ok(5)), Slice(([171], 3, 0)), BadOffset, Offset(5)]",
+    ),
+    (
+        b"",
+        0,
+        &[Each, Next, Peek, At(0), At(9), Take(0), Finish],
+        "[Items([]), Token(None), Token(None), At(Ok(0)), At(Err(Size(9))), Slice(([], 0, 0)), Slice(([], 0, 0))]",
+    ),
+    (
+        b"\xab\x01",
+        6,
+        &[Mark, Next, Next, Next, Take(3), Since(0), Reset(0), Each],
+        "[Marked(0), Token(Some(false)), Token(Some(true)), Token(Some(true)), Slice(([], 1, 4)), Offset(6), Done, Items([(0, false), (1, true), (2, true), (3, false), (4, false), (5, false), (6, false), (7, false), (8, false), (9, false)])]",
+    ),
+    (
+        b"\xab\xcd\xef",
+        5,
+        &[Look(11), Take(12), Finish],
+        "[Slice(([171, 205], 5, 0)), Slice(([171, 205], 5, 1)), Slice(([239], 1, 0))]",
+    ),
+    (
+        b"\xab\x31",
+        5,
+        &[PeekFinish, Finish, Eof],
+        "[Slice(([171, 49], 5, 0)), Slice(([171, 49], 5, 0)), Offset(0)]",
+    ),
+];
+
 #[test]
 fn scripts_on_bits(rt: HostRuntime) -> Result<(), Fail> {
-    let cases: [(&[u8], usize, &[Step<NoSet>], &str); 6] = [
-        (
-            b"\xab",
-            0,
-            &[Take(4), Peek, Take(4), Next],
-            "[Slice(([], 0, 4)), Token(Some(false)), Slice(([171], 4, 0)), Token(None)]",
-        ),
-        (
-            b"\xab",
-            0,
-            &[Each],
-            "[Items([(0, true), (1, true), (2, false), (3, true), (4, false), (5, true), (6, false), (7, true)])]",
-        ),
-        (
-            b"\xab",
-            3,
-            &[At(6), At(5), Look(5), Look(6), Eof],
-            "[At(Err(Size(1))), At(Ok(5)), Slice(([171], 3, 0)), BadOffset, Offset(5)]",
-        ),
-        (
-            b"",
-            0,
-            &[Each, Next, Peek, At(0), At(9), Take(0), Finish],
-            "[Items([]), Token(None), Token(None), At(Ok(0)), At(Err(Size(9))), Slice(([], 0, 0)), Slice(([], 0, 0))]",
-        ),
-        (
-            b"\xab\x01",
-            6,
-            &[Mark, Next, Next, Next, Take(3), Since(0), Reset(0), Each],
-            "[Marked(0), Token(Some(false)), Token(Some(true)), Token(Some(true)), Slice(([], 1, 4)), Offset(6), Done, Items([(0, false), (1, true), (2, true), (3, false), (4, false), (5, false), (6, false), (7, false), (8, false), (9, false)])]",
-        ),
-        (
-            b"\xab\xcd\xef",
-            5,
-            &[Look(11), Take(12), Finish],
-            "[Slice(([171, 205], 5, 0)), Slice(([171, 205], 5, 1)), Slice(([239], 1, 0))]",
-        ),
-    ];
-    for (bytes, place, script, want) in cases {
-        let mut bits = bits_at(bytes, place).ok_or("no bits")?;
+    for (bytes, place, script, want) in CASES {
+        let mut bits = bits_at(bytes, *place).ok_or("no bits")?;
         let told = told_bits(rt.alloc(), &mut bits, script)?;
-        assert_eq!(rt; told.as_str(), want, "at {place}");
+        assert_eq!(rt; told.as_str(), *want, "at {place}");
     }
     Ok(())
 }
@@ -145,68 +163,6 @@ fn slices_have_widths()
     byte_slice_law();
 }
 
-// Asserts what is taken of bytes from a place on, and the bytes and the place that are left.
-fn splits_into(
-    rt: &impl Abort,
-    (bytes, place, count): (&[u8], usize, usize),
-    taken: Option<Taken<&[u8]>>,
-    left: (&[u8], usize),
-) -> Result<(), Fail> {
-    byte_slice_law();
-    let mut bits = bits_at(bytes, place).ok_or("no bits")?;
-    let slice = take(&mut bits, count);
-    assert_eq!(rt;
-        (slice, bits.into_parts()),
-        (taken, left),
-        "{place}, {count}"
-    );
-    Ok(())
-}
-
-#[test]
-fn slices_from_each_place(rt: HostRuntime) -> Result<(), Fail> {
-    let bytes = b"\xab\x31\xc0".as_slice();
-    for place in 0..8usize {
-        for count in 0..25 - place {
-            let end = place + count;
-            let taken = ((&bytes[..end / 8], place, end % 8), count);
-            let left = (&bytes[end / 8..], end % 8);
-            splits_into(&rt, (bytes, place, count), Some(taken), left)?;
-        }
-        splits_into(&rt, (bytes, place, 25 - place), None, (bytes, place))?;
-    }
-    Ok(())
-}
-
-// Returns the widths of the first bit: from a stream, from a checkpoint, and between checkpoints.
-// Also returns the parts after it, and whether that place is the second and not the start, whether
-// their checkpoints differ, and whether those of two equal places are equal.
-fn after_one<I>(bytes: I) -> ((usize, usize, usize), (I, usize), [bool; 4])
-where
-    I: Stream<Token = u8> + Copy + PartialEq,
-    I::Checkpoint: PartialEq,
-    requires { IsValidBits I.valid I.remaining (record { input = bytes; place = 0 }) }
-    ensures width { result.0.2 ≤ 1 }
-{
-    bit_checkpoint_law::<I>();
-    let start = Bits::new(bytes);
-    let mut end = start;
-    let _ = end.next_token();
-    let (from, to) = (start.checkpoint(), end.checkpoint());
-    let widths = (
-        width_from(&end, &start),
-        width_from(&end, &from),
-        width_from(&to, &from),
-    );
-    let told = [
-        end == Bits::at_place(bytes, 1),
-        end != start,
-        to != from,
-        from == Bits::new(bytes).checkpoint(),
-    ];
-    (widths, end.into_parts(), told)
-}
-
 // Returns the place, computed from the number of bits.
 fn place_of<I: Stream<Token = u8>>(s: &Bits<I>) -> usize
     requires { IsValidBits I.valid I.remaining s.now }
@@ -216,54 +172,40 @@ fn place_of<I: Stream<Token = u8>>(s: &Bits<I>) -> usize
     (8 - s.eof_offset() % 8) % 8
 }
 
-// Clearing the flag of the stream of bytes changes nothing else.
-fn complete_bits<I: StreamIsPartial + Stream<Token = u8>>(s: &mut Bits<I>) -> I::PartialState
-    ensures before { result ≡ I.partial_state (bits_inner s.old) }
-    ensures bytes { I.same_but_flag (bits_inner s.old) (bits_inner s.new) }
-    ensures place { bits_place s.old ≡ bits_place s.new }
-{
-    s.complete()
-}
-
-// Returns the answers of the calls of the flag, and the parts that they leave.
-fn flags_of<I>(bytes: I) -> ([bool; 4], (I, usize))
+// Returns the widths from the start: from a stream, from a checkpoint, and between checkpoints.
+fn widths_of_one<I>(bytes: I) -> (usize, usize, usize)
 where
-    I: StreamIsPartial + Stream<Token = u8>,
-    I::PartialState: Drop,
+    I: Stream<Token = u8> + Copy,
+    requires { IsValidBits I.valid I.remaining (record { input = bytes; place = 0 }) }
+    ensures { result.2 ≤ 1 }
 {
-    let mut bits = Bits::at_place(bytes, 1);
-    let flags = flags(&mut bits);
-    let _ = complete_bits(&mut bits);
-    (flags, bits.into_parts())
+    bit_checkpoint_law::<I>();
+    let start = Bits::new(bytes);
+    let mut end = start;
+    let _ = end.next_token();
+    let (from, to) = (start.checkpoint(), end.checkpoint());
+    (
+        width_from(&end, &start),
+        width_from(&end, &from),
+        width_from(&to, &from),
+    )
 }
 
 #[test]
-fn places_of_bits(rt: HostRuntime) {
+fn slices_places_and_widths_of_bits(rt: HostRuntime) {
     let bytes = b"\xab\x31".as_slice();
+    byte_slice_law();
     bit_source_law();
-    let places = [
-        place_of(&Bits::new(bytes)),
-        place_of(&Bits::at_place(bytes, 5)),
-    ];
+    let mut bits = Bits::at_place(bytes, 5);
+    let (place, taken) = (place_of(&bits), take(&mut bits, 9));
     assert_eq!(rt;
-        (after_one(bytes), places, flags_of(bytes)),
+        (place, taken, bits.into_parts(), widths_of_one(bytes)),
         (
-            ((1, 1, 1), (bytes, 1), [true; 4]),
-            [0, 5],
-            ([false; 4], (bytes, 1))
+            5,
+            Some(((&bytes[..1], 5, 6), 9)),
+            (&bytes[1..], 6),
+            (1, 1, 1)
         )
-    );
-}
-
-#[test]
-fn all_bits_are_taken(rt: HostRuntime) {
-    let bytes = b"\xab\x31".as_slice();
-    bit_source_law();
-    let mut rest = Bits::at_place(bytes, 5);
-    let finished = [rest.peek_finish(), rest.finish()];
-    assert_eq!(rt;
-        (finished, rest.into_parts()),
-        ([(bytes, 5, 0); 2], (b"".as_slice(), 0))
     );
 }
 

@@ -9,6 +9,6 @@ mod kinds;
 #[cfg(test)]
 mod own_literals;
 #[cfg(test)]
-mod texts;
+mod printed_texts;
 #[cfg(test)]
 mod token_slices;

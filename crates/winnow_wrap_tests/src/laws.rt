@@ -1,10 +1,11 @@
 //! Laws do nothing. The calls here show that each can be called. Generic code promises only what
 //! the members of a type say, so the laws that spell members out refuse a member that says less.
-ghost use Rattle.std.specs.Prelude.{◌≡◌, ℕ, List, false};
+ghost use Rattle.std.specs.Prelude.{◌≡◌, ◌||◌, ℕ, List, false, is_some, not, true};
 ghost use Rattle.std.specs.Borrow.{Bor};
 ghost use Rattle.winnow_recover.specs.Recovering.{recoverable_inner, recorded_errors};
 ghost use Rattle.winnow_recover.specs.Recovering.{records_errors, IsSame, Records};
 ghost use Rattle.winnow_recover.specs.declared.recoverable.Recoverable.{Recoverable};
+ghost use Rattle.winnow_stream.specs.Checkpoint.{checkpoint_inner};
 ghost use Rattle.winnow_stream.specs.declared.checkpoint.Checkpoint.{Checkpoint};
 ghost use Rattle.winnow_wrap.specs.Located.{locating_inner};
 ghost use Rattle.winnow_wrap.specs.Flag.{partial_inner, flag};
@@ -12,18 +13,26 @@ ghost use Rattle.winnow_wrap.specs.declared.located.LocatingSlice.{LocatingSlice
 ghost use Rattle.winnow_wrap.specs.declared.partial.Partial.{Partial};
 ghost use Rattle.winnow_wrap.specs.declared.stateful.Stateful.{Stateful};
 
-use crate::fixtures::{Mode, Nest};
-use crate::nests::FiveStates;
+use crate::recovery::Mode;
 use std::fmt::{Debug, Display};
 use std::ops::Deref;
+use winnow_bytes::Bytes;
 use winnow_error::{FromRecoverableError, ParserError};
+use winnow_kinds::BStr;
 use winnow_recover::{Recover, Recoverable};
-use winnow_stream::{Stream, StreamIsPartial};
+use winnow_stream::{Checkpoint, Offset, Stream, StreamIsPartial};
+use winnow_views::{Bits, TokenSlice};
 use winnow_wrap::{
     LocatingSlice, Partial, Stateful, flagged_equality_law, flagged_order_law,
     located_equality_law, located_order_law, stateful_equality_law,
     wrapper_checkpoint_equality_law, wrapper_checkpoint_order_law,
 };
+
+// Three wrappers around a stream.
+type Nest<I> = Partial<Stateful<LocatingSlice<I>, u32>>;
+
+// Five states around a stream.
+type FiveStates<I> = Stateful<Stateful<Stateful<Stateful<Stateful<I, u8>, u8>, u8>, u8>, u8>;
 
 // No call of `Stream` changes the flag of three wrappers, their state, where the whole input
 // starts, or any of five states.
@@ -69,7 +78,8 @@ fn text_law<I: Stream + Display, S, E>()
         ≡ I.styled_output (recoverable_inner s) spec }
 {}
 
-// The members of a `Recoverable`, spelled out.
+// The members of a `Recoverable`, spelled out. It refuses an error that is incomplete, and each
+// where it records none.
 fn recovery_law<I, E, R>()
 where
     I: Stream,
@@ -79,6 +89,10 @@ where
         (start at : Checkpoint I.Checkpoint (Recoverable I R)) (e : E)
         → ⟦<Recoverable<I, R> as Recover<E>>⟧.records s start at e t
         → Records R.recovered s start at e t }
+    ensures refused { (s : Recoverable I R) (e : E)
+        → ⟦<Recoverable<I, R> as Recover<E>>⟧.refuses s e
+        ≡ (not (records_errors s) || is_some (E.needs e)) }
+    ensures supported { ⟦<Recoverable<I, R> as Recover<E>>⟧.supports_recovery ≡ true }
     ensures unchanged { (s t : Recoverable I R) → ⟦<Recoverable<I, R> as Recover<E>>⟧.unchanged s t
         → IsSame s t }
     ensures errors_kept { (s t : Recoverable I R) → ⟦<Recoverable<I, R> as Stream>⟧.keeps s t
@@ -87,6 +101,19 @@ where
         → records_errors s ≡ records_errors t }
     ensures kept { (s t : Recoverable I R) → ⟦<Recoverable<I, R> as Stream>⟧.keeps s t
         → I.keeps s.input t.input }
+{}
+
+// No other stream records errors, and so no wrapper around one that does.
+fn refusing_law<'i, I: Recover<E> + Stream<Token = u8>, T: Copy + Debug + 'i, S: Debug, E>()
+    ensures list { ⟦<&'i [T] as Recover<E>>⟧.supports_recovery ≡ false }
+    ensures text { ⟦<&'i str as Recover<E>>⟧.supports_recovery ≡ false }
+    ensures bstr { ⟦<BStr<'i> as Recover<E>>⟧.supports_recovery ≡ false }
+    ensures bytes { ⟦<Bytes<'i> as Recover<E>>⟧.supports_recovery ≡ false }
+    ensures tokens { ⟦<TokenSlice<'i, T> as Recover<E>>⟧.supports_recovery ≡ false }
+    ensures bits { ⟦<Bits<I> as Recover<E>>⟧.supports_recovery ≡ false }
+    ensures located { ⟦<LocatingSlice<I> as Recover<E>>⟧.supports_recovery ≡ false }
+    ensures stateful { ⟦<Stateful<I, S> as Recover<E>>⟧.supports_recovery ≡ false }
+    ensures flagged { ⟦<Partial<I> as Recover<E>>⟧.supports_recovery ≡ false }
 {}
 
 // The same for the calls that are passed on.
@@ -100,6 +127,12 @@ fn passed_on_law<I: StreamIsPartial + Display, E: Debug>()
     ensures inside_stays { (s t : Recoverable I E)
         → ⟦<Recoverable<I, E> as StreamIsPartial>⟧.same_but_flag s t
         → I.same_but_flag s.input t.input }
+    ensures supported { ⟦<Recoverable<I, E> as StreamIsPartial>⟧.supports_partial
+        ≡ I.supports_partial }
+    ensures flag { (s : Recoverable I E)
+        → ⟦<Recoverable<I, E> as StreamIsPartial>⟧.partial_state s ≡ I.partial_state s.input }
+    ensures more { (s : Recoverable I E)
+        → ⟦<Recoverable<I, E> as StreamIsPartial>⟧.expects_more s ≡ I.expects_more s.input }
     ensures text { (s : Recoverable I E)
         → ⟦<Recoverable<I, E> as Display>⟧.output s ≡ I.output s.input }
     ensures inside { (s : Recoverable I E) (t : I) → ⟦<Recoverable<I, E> as Deref>⟧.deref_gives s t
@@ -117,6 +150,8 @@ fn flag_law<'i, I: StreamIsPartial, S: Debug>()
     ensures located_stays { (s t : LocatingSlice I I.Checkpoint I.Rest I.Checkpoint.Rest)
         → ⟦<LocatingSlice<I> as StreamIsPartial>⟧.same_but_flag s t
         → I.same_but_flag s.input t.input }
+    ensures located_supported { ⟦<LocatingSlice<I> as StreamIsPartial>⟧.supports_partial
+        ≡ I.supports_partial }
     ensures located_flag { (s : LocatingSlice I I.Checkpoint I.Rest I.Checkpoint.Rest)
         → ⟦<LocatingSlice<I> as StreamIsPartial>⟧.partial_state s ≡ I.partial_state s.input }
     ensures located_more { (s : LocatingSlice I I.Checkpoint I.Rest I.Checkpoint.Rest)
@@ -126,6 +161,8 @@ fn flag_law<'i, I: StreamIsPartial, S: Debug>()
     ensures counted_stays { (s t : Stateful I S)
         → ⟦<Stateful<I, S> as StreamIsPartial>⟧.same_but_flag s t
         → I.same_but_flag s.input t.input }
+    ensures counted_supported { ⟦<Stateful<I, S> as StreamIsPartial>⟧.supports_partial
+        ≡ I.supports_partial }
     ensures counted_flag { (s : Stateful I S)
         → ⟦<Stateful<I, S> as StreamIsPartial>⟧.partial_state s ≡ I.partial_state s.input }
     ensures counted_more { (s : Stateful I S)
@@ -137,6 +174,47 @@ fn flag_law<'i, I: StreamIsPartial, S: Debug>()
         → s ≡ t }
     ensures same_text { (s t : Bor (List ℕ)) → ⟦<&'i str as StreamIsPartial>⟧.same_but_flag s t
         → s ≡ t }
+{}
+
+// The members for widths, spelled out: the two may be measured where those inside may be.
+fn width_law<I, S, E>()
+where
+    I: Stream + Offset<I> + Offset<I::Checkpoint>,
+    I::Checkpoint: Offset<I::Checkpoint>,
+    ensures located { (s t : LocatingSlice I I.Checkpoint I.Rest I.Checkpoint.Rest)
+        → I.Offset-1.can_measure (locating_inner s) (locating_inner t)
+        → ⟦<LocatingSlice<I> as Offset<LocatingSlice<I>>>⟧.can_measure s t }
+    ensures stateful { (s t : Stateful I S) → I.Offset-1.can_measure s.input t.input
+        → ⟦<Stateful<I, S> as Offset<Stateful<I, S>>>⟧.can_measure s t }
+    ensures stateful_mark { (s : Stateful I S) (c : Checkpoint I.Checkpoint (Stateful I S))
+        → I.Offset-2.can_measure s.input (checkpoint_inner c)
+        → ⟦<Stateful<I, S> as Offset<Checkpoint<I::Checkpoint, Stateful<I, S>>>>⟧.can_measure s c }
+    ensures flagged { (s t : Partial I)
+        → I.Offset-1.can_measure (partial_inner s) (partial_inner t)
+        → ⟦<Partial<I> as Offset<Partial<I>>>⟧.can_measure s t }
+    ensures flagged_mark { (s : Partial I) (c : Checkpoint I.Checkpoint (Partial I))
+        → I.Offset-2.can_measure (partial_inner s) (checkpoint_inner c)
+        → ⟦<Partial<I> as Offset<Checkpoint<I::Checkpoint, Partial<I>>>>⟧.can_measure s c }
+    ensures recording { (s t : Recoverable I E)
+        → I.Offset-1.can_measure (recoverable_inner s) (recoverable_inner t)
+        → ⟦<Recoverable<I, E> as Offset<Recoverable<I, E>>>⟧.can_measure s t }
+    ensures recording_mark { (s : Recoverable I E) (c : Checkpoint I.Checkpoint (Recoverable I E))
+        → I.Offset-2.can_measure (recoverable_inner s) (checkpoint_inner c)
+        → ⟦<Recoverable<I, E> as Offset<Checkpoint<I::Checkpoint, Recoverable<I, E>>>>⟧.can_measure
+        s c }
+{}
+
+// The member of what a wrapper lends, spelled out: the stream inside. A clone of a `LocatingSlice`
+// takes no memory.
+fn lent_law<I: Stream + Copy, S: Copy>()
+    ensures located { (s : LocatingSlice I I.Checkpoint I.Rest I.Checkpoint.Rest) (t : I)
+        → ⟦<LocatingSlice<I> as Deref>⟧.deref_gives s t → t ≡ locating_inner s }
+    ensures located_clone { (s : LocatingSlice I I.Checkpoint I.Rest I.Checkpoint.Rest)
+        → ⟦<LocatingSlice<I> as Clone>⟧.is_infallible s }
+    ensures stateful { (s : Stateful I S) (t : I)
+        → ⟦<Stateful<I, S> as Deref>⟧.deref_gives s t → t ≡ s.input }
+    ensures flagged { (s : Partial I) (t : I) → ⟦<Partial<I> as Deref>⟧.deref_gives s t
+        → t ≡ partial_inner s }
 {}
 
 fn laws<I: StreamIsPartial + Ord + Display>()
@@ -160,4 +238,7 @@ where
 #[test]
 fn the_laws_can_be_called(_rt: HostRuntime) {
     laws::<&str>();
+    width_law::<&str, u32, Mode>();
+    lent_law::<&str, u32>();
+    refusing_law::<&[u8], u8, u32, Mode>();
 }

@@ -5,16 +5,10 @@
 #[cfg(test)]
 mod comparisons;
 #[cfg(test)]
-mod fixtures;
-#[cfg(test)]
 mod laws;
 #[cfg(test)]
 mod nests;
 #[cfg(test)]
 mod recovery;
-#[cfg(test)]
-mod searches;
-#[cfg(test)]
-mod texts;
 #[cfg(test)]
 mod wrappers;

@@ -3,14 +3,8 @@ use crate::own_errors::{Apart, Furthest};
 use std::alloc::{AllocError, Global};
 use std::test::Fail;
 use winnow_error::ErrMode::{Backtrack, Cut, Incomplete};
-use winnow_error::{
-    AssociativeOr, EmptyError, ErrMode, InputError, OrTree, ParserError, combine, join_all,
-};
-use winnow_stream::Needed;
-
-type Bytes = &'static [u8];
-
-type Place = InputError<Bytes>;
+use winnow_error::{AssociativeOr, ErrMode, OrTree, ParserError, combine, join_all};
+use winnow_stream::{Needed, Stream};
 
 // Returns errors, bracketed from the left or from the right. No errors make no tree.
 fn bracketed<E: Copy>(
@@ -34,20 +28,20 @@ fn bracketed<E: Copy>(
 }
 
 // Returns what errors combine to.
-fn combined<E: ParserError<Bytes> + Copy>(
+fn combined<I: Stream, E: ParserError<I> + Copy>(
     alloc: Global,
     errors: &[ErrMode<E>],
     is_from_left: bool,
 ) -> Result<Option<ErrMode<E>>, AllocError> {
     match bracketed(alloc, errors, is_from_left)? {
-        Some(tree) => Ok(Some(combine::<Bytes, E>(alloc, tree)?)),
+        Some(tree) => Ok(Some(combine::<I, E>(alloc, tree)?)),
         None => Ok(None),
     }
 }
 
 // Returns whether errors combine and are joined to this, bracketed from the left and from the
 // right.
-fn join_to<E: AssociativeOr<Bytes> + Copy + PartialEq>(
+fn join_to<I: Stream, E: AssociativeOr<I> + Copy + PartialEq>(
     alloc: Global,
     errors: &[ErrMode<E>],
     want: ErrMode<E>,
@@ -56,8 +50,8 @@ fn join_to<E: AssociativeOr<Bytes> + Copy + PartialEq>(
         let Some(tree) = bracketed(alloc, errors, is_from_left)? else {
             return Ok(false);
         };
-        let joined = join_all::<Bytes, E>(alloc, tree);
-        let combined = combined(alloc, errors, is_from_left)?;
+        let joined = join_all::<I, E>(alloc, tree);
+        let combined = combined::<I, E>(alloc, errors, is_from_left)?;
         if joined != want || combined != Some(want) {
             return Ok(false);
         }
@@ -72,72 +66,35 @@ fn a_tree_of_errors_as_debug_text(rt: HostRuntime) -> Result<(), Fail> {
     Ok(())
 }
 
-fn at(input: Bytes) -> Place {
-    InputError { input }
-}
-
-#[test]
-fn alternatives_combine_alike_however_bracketed(rt: HostRuntime) -> Result<(), Fail> {
-    let (a, b, c) = (at(b"a"), at(b"b"), at(b"c"));
-    let (three, more) = (Incomplete(Needed::new(3)), Incomplete(Needed::Unknown));
-    let rows: [(&[ErrMode<Place>], ErrMode<Place>); 9] = [
-        (&[Backtrack(a), three, Cut(c)], three),
-        (&[Cut(b), three, Backtrack(a)], three),
-        (&[Cut(a), more, three], more),
-        (&[Backtrack(a), Cut(b), Cut(c)], Cut(b)),
-        (&[Backtrack(a), Backtrack(b), Cut(c)], Cut(c)),
-        (&[Backtrack(a), Backtrack(b), Backtrack(c)], Backtrack(c)),
-        (&[Backtrack(a)], Backtrack(a)),
-        (&[Backtrack(a), Backtrack(b)], Backtrack(b)),
-        (&[Backtrack(a), Cut(b), three, Cut(c)], three),
-    ];
-    for (errors, want) in rows {
-        assert!(rt; join_to(rt.alloc(), errors, want)?, "{errors:?}");
-    }
-    Ok(())
-}
-
-// Returns 200 errors, at the numbers of bytes from 1 on.
-fn many(alloc: Global) -> Result<Vec<ErrMode<Place>>, AllocError> {
-    let bytes = [0; 200].as_slice();
+// Returns errors of parsers that came 1 to 200 far.
+fn many(alloc: Global) -> Result<Vec<ErrMode<Furthest>>, AllocError> {
     let mut errors = Vec::new(alloc);
-    for length in 1..201usize {
-        let input = bytes.get(..length).unwrap_or(bytes);
-        errors.push(Backtrack(at(input)))?;
+    for place in 1..201 {
+        errors.push(Backtrack(Furthest(place)))?;
     }
     Ok(errors)
 }
 
 #[test]
-fn two_hundred_alternatives_combine_alike(rt: HostRuntime) -> Result<(), Fail> {
-    let errors = many(rt.alloc())?;
-    let last = Backtrack(at([0; 200].as_slice()));
-    assert!(rt; join_to(rt.alloc(), errors.as_slice(), last)?);
-    Ok(())
-}
-
-// Errors that hold nothing, their modes, and a user-defined associative `or`.
-#[test]
-fn other_errors_are_joined(rt: HostRuntime) -> Result<(), Fail> {
-    let (alloc, cut) = (rt.alloc(), Cut(EmptyError));
-    let needs = Backtrack(Incomplete(Needed::new(3)));
-    let (one, two, five) = (Furthest(1), Furthest(2), Furthest(5));
-    let joined = [
-        join_to(alloc, &[Backtrack(EmptyError), cut], cut)?,
-        join_to(alloc, &[Backtrack(cut), needs], needs)?,
-        join_to(alloc, &[Cut(()), Backtrack(())], Cut(()))?,
-        join_to(
-            alloc,
-            &[Backtrack(one), Backtrack(five), Backtrack(two)],
-            Backtrack(five),
-        )?,
-        join_to(
-            alloc,
-            &[Backtrack(five), Cut(one), Backtrack(two)],
-            Cut(one),
-        )?,
+fn alternatives_combine_alike_however_bracketed(rt: HostRuntime) -> Result<(), Fail> {
+    let (a, b, c) = (Furthest(1), Furthest(3), Furthest(2));
+    let (three, more) = (Incomplete(Needed::new(3)), Incomplete(Needed::Unknown));
+    let many = many(rt.alloc())?;
+    let rows: [(&[ErrMode<Furthest>], ErrMode<Furthest>); 10] = [
+        (&[Backtrack(a), three, Cut(c)], three),
+        (&[Cut(b), three, Backtrack(a)], three),
+        (&[Cut(a), more, three], more),
+        (&[Backtrack(a), Cut(c), Cut(b)], Cut(c)),
+        (&[Backtrack(a), Backtrack(b), Cut(c)], Cut(c)),
+        (&[Backtrack(a), Backtrack(b), Backtrack(c)], Backtrack(b)),
+        (&[Backtrack(a)], Backtrack(a)),
+        (&[Backtrack(b), Backtrack(c)], Backtrack(b)),
+        (&[Backtrack(a), Cut(b), three, Cut(c)], three),
+        (&many, Backtrack(Furthest(200))),
     ];
-    assert_eq!(rt; joined, [true; 5]);
+    for (errors, want) in rows {
+        assert!(rt; join_to::<&str, _>(rt.alloc(), errors, want)?, "{errors:?}");
+    }
     Ok(())
 }
 
@@ -151,8 +108,8 @@ fn an_or_that_is_not_associative(rt: HostRuntime) -> Result<(), Fail> {
     ];
     for (last, wanted) in rows {
         let errors = [Backtrack(one), Backtrack(two), last];
-        let left = combined(rt.alloc(), &errors, true)?;
-        let right = combined(rt.alloc(), &errors, false)?;
+        let left = combined::<&str, _>(rt.alloc(), &errors, true)?;
+        let right = combined::<&str, _>(rt.alloc(), &errors, false)?;
         assert_eq!(rt; [left, right], [Some(wanted[0]), Some(wanted[1])]);
     }
     Ok(())

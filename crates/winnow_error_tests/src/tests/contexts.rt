@@ -1,4 +1,4 @@
-use super::printing::{debugs, debugs_at_a_precision, debugs_under_options, prints};
+use super::printing::{debugs, debugs_under_options, prints};
 use std::alloc::{AllocError, Global};
 use std::test::Fail;
 use winnow_context::StrContext::{Expected, Label};
@@ -8,25 +8,30 @@ use winnow_error::FromExternalError;
 
 type Told = ContextError<StrContext>;
 
-// Returns an error that has a cause.
-fn caused_by<C: Drop>(alloc: Global, cause: &str) -> Result<ContextError<C>, AllocError> {
+// Returns an error that has a cause, if one is given.
+fn caused_by<C: Drop>(alloc: Global, cause: Option<&str>) -> Result<ContextError<C>, AllocError> {
+    let Some(cause) = cause else {
+        return Ok(ContextError::new(alloc));
+    };
     let cause = String::from_str(alloc, cause)?;
     Ok(<ContextError<C> as FromExternalError<&str, String>>::from_external_error(alloc, &"", cause))
 }
 
-// Returns an error with contexts, in order, and with a cause if one is given.
-fn told_all(
-    alloc: Global,
-    contexts: &[StrContext],
-    cause: Option<&str>,
-) -> Result<Told, AllocError> {
-    let mut error = match cause {
-        Some(cause) => caused_by(alloc, cause)?,
-        None => Told::new(alloc),
-    };
+fn push_all<C: Copy>(error: &mut ContextError<C>, contexts: &[C]) -> Result<(), AllocError> {
     for context in contexts {
-        error.push(context.clone()?)?;
+        error.push(*context)?;
     }
+    Ok(())
+}
+
+// Returns an error with contexts, in order, and with a cause if one is given.
+fn told<C: Copy>(
+    alloc: Global,
+    contexts: &[C],
+    cause: Option<&str>,
+) -> Result<ContextError<C>, AllocError> {
+    let mut error = caused_by(alloc, cause)?;
+    push_all(&mut error, contexts)?;
     Ok(error)
 }
 
@@ -34,7 +39,7 @@ const NUMBER: StrContext = Label("number");
 
 const DIGIT: StrContext = Expected(Description("a digit"));
 
-const LINES: [(&[StrContext], Option<&str>, &str); 8] = [
+const LINES: &[(&[StrContext], Option<&str>, &str)] = &[
     (&[], None, ""),
     (&[NUMBER], None, "invalid number"),
     (&[DIGIT], None, "expected a digit"),
@@ -59,14 +64,14 @@ const LINES: [(&[StrContext], Option<&str>, &str); 8] = [
 
 #[test]
 fn the_lines_that_are_there(rt: HostRuntime) -> Result<(), Fail> {
-    for (contexts, cause, wanted) in &LINES {
-        let error = told_all(rt.alloc(), contexts, *cause)?;
+    for (contexts, cause, wanted) in LINES {
+        let error = told(rt.alloc(), contexts, *cause)?;
         prints(&rt, rt.alloc(), &error, wanted)?;
     }
     Ok(())
 }
 
-const VALUES: [(StrContextValue, &str); 8] = [
+const VALUES: &[(StrContextValue, &str)] = &[
     (CharLiteral('a'), "`a`"),
     (CharLiteral('\0'), "`\\0`"),
     (CharLiteral('\t'), "`\\t`"),
@@ -77,43 +82,24 @@ const VALUES: [(StrContextValue, &str); 8] = [
     (Description("`"), "`"),
 ];
 
-const CONTEXTS: [(StrContext, &str); 2] = [
+const CONTEXTS: &[(StrContext, &str)] = &[
     (Label("x"), "invalid x"),
     (Expected(CharLiteral('x')), "expected `x`"),
 ];
 
 #[test]
-fn values_alone(rt: HostRuntime) -> Result<(), Fail> {
-    for (value, text) in &VALUES {
+fn contexts_and_values_alone(rt: HostRuntime) -> Result<(), Fail> {
+    for (value, text) in VALUES {
         prints(&rt, rt.alloc(), value, text)?;
     }
-    Ok(())
-}
-
-#[test]
-fn contexts_alone(rt: HostRuntime) -> Result<(), Fail> {
-    for (context, text) in &CONTEXTS {
+    for (context, text) in CONTEXTS {
         prints(&rt, rt.alloc(), context, text)?;
     }
     Ok(())
 }
 
-#[test]
-fn values_are_made_of_characters_and_texts(rt: HostRuntime) {
-    let (character, text): (StrContextValue, StrContextValue) = ('x'.into(), "x".into());
-    assert_eq!(rt; (character, text), (CharLiteral('x'), StringLiteral("x")));
-}
-
-// Returns an error with three contexts and a cause.
-fn told_thrice(alloc: Global) -> Result<Told, AllocError> {
-    let mut error: Told = caused_by(alloc, "bad")?;
-    error.push(Label("a"))?;
-    error.extend([Label("b"), Expected('c'.into())])?;
-    Ok(error)
-}
-
 // Returns the cause, the number of contexts, and the first context.
-fn told(error: &Told) -> (Option<&str>, usize, Option<&StrContext>) {
+fn parts(error: &Told) -> (Option<&str>, usize, Option<&StrContext>) {
     (
         error.cause(),
         error.context().count(),
@@ -121,91 +107,44 @@ fn told(error: &Told) -> (Option<&str>, usize, Option<&StrContext>) {
     )
 }
 
+// Returns an error with contexts that are made of a text and a character, and with a cause.
+fn told_thrice(alloc: Global) -> Result<Told, AllocError> {
+    let mut error = told(alloc, &[Label("abc")], Some("bad"))?;
+    error.extend([Expected("x".into()), Expected('c'.into())])?;
+    Ok(error)
+}
+
 #[test]
 fn contexts_are_kept_in_order(rt: HostRuntime) -> Result<(), Fail> {
     let error = told_thrice(rt.alloc())?;
-    assert_eq!(rt; told(&error), (Some("bad"), 3, Some(&Label("a"))));
+    assert_eq!(rt; parts(&error), (Some("bad"), 3, Some(&Label("abc"))));
+    assert!(rt; error.clone()? == error);
     debugs(
         &rt,
         rt.alloc(),
-        &error,
-        "ContextError { context: [Label(\"a\"), Label(\"b\"), Expected(CharLiteral('c'))], cause: Some(\"bad\") }",
+        &error.context(),
+        "ContextItems { rest: [Label(\"abc\"), Expected(StringLiteral(\"x\")), Expected(CharLiteral('c'))] }",
     )?;
     Ok(())
-}
-
-#[test]
-fn contexts_as_debug_text_under_options(rt: HostRuntime) -> Result<(), Fail> {
-    let mut error: Told = caused_by(rt.alloc(), "bad")?;
-    error.extend([Label("a"), Expected('c'.into())])?;
-    debugs_under_options(
-        &rt,
-        rt.alloc(),
-        &error,
-        "ContextError {\n    context: [\n        Label(\n            \"a\",\n        ),\n        Expected(\n            CharLiteral(\n                'c',\n            ),\n        ),\n    ],\n    cause: Some(\n        \"bad\",\n    ),\n}\n\
-         ContextError { context: [Label(\"a\"), Expected(CharLiteral('c'))], cause: Some(\"bad\") }",
-    )?;
-    Ok(())
-}
-
-// Returns an error with a flag as its context.
-fn told_a_flag(alloc: Global) -> Result<ContextError<bool>, AllocError> {
-    let mut error = caused_by(alloc, "bad")?;
-    error.push(true)?;
-    Ok(error)
 }
 
 // A width and a precision reach a flag, but not a text.
 #[test]
-fn debug_texts_at_a_precision(rt: HostRuntime) -> Result<(), Fail> {
+fn debug_texts_under_options(rt: HostRuntime) -> Result<(), Fail> {
     let alloc = rt.alloc();
-    debugs_at_a_precision(
+    debugs_under_options(
         &rt,
         alloc,
-        &told_a_flag(alloc)?,
+        &told(alloc, &[true], Some("bad"))?,
         "ContextError {\n    context: [\n        tr    ,\n    ],\n    cause: Some(\n        \"bad\",\n    ),\n}\n\
          ContextError { context: [tr    ], cause: Some(\"bad\") }",
     )?;
-    debugs_at_a_precision(
+    debugs_under_options(
         &rt,
         alloc,
-        &Label("abc"),
-        "Label(\n    \"abc\",\n)\nLabel(\"abc\")",
-    )?;
-    debugs_at_a_precision(
-        &rt,
-        alloc,
-        &Expected(CharLiteral('c')),
-        "Expected(\n    CharLiteral(\n        'c',\n    ),\n)\nExpected(CharLiteral('c'))",
-    )?;
-    Ok(())
-}
-
-// Returns whether a clone is equal, whether it is still equal after one more context is added to
-// the error, and whether it is equal to an empty error.
-fn compared(alloc: Global) -> Result<[bool; 3], AllocError> {
-    let mut error = told_thrice(alloc)?;
-    let copy = error.clone()?;
-    let is_same = copy == error;
-    error.push(Label("d"))?;
-    Ok([is_same, copy == error, copy == Told::new(alloc)])
-}
-
-#[test]
-fn a_clone_stays_as_it_was(rt: HostRuntime) -> Result<(), Fail> {
-    assert_eq!(rt; compared(rt.alloc())?, [true, false, false]);
-    Ok(())
-}
-
-#[test]
-fn an_error_that_tells_nothing(rt: HostRuntime) -> Result<(), Fail> {
-    let none = Told::new(rt.alloc());
-    assert_eq!(rt; told(&none), (None, 0, None));
-    debugs(
-        &rt,
-        rt.alloc(),
-        &none.context(),
-        "ContextItems { rest: [] }",
+        &told(alloc, &[Label("abc"), Expected(CharLiteral('c'))], None)?,
+        "ContextError {\n    context: [\n        Label(\n            \"abc\",\n        ),\n        Expected(\n            CharLiteral(\n                'c',\n            ),\n        ),\n    ],\n    cause: None,\n}\n\
+         ContextError { context: [Label(\"abc\"), Expected(CharLiteral('c'))], cause: None }",
     )?;
     Ok(())
 }

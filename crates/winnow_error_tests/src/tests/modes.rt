@@ -1,6 +1,6 @@
 ghost use Rattle.std.specs.Prelude.{◌≡◌, IfOk, codes, string_bytes};
 
-use super::printing::{debugs, debugs_at_a_precision, debugs_under_options, prints};
+use super::printing::{debugs, debugs_under_options, prints};
 use std::alloc::{AllocError, Global};
 use std::test::Fail;
 use winnow_error::ErrMode::{Backtrack, Cut, Incomplete};
@@ -73,17 +73,6 @@ fn an_error_at_an_input(rt: HostRuntime) {
 }
 
 #[test]
-fn errors_own_their_inputs(rt: HostRuntime) -> Result<(), Fail> {
-    let text = InputError::at("12x").into_owned(rt.alloc())?;
-    let bytes = InputError::at(b"12x".as_slice()).into_owned(rt.alloc())?;
-    assert_eq!(rt;
-        (text.input.as_str(), bytes.input.as_slice()),
-        ("12x", b"12x".as_slice())
-    );
-    Ok(())
-}
-
-#[test]
 fn texts_of_modes(rt: HostRuntime) -> Result<(), Fail> {
     let cases: [(ErrMode<u8>, &str); 4] = [
         (Incomplete(Needed::new(3)), "Parsing requires 3 more data"),
@@ -130,39 +119,18 @@ fn debug_texts(rt: HostRuntime) -> Result<(), Fail> {
     Ok(())
 }
 
-#[test]
-fn debug_texts_under_options(rt: HostRuntime) -> Result<(), Fail> {
-    let error: ErrMode<InputError<&[u8]>> = Backtrack(InputError::at(b"12"));
-    debugs_under_options(
-        &rt,
-        rt.alloc(),
-        &error,
-        "Backtrack(\n    InputError {\n        input: [\n            49,\n            50,\n        ],\n    },\n)\n\
-         Backtrack(InputError { input: [   49,    50] })",
-    )?;
-    Ok(())
-}
-
 // A width and a precision reach a flag.
 #[test]
-fn debug_texts_at_a_precision(rt: HostRuntime) -> Result<(), Fail> {
-    let (error, nothing): (ErrMode<InputError<bool>>, ErrMode<EmptyError>) = (
-        Backtrack(InputError::at(true)),
-        Cut(EmptyError),
-    );
-    debugs_at_a_precision(
+fn debug_texts_under_options(rt: HostRuntime) -> Result<(), Fail> {
+    let error: ErrMode<InputError<bool>> = Backtrack(InputError::at(true));
+    debugs_under_options(
         &rt,
         rt.alloc(),
         &error,
         "Backtrack(\n    InputError {\n        input: tr    ,\n    },\n)\n\
          Backtrack(InputError { input: tr     })",
     )?;
-    debugs_at_a_precision(
-        &rt,
-        rt.alloc(),
-        &nothing,
-        "Cut(\n    EmptyError,\n)\nCut(EmptyError)",
-    )?;
+    debugs_under_options(&rt, rt.alloc(), &EmptyError, "EmptyError\nEmptyError")?;
     Ok(())
 }
 
