@@ -1,199 +1,60 @@
 //! The examples of winnow's documentation, on whole texts and on their fronts.
 
-use Answer::{Backtrack, Read};
+use crate::escapes::{first_other_letters, slices};
+use crate::numbers::numbers;
+use crate::runs::{characters, classes, lines};
 use std::alloc::Global;
 use winnow_ascii::{
-    alpha0, alpha1, alphanumeric0, alphanumeric1, ascii_law, crlf, determined_number_law, digit0,
-    digit1, hex_digit0, hex_digit1, line_ending, multispace0, multispace1, newline, oct_digit0,
-    oct_digit1, space0, space1, tab, till_line_ending,
+    Fragment, alpha0, alpha1, ascii_law, determined_escaped_law, determined_number_law,
 };
-use winnow_error::EmptyError;
+use winnow_count::Accumulate;
+use winnow_error::{EmptyError, ParserError};
 use winnow_match::Compare;
-use winnow_parser_test_helpers::{Answer, Fronts, TextRow, first_other, first_other_of};
+use winnow_parser::Parser;
+use winnow_parser_test_helpers::Fronts;
 use winnow_stream::Stream;
+use winnow_token::{AnyToken, one_of};
 use winnow_wrap::Partial;
 
 type Text = Partial<&'static str>;
 
 type Word = &'static str;
 
-const ALPHA0: &[TextRow<Word>] = &[
-    ("ab1c", 3, Read("ab", "1c")),
-    ("1c", 1, Read("", "1c")),
-    ("", 1, Read("", "")),
-];
+// Calls the laws, which do nothing: so each can be called.
+fn call_laws<
+    I: Fronts + Stream<Token = char, Slice = Word>,
+    E: ParserError<I>,
+    P: Parser<I, E>,
+    A: Accumulate<Fragment<P::Output, P::Output>>,
+>() {
+    ascii_law::<I, E>();
+    determined_number_law::<I, E, u8, u8, usize>();
+    determined_escaped_law::<I, E, P, P, P, A, usize, usize, usize, usize>();
+}
 
-const ALPHA1: &[TextRow<Word>] = &[
-    ("aB1c", 3, Read("aB", "1c")),
-    ("1c", 1, Backtrack("1c")),
-    ("", 1, Backtrack("")),
-];
-
-const DIGIT0: &[TextRow<Word>] = &[
-    ("21c", 3, Read("21", "c")),
-    ("21", 3, Read("21", "")),
-    ("a21c", 1, Read("", "a21c")),
-    ("", 1, Read("", "")),
-];
-
-const DIGIT1: &[TextRow<Word>] = &[
-    ("21c", 3, Read("21", "c")),
-    ("c1", 1, Backtrack("c1")),
-    ("", 1, Backtrack("")),
-];
-
-const ALPHANUMERIC0: &[TextRow<Word>] = &[
-    ("21cZ%1", 5, Read("21cZ", "%1")),
-    ("&Z21c", 1, Read("", "&Z21c")),
-    ("", 1, Read("", "")),
-];
-
-const ALPHANUMERIC1: &[TextRow<Word>] = &[
-    ("21cZ%1", 5, Read("21cZ", "%1")),
-    ("&H2", 1, Backtrack("&H2")),
-    ("", 1, Backtrack("")),
-];
-
-const HEX_DIGIT0: &[TextRow<Word>] = &[
-    ("21cZ", 4, Read("21c", "Z")),
-    ("Z21c", 1, Read("", "Z21c")),
-    ("", 1, Read("", "")),
-];
-
-const HEX_DIGIT1: &[TextRow<Word>] = &[
-    ("21cZ", 4, Read("21c", "Z")),
-    ("H2", 1, Backtrack("H2")),
-    ("", 1, Backtrack("")),
-];
-
-const OCT_DIGIT0: &[TextRow<Word>] = &[
-    ("21cZ", 3, Read("21", "cZ")),
-    ("Z21c", 1, Read("", "Z21c")),
-    ("", 1, Read("", "")),
-];
-
-const OCT_DIGIT1: &[TextRow<Word>] = &[
-    ("21cZ", 3, Read("21", "cZ")),
-    ("H2", 1, Backtrack("H2")),
-    ("", 1, Backtrack("")),
-];
-
-const SPACE0: &[TextRow<Word>] = &[
-    (" \t21c", 3, Read(" \t", "21c")),
-    ("Z21c", 1, Read("", "Z21c")),
-    ("", 1, Read("", "")),
-];
-
-const SPACE1: &[TextRow<Word>] = &[
-    (" \t21c", 3, Read(" \t", "21c")),
-    ("H2", 1, Backtrack("H2")),
-    ("", 1, Backtrack("")),
-];
-
-const MULTISPACE0: &[TextRow<Word>] = &[
-    (" \t\n\r21c", 5, Read(" \t\n\r", "21c")),
-    ("Z21c", 1, Read("", "Z21c")),
-    ("", 1, Read("", "")),
-];
-
-const MULTISPACE1: &[TextRow<Word>] = &[
-    (" \t\n\r21c", 5, Read(" \t\n\r", "21c")),
-    ("H2", 1, Backtrack("H2")),
-    ("", 1, Backtrack("")),
-];
-
-fn classes<I: Fronts<Whole = Word> + Stream<Token = char, Slice = Word>>(
-    alloc: Global,
-) -> Option<(usize, usize)> {
-    let tables = [
-        (alpha0(), ALPHA0),
-        (alpha1(), ALPHA1),
-        (digit0(), DIGIT0),
-        (digit1(), DIGIT1),
-        (alphanumeric0(), ALPHANUMERIC0),
-        (alphanumeric1(), ALPHANUMERIC1),
-        (hex_digit0(), HEX_DIGIT0),
-        (hex_digit1(), HEX_DIGIT1),
-        (oct_digit0(), OCT_DIGIT0),
-        (oct_digit1(), OCT_DIGIT1),
-        (space0(), SPACE0),
-        (space1(), SPACE1),
-        (multispace0(), MULTISPACE0),
-        (multispace1(), MULTISPACE1),
+// Calls the laws, and returns the first of these parsers that answer otherwise.
+fn others<
+    I: Fronts<Whole = Word> + Stream<Token = char, Slice = Word> + Compare<char> + Compare<Word>,
+>(alloc: Global) -> Option<Word> {
+    call_laws::<I, EmptyError, AnyToken, String>();
+    let taken = slices::<I, _, _>(alloc, alpha0(), alpha1(), one_of(('"', 'n')));
+    let examples = [
+        ("characters of a class", classes::<I>(alloc).is_none()),
+        ("newline, tab", characters::<I>(alloc).is_none()),
+        ("lines", lines::<I>(alloc) == [None; 3]),
+        ("numbers", numbers::<I>(alloc) == [None; 9]),
+        ("escaped", first_other_letters::<I>(alloc).is_none()),
+        ("take_escaped", taken == [None; 2]),
     ];
-    first_other_of::<I, _, _>(alloc, &tables)
+    for (parsers, are_right) in examples {
+        if !are_right {
+            return Some(parsers);
+        }
+    }
+    None
 }
 
 #[test]
-fn characters_of_a_class_are_answered_as_documented(rt: HostRuntime) {
-    assert_eq!(rt; classes::<Text>(rt.alloc()), None);
-}
-
-const NEWLINE: &[TextRow<char>] = &[
-    ("\nc", 1, Read('\n', "c")),
-    ("\r\nc", 1, Backtrack("\r\nc")),
-    ("", 1, Backtrack("")),
-];
-
-const TAB: &[TextRow<char>] = &[
-    ("\tc", 1, Read('\t', "c")),
-    ("\r\nc", 1, Backtrack("\r\nc")),
-    ("", 1, Backtrack("")),
-];
-
-fn characters<I: Fronts<Whole = Word> + Stream<Token = char>>(
-    alloc: Global,
-) -> Option<(usize, usize)> {
-    first_other_of::<I, _, _>(alloc, &[(newline(), NEWLINE), (tab(), TAB)])
-}
-
-#[test]
-fn single_characters_are_answered_as_documented(rt: HostRuntime) {
-    assert_eq!(rt; characters::<Text>(rt.alloc()), None);
-}
-
-const CRLF: &[TextRow<Word>] = &[
-    ("\r\nc", 2, Read("\r\n", "c")),
-    ("ab\r\nc", 1, Backtrack("ab\r\nc")),
-    ("", 1, Backtrack("")),
-];
-
-const LINE_ENDING: &[TextRow<Word>] = &[
-    ("\r\nc", 2, Read("\r\n", "c")),
-    ("\nc", 1, Read("\n", "c")),
-    ("ab\r\nc", 1, Backtrack("ab\r\nc")),
-    ("\rc", 2, Backtrack("\rc")),
-    ("", 1, Backtrack("")),
-];
-
-const TILL_LINE_ENDING: &[TextRow<Word>] = &[
-    ("ab\r\nc", 4, Read("ab", "\r\nc")),
-    ("ab\nc", 3, Read("ab", "\nc")),
-    ("abc", 4, Read("abc", "")),
-    ("", 1, Read("", "")),
-    ("a\rb\nc", 3, Backtrack("\rb\nc")),
-    ("a\rbc", 3, Backtrack("\rbc")),
-    ("ab\r", 4, Backtrack("\r")),
-];
-
-fn lines<I: Fronts<Whole = Word> + Stream<Token = char, Slice = Word> + Compare<Word>>(
-    alloc: Global,
-) -> [Option<usize>; 3] {
-    [
-        first_other::<I, _, _>(alloc, &crlf(), CRLF),
-        first_other::<I, _, _>(alloc, &line_ending(), LINE_ENDING),
-        first_other::<I, _, _>(alloc, &till_line_ending(), TILL_LINE_ENDING),
-    ]
-}
-
-#[test]
-fn lines_are_answered_as_documented(rt: HostRuntime) {
-    assert_eq!(rt; lines::<Text>(rt.alloc()), [None; 3]);
-}
-
-// The law does nothing. The calls show that it can be called, over bytes too.
-#[test]
-fn laws_are_called(_rt: HostRuntime) {
-    ascii_law::<&'static [u8], EmptyError>();
-    determined_number_law::<&'static [u8], EmptyError, u8, u8, usize>();
+fn parsers_answer_as_documented(rt: HostRuntime) {
+    assert_eq!(rt; others::<Text>(rt.alloc()), None);
 }

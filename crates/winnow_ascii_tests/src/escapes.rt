@@ -1,79 +1,61 @@
-//! Text with escapes, on whole texts and on their fronts: the examples of winnow's documentation,
-//! and where a text ends.
+//! Text with escapes: the examples of winnow's documentation, and where a text ends.
 
 use Answer::{Backtrack, Read};
 use std::alloc::Global;
-use winnow_ascii::{alpha0, alpha1, determined_escaped_law, escaped, take_escaped};
+use winnow_ascii::{alpha1, escaped, take_escaped};
 use winnow_combinator::alt;
 use winnow_error::EmptyError;
+use winnow_match::Compare;
 use winnow_parser::Parser;
-use winnow_parser_test_helpers::{Answer, Fronts, TextRow, ask, first_other_of};
-use winnow_token::{AnyToken, Wanted, literal, one_of};
-use winnow_wrap::Partial;
-
-type Text = Partial<&'static str>;
+use winnow_parser_test_helpers::{Answer, Fronts, TextRow, first_other};
+use winnow_stream::Stream;
+use winnow_token::{literal, one_of};
 
 type Word = &'static str;
 
-const LETTERS: &[TextRow<Word>] = &[
-    ("abcd;", 5, Read("abcd", ";")),
-    ("ab\\\"cd;", 7, Read("ab\"cd", ";")),
-    ("\\\"abcd;", 7, Read("\"abcd", ";")),
-    ("\\n;", 3, Read("\n", ";")),
-    ("ab\\\"12", 5, Read("ab\"", "12")),
-    ("ab\\\\cd", 7, Read("ab\\cd", "")),
-    (";", 1, Read("", ";")),
-    ("", 1, Read("", "")),
-    ("AB\\", 4, Backtrack("")),
-    ("AB\\A", 4, Backtrack("A")),
+// What the texts of some rows stand for, and the rows, which tell whether it is read.
+type Spelled = (Word, &'static [TextRow<bool>]);
+
+const LETTERS: &[Spelled] = &[
+    ("abcd", &[("abcd;", 5, Read(true, ";"))]),
+    ("ab\"cd", &[("ab\\\"cd;", 7, Read(true, ";"))]),
+    ("\"abcd", &[("\\\"abcd;", 7, Read(true, ";"))]),
+    ("\n", &[("\\n;", 3, Read(true, ";"))]),
+    ("ab\"", &[("ab\\\"12", 5, Read(true, "12"))]),
+    ("ab\\cd", &[("ab\\\\cd", 7, Read(true, ""))]),
+    (
+        "",
+        &[
+            (";", 1, Read(true, ";")),
+            ("", 1, Read(true, "")),
+            ("AB\\", 4, Backtrack("")),
+            ("AB\\A", 4, Backtrack("A")),
+        ],
+    ),
 ];
 
-// Asks for letters, with escapes of a newline, a quote and a backslash between them.
-fn ask_letters(alloc: Global, input: Text) -> Answer<String, usize> {
-    let escapable = alt((literal("n").value('\n'), one_of(('"', '\\'))));
-    ask(alloc, &escaped(alpha1(), '\\', escapable), input)
-}
-
-// Returns whether an answer is the wanted one, where this number of bytes is still to come.
-fn is_wanted(answer: &Answer<String, usize>, wanted: &Answer<Word, Word>, to_come: usize) -> bool {
-    let (left, rest) = match (answer, wanted) {
-        (Answer::Read(text, left), Answer::Read(word, rest)) if text.as_str() == *word => (
-            left, rest,
-        ),
-        (Answer::Backtrack(left), Answer::Backtrack(rest)) => (left, rest),
-        _ => return false,
-    };
-    left.saturating_add(to_come) == rest.len()
-}
-
-// Returns whether each front and the whole are answered as the row says.
-fn answers(alloc: Global, row: &TextRow<Word>) -> bool {
-    let (whole, waits, wanted) = row;
-    for end in 0..=whole.len() {
-        let answer = ask_letters(alloc, Text::of_front(whole, end));
-        let is_right = match answer {
-            Answer::NeedsMore(_) => end < *waits,
-            answer => end >= *waits && is_wanted(&answer, wanted, whole.len().saturating_sub(end)),
-        };
-        if !is_right {
-            return false;
-        }
-    }
-    is_wanted(&ask_letters(alloc, Text::of_whole(whole)), wanted, 0)
-}
-
-fn first_other_text(alloc: Global, rows: &[TextRow<Word>]) -> Option<usize> {
-    for (index, row) in rows.iter().enumerate() {
-        if !answers(alloc, row) {
+// Asks a parser of text with escapes, and returns the first text that stands for something else.
+fn first_other_text<I: Fronts<Whole = Word>, P: Parser<I, EmptyError, Output = String>>(
+    alloc: Global,
+    parser: &P,
+) -> Option<usize>
+    requires { P.ready parser.now }
+{
+    for (index, (word, rows)) in LETTERS.iter().enumerate() {
+        let is_word = parser.map(|text: String| text.as_str() == *word);
+        if first_other::<I, _, _>(alloc, &is_word, rows).is_some() {
             return Some(index);
         }
     }
     None
 }
 
-#[test]
-fn escapes_are_replaced_by_what_they_stand_for(rt: HostRuntime) {
-    assert_eq!(rt; first_other_text(rt.alloc(), LETTERS), None);
+/// Asks for letters, with escapes of a newline, a quote and a backslash between them.
+pub fn first_other_letters<
+    I: Fronts<Whole = Word> + Stream<Token = char, Slice = Word> + Compare<char> + Compare<Word>,
+>(alloc: Global) -> Option<usize> {
+    let escapable = alt((literal("n").value('\n'), one_of(('"', '\\'))));
+    first_other_text::<I, _>(alloc, &escaped(alpha1(), '\\', escapable))
 }
 
 const TAKEN: &[TextRow<Word>] = &[
@@ -89,45 +71,19 @@ const TAKEN_BY_ANY: &[TextRow<Word>] = &[
     ("a\\n", 2, Read("a", "\\n")),
 ];
 
-fn first_other_slice(alloc: Global) -> Option<(usize, usize)> {
-    let escapable = one_of(('"', 'n'));
-    let tables = [
-        (take_escaped(alpha1(), '\\', escapable), TAKEN),
-        (take_escaped(alpha0(), '\\', escapable), TAKEN_BY_ANY),
-    ];
-    first_other_of::<Text, _, _>(alloc, &tables)
-}
-
-#[test]
-fn text_with_escapes_is_taken_as_it_stands(rt: HostRuntime) {
-    assert_eq!(rt; first_other_slice(rt.alloc()), None);
-}
-
-fn ask_bytes(alloc: Global, input: Partial<&'static [u8]>) -> Answer<Vec<u8>, usize> {
-    ask(alloc, &escaped(alpha1(), '%', one_of((b'%', b'&'))), input)
-}
-
-#[test]
-fn bytes_are_gathered_in_a_vector(rt: HostRuntime) {
-    let Answer::Read(bytes, left) = ask_bytes(rt.alloc(), Partial::new(b"a%&b;".as_slice())) else {
-        panic!(rt; "nothing was read");
-    };
-    assert_eq!(rt; (bytes.as_slice(), left), (b"a&b".as_slice(), 1));
-}
-
-// The law does nothing. The call shows that it can be called.
-#[test]
-fn the_law_is_called(_rt: HostRuntime) {
-    determined_escaped_law::<
-        Word,
-        EmptyError,
-        AnyToken,
-        Wanted<char>,
-        AnyToken,
-        String,
-        usize,
-        usize,
-        usize,
-        usize,
-    >();
+/// Asks for text with escapes as it stands.
+pub fn slices<
+    I: Fronts<Whole = Word> + Stream<Slice = Word> + Compare<char>,
+    L: Parser<I, EmptyError, Output = Word> + Copy,
+    C: Parser<I, EmptyError, Output = char> + Copy,
+>(alloc: Global, letters: L, some_letters: L, escapable: C) -> [Option<usize>; 2]
+    requires letters { (parser : L) → L.ready parser }
+    requires escapable { C.ready escapable }
+{
+    let taken = take_escaped(some_letters, '\\', escapable);
+    let taken_by_any = take_escaped(letters, '\\', escapable);
+    [
+        first_other::<I, _, _>(alloc, &taken, TAKEN),
+        first_other::<I, _, _>(alloc, &taken_by_any, TAKEN_BY_ANY),
+    ]
 }

@@ -8,3 +8,5 @@ mod documented;
 mod escapes;
 #[cfg(test)]
 mod numbers;
+#[cfg(test)]
+mod runs;

@@ -1,13 +1,11 @@
-//! Numbers, on whole texts and on their fronts.
+//! Numbers.
 
 use Answer::{Backtrack, Read};
 use std::alloc::Global;
-use winnow_ascii::{dec_int, dec_uint, hex_uint};
+use winnow_ascii::{HexUint, dec_int, dec_uint, hex_uint};
+use winnow_count::Readable;
 use winnow_parser_test_helpers::{Answer, Fronts, TextRow, first_other};
 use winnow_stream::Stream;
-use winnow_wrap::Partial;
-
-type Text = Partial<&'static str>;
 
 type Word = &'static str;
 
@@ -33,18 +31,11 @@ const DEC_U64: &[TextRow<u64>] = &[
     ),
 ];
 
-fn decimals<I: Fronts<Whole = Word> + Stream<Token = char, Slice = Word>>(
-    alloc: Global,
-) -> [Option<usize>; 2] {
-    [
-        first_other::<I, _, _>(alloc, &dec_uint(), DEC_U8),
-        first_other::<I, _, _>(alloc, &dec_uint(), DEC_U64),
-    ]
-}
-
-#[test]
-fn decimal_numbers_are_answered(rt: HostRuntime) {
-    assert_eq!(rt; decimals::<Text>(rt.alloc()), [None; 2]);
+fn unsigned<
+    I: Fronts<Whole = Word> + Stream<Token = char, Slice = Word>,
+    R: Readable + PartialEq + Drop,
+>(alloc: Global, rows: &[TextRow<R>]) -> Option<usize> {
+    first_other::<I, R, _>(alloc, &dec_uint(), rows)
 }
 
 const DEC_I8: &[TextRow<i8>] = &[
@@ -68,18 +59,11 @@ const DEC_I64: &[TextRow<i64>] = &[
     ("9223372036854775808", 20, Backtrack("9223372036854775808")),
 ];
 
-fn signed_decimals<I: Fronts<Whole = Word> + Stream<Token = char, Slice = Word>>(
-    alloc: Global,
-) -> [Option<usize>; 2] {
-    [
-        first_other::<I, _, _>(alloc, &dec_int(), DEC_I8),
-        first_other::<I, _, _>(alloc, &dec_int(), DEC_I64),
-    ]
-}
-
-#[test]
-fn decimal_numbers_with_a_sign_are_answered(rt: HostRuntime) {
-    assert_eq!(rt; signed_decimals::<Text>(rt.alloc()), [None; 2]);
+fn signed<
+    I: Fronts<Whole = Word> + Stream<Token = char, Slice = Word>,
+    R: Readable + PartialEq + Drop,
+>(alloc: Global, rows: &[TextRow<R>]) -> Option<usize> {
+    first_other::<I, R, _>(alloc, &dec_int(), rows)
 }
 
 const HEX_U8: &[TextRow<u8>] = &[("fF", 3, Read(255, "")), ("000", 3, Backtrack("000"))];
@@ -111,19 +95,26 @@ const HEX_USIZE: &[TextRow<usize>] = &[
     ("10000000000000000", 17, Backtrack("10000000000000000")),
 ];
 
-fn hexadecimals<I: Fronts<Whole = Word> + Stream<Token = char, Slice = Word>>(
-    alloc: Global,
-) -> [Option<usize>; 5] {
-    [
-        first_other::<I, _, _>(alloc, &hex_uint(), HEX_U8),
-        first_other::<I, _, _>(alloc, &hex_uint(), HEX_U16),
-        first_other::<I, _, _>(alloc, &hex_uint(), HEX_U32),
-        first_other::<I, _, _>(alloc, &hex_uint(), HEX_U64),
-        first_other::<I, _, _>(alloc, &hex_uint(), HEX_USIZE),
-    ]
+fn hexadecimal<
+    I: Fronts<Whole = Word> + Stream<Token = char, Slice = Word>,
+    R: HexUint + PartialEq + Drop,
+>(alloc: Global, rows: &[TextRow<R>]) -> Option<usize> {
+    first_other::<I, R, _>(alloc, &hex_uint(), rows)
 }
 
-#[test]
-fn hexadecimal_numbers_are_answered(rt: HostRuntime) {
-    assert_eq!(rt; hexadecimals::<Text>(rt.alloc()), [None; 5]);
+/// Asks for numbers of each type, and returns the first row of each that is answered otherwise.
+pub fn numbers<I: Fronts<Whole = Word> + Stream<Token = char, Slice = Word>>(
+    alloc: Global,
+) -> [Option<usize>; 9] {
+    [
+        unsigned::<I, u8>(alloc, DEC_U8),
+        unsigned::<I, u64>(alloc, DEC_U64),
+        signed::<I, i8>(alloc, DEC_I8),
+        signed::<I, i64>(alloc, DEC_I64),
+        hexadecimal::<I, u8>(alloc, HEX_U8),
+        hexadecimal::<I, u16>(alloc, HEX_U16),
+        hexadecimal::<I, u32>(alloc, HEX_U32),
+        hexadecimal::<I, u64>(alloc, HEX_U64),
+        hexadecimal::<I, usize>(alloc, HEX_USIZE),
+    ]
 }

@@ -1,21 +1,10 @@
 //! Bytes in pieces.
 
-use crate::piece_answers::{tell_finished, weigh_answers};
+use crate::feeds::{tell_cuts, weigh_chunks};
 use crate::scripts::{ranges_of, steps_in};
 use std::alloc::{AllocError, Global};
 use winnow_bench_common::{RawStep, Row};
 use winnow_feed::ByteFeed;
-
-// No input is this long, so each place fits.
-const MOST: usize = 1 << 60;
-
-/// Feeds a piece, and returns the number of answers that came out.
-pub fn feed_piece(feed: &mut ByteFeed<'_>, piece: &[u8]) -> Result<usize, AllocError> {
-    if feed.fed() > MOST || piece.len() > MOST {
-        return Ok(0);
-    }
-    feed.feed(piece)
-}
 
 /// Pieces of that length.
 #[unsafe(no_mangle)]
@@ -38,20 +27,7 @@ fn weigh_pieces(
 ) -> Result<u64, AllocError> {
     let ranges = ranges_of(alloc, script)?;
     let steps = steps_in(alloc, script, &ranges, literals)?;
-    weigh_fed(ByteFeed::new(alloc, &steps)?, input, length)
-}
-
-fn weigh_fed(feed: ByteFeed<'_>, input: &[u8], length: usize) -> Result<u64, AllocError> {
-    let mut feed = feed;
-    feed_all(&mut feed, input, length)?;
-    Ok(weigh_answers(feed.end().answers()))
-}
-
-fn feed_all(feed: &mut ByteFeed<'_>, input: &[u8], length: usize) -> Result<(), AllocError> {
-    for piece in input.chunks(length.max(1)) {
-        feed_piece(feed, piece)?;
-    }
-    Ok(())
+    weigh_chunks(ByteFeed::new(alloc, &steps)?, input, length)
 }
 
 /// Pieces that end at the cuts. The row has, for each piece, the number of answers that came out
@@ -82,34 +58,5 @@ fn tell_pieces(
 ) -> Result<(), AllocError> {
     let ranges = ranges_of(alloc, script)?;
     let steps = steps_in(alloc, script, &ranges, literals)?;
-    tell_fed(row, ByteFeed::new(alloc, &steps)?, input, cuts)
-}
-
-fn tell_fed(
-    row: &mut Row,
-    feed: ByteFeed<'_>,
-    input: &[u8],
-    cuts: &[u64],
-) -> Result<(), AllocError> {
-    let mut feed = feed;
-    tell_cuts(row, &mut feed, input, cuts)?;
-    tell_finished(row, &feed.end());
-    Ok(())
-}
-
-fn tell_cuts(
-    row: &mut Row,
-    feed: &mut ByteFeed<'_>,
-    input: &[u8],
-    cuts: &[u64],
-) -> Result<(), AllocError> {
-    let mut start = 0;
-    for cut in cuts {
-        if let Some(piece) = input.get(start..*cut as usize) {
-            let came = feed_piece(feed, piece)?;
-            row.add(&[came as u64, feed.held() as u64]);
-            start = *cut as usize;
-        }
-    }
-    Ok(())
+    tell_cuts(row, ByteFeed::new(alloc, &steps)?, input, cuts)
 }

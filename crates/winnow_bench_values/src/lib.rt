@@ -8,6 +8,7 @@ mod byte_pieces;
 mod counts;
 mod errors;
 mod failing;
+mod feeds;
 mod gathered;
 mod lines;
 mod parse_errors;

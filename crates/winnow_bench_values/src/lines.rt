@@ -1,6 +1,6 @@
 //! A long input, made piece by piece, which goes through one feed after the other.
 
-use crate::byte_pieces::feed_piece;
+use crate::feeds::Feed;
 use crate::piece_answers::weigh_answers;
 use crate::scripts::{PieceStep, ranges_of, steps_in};
 use std::alloc::{AllocError, Global};
@@ -30,13 +30,36 @@ fn weigh_lines(
 ) -> Result<u64, AllocError> {
     let ranges = ranges_of(alloc, script)?;
     let steps = steps_in(alloc, script, &ranges, literals)?;
-    let mut feed = ByteFeed::new(alloc, &steps)?;
+    let feed = ByteFeed::new(alloc, &steps)?;
+    weigh_fed(alloc, feed, &steps, made, (length, pieces))
+}
+
+fn weigh_fed<'k>(
+    alloc: Global,
+    feed: ByteFeed<'k>,
+    steps: &'k [PieceStep<'k, &'k [u8]>],
+    made: &[u8],
+    size: (usize, u64),
+) -> Result<u64, AllocError> {
+    let mut feed = feed;
+    let sum = feed_lines(alloc, &mut feed, steps, made, size)?;
+    Ok(mix(sum, weigh_answers(feed.end().answers())))
+}
+
+// Returns the sum of the answers of the feeds that end before the last.
+fn feed_lines<'k>(
+    alloc: Global,
+    feed: &mut ByteFeed<'k>,
+    steps: &'k [PieceStep<'k, &'k [u8]>],
+    made: &[u8],
+    (length, pieces): (usize, u64),
+) -> Result<u64, AllocError> {
     let mut sum = 0;
     for number in 0..pieces {
         let piece = piece_of(made, length, number);
-        sum = mix(sum, feed_on(alloc, &mut feed, &steps, piece)?);
+        sum = mix(sum, feed_on(alloc, feed, steps, piece)?);
     }
-    Ok(mix(sum, weigh_answers(feed.end().answers())))
+    Ok(sum)
 }
 
 // Returns the piece with this number, or an empty one where `made` is too short.
@@ -63,7 +86,7 @@ fn feed_on<'k>(
     let mut sum = 0;
     // Each script takes at least one byte, or is the last.
     for _ in 0..piece.len() {
-        feed_piece(feed, rest)?;
+        feed.take(rest)?;
         if feed.answers().len() < steps.len() {
             break;
         }

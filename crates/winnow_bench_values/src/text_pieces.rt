@@ -1,22 +1,11 @@
 //! Text in pieces.
 ghost use Rattle.std.specs.Str.{IsUtf8};
 
-use crate::piece_answers::{tell_finished, weigh_answers};
+use crate::feeds::{tell_cuts, weigh_cuts};
 use crate::scripts::{ranges_of, steps_in};
 use std::alloc::{AllocError, Global};
 use winnow_bench_common::{RawStep, Row, text};
 use winnow_feed::TextFeed;
-
-// No input is this long, so each place fits.
-const MOST: usize = 1 << 60;
-
-// Feeds a piece, and returns the number of answers that came out.
-fn feed_piece(feed: &mut TextFeed<'_>, piece: &str) -> Result<usize, AllocError> {
-    if feed.fed() > MOST || piece.len() > MOST {
-        return Ok(0);
-    }
-    feed.feed(piece)
-}
 
 /// Pieces that end at the cuts.
 #[unsafe(no_mangle)]
@@ -42,24 +31,7 @@ fn weigh_pieces(
 ) -> Result<u64, AllocError> {
     let ranges = ranges_of(alloc, script)?;
     let steps = steps_in(alloc, script, &ranges, literals)?;
-    weigh_fed(TextFeed::new(alloc, &steps)?, input, cuts)
-}
-
-fn weigh_fed(feed: TextFeed<'_>, input: &str, cuts: &[u64]) -> Result<u64, AllocError> {
-    let mut feed = feed;
-    feed_all(&mut feed, input, cuts)?;
-    Ok(weigh_answers(feed.end().answers()))
-}
-
-fn feed_all(feed: &mut TextFeed<'_>, input: &str, cuts: &[u64]) -> Result<(), AllocError> {
-    let mut start = 0;
-    for cut in cuts {
-        if let Some(piece) = input.get(start..*cut as usize) {
-            feed_piece(feed, piece)?;
-            start = *cut as usize;
-        }
-    }
-    Ok(())
+    weigh_cuts(TextFeed::new(alloc, &steps)?, input, cuts)
 }
 
 /// Pieces that end at the cuts. The row has, for each piece, the number of answers that came out
@@ -93,34 +65,5 @@ fn tell_pieces(
 ) -> Result<(), AllocError> {
     let ranges = ranges_of(alloc, script)?;
     let steps = steps_in(alloc, script, &ranges, literals)?;
-    tell_fed(row, TextFeed::new(alloc, &steps)?, input, cuts)
-}
-
-fn tell_fed(
-    row: &mut Row,
-    feed: TextFeed<'_>,
-    input: &str,
-    cuts: &[u64],
-) -> Result<(), AllocError> {
-    let mut feed = feed;
-    tell_cuts(row, &mut feed, input, cuts)?;
-    tell_finished(row, &feed.end());
-    Ok(())
-}
-
-fn tell_cuts(
-    row: &mut Row,
-    feed: &mut TextFeed<'_>,
-    input: &str,
-    cuts: &[u64],
-) -> Result<(), AllocError> {
-    let mut start = 0;
-    for cut in cuts {
-        if let Some(piece) = input.get(start..*cut as usize) {
-            let came = feed_piece(feed, piece)?;
-            row.add(&[came as u64, feed.held() as u64]);
-            start = *cut as usize;
-        }
-    }
-    Ok(())
+    tell_cuts(row, TextFeed::new(alloc, &steps)?, input, cuts)
 }

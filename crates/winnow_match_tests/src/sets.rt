@@ -33,10 +33,10 @@ fn script_holds<T, S: ScriptSet<T> + Drop>(set: S, token: T) -> bool
     set.holds(token)
 }
 
-// Returns the classes of a token: letter, letter or digit, decimal, hexadecimal and octal digit,
-// blank, line feed.
-fn classes<T: AsChar + Copy>(token: T) -> [bool; 7] {
-    [
+// Returns the character and the width of a token, and its classes: letter, letter or digit,
+// decimal, hexadecimal and octal digit, blank, line feed.
+fn told<T: AsChar + Copy>(token: T) -> (char, usize, [bool; 7]) {
+    let classes = [
         token.is_alpha(),
         token.is_alphanum(),
         token.is_dec_digit(),
@@ -44,30 +44,8 @@ fn classes<T: AsChar + Copy>(token: T) -> [bool; 7] {
         token.is_oct_digit(),
         token.is_space(),
         token.is_newline(),
-    ]
-}
-
-fn width<T: AsChar>(token: T) -> usize {
-    token.len()
-}
-
-fn character<T: AsChar>(token: T) -> char {
-    token.as_char()
-}
-
-#[test]
-fn tokens_give_their_characters(rt: HostRuntime) {
-    let characters = [
-        character(0xe9u8),
-        character(&0xe9u8),
-        character('é'),
-        character(&'é'),
     ];
-    assert_eq!(rt; characters, ['é'; 4]);
-    assert_eq!(rt;
-        [width(0xe9u8), width(&0xe9u8), width('é'), width(&'🦀')],
-        [1, 1, 2, 4]
-    );
+    (token.as_char(), token.len(), classes)
 }
 
 const CLASSES: &[(u8, [bool; 7])] = &[
@@ -86,58 +64,21 @@ const CLASSES: &[(u8, [bool; 7])] = &[
 fn classes_are_of_ascii(rt: HostRuntime) {
     for (byte, want) in CLASSES {
         let character = char::from(*byte);
-        let answers = [classes(*byte), classes(character)];
-        assert_eq!(rt; answers, [*want; 2], "of {byte}");
+        let width = character.len_utf8();
+        let answers = [told(*byte), told(byte), told(character), told(&character)];
+        assert_eq!(rt;
+            answers,
+            [
+                (character, 1, *want),
+                (character, 1, *want),
+                (character, width, *want),
+                (character, width, *want)
+            ],
+            "of {byte}"
+        );
     }
-    assert_eq!(rt; classes('٣'), [false; 7], "a digit outside ASCII");
-}
-
-#[test]
-fn single_tokens(rt: HostRuntime) {
-    let answers = [
-        holds(0xe9u8, 0xe9u8),
-        holds(0xe9u8, &0xe9u8),
-        holds(0xe9u8, 'é'),
-        holds(0xe9u8, &'é'),
-        holds('é', 0xe9u8),
-        holds('é', 0xc3u8),
-        holds(0xe9u8, 'e'),
-        holds((), 'a'),
-    ];
-    assert_eq!(rt;
-        answers,
-        [true, true, true, true, true, false, false, false]
-    );
-}
-
-// The first ranges have the ends `a` and `c`, and the last ones are reversed or empty.
-#[test]
-fn ranges_compare_characters(rt: HostRuntime) {
-    let chars = ['`', 'a', 'b', 'c', 'd'];
-    assert_eq!(rt;
-        [
-            held(&('a'..'c'), chars),
-            held(&('a'..='c'), chars),
-            held(&('a'..), chars),
-            held(&(..'c'), chars),
-            held(&(..='c'), chars),
-            held(&(..), chars),
-            held(&('c'..'a'), chars),
-            held(&('c'..='a'), chars),
-            held(&('b'..'b'), chars)
-        ],
-        [
-            [false, true, true, false, false],
-            [false, true, true, true, false],
-            [false, true, true, true, true],
-            [true, true, true, false, false],
-            [true, true, true, true, false],
-            [true; 5],
-            [false; 5],
-            [false; 5],
-            [false; 5]
-        ]
-    );
+    assert_eq!(rt; told('٣').2, [false; 7], "a digit outside ASCII");
+    assert_eq!(rt; (told('é').1, told(&'🦀').1), (2, 4), "widths in UTF-8");
 }
 
 // The last range keeps its bounds though it was iterated over.
@@ -153,24 +94,6 @@ fn ranges_past_ascii(rt: HostRuntime) {
     assert_eq!(rt;
         (items, answers),
         ([Some(b'a'), Some(b'b'), None], [true; 3])
-    );
-}
-
-#[test]
-fn slices_and_arrays_hold_their_members(rt: HostRuntime) {
-    let bytes: &[u8] = b"\xe9a";
-    let chars: &[char] = &['é', 'a'];
-    let asked = ['é', 'a', 'b', 'Ā', 'è'];
-    assert_eq!(rt;
-        [
-            held(&bytes, asked),
-            held(&chars, asked),
-            held(&[0xe9u8, b'a'], asked),
-            held(&['é', 'a'], asked),
-            held(&&[0xe9u8, b'a'], asked),
-            held(&&['é', 'a'], asked)
-        ],
-        [[true, true, false, false, false]; 6]
     );
 }
 

@@ -1,26 +1,13 @@
-//! The examples of winnow's documentation for parsers that choose, look ahead, or pass a value on,
-//! on whole texts and on their fronts.
+//! Parsers that choose, look ahead, or pass a value on.
 
 use Answer::{Backtrack, Cut, Read};
 use std::alloc::Global;
-use std::ops::RangeInclusive;
-use winnow_combinator::{alt, backtrack_err, cond, cut_err, eof, not, opt, peek};
-use winnow_match::Compare;
+use winnow_combinator::{alt, backtrack_err, cond, cut_err, not, opt, peek};
+use winnow_error::EmptyError;
 use winnow_parser::Parser;
-use winnow_parser_test_helpers::{Answer, Fronts, TextRow, first_other, first_other_of};
-use winnow_stream::Stream;
-use winnow_token::{HeldTokens, literal, one_of, take_while};
-use winnow_wrap::Partial;
-
-type Text = Partial<&'static str>;
+use winnow_parser_test_helpers::{Answer, Fronts, TextRow, first_other};
 
 type Word = &'static str;
-
-type Letters = (RangeInclusive<char>, RangeInclusive<char>);
-
-fn letters() -> HeldTokens<Letters> {
-    take_while(1.., ('a'..='z', 'A'..='Z'))
-}
 
 const LETTERS_OR_DIGITS: &[TextRow<Word>] = &[
     ("abc", 4, Read("abc", "")),
@@ -32,31 +19,27 @@ const OF_THREE: &[TextRow<Word>] = &[("abc", 2, Read("ab", "c"))];
 
 const VOWEL: &[TextRow<char>] = &[("ox", 1, Read('o', "x")), ("x", 1, Backtrack("x"))];
 
-fn alternatives<I: Fronts<Whole = Word> + Stream<Token = char, Slice = Word> + Compare<Word>>(
+/// Asks for letters or digits, for one of three words, and for one of five vowels.
+pub fn alternatives<
+    I: Fronts<Whole = Word>,
+    L: Parser<I, EmptyError, Output = Word> + Copy,
+    W: Parser<I, EmptyError, Output = Word> + Copy,
+    C: Parser<I, EmptyError, Output = char> + Copy,
+>(
     alloc: Global,
-) -> [Option<usize>; 3] {
-    let vowel = (
-        one_of('a'),
-        one_of('e'),
-        one_of('i'),
-        one_of('o'),
-        one_of('u'),
-    );
-    let of_three = (literal("b"), literal("ab"), literal("a"));
+    letters_or_digits: (L, L),
+    words: (W, W, W),
+    vowels: (C, C, C, C, C),
+) -> [Option<usize>; 3]
+    requires letters { (parser : L) → L.ready parser }
+    requires words { (parser : W) → W.ready parser }
+    requires vowels { (parser : C) → C.ready parser }
+{
     [
-        first_other::<I, _, _>(
-            alloc,
-            &alt((letters(), take_while(1.., '0'..='9'))),
-            LETTERS_OR_DIGITS,
-        ),
-        first_other::<I, _, _>(alloc, &alt(of_three), OF_THREE),
-        first_other::<I, _, _>(alloc, &alt(vowel), VOWEL),
+        first_other::<I, _, _>(alloc, &alt(letters_or_digits), LETTERS_OR_DIGITS),
+        first_other::<I, _, _>(alloc, &alt(words), OF_THREE),
+        first_other::<I, _, _>(alloc, &alt(vowels), VOWEL),
     ]
-}
-
-#[test]
-fn alternatives_are_answered_as_documented(rt: HostRuntime) {
-    assert_eq!(rt; alternatives::<Text>(rt.alloc()), [None; 3]);
 }
 
 const OPTIONAL: &[TextRow<Option<Word>>] = &[
@@ -71,8 +54,6 @@ const PEEKED: &[TextRow<Word>] = &[
 
 const NO_LETTERS: &[TextRow<()>] = &[("123", 1, Read((), "123")), ("abcd", 5, Backtrack("abcd"))];
 
-const END: &[TextRow<()>] = &[("abc", 1, Backtrack("abc")), ("", 1, Read((), ""))];
-
 const ASKED: &[TextRow<Option<Word>>] = &[
     ("abcd;", 5, Read(Some("abcd"), ";")),
     ("123;", 1, Backtrack("123;")),
@@ -80,48 +61,48 @@ const ASKED: &[TextRow<Option<Word>>] = &[
 
 const NOT_ASKED: &[TextRow<Option<Word>>] = &[("abcd;", 0, Read(None, "abcd;"))];
 
-fn looks_ahead<I: Fronts<Whole = Word> + Stream<Token = char, Slice = Word>>(
+/// Asks for letters that are not needed, not taken, or not wanted.
+pub fn looks_ahead<I: Fronts<Whole = Word>, L: Parser<I, EmptyError, Output = Word> + Copy>(
     alloc: Global,
-) -> [Option<usize>; 4] {
+    letters: L,
+) -> [Option<usize>; 3]
+    requires { (parser : L) → L.ready parser }
+{
     [
-        first_other::<I, _, _>(alloc, &opt(letters()), OPTIONAL),
-        first_other::<I, _, _>(alloc, &peek(letters()), PEEKED),
-        first_other::<I, _, _>(alloc, &not(letters()), NO_LETTERS),
-        first_other::<I, _, _>(alloc, &eof(), END),
+        first_other::<I, _, _>(alloc, &opt(letters), OPTIONAL),
+        first_other::<I, _, _>(alloc, &peek(letters), PEEKED),
+        first_other::<I, _, _>(alloc, &not(letters), NO_LETTERS),
     ]
 }
 
-fn conditions<I: Fronts<Whole = Word> + Stream<Token = char, Slice = Word>>(
+/// Asks for letters on a condition.
+pub fn conditions<I: Fronts<Whole = Word>, L: Parser<I, EmptyError, Output = Word> + Copy>(
     alloc: Global,
-) -> Option<(usize, usize)> {
-    let tables = [
-        (cond(true, letters()), ASKED),
-        (cond(false, letters()), NOT_ASKED),
-    ];
-    first_other_of::<I, _, _>(alloc, &tables)
-}
-
-#[test]
-fn choices_are_answered_as_documented(rt: HostRuntime) {
-    assert_eq!(rt; looks_ahead::<Text>(rt.alloc()), [None; 4]);
-    assert_eq!(rt; conditions::<Text>(rt.alloc()), None);
+    letters: L,
+) -> [Option<usize>; 2]
+    requires { (parser : L) → L.ready parser }
+{
+    [
+        first_other::<I, _, _>(alloc, &cond(true, letters), ASKED),
+        first_other::<I, _, _>(alloc, &cond(false, letters), NOT_ASKED),
+    ]
 }
 
 const CUT: &[TextRow<char>] = &[("abc", 1, Cut("abc"))];
 
 const SOFTENED: &[TextRow<char>] = &[("abc", 1, Backtrack("abc"))];
 
-fn modes<I: Fronts<Whole = Word> + Stream<Token = char>>(alloc: Global) -> [Option<usize>; 2] {
-    let cut = cut_err(one_of('x'));
+/// Asks for a letter whose failures are cut, and then softened.
+pub fn modes<I: Fronts<Whole = Word>, C: Parser<I, EmptyError, Output = char> + Copy>(
+    alloc: Global,
+    x: C,
+) -> [Option<usize>; 2]
+    requires { C.ready x }
+{
     [
-        first_other::<I, _, _>(alloc, &cut, CUT),
-        first_other::<I, _, _>(alloc, &backtrack_err(cut), SOFTENED),
+        first_other::<I, _, _>(alloc, &cut_err(x), CUT),
+        first_other::<I, _, _>(alloc, &backtrack_err(cut_err(x)), SOFTENED),
     ]
-}
-
-#[test]
-fn failures_are_cut_and_softened(rt: HostRuntime) {
-    assert_eq!(rt; modes::<Text>(rt.alloc()), [None; 2]);
 }
 
 const OF_FOUR: &[TextRow<Word>] = &[
@@ -136,18 +117,18 @@ const BYTE: &[TextRow<u8>] = &[
     ("123456", 7, Backtrack("123456")),
 ];
 
-fn made_values<I: Fronts<Whole = Word> + Stream<Token = char, Slice = Word>>(
+/// Asks for four letters, and for digits that write a byte.
+pub fn made_values<I: Fronts<Whole = Word>, L: Parser<I, EmptyError, Output = Word> + Copy>(
     alloc: Global,
-) -> [Option<usize>; 2] {
-    let of_four = letters().verify(|word: &&str| word.len() == 4);
-    let byte = take_while(1.., '0'..='9').verify_map(|digits: &str| digits.parse().ok());
+    letters: L,
+    digits: L,
+) -> [Option<usize>; 2]
+    requires { (parser : L) → L.ready parser }
+{
+    let of_four = letters.verify(|word: &Word| word.len() == 4);
+    let byte = digits.verify_map(|digits: Word| digits.parse().ok());
     [
         first_other::<I, _, _>(alloc, &of_four, OF_FOUR),
         first_other::<I, _, _>(alloc, &byte, BYTE),
     ]
-}
-
-#[test]
-fn made_values_are_answered_as_documented(rt: HostRuntime) {
-    assert_eq!(rt; made_values::<Text>(rt.alloc()), [None; 2]);
 }

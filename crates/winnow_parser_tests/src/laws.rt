@@ -1,57 +1,31 @@
-use winnow_combinator::{Accumulated, Ended, determined_choice_law, determined_repeat_law};
-use winnow_error::EmptyError;
+use winnow_combinator::{Gather, determined_choice_law, determined_repeat_law};
+use winnow_error::ParserError;
 use winnow_parser::{
     Parser, determined_function_law, determined_law, determined_pair_law, determined_slice_law,
     parser_law, taken_width_law,
 };
-use winnow_token::{AnyToken, any, count_law, determined_token_law, hits_stay_law, prompt_law};
+use winnow_stream::StreamIsPartial;
+use winnow_token::{count_law, determined_token_law, hits_stay_law, prompt_law};
 
-type Input = &'static [u8];
-
-// Laws do nothing. The calls show that each can be called.
-#[test]
-fn laws_of_tokens(_rt: HostRuntime) {
-    taken_width_law::<u8>();
-    count_law::<u8>();
+/// Calls the laws, which do nothing: so each can be called.
+pub fn call_laws<
+    I: StreamIsPartial,
+    E: ParserError<I>,
+    P: Parser<I, E>,
+    G: Gather<P::Output>,
+    F: Fn(P::Output) -> P::Output,
+    T: Fn(&P::Output) -> bool,
+>(parser: &P) {
+    taken_width_law::<I::Token>();
+    count_law::<I::Token>();
     hits_stay_law();
-    prompt_law::<Input>();
-    determined_token_law::<Input, u8>();
-}
-
-#[test]
-fn laws_of_parts(_rt: HostRuntime) {
-    parser_law::<Input, EmptyError, _>(&any().map(|byte: u8| byte));
-    determined_law::<Input, EmptyError, AnyToken, u8>();
-    determined_slice_law::<Input, EmptyError, AnyToken, u8, u8>();
-    determined_pair_law::<Input, EmptyError, AnyToken, Ended, AnyToken, u8, u8>();
-    determined_function_law::<
-        Input,
-        EmptyError,
-        AnyToken,
-        u8,
-        fn(u8) -> u8,
-        fn(&u8) -> bool,
-        u8,
-        u8,
-    >();
-}
-
-#[test]
-fn laws_of_lists_and_choices(_rt: HostRuntime) {
-    determined_repeat_law::<Input, EmptyError, AnyToken, Ended, Accumulated<usize>, u8, u8, u8>();
-    determined_choice_law::<
-        Input,
-        EmptyError,
-        AnyToken,
-        AnyToken,
-        AnyToken,
-        AnyToken,
-        AnyToken,
-        AnyToken,
-        AnyToken,
-        AnyToken,
-        AnyToken,
-        AnyToken,
-        u8,
-    >();
+    prompt_law::<I>();
+    determined_token_law::<I, usize>();
+    parser_law::<I, E, _>(parser);
+    determined_law::<I, E, P, usize>();
+    determined_slice_law::<I, E, P, usize, usize>();
+    determined_pair_law::<I, E, P, P, P, usize, usize>();
+    determined_function_law::<I, E, P, P::Output, F, T, usize, usize>();
+    determined_repeat_law::<I, E, P, P, G, usize, usize, usize>();
+    determined_choice_law::<I, E, P, P, P, P, P, P, P, P, P, P, usize>();
 }

@@ -1,14 +1,14 @@
-//! Parsers as their users write them, at concrete types: over bytes and text, whole and in pieces.
-//! Nothing here is part of the library.
+//! Parsers as their users write them: the examples of winnow's documentation, on whole texts and on
+//! their fronts. Nothing here is part of the library.
 //!
-//! A parser is asked in a function that is generic over the stream, and a test calls that at a
-//! concrete one: so it is proved in a part of the time.
+//! A parser is asked in a function that is generic over the stream and over the parser's parts, and
+//! one test calls all of them at a concrete stream: so each is proved in a part of the time.
 #![tactic(auto)]
 
 #[cfg(test)]
 mod choices;
 #[cfg(test)]
-mod errors;
+mod documented;
 #[cfg(test)]
 mod laws;
 #[cfg(test)]
@@ -17,8 +17,6 @@ mod lists;
 mod methods;
 #[cfg(test)]
 mod sequences;
-#[cfg(test)]
-mod settings;
 #[cfg(test)]
 mod till;
 #[cfg(test)]

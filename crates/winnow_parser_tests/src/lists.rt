@@ -1,15 +1,11 @@
-//! The examples of winnow's documentation for lists of values, on whole texts and on their fronts.
+//! Lists of values.
 
 use Answer::{Backtrack, Cut, Read};
 use std::alloc::Global;
 use winnow_combinator::{opt, repeat, separated, separated_foldl1};
-use winnow_match::Compare;
-use winnow_parser_test_helpers::{Answer, Fronts, TextRow, first_other, first_other_of};
-use winnow_stream::Stream;
-use winnow_token::{literal, one_of};
-use winnow_wrap::Partial;
-
-type Text = Partial<&'static str>;
+use winnow_error::EmptyError;
+use winnow_parser::Parser;
+use winnow_parser_test_helpers::{Answer, Fronts, TextRow, first_other};
 
 type Word = &'static str;
 
@@ -37,25 +33,19 @@ const UP_TO_TWO: &[TextRow<usize>] = &[
     ("123123", 1, Read(0, "123123")),
 ];
 
-fn repetitions<I: Fronts<Whole = Word> + Stream<Token = char> + Compare<Word>>(
+/// Asks for a word again and again.
+pub fn repetitions<I: Fronts<Whole = Word>, W: Parser<I, EmptyError, Output = Word> + Copy>(
     alloc: Global,
-) -> Option<(usize, usize)>
-where
-    I::Slice: Drop,
+    item: W,
+) -> [Option<usize>; 4]
+    requires { (parser : W) → W.ready parser }
 {
-    let item = literal("abc");
-    let tables = [
-        (repeat(0.., item), REPEATED),
-        (repeat(1.., item), SOME_REPEATED),
-        (repeat(2, item), REPEATED_TWICE),
-        (repeat(0..=2, item), UP_TO_TWO),
-    ];
-    first_other_of::<I, _, _>(alloc, &tables)
-}
-
-#[test]
-fn repetitions_are_answered_as_documented(rt: HostRuntime) {
-    assert_eq!(rt; repetitions::<Text>(rt.alloc()), None);
+    [
+        first_other::<I, _, _>(alloc, &repeat(0.., item), REPEATED),
+        first_other::<I, _, _>(alloc, &repeat(1.., item), SOME_REPEATED),
+        first_other::<I, _, _>(alloc, &repeat(2, item), REPEATED_TWICE),
+        first_other::<I, _, _>(alloc, &repeat(0..=2, item), UP_TO_TWO),
+    ]
 }
 
 const SEPARATED: &[TextRow<usize>] = &[
@@ -78,25 +68,21 @@ const SEPARATED_TWICE: &[TextRow<usize>] = &[
 
 const ONE_OR_TWO: &[TextRow<usize>] = &[("abc|abc|abc", 7, Read(2, "|abc"))];
 
-fn separations<I: Fronts<Whole = Word> + Stream<Token = char> + Compare<Word>>(
-    alloc: Global,
-) -> Option<(usize, usize)>
-where
-    I::Slice: Drop,
+/// Asks for words with a bar between them.
+pub fn separations<
+    I: Fronts<Whole = Word>,
+    W: Parser<I, EmptyError, Output = Word> + Copy,
+    C: Parser<I, EmptyError, Output = char> + Copy,
+>(alloc: Global, item: W, bar: C) -> [Option<usize>; 4]
+    requires items { (parser : W) → W.ready parser }
+    requires bars { (parser : C) → C.ready parser }
 {
-    let (item, bar) = (literal("abc"), one_of('|'));
-    let tables = [
-        (separated(0.., item, bar), SEPARATED),
-        (separated(1.., item, bar), SOME_SEPARATED),
-        (separated(2, item, bar), SEPARATED_TWICE),
-        (separated(1..=2, item, bar), ONE_OR_TWO),
-    ];
-    first_other_of::<I, _, _>(alloc, &tables)
-}
-
-#[test]
-fn lists_are_answered_as_documented(rt: HostRuntime) {
-    assert_eq!(rt; separations::<Text>(rt.alloc()), None);
+    [
+        first_other::<I, _, _>(alloc, &separated(0.., item, bar), SEPARATED),
+        first_other::<I, _, _>(alloc, &separated(1.., item, bar), SOME_SEPARATED),
+        first_other::<I, _, _>(alloc, &separated(2, item, bar), SEPARATED_TWICE),
+        first_other::<I, _, _>(alloc, &separated(1..=2, item, bar), ONE_OR_TWO),
+    ]
 }
 
 const NOTHING_TAKEN: &[TextRow<usize>] = &[("abc", 1, Cut("abc"))];
@@ -105,18 +91,22 @@ const DOUBLED: &[TextRow<usize>] = &[("abc1", 4, Read(8, "1"))];
 
 const LAST: &[TextRow<char>] = &[("a,b,c;", 6, Read('c', ";"))];
 
-fn folds<I: Fronts<Whole = Word> + Stream<Token = char>>(alloc: Global) -> [Option<usize>; 3] {
-    let nothing = repeat(0.., opt(one_of('x')));
-    let doubled = repeat(0.., one_of('a'..='z')).fold(|| 1, |n: usize, _: char| n.wrapping_mul(2));
-    let last = separated_foldl1(one_of('a'..='z'), one_of(','), |_, _, letter: char| letter);
+/// Asks for letters that may be missing, for letters that are counted, and for the last letter.
+pub fn folds<
+    I: Fronts<Whole = Word>,
+    C: Parser<I, EmptyError, Output = char> + Copy,
+    L: Parser<I, EmptyError, Output = char> + Drop,
+>(alloc: Global, x: C, letters: (L, L), comma: C) -> [Option<usize>; 3]
+    requires characters { (parser : C) → C.ready parser }
+    requires letters { (parser : L) → L.ready parser }
+{
+    let (first, letter) = letters;
+    let nothing = repeat(0.., opt(x));
+    let doubled = repeat(0.., first).fold(|| 1, |n: usize, _: char| n.wrapping_mul(2));
+    let last = separated_foldl1(letter, comma, |_, _, letter: char| letter);
     [
         first_other::<I, _, _>(alloc, &nothing, NOTHING_TAKEN),
         first_other::<I, _, _>(alloc, &doubled, DOUBLED),
         first_other::<I, _, _>(alloc, &last, LAST),
     ]
-}
-
-#[test]
-fn values_are_folded_and_one_that_takes_nothing_cuts(rt: HostRuntime) {
-    assert_eq!(rt; folds::<Text>(rt.alloc()), [None; 3]);
 }

@@ -3,11 +3,13 @@ ghost use Rattle.winnow_stream.specs.Location.{IsLocation};
 use std::alloc::Global;
 use std::ops::Range;
 use winnow_error::EmptyError;
-use winnow_match::Compare;
 use winnow_parser::{ModalResult, Parser};
+use winnow_parser_test_helpers::{Answer, Fronts, ask};
 use winnow_stream::{Location, Stream, StreamIsPartial};
-use winnow_token::{any, literal, one_of, take};
-use winnow_wrap::{LocatingSlice, Partial};
+use winnow_token::{any, take};
+use winnow_wrap::LocatingSlice;
+
+type Word = &'static str;
 
 // The first token with its place, and where the second and the third stand.
 type Places = ((char, Range<usize>), Range<usize>);
@@ -31,82 +33,78 @@ fn places(alloc: Global, text: &str) -> Option<Places> {
 
 #[test]
 fn places_are_those_of_the_whole_input(rt: HostRuntime) {
-    assert_eq!(rt; places(rt.alloc(), "aßcd"), Some((('a', 0..1), 1..4)));
-    assert_eq!(rt; places(rt.alloc(), "aß"), None);
+    let found = (places(rt.alloc(), "aßcd"), places(rt.alloc(), "aß"));
+    assert_eq!(rt; found, (Some((('a', 0..1), 1..4)), None));
 }
 
-// Returns what is taken of a whole input, or where the parser stopped.
-fn read_whole<I: StreamIsPartial + Compare<&'static str> + Drop>(
+// What is taken of a whole text after which more may come, or where the parser stopped.
+const WHOLES: &[(Word, Result<Word, usize>)] = &[
+    ("ab", Ok("ab")),
+    ("abc", Err(2)),
+    ("a", Err(0)),
+    ("xb", Err(0)),
+];
+
+/// Reads whole texts to their end, and returns the first that is answered otherwise.
+pub fn first_other_whole<I: Fronts<Whole = Word>, W: Parser<I, EmptyError, Output = Word> + Copy>(
     alloc: Global,
-    input: I,
-) -> Option<Result<I::Slice, usize>>
+    ab: W,
+) -> Option<usize>
 where
     I::PartialState: Drop,
-    I::Slice: Drop,
-    requires { I.valid input }
+    requires { W.ready ab }
 {
-    match Parser::<_, EmptyError>::parse(&literal("ab"), alloc, input) {
-        Ok(Ok(taken)) => Some(Ok(taken)),
-        Ok(Err(error)) => Some(Err(error.offset())),
-        Err(_) => None,
+    for (index, (text, wanted)) in WHOLES.iter().enumerate() {
+        let input = I::of_front(text, text.len());
+        let answer = match ab.parse(alloc, input) {
+            Ok(Ok(taken)) => Some(Ok(taken)),
+            Ok(Err(error)) => Some(Err(error.offset())),
+            Err(_) => None,
+        };
+        if answer != Some(*wanted) {
+            return Some(index);
+        }
+    }
+    None
+}
+
+/// Returns whether what remains comes with the first token, by a reference to the parser.
+pub fn peeks_by_reference<
+    I: Fronts<Whole = Word> + Stream<Slice = Word>,
+    T: Parser<I, EmptyError, Output = char> + Copy,
+>(alloc: Global, parser: T) -> bool
+    requires { T.ready parser }
+{
+    let reference = Parser::<I, EmptyError>::by_ref(&parser);
+    let read = Parser::<I, EmptyError>::parse_peek(reference, alloc, I::of_whole("abc"));
+    let none = Parser::<I, EmptyError>::parse_peek(reference, alloc, I::of_whole(""));
+    match read {
+        Ok((rest, token)) => token == 'a' && rest.peek_finish() == "bc" && none.is_err(),
+        Err(_) => false,
     }
 }
 
-fn whole(alloc: Global, text: &'static str) -> Option<Result<&'static str, usize>> {
-    read_whole(alloc, Partial::new(text))
-}
+// What is read where a digit says how many characters follow it.
+const COUNTED: &[(Word, Option<Word>)] = &[("2abc", Some("ab")), ("3ab", None), ("x", None)];
 
-#[test]
-fn a_whole_text_is_read_to_its_end(rt: HostRuntime) {
-    assert_eq!(rt; whole(rt.alloc(), "ab"), Some(Ok("ab")));
-    assert_eq!(rt; whole(rt.alloc(), "abc"), Some(Err(2)));
-    assert_eq!(rt; whole(rt.alloc(), "a"), Some(Err(0)));
-    assert_eq!(rt; whole(rt.alloc(), "xb"), Some(Err(0)));
-}
-
-// Returns what remains and the first token, by a reference to the parser.
-fn peek_by_reference<I: StreamIsPartial + Drop>(
-    alloc: Global,
-    input: I,
-) -> ModalResult<(I, I::Token), EmptyError>
-    requires { I.valid input }
+/// Reads as many characters as the digit before them says, and returns the first text that is
+/// answered otherwise.
+pub fn first_other_count<
+    I: Fronts<Whole = Word> + Stream<Slice = Word>,
+    L: Parser<I, EmptyError, Output = char> + Drop,
+>(alloc: Global, digit: L) -> Option<usize>
+    requires { L.ready digit }
 {
-    let parser = any();
-    let reference = Parser::<I, EmptyError>::by_ref(&parser);
-    reference.parse_peek(alloc, input)
-}
-
-fn peeked(alloc: Global, text: &'static str) -> Option<(&'static str, char)> {
-    peek_by_reference(alloc, text).ok()
-}
-
-#[test]
-fn what_remains_comes_with_the_value(rt: HostRuntime) {
-    assert_eq!(rt; peeked(rt.alloc(), "abc"), Some(("bc", 'a')));
-    assert_eq!(rt; peeked(rt.alloc(), ""), None);
-}
-
-// Reads as many characters as the digit before them says.
-fn read_counted<I: StreamIsPartial + Stream<Token = char>>(
-    alloc: Global,
-    input: &mut I,
-) -> ModalResult<I::Slice, EmptyError>
-    requires { I.valid input.old }
-{
-    let count = one_of('0'..='9').map(|digit: char| (digit as usize).saturating_sub(48));
-    count
-        .flat_map(|count: usize| take(count))
-        .parse_next(alloc, input)
-}
-
-fn counted(alloc: Global, text: &'static str) -> Option<&'static str> {
-    let mut input = text;
-    read_counted(alloc, &mut input).ok()
-}
-
-#[test]
-fn what_comes_first_says_how_to_read_on(rt: HostRuntime) {
-    assert_eq!(rt; counted(rt.alloc(), "2abc"), Some("ab"));
-    assert_eq!(rt; counted(rt.alloc(), "3ab"), None);
-    assert_eq!(rt; counted(rt.alloc(), "x"), None);
+    let count = digit.map(|digit: char| (digit as usize).saturating_sub(48));
+    let parser = count.flat_map(|count: usize| take(count));
+    for (index, (text, wanted)) in COUNTED.iter().enumerate() {
+        let answer = match ask(alloc, &parser, I::of_whole(text)) {
+            Answer::Read(word, _) => Some(word),
+            _ => None,
+        };
+        if answer != *wanted {
+            return Some(index);
+        }
+    }
+    None
 }

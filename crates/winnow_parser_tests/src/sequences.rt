@@ -1,16 +1,12 @@
-//! The examples of winnow's documentation for parsers in a row, on whole texts and on their fronts.
+//! Parsers in a row.
 
 use Answer::{Backtrack, NeedsMore, Read};
 use std::alloc::Global;
-use winnow_combinator::{delimited, eof, preceded, separated_pair, terminated};
-use winnow_match::Compare;
+use winnow_combinator::{delimited, preceded, separated_pair, terminated};
+use winnow_error::EmptyError;
 use winnow_parser::Parser;
 use winnow_parser_test_helpers::{Answer, Fronts, TextRow, ask, first_other};
 use winnow_stream::Stream;
-use winnow_token::{any, literal, one_of, take_while};
-use winnow_wrap::Partial;
-
-type Text = Partial<&'static str>;
 
 type Word = &'static str;
 
@@ -29,14 +25,21 @@ const DELIMITED: &[TextRow<Word>] = &[
     ("123", 1, Backtrack("123")),
 ];
 
-fn parts<I: Fronts<Whole = Word> + Stream<Token = char, Slice = Word> + Compare<Word>>(
-    alloc: Global,
-) -> [Option<usize>; 3] {
-    let (abc, efg) = (literal("abc"), literal("efg"));
+/// Asks for a word before another, after it, and between brackets.
+pub fn parts<
+    I: Fronts<Whole = Word>,
+    W: Parser<I, EmptyError, Output = Word> + Copy,
+    C: Parser<I, EmptyError, Output = char> + Copy,
+>(alloc: Global, words: (W, W), brackets: (C, C)) -> [Option<usize>; 3]
+    requires words { (parser : W) → W.ready parser }
+    requires brackets { (parser : C) → C.ready parser }
+{
+    let (abc, efg) = words;
+    let (open, close) = brackets;
     [
         first_other::<I, _, _>(alloc, &preceded(abc, efg), PRECEDED),
         first_other::<I, _, _>(alloc, &terminated(abc, efg), TERMINATED),
-        first_other::<I, _, _>(alloc, &delimited(one_of('('), abc, one_of(')')), DELIMITED),
+        first_other::<I, _, _>(alloc, &delimited(open, abc, close), DELIMITED),
     ]
 }
 
@@ -50,38 +53,42 @@ const THREE_AND_END: &[TextRow<(char, char, char, ())>] = &[
     ("abcd", 4, Backtrack("d")),
 ];
 
-fn wholes<I: Fronts<Whole = Word> + Stream<Token = char, Slice = Word>>(
-    alloc: Global,
-) -> [Option<usize>; 2] {
-    let (first, second) = (take_while(1.., 'a'..='z'), take_while(1.., 'a'..='z'));
-    let pair = separated_pair(first, one_of(','), second).take();
+/// Asks for the slice of two words with a comma between them.
+pub fn recognized<
+    I: Fronts<Whole = Word> + Stream<Slice = Word>,
+    L: Parser<I, EmptyError, Output = Word> + Copy,
+    C: Parser<I, EmptyError, Output = char> + Copy,
+>(alloc: Global, letters: L, comma: C) -> Option<usize>
+    requires letters { L.ready letters }
+    requires comma { C.ready comma }
+{
+    let pair = separated_pair(letters, comma, letters).take();
+    first_other::<I, _, _>(alloc, &pair, RECOGNIZED)
+}
+
+/// Asks for three tokens and the end.
+pub fn three_and_end<
+    I: Fronts<Whole = Word>,
+    T: Parser<I, EmptyError, Output = char> + Copy,
+    Z: Parser<I, EmptyError, Output = ()> + Copy,
+>(alloc: Global, token: T, end: Z) -> Option<usize>
+    requires token { T.ready token }
+    requires end { Z.ready end }
+{
+    first_other::<I, _, _>(alloc, &(token, token, token, end), THREE_AND_END)
+}
+
+/// Returns whether one part, and two parts, need more and stay where the part that needs it began.
+pub fn waiting<
+    I: Fronts<Whole = Word>,
+    T: Parser<I, EmptyError, Output = char> + Copy,
+    W: Parser<I, EmptyError, Output = Word> + Copy,
+>(alloc: Global, token: T, ab: W, bc: W) -> [bool; 2]
+    requires token { T.ready token }
+    requires words { (parser : W) → W.ready parser }
+{
     [
-        first_other::<I, _, _>(alloc, &pair, RECOGNIZED),
-        first_other::<I, _, _>(alloc, &(any(), any(), any(), eof()), THREE_AND_END),
+        matches!(ask(alloc, &ab, I::of_front("a", 1)), NeedsMore(1)),
+        matches!(ask(alloc, &(token, bc), I::of_front("ab", 2)), NeedsMore(1)),
     ]
-}
-
-#[test]
-fn sequences_are_answered_as_documented(rt: HostRuntime) {
-    assert_eq!(rt; parts::<Text>(rt.alloc()), [None; 3]);
-    assert_eq!(rt; wholes::<Text>(rt.alloc()), [None; 2]);
-}
-
-// Returns the answers of one part and of two parts on a front on which both need more.
-fn waiting<I: Fronts<Whole = Word> + Stream<Token = char, Slice = Word> + Compare<Word>>(
-    alloc: Global,
-) -> [bool; 2] {
-    let both = (any(), literal("bc"));
-    [
-        matches!(
-            ask(alloc, &literal("ab"), I::of_front("a", 1)),
-            NeedsMore(1)
-        ),
-        matches!(ask(alloc, &both, I::of_front("ab", 2)), NeedsMore(1)),
-    ]
-}
-
-#[test]
-fn a_part_that_needs_more_stays_where_it_began(rt: HostRuntime) {
-    assert_eq!(rt; waiting::<Text>(rt.alloc()), [true; 2]);
 }

@@ -1,18 +1,11 @@
-//! `repeat_till` on whole texts and on their fronts: the examples of winnow's documentation, and
-//! when the end is asked for.
+//! `repeat_till`: the examples of winnow's documentation, and when the end is asked for.
 
 use Answer::{Backtrack, Cut, Read};
 use std::alloc::Global;
 use winnow_combinator::{cut_err, repeat_till};
 use winnow_error::EmptyError;
-use winnow_match::Compare;
-use winnow_parser::{ModalResult, Parser};
-use winnow_parser_test_helpers::{Answer, Fronts, TextRow, first_other, first_other_of};
-use winnow_stream::{Stream, StreamIsPartial};
-use winnow_token::{literal, take};
-use winnow_wrap::Partial;
-
-type Text = Partial<&'static str>;
+use winnow_parser::Parser;
+use winnow_parser_test_helpers::{Answer, Fronts, TextRow, first_other};
 
 type Word = &'static str;
 
@@ -38,21 +31,19 @@ const TWO_TO_FOUR: &[TextRow<Till>] = &[
 
 const DESCENDING: &[TextRow<Till>] = &[("abcabcabcend", 0, Cut("abcabcabcend"))];
 
-fn of_words<I: Fronts<Whole = Word> + Stream<Token = char, Slice = Word> + Compare<Word>>(
+/// Asks for words up to another.
+pub fn of_words<I: Fronts<Whole = Word>, W: Parser<I, EmptyError, Output = Word> + Copy>(
     alloc: Global,
-) -> Option<(usize, usize)> {
-    let (item, end) = (literal("abc"), literal("end"));
-    let tables = [
-        (repeat_till(0.., item, end), ANY),
-        (repeat_till(2..=4, item, end), TWO_TO_FOUR),
-        (repeat_till(4..=2, item, end), DESCENDING),
-    ];
-    first_other_of::<I, _, _>(alloc, &tables)
-}
-
-#[test]
-fn values_up_to_an_end_are_read_as_documented(rt: HostRuntime) {
-    assert_eq!(rt; of_words::<Text>(rt.alloc()), None);
+    item: W,
+    end: W,
+) -> [Option<usize>; 3]
+    requires { (parser : W) → W.ready parser }
+{
+    [
+        first_other::<I, _, _>(alloc, &repeat_till(0.., item, end), ANY),
+        first_other::<I, _, _>(alloc, &repeat_till(2..=4, item, end), TWO_TO_FOUR),
+        first_other::<I, _, _>(alloc, &repeat_till(4..=2, item, end), DESCENDING),
+    ]
 }
 
 const ONE_TRIPLE: &[TextRow<Till>] = &[
@@ -67,51 +58,29 @@ const CUT_END: &[TextRow<Till>] = &[
     ("abcend", 1, Cut("abcend")),
 ];
 
-fn of_slices<I: Fronts<Whole = Word> + Stream<Token = char, Slice = Word> + Compare<Word>>(
-    alloc: Global,
-) -> Option<(usize, usize)> {
-    let end = literal("end");
-    let tables = [
-        (repeat_till(1.., take(3), end), ONE_TRIPLE),
-        (repeat_till(0.., take(0), end), NOTHING),
-    ];
-    first_other_of::<I, _, _>(alloc, &tables)
-}
-
-fn with_a_cut_end<I: Fronts<Whole = Word> + Stream<Token = char, Slice = Word> + Compare<Word>>(
-    alloc: Global,
-) -> Option<usize> {
-    let parser = repeat_till(0.., literal("abc"), cut_err(literal("end")));
-    first_other::<I, _, _>(alloc, &parser, CUT_END)
-}
-
-#[test]
-fn an_end_is_asked_for_once_the_values_are_enough(rt: HostRuntime) {
-    assert_eq!(rt; of_slices::<Text>(rt.alloc()), None);
-    assert_eq!(rt; with_a_cut_end::<Text>(rt.alloc()), None);
-}
-
-// Returns the values, the end and what remains.
-fn gather<I: StreamIsPartial + Stream<Token = char, Slice = Word> + Compare<Word> + Drop>(
-    alloc: Global,
-    input: I,
-) -> Option<(Vec<Word>, Word, Word)>
-    requires { I.valid input }
+/// Asks for slices of three tokens, or of none, up to a word.
+pub fn of_slices<
+    I: Fronts<Whole = Word>,
+    S: Parser<I, EmptyError, Output = Word> + Copy,
+    W: Parser<I, EmptyError, Output = Word> + Copy,
+>(alloc: Global, three: S, none: S, end: W) -> [Option<usize>; 2]
+    requires slices { (parser : S) → S.ready parser }
+    requires ends { (parser : W) → W.ready parser }
 {
-    let mut input = input;
-    let parser = repeat_till(0.., literal("abc"), literal("end"));
-    let answer: ModalResult<(Vec<Word>, Word), EmptyError> = parser.parse_next(alloc, &mut input);
-    match answer {
-        Ok((values, end)) => Some((values, end, input.finish())),
-        Err(_) => None,
-    }
+    [
+        first_other::<I, _, _>(alloc, &repeat_till(1.., three, end), ONE_TRIPLE),
+        first_other::<I, _, _>(alloc, &repeat_till(0.., none, end), NOTHING),
+    ]
 }
 
-#[test]
-fn the_values_and_the_end_are_given(rt: HostRuntime) {
-    let Some((values, end, rest)) = gather(rt.alloc(), "abcabcendefg") else {
-        panic!(rt; "nothing was read");
-    };
-    assert_eq!(rt; values.as_slice(), ["abc", "abc"].as_slice());
-    assert_eq!(rt; (end, rest), ("end", "efg"));
+/// Asks for words up to another, whose failures are cut.
+pub fn with_a_cut_end<I: Fronts<Whole = Word>, W: Parser<I, EmptyError, Output = Word> + Copy>(
+    alloc: Global,
+    item: W,
+    end: W,
+) -> Option<usize>
+    requires { (parser : W) → W.ready parser }
+{
+    let parser = repeat_till(0.., item, cut_err(end));
+    first_other::<I, _, _>(alloc, &parser, CUT_END)
 }

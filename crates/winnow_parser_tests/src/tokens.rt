@@ -1,19 +1,16 @@
-//! The examples of winnow's documentation for parsers of tokens, on whole texts and on their
-//! fronts.
+//! Parsers of tokens.
 
 use Answer::{Backtrack, Read};
 use std::alloc::Global;
+use winnow_combinator::eof;
 use winnow_match::Compare;
 use winnow_parser_test_helpers::{Answer, Fronts, TextRow, first_other, first_other_of};
 use winnow_sets::CharSet;
 use winnow_stream::Stream;
 use winnow_token::{
-    any, hits_stay_law, literal, none_of, one_of, rest, rest_len, take, take_till, take_until,
+    TokensBefore, any, literal, none_of, one_of, rest, rest_len, take, take_till, take_until,
     take_while,
 };
-use winnow_wrap::Partial;
-
-type Text = Partial<&'static str>;
 
 type Word = &'static str;
 
@@ -23,20 +20,18 @@ const ONE_OF: &[TextRow<char>] = &[("b", 1, Read('b', "")), ("d", 1, Backtrack("
 
 const NONE_OF: &[TextRow<char>] = &[("z", 1, Read('z', "")), ("a", 1, Backtrack("a"))];
 
+const END: &[TextRow<()>] = &[("abc", 1, Backtrack("abc")), ("", 1, Read((), ""))];
+
 const REST_LENGTH: &[TextRow<usize>] = &[("abc", 4, Read(3, "abc"))];
 
-fn tokens<I: Fronts<Whole = Word> + Stream<Token = char>>(alloc: Global) -> [Option<usize>; 4] {
+pub fn tokens<I: Fronts<Whole = Word> + Stream<Token = char>>(alloc: Global) -> [Option<usize>; 5] {
     [
         first_other::<I, _, _>(alloc, &any(), ANY),
         first_other::<I, _, _>(alloc, &one_of(['a', 'b', 'c']), ONE_OF),
         first_other::<I, _, _>(alloc, &none_of(['a', 'b']), NONE_OF),
         first_other::<I, _, _>(alloc, &rest_len(), REST_LENGTH),
+        first_other::<I, _, _>(alloc, &eof(), END),
     ]
-}
-
-#[test]
-fn tokens_are_answered_as_documented(rt: HostRuntime) {
-    assert_eq!(rt; tokens::<Text>(rt.alloc()), [None; 4]);
 }
 
 const HELLO: &[TextRow<Word>] = &[
@@ -54,7 +49,7 @@ const SIX: &[TextRow<Word>] = &[
 
 const REST: &[TextRow<Word>] = &[("abc", 4, Read("abc", ""))];
 
-fn slices<I: Fronts<Whole = Word> + Stream<Token = char, Slice = Word> + Compare<Word>>(
+pub fn slices<I: Fronts<Whole = Word> + Stream<Token = char, Slice = Word> + Compare<Word>>(
     alloc: Global,
 ) -> [Option<usize>; 3] {
     [
@@ -62,11 +57,6 @@ fn slices<I: Fronts<Whole = Word> + Stream<Token = char, Slice = Word> + Compare
         first_other::<I, _, _>(alloc, &take(6), SIX),
         first_other::<I, _, _>(alloc, &rest(), REST),
     ]
-}
-
-#[test]
-fn slices_are_answered_as_documented(rt: HostRuntime) {
-    assert_eq!(rt; slices::<Text>(rt.alloc()), [None; 3]);
 }
 
 const LETTERS: &[TextRow<Word>] = &[
@@ -97,7 +87,7 @@ const THREE_TO_SIX: &[TextRow<Word>] = &[
     ("12345", 1, Backtrack("12345")),
 ];
 
-fn tokens_of_a_set<I: Fronts<Whole = Word> + Stream<Token = char, Slice = Word>>(
+pub fn tokens_of_a_set<I: Fronts<Whole = Word> + Stream<Token = char, Slice = Word>>(
     alloc: Global,
 ) -> Option<(usize, usize)> {
     let letters = CharSet::new(&[('a', 'z'), ('A', 'Z')]);
@@ -113,11 +103,6 @@ fn tokens_of_a_set<I: Fronts<Whole = Word> + Stream<Token = char, Slice = Word>>
     )
 }
 
-#[test]
-fn tokens_of_a_set_are_answered_as_documented(rt: HostRuntime) {
-    assert_eq!(rt; tokens_of_a_set::<Text>(rt.alloc()), None);
-}
-
 const TILL_COLON: &[TextRow<Word>] = &[
     ("latin:123", 6, Read("latin", ":123")),
     (":empty matched", 1, Read("", ":empty matched")),
@@ -129,7 +114,7 @@ const SOME_TILL_COLON: &[TextRow<Word>] = &[
     ("", 1, Backtrack("")),
 ];
 
-fn tokens_up_to_a_set<I: Fronts<Whole = Word> + Stream<Token = char, Slice = Word>>(
+pub fn tokens_up_to_a_set<I: Fronts<Whole = Word> + Stream<Token = char, Slice = Word>>(
     alloc: Global,
 ) -> Option<(usize, usize)> {
     first_other_of::<I, _, _>(
@@ -139,11 +124,6 @@ fn tokens_up_to_a_set<I: Fronts<Whole = Word> + Stream<Token = char, Slice = Wor
             (take_till(1.., ':'), SOME_TILL_COLON),
         ],
     )
-}
-
-#[test]
-fn tokens_up_to_a_set_are_answered_as_documented(rt: HostRuntime) {
-    assert_eq!(rt; tokens_up_to_a_set::<Text>(rt.alloc()), None);
 }
 
 const UNTIL_END: &[TextRow<Word>] = &[
@@ -158,14 +138,12 @@ const UNTIL_ARROW: &[TextRow<Word>] = &[("a=b=>c", 5, Read("a=b", "=>c"))];
 
 const SOME_UNTIL_ARROW: &[TextRow<Word>] = &[("=>c", 2, Backtrack("=>c"))];
 
-#[test]
-fn what_stands_before_a_literal_is_answered_as_documented(rt: HostRuntime) {
-    hits_stay_law();
-    let tables = [
+/// Returns the parsers of what stands before a literal, each with its rows.
+pub fn before_a_literal() -> [(TokensBefore<Word>, &'static [TextRow<Word>]); 4] {
+    [
         (take_until(0.., "eof"), UNTIL_END),
         (take_until(1.., "eof"), SOME_UNTIL_END),
         (take_until(0.., "=>"), UNTIL_ARROW),
         (take_until(1.., "=>"), SOME_UNTIL_ARROW),
-    ];
-    assert_eq!(rt; first_other_of::<Text, _, _>(rt.alloc(), &tables), None);
+    ]
 }

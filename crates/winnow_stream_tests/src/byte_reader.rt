@@ -55,7 +55,7 @@ impl<'a> Stream for ByteReader<'a> {
 
     ghost is_slice = { λ s r n. units s.now ≡ front r n };
 
-    ghost counts_missing = { true };
+    ghost counts_shortage = { true };
 
     ghost keeps = { λ s t. s.whole.now ≡ t.whole.now };
 

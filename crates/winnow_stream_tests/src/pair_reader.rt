@@ -76,7 +76,7 @@ impl<'a> Stream for PairReader<'a> {
 
     ghost is_slice = { λ s r n. pair_source s.rest.now ≡ front r n };
 
-    ghost counts_missing = { false };
+    ghost counts_shortage = { false };
 
     ghost keeps = { λ _ _. ⊤ };
 

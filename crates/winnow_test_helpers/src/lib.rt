@@ -10,4 +10,4 @@ mod widths;
 pub use calls::{compares, finds, hits, tell, told};
 pub use printed_texts::{debugged, seen, shown};
 pub use traced::Traced;
-pub use widths::{flags, width, width_from, window_of};
+pub use widths::{flags, width_from};

@@ -1,7 +1,6 @@
-ghost use Rattle.std.specs.Prelude.{◌≡◌, ◌-◌, ◌≤◌, IsTrue};
-ghost use Rattle.winnow_stream.specs.Front.{is_offset, front};
+ghost use Rattle.std.specs.Prelude.{◌≡◌, ◌-◌, ◌≤◌};
 
-use winnow_stream::{Offset, Rest, SliceLen, StreamIsPartial, UpdateSlice};
+use winnow_stream::{Offset, Rest, StreamIsPartial};
 
 /// Returns the width from a start.
 pub fn width_from<T: Rest, S: Offset<T>>(s: &S, start: &T) -> usize
@@ -10,26 +9,6 @@ pub fn width_from<T: Rest, S: Offset<T>>(s: &S, start: &T) -> usize
     ensures { result ≡ T.rest_width start.now - S.rest_width s.now }
 {
     s.offset_from(start)
-}
-
-/// Returns the width.
-pub fn width<S: SliceLen>(s: &S) -> usize
-    requires { S.has_width s.now }
-    ensures { result ≡ S.width_of s.now }
-{
-    s.slice_len()
-}
-
-/// Returns the window of the front of width `offset`.
-pub fn window_of<S: UpdateSlice>(mut s: S, offset: usize) -> S
-    requires valid { S.valid s }
-    requires offset { IsTrue (is_offset (S.remaining s) offset) }
-    ensures valid { S.valid result }
-    ensures remains { S.remaining result ≡ front (S.remaining s) offset }
-{
-    let start = s.checkpoint();
-    let slice = s.next_slice(offset);
-    s.update_slice(slice, &start)
 }
 
 /// Returns whether the type has a flag, what it says, and what it says after it is cleared and

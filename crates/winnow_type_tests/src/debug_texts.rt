@@ -1,20 +1,20 @@
-//! The debug texts of the types whose contracts do not say them: plain, under `#`, with a width and
-//! with a precision. Derived texts are as Rust's derives print them.
+//! The debug texts that no contract says: of derives whose fields are private, and of other types
+//! under options. The options are `#`, a width and a precision. A derived text is as Rust's derive
+//! prints it.
 use std::alloc::{AllocError, Global};
 use std::fmt::Debug;
 use std::process::Abort;
 use std::test::Fail;
 use winnow_bytes::Bytes;
 use winnow_error::InputError;
-use winnow_feed::{Finished, Told, Waiting, run_pieces};
+use winnow_feed::{Finished, run_pieces};
 use winnow_kinds::BStr;
-use winnow_match::Stretch;
 use winnow_parse_error::ParseError;
-use winnow_run::{Answer, SearchAnswer, SearchStep, Step};
+use winnow_run::{SearchStep, Step};
 use winnow_sets::{CharSet, Where};
 use winnow_stream::Stream;
 use winnow_views::TokenSlice;
-use winnow_wrap::{LocatingSlice, Partial, Stateful};
+use winnow_wrap::LocatingSlice;
 
 // Asserts the text with each option, one after the other.
 fn debugs<T: Debug>(
@@ -45,48 +45,26 @@ where
 
 const LIST: &str = "[97, 98]|[\n    97,\n    98,\n]|[  97,   98]|[97, 98]";
 
-const TEXT: &str = r#""ab"|"ab"|"ab"|"ab""#;
-
-// A checkpoint prints as what remains there, without what it keeps beside that.
+// A checkpoint prints as the view that it holds: what remains there.
 #[test]
-fn checkpoints_of_slices(rt: HostRuntime) -> Result<(), Fail> {
+fn checkpoints(rt: HostRuntime) -> Result<(), Fail> {
     let alloc = rt.alloc();
-    place_debugs(&rt, alloc, b"xab".as_slice(), LIST)?;
     place_debugs(&rt, alloc, TokenSlice::new(b"xab"), LIST)?;
-    place_debugs(&rt, alloc, "xab", TEXT)?;
     place_debugs(&rt, alloc, BStr::new(b"xab"), r#""ab"|ab|"ab"|"ab""#)?;
     place_debugs(&rt, alloc, Bytes::new(b"xab"), "6162|6162|6162|6162")?;
+    place_debugs(&rt, alloc, LocatingSlice::new(b"xab".as_slice()), LIST)?;
     Ok(())
 }
 
-#[test]
-fn checkpoints_of_wrappers(rt: HostRuntime) -> Result<(), Fail> {
-    let (alloc, input) = (rt.alloc(), "xab");
-    place_debugs(&rt, alloc, LocatingSlice::new(input), TEXT)?;
-    place_debugs(&rt, alloc, Partial::new(input), TEXT)?;
-    place_debugs(&rt, alloc, Stateful { input, state: 7 }, TEXT)?;
-    Ok(())
-}
-
-// Returns the text with a width and a precision, under `#` and without it.
-fn debugged_at_a_precision<T: Debug>(alloc: Global, value: &T) -> Result<String, AllocError> {
-    format!(in alloc; "{value:#6.2?}|{value:6.2?}")
-}
-
-// Asserts that text for a stream and for its checkpoint.
-fn stream_debugs_at_a_precision<S: Stream + Debug>(
+// Asserts the text with a width and a precision, under `#` and without it.
+fn debugs_at_a_precision<T: Debug>(
     rt: &impl Abort,
     alloc: Global,
-    s: &S,
+    value: &T,
     wanted: &str,
-) -> Result<(), AllocError>
-    requires { S.valid s.now }
-{
-    assert_eq!(rt; debugged_at_a_precision(alloc, s)?.as_str(), wanted);
-    assert_eq!(rt;
-        debugged_at_a_precision(alloc, &s.checkpoint())?.as_str(),
-        wanted
-    );
+) -> Result<(), AllocError> {
+    let text = format!(in alloc; "{value:#6.2?}|{value:6.2?}")?;
+    assert_eq!(rt; text.as_str(), wanted);
     Ok(())
 }
 
@@ -98,29 +76,25 @@ const CUT: &str = "[\n    tr    ,\n    fa    ,\n]|[tr    , fa    ]";
 #[test]
 fn streams_at_a_precision(rt: HostRuntime) -> Result<(), Fail> {
     let alloc = rt.alloc();
-    stream_debugs_at_a_precision(&rt, alloc, &FLAGS, CUT)?;
-    stream_debugs_at_a_precision(&rt, alloc, &TokenSlice::new(FLAGS), CUT)?;
-    stream_debugs_at_a_precision(&rt, alloc, &LocatingSlice::new(FLAGS), CUT)?;
-    stream_debugs_at_a_precision(&rt, alloc, &BStr::new(b"abc"), "abc|\"abc\"")?;
-    stream_debugs_at_a_precision(&rt, alloc, &Bytes::new(b"abc"), "616263|616263")?;
+    debugs_at_a_precision(&rt, alloc, &TokenSlice::new(FLAGS), CUT)?;
+    debugs_at_a_precision(&rt, alloc, &LocatingSlice::new(FLAGS), CUT)?;
+    debugs_at_a_precision(&rt, alloc, &BStr::new(b"abc"), "abc|\"abc\"")?;
+    debugs_at_a_precision(&rt, alloc, &Bytes::new(b"abc"), "616263|616263")?;
     Ok(())
 }
 
 #[test]
-fn counts_and_closures(rt: HostRuntime) -> Result<(), Fail> {
-    let alloc = rt.alloc();
-    let counts: winnow_count::Range = (5..8).into();
-    debugs(&rt, alloc, &counts, "5..=7|5..=7|5..=7|5..=7")?;
-    let closure = Where(|token: u8| token < 3);
+fn sets(rt: HostRuntime) -> Result<(), Fail> {
+    let text = format!(in rt.alloc(); "{:?}", CharSet::new(&[('a', 'b')]))?;
+    assert_eq!(rt; text.as_str(), "CharSet { ranges: [('a', 'b')] }");
+    Ok(())
+}
+
+#[test]
+fn closures(rt: HostRuntime) -> Result<(), Fail> {
+    let (alloc, closure) = (rt.alloc(), Where(|token: u8| token < 3));
     debugs(&rt, alloc, &closure, "Where(_)|Where(_)|Where(_)|Where(_)")?;
-    assert_eq!(rt;
-        debugged_at_a_precision(alloc, &counts)?.as_str(),
-        "5..=7|5..=7"
-    );
-    assert_eq!(rt;
-        debugged_at_a_precision(alloc, &closure)?.as_str(),
-        "Where(_)|Where(_)"
-    );
+    debugs_at_a_precision(&rt, alloc, &closure, "Where(_)|Where(_)")?;
     Ok(())
 }
 
@@ -142,59 +116,6 @@ fn parse_errors(rt: HostRuntime) -> Result<(), Fail> {
          ParseError { input: \"0Z\", offset:    1, inner: InputError { input: \"Z\" } }|\
          ParseError { input: \"0Z\", offset: 1, inner: InputError { input: \"Z\" } }",
     )?;
-    Ok(())
-}
-
-#[test]
-fn parts_of_feeds(rt: HostRuntime) -> Result<(), Fail> {
-    let alloc = rt.alloc();
-    let told: Told<u8> = Told {
-        piece: Some(2),
-        answer: SearchAnswer::Call(Answer::Token(Some(3))),
-    };
-    debugs(
-        &rt,
-        alloc,
-        &told,
-        "Told { piece: Some(2), answer: Call(Token(Some(3))) }|\
-         Told {\n    piece: Some(\n        2,\n    ),\n    answer: Call(\n        Token(\n            Some(\n                3,\n            ),\n        ),\n    ),\n}|\
-         Told { piece: Some(   2), answer: Call(Token(Some(   3))) }|\
-         Told { piece: Some(2), answer: Call(Token(Some(3))) }",
-    )?;
-    let stretch = Stretch {
-        needle: 1,
-        place: 2,
-    };
-    debugs(
-        &rt,
-        alloc,
-        &stretch,
-        "Stretch { needle: 1, place: 2 }|\
-         Stretch {\n    needle: 1,\n    place: 2,\n}|\
-         Stretch { needle:    1, place:    2 }|\
-         Stretch { needle: 1, place: 2 }",
-    )?;
-    Ok(())
-}
-
-const WAITING: [(Waiting<u8>, &str); 4] = [
-    (Waiting::NotFed, "NotFed|NotFed|NotFed|NotFed"),
-    (
-        Waiting::NotWaiting,
-        "NotWaiting|NotWaiting|NotWaiting|NotWaiting",
-    ),
-    (
-        Waiting::Until(3),
-        "Until(3)|Until(\n    3,\n)|Until(   3)|Until(3)",
-    ),
-    (Waiting::ToEnd, "ToEnd|ToEnd|ToEnd|ToEnd"),
-];
-
-#[test]
-fn what_a_feed_waits_for(rt: HostRuntime) -> Result<(), Fail> {
-    for (waiting, wanted) in &WAITING {
-        debugs(&rt, rt.alloc(), waiting, wanted)?;
-    }
     Ok(())
 }
 

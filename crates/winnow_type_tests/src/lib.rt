@@ -1,6 +1,6 @@
-//! The traits that each type implements and derives, shown by calls through the bounds, and the
-//! ghost members of each type, spelled out. Generic code promises only what they say, so a member
-//! that says less is refused here. Nothing here is part of the library.
+//! What each type derives, shown by calls through the bounds, and the ghost members of each type,
+//! spelled out for each trait that it implements. Generic code promises only what they say, so a
+//! member that says less is refused here. Nothing here is part of the library.
 #![tactic(auto)]
 
 #[cfg(test)]

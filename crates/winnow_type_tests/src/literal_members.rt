@@ -7,9 +7,12 @@ ghost use Rattle.winnow_match.specs.Comparison.{comparison};
 ghost use Rattle.winnow_match.specs.Search.{hit, bytes_of_needles};
 ghost use Rattle.winnow_stream.specs.Source.{Source};
 
+use std::fmt::Debug;
 use winnow_bytes::Bytes;
 use winnow_kinds::BStr;
 use winnow_match::{Compare, FindSlice, Needles};
+use winnow_recover::Recoverable;
+use winnow_wrap::{LocatingSlice, Partial, Stateful};
 
 /// A literal is compared with bytes by its own bytes, and a character by its UTF-8.
 pub fn byte_comparison_law<const LEN: usize>()
@@ -290,4 +293,28 @@ pub fn text_search_law()
         → ⟦<&'static str as FindSlice<(char, char, char)>>⟧.found needle r
         ≡ hit (encode_utf8 needle.0 ∷ encode_utf8 needle.1 ∷ encode_utf8 needle.2
         ∷ []) (utf8_of r) }
+{}
+
+/// A wrapper is compared with each literal as the stream inside.
+pub fn wrapper_comparison_law<I: Compare<T>, T, S: Debug>()
+    ensures located { (literal : T) (r : Source I.Token)
+        → ⟦<LocatingSlice<I> as Compare<T>>⟧.compared literal r ≡ I.compared literal r }
+    ensures partial { (literal : T) (r : Source I.Token)
+        → ⟦<Partial<I> as Compare<T>>⟧.compared literal r ≡ I.compared literal r }
+    ensures stateful { (literal : T) (r : Source I.Token)
+        → ⟦<Stateful<I, S> as Compare<T>>⟧.compared literal r ≡ I.compared literal r }
+    ensures recoverable { (literal : T) (r : Source I.Token)
+        → ⟦<Recoverable<I, S> as Compare<T>>⟧.compared literal r ≡ I.compared literal r }
+{}
+
+/// A wrapper is searched for each needle as the stream inside.
+pub fn wrapper_search_law<I: FindSlice<T>, T, S: Debug>()
+    ensures located { (needle : T) (r : Source I.Token)
+        → ⟦<LocatingSlice<I> as FindSlice<T>>⟧.found needle r ≡ I.found needle r }
+    ensures partial { (needle : T) (r : Source I.Token)
+        → ⟦<Partial<I> as FindSlice<T>>⟧.found needle r ≡ I.found needle r }
+    ensures stateful { (needle : T) (r : Source I.Token)
+        → ⟦<Stateful<I, S> as FindSlice<T>>⟧.found needle r ≡ I.found needle r }
+    ensures recoverable { (needle : T) (r : Source I.Token)
+        → ⟦<Recoverable<I, S> as FindSlice<T>>⟧.found needle r ≡ I.found needle r }
 {}

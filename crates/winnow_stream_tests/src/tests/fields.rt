@@ -1,20 +1,22 @@
 use crate::fields::field;
 use winnow_base::stream::Needed;
 
+// Bytes, the field at their front or the number of tokens that it lacks, and what is left.
+const ROWS: &[(&[u8], Result<&[u8], usize>, &[u8])] = &[
+    (b"\x02ab\x03c", Ok(b"ab"), b"\x03c"),
+    (b"\x03c", Err(2), b"\x03c"),
+    (b"\x00", Ok(b""), b""),
+    (b"", Err(1), b""),
+];
+
 #[test]
 fn a_field_is_taken_or_nothing_is(rt: HostRuntime) {
-    let none: &[u8] = b"";
-    for (bytes, read, left) in [
-        (
-            b"\x02ab\x03c".as_slice(),
-            Ok(b"ab".as_slice()),
-            b"\x03c".as_slice(),
-        ),
-        (b"\x03c", Err(Needed::new(2)), b"\x03c"),
-        (b"\x00", Ok(none), none),
-        (none, Err(Needed::new(1)), none),
-    ] {
-        let mut input = bytes;
-        assert_eq!(rt; (field(&mut input), input), (read, left), "{bytes:?}");
+    for (bytes, read, left) in ROWS {
+        let mut input = *bytes;
+        let wanted = match read {
+            Ok(slice) => Ok(*slice),
+            Err(lacking) => Err(Needed::new(*lacking)),
+        };
+        assert_eq!(rt; (field(&mut input), input), (wanted, *left), "{bytes:?}");
     }
 }

@@ -1,5 +1,4 @@
 use std::alloc::{AllocError, Global};
-use std::fmt::Display;
 use std::process::Abort;
 use winnow_base::stream::{NoSet, Step, Stream};
 use winnow_test_helpers::{Traced, shown, told};
@@ -7,20 +6,9 @@ use winnow_test_helpers::{Traced, shown, told};
 /// Scripts, each with the debug text of its answers.
 pub type Rows = &'static [(&'static [Step<NoSet>], &'static str)];
 
-// Asserts the text. A failure names the script.
-fn is_text(rt: &impl Abort, text: String, wanted: &str, script: &[Step<NoSet>]) {
-    assert_eq!(rt; text.as_str(), wanted, "{script:?}");
-}
-
-// Asserts what is printed.
-fn prints<T: Display>(
-    rt: &impl Abort,
-    alloc: Global,
-    value: &T,
-    wanted: &str,
-) -> Result<(), AllocError> {
-    is_text(rt, shown(alloc, value)?, wanted, &[]);
-    Ok(())
+// Asserts the text, which names the case.
+fn is_text(rt: &impl Abort, text: &str, wanted: &str) {
+    assert_eq!(rt; text, wanted);
 }
 
 /// Asserts the trace of a stream, and the answers of each script on a copy of it.
@@ -36,9 +24,9 @@ where
     S::Slice: Drop,
     requires { S.valid s }
 {
-    prints(rt, alloc, &Traced(s), trace)?;
+    is_text(rt, &shown(alloc, &Traced(s))?, trace);
     for (script, wanted) in rows {
-        is_text(rt, told(alloc, s, script)?, wanted, script);
+        is_text(rt, &told(alloc, s, script)?, wanted);
     }
     Ok(())
 }

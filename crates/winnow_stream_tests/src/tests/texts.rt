@@ -1,7 +1,7 @@
 use crate::tests::tells::{Rows, tells};
 use std::test::Fail;
 use winnow_base::stream::Step::{At, Each, IsOffset, Look, Mark, Next, Reset, Since, Take};
-use winnow_base::stream::{AsBStr, AsBytes, SliceLen, Str};
+use winnow_base::stream::Str;
 
 // Characters of one to four bytes.
 const TEXT: Str<'static> = "aß€𝄞";
@@ -74,26 +74,4 @@ fn a_text_tells_what_it_holds(rt: HostRuntime) -> Result<(), Fail> {
         tells(&rt, rt.alloc(), TEXT, "\"aß€𝄞\"", rows)?;
     }
     Ok(())
-}
-
-#[test]
-fn the_small_traits_answer_for_texts_and_slices(rt: HostRuntime) {
-    let bytes: &[u8] = b"ab";
-    assert_eq!(rt;
-        (
-            ["aß".slice_len(), 'ß'.slice_len(), 7u8.slice_len()],
-            [
-                [1u32, 2, 3].slice_len(),
-                (&[1u32, 2]).slice_len(),
-                bytes.slice_len(),
-                (bytes, 3usize, 2usize).slice_len()
-            ],
-            [
-                "ß".as_bstr().len(),
-                bytes.as_bstr().len(),
-                bytes.as_bytes().len()
-            ]
-        ),
-        ([3, 2, 1], [3, 2, 2, 15], [2, 2, 2])
-    );
 }
