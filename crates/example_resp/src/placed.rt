@@ -39,7 +39,7 @@ impl Record for PlacedReply {
     ghost lawful = { λ r. IsParser-Placing
         (⟦<ReplyTo as Parser<RecordInput<'static>, EmptyError>>⟧.means r.limits)
         (IsParser-Nested ⟦<u8 as AsChar>⟧.code
-        ⟦<RecordInput<'static> as Stream>⟧.counts_missing IsByteSlice
+        ⟦<RecordInput<'static> as Stream>⟧.counts_shortage IsByteSlice
         ⟦<&'static [u8] as AsBytes>⟧.bytes SlicesStay-bytes r.limits.longest r.limits.depth) };
 
     fn read<'b>(

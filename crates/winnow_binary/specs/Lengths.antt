@@ -16,7 +16,7 @@ IsNumber number x n = n ≡ number x
 -- a count, and then the slice of that number of tokens
 abbrev pub CountedSlice : {L S T : Type 0} → (L → ℕ) → Bool → (S → Source T → ℕ → Type 0)
     → Meaning L T → Meaning S T
-CountedSlice number counts_missing is_slice length = Continued (IsNumber number) (Counted counts_missing is_slice) length
+CountedSlice number counts_shortage is_slice length = Continued (IsNumber number) (Counted counts_shortage is_slice) length
 
 -- n values of the parser, one after the other, and what is made of them
 abbrev pub Times : {O A T : Type 0} → Type 0 → (List O → A → Type 0) → Meaning O T → ℕ → Meaning A T
@@ -30,11 +30,11 @@ CountedValues number refusable makes length inner = Continued (IsNumber number) 
 -- ---- The laws
 
 -- `CountedSlice` keeps the laws of a parser
-pub IsParser-CountedSlice : {L S T : Type 0} (number : L → ℕ) (counts_missing : Bool)
+pub IsParser-CountedSlice : {L S T : Type 0} (number : L → ℕ) (counts_shortage : Bool)
     (is_slice : S → Source T → ℕ → Type 0) → SlicesStay is_slice → (length : Meaning L T)
-    → IsParser length → IsParser (CountedSlice number counts_missing is_slice length)
-IsParser-CountedSlice number counts_missing is_slice stay length p =
-    IsParser-Continued (IsNumber number) (Counted counts_missing is_slice) length (IsParser-Counted counts_missing is_slice stay) p
+    → IsParser length → IsParser (CountedSlice number counts_shortage is_slice length)
+IsParser-CountedSlice number counts_shortage is_slice stay length p =
+    IsParser-Continued (IsNumber number) (Counted counts_shortage is_slice) length (IsParser-Counted counts_shortage is_slice stay) p
 
 -- `CountedValues` keeps the laws of a parser
 pub IsParser-CountedValues : {L O A T : Type 0} (number : L → ℕ) (refusable : Type 0)

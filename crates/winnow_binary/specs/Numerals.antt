@@ -54,8 +54,8 @@ AreFrontBytes bytes r n = bytes ≡ bytes_of (front r n)
 -- the value of the number that the next `count` bytes write; where fewer remain, the parser needs
 -- the missing ones if more may follow, and backtracks, from where it began, if nothing may
 abbrev pub FixedNumeral : {N : Type 0} → Bool → ℕ → (ℕ → N) → Endianness → Meaning N ℕ
-FixedNumeral counts_missing count of order =
-    Maps (λ bytes n. n ≡ of (number_in order bytes)) (Counted counts_missing AreFrontBytes count)
+FixedNumeral counts_shortage count of order =
+    Maps (λ bytes n. n ≡ of (number_in order bytes)) (Counted counts_shortage AreFrontBytes count)
 
 -- ---- The laws
 
@@ -63,8 +63,8 @@ FixedNumeral counts_missing count of order =
 pub SlicesStay-bytes : SlicesStay AreFrontBytes
 SlicesStay-bytes bytes r more n offset e = e ∙ ap bytes_of (sym (front-longer r more n offset))
 
-module _ {N : Type 0} (counts_missing : Bool) (count : ℕ) (of : ℕ → N) (order : Endianness) where
+module _ {N : Type 0} (counts_shortage : Bool) (count : ℕ) (of : ℕ → N) (order : Endianness) where
   -- `FixedNumeral` keeps the laws of a parser
-  pub IsParser-FixedNumeral : IsParser (FixedNumeral counts_missing count of order)
+  pub IsParser-FixedNumeral : IsParser (FixedNumeral counts_shortage count of order)
   IsParser-FixedNumeral = IsParser-Maps (λ bytes n. n ≡ of (number_in order bytes)) _
-      (IsParser-Counted counts_missing AreFrontBytes SlicesStay-bytes count)
+      (IsParser-Counted counts_shortage AreFrontBytes SlicesStay-bytes count)

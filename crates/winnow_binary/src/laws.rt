@@ -19,11 +19,11 @@ use winnow_stream::StreamIsPartial;
 /// number that the reversed bytes are with the least significant one first. It does nothing when
 /// called: its contract is the law.
 pub fn fixed_number_law<R: FixedNumber>()
-    ensures determined { (counts_missing : Bool) (order : Endianness)
+    ensures determined { (counts_shortage : Bool) (order : Endianness)
         → IsDetermined (λ x y. x ≡ y)
-        (FixedNumeral counts_missing (bytes_in R.width) R.value_of order) }
-    ensures prompt { (counts_missing : Bool) (order : Endianness)
-        → IsPrompt (FixedNumeral counts_missing (bytes_in R.width) R.value_of order) }
+        (FixedNumeral counts_shortage (bytes_in R.width) R.value_of order) }
+    ensures prompt { (counts_shortage : Bool) (order : Endianness)
+        → IsPrompt (FixedNumeral counts_shortage (bytes_in R.width) R.value_of order) }
     ensures reversed { (bytes : List ℕ) → most_first bytes ≡ least_first (reverse bytes) }
 {}
 
@@ -38,7 +38,7 @@ where
     ensures slice { (bytes : I.Slice → V) (p : P) → SlicesRespect I.is_slice (Shows bytes)
         → IsDetermined (Shows P.Output.number) (P.means p)
         → IsDetermined (Shows bytes)
-        (CountedSlice P.Output.number I.counts_missing I.is_slice (P.means p)) }
+        (CountedSlice P.Output.number I.counts_shortage I.is_slice (P.means p)) }
     ensures values { (view : Q.Output → W) (whole : A → X) (p : P) (q : Q)
         → Respects (AreSameEach (Shows view)) (Shows whole) (λ values a. A.holds a values)
         → IsDetermined (Shows P.Output.number) (P.means p)
@@ -65,5 +65,5 @@ where
         → IsDetermined (Shows P.Output.number) (P.means p)
         → IsDetermined (Shows view) (Q.means q)
         → IsDetermined (Shows view) (Within (ahead I.Slice.location I.Slice.remaining) (Q.means q)
-        (CountedSlice P.Output.number I.counts_missing I.is_slice (P.means p))) }
+        (CountedSlice P.Output.number I.counts_shortage I.is_slice (P.means p))) }
 {}

@@ -35,14 +35,14 @@ impl<I: StreamIsPartial<Token = u8>, E: ParserError<I>, R: FixedNumber> Parser<I
     for Numeral<R> {
     type Output = R;
 
-    ghost means = { λ p. FixedNumeral I.counts_missing (bytes_in R.width) R.value_of p.order };
+    ghost means = { λ p. FixedNumeral I.counts_shortage (bytes_in R.width) R.value_of p.order };
 
     ghost errors = { λ _. OwnErrors E.from_input_gives E.assert_gives };
 
     ghost ready = { λ _. Unit {0} };
 
     ghost lawful = { λ p.
-        IsParser-FixedNumeral I.counts_missing (bytes_in R.width) R.value_of p.order };
+        IsParser-FixedNumeral I.counts_shortage (bytes_in R.width) R.value_of p.order };
 
     #[inline(always)]
     fn parse_next(&self, alloc: Global, input: &mut I) -> ModalResult<R, E> {

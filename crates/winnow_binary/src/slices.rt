@@ -62,11 +62,11 @@ where
     type Output = Q::Output;
 
     ghost means = { λ p. Within (ahead I.Slice.location I.Slice.remaining) (Q.means p.inner)
-        (CountedSlice P.Output.number I.counts_missing I.is_slice (P.means p.length)) };
+        (CountedSlice P.Output.number I.counts_shortage I.is_slice (P.means p.length)) };
 
     ghost errors = { λ p. WithinErrors (ahead I.Slice.location I.Slice.remaining)
         (Q.errors p.inner)
-        (CountedSlice P.Output.number I.counts_missing I.is_slice (P.means p.length))
+        (CountedSlice P.Output.number I.counts_shortage I.is_slice (P.means p.length))
         (PairErrors (P.means p.length) (P.errors p.length)
         (OwnErrors E.from_input_gives E.assert_gives)) };
 
@@ -75,7 +75,7 @@ where
 
     ghost lawful = { λ p.
         IsParser-Within (ahead I.Slice.location I.Slice.remaining) (Q.means p.inner) _
-        (IsParser-CountedSlice P.Output.number I.counts_missing I.is_slice
+        (IsParser-CountedSlice P.Output.number I.counts_shortage I.is_slice
         I.slices_stay (P.means p.length) (P.lawful p.length)) };
 
     fn parse_next(&self, alloc: Global, input: &mut I) -> ModalResult<Q::Output, E> {

@@ -29,14 +29,14 @@ where
     type Output = I::Slice;
 
     ghost means = { λ p.
-        CountedSlice P.Output.number I.counts_missing I.is_slice (P.means p.length) };
+        CountedSlice P.Output.number I.counts_shortage I.is_slice (P.means p.length) };
 
     ghost errors = { λ p. PairErrors (P.means p.length) (P.errors p.length)
         (OwnErrors E.from_input_gives E.assert_gives) };
 
     ghost ready = { λ p. P.ready p.length };
 
-    ghost lawful = { λ p. IsParser-CountedSlice P.Output.number I.counts_missing I.is_slice
+    ghost lawful = { λ p. IsParser-CountedSlice P.Output.number I.counts_shortage I.is_slice
         I.slices_stay (P.means p.length) (P.lawful p.length) };
 
     fn parse_next(&self, alloc: Global, input: &mut I) -> ModalResult<I::Slice, E> {

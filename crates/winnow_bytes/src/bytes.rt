@@ -151,7 +151,7 @@ impl<'i> Stream for Bytes<'i> {
 
     ghost is_slice = { λ s r n. units s.now ≡ front r n };
 
-    ghost counts_missing = { true };
+    ghost counts_shortage = { true };
 
     ghost keeps = { λ _ _. ⊤ };
 

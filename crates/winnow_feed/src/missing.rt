@@ -22,15 +22,15 @@ where
     requires valid { S.valid kept }
     requires left { vec_len progress.now.told < length progress.now.script.now }
     requires stands { IsRun true
-        (piece_reading S.Token.code S.counts_missing S.write L.text_bytes)
+        (piece_reading S.Token.code S.counts_shortage S.write L.text_bytes)
         (S.remaining kept)
         progress.now }
     ensures told { IfOk result (λ more. GivesMissing
-        (piece_reading S.Token.code S.counts_missing S.write L.text_bytes)
+        (piece_reading S.Token.code S.counts_shortage S.write L.text_bytes)
         S.greatest S.spell (S.remaining kept) progress.now
         (option_map (λ bytes. bytes.items) more)) }
     ensures refused { OnErr result (MissesSome
-        (piece_reading S.Token.code S.counts_missing S.write L.text_bytes)
+        (piece_reading S.Token.code S.counts_shortage S.write L.text_bytes)
         S.greatest S.spell (S.remaining kept) progress.now) }
 {
     let script = progress.script;

@@ -56,16 +56,16 @@ where
     requires valid { S.valid kept }
     requires left { vec_len progress.old.told < length progress.old.script.now }
     requires ready { MayGoOn (S.expects_more kept)
-        (piece_reading S.Token.code S.counts_missing S.write L.text_bytes)
+        (piece_reading S.Token.code S.counts_shortage S.write L.text_bytes)
         (S.remaining kept)
         progress.old }
     ensures stands { KeepsRun (S.expects_more kept)
-        (piece_reading S.Token.code S.counts_missing S.write L.text_bytes)
+        (piece_reading S.Token.code S.counts_shortage S.write L.text_bytes)
         (S.remaining kept)
         progress.old progress.new }
     ensures waits { result ≡ false → IsTrue (S.expects_more kept)
         × ComesToRest (S.expects_more kept)
-        (piece_reading S.Token.code S.counts_missing S.write L.text_bytes)
+        (piece_reading S.Token.code S.counts_shortage S.write L.text_bytes)
         (S.remaining kept)
         progress.old progress.new }
     ensures on { GoesOn piece progress.old progress.new }
@@ -119,11 +119,11 @@ where
     S::Slice: Drop,
     requires valid { S.valid kept }
     requires ready { MayGoOn (S.expects_more kept)
-        (piece_reading S.Token.code S.counts_missing S.write L.text_bytes)
+        (piece_reading S.Token.code S.counts_shortage S.write L.text_bytes)
         (S.remaining kept)
         progress.old }
     ensures stands { KeepsRunAtRest (S.expects_more kept)
-        (piece_reading S.Token.code S.counts_missing S.write L.text_bytes)
+        (piece_reading S.Token.code S.counts_shortage S.write L.text_bytes)
         (S.remaining kept)
         progress.old progress.new }
     ensures done { S.expects_more kept ≡ false

@@ -101,13 +101,13 @@ where
     requires more { IsTrue (S.expects_more kept) }
     requires left { vec_len progress.old.told < length progress.old.script.now }
     requires ready { MayGoOn true
-        (piece_reading S.Token.code S.counts_missing S.write L.text_bytes)
+        (piece_reading S.Token.code S.counts_shortage S.write L.text_bytes)
         (S.remaining kept)
         progress.old }
     requires least { (end : ℕ) → KeepsLeast end progress.old }
     requires named { named.now ≡ least_marks progress.old.script.now }
     ensures takes { TakesIn
-        (piece_reading S.Token.code S.counts_missing S.write L.text_bytes)
+        (piece_reading S.Token.code S.counts_shortage S.write L.text_bytes)
         (S.remaining kept)
         result progress.old progress.new }
     ensures piece { TakesPiece progress.old progress.new }

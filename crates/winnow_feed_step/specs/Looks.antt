@@ -31,7 +31,7 @@ in_set code set token = in_ranges (char_ranges set) (code token)
 -- how pieces are read: by the numbers and the bytes of tokens, and the bytes of literals
 abbrev pub piece_reading : {T L : Type 0} → (T → ℕ) → Bool → (T → List ℕ) → (L → List ℕ)
     → PieceReading T CharSet L
-piece_reading code counts_missing write literal = record { holds = in_set code; counts_missing = counts_missing; write = write; literal = literal }
+piece_reading code counts_shortage write literal = record { holds = in_set code; counts_shortage = counts_shortage; write = write; literal = literal }
 
 abbrev pub placed_since : {T : Type 0} → ℕ → Option ℕ → PlacedAnswer T
 placed_since at None = answer.NoMark
@@ -40,9 +40,9 @@ placed_since at (Some mark) = cond (nat_le mark at) (answer.Offset (at - mark)) 
 -- what a call answers
 abbrev pub placed_call : {T C : Type 0} → (C → T → Bool) → Bool → ℕ → List ℕ → Source T → Step C
     → PlacedAnswer T
-placed_call holds counts_missing at marks r s =
+placed_call holds counts_shortage at marks r s =
     let mark = mark_of marks (call_mark s) in
-    call_answer holds counts_missing at r (length marks) (reset_answer mark) (placed_since at mark) s
+    call_answer holds counts_shortage at r (length marks) (reset_answer mark) (placed_since at mark) s
 
 -- the width of the first token, if there is one
 abbrev pub first_width : {T : Type 0} → Source T → ℕ
@@ -83,18 +83,18 @@ seen_of look = record { definite = look.definite; place = look.place; marks = lo
 abbrev pub under : {T : Type 0} → Option ℕ → PlacedSearchAnswer T → Told T
 under piece answer = record { piece = piece; answer = answer }
 
-module _ {T C : Type 0} (holds : C → T → Bool) (counts_missing : Bool) (at : ℕ) (marks : List ℕ) (r : Source T) where
+module _ {T C : Type 0} (holds : C → T → Bool) (counts_shortage : Bool) (at : ℕ) (marks : List ℕ) (r : Source T) where
   abbrev pub call_look : Step C → Look T
   call_look s = record {
-    answer = search_answered.Call (placed_call holds counts_missing at marks r s);
-    definite = is_call_definite holds counts_missing s r;
+    answer = search_answered.Call (placed_call holds counts_shortage at marks r s);
+    definite = is_call_definite holds counts_shortage s r;
     place = place_after at marks r (call_mark s) (call_move s);
     marks = is_marking (call_move s);
   }
 
 module _ {T C L : Type 0} (k : PieceReading T C L) (at : ℕ) (marks : List ℕ) (r : Source T) where
   abbrev pub look_of : SearchStep C L → Look T
-  look_of (step.Call s) = call_look k.holds k.counts_missing at marks r s
+  look_of (step.Call s) = call_look k.holds k.counts_shortage at marks r s
   look_of (step.Compare literal) = record {
     answer = search_answered.Compared (comparison (k.literal literal) (written k.write r));
     definite = is_definite k (step.Compare literal) r;

@@ -37,16 +37,16 @@ needle_missing needles bytes = if is_some (hit needles bytes) then rest_of_needl
 
 -- what a need is missing if r remains, where tokens have numbers up to `greatest` and `spell` gives
 -- their bytes; `None` for a set that holds no such token
-module _ {T : Type 0} (counts_missing : Bool) (greatest : ℕ) (spell : ℕ → List ℕ) (r : Source T) where
+module _ {T : Type 0} (counts_shortage : Bool) (greatest : ℕ) (spell : ℕ → List ℕ) (r : Source T) where
   abbrev pub need_missing : Need CharSet → Option (List ℕ)
   need_missing (need.Width n) = Some (letters (n - width r))
-  need_missing (need.Tokens n) = Some (letters (if counts_missing then 1 else n - length r))
+  need_missing (need.Tokens n) = Some (letters (if counts_shortage then 1 else n - length r))
   need_missing (need.TokenOf set) = option_map spell (least_of_first greatest (char_ranges set))
   need_missing _ = Some (letters 1)
 
 -- what a step is missing; for a comparison, that is the rest of the literal
 module _ {T L : Type 0} (k : PieceReading T CharSet L) (greatest : ℕ) (spell : ℕ → List ℕ) (r : Source T) where
   abbrev pub missing : SearchStep CharSet L → Option (List ℕ)
-  missing (step.Call s) = need_missing k.counts_missing greatest spell r (call_need s)
+  missing (step.Call s) = need_missing k.counts_shortage greatest spell r (call_need s)
   missing (step.Compare literal) = Some (drop (length (written k.write r)) (k.literal literal))
   missing (step.Find needles) = Some (needle_missing (needle_list k.literal needles) (written k.write r))

@@ -65,17 +65,17 @@ where
     requires valid { S.valid rest }
     requires room { here.place + width (S.remaining rest) < 2 ^ 64 }
     requires settled { IsSettled
-        (piece_reading S.Token.code S.counts_missing S.write L.text_bytes)
+        (piece_reading S.Token.code S.counts_shortage S.write L.text_bytes)
         step.now (S.remaining rest) here.settled.width here.settled.tokens }
     requires told_room { vec_len told.old < vec_capacity told.old }
     ensures seen { result.0 ≡ seen_of (look_of
-        (piece_reading S.Token.code S.counts_missing S.write L.text_bytes)
+        (piece_reading S.Token.code S.counts_shortage S.write L.text_bytes)
         here.entry.place here.entry.marks.now (S.remaining rest) step.now) }
     ensures searched { IsSearched
-        (piece_reading S.Token.code S.counts_missing S.write L.text_bytes)
+        (piece_reading S.Token.code S.counts_shortage S.write L.text_bytes)
         step.now (S.remaining rest) result.1 }
     ensures items { told.new.items ≡ told.old.items ++ under here.entry.piece (look_of
-        (piece_reading S.Token.code S.counts_missing S.write L.text_bytes)
+        (piece_reading S.Token.code S.counts_shortage S.write L.text_bytes)
         here.entry.place here.entry.marks.now (S.remaining rest) step.now).answer ∷ [] }
     ensures grows { GrowsByOne told.old told.new }
 {
@@ -157,16 +157,16 @@ where
     S::Slice: Drop,
     requires valid { S.valid rest }
     requires settled { IsSettled
-        (piece_reading S.Token.code S.counts_missing S.write L.text_bytes)
+        (piece_reading S.Token.code S.counts_shortage S.write L.text_bytes)
         step.now (S.remaining rest) settled.width settled.tokens }
     requires searched { IsSearched
-        (piece_reading S.Token.code S.counts_missing S.write L.text_bytes)
+        (piece_reading S.Token.code S.counts_shortage S.write L.text_bytes)
         step.now (S.remaining rest) searched }
     requires waits { is_definite
-        (piece_reading S.Token.code S.counts_missing S.write L.text_bytes)
+        (piece_reading S.Token.code S.counts_shortage S.write L.text_bytes)
         step.now (S.remaining rest) ≡ false }
     ensures { IsSettled
-        (piece_reading S.Token.code S.counts_missing S.write L.text_bytes)
+        (piece_reading S.Token.code S.counts_shortage S.write L.text_bytes)
         step.now (S.remaining rest) result.width result.tokens }
 {
     match step {
@@ -222,11 +222,11 @@ where
     requires valid { S.valid rest }
     requires room { here.place + width (S.remaining rest) < 2 ^ 64 }
     requires settled { IsSettled
-        (piece_reading S.Token.code S.counts_missing S.write L.text_bytes)
+        (piece_reading S.Token.code S.counts_shortage S.write L.text_bytes)
         step.now (S.remaining rest) here.settled.width here.settled.tokens }
     requires told_room { vec_len told.old < vec_capacity told.old }
     ensures attempts { Attempts
-        (piece_reading S.Token.code S.counts_missing S.write L.text_bytes)
+        (piece_reading S.Token.code S.counts_shortage S.write L.text_bytes)
         here.entry.place here.entry.marks.now (S.remaining rest) step.now (S.expects_more rest)
         here.entry.piece told.old.items told.new.items result }
     ensures capacity { vec_capacity told.old ≤ vec_capacity told.new }

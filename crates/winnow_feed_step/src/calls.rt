@@ -64,7 +64,7 @@ where
     S::Slice: Drop,
     requires valid { S.valid rest }
     requires settled { AreCounted asked (S.remaining rest) settled counted }
-    ensures { result ≡ offset_at S.counts_missing (S.remaining rest) asked }
+    ensures { result ≡ offset_at S.counts_shortage (S.remaining rest) asked }
 {
     let _end = rest.eof_offset();
     let mut later = rest;
@@ -183,10 +183,10 @@ where
     requires settled { IsCallSettled (in_set S.Token.code) call.now (S.remaining rest)
         here.settled.width here.settled.tokens }
     requires told_room { vec_len told.old < vec_capacity told.old }
-    ensures seen { result ≡ seen_of (call_look (in_set S.Token.code) S.counts_missing
+    ensures seen { result ≡ seen_of (call_look (in_set S.Token.code) S.counts_shortage
         here.entry.place here.entry.marks.now (S.remaining rest) call.now) }
     ensures items { told.new.items ≡ told.old.items ++ under here.entry.piece (call_look
-        (in_set S.Token.code) S.counts_missing
+        (in_set S.Token.code) S.counts_shortage
         here.entry.place here.entry.marks.now (S.remaining rest) call.now).answer ∷ [] }
     ensures grows { GrowsByOne told.old told.new }
 {

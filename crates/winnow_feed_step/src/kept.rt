@@ -40,7 +40,7 @@ pub trait Kept: Stream + StreamIsPartial + Copy {
     fn letters_to(&self, asked: usize) -> usize
         requires { Self.valid self.now }
         ensures { result
-            ≡ (if Self.counts_missing then 1 else asked - length (Self.remaining self.now)) };
+            ≡ (if Self.counts_shortage then 1 else asked - length (Self.remaining self.now)) };
 
     // A call of the stream does not change the flag.
     ghost keeps_flag: { (s t : Self) → Self.keeps s t → Self.expects_more t ≡ Self.expects_more s };

@@ -89,9 +89,9 @@ where
     S::Slice: Drop,
     requires { S.valid rest }
     ensures told { IfOk result (λ more. option_map (λ bytes. bytes.items) more ≡ need_missing
-        S.counts_missing S.greatest S.spell (S.remaining rest) need.now) }
+        S.counts_shortage S.greatest S.spell (S.remaining rest) need.now) }
     ensures refused { OnErr result
-        (IsSome (need_missing S.counts_missing S.greatest S.spell (S.remaining rest) need.now)) }
+        (IsSome (need_missing S.counts_shortage S.greatest S.spell (S.remaining rest) need.now)) }
 {
     match need {
         Need::Width(n) => letters(alloc, n.saturating_sub(rest.eof_offset())),
@@ -114,13 +114,13 @@ where
     S::Slice: Drop,
     requires valid { S.valid rest }
     requires settled { IsSettled
-        (piece_reading S.Token.code S.counts_missing S.write L.text_bytes)
+        (piece_reading S.Token.code S.counts_shortage S.write L.text_bytes)
         step.now (S.remaining rest) settled.width settled.tokens }
     ensures told { IfOk result (λ more. option_map (λ bytes. bytes.items) more ≡ missing
-        (piece_reading S.Token.code S.counts_missing S.write L.text_bytes)
+        (piece_reading S.Token.code S.counts_shortage S.write L.text_bytes)
         S.greatest S.spell (S.remaining rest) step.now) }
     ensures refused { OnErr result (IsSome (missing
-        (piece_reading S.Token.code S.counts_missing S.write L.text_bytes)
+        (piece_reading S.Token.code S.counts_shortage S.write L.text_bytes)
         S.greatest S.spell (S.remaining rest) step.now)) }
 {
     match step {

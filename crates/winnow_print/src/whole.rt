@@ -22,8 +22,8 @@ where
     S::Slice: PushWords + Drop,
     requires { S.valid stream }
     ensures { IfOk result (λ text. (given : _)
-        × AreSearchAnswers (HoldsNumber S.Token.code) S.is_slice S.counts_missing S.compared S.found
-        (S.remaining stream) steps.now given
+        × AreSearchAnswers (HoldsNumber S.Token.code) S.is_slice S.counts_shortage S.compared
+        S.found (S.remaining stream) steps.now given
         × (string_bytes text
         ≡ answer_lines S.Token.code S.Slice.words (λ v. item_words S.Token.code v.items) given)) }
 {

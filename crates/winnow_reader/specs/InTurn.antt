@@ -1,28 +1,29 @@
 -- Values that were read stand in the input in turn.
-use Rattle.std.specs.Prelude.{◌≡◌, ℕ, ◌+◌, ◌-◌, ◌≤◌, Bool, true, false, List, [], ◌∷◌, ◌++◌, length, drop, Some}
+use Rattle.std.specs.Prelude.{◌≡◌, ℕ, ◌+◌, ◌-◌, ◌≤◌, Bool, true, false, List, [], ◌∷◌, ◌++◌, length, take, drop, Some, IsTrue}
+use Rattle.std.specs.Borrow.{Bor}
 use Rattle.std.proofs.Common.{refl, ap, sym, ◌∙◌, subst, arith}
 use Rattle.std.proofs.lemmas.List.{append-nil}
 use Rattle.std.proofs.lemmas.Option.{same_Some}
 use Rattle.winnow_stream.specs.Source.{units, width}
 use Rattle.winnow_stream.specs.Units.{width-units, HasPositiveWidths-units}
-use Rattle.winnow_stream.proofs.lemmas.UnitLemmas.{units-drop, units-same}
-use Rattle.winnow_parser.specs.Outcome.{Ahead, Gives, Meaning, Moves}
+use Rattle.winnow_stream.specs.Front.{is_offset}
+use Rattle.winnow_stream.proofs.lemmas.UnitLemmas.{units-take, units-drop, units-same, le-from_is_offset}
+use Rattle.winnow_parser.specs.Outcome.{Ahead, Gives, Meaning, Moves, after}
 use Rattle.winnow_parser.specs.Laws.{IsParser}
 use Rattle.winnow_parser.proofs.lemmas.TakenLemmas.{after-taken}
-use Rattle.winnow_reader.specs.Place.{bytes_at}
+use Rattle.winnow_reader.specs.Place.{bytes_at, IsByteSlice}
 use Rattle.winnow_reader.specs.State.{ReaderState}
 use Rattle.winnow_reader.specs.Reading.{Reads, MayFollow, HasRead}
 
--- values stand in these bytes, one after the other, each as a relation says of the bytes before it
--- and behind it, and this rest
+-- the bytes are these values, one after the other, and then the rest: `stands x bytes behind` says
+-- that x stands at the head of some bytes, with those behind it
 abbrev pub StandInTurn : {O : Type 0} → (O → List ℕ → List ℕ → Type 0) → List ℕ → List O → List ℕ
     → Type 0
 StandInTurn stands bytes [] rest = bytes ≡ rest
 StandInTurn stands bytes (x ∷ xs) rest = (behind : List ℕ)
     × (stands x bytes behind × StandInTurn stands behind xs rest)
 
--- where nothing may follow, each value that the parser gives of bytes stands there, and these bytes
--- are behind it
+-- at the end of the input, a value that the parser gives stands at the head of what it read
 abbrev pub GivesWhatStands : {O : Type 0} → (O → List ℕ → List ℕ → Type 0) → Meaning O ℕ → Type 0
 GivesWhatStands {O} stands means = (x : O) (place there : ℕ) (bytes behind : List ℕ)
     → means false (bytes_at place bytes) (Gives x (bytes_at there behind)) → stands x bytes behind
@@ -45,6 +46,17 @@ bytes_at-moved p xs b m =
     let n = width (units xs) - width b.tokens in
     let within : n ≤ length xs = omega (arith, width-units xs) in
     (n, (within, sym (after-taken (bytes_at p xs) b (HasPositiveWidths-units xs) m) ∙ ap (λ r. record { location = Some (p + n); tokens = r }) (sym (units-drop xs n within))))
+
+-- the slice of the first n bytes is these bytes, and behind it stand the others, n places later
+pub bytes_at-slice : (p : ℕ) (xs : List ℕ) (slice : Bor (List ℕ)) (n : ℕ)
+    → IsTrue (is_offset (units xs) n) → IsByteSlice slice (units xs) n
+    → (n ≤ length xs) × (slice.now ≡ take n xs) × (after (bytes_at p xs) n ≡ bytes_at (p + n) (drop n xs))
+bytes_at-slice p xs slice n offset is =
+    let within = le-from_is_offset xs n offset in (
+      within,
+      units-same slice.now (take n xs) (is ∙ sym (units-take xs n within)),
+      ap (λ r. record { location = Some (p + n); tokens = r }) (sym (units-drop xs n within)),
+    )
 
 module _ {O : Type 0} (stands : O → List ℕ → List ℕ → Type 0) (means : Meaning O ℕ) (p : IsParser means) (gives : GivesWhatStands stands means) where
   -- values that are read one after the other stand in the bytes in turn

@@ -1,9 +1,12 @@
-ghost use Rattle.std.specs.Prelude.{◌≡◌, ℕ, ◌+◌, ◌≤◌, List, [], ◌++◌, length, drop, true, false};
-ghost use Rattle.std.specs.Prelude.{IsUtf8};
+ghost use Rattle.std.specs.Prelude.{◌≡◌, ℕ, ◌+◌, ◌≤◌, List, [], ◌++◌, length, take, drop};
+ghost use Rattle.std.specs.Prelude.{true, false, IsTrue, IsUtf8};
+ghost use Rattle.std.specs.Borrow.{Bor};
+ghost use Rattle.winnow_stream.specs.Source.{units};
+ghost use Rattle.winnow_stream.specs.Front.{is_offset};
 ghost use Rattle.winnow_parser.specs.Determined.{IsDetermined, Shows};
 ghost use Rattle.winnow_reader.specs.State.{ReaderState};
-ghost use Rattle.winnow_parser.specs.Outcome.{Ahead, Moves};
-ghost use Rattle.winnow_reader.specs.Place.{bytes_at};
+ghost use Rattle.winnow_parser.specs.Outcome.{Ahead, Moves, after};
+ghost use Rattle.winnow_reader.specs.Place.{bytes_at, IsByteSlice};
 ghost use Rattle.winnow_reader.specs.Reading.{HasRead};
 ghost use Rattle.winnow_reader.specs.SameValues.{AreFronts, AreAlike, IsThrough};
 ghost use Rattle.winnow_reader.specs.InUtf8.{InUtf8, text_in, past_text, is_damaged};
@@ -25,14 +28,19 @@ pub fn determined_reading_law<R: Record, V>()
         → IsThrough f → IsThrough g → AreAlike (Shows view) xs ys }
 {}
 
-/// The law of bytes at a place: they are known by the place and the bytes; and where a parser moves
-/// on from there, it stands at the rest of these bytes, as many places later as it took. It does
-/// nothing when called: its contract is the law.
+/// The law of bytes at a place: they are known by the place and the bytes; where a parser moves on
+/// from there, it stands at the rest of these bytes, as many places later as it took; and a slice,
+/// such as a literal, a set, a search or a count gives, is the first bytes, and the others stand
+/// behind it. It does nothing when called: its contract is the law.
 pub fn bytes_at_law()
     ensures same { (p q : ℕ) (xs ys : List ℕ) → bytes_at p xs ≡ bytes_at q ys
         → (p ≡ q) × (xs ≡ ys) }
     ensures moved { (p : ℕ) (xs : List ℕ) (b : Ahead ℕ) → Moves (bytes_at p xs) b
         → (n : ℕ) × ((n ≤ length xs) × (b ≡ bytes_at (p + n) (drop n xs))) }
+    ensures slice { (p : ℕ) (xs : List ℕ) (slice : Bor (List ℕ)) (n : ℕ)
+        → IsTrue (is_offset (units xs) n) → IsByteSlice slice (units xs) n
+        → (n ≤ length xs) × (slice.now ≡ take n xs)
+        × (after (bytes_at p xs) n ≡ bytes_at (p + n) (drop n xs)) }
 {}
 
 /// The law of damage in text. Where no damage follows the text at the front of bytes, some more

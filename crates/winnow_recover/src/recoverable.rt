@@ -125,7 +125,7 @@ impl<I: Stream, E: Debug> Stream for Recoverable<I, E> {
 
     ghost is_slice = { I.is_slice };
 
-    ghost counts_missing = { I.counts_missing };
+    ghost counts_shortage = { I.counts_shortage };
 
     ghost keeps = { λ s t. (recorded_errors s ≡ recorded_errors t)
         × (records_errors s ≡ records_errors t) × I.keeps s.input t.input };

@@ -129,7 +129,7 @@ abbrev pub IsLine : ℕ → FirstOf (OtherTokens (ℕ × ℕ)) (OneOfSet ℕ × 
 IsLine longest p = (p.first.set ≡ (13, 10)) × HasCounts 0 (Some longest) p.first.counts
     × (p.second.0.set ≡ 13) × (p.second.1.set ≡ 10)
 
-module _ {S T : Type 0} (code : T → ℕ) (counts_missing : Bool) (is_slice : S → Source T → ℕ → Type 0) (bytes : S → List ℕ) where
+module _ {S T : Type 0} (code : T → ℕ) (counts_shortage : Bool) (is_slice : S → Source T → ℕ → Type 0) (bytes : S → List ℕ) where
   -- a text of at most that many bytes, and the end of its line
   abbrev pub Line : ℕ → Meaning S T
   Line longest = Terminated (HeldFront is_slice (λ token. is_in_line (code token)) 0 (Some longest)) (LineEnd code)
@@ -148,7 +148,7 @@ module _ {S T : Type 0} (code : T → ℕ) (counts_missing : Bool) (is_slice : S
 
   -- that many bytes, and the end of a line; the parser cuts where they are missing
   abbrev pub Bytes : ℕ → Meaning (Vec ℕ Global) T
-  Bytes n = Gathered ⊤ (HasBytes bytes) (CutOff (Terminated (Counted counts_missing is_slice n) (LineEnd code)))
+  Bytes n = Gathered ⊤ (HasBytes bytes) (CutOff (Terminated (Counted counts_shortage is_slice n) (LineEnd code)))
 
   -- what follows the length of a bulk string
   abbrev pub BulkOf : Option ℕ → Meaning Reply T
@@ -223,7 +223,7 @@ module _ {S T : Type 0} (code : T → ℕ) (counts_missing : Bool) (is_slice : S
     -- `Bytes` keeps the laws of a parser
     IsParser-Bytes : (n : ℕ) → IsParser (Bytes n)
     IsParser-Bytes n = IsParser-Gathered ⊤ (HasBytes bytes)
-        (IsParser-CutOff _ (IsParser-Terminated _ _ (IsParser-Counted counts_missing is_slice stay n) (IsParser-LineEnd code)))
+        (IsParser-CutOff _ (IsParser-Terminated _ _ (IsParser-Counted counts_shortage is_slice stay n) (IsParser-LineEnd code)))
 
     -- `BulkOf` keeps the laws of a parser
     IsParser-BulkOf : (n : Option ℕ) → IsParser (BulkOf n)

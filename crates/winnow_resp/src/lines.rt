@@ -39,7 +39,7 @@ where
     I::Token: AsChar + Copy,
     I::Slice: AsBytes + Drop,
     requires { I.valid input.old }
-    ensures means { Text I.Token.code I.counts_missing I.is_slice I.Slice.bytes longest
+    ensures means { Text I.Token.code I.counts_shortage I.is_slice I.Slice.bytes longest
         (I.expects_more input.old)
         (ahead I.location I.remaining input.old)
         (outcome result (ahead I.location I.remaining input.new)) }
@@ -65,7 +65,7 @@ where
     I::Slice: AsBytes + Drop,
     requires { I.valid input.old }
     ensures means { Number I.Token.code
-        I.counts_missing I.is_slice I.Slice.bytes (I.expects_more input.old)
+        I.counts_shortage I.is_slice I.Slice.bytes (I.expects_more input.old)
         (ahead I.location I.remaining input.old)
         (outcome result (ahead I.location I.remaining input.new)) }
     ensures valid { I.valid input.new }
@@ -92,7 +92,7 @@ where
     I::Token: AsChar + Copy,
     I::Slice: AsBytes + Drop,
     requires { I.valid input.old }
-    ensures means { Length I.Token.code I.counts_missing I.is_slice I.Slice.bytes greatest
+    ensures means { Length I.Token.code I.counts_shortage I.is_slice I.Slice.bytes greatest
         (I.expects_more input.old)
         (ahead I.location I.remaining input.old)
         (outcome result (ahead I.location I.remaining input.new)) }
@@ -120,7 +120,7 @@ where
     I::Token: AsChar + Copy,
     I::Slice: AsBytes + Drop,
     requires { I.valid input.old }
-    ensures means { Bytes I.Token.code I.counts_missing I.is_slice I.Slice.bytes count
+    ensures means { Bytes I.Token.code I.counts_shortage I.is_slice I.Slice.bytes count
         (I.expects_more input.old) (ahead I.location I.remaining input.old)
         (outcome result (ahead I.location I.remaining input.new)) }
     ensures valid { I.valid input.new }

@@ -27,7 +27,7 @@ where
     I::Token: AsChar + Copy,
     I::Slice: AsBytes + Drop,
     requires { I.valid input.old }
-    ensures means { BulkString I.Token.code I.counts_missing I.is_slice I.Slice.bytes longest
+    ensures means { BulkString I.Token.code I.counts_shortage I.is_slice I.Slice.bytes longest
         (I.expects_more input.old) (ahead I.location I.remaining input.old)
         (outcome result (ahead I.location I.remaining input.new)) }
     ensures valid { I.valid input.new }
@@ -54,7 +54,7 @@ where
     requires ready { P.ready inner }
     requires valid { I.valid input.old }
     ensures means { ArrayReply I.Token.code
-        I.counts_missing I.is_slice I.Slice.bytes (P.means inner)
+        I.counts_shortage I.is_slice I.Slice.bytes (P.means inner)
         (I.expects_more input.old) (ahead I.location I.remaining input.old)
         (outcome result (ahead I.location I.remaining input.new)) }
     ensures valid { I.valid input.new }
@@ -84,7 +84,7 @@ where
     requires valid { I.valid input.old }
     requires kind { is_kind kind ≡ true }
     requires scalar { kind ≢ 42 }
-    ensures means { Scalar I.Token.code I.counts_missing I.is_slice I.Slice.bytes longest kind
+    ensures means { Scalar I.Token.code I.counts_shortage I.is_slice I.Slice.bytes longest kind
         (I.expects_more input.old) (ahead I.location I.remaining input.old)
         (outcome result (ahead I.location I.remaining input.new)) }
     ensures valid { I.valid input.new }
@@ -124,7 +124,7 @@ where
     requires ready { P.ready inner }
     requires valid { I.valid input.old }
     ensures means { Layer I.Token.code
-        I.counts_missing I.is_slice I.Slice.bytes longest (P.means inner)
+        I.counts_shortage I.is_slice I.Slice.bytes longest (P.means inner)
         (I.expects_more input.old) (ahead I.location I.remaining input.old)
         (outcome result (ahead I.location I.remaining input.new)) }
     ensures valid { I.valid input.new }
@@ -175,9 +175,9 @@ where
     type Output = Reply;
 
     ghost meaning = { λ rule.
-        Nested I.Token.code I.counts_missing I.is_slice I.Slice.bytes rule.longest rule.depth };
+        Nested I.Token.code I.counts_shortage I.is_slice I.Slice.bytes rule.longest rule.depth };
 
-    ghost lawful = { λ rule. IsParser-Nested I.Token.code I.counts_missing I.is_slice I.Slice.bytes
+    ghost lawful = { λ rule. IsParser-Nested I.Token.code I.counts_shortage I.is_slice I.Slice.bytes
         I.slices_stay rule.longest rule.depth };
 }
 
@@ -188,14 +188,14 @@ where
 {
     type Output = Reply;
 
-    ghost means = { λ p. Nested I.Token.code I.counts_missing I.is_slice I.Slice.bytes p.longest
+    ghost means = { λ p. Nested I.Token.code I.counts_shortage I.is_slice I.Slice.bytes p.longest
         p.depth };
 
     ghost errors = { λ _. AnyError };
 
     ghost ready = { λ _. Unit {0} };
 
-    ghost lawful = { λ p. IsParser-Nested I.Token.code I.counts_missing I.is_slice I.Slice.bytes
+    ghost lawful = { λ p. IsParser-Nested I.Token.code I.counts_shortage I.is_slice I.Slice.bytes
         I.slices_stay p.longest p.depth };
 
     fn parse_next(&self, alloc: Global, input: &mut I) -> ModalResult<Reply, E> {
@@ -217,7 +217,7 @@ where
     I::Token: AsChar + Copy,
     I::Slice: AsBytes + Drop,
     requires { I.valid input.old }
-    ensures means { Nested I.Token.code I.counts_missing I.is_slice I.Slice.bytes longest depth
+    ensures means { Nested I.Token.code I.counts_shortage I.is_slice I.Slice.bytes longest depth
         (I.expects_more input.old) (ahead I.location I.remaining input.old)
         (outcome result (ahead I.location I.remaining input.new)) }
     ensures valid { I.valid input.new }
@@ -230,7 +230,7 @@ where
         requires valid { I.valid input.old }
         requires deep { 0 < depth }
         ensures means { Nested I.Token.code
-            I.counts_missing I.is_slice I.Slice.bytes longest (depth - 1)
+            I.counts_shortage I.is_slice I.Slice.bytes longest (depth - 1)
             (I.expects_more input.old) (ahead I.location I.remaining input.old)
             (outcome result (ahead I.location I.remaining input.new)) }
         ensures valid { I.valid input.new }

@@ -21,7 +21,7 @@ impl Record for ReplyTo {
     ghost ready = { λ _. Unit {0} };
 
     ghost lawful = { λ r. IsParser-Nested ⟦<u8 as AsChar>⟧.code
-        ⟦<RecordInput<'static> as Stream>⟧.counts_missing IsByteSlice
+        ⟦<RecordInput<'static> as Stream>⟧.counts_shortage IsByteSlice
         ⟦<&'static [u8] as AsBytes>⟧.bytes SlicesStay-bytes r.longest r.depth };
 
     fn read<'b>(

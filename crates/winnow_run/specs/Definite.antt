@@ -19,7 +19,7 @@ use Rattle.winnow_run.specs.Searching.{ScriptKind, PlacedSearchAnswer, search_an
 -- of a token and of a literal
 pub record PieceReading (T C L : Type 0) : Type 0 where
   pub holds : C → T → Bool
-  pub counts_missing : Bool
+  pub counts_shortage : Bool
   pub write : T → List ℕ
   pub literal : L → List ℕ
 
@@ -27,7 +27,7 @@ pub record PieceReading (T C L : Type 0) : Type 0 where
 abbrev pub kind_on_pieces : {T C L : Type 0} → PieceReading T C L → ScriptKind T C L
 kind_on_pieces k = record {
   holds = k.holds;
-  counts_missing = k.counts_missing;
+  counts_shortage = k.counts_shortage;
   compared = λ literal r. comparison (k.literal literal) (written k.write r);
   found = λ needles r. hit (needle_list k.literal needles) (written k.write r);
 }
@@ -39,11 +39,11 @@ is_decided compared.Error = true
 
 -- whether no further input can change what a call answers if r remains: what it needs is there
 abbrev pub is_call_definite : {T C : Type 0} → (C → T → Bool) → Bool → Step C → Source T → Bool
-is_call_definite holds counts_missing s r = is_met holds counts_missing (call_need s) r
+is_call_definite holds counts_shortage s r = is_met holds counts_shortage (call_need s) r
 
 module _ {T C L : Type 0} (k : PieceReading T C L) where
   abbrev pub is_definite : SearchStep C L → Source T → Bool
-  is_definite (step.Call s) r = is_call_definite k.holds k.counts_missing s r
+  is_definite (step.Call s) r = is_call_definite k.holds k.counts_shortage s r
   is_definite (step.Compare literal) r = is_decided (comparison (k.literal literal) (written k.write r))
   is_definite (step.Find needles) r = hit_is_definite (needle_list k.literal needles) (written k.write r)
 

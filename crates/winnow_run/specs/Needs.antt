@@ -26,12 +26,12 @@ call_need (step.Since k) = need.Nothing
 
 -- what is needed is there if r remains
 abbrev pub is_met : {C T : Type 0} → (C → T → Bool) → Bool → Need C → Source T → Bool
-is_met holds counts_missing need.Nothing r = true
-is_met holds counts_missing need.Token r = is_some (first_token r)
-is_met holds counts_missing (need.Width n) r = nat_le n (width r)
-is_met holds counts_missing (need.Tokens n) r = is_ok (offset_at counts_missing r n)
-is_met holds counts_missing (need.TokenOf c) r = is_some (first_offset (holds c) r)
-is_met holds counts_missing need.End r = false
+is_met holds counts_shortage need.Nothing r = true
+is_met holds counts_shortage need.Token r = is_some (first_token r)
+is_met holds counts_shortage (need.Width n) r = nat_le n (width r)
+is_met holds counts_shortage (need.Tokens n) r = is_ok (offset_at counts_shortage r n)
+is_met holds counts_shortage (need.TokenOf c) r = is_some (first_offset (holds c) r)
+is_met holds counts_shortage need.End r = false
 
 -- no input meets the need
 abbrev pub is_end : {C : Type 0} → Need C → Bool

@@ -72,9 +72,9 @@ MayTake step here = StandsSomewhere here × IsInReach step here
 -- the given answer is the step's answer, at each cursor where the run may stand
 abbrev pub AnswersStep : {C T S : Type 0} → (C → T → Bool → Type 0) → (S → Source T → ℕ → Type 0)
     → Bool → Step C → RunState T → Answer T S (Vec (ℕ × T)) Needed → Type 0
-AnswersStep {C} {T} may_answer is_slice counts_missing step here given =
+AnswersStep {C} {T} may_answer is_slice counts_shortage step here given =
     (all : Source T) (at : Cursor) → StandsAt here all at
-    → IsAnswer may_answer is_slice counts_missing all step at given
+    → IsAnswer may_answer is_slice counts_shortage all step at given
 
 -- after the step the run stands where the step leaves the cursor, for each cursor where it may have
 -- stood
@@ -93,7 +93,7 @@ StayLocated origin here from there to = (whole : Option ℕ) → AreLocated whol
 
 -- the given answer is the step's, and the run stands where the step leads, as far after its origin
 -- in the whole input as before
-pub record TakesStep {C T S : Type 0} (may_answer : C → T → Bool → Type 0) (is_slice : S → Source T → ℕ → Type 0) (counts_missing : Bool) (step : Step C) (here there : RunState T) (origin from to : Option ℕ) (given : Answer T S (Vec (ℕ × T)) Needed) : Type 0 where
-  pub answer : AnswersStep may_answer is_slice counts_missing step here given
+pub record TakesStep {C T S : Type 0} (may_answer : C → T → Bool → Type 0) (is_slice : S → Source T → ℕ → Type 0) (counts_shortage : Bool) (step : Step C) (here there : RunState T) (origin from to : Option ℕ) (given : Answer T S (Vec (ℕ × T)) Needed) : Type 0 where
+  pub answer : AnswersStep may_answer is_slice counts_shortage step here given
   pub stands : StandsAfter step here there
   pub located : StayLocated origin here from there to

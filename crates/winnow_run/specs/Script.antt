@@ -37,9 +37,9 @@ since_answer all i None = answer.NoMark
 since_answer all i (Some mark) = cond (nat_le mark i) (answer.Offset (width (drop mark all) - width (drop i all))) answer.LaterMark
 
 -- what a call answers where r remains at a place. `holds` says what each set holds,
--- `counts_missing` whether a shortage is counted, `count` how many marks were made, and `back` and
+-- `counts_shortage` whether a shortage is counted, `count` how many marks were made, and `back` and
 -- `since` what a `Reset` and a `Since` answer for the mark that the call names
-module _ {C T : Type 0} (holds : C → T → Bool) (counts_missing : Bool) (here : ℕ) (r : Source T) (count : ℕ) (back since : PlacedAnswer T) where
+module _ {C T : Type 0} (holds : C → T → Bool) (counts_shortage : Bool) (here : ℕ) (r : Source T) (count : ℕ) (back since : PlacedAnswer T) where
   abbrev pub call_answer : Step C → PlacedAnswer T
   call_answer step.Next = answer.Token (first_token r)
   call_answer step.Peek = answer.Token (first_token r)
@@ -48,7 +48,7 @@ module _ {C T : Type 0} (holds : C → T → Bool) (counts_missing : Bool) (here
   call_answer step.Finish = answer.Slice (span here (width r))
   call_answer step.PeekFinish = answer.Slice (span here (width r))
   call_answer step.Eof = answer.Offset (width r)
-  call_answer (step.At n) = answer.At (offset_at counts_missing r n)
+  call_answer (step.At n) = answer.At (offset_at counts_shortage r n)
   call_answer (step.IsOffset n) = answer.Flag (is_offset r n)
   call_answer (step.First c) = answer.First (first_offset (holds c) r)
   call_answer step.Each = answer.Items (span here (width r))
@@ -59,9 +59,9 @@ module _ {C T : Type 0} (holds : C → T → Bool) (counts_missing : Bool) (here
 -- what a step answers at the cursor
 abbrev pub step_answer : {C T : Type 0} → (C → T → Bool) → Bool → Source T → Step C → Cursor
     → PlacedAnswer T
-step_answer holds counts_missing all s at =
+step_answer holds counts_shortage all s at =
     let mark = mark_of at.marks (call_mark s) in
-    call_answer holds counts_missing (place all at.index) (rest all at) (length at.marks) (reset_answer mark) (since_answer all at.index mark) s
+    call_answer holds counts_shortage (place all at.index) (rest all at) (length at.marks) (reset_answer mark) (since_answer all at.index mark) s
 
 -- the cursor after a move, for a call that names this mark
 module _ {T : Type 0} (all : Source T) (at : Cursor) (mark : Option ℕ) where
@@ -80,7 +80,7 @@ step_next all s at = moved all at (call_mark s) (call_move s)
 -- the answers of a script on a list
 abbrev pub answers : {C T : Type 0} → (C → T → Bool) → Bool → Source T → List (Step C)
     → List (PlacedAnswer T)
-answers holds counts_missing all script = answers_from (step_answer holds counts_missing all) (step_next all) script start
+answers holds counts_shortage all script = answers_from (step_answer holds counts_shortage all) (step_next all) script start
 
 -- what remains of a list after a script
 abbrev pub rest_after : {C T : Type 0} → Source T → List (Step C) → Source T
@@ -129,15 +129,15 @@ module _ {S G : Type 0} (IsGiven : S → Cursor → G → Type 0) (moves : S →
 -- the given answer stands for the step's answer, for each `holds` that the step's set computes
 abbrev pub IsAnswer : {C T S : Type 0} → (C → T → Bool → Type 0) → (S → Source T → ℕ → Type 0)
     → Bool → Source T → Step C → Cursor → Answer T S (Vec (ℕ × T)) Needed → Type 0
-IsAnswer {C} {T} may_answer is_slice counts_missing all step at given =
+IsAnswer {C} {T} may_answer is_slice counts_shortage all step at given =
     (holds : C → T → Bool) → SetComputes may_answer holds step
-    → StandsFor is_slice all (step_answer holds counts_missing all step at) given
+    → StandsFor is_slice all (step_answer holds counts_shortage all step at) given
 
 -- each given answer is one of its step; a set that does not compute has no effect on other answers
 abbrev pub AreAnswers : {C T S : Type 0} → (C → T → Bool → Type 0) → (S → Source T → ℕ → Type 0)
     → Bool → Source T → List (Step C) → List (Answer T S (Vec (ℕ × T)) Needed) → Type 0
-AreAnswers may_answer is_slice counts_missing all script given =
-    AreGiven (IsAnswer may_answer is_slice counts_missing all) (step_next all) script start given
+AreAnswers may_answer is_slice counts_shortage all script given =
+    AreGiven (IsAnswer may_answer is_slice counts_shortage all) (step_next all) script start given
 
 -- the set that a step names, if any, meets the condition under which it may be asked
 abbrev pub IsReady : {C : Type 0} → (C → Type 0) → Step C → Type 0

@@ -20,7 +20,7 @@ use Rattle.winnow_run.specs.declared.search_steps.SearchAnswer.TheVariants as an
 -- comparisons and searches answer
 pub record ScriptKind (T C L : Type 0) : Type 0 where
   pub holds : C → T → Bool
-  pub counts_missing : Bool
+  pub counts_shortage : Bool
   pub compared : L → Source T → CompareResult
   pub found : Needles L → Source T → Option (Range ℕ)
 
@@ -38,7 +38,7 @@ module _ {T C L : Type 0} (all : Source T) where
 -- what a step answers at the cursor
 module _ {T C L : Type 0} (kind : ScriptKind T C L) (all : Source T) where
   abbrev pub search_answer : SearchStep C L → Cursor → PlacedSearchAnswer T
-  search_answer (step.Call call) at = answer.Call (step_answer kind.holds kind.counts_missing all call at)
+  search_answer (step.Call call) at = answer.Call (step_answer kind.holds kind.counts_shortage all call at)
   search_answer (step.Compare literal) at = answer.Compared (kind.compared literal (rest all at))
   search_answer (step.Find needles) at = answer.Hit (kind.found needles (rest all at))
 
@@ -77,25 +77,25 @@ AreSearchReady can script = All (IsSearchReady can) script
 -- the kind of stream that a set, a shortage, comparisons and searches make
 abbrev pub script_kind : {T C L : Type 0} → (C → T → Bool) → Bool → (L → Source T → CompareResult)
     → (Needles L → Source T → Option (Range ℕ)) → ScriptKind T C L
-script_kind holds counts_missing compared found = record { holds = holds; counts_missing = counts_missing; compared = compared; found = found }
+script_kind holds counts_shortage compared found = record { holds = holds; counts_shortage = counts_shortage; compared = compared; found = found }
 
 -- the given answer stands for the step's answer, for each `holds` that the step's set computes
 abbrev pub IsSearchAnswer : {C T S L : Type 0} → (C → T → Bool → Type 0)
     → (S → Source T → ℕ → Type 0) → Bool → (L → Source T → CompareResult)
     → (Needles L → Source T → Option (Range ℕ)) → Source T → SearchStep C L → Cursor
     → SearchAnswer T S (Vec (ℕ × T)) → Type 0
-IsSearchAnswer {C} {T} may_answer is_slice counts_missing compared found all step at given =
+IsSearchAnswer {C} {T} may_answer is_slice counts_shortage compared found all step at given =
     (holds : C → T → Bool) → SearchComputes may_answer holds step
     → SearchStandsFor is_slice all
-    (search_answer (script_kind holds counts_missing compared found) all step at) given
+    (search_answer (script_kind holds counts_shortage compared found) all step at) given
 
 -- each given answer is one of its step; a set that does not compute has no effect on other answers
 abbrev pub AreSearchAnswers : {C T S L : Type 0} → (C → T → Bool → Type 0)
     → (S → Source T → ℕ → Type 0) → Bool → (L → Source T → CompareResult)
     → (Needles L → Source T → Option (Range ℕ)) → Source T → List (SearchStep C L)
     → List (SearchAnswer T S (Vec (ℕ × T))) → Type 0
-AreSearchAnswers may_answer is_slice counts_missing compared found all script given =
-    AreGiven (IsSearchAnswer may_answer is_slice counts_missing compared found all) (search_next all) script start given
+AreSearchAnswers may_answer is_slice counts_shortage compared found all script given =
+    AreGiven (IsSearchAnswer may_answer is_slice counts_shortage compared found all) (search_next all) script start given
 
 -- what remains of a list after a script
 abbrev pub rest_after_search : {C T L : Type 0} → Source T → List (SearchStep C L) → Source T
@@ -116,9 +116,9 @@ abbrev pub AnswersSearchStep : {C T S L : Type 0} → (C → T → Bool → Type
     → (S → Source T → ℕ → Type 0) → Bool → (L → Source T → CompareResult)
     → (Needles L → Source T → Option (Range ℕ)) → SearchStep C L → RunState T
     → SearchAnswer T S (Vec (ℕ × T)) → Type 0
-AnswersSearchStep {C} {T} may_answer is_slice counts_missing compared found step here given =
+AnswersSearchStep {C} {T} may_answer is_slice counts_shortage compared found step here given =
     (all : Source T) (at : Cursor) → StandsAt here all at
-    → IsSearchAnswer may_answer is_slice counts_missing compared found all step at given
+    → IsSearchAnswer may_answer is_slice counts_shortage compared found all step at given
 
 -- after the step the run stands where the step leaves the cursor, for each cursor where it may have
 -- stood
@@ -128,7 +128,7 @@ StandsAfterSearchStep {C} {T} step here there = (all : Source T) (at : Cursor) �
 
 -- the given answer is the step's, and the run stands where the step leads, as far after its origin
 -- in the whole input as before
-pub record TakesSearchStep {C T S L : Type 0} (may_answer : C → T → Bool → Type 0) (is_slice : S → Source T → ℕ → Type 0) (counts_missing : Bool) (compared : L → Source T → CompareResult) (found : Needles L → Source T → Option (Range ℕ)) (step : SearchStep C L) (here there : RunState T) (origin from to : Option ℕ) (given : SearchAnswer T S (Vec (ℕ × T))) : Type 0 where
-  pub answer : AnswersSearchStep may_answer is_slice counts_missing compared found step here given
+pub record TakesSearchStep {C T S L : Type 0} (may_answer : C → T → Bool → Type 0) (is_slice : S → Source T → ℕ → Type 0) (counts_shortage : Bool) (compared : L → Source T → CompareResult) (found : Needles L → Source T → Option (Range ℕ)) (step : SearchStep C L) (here there : RunState T) (origin from to : Option ℕ) (given : SearchAnswer T S (Vec (ℕ × T))) : Type 0 where
+  pub answer : AnswersSearchStep may_answer is_slice counts_shortage compared found step here given
   pub stands : StandsAfterSearchStep step here there
   pub located : StayLocated origin here from there to

@@ -31,7 +31,7 @@ where
     requires ready { IsReady C.askable step.now }
     requires stands { MayTake step.now
         (run_state S.remained origin.now (S.remaining s.old) marks.old) }
-    ensures step { IfOk result (TakesStep C.may_answer S.is_slice S.counts_missing step.now
+    ensures step { IfOk result (TakesStep C.may_answer S.is_slice S.counts_shortage step.now
         (run_state S.remained origin.now (S.remaining s.old) marks.old)
         (run_state S.remained origin.now (S.remaining s.new) marks.new)
         (S.Checkpoint.location origin.now.checkpoint) (S.location s.old) (S.location s.new)) }

@@ -23,7 +23,7 @@ where
     requires valid { S.valid s.old }
     requires ready { AreReady C.askable script.now }
     ensures answers { IfOk result (λ out.
-        AreAnswers C.may_answer S.is_slice S.counts_missing (S.remaining s.old)
+        AreAnswers C.may_answer S.is_slice S.counts_shortage (S.remaining s.old)
         script.now out.items) }
     ensures remains { S.remaining s.new ≡ S.remaining s.old }
     ensures location { S.location s.new ≡ S.location s.old }
@@ -41,8 +41,8 @@ where
 /// law.
 pub fn answers_law<S: Stream, C: ScriptSet<S::Token>>()
     ensures { (holds : _) (all : _) (script : _) (out : _) → SetsCompute C.may_answer holds script
-        → AreAnswers C.may_answer S.is_slice S.counts_missing all script out
-        → AllZip (StandsFor S.is_slice all) (answers holds S.counts_missing all script) out }
+        → AreAnswers C.may_answer S.is_slice S.counts_shortage all script out
+        → AllZip (StandsFor S.is_slice all) (answers holds S.counts_shortage all script) out }
 {}
 
 /// The law of stability: if the first n answers of a script on a list are definite, they are also

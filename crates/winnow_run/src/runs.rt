@@ -23,7 +23,7 @@ where
     requires valid { S.valid s.old }
     requires ready { AreReady C.askable script.now }
     ensures answers { IfOk result (λ out.
-        AreAnswers C.may_answer S.is_slice S.counts_missing (S.remaining s.old)
+        AreAnswers C.may_answer S.is_slice S.counts_shortage (S.remaining s.old)
         script.now out.items) }
     ensures remains { OnOk result (S.remaining s.new ≡ rest_after (S.remaining s.old) script.now) }
     ensures location { OnOk result (S.location s.new
@@ -54,7 +54,7 @@ where
     requires valid { S.valid s.old }
     requires ready { AreReady C.askable script.now }
     ensures answers { IfOk result (λ out.
-        AreAnswers C.may_answer S.is_slice S.counts_missing (S.remaining s.old)
+        AreAnswers C.may_answer S.is_slice S.counts_shortage (S.remaining s.old)
         script.now out.items) }
     ensures remains { OnOk result (S.remaining s.new ≡ rest_after (S.remaining s.old) script.now) }
     ensures location { OnOk result (S.location s.new

@@ -28,7 +28,7 @@ where
     requires valid { S.valid s.old }
     requires ready { AreSearchReady C.askable script.now }
     ensures answers { IfOk result (λ out.
-        AreSearchAnswers C.may_answer S.is_slice S.counts_missing S.compared S.found
+        AreSearchAnswers C.may_answer S.is_slice S.counts_shortage S.compared S.found
         (S.remaining s.old) script.now out.items) }
     ensures remains { OnOk result
         (S.remaining s.new ≡ rest_after_search (S.remaining s.old) script.now) }
@@ -60,7 +60,7 @@ where
     requires valid { S.valid s.old }
     requires ready { AreSearchReady C.askable script.now }
     ensures answers { IfOk result (λ out.
-        AreSearchAnswers C.may_answer S.is_slice S.counts_missing S.compared S.found
+        AreSearchAnswers C.may_answer S.is_slice S.counts_shortage S.compared S.found
         (S.remaining s.old) script.now out.items) }
     ensures remains { OnOk result
         (S.remaining s.new ≡ rest_after_search (S.remaining s.old) script.now) }
@@ -99,7 +99,7 @@ where
     requires stands { MayTakeSearchStep step.now
         (run_state S.remained origin.now (S.remaining s.old) marks.old) }
     ensures step { IfOk result
-        (TakesSearchStep C.may_answer S.is_slice S.counts_missing S.compared S.found step.now
+        (TakesSearchStep C.may_answer S.is_slice S.counts_shortage S.compared S.found step.now
         (run_state S.remained origin.now (S.remaining s.old) marks.old)
         (run_state S.remained origin.now (S.remaining s.new) marks.new)
         (S.Checkpoint.location origin.now.checkpoint) (S.location s.old) (S.location s.new)) }

@@ -32,4 +32,4 @@ shortage false k = Unknown
 
 -- the width of the first n tokens, or the shortage
 abbrev pub offset_at : {T : Type 0} → Bool → Source T → ℕ → Result ℕ Needed
-offset_at counts_missing r n = cond (nat_le n (length r)) (Ok (width (take n r))) (Err (shortage counts_missing (n - length r)))
+offset_at counts_shortage r n = cond (nat_le n (length r)) (Ok (width (take n r))) (Err (shortage counts_shortage (n - length r)))

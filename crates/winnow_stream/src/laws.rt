@@ -59,8 +59,8 @@ pub fn moving_law<T>()
 
 /// The law of offsets: `offset_at`, `offset_for` and `eof_offset` return valid offsets.
 pub fn offset_law<T>()
-    ensures at { (counts_missing : Bool) (r : Source T) (n w : ℕ) → HasPositiveWidths r
-        → offset_at counts_missing r n ≡ Ok w → IsTrue (is_offset r w) }
+    ensures at { (counts_shortage : Bool) (r : Source T) (n w : ℕ) → HasPositiveWidths r
+        → offset_at counts_shortage r n ≡ Ok w → IsTrue (is_offset r w) }
     ensures first { (holds : T → Bool) (r : Source T) (w : ℕ) → HasPositiveWidths r
         → first_offset holds r ≡ Some w → IsTrue (is_offset r w) }
     ensures end { (r : Source T) → HasPositiveWidths r → IsTrue (is_offset r (width r)) }
@@ -84,10 +84,10 @@ pub fn taken_law<T>()
         → front r (width (take k r)) ≡ take k r }
     ensures back { (r : Source T) (k : ℕ) → HasPositiveWidths r → k ≤ length r
         → back r (width (take k r)) ≡ drop k r }
-    ensures fits { (counts_missing : Bool) (r : Source T) (n w : ℕ)
-        → offset_at counts_missing r n ≡ Ok w → n ≤ length r }
-    ensures at { (counts_missing : Bool) (r : Source T) (n w : ℕ)
-        → offset_at counts_missing r n ≡ Ok w → w ≡ width (take n r) }
+    ensures fits { (counts_shortage : Bool) (r : Source T) (n w : ℕ)
+        → offset_at counts_shortage r n ≡ Ok w → n ≤ length r }
+    ensures at { (counts_shortage : Bool) (r : Source T) (n w : ℕ)
+        → offset_at counts_shortage r n ≡ Ok w → w ≡ width (take n r) }
     ensures whole { (r : Source T) → HasPositiveWidths r → front r (width r) ≡ r }
     ensures end { (r : Source T) → HasPositiveWidths r → back r (width r) ≡ [] }
     ensures none { (r : Source T) → HasPositiveWidths r → width r ≡ 0 → r ≡ [] }

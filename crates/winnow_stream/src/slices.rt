@@ -70,7 +70,7 @@ impl<'i, T: Copy + Debug> Stream for &'i [T] {
 
     ghost is_slice = { λ s r n. units s.now ≡ front r n };
 
-    ghost counts_missing = { true };
+    ghost counts_shortage = { true };
 
     ghost keeps = { λ _ _. ⊤ };
 

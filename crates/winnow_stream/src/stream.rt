@@ -84,7 +84,7 @@ pub trait Stream: Rest + Debug {
     ghost is_slice: { Self.Slice → Source Self.Token → ℕ → Type 0 };
 
     // Whether a shortage says how many tokens are missing.
-    ghost counts_missing: { Bool };
+    ghost counts_shortage: { Bool };
 
     // The two values agree in all that no call of `Stream` changes.
     ghost keeps: { Self → Self → Type 0 };
@@ -149,7 +149,7 @@ pub trait Stream: Rest + Debug {
     /// returns the shortage.
     fn offset_at(&self, tokens: usize) -> Result<usize, Needed>
         requires { valid self.now }
-        ensures { result ≡ offset_at counts_missing (remaining self.now) tokens };
+        ensures { result ≡ offset_at counts_shortage (remaining self.now) tokens };
 
     /// Returns whether some front of what remains has this width.
     fn is_offset(&self, offset: usize) -> bool

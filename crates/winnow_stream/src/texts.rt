@@ -65,7 +65,7 @@ impl<'i> Stream for &'i str {
 
     ghost is_slice = { λ s r n. text_source s.now ≡ front r n };
 
-    ghost counts_missing = { false };
+    ghost counts_shortage = { false };
 
     ghost keeps = { λ _ _. ⊤ };
 

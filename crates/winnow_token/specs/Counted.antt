@@ -15,17 +15,17 @@ use Rattle.winnow_parser.specs.Taken.{after-longer}
 -- the slice of the first n tokens; where fewer remain, the parser needs the missing ones if more
 -- may follow, in the stream's own count, and backtracks if nothing may
 abbrev pub Counted : {S T : Type 0} → Bool → (S → Source T → ℕ → Type 0) → ℕ → Meaning S T
-Counted counts_missing is_slice n partial a (Gives s b) = let w = width (take n a.tokens) in
+Counted counts_shortage is_slice n partial a (Gives s b) = let w = width (take n a.tokens) in
     (n ≤ length a.tokens) × IsTrue (is_offset a.tokens w) × is_slice s a.tokens w × (b ≡ after a w)
-Counted counts_missing is_slice n partial a (Fails (Backtracks b)) = (length a.tokens < n) × (partial ≡ false) × (b ≡ a)
-Counted counts_missing is_slice n partial a (Fails (Cuts b)) = ⊥
-Counted counts_missing is_slice n partial a (Fails (Needs missing)) =
-    (length a.tokens < n) × (partial ≡ true) × (missing ≡ shortage counts_missing (n - length a.tokens))
-Counted counts_missing is_slice n partial a (Fails Refuses) = ⊥
+Counted counts_shortage is_slice n partial a (Fails (Backtracks b)) = (length a.tokens < n) × (partial ≡ false) × (b ≡ a)
+Counted counts_shortage is_slice n partial a (Fails (Cuts b)) = ⊥
+Counted counts_shortage is_slice n partial a (Fails (Needs missing)) =
+    (length a.tokens < n) × (partial ≡ true) × (missing ≡ shortage counts_shortage (n - length a.tokens))
+Counted counts_shortage is_slice n partial a (Fails Refuses) = ⊥
 
-module _ {S T : Type 0} (counts_missing : Bool) (is_slice : S → Source T → ℕ → Type 0) (stay : SlicesStay is_slice) (n : ℕ) where
+module _ {S T : Type 0} (counts_shortage : Bool) (is_slice : S → Source T → ℕ → Type 0) (stay : SlicesStay is_slice) (n : ℕ) where
   -- a settled answer of `Counted` stays when more input follows
-  counted-stable : IsStable (Counted counts_missing is_slice n)
+  counted-stable : IsStable (Counted counts_shortage is_slice n)
   counted-stable more partial a (Gives s b) settled h =
       let w = width (take n a.tokens) in
       let same = ap width (take-append-le n a.tokens more h.0) in (
@@ -40,11 +40,11 @@ module _ {S T : Type 0} (counts_missing : Bool) (is_slice : S → Source T → �
   counted-stable more partial a (Fails Refuses) settled h = absurd settled
 
   -- `Counted` needs nothing more where nothing more may follow
-  counted-final : IsFinal (Counted counts_missing is_slice n)
+  counted-final : IsFinal (Counted counts_shortage is_slice n)
   counted-final a missing h = cc
 
   -- `Counted` only moves the stream on
-  counted-onward : IsOnward (Counted counts_missing is_slice n)
+  counted-onward : IsOnward (Counted counts_shortage is_slice n)
   counted-onward partial a (Gives s b) h =
       subst (Moves a) (sym h.3) (MovesOn-front a.location a.tokens (width (take n a.tokens)) h.1)
   counted-onward partial a (Fails (Backtracks b)) h = Moves-still a b (sym h.2)
@@ -53,5 +53,5 @@ module _ {S T : Type 0} (counts_missing : Bool) (is_slice : S → Source T → �
   counted-onward partial a (Fails Refuses) h = tt
 
   -- `Counted` keeps the laws of a parser
-  pub IsParser-Counted : IsParser (Counted counts_missing is_slice n)
+  pub IsParser-Counted : IsParser (Counted counts_shortage is_slice n)
   IsParser-Counted = record { stable = counted-stable; final = counted-final; onward = counted-onward }

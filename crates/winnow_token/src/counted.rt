@@ -23,13 +23,13 @@ pub fn take(count: usize) -> Counted
 impl<I: StreamIsPartial, E: ParserError<I>> Parser<I, E> for Counted {
     type Output = I::Slice;
 
-    ghost means = { λ p. Counted I.counts_missing I.is_slice p.count };
+    ghost means = { λ p. Counted I.counts_shortage I.is_slice p.count };
 
     ghost errors = { λ _. OwnErrors E.from_input_gives E.assert_gives };
 
     ghost ready = { λ _. Unit {0} };
 
-    ghost lawful = { λ p. IsParser-Counted I.counts_missing I.is_slice I.slices_stay p.count };
+    ghost lawful = { λ p. IsParser-Counted I.counts_shortage I.is_slice I.slices_stay p.count };
 
     #[inline(always)]
     fn parse_next(&self, alloc: Global, input: &mut I) -> ModalResult<I::Slice, E> {

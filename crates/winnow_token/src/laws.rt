@@ -46,7 +46,7 @@ pub fn hits_stay_law()
 /// contract is the law.
 pub fn prompt_law<I: Stream>()
     ensures one { (holds : I.Token → Bool) → IsPrompt (OneOf holds) }
-    ensures counted { (n : ℕ) → IsPrompt (Counted I.counts_missing I.is_slice n) }
+    ensures counted { (n : ℕ) → IsPrompt (Counted I.counts_shortage I.is_slice n) }
     ensures held { (holds : I.Token → Bool) (least : ℕ) (greatest : Option ℕ)
         → IsPrompt (HeldFront I.is_slice holds least greatest) }
 {}
@@ -57,7 +57,7 @@ pub fn prompt_law<I: Stream>()
 pub fn determined_token_law<I: Stream, V>()
     ensures one { (holds : I.Token → Bool) → IsDetermined (λ x y. x ≡ y) (OneOf holds) }
     ensures counted { (view : I.Slice → V) (n : ℕ) → SlicesRespect I.is_slice (Shows view)
-        → IsDetermined (Shows view) (Counted I.counts_missing I.is_slice n) }
+        → IsDetermined (Shows view) (Counted I.counts_shortage I.is_slice n) }
     ensures held { (view : I.Slice → V) (holds : I.Token → Bool) (least : ℕ) (greatest : Option ℕ)
         → SlicesRespect I.is_slice (Shows view)
         → IsDetermined (Shows view) (HeldFront I.is_slice holds least greatest) }

@@ -121,7 +121,7 @@ impl<I: Stream<Token = u8>> Stream for Bits<I> {
 
     ghost is_slice = { IsBitSlice I.is_slice };
 
-    ghost counts_missing = { true };
+    ghost counts_shortage = { true };
 
     ghost keeps = { λ s t. I.keeps s.input t.input };
 

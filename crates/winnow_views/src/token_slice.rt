@@ -133,7 +133,7 @@ impl<'t, T: Debug> Stream for TokenSlice<'t, T> {
 
     ghost is_slice = { λ s r n. tokens_of T.row s ≡ front r n };
 
-    ghost counts_missing = { true };
+    ghost counts_shortage = { true };
 
     ghost keeps = { λ s t. whole_of s ≡ whole_of t };
 

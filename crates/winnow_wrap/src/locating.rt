@@ -147,7 +147,7 @@ impl<I: Stream<Checkpoint = C>, C: Rest + Copy + Debug> Stream for LocatingSlice
 
     ghost is_slice = { I.is_slice };
 
-    ghost counts_missing = { I.counts_missing };
+    ghost counts_shortage = { I.counts_shortage };
 
     ghost keeps = { KeepsLocated I.keeps };
 

@@ -92,7 +92,7 @@ impl<I: Stream> Stream for Partial<I> {
 
     ghost is_slice = { I.is_slice };
 
-    ghost counts_missing = { I.counts_missing };
+    ghost counts_shortage = { I.counts_shortage };
 
     ghost keeps = { λ s t. (flag s ≡ flag t) × I.keeps (partial_inner s) (partial_inner t) };
 

@@ -68,7 +68,7 @@ impl<I: Stream, S: Debug> Stream for Stateful<I, S> {
 
     ghost is_slice = { I.is_slice };
 
-    ghost counts_missing = { I.counts_missing };
+    ghost counts_shortage = { I.counts_shortage };
 
     ghost keeps = { λ s t. (s.state ≡ t.state) × I.keeps s.input t.input };
 

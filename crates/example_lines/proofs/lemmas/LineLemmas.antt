@@ -2,16 +2,15 @@
 use Rattle.std.specs.Prelude.{Bool, true, Option, None, Some, option_map}
 use Rattle.std.specs.Borrow.{Bor}
 use Rattle.std.specs.Global.{Vec}
-use Rattle.std.proofs.Common.{◌≡◌, ℕ, ◌+◌, ◌≤◌, List, [], ◌∷◌, ◌++◌, length, take, drop, refl, ap, sym, ◌∙◌, subst, inl, inr, arith}
+use Rattle.std.proofs.Common.{◌≡◌, ℕ, ◌+◌, List, [], ◌∷◌, ◌++◌, length, take, drop, refl, ap, sym, ◌∙◌, subst, inl, inr, arith}
 use Rattle.std.proofs.lemmas.List.{append_cancel_left, take-append-drop, length-take-le, append_assoc}
 use Rattle.std.proofs.lemmas.Bool.{false≢true}
 use Rattle.std.proofs.lemmas.Bool.Decides.{nat_tests}
 use Rattle.winnow_base.specs.Source.{Source, units}
-use Rattle.winnow_base.specs.Front.{back}
 use Rattle.winnow_base.specs.Bytes.{bytes_of}
 use Rattle.winnow_base.specs.Comparison.{comparison}
 use Rattle.winnow_base.specs.Search.{hit}
-use Rattle.winnow_stream.proofs.lemmas.UnitLemmas.{units-same, units-take, units-drop}
+use Rattle.winnow_stream.proofs.lemmas.UnitLemmas.{units-drop}
 use Rattle.winnow_match.proofs.lemmas.ByteLemmas.{bytes_of-units}
 use Rattle.winnow_match.proofs.lemmas.HitLemmas.{hit-splits}
 use Rattle.winnow_match.specs.declared.compare.CompareResult.TheVariants as compared
@@ -20,6 +19,7 @@ use Rattle.winnow.specs.Meanings.{Terminated}
 use Rattle.winnow.specs.Until.{Until, has_counts}
 use Rattle.winnow.specs.Literal.{Literal}
 use Rattle.winnow.specs.Place.{IsByteSlice, bytes_at}
+use Rattle.winnow.specs.InTurn.{bytes_at-slice}
 use Rattle.winnow_base.specs.Needed.{Needed}
 use Rattle.winnow_base.specs.Needed.TheVariants.{Unknown}
 use Rattle.example_lines.specs.Lines.{line_end, LineSlice, OneLine, IsNextLine, first_end}
@@ -67,15 +67,14 @@ module _ (place : ℕ) (bytes : List ℕ) where
       let found : hit (line_end ∷ []) bytes ≡ Some r = ap (λ x. hit (line_end ∷ []) x) (sym (bytes_of-units bytes)) ∙ at.0 in
       let split = hit-splits line_end bytes r found in
       let rest : List ℕ = drop r.end bytes in
-      let within : r.start ≤ length bytes = omega (arith, split.0, split.1) in
-      let text : slice.now ≡ take r.start bytes = units-same slice.now (take r.start bytes) (of ∙ sym (units-take bytes r.start within)) in
-      let left : back (units bytes) r.start ≡ units (line_end ++ rest) = sym (units-drop bytes r.start within) ∙ ap units (after-place bytes rest r.start split.2) in
-      let long : length slice.now ≡ r.start = ap length text ∙ length-take-le r.start bytes within in (
+      let taken = bytes_at-slice place bytes slice r.start at.1 of in
+      let text = taken.1 in
+      let long : length slice.now ≡ r.start = ap length text ∙ length-take-le r.start bytes taken.0 in (
         place + r.start,
         (
           rest,
           (
-            c_is ∙ ap (λ t. record { location = Some (place + r.start); tokens = t }) left,
+            c_is ∙ taken.2 ∙ ap (bytes_at (place + r.start)) (after-place bytes rest r.start split.2),
             (
               split.2 ∙ ap (λ l. l ++ line_end ++ rest) (sym text),
               ap (option_map (λ p. p.start)) found ∙ ap Some (sym long),

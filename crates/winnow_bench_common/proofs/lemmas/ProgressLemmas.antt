@@ -20,24 +20,24 @@ Some-cond false k n o h = inr h
 
 module _ {T : Type 0} where
   -- an offset that was found stands after n tokens
-  offset_at-place : (counts_missing : Bool) (r : Source T) (n k : ℕ)
-      → Ok k ≡ offset_at counts_missing r n → (n ≤ length r) × (k ≡ width (take n r))
-  offset_at-place counts_missing r n k h =
-      let c = Ok-cond (nat_le n (length r)) k (width (take n r)) (shortage counts_missing (n - length r)) h in
+  offset_at-place : (counts_shortage : Bool) (r : Source T) (n k : ℕ)
+      → Ok k ≡ offset_at counts_shortage r n → (n ≤ length r) × (k ≡ width (take n r))
+  offset_at-place counts_shortage r n k h =
+      let c = Ok-cond (nat_le n (length r)) k (width (take n r)) (shortage counts_shortage (n - length r)) h in
       (leb-true n (length r) c.0, c.1)
 
   -- such an offset is valid
-  pub offset_at-valid : (counts_missing : Bool) (r : Source T) (n k : ℕ) → HasPositiveWidths r
-      → Ok k ≡ offset_at counts_missing r n → is_offset r k ≡ true
-  offset_at-valid counts_missing r n k w h =
-      let p = offset_at-place counts_missing r n k h in
+  pub offset_at-valid : (counts_shortage : Bool) (r : Source T) (n k : ℕ) → HasPositiveWidths r
+      → Ok k ≡ offset_at counts_shortage r n → is_offset r k ≡ true
+  offset_at-valid counts_shortage r n k w h =
+      let p = offset_at-place counts_shortage r n k h in
       rw p.1 (ap is_some (front_count-place r n w p.0))
 
   -- after such an offset fewer tokens remain, if n is not 0
-  pub offset_at-fewer : (counts_missing : Bool) (r : Source T) (n k : ℕ) → HasPositiveWidths r
-      → 0 < n → Ok k ≡ offset_at counts_missing r n → length (back r k) < length r
-  offset_at-fewer counts_missing r n k w l h =
-      let p = offset_at-place counts_missing r n k h in
+  pub offset_at-fewer : (counts_shortage : Bool) (r : Source T) (n k : ℕ) → HasPositiveWidths r
+      → 0 < n → Ok k ≡ offset_at counts_shortage r n → length (back r k) < length r
+  offset_at-fewer counts_shortage r n k w l h =
+      let p = offset_at-place counts_shortage r n k h in
       rw p.1 (rw (back-place r n w p.0) (omega (arith, length-drop n r, p.0, l)))
 
   -- a token stands at an offset that a search found

@@ -53,13 +53,13 @@ one-number : {L : Type 0} (number : L → ℕ) (x y : L) (m n : ℕ) → Shows n
 one-number number x y m n e h k = h ∙ e ∙ sym k
 
 -- `CountedSlice` has one answer where its count has one, and slices of one front are the same
-pub determined-counted_slice : {L S T : Type 0} (number : L → ℕ) (counts_missing : Bool)
+pub determined-counted_slice : {L S T : Type 0} (number : L → ℕ) (counts_shortage : Bool)
     (is_slice : S → Source T → ℕ → Type 0) (alike : S → S → Type 0) → SlicesRespect is_slice alike
     → (length : Meaning L T) → IsDetermined (Shows number) length
-    → IsDetermined alike (CountedSlice number counts_missing is_slice length)
-determined-counted_slice number counts_missing is_slice alike fronts length d =
-    determined-continued (IsNumber number) (Counted counts_missing is_slice) length (Shows number) alike (one-number number)
-    (λ n. determined-counted is_slice alike fronts counts_missing n) d
+    → IsDetermined alike (CountedSlice number counts_shortage is_slice length)
+determined-counted_slice number counts_shortage is_slice alike fronts length d =
+    determined-continued (IsNumber number) (Counted counts_shortage is_slice) length (Shows number) alike (one-number number)
+    (λ n. determined-counted is_slice alike fronts counts_shortage n) d
 
 -- `CountedValues` has one answer where its parts have one
 pub determined-counted_values : {L O A T : Type 0} (number : L → ℕ) (refusable : Type 0)

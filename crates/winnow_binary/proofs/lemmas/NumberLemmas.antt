@@ -120,11 +120,11 @@ most_first-reversed (x ∷ xs) =
     omega (arith, p, q, most_first-reversed xs)
 
 -- the bytes of the first k tokens are what a parser of k bytes gives
-counted-bytes : (counts_missing partial : Bool) (k : ℕ) (a : Ahead ℕ) → HasPositiveWidths a.tokens
+counted-bytes : (counts_shortage partial : Bool) (k : ℕ) (a : Ahead ℕ) → HasPositiveWidths a.tokens
     → k ≤ length a.tokens
-    → Counted counts_missing AreFrontBytes k partial a
+    → Counted counts_shortage AreFrontBytes k partial a
     (Gives (bytes_of (take k a.tokens)) (after_tokens k a))
-counted-bytes counts_missing partial k a h l = (
+counted-bytes counts_shortage partial k a h l = (
   l,
   ap is_some (front_count-place a.tokens k h l),
   ap bytes_of (sym (front-place a.tokens k h l)),
@@ -132,15 +132,15 @@ counted-bytes counts_missing partial k a h l = (
 )
 
 -- a number that was read, by what each call answered
-pub fixed-numeral : {N : Type 0} (counts_missing partial : Bool) (k count : ℕ) (of : ℕ → N)
+pub fixed-numeral : {N : Type 0} (counts_shortage partial : Bool) (k count : ℕ) (of : ℕ → N)
     (order : Endianness) (a b : Ahead ℕ) (number : ℕ) (n : N) → HasPositiveWidths a.tokens
     → k ≤ length a.tokens → k ≡ count → number ≡ number_in order (bytes_of (take k a.tokens))
     → b ≡ after_tokens k a → n ≡ of number
-    → FixedNumeral counts_missing count of order partial a (Gives n b)
-fixed-numeral counts_missing partial k count of order a b number n h l e f g i =
+    → FixedNumeral counts_shortage count of order partial a (Gives n b)
+fixed-numeral counts_shortage partial k count of order a b number n h l e f g i =
     let bytes = bytes_of (take k a.tokens) in
-    let counted = subst (λ p. Counted counts_missing AreFrontBytes k partial a (Gives bytes p)) (sym g) (counted-bytes counts_missing partial k a h l) in
-    subst (λ m. FixedNumeral counts_missing m of order partial a (Gives n b)) e (bytes, (i ∙ ap of f, counted))
+    let counted = subst (λ p. Counted counts_shortage AreFrontBytes k partial a (Gives bytes p)) (sym g) (counted-bytes counts_shortage partial k a h l) in
+    subst (λ m. FixedNumeral counts_shortage m of order partial a (Gives n b)) e (bytes, (i ∙ ap of f, counted))
 
 -- ---- One answer
 
@@ -152,13 +152,13 @@ bytes-respect xs ys a b (m, (o, h, p)) (n, (q, k, r)) =
     let same : front a.tokens m ++ back a.tokens n ≡ front a.tokens n ++ back a.tokens n = ap (λ l. front a.tokens m ++ l) (sym rest) ∙ whole in
     h ∙ ap bytes_of (append_cancel_right _ _ _ same) ∙ sym k
 
-module _ {N : Type 0} (counts_missing : Bool) (count : ℕ) (of : ℕ → N) (order : Endianness) where
+module _ {N : Type 0} (counts_shortage : Bool) (count : ℕ) (of : ℕ → N) (order : Endianness) where
   -- `FixedNumeral` has one answer
-  pub determined-numeral : IsDetermined (λ x y. x ≡ y) (FixedNumeral counts_missing count of order)
+  pub determined-numeral : IsDetermined (λ x y. x ≡ y) (FixedNumeral counts_shortage count of order)
   determined-numeral = determined-maps (λ xs ys. xs ≡ ys) (λ x y. x ≡ y) (λ bytes n. n ≡ of (number_in order bytes)) (λ xs ys m n e h k. h ∙ ap (λ bytes. of (number_in order bytes)) e ∙ sym k) _
-      (determined-counted AreFrontBytes (λ xs ys. xs ≡ ys) bytes-respect counts_missing count)
+      (determined-counted AreFrontBytes (λ xs ys. xs ≡ ys) bytes-respect counts_shortage count)
 
   -- where `FixedNumeral` needs k more bytes, it has no settled answer before k have come
-  pub prompt-numeral : IsPrompt (FixedNumeral counts_missing count of order)
-  prompt-numeral a n more (Gives x b) h l k = prompt-counted counts_missing AreFrontBytes count a n more (Gives k.0 b) h l k.1.1
-  prompt-numeral a n more (Fails f) h l k = prompt-counted counts_missing AreFrontBytes count a n more (Fails f) h l k
+  pub prompt-numeral : IsPrompt (FixedNumeral counts_shortage count of order)
+  prompt-numeral a n more (Gives x b) h l k = prompt-counted counts_shortage AreFrontBytes count a n more (Gives k.0 b) h l k.1.1
+  prompt-numeral a n more (Fails f) h l k = prompt-counted counts_shortage AreFrontBytes count a n more (Fails f) h l k

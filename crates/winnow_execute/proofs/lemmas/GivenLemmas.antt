@@ -68,7 +68,7 @@ module _ {S : Type 0} (k : PieceReading ℕ CharSet (Bor (List ℕ))) (all : Sou
     -- the same for all answers of a script
     pub lines-given : (script : List PieceStep) (at : Cursor)
         (given : List (SearchAnswer ℕ S (Vec (ℕ × ℕ))))
-        → AreGiven (IsSearchAnswer may_answer is_slice k.counts_missing (λ literal r. comparison (k.literal literal) (written k.write r)) (λ needles r. hit (needle_list k.literal needles) (written k.write r)) all) (search_next all) script at given
+        → AreGiven (IsSearchAnswer may_answer is_slice k.counts_shortage (λ literal r. comparison (k.literal literal) (written k.write r)) (λ needles r. hit (needle_list k.literal needles) (written k.write r)) all) (search_next all) script at given
         → answer_lines (λ t. t) words (λ v. item_words (λ t. t) v.items) given ≡ answer_lines (λ t. t) (slice_word k all) (listed_words k all) (answers_from (search_answer (kind_on_pieces k) all) (search_next all) script at)
     lines-given [] at [] are = refl
     lines-given [] at (g ∷ given) are = absurd are

@@ -1,10 +1,9 @@
 -- What words mean, and which words mean nothing.
-use Rattle.std.proofs.Common.{◌≡◌, ◌+◌, ℕ, Bool, true, false, List, [], ◌∷◌, length, get_or, Some, inl, inr, refl, ap, arith}
+use Rattle.std.proofs.Common.{◌≡◌, ◌+◌, ℕ, true, false, List, [], ◌∷◌, length, get_or, Some, inl, inr, refl, ap, arith}
 use Rattle.std.specs.List.{position_or_len}
 use Rattle.std.specs.Str.{bytes_eq}
 use Rattle.std.proofs.lemmas.List.{drop_all, take_all}
 use Rattle.std.proofs.lemmas.List.Sums.{passes_at_first}
-use Rattle.std.proofs.lemmas.Slice.Eq.{bytes_eq-Decides}
 use Rattle.winnow_match.specs.declared.needles.Needles.TheVariants.{One, Two, Three}
 use Rattle.winnow_execute.specs.Inputs.{DenotesNamed}
 use Rattle.winnow_execute.specs.Literals.{DenotesBytes, DenotesLiteral}

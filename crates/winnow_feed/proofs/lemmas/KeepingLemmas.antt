@@ -1,6 +1,6 @@
 -- What is kept: the least place that the steps name, more input appended, and a front dropped.
 use Rattle.std.proofs.Common.{◌≡◌, ℕ, ◌+◌, ◌-◌, ◌≤◌, ◌<◌, min, true, false, List, [], ◌∷◌, ◌++◌, length, take, drop, map, refl, sym, ap, ◌∙◌, arith, subst, inl, inr, length-drop}
-use Rattle.std.specs.Prelude.{Option, None, Some, slice_get, unwrap_or, is_some}
+use Rattle.std.specs.Prelude.{Option, None, Some, unwrap_or, is_some}
 use Rattle.std.specs.List.{AllByRecursion}
 use Rattle.std.proofs.lemmas.Bool.{cases_lt}
 use Rattle.std.proofs.lemmas.List.{drop-drop, take-append-le, drop-append-le, length-append, drop_all}

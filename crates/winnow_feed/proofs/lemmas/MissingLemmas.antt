@@ -1,12 +1,12 @@
 -- Appending what a step is missing changes its answer: one lemma for each definition, then for each
 -- step.
-use Rattle.std.proofs.Common.{◌≡◌, ℕ, zero, suc, ◌+◌, ◌-◌, ◌≤◌, ◌<◌, Bool, true, false, cond, List, [], ◌∷◌, ◌++◌, length, take, drop, Option, Some, None, Result, Ok, Err, refl, ap, sym, ◌∙◌, arith, subst, inl, inr}
+use Rattle.std.proofs.Common.{◌≡◌, ℕ, ◌+◌, ◌-◌, ◌≤◌, ◌<◌, Bool, true, false, cond, List, [], ◌∷◌, ◌++◌, length, take, drop, Option, Some, None, Result, Ok, Err, refl, ap, sym, ◌∙◌, arith, subst, inl, inr}
 use Rattle.std.specs.Prelude.{nat_le, is_some, is_ok, option_map, IfSome}
 use Rattle.std.specs.List.{AllByRecursion}
 use Rattle.std.specs.declared.ops.Range.{Range}
 use Rattle.std.proofs.lemmas.Bool.{false≢true, cases_Bool, leb-false, le-leb, lt-leb}
 use Rattle.std.proofs.lemmas.Option.{none-some, same_Some}
-use Rattle.std.proofs.lemmas.List.{length-append, append-nil, take-append-le}
+use Rattle.std.proofs.lemmas.List.{length-append, append-nil}
 use Rattle.winnow_stream.specs.declared.needed.Needed.{Needed}
 use Rattle.winnow_stream.specs.declared.needed.Needed.TheVariants.{Unknown, Size}
 use Rattle.winnow_stream.specs.Source.{Source, width, HasPositiveWidths, first_token, first_held, first_offset, offsets_from}
@@ -201,7 +201,7 @@ module _ (i : InputRules) (law : IsInput i) (spelling : IsSpelling i) (J : List 
 
   abbrev Differs : Step CharSet → List ℕ → Type 0
   Differs s m =
-      ¬ (step_answer i.pieces.holds i.pieces.counts_missing (i.source J ++ i.source m) s at ≡ step_answer i.pieces.holds i.pieces.counts_missing (i.source J) s at)
+      ¬ (step_answer i.pieces.holds i.pieces.counts_shortage (i.source J ++ i.source m) s at ≡ step_answer i.pieces.holds i.pieces.counts_shortage (i.source J) s at)
 
   -- what remains with bytes appended is the old rest and the bytes' tokens
   more-is : (m : List ℕ) → more m ≡ r ++ i.source m
@@ -250,13 +250,13 @@ module _ (i : InputRules) (law : IsInput i) (spelling : IsSpelling i) (J : List 
       let m : List ℕ = letters (n - width r) in
       slice-apart (place (i.source J ++ i.source m) at.index) (place (i.source J) at.index) n (front_count (more m) n) (front_count r n) (full n l) (offset-short r n l) e
 
-  at-differs : (n k : ℕ) → is_ok (offset_at i.pieces.counts_missing r n) ≡ false
-      → k ≡ cond i.pieces.counts_missing 1 (n - length r)
-      → ¬ (offset_at i.pieces.counts_missing (more (letters k)) n
-      ≡ offset_at i.pieces.counts_missing r n)
+  at-differs : (n k : ℕ) → is_ok (offset_at i.pieces.counts_shortage r n) ≡ false
+      → k ≡ cond i.pieces.counts_shortage 1 (n - length r)
+      → ¬ (offset_at i.pieces.counts_shortage (more (letters k)) n
+      ≡ offset_at i.pieces.counts_shortage r n)
   at-differs n k h is e =
       let m : List ℕ = letters k in
-      at-changes i.pieces.counts_missing r (i.source m) n (at-short i.pieces.counts_missing r n h) (spelling.letters_length k ∙ is) (sym (ap (λ x. offset_at i.pieces.counts_missing x n) (more-is m)) ∙ e)
+      at-changes i.pieces.counts_shortage r (i.source m) n (at-short i.pieces.counts_shortage r n h) (spelling.letters_length k ∙ is) (sym (ap (λ x. offset_at i.pieces.counts_shortage x n) (more-is m)) ∙ e)
 
   flag-differs : (n : ℕ) → nat_le n (width r) ≡ false
       → ¬ (is_offset (more (letters (n - width r))) n ≡ is_offset r n)
@@ -293,9 +293,9 @@ module _ (i : InputRules) (law : IsInput i) (spelling : IsSpelling i) (J : List 
 
     -- each call that is not definite answers differently when what is missing follows
     call-changes : (s : Step CharSet)
-        → is_call_definite i.pieces.holds i.pieces.counts_missing s r ≡ false
+        → is_call_definite i.pieces.holds i.pieces.counts_shortage s r ≡ false
         → IsSpelt i (step.Call s)
-        → need_missing i.pieces.counts_missing i.greatest i.pieces.write r (call_need s) ≡ Some m
+        → need_missing i.pieces.counts_shortage i.greatest i.pieces.write r (call_need s) ≡ Some m
         → Differs s m
     call-changes call.Next h u is = by-letters call.Next 1 (token-differs h) is
     call-changes call.Peek h u is = by-letters call.Peek 1 (token-differs h) is
@@ -305,7 +305,7 @@ module _ (i : InputRules) (law : IsInput i) (spelling : IsSpelling i) (J : List 
     call-changes call.PeekFinish h u is = by-letters call.PeekFinish 1 (λ e. end-differs _ _ here (slice-parts _ _ e)) is
     call-changes call.Eof h u is = by-letters call.Eof 1 (λ e. omega (arith, width-more 1, offset-parts (width (more (letters 1))) (width r) e)) is
     call-changes (call.At n) h u is =
-        let k : ℕ = cond i.pieces.counts_missing 1 (n - length r) in
+        let k : ℕ = cond i.pieces.counts_shortage 1 (n - length r) in
         by-letters (call.At n) k (λ e. at-differs n k h refl (at-parts _ _ e)) is
     call-changes (call.IsOffset n) h u is = by-letters (call.IsOffset n) (n - width r) (λ e. flag-differs n h (flag-parts _ _ e)) is
     call-changes (call.First set) h u is = first-names set m h u (least_of_first i.greatest (char_ranges set)) refl is
@@ -352,12 +352,12 @@ module _ (i : InputRules) (law : IsInput i) (spelling : IsSpelling i) (J : List 
 
     -- what a need is missing is valid input
     need-valid : (n : Need CharSet) → IsNeedSpelt i n
-        → need_missing i.pieces.counts_missing i.greatest i.pieces.write r n ≡ Some m
+        → need_missing i.pieces.counts_shortage i.greatest i.pieces.write r n ≡ Some m
         → i.valid m ≡ true
     need-valid need.Nothing u is = of-letters 1 is
     need-valid need.Token u is = of-letters 1 is
     need-valid (need.Width n) u is = of-letters (n - width r) is
-    need-valid (need.Tokens n) u is = of-letters (cond i.pieces.counts_missing 1 (n - length r)) is
+    need-valid (need.Tokens n) u is = of-letters (cond i.pieces.counts_shortage 1 (n - length r)) is
     need-valid (need.TokenOf set) u is = of-token (least_of_first i.greatest (char_ranges set)) u is
     need-valid need.End u is = of-letters 1 is
 

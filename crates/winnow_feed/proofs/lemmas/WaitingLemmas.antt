@@ -216,7 +216,7 @@ module _ (i : InputRules) (law : IsInput i) (spelling : IsSpelling i) (f : FeedS
       let at : Cursor = h.stands.stands.at in
       let all : Source ℕ = i.source (joined pieces) in
       let none : (t : ℕ) → i.is_token t ≡ true → i.pieces.holds set t ≡ false = λ t u. spelling.holds_is set t ∙ none_held i.greatest (char_ranges set) e t (spelling.token_most t u) in
-      let waits : is_met i.pieces.holds i.pieces.counts_missing (need.TokenOf set) (rest all at) ≡ false = subst (λ n. is_met i.pieces.holds i.pieces.counts_missing n (rest all at) ≡ false) needs (indefinite i law spelling f pieces h some s next) in
+      let waits : is_met i.pieces.holds i.pieces.counts_shortage (need.TokenOf set) (rest all at) ≡ false = subst (λ n. is_met i.pieces.holds i.pieces.counts_shortage n (rest all at) ≡ false) needs (indefinite i law spelling f pieces h some s next) in
       record {
         call = x;
         waits = step-is i law spelling f pieces h some s next;
@@ -227,7 +227,7 @@ module _ (i : InputRules) (law : IsInput i) (spelling : IsSpelling i) (f : FeedS
             let tokens = none-hold i (i.pieces.holds set) (i.source m) none (spelling.tokens m bytes v) in
             let more = rest-more i.pieces all (i.source m) at (within i law spelling f pieces h some s next) in
             let same = ap (first_offset (i.pieces.holds set)) more ∙ first-never (i.pieces.holds set) (rest all at) (i.source m) waits tokens in
-            let reads : SameReading i.pieces.holds i.pieces.counts_missing (call_need x) (rest (all ++ i.source m) at) (rest all at) = subst (λ n. SameReading i.pieces.holds i.pieces.counts_missing n (rest (all ++ i.source m) at) (rest all at)) (sym needs) same in
+            let reads : SameReading i.pieces.holds i.pieces.counts_shortage (call_need x) (rest (all ++ i.source m) at) (rest all at) = subst (λ n. SameReading i.pieces.holds i.pieces.counts_shortage n (rest (all ++ i.source m) at) (rest all at)) (sym needs) same in
             answer-more i law spelling f pieces h some s next m
             ∙ ap (λ a. Some (search_answered.Call a)) (answer-read i.pieces all (i.source m) at (within i law spelling f pieces h some s next) x reads)
             ∙ sym (answer-is i law spelling f pieces h some s next);
@@ -237,7 +237,7 @@ module _ (i : InputRules) (law : IsInput i) (spelling : IsSpelling i) (f : FeedS
   call-to_end : (x : Step CharSet) (n : Need CharSet) → call_need x ≡ n
       → next_step f.run ≡ Some (step.Call x)
       → None
-      ≡ need_missing i.pieces.counts_missing i.greatest i.pieces.write
+      ≡ need_missing i.pieces.counts_shortage i.greatest i.pieces.write
       (rest (i.source (joined pieces)) h.stands.stands.at) n
       → WaitsToEnd i (script_of f) (joined pieces)
   call-to_end x (need.TokenOf set) needs next e = set-waits x set needs next (mapped-none i.pieces.write (least_of_first i.greatest (char_ranges set)) e)

@@ -45,10 +45,10 @@ short true w e h = h
 short false w e h = refl
 
 -- if `At` has no answer yet, no more tokens remain than it asks for
-pub at-short : {T : Type 0} (counts_missing : Bool) (r : Source T) (asked : ℕ)
-    → is_ok (offset_at counts_missing r asked) ≡ false → length r ≤ asked
-at-short counts_missing r asked h =
-    let e = short (leb asked (length r)) (width (take asked r)) (shortage counts_missing (asked - length r)) h in
+pub at-short : {T : Type 0} (counts_shortage : Bool) (r : Source T) (asked : ℕ)
+    → is_ok (offset_at counts_shortage r asked) ≡ false → length r ≤ asked
+at-short counts_shortage r asked h =
+    let e = short (leb asked (length r)) (width (take asked r)) (shortage counts_shortage (asked - length r)) h in
     omega (arith, leb-false asked (length r) e)
 
 -- with what remains counted too, `At` has settled all that remains
@@ -114,19 +114,19 @@ one-left (x ∷ r) h = omega arith
 -- ---- attempts
 
 -- a need that waits for the end is not met
-never_met : {T C : Type 0} (holds : C → T → Bool) (counts_missing : Bool) (n : Need C)
-    (r : Source T) → is_end n ≡ true → is_met holds counts_missing n r ≡ false
-never_met holds counts_missing need.End r h = refl
-never_met holds counts_missing need.Nothing r h = absurd (cc)
-never_met holds counts_missing need.Token r h = absurd (cc)
-never_met holds counts_missing (need.Width n) r h = absurd (cc)
-never_met holds counts_missing (need.Tokens n) r h = absurd (cc)
-never_met holds counts_missing (need.TokenOf c) r h = absurd (cc)
+never_met : {T C : Type 0} (holds : C → T → Bool) (counts_shortage : Bool) (n : Need C)
+    (r : Source T) → is_end n ≡ true → is_met holds counts_shortage n r ≡ false
+never_met holds counts_shortage need.End r h = refl
+never_met holds counts_shortage need.Nothing r h = absurd (cc)
+never_met holds counts_shortage need.Token r h = absurd (cc)
+never_met holds counts_shortage (need.Width n) r h = absurd (cc)
+never_met holds counts_shortage (need.Tokens n) r h = absurd (cc)
+never_met holds counts_shortage (need.TokenOf c) r h = absurd (cc)
 
 -- a step that no input makes definite is not definite
 pub never : {T C L : Type 0} (k : PieceReading T C L) (s : SearchStep C L) (r : Source T)
     → never_definite s ≡ true → is_definite k s r ≡ false
-never k (step.Call s) r h = never_met k.holds k.counts_missing (call_need s) r h
+never k (step.Call s) r h = never_met k.holds k.counts_shortage (call_need s) r h
 never k (step.Compare l) r h = absurd (cc)
 never k (step.Find ns) r h = absurd (cc)
 

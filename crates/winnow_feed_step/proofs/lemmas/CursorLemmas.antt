@@ -122,8 +122,8 @@ module _ {T C L : Type 0} (k : PieceReading T C L) (all : Source T) (at : Cursor
 
   -- a call answers the same for the places as at the cursor
   call-placed : (s : Step C)
-      → placed_call k.holds k.counts_missing (place all at.index) (map (place all) at.marks)
-      (rest all at) s ≡ step_answer k.holds k.counts_missing all s at
+      → placed_call k.holds k.counts_shortage (place all at.index) (map (place all) at.marks)
+      (rest all at) s ≡ step_answer k.holds k.counts_shortage all s at
   call-placed s =
       rw (length-map at.marks (place all), back-placed (call_mark s), since-placed (call_mark s)) refl
 

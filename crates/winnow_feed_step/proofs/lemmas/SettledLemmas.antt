@@ -252,11 +252,11 @@ width-split {T} (suc a) b [] = let e : suc a + b ≡ suc (a + b) = omega arith i
 width-split (suc a) b (x ∷ r) = let e : suc a + b ≡ suc (a + b) = omega arith in rw e (omega (arith, width-split a b r))
 
 -- the offset after a number of tokens is that after what is counted
-pub AreCounted-on : {T : Type 0} (counts_missing : Bool) (asked : ℕ) (r : Source T) (n count : ℕ)
+pub AreCounted-on : {T : Type 0} (counts_shortage : Bool) (asked : ℕ) (r : Source T) (n count : ℕ)
     → AreCounted asked r n count
-    → offset_at counts_missing r asked
-    ≡ further n (offset_at counts_missing (back r n) (asked - count))
-AreCounted-on counts_missing asked r n count h =
+    → offset_at counts_shortage r asked
+    ≡ further n (offset_at counts_shortage (back r n) (asked - count))
+AreCounted-on counts_shortage asked r n count h =
     let same : back r n ≡ drop count r = ap (λ k. drop k r) h.counted in
     let wide : width (take count r) ≡ n = ap (λ k. width (take k r)) (sym h.counted) ∙ width-front r n h.offset in
     let most : count ≤ length r = subst (λ k. k ≤ length r) h.counted (count_to-le r n) in
@@ -268,7 +268,7 @@ AreCounted-on counts_missing asked r n count h =
     let split : width (take asked r) ≡ n + width (take (asked - count) (drop count r)) =
     ap (λ k. width (take k r)) (sym sum) ∙ width-split count (asked - count) r ∙ ap (λ k. k + width (take (asked - count) (drop count r))) wide
     in
-    rw same (rw test (rw left (further-err n (leb (asked - count) (length (drop count r))) (width (take asked r)) (width (take (asked - count) (drop count r))) (shortage counts_missing ((asked - count) - length (drop count r))) (sym split))))
+    rw same (rw test (rw left (further-err n (leb (asked - count) (length (drop count r))) (width (take asked r)) (width (take (asked - count) (drop count r))) (shortage counts_shortage ((asked - count) - length (drop count r))) (sym split))))
 
 -- `At` has counted no token at the offset 0 from the beginning
 pub AreCounted-none : {T : Type 0} (asked : ℕ) (r : Source T) → AreCounted asked r 0 0
@@ -288,12 +288,12 @@ first-fits holds r n o w h e =
     let b = back r n in
     omega (arith, width-back r n h, width-back b o (is_offset-first_offset holds b o (HasPositiveWidths-drop (count_to r n) r w) e))
 
-pub offset_at-fits : {T : Type 0} (counts_missing : Bool) (r : Source T) (n i o : ℕ)
-    → HasPositiveWidths r → is_offset r n ≡ true → offset_at counts_missing (back r n) i ≡ Ok o
+pub offset_at-fits : {T : Type 0} (counts_shortage : Bool) (r : Source T) (n i o : ℕ)
+    → HasPositiveWidths r → is_offset r n ≡ true → offset_at counts_shortage (back r n) i ≡ Ok o
     → n + o ≤ width r
-offset_at-fits counts_missing r n i o w h e =
+offset_at-fits counts_shortage r n i o w h e =
     let b = back r n in
-    omega (arith, width-back r n h, width-back b o (is_offset-offset_at counts_missing b i o (HasPositiveWidths-drop (count_to r n) r w) e))
+    omega (arith, width-back r n h, width-back b o (is_offset-offset_at counts_shortage b i o (HasPositiveWidths-drop (count_to r n) r w) e))
 
 -- ---- all of them
 

@@ -186,7 +186,7 @@ no-growth true below m n l h =
     cc
 no-growth false below m n l h = cc
 
-module _ {S : Type 0} (counts_missing : Bool) (is_slice : S → Source ℕ → ℕ → Type 0) (bytes : S → List ℕ) (have : SlicesHaveBytes is_slice bytes) where
+module _ {S : Type 0} (counts_shortage : Bool) (is_slice : S → Source ℕ → ℕ → Type 0) (bytes : S → List ℕ) (have : SlicesHaveBytes is_slice bytes) where
   -- a text that is the held front, before another byte, is accepted
   accepts-front : (longest : ℕ) (f s : Source ℕ) (x : ℕ × ℕ) (a : Ahead ℕ) → a.tokens ≡ f ++ x ∷ s
       → held_within (Some longest) is_in_line a.tokens ≡ f → HasPositiveWidths a.tokens
@@ -196,7 +196,7 @@ module _ {S : Type 0} (counts_missing : Bool) (is_slice : S → Source ℕ → �
   accepts-front longest f s x a whole held wide partial (Gives slice b) h =
       let is = subst (λ t. is_slice slice a.tokens (width t)) held h.0 in
       let offset = subst (λ t. is_offset a.tokens (width t) ≡ true) held (is_offset-within is_in_line (Some longest) a.tokens) in
-      let got = slice-taken counts_missing is_slice bytes have a.tokens f (x ∷ s) slice whole wide offset is in
+      let got = slice-taken counts_shortage is_slice bytes have a.tokens f (x ∷ s) slice whole wide offset is in
       (got.0, ap (λ c. c.tokens) h.1 ∙ ap (λ t. back a.tokens (width t)) held ∙ got.1)
   accepts-front longest f s x a whole held wide partial (Fails (Backtracks b)) h = absurd (omega (arith, h.1))
   accepts-front longest f s x a whole held wide partial (Fails (Cuts b)) h = absurd (grind (arith, nat_tests, h.1))
@@ -219,7 +219,7 @@ module _ {S : Type 0} (counts_missing : Bool) (is_slice : S → Source ℕ → �
 
   -- the text of a line and its end are read
   pub reads-line : (longest : ℕ) (t : List ℕ) → IsText longest t
-      → Reads (Line itself counts_missing is_slice bytes longest) (line t) (λ slice. bytes slice
+      → Reads (Line itself counts_shortage is_slice bytes longest) (line t) (λ slice. bytes slice
       ≡ t)
   reads-line longest t text r q wide stands =
       let k = ahead-split t line_end r q stands in
@@ -236,9 +236,9 @@ module _ {S : Type 0} (counts_missing : Bool) (is_slice : S → Source ℕ → �
 
   -- the text of a line is read
   pub reads-text : (longest : ℕ) (t : List ℕ) → IsText longest t
-      → Reads (Text itself counts_missing is_slice bytes longest) (line t) (λ v. v.items ≡ t)
-  reads-text longest t text = reads-gathered (HasBytes bytes) (CutOff (Line itself counts_missing is_slice bytes longest)) (line t) (λ slice. bytes slice ≡ t) (λ v. v.items ≡ t)
-      (reads-cut (Line itself counts_missing is_slice bytes longest) (line t) (λ slice. bytes slice ≡ t) (reads-line longest t text)) (λ slice v is has. has ∙ is)
+      → Reads (Text itself counts_shortage is_slice bytes longest) (line t) (λ v. v.items ≡ t)
+  reads-text longest t text = reads-gathered (HasBytes bytes) (CutOff (Line itself counts_shortage is_slice bytes longest)) (line t) (λ slice. bytes slice ≡ t) (λ v. v.items ≡ t)
+      (reads-cut (Line itself counts_shortage is_slice bytes longest) (line t) (λ slice. bytes slice ≡ t) (reads-line longest t text)) (λ slice v is has. has ∙ is)
 
   -- the value that a line is read as is read
   pub reads-value : {R : Type 0} (reads : List ℕ → R → Type 0) (t : List ℕ) (n : R) → reads t n
@@ -246,33 +246,33 @@ module _ {S : Type 0} (counts_missing : Bool) (is_slice : S → Source ℕ → �
       → Reads
       (CutOff
       (Chosen (λ slice m. IsSomeExactly (reads (bytes slice)) m)
-      (Line itself counts_missing is_slice bytes most_digits))) (line t) (λ m. m ≡ n)
+      (Line itself counts_shortage is_slice bytes most_digits))) (line t) (λ m. m ≡ n)
   reads-value {R = R} reads t n h text =
       let gives : S → Option R → Type 0 = λ slice m. IsSomeExactly (reads (bytes slice)) m in
       let on : (slice : S) (made : Option R) → bytes slice ≡ t → gives slice made → made ≡ Some n = λ slice made is g. (g n).1 (subst (λ s. reads s n) (sym is) h) in
-      reads-cut (Chosen gives (Line itself counts_missing is_slice bytes most_digits)) (line t) (λ m. m ≡ n)
-      (reads-chosen gives (Line itself counts_missing is_slice bytes most_digits) (line t) (λ slice. bytes slice ≡ t) n (reads-line most_digits t text) on)
+      reads-cut (Chosen gives (Line itself counts_shortage is_slice bytes most_digits)) (line t) (λ m. m ≡ n)
+      (reads-chosen gives (Line itself counts_shortage is_slice bytes most_digits) (line t) (λ slice. bytes slice ≡ t) n (reads-line most_digits t text) on)
 
   -- an integer is read
   pub reads-number : (t : List ℕ) (n : ℤ) → IsInteger t n → IsText most_digits t
-      → Reads (Number itself counts_missing is_slice bytes) (line t) (λ m. m ≡ n)
+      → Reads (Number itself counts_shortage is_slice bytes) (line t) (λ m. m ≡ n)
   reads-number = reads-value IsInteger
 
   -- a length is read
   pub reads-length : (greatest : ℕ) (t : List ℕ) (n : Option ℕ) → IsLength greatest t n
       → IsText most_digits t
-      → Reads (Length itself counts_missing is_slice bytes greatest) (line t) (λ m. m ≡ n)
+      → Reads (Length itself counts_shortage is_slice bytes greatest) (line t) (λ m. m ≡ n)
   reads-length greatest = reads-value (IsLength greatest)
 
   -- that many bytes are accepted
   accepts-counted : (n : ℕ) (f s r : Source ℕ) → r ≡ f ++ s → length f ≡ n → HasPositiveWidths r
-      → Accepts (Counted counts_missing is_slice n) r (λ slice. bytes slice ≡ bytes_of f) s
+      → Accepts (Counted counts_shortage is_slice n) r (λ slice. bytes slice ≡ bytes_of f) s
   accepts-counted n f s r whole count wide partial a (Gives slice b) e h =
       let here : a.tokens ≡ f ++ s = e ∙ whole in
       let taken : take n a.tokens ≡ f = ap (take n) here ∙ ap (λ k. take k (f ++ s)) (sym count) ∙ take-seam f s in
       let is = subst (λ t. is_slice slice a.tokens (width t)) taken h.2 in
       let offset = subst (λ t. is_offset a.tokens (width t) ≡ true) taken h.1 in
-      let got = slice-taken counts_missing is_slice bytes have a.tokens f s slice here (subst HasPositiveWidths (sym e) wide) offset is in
+      let got = slice-taken counts_shortage is_slice bytes have a.tokens f s slice here (subst HasPositiveWidths (sym e) wide) offset is in
       (got.0, ap (λ c. c.tokens) h.3 ∙ ap (λ t. back a.tokens (width t)) taken ∙ got.1)
   accepts-counted n f s r whole count wide partial a (Fails (Backtracks b)) e h =
       absurd (omega (arith, h.0, ap length e, ap length whole, length-append f s, count))
@@ -283,11 +283,11 @@ module _ {S : Type 0} (counts_missing : Bool) (is_slice : S → Source ℕ → �
 
   -- that many bytes and the end of a line are read
   pub reads-bytes : (n : ℕ) (t : List ℕ) → length t ≡ n
-      → Reads (Bytes itself counts_missing is_slice bytes n) (line t) (λ v. v.items ≡ t)
+      → Reads (Bytes itself counts_shortage is_slice bytes n) (line t) (λ v. v.items ≡ t)
   reads-bytes n t count =
-      reads-gathered (HasBytes bytes) (CutOff (Terminated (Counted counts_missing is_slice n) (LineEnd itself))) (line t) (λ slice. bytes slice ≡ t) (λ v. v.items ≡ t)
-      (reads-cut (Terminated (Counted counts_missing is_slice n) (LineEnd itself)) (line t) (λ slice. bytes slice ≡ t)
-      (reads-terminated (Counted counts_missing is_slice n) (LineEnd itself) t line_end (λ slice. bytes slice ≡ t) (λ both. ⊤)
+      reads-gathered (HasBytes bytes) (CutOff (Terminated (Counted counts_shortage is_slice n) (LineEnd itself))) (line t) (λ slice. bytes slice ≡ t) (λ v. v.items ≡ t)
+      (reads-cut (Terminated (Counted counts_shortage is_slice n) (LineEnd itself)) (line t) (λ slice. bytes slice ≡ t)
+      (reads-terminated (Counted counts_shortage is_slice n) (LineEnd itself) t line_end (λ slice. bytes slice ≡ t) (λ both. ⊤)
       (λ r s wide stands partial a v e h. weaker _ _ s v (λ slice is. is ∙ stands.1.1) (accepts-counted n stands.0 s r stands.1.0 (sym (length-bytes stands.0) ∙ ap length stands.1.1 ∙ count) wide partial a v e h))
       reads-end))
       (λ slice v is has. has ∙ is)

@@ -83,29 +83,29 @@ kind-stops partial (Cuts b) a h = absurd h
 kind-stops partial (Needs n) a h = (h, (h.0, subst HasNoKind (sym h.0) tt))
 kind-stops partial Refuses a h = absurd h
 
-module _ {S : Type 0} (counts_missing : Bool) (is_slice : S → Source ℕ → ℕ → Type 0) (bytes : S → List ℕ) (have : SlicesHaveBytes is_slice bytes) where
+module _ {S : Type 0} (counts_shortage : Bool) (is_slice : S → Source ℕ → ℕ → Type 0) (bytes : S → List ℕ) (have : SlicesHaveBytes is_slice bytes) where
   -- ---- Lines
 
   -- a line fails where it breaks off
   line-stops : (longest : ℕ) (partial : Bool) (f : Failed ℕ) (a : Ahead ℕ)
       → HasPositiveWidths a.tokens
-      → Line itself counts_missing is_slice bytes longest partial a (Fails f)
+      → Line itself counts_shortage is_slice bytes longest partial a (Fails f)
       → Stops (λ needs_more. LineBreaksOff longest) a.tokens f
   line-stops longest partial (Backtracks b) a wide (inl h) = absurd (omega (arith, h.1))
   line-stops longest partial (Cuts b) a wide (inl h) = absurd (grind (arith, nat_tests, h.1))
   line-stops longest partial (Needs n) a wide (inl h) =
-      let k = held-short counts_missing is_slice bytes have longest partial a.tokens h.2 in
+      let k = held-short counts_shortage is_slice bytes have longest partial a.tokens h.2 in
       (k.0, ([], (k.1.0, k.1.1, inr tt, inl (refl, λ e. e))))
   line-stops longest partial Refuses a wide (inl h) = tt
   line-stops longest partial f a wide (inr (slice, (b, (h, g)))) =
-      let k = held-stands counts_missing is_slice bytes have longest partial a b slice wide h in
+      let k = held-stands counts_shortage is_slice bytes have longest partial a b slice wide h in
       stops-on (λ needs_more. EndBreaksOff) (λ needs_more. LineBreaksOff longest) b.tokens a.tokens f (λ needs_more s m. (k.0, (b.tokens, (k.1.0, k.1.1, k.1.2, m))))
       (end-stops partial f b (ahead-wide k.0 a.tokens b.tokens k.1.0 wide) g)
 
   -- the text of a line fails where the line breaks off
   text-stops : (longest : ℕ) (partial : Bool) (f : Failed ℕ) (a : Ahead ℕ)
       → HasPositiveWidths a.tokens
-      → Text itself counts_missing is_slice bytes longest partial a (Fails f)
+      → Text itself counts_shortage is_slice bytes longest partial a (Fails f)
       → Stops (λ needs_more. LineBreaksOff longest) a.tokens f
   text-stops longest partial (Backtracks b) a wide h = absurd h
   text-stops longest partial (Cuts b) a wide (inl h) = line-stops longest partial (Backtracks b) a wide h
@@ -117,7 +117,7 @@ module _ {S : Type 0} (counts_missing : Bool) (is_slice : S → Source ℕ → �
     -- what a line is read as
     abbrev Read : Meaning R ℕ
     Read = CutOff
-        (Chosen (λ slice n. IsSomeExactly (reads (bytes slice)) n) (Line itself counts_missing is_slice bytes most_digits))
+        (Chosen (λ slice n. IsSomeExactly (reads (bytes slice)) n) (Line itself counts_shortage is_slice bytes most_digits))
 
     -- a number fails where it breaks off
     number-stops : (partial : Bool) (f : Failed ℕ) (a : Ahead ℕ) → HasPositiveWidths a.tokens
@@ -125,7 +125,7 @@ module _ {S : Type 0} (counts_missing : Bool) (is_slice : S → Source ℕ → �
     number-stops partial (Backtracks b) a wide h = absurd h
     number-stops partial (Cuts b) a wide (inl (inl h)) = inl (line-stops most_digits partial (Backtracks b) a wide h)
     number-stops partial (Cuts b) a wide (inl (inr (same, (slice, (c, (h, none)))))) =
-        let k = yields-line counts_missing is_slice bytes have most_digits partial a c slice wide h in
+        let k = yields-line counts_shortage is_slice bytes have most_digits partial a c slice wide h in
         inr (
           ap (λ p. p.tokens) same,
           (bytes slice, (c.tokens, (subst (λ t. IsAhead a.tokens t c.tokens) k.1.1.1 k.1.0, k.1.1.0, λ n is. none-some _ ((none n).1 is)))),
@@ -138,20 +138,20 @@ module _ {S : Type 0} (counts_missing : Bool) (is_slice : S → Source ℕ → �
 
   -- a number of bytes and a line end fail where they break off
   counted-stops : (n : ℕ) (partial : Bool) (f : Failed ℕ) (a : Ahead ℕ) → HasPositiveWidths a.tokens
-      → Terminated (Counted counts_missing is_slice n) (LineEnd itself) partial a (Fails f)
+      → Terminated (Counted counts_shortage is_slice n) (LineEnd itself) partial a (Fails f)
       → Stops (λ needs_more. BytesBreakOff needs_more n) a.tokens f
   counted-stops n partial (Backtracks b) a wide (inl h) = inl (h.0, ap (λ p. p.tokens) h.2)
   counted-stops n partial (Cuts b) a wide (inl h) = absurd h
   counted-stops n partial (Needs i) a wide (inl h) = inl (h.0, refl)
   counted-stops n partial Refuses a wide (inl h) = tt
   counted-stops n partial f a wide (inr (slice, (b, (h, g)))) =
-      let k = yields-counted counts_missing is_slice bytes have n partial a b slice wide h in
+      let k = yields-counted counts_shortage is_slice bytes have n partial a b slice wide h in
       stops-on (λ needs_more. EndBreaksOff) (λ needs_more. BytesBreakOff needs_more n) b.tokens a.tokens f (λ needs_more s m. inr (k.0, (b.tokens, (k.1.0, k.1.1.0, m))))
       (end-stops partial f b (ahead-wide k.0 a.tokens b.tokens k.1.0 wide) g)
 
   -- the bytes of a bulk string fail so
   bytes-stops : (n : ℕ) (partial : Bool) (f : Failed ℕ) (a : Ahead ℕ) → HasPositiveWidths a.tokens
-      → Bytes itself counts_missing is_slice bytes n partial a (Fails f)
+      → Bytes itself counts_shortage is_slice bytes n partial a (Fails f)
       → Stops (λ needs_more. BytesBreakOff needs_more n) a.tokens f
   bytes-stops n partial (Backtracks b) a wide h = absurd h
   bytes-stops n partial (Cuts b) a wide (inl h) = counted-stops n partial (Backtracks b) a wide h
@@ -162,16 +162,16 @@ module _ {S : Type 0} (counts_missing : Bool) (is_slice : S → Source ℕ → �
   -- a length that is given stands ahead
   length-stands : (greatest n : ℕ) (partial : Bool) (a b : Ahead ℕ) (x : Option ℕ)
       → HasPositiveWidths a.tokens
-      → Length itself counts_missing is_slice bytes greatest partial a (Gives x b) → x ≡ Some n
+      → Length itself counts_shortage is_slice bytes greatest partial a (Gives x b) → x ≡ Some n
       → (text : List ℕ) × (IsLength greatest text (Some n) × IsAhead a.tokens (line text) b.tokens)
   length-stands greatest n partial a b x wide h same =
-      let k = yields-length counts_missing is_slice bytes have greatest partial a b x wide h in
+      let k = yields-length counts_shortage is_slice bytes have greatest partial a b x wide h in
       (k.1.1.0, (subst (IsLength greatest k.1.1.0) same k.1.1.1.0, subst (λ t. IsAhead a.tokens t b.tokens) k.1.1.1.1 k.1.0))
 
   -- a bulk string fails where it breaks off
   bulk-stops : (longest : ℕ) (partial : Bool) (f : Failed ℕ) (a : Ahead ℕ)
       → HasPositiveWidths a.tokens
-      → BulkString itself counts_missing is_slice bytes longest partial a (Fails f)
+      → BulkString itself counts_shortage is_slice bytes longest partial a (Fails f)
       → Stops (λ needs_more. BulkBreaksOff needs_more longest) a.tokens f
   bulk-stops longest partial f a wide (inl h) =
       stops-on (λ needs_more. NumberBreaksOff (IsLength longest)) (λ needs_more. BulkBreaksOff needs_more longest) a.tokens a.tokens f (λ needs_more s k. inl k) (number-stops (IsLength longest) partial f a wide h)
@@ -206,7 +206,7 @@ module _ {S : Type 0} (counts_missing : Bool) (is_slice : S → Source ℕ → �
         → HasPositiveWidths a.tokens → Repeated n (Some n) inner partial a (Fails f)
         → Stops (λ needs_more. ElementsBreakOff spells (stops needs_more) n) a.tokens f
     repeated-stops n partial f a wide (xs, (b, (turns, below, (few, h)))) =
-        let k = turns-stand counts_missing is_slice bytes have longest spells inner one partial xs a b wide turns in
+        let k = turns-stand counts_shortage is_slice bytes have longest spells inner one partial xs a b wide turns in
         stops-on stops (λ needs_more. ElementsBreakOff spells (stops needs_more) n) b.tokens a.tokens f (λ needs_more s m. (xs, (k.0, (b.tokens, (k.1.0, k.1.1, below, m)))))
         (taking-stops partial f b (ahead-wide k.0 a.tokens b.tokens k.1.0 wide) h)
 
@@ -224,7 +224,7 @@ module _ {S : Type 0} (counts_missing : Bool) (is_slice : S → Source ℕ → �
     -- the replies in an array fail so
     elements-stops : (n : ℕ) (partial : Bool) (f : Failed ℕ) (a : Ahead ℕ)
         → HasPositiveWidths a.tokens
-        → Elements itself counts_missing is_slice bytes inner n partial a (Fails f)
+        → Elements itself counts_shortage is_slice bytes inner n partial a (Fails f)
         → Stops (λ needs_more. ElementsBreakOff spells (stops needs_more) n) a.tokens f
     elements-stops n partial (Backtracks b) a wide h = absurd h
     elements-stops n partial (Cuts b) a wide (inl h) = ascending-stops n partial (Backtracks b) a wide h
@@ -234,7 +234,7 @@ module _ {S : Type 0} (counts_missing : Bool) (is_slice : S → Source ℕ → �
 
     -- an array fails where it breaks off
     array-stops : (partial : Bool) (f : Failed ℕ) (a : Ahead ℕ) → HasPositiveWidths a.tokens
-        → ArrayReply itself counts_missing is_slice bytes inner partial a (Fails f)
+        → ArrayReply itself counts_shortage is_slice bytes inner partial a (Fails f)
         → Stops (λ needs_more. ArrayBreaksOff spells (stops needs_more)) a.tokens f
     array-stops partial f a wide (inl h) =
         stops-on (λ needs_more. NumberBreaksOff (IsLength greatest_count)) (λ needs_more. ArrayBreaksOff spells (stops needs_more)) a.tokens a.tokens f (λ needs_more s k. inl k) (number-stops (IsLength greatest_count) partial f a wide h)
@@ -253,7 +253,7 @@ module _ {S : Type 0} (counts_missing : Bool) (is_slice : S → Source ℕ → �
     -- what follows the byte of a kind fails where it breaks off
     body-stops : (kind : ℕ) (partial : Bool) (f : Failed ℕ) (a : Ahead ℕ)
         → HasPositiveWidths a.tokens
-        → Body itself counts_missing is_slice bytes longest inner kind partial a (Fails f)
+        → Body itself counts_shortage is_slice bytes longest inner kind partial a (Fails f)
         → Stops (BodyStops kind) a.tokens f
     body-stops kind partial f a wide (inl (e, h)) =
         stops-on (λ needs_more. ArrayBreaksOff spells (stops needs_more)) (BodyStops kind) a.tokens a.tokens f (λ needs_more s k. inr (inr (inr (e, k)))) (array-stops partial f a wide h)
@@ -272,7 +272,7 @@ module _ {S : Type 0} (counts_missing : Bool) (is_slice : S → Source ℕ → �
 
     -- a reply fails where none begins, or where it breaks off
     layer-stops : (partial : Bool) (f : Failed ℕ) (a : Ahead ℕ) → HasPositiveWidths a.tokens
-        → Layer itself counts_missing is_slice bytes longest inner partial a (Fails f)
+        → Layer itself counts_shortage is_slice bytes longest inner partial a (Fails f)
         → FailsFirst partial a f ⊎ Stops LayerStops a.tokens f
     layer-stops partial f a wide (inl h) = inl (kind-stops partial f a h)
     layer-stops partial f a wide (inr (x, (b, (kind, (h, same, g))))) =
@@ -301,11 +301,11 @@ module _ {S : Type 0} (counts_missing : Bool) (is_slice : S → Source ℕ → �
   -- the parser of replies fails where none begins, or where one breaks off
   pub nested-stops : (longest depth : ℕ) (partial : Bool) (f : Failed ℕ) (a : Ahead ℕ)
       → HasPositiveWidths a.tokens
-      → Nested itself counts_missing is_slice bytes longest depth partial a (Fails f)
+      → Nested itself counts_shortage is_slice bytes longest depth partial a (Fails f)
       → FailsFirst partial a f ⊎ Stops (λ needs_more. BreaksOff needs_more longest depth) a.tokens f
   nested-stops longest zero partial f a wide h =
       layer-stops longest SpellsNone IsTooDeep Failing (λ partial a b x wide h. absurd h) (λ y t h. absurd h) deep-stops partial f a wide h
   nested-stops longest (suc depth) partial f a wide h =
-      layer-stops longest (Spells longest depth) (λ needs_more. StopsAt (BreaksOff needs_more longest depth)) (Nested itself counts_missing is_slice bytes longest depth)
-      (yields-nested counts_missing is_slice bytes have longest depth) (spells-begins counts_missing is_slice bytes have longest depth)
+      layer-stops longest (Spells longest depth) (λ needs_more. StopsAt (BreaksOff needs_more longest depth)) (Nested itself counts_shortage is_slice bytes longest depth)
+      (yields-nested counts_shortage is_slice bytes have longest depth) (spells-begins counts_shortage is_slice bytes have longest depth)
       (λ partial f a wide h. stops-either (λ needs_more. BreaksOff needs_more longest depth) partial f a (nested-stops longest depth partial f a wide h)) partial f a wide h

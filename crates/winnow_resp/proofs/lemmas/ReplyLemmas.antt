@@ -63,7 +63,7 @@ reads-ascending : {O : Type 0} (n : ℕ) (t : List ℕ) (inner : Meaning O ℕ) 
 reads-ascending n t inner A one r s wide stands partial a v e (inl h) = one r s wide stands partial a v e h.1
 reads-ascending n t inner A one r s wide stands partial a v e (inr h) = absurd (omega (arith, h.0))
 
-module _ {S : Type 0} (counts_missing : Bool) (is_slice : S → Source ℕ → ℕ → Type 0) (bytes : S → List ℕ) (have : SlicesHaveBytes is_slice bytes) where
+module _ {S : Type 0} (counts_shortage : Bool) (is_slice : S → Source ℕ → ℕ → Type 0) (bytes : S → List ℕ) (have : SlicesHaveBytes is_slice bytes) where
   -- ---- What is given stands ahead
 
   -- what stands after the length of a bulk string
@@ -72,10 +72,11 @@ module _ {S : Type 0} (counts_missing : Bool) (is_slice : S → Source ℕ → �
   AfterBulk (Some n) y u = (v : Vec ℕ Global) × ((out-Reply y ≡ Bulk v) × (length v.items ≡ n) × (u ≡ line v.items))
 
   -- a bulk string stands after its length
-  bulk-after : (n : Option ℕ) → Yields (BulkOf itself counts_missing is_slice bytes n) (AfterBulk n)
+  bulk-after : (n : Option ℕ)
+      → Yields (BulkOf itself counts_shortage is_slice bytes n) (AfterBulk n)
   bulk-after None partial a b y wide h = ([], (ahead-nothing _ _ (ap (λ s. s.tokens) h.1.1.1), (h.1.0, refl)))
   bulk-after (Some n) partial a b y wide h =
-      let k = yields-bytes counts_missing is_slice bytes have n partial a b h.0 wide h.1.1 in
+      let k = yields-bytes counts_shortage is_slice bytes have n partial a b h.0 wide h.1.1 in
       (k.0, (k.1.0, (h.0, (h.1.0, k.1.1.0, k.1.1.1))))
 
   -- a length and what stands after it spell a bulk string
@@ -92,11 +93,11 @@ module _ {S : Type 0} (counts_missing : Bool) (is_slice : S → Source ℕ → �
 
   -- a bulk string stands ahead
   yields-bulk : (longest : ℕ) (spells : Reply → List ℕ → Type 0)
-      → Yields (BulkString itself counts_missing is_slice bytes longest)
+      → Yields (BulkString itself counts_shortage is_slice bytes longest)
       (λ y t. SpellsLayer longest spells (out-Reply y) (36 ∷ t))
   yields-bulk longest spells =
-      yields-continued IsSame (BulkOf itself counts_missing is_slice bytes) (Length itself counts_missing is_slice bytes longest) (λ n t. (text : List ℕ) × (IsLength longest text n × (t ≡ line text))) AfterBulk (λ y t. SpellsLayer longest spells (out-Reply y) (36 ∷ t)) (yields-length counts_missing is_slice bytes have longest)
-      (λ x n same. subst (λ m. Yields (BulkOf itself counts_missing is_slice bytes m) (AfterBulk x)) same (bulk-after x))
+      yields-continued IsSame (BulkOf itself counts_shortage is_slice bytes) (Length itself counts_shortage is_slice bytes longest) (λ n t. (text : List ℕ) × (IsLength longest text n × (t ≡ line text))) AfterBulk (λ y t. SpellsLayer longest spells (out-Reply y) (36 ∷ t)) (yields-length counts_shortage is_slice bytes have longest)
+      (λ x n same. subst (λ m. Yields (BulkOf itself counts_shortage is_slice bytes m) (AfterBulk x)) same (bulk-after x))
       (bulk-whole longest spells)
 
   module _ (longest : ℕ) (spells : Reply → List ℕ → Type 0) (inner : Meaning Reply ℕ) (one : Yields inner spells) where
@@ -112,7 +113,7 @@ module _ {S : Type 0} (counts_missing : Bool) (is_slice : S → Source ℕ → �
 
     -- the elements of an array stand ahead
     yields-elements : (n : ℕ)
-        → Yields (Elements itself counts_missing is_slice bytes inner n)
+        → Yields (Elements itself counts_shortage is_slice bytes inner n)
         (λ v t. SpellAll spells v.items t × (length v.items ≡ n))
     yields-elements n partial a b v wide (inl (l, (xs, (has, (turn, enough, more))))) =
         let k = turns-stand partial xs a b wide turn in
@@ -126,7 +127,7 @@ module _ {S : Type 0} (counts_missing : Bool) (is_slice : S → Source ℕ → �
 
     -- the elements of an array stand after its length
     array-after : (n : Option ℕ)
-        → Yields (ArrayOf itself counts_missing is_slice bytes inner n) (AfterArray n)
+        → Yields (ArrayOf itself counts_shortage is_slice bytes inner n) (AfterArray n)
     array-after None partial a b y wide h = ([], (ahead-nothing _ _ (ap (λ s. s.tokens) h.1.1.1), (h.1.0, refl)))
     array-after (Some n) partial a b y wide h =
         let k = yields-elements n partial a b h.0 wide h.1.1 in
@@ -144,46 +145,46 @@ module _ {S : Type 0} (counts_missing : Bool) (is_slice : S → Source ℕ → �
         (text, (u, (subst (λ m. IsLength greatest_count text (Some m)) (sym h.1) is, h.2, ap (λ s. 42 ∷ (s ++ u)) e)))
 
     -- an array stands ahead
-    yields-array : Yields (ArrayReply itself counts_missing is_slice bytes inner)
+    yields-array : Yields (ArrayReply itself counts_shortage is_slice bytes inner)
         (λ y t. SpellsLayer longest spells (out-Reply y) (42 ∷ t))
     yields-array =
-        yields-continued IsSame (ArrayOf itself counts_missing is_slice bytes inner) (Length itself counts_missing is_slice bytes greatest_count) (λ n t. (text : List ℕ) × (IsLength greatest_count text n × (t ≡ line text))) AfterArray (λ y t. SpellsLayer longest spells (out-Reply y) (42 ∷ t)) (yields-length counts_missing is_slice bytes have greatest_count)
-        (λ x n same. subst (λ m. Yields (ArrayOf itself counts_missing is_slice bytes inner m) (AfterArray x)) same (array-after x))
+        yields-continued IsSame (ArrayOf itself counts_shortage is_slice bytes inner) (Length itself counts_shortage is_slice bytes greatest_count) (λ n t. (text : List ℕ) × (IsLength greatest_count text n × (t ≡ line text))) AfterArray (λ y t. SpellsLayer longest spells (out-Reply y) (42 ∷ t)) (yields-length counts_shortage is_slice bytes have greatest_count)
+        (λ x n same. subst (λ m. Yields (ArrayOf itself counts_shortage is_slice bytes inner m) (AfterArray x)) same (array-after x))
         array-whole
 
     -- a reply stands after the byte of its kind
     yields-body : (kind : ℕ)
-        → Yields (Body itself counts_missing is_slice bytes longest inner kind)
+        → Yields (Body itself counts_shortage is_slice bytes longest inner kind)
         (λ y t. SpellsLayer longest spells (out-Reply y) (kind ∷ t))
     yields-body kind partial a b y wide (inl (e, h)) =
         let k = yields-array partial a b y wide h in
         (k.0, (k.1.0, subst (λ c. SpellsLayer longest spells (out-Reply y) (c ∷ k.0)) (sym e) k.1.1))
     yields-body kind partial a b y wide (inr (inl (e, (v, (is, h))))) =
-        let k = yields-text counts_missing is_slice bytes have longest partial a b v wide h in
+        let k = yields-text counts_shortage is_slice bytes have longest partial a b v wide h in
         (k.0, (k.1.0, subst (λ f. SpellsLayer longest spells f (kind ∷ k.0)) (sym is) (k.1.1.0, ap (λ c. c ∷ k.0) e ∙ ap (λ t. 43 ∷ t) k.1.1.1)))
     yields-body kind partial a b y wide (inr (inr (inl (e, (v, (is, h)))))) =
-        let k = yields-text counts_missing is_slice bytes have longest partial a b v wide h in
+        let k = yields-text counts_shortage is_slice bytes have longest partial a b v wide h in
         (k.0, (k.1.0, subst (λ f. SpellsLayer longest spells f (kind ∷ k.0)) (sym is) (k.1.1.0, ap (λ c. c ∷ k.0) e ∙ ap (λ t. 45 ∷ t) k.1.1.1)))
     yields-body kind partial a b y wide (inr (inr (inr (inl (e, (n, (is, h))))))) =
-        let k = yields-number counts_missing is_slice bytes have partial a b n wide h in
+        let k = yields-number counts_shortage is_slice bytes have partial a b n wide h in
         (k.0, (k.1.0, subst (λ f. SpellsLayer longest spells f (kind ∷ k.0)) (sym is) (k.1.1.0, (k.1.1.1.0, ap (λ c. c ∷ k.0) e ∙ ap (λ t. 58 ∷ t) k.1.1.1.1))))
     yields-body kind partial a b y wide (inr (inr (inr (inr (e, h))))) =
         let k = yields-bulk longest spells partial a b y wide h in
         (k.0, (k.1.0, subst (λ c. SpellsLayer longest spells (out-Reply y) (c ∷ k.0)) (sym e) k.1.1))
 
     -- a reply stands ahead
-    yields-layer : Yields (Layer itself counts_missing is_slice bytes longest inner)
+    yields-layer : Yields (Layer itself counts_shortage is_slice bytes longest inner)
         (λ y t. SpellsLayer longest spells (out-Reply y) t)
     yields-layer =
-        yields-continued (IsCode itself) (Body itself counts_missing is_slice bytes longest inner) (OneOf is_kind) (λ x t. (is_kind x ≡ true) × (t ≡ x ∷ [])) (λ x y u. SpellsLayer longest spells (out-Reply y) (x ∷ u)) (λ y t. SpellsLayer longest spells (out-Reply y) t) (yields-one is_kind)
-        (λ x k same. subst (λ c. Yields (Body itself counts_missing is_slice bytes longest inner c) (λ y u. SpellsLayer longest spells (out-Reply y) (x ∷ u))) same (yields-body x))
+        yields-continued (IsCode itself) (Body itself counts_shortage is_slice bytes longest inner) (OneOf is_kind) (λ x t. (is_kind x ≡ true) × (t ≡ x ∷ [])) (λ x y u. SpellsLayer longest spells (out-Reply y) (x ∷ u)) (λ y t. SpellsLayer longest spells (out-Reply y) t) (yields-one is_kind)
+        (λ x k same. subst (λ c. Yields (Body itself counts_shortage is_slice bytes longest inner c) (λ y u. SpellsLayer longest spells (out-Reply y) (x ∷ u))) same (yields-body x))
         (λ x y t u q r. subst (λ s. SpellsLayer longest spells (out-Reply y) (s ++ u)) (sym q.1) r)
 
   -- the reply that the parser gives stands ahead
   pub yields-nested : (longest depth : ℕ)
-      → Yields (Nested itself counts_missing is_slice bytes longest depth) (Spells longest depth)
+      → Yields (Nested itself counts_shortage is_slice bytes longest depth) (Spells longest depth)
   yields-nested longest zero = yields-layer longest SpellsNone Failing (λ partial a b x wide h. absurd h)
-  yields-nested longest (suc depth) = yields-layer longest (Spells longest depth) (Nested itself counts_missing is_slice bytes longest depth) (yields-nested longest depth)
+  yields-nested longest (suc depth) = yields-layer longest (Spells longest depth) (Nested itself counts_shortage is_slice bytes longest depth) (yields-nested longest depth)
 
   -- ---- What stands ahead is given
 
@@ -292,11 +293,11 @@ module _ {S : Type 0} (counts_missing : Bool) (is_slice : S → Source ℕ → �
     -- the elements of an array are read
     reads-elements : (n : ℕ) (xs : List Reply) (text : List ℕ) → SpellAll spells xs text
         → length xs ≡ n
-        → Reads (Elements itself counts_missing is_slice bytes inner n) text
+        → Reads (Elements itself counts_shortage is_slice bytes inner n) text
         (λ v. SpellAll spells v.items text × (length v.items ≡ n)
         × (map contents v.items ≡ map contents xs))
     reads-elements n xs text all count =
-        subst (λ m. Reads (Elements itself counts_missing is_slice bytes inner m) text (λ v. SpellAll spells v.items text × (length v.items ≡ m) × (map contents v.items ≡ map contents xs))) count
+        subst (λ m. Reads (Elements itself counts_shortage is_slice bytes inner m) text (λ v. SpellAll spells v.items text × (length v.items ≡ m) × (map contents v.items ≡ map contents xs))) count
         (reads-cut (Ascending (length xs) (Some (length xs)) (Gathered ⊤ HasReplies (Repeated (length xs) (Some (length xs)) inner))) text (λ v. SpellAll spells v.items text × (length v.items ≡ length xs) × (map contents v.items ≡ map contents xs)) (reads-ascending (length xs) text (Gathered ⊤ HasReplies (Repeated (length xs) (Some (length xs)) inner)) (λ v. SpellAll spells v.items text × (length v.items ≡ length xs) × (map contents v.items ≡ map contents xs))
         (reads-gathered HasReplies (Repeated (length xs) (Some (length xs)) inner) text (λ ys. SpellAll spells ys text × (length ys ≡ length xs) × (map contents ys ≡ map contents xs)) (λ v. SpellAll spells v.items text × (length v.items ≡ length xs) × (map contents v.items ≡ map contents xs)) (reads-repeated xs text all)
         (λ ys v h has. (subst (λ zs. SpellAll spells zs text) (sym has) h.0, ap length has ∙ h.1, ap (map contents) has ∙ h.2)))))
@@ -304,53 +305,53 @@ module _ {S : Type 0} (counts_missing : Bool) (is_slice : S → Source ℕ → �
     -- an array is read after the byte of its kind
     reads-array : (v : Vec Reply Global) (text more : List ℕ)
         → IsLength greatest_count text (Some (length v.items)) → SpellAll spells v.items more
-        → Reads (ArrayReply itself counts_missing is_slice bytes inner) (line text
+        → Reads (ArrayReply itself counts_shortage is_slice bytes inner) (line text
         ++ more) (λ y. Says (Array v) (out-Reply y) (42 ∷ (line text ++ more)))
     reads-array v text more is all =
-        reads-continued IsSame (ArrayOf itself counts_missing is_slice bytes inner) (Length itself counts_missing is_slice bytes greatest_count) (line text) more (λ m. m ≡ Some (length v.items)) (λ y. Says (Array v) (out-Reply y) (42 ∷ (line text ++ more)))
-        (reads-length counts_missing is_slice bytes have greatest_count text (Some (length v.items)) is (length-line greatest_count text (Some (length v.items)) is))
-        (λ x n given same. subst (λ m. Reads (ArrayOf itself counts_missing is_slice bytes inner m) more (λ y. Says (Array v) (out-Reply y) (42 ∷ (line text ++ more)))) (sym given ∙ same)
-        (reads-maps IsArray (Elements itself counts_missing is_slice bytes inner (length v.items)) more (λ w. SpellAll spells w.items more × (length w.items ≡ length v.items) × (map contents w.items ≡ map contents v.items)) (λ y. Says (Array v) (out-Reply y) (42 ∷ (line text ++ more))) (reads-elements (length v.items) v.items more all refl)
+        reads-continued IsSame (ArrayOf itself counts_shortage is_slice bytes inner) (Length itself counts_shortage is_slice bytes greatest_count) (line text) more (λ m. m ≡ Some (length v.items)) (λ y. Says (Array v) (out-Reply y) (42 ∷ (line text ++ more)))
+        (reads-length counts_shortage is_slice bytes have greatest_count text (Some (length v.items)) is (length-line greatest_count text (Some (length v.items)) is))
+        (λ x n given same. subst (λ m. Reads (ArrayOf itself counts_shortage is_slice bytes inner m) more (λ y. Says (Array v) (out-Reply y) (42 ∷ (line text ++ more)))) (sym given ∙ same)
+        (reads-maps IsArray (Elements itself counts_shortage is_slice bytes inner (length v.items)) more (λ w. SpellAll spells w.items more × (length w.items ≡ length v.items) × (map contents w.items ≡ map contents v.items)) (λ y. Says (Array v) (out-Reply y) (42 ∷ (line text ++ more))) (reads-elements (length v.items) v.items more all refl)
         (λ w y h out. subst (λ g. Says (Array v) g (42 ∷ (line text ++ more))) (sym out)
         ((text, (more, (subst (λ m. IsLength greatest_count text (Some m)) (sym h.1) is, h.0, refl))), ap (λ l. array (values_of l)) h.2))))
 
     -- the null array is read after the byte of its kind
-    reads-null_array : Reads (ArrayReply itself counts_missing is_slice bytes inner)
+    reads-null_array : Reads (ArrayReply itself counts_shortage is_slice bytes inner)
         (line no_length) (λ y. Says NullArray (out-Reply y) (42 ∷ line no_length))
     reads-null_array =
-        reads-continued IsSame (ArrayOf itself counts_missing is_slice bytes inner) (Length itself counts_missing is_slice bytes greatest_count) (line no_length) [] (λ m. m ≡ None) (λ y. Says NullArray (out-Reply y) (42 ∷ line no_length))
-        (reads-length counts_missing is_slice bytes have greatest_count no_length None refl no_length-line)
-        (λ x n given same. subst (λ m. Reads (ArrayOf itself counts_missing is_slice bytes inner m) [] (λ y. Says NullArray (out-Reply y) (42 ∷ line no_length))) (sym given ∙ same)
+        reads-continued IsSame (ArrayOf itself counts_shortage is_slice bytes inner) (Length itself counts_shortage is_slice bytes greatest_count) (line no_length) [] (λ m. m ≡ None) (λ y. Says NullArray (out-Reply y) (42 ∷ line no_length))
+        (reads-length counts_shortage is_slice bytes have greatest_count no_length None refl no_length-line)
+        (λ x n given same. subst (λ m. Reads (ArrayOf itself counts_shortage is_slice bytes inner m) [] (λ y. Says NullArray (out-Reply y) (42 ∷ line no_length))) (sym given ∙ same)
         (reads-maps IsNullArray (Returns tt) [] (λ x. ⊤) (λ y. Says NullArray (out-Reply y) (42 ∷ line no_length)) reads-returns
         (λ w y h out. subst (λ g. Says NullArray g (42 ∷ line no_length)) (sym out) (refl, refl))))
 
     -- a bulk string is read after the byte of its kind
     reads-bulk : (v : Vec ℕ Global) (text : List ℕ) → IsLength longest text (Some (length v.items))
-        → Reads (BulkString itself counts_missing is_slice bytes longest) (line text
+        → Reads (BulkString itself counts_shortage is_slice bytes longest) (line text
         ++ line v.items) (λ y. Says (Bulk v) (out-Reply y) (36
         ∷ (line text ++ line v.items)))
     reads-bulk v text is =
-        reads-continued IsSame (BulkOf itself counts_missing is_slice bytes) (Length itself counts_missing is_slice bytes longest) (line text) (line v.items) (λ m. m ≡ Some (length v.items)) (λ y. Says (Bulk v) (out-Reply y) (36 ∷ (line text ++ line v.items)))
-        (reads-length counts_missing is_slice bytes have longest text (Some (length v.items)) is (length-line longest text (Some (length v.items)) is))
-        (λ x n given same. subst (λ m. Reads (BulkOf itself counts_missing is_slice bytes m) (line v.items) (λ y. Says (Bulk v) (out-Reply y) (36 ∷ (line text ++ line v.items)))) (sym given ∙ same)
-        (reads-maps IsBulk (Bytes itself counts_missing is_slice bytes (length v.items)) (line v.items) (λ w. w.items ≡ v.items) (λ y. Says (Bulk v) (out-Reply y) (36 ∷ (line text ++ line v.items))) (reads-bytes counts_missing is_slice bytes have (length v.items) v.items refl)
+        reads-continued IsSame (BulkOf itself counts_shortage is_slice bytes) (Length itself counts_shortage is_slice bytes longest) (line text) (line v.items) (λ m. m ≡ Some (length v.items)) (λ y. Says (Bulk v) (out-Reply y) (36 ∷ (line text ++ line v.items)))
+        (reads-length counts_shortage is_slice bytes have longest text (Some (length v.items)) is (length-line longest text (Some (length v.items)) is))
+        (λ x n given same. subst (λ m. Reads (BulkOf itself counts_shortage is_slice bytes m) (line v.items) (λ y. Says (Bulk v) (out-Reply y) (36 ∷ (line text ++ line v.items)))) (sym given ∙ same)
+        (reads-maps IsBulk (Bytes itself counts_shortage is_slice bytes (length v.items)) (line v.items) (λ w. w.items ≡ v.items) (λ y. Says (Bulk v) (out-Reply y) (36 ∷ (line text ++ line v.items))) (reads-bytes counts_shortage is_slice bytes have (length v.items) v.items refl)
         (λ w y h out. subst (λ g. Says (Bulk v) g (36 ∷ (line text ++ line v.items))) (sym out)
         ((text, (subst (λ m. IsLength longest text (Some m)) (ap length (sym h)) is, ap (λ s. 36 ∷ (line text ++ line s)) (sym h))), ap bulk h))))
 
     -- the null bulk string is read after the byte of its kind
-    reads-null_bulk : Reads (BulkString itself counts_missing is_slice bytes longest)
+    reads-null_bulk : Reads (BulkString itself counts_shortage is_slice bytes longest)
         (line no_length) (λ y. Says NullBulk (out-Reply y) (36 ∷ line no_length))
     reads-null_bulk =
-        reads-continued IsSame (BulkOf itself counts_missing is_slice bytes) (Length itself counts_missing is_slice bytes longest) (line no_length) [] (λ m. m ≡ None) (λ y. Says NullBulk (out-Reply y) (36 ∷ line no_length))
-        (reads-length counts_missing is_slice bytes have longest no_length None refl no_length-line)
-        (λ x n given same. subst (λ m. Reads (BulkOf itself counts_missing is_slice bytes m) [] (λ y. Says NullBulk (out-Reply y) (36 ∷ line no_length))) (sym given ∙ same)
+        reads-continued IsSame (BulkOf itself counts_shortage is_slice bytes) (Length itself counts_shortage is_slice bytes longest) (line no_length) [] (λ m. m ≡ None) (λ y. Says NullBulk (out-Reply y) (36 ∷ line no_length))
+        (reads-length counts_shortage is_slice bytes have longest no_length None refl no_length-line)
+        (λ x n given same. subst (λ m. Reads (BulkOf itself counts_shortage is_slice bytes m) [] (λ y. Says NullBulk (out-Reply y) (36 ∷ line no_length))) (sym given ∙ same)
         (reads-maps IsNullBulk (Returns tt) [] (λ x. ⊤) (λ y. Says NullBulk (out-Reply y) (36 ∷ line no_length)) reads-returns
         (λ w y h out. subst (λ g. Says NullBulk g (36 ∷ line no_length)) (sym out) (refl, refl))))
 
     module _ (u : List ℕ) (P : Reply → Type 0) where
       -- after the byte of an array, an array is read
-      body-array : Reads (ArrayReply itself counts_missing is_slice bytes inner) u P
-          → Reads (Body itself counts_missing is_slice bytes longest inner 42) u P
+      body-array : Reads (ArrayReply itself counts_shortage is_slice bytes inner) u P
+          → Reads (Body itself counts_shortage is_slice bytes longest inner 42) u P
       body-array one r s wide stands partial a v e (inl h) = one r s wide stands partial a v e h.1
       body-array one r s wide stands partial a v e (inr (inl h)) = absurd (omega (arith, h.0))
       body-array one r s wide stands partial a v e (inr (inr (inl h))) = absurd (omega (arith, h.0))
@@ -358,8 +359,8 @@ module _ {S : Type 0} (counts_missing : Bool) (is_slice : S → Source ℕ → �
       body-array one r s wide stands partial a v e (inr (inr (inr (inr h)))) = absurd (omega (arith, h.0))
 
       -- after the byte of a simple string, its text is read
-      body-simple : Reads (Maps IsSimple (Text itself counts_missing is_slice bytes longest)) u P
-          → Reads (Body itself counts_missing is_slice bytes longest inner 43) u P
+      body-simple : Reads (Maps IsSimple (Text itself counts_shortage is_slice bytes longest)) u P
+          → Reads (Body itself counts_shortage is_slice bytes longest inner 43) u P
       body-simple one r s wide stands partial a v e (inl h) = absurd (omega (arith, h.0))
       body-simple one r s wide stands partial a v e (inr (inl h)) = one r s wide stands partial a v e h.1
       body-simple one r s wide stands partial a v e (inr (inr (inl h))) = absurd (omega (arith, h.0))
@@ -367,8 +368,8 @@ module _ {S : Type 0} (counts_missing : Bool) (is_slice : S → Source ℕ → �
       body-simple one r s wide stands partial a v e (inr (inr (inr (inr h)))) = absurd (omega (arith, h.0))
 
       -- after the byte of an error, its text is read
-      body-error : Reads (Maps IsError (Text itself counts_missing is_slice bytes longest)) u P
-          → Reads (Body itself counts_missing is_slice bytes longest inner 45) u P
+      body-error : Reads (Maps IsError (Text itself counts_shortage is_slice bytes longest)) u P
+          → Reads (Body itself counts_shortage is_slice bytes longest inner 45) u P
       body-error one r s wide stands partial a v e (inl h) = absurd (omega (arith, h.0))
       body-error one r s wide stands partial a v e (inr (inl h)) = absurd (omega (arith, h.0))
       body-error one r s wide stands partial a v e (inr (inr (inl h))) = one r s wide stands partial a v e h.1
@@ -376,8 +377,8 @@ module _ {S : Type 0} (counts_missing : Bool) (is_slice : S → Source ℕ → �
       body-error one r s wide stands partial a v e (inr (inr (inr (inr h)))) = absurd (omega (arith, h.0))
 
       -- after the byte of an integer, its number is read
-      body-number : Reads (Maps IsNumber (Number itself counts_missing is_slice bytes)) u P
-          → Reads (Body itself counts_missing is_slice bytes longest inner 58) u P
+      body-number : Reads (Maps IsNumber (Number itself counts_shortage is_slice bytes)) u P
+          → Reads (Body itself counts_shortage is_slice bytes longest inner 58) u P
       body-number one r s wide stands partial a v e (inl h) = absurd (omega (arith, h.0))
       body-number one r s wide stands partial a v e (inr (inl h)) = absurd (omega (arith, h.0))
       body-number one r s wide stands partial a v e (inr (inr (inl h))) = absurd (omega (arith, h.0))
@@ -385,8 +386,8 @@ module _ {S : Type 0} (counts_missing : Bool) (is_slice : S → Source ℕ → �
       body-number one r s wide stands partial a v e (inr (inr (inr (inr h)))) = absurd (omega (arith, h.0))
 
       -- after the byte of a bulk string, a bulk string is read
-      body-bulk : Reads (BulkString itself counts_missing is_slice bytes longest) u P
-          → Reads (Body itself counts_missing is_slice bytes longest inner 36) u P
+      body-bulk : Reads (BulkString itself counts_shortage is_slice bytes longest) u P
+          → Reads (Body itself counts_shortage is_slice bytes longest inner 36) u P
       body-bulk one r s wide stands partial a v e (inl h) = absurd (omega (arith, h.0))
       body-bulk one r s wide stands partial a v e (inr (inl h)) = absurd (omega (arith, h.0))
       body-bulk one r s wide stands partial a v e (inr (inr (inl h))) = absurd (omega (arith, h.0))
@@ -395,15 +396,15 @@ module _ {S : Type 0} (counts_missing : Bool) (is_slice : S → Source ℕ → �
 
       -- after a byte of a kind, what the kind asks for is read
       reads-kind : (kind : ℕ) → is_kind kind ≡ true
-          → Reads (Body itself counts_missing is_slice bytes longest inner kind) u P
-          → Reads (Layer itself counts_missing is_slice bytes longest inner) (kind ∷ u) P
+          → Reads (Body itself counts_shortage is_slice bytes longest inner kind) u P
+          → Reads (Layer itself counts_shortage is_slice bytes longest inner) (kind ∷ u) P
       reads-kind kind held body =
-          reads-continued (IsCode itself) (Body itself counts_missing is_slice bytes longest inner) (OneOf is_kind) (kind ∷ []) u (λ x. x ≡ kind) P (reads-one is_kind kind held)
-          (λ x k given same. subst (λ c. Reads (Body itself counts_missing is_slice bytes longest inner c) u P) (sym given ∙ same) body)
+          reads-continued (IsCode itself) (Body itself counts_shortage is_slice bytes longest inner) (OneOf is_kind) (kind ∷ []) u (λ x. x ≡ kind) P (reads-one is_kind kind held)
+          (λ x k given same. subst (λ c. Reads (Body itself counts_shortage is_slice bytes longest inner c) u P) (sym given ∙ same) body)
 
     -- a reply is read, with the contents of a layer
     abbrev LayerIsRead : Reply-F Reply → List ℕ → Type 0
-    LayerIsRead f t = Reads (Layer itself counts_missing is_slice bytes longest inner) t (λ y. Says f (out-Reply y) t)
+    LayerIsRead f t = Reads (Layer itself counts_shortage is_slice bytes longest inner) t (λ y. Says f (out-Reply y) t)
 
     -- a reply that stands ahead is read, kind by kind
     reads-layer : (f : Reply-F Reply) (t : List ℕ) → SpellsLayer longest spells f t
@@ -411,17 +412,17 @@ module _ {S : Type 0} (counts_missing : Bool) (is_slice : S → Source ℕ → �
     reads-layer (Simple v) t h =
         subst (LayerIsRead (Simple v)) (sym h.1)
         (reads-kind (line v.items) (λ y. Says (Simple v) (out-Reply y) (43 ∷ line v.items)) 43 refl (body-simple (line v.items) (λ y. Says (Simple v) (out-Reply y) (43 ∷ line v.items))
-        (reads-maps IsSimple (Text itself counts_missing is_slice bytes longest) (line v.items) (λ w. w.items ≡ v.items) (λ y. Says (Simple v) (out-Reply y) (43 ∷ line v.items)) (reads-text counts_missing is_slice bytes have longest v.items h.0)
+        (reads-maps IsSimple (Text itself counts_shortage is_slice bytes longest) (line v.items) (λ w. w.items ≡ v.items) (λ y. Says (Simple v) (out-Reply y) (43 ∷ line v.items)) (reads-text counts_shortage is_slice bytes have longest v.items h.0)
         (λ w y is out. subst (λ g. Says (Simple v) g (43 ∷ line v.items)) (sym out) ((subst (IsText longest) (sym is) h.0, ap (λ s. 43 ∷ line s) (sym is)), ap simple is)))))
     reads-layer (Error v) t h =
         subst (LayerIsRead (Error v)) (sym h.1)
         (reads-kind (line v.items) (λ y. Says (Error v) (out-Reply y) (45 ∷ line v.items)) 45 refl (body-error (line v.items) (λ y. Says (Error v) (out-Reply y) (45 ∷ line v.items))
-        (reads-maps IsError (Text itself counts_missing is_slice bytes longest) (line v.items) (λ w. w.items ≡ v.items) (λ y. Says (Error v) (out-Reply y) (45 ∷ line v.items)) (reads-text counts_missing is_slice bytes have longest v.items h.0)
+        (reads-maps IsError (Text itself counts_shortage is_slice bytes longest) (line v.items) (λ w. w.items ≡ v.items) (λ y. Says (Error v) (out-Reply y) (45 ∷ line v.items)) (reads-text counts_shortage is_slice bytes have longest v.items h.0)
         (λ w y is out. subst (λ g. Says (Error v) g (45 ∷ line v.items)) (sym out) ((subst (IsText longest) (sym is) h.0, ap (λ s. 45 ∷ line s) (sym is)), ap error is)))))
     reads-layer (Integer n) t (text, (is, e)) =
         subst (LayerIsRead (Integer n)) (sym e)
         (reads-kind (line text) (λ y. Says (Integer n) (out-Reply y) (58 ∷ line text)) 58 refl (body-number (line text) (λ y. Says (Integer n) (out-Reply y) (58 ∷ line text))
-        (reads-maps IsNumber (Number itself counts_missing is_slice bytes) (line text) (λ m. m ≡ n) (λ y. Says (Integer n) (out-Reply y) (58 ∷ line text)) (reads-number counts_missing is_slice bytes have text n is (integer-line text n is))
+        (reads-maps IsNumber (Number itself counts_shortage is_slice bytes) (line text) (λ m. m ≡ n) (λ y. Says (Integer n) (out-Reply y) (58 ∷ line text)) (reads-number counts_shortage is_slice bytes have text n is (integer-line text n is))
         (λ m y same out. subst (λ g. Says (Integer n) g (58 ∷ line text)) (sym out) ((text, (subst (IsInteger text) (sym same) is, refl)), ap integer same)))))
     reads-layer (Bulk v) t (text, (is, e)) =
         subst (LayerIsRead (Bulk v)) (sym e) (reads-kind (line text ++ line v.items) (λ y. Says (Bulk v) (out-Reply y) (36 ∷ (line text ++ line v.items))) 36 refl (body-bulk (line text ++ line v.items) (λ y. Says (Bulk v) (out-Reply y) (36 ∷ (line text ++ line v.items))) (reads-bulk v text is)))
@@ -438,11 +439,11 @@ module _ {S : Type 0} (counts_missing : Bool) (is_slice : S → Source ℕ → �
 
   -- the parser reads each reply that stands ahead, and gives one with its contents
   pub reads-nested : (longest depth : ℕ) (y : Reply) (t : List ℕ) → Spells longest depth y t
-      → Reads (Nested itself counts_missing is_slice bytes longest depth) t
+      → Reads (Nested itself counts_shortage is_slice bytes longest depth) t
       (λ z. Spells longest depth z t × (contents z ≡ contents y))
   reads-nested longest zero y t h =
-      reads-weaker (Nested itself counts_missing is_slice bytes longest zero) t (λ z. SpellsLayer longest SpellsNone (out-Reply z) t × (value_of (out-Reply z) ≡ value_of (out-Reply y))) (λ z. Spells longest zero z t × (contents z ≡ contents y))
+      reads-weaker (Nested itself counts_shortage is_slice bytes longest zero) t (λ z. SpellsLayer longest SpellsNone (out-Reply z) t × (value_of (out-Reply z) ≡ value_of (out-Reply y))) (λ z. Spells longest zero z t × (contents z ≡ contents y))
       (λ z k. (k.0, same-contents y z k.1)) (reads-layer longest SpellsNone Failing (λ y t h. absurd h) (λ y t h. absurd h) (out-Reply y) t h)
   reads-nested longest (suc depth) y t h =
-      reads-weaker (Nested itself counts_missing is_slice bytes longest (suc depth)) t (λ z. SpellsLayer longest (Spells longest depth) (out-Reply z) t × (value_of (out-Reply z) ≡ value_of (out-Reply y))) (λ z. Spells longest (suc depth) z t × (contents z ≡ contents y))
-      (λ z k. (k.0, same-contents y z k.1)) (reads-layer longest (Spells longest depth) (Nested itself counts_missing is_slice bytes longest depth) (spells-begins longest depth) (reads-nested longest depth) (out-Reply y) t h)
+      reads-weaker (Nested itself counts_shortage is_slice bytes longest (suc depth)) t (λ z. SpellsLayer longest (Spells longest depth) (out-Reply z) t × (value_of (out-Reply z) ≡ value_of (out-Reply y))) (λ z. Spells longest (suc depth) z t × (contents z ≡ contents y))
+      (λ z k. (k.0, same-contents y z k.1)) (reads-layer longest (Spells longest depth) (Nested itself counts_shortage is_slice bytes longest depth) (spells-begins longest depth) (reads-nested longest depth) (out-Reply y) t h)

@@ -164,7 +164,7 @@ grows : (partial : Bool) (m n greatest : ℕ)
 grows true m n greatest h = (grind (arith, nat_tests, h), grind (arith, nat_tests, h))
 grows false m n greatest h = absurd (cc)
 
-module _ {S : Type 0} (counts_missing : Bool) (is_slice : S → Source ℕ → ℕ → Type 0) (bytes : S → List ℕ) (have : SlicesHaveBytes is_slice bytes) where
+module _ {S : Type 0} (counts_shortage : Bool) (is_slice : S → Source ℕ → ℕ → Type 0) (bytes : S → List ℕ) (have : SlicesHaveBytes is_slice bytes) where
   -- a slice that was taken has the bytes of the front, and the rest follows the front
   pub slice-taken : (r f s : Source ℕ) (slice : S) → r ≡ f ++ s → HasPositiveWidths r
       → IsTrue (is_offset r (width f)) → is_slice slice r (width f)
@@ -221,14 +221,14 @@ module _ {S : Type 0} (counts_missing : Bool) (is_slice : S → Source ℕ → �
 
   -- a line stands ahead, with the text that is given
   pub yields-line : (longest : ℕ)
-      → Yields (Line itself counts_missing is_slice bytes longest)
+      → Yields (Line itself counts_shortage is_slice bytes longest)
       (λ slice t. IsText longest (bytes slice) × (t ≡ line (bytes slice)))
   yields-line longest = yields-terminated (HeldFront is_slice is_in_line 0 (Some longest)) (LineEnd itself) (λ slice t. IsText longest t × (bytes slice ≡ t)) (λ both t. t ≡ line_end) (λ slice t. IsText longest (bytes slice) × (t ≡ line (bytes slice))) (yields-held longest) yields-end
       (λ slice end t u h k. (subst (IsText longest) (sym h.1) h.0, ap (λ s. s ++ u) (sym h.1) ∙ ap (λ s. bytes slice ++ s) k))
 
   -- the bytes of a text stand ahead in its line
   pub yields-text : (longest : ℕ)
-      → Yields (Text itself counts_missing is_slice bytes longest) (λ v t. IsText longest v.items
+      → Yields (Text itself counts_shortage is_slice bytes longest) (λ v t. IsText longest v.items
       × (t ≡ line v.items))
   yields-text longest partial a b v wide h =
       let k = yields-line longest partial a b h.0 wide h.1.1 in
@@ -239,7 +239,7 @@ module _ {S : Type 0} (counts_missing : Bool) (is_slice : S → Source ℕ → �
       → Yields
       (CutOff
       (Chosen (λ slice n. IsSomeExactly (reads (bytes slice)) n)
-      (Line itself counts_missing is_slice bytes most_digits))) (λ n t. (text : List ℕ)
+      (Line itself counts_shortage is_slice bytes most_digits))) (λ n t. (text : List ℕ)
       × (reads text n × (t ≡ line text)))
   yields-read reads partial a b n wide h =
       let slice = h.0 in
@@ -247,19 +247,19 @@ module _ {S : Type 0} (counts_missing : Bool) (is_slice : S → Source ℕ → �
       (k.0, (k.1.0, (bytes slice, ((h.1.0 n).0 refl, k.1.1.1))))
 
   -- an integer stands ahead in its line
-  pub yields-number : Yields (Number itself counts_missing is_slice bytes) (λ n t. (text : List ℕ)
+  pub yields-number : Yields (Number itself counts_shortage is_slice bytes) (λ n t. (text : List ℕ)
       × (IsInteger text n × (t ≡ line text)))
   yields-number = yields-read IsInteger
 
   -- a length stands ahead in its line
   pub yields-length : (greatest : ℕ)
-      → Yields (Length itself counts_missing is_slice bytes greatest) (λ n t. (text : List ℕ)
+      → Yields (Length itself counts_shortage is_slice bytes greatest) (λ n t. (text : List ℕ)
       × (IsLength greatest text n × (t ≡ line text)))
   yields-length greatest = yields-read (IsLength greatest)
 
   -- that many bytes stand ahead
   pub yields-counted : (n : ℕ)
-      → Yields (Counted counts_missing is_slice n) (λ slice t. (length t ≡ n) × (bytes slice ≡ t))
+      → Yields (Counted counts_shortage is_slice n) (λ slice t. (length t ≡ n) × (bytes slice ≡ t))
   yields-counted n partial a b slice wide h =
       let f = take n a.tokens in
       let e : a.tokens ≡ f ++ drop n a.tokens = sym (take-append-drop n a.tokens) in
@@ -269,10 +269,10 @@ module _ {S : Type 0} (counts_missing : Bool) (is_slice : S → Source ℕ → �
 
   -- that many bytes and the end of a line stand ahead
   pub yields-bytes : (n : ℕ)
-      → Yields (Bytes itself counts_missing is_slice bytes n) (λ v t. (length v.items ≡ n)
+      → Yields (Bytes itself counts_shortage is_slice bytes n) (λ v t. (length v.items ≡ n)
       × (t ≡ line v.items))
   yields-bytes n partial a b v wide h =
-      let k = yields-terminated (Counted counts_missing is_slice n) (LineEnd itself) (λ slice t. (length t ≡ n) × (bytes slice ≡ t)) (λ both t. t ≡ line_end) (λ slice t. (length (bytes slice) ≡ n) × (t ≡ line (bytes slice))) (yields-counted n) yields-end
+      let k = yields-terminated (Counted counts_shortage is_slice n) (LineEnd itself) (λ slice t. (length t ≡ n) × (bytes slice ≡ t)) (λ both t. t ≡ line_end) (λ slice t. (length (bytes slice) ≡ n) × (t ≡ line (bytes slice))) (yields-counted n) yields-end
       (λ slice end t u h k. (ap length h.1 ∙ h.0, ap (λ s. s ++ u) (sym h.1) ∙ ap (λ s. bytes slice ++ s) k))
       partial a b h.0 wide h.1.1 in
       (k.0, (k.1.0, (ap length h.1.0 ∙ k.1.1.0, k.1.1.1 ∙ ap line (sym h.1.0))))

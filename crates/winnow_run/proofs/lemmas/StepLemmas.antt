@@ -73,12 +73,12 @@ some-left (x ∷ all) (suc i) h = omega (arith, some-left all i h)
 -- of two rests a need reads the same
 abbrev pub SameReading : {T C : Type 0} → (C → T → Bool) → Bool → Need C → Source T → Source T
     → Type 0
-SameReading holds counts_missing need.Nothing r q = ⊤
-SameReading holds counts_missing need.Token r q = first_token r ≡ first_token q
-SameReading holds counts_missing (need.Width n) r q = front_count r n ≡ front_count q n
-SameReading holds counts_missing (need.Tokens n) r q = offset_at counts_missing r n ≡ offset_at counts_missing q n
-SameReading holds counts_missing (need.TokenOf c) r q = first_offset (holds c) r ≡ first_offset (holds c) q
-SameReading holds counts_missing need.End r q = r ≡ q
+SameReading holds counts_shortage need.Nothing r q = ⊤
+SameReading holds counts_shortage need.Token r q = first_token r ≡ first_token q
+SameReading holds counts_shortage (need.Width n) r q = front_count r n ≡ front_count q n
+SameReading holds counts_shortage (need.Tokens n) r q = offset_at counts_shortage r n ≡ offset_at counts_shortage q n
+SameReading holds counts_shortage (need.TokenOf c) r q = first_offset (holds c) r ≡ first_offset (holds c) q
+SameReading holds counts_shortage need.End r q = r ≡ q
 
 -- what a move needs of what remains, so that no further input changes where it leads
 abbrev pub move_need : {C : Type 0} → Move → Need C
@@ -89,19 +89,19 @@ move_need to_end = need.End
 move_need to_mark = need.Nothing
 move_need marking = need.Nothing
 
-module _ {T C : Type 0} (holds : C → T → Bool) (counts_missing : Bool) (r q : Source T) where
+module _ {T C : Type 0} (holds : C → T → Bool) (counts_shortage : Bool) (r q : Source T) where
   -- a call answers the same of r and q
   abbrev pub AnswersSame : Step C → Type 0
   AnswersSame s =
       (here count : ℕ) (back since : PlacedAnswer T)
-      → call_answer holds counts_missing here r count back since s
-      ≡ call_answer holds counts_missing here q count back since s
+      → call_answer holds counts_shortage here r count back since s
+      ≡ call_answer holds counts_shortage here q count back since s
 
   -- a call answers from what its need reads, and it needs what its move needs
   pub call-reads : (s : Step C)
-      → (SameReading holds counts_missing (call_need s) r q → AnswersSame s)
-      × (is_met holds counts_missing (call_need s) r ≡ true
-      → is_met holds counts_missing (move_need (call_move s)) r ≡ true)
+      → (SameReading holds counts_shortage (call_need s) r q → AnswersSame s)
+      × (is_met holds counts_shortage (call_need s) r ≡ true
+      → is_met holds counts_shortage (move_need (call_move s)) r ≡ true)
   call-reads call.Next = (λ e here count back since. ap (λ t. answer.Token t) e, λ h. h)
   call-reads call.Peek = (λ e here count back since. ap (λ t. answer.Token t) e, λ h. refl)
   call-reads (call.Take n) = (λ e here count back since. ap (slice_answer here n) e, λ h. h)
@@ -132,9 +132,9 @@ module _ {T C L : Type 0} (k : PieceReading T C L) (all more : Source T) (at : C
   of_rest f e = ap f rest-more ∙ e
 
   -- what a need reads is the same with more input appended, and there is still enough
-  need-more : (n : Need C) → is_met k.holds k.counts_missing n (rest all at) ≡ true
-      → SameReading k.holds k.counts_missing n (rest (all ++ more) at) (rest all at)
-      × (is_met k.holds k.counts_missing n (rest (all ++ more) at) ≡ true)
+  need-more : (n : Need C) → is_met k.holds k.counts_shortage n (rest all at) ≡ true
+      → SameReading k.holds k.counts_shortage n (rest (all ++ more) at) (rest all at)
+      × (is_met k.holds k.counts_shortage n (rest (all ++ more) at) ≡ true)
   need-more need.Nothing h = (tt, refl)
   need-more need.Token h =
       let e = of_rest first_token (first_token-more (rest all at) more h) in (e, ap is_some e ∙ h)
@@ -143,7 +143,7 @@ module _ {T C L : Type 0} (k : PieceReading T C L) (all more : Source T) (at : C
       let a = width-append (rest all at) more in
       (of_rest (λ r. front_count r n) (front_count-more (rest all at) more n w), rw rest-more (le-leb n _ (omega arith)))
   need-more (need.Tokens n) h =
-      let e = of_rest (λ r. offset_at k.counts_missing r n) (offset_at-more k.counts_missing (rest all at) more n h) in
+      let e = of_rest (λ r. offset_at k.counts_shortage r n) (offset_at-more k.counts_shortage (rest all at) more n h) in
       (e, ap is_ok e ∙ h)
   need-more (need.TokenOf c) h =
       let e = of_rest (first_offset (k.holds c)) (first_offset-more (k.holds c) (rest all at) more h) in
@@ -152,7 +152,7 @@ module _ {T C L : Type 0} (k : PieceReading T C L) (all more : Source T) (at : C
 
   -- a move whose need is met leads to the same cursor with more input appended
   move-more : (mark : Option ℕ) (m : Move)
-      → is_met k.holds k.counts_missing (move_need m) (rest all at) ≡ true
+      → is_met k.holds k.counts_shortage (move_need m) (rest all at) ≡ true
       → moved (all ++ more) at mark m ≡ moved all at mark m
   move-more mark stays h = refl
   move-more mark past_token h =
@@ -174,22 +174,22 @@ module _ {T C L : Type 0} (k : PieceReading T C L) (all more : Source T) (at : C
 
   -- a call whose need reads the same answers the same with more input appended
   pub answer-read : (s : Step C)
-      → SameReading k.holds k.counts_missing (call_need s) (rest (all ++ more) at) (rest all at)
-      → step_answer k.holds k.counts_missing (all ++ more) s at
-      ≡ step_answer k.holds k.counts_missing all s at
+      → SameReading k.holds k.counts_shortage (call_need s) (rest (all ++ more) at) (rest all at)
+      → step_answer k.holds k.counts_shortage (all ++ more) s at
+      ≡ step_answer k.holds k.counts_shortage all s at
   answer-read s e =
       rw (here-more, mark-more (call_mark s))
-      ((call-reads k.holds k.counts_missing (rest (all ++ more) at) (rest all at) s).0 e _ _ _ _)
+      ((call-reads k.holds k.counts_shortage (rest (all ++ more) at) (rest all at) s).0 e _ _ _ _)
 
   -- a definite call answers the same, moves the same and stays definite with more input appended
-  pub call-more : (s : Step C) → is_call_definite k.holds k.counts_missing s (rest all at) ≡ true
-      → (step_answer k.holds k.counts_missing (all ++ more) s at
-      ≡ step_answer k.holds k.counts_missing all s at)
+  pub call-more : (s : Step C) → is_call_definite k.holds k.counts_shortage s (rest all at) ≡ true
+      → (step_answer k.holds k.counts_shortage (all ++ more) s at
+      ≡ step_answer k.holds k.counts_shortage all s at)
       × (step_next (all ++ more) s at ≡ step_next all s at)
-      × (is_call_definite k.holds k.counts_missing s (rest (all ++ more) at) ≡ true)
+      × (is_call_definite k.holds k.counts_shortage s (rest (all ++ more) at) ≡ true)
   call-more s h =
       let e = need-more (call_need s) h in
-      let move = (call-reads k.holds k.counts_missing (rest all at) (rest all at) s).1 h in
+      let move = (call-reads k.holds k.counts_shortage (rest all at) (rest all at) s).1 h in
       (answer-read s e.0, move-more (call_mark s) (call_move s) move, e.1)
 
   -- a function of the bytes that more bytes do not change gives the same at the cursor

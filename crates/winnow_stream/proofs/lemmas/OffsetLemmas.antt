@@ -25,9 +25,9 @@ bool_cases false = inr refl
 
 module _ {A : Type 0} where
   -- an offset that `offset_at` gives is valid
-  pub is_offset-offset_at : (counts_missing : Bool) (r : List (A × ℕ)) (n w : ℕ)
-      → HasPositiveWidths r → offset_at counts_missing r n ≡ Ok w → is_offset r w ≡ true
-  is_offset-offset_at counts_missing r n w h e =
+  pub is_offset-offset_at : (counts_shortage : Bool) (r : List (A × ℕ)) (n w : ℕ)
+      → HasPositiveWidths r → offset_at counts_shortage r n ≡ Ok w → is_offset r w ≡ true
+  is_offset-offset_at counts_shortage r n w h e =
       elim (leb_tells n (length r)) [
         | inl fits ↦
             let same : width (take n r) ≡ w = ok-parts (rw fits.0 at e) in
@@ -57,22 +57,22 @@ module _ {A : Type 0} where
       subst (λ m. is_offset r m ≡ true) (sym (zero-add _) ∙ at.1.1) (ap is_some (front_count-place r at.0 h at.1.0))
 
   -- `offset_at` gives the width of the first n tokens, and n tokens remain
-  offset_at-parts : (counts_missing : Bool) (r : List (A × ℕ)) (n w : ℕ)
-      → offset_at counts_missing r n ≡ Ok w → (n ≤ length r) × (w ≡ width (take n r))
-  offset_at-parts counts_missing r n w e =
+  offset_at-parts : (counts_shortage : Bool) (r : List (A × ℕ)) (n w : ℕ)
+      → offset_at counts_shortage r n ≡ Ok w → (n ≤ length r) × (w ≡ width (take n r))
+  offset_at-parts counts_shortage r n w e =
       elim (leb_tells n (length r)) [
         | inl fits ↦ (fits.1, sym (ok-parts (rw fits.0 at e)))
         | inr short ↦ absurd (err-parts (rw short.0 at e))
       ]
 
   -- the two halves of `offset_at-parts`
-  pub offset_at-within : (counts_missing : Bool) (r : List (A × ℕ)) (n w : ℕ)
-      → offset_at counts_missing r n ≡ Ok w → n ≤ length r
-  offset_at-within counts_missing r n w e = (offset_at-parts counts_missing r n w e).0
+  pub offset_at-within : (counts_shortage : Bool) (r : List (A × ℕ)) (n w : ℕ)
+      → offset_at counts_shortage r n ≡ Ok w → n ≤ length r
+  offset_at-within counts_shortage r n w e = (offset_at-parts counts_shortage r n w e).0
 
-  pub offset_at-place : (counts_missing : Bool) (r : List (A × ℕ)) (n w : ℕ)
-      → offset_at counts_missing r n ≡ Ok w → w ≡ width (take n r)
-  offset_at-place counts_missing r n w e = (offset_at-parts counts_missing r n w e).1
+  pub offset_at-place : (counts_shortage : Bool) (r : List (A × ℕ)) (n w : ℕ)
+      → offset_at counts_shortage r n ≡ Ok w → w ≡ width (take n r)
+  offset_at-place counts_shortage r n w e = (offset_at-parts counts_shortage r n w e).1
 
   -- a search from a width on finds the first token that is held
   held-from : (holds : A → Bool) (r : List (A × ℕ)) (k w : ℕ)

@@ -30,9 +30,9 @@ module _ {T : Type 0} (r : Source T) (n : ℕ) where
       rw not_all (ap Err (Size-needed (n - length r) missing e))
 
   -- enough tokens: the width of the first n is the offset
-  pub offset_at-fits : (counts_missing : Bool) (w : ℕ) → n ≤ length r → w ≡ width (take n r)
-      → Ok w ≡ offset_at counts_missing r n
-  offset_at-fits counts_missing w h e =
+  pub offset_at-fits : (counts_shortage : Bool) (w : ℕ) → n ≤ length r → w ≡ width (take n r)
+      → Ok w ≡ offset_at counts_shortage r n
+  offset_at-fits counts_shortage w h e =
       let all : nat_le n (length r) ≡ true = grind (arith, nat_tests) in
       rw all (ap Ok e)
 

@@ -1,6 +1,6 @@
 -- Parsers of tokens have no settled answer with fewer tokens than they asked for.
 use Rattle.std.specs.Prelude.{Bool, true, false, Option}
-use Rattle.std.proofs.Common.{◌≡◌, ℕ, zero, suc, ◌-◌, ◌<◌, [], ◌∷◌, ◌++◌, length, refl, ap, sym, ◌∙◌, subst, arith, length-append}
+use Rattle.std.proofs.Common.{◌≡◌, ℕ, suc, ◌-◌, ◌<◌, [], ◌∷◌, ◌++◌, length, refl, ap, sym, ◌∙◌, subst, arith, length-append}
 use Rattle.std.proofs.lemmas.List.{append-nil}
 use Rattle.std.proofs.lemmas.Option.{none-some}
 use Rattle.std.specs.declared.num.NonZeroUsize.{NonZeroUsize}
@@ -17,8 +17,8 @@ use Rattle.winnow_token.specs.Held.{HeldFront}
 use Rattle.winnow_token.specs.Prompt.{IsPrompt}
 
 -- a shortage that has a size has the size k
-number-shortage : (counts_missing : Bool) (k : ℕ) (n : NonZeroUsize)
-    → Size n ≡ shortage counts_missing k → n.value ≡ k
+number-shortage : (counts_shortage : Bool) (k : ℕ) (n : NonZeroUsize)
+    → Size n ≡ shortage counts_shortage k → n.value ≡ k
 number-shortage true k n e = ap number e ∙ number-needed k
 number-shortage false k n e = absurd (cc)
 
@@ -65,10 +65,10 @@ module _ {S T : Type 0} (is_slice : S → Source T → ℕ → Type 0) (holds : 
   pub prompt-held : IsPrompt (HeldFront is_slice holds least greatest)
   prompt-held = prompt-one (HeldFront is_slice holds least greatest) (λ a n h. h.0) held-apart
 
-module _ {S T : Type 0} (counts_missing : Bool) (is_slice : S → Source T → ℕ → Type 0) (count : ℕ) where
+module _ {S T : Type 0} (counts_shortage : Bool) (is_slice : S → Source T → ℕ → Type 0) (count : ℕ) where
   -- `Counted` has no settled answer with fewer tokens than it needs
-  pub prompt-counted : IsPrompt (Counted counts_missing is_slice count)
-  prompt-counted a n more (Gives s b) h l m = λ t. omega (arith, m.0, h.0, l, number-shortage counts_missing (count - length a.tokens) n h.2, length-append a.tokens more)
+  pub prompt-counted : IsPrompt (Counted counts_shortage is_slice count)
+  prompt-counted a n more (Gives s b) h l m = λ t. omega (arith, m.0, h.0, l, number-shortage counts_shortage (count - length a.tokens) n h.2, length-append a.tokens more)
   prompt-counted a n more (Fails (Backtracks b)) h l m = λ t. let e = m.1 in cc
   prompt-counted a n more (Fails (Cuts b)) h l m = λ t. m
   prompt-counted a n more (Fails (Needs k)) h l m = λ t. t

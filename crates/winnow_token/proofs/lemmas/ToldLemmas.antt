@@ -67,15 +67,15 @@ module _ {T : Type 0} (holds : T → Bool) where
 
 module _ {S T : Type 0} (is_slice : S → Source T → ℕ → Type 0) (alike : S → S → Type 0) (fronts : SlicesRespect is_slice alike) where
   -- parsers of n tokens
-  module _ (counts_missing : Bool) (n : ℕ) where
+  module _ (counts_shortage : Bool) (n : ℕ) where
     -- the outcome of `Counted`, computed
     abbrev counted_told : Bool → Ahead T → Told T
     counted_told partial a = cond (nat_le n (length a.tokens)) (inr (after a (width (take n a.tokens))))
-        (cond partial (inl (Needs (shortage counts_missing (n - length a.tokens)))) (inl (Backtracks a)))
+        (cond partial (inl (Needs (shortage counts_shortage (n - length a.tokens)))) (inl (Backtracks a)))
 
     -- each answer of `Counted` is the computed one
     counted-tells : (partial : Bool) (a : Ahead T) (v : Outcome S T) → IsGranted v
-        → Counted counts_missing is_slice n partial a v → IsTold (counted_told partial a) v
+        → Counted counts_shortage is_slice n partial a v → IsTold (counted_told partial a) v
     counted-tells partial a (Gives x b) s h = let e : nat_le n (length a.tokens) ≡ true = grind (arith, nat_tests, h.0) in rw e (ap inr (sym h.3))
     counted-tells partial a (Fails (Backtracks b)) s h =
         let e : nat_le n (length a.tokens) ≡ false = grind (arith, nat_tests, h.0) in rw e (rw h.1 (ap (λ p. inl (Backtracks p)) (sym h.2)))
@@ -85,9 +85,9 @@ module _ {S T : Type 0} (is_slice : S → Source T → ℕ → Type 0) (alike : 
     counted-tells partial a (Fails Refuses) s h = absurd s
 
     -- `Counted` has one answer where slices of one front are the same
-    pub determined-counted : IsDetermined alike (Counted counts_missing is_slice n)
+    pub determined-counted : IsDetermined alike (Counted counts_shortage is_slice n)
     determined-counted =
-        determined-told alike (Counted counts_missing is_slice n) counted_told counted-tells
+        determined-told alike (Counted counts_shortage is_slice n) counted_told counted-tells
         (λ partial a b x y h k. fronts x y a b (_, (h.1, h.2, sym h.3)) (_, (k.1, k.2, sym k.3)))
 
   -- parsers of the tokens that a set holds

@@ -4,7 +4,7 @@ use Rattle.winnow_binary.proofs.laws.determined_length_law.Goals as goal
 
 pub returns-clause-slice : goal.returns-clause-slice
 returns-clause-slice g c = λ bytes p fronts d.
-    determined-counted_slice g.P.Output.Length.number g.I.Stream.counts_missing g.I.Stream.is_slice (Shows bytes) fronts (g.P.Parser.means p) d
+    determined-counted_slice g.P.Output.Length.number g.I.Stream.counts_shortage g.I.Stream.is_slice (Shows bytes) fronts (g.P.Parser.means p) d
 
 pub returns-clause-values : goal.returns-clause-values
 returns-clause-values g c = λ view whole p q respects d e.

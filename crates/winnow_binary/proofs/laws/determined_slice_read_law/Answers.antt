@@ -8,6 +8,6 @@ use Rattle.winnow_binary.proofs.laws.determined_slice_read_law.Goals as goal
 pub returns : goal.returns
 returns g c = λ view p q fronts d e.
     let stands = ahead g.I.Slice.Rest.location g.I.Slice.Stream.remaining in
-    let slices = CountedSlice g.P.Output.Length.number g.I.Stream.counts_missing g.I.Stream.is_slice (g.P.Parser.means p) in
+    let slices = CountedSlice g.P.Output.Length.number g.I.Stream.counts_shortage g.I.Stream.is_slice (g.P.Parser.means p) in
     determined-within stands (g.Q.Parser.means q) slices (Shows view) e
-    (determined-counted_slice g.P.Output.Length.number g.I.Stream.counts_missing g.I.Stream.is_slice (Shows stands) fronts (g.P.Parser.means p) d)
+    (determined-counted_slice g.P.Output.Length.number g.I.Stream.counts_shortage g.I.Stream.is_slice (Shows stands) fronts (g.P.Parser.means p) d)

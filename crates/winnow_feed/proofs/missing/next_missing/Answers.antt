@@ -19,7 +19,7 @@ pub step_missing-requires-clause-settled : goal.step_missing-requires-clause-set
 step_missing-requires-clause-settled g c =
     let next = next-is c.args.progress.now c.len.result c.index-script-len.result (omega (arith, c.len.ensures, c.args.progress.now.told.ok.0)) (omega (arith, c.len.ensures, c.requires.left)) c.index-script-len.is in
     let h = c.requires.stands.1 in
-    let k = piece_reading g.S.Token.AsChar.code g.S.Stream.counts_missing g.S.Kept.write g.L.AsBStr.text_bytes in
+    let k = piece_reading g.S.Token.AsChar.code g.S.Stream.counts_shortage g.S.Kept.write g.L.AsBStr.text_bytes in
     let e = c.next_slice.ensures.remains ∙ kept-rest _ _ _ _ _ h _ next in
     subst (λ r. IsSettled k c.index-script-len.result r c.args.progress.now.settled.width c.args.progress.now.settled.tokens) (sym e) (h.settled _ next)
 

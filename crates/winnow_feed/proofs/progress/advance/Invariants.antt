@@ -9,10 +9,10 @@ abbrev pub invariant-loop-progress : goal.invariant-loop-progress
 invariant-loop-progress g l = record {
   stands : (all : Source _)
       → IsRunOver (g.S.StreamIsPartial.expects_more l.kept)
-      (piece_reading g.S.Token.AsChar.code g.S.Stream.counts_missing g.S.Kept.write
+      (piece_reading g.S.Token.AsChar.code g.S.Stream.counts_shortage g.S.Kept.write
       g.L.AsBStr.text_bytes) all (g.S.Stream.remaining l.kept) l.initial.progress
       → IsRunOver (g.S.StreamIsPartial.expects_more l.kept)
-      (piece_reading g.S.Token.AsChar.code g.S.Stream.counts_missing g.S.Kept.write
+      (piece_reading g.S.Token.AsChar.code g.S.Stream.counts_shortage g.S.Kept.write
       g.L.AsBStr.text_bytes) all (g.S.Stream.remaining l.kept) l.progress;
   on : GoesOn l.piece l.initial.progress l.progress;
   tried : l.progress.tried

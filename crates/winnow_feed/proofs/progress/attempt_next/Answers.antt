@@ -79,14 +79,14 @@ pub attempt_step-requires-clause-settled : goal.attempt_step-requires-clause-set
 attempt_step-requires-clause-settled g c =
     let next = next-here c.args.progress.now c.len.result c.index-script-len.result c.len.ensures c.args.progress.now.told.ok.0 c.requires.left c.index-script-len.is in
     let h = c.requires.ready.stands.1 in
-    let k = piece_reading g.S.Token.AsChar.code g.S.Stream.counts_missing g.S.Kept.write g.L.AsBStr.text_bytes in
+    let k = piece_reading g.S.Token.AsChar.code g.S.Stream.counts_shortage g.S.Kept.write g.L.AsBStr.text_bytes in
     let e = c.next_slice.ensures.remains ∙ kept-rest _ _ _ _ _ h _ next in
     subst (λ r. IsSettled k c.index-script-len.result r c.args.progress.now.settled.width c.args.progress.now.settled.tokens) (sym e) (h.settled _ next)
 
 pub returns-in-Waits-clause-stands : goal.returns-in-Waits-clause-stands
 returns-in-Waits-clause-stands g c = λ all h.
     let next = next-here c.args.progress.now c.len.result c.index-script-len.result c.len.ensures c.args.progress.now.told.ok.0 c.requires.left c.index-script-len.is in
-    let k = piece_reading g.S.Token.AsChar.code g.S.Stream.counts_missing g.S.Kept.write g.L.AsBStr.text_bytes in
+    let k = piece_reading g.S.Token.AsChar.code g.S.Stream.counts_shortage g.S.Kept.write g.L.AsBStr.text_bytes in
     let e = c.next_slice.ensures.remains ∙ kept-rest _ _ _ _ _ h _ next in
     let settled = subst (λ r. IsSettled k c.index-script-len.result r c.in-Waits.settled.width c.in-Waits.settled.tokens) e c.in-Waits.ensures.attempts.2 in
     IsRunOver-waits _ _ _ _ _ h _ next _ refl c.in-Waits.ensures.attempts.3 refl refl refl settled
@@ -96,7 +96,7 @@ returns-in-Waits-clause-waits g c = λ _. (
   sym (g.met.S.Kept.keeps_flag _ _ c.next_slice.ensures.kept) ∙ c.in-Waits.ensures.attempts.0,
   λ all h s is.
       let next = next-here c.args.progress.now c.len.result c.index-script-len.result c.len.ensures c.args.progress.now.told.ok.0 c.requires.left c.index-script-len.is in
-      let k = piece_reading g.S.Token.AsChar.code g.S.Stream.counts_missing g.S.Kept.write g.L.AsBStr.text_bytes in
+      let k = piece_reading g.S.Token.AsChar.code g.S.Stream.counts_shortage g.S.Kept.write g.L.AsBStr.text_bytes in
       let step = c.index-script-len.result in
       let e = c.next_slice.ensures.remains ∙ kept-rest _ _ _ _ _ h _ next in
       let b = rest-back _ _ _ _ _ h _ next in
@@ -107,7 +107,7 @@ returns-in-Waits-clause-waits g c = λ _. (
 pub returns-in-Answered-clause-stands : goal.returns-in-Answered-clause-stands
 returns-in-Answered-clause-stands g c = λ all h.
     let next = next-here c.args.progress.now c.len.result c.index-script-len.result c.len.ensures c.args.progress.now.told.ok.0 c.requires.left c.index-script-len.is in
-    let k = piece_reading g.S.Token.AsChar.code g.S.Stream.counts_missing g.S.Kept.write g.L.AsBStr.text_bytes in
+    let k = piece_reading g.S.Token.AsChar.code g.S.Stream.counts_shortage g.S.Kept.write g.L.AsBStr.text_bytes in
     let step = c.index-script-len.result in
     let p = c.args.progress.now in
     let e = c.next_slice.ensures.remains ∙ kept-rest _ _ _ _ _ h _ next in
@@ -168,7 +168,7 @@ returns-in-Waits-clause-count g c = plus-none _ _ (same-lengths _ _ _ _ c.attemp
 pub returns-in-Answered-clause-on : goal.returns-in-Answered-clause-on
 returns-in-Answered-clause-on g c =
     let room = c.requires.ready.room in
-    let k = piece_reading g.S.Token.AsChar.code g.S.Stream.counts_missing g.S.Kept.write g.L.AsBStr.text_bytes in
+    let k = piece_reading g.S.Token.AsChar.code g.S.Stream.counts_shortage g.S.Kept.write g.L.AsBStr.text_bytes in
     let seen = look_of k c.args.progress.now.place c.deref.result.now (g.S.Stream.remaining c.next_slice.new.self) c.index-script-len.result in
     let more = one-longer _ _ _ _ _ c.attempt_step.new.told.ok.0 c.args.progress.now.told.ok.0 c.in-Answered.ensures.attempts.2 in
     record {

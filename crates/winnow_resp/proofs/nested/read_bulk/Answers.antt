@@ -20,4 +20,4 @@ returns-in-Err-clause-means g c =
     let b = ahead g.I.Rest.location g.I.Stream.remaining c.read_length.new.input in
     let flag = g.met.I.StreamIsPartial.keeps_flag c.args.input.now c.read_length.new.input c.in_ok-count.ensures.kept in
     let fails = Fails (failed c.in-Err.failure (ahead g.I.Rest.location g.I.Stream.remaining c.read_bytes.new.input)) in
-    inr (c.in_ok-count.field-0, (b, (Some c.in-Some.count, (c.in_ok-count.ensures.means, c.in-Some.is, subst (λ partial. Bytes g.I.Token.AsChar.code g.I.Stream.counts_missing g.I.Stream.is_slice g.I.Slice.AsBytes.bytes c.in-Some.count partial b fails) flag c.in-Err.ensures.means))))
+    inr (c.in_ok-count.field-0, (b, (Some c.in-Some.count, (c.in_ok-count.ensures.means, c.in-Some.is, subst (λ partial. Bytes g.I.Token.AsChar.code g.I.Stream.counts_shortage g.I.Stream.is_slice g.I.Slice.AsBytes.bytes c.in-Some.count partial b fails) flag c.in-Err.ensures.means))))

@@ -199,7 +199,7 @@ returns-in-Eof-clause-step g c = record {
 
 pub returns-in-At-clause-step : goal.returns-in-At-clause-step
 returns-in-At-clause-step g c = record {
-  answer = λ all cur h q p. rw c.in-At.is (ap At (c.offset_at.ensures ∙ ap (λ r. offset_at g.S.Stream.counts_missing r c.in-At.tokens) h.rest));
+  answer = λ all cur h q p. rw c.in-At.is (ap At (c.offset_at.ensures ∙ ap (λ r. offset_at g.S.Stream.counts_shortage r c.in-At.tokens) h.rest));
   stands = λ all cur h. rw c.in-At.is h;
   located = λ whole q. q;
 }

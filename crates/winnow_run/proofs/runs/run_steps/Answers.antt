@@ -68,7 +68,7 @@ loop-step-preserved g c =
       stands = rw (cursor-append (step_next all) i.done c.in-Some.step.now start) (c.in_ok-answer.ensures.step.stands _ _ i.stands);
       answers =
           rw c.in_ok-push.ensures.items
-          (AreGiven-append (IsAnswer g.C.ScriptSet.may_answer g.S.Stream.is_slice g.S.Stream.counts_missing all) (step_next all) i.done start _ c.in-Some.step.now _ i.answers (c.in_ok-answer.ensures.step.answer _ _ i.stands));
+          (AreGiven-append (IsAnswer g.C.ScriptSet.may_answer g.S.Stream.is_slice g.S.Stream.counts_shortage all) (step_next all) i.done start _ c.in-Some.step.now _ i.answers (c.in_ok-answer.ensures.step.answer _ _ i.stands));
     }
 
 pub returns-clause-answers : goal.returns-clause-answers

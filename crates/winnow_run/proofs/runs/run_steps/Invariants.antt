@@ -20,7 +20,7 @@ invariant-loop-step g l = record {
       (g.S.Stream.remaining l.fn.s)
       (cursor_after (step_next (g.S.Stream.remaining l.fn.s)) done start);
   answers : AreGiven
-      (IsAnswer g.C.ScriptSet.may_answer g.S.Stream.is_slice g.S.Stream.counts_missing
+      (IsAnswer g.C.ScriptSet.may_answer g.S.Stream.is_slice g.S.Stream.counts_shortage
       (g.S.Stream.remaining l.fn.s)) (step_next (g.S.Stream.remaining l.fn.s))
       done start l.answers.items;
 }

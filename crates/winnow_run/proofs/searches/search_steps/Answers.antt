@@ -68,7 +68,7 @@ loop-step-preserved g c =
       stands = rw (cursor-append (search_next all) i.done c.in-Some.step.now start) (c.in_ok-answer.ensures.step.stands _ _ i.stands);
       answers =
           rw c.in_ok-push.ensures.items
-          (AreGiven-append (IsSearchAnswer g.C.ScriptSet.may_answer g.S.Stream.is_slice g.S.Stream.counts_missing g.S.Compare.compared g.S.FindSlice.found all) (search_next all) i.done start _ c.in-Some.step.now _ i.answers (c.in_ok-answer.ensures.step.answer _ _ i.stands));
+          (AreGiven-append (IsSearchAnswer g.C.ScriptSet.may_answer g.S.Stream.is_slice g.S.Stream.counts_shortage g.S.Compare.compared g.S.FindSlice.found all) (search_next all) i.done start _ c.in-Some.step.now _ i.answers (c.in_ok-answer.ensures.step.answer _ _ i.stands));
     }
 
 pub returns-clause-answers : goal.returns-clause-answers

@@ -21,7 +21,7 @@ invariant-loop-step g l = record {
       (g.S.Stream.remaining l.fn.s)
       (cursor_after (search_next (g.S.Stream.remaining l.fn.s)) done start);
   answers : AreGiven
-      (IsSearchAnswer g.C.ScriptSet.may_answer g.S.Stream.is_slice g.S.Stream.counts_missing
+      (IsSearchAnswer g.C.ScriptSet.may_answer g.S.Stream.is_slice g.S.Stream.counts_shortage
       g.S.Compare.compared g.S.FindSlice.found (g.S.Stream.remaining l.fn.s))
       (search_next (g.S.Stream.remaining l.fn.s)) done start l.answers.items;
 }

@@ -3,7 +3,7 @@ use Rattle.winnow_stream.proofs.lemmas.OffsetLemmas.{is_offset-offset_at, is_off
 use Rattle.winnow_stream.proofs.laws.offset_law.Goals as goal
 
 pub returns-clause-at : goal.returns-clause-at
-returns-clause-at g c = λ counts_missing r n w h e. is_offset-offset_at counts_missing r n w h e
+returns-clause-at g c = λ counts_shortage r n w h e. is_offset-offset_at counts_shortage r n w h e
 
 pub returns-clause-first : goal.returns-clause-first
 returns-clause-first g c = λ holds r w h e. is_offset-first_offset holds r w h e

@@ -9,10 +9,10 @@ pub returns-clause-back : goal.returns-clause-back
 returns-clause-back g c = λ r k h l. back-place r k h l
 
 pub returns-clause-fits : goal.returns-clause-fits
-returns-clause-fits g c = λ counts_missing r n w e. offset_at-within counts_missing r n w e
+returns-clause-fits g c = λ counts_shortage r n w e. offset_at-within counts_shortage r n w e
 
 pub returns-clause-at : goal.returns-clause-at
-returns-clause-at g c = λ counts_missing r n w e. offset_at-place counts_missing r n w e
+returns-clause-at g c = λ counts_shortage r n w e. offset_at-place counts_shortage r n w e
 
 pub returns-clause-whole : goal.returns-clause-whole
 returns-clause-whole g c = λ r h. front-whole r h

@@ -7,7 +7,7 @@ pub returns-clause-one : goal.returns-clause-one
 returns-clause-one g c = λ holds. determined-one_of holds
 
 pub returns-clause-counted : goal.returns-clause-counted
-returns-clause-counted g c = λ view n fronts. determined-counted g.I.Stream.is_slice (Shows view) fronts g.I.Stream.counts_missing n
+returns-clause-counted g c = λ view n fronts. determined-counted g.I.Stream.is_slice (Shows view) fronts g.I.Stream.counts_shortage n
 
 pub returns-clause-held : goal.returns-clause-held
 returns-clause-held g c = λ view holds least greatest fronts. determined-held g.I.Stream.is_slice (Shows view) fronts holds least greatest

@@ -5,7 +5,7 @@ pub returns-clause-one : goal.returns-clause-one
 returns-clause-one g c = λ holds. prompt-one_of holds
 
 pub returns-clause-counted : goal.returns-clause-counted
-returns-clause-counted g c = λ n. prompt-counted g.I.Stream.counts_missing g.I.Stream.is_slice n
+returns-clause-counted g c = λ n. prompt-counted g.I.Stream.counts_shortage g.I.Stream.is_slice n
 
 pub returns-clause-held : goal.returns-clause-held
 returns-clause-held g c = λ holds least greatest. prompt-held g.I.Stream.is_slice holds least greatest

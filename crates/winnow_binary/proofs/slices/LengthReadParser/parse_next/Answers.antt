@@ -13,8 +13,8 @@ returns-in-Err-clause-means g c =
     let partial = g.I.StreamIsPartial.expects_more c.args.input.now in
     let a = stands c.args.input.now in
     let b = stands c.parse_next.new.input in
-    let outer = subst (λ p. CountedSlice number g.I.Stream.counts_missing g.I.Stream.is_slice (g.P.Parser.means p.length.now) partial a (Fails (failed c.in-Err.failure b))) c.length_take.ensures c.in-Err.ensures.means in
-    within-outer slice (g.Q.Parser.means c.args.self.now.inner) (CountedSlice number g.I.Stream.counts_missing g.I.Stream.is_slice (g.P.Parser.means c.args.self.now.length)) partial a b c.in-Err.failure outer
+    let outer = subst (λ p. CountedSlice number g.I.Stream.counts_shortage g.I.Stream.is_slice (g.P.Parser.means p.length.now) partial a (Fails (failed c.in-Err.failure b))) c.length_take.ensures c.in-Err.ensures.means in
+    within-outer slice (g.Q.Parser.means c.args.self.now.inner) (CountedSlice number g.I.Stream.counts_shortage g.I.Stream.is_slice (g.P.Parser.means c.args.self.now.length)) partial a b c.in-Err.failure outer
 
 pub returns-in-Err-read_alone-clause-means : goal.returns-in-Err-read_alone-clause-means
 returns-in-Err-read_alone-clause-means g c =
@@ -24,9 +24,9 @@ returns-in-Err-read_alone-clause-means g c =
     let partial = g.I.StreamIsPartial.expects_more c.args.input.now in
     let a = stands c.args.input.now in
     let b = stands c.parse_next.new.input in
-    let outer = subst (λ p. CountedSlice number g.I.Stream.counts_missing g.I.Stream.is_slice (g.P.Parser.means p.length.now) partial a (Gives c.in-Ok.slice b)) c.length_take.ensures c.in-Ok.ensures.means in
+    let outer = subst (λ p. CountedSlice number g.I.Stream.counts_shortage g.I.Stream.is_slice (g.P.Parser.means p.length.now) partial a (Gives c.in-Ok.slice b)) c.length_take.ensures c.in-Ok.ensures.means in
     let inner = c.in-Err-read_alone.ensures.means in
-    within-inner slice (g.Q.Parser.means c.args.self.now.inner) (CountedSlice number g.I.Stream.counts_missing g.I.Stream.is_slice (g.P.Parser.means c.args.self.now.length))
+    within-inner slice (g.Q.Parser.means c.args.self.now.inner) (CountedSlice number g.I.Stream.counts_shortage g.I.Stream.is_slice (g.P.Parser.means c.args.self.now.length))
     (g.met.Q.Parser.lawful c.args.self.now.inner).final partial a b c.in-Ok.slice inner.0 c.in-Err-read_alone.failure outer inner.1
 
 pub returns-in-Err-read_alone-clause-error : goal.returns-in-Err-read_alone-clause-error
@@ -36,6 +36,6 @@ returns-in-Err-read_alone-clause-error g c =
     let partial = g.I.StreamIsPartial.expects_more c.args.input.now in
     let a = stands c.args.input.now in
     let b = stands c.parse_next.new.input in
-    let outer = subst (λ p. CountedSlice number g.I.Stream.counts_missing g.I.Stream.is_slice (g.P.Parser.means p.length.now) partial a (Gives c.in-Ok.slice b)) c.length_take.ensures c.in-Ok.ensures.means in
+    let outer = subst (λ p. CountedSlice number g.I.Stream.counts_shortage g.I.Stream.is_slice (g.P.Parser.means p.length.now) partial a (Gives c.in-Ok.slice b)) c.length_take.ensures c.in-Ok.ensures.means in
     let inner = c.in-Err-read_alone.ensures.error in
     inr (c.in-Ok.slice, (inner.0, (b, (outer, inner.1))))
