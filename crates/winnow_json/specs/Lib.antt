@@ -1,6 +1,7 @@
 pub mod Numbers
 pub mod Parts
 pub mod Meanings
+pub mod Needing
 pub mod NumberAnswers
 pub mod Strings
 pub mod StringAnswers

@@ -7,6 +7,7 @@ ghost use Rattle.winnow_count.specs.Reading.{IsSomeExactly, ReadsSigned};
 ghost use Rattle.winnow_format.specs.Bytes.{bytes_of};
 ghost use Rattle.winnow_json.specs.Numbers.{IsNumber, Tells};
 ghost use Rattle.winnow_json.specs.Meanings.{Keeps, IsNumberOf, IsWritten, NumberRun};
+ghost use Rattle.winnow_json.specs.Needing.{NeedsOneByte};
 ghost use Rattle.winnow_json.specs.NumberAnswers.{IsNumberAnswer, IsLongest, GivesEachNumber};
 
 use crate::parts::is_number;
@@ -90,7 +91,8 @@ where
 /// Reads a number from the front of a stream of bytes, and moves the stream past its end.
 ///
 /// The number ends where no digit, sign, point or `e` follows. Where what stands up to there is no
-/// number, as in `01` or `1-2`, the parser backtracks and does not move.
+/// number, as in `01` or `1-2`, the parser backtracks and does not move. One byte more is needed
+/// where more may follow and each byte that stands ahead may be one of a number.
 pub fn read_number<I: StreamIsPartial + Stream<Token = u8>, E: ParserError<I>>(
     alloc: Global,
     input: &mut I,
@@ -104,6 +106,7 @@ where
     ensures longest { IfOk result (IsLongest (bytes_of (I.remaining input.old))) }
     ensures complete { GivesEachNumber (I.expects_more input.old)
         (bytes_of (I.remaining input.old)) result (bytes_of (I.remaining input.new)) }
+    ensures need { NeedsOneByte result }
     ensures moved { LeavesAfter (ahead I.location I.remaining input.old)
         (outcome result (ahead I.location I.remaining input.new)) }
     ensures valid { I.valid input.new }

@@ -4,6 +4,7 @@ ghost use Rattle.winnow.specs.Answer.{ahead, outcome};
 ghost use Rattle.winnow.specs.Laws.{LeavesAfter};
 ghost use Rattle.winnow_stream.specs.SliceBytes.{SlicesHaveBytes};
 ghost use Rattle.winnow_format.specs.Bytes.{bytes_of};
+ghost use Rattle.winnow_json.specs.Needing.{NeedsOneByte};
 ghost use Rattle.winnow_json.specs.StringAnswers.{IsStringAnswer, GivesEachString};
 ghost use Rattle.winnow_json.specs.Steps.{IsStep, IsReading};
 
@@ -80,6 +81,7 @@ pub(crate) fn read_bytes(alloc: Global, bytes: &[u8]) -> Result<Reading, AllocEr
 /// The parser backtracks where no quote stands ahead, and does not move. After the quote it cuts at
 /// the place that is wrong: at the backslash of an escape that is none, at a control character, at
 /// the first byte that is no UTF-8, and at the end of an input that ends before the closing quote.
+/// One byte more is needed where more may follow and can make a string of what stands ahead.
 pub fn read_string<I: StreamIsPartial + Stream<Token = u8>, E: ParserError<I>>(
     alloc: Global,
     input: &mut I,
@@ -92,6 +94,7 @@ where
         result (bytes_of (I.remaining input.new)) }
     ensures complete { GivesEachString (bytes_of (I.remaining input.old)) result
         (bytes_of (I.remaining input.new)) }
+    ensures need { NeedsOneByte result }
     ensures moved { LeavesAfter (ahead I.location I.remaining input.old)
         (outcome result (ahead I.location I.remaining input.new)) }
     ensures valid { I.valid input.new }

@@ -3,6 +3,7 @@ ghost use Rattle.winnow.specs.Answer.{ahead, outcome};
 ghost use Rattle.winnow.specs.Laws.{LeavesAfter};
 ghost use Rattle.winnow_stream.specs.SliceBytes.{SlicesHaveBytes};
 ghost use Rattle.winnow_format.specs.Bytes.{bytes_of};
+ghost use Rattle.winnow_json.specs.Needing.{NeedsOneByte};
 ghost use Rattle.winnow_json.specs.ValueAnswers.{IsReading, IsValueAnswer, GivesEachValue};
 
 use crate::Value;
@@ -59,8 +60,8 @@ fn read_bytes(
 /// where a comma, a colon or a closing bracket is missing. A number ends as in
 /// [`read_number`](crate::read_number).
 ///
-/// More input is needed where no value stands ahead yet and one is begun, which more bytes can make
-/// whole: also after a number, which may go on.
+/// One byte more is needed where no value stands ahead yet and one is begun, which more bytes can
+/// make whole: also after a number, which may go on.
 ///
 /// Calls are nested as deep as the arrays and objects that are read, so `depth` limits the stack.
 pub fn read_value<I: StreamIsPartial + Stream<Token = u8>, E: ParserError<I>>(
@@ -76,6 +77,7 @@ where
         (bytes_of (I.remaining input.old)) result (bytes_of (I.remaining input.new)) }
     ensures complete { GivesEachValue depth (I.expects_more input.old)
         (bytes_of (I.remaining input.old)) result (bytes_of (I.remaining input.new)) }
+    ensures need { NeedsOneByte result }
     ensures moved { LeavesAfter (ahead I.location I.remaining input.old)
         (outcome result (ahead I.location I.remaining input.new)) }
     ensures valid { I.valid input.new }

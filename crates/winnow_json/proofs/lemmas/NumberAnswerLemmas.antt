@@ -13,6 +13,7 @@ use Rattle.winnow_parser.specs.Answer.{outcome}
 use Rattle.winnow_format.specs.Bytes.{Each, bytes_of}
 use Rattle.winnow_format.proofs.lemmas.TokenLemmas.{itself}
 use Rattle.winnow_json.specs.Numbers.{AreDigits, IsMinus, IsWhole, IsFraction, IsPower, IsExponent, IsNumber, is_number_byte}
+use Rattle.winnow_json.specs.Needing.{NeedsOneByte}
 use Rattle.winnow_json.specs.NumberAnswers.{IsNumberAnswer, IsLongest, GivesEachNumber}
 use Rattle.winnow_json.specs.Meanings.{NumberRun}
 use Rattle.winnow_json.specs.declared.numbers.Number.{Number}
@@ -96,6 +97,15 @@ module _ {S : Type 0} (is_slice : S → Source ℕ → ℕ → Type 0) (bytes : 
   number-answers (Err (Cut e)) wide h = run-fails is_slice bytes have is_number_byte IsNumber partial (Cuts b) a wide h
   number-answers (Err (Incomplete n)) wide h = run-fails is_slice bytes have is_number_byte IsNumber partial (Needs n) a wide h
   number-answers (Err (Refused e)) wide h = tt
+
+  -- where more is needed, one byte is
+  pub number-need : (result : Result Number (Failure E Needed))
+      → NumberRun itself is_slice bytes partial a (outcome result b) → NeedsOneByte result
+  number-need (Ok number) h = tt
+  number-need (Err (Backtrack e)) h = tt
+  number-need (Err (Cut e)) h = tt
+  number-need (Err (Incomplete n)) h = h.0
+  number-need (Err (Refused e)) h = tt
 
   -- no longer number stands ahead
   pub number-longest : (result : Result Number (Failure E Needed)) → HasPositiveWidths a.tokens
