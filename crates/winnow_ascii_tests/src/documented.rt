@@ -32,7 +32,7 @@ fn call_laws<
     determined_escaped_law::<I, E, P, P, P, A, usize, usize, usize, usize>();
 }
 
-// Calls the laws, and returns the first of these parsers that answer otherwise.
+// Calls the laws, and returns the first of these parsers with an answer that is not documented.
 fn others<
     I: Fronts<Whole = Word> + Stream<Token = char, Slice = Word> + Compare<char> + Compare<Word>,
 >(alloc: Global) -> Option<Word> {

@@ -102,7 +102,7 @@ fn hexadecimal<
     first_other::<I, R, _>(alloc, &hex_uint(), rows)
 }
 
-/// Asks for numbers of each type, and returns the first row of each that is answered otherwise.
+/// Reads numbers of each type, and returns the first row of each type with another answer.
 pub fn numbers<I: Fronts<Whole = Word> + Stream<Token = char, Slice = Word>>(
     alloc: Global,
 ) -> [Option<usize>; 9] {

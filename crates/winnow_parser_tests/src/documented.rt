@@ -142,7 +142,7 @@ fn of_words_in_turn<
     ]
 }
 
-// Returns the first of these parsers that answer otherwise.
+// Returns the first of these parsers with an answer that is not documented.
 fn first_other(examples: &[Example]) -> Option<Word> {
     for (parsers, are_right) in examples {
         if !*are_right {
@@ -152,7 +152,7 @@ fn first_other(examples: &[Example]) -> Option<Word> {
     None
 }
 
-// Calls the laws, and returns the first parsers of each kind that answer otherwise.
+// Calls the laws, and returns the first parser of each kind with an answer that is not documented.
 fn others<I: Fronts<Whole = Word> + Stream<Token = char, Slice = Word> + Compare<Word>>(
     alloc: Global,
 ) -> [Option<Word>; 5]

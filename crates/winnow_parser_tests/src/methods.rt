@@ -45,7 +45,7 @@ const WHOLES: &[(Word, Result<Word, usize>)] = &[
     ("xb", Err(0)),
 ];
 
-/// Reads whole texts to their end, and returns the first that is answered otherwise.
+/// Reads whole texts to their end, and returns the index of the first with a wrong answer.
 pub fn first_other_whole<I: Fronts<Whole = Word>, W: Parser<I, EmptyError, Output = Word> + Copy>(
     alloc: Global,
     ab: W,
@@ -87,8 +87,8 @@ pub fn peeks_by_reference<
 // What is read where a digit says how many characters follow it.
 const COUNTED: &[(Word, Option<Word>)] = &[("2abc", Some("ab")), ("3ab", None), ("x", None)];
 
-/// Reads as many characters as the digit before them says, and returns the first text that is
-/// answered otherwise.
+/// Reads as many characters as the digit before them says, and returns the index of the first text
+/// with a wrong answer.
 pub fn first_other_count<
     I: Fronts<Whole = Word> + Stream<Slice = Word>,
     L: Parser<I, EmptyError, Output = char> + Drop,
