@@ -1,17 +1,25 @@
 -- What a reader answers, and when.
-use Rattle.std.specs.Prelude.{◌≡◌, ℕ, ◌≤◌, ◌<◌, Bool, true, false, not, List, [], ◌++◌, length, Result, Ok, Err, ◌⊎◌, ⊤, ◌↔◌}
-use Rattle.winnow_parser.specs.Outcome.{Ahead, Gives, Fails, Backtracks, Cuts, Refuses, Meaning}
+use Rattle.std.specs.Prelude.{◌≡◌, ℕ, ◌+◌, ◌-◌, ◌^◌, ◌≤◌, ◌<◌, min, Bool, true, false, not, List, [], ◌++◌, length, Result, Ok, Err, ◌⊎◌, ⊤, ◌↔◌}
+use Rattle.winnow_stream.specs.declared.needed.Needed.{Needed}
+use Rattle.winnow_parser.specs.Outcome.{Ahead, Gives, Fails, Backtracks, Cuts, Needs, Refuses, Meaning}
 use Rattle.winnow_reader.specs.declared.next.Next.{Next}
 use Rattle.winnow_reader.specs.declared.next.Next.TheVariants.{Value, NeedsMore, Done}
 use Rattle.winnow_reader.specs.declared.next.ReadError.{ReadError}
 use Rattle.winnow_reader.specs.declared.next.ReadError.TheVariants.{Failed, TakesNothing, Refused}
 use Rattle.winnow_reader.specs.Place.{bytes_at}
+use Rattle.winnow_reader.specs.Wanted.{size_of}
 use Rattle.winnow_reader.specs.State.{ReaderState, taken_by, waiting_for}
 use Rattle.winnow_reader.specs.Reading.{MayFollow, HasRead, Lacks}
 
 -- there the parser fails, from a, and this is left
 abbrev pub StopsAt : {O : Type 0} → Meaning O ℕ → Bool → Ahead ℕ → Ahead ℕ → Type 0
 StopsAt means partial a b = means partial a (Fails (Backtracks b)) ⊎ means partial a (Fails (Cuts b))
+
+-- of these bytes at a place, to which more might come, the parser needs more, and with as many more
+-- they are n bytes, or the greatest length where those are too many
+abbrev pub NeedsLength : {O : Type 0} → Meaning O ℕ → ℕ → List ℕ → ℕ → Type 0
+NeedsLength means place bytes n = (need : Needed)
+    × (means true (bytes_at place bytes) (Fails (Needs need)) × (n ≡ min (length bytes + size_of need) (2 ^ 64 - 1)))
 
 module _ {R O : Type 0} (means : R → Meaning O ℕ) where
   -- no matter what follows, the parser fails there
@@ -42,6 +50,15 @@ module _ {R O E : Type 0} (means : R → Meaning O ℕ) where
   WaitsWell old (Ok Done) = ⊤
   WaitsWell old (Err e) = ⊤
 
+  -- where as many bytes were ahead as were wanted, and more are needed, as many are wanted as the
+  -- parser needs
+  abbrev pub WantsNeeded : ReaderState R → Result (Next O) (ReadError E) → ReaderState R → Type 0
+  WantsNeeded old (Ok NeedsMore) new = old.wanted ≤ length old.ahead
+      → NeedsLength (means old.parser) old.place old.ahead new.wanted
+  WantsNeeded old (Ok (Value x)) new = ⊤
+  WantsNeeded old (Ok Done) new = ⊤
+  WantsNeeded old (Err e) new = ⊤
+
   -- a failure is the parser's, with its place
   abbrev pub FailsWell : ReaderState R → Result (Next O) (ReadError E) → Type 0
   FailsWell old (Ok next) = ⊤
@@ -53,6 +70,13 @@ module _ {R O E : Type 0} (means : R → Meaning O ℕ) where
 -- it is done just where the input has ended and nothing remains
 abbrev pub IsDoneAtEnd : {R O E : Type 0} → ReaderState R → Result (Next O) (ReadError E) → Type 0
 IsDoneAtEnd old result = (result ≡ Ok Done) ↔ ((old.ended ≡ true) × (old.ahead ≡ []))
+
+-- before the end, and before as many bytes are ahead as are wanted, more is needed, and nothing
+-- changes
+abbrev pub StaysTillWanted : {R O E : Type 0} → ReaderState R → Result (Next O) (ReadError E)
+    → ReaderState R → Type 0
+StaysTillWanted old result new = old.ended ≡ false → length old.ahead < old.wanted
+    → (result ≡ Ok NeedsMore) × (new ≡ old)
 
 -- without a value nothing changes, but how many bytes are wanted where more are needed
 abbrev pub StaysWithout : {R O E : Type 0} → ReaderState R → Result (Next O) (ReadError E)

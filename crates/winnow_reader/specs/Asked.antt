@@ -1,8 +1,7 @@
 -- What came of asking a record, and what a reader makes of it. Only contracts of private functions
 -- name these.
 use Rattle.std.specs.Prelude.{◌≡◌, ◌≢◌, ℕ, ◌+◌, ◌≤◌, ◌<◌, Bool, true, false, not, List, [], length, drop, Result, Ok, Err, ◌⊎◌, ⊤}
-use Rattle.winnow_stream.specs.declared.needed.Needed.{Needed}
-use Rattle.winnow_parser.specs.Outcome.{Gives, Fails, Needs, Refuses, Meaning}
+use Rattle.winnow_parser.specs.Outcome.{Gives, Fails, Refuses, Meaning}
 use Rattle.winnow_reader.specs.declared.asking.Asked.{Asked}
 use Rattle.winnow_reader.specs.declared.asking.Asked.TheVariants as asked
 use Rattle.winnow_reader.specs.declared.next.Next.{Next}
@@ -10,22 +9,24 @@ use Rattle.winnow_reader.specs.declared.next.Next.TheVariants.{Value, NeedsMore,
 use Rattle.winnow_reader.specs.declared.next.ReadError.{ReadError}
 use Rattle.winnow_reader.specs.declared.next.ReadError.TheVariants.{Failed, TakesNothing, Refused}
 use Rattle.winnow_reader.specs.Place.{bytes_at}
-use Rattle.winnow_reader.specs.Wanted.{size_of}
 use Rattle.winnow_reader.specs.State.{ReaderState, taken_by, waiting_for}
-use Rattle.winnow_reader.specs.Answering.{StopsAt}
+use Rattle.winnow_reader.specs.Answering.{StopsAt, NeedsLength}
 
 -- what the record answers of these bytes at this place
 abbrev pub IsAnswer : {O E : Type 0} → Meaning O ℕ → ℕ → List ℕ → Bool → Asked O E → Type 0
 IsAnswer means place ahead ended (asked.Value x n) = (0 < n) × (n ≤ length ahead)
     × means (not ended) (bytes_at place ahead) (Gives x (bytes_at (place + n) (drop n ahead)))
-IsAnswer means place ahead ended (asked.Waits w) = (ended ≡ false) × ((need : Needed)
-    × (means true (bytes_at place ahead) (Fails (Needs need)) × (w ≤ length ahead + size_of need)))
+IsAnswer means place ahead ended (asked.Waits w) = (ended ≡ false) × NeedsLength means place ahead w
 IsAnswer means place ahead ended asked.Done = ⊥
 IsAnswer means place ahead ended (asked.Failed e there) =
     (rest : List ℕ) × StopsAt means (not ended) (bytes_at place ahead) (bytes_at there rest)
 IsAnswer {O} means place ahead ended asked.Idle =
     (x : O) × means (not ended) (bytes_at place ahead) (Gives x (bytes_at place ahead))
 IsAnswer means place ahead ended (asked.Refused r) = means (not ended) (bytes_at place ahead) (Fails Refuses)
+
+-- something remains at the end; before it, as many bytes are ahead as are wanted
+abbrev pub MayAsk : {R : Type 0} → ReaderState R → Type 0
+MayAsk f = (f.ended ≡ true → f.ahead ≢ []) × (f.ended ≡ false → f.wanted ≤ length f.ahead)
 
 module _ {R O E : Type 0} where
   -- what is known without asking: nothing remains, or what is ahead is too short
@@ -37,10 +38,10 @@ module _ {R O E : Type 0} where
   IsKnown f asked.Idle = ⊥
   IsKnown f (asked.Refused r) = ⊥
 
-  -- what is known without asking, or the record's answer, where something remains or may follow
+  -- what is known without asking, or the record's answer, where it may be asked
   abbrev pub IsAsked : Meaning O ℕ → ReaderState R → Asked O E → Type 0
   IsAsked means f answer = IsKnown f answer
-      ⊎ ((f.ended ≡ true → f.ahead ≢ []) × IsAnswer means f.place f.ahead f.ended answer)
+      ⊎ (MayAsk f × IsAnswer means f.place f.ahead f.ended answer)
 
   -- what a value took was ahead
   abbrev pub IsWithin : ReaderState R → Asked O E → Type 0

@@ -15,18 +15,18 @@ use Rattle.winnow_reader.specs.Place.{bytes_at, IsByteSlice}
 use Rattle.winnow_reader.specs.State.{ReaderState}
 use Rattle.winnow_reader.specs.Reading.{Reads, MayFollow, HasRead}
 
--- the bytes are these values, one after the other, and then the rest: `stands x bytes behind` says
--- that x stands at the head of some bytes, with those behind it
+-- the bytes are these values, one after the other, and then the rest: `stands x bytes tail` says
+-- that the bytes begin with x, and go on with the tail
 abbrev pub StandInTurn : {O : Type 0} → (O → List ℕ → List ℕ → Type 0) → List ℕ → List O → List ℕ
     → Type 0
 StandInTurn stands bytes [] rest = bytes ≡ rest
-StandInTurn stands bytes (x ∷ xs) rest = (behind : List ℕ)
-    × (stands x bytes behind × StandInTurn stands behind xs rest)
+StandInTurn stands bytes (x ∷ xs) rest = (tail : List ℕ)
+    × (stands x bytes tail × StandInTurn stands tail xs rest)
 
 -- at the end of the input, a value that the parser gives stands at the head of what it read
 abbrev pub GivesWhatStands : {O : Type 0} → (O → List ℕ → List ℕ → Type 0) → Meaning O ℕ → Type 0
-GivesWhatStands {O} stands means = (x : O) (place there : ℕ) (bytes behind : List ℕ)
-    → means false (bytes_at place bytes) (Gives x (bytes_at there behind)) → stands x bytes behind
+GivesWhatStands {O} stands means = (x : O) (place there : ℕ) (bytes tail : List ℕ)
+    → means false (bytes_at place bytes) (Gives x (bytes_at there tail)) → stands x bytes tail
 
 -- it may be that nothing follows
 pub may-follow_none : (ended : Bool) → MayFollow ended [] false
@@ -47,7 +47,7 @@ bytes_at-moved p xs b m =
     let within : n ≤ length xs = omega (arith, width-units xs) in
     (n, (within, sym (after-taken (bytes_at p xs) b (HasPositiveWidths-units xs) m) ∙ ap (λ r. record { location = Some (p + n); tokens = r }) (sym (units-drop xs n within))))
 
--- the slice of the first n bytes is these bytes, and behind it stand the others, n places later
+-- the slice of the first n bytes is just these, and the others follow it, n places later
 pub bytes_at-slice : (p : ℕ) (xs : List ℕ) (slice : Bor (List ℕ)) (n : ℕ)
     → IsTrue (is_offset (units xs) n) → IsByteSlice slice (units xs) n
     → (n ≤ length xs) × (slice.now ≡ take n xs) × (after (bytes_at p xs) n ≡ bytes_at (p + n) (drop n xs))

@@ -54,7 +54,7 @@ impl<R: Record> ByteReader<R> {
     ghost use Rattle.winnow_reader.specs.Reading.{HasRead, ReadsAlso, ReadsThrough, ReadsOn};
     ghost use Rattle.winnow_reader.specs.Asked.{IsAsked, IsWithin, settled, answer_of};
     ghost use Rattle.winnow_reader.specs.Answering.{GivesValue, WaitsWell, IsDoneAtEnd, FailsWell};
-    ghost use Rattle.winnow_reader.specs.Answering.{StaysWithout};
+    ghost use Rattle.winnow_reader.specs.Answering.{WantsNeeded, StaysTillWanted, StaysWithout};
 
     /// Returns a reader that nothing was pushed to.
     pub fn new(alloc: Global, parser: R) -> Self
@@ -107,13 +107,16 @@ impl<R: Record> ByteReader<R> {
     /// Reads the next record. After anything but a value all that is ahead is still there, and the
     /// call may be made again.
     ///
-    /// A record that needed more is not asked again before as many bytes came, or the end. At the
-    /// end it is asked with nothing to follow, and never needs more.
+    /// A record that needed more is not asked again before as many bytes came, or the end: until
+    /// then the call needs more, and changes nothing. At the end it is asked with nothing to
+    /// follow, and never needs more.
     pub fn read_next(&mut self) -> Result<Next<R::Output>, ReadError<R::Error>>
         requires { R.ready self.old.parser }
         ensures read { ReadsOn R.means self.old result self.new }
         ensures value { GivesValue R.means self.old result self.new }
         ensures waits { WaitsWell R.means self.old result }
+        ensures wants { WantsNeeded R.means self.old result self.new }
+        ensures early { StaysTillWanted self.old result self.new }
         ensures done { IsDoneAtEnd self.old result }
         ensures failed { FailsWell R.means self.old result }
         ensures kept { StaysWithout self.old result self.new }

@@ -30,8 +30,8 @@ pub fn determined_reading_law<R: Record, V>()
 
 /// The law of bytes at a place: they are known by the place and the bytes; where a parser moves on
 /// from there, it stands at the rest of these bytes, as many places later as it took; and a slice,
-/// such as a literal, a set, a search or a count gives, is the first bytes, and the others stand
-/// behind it. It does nothing when called: its contract is the law.
+/// such as a literal, a set, a search or a count gives, is the first bytes, and the others
+/// follow it. It does nothing when called: its contract is the law.
 pub fn bytes_at_law()
     ensures same { (p q : ℕ) (xs ys : List ℕ) → bytes_at p xs ≡ bytes_at q ys
         → (p ≡ q) × (xs ≡ ys) }

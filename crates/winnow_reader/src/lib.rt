@@ -24,8 +24,8 @@
 //! `take_until` and `take_while` do, is asked once for each piece: over pieces of p bytes, a record
 //! of r bytes costs some r * r / p steps. So pieces that are not much shorter than the records keep
 //! the work linear. A record of text is asked of longer and longer fronts of what is ahead, 256
-//! bytes first, so the bytes whose UTF-8 is looked at are a few times those that it reads. No
-//! contract says so.
+//! bytes first, so the bytes whose UTF-8 is looked at are a few times those that it reads. The
+//! contract of `read_next` says what a reader waits for; of the rest no contract speaks.
 #![tactic(auto)]
 
 mod asking;

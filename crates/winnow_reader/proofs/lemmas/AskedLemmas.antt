@@ -1,6 +1,6 @@
 -- What a reader makes of an answer of its record keeps what its calls promise.
 use Rattle.std.specs.Prelude.{Bool, true, not}
-use Rattle.std.proofs.Common.{ℕ, ◌<◌, List, [], ◌++◌, refl, sym, inl, inr, arith}
+use Rattle.std.proofs.Common.{ℕ, ◌<◌, List, [], ◌++◌, refl, ap, sym, inl, inr, arith}
 use Rattle.std.proofs.lemmas.List.{append-nil}
 use Rattle.winnow_stream.specs.declared.needed.Needed.{Needed}
 use Rattle.winnow_stream.specs.declared.needed.Needed.TheVariants.{Unknown, Size}
@@ -10,9 +10,9 @@ use Rattle.winnow_reader.specs.declared.asking.Asked.{Asked}
 use Rattle.winnow_reader.specs.declared.asking.Asked.TheVariants as asked
 use Rattle.winnow_reader.specs.Place.{bytes_at}
 use Rattle.winnow_reader.specs.Wanted.{size_of}
-use Rattle.winnow_reader.specs.State.{ReaderState}
+use Rattle.winnow_reader.specs.State.{ReaderState, waiting_for}
 use Rattle.winnow_reader.specs.Reading.{MayFollow, Asks, ReadsOn}
-use Rattle.winnow_reader.specs.Answering.{StopsAt, GivesValue, WaitsWell, IsDoneAtEnd, FailsWell, StaysWithout}
+use Rattle.winnow_reader.specs.Answering.{StopsAt, GivesValue, WaitsWell, IsDoneAtEnd, FailsWell, StaysWithout, WantsNeeded, StaysTillWanted}
 use Rattle.winnow_reader.specs.Asked.{IsAsked, IsWithin, settled, answer_of}
 use Rattle.winnow_reader.proofs.lemmas.PlaceLemmas.{value-stays, backtrack-stays, cut-stays}
 use Rattle.winnow_reader.proofs.lemmas.ReadingLemmas.{HasRead-value, HasRead-waits, HasRead-still}
@@ -92,17 +92,17 @@ module _ {R O E : Type 0} (means : R → Meaning O ℕ) (f : ReaderState R) wher
   pub IsDoneAtEnd-settled : (v : Asked O E) → IsAsked (means f.parser) f v
       → IsDoneAtEnd f (answer_of f.place v)
   IsDoneAtEnd-settled (asked.Value x n) (inl k) = absurd k
-  IsDoneAtEnd-settled (asked.Value x n) (inr k) = (λ e. absurd (cc), λ e. absurd (k.0 e.0 e.1))
+  IsDoneAtEnd-settled (asked.Value x n) (inr k) = (λ e. absurd (cc), λ e. absurd (k.0.0 e.0 e.1))
   IsDoneAtEnd-settled (asked.Waits w) (inl k) = (λ e. absurd (cc), λ e. absurd (let t = e.0 in let u = k.0 in cc))
-  IsDoneAtEnd-settled (asked.Waits w) (inr k) = (λ e. absurd (cc), λ e. absurd (k.0 e.0 e.1))
+  IsDoneAtEnd-settled (asked.Waits w) (inr k) = (λ e. absurd (cc), λ e. absurd (k.0.0 e.0 e.1))
   IsDoneAtEnd-settled asked.Done (inl k) = (λ e. k, λ e. refl)
   IsDoneAtEnd-settled asked.Done (inr k) = absurd k.1
   IsDoneAtEnd-settled (asked.Failed e there) (inl k) = absurd k
-  IsDoneAtEnd-settled (asked.Failed e there) (inr k) = (λ e. absurd (cc), λ e. absurd (k.0 e.0 e.1))
+  IsDoneAtEnd-settled (asked.Failed e there) (inr k) = (λ e. absurd (cc), λ e. absurd (k.0.0 e.0 e.1))
   IsDoneAtEnd-settled asked.Idle (inl k) = absurd k
-  IsDoneAtEnd-settled asked.Idle (inr k) = (λ e. absurd (cc), λ e. absurd (k.0 e.0 e.1))
+  IsDoneAtEnd-settled asked.Idle (inr k) = (λ e. absurd (cc), λ e. absurd (k.0.0 e.0 e.1))
   IsDoneAtEnd-settled (asked.Refused r) (inl k) = absurd k
-  IsDoneAtEnd-settled (asked.Refused r) (inr k) = (λ e. absurd (cc), λ e. absurd (k.0 e.0 e.1))
+  IsDoneAtEnd-settled (asked.Refused r) (inr k) = (λ e. absurd (cc), λ e. absurd (k.0.0 e.0 e.1))
 
   -- a failure is the parser's
   pub FailsWell-settled : IsParser (means f.parser) → (v : Asked O E) → IsAsked (means f.parser) f v
@@ -126,3 +126,25 @@ module _ {R O E : Type 0} (means : R → Meaning O ℕ) (f : ReaderState R) wher
   StaysWithout-settled (asked.Failed e there) = refl
   StaysWithout-settled asked.Idle = refl
   StaysWithout-settled (asked.Refused r) = refl
+
+  -- as many are wanted as the parser needs
+  pub WantsNeeded-settled : (v : Asked O E) → IsAsked (means f.parser) f v
+      → WantsNeeded means f (answer_of f.place v) (settled f v)
+  WantsNeeded-settled (asked.Value x n) k = tt
+  WantsNeeded-settled (asked.Waits w) (inl k) = λ l. absurd (omega (arith, k.2, l))
+  WantsNeeded-settled (asked.Waits w) (inr k) = λ l. k.1.1
+  WantsNeeded-settled asked.Done k = tt
+  WantsNeeded-settled (asked.Failed e there) k = tt
+  WantsNeeded-settled asked.Idle k = tt
+  WantsNeeded-settled (asked.Refused r) k = tt
+
+  -- before as many bytes are ahead as are wanted, the reader stays
+  pub StaysTillWanted-settled : (v : Asked O E) → IsAsked (means f.parser) f v
+      → StaysTillWanted f (answer_of f.place v) (settled f v)
+  StaysTillWanted-settled v (inr k) e l = absurd (let enough = k.0.1 e in omega (arith, enough, l))
+  StaysTillWanted-settled (asked.Value x n) (inl k) e l = absurd k
+  StaysTillWanted-settled (asked.Waits w) (inl k) e l = (refl, ap (waiting_for f) k.1)
+  StaysTillWanted-settled asked.Done (inl k) e l = absurd (let t = k.0 in cc)
+  StaysTillWanted-settled (asked.Failed error there) (inl k) e l = absurd k
+  StaysTillWanted-settled asked.Idle (inl k) e l = absurd k
+  StaysTillWanted-settled (asked.Refused r) (inl k) e l = absurd k

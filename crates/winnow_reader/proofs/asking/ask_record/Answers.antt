@@ -1,5 +1,5 @@
-use Rattle.std.specs.Prelude.{not}
-use Rattle.std.proofs.Common.{◌≡◌, ◌-◌, length, subst, arith}
+use Rattle.std.specs.Prelude.{not, min, ◌^◌}
+use Rattle.std.proofs.Common.{◌≡◌, ◌+◌, ◌-◌, length, subst, arith}
 use Rattle.winnow_stream.specs.Units.{width-units}
 use Rattle.winnow_parser.specs.Outcome.{Gives, Fails, Needs}
 use Rattle.winnow_parser.specs.Answer.{failed}
@@ -56,4 +56,5 @@ returns-in-Err-Incomplete g c =
     let told = subst (λ failure. means (flag c.stream_over-input.result) (stands c.stream_over-input.result) (Fails (failed failure (stands new)))) c.in-Err-Incomplete.field-0-is c.in-Err-Incomplete.ensures in
     let m = answer-of means _ (not c.args.ended) _ here (Fails (Needs need)) c.stream_over-input.ensures.flag c.stream_over-input.ensures.stands told in
     let open_needs = needs-open means (g.met.R.Record.lawful c.args.parser.now) c.args.ended here need m in
-    (open_needs.0, (need, (open_needs.1, omega (arith, c.saturating_add.ensures, c.size_of.ensures))))
+    let wanted = subst (λ n. c.saturating_add.result ≡ min (length c.args.ahead.now + n) (2 ^ 64 - 1)) c.size_of.ensures c.saturating_add.ensures in
+    (open_needs.0, (need, (open_needs.1, wanted)))

@@ -1,8 +1,8 @@
 use Rattle.std.proofs.Common.{subst, sym}
 use Rattle.winnow_reader.specs.Reading.{ReadsOn}
-use Rattle.winnow_reader.specs.Answering.{GivesValue, WaitsWell, IsDoneAtEnd, FailsWell, StaysWithout}
+use Rattle.winnow_reader.specs.Answering.{GivesValue, WaitsWell, IsDoneAtEnd, FailsWell, StaysWithout, WantsNeeded, StaysTillWanted}
 use Rattle.winnow_reader.specs.Asked.{answer_of}
-use Rattle.winnow_reader.proofs.lemmas.AskedLemmas.{IsWithin-asked, ReadsOn-settled, GivesValue-settled, WaitsWell-settled, IsDoneAtEnd-settled, FailsWell-settled, StaysWithout-settled}
+use Rattle.winnow_reader.proofs.lemmas.AskedLemmas.{IsWithin-asked, ReadsOn-settled, GivesValue-settled, WaitsWell-settled, IsDoneAtEnd-settled, FailsWell-settled, StaysWithout-settled, WantsNeeded-settled, StaysTillWanted-settled}
 use Rattle.winnow_reader.proofs.byte_reader.ByteReader.read_next.Goals as goal
 
 pub settle-requires : goal.settle-requires
@@ -49,3 +49,18 @@ returns-clause-kept g c =
     let asked = c.ask-asked.result in
     subst (λ r. StaysWithout old r c.settle.new.self) (sym c.settle.ensures.answer)
     (subst (λ s. StaysWithout old (answer_of old.place asked) s) (sym c.settle.ensures.state) (StaysWithout-settled g.R.Record.means old asked))
+
+pub returns-clause-wants : goal.returns-clause-wants
+returns-clause-wants g c =
+    let means = g.R.Record.means in
+    let old = c.args.self.now in
+    let asked = c.ask-asked.result in
+    subst (λ r. WantsNeeded means old r c.settle.new.self) (sym c.settle.ensures.answer)
+    (subst (λ s. WantsNeeded means old (answer_of old.place asked) s) (sym c.settle.ensures.state) (WantsNeeded-settled means old asked c.ask-asked.ensures))
+
+pub returns-clause-early : goal.returns-clause-early
+returns-clause-early g c =
+    let old = c.args.self.now in
+    let asked = c.ask-asked.result in
+    subst (λ r. StaysTillWanted old r c.settle.new.self) (sym c.settle.ensures.answer)
+    (subst (λ s. StaysTillWanted old (answer_of old.place asked) s) (sym c.settle.ensures.state) (StaysTillWanted-settled g.R.Record.means old asked c.ask-asked.ensures))
