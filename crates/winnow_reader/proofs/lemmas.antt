@@ -2,6 +2,7 @@ pub mod PlaceLemmas
 pub mod ReadingLemmas
 pub mod AskedLemmas
 pub mod AnswerLemmas
+pub mod WaitLemmas
 pub mod AlikeLemmas
 pub mod Utf8Lemmas
 pub mod MendLemmas

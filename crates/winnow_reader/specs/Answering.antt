@@ -85,3 +85,11 @@ StaysWithout old (Ok (Value x)) new = ⊤
 StaysWithout old (Ok NeedsMore) new = new ≡ waiting_for old new.wanted
 StaysWithout old (Ok Done) new = new ≡ old
 StaysWithout old (Err e) new = new ≡ old
+
+-- the parser needed some bytes more, and while fewer come, more is needed again
+abbrev pub WaitsForNeeded : {R O E : Type 0} → (R → Meaning O ℕ) → ReaderState R → List ℕ
+    → Result (Next O) (ReadError E) → Type 0
+WaitsForNeeded means old piece next = (need : Needed)
+    × (means old.parser true (bytes_at old.place old.ahead) (Fails (Needs need))
+    × (length piece < size_of need → length old.ahead + length piece < 2 ^ 64 - 1
+    → next ≡ Ok NeedsMore))

@@ -1,13 +1,18 @@
 ghost use Rattle.std.specs.Prelude.{◌≡◌, ℕ, ◌+◌, ◌≤◌, List, [], ◌++◌, length, take, drop};
-ghost use Rattle.std.specs.Prelude.{true, false, IsTrue, IsUtf8};
+ghost use Rattle.std.specs.Prelude.{true, false, Result, Ok, IsTrue, IsUtf8};
 ghost use Rattle.std.specs.Borrow.{Bor};
 ghost use Rattle.winnow_stream.specs.Source.{units};
 ghost use Rattle.winnow_stream.specs.Front.{is_offset};
 ghost use Rattle.winnow_parser.specs.Determined.{IsDetermined, Shows};
-ghost use Rattle.winnow_reader.specs.State.{ReaderState};
+ghost use Rattle.winnow_reader.specs.State.{ReaderState, pushed};
 ghost use Rattle.winnow_parser.specs.Outcome.{Ahead, Moves, after};
 ghost use Rattle.winnow_reader.specs.Place.{bytes_at, IsByteSlice};
 ghost use Rattle.winnow_reader.specs.Reading.{HasRead};
+ghost use Rattle.winnow_reader.specs.declared.next.Next.{Next};
+ghost use Rattle.winnow_reader.specs.declared.next.Next.TheVariants.{NeedsMore};
+ghost use Rattle.winnow_reader.specs.declared.next.ReadError.{ReadError};
+ghost use Rattle.winnow_reader.specs.Answering.{WantsNeeded, StaysTillWanted, StaysWithout};
+ghost use Rattle.winnow_reader.specs.Answering.{WaitsForNeeded};
 ghost use Rattle.winnow_reader.specs.SameValues.{AreFronts, AreAlike, IsThrough};
 ghost use Rattle.winnow_reader.specs.InUtf8.{InUtf8, text_in, past_text, is_damaged};
 
@@ -26,6 +31,17 @@ pub fn determined_reading_law<R: Record, V>()
         (xs ys : List R.Output) → IsDetermined (Shows view) (R.means f.parser)
         → f.parser ≡ g.parser → HasRead R.means f input xs → HasRead R.means g input ys
         → IsThrough f → IsThrough g → AreAlike (Shows view) xs ys }
+{}
+
+/// The law of waiting. Where a reader has all that it wanted, and needs more, its parser needs some
+/// number of bytes; while fewer are pushed, the reader needs more again. It does nothing when
+/// called: its contract is the law.
+pub fn waiting_law<R: Record>()
+    ensures { (old new later : ReaderState R) (piece : List ℕ)
+        (first next : Result (Next R.Output) (ReadError R.Error)) → old.ended ≡ false
+        → old.wanted ≤ length old.ahead → first ≡ Ok NeedsMore
+        → WantsNeeded R.means old first new → StaysWithout old first new
+        → StaysTillWanted (pushed new piece) next later → WaitsForNeeded R.means old piece next }
 {}
 
 /// The law of bytes at a place: they are known by the place and the bytes; where a parser moves on

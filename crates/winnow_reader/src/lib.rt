@@ -39,7 +39,9 @@ mod text_record;
 mod utf8_record;
 
 pub use byte_reader::ByteReader;
-pub use laws::{bytes_at_law, damage_law, determined_reading_law, determined_text_law};
+pub use laws::{
+    bytes_at_law, damage_law, determined_reading_law, determined_text_law, waiting_law,
+};
 pub use next::{Next, ReadError};
 pub use record::{Record, RecordInput};
 pub use text_record::{TextRecord, TextRecordInput};

@@ -6,7 +6,9 @@ ghost use Rattle.std.specs.Prelude.{◌<◌};
 use crate::lines::{Nothing, NumberLine, number_line, word_line};
 use std::alloc::{AllocError, Global};
 use std::test::Fail;
-use winnow_reader::{ByteReader, Next, ReadError, bytes_at_law, determined_reading_law};
+use winnow_reader::{
+    ByteReader, Next, ReadError, bytes_at_law, determined_reading_law, waiting_law,
+};
 
 // How a reader stopped.
 #[derive(Clone, Copy, Debug, PartialEq, Eq)]
@@ -175,5 +177,6 @@ fn words_are_copied_out_of_the_pieces(rt: HostRuntime) -> Result<(), Fail> {
 #[test]
 fn laws_of_readings(_rt: HostRuntime) {
     determined_reading_law::<NumberLine, u32>();
+    waiting_law::<NumberLine>();
     bytes_at_law();
 }
