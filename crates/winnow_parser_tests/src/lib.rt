@@ -10,6 +10,8 @@ mod choices;
 #[cfg(test)]
 mod documented;
 #[cfg(test)]
+mod failures;
+#[cfg(test)]
 mod laws;
 #[cfg(test)]
 mod lists;

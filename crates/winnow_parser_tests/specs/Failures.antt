@@ -1,0 +1,44 @@
+-- Which errors the failures of some parsers carry.
+use Rattle.std.specs.Prelude.{◌≡◌, [], ◌⊎◌, ⊤}
+use Rattle.winnow_stream.specs.Source.{Source}
+use Rattle.winnow_stream.specs.declared.needed.Needed.{Needed}
+use Rattle.winnow_parser.specs.declared.failure.Failure.{Failure}
+use Rattle.winnow_parser.specs.declared.failure.Failure.TheVariants.{Incomplete, Backtrack, Cut, Refused}
+use Rattle.winnow_parser.specs.Outcome.{Ahead}
+
+-- an error that is made of a stream, in one way or another
+abbrev pub IsMade : {E S : Type 0} → (S → E → Type 0) → (S → E → Type 0) → S → E → Type 0
+IsMade found asserted s e = found s e ⊎ asserted s e
+
+-- a cut, with an error that is made of the stream as it is left, and a label that was added at a
+-- checkpoint of where the parser began
+abbrev pub IsLabelled : {E S C T : Type 0} → (S → E → Type 0) → (E → S → C → E → Type 0)
+    → (C → Ahead T) → Ahead T → S → Failure E Needed → Type 0
+IsLabelled made tells stood a s (Backtrack e) = ⊥
+IsLabelled {E} {S} {C} made tells stood a s (Cut e) =
+    (bare : E) × ((start : C) × (made s bare × (stood start ≡ a) × tells bare s start e))
+IsLabelled made tells stood a s (Incomplete n) = ⊤
+IsLabelled made tells stood a s (Refused r) = ⊤
+
+-- a backtrack, with an error that is joined of two, the second made of the stream as it is left
+abbrev pub IsJoined : {E S : Type 0} → (S → E → Type 0) → (E → E → E → Type 0) → S
+    → Failure E Needed → Type 0
+IsJoined {E} {S} made joins s (Backtrack e) =
+    (left : E) × ((right : E) × ((r : S) × (made r left × made s right × joins left right e)))
+IsJoined made joins s (Cut e) = ⊥
+IsJoined made joins s (Incomplete n) = ⊤
+IsJoined made joins s (Refused r) = ⊤
+
+-- a backtrack, with an error that is made of the stream as it is left
+abbrev pub IsOwn : {E S : Type 0} → (S → E → Type 0) → S → Failure E Needed → Type 0
+IsOwn made s (Backtrack e) = made s e
+IsOwn made s (Cut e) = ⊥
+IsOwn made s (Incomplete n) = ⊤
+IsOwn made s (Refused r) = ⊤
+
+-- a backtrack, or a need for more, where nothing is ahead
+abbrev pub IsAtEnd : {E T : Type 0} → Source T → Failure E Needed → Type 0
+IsAtEnd tokens (Backtrack e) = tokens ≡ []
+IsAtEnd tokens (Cut e) = ⊥
+IsAtEnd tokens (Incomplete n) = tokens ≡ []
+IsAtEnd tokens (Refused r) = ⊥
