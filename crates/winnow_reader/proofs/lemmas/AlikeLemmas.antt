@@ -1,5 +1,5 @@
 -- Two readings of one input by a parser that has one answer to each question.
-use Rattle.std.specs.Prelude.{Bool, true, false}
+use Rattle.std.specs.Prelude.{Bool, false}
 use Rattle.std.proofs.Common.{◌≡◌, ℕ, List, [], ◌∷◌, ◌++◌, length, ap, sym, subst, inl, inr, arith}
 use Rattle.winnow_stream.specs.Source.{units}
 use Rattle.winnow_parser.specs.Outcome.{Ahead, Gives, Meaning}

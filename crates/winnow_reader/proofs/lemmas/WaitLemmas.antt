@@ -1,6 +1,6 @@
 -- For how long a reader waits.
-use Rattle.std.specs.Prelude.{Bool, false, Result, Ok}
-use Rattle.std.proofs.Common.{◌≡◌, ℕ, ◌+◌, ◌-◌, ◌^◌, ◌≤◌, ◌<◌, min, List, ◌++◌, length, refl, ap, subst, ◌∙◌, arith, length-append}
+use Rattle.std.specs.Prelude.{false, Result, Ok}
+use Rattle.std.proofs.Common.{◌≡◌, ℕ, ◌≤◌, List, ◌++◌, length, ap, subst, ◌∙◌, arith, length-append}
 use Rattle.winnow_parser.specs.Outcome.{Meaning}
 use Rattle.winnow_reader.specs.declared.next.Next.{Next}
 use Rattle.winnow_reader.specs.declared.next.Next.TheVariants.{NeedsMore}
