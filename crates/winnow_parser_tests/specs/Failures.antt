@@ -10,13 +10,26 @@ use Rattle.winnow_parser.specs.Outcome.{Ahead}
 abbrev pub IsMade : {E S : Type 0} → (S → E → Type 0) → (S → E → Type 0) → S → E → Type 0
 IsMade found asserted s e = found s e ⊎ asserted s e
 
--- a cut, with an error that is made of the stream as it is left, and a label that was added at a
--- checkpoint of where the parser began
+-- an error that is made of the stream as it is left, with a label that was added at a checkpoint of
+-- where the parser began
+abbrev pub HasLabel : {E S C T : Type 0} → (S → E → Type 0) → (E → S → C → E → Type 0)
+    → (C → Ahead T) → Ahead T → S → E → Type 0
+HasLabel {E} {S} {C} made tells stood a s e =
+    (bare : E) × ((start : C) × (made s bare × (stood start ≡ a) × tells bare s start e))
+
+-- a failure with such an error, which is made in one way for a backtrack, in another for a cut
+abbrev pub IsNamed : {E S C T : Type 0} → (S → E → Type 0) → (S → E → Type 0)
+    → (E → S → C → E → Type 0) → (C → Ahead T) → Ahead T → S → Failure E Needed → Type 0
+IsNamed found asserted tells stood a s (Backtrack e) = HasLabel found tells stood a s e
+IsNamed found asserted tells stood a s (Cut e) = HasLabel asserted tells stood a s e
+IsNamed found asserted tells stood a s (Incomplete n) = ⊤
+IsNamed found asserted tells stood a s (Refused r) = ⊤
+
+-- a cut with such an error
 abbrev pub IsLabelled : {E S C T : Type 0} → (S → E → Type 0) → (E → S → C → E → Type 0)
     → (C → Ahead T) → Ahead T → S → Failure E Needed → Type 0
 IsLabelled made tells stood a s (Backtrack e) = ⊥
-IsLabelled {E} {S} {C} made tells stood a s (Cut e) =
-    (bare : E) × ((start : C) × (made s bare × (stood start ≡ a) × tells bare s start e))
+IsLabelled made tells stood a s (Cut e) = HasLabel made tells stood a s e
 IsLabelled made tells stood a s (Incomplete n) = ⊤
 IsLabelled made tells stood a s (Refused r) = ⊤
 

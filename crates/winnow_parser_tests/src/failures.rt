@@ -2,7 +2,8 @@
 
 ghost use Rattle.std.specs.Prelude.{IfErr};
 ghost use Rattle.winnow_parser.specs.Answer.{ahead};
-ghost use Rattle.winnow_parser_tests.specs.Failures.{IsMade, IsLabelled, IsJoined, IsOwn, IsAtEnd};
+ghost use Rattle.winnow_parser_tests.specs.Failures.{IsMade, IsNamed, IsLabelled, IsJoined, IsOwn};
+ghost use Rattle.winnow_parser_tests.specs.Failures.{IsAtEnd};
 
 use std::alloc::Global;
 use winnow_combinator::{alt, backtrack_err, cut_err};
@@ -11,6 +12,20 @@ use winnow_parser::{Failure, ModalResult, Parser};
 use winnow_stream::StreamIsPartial;
 use winnow_token::any;
 use winnow_wrap::Partial;
+
+/// Reads a token, or fails with an error that has the label.
+pub fn named_token<I: StreamIsPartial, C: Copy, E: ParserError<I> + AddContext<I, C>>(
+    alloc: Global,
+    input: &mut I,
+    label: C,
+) -> ModalResult<I::Token, E>
+    requires { I.valid input.old }
+    ensures { IfErr result (IsNamed E.from_input_gives E.assert_gives
+        (λ e s start. E.add_context_gives e s start label) (ahead I.Checkpoint.location I.remained)
+        (ahead I.location I.remaining input.old) input.new) }
+{
+    any().context(label).parse_next(alloc, input)
+}
 
 /// Reads a token, or cuts with an error that has the label.
 pub fn labelled_token<I: StreamIsPartial, C: Copy, E: ParserError<I> + AddContext<I, C>>(
@@ -67,6 +82,8 @@ pub fn first_token<I: StreamIsPartial + Drop, E: ParserError<I>>(
 fn failures_at_the_end(rt: HostRuntime) {
     let mut input = Partial::new("");
     let _ = input.complete();
+    let named = named_token::<_, _, EmptyError>(rt.alloc(), &mut input, "letter");
+    assert!(rt; matches!(named, Err(Failure::Backtrack(_))));
     let labelled = labelled_token::<_, _, EmptyError>(rt.alloc(), &mut input, "letter");
     assert!(rt; matches!(labelled, Err(Failure::Cut(_))));
     let joined = token_tried_twice::<_, EmptyError>(rt.alloc(), &mut input);

@@ -9,10 +9,20 @@ use Rattle.winnow_parser.specs.Outcome.{Ahead, Fails, Meaning}
 use Rattle.winnow_parser.specs.Answer.{failed}
 use Rattle.winnow_parser.specs.Errors.{OwnErrors, PairErrors, EitherErrors, CutErrors, SoftenedErrors, ContextErrors}
 use Rattle.winnow_token.specs.OneOf.{OneOf}
-use Rattle.winnow_parser_tests.specs.Failures.{IsMade, IsLabelled, IsJoined, IsOwn, IsAtEnd}
+use Rattle.winnow_parser_tests.specs.Failures.{IsMade, IsNamed, IsLabelled, IsJoined, IsOwn, IsAtEnd}
 
 module _ {E S T : Type 0} (given asserted : S → E → Type 0) where
-  -- a parser with errors of its own that cuts, under a context
+  -- a parser with errors of its own, under a context
+  pub named : {C : Type 0} (tells : E → S → C → E → Type 0) (stood : C → Ahead T)
+      (partial : Bool) (a : Ahead T) (s : S) (f : Failure E Needed)
+      → ContextErrors stood tells (OwnErrors given asserted) partial a s f
+      → IsNamed given asserted tells stood a s f
+  named tells stood partial a s (Backtrack e) h = h
+  named tells stood partial a s (Cut e) h = h
+  named tells stood partial a s (Incomplete n) h = tt
+  named tells stood partial a s (Refused r) h = tt
+
+  -- such a parser that cuts, under a context
   pub labelled : {C : Type 0} (tells : E → S → C → E → Type 0) (stood : C → Ahead T)
       (partial : Bool) (a : Ahead T) (s : S) (f : Failure E Needed)
       → ContextErrors stood tells (CutErrors (OwnErrors given asserted)) partial a s f
