@@ -1,6 +1,5 @@
 -- Which errors the failures of some parsers carry.
 use Rattle.std.specs.Prelude.{◌≡◌, [], ◌⊎◌, ⊤}
-use Rattle.winnow_stream.specs.Source.{Source}
 use Rattle.winnow_stream.specs.declared.needed.Needed.{Needed}
 use Rattle.winnow_parser.specs.declared.failure.Failure.{Failure}
 use Rattle.winnow_parser.specs.declared.failure.Failure.TheVariants.{Incomplete, Backtrack, Cut, Refused}
@@ -17,7 +16,7 @@ abbrev pub HasLabel : {E S C T : Type 0} → (S → E → Type 0) → (E → S �
 HasLabel {E} {S} {C} made tells stood a s e =
     (bare : E) × ((start : C) × (made s bare × (stood start ≡ a) × tells bare s start e))
 
--- a failure with such an error, which is made in one way for a backtrack, in another for a cut
+-- a failure whose error has the label; it is made in one way for a backtrack, in another for a cut
 abbrev pub IsNamed : {E S C T : Type 0} → (S → E → Type 0) → (S → E → Type 0)
     → (E → S → C → E → Type 0) → (C → Ahead T) → Ahead T → S → Failure E Needed → Type 0
 IsNamed found asserted tells stood a s (Backtrack e) = HasLabel found tells stood a s e
@@ -25,7 +24,7 @@ IsNamed found asserted tells stood a s (Cut e) = HasLabel asserted tells stood a
 IsNamed found asserted tells stood a s (Incomplete n) = ⊤
 IsNamed found asserted tells stood a s (Refused r) = ⊤
 
--- a cut with such an error
+-- a cut whose error has the label
 abbrev pub IsLabelled : {E S C T : Type 0} → (S → E → Type 0) → (E → S → C → E → Type 0)
     → (C → Ahead T) → Ahead T → S → Failure E Needed → Type 0
 IsLabelled made tells stood a s (Backtrack e) = ⊥
@@ -49,9 +48,12 @@ IsOwn made s (Cut e) = ⊥
 IsOwn made s (Incomplete n) = ⊤
 IsOwn made s (Refused r) = ⊤
 
--- a backtrack, or a need for more, where nothing is ahead
-abbrev pub IsAtEnd : {E T : Type 0} → Source T → Failure E Needed → Type 0
-IsAtEnd tokens (Backtrack e) = tokens ≡ []
-IsAtEnd tokens (Cut e) = ⊥
-IsAtEnd tokens (Incomplete n) = tokens ≡ []
-IsAtEnd tokens (Refused r) = ⊥
+-- a backtrack, or a need for more, where nothing is ahead; the backtrack's error is made of a
+-- stream that still stands there
+abbrev pub IsAtEnd : {E S T : Type 0} → (S → E → Type 0) → (S → Ahead T) → Ahead T
+    → Failure E Needed → Type 0
+IsAtEnd {S = S} made stands a (Backtrack e) = (a.tokens ≡ [])
+    × ((s : S) × (made s e × (stands s ≡ a)))
+IsAtEnd made stands a (Cut e) = ⊥
+IsAtEnd made stands a (Incomplete n) = a.tokens ≡ []
+IsAtEnd made stands a (Refused r) = ⊥

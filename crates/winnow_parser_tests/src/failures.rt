@@ -73,7 +73,8 @@ pub fn first_token<I: StreamIsPartial + Drop, E: ParserError<I>>(
     input: I,
 ) -> ModalResult<(I, I::Token), E>
     requires { I.valid input }
-    ensures { IfErr result (IsAtEnd (I.remaining input)) }
+    ensures { IfErr result (IsAtEnd E.from_input_gives (ahead I.location I.remaining)
+        (ahead I.location I.remaining input)) }
 {
     any().parse_peek(alloc, input)
 }

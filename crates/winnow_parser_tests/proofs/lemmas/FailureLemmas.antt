@@ -5,18 +5,17 @@ use Rattle.winnow_stream.specs.Source.{Source, first_token}
 use Rattle.winnow_stream.specs.declared.needed.Needed.{Needed}
 use Rattle.winnow_parser.specs.declared.failure.Failure.{Failure}
 use Rattle.winnow_parser.specs.declared.failure.Failure.TheVariants.{Incomplete, Backtrack, Cut, Refused}
-use Rattle.winnow_parser.specs.Outcome.{Ahead, Fails, Meaning}
-use Rattle.winnow_parser.specs.Answer.{failed}
-use Rattle.winnow_parser.specs.Errors.{OwnErrors, PairErrors, EitherErrors, CutErrors, SoftenedErrors, ContextErrors}
+use Rattle.winnow_parser.specs.Outcome.{Ahead, Meaning}
+use Rattle.winnow_parser.specs.Errors.{OwnErrors, PairErrors, EitherErrors, CutErrors, SoftenedErrors, ContextErrors, FailsLeaving}
 use Rattle.winnow_token.specs.OneOf.{OneOf}
 use Rattle.winnow_parser_tests.specs.Failures.{IsMade, IsNamed, IsLabelled, IsJoined, IsOwn, IsAtEnd}
 
-module _ {E S T : Type 0} (given asserted : S → E → Type 0) where
+module _ {E S T : Type 0} (found asserted : S → E → Type 0) where
   -- a parser with errors of its own, under a context
   pub named : {C : Type 0} (tells : E → S → C → E → Type 0) (stood : C → Ahead T)
       (partial : Bool) (a : Ahead T) (s : S) (f : Failure E Needed)
-      → ContextErrors stood tells (OwnErrors given asserted) partial a s f
-      → IsNamed given asserted tells stood a s f
+      → ContextErrors stood tells (OwnErrors found asserted) partial a s f
+      → IsNamed found asserted tells stood a s f
   named tells stood partial a s (Backtrack e) h = h
   named tells stood partial a s (Cut e) h = h
   named tells stood partial a s (Incomplete n) h = tt
@@ -25,8 +24,8 @@ module _ {E S T : Type 0} (given asserted : S → E → Type 0) where
   -- such a parser that cuts, under a context
   pub labelled : {C : Type 0} (tells : E → S → C → E → Type 0) (stood : C → Ahead T)
       (partial : Bool) (a : Ahead T) (s : S) (f : Failure E Needed)
-      → ContextErrors stood tells (CutErrors (OwnErrors given asserted)) partial a s f
-      → IsLabelled (IsMade given asserted) tells stood a s f
+      → ContextErrors stood tells (CutErrors (OwnErrors found asserted)) partial a s f
+      → IsLabelled (IsMade found asserted) tells stood a s f
   labelled tells stood partial a s (Backtrack e) h = absurd h.1.1.0
   labelled tells stood partial a s (Cut e) h = h
   labelled tells stood partial a s (Incomplete n) h = tt
@@ -35,8 +34,8 @@ module _ {E S T : Type 0} (given asserted : S → E → Type 0) where
   -- two alternatives with errors of their own, neither of which cuts
   pub joined : (joins : E → E → E → Type 0) (partial : Bool) (a : Ahead T) (s : S)
       (f : Failure E Needed)
-      → EitherErrors joins (SoftenedErrors (OwnErrors given asserted)) (SoftenedErrors (OwnErrors given asserted)) partial a s f
-      → IsJoined (IsMade given asserted) joins s f
+      → EitherErrors joins (SoftenedErrors (OwnErrors found asserted)) (SoftenedErrors (OwnErrors found asserted)) partial a s f
+      → IsJoined (IsMade found asserted) joins s f
   joined joins partial a s (Backtrack e) h = h
   joined joins partial a s (Cut e) (inl h) = absurd h
   joined joins partial a s (Cut e) (inr h) = absurd h
@@ -46,8 +45,8 @@ module _ {E S T : Type 0} (given asserted : S → E → Type 0) where
   -- two parsers with errors of their own, one after the other, neither of which cuts
   pub own : {O : Type 0} (means : Meaning O T) (partial : Bool) (a : Ahead T) (s : S)
       (f : Failure E Needed)
-      → SoftenedErrors (PairErrors means (OwnErrors given asserted) (OwnErrors given asserted)) partial a s f
-      → IsOwn (IsMade given asserted) s f
+      → SoftenedErrors (PairErrors means (OwnErrors found asserted) (OwnErrors found asserted)) partial a s f
+      → IsOwn (IsMade found asserted) s f
   own means partial a s (Backtrack e) (inl (inl h)) = inl h
   own means partial a s (Backtrack e) (inl (inr h)) = inl h.1.1.1
   own means partial a s (Backtrack e) (inr (inl h)) = inr h
@@ -63,9 +62,11 @@ no-token [] h = refl
 no-token (x ∷ xs) h = absurd (true≢false h)
 
 -- the parser of any token fails at the end alone
-pub at-end : {E T : Type 0} (partial : Bool) (a left : Ahead T) (f : Failure E Needed)
-    → OneOf (λ _. true) partial a (Fails (failed f left)) → IsAtEnd a.tokens f
-at-end partial a left (Backtrack e) h = no-token a.tokens h.0
-at-end partial a left (Cut e) h = absurd h
-at-end partial a left (Incomplete n) h = h.0
-at-end partial a left (Refused r) h = absurd h
+pub at-end : {E S T : Type 0} (found asserted : S → E → Type 0) (stands : S → Ahead T)
+    (partial : Bool) (a : Ahead T) (f : Failure E Needed)
+    → FailsLeaving stands (OneOf (λ _. true)) (OwnErrors found asserted) partial a f
+    → IsAtEnd found stands a f
+at-end found asserted stands partial a (Backtrack e) h = (no-token a.tokens h.1.1.0, (h.0, (h.1.0, h.1.1.2)))
+at-end found asserted stands partial a (Cut e) h = absurd h.1.1
+at-end found asserted stands partial a (Incomplete n) h = h.1.1.0
+at-end found asserted stands partial a (Refused r) h = absurd h.1.1
