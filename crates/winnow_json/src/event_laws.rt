@@ -1,12 +1,15 @@
-ghost use Rattle.std.specs.Prelude.{◌≡◌, ℕ, List, ◌++◌, None, Err};
+ghost use Rattle.std.specs.Prelude.{◌≡◌, ℕ, false, List, ◌++◌, None, Ok, Err};
+ghost use Rattle.winnow.specs.Reading.{Lacks};
 ghost use Rattle.winnow_json.specs.Documents.{IsDamage};
 ghost use Rattle.winnow_json.specs.EventReading.{EventState, HasGiven, GivesOn, KeepsLimits};
 ghost use Rattle.winnow_json.specs.EventReading.{IsWhole, IsNext};
+ghost use Rattle.winnow_json.specs.TokenAnswers.{OneToken};
 ghost use Rattle.winnow_json.specs.ValueEvents.{ReadsValue, AreFirstOf, AreAllOf, IsRefusal};
 ghost use Rattle.winnow_json.specs.declared.documents.Damage.{Damage};
 ghost use Rattle.winnow_json.specs.declared.event_reader.Event.{Event};
 ghost use Rattle.winnow_json.specs.declared.event_reader.EventError.{EventError};
 ghost use Rattle.winnow_json.specs.declared.value.Value.{Value};
+ghost use Rattle.winnow_reader.specs.declared.next.Next.TheVariants.{NeedsMore};
 
 /// The law of a reader of events. It does nothing when called: its contract is the law.
 ///
@@ -16,6 +19,10 @@ ghost use Rattle.winnow_json.specs.declared.value.Value.{Value};
 ///
 /// Where the reader has not stopped and the text is whole, the input is not damaged: the reader is
 /// done with no text in which [`read_document`](crate::read_document) finds damage.
+///
+/// Where the reader needs more, whatever the input is, the input has not ended and the reader has
+/// not stopped; and asked of some of the bytes ahead, [`JsonToken`](crate::JsonToken) needed more
+/// than came since.
 pub fn events_law()
     ensures begins { (r : EventState) (input : List ℕ) (events : List Event) (value : Value)
         → ReadsValue r input events value → AreFirstOf events value }
@@ -26,6 +33,9 @@ pub fn events_law()
     ensures only { (r : EventState) (input : List ℕ) (events : List Event) (damage : Damage)
         → HasGiven r input events → r.stopped ≡ None → IsWhole r
         → ¬ (IsDamage r.text.depth input damage) }
+    ensures waits { (r new : EventState) (input : List ℕ) (events : List Event)
+        → HasGiven r input events → IsNext r (Ok NeedsMore) new → (new.tokens.ended ≡ false)
+        × (new.stopped ≡ None) × Lacks (λ p. OneToken) new.tokens }
     ensures goes_on { (r new : EventState) (input : List ℕ) (events given : List Event)
         (value : Value) → ReadsValue r input events value → GivesOn r given new
         → KeepsLimits r new → ReadsValue new input (events ++ given) value }

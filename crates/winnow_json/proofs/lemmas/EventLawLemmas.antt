@@ -1,8 +1,9 @@
 -- What a reader gives of a text that is a value are the value's events, and it finds no damage.
 use Rattle.std.proofs.Common.{◌≡◌, ℕ, true, false, List, [], ◌∷◌, ◌++◌, drop, Some, None, ◌⊎◌, inl, inr, ap, sym, ◌∙◌, subst, refl, append-nil}
-use Rattle.std.specs.Prelude.{Err}
+use Rattle.std.specs.Prelude.{Ok, Err}
 use Rattle.winnow.specs.State.{ReaderState}
-use Rattle.winnow.specs.Reading.{MayFollow, HasRead}
+use Rattle.winnow.specs.Reading.{MayFollow, HasRead, Lacks}
+use Rattle.winnow_reader.specs.declared.next.Next.TheVariants.{NeedsMore}
 use Rattle.winnow_json.specs.Values.{after_blanks}
 use Rattle.winnow_json.specs.Documents.{IsDocument, IsDamage}
 use Rattle.winnow_json.specs.Tokens.{TokenAhead}
@@ -160,3 +161,14 @@ whole-unbroken r input events damage g going ((ended, none), end) (within, never
       none = refl;
       end = end;
     })
+
+-- a reader that needs more has not ended or stopped, and the record asked for more than came since
+pub needs-waits : (r new : EventState) (input : List ℕ) (events : List Event)
+    → HasGiven r input events → IsNext r (Ok NeedsMore) new
+    → (new.tokens.ended ≡ false) × (new.stopped ≡ None) × Lacks (λ p. OneToken) new.tokens
+needs-waits r new input events given (q, (passed, (going, stays, (goes, lacks)))) =
+    let read = (passed.0 input events given).read in (
+      ap (λ (f : ReaderState JsonToken). f.ended) stays.1 ∙ goes,
+      going,
+      subst (λ (f : ReaderState JsonToken). Lacks (λ p. OneToken) f) (sym stays.1) (lacks input _ read),
+    )

@@ -1,4 +1,4 @@
-use Rattle.winnow_json.proofs.lemmas.EventLawLemmas.{value-first, value-whole, value-sound, value-goes_on, whole-unbroken}
+use Rattle.winnow_json.proofs.lemmas.EventLawLemmas.{value-first, value-whole, value-sound, value-goes_on, whole-unbroken, needs-waits}
 use Rattle.winnow_json.proofs.event_laws.events_law.Goals as goal
 
 pub returns-clause-begins : goal.returns-clause-begins
@@ -15,3 +15,6 @@ returns-clause-goes_on c r new input events given value h gives keeps = value-go
 
 pub returns-clause-only : goal.returns-clause-only
 returns-clause-only c r input events damage given going whole damaged = whole-unbroken r input events damage given going whole damaged
+
+pub returns-clause-waits : goal.returns-clause-waits
+returns-clause-waits c r new input events given next = needs-waits r new input events given next
