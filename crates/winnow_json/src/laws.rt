@@ -1,20 +1,26 @@
-ghost use Rattle.std.specs.Prelude.{◌≡◌, ℕ, suc, Bool, List};
+ghost use Rattle.std.specs.Prelude.{◌≡◌, ◌≢◌, ℕ, suc, Bool, List};
 ghost use Rattle.winnow_json.specs.Values.{ValueAhead};
 ghost use Rattle.winnow_json.specs.Damage.{BreaksOff};
 ghost use Rattle.winnow_json.specs.Documents.{IsDocument, IsOnlyDocument, IsDamage};
 ghost use Rattle.winnow_json.specs.SameValues.{SameValue};
-ghost use Rattle.winnow_json.specs.Writing.{written};
+ghost use Rattle.winnow_json.specs.Writing.{written, IsWhy};
 ghost use Rattle.winnow_json.specs.declared.value.Value.{Value};
 ghost use Rattle.winnow_json.specs.declared.documents.Damage.{Damage};
+ghost use Rattle.winnow_json.specs.declared.writing.Unwritten.{Unwritten};
+ghost use Rattle.winnow_json.specs.declared.writing.Unwritten.TheVariants.{NoNumber, TooDeep};
 
 /// The law of the round trip: what [`write_value`](crate::write_value) wrote for a value,
-/// [`read_document`](crate::read_document) reads as the same value, and it finds no damage there. A
-/// law does nothing when called: its contract is the law.
+/// [`read_document`](crate::read_document) reads as the same value, and it finds no damage there.
+/// And a value that some text is, `write_value` refuses within the same limit only where memory is
+/// refused. A law does nothing when called: its contract is the law.
 pub fn round_trip_law()
     ensures same { (depth : ℕ) (value read : Value) → IsDocument depth (written value) value
         → IsOnlyDocument depth (written value) read → SameValue (suc depth) read value }
     ensures whole { (depth : ℕ) (value : Value) (damage : Damage)
         → IsDocument depth (written value) value → ¬ (IsDamage depth (written value) damage) }
+    ensures writable { (depth : ℕ) (text : List ℕ) (value : Value) (why : Unwritten)
+        → IsDocument depth text value → IsWhy depth value why
+        → (why ≢ NoNumber) × (why ≢ TooDeep) }
 {}
 
 /// The law of places: a value breaks off in one place at most, and nowhere where one stands ahead.
