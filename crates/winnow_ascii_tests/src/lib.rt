@@ -7,6 +7,8 @@ mod documented;
 #[cfg(test)]
 mod escapes;
 #[cfg(test)]
+mod failures;
+#[cfg(test)]
 mod numbers;
 #[cfg(test)]
 mod runs;
