@@ -1,6 +1,7 @@
--- Which errors the failures of text with escapes carry.
-use Rattle.std.specs.Prelude.{Bool, ◌⊎◌, ⊤}
+-- Which errors the failures of text with escapes and of numbers carry.
+use Rattle.std.specs.Prelude.{Bool, ◌⊎◌, None, ⊤}
 use Rattle.winnow_stream.specs.declared.needed.Needed.{Needed}
+use Rattle.winnow_count.specs.Reading.{IsSomeExactly}
 use Rattle.winnow_parser.specs.declared.failure.Failure.{Failure}
 use Rattle.winnow_parser.specs.declared.failure.Failure.TheVariants.{Incomplete, Backtrack, Cut, Refused}
 use Rattle.winnow_parser.specs.Outcome.{Ahead, Gives, Meaning}
@@ -24,3 +25,20 @@ IsOfPart {T = T} normal normal_errors control control_errors errors partial s (C
     ⊎ (IsAbsent normal partial a × (control_errors partial a s (Cut e) ⊎ AfterControl control errors partial a s (Cut e))))
 IsOfPart normal normal_errors control control_errors errors partial s (Incomplete n) = ⊤
 IsOfPart normal normal_errors control control_errors errors partial s (Refused r) = ⊤
+
+-- an error that joins two, each made of a stream, the second of the stream as it is left
+abbrev pub IsJoined : {E S : Type 0} → (S → E → Type 0) → (E → E → E → Type 0) → S → E → Type 0
+IsJoined {E} {S} made joins s e =
+    (one : E) × ((other : E) × ((r : S) × (made r one × made s other × joins one other e)))
+
+-- a backtrack of a number: its digits stand there, and read as none, and the error is made of the
+-- stream; or they do not, and the error joins two. Or a cut, with an error that is made of the
+-- stream in another way
+abbrev pub IsOfNumber : {G R E S T : Type 0} → (G → R → Type 0) → Meaning G T → (S → E → Type 0)
+    → (S → E → Type 0) → (E → E → E → Type 0) → Bool → Ahead T → S → Failure E Needed → Type 0
+IsOfNumber {G = G} {T = T} reads digits found asserted joins partial a s (Backtrack e) =
+    ((slice : G) × ((b : Ahead T) × (digits partial a (Gives slice b) × IsSomeExactly (reads slice) None × found s e)))
+    ⊎ (IsAbsent digits partial a × IsJoined found joins s e)
+IsOfNumber reads digits found asserted joins partial a s (Cut e) = asserted s e
+IsOfNumber reads digits found asserted joins partial a s (Incomplete n) = ⊤
+IsOfNumber reads digits found asserted joins partial a s (Refused r) = ⊤

@@ -1,15 +1,20 @@
-//! What the contracts of text with escapes say of its failures, and of what it reads, put together.
+//! What the contracts of text with escapes and of numbers say of their failures, put together; and
+//! that text with escapes is one list of fragments.
 
 ghost use Rattle.std.specs.Prelude.{◌≡◌, IfErr};
 ghost use Rattle.winnow_parser.specs.Determined.{IsDetermined, Shows};
+ghost use Rattle.winnow_parser.specs.Answer.{ahead};
+ghost use Rattle.winnow_parser.specs.Taken.{Taken};
 ghost use Rattle.winnow_ascii.specs.Escapes.{Fragments};
-ghost use Rattle.winnow_ascii_tests.specs.Failures.{IsOfPart};
+ghost use Rattle.winnow_ascii.specs.Numbers.{Unsigned};
+ghost use Rattle.winnow_ascii_tests.specs.Failures.{IsOfPart, IsOfNumber};
 
 use std::alloc::Global;
-use winnow_ascii::{EscapedText, Fragment, alpha1, determined_escaped_law, escaped};
-use winnow_count::Accumulate;
+use winnow_ascii::{EscapedText, Fragment, alpha1, dec_uint, determined_escaped_law, escaped};
+use winnow_count::{Accumulate, ParseSlice};
 use winnow_error::{EmptyError, ParserError};
 use winnow_parser::{Failure, ModalResult, Parser};
+use winnow_sets::AsChar;
 use winnow_stream::StreamIsPartial;
 use winnow_token::{AnyToken, one_of};
 
@@ -52,12 +57,31 @@ pub fn one_list_of_fragments<
     determined_escaped_law::<I, E, P, C, Q, A, P::Output, V, Q::Output, V>();
 }
 
+/// Reads a number in decimal digits, or fails with an error of the digits, or of what they read as.
+pub fn number<I: StreamIsPartial, E: ParserError<I>, R>(
+    alloc: Global,
+    input: &mut I,
+) -> ModalResult<R, E>
+where
+    I::Token: AsChar + Copy,
+    I::Slice: ParseSlice<R> + Drop,
+    requires { I.valid input.old }
+    ensures { IfErr result (IsOfNumber I.Slice.reads
+        (Taken I.is_slice (Unsigned E.or_refusable I.is_slice I.Token.code))
+        E.from_input_gives E.assert_gives E.or_gives (I.expects_more input.old)
+        (ahead I.location I.remaining input.old) input.new) }
+{
+    dec_uint().parse_next(alloc, input)
+}
+
 #[test]
-fn an_escape_that_is_none_backtracks(rt: HostRuntime) {
+fn what_is_no_escape_and_no_number_backtracks(rt: HostRuntime) {
     one_list_of_fragments::<&str, EmptyError, AnyToken, AnyToken, AnyToken, String, char>();
     let text = escaped::<_, _, String>(alpha1(), '\\', one_of('n'));
     let mut input = "a\\x";
     let answer = text_with_escapes::<_, EmptyError, _, _, _, _>(rt.alloc(), &text, &mut input);
     assert!(rt; matches!(answer, Err(Failure::Backtrack(_))));
     assert_eq!(rt; input, "x");
+    let none = number::<_, EmptyError, u8>(rt.alloc(), &mut input);
+    assert!(rt; matches!(none, Err(Failure::Backtrack(_))));
 }

@@ -1,4 +1,5 @@
--- Which errors the failures of text with escapes carry, and which fragments are the same.
+-- Which errors the failures of text with escapes and of numbers carry, and which fragments are the
+-- same.
 use Rattle.std.specs.Prelude.{Bool, List, [], ◌∷◌}
 use Rattle.std.proofs.Common.{◌≡◌, refl, ap, ◌∙◌, inl, inr}
 use Rattle.winnow_stream.specs.declared.needed.Needed.{Needed}
@@ -12,7 +13,8 @@ use Rattle.winnow_combinator.specs.Misuse.{GatheredErrors}
 use Rattle.winnow_ascii.specs.Escapes.{NextFragment, UpToEnd, EscapeErrors, FragmentErrors, UpToEndErrors, InTurnErrors, AreSameFragments}
 use Rattle.winnow_ascii.specs.declared.fragment.Fragment.{Fragment}
 use Rattle.winnow_ascii.specs.declared.fragment.Fragment.TheVariants.{Normal, Escaped}
-use Rattle.winnow_ascii_tests.specs.Failures.{IsOfPart}
+use Rattle.winnow_ascii.specs.Numbers.{DigitErrors, ReadErrors}
+use Rattle.winnow_ascii_tests.specs.Failures.{IsOfPart, IsOfNumber}
 
 -- a failure of text with escapes is one of its parts
 pub of-part : {O C P E S T : Type 0} (normal : Meaning O T) (control : Meaning C T)
@@ -33,6 +35,17 @@ of-part normal control escapable normal_errors control_errors errors partial a s
 of-part normal control escapable normal_errors control_errors errors partial a s (Cut e) (inr refused) = absurd refused
 of-part normal control escapable normal_errors control_errors errors partial a s (Incomplete n) h = tt
 of-part normal control escapable normal_errors control_errors errors partial a s (Refused r) h = tt
+
+-- a failure of a number is one of its digits, or of what they read as
+pub of-number : {G R E S T : Type 0} (reads : G → R → Type 0) (digits : Meaning G T)
+    (found asserted : S → E → Type 0) (joins : E → E → E → Type 0) (partial : Bool)
+    (a : Ahead T) (s : S) (f : Failure E Needed)
+    → ReadErrors reads found digits (DigitErrors found asserted joins) partial a s f
+    → IsOfNumber reads digits found asserted joins partial a s f
+of-number reads digits found asserted joins partial a s (Backtrack e) h = h
+of-number reads digits found asserted joins partial a s (Cut e) h = h
+of-number reads digits found asserted joins partial a s (Incomplete n) h = tt
+of-number reads digits found asserted joins partial a s (Refused r) h = tt
 
 module _ {O P : Type 0} where
   -- fragments that are the same, where only equal values are, are equal
