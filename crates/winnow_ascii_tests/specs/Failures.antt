@@ -37,7 +37,8 @@ IsJoined {E} {S} made joins s e =
 abbrev pub IsOfNumber : {G R E S T : Type 0} → (G → R → Type 0) → Meaning G T → (S → E → Type 0)
     → (S → E → Type 0) → (E → E → E → Type 0) → Bool → Ahead T → S → Failure E Needed → Type 0
 IsOfNumber {G = G} {T = T} reads digits found asserted joins partial a s (Backtrack e) =
-    ((slice : G) × ((b : Ahead T) × (digits partial a (Gives slice b) × IsSomeExactly (reads slice) None × found s e)))
+    ((slice : G) × ((b : Ahead T) × (digits partial a (Gives slice b)
+    × IsSomeExactly (reads slice) None × found s e)))
     ⊎ (IsAbsent digits partial a × IsJoined found joins s e)
 IsOfNumber reads digits found asserted joins partial a s (Cut e) = asserted s e
 IsOfNumber reads digits found asserted joins partial a s (Incomplete n) = ⊤
