@@ -1,4 +1,5 @@
-use Rattle.winnow_resp.specs.Writing.{written}
+use Rattle.std.proofs.Common.{sym, ◌∙◌, subst, true≢false}
+use Rattle.winnow_resp.specs.Writing.{written, TellsLineEnd}
 use Rattle.winnow_resp.proofs.lemmas.WritingLemmas.{spelled, once, writable}
 use Rattle.winnow_resp.proofs.laws.spelling_law.Goals as goal
 
@@ -10,6 +11,10 @@ returns-clause-once c = once
 
 pub returns-clause-writable : goal.returns-clause-writable
 returns-clause-writable c = writable
+
+pub returns-clause-never_refused : goal.returns-clause-never_refused
+returns-clause-never_refused c longest depth reply bytes result spells tells =
+    λ e. true≢false (sym (writable longest depth reply bytes spells) ∙ subst (TellsLineEnd reply) e tells)
 
 pub returns-clause-read_back : goal.returns-clause-read_back
 returns-clause-read_back c longest depth reply whole rest within ahead =
