@@ -27,8 +27,8 @@ IsOfPart normal normal_errors control control_errors errors partial s (Incomplet
 IsOfPart normal normal_errors control control_errors errors partial s (Refused r) = ⊤
 
 -- an error that joins two, each made of a stream, the second of the stream as it is left
-abbrev pub IsJoined : {E S : Type 0} → (S → E → Type 0) → (E → E → E → Type 0) → S → E → Type 0
-IsJoined {E} {S} made joins s e =
+abbrev pub JoinsTwo : {E S : Type 0} → (S → E → Type 0) → (E → E → E → Type 0) → S → E → Type 0
+JoinsTwo {E} {S} made joins s e =
     (one : E) × ((other : E) × ((r : S) × (made r one × made s other × joins one other e)))
 
 -- a backtrack of a number: its digits stand there, and read as none, and the error is made of the
@@ -39,7 +39,7 @@ abbrev pub IsOfNumber : {G R E S T : Type 0} → (G → R → Type 0) → Meanin
 IsOfNumber {G = G} {T = T} reads digits found asserted joins partial a s (Backtrack e) =
     ((slice : G) × ((b : Ahead T) × (digits partial a (Gives slice b)
     × IsSomeExactly (reads slice) None × found s e)))
-    ⊎ (IsAbsent digits partial a × IsJoined found joins s e)
+    ⊎ (IsAbsent digits partial a × JoinsTwo found joins s e)
 IsOfNumber reads digits found asserted joins partial a s (Cut e) = asserted s e
 IsOfNumber reads digits found asserted joins partial a s (Incomplete n) = ⊤
 IsOfNumber reads digits found asserted joins partial a s (Refused r) = ⊤

@@ -20,9 +20,8 @@ ghost use Rattle.winnow_reader.specs.declared.next.Next.TheVariants.{NeedsMore};
 /// Where the reader has not stopped and the text is whole, the input is not damaged: the reader is
 /// done with no text in which [`read_document`](crate::read_document) finds damage.
 ///
-/// Where the reader needs more, whatever the input is, the input has not ended and the reader has
-/// not stopped; and asked of some of the bytes ahead, [`JsonToken`](crate::JsonToken) needed more
-/// than came since.
+/// A reader that needs more has not stopped, and its input has not ended. Asked of some front of
+/// the bytes ahead, [`JsonToken`](crate::JsonToken) needs more bytes than follow that front.
 pub fn events_law()
     ensures begins { (r : EventState) (input : List ℕ) (events : List Event) (value : Value)
         → ReadsValue r input events value → AreFirstOf events value }

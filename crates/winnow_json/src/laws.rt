@@ -11,8 +11,8 @@ ghost use Rattle.winnow_json.specs.declared.writing.Unwritten.TheVariants.{NoNum
 
 /// The law of the round trip: what [`write_value`](crate::write_value) wrote for a value,
 /// [`read_document`](crate::read_document) reads as the same value, and it finds no damage there.
-/// And a value that some text is, `write_value` refuses within the same limit only where memory is
-/// refused. A law does nothing when called: its contract is the law.
+/// And `write_value` refuses the value of a text, within the limit under which the text is that
+/// value, only when memory is refused. A law does nothing when called: its contract is the law.
 pub fn round_trip_law()
     ensures same { (depth : ℕ) (value read : Value) → IsDocument depth (written value) value
         → IsOnlyDocument depth (written value) read → SameValue (suc depth) read value }

@@ -162,7 +162,8 @@ whole-unbroken r input events damage g going ((ended, none), end) (within, never
       end = end;
     })
 
--- a reader that needs more has not ended or stopped, and the record asked for more than came since
+-- a reader that needs more has not stopped, its input goes on, and the record of the next token
+-- asked for more than came since
 pub needs-waits : (r new : EventState) (input : List ℕ) (events : List Event)
     → HasGiven r input events → IsNext r (Ok NeedsMore) new
     → (new.tokens.ended ≡ false) × (new.stopped ≡ None) × Lacks (λ p. OneToken) new.tokens
