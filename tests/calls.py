@@ -1,9 +1,11 @@
 #!/usr/bin/env python3
 """Makes every public call of the library that may be refused memory where memory is there, and fails where one says that it was refused.
 
+    tests/calls.py WORKSPACE
+
 The calls are listed from the signatures in the sources of the crates that `winnow` stands on: all whose answer may hold an `AllocError`, but
-for those of private types, those whose contracts say that none comes, and parsers that are refused memory only where a part of theirs is. `winnow_refusal_calls` has a row for each, which is named as the call is, and makes it on no
-items, on a few and on thousands.
+for those of private types, those whose contracts say that none comes, and parsers that are refused memory only where a part of theirs is. `refusal_calls` of the
+workspace has a row for each, which is named as the call is, and makes it on no items, on a few and on thousands.
 """
 import os
 import re
@@ -112,19 +114,21 @@ def calls_of(crate):
                 yield f"{of}::{name}" if of else name
 
 
-def main():
+def main(workspace):
     listed = {call for crate in crates() for call in calls_of(crate)}
-    program = subprocess.run([f"{TOP}/refusals/built", "winnow_refusal_calls"], check=True, stdout=subprocess.PIPE, text=True).stdout.strip()
-    told = subprocess.run([program], check=True, stdout=subprocess.PIPE, text=True).stdout.splitlines()
-    rows = dict(line.rsplit(": ", 1) for line in told)
+    ran = subprocess.run(["rt", "try"], cwd=f"{workspace}/crates/refusal_calls", capture_output=True, text=True, check=False)
+    if "run=ended status=0" not in ran.stderr:
+        print(ran.stderr[-3000:])
+        print("0 passed, 1 failed")
+        return 1
+    rows = dict(line.rsplit(": ", 1) for line in ran.stdout.splitlines())
     faults = [f"{call} has no row" for call in sorted(listed - rows.keys())]
     faults += [f"{row} is no call" for row in rows if row not in listed and not row.startswith(FURTHER)]
     faults += [f"{row} was {outcome}" for row, outcome in rows.items() if outcome != "done"]
-    for fault in faults:
-        print(f"calls: {fault}")
-    print(f"calls: {len(rows)} calls were made and never refused, {len(faults)} faults")
+    print("\n".join(faults))
+    print(f"{len(rows) - len(faults)} passed, {len(faults)} failed")
     return 1 if faults or not listed else 0
 
 
 if __name__ == "__main__":
-    sys.exit(main())
+    sys.exit(main(*sys.argv[1:]))
