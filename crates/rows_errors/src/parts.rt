@@ -1,5 +1,5 @@
-//! The parts of an error that nested words write, read from the last word to the first: so the parts
-//! of a call are there when its name comes.
+//! The parts of an error that nested words write, read from the last word to the first: so the
+//! parts of a call are there when its name comes.
 use rows::Fault;
 use std::alloc::{AllocError, Global};
 use winnow_context::{StrContext, StrContextValue};

@@ -1,4 +1,4 @@
-//! What `BStr` and `Bytes` print under each format, and what sets of characters print.
+//! What `BStr` and `Bytes` print under each format.
 use crate::formats::shown;
 use rows::{Fault, Words};
 use std::alloc::Global;
