@@ -67,6 +67,37 @@ pub fn cut_and_back<E: ModalError>(e: E) -> E
     e.cut().cut().backtrack().backtrack()
 }
 
+/// Returns the error with a context where the input stands.
+pub fn in_context<I: Stream, C, E: AddContext<I, C>>(
+    alloc: Global,
+    e: E,
+    input: &I,
+    context: C,
+) -> Result<E, AllocError>
+where
+    requires { I.valid input.now }
+    ensures err { OnErr result E.add_context_refusable }
+{
+    let start = input.checkpoint();
+    e.add_context(alloc, input, &start, context)
+}
+
+/// Returns what is recorded of an error from which a parser recovers where it began.
+pub fn recover_at<I: Stream, E, R: FromRecoverableError<I, E>>(input: &I, e: E) -> R
+where
+    requires { I.valid input.now }
+{
+    let start = input.checkpoint();
+    R::from_recoverable_error(&start, &start, input, e)
+}
+
+/// Returns an error of another library.
+pub fn blame<I, X, E: FromExternalError<I, X>>(alloc: Global, input: &I, cause: X) -> E
+    ensures { E.from_external_gives input.now cause result }
+{
+    E::from_external_error(alloc, input, cause)
+}
+
 /// Returns the last of three alternatives: an error of another library, with a context elsewhere,
 /// from which a parser recovered.
 pub fn tell_last<I: Stream, E>(alloc: Global, input: &I, elsewhere: &I) -> Result<E, AllocError>

@@ -9,6 +9,7 @@ pub fn debugged<T: Debug>(alloc: Global, format: &str, value: &T) -> Result<Stri
         "" | "{:?}" => format!(in alloc; "{value:?}")?,
         "{:#?}" => format!(in alloc; "{value:#?}")?,
         "{:>4?}" => format!(in alloc; "{value:>4?}")?,
+        "{:>8?}" => format!(in alloc; "{value:>8?}")?,
         "{:>12?}" => format!(in alloc; "{value:>12?}")?,
         "{:.1?}" => format!(in alloc; "{value:.1?}")?,
         "{:5?}" => format!(in alloc; "{value:5?}")?,
@@ -32,9 +33,21 @@ fn on_one_line(alloc: Global, text: &str) -> Result<String, AllocError> {
     Ok(line)
 }
 
-/// Returns the printed text, in quotes.
+// Returns the printed text with its four options, if they are one text.
+fn printed_alike<T: Display>(alloc: Global, value: &T) -> Result<String, Fault> {
+    let text = format!(in alloc; "{value}")?;
+    let four = format!(in alloc; "{value}|{value:#}|{value:>60}|{value:.3}")?;
+    if four != format!(in alloc; "{text}|{text}|{text}|{text}")? {
+        return Err(Fault::NoSuchCall);
+    }
+    Ok(text)
+}
+
+/// Returns the printed text, in quotes. Under `{*}` it is that of four formats, which print the
+/// same.
 pub fn printed<T: Display>(alloc: Global, format: &str, value: &T) -> Result<String, Fault> {
     let text = match format {
+        "{*}" => printed_alike(alloc, value)?,
         "{}" => format!(in alloc; "{value}")?,
         "{:#}" => format!(in alloc; "{value:#}")?,
         "{:>60}" => format!(in alloc; "{value:>60}")?,
