@@ -1,7 +1,7 @@
 use Rattle.std.proofs.lemmas.Result.{IfErr-weaker}
 use Rattle.winnow_parser.specs.Answer.{ahead}
-use Rattle.winnow_parser_tests.proofs.lemmas.FailureLemmas.{joined}
-use Rattle.winnow_parser_tests.proofs.failures.token_tried_twice.Goals as goal
+use Rattle.law_parsers.proofs.lemmas.FailureLemmas.{joined}
+use Rattle.law_parsers.proofs.combined.token_tried_twice.Goals as goal
 
 pub returns : goal.returns
 returns g c =

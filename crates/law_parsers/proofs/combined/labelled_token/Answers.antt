@@ -2,9 +2,9 @@ use Rattle.std.specs.Prelude.{IfErr}
 use Rattle.std.proofs.Common.{subst}
 use Rattle.std.proofs.lemmas.Result.{IfErr-weaker}
 use Rattle.winnow_parser.specs.Answer.{ahead}
-use Rattle.winnow_parser_tests.specs.Failures.{IsMade, IsLabelled}
-use Rattle.winnow_parser_tests.proofs.lemmas.FailureLemmas.{labelled}
-use Rattle.winnow_parser_tests.proofs.failures.labelled_token.Goals as goal
+use Rattle.law_parsers.specs.Failures.{IsMade, IsLabelled}
+use Rattle.law_parsers.proofs.lemmas.FailureLemmas.{labelled}
+use Rattle.law_parsers.proofs.combined.labelled_token.Goals as goal
 
 pub returns : goal.returns
 returns g c =

@@ -1,8 +1,8 @@
 use Rattle.std.proofs.Common.{◌≡◌}
 use Rattle.winnow_combinator.specs.DeterminedLists.{AreSameEach}
 use Rattle.winnow_ascii.specs.Escapes.{Fragments, AreSameFragments}
-use Rattle.winnow_ascii_tests.proofs.lemmas.FailureLemmas.{same-fragments, one-value}
-use Rattle.winnow_ascii_tests.proofs.failures.one_list_of_fragments.Goals as goal
+use Rattle.law_parsers.proofs.lemmas.AsciiFailureLemmas.{same-fragments, one-value}
+use Rattle.law_parsers.proofs.ascii.one_list_of_fragments.Goals as goal
 
 pub returns : goal.returns
 returns g c = λ view p k q n d e.

@@ -2,8 +2,8 @@ use Rattle.std.proofs.lemmas.Result.{IfErr-weaker}
 use Rattle.winnow_parser.specs.Answer.{ahead}
 use Rattle.winnow_parser.specs.Taken.{Taken}
 use Rattle.winnow_ascii.specs.Numbers.{Unsigned}
-use Rattle.winnow_ascii_tests.proofs.lemmas.FailureLemmas.{of-number}
-use Rattle.winnow_ascii_tests.proofs.failures.number.Goals as goal
+use Rattle.law_parsers.proofs.lemmas.AsciiFailureLemmas.{of-number}
+use Rattle.law_parsers.proofs.ascii.number.Goals as goal
 
 pub returns : goal.returns
 returns g c =

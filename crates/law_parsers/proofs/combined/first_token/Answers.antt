@@ -1,7 +1,7 @@
 use Rattle.std.proofs.lemmas.Result.{IfErr-weaker}
 use Rattle.winnow_parser.specs.Answer.{ahead}
-use Rattle.winnow_parser_tests.proofs.lemmas.FailureLemmas.{at-end}
-use Rattle.winnow_parser_tests.proofs.failures.first_token.Goals as goal
+use Rattle.law_parsers.proofs.lemmas.FailureLemmas.{at-end}
+use Rattle.law_parsers.proofs.combined.first_token.Goals as goal
 
 pub returns : goal.returns
 returns g c =

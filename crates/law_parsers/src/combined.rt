@@ -2,8 +2,8 @@
 
 ghost use Rattle.std.specs.Prelude.{IfErr};
 ghost use Rattle.winnow_parser.specs.Answer.{ahead};
-ghost use Rattle.winnow_parser_tests.specs.Failures.{IsMade, IsNamed, IsLabelled, IsJoined, IsOwn};
-ghost use Rattle.winnow_parser_tests.specs.Failures.{IsAtEnd};
+ghost use Rattle.law_parsers.specs.Failures.{IsMade, IsNamed, IsLabelled, IsJoined, IsOwn};
+ghost use Rattle.law_parsers.specs.Failures.{IsAtEnd};
 
 use std::alloc::Global;
 use winnow_combinator::{alt, backtrack_err, cut_err};

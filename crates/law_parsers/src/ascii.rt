@@ -7,7 +7,7 @@ ghost use Rattle.winnow_parser.specs.Answer.{ahead};
 ghost use Rattle.winnow_parser.specs.Taken.{Taken};
 ghost use Rattle.winnow_ascii.specs.Escapes.{Fragments};
 ghost use Rattle.winnow_ascii.specs.Numbers.{Unsigned};
-ghost use Rattle.winnow_ascii_tests.specs.Failures.{IsOfPart, IsOfNumber};
+ghost use Rattle.law_parsers.specs.AsciiFailures.{IsOfPart, IsOfNumber};
 
 use std::alloc::Global;
 use winnow_ascii::{EscapedText, Fragment, alpha1, dec_uint, determined_escaped_law, escaped};

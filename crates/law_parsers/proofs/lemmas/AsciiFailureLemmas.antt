@@ -14,7 +14,7 @@ use Rattle.winnow_ascii.specs.Escapes.{NextFragment, UpToEnd, EscapeErrors, Frag
 use Rattle.winnow_ascii.specs.declared.fragment.Fragment.{Fragment}
 use Rattle.winnow_ascii.specs.declared.fragment.Fragment.TheVariants.{Normal, Escaped}
 use Rattle.winnow_ascii.specs.Numbers.{DigitErrors, ReadErrors}
-use Rattle.winnow_ascii_tests.specs.Failures.{IsOfPart, IsOfNumber}
+use Rattle.law_parsers.specs.AsciiFailures.{IsOfPart, IsOfNumber}
 
 -- a failure of text with escapes is one of its parts
 pub of-part : {O C P E S T : Type 0} (normal : Meaning O T) (control : Meaning C T)

@@ -2,8 +2,8 @@ use Rattle.std.proofs.lemmas.Result.{IfErr-weaker}
 use Rattle.std.specs.Prelude.{true}
 use Rattle.winnow_token.specs.OneOf.{OneOf}
 use Rattle.winnow_parser.specs.Answer.{ahead}
-use Rattle.winnow_parser_tests.proofs.lemmas.FailureLemmas.{own}
-use Rattle.winnow_parser_tests.proofs.failures.two_tokens.Goals as goal
+use Rattle.law_parsers.proofs.lemmas.FailureLemmas.{own}
+use Rattle.law_parsers.proofs.combined.two_tokens.Goals as goal
 
 pub returns : goal.returns
 returns g c =

@@ -8,7 +8,7 @@ use Rattle.winnow_parser.specs.declared.failure.Failure.TheVariants.{Incomplete,
 use Rattle.winnow_parser.specs.Outcome.{Ahead, Meaning}
 use Rattle.winnow_parser.specs.Errors.{OwnErrors, PairErrors, EitherErrors, CutErrors, SoftenedErrors, ContextErrors, FailsLeaving}
 use Rattle.winnow_token.specs.OneOf.{OneOf}
-use Rattle.winnow_parser_tests.specs.Failures.{IsMade, IsNamed, IsLabelled, IsJoined, IsOwn, IsAtEnd}
+use Rattle.law_parsers.specs.Failures.{IsMade, IsNamed, IsLabelled, IsJoined, IsOwn, IsAtEnd}
 
 module _ {E S T : Type 0} (found asserted : S → E → Type 0) where
   -- a parser with errors of its own, under a context

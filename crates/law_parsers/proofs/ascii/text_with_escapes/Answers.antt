@@ -1,7 +1,7 @@
 use Rattle.std.proofs.lemmas.Result.{IfErr-weaker}
 use Rattle.winnow_parser.specs.Answer.{ahead}
-use Rattle.winnow_ascii_tests.proofs.lemmas.FailureLemmas.{of-part}
-use Rattle.winnow_ascii_tests.proofs.failures.text_with_escapes.Goals as goal
+use Rattle.law_parsers.proofs.lemmas.AsciiFailureLemmas.{of-part}
+use Rattle.law_parsers.proofs.ascii.text_with_escapes.Goals as goal
 
 pub returns : goal.returns
 returns g c =
