@@ -6,6 +6,9 @@ use std::alloc::{AllocError, Global};
 use winnow::reader::Next;
 use winnow_json::{Event, EventError, EventReader, events_law};
 
+// The number of arrays and objects in which a value may stand.
+const DEPTH: usize = 4;
+
 // How the reader stopped at the end of the input.
 #[derive(Clone, Copy, Debug, PartialEq, Eq)]
 enum Stop {
@@ -70,14 +73,8 @@ fn push(reader: &mut EventReader, piece: &[u8]) -> Result<(), AllocError> {
 
 // Returns the events and how the reader stopped, where the text comes in two pieces, of which the
 // first has this length, and the second one byte at a time if `slow` says so.
-fn told(
-    alloc: Global,
-    depth: usize,
-    text: &[u8],
-    cut: usize,
-    slow: bool,
-) -> Result<String, AllocError> {
-    let mut reader = EventReader::new(alloc, depth);
+fn told(alloc: Global, text: &[u8], cut: usize, slow: bool) -> Result<String, AllocError> {
+    let mut reader = EventReader::new(alloc, DEPTH);
     let mut shown = String::new(alloc);
     let cut = cut.min(text.len());
     push(&mut reader, &text[..cut])?;
@@ -105,13 +102,13 @@ fn told(
     }
 }
 
-/// Returns the events of a text and how the reader stopped, where each cut of it has the same; or
-/// else the first cut that has others.
-pub fn events(alloc: Global, depth: usize, text: &[u8]) -> Result<String, Fault> {
+/// Returns the events of a text, to a depth of 4, and how the reader stopped, where each cut of it
+/// has the same; or else the first cut that has others.
+pub fn events(alloc: Global, text: &[u8]) -> Result<String, Fault> {
     events_law();
-    let slow = told(alloc, depth, text, 0, true)?;
+    let slow = told(alloc, text, 0, true)?;
     for cut in 0..=text.len() {
-        let other = told(alloc, depth, text, cut, false)?;
+        let other = told(alloc, text, cut, false)?;
         if other.as_str() != slow.as_str() {
             let other = other.as_str();
             return Ok(format!(in alloc; "{other} cut at {cut}")?);

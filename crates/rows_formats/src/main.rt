@@ -57,7 +57,7 @@ impl Answers for Calls {
             "write_value" => json::rewritten(alloc, call.number(1)?, input.bytes(0)?),
             "write_number" => json::number(alloc, call.number(1)?, input),
             "write_string" => json::string(alloc, input.text(0)?),
-            "EventReader::new" => events::events(alloc, call.number(1)?, input.bytes(0)?),
+            "EventReader::new" => events::events(alloc, input.bytes(0)?),
             _ => read(alloc, &call, input),
         }
     }

@@ -5,12 +5,14 @@ use rows::{Fault, Words};
 use std::alloc::Global;
 use std::fmt::Debug;
 use winnow_ascii::{
-    HexUint, alpha0, alpha1, alphanumeric0, alphanumeric1, crlf, dec_int, dec_uint, digit0, digit1,
-    escaped, hex_digit0, hex_digit1, hex_uint, line_ending, multispace0, multispace1, newline,
-    oct_digit0, oct_digit1, space0, space1, tab, take_escaped, till_line_ending,
+    Fragment, HexUint, alpha0, alpha1, alphanumeric0, alphanumeric1, crlf, dec_int, dec_uint,
+    digit0, digit1, escaped, hex_digit0, hex_digit1, hex_uint, line_ending, multispace0,
+    multispace1, newline, oct_digit0, oct_digit1, space0, space1, tab, take_escaped,
+    till_line_ending,
 };
 use winnow_combinator::alt;
-use winnow_count::Readable;
+use winnow_count::{Accumulate, Readable};
+use winnow_error::EmptyError;
 use winnow_match::Compare;
 use winnow_parser::Parser;
 use winnow_sets::AsChar;
@@ -105,22 +107,27 @@ pub fn numbers<'w, I: Fronts + Stream<Token = char, Slice = &'w str>>(
     }
 }
 
+// Answers a parser of a text.
+fn ask_text<I: Fronts, P: Parser<I, EmptyError, Output = String>>(
+    alloc: Global,
+    parser: &P,
+    row: &Row<I::Whole>,
+) -> Result<String, Fault>
+    requires { P.ready parser.now }
+{
+    ask::<I, P>(alloc, parser, row)
+}
+
 /// Answers `escaped(alpha1(), '\\', escapes)`, whose escapes are those of a newline, a quote and a
 /// backslash, and `take_escaped`, whose escapes are a quote and `n`.
 pub fn escapes<'w, I>(alloc: Global, call: &Words, row: &Row<I::Whole>) -> Result<String, Fault>
 where
     I: Fronts + Stream<Token = char, Slice = &'w str> + Compare<char> + Compare<&'static str>,
 {
-    let replaced = alt((literal("n").value('\n'), one_of(('"', '\\'))));
+    let escapable = alt((literal("n").value('\n'), one_of(('"', '\\'))));
     let kept = one_of(('"', 'n'));
     match (call.plain(0)?, call.plain(1)?) {
-        ("escaped", _) => {
-            ask::<I, _>(
-                alloc,
-                &escaped::<_, _, String>(alpha1(), '\\', replaced),
-                row,
-            )
-        }
+        ("escaped", _) => { ask_text::<I, _>(alloc, &escaped(alpha1(), '\\', escapable), row) }
         ("take_escaped", "alpha0") => {
             ask::<I, _>(alloc, &take_escaped(alpha0(), '\\', kept), row)
         }
@@ -133,7 +140,7 @@ where
 pub fn escaped_bytes<I>(alloc: Global, row: &Row<I::Whole>) -> Result<String, Fault>
 where
     I: Fronts + Stream<Token = u8> + Compare<char>,
-    Vec<u8>: winnow_count::Accumulate<winnow_ascii::Fragment<I::Slice, u8>>,
+    Vec<u8>: Accumulate<Fragment<I::Slice, u8>>,
     I::Slice: Drop,
 {
     let parser = escaped::<_, _, Vec<u8>>(alpha1(), '%', one_of((b'%', b'&')));
