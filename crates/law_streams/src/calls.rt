@@ -3,7 +3,7 @@ ghost use Rattle.std.specs.Prelude.{◌≡◌, ◌-◌, ◌≤◌};
 
 use std::alloc::{AllocError, Global};
 use winnow_run::{Step, run};
-use winnow_stream::{NoSet, Offset, Rest, Stream, StreamIsPartial};
+use winnow_stream::{NoSet, Offset, Rest, Stream};
 
 /// Returns the answers of a script, as their debug text.
 pub fn tell<S: Stream>(
@@ -22,20 +22,6 @@ where
     format!(in alloc; "{answers:?}")
 }
 
-/// Returns the same for a stream that is not needed any more.
-pub fn told<S: Stream + Drop>(
-    alloc: Global,
-    mut s: S,
-    script: &[Step<NoSet>],
-) -> Result<String, AllocError>
-where
-    S::Token: Drop,
-    S::Slice: Drop,
-    requires { S.valid s }
-{
-    tell(alloc, &mut s, script)
-}
-
 /// Returns the width from a start.
 pub fn width_from<T: Rest, S: Offset<T>>(s: &S, start: &T) -> usize
     requires measured { S.can_measure s.now start.now }
@@ -43,14 +29,4 @@ pub fn width_from<T: Rest, S: Offset<T>>(s: &S, start: &T) -> usize
     ensures { result ≡ T.rest_width start.now - S.rest_width s.now }
 {
     s.offset_from(start)
-}
-
-/// Returns whether the type has a flag, what it says, and what it says after it is cleared and
-/// after it is set again.
-pub fn flags<S: StreamIsPartial>(s: &mut S) -> [bool; 4] {
-    let before = s.is_partial();
-    let state = s.complete();
-    let cleared = s.is_partial();
-    s.restore_partial(state);
-    [S::is_partial_supported(), before, cleared, s.is_partial()]
 }

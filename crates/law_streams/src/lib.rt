@@ -31,7 +31,7 @@ pub use bit_streams::{
     bits_at, bits_keep, place_of, slices_have_widths, take, told_bits, widths_of_one,
 };
 pub use byte_reader::ByteReader;
-pub use calls::{flags, tell, told, width_from};
+pub use calls::{tell, width_from};
 pub use fields::field;
 pub use held::take_while;
 pub use kinds::kinds_keep;

@@ -60,6 +60,12 @@ fn debug_forms<T: Debug>(alloc: Global, value: &T) -> Result<String, Fault> {
     Ok(format!(in alloc; "{forms:?}")?)
 }
 
+// Returns the trace, as a text, since it may have lines.
+fn trace<S: Stream + Drop>(alloc: Global, s: S) -> Result<String, Fault> {
+    let trace = format!(in alloc; "{}", Traced(s))?;
+    Ok(format!(in alloc; "{trace:?}")?)
+}
+
 // Returns the debug text of a checkpoint.
 fn checkpoint_text<S: Stream>(alloc: Global, s: &S) -> Result<String, Fault>
     requires { S.valid s.now }
@@ -89,7 +95,7 @@ where
         }
         "debug" => debug_forms(alloc, &s),
         "checkpoint" => checkpoint_text(alloc, &s),
-        _ => Ok(format!(in alloc; "{}", Traced(s))?),
+        _ => trace(alloc, s),
     }
 }
 

@@ -1,6 +1,9 @@
 //! The streams that rows name, by what they hold.
+ghost use Rattle.std.specs.Prelude.{◌≤◌, length, IfOk};
+
 use crate::answers::{answer as plain_answer, located_answer, script};
 use crate::nests::wrapped;
+use crate::recording::recording;
 use crate::script::add;
 use crate::tokens::lexed_tokens;
 use law_streams::{ByteReader, PairReader, bits_at};
@@ -43,15 +46,23 @@ fn on_units(alloc: Global, verb: &str, input: &Words) -> Result<String, Fault> {
     }
 }
 
-// Returns the answers of a script on pairs, each of which has the number of a byte.
-fn on_pairs(alloc: Global, input: &Words) -> Result<String, Fault> {
+/// Returns code units with the numbers of bytes, of which there are not many.
+pub fn pairs(alloc: Global, bytes: &[u8]) -> Result<Vec<u16>, Fault>
+    ensures { IfOk result (λ pairs. length pairs.items ≤ 100) }
+{
     let mut pairs: Vec<u16> = Vec::new(alloc);
-    for byte in input.bytes(0)? {
+    for byte in bytes {
         add(&mut pairs, u16::from(*byte))?;
     }
     if pairs.len() > 100 {
         return Err(Fault::NoSuchCall);
     }
+    Ok(pairs)
+}
+
+// Returns the answers of a script on code units that are two wide.
+fn on_pairs(alloc: Global, input: &Words) -> Result<String, Fault> {
+    let pairs = pairs(alloc, input.bytes(0)?)?;
     script(alloc, &mut PairReader::new(pairs.as_slice()), input)
 }
 
@@ -88,6 +99,9 @@ fn on_bits_of(alloc: Global, verb: &str, name: &str, input: &Words) -> Result<St
         "Bits<Bytes>" => plain_answer(alloc, verb, Bits::new(Bytes::new(bytes)), input),
         "Bits<LocatingSlice<bstr>>" => {
             plain_answer(alloc, verb, Bits::new(LocatingSlice::new(text)), input)
+        }
+        "Bits<Recoverable<bytes>>" => {
+            plain_answer(alloc, verb, Bits::new(recording(alloc, bytes)?), input)
         }
         "Bits<Partial<bstr>>" => plain_answer(alloc, verb, Bits::new(Partial::new(text)), input),
         _ => Err(Fault::NoSuchCall),

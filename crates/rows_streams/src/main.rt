@@ -7,6 +7,7 @@
 
 mod answers;
 mod bases;
+mod bits;
 mod contents;
 mod five_states;
 mod literals;
@@ -35,7 +36,7 @@ impl Answers for Calls {
             "run" | "flags" | "trace" | "record" | "debug" | "checkpoint" => {
                 bases::answer(alloc, verb, name, input)
             }
-            "window" | "look" | "print" | "search" | "digits" => {
+            "window" | "look" | "print" | "search" | "digits" | "complete" => {
                 searching::answer(alloc, verb, name, input)
             }
             "start" | "previous" | "take-over" => tokens::answer(alloc, verb, name, input),
@@ -45,6 +46,7 @@ impl Answers for Calls {
             "contents" => contents::answer(alloc, name, input),
             "parser" => parsers::answer(alloc, name, input),
             "needed" => sizes::needed(alloc, input),
+            "taken" => bits::answer(alloc, name, input),
             _ => Err(Fault::NoSuchCall),
         }
     }

@@ -100,6 +100,13 @@ where
         }
         "Recoverable" => answer(alloc, verb, recording(alloc, inner)?, input),
         "Stateful<Stateful<Stateful<Stateful<Stateful" => five_states(alloc, verb, inner, input),
+        "Stateful<Recoverable" => {
+            let s = Stateful {
+                input: recording(alloc, inner)?,
+                state: 7u32,
+            };
+            answer(alloc, verb, s, input)
+        }
         "unrecoverable" => {
             let s: Recoverable<I, Mode> = Recoverable::unrecoverable(alloc, inner);
             answer(alloc, verb, s, input)

@@ -1,10 +1,15 @@
 //! Parsers over any stream, as a user would write them.
+use crate::bases::pairs;
 use law_streams::{
-    ByteReader, PairReader, field, literal, literal_or_lack, located_number, look_back, spanned,
-    take_back, take_through, take_until, take_while,
+    ByteReader, Mode, PairReader, field, literal, literal_or_lack, located_number, look_back,
+    recorded, refuses, spanned, take_back, take_through, take_until, take_while,
 };
 use rows::{Fault, Words};
 use std::alloc::Global;
+use winnow_error::EmptyError;
+use winnow_error::ErrMode::{Backtrack, Incomplete};
+use winnow_recover::{RecordError, Recoverable};
+use winnow_stream::{Needed, Stream};
 use winnow_wrap::{LocatingSlice, Stateful};
 
 // Returns the fields at the front of bytes, one after the other, and what is left.
@@ -90,9 +95,25 @@ fn walks(alloc: Global, input: &Words) -> Result<String, Fault> {
 }
 
 // Returns the width of two tokens that are two wide.
-fn pair_walk(alloc: Global) -> Result<String, Fault> {
-    let width = look_back(&mut PairReader::new(&[10, 20, 30]));
+fn pair_walk(alloc: Global, input: &Words) -> Result<String, Fault> {
+    let pairs = pairs(alloc, input.bytes(0)?)?;
+    let width = look_back(&mut PairReader::new(pairs.as_slice()));
     Ok(format!(in alloc; "{width}")?)
+}
+
+// Returns the answers of a stream that records an error, and then not another that is incomplete;
+// what it recorded; and the answer of a stream that records none.
+fn told_of_errors<I: Stream + Copy>(alloc: Global, input: I) -> Result<String, Fault>
+where
+    requires { I.valid input }
+{
+    let mut s: Recoverable<I, Mode> = Recoverable::new(alloc, input);
+    let first: Result<(), RecordError<Mode>> = recorded(&mut s, Backtrack(EmptyError));
+    let second: Result<(), RecordError<Mode>> = recorded(&mut s, Incomplete(Needed::Unknown));
+    let (input, errors) = s.into_parts();
+    let mut refusing: Recoverable<I, Mode> = Recoverable::unrecoverable(alloc, input);
+    let third: Result<(), RecordError<Mode>> = recorded(&mut refusing, Backtrack(EmptyError));
+    Ok(format!(in alloc; "{first:?}; {second:?}; {errors:?}; {third:?}")?)
 }
 
 /// Returns what a parser takes, and what is left.
@@ -104,7 +125,9 @@ pub fn answer(alloc: Global, name: &str, input: &Words) -> Result<String, Fault>
         "number" => Ok(format!(in alloc; "{:?}", located_number(input.bytes(0)?))?),
         "take_while" => held(alloc, input),
         "walks" => walks(alloc, input),
-        "pair walk" => pair_walk(alloc),
+        "recorded" => told_of_errors(alloc, input.text(0)?),
+        "refuses" => Ok(format!(in alloc; "{}", refuses(&mut input.text(0)?, EmptyError))?),
+        "pair walk" => pair_walk(alloc, input),
         "literal" | "literal_or_lack" | "take_until" | "take_through" => {
             taken(alloc, name, input)
         }

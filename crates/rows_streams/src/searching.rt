@@ -5,7 +5,7 @@ use crate::bases::parts;
 use crate::script::{Literal, search_steps};
 use crate::texts::{byte_forms, digits, forms};
 use crate::windows::{window, window_place};
-use law_streams::Mode;
+use law_streams::{Mode, peek_complete};
 use rows::{Fault, Words};
 use std::alloc::Global;
 use std::fmt::Display;
@@ -40,6 +40,18 @@ fn look<S: SliceLen + AsBStr + Display>(alloc: Global, s: &S) -> Result<String, 
     Ok(format!(in alloc; "{s} {width} {bytes:?}")?)
 }
 
+// Returns the first token with the flag cleared, and whether more may follow after the flag is set
+// again.
+fn complete<S: StreamIsPartial + Drop>(alloc: Global, mut s: S) -> Result<String, Fault>
+where
+    S::Token: Drop,
+    requires { S.valid s }
+{
+    let peeked = peek_complete(&mut s);
+    let is_partial = s.is_partial();
+    Ok(format!(in alloc; "{peeked:?}; {is_partial}")?)
+}
+
 // Returns what a verb answers on a stream. It makes all calls, so that a type is found to be a
 // stream once.
 fn whole<'w, S, L: Literal<'w>>(
@@ -60,6 +72,7 @@ where
         "window" => window_place(alloc, s, input),
         "search" => search::<S, L>(alloc, s, input),
         "look" => look(alloc, &s),
+        "complete" => complete(alloc, s),
         _ => forms(alloc, &s),
     }
 }

@@ -1,13 +1,13 @@
 //! Widths of values, between places, and of what is missing.
 use crate::script::all_steps;
-use law_streams::{Mode, tell, widths_from};
+use law_streams::{Mode, bits_at, tell, width_from, widths_from};
 use rows::{Fault, Word, Words};
 use std::alloc::Global;
 use winnow_bytes::Bytes;
 use winnow_kinds::BStr;
 use winnow_recover::Recoverable;
 use winnow_stream::{Needed, NoSet, Offset, SliceLen, Stream};
-use winnow_views::TokenSlice;
+use winnow_views::{TokenSlice, bit_checkpoint_law};
 use winnow_wrap::{LocatingSlice, Partial, Stateful};
 
 // Returns the width that a script moves on: from the stream at its start, from the checkpoint
@@ -30,6 +30,27 @@ where
         return Err(Fault::NoSuchCall);
     }
     let widths = widths_from(&rest, &start);
+    Ok(format!(in alloc; "{widths:?}")?)
+}
+
+// Returns the same of bits.
+fn bits_moved(alloc: Global, input: &Words) -> Result<String, Fault> {
+    let steps = all_steps(alloc, input, 1, NoSet)?;
+    let Some(start) = bits_at(input.bytes(0)?, 0) else {
+        return Err(Fault::NoSuchCall);
+    };
+    let mut end = start;
+    let _ = tell(alloc, &mut end, steps.as_slice())?;
+    if end.eof_offset() > start.eof_offset() {
+        return Err(Fault::NoSuchCall);
+    }
+    bit_checkpoint_law::<&[u8]>();
+    let (from, to) = (start.checkpoint(), end.checkpoint());
+    let widths = [
+        width_from(&end, &start),
+        width_from(&end, &from),
+        width_from(&to, &from),
+    ];
     Ok(format!(in alloc; "{widths:?}")?)
 }
 
@@ -68,6 +89,7 @@ fn offset_from(alloc: Global, name: &str, input: &Words) -> Result<String, Fault
         "bytes" => moved(alloc, bytes, bytes, input),
         "bstr" => moved(alloc, BStr::new(bytes), BStr::new(bytes), input),
         "Bytes" => moved(alloc, Bytes::new(bytes), Bytes::new(bytes), input),
+        "bits" => bits_moved(alloc, input),
         "tokens" => moved(alloc, TokenSlice::new(bytes), TokenSlice::new(bytes), input),
         _ => moved_inside(alloc, name, input),
     }
@@ -93,13 +115,33 @@ fn bit_width(input: &Words) -> Result<usize, Fault> {
     Ok((bytes, start, more).slice_len())
 }
 
+// Returns the width of a number that is a byte.
+fn byte_width(input: &Words) -> Result<usize, Fault> {
+    match u8::try_from(input.number(0)?) {
+        Ok(byte) => Ok(byte.slice_len()),
+        Err(_) => Err(Fault::NoSuchCall),
+    }
+}
+
+// Returns the width of an array of three numbers.
+fn array_width(input: &Words) -> Result<usize, Fault> {
+    let numbers = [input.number(0)?, input.number(1)?, input.number(2)?];
+    Ok(numbers.slice_len())
+}
+
+// Returns the width of a reference to an array of two numbers.
+fn reference_width(input: &Words) -> Result<usize, Fault> {
+    let numbers = [input.number(0)?, input.number(1)?];
+    Ok((&numbers).slice_len())
+}
+
 // Returns the width of a value.
 fn slice_len(name: &str, input: &Words) -> Result<usize, Fault> {
     match name {
         "value" => width_of(input.word(0)?),
-        "byte" => Ok(7u8.slice_len()),
-        "array" => Ok([1u32, 2, 3].slice_len()),
-        "reference" => Ok((&[1u32, 2]).slice_len()),
+        "byte" => byte_width(input),
+        "array" => array_width(input),
+        "reference" => reference_width(input),
         "bits" => bit_width(input),
         "bstr" => Ok(BStr::new(input.bytes(0)?).slice_len()),
         "Bytes" => Ok(Bytes::new(input.bytes(0)?).slice_len()),
