@@ -5,6 +5,7 @@ use crate::answers::{answer as plain_answer, located_answer, script};
 use crate::nests::wrapped;
 use crate::recording::recording;
 use crate::script::add;
+use crate::searching;
 use crate::tokens::lexed_tokens;
 use law_streams::{ByteReader, PairReader, bits_at};
 use rows::{Fault, Words};
@@ -69,6 +70,8 @@ fn on_pairs(alloc: Global, input: &Words) -> Result<String, Fault> {
 // Returns what a verb answers on the streams that stand in no wrapper.
 fn on_others(alloc: Global, verb: &str, base: &str, input: &Words) -> Result<String, Fault> {
     match base {
+        "bstr" => plain_answer(alloc, verb, BStr::new(input.bytes(0)?), input),
+        "Bytes" => plain_answer(alloc, verb, Bytes::new(input.bytes(0)?), input),
         "units" => on_units(alloc, verb, input),
         "ByteReader" => script(alloc, &mut ByteReader::new(input.bytes(0)?), input),
         "PairReader" => on_pairs(alloc, input),
@@ -114,11 +117,12 @@ pub fn answer(alloc: Global, verb: &str, name: &str, input: &Words) -> Result<St
         return on_bits_of(alloc, verb, name, input);
     }
     let (wrappers, base) = parts(name);
+    if wrappers.starts_with("Recoverable<") || wrappers.ends_with("<Partial") {
+        return searching::answer(alloc, verb, name, input);
+    }
     match base {
         "text" => wrapped(alloc, verb, wrappers, input.text(0)?, input),
         "bytes" => wrapped(alloc, verb, wrappers, input.bytes(0)?, input),
-        "bstr" => wrapped(alloc, verb, wrappers, BStr::new(input.bytes(0)?), input),
-        "Bytes" => wrapped(alloc, verb, wrappers, Bytes::new(input.bytes(0)?), input),
         "tokens" => wrapped(
             alloc,
             verb,
@@ -127,6 +131,7 @@ pub fn answer(alloc: Global, verb: &str, name: &str, input: &Words) -> Result<St
             input,
         ),
         "bits" => on_bits(alloc, verb, wrappers, 0, input),
-        _ => on_others(alloc, verb, base, input),
+        _ if wrappers.is_empty() => on_others(alloc, verb, base, input),
+        _ => Err(Fault::NoSuchCall),
     }
 }

@@ -69,7 +69,7 @@ where
     requires width { S.has_width s }
 {
     match verb {
-        "window" => window_place(alloc, s, input),
+        "run" | "window" => window_place(alloc, s, input),
         "search" => search::<S, L>(alloc, s, input),
         "look" => look(alloc, &s),
         "complete" => complete(alloc, s),
