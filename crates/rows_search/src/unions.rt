@@ -38,6 +38,15 @@ fn in_closure_or_letter(low: usize, token: u8) -> bool {
     (small, b'a').contains_token(token)
 }
 
+// A range keeps its bounds though it was iterated over to its end.
+fn in_iterated(token: &Word) -> Result<bool, Fault> {
+    let mut range = b'a'..=b'b';
+    match [range.next(), range.next(), range.next()] {
+        [Some(b'a'), Some(b'b'), None] => holds(&range, token),
+        _ => Err(Fault::NoSuchCall),
+    }
+}
+
 /// Returns whether a union holds the token that is the last word.
 pub fn contains_token(alloc: Global, words: &Words) -> Result<String, Fault> {
     let last = words.len().saturating_sub(1);
@@ -45,6 +54,7 @@ pub fn contains_token(alloc: Global, words: &Words) -> Result<String, Fault> {
     let held = match words.plain(0)? {
         "none" => holds(&(), token)?,
         "several" => in_several(token)?,
+        "iterated" => in_iterated(token)?,
         "hexadecimal" => holds(&('a'..='f', 'A'..='F', '0'..='9'), token)?,
         "Where-or-a" => match token {
             Word::Bytes(bytes) => match bytes.as_slice() {
