@@ -1,154 +1,151 @@
+use crate::needles;
 use crate::sameness::same;
 use rows::{Fault, Word, Words};
 use std::alloc::{AllocError, Global};
+use std::ops::Range;
 use winnow_bytes::Bytes;
 use winnow_kinds::BStr;
 use winnow_match::{FindSlice, Needles};
 
+// A range, if there is one, in each way to make the call; or none if the ways differ.
+type Hit = Option<Option<Range<usize>>>;
+
 // Returns the answer of a search, called through its bound.
-fn hit<T, S: FindSlice<T> + Drop>(
-    alloc: Global,
-    stream: S,
-    needles: T,
-) -> Result<String, AllocError>
+fn hit<T, S: FindSlice<T> + Drop>(stream: S, needles: T) -> Option<Range<usize>>
     requires { S.valid stream }
 {
-    let answer = stream.find_slice(needles);
-    format!(in alloc; "{answer:?}")
+    stream.find_slice(needles)
 }
 
 // Searches for one to three needles as a tuple; one needle is also searched for alone.
-fn in_order<N, S>(alloc: Global, stream: S, needles: &[N]) -> Result<String, Fault>
+fn in_order<N, S>(stream: S, needles: &[N]) -> Hit
 where
     N: Copy,
     S: FindSlice<N> + FindSlice<(N,)> + FindSlice<(N, N)> + FindSlice<(N, N, N)> + Copy,
     requires { S.valid stream }
 {
     match needles {
-        [a] => {
-            let (alone, tuple) = (hit(alloc, stream, *a)?, hit(alloc, stream, (*a,))?);
-            Ok(same(alloc, alone, tuple)?)
-        }
-        [a, b] => Ok(hit(alloc, stream, (*a, *b))?),
-        [a, b, c] => Ok(hit(alloc, stream, (*a, *b, *c))?),
-        _ => Err(Fault::NoSuchCall),
+        [a] => same(hit(stream, *a), hit(stream, (*a,))),
+        [a, b] => Some(hit(stream, (*a, *b))),
+        [a, b, c] => Some(hit(stream, (*a, *b, *c))),
+        _ => None,
     }
 }
 
 // Returns the needles as data.
-fn as_data<N: Copy>(needles: &[N]) -> Result<Needles<N>, Fault> {
+fn as_data<N: Copy>(needles: &[N]) -> Option<Needles<N>> {
     match needles {
-        [a] => Ok(Needles::One(*a)),
-        [a, b] => Ok(Needles::Two(*a, *b)),
-        [a, b, c] => Ok(Needles::Three(*a, *b, *c)),
-        _ => Err(Fault::NoSuchCall),
+        [a] => Some(Needles::One(*a)),
+        [a, b] => Some(Needles::Two(*a, *b)),
+        [a, b, c] => Some(Needles::Three(*a, *b, *c)),
+        _ => None,
     }
 }
 
 // Searches for needles as data and in order.
-fn both_ways<N, S>(alloc: Global, stream: S, needles: &[N]) -> Result<String, Fault>
+fn both_ways<N, S>(stream: S, needles: &[N]) -> Hit
 where
     N: Copy,
     S: FindSlice<Needles<N>> + FindSlice<N> + FindSlice<(N,)> + FindSlice<(N, N)>,
     S: FindSlice<(N, N, N)> + Copy,
     requires { S.valid stream }
 {
-    let data = hit(alloc, stream, as_data(needles)?)?;
-    let tuple = in_order(alloc, stream, needles)?;
-    Ok(same(alloc, data, tuple)?)
+    let data = hit(stream, as_data(needles)?);
+    same(data, in_order(stream, needles)?)
 }
 
 // Searches each stream of these bytes for needles that are bytes.
-fn slices_in_bytes(alloc: Global, bytes: &[u8], needles: &[&[u8]]) -> Result<String, Fault> {
-    let slice = both_ways(alloc, bytes, needles)?;
-    let text = both_ways(alloc, BStr::new(bytes), needles)?;
-    let bytes = both_ways(alloc, Bytes::new(bytes), needles)?;
-    let others = same(alloc, text, bytes)?;
-    Ok(same(alloc, slice, others)?)
-}
-
-// Searches for needles of one byte each.
-fn bytes_in_bytes(alloc: Global, bytes: &[u8], needles: &[&[u8]]) -> Result<String, Fault> {
-    let mut single = Vec::new(alloc);
-    for needle in needles {
-        match needle {
-            [byte] => single.push(*byte).map_err(AllocError::from)?,
-            _ => return slices_in_bytes(alloc, bytes, needles),
-        }
-    }
-    let (slices, singles) = (
-        slices_in_bytes(alloc, bytes, needles)?,
-        in_order(alloc, bytes, single.as_slice())?,
-    );
-    Ok(same(alloc, slices, singles)?)
+fn slices_in_bytes(bytes: &[u8], needles: &[&[u8]]) -> Hit {
+    let slice = both_ways(bytes, needles)?;
+    let text = both_ways(BStr::new(bytes), needles)?;
+    let hex = both_ways(Bytes::new(bytes), needles)?;
+    same(same(slice, text)?, hex)
 }
 
 // Searches a text and its bytes for texts.
-fn texts_in_text(alloc: Global, text: &str, needles: &[&str]) -> Result<String, Fault> {
-    let in_text = both_ways(alloc, text, needles)?;
-    let in_bytes = in_order(alloc, text.as_bytes(), needles)?;
-    Ok(same(alloc, in_text, in_bytes)?)
+fn texts_in_text(text: &str, needles: &[&str]) -> Hit {
+    same(
+        both_ways(text, needles)?,
+        in_order(text.as_bytes(), needles)?,
+    )
 }
 
 // Searches a text and its bytes for characters.
-fn signs_in_text(alloc: Global, text: &str, needles: &[char]) -> Result<String, Fault> {
-    let in_text = in_order(alloc, text, needles)?;
-    let in_bytes = in_order(alloc, text.as_bytes(), needles)?;
-    Ok(same(alloc, in_text, in_bytes)?)
+fn signs_in_text(text: &str, needles: &[char]) -> Hit {
+    same(
+        in_order(text, needles)?,
+        in_order(text.as_bytes(), needles)?,
+    )
 }
 
-// Searches for the needles that the words from `start` on write: texts or bytes as bytes.
-fn find_bytes(alloc: Global, bytes: &[u8], words: &Words, start: usize) -> Result<String, Fault> {
-    let mut needles = Vec::new(alloc);
-    for at in start..words.len() {
-        needles.push(words.bytes(at)?).map_err(AllocError::from)?;
+// Searches for the bytes that the words after the first write: as slices, and as bytes if each is
+// one byte.
+fn find_bytes(alloc: Global, bytes: &[u8], words: &Words, start: usize) -> Result<Hit, Fault> {
+    let slices = needles::slices(alloc, words, start)?;
+    let found = slices_in_bytes(bytes, slices.as_slice());
+    let single = needles::single_bytes(alloc, words, start)?;
+    if single.len() < slices.len() {
+        return Ok(found);
     }
-    bytes_in_bytes(alloc, bytes, needles.as_slice())
+    match (found, in_order(bytes, single.as_slice())) {
+        (Some(found), Some(other)) => Ok(same(found, other)),
+        _ => Ok(None),
+    }
 }
 
 // Searches a text for the texts that the words after the first write.
-fn find_texts(alloc: Global, text: &str, words: &Words) -> Result<String, Fault> {
-    let mut needles = Vec::new(alloc);
-    for at in 1..words.len() {
-        needles.push(words.text(at)?).map_err(AllocError::from)?;
-    }
-    let in_text = texts_in_text(alloc, text, needles.as_slice())?;
-    let in_bytes = find_bytes(alloc, text.as_bytes(), words, 1)?;
-    Ok(same(alloc, in_text, in_bytes)?)
+fn find_texts(alloc: Global, text: &str, words: &Words) -> Result<Hit, Fault> {
+    let texts = needles::texts(alloc, words)?;
+    Ok(texts_in_text(text, texts.as_slice()))
 }
 
-// Returns the characters that the words after the first write.
-fn signs(alloc: Global, words: &Words) -> Result<Vec<char>, Fault> {
-    let mut signs = Vec::new(alloc);
-    for at in 1..words.len() {
-        signs.push(words.sign(at)?).map_err(AllocError::from)?;
+// Searches a text or bytes for the characters that the words after the first write.
+fn find_signs(alloc: Global, input: &Word, words: &Words) -> Result<Hit, Fault> {
+    let signs = needles::signs(alloc, words)?;
+    match input {
+        Word::Text(text) => Ok(signs_in_text(text.as_str(), signs.as_slice())),
+        Word::Bytes(bytes) => Ok(in_order(bytes.as_slice(), signs.as_slice())),
+        _ => Ok(None),
     }
-    Ok(signs)
 }
 
-/// Returns where the first of one to three needles stands. A text is searched as its bytes too, and
-/// texts are searched for as their bytes too.
-pub fn find_slice(alloc: Global, words: &Words) -> Result<String, Fault> {
-    match (words.word(0)?, words.word(1)?) {
-        (Word::Text(text), Word::Char(_)) => {
-            signs_in_text(alloc, text.as_str(), signs(alloc, words)?.as_slice())
-        }
+// Searches the input that the first word writes.
+fn found(alloc: Global, input: &Word, needle: &Word, words: &Words) -> Result<Hit, Fault> {
+    match (input, needle) {
+        (_, Word::Char(_)) => find_signs(alloc, input, words),
         (Word::Text(text), _) => find_texts(alloc, text.as_str(), words),
-        (Word::Bytes(bytes), Word::Char(_)) => {
-            in_order(alloc, bytes.as_slice(), signs(alloc, words)?.as_slice())
-        }
         (Word::Bytes(bytes), _) => find_bytes(alloc, bytes.as_slice(), words, 1),
-        _ => Err(Fault::NoSuchCall),
+        _ => Ok(None),
     }
+}
+
+// Returns the text of a hit.
+fn text(alloc: Global, hit: &Hit) -> Result<String, Fault> {
+    match hit {
+        Some(hit) => Ok(format!(in alloc; "{hit:?}")?),
+        None => Err(Fault::NoSuchCall),
+    }
+}
+
+/// Returns where the first of one to three needles stands. A text is searched as its bytes too.
+pub fn find_slice(alloc: Global, words: &Words) -> Result<String, Fault> {
+    let hit = found(alloc, words.word(0)?, words.word(1)?, words)?;
+    text(alloc, &hit)
+}
+
+// Returns a length of letters `a`, of which the one at a place is a `b`.
+fn letters(alloc: Global, length: usize, place: usize) -> Result<Vec<u8>, AllocError> {
+    let mut letters = vec![in alloc; b'a'; length]?;
+    if let Some(letter) = letters.get_mut(place) {
+        *letter = b'b';
+    }
+    Ok(letters)
 }
 
 /// Returns where the first needle stands in a length of letters `a`, of which the one at a place is
 /// a `b`. The length and the place are the first two words, the needles the others.
 pub fn find_slice_in_letters(alloc: Global, words: &Words) -> Result<String, Fault> {
-    let (length, place) = (words.number(0)?, words.number(1)?);
-    let mut letters = vec![in alloc; b'a'; length]?;
-    if let Some(letter) = letters.get_mut(place) {
-        *letter = b'b';
-    }
-    find_bytes(alloc, letters.as_slice(), words, 2)
+    let letters = letters(alloc, words.number(0)?, words.number(1)?)?;
+    let hit = find_bytes(alloc, letters.as_slice(), words, 2)?;
+    text(alloc, &hit)
 }

@@ -9,33 +9,41 @@ fn moved_by(input: &[u8], needles: Needles<&[u8]>) -> Option<Option<Stretch>> {
     Some(stretch(input, &needles, &hit))
 }
 
-// Returns the needles that the words from `start` on write.
-fn needles(words: &Words, start: usize) -> Result<Needles<&str>, Fault> {
-    let second = start.saturating_add(1);
-    let third = start.saturating_add(2);
-    match words.len().saturating_sub(start) {
-        1 => Ok(Needles::One(words.text(start)?)),
-        2 => Ok(Needles::Two(words.text(start)?, words.text(second)?)),
-        3 => Ok(Needles::Three(words.text(start)?, words.text(second)?, words.text(third)?)),
-        _ => Err(Fault::NoSuchCall),
+// Returns the needles that three words write, of which the last two may be missing.
+fn needles<'w>(
+    first: &'w str,
+    second: Option<&'w str>,
+    third: Option<&'w str>,
+) -> Needles<&'w str> {
+    match (second, third) {
+        (Some(second), Some(third)) => Needles::Three(first, second, third),
+        (Some(second), None) => Needles::Two(first, second),
+        _ => Needles::One(first),
     }
 }
 
-// Returns the debug text of needles as data.
-fn needles_text(alloc: Global, words: &Words) -> Result<String, Fault> {
-    let needles = needles(words, 0)?;
-    Ok(format!(in alloc; "{needles:?}")?)
+// Returns the needles that the words from `start` on write.
+fn written(words: &Words, start: usize) -> Result<Needles<&str>, Fault> {
+    let second = words.text(start.saturating_add(1)).ok();
+    let third = words.text(start.saturating_add(2)).ok();
+    Ok(needles(words.text(start)?, second, third))
 }
 
 /// Returns what could move a hit: `None` if there is no hit, and `Some(None)` if nothing could.
-pub fn answer(alloc: Global, call: &str, words: &Words) -> Result<String, Fault> {
-    if call == "longest" {
-        let longest = needles(words, 0)?.as_bytes().longest();
-        return Ok(format!(in alloc; "{longest}")?);
-    }
-    if call == "Needles" {
-        return needles_text(alloc, words);
-    }
-    let moved = moved_by(words.bytes(0)?, needles(words, 1)?.as_bytes());
+pub fn movers(alloc: Global, words: &Words) -> Result<String, Fault> {
+    let needles = written(words, 1)?;
+    let moved = moved_by(words.bytes(0)?, needles.as_bytes());
     Ok(format!(in alloc; "{moved:?}")?)
+}
+
+/// Returns the length of the longest needle.
+pub fn longest(alloc: Global, words: &Words) -> Result<String, Fault> {
+    let longest = written(words, 0)?.as_bytes().longest();
+    Ok(format!(in alloc; "{longest}")?)
+}
+
+/// Returns the debug text of needles as data.
+pub fn text(alloc: Global, words: &Words) -> Result<String, Fault> {
+    let needles = written(words, 0)?;
+    Ok(format!(in alloc; "{needles:?}")?)
 }

@@ -1,9 +1,4 @@
-use std::alloc::{AllocError, Global};
-
-/// Returns an answer that two ways to make a call must both give, or both answers.
-pub fn same(alloc: Global, first: String, second: String) -> Result<String, AllocError> {
-    if first == second {
-        return Ok(first);
-    }
-    format!(in alloc; "{first}, and also {second}")
+/// Returns the answer that two ways to make a call give, or `None` if they give two answers.
+pub fn same<T: PartialEq + Drop>(first: T, second: T) -> Option<T> {
+    if first == second { Some(first) } else { None }
 }
