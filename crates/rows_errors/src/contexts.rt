@@ -48,7 +48,8 @@ fn extended(alloc: Global, error: &Told) -> Result<String, AllocError> {
 
 /// Answers a question about an error with contexts.
 pub fn answer(alloc: Global, question: &str, input: &Words) -> Result<String, Fault> {
-    let error = listed(alloc, made(alloc, input)?, input.len())?;
+    let parts = made::<&str, EmptyError>(alloc, input)?;
+    let error = listed(alloc, parts, input.len())?;
     match question {
         "cause" => Ok(format!(in alloc; "{:?}", error.cause())?),
         "count" => Ok(format!(in alloc; "{}", error.context().count())?),
@@ -76,7 +77,7 @@ pub fn alone(alloc: Global, family: &str, question: &str, input: &Words) -> Resu
     if question == "from" {
         return debugged(alloc, "", &converted(input)?);
     }
-    let mut parts: Parts<'_, EmptyError> = made(alloc, input)?;
+    let mut parts = made::<&str, EmptyError>(alloc, input)?;
     if family == "StrContext" {
         shown(alloc, question, &parts.context()?)
     } else {

@@ -1,6 +1,6 @@
 //! Questions about each type of error, made by nested words.
 use crate::formats::{is_debug, printed};
-use crate::made::{answer, made};
+use crate::made::{TextStream, answer, made};
 use rows::{Fault, Words};
 use std::alloc::Global;
 use std::fmt::Display;
@@ -17,12 +17,13 @@ fn is_print(question: &str) -> bool {
 }
 
 // Returns the printed text of the error that the words make.
-fn print<'w, E>(alloc: Global, format: &str, input: &'w Words) -> Result<String, Fault>
+fn print<'w, I, E>(alloc: Global, format: &str, input: &'w Words) -> Result<String, Fault>
 where
-    E: ParserError<&'w str> + AddContext<&'w str, StrContext> + Display,
-    E: FromExternalError<&'w str, String> + FromRecoverableError<&'w str, E>,
+    I: TextStream<'w>,
+    E: ParserError<I> + AddContext<I, StrContext> + Display,
+    E: FromExternalError<I, String> + FromRecoverableError<I, E>,
 {
-    let error: E = made(alloc, input)?.error()?;
+    let error = made::<I, E>(alloc, input)?.error()?;
     printed(alloc, format, &error)
 }
 
@@ -34,11 +35,11 @@ pub fn of_plain(
     input: &Words,
 ) -> Result<String, Fault> {
     match (family, is_print(question)) {
-        ("InputError", true) => print::<InputError<&str>>(alloc, question, input),
-        ("InputError", false) => answer::<InputError<&str>>(alloc, question, input),
-        ("EmptyError", true) => print::<EmptyError>(alloc, question, input),
-        ("EmptyError", false) => answer::<EmptyError>(alloc, question, input),
-        (_, false) => answer::<()>(alloc, question, input),
+        ("InputError", true) => print::<&str, InputError<&str>>(alloc, question, input),
+        ("InputError", false) => answer::<&str, InputError<&str>>(alloc, question, input),
+        ("EmptyError", true) => print::<&str, EmptyError>(alloc, question, input),
+        ("EmptyError", false) => answer::<&str, EmptyError>(alloc, question, input),
+        (_, false) => answer::<&str, ()>(alloc, question, input),
         _ => Err(Fault::NoSuchCall),
     }
 }
@@ -51,9 +52,9 @@ pub fn of_rich(
     input: &Words,
 ) -> Result<String, Fault> {
     match (family, is_print(question)) {
-        ("ContextError", true) => print::<ContextError<StrContext>>(alloc, question, input),
-        ("ContextError", false) => answer::<ContextError<StrContext>>(alloc, question, input),
-        (_, false) => answer::<TreeError<&str, StrContext>>(alloc, question, input),
+        ("ContextError", true) => print::<&str, ContextError<StrContext>>(alloc, question, input),
+        ("ContextError", false) => answer::<&str, ContextError<StrContext>>(alloc, question, input),
+        (_, false) => answer::<&str, TreeError<&str, StrContext>>(alloc, question, input),
         _ => Err(Fault::NoSuchCall),
     }
 }
@@ -66,11 +67,13 @@ pub fn of_modes(
     input: &Words,
 ) -> Result<String, Fault> {
     match (family, is_print(question)) {
-        ("ErrMode<InputError>", true) => print::<ErrMode<InputError<&str>>>(alloc, question, input),
+        ("ErrMode<InputError>", true) => print::<&str, ErrMode<InputError<&str>>>(
+            alloc, question, input,
+        ),
         ("ErrMode<InputError>", false) => {
-            answer::<ErrMode<InputError<&str>>>(alloc, question, input)
+            answer::<&str, ErrMode<InputError<&str>>>(alloc, question, input)
         }
-        (_, false) => answer::<ErrMode<ContextError<StrContext>>>(alloc, question, input),
+        (_, false) => answer::<&str, ErrMode<ContextError<StrContext>>>(alloc, question, input),
         _ => Err(Fault::NoSuchCall),
     }
 }

@@ -1,9 +1,10 @@
 //! Texts of trees of errors and of their parts, at texts, at texts that the tree owns, and at the
 //! lengths of these.
 use crate::formats::quoted;
-use crate::made::made;
+use crate::made::{TextStream, made};
 use rows::{Fault, Words};
 use std::alloc::{AllocError, Global};
+use std::fmt::Display;
 use winnow_context::StrContext;
 use winnow_error::ErrMode::Backtrack;
 use winnow_tree::{TreeError, TreeErrorBase, TreeErrorContext, combine_trees};
@@ -26,12 +27,23 @@ fn text(alloc: Global, question: &str, tree: Tree<'_>) -> Result<String, AllocEr
     }
 }
 
+// Returns the tree that the words make.
+fn built<'w, I>(alloc: Global, input: &'w Words) -> Result<TreeError<I, StrContext>, Fault>
+where
+    I: TextStream<'w>,
+{
+    made::<I, TreeError<I, StrContext>>(alloc, input)?.error()
+}
+
 // Returns the text of what alternatives combine to.
-fn combined(alloc: Global, input: &Words) -> Result<String, Fault> {
-    let mut parts = made::<Tree>(alloc, input)?;
+fn combined<'w, I>(alloc: Global, input: &'w Words) -> Result<String, Fault>
+where
+    I: TextStream<'w> + Display,
+{
+    let mut parts = made::<I, TreeError<I, StrContext>>(alloc, input)?;
     match combine_trees(alloc, parts.tree()?)? {
-        Backtrack(tree) => Ok(text(alloc, "text", tree)?),
-        other => Ok(format!(in alloc; "{other:?}")?),
+        Backtrack(tree) => Ok(tree.text(alloc)?),
+        _ => Err(Fault::NoSuchCall),
     }
 }
 
@@ -70,8 +82,8 @@ pub fn answer(alloc: Global, family: &str, question: &str, input: &Words) -> Res
     let text = match (family, question) {
         ("base", question) => base_text(alloc, question, input)?,
         ("context", question) => context_text(alloc, question, input)?,
-        (_, "combine_trees") => combined(alloc, input)?,
-        (_, question) => text(alloc, question, made::<Tree>(alloc, input)?.error()?)?,
+        (_, "combine_trees") => combined::<&str>(alloc, input)?,
+        (_, question) => text(alloc, question, built::<&str>(alloc, input)?)?,
     };
     Ok(quoted(alloc, text.as_str())?)
 }
