@@ -1,7 +1,7 @@
 //! Texts of trees of errors and of their parts, at texts, at texts that the tree owns, and at the
 //! lengths of these.
 use crate::formats::quoted;
-use crate::made::{TextStream, made};
+use crate::made::{TextStream, made, texts};
 use rows::{Fault, Words};
 use std::alloc::{AllocError, Global};
 use std::fmt::Display;
@@ -28,19 +28,21 @@ fn text(alloc: Global, question: &str, tree: Tree<'_>) -> Result<String, AllocEr
 }
 
 // Returns the tree that the words make.
-fn built<'w, I>(alloc: Global, input: &'w Words) -> Result<TreeError<I, StrContext>, Fault>
-where
-    I: TextStream<'w>,
-{
-    made::<I, TreeError<I, StrContext>>(alloc, input)?.error()
+fn built<I: TextStream>(
+    alloc: Global,
+    input: &Words,
+    texts: &[I],
+) -> Result<TreeError<I, StrContext>, Fault> {
+    made::<I, TreeError<I, StrContext>>(alloc, input, texts)?.error()
 }
 
 // Returns the text of what alternatives combine to.
-fn combined<'w, I>(alloc: Global, input: &'w Words) -> Result<String, Fault>
-where
-    I: TextStream<'w> + Display,
-{
-    let mut parts = made::<I, TreeError<I, StrContext>>(alloc, input)?;
+fn combined<I: TextStream + Display>(
+    alloc: Global,
+    input: &Words,
+    texts: &[I],
+) -> Result<String, Fault> {
+    let mut parts = made::<I, TreeError<I, StrContext>>(alloc, input, texts)?;
     match combine_trees(alloc, parts.tree()?)? {
         Backtrack(tree) => Ok(tree.text(alloc)?),
         _ => Err(Fault::NoSuchCall),
@@ -79,11 +81,13 @@ fn context_text(alloc: Global, question: &str, input: &Words) -> Result<String, 
 
 /// Answers a question about a tree or about one of its parts.
 pub fn answer(alloc: Global, family: &str, question: &str, input: &Words) -> Result<String, Fault> {
+    let texts = texts(alloc, input)?;
+    let texts = texts.as_slice();
     let text = match (family, question) {
         ("base", question) => base_text(alloc, question, input)?,
         ("context", question) => context_text(alloc, question, input)?,
-        (_, "combine_trees") => combined::<&str>(alloc, input)?,
-        (_, question) => text(alloc, question, built::<&str>(alloc, input)?)?,
+        (_, "combine_trees") => combined::<&str>(alloc, input, texts)?,
+        (_, question) => text(alloc, question, built::<&str>(alloc, input, texts)?)?,
     };
     Ok(quoted(alloc, text.as_str())?)
 }
