@@ -78,7 +78,7 @@ pub fn of_modes(
     let texts = texts.as_slice();
     match (family, is_print(question)) {
         ("ErrMode<InputError>", true) => print::<&str, ErrMode<InputError<&str>>>(
-            alloc, question, input,
+            alloc, question, input, texts,
         ),
         ("ErrMode<InputError>", false) => {
             answer::<&str, ErrMode<InputError<&str>>>(alloc, question, input, texts)
