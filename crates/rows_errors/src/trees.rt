@@ -4,9 +4,11 @@ use crate::formats::quoted;
 use crate::made::{TextStream, made, texts};
 use rows::{Fault, Words};
 use std::alloc::{AllocError, Global};
-use std::fmt::Display;
 use winnow_context::StrContext;
 use winnow_error::ErrMode::Backtrack;
+use winnow_error::{
+    AddContext, ErrMode, FromExternalError, FromRecoverableError, OrTree, ParserError,
+};
 use winnow_tree::{TreeError, TreeErrorBase, TreeErrorContext, combine_trees};
 
 type Tree<'w> = TreeError<&'w str, StrContext>;
@@ -27,26 +29,38 @@ fn text(alloc: Global, question: &str, tree: Tree<'_>) -> Result<String, AllocEr
     }
 }
 
-// Returns the tree that the words make.
-fn built<I: TextStream>(
-    alloc: Global,
-    input: &Words,
-    texts: &[I],
-) -> Result<TreeError<I, StrContext>, Fault> {
-    made::<I, TreeError<I, StrContext>>(alloc, input, texts)?.error()
+// What a row asks of a tree, in a trait so that the words are read for any error.
+trait Told: Sized {
+    fn told(self, alloc: Global, question: &str) -> Result<String, Fault>;
+
+    fn told_together(alloc: Global, errors: OrTree<ErrMode<Self>>) -> Result<String, Fault>;
 }
 
-// Returns the text of what alternatives combine to.
-fn combined<I: TextStream + Display>(
-    alloc: Global,
-    input: &Words,
-    texts: &[I],
-) -> Result<String, Fault> {
-    let mut parts = made::<I, TreeError<I, StrContext>>(alloc, input, texts)?;
-    match combine_trees(alloc, parts.tree()?)? {
-        Backtrack(tree) => Ok(tree.text(alloc)?),
-        _ => Err(Fault::NoSuchCall),
+impl<'w> Told for TreeError<&'w str, StrContext> {
+    fn told(self, alloc: Global, question: &str) -> Result<String, Fault> {
+        Ok(text(alloc, question, self)?)
     }
+
+    fn told_together(alloc: Global, errors: OrTree<ErrMode<Self>>) -> Result<String, Fault> {
+        match combine_trees(alloc, errors)? {
+            Backtrack(tree) => Ok(text(alloc, "text", tree)?),
+            _ => Err(Fault::NoSuchCall),
+        }
+    }
+}
+
+// Returns the text of the tree, or of the alternatives, that the words make.
+fn told<I, E>(alloc: Global, question: &str, input: &Words, texts: &[I]) -> Result<String, Fault>
+where
+    I: TextStream,
+    E: ParserError<I> + AddContext<I, StrContext> + Told,
+    E: FromExternalError<I, String> + FromRecoverableError<I, E>,
+{
+    let mut parts = made::<I, E>(alloc, input, texts)?;
+    if question == "combine_trees" {
+        return E::told_together(alloc, parts.tree()?);
+    }
+    parts.error()?.told(alloc, question)
 }
 
 // Returns the text of a base at an input with a cause, as the question asks for it.
@@ -86,8 +100,7 @@ pub fn answer(alloc: Global, family: &str, question: &str, input: &Words) -> Res
     let text = match (family, question) {
         ("base", question) => base_text(alloc, question, input)?,
         ("context", question) => context_text(alloc, question, input)?,
-        (_, "combine_trees") => combined::<&str>(alloc, input, texts)?,
-        (_, question) => text(alloc, question, built::<&str>(alloc, input, texts)?)?,
+        (_, question) => told::<&str, Tree>(alloc, question, input, texts)?,
     };
     Ok(quoted(alloc, text.as_str())?)
 }
