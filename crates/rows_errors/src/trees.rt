@@ -50,7 +50,7 @@ impl<'w> Told for TreeError<&'w str, StrContext> {
 }
 
 // Returns the text of the tree, or of the alternatives, that the words make.
-fn told<I, E>(alloc: Global, question: &str, input: &Words, texts: &[I]) -> Result<String, Fault>
+fn ask<I, E>(alloc: Global, question: &str, input: &Words, texts: &[I]) -> Result<String, Fault>
 where
     I: TextStream,
     E: ParserError<I> + AddContext<I, StrContext> + Told,
@@ -100,7 +100,7 @@ pub fn answer(alloc: Global, family: &str, question: &str, input: &Words) -> Res
     let text = match (family, question) {
         ("base", question) => base_text(alloc, question, input)?,
         ("context", question) => context_text(alloc, question, input)?,
-        (_, question) => told::<&str, Tree>(alloc, question, input, texts)?,
+        (_, question) => ask::<&str, Tree>(alloc, question, input, texts)?,
     };
     Ok(quoted(alloc, text.as_str())?)
 }
