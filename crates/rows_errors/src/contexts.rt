@@ -1,7 +1,7 @@
 //! Errors with the contexts that words list in the order in which they are added, after a cause if
 //! there is one: `cause("bad") Label("number") Expected(CharLiteral('x'))`.
 use crate::formats::{debugged, shown};
-use crate::made::made;
+use crate::made::{made, texts};
 use crate::parts::Parts;
 use rows::{Fault, Words};
 use std::alloc::{AllocError, Global};
@@ -17,7 +17,7 @@ fn caused_by(alloc: Global, cause: &str) -> Result<Told, AllocError> {
 }
 
 // Returns the error that the parts list.
-fn listed(alloc: Global, mut parts: Parts<'_, EmptyError>, count: usize) -> Result<Told, Fault> {
+fn listed(alloc: Global, mut parts: Parts<&str, EmptyError>, count: usize) -> Result<Told, Fault> {
     let mut error = Told::new(alloc);
     for _ in 0..count {
         if parts.is_empty() {
@@ -48,7 +48,9 @@ fn extended(alloc: Global, error: &Told) -> Result<String, AllocError> {
 
 /// Answers a question about an error with contexts.
 pub fn answer(alloc: Global, question: &str, input: &Words) -> Result<String, Fault> {
-    let error = listed(alloc, made(alloc, input)?, input.len())?;
+    let texts = texts(alloc, input)?;
+    let parts = made::<&str, EmptyError>(alloc, input, texts.as_slice())?;
+    let error = listed(alloc, parts, input.len())?;
     match question {
         "cause" => Ok(format!(in alloc; "{:?}", error.cause())?),
         "count" => Ok(format!(in alloc; "{}", error.context().count())?),
@@ -76,7 +78,8 @@ pub fn alone(alloc: Global, family: &str, question: &str, input: &Words) -> Resu
     if question == "from" {
         return debugged(alloc, "", &converted(input)?);
     }
-    let mut parts: Parts<'_, EmptyError> = made(alloc, input)?;
+    let texts = texts(alloc, input)?;
+    let mut parts = made::<&str, EmptyError>(alloc, input, texts.as_slice())?;
     if family == "StrContext" {
         shown(alloc, question, &parts.context()?)
     } else {

@@ -1,6 +1,6 @@
 //! Questions about each type of error, made by nested words.
 use crate::formats::{is_debug, printed};
-use crate::made::{answer, made};
+use crate::made::{TextStream, answer, made, texts};
 use rows::{Fault, Words};
 use std::alloc::Global;
 use std::fmt::Display;
@@ -17,12 +17,13 @@ fn is_print(question: &str) -> bool {
 }
 
 // Returns the printed text of the error that the words make.
-fn print<'w, E>(alloc: Global, format: &str, input: &'w Words) -> Result<String, Fault>
+fn print<I, E>(alloc: Global, format: &str, input: &Words, texts: &[I]) -> Result<String, Fault>
 where
-    E: ParserError<&'w str> + AddContext<&'w str, StrContext> + Display,
-    E: FromExternalError<&'w str, String> + FromRecoverableError<&'w str, E>,
+    I: TextStream,
+    E: ParserError<I> + AddContext<I, StrContext> + Display,
+    E: FromExternalError<I, String> + FromRecoverableError<I, E>,
 {
-    let error: E = made(alloc, input)?.error()?;
+    let error = made::<I, E>(alloc, input, texts)?.error()?;
     printed(alloc, format, &error)
 }
 
@@ -33,12 +34,14 @@ pub fn of_plain(
     question: &str,
     input: &Words,
 ) -> Result<String, Fault> {
+    let texts = texts(alloc, input)?;
+    let texts = texts.as_slice();
     match (family, is_print(question)) {
-        ("InputError", true) => print::<InputError<&str>>(alloc, question, input),
-        ("InputError", false) => answer::<InputError<&str>>(alloc, question, input),
-        ("EmptyError", true) => print::<EmptyError>(alloc, question, input),
-        ("EmptyError", false) => answer::<EmptyError>(alloc, question, input),
-        (_, false) => answer::<()>(alloc, question, input),
+        ("InputError", true) => print::<&str, InputError<&str>>(alloc, question, input, texts),
+        ("InputError", false) => answer::<&str, InputError<&str>>(alloc, question, input, texts),
+        ("EmptyError", true) => print::<&str, EmptyError>(alloc, question, input, texts),
+        ("EmptyError", false) => answer::<&str, EmptyError>(alloc, question, input, texts),
+        (_, false) => answer::<&str, ()>(alloc, question, input, texts),
         _ => Err(Fault::NoSuchCall),
     }
 }
@@ -50,10 +53,16 @@ pub fn of_rich(
     question: &str,
     input: &Words,
 ) -> Result<String, Fault> {
+    let texts = texts(alloc, input)?;
+    let texts = texts.as_slice();
     match (family, is_print(question)) {
-        ("ContextError", true) => print::<ContextError<StrContext>>(alloc, question, input),
-        ("ContextError", false) => answer::<ContextError<StrContext>>(alloc, question, input),
-        (_, false) => answer::<TreeError<&str, StrContext>>(alloc, question, input),
+        ("ContextError", true) => print::<&str, ContextError<StrContext>>(
+            alloc, question, input, texts,
+        ),
+        ("ContextError", false) => answer::<&str, ContextError<StrContext>>(
+            alloc, question, input, texts,
+        ),
+        (_, false) => answer::<&str, TreeError<&str, StrContext>>(alloc, question, input, texts),
         _ => Err(Fault::NoSuchCall),
     }
 }
@@ -65,12 +74,18 @@ pub fn of_modes(
     question: &str,
     input: &Words,
 ) -> Result<String, Fault> {
+    let texts = texts(alloc, input)?;
+    let texts = texts.as_slice();
     match (family, is_print(question)) {
-        ("ErrMode<InputError>", true) => print::<ErrMode<InputError<&str>>>(alloc, question, input),
+        ("ErrMode<InputError>", true) => print::<&str, ErrMode<InputError<&str>>>(
+            alloc, question, input, texts,
+        ),
         ("ErrMode<InputError>", false) => {
-            answer::<ErrMode<InputError<&str>>>(alloc, question, input)
+            answer::<&str, ErrMode<InputError<&str>>>(alloc, question, input, texts)
         }
-        (_, false) => answer::<ErrMode<ContextError<StrContext>>>(alloc, question, input),
+        (_, false) => answer::<&str, ErrMode<ContextError<StrContext>>>(
+            alloc, question, input, texts,
+        ),
         _ => Err(Fault::NoSuchCall),
     }
 }

@@ -1,25 +1,60 @@
 //! An error of any type, made by the nested calls that words write, as in
 //! `or(from_input("ab"), append(from_input("b"), "b", "ab"))`.
-use crate::parts::{Part, Parts};
+use crate::formats::debugged;
+use crate::parts::{Part, Parts, name};
 use rows::{Fault, Word, Words};
 use std::alloc::Global;
 use std::fmt::Debug;
-use winnow_context::StrContext;
+use winnow_context::{StrContext, StrContextValue};
 use winnow_error::{AddContext, FromExternalError, FromRecoverableError, ParserError, combine};
 use winnow_stream::Stream;
 
+/// A stream that is a text. An error names the stream and no lifetime: so what a row makes of an
+/// error is proved for every stream.
+pub trait TextStream: Stream + Copy {
+    /// Returns the stream itself, which is valid.
+    fn checked(self) -> Self
+        ensures { Self.valid result };
+
+    /// Returns the text.
+    fn text(&self) -> &str;
+}
+
+impl<'w> TextStream for &'w str {
+    fn checked(self) -> Self {
+        self
+    }
+
+    fn text(&self) -> &str {
+        self
+    }
+}
+
+/// Returns the text of each word, which is empty where the word is none.
+pub fn texts<'w>(alloc: Global, input: &'w Words) -> Result<Vec<&'w str>, Fault> {
+    let mut texts = Vec::new(alloc);
+    for index in 0..input.len() {
+        let text = input.text(index).unwrap_or("");
+        if texts.push(text).is_err() {
+            return Err(Fault::OutOfMemory);
+        }
+    }
+    Ok(texts)
+}
+
 // Makes an error at an input.
-fn make_at_input<'w, E>(parts: &mut Parts<'w, E>, call: &str) -> Result<E, Fault>
+fn make_at_input<I, E>(parts: &mut Parts<I, E>, call: &str) -> Result<E, Fault>
 where
-    E: ParserError<&'w str> + FromExternalError<&'w str, String>,
+    I: TextStream,
+    E: ParserError<I> + FromExternalError<I, String>,
 {
-    let (alloc, input) = (parts.alloc(), parts.text()?);
+    let (alloc, input) = (parts.alloc(), parts.text()?.checked());
     match call {
         "from_input" => Ok(E::from_input(alloc, &input)),
         "assert" => Ok(E::assert(alloc, &input, "misused")),
         "incomplete" => Ok(E::incomplete(alloc, &input, parts.needed()?)),
         _ => {
-            let cause = String::from_str(alloc, parts.text()?)?;
+            let cause = String::from_str(alloc, parts.text()?.text())?;
             Ok(E::from_external_error(alloc, &input, cause))
         }
     }
@@ -27,76 +62,117 @@ where
 
 // Makes an error of an error: the input where it failed comes after it, and then the input where
 // its parser began.
-fn make_of_error<'w, E>(parts: &mut Parts<'w, E>, call: &str) -> Result<E, Fault>
+fn make_of_error<I, E>(parts: &mut Parts<I, E>, call: &str) -> Result<E, Fault>
 where
-    E: ParserError<&'w str> + AddContext<&'w str, StrContext> + FromRecoverableError<&'w str, E>,
+    I: TextStream,
+    E: ParserError<I> + AddContext<I, StrContext> + FromRecoverableError<I, E>,
 {
     let (alloc, error) = (parts.alloc(), parts.error()?);
-    let (input, start) = (parts.text()?, parts.text()?.checkpoint());
+    let input = parts.text()?.checked();
+    let start = parts.text()?.checked().checkpoint();
     match call {
         "append" => Ok(error.append(alloc, &input, &start)?),
-        "add_context" => Ok(error.add_context(alloc, &input, &start, parts.context()?)?),
+        "add_context" => {
+            let context = parts.context()?;
+            Ok(error.add_context(alloc, &input, &start, context)?)
+        }
         _ => Ok(E::from_recoverable_error(&start, &start, &input, error)),
     }
 }
 
 // Makes the error of two alternatives.
-fn make_or<'w, E: ParserError<&'w str>>(parts: &mut Parts<'w, E>) -> Result<E, Fault> {
+fn make_or<I: Stream + Copy, E: ParserError<I>>(parts: &mut Parts<I, E>) -> Result<E, Fault> {
     let (first, second) = (parts.error()?, parts.error()?);
     Ok(first.or(parts.alloc(), second)?)
 }
 
+// Makes a context of a name, or a cause.
+fn make_context<I: TextStream, E: Drop>(
+    parts: &mut Parts<I, E>,
+    call: &str,
+) -> Result<Part<I, E>, Fault> {
+    let text = parts.text()?;
+    Ok(match call {
+        "StringLiteral" => Part::Value(StrContextValue::StringLiteral(name(text.text())?)),
+        "Description" => Part::Value(StrContextValue::Description(name(text.text())?)),
+        "Label" => Part::Context(StrContext::Label(name(text.text())?)),
+        _ => Part::Cause(text),
+    })
+}
+
+// Makes a part that is no error.
+fn make_part<I: TextStream, E: Drop>(parts: &mut Parts<I, E>, call: &str) -> Result<(), Fault> {
+    match call {
+        "StringLiteral" | "Description" | "Label" | "cause" => {
+            let part = make_context(parts, call)?;
+            parts.put(part)
+        }
+        call => parts.make(call),
+    }
+}
+
 // Takes a word.
-fn take<'w, E>(parts: &mut Parts<'w, E>, word: &'w Word) -> Result<(), Fault>
+fn take<I, E>(parts: &mut Parts<I, E>, word: &Word, text: I) -> Result<(), Fault>
 where
-    E: ParserError<&'w str> + AddContext<&'w str, StrContext>,
-    E: FromExternalError<&'w str, String> + FromRecoverableError<&'w str, E>,
+    I: TextStream,
+    E: ParserError<I> + AddContext<I, StrContext>,
+    E: FromExternalError<I, String> + FromRecoverableError<I, E>,
 {
     let call = match word {
-        Word::Text(text) => return parts.put(Part::Text(text.as_str())),
+        Word::Text(_) => return parts.put(Part::Text(text)),
         Word::Char(sign) => return parts.put(Part::Sign(*sign)),
         Word::Bytes(_) => return Err(Fault::NoSuchCall),
         Word::Plain(call) => call.as_str(),
     };
     let error = match call {
-        "from_input" | "assert" | "incomplete" | "from_external" => make_at_input(parts, call)?,
-        "append" | "add_context" | "recover" => make_of_error(parts, call)?,
-        "or" => make_or(parts)?,
-        call => return parts.make(call),
+        "from_input" | "assert" | "incomplete" | "from_external" => {
+            make_at_input::<I, E>(parts, call)?
+        }
+        "append" | "add_context" | "recover" => make_of_error::<I, E>(parts, call)?,
+        "or" => make_or::<I, E>(parts)?,
+        call => return make_part(parts, call),
     };
     parts.put(Part::Error(error))
 }
 
-/// Returns the parts that the words make.
-pub fn made<'w, E>(alloc: Global, input: &'w Words) -> Result<Parts<'w, E>, Fault>
+/// Returns the parts that the words make, of which the texts are given.
+pub fn made<I, E>(alloc: Global, input: &Words, texts: &[I]) -> Result<Parts<I, E>, Fault>
 where
-    E: ParserError<&'w str> + AddContext<&'w str, StrContext>,
-    E: FromExternalError<&'w str, String> + FromRecoverableError<&'w str, E>,
+    I: TextStream,
+    E: ParserError<I> + AddContext<I, StrContext>,
+    E: FromExternalError<I, String> + FromRecoverableError<I, E>,
 {
     let mut parts = Parts::new(alloc);
     for index in (0..input.len()).rev() {
-        take(&mut parts, input.word(index)?)?;
+        let text = *texts.get(index).ok_or(Fault::NoSuchCall)?;
+        take::<I, E>(&mut parts, input.word(index)?, text)?;
     }
     Ok(parts)
 }
 
 /// Answers a question about the error, or about the alternatives, that the words make.
-pub fn answer<'w, E>(alloc: Global, question: &str, input: &'w Words) -> Result<String, Fault>
+pub fn answer<I, E>(
+    alloc: Global,
+    question: &str,
+    input: &Words,
+    texts: &[I],
+) -> Result<String, Fault>
 where
-    E: ParserError<&'w str> + AddContext<&'w str, StrContext> + Debug,
-    E: FromExternalError<&'w str, String> + FromRecoverableError<&'w str, E>,
+    I: TextStream,
+    E: ParserError<I> + AddContext<I, StrContext> + Debug,
+    E: FromExternalError<I, String> + FromRecoverableError<I, E>,
     E::Inner: Debug + Drop,
 {
-    let mut parts: Parts<'w, E> = made(alloc, input)?;
+    let mut parts = made::<I, E>(alloc, input, texts)?;
+    if question == "combine" {
+        return debugged(alloc, "", &combine::<I, E>(alloc, parts.tree()?)?);
+    }
+    let error = parts.error()?;
     match question {
-        "combine" => {
-            let combined = combine::<&'w str, E>(alloc, parts.tree()?)?;
-            Ok(format!(in alloc; "{combined:?}")?)
-        }
-        "is_backtrack" => Ok(format!(in alloc; "{}", parts.error()?.is_backtrack())?),
-        "is_incomplete" => Ok(format!(in alloc; "{}", parts.error()?.is_incomplete())?),
-        "needed" => Ok(format!(in alloc; "{:?}", parts.error()?.needed())?),
-        "into_inner" => Ok(format!(in alloc; "{:?}", parts.error()?.into_inner())?),
-        format => crate::formats::debugged(alloc, format, &parts.error()?),
+        "is_backtrack" => debugged(alloc, "", &error.is_backtrack()),
+        "is_incomplete" => debugged(alloc, "", &error.is_incomplete()),
+        "needed" => debugged(alloc, "", &error.needed()),
+        "into_inner" => debugged(alloc, "", &error.into_inner()),
+        format => debugged(alloc, format, &error),
     }
 }

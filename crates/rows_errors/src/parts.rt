@@ -8,14 +8,14 @@ use winnow_stream::Needed;
 
 /// What words have made.
 #[derive(Drop)]
-pub enum Part<'w, E> {
-    Text(&'w str),
+pub enum Part<I, E> {
+    Text(I),
     Sign(char),
     Number(usize),
     Needed(Needed),
     Value(StrContextValue),
     Context(StrContext),
-    Cause(&'w str),
+    Cause(I),
     Error(E),
     Mode(ErrMode<E>),
     Tree(OrTree<ErrMode<E>>),
@@ -23,9 +23,9 @@ pub enum Part<'w, E> {
 
 /// The parts that no call has taken yet, the first of them last.
 #[derive(Drop)]
-pub struct Parts<'w, E> {
+pub struct Parts<I, E> {
     alloc: Global,
-    parts: Vec<Part<'w, E>>,
+    parts: Vec<Part<I, E>>,
 }
 
 // The texts of contexts: a context holds a text that lives as long as the program.
@@ -33,8 +33,8 @@ const NAMES: &[&str] = &[
     "", "`", "a", "a digit", "abc", "b", "d", "digits", "number", "two", "word", "x",
 ];
 
-// Returns the name as a text that lives as long as the program.
-fn name(text: &str) -> Result<&'static str, Fault> {
+/// Returns the name as a text that lives as long as the program.
+pub fn name(text: &str) -> Result<&'static str, Fault> {
     for name in NAMES {
         if *name == text {
             return Ok(*name);
@@ -43,7 +43,7 @@ fn name(text: &str) -> Result<&'static str, Fault> {
     Err(Fault::NoSuchCall)
 }
 
-impl<'w, E: Drop> Parts<'w, E> {
+impl<I: Copy, E: Drop> Parts<I, E> {
     pub fn new(alloc: Global) -> Self {
         Parts {
             alloc,
@@ -60,7 +60,7 @@ impl<'w, E: Drop> Parts<'w, E> {
     }
 
     /// Adds a part.
-    pub fn put(&mut self, part: Part<'w, E>) -> Result<(), Fault> {
+    pub fn put(&mut self, part: Part<I, E>) -> Result<(), Fault> {
         match self.parts.push(part) {
             Ok(()) => Ok(()),
             Err(_) => Err(Fault::OutOfMemory),
@@ -68,7 +68,7 @@ impl<'w, E: Drop> Parts<'w, E> {
     }
 
     /// Takes the next part, which must be a text.
-    pub fn text(&mut self) -> Result<&'w str, Fault> {
+    pub fn text(&mut self) -> Result<I, Fault> {
         match self.parts.pop() {
             Some(Part::Text(text)) => Ok(text),
             _ => Err(Fault::NoSuchCall),
@@ -100,7 +100,7 @@ impl<'w, E: Drop> Parts<'w, E> {
     }
 
     /// Takes the next part, which must be a cause or a context.
-    pub fn context_or_cause(&mut self) -> Result<Result<StrContext, &'w str>, Fault> {
+    pub fn context_or_cause(&mut self) -> Result<Result<StrContext, I>, Fault> {
         match self.parts.pop() {
             Some(Part::Context(context)) => Ok(Ok(context)),
             Some(Part::Cause(cause)) => Ok(Err(cause)),
@@ -140,15 +140,11 @@ impl<'w, E: Drop> Parts<'w, E> {
         }
     }
 
-    // Makes a value that was expected.
-    fn make_value(&mut self, call: &str) -> Result<StrContextValue, Fault> {
-        match call {
-            "CharLiteral" => match self.parts.pop() {
-                Some(Part::Sign(sign)) => Ok(StrContextValue::CharLiteral(sign)),
-                _ => Err(Fault::NoSuchCall),
-            },
-            "StringLiteral" => Ok(StrContextValue::StringLiteral(name(self.text()?)?)),
-            _ => Ok(StrContextValue::Description(name(self.text()?)?)),
+    // Makes a character that was expected.
+    fn make_character(&mut self) -> Result<StrContextValue, Fault> {
+        match self.parts.pop() {
+            Some(Part::Sign(sign)) => Ok(StrContextValue::CharLiteral(sign)),
+            _ => Err(Fault::NoSuchCall),
         }
     }
 
@@ -159,17 +155,13 @@ impl<'w, E: Drop> Parts<'w, E> {
     }
 
     /// Makes the part that the name calls for, of the parts after it. The name is none of a call of
-    /// errors.
+    /// errors, and of none that takes a text.
     pub fn make(&mut self, call: &str) -> Result<(), Fault> {
         let part = match call {
             "Unknown" => Part::Needed(Needed::Unknown),
             "Size" => Part::Needed(Needed::new(self.number()?)),
-            "CharLiteral" | "StringLiteral" | "Description" => {
-                Part::Value(self.make_value(call)?)
-            }
+            "CharLiteral" => Part::Value(self.make_character()?),
             "Expected" => Part::Context(StrContext::Expected(self.value()?)),
-            "Label" => Part::Context(StrContext::Label(name(self.text()?)?)),
-            "cause" => Part::Cause(self.text()?),
             "Incomplete" => Part::Mode(ErrMode::Incomplete(self.needed()?)),
             "Backtrack" => Part::Mode(ErrMode::Backtrack(self.error()?)),
             "Cut" => Part::Mode(ErrMode::Cut(self.error()?)),

@@ -1,11 +1,14 @@
 //! Texts of trees of errors and of their parts, at texts, at texts that the tree owns, and at the
 //! lengths of these.
 use crate::formats::quoted;
-use crate::made::made;
+use crate::made::{TextStream, made, texts};
 use rows::{Fault, Words};
 use std::alloc::{AllocError, Global};
 use winnow_context::StrContext;
 use winnow_error::ErrMode::Backtrack;
+use winnow_error::{
+    AddContext, ErrMode, FromExternalError, FromRecoverableError, OrTree, ParserError,
+};
 use winnow_tree::{TreeError, TreeErrorBase, TreeErrorContext, combine_trees};
 
 type Tree<'w> = TreeError<&'w str, StrContext>;
@@ -26,13 +29,38 @@ fn text(alloc: Global, question: &str, tree: Tree<'_>) -> Result<String, AllocEr
     }
 }
 
-// Returns the text of what alternatives combine to.
-fn combined(alloc: Global, input: &Words) -> Result<String, Fault> {
-    let mut parts = made::<Tree>(alloc, input)?;
-    match combine_trees(alloc, parts.tree()?)? {
-        Backtrack(tree) => Ok(text(alloc, "text", tree)?),
-        other => Ok(format!(in alloc; "{other:?}")?),
+// What a row asks of a tree, in a trait so that the words are read for any error.
+trait Told: Sized {
+    fn told(self, alloc: Global, question: &str) -> Result<String, Fault>;
+
+    fn told_together(alloc: Global, errors: OrTree<ErrMode<Self>>) -> Result<String, Fault>;
+}
+
+impl<'w> Told for TreeError<&'w str, StrContext> {
+    fn told(self, alloc: Global, question: &str) -> Result<String, Fault> {
+        Ok(text(alloc, question, self)?)
     }
+
+    fn told_together(alloc: Global, errors: OrTree<ErrMode<Self>>) -> Result<String, Fault> {
+        match combine_trees(alloc, errors)? {
+            Backtrack(tree) => Ok(text(alloc, "text", tree)?),
+            _ => Err(Fault::NoSuchCall),
+        }
+    }
+}
+
+// Returns the text of the tree, or of the alternatives, that the words make.
+fn ask<I, E>(alloc: Global, question: &str, input: &Words, texts: &[I]) -> Result<String, Fault>
+where
+    I: TextStream,
+    E: ParserError<I> + AddContext<I, StrContext> + Told,
+    E: FromExternalError<I, String> + FromRecoverableError<I, E>,
+{
+    let mut parts = made::<I, E>(alloc, input, texts)?;
+    if question == "combine_trees" {
+        return E::told_together(alloc, parts.tree()?);
+    }
+    parts.error()?.told(alloc, question)
 }
 
 // Returns the text of a base at an input with a cause, as the question asks for it.
@@ -67,11 +95,12 @@ fn context_text(alloc: Global, question: &str, input: &Words) -> Result<String, 
 
 /// Answers a question about a tree or about one of its parts.
 pub fn answer(alloc: Global, family: &str, question: &str, input: &Words) -> Result<String, Fault> {
+    let texts = texts(alloc, input)?;
+    let texts = texts.as_slice();
     let text = match (family, question) {
         ("base", question) => base_text(alloc, question, input)?,
         ("context", question) => context_text(alloc, question, input)?,
-        (_, "combine_trees") => combined(alloc, input)?,
-        (_, question) => text(alloc, question, made::<Tree>(alloc, input)?.error()?)?,
+        (_, question) => ask::<&str, Tree>(alloc, question, input, texts)?,
     };
     Ok(quoted(alloc, text.as_str())?)
 }
