@@ -38,7 +38,7 @@ pub fn unsigned<I: Fronts + Stream<Token = u8>>(
 ) -> Result<String, Fault> {
     let order = order(end);
     match name {
-        "u8" | "be_u8" | "le_u8" => number::<I, _>(alloc, u8(), row),
+        "u8" => number::<I, _>(alloc, u8(), row),
         "be_u16" => number::<I, _>(alloc, be_u16(), row),
         "le_u16" => number::<I, _>(alloc, le_u16(), row),
         "u16" => number::<I, _>(alloc, u16(order), row),

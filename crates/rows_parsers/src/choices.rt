@@ -36,11 +36,12 @@ where
 // The alternatives of a call: the last one stands for those that are not written.
 type Parts<'w> = (Part<'w>, Part<'w>, Part<'w>, Part<'w>, Part<'w>);
 
-// Returns the parser that is written from a word on, or this one, and the index after it.
-fn next<'w>(words: &'w Words, (part, index): (Part<'w>, usize)) -> (Part<'w>, usize, usize) {
+// Returns the parser that is written from a word on, or else this one, the index after it, and
+// whether one is written.
+fn next<'w>(words: &'w Words, (part, index): (Part<'w>, usize)) -> (Part<'w>, usize, bool) {
     match read_part(words, index) {
-        Ok((part, index)) => (part, index, 1),
-        Err(_) => (part, index, 0),
+        Ok((part, index)) => (part, index, true),
+        Err(_) => (part, index, false),
     }
 }
 
@@ -51,7 +52,13 @@ fn read_parts(words: &Words) -> Result<(Parts<'_>, usize), Fault> {
     let (third, index, three) = next(words, (second, index));
     let (fourth, index, four) = next(words, (third, index));
     let (fifth, _, five) = next(words, (fourth, index));
-    let count = 1 + two + three + four + five;
+    let count = match (two, three, four, five) {
+        (true, true, true, true) => 5,
+        (true, true, true, false) => 4,
+        (true, true, false, false) => 3,
+        (true, false, false, false) => 2,
+        _ => 1,
+    };
     Ok(((first, second, third, fourth, fifth), count))
 }
 
