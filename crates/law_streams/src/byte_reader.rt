@@ -1,13 +1,13 @@
 //! A stream as a user would write it, with a whole that no call changes.
 ghost use Rattle.std.specs.Prelude.{◌≡◌, true, refl, ⊤};
 ghost use Rattle.std.proofs.Common.{◌∙◌, sym, ap};
-ghost use Rattle.winnow_base.specs.Checkpoint.{checkpoint_inner};
-ghost use Rattle.winnow_base.specs.Source.{units, width};
-ghost use Rattle.winnow_base.specs.Front.{front};
-ghost use Rattle.winnow_base.specs.Longer.{SlicesStay-front};
-ghost use Rattle.winnow_base.specs.Units.{HasPositiveWidths-units};
+ghost use Rattle.winnow_stream.specs.Checkpoint.{checkpoint_inner};
+ghost use Rattle.winnow_stream.specs.Source.{units, width};
+ghost use Rattle.winnow_stream.specs.Front.{front};
+ghost use Rattle.winnow_stream.specs.Longer.{SlicesStay-front};
+ghost use Rattle.winnow_stream.specs.Units.{HasPositiveWidths-units};
 
-use winnow_base::stream::{Checkpoint, Needed, Rest, SliceOffsets, Stream};
+use winnow_stream::{Checkpoint, Needed, Rest, SliceOffsets, Stream};
 
 /// A list of bytes, and the part of it that is left: a stream as a user would write it, with a
 /// whole that no call changes.
@@ -62,7 +62,7 @@ impl<'a> Stream for ByteReader<'a> {
 
     ghost slices_stay = { SlicesStay-front (λ s. units s.now) };
 
-    ghost use Rattle.winnow_base.specs.Units.{width-units};
+    ghost use Rattle.winnow_stream.specs.Units.{width-units};
 
     ghost positive_widths = { λ s _. HasPositiveWidths-units s.rest.now };
 

@@ -1,9 +1,8 @@
 //! A parser of a field, over any stream of bytes.
 ghost use Rattle.std.specs.Prelude.{◌≡◌, ℕ, ◌≤◌, Some, IfOk, OnErr, length, take, drop};
-ghost use Rattle.winnow_base.specs.Source.{first_token, width};
+ghost use Rattle.winnow_stream.specs.Source.{first_token, width};
 
-use winnow_base::stream::laws::{offset_law, taken_law};
-use winnow_base::stream::{Needed, Stream};
+use winnow_stream::{Needed, Stream, offset_law, taken_law};
 
 /// Reads a field: a byte that gives the number of its tokens, and then these tokens. Where input is
 /// missing, the stream stays where it is.

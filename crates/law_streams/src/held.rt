@@ -1,9 +1,9 @@
 //! A parser of the tokens of a set, over any stream.
 ghost use Rattle.std.specs.Prelude.{◌≡◌, false, not, Some, drop, length};
-ghost use Rattle.winnow_base.specs.Source.{width, first_token, first_offset, held_front, HoldsAll};
+ghost use Rattle.winnow_stream.specs.Source.{width, first_token, first_offset, held_front, HoldsAll};
 
-use winnow_base::stream::laws::held_law;
-use winnow_base::stream::{FixedSet, Stream};
+use winnow_sets::FixedSet;
+use winnow_stream::{Stream, held_law};
 
 /// Returns the tokens up to the first that the set does not hold, and moves past them.
 pub fn take_while<S: Stream, C: FixedSet<S::Token>>(input: &mut S, set: &C) -> S::Slice

@@ -3,12 +3,11 @@ ghost use Rattle.std.specs.Prelude.{◌≡◌, ℕ, ◌-◌, ◌<◌, Some, None
 ghost use Rattle.std.specs.declared.ops.Range as range_declared;
 ghost use Rattle.winnow_stream.specs.Source.{width};
 ghost use Rattle.winnow_stream.specs.Shortage.{needed};
-ghost use Rattle.winnow_base.specs.Front.{back};
+ghost use Rattle.winnow_stream.specs.Front.{back};
 ghost use Rattle.winnow_match.specs.declared.compare.CompareResult.TheVariants as compared;
 
-use winnow_base::error::Needed;
-use winnow_base::stream::laws::front_law;
-use winnow_base::stream::{Compare, CompareResult, FindSlice, SliceLen};
+use winnow_match::{Compare, CompareResult, FindSlice};
+use winnow_stream::{Needed, SliceLen, front_law};
 
 /// Returns the literal and moves past it, if the stream begins with it. If not, nothing moves.
 pub fn literal<S: Compare<T>, T>(input: &mut S, wanted: T) -> Option<S::Slice>

@@ -1,14 +1,14 @@
 //! A parser of a number, over any stream of bytes.
 ghost use Rattle.std.specs.Prelude.{◌≡◌, ℕ, List};
-ghost use Rattle.winnow_base.specs.Source.{units, held_front};
-ghost use Rattle.winnow_base.specs.SliceBytes.{SlicesHaveBytes};
-ghost use Rattle.winnow_base.specs.Reading.{IsSomeExactly, ReadsBytes, ReadsUnsigned};
+ghost use Rattle.winnow_stream.specs.Source.{units, held_front};
+ghost use Rattle.winnow_stream.specs.SliceBytes.{SlicesHaveBytes};
+ghost use Rattle.winnow_count.specs.Reading.{IsSomeExactly, ReadsBytes, ReadsUnsigned};
 
 use crate::held::take_while;
-use winnow_base::stream::laws::{
-    held_law, number_law, parse_slice_law, slice_bytes_law, slice_law,
-};
-use winnow_base::stream::{AsBytes, FixedSet, LocatingSlice, ParseSlice, Stream};
+use winnow_count::{ParseSlice, number_law, parse_slice_law};
+use winnow_sets::FixedSet;
+use winnow_stream::{AsBytes, Stream, held_law, slice_bytes_law, slice_law};
+use winnow_wrap::LocatingSlice;
 
 /// Returns the number that the tokens of a set ahead write, and moves past them. Returns `None`
 /// where they write no number that fits.

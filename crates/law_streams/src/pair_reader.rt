@@ -2,14 +2,14 @@
 ghost use Rattle.std.specs.Prelude.{◌≡◌, ◌+◌, ◌*◌, ◌<◌, ◌^◌, false, length, ⊤};
 ghost use Rattle.std.specs.Iterator.{at_most, YieldsFirst};
 ghost use Rattle.std.proofs.Common.{sym, ap, subst};
-ghost use Rattle.winnow_base.specs.Checkpoint.{checkpoint_inner};
-ghost use Rattle.winnow_base.specs.Source.{offsets_from};
-ghost use Rattle.winnow_base.specs.Front.{front};
-ghost use Rattle.winnow_base.specs.Longer.{SlicesStay-front};
+ghost use Rattle.winnow_stream.specs.Checkpoint.{checkpoint_inner};
+ghost use Rattle.winnow_stream.specs.Source.{offsets_from};
+ghost use Rattle.winnow_stream.specs.Front.{front};
+ghost use Rattle.winnow_stream.specs.Longer.{SlicesStay-front};
 ghost use Rattle.law_streams.specs.PairSource.{pair_source, width-pair_source};
 ghost use Rattle.law_streams.specs.PairSource.{HasPositiveWidths-pair_source};
 
-use winnow_base::stream::{Checkpoint, Needed, Rest, Stream};
+use winnow_stream::{Checkpoint, Needed, Rest, Stream};
 
 /// Sixteen-bit code units with offsets in bytes, so that each has width 2: a user-defined stream
 /// whose width is not 1, with values that are not valid, and with a shortage of unknown size.

@@ -1,12 +1,11 @@
 //! A parser that says where its tokens stand, over any stream with a location.
 ghost use Rattle.std.specs.Prelude.{◌≡◌, ◌+◌, IfOk, OnErr, take};
-ghost use Rattle.winnow_base.specs.Source.{width};
-ghost use Rattle.winnow_base.specs.Front.{back};
-ghost use Rattle.winnow_base.specs.Location.{IsLocation};
+ghost use Rattle.winnow_stream.specs.Source.{width};
+ghost use Rattle.winnow_stream.specs.Front.{back};
+ghost use Rattle.winnow_stream.specs.Location.{IsLocation};
 
 use std::ops::Range;
-use winnow_base::stream::laws::{offset_law, span_law, taken_law};
-use winnow_base::stream::{Location, Needed, Stream};
+use winnow_stream::{Location, Needed, Stream, offset_law, span_law, taken_law};
 
 /// Returns a number of tokens, and where they stand in the whole input. Where fewer remain, nothing
 /// moves.

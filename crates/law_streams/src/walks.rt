@@ -1,9 +1,9 @@
 //! Walks over any stream that come back, or that measure what they took.
 ghost use Rattle.std.specs.Prelude.{◌≡◌, ◌+◌, IsTrue, MatchOption};
-ghost use Rattle.winnow_base.specs.Source.{width};
-ghost use Rattle.winnow_base.specs.Front.{is_offset};
+ghost use Rattle.winnow_stream.specs.Source.{width};
+ghost use Rattle.winnow_stream.specs.Front.{is_offset};
 
-use winnow_base::stream::Stream;
+use winnow_stream::Stream;
 
 /// Returns the slice of width `offset` and the width that it took, and puts the stream back where
 /// it stood. Returns `None` where no front has that width.

@@ -89,7 +89,8 @@ fn found_in_bytes(s: Bytes, input: &Words) -> Result<Option<Range<usize>>, Fault
     }
 }
 
-/// Returns how a stream compares with the second word, or where the words after the first are found.
+/// Returns how a stream compares with the second word, or where the words after the first are
+/// found.
 pub fn answer(alloc: Global, verb: &str, name: &str, input: &Words) -> Result<String, Fault> {
     match (verb, name) {
         ("compare", "bstr") => {

@@ -73,7 +73,8 @@ where
         "search" => search::<S, L>(alloc, s, input),
         "look" => look(alloc, &s),
         "complete" => complete(alloc, s),
-        _ => forms(alloc, &s),
+        "print" => forms(alloc, &s),
+        _ => Err(Fault::NoSuchCall),
     }
 }
 

@@ -1,6 +1,6 @@
 use Rattle.std.proofs.Common.{◌≡◌, ℕ, List, ◌∙◌, sym, subst}
-use Rattle.winnow_base.specs.Source.{units, width, held_front}
-use Rattle.winnow_base.specs.Reading.{ReadsUnsigned}
+use Rattle.winnow_stream.specs.Source.{units, width, held_front}
+use Rattle.winnow_count.specs.Reading.{ReadsUnsigned}
 use Rattle.law_streams.proofs.numbers.number.Goals as goal
 
 pub returns-clause-number : goal.returns-clause-number
