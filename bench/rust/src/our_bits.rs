@@ -29,6 +29,16 @@ unsafe extern "C" {
         out: *mut u64,
         room: usize,
     ) -> u64;
+    fn winnow_bench_answers_wrapped_bits(
+        input: *const u8,
+        length: usize,
+        place: u64,
+        nest: u64,
+        script: *const RawStep,
+        steps: usize,
+        out: *mut u64,
+        room: usize,
+    ) -> u64;
     fn winnow_bench_others_bits(input: *const u8, length: usize, place: u64, width: u64, out: *mut u64, room: usize) -> u64;
 }
 
@@ -37,6 +47,13 @@ impl Room {
     pub fn answers_bits(&mut self, input: &[u8], place: usize, script: &[RawStep]) -> Option<Vec<Told>> {
         read_answers(self.told(|out, room| unsafe {
             winnow_bench_answers_bits(input.as_ptr(), input.len(), place as u64, script.as_ptr(), script.len(), out, room)
+        })?)
+    }
+
+    /// The same in a wrapper or a nest of them, by its number.
+    pub fn answers_wrapped_bits(&mut self, input: &[u8], place: usize, nest: u64, script: &[RawStep]) -> Option<Vec<Told>> {
+        read_answers(self.told(|out, room| unsafe {
+            winnow_bench_answers_wrapped_bits(input.as_ptr(), input.len(), place as u64, nest, script.as_ptr(), script.len(), out, room)
         })?)
     }
 

@@ -3,7 +3,8 @@
 use crate::script::{Step, Told};
 use crate::theirs::{self, IsOffset, Number, Weigh, mix};
 use winnow::binary::bits::Bits;
-use winnow::stream::{Offset, SliceLen, Stream, StreamIsPartial};
+use crate::their_recovered::record;
+use winnow::stream::{LocatingSlice, Offset, Partial, SliceLen, Stateful, Stream, StreamIsPartial};
 
 impl Number for bool {
     fn number(&self) -> u64 {
@@ -44,6 +45,34 @@ pub fn take_all(input: &[u8], number: u64) -> u64 {
 /// The answers of a script on the bits of bytes from a place on.
 pub fn tell_run(input: &[u8], place: usize, script: &[Step]) -> Vec<Told> {
     theirs::tell_run(Bits(input, place), script)
+}
+
+impl<I: IsOffset> IsOffset for LocatingSlice<I> {
+    fn is_offset(&self, offset: usize) -> bool {
+        (**self).is_offset(offset)
+    }
+}
+
+impl<I: IsOffset, S> IsOffset for Stateful<I, S> {
+    fn is_offset(&self, offset: usize) -> bool {
+        self.input.is_offset(offset)
+    }
+}
+
+/// How many wrappers and nests of them there are.
+pub const NESTS: u64 = 6;
+
+/// The same in a wrapper or a nest of them, by its number.
+pub fn tell_wrapped_run(input: &[u8], place: usize, nest: u64, script: &[Step]) -> Vec<Told> {
+    let bits = Bits(input, place);
+    match nest {
+        0 => theirs::tell_run(LocatingSlice::new(bits), script),
+        1 => theirs::tell_run(Stateful { input: bits, state: 7_u64 }, script),
+        2 => theirs::tell_run(Partial::new(bits), script),
+        3 => theirs::tell_run(record(bits), script),
+        4 => theirs::tell_run(Partial::new(Stateful { input: LocatingSlice::new(record(bits)), state: 7_u64 }), script),
+        _ => theirs::tell_run(record(LocatingSlice::new(Stateful { input: Partial::new(bits), state: 7_u64 })), script),
+    }
 }
 
 /// What the calls that no step names answer of them: nothing where there is no front of that width.

@@ -1,4 +1,4 @@
-//! Bits: each short script on all short inputs from each place on, and on inputs that look random.
+//! Bits, alone, in each wrapper and in two nests: each short script on all short inputs from each place on, and on inputs that look random.
 
 use crate::case::{Case, Input};
 use crate::generate::{BYTES, random_cases, short_scripts, words};
@@ -42,6 +42,12 @@ fn compare_case(room: &mut Room, input: &[u8], place: usize, script: &[Step], wi
     let theirs = theirs::tell_run(input, place, script);
     if ours.as_ref() != Some(&theirs) {
         return Err(format!("bits {input:02x?} from {place} on, {script:?}:\nours {ours:?}\nRust {theirs:?}"));
+    }
+    for nest in 0..theirs::NESTS {
+        let ours = room.answers_wrapped_bits(input, place, nest, &raw);
+        if ours.as_ref() != Some(&theirs::tell_wrapped_run(input, place, nest, script)) {
+            return Err(format!("bits {input:02x?} from {place} on, in nest {nest}, {script:?}:\nours {ours:?}"));
+        }
     }
     let ours = room.others_bits(input, place, width);
     let theirs = theirs::others(input, place, width);

@@ -1,0 +1,2 @@
+pub mod AsciiFailureLemmas
+pub mod FailureLemmas

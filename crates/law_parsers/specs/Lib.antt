@@ -1,0 +1,2 @@
+pub mod AsciiFailures
+pub mod Failures

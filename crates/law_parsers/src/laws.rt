@@ -1,0 +1,91 @@
+//! The laws of parsers, each called once. They do nothing, so the calls show that they can be
+//! called.
+
+use winnow_ascii::{Fragment, ascii_law, determined_escaped_law, determined_number_law};
+use winnow_binary::{Numeral, determined_length_law, determined_slice_read_law, fixed_number_law};
+use winnow_combinator::{
+    Accumulated, Gather, determined_choice_law, determined_end_law, determined_repeat_law,
+    determined_till_law,
+};
+use winnow_count::Accumulate;
+use winnow_error::{EmptyError, ParserError};
+use winnow_parser::{
+    Parser, determined_function_law, determined_law, determined_pair_law, determined_slice_law,
+    parser_law, taken_width_law,
+};
+use winnow_stream::{Stream, StreamIsPartial};
+use winnow_token::{
+    AnyToken, Counted, any, count_law, determined_token_law, hits_stay_law, prompt_law,
+};
+use winnow_wrap::Partial;
+
+type Text = Partial<&'static str>;
+
+type Bytes = Partial<&'static [u8]>;
+
+type Word = &'static str;
+
+// Calls the laws of parsers and of tokens.
+fn call_laws<
+    I: StreamIsPartial,
+    E: ParserError<I>,
+    P: Parser<I, E>,
+    G: Gather<P::Output>,
+    F: Fn(P::Output) -> P::Output,
+    T: Fn(&P::Output) -> bool,
+>(parser: &P) {
+    taken_width_law::<I::Token>();
+    count_law::<I::Token>();
+    hits_stay_law();
+    prompt_law::<I>();
+    determined_token_law::<I, usize>();
+    parser_law::<I, E, _>(parser);
+    determined_law::<I, E, P, usize>();
+    determined_slice_law::<I, E, P, usize, usize>();
+    determined_pair_law::<I, E, P, P, P, usize, usize>();
+    determined_function_law::<I, E, P, P::Output, F, T, usize, usize>();
+    determined_repeat_law::<I, E, P, P, G, usize, usize, usize>();
+    determined_choice_law::<I, E, P, P, P, P, P, P, P, P, P, P, usize>();
+    determined_end_law::<I>();
+}
+
+// Calls the law of values up to another.
+fn call_till_law<
+    I: StreamIsPartial,
+    E: ParserError<I>,
+    P: Parser<I, E>,
+    G: Gather<P::Output>,
+    F: Fn(P::Output, P::Output, P::Output) -> P::Output,
+>() {
+    determined_till_law::<I, E, P, P, G, F, usize, usize, usize>();
+}
+
+// Calls the laws of ASCII text.
+fn call_ascii_laws<
+    I: StreamIsPartial + Stream<Token = char, Slice = Word>,
+    E: ParserError<I>,
+    P: Parser<I, E>,
+    A: Accumulate<Fragment<P::Output, P::Output>>,
+>() {
+    ascii_law::<I, E>();
+    determined_number_law::<I, E, u8, u8, usize>();
+    determined_escaped_law::<I, E, P, P, P, A, usize, usize, usize, usize>();
+}
+
+#[test]
+fn laws_are_called(_rt: HostRuntime) {
+    call_laws::<Text, EmptyError, _, Accumulated<usize>, fn(char) -> char, fn(&char) -> bool>(
+        &any(),
+    );
+    type Op = fn(char, char, char) -> char;
+    call_till_law::<Text, EmptyError, AnyToken, Accumulated<usize>, Op>();
+    call_ascii_laws::<Text, EmptyError, AnyToken, String>();
+}
+
+#[test]
+fn laws_of_numbers_are_called(_rt: HostRuntime) {
+    fixed_number_law::<u16>();
+    fixed_number_law::<i64>();
+    determined_length_law::<Bytes, EmptyError, Numeral<u16>, Numeral<u8>, Vec<u8>, usize, u8, u8>();
+    determined_slice_read_law::<Bytes, EmptyError, Numeral<u16>, Counted, usize>();
+}

@@ -1,0 +1,16 @@
+//! What contracts of parsers say of their failures, put together, records as their users write
+//! them, and one call of each law of parsers and readers. Nothing here is part of the library.
+#![tactic(auto)]
+
+#[cfg(test)]
+mod ascii;
+#[cfg(test)]
+mod combined;
+#[cfg(test)]
+mod laws;
+#[cfg(test)]
+mod lines;
+#[cfg(test)]
+mod readers;
+#[cfg(test)]
+mod text_lines;

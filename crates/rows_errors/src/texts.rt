@@ -1,0 +1,18 @@
+//! What `BStr` and `Bytes` print under each format.
+use crate::formats::shown;
+use rows::{Fault, Words};
+use std::alloc::Global;
+use winnow_bytes::Bytes;
+use winnow_kinds::BStr;
+
+/// Answers a question about the text that bytes print as.
+pub fn answer(alloc: Global, family: &str, question: &str, input: &Words) -> Result<String, Fault> {
+    let bytes = input.bytes(0)?;
+    match family {
+        "BStr" => shown(alloc, question, &BStr::new(bytes)),
+        "Bytes" => shown(alloc, question, &Bytes::new(bytes)),
+        "upper" => shown(alloc, question, &Bytes::new(bytes).upper()),
+        "lower" => shown(alloc, question, &Bytes::new(bytes).lower()),
+        _ => Err(Fault::NoSuchCall),
+    }
+}

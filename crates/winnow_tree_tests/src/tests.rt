@@ -1,5 +1,0 @@
-mod debug_texts;
-mod parse_errors;
-mod parts;
-mod places;
-mod trees;

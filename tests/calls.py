@@ -1,0 +1,134 @@
+#!/usr/bin/env python3
+"""Makes every public call of the library that may be refused memory where memory is there, and fails where one says that it was refused.
+
+    tests/calls.py WORKSPACE
+
+The calls are listed from the signatures in the sources of the crates that `winnow` stands on: all whose answer may hold an `AllocError`, but
+for those of private types, those whose contracts say that none comes, and parsers that are refused memory only where a part of theirs is. `refusal_calls` of the
+workspace has a row for each, which is named as the call is, and makes it on no items, on a few and on thousands.
+"""
+import os
+import re
+import subprocess
+import sys
+
+TOP = os.path.dirname(os.path.dirname(os.path.realpath(__file__)))
+
+# The types whose values may say that memory was refused.
+REFUSING = ("AllocError", "RecordError", "ReadError", "ModalResult")
+
+# How an impl says that a method is never refused memory of its own.
+NEVER = {
+    "append": r"ghost append_refusable = \{ ⊥ \}",
+    "or": r"ghost or_refusable = \{ ⊥ \}",
+    "add_context": r"ghost add_context_refusable = \{ ⊥ \}",
+    "convert": r"ghost convert_refusable = \{ ⊥ \}",
+    "initial": r"ghost refusable = \{ ⊥ \}",
+    "accumulate": r"ghost refusable = \{ ⊥ \}",
+    "clone": r"ghost is_infallible = \{ λ _\. ⊤ \}",
+    # Where no error is recorded, each comes back as it came.
+    "record_err": r"(?s)\A(?!.*ghost refuses =)",
+    # A parser's meaning names what may be refused beside its parts.
+    "parse_next": r"(?s)\A(?!.*ghost means = \{[^}]*refusable)",
+    "take": r"ghost refusable = \{ ⊥ \}",
+    # It is refused what its `Gather` is.
+    "begin": r"\bBegin<T> for Folded<",
+    # It is refused what its record of text is.
+    "read": r"\bRecord for Utf8Record<",
+}
+
+# How rows begin that are of the program of scripts.
+FURTHER = "script: "
+
+
+def crates():
+    """Returns the names of the library's crates."""
+    lines = subprocess.run([f"{TOP}/tools/crates", "winnow"], check=True, stdout=subprocess.PIPE, text=True).stdout
+    return [re.split("[ :]", line)[0] for line in lines.splitlines()]
+
+
+def sources(crate):
+    """Yields the text of each source of a crate, without comments."""
+    for folder, _, names in os.walk(f"{TOP}/crates/{crate}/src"):
+        for name in names:
+            with open(f"{folder}/{name}", encoding="utf-8") as text:
+                yield re.sub(r"^ *//.*\n", "", text.read(), flags=re.M)
+
+
+def behind(text):
+    """Returns what stands behind the angle brackets with which a text begins, if it does."""
+    depth = 0
+    for place, sign in enumerate(text):
+        depth += (sign == "<") - (sign == ">" and text[place - 1] != "-")
+        if depth == 0:
+            return text[place + (sign == ">"):]
+    return text
+
+
+def plain(words):
+    """Returns the name of a type without lifetimes, on one line."""
+    return re.sub("<>", "", re.sub(r"'\w+,? ?", "", " ".join(words.split())))
+
+
+def owner(block):
+    """Returns what an impl is of, as paths name it, or a trait's name; `None` where the block is neither."""
+    head = re.search(r"^impl\b(.*?)(?:\bwhere\b|\{$)", block, flags=re.M | re.S)
+    if not head:
+        declared = re.search(r"^pub trait (\w+)", block, flags=re.M)
+        return declared and declared.group(1)
+    words = plain(behind(head.group(1).strip()))
+    trait, found, of = words.partition(" for ")
+    return f"<{of} as {trait}>" if found else trait
+
+
+def function(text, indent):
+    """Returns whether a function is `pub`, its name, and the type that it answers; `None` where the text has no function."""
+    found = re.search(rf"^{indent}(pub )?(?:final )?fn (\w+)(.*\((?:.*\)|\n(?:{indent} .*\n)*{indent}\)).*)", text, flags=re.M)
+    if not found or re.search(r";\Z", text.rstrip("}\n ")):
+        return None
+    return bool(found.group(1)), found.group(2), found.group(3).rpartition(") -> ")[2]
+
+
+def may_be_refused(answer):
+    return any(re.search(rf"\b{name}\b", answer) for name in REFUSING)
+
+
+def calls_of(crate):
+    """Yields the calls of a crate that may be refused memory, as rows are named."""
+    texts = list(sources(crate))
+    exported = set(re.findall(r"\w+", " ".join(re.findall(r"^pub use ([^;]*);", "\n".join(texts), flags=re.M | re.S))))
+    private = set(re.findall(r"^(?:struct|enum) (\w+)", "\n".join(texts), flags=re.M))
+    for block in (block for text in texts for block in re.split(r"\n\n(?=\S)", text)):
+        of = owner(block)
+        members = re.split(r"\n\n(?=    \S)", block) if of else [block]
+        for member in members:
+            found = function(member, "    " if of else "")
+            if not found or not may_be_refused(found[2]):
+                continue
+            is_public, name, _ = found
+            is_public = is_public or re.search(r"^pub trait ", block, flags=re.M)
+            if of and of.startswith("<"):
+                if re.match(r"<(\w*)", of).group(1) not in private and not re.search(NEVER.get(name, "(?!)"), block):
+                    yield f"{of}::{name}"
+            elif is_public and re.match(r"\w+", of or name).group() in exported:
+                yield f"{of}::{name}" if of else name
+
+
+def main(workspace):
+    listed = {call for crate in crates() for call in calls_of(crate)}
+    ran = subprocess.run(["rt", "try"], cwd=f"{workspace}/crates/refusal_calls", capture_output=True, text=True, check=False)
+    if "run=ended status=0" not in ran.stderr:
+        print(ran.stderr[-3000:])
+        print("0 passed, 1 failed")
+        return 1
+    rows = dict(line.rsplit(": ", 1) for line in ran.stdout.splitlines())
+    faults = [f"{call} has no row" for call in sorted(listed - rows.keys())]
+    faults += [f"{row} is no call" for row in rows if row not in listed and not row.startswith(FURTHER)]
+    faults += [f"{row} was {outcome}" for row, outcome in rows.items() if outcome != "done"]
+    print("\n".join(faults))
+    print(f"{len(rows) - len(faults)} passed, {len(faults)} failed")
+    return 1 if faults or not listed else 0
+
+
+if __name__ == "__main__":
+    sys.exit(main(*sys.argv[1:]))
