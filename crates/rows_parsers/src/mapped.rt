@@ -95,10 +95,13 @@ pub fn characters<I: Fronts + Stream<Token = char>>(
 }
 
 /// Answers `counted()`: as many characters as the digit before them says.
-pub fn counted<'w, I: Fronts + Stream<Token = char, Slice = &'w str>>(
+pub fn counted<I: Fronts + Stream<Token = char>>(
     alloc: Global,
     row: &Row<I::Whole>,
-) -> Result<String, Fault> {
+) -> Result<String, Fault>
+where
+    I::Slice: Debug + Drop,
+{
     let count = one_of('0'..='9').map(|digit: char| (digit as usize).saturating_sub(48));
     let parser = count.flat_map(|count: usize| take(count));
     ask::<I, _>(alloc, &parser, row)
