@@ -113,6 +113,7 @@ fn of_bytes(alloc: Global, call: &Words, row: &Row<&[u8]>) -> Result<String, Fau
     match name {
         "literal" => tokens::literals::<Bytes<'_>>(alloc, call.text(1)?, row),
         "length_and_then" => binary::within(alloc, row),
+        "setting" => mapped::setting::<Bytes<'_>>(alloc, row),
         "length_take" | "length_repeat" => {
             let inner = call.plain(2).unwrap_or("");
             binary::counted::<Bytes<'_>>(alloc, (name, inner), row)

@@ -4,12 +4,13 @@ use crate::parts::{counts, set};
 use crate::{Fronts, Row, ask};
 use rows::{Fault, Words};
 use std::alloc::Global;
-use winnow_combinator::{eof, repeat, separated_foldl1};
+use std::fmt::Debug;
+use winnow_combinator::{eof, preceded, repeat, separated_foldl1};
 use winnow_error::EmptyError;
 use winnow_parser::Parser;
 use winnow_sets::CharSet;
 use winnow_stream::Stream;
-use winnow_token::{any, one_of, take, take_while};
+use winnow_token::{any, one_of, take, take_till, take_while};
 
 // Answers a method of a parser of words.
 fn of_words<'w, I: Fronts, P: Parser<I, EmptyError, Output = &'w str> + Copy>(
@@ -94,10 +95,13 @@ pub fn characters<I: Fronts + Stream<Token = char>>(
 }
 
 /// Answers `counted()`: as many characters as the digit before them says.
-pub fn counted<'w, I: Fronts + Stream<Token = char, Slice = &'w str>>(
+pub fn counted<I: Fronts + Stream<Token = char>>(
     alloc: Global,
     row: &Row<I::Whole>,
-) -> Result<String, Fault> {
+) -> Result<String, Fault>
+where
+    I::Slice: Debug + Drop,
+{
     let count = one_of('0'..='9').map(|digit: char| (digit as usize).saturating_sub(48));
     let parser = count.flat_map(|count: usize| take(count));
     ask::<I, _>(alloc, &parser, row)
@@ -109,4 +113,17 @@ pub fn three_and_end<I: Fronts + Stream<Token = char>>(
     row: &Row<I::Whole>,
 ) -> Result<String, Fault> {
     ask::<I, _>(alloc, &(any(), any(), any(), eof()), row)
+}
+
+/// Answers `setting()`: letters, the sign `=`, and what stands up to the end of the line.
+pub fn setting<I: Fronts + Stream<Token = u8>>(
+    alloc: Global,
+    row: &Row<I::Whole>,
+) -> Result<String, Fault>
+where
+    I::Slice: Debug + Drop,
+{
+    let key = take_while(1.., b'a'..=b'z');
+    let value = preceded(one_of(b'='), take_till(0.., b'\n'));
+    ask::<I, _>(alloc, &(key, value), row)
 }
