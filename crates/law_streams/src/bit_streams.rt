@@ -15,8 +15,8 @@ use winnow_stream::{NoSet, SliceLen, Stream, StreamIsPartial, byte_slice_law};
 use winnow_views::{Bits, bit_checkpoint_law, bit_place_law, bit_slice_law, bit_source_law};
 use winnow_wrap::LocatingSlice;
 
-/// Returns the bits of bytes from a place on, or `None` where there are too many or the place is not
-/// in a byte.
+/// Returns the bits of bytes from a place on, or `None` where there are too many or the place is
+/// not in a byte.
 pub fn bits_at(bytes: &[u8], place: usize) -> Option<Bits<&[u8]>>
     ensures { IfSome result (λ s. IsBitSource (units (bits_inner s).now) (bits_place s)) }
 {
@@ -84,7 +84,8 @@ where
     Some((slice, length))
 }
 
-/// The slices of other streams of bytes are as long as their offset too, so those of their bits are.
+/// The slices of other streams of bytes are as long as their offset too, so those of their bits
+/// are.
 pub fn slices_have_widths()
     ensures text { SlicesHaveWidths ⟦<BStr<'static> as Stream>⟧.is_slice
         ⟦<&'static [u8] as SliceLen>⟧.has_width

@@ -1,6 +1,7 @@
 //! A parser of the tokens of a set, over any stream.
 ghost use Rattle.std.specs.Prelude.{◌≡◌, false, not, Some, drop, length};
-ghost use Rattle.winnow_stream.specs.Source.{width, first_token, first_offset, held_front, HoldsAll};
+ghost use Rattle.winnow_stream.specs.Source.{width, first_token, first_offset, held_front};
+ghost use Rattle.winnow_stream.specs.Source.{HoldsAll};
 
 use winnow_sets::FixedSet;
 use winnow_stream::{Stream, held_law};

@@ -11,8 +11,8 @@ use winnow_stream::Stream;
 /// The errors that rows record.
 pub type Mode = ErrMode<EmptyError>;
 
-/// Records an error. Afterwards there is one more error at the end, or the errors are as before, and
-/// the stream inside stays in both cases.
+/// Records an error. Afterwards there is one more error at the end, or the errors are as before,
+/// and the stream inside stays in both cases.
 pub fn recorded<I, E, R>(s: &mut Recoverable<I, R>, err: E) -> Result<(), RecordError<E>>
 where
     I: Stream,

@@ -133,9 +133,9 @@ pub fn passed_on_law<I: StreamIsPartial + Display, E: Debug>()
         → t ≡ s.input }
 {}
 
-/// Whatever a call does to the flag of a stream, a place and a state around it stay as they are, and
-/// their flag is that of the stream; a flag belongs to no other part of the stream; and a plain
-/// stream has none.
+/// Whatever a call does to the flag of a stream, a place and a state around it stay as they are,
+/// and their flag is that of the stream; a flag belongs to no other part of the stream; and a
+/// plain stream has none.
 pub fn flag_law<'i, I: StreamIsPartial, S: Debug>()
     ensures start_stays { (s t : LocatingSlice I I.Checkpoint I.Rest I.Checkpoint.Rest)
         → ⟦<LocatingSlice<I> as StreamIsPartial>⟧.same_but_flag s t → s.start ≡ t.start }
