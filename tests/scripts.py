@@ -55,7 +55,7 @@ def piece_lines(pieces):
 
 
 def output_over(pieces, answers):
-    """Returns the lines of answers, each of which is definite after so many bytes, or at the end."""
+    """Returns the lines of answers: of each, the bytes that make it definite, or None."""
     lines = []
     for needed, answer in answers:
         length, number = 0, "end"
@@ -69,7 +69,7 @@ def output_over(pieces, answers):
 
 
 def cuts_of(parts):
-    """Returns each way to join neighbours among parts, also with an empty piece before each piece."""
+    """Yields each way to join neighbours, also with an empty piece before each piece."""
     for cuts in itertools.product([False, True], repeat=len(parts) - 1):
         pieces = [parts[0]]
         for part, cut in zip(parts[1:], cuts):
@@ -164,7 +164,8 @@ def long_scripts():
         told += [f"{last} mark {number}"]
     told.append(f"end items {len(given)}..{len(given)}")
     for kind in ("byte-pieces", "text-pieces"):
-        yield f"long-{kind}", lines_of([kind, *rounds, "each", *piece_lines(pieces)]), lines_of(told)
+        script = [kind, *rounds, "each", *piece_lines(pieces)]
+        yield f"long-{kind}", lines_of(script), lines_of(told)
 
 
 def many_steps():
