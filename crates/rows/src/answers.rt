@@ -1,3 +1,4 @@
+//! The calls that a program of rows makes, and why a row has no answer.
 use crate::Words;
 use std::alloc::{AllocError, Global};
 

@@ -1,3 +1,4 @@
+//! Makes the calls of rows and reports those that are answered otherwise.
 use crate::{Answers, Fault, Words};
 use std::alloc::{AllocError, Global};
 use std::process::ExitCode;

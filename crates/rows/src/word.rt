@@ -1,3 +1,4 @@
+//! A word of an input.
 /// A word of a row's input.
 #[derive(Debug, Drop)]
 pub enum Word {

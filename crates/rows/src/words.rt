@@ -1,3 +1,4 @@
+//! Reads the words of an input, as Rust writes literals.
 use crate::{Fault, Word};
 use std::alloc::{AllocError, Global};
 
@@ -6,6 +7,7 @@ use std::alloc::{AllocError, Global};
 enum Kind {
     Text,
     Bytes,
+    Byte,
     Char,
 }
 
@@ -42,11 +44,11 @@ struct Reading {
     state: State,
 }
 
-// Returns the quote that ends a word of this kind; bytes end with either.
+// Returns whether a sign is the quote that ends a word of this kind.
 fn ends(kind: Kind, sign: char) -> bool {
     match kind {
         Kind::Text | Kind::Bytes => sign == '"',
-        Kind::Char => sign == '\'',
+        Kind::Byte | Kind::Char => sign == '\'',
     }
 }
 
@@ -59,11 +61,11 @@ impl Reading {
     // Adds a character to the word.
     fn add(&mut self, kind: Kind, sign: char) -> Result<(), AllocError> {
         match (kind, u8::try_from(u32::from(sign))) {
-            (Kind::Bytes, Ok(byte)) => {
+            (Kind::Bytes | Kind::Byte, Ok(byte)) => {
                 self.bytes.push(byte)?;
                 Ok(())
             }
-            (Kind::Bytes, Err(_)) => {
+            (Kind::Bytes | Kind::Byte, Err(_)) => {
                 self.state = State::Faulty;
                 Ok(())
             }
@@ -85,7 +87,7 @@ impl Reading {
         self.state = State::Between;
         let word = match kind {
             Kind::Text => Word::Text(text),
-            Kind::Bytes => Word::Bytes(bytes),
+            Kind::Bytes | Kind::Byte => Word::Bytes(bytes),
             Kind::Char => match text.as_str().chars().next() {
                 Some(sign) => Word::Char(sign),
                 None => Word::Text(text),
@@ -114,7 +116,8 @@ impl Reading {
         match sign {
             '"' | '\'' if self.text.as_str() == "b" => {
                 self.text.clear();
-                self.state = State::Quoted(Kind::Bytes);
+                let kind = if sign == '"' { Kind::Bytes } else { Kind::Byte };
+                self.state = State::Quoted(kind);
                 Ok(())
             }
             sign if parts(sign) => {
