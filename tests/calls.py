@@ -41,12 +41,14 @@ NEVER = {
     "take": r"ghost refusable = \{ ⊥ \}",
     # It is refused what its `Gather` is.
     "begin": r"\bBegin<T> for Folded<",
+    # It hands on what was refused.
+    "from": r"\bFrom<AllocError> for ",
     # It is refused what its record of text is.
     "read": r"\bRecord for Utf8Record<",
 }
 
-# How rows begin that are of the program of scripts.
-FURTHER = "script: "
+# How rows begin that are of the program of scripts, and of a reader of text.
+FURTHER = ("script: ", "text: ")
 
 
 def formats():
@@ -137,8 +139,8 @@ def calls_of(crate, is_format):
 
 def makes_refusal(text):
     """Returns whether a source makes an `AllocError`: whether it names the type elsewhere than in a type, or gives it another name."""
-    code = re.sub(r"^(?:ghost |pub )*use (?:(?!\bAllocError as\b)[^;])*;", "", text, flags=re.M)
-    in_types = r"\bAllocError>|^    Refused\(AllocError\),$|\(refused: AllocError\) ->"
+    code = re.sub(r"^ *(?:ghost |pub )*use (?:(?!\bAllocError as\b)[^;])*;", "", text, flags=re.M)
+    in_types = r"\bAllocError>|^    Refused\(AllocError\),$|\(\w+: AllocError\) ->"
     return "AllocError" in re.sub(in_types, "", code, flags=re.M)
 
 
