@@ -3,9 +3,11 @@
 
     tests/calls.py WORKSPACE
 
-The calls are listed from the signatures in the sources of the crates that `winnow` stands on: all whose answer may hold an `AllocError`, but
+The calls are listed from the signatures in the sources of the crates that `winnow` stands on, and of the formats: all whose answer may hold an `AllocError`, but
 for those of private types, those whose contracts say that none comes, and parsers that are refused memory only where a part of theirs is. `refusal_calls` of the
 workspace has a row for each, which is named as the call is, and makes it on no items, on a few and on thousands.
+
+It also fails where a source of the library makes an `AllocError` itself. Only the allocator does, but for the places in `MADE`.
 """
 import os
 import re
@@ -15,7 +17,13 @@ import sys
 TOP = os.path.dirname(os.path.dirname(os.path.realpath(__file__)))
 
 # The types whose values may say that memory was refused.
-REFUSING = ("AllocError", "RecordError", "ReadError", "ModalResult")
+REFUSING = ("AllocError", "RecordError", "ReadError", "ModalResult", "Unwritten", "EventError")
+
+# The sources that make an `AllocError`: of more separators than a `usize` counts, and of the want of memory that `hex` tells of.
+MADE = {"winnow_combinator/src/separation.rt", "winnow_execute/src/literals.rt"}
+
+# Crates that make one to test with it.
+TESTING = {"winnow_refusals"}
 
 # How an impl says that a method is never refused memory of its own.
 NEVER = {
@@ -33,26 +41,35 @@ NEVER = {
     "take": r"ghost refusable = \{ ⊥ \}",
     # It is refused what its `Gather` is.
     "begin": r"\bBegin<T> for Folded<",
+    # It hands on what was refused.
+    "from": r"\bFrom<AllocError> for ",
     # It is refused what its record of text is.
     "read": r"\bRecord for Utf8Record<",
 }
 
-# How rows begin that are of the program of scripts.
-FURTHER = "script: "
+# How rows begin that are of the program of scripts, and of a reader of text.
+FURTHER = ("script: ", "text: ")
 
 
-def crates():
-    """Returns the names of the library's crates."""
-    lines = subprocess.run([f"{TOP}/tools/crates", "winnow"], check=True, stdout=subprocess.PIPE, text=True).stdout
+def formats():
+    """Returns the names of the formats: the crates that stand on `winnow_format`."""
+    with open(f"{TOP}/crates.txt", encoding="utf-8") as text:
+        return re.findall(r"^(winnow_\w+):.* winnow_format\b", text.read(), flags=re.M)
+
+
+def crates(names):
+    """Returns the names of these crates and of all that they stand on."""
+    lines = subprocess.run([f"{TOP}/tools/crates", *names], check=True, stdout=subprocess.PIPE, text=True).stdout
     return [re.split("[ :]", line)[0] for line in lines.splitlines()]
 
 
 def sources(crate):
-    """Yields the text of each source of a crate, without comments."""
+    """Yields the path of each source of a crate from `crates` on, and its text without comments."""
     for folder, _, names in os.walk(f"{TOP}/crates/{crate}/src"):
         for name in names:
             with open(f"{folder}/{name}", encoding="utf-8") as text:
-                yield re.sub(r"^ *//.*\n", "", text.read(), flags=re.M)
+                path = os.path.relpath(f"{folder}/{name}", f"{TOP}/crates")
+                yield path, re.sub(r"^ *//.*\n", "", text.read(), flags=re.M)
 
 
 def behind(text):
@@ -84,7 +101,8 @@ def owner(block):
 def function(text, indent):
     """Returns whether a function is `pub`, its name, and the type that it answers; `None` where the text has no function."""
     found = re.search(rf"^{indent}(pub )?(?:final )?fn (\w+)(.*\((?:.*\)|\n(?:{indent} .*\n)*{indent}\)).*)", text, flags=re.M)
-    if not found or re.search(r";\Z", text.rstrip("}\n ")):
+    # A trait's method without a body ends with a semicolon; the brace after the last one is the trait's.
+    if not found or re.search(r";(\n\})?\s*\Z", text):
         return None
     return bool(found.group(1)), found.group(2), found.group(3).rpartition(") -> ")[2]
 
@@ -93,9 +111,14 @@ def may_be_refused(answer):
     return any(re.search(rf"\b{name}\b", answer) for name in REFUSING)
 
 
-def calls_of(crate):
+def is_never_refused(name, block, is_format):
+    """Returns whether an impl says that this method is never refused memory of its own. The meaning of a format's parser does not name what may be refused."""
+    return not (is_format and name == "parse_next") and re.search(NEVER.get(name, "(?!)"), block)
+
+
+def calls_of(crate, is_format):
     """Yields the calls of a crate that may be refused memory, as rows are named."""
-    texts = list(sources(crate))
+    texts = [text for _, text in sources(crate)]
     exported = set(re.findall(r"\w+", " ".join(re.findall(r"^pub use ([^;]*);", "\n".join(texts), flags=re.M | re.S))))
     private = set(re.findall(r"^(?:struct|enum) (\w+)", "\n".join(texts), flags=re.M))
     for block in (block for text in texts for block in re.split(r"\n\n(?=\S)", text)):
@@ -108,14 +131,30 @@ def calls_of(crate):
             is_public, name, _ = found
             is_public = is_public or re.search(r"^pub trait ", block, flags=re.M)
             if of and of.startswith("<"):
-                if re.match(r"<(\w*)", of).group(1) not in private and not re.search(NEVER.get(name, "(?!)"), block):
+                if re.match(r"<(\w*)", of).group(1) not in private and not is_never_refused(name, block, is_format):
                     yield f"{of}::{name}"
             elif is_public and re.match(r"\w+", of or name).group() in exported:
                 yield f"{of}::{name}" if of else name
 
 
+def makes_refusal(text):
+    """Returns whether a source makes an `AllocError`: whether it names the type elsewhere than in a type, or gives it another name."""
+    code = re.sub(r"^ *(?:ghost |pub )*use (?:(?!\bAllocError as\b)[^;])*;", "", text, flags=re.M)
+    in_types = r"\bAllocError>|^    Refused\(AllocError\),$|\(\w+: AllocError\) ->"
+    return "AllocError" in re.sub(in_types, "", code, flags=re.M)
+
+
+def made_refusals():
+    """Yields a line for each source that makes an `AllocError`, and should not; and for each in `MADE` that makes none."""
+    libraries = [name for name in os.listdir(f"{TOP}/crates") if name.startswith("winnow") and name not in TESTING]
+    making = {path for crate in libraries for path, text in sources(crate) if makes_refusal(text)}
+    yield from (f"{path} makes an AllocError" for path in sorted(making - MADE))
+    yield from (f"{path} makes no AllocError" for path in sorted(MADE - making))
+
+
 def main(workspace):
-    listed = {call for crate in crates() for call in calls_of(crate)}
+    own = formats()
+    listed = {call for crate in crates(["winnow", *own]) for call in calls_of(crate, crate in own)}
     ran = subprocess.run(["rt", "try"], cwd=f"{workspace}/crates/refusal_calls", capture_output=True, text=True, check=False)
     if "run=ended status=0" not in ran.stderr:
         print(ran.stderr[-3000:])
@@ -125,9 +164,10 @@ def main(workspace):
     faults = [f"{call} has no row" for call in sorted(listed - rows.keys())]
     faults += [f"{row} is no call" for row in rows if row not in listed and not row.startswith(FURTHER)]
     faults += [f"{row} was {outcome}" for row, outcome in rows.items() if outcome != "done"]
+    faults += made_refusals()
     print("\n".join(faults))
     print(f"{len(rows) - len(faults)} passed, {len(faults)} failed")
-    return 1 if faults or not listed else 0
+    return 1 if faults or not listed or not own else 0
 
 
 if __name__ == "__main__":
