@@ -1,11 +1,12 @@
 //! Alternatives, all of one type.
 
-use crate::parts::{Part, read_part};
+use crate::parts::{Part, Set, read_part};
 use crate::{Fronts, Row, ask};
 use rows::{Fault, Words};
 use std::alloc::Global;
 use std::fmt::Debug;
 use winnow_combinator::alt;
+use winnow_count::Range;
 use winnow_error::EmptyError;
 use winnow_match::Compare;
 use winnow_parser::Parser;
@@ -62,6 +63,24 @@ fn read_parts(words: &Words) -> Result<(Parts<'_>, usize), Fault> {
     Ok(((first, second, third, fourth, fifth), count))
 }
 
+// Answers `alt` of a `take_while` and of others that are alike.
+fn of_words<I: Fronts>(
+    alloc: Global,
+    count: usize,
+    (first, other): ((Range, Set), (Range, Set)),
+    row: &Row<I::Whole>,
+) -> Result<String, Fault>
+where
+    I::Token: AsChar + Copy + Debug + Drop,
+    I::Slice: Debug + Drop,
+{
+    let (counts, set) = first;
+    let (other_counts, other_set) = other;
+    let first = take_while(counts, CharSet::new(&set));
+    let other = take_while(other_counts, CharSet::new(&other_set));
+    of_alternatives::<I, _>(alloc, count, (first, other, other, other, other), row)
+}
+
 /// Answers `alt`.
 pub fn choice<'w, I: Fronts + Compare<&'w str>>(
     alloc: Global,
@@ -91,9 +110,7 @@ where
             of_alternatives::<I, _>(alloc, count, list, row)
         }
         (Part::TakeWhile(n, a), Part::TakeWhile(m, b), Part::TakeWhile(..), _, _) => {
-            let a = take_while(n, CharSet::new(&a));
-            let b = take_while(m, CharSet::new(&b));
-            of_alternatives::<I, _>(alloc, count, (a, b, b, b, b), row)
+            of_words::<I>(alloc, count, ((n, a), (m, b)), row)
         }
         _ => Err(Fault::NoSuchCall),
     }

@@ -1,0 +1,15 @@
+//! A call of each law of the formats. Nothing here is part of the library.
+#![tactic(auto)]
+
+use winnow_csv::rows_in_pieces_law;
+use winnow_json::{events_law, place_law, round_trip_law};
+use winnow_resp::spelling_law;
+
+/// Calls each law: a caller then knows what it says.
+pub fn call_laws() {
+    rows_in_pieces_law();
+    spelling_law();
+    place_law();
+    round_trip_law();
+    events_law();
+}
