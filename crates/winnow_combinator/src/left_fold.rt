@@ -70,15 +70,13 @@ impl<O: Drop, S, F: Fn(O, S, O) -> O> Gather<(S, O)> for Operation<'_, F> {
 impl<
     I: StreamIsPartial,
     E: ParserError<I>,
-    P: Parser<I, E>,
-    S: Parser<I, E>,
-    F: Fn(P::Output, S::Output, P::Output) -> P::Output,
-> Parser<I, E> for LeftFold<P, S, F>
-where
-    P::Output: Drop,
-    S::Output: Drop,
-{
-    type Output = P::Output;
+    O: Drop,
+    T: Drop,
+    P: Parser<I, E, Output = O>,
+    S: Parser<I, E, Output = T>,
+    F: Fn(O, T, O) -> O,
+> Parser<I, E> for LeftFold<P, S, F> {
+    type Output = O;
 
     ghost means = { λ p. FoldedLeft (λ left pair new. F.post p.op left pair.0 pair.1 new)
         (S.means p.separator) (P.means p.inner) };
@@ -92,7 +90,7 @@ where
     ghost lawful = { λ p. IsParser-FoldedLeft (S.lawful p.separator) (P.lawful p.inner)
         (λ left pair new. F.post p.op left pair.0 pair.1 new) };
 
-    fn parse_next(&self, alloc: Global, input: &mut I) -> ModalResult<P::Output, E> {
+    fn parse_next(&self, alloc: Global, input: &mut I) -> ModalResult<O, E> {
         let first = self.inner.parse_next(alloc, input)?;
         // The width of what remains fits in a `usize`, so the values can be counted.
         let _ = input.eof_offset();

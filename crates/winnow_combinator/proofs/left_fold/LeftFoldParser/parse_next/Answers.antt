@@ -22,7 +22,7 @@ returns-clause-means g c =
     let flag = g.met.I.StreamIsPartial.keeps_flag c.args.input.now c.parse_next.new.input c.in_ok-first.ensures.kept in
     let separator = g.S.Parser.means parser.separator in
     let inner = g.P.Parser.means parser.inner in
-    let step = λ (left : g.row.P-Output.Denot) (pair : g.row.S-Output.Denot × g.row.P-Output.Denot) (new : g.row.P-Output.Denot). goal.F-post g parser.op left pair.0 pair.1 new in
+    let step = λ (left : g.row.O.Denot) (pair : g.row.T.Denot × g.row.O.Denot) (new : g.row.O.Denot). goal.F-post g parser.op left pair.0 pair.1 new in
     let rest = subst (λ more. Gathered ⊥ (FoldsTo step first) (Repeated 0 None (Pair separator inner)) more between answer) flag c.go_on.ensures.means in
     FoldedLeft-first step separator inner partial here first between answer c.in_ok-first.ensures.means rest
 
