@@ -1,8 +1,7 @@
 //! Alternatives, all of one type.
 
-use crate::parts::{Part, Set, read_part};
-use crate::{Fronts, Row, ask};
 use rows::{Fault, Words};
+use rows_fronts::{Fronts, Part, Row, Set, ask, read_part};
 use std::alloc::Global;
 use std::fmt::Debug;
 use winnow_combinator::alt;

@@ -1,4 +1,4 @@
-//! Rows of parsers, whole and over each front of their input.
+//! Rows of parsers of tokens and of combinators, whole and over each front of their input.
 //!
 //! ```text
 //! take_while(1.., 'a'..='z') | "abc1" 4 | Read("abc", "1")
@@ -10,22 +10,15 @@
 //! input with `..` is a front, of which the parser is asked alone: `NeedsMore(needed, rest)`.
 #![tactic(auto)]
 
-mod ascii;
-mod asking;
-mod binary;
 mod choices;
-mod fronts;
 mod mapped;
 mod one;
-mod parts;
 mod several;
 mod tokens;
 mod whole;
 
-pub use asking::{Row, ask};
-pub use fronts::Fronts;
-use parts::{Part, read_part};
 use rows::{Answers, Fault, Word, Words};
+use rows_fronts::{Part, Row, read_part};
 use std::alloc::Global;
 use std::process::ExitCode;
 use winnow_wrap::Partial;
@@ -70,18 +63,9 @@ fn of_combinator(alloc: Global, call: &Words, row: &Row<&str>) -> Result<String,
 
 // Answers a call on a text that is no combinator.
 fn of_tokens(alloc: Global, call: &Words, row: &Row<&str>) -> Result<String, Fault> {
-    let name = call.plain(0)?;
-    match name {
+    match call.plain(0)? {
         "take_until" => tokens::until(alloc, call, row),
         "any" | "literal" | "one_of" | "take" | "take_while" => of_parts(alloc, call, row),
-        "escaped" | "take_escaped" => ascii::escapes::<Text<'_>>(alloc, call, row),
-        "newline" | "tab" | "crlf" | "line_ending" | "till_line_ending" => {
-            ascii::lines::<Text<'_>>(alloc, name, row)
-        }
-        _ if name.ends_with('>') => ascii::numbers::<Text<'_>>(alloc, name, row),
-        _ if name.ends_with('0') || name.ends_with('1') => {
-            ascii::classes::<Text<'_>>(alloc, name, row)
-        }
         _ => tokens::tokens::<Text<'_>>(alloc, call, row),
     }
 }
@@ -109,33 +93,10 @@ type Bytes<'w> = Partial<&'w [u8]>;
 
 // Answers a call on bytes.
 fn of_bytes(alloc: Global, call: &Words, row: &Row<&[u8]>) -> Result<String, Fault> {
-    let name = call.plain(0)?;
-    match name {
+    match call.plain(0)? {
         "literal" => tokens::literals::<Bytes<'_>>(alloc, call.text(1)?, row),
-        "length_and_then" => binary::within(alloc, row),
         "setting" => mapped::setting::<Bytes<'_>>(alloc, row),
-        "length_take" | "length_repeat" => {
-            let inner = call.plain(2).unwrap_or("");
-            binary::counted::<Bytes<'_>>(alloc, (name, inner), row)
-        }
-        "escaped" => ascii::escaped_bytes::<Bytes<'_>>(alloc, row),
-        _ if name.ends_with('1') || name.ends_with('0') => {
-            ascii::classes::<Bytes<'_>>(alloc, name, row)
-        }
-        _ => of_number(alloc, call, row),
-    }
-}
-
-// Answers a call on bytes of a number or of tokens.
-fn of_number(alloc: Global, call: &Words, row: &Row<&[u8]>) -> Result<String, Fault> {
-    let number = (call.plain(0)?, call.plain(1).unwrap_or(""));
-    match binary::unsigned::<Bytes<'_>>(alloc, number, row) {
-        Err(Fault::NoSuchCall) => {}
-        answer => return answer,
-    }
-    match binary::signed::<Bytes<'_>>(alloc, number, row) {
-        Err(Fault::NoSuchCall) => tokens::tokens::<Bytes<'_>>(alloc, call, row),
-        answer => answer,
+        _ => tokens::tokens::<Bytes<'_>>(alloc, call, row),
     }
 }
 

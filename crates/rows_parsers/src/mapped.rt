@@ -1,8 +1,7 @@
 //! Parsers whose values are handed to a function.
 
-use crate::parts::{counts, set};
-use crate::{Fronts, Row, ask};
 use rows::{Fault, Words};
+use rows_fronts::{Fronts, Row, ask, counts, set};
 use std::alloc::Global;
 use std::fmt::Debug;
 use winnow_combinator::{eof, preceded, repeat, separated_foldl1};

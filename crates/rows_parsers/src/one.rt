@@ -1,8 +1,7 @@
 //! Combinators of one parser, and its methods.
 
-use crate::parts::{Part, counts, read_part};
-use crate::{Fronts, Row, ask};
 use rows::{Fault, Words};
+use rows_fronts::{Fronts, Part, Row, ask, counts, read_part};
 use std::alloc::Global;
 use std::fmt::Debug;
 use winnow_combinator::{backtrack_err, cond, cut_err, not, opt, peek, repeat};

@@ -1,8 +1,7 @@
 //! Parsers of tokens, over text and over bytes.
 
-use crate::parts::{counts, set};
-use crate::{Fronts, Row, ask};
 use rows::{Fault, Words};
+use rows_fronts::{Fronts, Row, ask, counts, set};
 use std::alloc::Global;
 use std::fmt::Debug;
 use winnow_combinator::{empty, eof, fail};

@@ -1,7 +1,7 @@
 //! Parsers of ASCII text: classes of characters, lines, numbers, and text with escapes.
 
-use crate::{Fronts, Row, ask};
 use rows::{Fault, Words};
+use rows_fronts::{Fronts, Row, ask};
 use std::alloc::Global;
 use std::fmt::Debug;
 use winnow_ascii::{

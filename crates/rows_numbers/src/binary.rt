@@ -1,7 +1,7 @@
 //! Parsers of binary formats: numbers of each width and order, and what comes after a count.
 
-use crate::{Fronts, Row, ask};
 use rows::Fault;
+use rows_fronts::{Fronts, Row, ask};
 use std::alloc::Global;
 use std::fmt::Debug;
 use winnow_binary::{
