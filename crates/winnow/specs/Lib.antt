@@ -55,4 +55,5 @@ pub use Rattle.winnow_reader.specs.InUtf8
 pub use Rattle.winnow_binary.specs.Lengths
 pub use Rattle.winnow_binary.specs.Numerals
 pub use Rattle.winnow_binary.specs.Within
+pub use Rattle.winnow_grammar.specs.AnyAnswer
 pub use Rattle.winnow_parser.specs.declared.failure.Failure

@@ -1,0 +1,144 @@
+use std::alloc::Global;
+use winnow_ascii::alpha1;
+use winnow_bytes::Bytes;
+use winnow_combinator::{alt, separated};
+use winnow_error::{EmptyError, ParserError};
+use winnow_grammar::{Octets, Reads, Text, ask, part};
+use winnow_kinds::BStr;
+use winnow_parser::{ModalResult, Parser};
+use winnow_token::{literal, one_of, take_while};
+use winnow_wrap::{LocatingSlice, Partial, Stateful};
+
+// Words, or a star.
+#[derive(Clone, Copy, Drop)]
+struct Words;
+
+impl<I: Text, E: ParserError<I>> Reads<I, E> for Words {
+    type Output = Vec<I::Piece>;
+
+    fn read(&self, alloc: Global, input: &mut I) -> ModalResult<Self::Output, E> {
+        let words = separated(1.., alt((alpha1(), literal("***"))), one_of(','));
+        ask(alloc, input, &words)
+    }
+}
+
+/// Reads words of a text.
+pub fn read_words<'a>(alloc: Global, input: &mut &'a str) -> ModalResult<Vec<&'a str>, EmptyError> {
+    part(Words).parse_next(alloc, input)
+}
+
+/// Reads words of a text that comes in pieces.
+pub fn read_words_of_piece<'a>(
+    alloc: Global,
+    input: &mut Partial<&'a str>,
+) -> ModalResult<Vec<&'a str>, EmptyError> {
+    part(Words).parse_next(alloc, input)
+}
+
+/// Reads words of a text whose places are known.
+pub fn read_words_with_places<'a>(
+    alloc: Global,
+    input: &mut LocatingSlice<&'a str>,
+) -> ModalResult<Vec<&'a str>, EmptyError> {
+    part(Words).parse_next(alloc, input)
+}
+
+/// Reads words of a text with a state.
+pub fn read_words_with_state<'a>(
+    alloc: Global,
+    input: &mut Stateful<&'a str, u32>,
+) -> ModalResult<Vec<&'a str>, EmptyError> {
+    part(Words).parse_next(alloc, input)
+}
+
+// Letters, or a star.
+#[derive(Clone, Copy, Drop)]
+struct Letters;
+
+impl<I: Octets, E: ParserError<I>> Reads<I, E> for Letters {
+    type Output = I::Piece;
+
+    fn read(&self, alloc: Global, input: &mut I) -> ModalResult<I::Piece, E> {
+        let letters = alt((take_while(1.., b'a'..=b'z'), literal("***")));
+        ask(alloc, input, &letters)
+    }
+}
+
+/// Reads letters of bytes.
+pub fn read_letters<'a>(alloc: Global, input: &mut &'a [u8]) -> ModalResult<&'a [u8], EmptyError> {
+    part(Letters).parse_next(alloc, input)
+}
+
+/// Reads letters of bytes that come in pieces.
+pub fn read_letters_of_piece<'a>(
+    alloc: Global,
+    input: &mut Partial<&'a [u8]>,
+) -> ModalResult<&'a [u8], EmptyError> {
+    part(Letters).parse_next(alloc, input)
+}
+
+/// Reads letters of bytes that print as text.
+pub fn read_letters_of_text<'a>(
+    alloc: Global,
+    input: &mut BStr<'a>,
+) -> ModalResult<&'a [u8], EmptyError> {
+    part(Letters).parse_next(alloc, input)
+}
+
+/// Reads letters of bytes that print as numbers.
+pub fn read_letters_of_bytes<'a>(
+    alloc: Global,
+    input: &mut Bytes<'a>,
+) -> ModalResult<&'a [u8], EmptyError> {
+    part(Letters).parse_next(alloc, input)
+}
+
+#[cfg(test)]
+mod tests {
+    use super::*;
+
+    #[test]
+    fn one_grammar_reads_each_stream(rt: HostRuntime) {
+        let alloc = rt.alloc();
+        let wanted = ["ab", "***", "c"];
+        let text = "ab,***,c;";
+        let mut input = text;
+        let Ok(read) = read_words(alloc, &mut input) else {
+            panic!(rt; "no words")
+        };
+        assert_eq!(rt; read.as_slice(), wanted.as_slice());
+        let read = read_words_of_piece(alloc, &mut Partial::new(text));
+        let Ok(read) = read else {
+            panic!(rt; "no words")
+        };
+        assert_eq!(rt; read.as_slice(), wanted.as_slice());
+        assert!(rt; read_words_of_piece(alloc, &mut Partial::new("ab,*")).is_err());
+        let read = read_words_with_places(alloc, &mut LocatingSlice::new(text));
+        let Ok(read) = read else {
+            panic!(rt; "no words")
+        };
+        assert_eq!(rt; read.as_slice(), wanted.as_slice());
+        let mut input = Stateful {
+            input: text,
+            state: 7,
+        };
+        let Ok(read) = read_words_with_state(alloc, &mut input) else {
+            panic!(rt; "no words")
+        };
+        assert_eq!(rt; read.as_slice(), wanted.as_slice());
+        assert!(rt; matches!(read_letters(alloc, &mut b"***ab".as_slice()), Ok(b"***")));
+        assert!(rt; read_letters_of_piece(alloc, &mut Partial::new(b"ab".as_slice())).is_err());
+        assert!(rt;
+            matches!(
+                read_letters_of_text(alloc, &mut BStr::new(b"ab1")),
+                Ok(b"ab")
+            )
+        );
+        assert!(rt;
+            matches!(
+                read_letters_of_bytes(alloc, &mut Bytes::new(b"ab1")),
+                Ok(b"ab")
+            )
+        );
+    }
+}

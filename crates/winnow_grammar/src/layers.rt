@@ -1,0 +1,106 @@
+ghost use Rattle.std.specs.Prelude.{◌≡◌, ◌-◌, ◌<◌};
+ghost use Rattle.winnow_parser.specs.Answer.{ahead, outcome};
+ghost use Rattle.winnow_parser.specs.Errors.{AnyError};
+ghost use Rattle.winnow_grammar.specs.AnyAnswer.{AnyAnswer, IsParser-AnyAnswer};
+
+use crate::from_fn;
+use std::alloc::Global;
+use winnow_error::ParserError;
+use winnow_parser::{Failure, ModalResult, Parser};
+use winnow_stream::StreamIsPartial;
+
+/// A grammar that contains itself, such as that of expressions with parentheses.
+pub trait Layer<I: StreamIsPartial, E> {
+    /// What it reads.
+    type Output;
+
+    /// Reads one layer from the front of the stream; `inner` reads what lies inside.
+    fn read<P: Parser<I, E, Output = Self::Output> + Copy + Drop>(
+        &self,
+        alloc: Global,
+        input: &mut I,
+        inner: P,
+    ) -> ModalResult<Self::Output, E>
+        requires ready { P.ready inner }
+        requires valid { I.valid input.old }
+        ensures answer { AnyAnswer (I.expects_more input.old)
+            (ahead I.location I.remaining input.old)
+            (outcome result (ahead I.location I.remaining input.new)) }
+        ensures valid { I.valid input.new }
+        ensures kept { I.keeps input.old input.new };
+}
+
+/// A grammar that contains itself, to a depth; [`nested`] makes it.
+#[derive(Clone, Copy, Drop)]
+pub struct Layered<L> {
+    layer: L,
+    depth: usize,
+}
+
+/// Returns the parser of a grammar that contains itself, of at most this many layers. It cuts where
+/// the input goes deeper, so that no input uses up the stack.
+pub fn nested<L>(layer: L, depth: usize) -> Layered<L>
+    ensures { result ≡ record { layer = layer; depth = depth } }
+{
+    Layered { layer, depth }
+}
+
+#[cycle(nested)]
+fn read_nested<I: StreamIsPartial, X, E: ParserError<I, Inner = X>, L: Layer<I, E>>(
+    layer: &L,
+    alloc: Global,
+    input: &mut I,
+    depth: usize,
+) -> ModalResult<L::Output, E>
+    requires { I.valid input.old }
+    ensures answer { AnyAnswer (I.expects_more input.old) (ahead I.location I.remaining input.old)
+        (outcome result (ahead I.location I.remaining input.new)) }
+    ensures valid { I.valid input.new }
+    ensures kept { I.keeps input.old input.new }
+{
+    if depth == 0 {
+        return too_deep(alloc, input);
+    }
+    let inner = |alloc: Global, input: &mut I| -> ModalResult<L::Output, E>
+        requires valid { I.valid input.old }
+        requires deep { 0 < depth }
+        ensures answer { AnyAnswer (I.expects_more input.old)
+            (ahead I.location I.remaining input.old)
+            (outcome result (ahead I.location I.remaining input.new)) }
+        ensures valid { I.valid input.new }
+        ensures kept { I.keeps input.old input.new }
+    { read_nested(layer, alloc, input, depth - 1) };
+    let inner = from_fn(inner);
+    layer.read(alloc, input, &inner)
+}
+
+// Cuts.
+fn too_deep<I: StreamIsPartial, O, E: ParserError<I>>(
+    alloc: Global,
+    input: &mut I,
+) -> ModalResult<O, E>
+    requires { I.valid input.old }
+    ensures answer { AnyAnswer (I.expects_more input.old) (ahead I.location I.remaining input.old)
+        (outcome result (ahead I.location I.remaining input.new)) }
+    ensures valid { I.valid input.new }
+    ensures kept { I.keeps input.old input.new }
+{
+    Err(Failure::Cut(E::from_input(alloc, input)))
+}
+
+impl<I: StreamIsPartial, X, E: ParserError<I, Inner = X>, L: Layer<I, E>> Parser<I, E>
+    for Layered<L> {
+    type Output = L::Output;
+
+    ghost means = { λ _. AnyAnswer };
+
+    ghost errors = { λ _. AnyError };
+
+    ghost ready = { λ _. Unit {0} };
+
+    ghost lawful = { λ _. IsParser-AnyAnswer };
+
+    fn parse_next(&self, alloc: Global, input: &mut I) -> ModalResult<L::Output, E> {
+        read_nested(&self.layer, alloc, input, self.depth)
+    }
+}

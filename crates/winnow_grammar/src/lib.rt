@@ -1,0 +1,47 @@
+//! Parsers of one's own that promise no more than each parser does: they are safe, they return, the
+//! stream only moves on, and more input is needed only where more may follow. Nothing has to be
+//! written for that but the code.
+//!
+//! A part of a grammar is a type with an `impl` of [`Reads`], generic in the stream, and [`part`]
+//! makes it a parser that others are made of. A grammar that contains itself is a [`Layer`], of
+//! which [`nested`] makes a parser to a depth. [`from_fn`] makes a parser of a function or closure.
+//! A body ends in [`ask`], which reads by a parser.
+//!
+//! ```
+//! impl<I: Text, E: ParserError<I>> Reads<I, E> for AnItem {
+//!     type Output = Item<I::Piece>;
+//!
+//!     fn read(&self, alloc: Global, input: &mut I) -> ModalResult<Item<I::Piece>, E> {
+//!         let word = alpha1().map(|letters: I::Piece| Item::Word(letters));
+//!         let digits = digit1().map(|digits: I::Piece| Item::Digits(digits));
+//!         ask(alloc, input, &alt((word, digits)))
+//!     }
+//! }
+//! ..
+//!         ask(alloc, input, &separated(1.., part(AnItem), one_of(',')))
+//! ..
+//! pub fn read_items<'a>(
+//!     alloc: Global,
+//!     input: &mut &'a str,
+//! ) -> ModalResult<Vec<Item<&'a str>>, EmptyError> {
+//!     part(Items).parse_next(alloc, input)
+//! }
+//! ```
+//!
+//! The outermost function alone names `&str` or `&[u8]`: a part that is generic has no lifetime,
+//! and what it gives may hold slices of the input all the same.
+#![tactic(auto)]
+
+mod asking;
+mod functions;
+mod layers;
+mod memory;
+mod parts;
+mod texts;
+
+pub use asking::ask;
+pub use functions::{FromFn, from_fn};
+pub use layers::{Layer, Layered, nested};
+pub use memory::{MapIn, map_in};
+pub use parts::{NamedPart, Reads, part};
+pub use texts::{AsText, Chars, Octets, Text};
