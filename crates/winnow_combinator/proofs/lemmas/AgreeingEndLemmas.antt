@@ -55,7 +55,7 @@ module _ {T : Type 0} where
 
 module _ {O P : Type 0} (same : O → O → Type 0) (alike : P → P → Type 0) (step : O → P → O → Type 0) (respects : StepsRespect same alike step) where
   -- folding lists that are the same gives the same
-  folds-respects : (x y l r : O) (ps qs : List P) → same x y → AreSameEach alike ps qs
+  pub folds-respects : (x y l r : O) (ps qs : List P) → same x y → AreSameEach alike ps qs
       → FoldsTo step x ps l → FoldsTo step y qs r → same l r
   folds-respects x y l r [] [] e u h k = subst (λ o. same o r) h (subst (same x) k e)
   folds-respects x y l r [] (q ∷ qs) e u h k = absurd u
