@@ -4,11 +4,12 @@
 use winnow_ascii::{Fragment, ascii_law, determined_escaped_law, determined_number_law};
 use winnow_binary::{Numeral, determined_length_law, determined_slice_read_law, fixed_number_law};
 use winnow_combinator::{
-    Accumulated, Gather, determined_choice_law, determined_end_law, determined_repeat_law,
-    determined_till_law,
+    Accumulated, Gather, alternatives_law, determined_choice_law, determined_choosing_law,
+    determined_end_law, determined_gathered_law, determined_repeat_law, determined_row_law,
+    determined_sequence_law, determined_till_law, determined_value_law,
 };
 use winnow_count::Accumulate;
-use winnow_error::{EmptyError, ParserError};
+use winnow_error::{AddContext, EmptyError, ParserError};
 use winnow_parser::{
     Parser, determined_function_law, determined_law, determined_pair_law, determined_slice_law,
     parser_law, taken_width_law,
@@ -47,6 +48,28 @@ fn call_laws<
     determined_repeat_law::<I, E, P, P, G, usize, usize, usize>();
     determined_choice_law::<I, E, P, P, P, P, P, P, P, P, P, P, usize>();
     determined_end_law::<I>();
+    alternatives_law::<I, E, P, P, P>();
+}
+
+// Calls the laws of parsers that are made of parts with one answer each.
+fn call_part_laws<
+    I: StreamIsPartial,
+    C,
+    E: AddContext<I, C>,
+    P: Parser<I, E>,
+    G: Gather<P::Output>,
+    Z,
+    F: Fn(P::Output) -> Option<P::Output>,
+    T: Fn(P::Output) -> Result<P::Output, Z>,
+    H: Fn(P::Output) -> P,
+    N: Fn() -> P::Output,
+    S: Fn(P::Output, P::Output) -> P::Output,
+>() {
+    determined_row_law::<I, E, P, P, P, P, P, P, P, P, P, P, usize>();
+    determined_sequence_law::<I, E, P, P, P, usize, usize, usize>();
+    determined_value_law::<I, C, E, P, P::Output, usize, usize>();
+    determined_choosing_law::<I, E, P, P, P::Output, Z, F, T, H, usize, usize, usize>();
+    determined_gathered_law::<I, E, P, P, G, P::Output, N, S, usize, usize, usize>();
 }
 
 // Calls the law of values up to another.
@@ -80,6 +103,17 @@ fn laws_are_called(_rt: HostRuntime) {
     type Op = fn(char, char, char) -> char;
     call_till_law::<Text, EmptyError, AnyToken, Accumulated<usize>, Op>();
     call_ascii_laws::<Text, EmptyError, AnyToken, String>();
+}
+
+#[test]
+fn laws_of_parts_are_called(_rt: HostRuntime) {
+    type Choice = fn(char) -> Option<char>;
+    type Trial = fn(char) -> Result<char, u8>;
+    type Next = fn(char) -> AnyToken;
+    type Start = fn() -> char;
+    type Step = fn(char, char) -> char;
+    type Whole = Accumulated<usize>;
+    call_part_laws::<Text, u8, EmptyError, AnyToken, Whole, u8, Choice, Trial, Next, Start, Step>();
 }
 
 #[test]

@@ -34,6 +34,8 @@ pub use Rattle.winnow_combinator.specs.Choices
 pub use Rattle.winnow_combinator.specs.Conditional
 pub use Rattle.winnow_combinator.specs.DeterminedLists
 pub use Rattle.winnow_combinator.specs.Words
+pub use Rattle.winnow_combinator.specs.OneAnswer
+pub use Rattle.winnow_combinator.specs.Bracketing
 pub use Rattle.winnow_ascii.specs.Alike
 pub use Rattle.winnow_ascii.specs.Classes
 pub use Rattle.winnow_ascii.specs.EscapeLaws
