@@ -34,25 +34,3 @@ fn hex_primary(alloc: Global, input: &mut &str) -> ModalResult<u8, Error> {
         .verify_map(|digits: &str| u8::from_str_radix(digits, 16).ok())
         .parse_next(alloc, input)
 }
-
-#[cfg(test)]
-mod tests {
-    use super::*;
-
-    #[test]
-    fn parse_color(rt: HostRuntime) {
-        let mut input = "#2F14DF";
-        let Ok(color) = hex_color(rt.alloc(), &mut input) else {
-            panic!(rt; "no color")
-        };
-        let wanted = Color {
-            red: 47,
-            green: 20,
-            blue: 223,
-        };
-        assert_eq!(rt; color, wanted);
-        assert_eq!(rt; input, "");
-        assert!(rt; hex_color(rt.alloc(), &mut "#2F14D").is_err());
-        assert!(rt; hex_color(rt.alloc(), &mut "2F14DF").is_err());
-    }
-}

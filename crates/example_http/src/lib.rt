@@ -101,24 +101,3 @@ pub fn read_request<'a>(
 ) -> ModalResult<(Request<&'a [u8]>, Vec<Header<&'a [u8]>>), Error> {
     part(Head).parse_next(alloc, input)
 }
-
-#[cfg(test)]
-mod tests {
-    use super::*;
-
-    #[test]
-    fn reads_requests(rt: HostRuntime) {
-        const REQUEST: &[u8] = b"GET / HTTP/1.1\r\nHost: www.reddit.com\r\nA: b\r\n c\r\n\r\nGET";
-        let mut data = REQUEST;
-        let read = read_request(rt.alloc(), &mut data);
-        let Ok((line, headers)) = read else {
-            panic!(rt; "no request")
-        };
-        assert_eq!(rt; line.1, b"/".as_slice());
-        assert_eq!(rt; line.2, b"1.1".as_slice());
-        assert_eq!(rt; headers.len(), 2);
-        assert_eq!(rt; headers[0].0, b"Host".as_slice());
-        assert_eq!(rt; headers[1].1.len(), 2);
-        assert_eq!(rt; data, b"GET".as_slice());
-    }
-}

@@ -78,34 +78,3 @@ pub fn categories_of_bytes<'a>(
 ) -> ModalResult<HashMap<&'a [u8], Values<&'a [u8]>>, Error> {
     part(Ini).parse_next(alloc, input)
 }
-
-#[cfg(test)]
-mod tests {
-    use super::*;
-
-    #[test]
-    fn reads_categories(rt: HostRuntime) {
-        let mut input =
-            "[abcd]\nparameter=value;abc\n\nkey = value2\n\n[category]\nparameter3=value3\nkey4 = value4\n";
-        let Ok(read) = categories(rt.alloc(), &mut input) else {
-            panic!(rt; "no categories")
-        };
-        assert_eq!(rt; input, "");
-        assert_eq!(rt; read.len(), 2);
-        let Some(first) = read.get("abcd") else {
-            panic!(rt; "no category")
-        };
-        assert_eq!(rt; first.get("key").copied(), Some("value2"));
-        let mut input = b"[abcd]\nparameter=value;abc\n\nkey = value2\n".as_slice();
-        let Ok(read) = categories_of_bytes(rt.alloc(), &mut input) else {
-            panic!(rt; "no categories")
-        };
-        let Some(first) = read.get(b"abcd".as_slice()) else {
-            panic!(rt; "no category")
-        };
-        assert_eq!(rt;
-            first.get(b"key".as_slice()).copied(),
-            Some(b"value2".as_slice())
-        );
-    }
-}

@@ -178,36 +178,3 @@ impl<I: Text> Layer<I, Error> for Lisp {
 pub fn parse_expr(alloc: Global, input: &mut &str) -> ModalResult<Expr, Error> {
     nested(Lisp, 100).parse_next(alloc, input)
 }
-
-#[cfg(test)]
-mod tests {
-    use super::*;
-    use std::test::Fail;
-
-    #[test]
-    fn reads_expressions(rt: HostRuntime) -> Result<(), Fail> {
-        const ROWS: &[(&str, &str)] = &[
-            ("7", "Constant(Num(7))"),
-            (" -12", "Constant(Num(-12))"),
-            (":name", "Constant(Keyword(\"name\"))"),
-            (
-                "(+ 1 #t)",
-                "Application(Constant(BuiltIn(Plus)), [Constant(Num(1)), Constant(Boolean(true))])",
-            ),
-            ("'(1 2)", "Quote([Constant(Num(1)), Constant(Num(2))])"),
-        ];
-        let alloc = rt.alloc();
-        for (text, wanted) in ROWS {
-            let mut input = *text;
-            let Ok(expr) = parse_expr(alloc, &mut input) else {
-                panic!(rt; "no expression: {text}")
-            };
-            let printed = format!(in alloc; "{expr:?}")?;
-            assert_eq!(rt; printed.as_str(), *wanted);
-            assert_eq!(rt; input, "");
-        }
-        assert!(rt; parse_expr(alloc, &mut "((if (= (+ 3 (/ 9 3)) (* 2 3)) * /) 456 123)").is_ok());
-        assert!(rt; parse_expr(alloc, &mut "(1 2").is_err());
-        Ok(())
-    }
-}

@@ -99,28 +99,3 @@ impl<I: Text> Reads<I, Error> for Quoted {
 pub fn parse_string(alloc: Global, input: &mut &str) -> ModalResult<String, Error> {
     part(Quoted).parse_next(alloc, input)
 }
-
-#[cfg(test)]
-mod tests {
-    use super::*;
-
-    #[test]
-    fn parses(rt: HostRuntime) {
-        let mut input = "\"abc\"";
-        let Ok(text) = parse_string(rt.alloc(), &mut input) else {
-            panic!(rt; "no text")
-        };
-        assert_eq!(rt; text.as_str(), "abc");
-        assert_eq!(rt; input, "");
-        let mut input =
-            "\"tab:\\tafter tab, newline:\\nnew line, quote: \\\", emoji: \\u{1F602}, newline:\\nescaped whitespace: \\    abc\"";
-        let Ok(text) = parse_string(rt.alloc(), &mut input) else {
-            panic!(rt; "no text")
-        };
-        assert_eq!(rt;
-            text.as_str(),
-            "tab:\tafter tab, newline:\nnew line, quote: \", emoji: 😂, newline:\nescaped whitespace: abc"
-        );
-        assert_eq!(rt; input, "");
-    }
-}
