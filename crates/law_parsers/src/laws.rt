@@ -4,11 +4,12 @@
 use winnow_ascii::{Fragment, ascii_law, determined_escaped_law, determined_number_law};
 use winnow_binary::{Numeral, determined_length_law, determined_slice_read_law, fixed_number_law};
 use winnow_combinator::{
-    Accumulated, Gather, determined_choice_law, determined_end_law, determined_repeat_law,
-    determined_till_law,
+    Accumulated, Gather, alternative_errors_law, alternatives_law, determined_choice_law,
+    determined_choosing_law, determined_end_law, determined_gathered_law, determined_repeat_law,
+    determined_row_law, determined_sequence_law, determined_till_law, determined_value_law,
 };
 use winnow_count::Accumulate;
-use winnow_error::{EmptyError, ParserError};
+use winnow_error::{AddContext, AssociativeOr, EmptyError, ParserError};
 use winnow_parser::{
     Parser, determined_function_law, determined_law, determined_pair_law, determined_slice_law,
     parser_law, taken_width_law,
@@ -46,7 +47,41 @@ fn call_laws<
     determined_function_law::<I, E, P, P::Output, F, T, usize, usize>();
     determined_repeat_law::<I, E, P, P, G, usize, usize, usize>();
     determined_choice_law::<I, E, P, P, P, P, P, P, P, P, P, P, usize>();
-    determined_end_law::<I>();
+    determined_end_law::<I, u8, usize>();
+}
+
+// Calls the laws of brackets.
+fn call_bracket_laws<I: StreamIsPartial, E: AssociativeOr<I>, P: Parser<I, E>>() {
+    alternatives_law::<I, E, P, P, P>();
+    alternative_errors_law::<I, E, P, P, P>();
+}
+
+// Calls the laws of parts: parsers in a row, and what is made of a value.
+fn call_part_laws<
+    I: StreamIsPartial,
+    C,
+    E: AddContext<I, C>,
+    P: Parser<I, E>,
+    F: Fn(P::Output) -> Option<usize>,
+    G: Fn(P::Output) -> Result<usize, u8>,
+    H: Fn(P::Output) -> P,
+>() {
+    determined_row_law::<I, E, P, P, P, P, P, P, P, P, P, P, usize>();
+    determined_sequence_law::<I, E, P, P, P, usize, usize, usize>();
+    determined_value_law::<I, C, E, P, u8, usize, usize>();
+    determined_choosing_law::<I, E, P, P, usize, u8, F, G, H, usize, usize, usize>();
+}
+
+// Calls the law of gathered values.
+fn call_gathered_law<
+    I: StreamIsPartial,
+    E,
+    P: Parser<I, E>,
+    G: Gather<P::Output>,
+    N: Fn() -> usize,
+    F: Fn(usize, P::Output) -> usize,
+>() {
+    determined_gathered_law::<I, E, P, P, G, usize, N, F, usize, usize, usize>();
 }
 
 // Calls the law of values up to another.
@@ -80,6 +115,14 @@ fn laws_are_called(_rt: HostRuntime) {
     type Op = fn(char, char, char) -> char;
     call_till_law::<Text, EmptyError, AnyToken, Accumulated<usize>, Op>();
     call_ascii_laws::<Text, EmptyError, AnyToken, String>();
+    call_bracket_laws::<Text, EmptyError, AnyToken>();
+    type Pick = fn(char) -> Option<usize>;
+    type Try = fn(char) -> Result<usize, u8>;
+    type Next = fn(char) -> AnyToken;
+    call_part_laws::<Text, Word, EmptyError, AnyToken, Pick, Try, Next>();
+    type Start = fn() -> usize;
+    type Step = fn(usize, char) -> usize;
+    call_gathered_law::<Text, EmptyError, AnyToken, Accumulated<usize>, Start, Step>();
 }
 
 #[test]

@@ -10,3 +10,5 @@ pub mod ErrorLemmas
 pub mod TillLemmas
 pub mod AgreeingTillLemmas
 pub mod AgreeingEndLemmas
+pub mod PartLemmas
+pub mod BracketingLemmas

@@ -1,3 +1,4 @@
+pub mod Bracketing
 pub mod ChoiceErrors
 pub mod Choices
 pub mod Conditional
@@ -6,6 +7,7 @@ pub mod DeterminedLists
 pub mod Ending
 pub mod Gathering
 pub mod Misuse
+pub mod OneAnswer
 pub mod Repetition
 pub mod Separation
 pub mod Till

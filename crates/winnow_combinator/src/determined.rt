@@ -2,8 +2,6 @@ ghost use Rattle.std.specs.Prelude.{ℕ, Bool, Option, ⊤};
 ghost use Rattle.winnow_parser.specs.Determined.{IsDetermined, Shows, Respects};
 ghost use Rattle.winnow_parser.specs.Determined.{AreSameIfAny, AreBothSame};
 ghost use Rattle.winnow_parser.specs.Meanings.{Returns};
-ghost use Rattle.winnow_combinator.specs.Choices.{Choice3, Choice4, Choice5, Choice6, Choice7};
-ghost use Rattle.winnow_combinator.specs.Choices.{Choice8, Choice9, Choice10};
 ghost use Rattle.winnow_combinator.specs.Conditional.{Conditional};
 ghost use Rattle.winnow_combinator.specs.Counts.{Ascending};
 ghost use Rattle.winnow_combinator.specs.DeterminedLists.{AreSameEach, StepsRespect};
@@ -14,7 +12,6 @@ ghost use Rattle.winnow_combinator.specs.Separation.{Separated, FoldedLeft};
 ghost use Rattle.winnow_combinator.specs.Till.{RepeatedTill, MakesOfFirst};
 
 use crate::Gather;
-use winnow_error::ParserError;
 use winnow_parser::Parser;
 use winnow_stream::StreamIsPartial;
 
@@ -86,78 +83,9 @@ pub fn determined_till_law<
 
 /// The laws of parsers that take nothing: the end, nothing at all and a failure have one answer. It
 /// does nothing when called: its contract is the law.
-pub fn determined_end_law<I: StreamIsPartial>()
+pub fn determined_end_law<I: StreamIsPartial, O, V>()
     ensures ended { IsDetermined {O = Unit {0}} {T = I.Token} (λ _ _. ⊤) Ended }
     ensures nothing { IsDetermined {O = Unit {0}} {T = I.Token} (λ _ _. ⊤) (Returns tt) }
-    ensures failing { IsDetermined {O = Unit {0}} {T = I.Token} (λ _ _. ⊤) Failing }
-{}
-
-/// The laws of alternatives: alternatives that have one answer each have one answer together. It
-/// does nothing when called: its contract is the law.
-pub fn determined_choice_law<
-    I: StreamIsPartial,
-    E: ParserError<I>,
-    A: Parser<I, E>,
-    B: Parser<I, E, Output = A::Output>,
-    C: Parser<I, E, Output = A::Output>,
-    D: Parser<I, E, Output = A::Output>,
-    P: Parser<I, E, Output = A::Output>,
-    Q: Parser<I, E, Output = A::Output>,
-    R: Parser<I, E, Output = A::Output>,
-    S: Parser<I, E, Output = A::Output>,
-    T: Parser<I, E, Output = A::Output>,
-    U: Parser<I, E, Output = A::Output>,
-    V,
->()
-    ensures three { (view : A.Output → V) (a : A) (b : B) (c : C)
-        → IsDetermined (Shows view) (A.means a) → IsDetermined (Shows view) (B.means b)
-        → IsDetermined (Shows view) (C.means c) → IsDetermined (Shows view)
-        (Choice3 E.or_refusable (A.means a) (B.means b) (C.means c)) }
-    ensures four { (view : A.Output → V) (a : A) (b : B) (c : C) (d : D)
-        → IsDetermined (Shows view) (A.means a) → IsDetermined (Shows view) (B.means b)
-        → IsDetermined (Shows view) (C.means c) → IsDetermined (Shows view) (D.means d)
-        → IsDetermined (Shows view) (Choice4 E.or_refusable (A.means a) (B.means b) (C.means c)
-        (D.means d)) }
-    ensures five { (view : A.Output → V) (a : A) (b : B) (c : C) (d : D) (p : P)
-        → IsDetermined (Shows view) (A.means a) → IsDetermined (Shows view) (B.means b)
-        → IsDetermined (Shows view) (C.means c) → IsDetermined (Shows view) (D.means d)
-        → IsDetermined (Shows view) (P.means p) → IsDetermined (Shows view)
-        (Choice5 E.or_refusable (A.means a) (B.means b) (C.means c) (D.means d) (P.means p)) }
-    ensures six { (view : A.Output → V) (a : A) (b : B) (c : C) (d : D) (p : P) (q : Q)
-        → IsDetermined (Shows view) (A.means a) → IsDetermined (Shows view) (B.means b)
-        → IsDetermined (Shows view) (C.means c) → IsDetermined (Shows view) (D.means d)
-        → IsDetermined (Shows view) (P.means p) → IsDetermined (Shows view) (Q.means q)
-        → IsDetermined (Shows view) (Choice6 E.or_refusable (A.means a) (B.means b) (C.means c)
-        (D.means d) (P.means p) (Q.means q)) }
-    ensures seven { (view : A.Output → V) (a : A) (b : B) (c : C) (d : D) (p : P) (q : Q) (r : R)
-        → IsDetermined (Shows view) (A.means a) → IsDetermined (Shows view) (B.means b)
-        → IsDetermined (Shows view) (C.means c) → IsDetermined (Shows view) (D.means d)
-        → IsDetermined (Shows view) (P.means p) → IsDetermined (Shows view) (Q.means q)
-        → IsDetermined (Shows view) (R.means r) → IsDetermined (Shows view)
-        (Choice7 E.or_refusable (A.means a) (B.means b) (C.means c) (D.means d) (P.means p)
-        (Q.means q) (R.means r)) }
-    ensures eight { (view : A.Output → V) (a : A) (b : B) (c : C) (d : D) (p : P) (q : Q) (r : R)
-        (s : S) → IsDetermined (Shows view) (A.means a) → IsDetermined (Shows view) (B.means b)
-        → IsDetermined (Shows view) (C.means c) → IsDetermined (Shows view) (D.means d)
-        → IsDetermined (Shows view) (P.means p) → IsDetermined (Shows view) (Q.means q)
-        → IsDetermined (Shows view) (R.means r) → IsDetermined (Shows view) (S.means s)
-        → IsDetermined (Shows view) (Choice8 E.or_refusable (A.means a) (B.means b) (C.means c)
-        (D.means d) (P.means p) (Q.means q) (R.means r) (S.means s)) }
-    ensures nine { (view : A.Output → V) (a : A) (b : B) (c : C) (d : D) (p : P) (q : Q) (r : R)
-        (s : S) (t : T) → IsDetermined (Shows view) (A.means a)
-        → IsDetermined (Shows view) (B.means b) → IsDetermined (Shows view) (C.means c)
-        → IsDetermined (Shows view) (D.means d) → IsDetermined (Shows view) (P.means p)
-        → IsDetermined (Shows view) (Q.means q) → IsDetermined (Shows view) (R.means r)
-        → IsDetermined (Shows view) (S.means s) → IsDetermined (Shows view) (T.means t)
-        → IsDetermined (Shows view) (Choice9 E.or_refusable (A.means a) (B.means b) (C.means c)
-        (D.means d) (P.means p) (Q.means q) (R.means r) (S.means s) (T.means t)) }
-    ensures ten { (view : A.Output → V) (a : A) (b : B) (c : C) (d : D) (p : P) (q : Q) (r : R)
-        (s : S) (t : T) (u : U) → IsDetermined (Shows view) (A.means a)
-        → IsDetermined (Shows view) (B.means b) → IsDetermined (Shows view) (C.means c)
-        → IsDetermined (Shows view) (D.means d) → IsDetermined (Shows view) (P.means p)
-        → IsDetermined (Shows view) (Q.means q) → IsDetermined (Shows view) (R.means r)
-        → IsDetermined (Shows view) (S.means s) → IsDetermined (Shows view) (T.means t)
-        → IsDetermined (Shows view) (U.means u) → IsDetermined (Shows view)
-        (Choice10 E.or_refusable (A.means a) (B.means b) (C.means c) (D.means d) (P.means p)
-        (Q.means q) (R.means r) (S.means s) (T.means t) (U.means u)) }
+    ensures failing { (view : O → V)
+        → IsDetermined {O = O} {T = I.Token} (Shows view) Failing }
 {}

@@ -6,9 +6,12 @@ mod again;
 mod alternatives;
 mod alternatives_to_seven;
 mod alternatives_to_ten;
+mod bracketing;
 mod conditional;
 mod counts;
 mod determined;
+mod determined_parts;
+mod determined_tuples;
 mod ending;
 mod gathering;
 mod left_fold;
@@ -21,10 +24,13 @@ mod sequence;
 mod till;
 
 pub use alternatives::{Alternatives, alt};
+pub use bracketing::{alternative_errors_law, alternatives_law};
 pub use conditional::{Conditional, cond};
-pub use determined::{
-    determined_choice_law, determined_end_law, determined_repeat_law, determined_till_law,
+pub use determined::{determined_end_law, determined_repeat_law, determined_till_law};
+pub use determined_parts::{
+    determined_choosing_law, determined_gathered_law, determined_sequence_law, determined_value_law,
 };
+pub use determined_tuples::{determined_choice_law, determined_row_law};
 pub use ending::{Ended, Failing, Nothing, empty, eof, fail};
 pub use gathering::{Accumulated, Begin, Folded, Gather};
 pub use left_fold::{LeftFold, separated_foldl1};

@@ -74,7 +74,7 @@ module _ {O T : Type 0} (same : O → O → Type 0) (inner : Meaning O T) (d : I
 
 module _ {O S T : Type 0} (same : O → O → Type 0) (alike : S → S → Type 0) (separator : Meaning S T) (inner : Meaning O T) (q : IsDetermined alike separator) (d : IsDetermined same inner) where
   -- the second parts of pairs that are the same are the same
-  second-respects : Respects (AreBothSame alike same) same Second
+  pub second-respects : Respects (AreBothSame alike same) same Second
   second-respects x y p r e h k = subst (λ o. same o r) h (subst (same x.1) k e.1)
 
   -- lists of a first value and the others are the same where both parts are
