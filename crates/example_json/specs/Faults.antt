@@ -7,7 +7,7 @@ use Rattle.example_json.specs.Positions.{IsPlaced, LeadsTo}
 use Rattle.example_json.specs.declared.positions.Position.{Position}
 use Rattle.example_json.specs.declared.positions.Line.{Line}
 use Rattle.example_json.specs.declared.failure.Failure.{Failure}
-use Rattle.example_json.specs.declared.failure.Failure.TheVariants.{Damaged, Unexpected, TooDeep, EndsEarly, OutOfMemory, InputOrOutput}
+use Rattle.example_json.specs.declared.failure.Failure.TheVariants.{Damaged, Unexpected, TooDeep, EndsEarly, Stopped}
 
 -- the reader has no next event, for this reason: no token stands ahead of it, or one that may not
 abbrev pub StopsAt : EventState → EventError → Type 0
@@ -20,12 +20,12 @@ HasFault input r fault position =
 
 -- what a failure says of an input, where the reader of a front of it stops
 abbrev pub IsFailureOf : List ℕ → EventState → Failure → Type 0
-IsFailureOf input r (Damaged position) = HasFault input r error.Damaged position
+IsFailureOf input r (Damaged position cause) =
+    HasFault input r (λ place. error.Damaged place cause) position
 IsFailureOf input r (Unexpected position) = HasFault input r error.Unexpected position
 IsFailureOf input r (TooDeep position) = HasFault input r error.TooDeep position
 IsFailureOf input r (EndsEarly position) = HasFault input r error.EndsEarly position
-IsFailureOf input r OutOfMemory = ⊤
-IsFailureOf input r InputOrOutput = ⊤
+IsFailureOf input r (Stopped trouble) = ⊤
 
 -- where the piece follows the bytes that lead to the line, the place has this position
 abbrev pub Places : Line → List ℕ → ℕ → Position → Type 0
@@ -39,9 +39,9 @@ IsAt line piece e fault position =
 
 -- the failure tells of the error, by the position of its place
 abbrev pub TellsOf : Line → List ℕ → EventError → Failure → Type 0
-TellsOf line piece e (Damaged position) = IsAt line piece e error.Damaged position
+TellsOf line piece e (Damaged position cause) =
+    IsAt line piece e (λ place. error.Damaged place cause) position
 TellsOf line piece e (Unexpected position) = IsAt line piece e error.Unexpected position
 TellsOf line piece e (TooDeep position) = IsAt line piece e error.TooDeep position
 TellsOf line piece e (EndsEarly position) = IsAt line piece e error.EndsEarly position
-TellsOf line piece e OutOfMemory = ⊤
-TellsOf line piece e InputOrOutput = ⊤
+TellsOf line piece e (Stopped trouble) = ⊤

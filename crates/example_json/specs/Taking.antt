@@ -39,8 +39,8 @@ IsTaken old level (Ok next.NeedsMore) new there wrote =
     (new.stopped ≡ None) × PrintsOn old level new there wrote × (new.tokens.ended ≡ false)
 IsTaken old level (Ok next.Done) new there wrote =
     (new.stopped ≡ None) × PrintsOn old level new there wrote × IsWhole new
-IsTaken old level (Err (error.Damaged place)) new there wrote =
-    StopsAfter old level (error.Damaged place) wrote
+IsTaken old level (Err (error.Damaged place cause)) new there wrote =
+    StopsAfter old level (error.Damaged place cause) wrote
 IsTaken old level (Err (error.Unexpected place)) new there wrote =
     StopsAfter old level (error.Unexpected place) wrote
 IsTaken old level (Err (error.TooDeep place)) new there wrote =

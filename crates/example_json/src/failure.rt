@@ -1,28 +1,27 @@
 ghost use Rattle.std.specs.Prelude.{◌≡◌, Some};
-ghost use Rattle.std.specs.IoError.{error_kind};
-ghost use Rattle.example_json.specs.Failures.{status_of, failure_of, failure_text};
-ghost use Rattle.example_json.specs.declared.failure.Failure.TheVariants.{OutOfMemory};
+ghost use Rattle.example_base.specs.declared.trouble.Trouble.TheVariants.{OutOfMemory};
+ghost use Rattle.example_json.specs.Failures.{status_of, failure_text};
+ghost use Rattle.example_json.specs.declared.failure.Failure.TheVariants.{Stopped};
 
 use crate::positions::Position;
+use example_base::Trouble;
 use std::alloc::AllocError;
 use std::fmt;
-use std::io::{self, ErrorKind};
+use winnow_json::Cause;
 
 /// The reason why the program ends with a status other than 0.
 #[derive(Clone, Copy, Debug, Drop, PartialEq, Eq)]
 pub enum Failure {
-    /// No token of JSON stands there
-    Damaged(Position),
+    /// No token of JSON stands there, for this cause
+    Damaged(Position, Cause),
     /// A token stands there that may not come next
     Unexpected(Position),
     /// A value stands there within too many arrays and objects
     TooDeep(Position),
     /// The input ends before the text does
     EndsEarly(Position),
-    /// Memory was refused
-    OutOfMemory,
-    /// Reading or writing failed
-    InputOrOutput,
+    /// Memory was refused, or reading or writing failed
+    Stopped(Trouble),
 }
 
 impl Failure {
@@ -31,12 +30,11 @@ impl Failure {
         ensures { result ≡ status_of self.now }
     {
         match self {
-            Failure::Damaged(_) => 2,
+            Failure::Damaged(_, _) => 2,
             Failure::Unexpected(_) => 2,
             Failure::TooDeep(_) => 2,
             Failure::EndsEarly(_) => 2,
-            Failure::OutOfMemory => 3,
-            Failure::InputOrOutput => 4,
+            Failure::Stopped(trouble) => trouble.status(),
         }
     }
 }
@@ -46,33 +44,21 @@ impl fmt::Display for Failure {
 
     fn fmt<W: fmt::Write>(&self, f: &mut fmt::Formatter<W>) -> fmt::Result {
         match self {
-            Failure::Damaged(place) => write!(f, "{place}: no token of JSON stands here"),
-            Failure::Unexpected(place) => write!(f, "{place}: this may not stand here"),
+            Failure::Damaged(place, cause) => write!(f, "{place}: {cause}"),
+            Failure::Unexpected(place) => write!(f, "{place}: a token that may not stand here"),
             Failure::TooDeep(place) => {
                 write!(f, "{place}: a value within too many arrays and objects")
             }
             Failure::EndsEarly(place) => write!(f, "{place}: the input ends before the text does"),
-            Failure::OutOfMemory => write!(f, "memory was refused"),
-            Failure::InputOrOutput => write!(f, "reading or writing failed"),
+            Failure::Stopped(trouble) => write!(f, "{trouble}"),
         }
     }
 }
 
 impl From<AllocError> for Failure {
-    ghost from_gives = { λ _ failure. failure ≡ OutOfMemory };
+    ghost from_gives = { λ _ failure. failure ≡ Stopped OutOfMemory };
 
-    fn from(_refused: AllocError) -> Failure {
-        Failure::OutOfMemory
-    }
-}
-
-impl From<io::Error> for Failure {
-    ghost from_gives = { λ error failure. failure ≡ failure_of (error_kind error) };
-
-    fn from(error: io::Error) -> Failure {
-        match error.kind() {
-            ErrorKind::OutOfMemory => Failure::OutOfMemory,
-            _ => Failure::InputOrOutput,
-        }
+    fn from(refused: AllocError) -> Failure {
+        Failure::Stopped(Trouble::from(refused))
     }
 }

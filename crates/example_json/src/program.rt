@@ -9,11 +9,13 @@ ghost use Rattle.example_json.specs.Taking.{IsTaken, PrintsOn, IsDone, Answers};
 ghost use Rattle.example_json.specs.Printing.{IsBegun, BreaksOn, FollowsOn, FailsOn};
 ghost use Rattle.example_json.specs.Printing.{PrintsAll, PrintsUntil};
 ghost use Rattle.example_json.specs.Whole.{PrintsValue, IsOfNoValue};
-ghost use Rattle.example_json.specs.declared.failure.Failure.TheVariants.{InputOrOutput};
+ghost use Rattle.example_base.specs.declared.trouble.Trouble.TheVariants.{TooLong};
+ghost use Rattle.example_json.specs.declared.failure.Failure.TheVariants.{Stopped};
 
 use crate::failure::Failure;
 use crate::positions::{Line, Position};
 use crate::printing::append_line;
+use example_base::Trouble;
 use std::alloc::Global;
 use std::io::{ErrorKind, Read, Write};
 use winnow::reader::Next;
@@ -21,9 +23,6 @@ use winnow_json::{EventError, EventReader, events_law};
 
 // A read of a pipe gives at most as much.
 const PIECE: usize = 64 * 1024;
-
-// Within how many arrays and objects a value may stand.
-const DEPTH: usize = 128;
 
 /// What is kept of the input beside the reader.
 #[derive(Clone, Copy, Debug, Drop)]
@@ -34,7 +33,8 @@ pub struct Progress {
     pub level: usize,
 }
 
-/// Reads a text to the end of the input, and writes each event as soon as its bytes are there.
+/// Reads a text to the end of the input, and writes each event as soon as its bytes are there. Each
+/// value may stand within at most `depth` arrays and objects.
 ///
 /// Where the bytes of the input are known, those of the output are known too: the lines of all its
 /// events, or of those before the failure, which has the line and column of its place in the whole
@@ -42,38 +42,40 @@ pub struct Progress {
 /// and no failure is one of the text.
 pub fn print_events<R: Read, W: Write>(
     alloc: Global,
+    depth: usize,
     input: &mut R,
     output: &mut W,
 ) -> Result<(), Failure>
     ensures printed { OnOk result (IfSome (R.remaining input.old) (λ bytes.
-        PrintsAll DEPTH bytes (W.contents output.old) (W.contents output.new))) }
+        PrintsAll depth bytes (W.contents output.old) (W.contents output.new))) }
     ensures failed { IfErr result (λ failure. IfSome (R.remaining input.old) (λ bytes.
-        PrintsUntil DEPTH bytes failure (W.contents output.old) (W.contents output.new))) }
+        PrintsUntil depth bytes failure (W.contents output.old) (W.contents output.new))) }
     ensures value { OnOk result (IfSome (R.remaining input.old) (λ bytes.
-        PrintsValue DEPTH bytes (W.contents output.old) (W.contents output.new))) }
+        PrintsValue depth bytes (W.contents output.old) (W.contents output.new))) }
     ensures none { IfErr result (λ failure. IfSome (R.remaining input.old) (λ bytes.
-        IsOfNoValue DEPTH bytes failure)) }
+        IsOfNoValue depth bytes failure)) }
 {
     events_law();
-    print_pieces(alloc, input, output)
+    print_pieces(alloc, depth, input, output)
 }
 
 // Reads the pieces of the input to its end, and writes the events that each brings.
 fn print_pieces<R: Read, W: Write>(
     alloc: Global,
+    depth: usize,
     input: &mut R,
     output: &mut W,
 ) -> Result<(), Failure>
     ensures printed { OnOk result (IfSome (R.remaining input.old) (λ bytes.
-        PrintsAll DEPTH bytes (W.contents output.old) (W.contents output.new))) }
+        PrintsAll depth bytes (W.contents output.old) (W.contents output.new))) }
     ensures failed { IfErr result (λ failure. IfSome (R.remaining input.old) (λ bytes.
-        PrintsUntil DEPTH bytes failure (W.contents output.old) (W.contents output.new))) }
+        PrintsUntil depth bytes failure (W.contents output.old) (W.contents output.new))) }
 {
     let mut buffer = match buffer(alloc) {
         Ok(buffer) => buffer,
         Err(failure) => return Err(failure),
     };
-    let mut reader = EventReader::new(alloc, DEPTH);
+    let mut reader = EventReader::new(alloc, depth);
     let mut progress = Progress {
         line: Line::first(),
         level: 0,
@@ -97,7 +99,7 @@ fn print_pieces<R: Read, W: Write>(
             return Err(failure);
         }
     }
-    Err(Failure::InputOrOutput)
+    Err(Failure::Stopped(Trouble::TooLong))
 }
 
 // Returns room for a piece.
@@ -122,12 +124,12 @@ fn read_piece<R: Read>(input: &mut R, buffer: &mut [u8]) -> Result<usize, Failur
             Ok(count) => return Ok(count),
             Err(error) => {
                 if error.kind() != ErrorKind::Interrupted {
-                    return Err(Failure::from(error));
+                    return Err(Failure::Stopped(Trouble::reading(error)));
                 }
             }
         }
     }
-    Err(Failure::InputOrOutput)
+    Err(Failure::Stopped(Trouble::TooLong))
 }
 
 // Writes the events that are there with a piece more. An input of more bytes than can be counted is
@@ -148,7 +150,7 @@ fn print_piece<W: Write>(
         reader.old failure (Appends (W.contents output.old) (W.contents output.new))) }
 {
     if piece.len() >= usize::MAX - progress.line.bytes {
-        return Err(Failure::InputOrOutput);
+        return Err(Failure::Stopped(Trouble::TooLong));
     }
     if let Err(refused) = reader.push(piece) {
         return Err(Failure::from(refused));
@@ -209,7 +211,7 @@ fn print_ready<W: Write>(
     progress.level = level;
     match output.write_all(&text) {
         Ok(()) => answer(taken, progress.line, piece),
-        Err(error) => Err(Failure::from(error)),
+        Err(error) => Err(Failure::Stopped(Trouble::writing(error))),
     }
 }
 
@@ -265,11 +267,11 @@ fn answer(taken: Result<Next<()>, EventError>, line: Line, piece: &[u8]) -> Resu
     ensures { Answers line piece.now taken result }
 {
     match taken {
-        Ok(Next::Value(())) => Err(Failure::InputOrOutput),
+        Ok(Next::Value(())) => Err(Failure::Stopped(Trouble::TooLong)),
         Ok(Next::NeedsMore) => Ok(()),
         Ok(Next::Done) => Ok(()),
-        Err(EventError::Damaged { place }) => {
-            Err(Failure::Damaged(position(line, piece, place)?))
+        Err(EventError::Damaged { place, cause }) => {
+            Err(Failure::Damaged(position(line, piece, place)?, cause))
         }
         Err(EventError::Unexpected { place }) => {
             Err(Failure::Unexpected(position(line, piece, place)?))
@@ -290,11 +292,11 @@ fn position(line: Line, piece: &[u8], place: usize) -> Result<Position, Failure>
     requires within { IsWithin line }
     requires fits { line.bytes + length piece.now + 1 < 2 ^ 64 }
     ensures placed { IfOk result (Places line piece.now place) }
-    ensures failed { IfErr result (λ failure. failure ≡ InputOrOutput) }
+    ensures failed { IfErr result (λ failure. failure ≡ Stopped TooLong) }
 {
     let width = place.saturating_sub(line.bytes).min(piece.len());
     match line.after(&piece[..width]).position(place) {
         Some(position) => Ok(position),
-        None => Err(Failure::InputOrOutput),
+        None => Err(Failure::Stopped(Trouble::TooLong)),
     }
 }

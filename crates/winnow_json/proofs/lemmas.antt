@@ -25,6 +25,8 @@ pub mod NumberTextLemmas
 pub mod QuotingLemmas
 pub mod WritingLemmas
 pub mod TakingLemmas
+pub mod CauseLemmas
+pub mod CauseLawLemmas
 pub mod NextTokenLemmas
 pub mod EventLemmas
 pub mod SameTurnLemmas

@@ -1,6 +1,6 @@
 -- The events that a reader has given of the joined input.
-use Rattle.std.specs.Prelude.{◌≡◌, ℕ, ◌+◌, ◌-◌, ◌<◌, false, not, List, [], ◌∷◌, ◌++◌, length, Option, Some, None, Result, Ok, Err, ◌⊎◌, ⊤}
-use Rattle.winnow.specs.State.{ReaderState, at_start, pushed, unspent, ended_after, waiting_for}
+use Rattle.std.specs.Prelude.{◌≡◌, ℕ, ◌+◌, ◌-◌, ◌<◌, true, false, not, List, [], ◌∷◌, ◌++◌, length, drop, Option, Some, None, Result, Ok, Err, ◌⊎◌, ⊤}
+use Rattle.winnow.specs.State.{ReaderState, at_start, pushed, unspent, ended_after, waiting_for, fed_of}
 use Rattle.winnow.specs.Reading.{HasRead, Lacks}
 use Rattle.winnow.specs.SameValues.{IsThrough}
 use Rattle.winnow_reader.specs.declared.next.Next.{Next}
@@ -9,6 +9,7 @@ use Rattle.winnow_json.specs.Values.{after_blanks}
 use Rattle.winnow_json.specs.Tokens.{TokenAhead}
 use Rattle.winnow_json.specs.TokenAnswers.{OneToken}
 use Rattle.winnow_json.specs.TokenReading.{FindsDamage}
+use Rattle.winnow_json.specs.Causes.{cause_of, IsCut}
 use Rattle.winnow_json.specs.Turns.{TextState, at_begin, turn_at, turn_events, after_turn}
 use Rattle.winnow_json.specs.declared.tokens.Token.{Token}
 use Rattle.winnow_json.specs.declared.tokens.Token.TheVariants as token
@@ -106,12 +107,23 @@ pub record Brings (old : ReaderState JsonToken) (token : Token) (new : ReaderSta
   pub fewer : length new.ahead < length old.ahead
   pub ended : new.ended ≡ old.ended
 
--- no token stands there, no matter what follows, or memory was refused
+-- the bytes ahead of the reader from this place of the joined input on
+abbrev pub ahead_from : ReaderState JsonToken → ℕ → List ℕ
+ahead_from f place = drop (place - f.place) f.ahead
+
+-- the token ahead is damaged at the place, and only cut off there by the end of the input
+abbrev pub IsCutAt : ReaderState JsonToken → ℕ → Type 0
+IsCutAt f place = (f.ended ≡ true) × IsCut (after_blanks f.ahead) (ahead_from f place)
+
+-- no token stands there, no matter what follows, for this cause; or the input ends in one; or
+-- memory was refused
 abbrev pub IsNoNext : ReaderState JsonToken → EventError → Type 0
-IsNoNext f (error.Damaged place) = FindsDamage f place
+IsNoNext f (error.Damaged place cause) = FindsDamage f place × ¬ (IsCutAt f place)
+    × (cause ≡ cause_of (after_blanks f.ahead) (ahead_from f place))
 IsNoNext f (error.Unexpected place) = ⊥
 IsNoNext f (error.TooDeep place) = ⊥
-IsNoNext f (error.EndsEarly place) = ⊥
+IsNoNext f (error.EndsEarly place) =
+    (place ≡ fed_of f) × ((at : ℕ) × (FindsDamage f at × IsCutAt f at))
 IsNoNext f (error.Refused r) = ⊤
 
 -- the end of the text stands ahead of the one reader, which is the other then

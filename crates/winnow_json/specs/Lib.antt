@@ -19,6 +19,7 @@ pub mod Tokens
 pub mod TokenAnswers
 pub mod TokenLaws
 pub mod TokenReading
+pub mod Causes
 pub mod Quoting
 pub mod Writing
 pub mod Appending

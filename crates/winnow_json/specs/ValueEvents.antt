@@ -73,7 +73,7 @@ AreAllOf events value = SameAll SameEvent events (events_of value)
 
 -- memory was refused
 abbrev pub IsRefusal : EventError → Type 0
-IsRefusal (error.Damaged place) = ⊥
+IsRefusal (error.Damaged place cause) = ⊥
 IsRefusal (error.Unexpected place) = ⊥
 IsRefusal (error.TooDeep place) = ⊥
 IsRefusal (error.EndsEarly place) = ⊥

@@ -1,7 +1,10 @@
 ghost use Rattle.std.specs.Prelude.{◌≡◌, ◌≤◌, ◌<◌, length, take, drop, IfOk};
 ghost use Rattle.std.specs.String.{string_bytes};
 ghost use Rattle.winnow_format.specs.Bytes.{Each, Starts, StartsWith};
+ghost use Rattle.winnow_json.specs.Numbers.{Tells};
 ghost use Rattle.winnow_json.specs.Strings.{is_plain};
+ghost use Rattle.winnow_json.specs.StringAnswers.{BeginsChar};
+ghost use Rattle.winnow_json.specs.Escapes.{MayBeChar};
 ghost use Rattle.winnow_json.specs.CutChars.{may_follow, is_cut_char, IsLongestText};
 ghost use Rattle.winnow_json.specs.Steps.{IsStep};
 
@@ -82,6 +85,20 @@ fn is_cut_char(bytes: &[u8]) -> bool
         }
         _ => false,
     }
+}
+
+// Returns whether more bytes make the bytes, with which neither a character nor an escape begins,
+// the spelling of a character.
+pub(crate) fn is_cut_text(bytes: &[u8]) -> bool
+    requires some { 0 < length bytes.now }
+    requires no_slash { ¬ (StartsWith 92 bytes.now) }
+    requires none { ¬ (BeginsChar bytes.now) }
+    ensures { Tells result (MayBeChar bytes.now) }
+{
+    if plain_count(bytes) != bytes.len() {
+        return false;
+    }
+    is_cut_char(bytes)
 }
 
 // Appends the plain characters at the front of bytes that begin neither with a quote nor with a

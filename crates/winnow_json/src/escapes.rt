@@ -16,8 +16,8 @@ pub(crate) enum Escape {
     Wrong,
 }
 
-// Returns the value of a hexadecimal digit, or more than 15 if the byte is none.
-fn digit_value(byte: u8) -> u32
+/// Returns the value of a hexadecimal digit, or more than 15 if the byte is none.
+pub(crate) fn digit_value(byte: u8) -> u32
     ensures { result ≡ digit_value byte }
 {
     match byte {
@@ -43,8 +43,8 @@ fn hex_number(a: u8, b: u8, c: u8, d: u8) -> Option<u32>
     None
 }
 
-// Returns the byte at the index, or the other one after the end.
-fn byte_or(bytes: &[u8], index: usize, other: u8) -> u8
+/// Returns the byte at the index, or the other one after the end.
+pub(crate) fn byte_or(bytes: &[u8], index: usize, other: u8) -> u8
     ensures { result ≡ get_or bytes.now index other }
 {
     match bytes.get(index) {

@@ -1,10 +1,12 @@
 ghost use Rattle.std.specs.Prelude.{◌≡◌};
-ghost use Rattle.winnow_json.specs.EventReading.{IsComing, token_place, error_at};
+ghost use Rattle.winnow_json.specs.TokenReading.{FindsDamage};
+ghost use Rattle.winnow_json.specs.EventReading.{IsComing, IsNoNext, token_place, error_at};
 
+use crate::causes::{cause_of, is_cut};
 use crate::found::blank_count;
 use crate::syntax::{Syntax, Taken};
 use crate::turns::Misplaced;
-use crate::{JsonToken, Number, Token};
+use crate::{Cause, JsonToken, Number, Token};
 use std::alloc::{AllocError, Global};
 use std::marker::Model;
 use winnow::reader::{ByteReader, Next, ReadError};
@@ -35,10 +37,12 @@ pub enum Event {
 /// Why a reader has no event. Places are those in the joined input.
 #[derive(Clone, Copy, Debug, Drop, PartialEq, Eq)]
 pub enum EventError {
-    /// No token stands there
+    /// No token stands there, whatever follows
     Damaged {
         /// The place that is wrong, as of [`JsonToken`]
         place: usize,
+        /// What is wrong there
+        cause: Cause,
     },
     /// A token stands there that may not come next
     Unexpected {
@@ -50,7 +54,7 @@ pub enum EventError {
         /// Where the value begins
         place: usize,
     },
-    /// The input ends before the text does
+    /// The input ends before the text does: between two tokens, or in one
     EndsEarly {
         /// The length of the input
         place: usize,
@@ -271,9 +275,29 @@ fn next_token(tokens: &mut ByteReader<JsonToken>) -> Result<Coming, EventError>
         Ok(Next::Value(token)) => Ok(Coming::Token(token)),
         Ok(Next::NeedsMore) => Ok(Coming::NeedsMore),
         Ok(Next::Done) => Ok(Coming::End),
-        Err(ReadError::Failed { error: _, place }) => Err(EventError::Damaged { place }),
-        Err(ReadError::TakesNothing { place }) => Err(EventError::Damaged { place }),
+        Err(ReadError::Failed { error: _, place }) => Err(damage_at(tokens, place)),
+        Err(ReadError::TakesNothing { place: _ }) => unreachable!(),
         Err(ReadError::Refused(refused)) => Err(EventError::Refused(refused)),
+    }
+}
+
+// Returns the error of a token that is damaged at the place: it is cut off by the end of the input,
+// or no bytes make it whole.
+fn damage_at(tokens: &ByteReader<JsonToken>, place: usize) -> EventError
+    requires { FindsDamage tokens.now place }
+    ensures { IsNoNext tokens.now result }
+{
+    let ahead = tokens.ahead();
+    let here = &ahead[blank_count(ahead)..];
+    let rest = &ahead[place - tokens.place()..];
+    if tokens.has_ended() && is_cut(here, rest) {
+        return EventError::EndsEarly {
+            place: tokens.fed(),
+        };
+    }
+    EventError::Damaged {
+        place,
+        cause: cause_of(here, rest),
     }
 }
 

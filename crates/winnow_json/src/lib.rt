@@ -14,12 +14,14 @@
 //! [`JsonToken`] is the record of a [`Token`], for a `ByteReader` over bytes that come in pieces;
 //! [`tokens_in_pieces_law`] says what such a reader reads. An [`EventReader`] gives the events of a
 //! text that comes in pieces, and keeps no more than a token and a piece. Of a text that is a value
-//! it gives that value's events, and it is done with no damaged text, as [`events_law`] says.
+//! it gives that value's events, and it is done with no damaged text, as [`events_law`] says. Of a
+//! damaged token it tells the [`Cause`], and of one that the input ends in, that it ends early.
 //!
 //! [`write_value`] appends the text of a value, and [`write_string`] that of a string. What the
 //! first writes is read back as the same value, as [`round_trip_law`] says.
 #![tactic(auto)]
 
+mod causes;
 mod characters;
 mod documents;
 mod escapes;
@@ -41,6 +43,7 @@ mod value;
 mod values;
 mod writing;
 
+pub use causes::Cause;
 pub use documents::{Damage, read_document};
 pub use event_laws::events_law;
 pub use event_reader::{Event, EventError, EventReader};

@@ -5,10 +5,12 @@ ghost use Rattle.winnow.specs.Laws.{LeavesAfter};
 ghost use Rattle.winnow_stream.specs.SliceBytes.{SlicesHaveBytes};
 ghost use Rattle.winnow_format.specs.Bytes.{bytes_of};
 ghost use Rattle.winnow_json.specs.Needing.{NeedsOneByte};
-ghost use Rattle.winnow_json.specs.StringAnswers.{IsStringAnswer, GivesEachString};
+ghost use Rattle.winnow_json.specs.Numbers.{Tells};
+ghost use Rattle.winnow_json.specs.StringAnswers.{IsStringAnswer, GivesEachString, BeginsChar};
+ghost use Rattle.winnow_json.specs.Escapes.{MayBeChar};
 ghost use Rattle.winnow_json.specs.Steps.{IsStep, IsReading};
 
-use crate::characters::{Step, append_plain};
+use crate::characters::{Step, append_plain, is_cut_text};
 use crate::escapes::{Escape, escape_at};
 use std::alloc::{AllocError, Global};
 use winnow::error::ParserError;
@@ -74,6 +76,24 @@ pub(crate) fn read_bytes(alloc: Global, bytes: &[u8]) -> Result<Reading, AllocEr
         }
     }
     Ok(Reading::Begun(at))
+}
+
+/// Returns whether more bytes make the bytes, with which no character begins, the spelling of one.
+pub(crate) fn may_be_char(bytes: &[u8]) -> bool
+    requires { ¬ (BeginsChar bytes.now) }
+    ensures { Tells result (MayBeChar bytes.now) }
+{
+    if bytes.is_empty() {
+        return true;
+    }
+    if bytes[0] != b'\\' {
+        return is_cut_text(bytes);
+    }
+    match escape_at(&bytes[1..]) {
+        Escape::Begun => true,
+        Escape::Whole(_, _) => unreachable!(),
+        Escape::Wrong => false,
+    }
 }
 
 /// Reads a string from the front of a stream of bytes, and moves the stream past its closing quote.

@@ -1,9 +1,9 @@
-ghost use Rattle.std.specs.Prelude.{◌≡◌, true, [], IfOk, MatchOption};
+ghost use Rattle.std.specs.Prelude.{◌≡◌, ◌<◌, true, [], length, IfOk, MatchOption};
 ghost use Rattle.winnow_format.specs.Bytes.{StartsWith, Starts};
-ghost use Rattle.winnow_json.specs.Numbers.{is_number_byte};
+ghost use Rattle.winnow_json.specs.Numbers.{Tells, is_number_byte};
 ghost use Rattle.winnow_json.specs.Values.{after_blanks};
 ghost use Rattle.winnow_json.specs.Tokens.{Word, lexeme_of, word_from};
-ghost use Rattle.winnow_json.specs.TokenAnswers.{IsTokenFound, OneToken};
+ghost use Rattle.winnow_json.specs.TokenAnswers.{BeginsWord, IsTokenFound, OneToken};
 ghost use Rattle.winnow_json.specs.TokenLaws.{IsParser-OneToken};
 
 use crate::Number;
@@ -62,6 +62,17 @@ fn word_token(first: u8) -> Option<(Token, &'static [u8])>
         b'f' => Some((Token::Bool(false), b"false")),
         _ => None,
     }
+}
+
+/// Returns whether more bytes make the bytes a word that is a token.
+pub(crate) fn begins_word(bytes: &[u8]) -> bool
+    requires { 0 < length bytes.now }
+    ensures { Tells result (BeginsWord bytes.now) }
+{
+    let Some(both) = word_token(bytes[0]) else {
+        return false;
+    };
+    both.1.starts_with(bytes)
 }
 
 // Reads a token that is always the same word.

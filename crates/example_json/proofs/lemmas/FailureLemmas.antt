@@ -14,7 +14,7 @@ use Rattle.example_json.specs.Taking.{PrintsOn, StopsAfter, IsTaken, Answers}
 use Rattle.example_json.specs.Printing.{BreaksOn}
 use Rattle.example_json.specs.declared.positions.Line.{Line}
 use Rattle.example_json.specs.declared.failure.Failure.{Failure}
-use Rattle.example_json.specs.declared.failure.Failure.TheVariants.{Damaged, Unexpected, TooDeep, EndsEarly, OutOfMemory, InputOrOutput}
+use Rattle.example_json.specs.declared.failure.Failure.TheVariants.{Damaged, Unexpected, TooDeep, EndsEarly, Stopped}
 use Rattle.example_json.specs.declared.program.Progress.{Progress}
 
 -- ---- Failures
@@ -23,7 +23,7 @@ use Rattle.example_json.specs.declared.program.Progress.{Progress}
 told-of : (input piece : List ℕ) (line : Line) (r : EventState) (e : EventError)
     (failure : Failure) → LeadsTo input line
     → StopsAt r e → TellsOf line piece e failure → IsFailureOf (input ++ piece) r failure
-told-of input piece line r e (Damaged p) leads stops (place, (is, placed)) =
+told-of input piece line r e (Damaged p cause) leads stops (place, (is, placed)) =
     (place, (subst (StopsAt r) is stops, placed input leads))
 told-of input piece line r e (Unexpected p) leads stops (place, (is, placed)) =
     (place, (subst (StopsAt r) is stops, placed input leads))
@@ -31,8 +31,7 @@ told-of input piece line r e (TooDeep p) leads stops (place, (is, placed)) =
     (place, (subst (StopsAt r) is stops, placed input leads))
 told-of input piece line r e (EndsEarly p) leads stops (place, (is, placed)) =
     (place, (subst (StopsAt r) is stops, placed input leads))
-told-of input piece line r e OutOfMemory leads stops told = tt
-told-of input piece line r e InputOrOutput leads stops told = tt
+told-of input piece line r e (Stopped trouble) leads stops told = tt
 
 -- where a reader stops after some events, the failure that tells of its error is one of the input
 stops-breaks : (old : EventState) (p : Progress) (piece : List ℕ) (e : EventError)
@@ -54,12 +53,11 @@ stops-breaks old p piece e failure wrote (r, (there, (prints, going, keeps, stop
 -- refused memory is no failure of the text
 refused-tells : (line : Line) (piece : List ℕ) (r : AllocError) (failure : Failure)
     → TellsOf line piece (error.Refused r) failure → ¬ (IsOfText failure)
-refused-tells line piece r (Damaged p) (place, (is, placed)) = absurd (cc is)
+refused-tells line piece r (Damaged p cause) (place, (is, placed)) = absurd (cc is)
 refused-tells line piece r (Unexpected p) (place, (is, placed)) = absurd (cc is)
 refused-tells line piece r (TooDeep p) (place, (is, placed)) = absurd (cc is)
 refused-tells line piece r (EndsEarly p) (place, (is, placed)) = absurd (cc is)
-refused-tells line piece r OutOfMemory told = λ t. t
-refused-tells line piece r InputOrOutput told = λ t. t
+refused-tells line piece r (Stopped trouble) told = λ t. t
 
 -- what a failure says where the events were taken so
 pub answer-breaks : (old new : EventState) (p : Progress) (there : ℕ) (piece : List ℕ)
@@ -69,8 +67,8 @@ pub answer-breaks : (old new : EventState) (p : Progress) (there : ℕ) (piece :
 answer-breaks old new p there piece (Ok (next.Value u)) failure wrote h never = λ is. absurd (never is)
 answer-breaks old new p there piece (Ok next.NeedsMore) failure wrote h never = λ is. absurd (never is)
 answer-breaks old new p there piece (Ok next.Done) failure wrote h never = λ is. absurd (never is)
-answer-breaks old new p there piece (Err (error.Damaged place)) failure wrote h told =
-    stops-breaks old p piece (error.Damaged place) failure wrote h told
+answer-breaks old new p there piece (Err (error.Damaged place cause)) failure wrote h told =
+    stops-breaks old p piece (error.Damaged place cause) failure wrote h told
 answer-breaks old new p there piece (Err (error.Unexpected place)) failure wrote h told =
     stops-breaks old p piece (error.Unexpected place) failure wrote h told
 answer-breaks old new p there piece (Err (error.TooDeep place)) failure wrote h told =

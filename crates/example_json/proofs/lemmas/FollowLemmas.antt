@@ -12,7 +12,7 @@ use Rattle.example_json.specs.Faults.{IsFailureOf}
 use Rattle.example_json.specs.Taking.{PrintsOn, IsDone}
 use Rattle.example_json.specs.Printing.{IsBegun, Breaks, BreaksOn, FollowsOn, FailsOn, HasPrinted, PrintsAll, PrintsUntil}
 use Rattle.example_json.specs.declared.failure.Failure.{Failure}
-use Rattle.example_json.specs.declared.failure.Failure.TheVariants.{Damaged, Unexpected, TooDeep, EndsEarly, OutOfMemory, InputOrOutput}
+use Rattle.example_json.specs.declared.failure.Failure.TheVariants.{Damaged, Unexpected, TooDeep, EndsEarly, Stopped}
 use Rattle.example_json.specs.declared.program.Progress.{Progress}
 use Rattle.example_json.proofs.lemmas.PositionLemmas.{placed-longer}
 use Rattle.example_json.proofs.lemmas.LineLemmas.{level-append, lines-append}
@@ -119,7 +119,7 @@ printed-piece r s p q had has left held now new piece h took on =
 -- a failure of a front of the input is one of the input
 failure-longer : (input rest : List ℕ) (r : EventState) (failure : Failure)
     → IsFailureOf input r failure → IsFailureOf (input ++ rest) r failure
-failure-longer input rest r (Damaged p) (place, (stops, placed)) =
+failure-longer input rest r (Damaged p cause) (place, (stops, placed)) =
     (place, (stops, placed-longer input rest place p placed))
 failure-longer input rest r (Unexpected p) (place, (stops, placed)) =
     (place, (stops, placed-longer input rest place p placed))
@@ -127,8 +127,7 @@ failure-longer input rest r (TooDeep p) (place, (stops, placed)) =
     (place, (stops, placed-longer input rest place p placed))
 failure-longer input rest r (EndsEarly p) (place, (stops, placed)) =
     (place, (stops, placed-longer input rest place p placed))
-failure-longer input rest r OutOfMemory h = tt
-failure-longer input rest r InputOrOutput h = tt
+failure-longer input rest r (Stopped trouble) h = tt
 
 -- nothing is both true and false
 pub no-both : (b : Bool) → b ≡ true → b ≡ false → ⊥

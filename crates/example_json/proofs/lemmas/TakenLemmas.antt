@@ -44,8 +44,8 @@ taken-map old new level there (Ok next.NeedsMore) wrote other f h =
     (h.0, prints-map old new level there wrote other f h.1, h.2)
 taken-map old new level there (Ok next.Done) wrote other f h =
     (h.0, prints-map old new level there wrote other f h.1, h.2)
-taken-map old new level there (Err (error.Damaged place)) wrote other f h =
-    stops-map old level (error.Damaged place) wrote other f h
+taken-map old new level there (Err (error.Damaged place cause)) wrote other f h =
+    stops-map old level (error.Damaged place cause) wrote other f h
 taken-map old new level there (Err (error.Unexpected place)) wrote other f h =
     stops-map old level (error.Unexpected place) wrote other f h
 taken-map old new level there (Err (error.TooDeep place)) wrote other f h =
@@ -93,7 +93,7 @@ stops-after old new level text e (r, (passed, inr (text_same, stopped, misplaced
 -- what is taken where the reader has an error
 pub taken-error : (old new : EventState) (level : ℕ) (text : List ℕ) (e : EventError)
     → IsNext old (Err e) new → IsTaken old level (Err e) new level (Adds text text)
-taken-error old new level text (error.Damaged place) h = stops-after old new level text (error.Damaged place) h
+taken-error old new level text (error.Damaged place cause) h = stops-after old new level text (error.Damaged place cause) h
 taken-error old new level text (error.Unexpected place) h = stops-after old new level text (error.Unexpected place) h
 taken-error old new level text (error.TooDeep place) h = stops-after old new level text (error.TooDeep place) h
 taken-error old new level text (error.EndsEarly place) h = stops-after old new level text (error.EndsEarly place) h
@@ -148,8 +148,8 @@ taken-more a b c la lb lc ta tb tc (Ok next.NeedsMore) first same h =
     (h.0, prints-more a b c la lb lc ta tb tc first h.1, h.2)
 taken-more a b c la lb lc ta tb tc (Ok next.Done) first same h =
     (h.0, prints-more a b c la lb lc ta tb tc first h.1, h.2)
-taken-more a b c la lb lc ta tb tc (Err (error.Damaged place)) first same h =
-    stops-more a b la lb ta tb tc (error.Damaged place) first same h
+taken-more a b c la lb lc ta tb tc (Err (error.Damaged place cause)) first same h =
+    stops-more a b la lb ta tb tc (error.Damaged place cause) first same h
 taken-more a b c la lb lc ta tb tc (Err (error.Unexpected place)) first same h =
     stops-more a b la lb ta tb tc (error.Unexpected place) first same h
 taken-more a b c la lb lc ta tb tc (Err (error.TooDeep place)) first same h =

@@ -21,7 +21,7 @@ use Rattle.example_json.specs.Faults.{StopsAt, IsFailureOf}
 use Rattle.example_json.specs.Printing.{PrintsAll, PrintsFront, PrintsUntil}
 use Rattle.example_json.specs.Whole.{PrintsValue, IsOfNoValue}
 use Rattle.example_json.specs.declared.failure.Failure.{Failure}
-use Rattle.example_json.specs.declared.failure.Failure.TheVariants.{Damaged, Unexpected, TooDeep, EndsEarly, OutOfMemory, InputOrOutput}
+use Rattle.example_json.specs.declared.failure.Failure.TheVariants.{Damaged, Unexpected, TooDeep, EndsEarly, Stopped}
 
 -- ---- The same events
 
@@ -135,12 +135,11 @@ front-none never depth input failure held now h is value document =
         let next = next-of h.reader e h.going stops in never h.reader next.0 h.front h.events value e reads next.1
 
     by : (failure : Failure) → IsOfText failure → IsFailureOf input h.reader failure → ⊥
-    by (Damaged p) is (place, (stops, placed)) = refuses (error.Damaged place) stops
+    by (Damaged p cause) is (place, (stops, placed)) = refuses (error.Damaged place cause) stops
     by (Unexpected p) is (place, (stops, placed)) = refuses (error.Unexpected place) stops
     by (TooDeep p) is (place, (stops, placed)) = refuses (error.TooDeep place) stops
     by (EndsEarly p) is (place, (stops, placed)) = refuses (error.EndsEarly place) stops
-    by OutOfMemory is told = is
-    by InputOrOutput is told = is
+    by (Stopped trouble) is told = is
 
 -- the same of known bytes
 if-some : {A : Type 0} {P Q : A → Type 0} (o : Option A) → ((a : A) → P a → Q a)

@@ -8,7 +8,7 @@ use Rattle.winnow_json.specs.Values.{after_blanks}
 use Rattle.winnow_json.specs.Documents.{IsDocument, IsDamage}
 use Rattle.winnow_json.specs.Tokens.{TokenAhead}
 use Rattle.winnow_json.specs.TokenAnswers.{OneToken}
-use Rattle.winnow_json.specs.TokenReading.{AreTokens}
+use Rattle.winnow_json.specs.TokenReading.{AreTokens, FindsDamage}
 use Rattle.winnow_json.specs.Turns.{TextState, at_begin, turn_at}
 use Rattle.winnow_json.specs.EventReading.{IsAllowed, Takes, EventState, HasGiven, GivesOn, KeepsLimits, Brings, BringsEnd, IsNoNext, IsMisplaced, IsWhole, IsNext}
 use Rattle.winnow_json.specs.ValueEvents.{events_of, ReadsValue, AreFirstOf, AreAllOf, IsRefusal}
@@ -86,15 +86,19 @@ module _ (r : EventState) (input : List ℕ) (events : List Event) (value : Valu
 
   module _ (going : r.stopped ≡ None) where
     -- no damage is ahead
-    undamaged : (e : EventError) → IsNoNext r.tokens e → IsRefusal e
-    undamaged (error.Damaged place) (rest, (at, wrong)) =
+    no-damage : (place : ℕ) → ¬ (FindsDamage r.tokens place)
+    no-damage place (rest, (at, wrong)) =
         let l = value-led in
         let stand = subst (λ us. AreTokens false us l.place (r.tokens.ahead ++ h.more)) (h.given.going going) l.stand in
         let one = one-stands r.text l.place l.follows.left l.follows.leads in
         damage-none false (after_blanks (r.tokens.ahead ++ h.more)) one.0 one.1.0 (rest ++ h.more) (wrong h.more h.may) (subst (λ b. TokenAhead false one.0 b one.1.0) stand one.1.1)
+
+    -- so the reader fails for want of memory alone
+    undamaged : (e : EventError) → IsNoNext r.tokens e → IsRefusal e
+    undamaged (error.Damaged place cause) (damage, cut, is) = no-damage place damage
     undamaged (error.Unexpected place) none = none
     undamaged (error.TooDeep place) none = none
-    undamaged (error.EndsEarly place) none = none
+    undamaged (error.EndsEarly place) (end, (at, (damage, cut))) = no-damage at damage
     undamaged (error.Refused why) none = tt
 
     -- a token that is read may stand there

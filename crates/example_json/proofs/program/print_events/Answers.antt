@@ -6,11 +6,11 @@ returns-clause-value g c =
     let had = g.R.Read.remaining c.args.input.now in
     let held = g.W.Write.contents c.args.output.now in
     let now = g.W.Write.contents c.print_pieces.new.output in
-    prints-value c.events_law.ensures.whole c.events_law.ensures.only 128 c.print_pieces.result had held now c.print_pieces.ensures.printed
+    prints-value c.events_law.ensures.whole c.events_law.ensures.only c.args.depth c.print_pieces.result had held now c.print_pieces.ensures.printed
 
 pub returns-clause-none : goal.returns-clause-none
 returns-clause-none g c =
     let had = g.R.Read.remaining c.args.input.now in
     let held = g.W.Write.contents c.args.output.now in
     let now = g.W.Write.contents c.print_pieces.new.output in
-    prints-none c.events_law.ensures.sound 128 c.print_pieces.result had held now c.print_pieces.ensures.failed
+    prints-none c.events_law.ensures.sound c.args.depth c.print_pieces.result had held now c.print_pieces.ensures.failed

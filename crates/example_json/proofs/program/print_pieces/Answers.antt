@@ -42,7 +42,7 @@ returns-then-count-eq0-clause-printed g c =
     let now = g.W.Write.contents c.loop.output in
     let new = g.W.Write.contents c.print_last.new.output in
     let took = subst (λ (n : ℕ). Consumes has left (take n c.read_piece.new.buffer)) c.if-count-eq0.true c.in-Ok-read_piece.ensures.taken in
-    on-three c.print_last.result (λ limit done prints. printed-all 128 c.loop.reader c.print_last.new.reader c.loop.progress c.print_last.new.progress had has left held now new c.loop.invariant.printed took (c.in-Ok-read_piece.ensures.end c.if-count-eq0.true) prints (limit ∙ c.loop.invariant.limit) done) c.print_last.ensures.limit c.print_last.ensures.done c.print_last.ensures.printed
+    on-three c.print_last.result (λ limit done prints. printed-all c.args.depth c.loop.reader c.print_last.new.reader c.loop.progress c.print_last.new.progress had has left held now new c.loop.invariant.printed took (c.in-Ok-read_piece.ensures.end c.if-count-eq0.true) prints (limit ∙ c.loop.invariant.limit) done) c.print_last.ensures.limit c.print_last.ensures.done c.print_last.ensures.printed
 
 pub returns-then-count-eq0-clause-failed : goal.returns-then-count-eq0-clause-failed
 returns-then-count-eq0-clause-failed g c =
@@ -54,7 +54,7 @@ returns-then-count-eq0-clause-failed g c =
     let new = g.W.Write.contents c.print_last.new.output in
     let limits = events_ended c.loop.reader in
     let took = subst (λ (n : ℕ). Consumes has left (take n c.read_piece.new.buffer)) c.if-count-eq0.true c.in-Ok-read_piece.ensures.taken in
-    if-err c.print_last.result (λ failure fails. printed-fails 128 c.loop.reader c.loop.progress had has left held now new [] limits failure c.loop.invariant.printed took (leaves-none true left (c.in-Ok-read_piece.ensures.end c.if-count-eq0.true)) c.loop.invariant.limit fails) c.print_last.ensures.failed
+    if-err c.print_last.result (λ failure fails. printed-fails c.args.depth c.loop.reader c.loop.progress had has left held now new [] limits failure c.loop.invariant.printed took (leaves-none true left (c.in-Ok-read_piece.ensures.end c.if-count-eq0.true)) c.loop.invariant.limit fails) c.print_last.ensures.failed
 
 pub returns-in-Err-print_piece-clause-failed : goal.returns-in-Err-print_piece-clause-failed
 returns-in-Err-print_piece-clause-failed g c =
@@ -68,7 +68,7 @@ returns-in-Err-print_piece-clause-failed g c =
     let piece = take count c.deref.result.now in
     let same : c.deref.result.now ≡ c.read_piece.new.buffer = c.deref.ensures.value ∙ whole-buffer c.loop.buffer.len c.read_piece.new.buffer c.loop.buffer.items (omega arith) in
     let took = subst (λ (xs : List ℕ). Consumes has left (take count xs)) (sym same) c.in-Ok-read_piece.ensures.taken in
-    printed-fails 128 c.loop.reader c.loop.progress had has left held now new piece c.loop.reader c.in-Err-print_piece.failure c.loop.invariant.printed took (leaves-more c.loop.reader.tokens.ended left c.loop.invariant.ended) c.loop.invariant.limit c.in-Err-print_piece.ensures.failed
+    printed-fails c.args.depth c.loop.reader c.loop.progress had has left held now new piece c.loop.reader c.in-Err-print_piece.failure c.loop.invariant.printed took (leaves-more c.loop.reader.tokens.ended left c.loop.invariant.ended) c.loop.invariant.limit c.in-Err-print_piece.ensures.failed
 
 pub loop-preserved : goal.loop-preserved
 loop-preserved g c =

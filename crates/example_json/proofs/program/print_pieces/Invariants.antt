@@ -8,7 +8,7 @@ invariant-loop g l = record {
   printed : HasPrinted l.reader l.progress
       (g.R.Read.remaining l.fn.input) (g.R.Read.remaining l.input)
       (g.W.Write.contents l.fn.output) (g.W.Write.contents l.output);
-  limit : l.reader.text.depth ≡ 128;
+  limit : l.reader.text.depth ≡ l.fn.depth;
   ended : l.reader.tokens.ended ≡ false;
   room : 0 < vec_len l.buffer;
 }

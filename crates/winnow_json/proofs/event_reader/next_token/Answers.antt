@@ -1,8 +1,10 @@
-use Rattle.std.proofs.Common.{ap, ◌∙◌, subst}
+use Rattle.std.proofs.Common.{ap, sym, ◌∙◌, subst}
 use Rattle.std.specs.Prelude.{Ok, Err}
 use Rattle.winnow.specs.Answering.{StaysWithout, WaitsWell}
 use Rattle.winnow_reader.specs.declared.next.Next.TheVariants as next
 use Rattle.winnow_json.specs.TokenAnswers.{OneToken}
+use Rattle.winnow_json.specs.TokenReading.{FindsDamage}
+use Rattle.winnow_json.specs.EventReading.{IsNoNext}
 use Rattle.winnow_json.specs.declared.tokens.Token.TheVariants as token
 use Rattle.winnow_json.proofs.lemmas.NextTokenLemmas.{value-brings, end-brings, waits-read, failed-there, never-idle}
 use Rattle.winnow_json.proofs.event_reader.next_token.Goals as goal
@@ -26,13 +28,20 @@ returns-in-Ok-NeedsMore c =
       waits-read c.args.tokens.now c.read_next.new.self c.read_next.result e c.read_next.ensures.read,
     )
 
+pub damage_at-requires : goal.damage_at-requires
+damage_at-requires c =
+    let e = c.in-Err-Failed.is ∙ ap Err c.in-Err-Failed.field-0-is in
+    let there = failed-there c.args.tokens.now c.read_next.new.self _ c.in-Err-Failed.place c.read_next.result e c.read_next.ensures.failed c.read_next.ensures.kept in
+    subst (λ r. FindsDamage r c.in-Err-Failed.place) (sym there.0) there.1
+
 pub returns-in-Err-Failed : goal.returns-in-Err-Failed
 returns-in-Err-Failed c =
     let e = c.in-Err-Failed.is ∙ ap Err c.in-Err-Failed.field-0-is in
-    failed-there c.args.tokens.now c.read_next.new.self _ c.in-Err-Failed.place c.read_next.result e c.read_next.ensures.failed c.read_next.ensures.kept
+    let there = failed-there c.args.tokens.now c.read_next.new.self _ c.in-Err-Failed.place c.read_next.result e c.read_next.ensures.failed c.read_next.ensures.kept in
+    (there.0, subst (λ r. IsNoNext r c.damage_at.result) there.0 c.damage_at.ensures)
 
 -- a reader with nothing left is done, and elsewhere a token takes something
-pub returns-in-Err-TakesNothing : goal.returns-in-Err-TakesNothing
-returns-in-Err-TakesNothing c =
+pub unreachable-requires : goal.unreachable-requires
+unreachable-requires c =
     let e = c.in-Err-TakesNothing.is ∙ ap Err c.in-Err-TakesNothing.field-0-is in
-    absurd (never-idle c.args.tokens.now c.in-Err-TakesNothing.place c.read_next.result e c.read_next.ensures.failed c.read_next.ensures.done)
+    never-idle c.args.tokens.now _ c.read_next.result e c.read_next.ensures.failed c.read_next.ensures.done

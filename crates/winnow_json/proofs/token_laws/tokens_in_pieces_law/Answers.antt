@@ -1,4 +1,5 @@
 use Rattle.winnow_json.proofs.lemmas.JsonTokenLemmas.{token-determined}
+use Rattle.winnow_json.proofs.lemmas.CauseLawLemmas.{cause-more}
 use Rattle.winnow_json.proofs.lemmas.TokenReadingLemmas.{read-tokens, fails-damaged}
 use Rattle.winnow_json.proofs.token_laws.tokens_in_pieces_law.Goals as goal
 
@@ -10,3 +11,6 @@ returns-clause-tokens c = λ f input tokens. read-tokens f input tokens
 
 pub returns-clause-damaged : goal.returns-clause-damaged
 returns-clause-damaged c = λ f place fails. fails-damaged f place fails
+
+pub returns-clause-cause : goal.returns-clause-cause
+returns-clause-cause c = λ here rest more wrong. cause-more here rest more wrong
