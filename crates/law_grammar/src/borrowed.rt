@@ -119,32 +119,3 @@ fn sum_of(numbers: &[u32]) -> Option<u64> {
 pub fn read_sum(alloc: Global, input: &mut &str) -> ModalResult<u64, EmptyError> {
     part(Sum).parse_next(alloc, input)
 }
-
-#[cfg(test)]
-mod tests {
-    use super::*;
-
-    #[test]
-    fn gives_slices_of_the_input(rt: HostRuntime) {
-        let mut input = "ab,12,c;";
-        let Ok(read) = read_items(rt.alloc(), &mut input) else {
-            panic!(rt; "no items")
-        };
-        let wanted = [Item::Word("ab"), Item::Digits("12"), Item::Word("c")];
-        assert_eq!(rt; read.as_slice(), wanted.as_slice());
-        assert_eq!(rt; input, ";");
-        let mut input = "a=1;b=2;a=3;";
-        let Ok(read) = read_pairs(rt.alloc(), &mut input) else {
-            panic!(rt; "no pairs")
-        };
-        assert_eq!(rt; (read.len(), read.get("a").copied()), (2, Some("3")));
-        let Ok(read) = read_names(rt.alloc(), &mut "ab c ") else {
-            panic!(rt; "no names")
-        };
-        assert_eq!(rt;
-            (read.len(), read[0].as_str(), read[1].as_str()),
-            (2, "ab", "c")
-        );
-        assert!(rt; matches!(read_sum(rt.alloc(), &mut "1+20+300"), Ok(321)));
-    }
-}

@@ -39,14 +39,3 @@ fn digit(alloc: Global, input: &mut &[u8]) -> ModalResult<u8, EmptyError>
 pub fn version(alloc: Global, input: &mut &[u8]) -> ModalResult<(u8, u8), EmptyError> {
     separated_pair(from_fn(digit), one_of(b'.'), from_fn(digit)).parse_next(alloc, input)
 }
-
-#[cfg(test)]
-mod tests {
-    use super::*;
-
-    #[test]
-    fn functions_are_parsers(rt: HostRuntime) {
-        assert!(rt; matches!(color(rt.alloc(), &mut "#2F14DF"), Ok((47, 20, 223))));
-        assert!(rt; matches!(version(rt.alloc(), &mut b"1.0".as_slice()), Ok((1, 0))));
-    }
-}

@@ -6,3 +6,10 @@
 mod borrowed;
 mod functions;
 mod streams;
+
+pub use borrowed::{Item, read_items, read_names, read_pairs, read_sum};
+pub use functions::{color, version};
+pub use streams::{
+    read_letters, read_letters_of_bytes, read_letters_of_piece, read_letters_of_text, read_words,
+    read_words_of_piece, read_words_with_places, read_words_with_state,
+};
