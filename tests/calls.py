@@ -43,6 +43,8 @@ NEVER = {
     "begin": r"\bBegin<T> for Folded<",
     # It hands on what was refused.
     "from": r"\bFrom<AllocError> for ",
+    # It is refused what its parser is.
+    "ask": r"^pub fn ask<",
     # It is refused what its record of text is.
     "read": r"\bRecord for Utf8Record<",
 }
@@ -113,7 +115,7 @@ def may_be_refused(answer):
 
 def is_never_refused(name, block, is_format):
     """Returns whether an impl says that this method is never refused memory of its own. The meaning of a format's parser does not name what may be refused."""
-    return not (is_format and name == "parse_next") and re.search(NEVER.get(name, "(?!)"), block)
+    return not (is_format and name == "parse_next") and re.search(NEVER.get(name, "(?!)"), block, flags=re.M)
 
 
 def calls_of(crate, is_format):
@@ -134,7 +136,8 @@ def calls_of(crate, is_format):
                 if re.match(r"<(\w*)", of).group(1) not in private and not is_never_refused(name, block, is_format):
                     yield f"{of}::{name}"
             elif is_public and re.match(r"\w+", of or name).group() in exported:
-                yield f"{of}::{name}" if of else name
+                if of or not is_never_refused(name, block, is_format):
+                    yield f"{of}::{name}" if of else name
 
 
 def makes_refusal(text):
