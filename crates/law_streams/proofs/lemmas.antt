@@ -1,1 +1,2 @@
+pub mod TakenBitsLemmas
 pub mod WidthTwoLemmas

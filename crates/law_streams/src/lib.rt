@@ -6,6 +6,7 @@
 //! law that spells members out refuses a member that says less.
 #![tactic(auto)]
 
+mod bit_scripts;
 mod bit_streams;
 mod byte_reader;
 mod calls;
@@ -27,6 +28,7 @@ mod walks;
 mod wrapper_laws;
 mod wrappers;
 
+pub use bit_scripts::{BitAnswers, WrappedBits, take_by_script, take_three_at_one};
 pub use bit_streams::{
     bits_at, bits_keep, place_of, slices_have_widths, take, told_bits, widths_of_one,
 };
@@ -39,7 +41,7 @@ pub use law_calls::{call_laws_of_streams, call_laws_of_views, call_laws_of_wrapp
 pub use lexed::Lexed;
 pub use literals::{literal, literal_or_lack, take_through, take_until};
 pub use nests::peek_complete;
-pub use numbers::{located_number, number};
+pub use numbers::{located_number, located_text_number, number, text_number};
 pub use own_literals::Twice;
 pub use pair_reader::{PairOffsets, PairReader};
 pub use printed_texts::{hexadecimal_members, text_members};

@@ -6,10 +6,10 @@ use winnow_feed::{pieces_law, told_equality_law, waiting_equality_law};
 use winnow_kinds::bstr_slice_law;
 use winnow_match::stretch_equality_law;
 use winnow_parse_error::{char_span_law, parse_error_equality_law};
-use winnow_recover::recoverable_slice_law;
+use winnow_recover::{recoverable_slice_law, recoverable_text_slice_law};
 use winnow_run::answers_law;
 use winnow_stream::{NoSet, moving_law};
-use winnow_wrap::wrapper_slice_law;
+use winnow_wrap::{wrapper_slice_law, wrapper_text_slice_law};
 
 /// Calls the laws of streams and their slices. Laws do nothing: the calls show that each can be
 /// called.
@@ -18,7 +18,9 @@ pub fn laws_of_streams_and_slices() {
     bstr_slice_law();
     bytes_slice_law();
     wrapper_slice_law::<&'static [u8], u8>();
+    wrapper_text_slice_law::<&'static str, u8>();
     recoverable_slice_law::<&'static [u8], EmptyError>();
+    recoverable_text_slice_law::<&'static str, EmptyError>();
     answers_law::<&'static [u8], NoSet>();
 }
 

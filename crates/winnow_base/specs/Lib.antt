@@ -2,6 +2,7 @@
 pub use Rattle.winnow_stream.specs.Source
 pub use Rattle.winnow_stream.specs.Front
 pub use Rattle.winnow_stream.specs.Longer
+pub use Rattle.winnow_stream.specs.SliceFrom
 pub use Rattle.winnow_stream.specs.SliceWidths
 pub use Rattle.winnow_stream.specs.SliceBytes
 pub use Rattle.winnow_stream.specs.Location
@@ -22,9 +23,11 @@ pub use Rattle.winnow_match.specs.Staying
 pub use Rattle.winnow_match.specs.Search
 pub use Rattle.winnow_match.specs.Stretch
 pub use Rattle.winnow_run.specs.Marks
+pub use Rattle.winnow_run.specs.Needs
 pub use Rattle.winnow_run.specs.Script
 pub use Rattle.winnow_run.specs.RunState
 pub use Rattle.winnow_run.specs.Searching
+pub use Rattle.winnow_run.specs.WeakerSlices
 pub use Rattle.winnow_run.specs.Definite
 pub use Rattle.winnow_count.specs.Accumulation
 pub use Rattle.winnow_count.specs.AccumulationLaws
@@ -79,6 +82,7 @@ pub use Rattle.winnow_feed.specs.SameWaiting
 pub use Rattle.winnow_match.specs.declared.needles.Needles
 pub use Rattle.winnow_sets.specs.declared.char_set.CharSet
 pub use Rattle.winnow_run.specs.declared.script.Step
+pub use Rattle.winnow_run.specs.declared.need.Need
 pub use Rattle.winnow_run.specs.declared.search_steps.SearchStep
 pub use Rattle.winnow_run.specs.declared.script.Answer
 pub use Rattle.winnow_run.specs.declared.search_steps.SearchAnswer

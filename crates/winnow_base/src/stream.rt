@@ -9,7 +9,7 @@ pub use winnow_kinds::{BStr, ByteLiteral, ByteNeedles};
 pub use winnow_match::{Compare, CompareResult, FindSlice, Needles, Stretch, stretch};
 pub use winnow_recover::{RecordError, Recover, Recoverable};
 pub use winnow_run::{
-    Answer, PieceAnswer, SearchAnswer, SearchStep, Step, run, run_and_reset, run_search,
+    Answer, Need, PieceAnswer, SearchAnswer, SearchStep, Step, run, run_and_reset, run_search,
 };
 pub use winnow_sets::{AsChar, CharSet, ContainsToken, FixedSet, Where};
 // `Stream`, the streams that read their input as something else, and the wrappers.

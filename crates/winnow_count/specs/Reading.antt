@@ -46,3 +46,8 @@ ReadsChar text c = IsScalar c × (text ≡ encode_utf8 c)
 abbrev pub ReadsBytes : {S R : Type 0} → (S → R → Type 0) → (S → List ℕ) → (List ℕ → R → Type 0)
     → Type 0
 ReadsBytes {S} {R} reads bytes reading = (s : S) (v : R) → reads s v ↔ (IsUtf8 (bytes s) × reading (bytes s) v)
+
+-- a slice of a text reads as a value exactly if its text does
+abbrev pub ReadsText : {S R : Type 0} → (S → R → Type 0) → (S → List ℕ) → (List ℕ → R → Type 0)
+    → Type 0
+ReadsText {S} {R} reads text reading = (s : S) (v : R) → reads s v ↔ reading (text s) v

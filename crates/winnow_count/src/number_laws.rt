@@ -2,7 +2,7 @@
 
 ghost use Rattle.std.specs.Prelude.{◌≡◌, ◌↔◌, ℕ, List, ℤ};
 ghost use Rattle.std.specs.Str.{IsUtf8};
-ghost use Rattle.winnow_count.specs.Reading.{ReadsUnsigned, ReadsSigned, ReadsBytes};
+ghost use Rattle.winnow_count.specs.Reading.{ReadsUnsigned, ReadsSigned, ReadsBytes, ReadsText};
 ghost use mir.Syntax.{Width};
 
 use crate::{ParseSlice, Readable};
@@ -19,7 +19,8 @@ pub fn number_law()
 {}
 
 /// The law of slices that are read: a slice of bytes reads as a value exactly if its bytes are text
-/// that reads as the value.
+/// that reads as the value, and a slice of a text exactly if the text does.
 pub fn parse_slice_law<R: Readable>()
     ensures bytes { ReadsBytes ⟦<&'static [u8] as ParseSlice<R>>⟧.reads (λ s. s.now) R.reads }
+    ensures text { ReadsText ⟦<&'static str as ParseSlice<R>>⟧.reads (λ s. s.now) R.reads }
 {}

@@ -8,7 +8,7 @@ mod recover;
 mod recoverable;
 mod wrappers;
 
-pub use laws::recoverable_slice_law;
+pub use laws::{recoverable_slice_law, recoverable_text_slice_law};
 pub use record_error::RecordError;
 pub use recover::Recover;
 pub use recoverable::Recoverable;

@@ -125,6 +125,8 @@ impl<I: Stream, E: Debug> Stream for Recoverable<I, E> {
 
     ghost is_slice = { I.is_slice };
 
+    ghost slice_from = { I.slice_from };
+
     ghost counts_shortage = { I.counts_shortage };
 
     ghost keeps = { λ s t. (recorded_errors s ≡ recorded_errors t)

@@ -3,4 +3,5 @@ pub mod Needs
 pub mod Script
 pub mod RunState
 pub mod Searching
+pub mod WeakerSlices
 pub mod Definite

@@ -1,4 +1,5 @@
 ghost use Rattle.std.specs.Prelude.{◌≡◌, ◌≤◌, Bool, IfOk, IsOk, OnErr};
+ghost use Rattle.winnow_stream.specs.SliceFrom.{IsSliceFrom};
 ghost use Rattle.winnow_stream.specs.Source.{Computes, first_offset};
 ghost use Rattle.winnow_run.specs.Marks.{room_of};
 ghost use Rattle.winnow_run.specs.Script.{IsReady};
@@ -31,7 +32,8 @@ where
     requires ready { IsReady C.askable step.now }
     requires stands { MayTake step.now
         (run_state S.remained origin.now (S.remaining s.old) marks.old) }
-    ensures step { IfOk result (TakesStep C.may_answer S.is_slice S.counts_shortage step.now
+    ensures step { IfOk result
+        (TakesStep C.may_answer (IsSliceFrom S.is_slice S.slice_from) S.counts_shortage step.now
         (run_state S.remained origin.now (S.remaining s.old) marks.old)
         (run_state S.remained origin.now (S.remaining s.new) marks.new)
         (S.Checkpoint.location origin.now.checkpoint) (S.location s.old) (S.location s.new)) }

@@ -1,5 +1,6 @@
 ghost use Rattle.std.specs.Prelude.{◌≡◌, IfOk};
 ghost use Rattle.std.specs.List.{AllZip};
+ghost use Rattle.winnow_stream.specs.SliceFrom.{IsSliceFrom};
 ghost use Rattle.winnow_run.specs.Definite.{StableUnderMore};
 ghost use Rattle.winnow_run.specs.Script.{AreAnswers, AreReady, SetsCompute, StandsFor, answers};
 
@@ -25,6 +26,9 @@ where
     ensures answers { IfOk result (λ out.
         AreAnswers C.may_answer S.is_slice S.counts_shortage (S.remaining s.old)
         script.now out.items) }
+    ensures slices { IfOk result (λ out.
+        AreAnswers C.may_answer (IsSliceFrom S.is_slice S.slice_from) S.counts_shortage
+        (S.remaining s.old) script.now out.items) }
     ensures remains { S.remaining s.new ≡ S.remaining s.old }
     ensures location { S.location s.new ≡ S.location s.old }
     ensures valid { S.valid s.new }
@@ -40,9 +44,15 @@ where
 /// gives are, one by one, those of the script. A law does nothing when called: its contract is the
 /// law.
 pub fn answers_law<S: Stream, C: ScriptSet<S::Token>>()
-    ensures { (holds : _) (all : _) (script : _) (out : _) → SetsCompute C.may_answer holds script
+    ensures answers { (holds : _) (all : _) (script : _) (out : _)
+        → SetsCompute C.may_answer holds script
         → AreAnswers C.may_answer S.is_slice S.counts_shortage all script out
         → AllZip (StandsFor S.is_slice all) (answers holds S.counts_shortage all script) out }
+    ensures slices { (holds : _) (all : _) (script : _) (out : _)
+        → SetsCompute C.may_answer holds script
+        → AreAnswers C.may_answer (IsSliceFrom S.is_slice S.slice_from) S.counts_shortage all
+        script out → AllZip (StandsFor (IsSliceFrom S.is_slice S.slice_from) all)
+        (answers holds S.counts_shortage all script) out }
 {}
 
 /// The law of stability: if the first n answers of a script on a list are definite, they are also

@@ -1,5 +1,6 @@
 ghost use Rattle.std.specs.Prelude.{◌≡◌, ◌-◌, IfOk, OnErr, OnOk};
 ghost use Rattle.winnow_stream.specs.Source.{width};
+ghost use Rattle.winnow_stream.specs.SliceFrom.{IsSliceFrom};
 ghost use Rattle.winnow_stream.specs.Location.{location_behind};
 ghost use Rattle.winnow_run.specs.Script.{rest_after, AreAnswers, AreReady};
 
@@ -25,6 +26,9 @@ where
     ensures answers { IfOk result (λ out.
         AreAnswers C.may_answer S.is_slice S.counts_shortage (S.remaining s.old)
         script.now out.items) }
+    ensures slices { IfOk result (λ out.
+        AreAnswers C.may_answer (IsSliceFrom S.is_slice S.slice_from) S.counts_shortage
+        (S.remaining s.old) script.now out.items) }
     ensures remains { OnOk result (S.remaining s.new ≡ rest_after (S.remaining s.old) script.now) }
     ensures location { OnOk result (S.location s.new
         ≡ location_behind (S.location s.old)
@@ -53,9 +57,9 @@ where
     S::Slice: Drop,
     requires valid { S.valid s.old }
     requires ready { AreReady C.askable script.now }
-    ensures answers { IfOk result (λ out.
-        AreAnswers C.may_answer S.is_slice S.counts_shortage (S.remaining s.old)
-        script.now out.items) }
+    ensures slices { IfOk result (λ out.
+        AreAnswers C.may_answer (IsSliceFrom S.is_slice S.slice_from) S.counts_shortage
+        (S.remaining s.old) script.now out.items) }
     ensures remains { OnOk result (S.remaining s.new ≡ rest_after (S.remaining s.old) script.now) }
     ensures location { OnOk result (S.location s.new
         ≡ location_behind (S.location s.old)

@@ -1,5 +1,6 @@
 ghost use Rattle.std.specs.Prelude.{◌≡◌, ◌-◌, IfOk, OnErr, OnOk};
 ghost use Rattle.winnow_stream.specs.Source.{width};
+ghost use Rattle.winnow_stream.specs.SliceFrom.{IsSliceFrom};
 ghost use Rattle.winnow_stream.specs.Location.{location_behind};
 ghost use Rattle.winnow_run.specs.Searching.{rest_after_search, AreSearchAnswers, IsSearchReady};
 ghost use Rattle.winnow_run.specs.Searching.{AreSearchReady, MayTakeSearchStep};
@@ -30,6 +31,9 @@ where
     ensures answers { IfOk result (λ out.
         AreSearchAnswers C.may_answer S.is_slice S.counts_shortage S.compared S.found
         (S.remaining s.old) script.now out.items) }
+    ensures slices { IfOk result (λ out.
+        AreSearchAnswers C.may_answer (IsSliceFrom S.is_slice S.slice_from) S.counts_shortage
+        S.compared S.found (S.remaining s.old) script.now out.items) }
     ensures remains { OnOk result
         (S.remaining s.new ≡ rest_after_search (S.remaining s.old) script.now) }
     ensures location { OnOk result (S.location s.new
@@ -59,9 +63,9 @@ where
     S::Slice: Drop,
     requires valid { S.valid s.old }
     requires ready { AreSearchReady C.askable script.now }
-    ensures answers { IfOk result (λ out.
-        AreSearchAnswers C.may_answer S.is_slice S.counts_shortage S.compared S.found
-        (S.remaining s.old) script.now out.items) }
+    ensures slices { IfOk result (λ out.
+        AreSearchAnswers C.may_answer (IsSliceFrom S.is_slice S.slice_from) S.counts_shortage
+        S.compared S.found (S.remaining s.old) script.now out.items) }
     ensures remains { OnOk result
         (S.remaining s.new ≡ rest_after_search (S.remaining s.old) script.now) }
     ensures location { OnOk result (S.location s.new
@@ -99,7 +103,8 @@ where
     requires stands { MayTakeSearchStep step.now
         (run_state S.remained origin.now (S.remaining s.old) marks.old) }
     ensures step { IfOk result
-        (TakesSearchStep C.may_answer S.is_slice S.counts_shortage S.compared S.found step.now
+        (TakesSearchStep C.may_answer (IsSliceFrom S.is_slice S.slice_from) S.counts_shortage
+        S.compared S.found step.now
         (run_state S.remained origin.now (S.remaining s.old) marks.old)
         (run_state S.remained origin.now (S.remaining s.new) marks.new)
         (S.Checkpoint.location origin.now.checkpoint) (S.location s.old) (S.location s.new)) }

@@ -1,6 +1,7 @@
 pub mod Source
 pub mod Front
 pub mod Longer
+pub mod SliceFrom
 pub mod SliceWidths
 pub mod SliceBytes
 pub mod Location

@@ -1,5 +1,5 @@
 ghost use Rattle.std.specs.Prelude.{◌≡◌, ℕ, ◌-◌, ◌≤◌, Bool, [], Option, None, IsTrue, IfSome, take};
-ghost use Rattle.std.specs.Prelude.{drop};
+ghost use Rattle.std.specs.Prelude.{drop, ⊤};
 ghost use Rattle.std.specs.Iterator.{IsFinite, AlwaysYields, size};
 ghost use Rattle.winnow_stream.specs.Source.{Source, width, HasPositiveWidths, IsEndOf, Computes};
 ghost use Rattle.winnow_stream.specs.Source.{first_token, FindsFirst, first_offset, offsets};
@@ -83,6 +83,11 @@ pub trait Stream: Rest + Debug {
     // The value is the slice of width n of a list. It depends on the slice, the list and n alone.
     ghost is_slice: { Self.Slice → Source Self.Token → ℕ → Type 0 };
 
+    // What a slice of width n also says of the whole list from which it was taken, and need not say
+    // of a longer one. A slice of bits says at which place of its first byte the bits begin, which
+    // only the number of all bits tells. Most slices say nothing more.
+    ghost slice_from: { Self.Slice → Source Self.Token → ℕ → Type 0 } = { λ _ _ _. ⊤ };
+
     // Whether a shortage says how many tokens are missing.
     ghost counts_shortage: { Bool };
 
@@ -161,6 +166,7 @@ pub trait Stream: Rest + Debug {
         requires valid { valid self.old }
         requires offset { IsTrue (is_offset (remaining self.old) offset) }
         ensures answer { is_slice result (remaining self.old) offset }
+        ensures from { slice_from result (remaining self.old) offset }
         ensures remains { remaining self.new ≡ back (remaining self.old) offset }
         ensures location { Self.location self.new
             ≡ location_behind (Self.location self.old) offset }
@@ -171,12 +177,14 @@ pub trait Stream: Rest + Debug {
     fn peek_slice(&self, offset: usize) -> Self::Slice
         requires valid { valid self.now }
         requires offset { IsTrue (is_offset (remaining self.now) offset) }
-        ensures { is_slice result (remaining self.now) offset };
+        ensures answer { is_slice result (remaining self.now) offset }
+        ensures from { slice_from result (remaining self.now) offset };
 
     /// Returns all that remains and moves to the end.
     fn finish(&mut self) -> Self::Slice
         requires { valid self.old }
         ensures answer { is_slice result (remaining self.old) (width (remaining self.old)) }
+        ensures from { slice_from result (remaining self.old) (width (remaining self.old)) }
         ensures remains { remaining self.new ≡ [] }
         ensures location { Self.location self.new
             ≡ location_behind (Self.location self.old) (width (remaining self.old)) }
@@ -190,7 +198,8 @@ pub trait Stream: Rest + Debug {
     /// Returns all that remains.
     fn peek_finish(&self) -> Self::Slice
         requires { valid self.now }
-        ensures { is_slice result (remaining self.now) (width (remaining self.now)) }
+        ensures answer { is_slice result (remaining self.now) (width (remaining self.now)) }
+        ensures from { slice_from result (remaining self.now) (width (remaining self.now)) }
     {
         self.peek_slice(self.eof_offset())
     }

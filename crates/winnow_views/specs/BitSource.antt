@@ -1,5 +1,5 @@
 -- The bits of a source of bytes, from a place in its first byte on.
-use Rattle.std.specs.Prelude.{◌≡◌, ℕ, ◌+◌, ◌/◌, ◌%◌, ◌^◌, ◌<◌, ◌==◌, Bool, List, [], ◌∷◌, ◌++◌, drop, IsTrue, ⊤}
+use Rattle.std.specs.Prelude.{◌≡◌, ℕ, ◌+◌, ◌-◌, ◌/◌, ◌%◌, ◌^◌, ◌<◌, ◌==◌, Bool, List, [], ◌∷◌, ◌++◌, drop, IsTrue, ⊤}
 use Rattle.winnow_stream.specs.Source.{Source, units, width}
 use Rattle.winnow_stream.specs.Front.{is_offset, front}
 
@@ -33,6 +33,11 @@ pub record IsBitSource (bytes : Source ℕ) (place : ℕ) : Type 0 where
   pub at_end : bytes ≡ [] → place ≡ 0
   pub fits : width (bits_from bytes place) < 2 ^ 64
 
+-- the place at which a list of bits begins in its first byte: the number below 8 that, with the
+-- number of bits, makes whole bytes
+abbrev pub bit_place : Source Bool → ℕ
+bit_place r = (8 - width r % 8) % 8
+
 module _ {S : Type 0} (is_slice : S → Source ℕ → ℕ → Type 0) where
   -- s is the slice of n bits from a place in these bytes: the slice of the whole bytes, the place
   -- in the first of them at which the bits begin, and the number of bits that are also taken of the
@@ -45,3 +50,8 @@ module _ {S : Type 0} (is_slice : S → Source ℕ → ℕ → Type 0) where
   abbrev pub IsBitSlice : S × ℕ × ℕ → Source Bool → ℕ → Type 0
   IsBitSlice s r n = (bytes : Source ℕ) × IsBitSource bytes s.1 × IsTrue (is_offset (bits_from bytes s.1) n)
       × (front r n ≡ front (bits_from bytes s.1) n) × IsBitSliceAt s bytes s.1 n
+
+  -- s is the slice of width n of a list of bits, taken at the place at which the list begins: the
+  -- list is all that some bytes have from the place of s on, and s is their slice
+  abbrev pub IsBitSliceFrom : S × ℕ × ℕ → Source Bool → ℕ → Type 0
+  IsBitSliceFrom s r n = (bytes : Source ℕ) × IsBitSource bytes s.1 × (r ≡ bits_from bytes s.1) × IsBitSliceAt s bytes s.1 n

@@ -1,12 +1,13 @@
 //! Laws of streams of bits. A law does nothing when called: its contract is the law.
 
-ghost use Rattle.std.specs.Prelude.{◌≡◌, ℕ, ◌+◌, ◌-◌, ◌*◌, ◌%◌, ◌^◌, ◌<◌, ◌≤◌, ◌&&◌, nat_eq, List};
-ghost use Rattle.std.specs.Prelude.{length};
+ghost use Rattle.std.specs.Prelude.{◌≡◌, ℕ, ◌+◌, ◌-◌, ◌*◌, ◌/◌, ◌%◌, ◌^◌, ◌<◌, ◌≤◌, ◌&&◌, nat_eq};
+ghost use Rattle.std.specs.Prelude.{Bool, List, length, IsTrue};
 ghost use Rattle.winnow_stream.specs.Source.{Source, units, width};
-ghost use Rattle.winnow_stream.specs.Front.{front};
+ghost use Rattle.winnow_stream.specs.Front.{front, is_offset};
+ghost use Rattle.winnow_stream.specs.SliceBytes.{SlicesHaveBytes};
 ghost use Rattle.winnow_stream.specs.Checkpoint.{checkpoint_inner};
 ghost use Rattle.winnow_stream.specs.declared.checkpoint.Checkpoint.{Checkpoint};
-ghost use Rattle.winnow_views.specs.BitSource.{bits_from, IsBitSource, IsBitSlice};
+ghost use Rattle.winnow_views.specs.BitSource.{bits_from, bit_place, IsBitSource, IsBitSlice};
 ghost use Rattle.winnow_views.specs.BitStream.{bits_inner, bits_place, bytes_at, place_at};
 ghost use Rattle.winnow_views.specs.BitStream.{IsCounted};
 ghost use Rattle.winnow_stream.specs.SliceWidths.{SlicesHaveWidths};
@@ -25,15 +26,34 @@ pub fn bit_source_law()
 {}
 
 /// The law of places. The number of bits determines the place, and the bits of some whole bytes,
-/// from the place on, are a front of the bits. So the list that a slice of bits was taken from
-/// determines the two numbers of its triple, and the bits of its bytes from the place on are the
-/// first bits that were taken.
+/// from the place on, are a front of the bits. [`bit_slice_place_law`] says what follows for a
+/// slice.
 pub fn bit_place_law()
     ensures place { (bytes : Source ℕ) (place : ℕ) → IsBitSource bytes place
         → (width (bits_from bytes place) + place) % 8 ≡ 0 }
     ensures front { (bytes : Source ℕ) (place count : ℕ) → IsBitSource bytes place
         → count ≤ length bytes → bits_from (front bytes count) place
         ≡ front (bits_from bytes place) (8 * count - place) }
+{}
+
+/// The law of places of slices. The list that a slice of bits was taken from determines the two
+/// numbers of its triple and the number of its bytes, and the bits of its bytes, from the place on,
+/// are the first bits of the list. Each call of `Stream` and each run of a script ensures
+/// `slice_from`, also through wrappers.
+pub fn bit_slice_place_law<I: Stream<Token = u8>>()
+    ensures place { (s : I.Slice × ℕ × ℕ) (r : Source Bool) (n : ℕ)
+        → ⟦<Bits<I> as Stream>⟧.slice_from s r n → s.1 ≡ bit_place r }
+    ensures beyond { (s : I.Slice × ℕ × ℕ) (r : Source Bool) (n : ℕ)
+        → ⟦<Bits<I> as Stream>⟧.slice_from s r n → s.2 ≡ (n + bit_place r) % 8 }
+    ensures count { (bytes : I.Slice → List ℕ) → SlicesHaveBytes I.is_slice bytes
+        → (s : I.Slice × ℕ × ℕ) (r : Source Bool) (n : ℕ) → IsTrue (is_offset r n)
+        → ⟦<Bits<I> as Stream>⟧.slice_from s r n
+        → length (bytes s.0) ≡ (n + bit_place r) / 8 }
+    ensures bits { (bytes : I.Slice → List ℕ) → SlicesHaveBytes I.is_slice bytes
+        → (s : I.Slice × ℕ × ℕ) (r : Source Bool) (n : ℕ) → IsTrue (is_offset r n)
+        → ⟦<Bits<I> as Stream>⟧.slice_from s r n
+        → bits_from (units (bytes s.0)) (bit_place r)
+        ≡ front r (8 * length (bytes s.0) - bit_place r) }
 {}
 
 /// The law of checkpoints of bits: a valid checkpoint counts its bits. Measuring from one

@@ -4,7 +4,8 @@ ghost use Rattle.winnow_stream.specs.Checkpoint.{checkpoint_inner};
 ghost use Rattle.winnow_stream.specs.Source.{first_token, width};
 ghost use Rattle.winnow_stream.specs.Front.{is_offset, back};
 ghost use Rattle.winnow_stream.specs.Location.{location_behind};
-ghost use Rattle.winnow_views.specs.BitSource.{IsBitSlice, IsBitSliceAt};
+ghost use Rattle.winnow_stream.specs.SliceFrom.{IsSliceFrom};
+ghost use Rattle.winnow_views.specs.BitSource.{IsBitSlice, IsBitSliceAt, IsBitSliceFrom};
 ghost use Rattle.winnow_views.specs.BitStream.{bits_inner, bits_place, bits_remaining};
 ghost use Rattle.winnow_views.specs.BitStream.{bits_remained, IsValidBits, IsValidPlace};
 ghost use Rattle.winnow_views.specs.BitStream.{bytes_at, place_at, bits_location, bits_location_at};
@@ -121,6 +122,8 @@ impl<I: Stream<Token = u8>> Stream for Bits<I> {
 
     ghost is_slice = { IsBitSlice I.is_slice };
 
+    ghost slice_from = { IsBitSliceFrom (IsSliceFrom I.is_slice I.slice_from) };
+
     ghost counts_shortage = { true };
 
     ghost keeps = { λ s t. I.keeps s.input t.input };
@@ -209,6 +212,8 @@ impl<I: Stream<Token = u8>> Stream for Bits<I> {
         ensures bytes { I.remaining (bits_inner self.new)
             ≡ back (I.remaining (bits_inner self.old)) ((offset + bits_place self.old) / 8) }
         ensures answer { IsBitSlice I.is_slice result (bits_remaining I.remaining self.old) offset }
+        ensures from { IsBitSliceFrom (IsSliceFrom I.is_slice I.slice_from) result
+            (bits_remaining I.remaining self.old) offset }
         ensures remains { bits_remaining I.remaining self.new
             ≡ back (bits_remaining I.remaining self.old) offset }
         ensures location { bits_location I.location self.new
@@ -229,6 +234,8 @@ impl<I: Stream<Token = u8>> Stream for Bits<I> {
         ensures at { IsBitSliceAt I.is_slice result (I.remaining (bits_inner self.now))
             (bits_place self.now) offset }
         ensures answer { IsBitSlice I.is_slice result (bits_remaining I.remaining self.now) offset }
+        ensures from { IsBitSliceFrom (IsSliceFrom I.is_slice I.slice_from) result
+            (bits_remaining I.remaining self.now) offset }
     {
         let (whole, rest) = whole_and_rest(offset, self.place);
         (self.input.peek_slice(whole), self.place, rest)
@@ -242,6 +249,8 @@ impl<I: Stream<Token = u8>> Stream for Bits<I> {
         ensures bytes { I.remaining (bits_inner self.new) ≡ [] }
         ensures answer { IsBitSlice I.is_slice result (bits_remaining I.remaining self.old)
             (width (bits_remaining I.remaining self.old)) }
+        ensures from { IsBitSliceFrom (IsSliceFrom I.is_slice I.slice_from) result
+            (bits_remaining I.remaining self.old) (width (bits_remaining I.remaining self.old)) }
         ensures remains { bits_remaining I.remaining self.new ≡ [] }
         ensures location { bits_location I.location self.new
             ≡ location_behind (bits_location I.location self.old)
@@ -259,6 +268,8 @@ impl<I: Stream<Token = u8>> Stream for Bits<I> {
             (bits_place self.now) (width (bits_remaining I.remaining self.now)) }
         ensures answer { IsBitSlice I.is_slice result (bits_remaining I.remaining self.now)
             (width (bits_remaining I.remaining self.now)) }
+        ensures from { IsBitSliceFrom (IsSliceFrom I.is_slice I.slice_from) result
+            (bits_remaining I.remaining self.now) (width (bits_remaining I.remaining self.now)) }
     {
         self.peek_slice(self.eof_offset())
     }

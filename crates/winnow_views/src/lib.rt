@@ -12,7 +12,8 @@ mod token_slice;
 mod token_view;
 
 pub use bit_laws::{
-    bit_checkpoint_law, bit_equality_law, bit_place_law, bit_slice_law, bit_source_law,
+    bit_checkpoint_law, bit_equality_law, bit_place_law, bit_slice_law, bit_slice_place_law,
+    bit_source_law,
 };
 pub use bit_offsets::BitOffsets;
 pub use bits::{BitPlace, Bits};

@@ -3,7 +3,7 @@
 ghost use Rattle.std.specs.Prelude.{◌≡◌, ◌&&◌, ℕ, List};
 ghost use Rattle.std.specs.Ordering.{on, then_cmp, bool_cmp};
 ghost use Rattle.winnow_stream.specs.Checkpoint.{checkpoint_inner};
-ghost use Rattle.winnow_stream.specs.SliceBytes.{SlicesHaveBytes};
+ghost use Rattle.winnow_stream.specs.SliceBytes.{SlicesHaveBytes, SlicesHaveText};
 ghost use Rattle.winnow_stream.specs.declared.checkpoint.Checkpoint.{Checkpoint};
 ghost use Rattle.winnow_wrap.specs.Located.{locating_inner, located_start, inner_at};
 ghost use Rattle.winnow_wrap.specs.Flag.{partial_inner, flag};
@@ -105,8 +105,8 @@ pub fn wrapper_checkpoint_order_law<T: Ord, S>()
         ≡ T.cmp (checkpoint_inner c) (checkpoint_inner d) }
 {}
 
-/// The law of slices of wrappers: they have the bytes, or are the text, that the slices of the
-/// stream inside have.
+/// The law of slices of wrappers around a stream of bytes: they have the bytes that the slices of
+/// the stream inside have.
 pub fn wrapper_slice_law<I: Stream<Token = u8>, S: Debug>()
     ensures located { (bytes : I.Slice → List ℕ) → SlicesHaveBytes I.is_slice bytes
         → SlicesHaveBytes ⟦<LocatingSlice<I> as Stream>⟧.is_slice bytes }
@@ -114,4 +114,15 @@ pub fn wrapper_slice_law<I: Stream<Token = u8>, S: Debug>()
         → SlicesHaveBytes ⟦<Stateful<I, S> as Stream>⟧.is_slice bytes }
     ensures partial { (bytes : I.Slice → List ℕ) → SlicesHaveBytes I.is_slice bytes
         → SlicesHaveBytes ⟦<Partial<I> as Stream>⟧.is_slice bytes }
+{}
+
+/// The law of slices of wrappers around a stream of characters: they are the text that the slices
+/// of the stream inside are.
+pub fn wrapper_text_slice_law<I: Stream<Token = char>, S: Debug>()
+    ensures located { (text_bytes : I.Slice → List ℕ) → SlicesHaveText I.is_slice text_bytes
+        → SlicesHaveText ⟦<LocatingSlice<I> as Stream>⟧.is_slice text_bytes }
+    ensures stateful { (text_bytes : I.Slice → List ℕ) → SlicesHaveText I.is_slice text_bytes
+        → SlicesHaveText ⟦<Stateful<I, S> as Stream>⟧.is_slice text_bytes }
+    ensures partial { (text_bytes : I.Slice → List ℕ) → SlicesHaveText I.is_slice text_bytes
+        → SlicesHaveText ⟦<Partial<I> as Stream>⟧.is_slice text_bytes }
 {}

@@ -14,7 +14,7 @@ mod stateful;
 pub use laws::{
     flagged_equality_law, flagged_order_law, located_equality_law, located_order_law,
     stateful_equality_law, wrapper_checkpoint_equality_law, wrapper_checkpoint_order_law,
-    wrapper_slice_law,
+    wrapper_slice_law, wrapper_text_slice_law,
 };
 pub use located::{LocatingSlice, Placed};
 pub use partial::Partial;

@@ -147,6 +147,8 @@ impl<I: Stream<Checkpoint = C>, C: Rest + Copy + Debug> Stream for LocatingSlice
 
     ghost is_slice = { I.is_slice };
 
+    ghost slice_from = { I.slice_from };
+
     ghost counts_shortage = { I.counts_shortage };
 
     ghost keeps = { KeepsLocated I.keeps };
@@ -216,6 +218,7 @@ impl<I: Stream<Checkpoint = C>, C: Rest + Copy + Debug> Stream for LocatingSlice
         requires valid { IsValidLocated I.valid I.valid_checkpoint self.old }
         requires offset { IsTrue (is_offset (I.remaining (locating_inner self.old)) offset) }
         ensures answer { I.is_slice result (I.remaining (locating_inner self.old)) offset }
+        ensures from { I.slice_from result (I.remaining (locating_inner self.old)) offset }
         ensures remains { I.remaining (locating_inner self.new)
             ≡ back (I.remaining (locating_inner self.old)) offset }
         ensures valid { IsValidLocated I.valid I.valid_checkpoint self.new }
@@ -234,6 +237,8 @@ impl<I: Stream<Checkpoint = C>, C: Rest + Copy + Debug> Stream for LocatingSlice
     fn finish(&mut self) -> I::Slice
         requires { IsValidLocated I.valid I.valid_checkpoint self.old }
         ensures answer { I.is_slice result (I.remaining (locating_inner self.old))
+            (width (I.remaining (locating_inner self.old))) }
+        ensures from { I.slice_from result (I.remaining (locating_inner self.old))
             (width (I.remaining (locating_inner self.old))) }
         ensures remains { I.remaining (locating_inner self.new) ≡ [] }
         ensures valid { IsValidLocated I.valid I.valid_checkpoint self.new }

@@ -92,6 +92,8 @@ impl<I: Stream> Stream for Partial<I> {
 
     ghost is_slice = { I.is_slice };
 
+    ghost slice_from = { I.slice_from };
+
     ghost counts_shortage = { I.counts_shortage };
 
     ghost keeps = { λ s t. (flag s ≡ flag t) × I.keeps (partial_inner s) (partial_inner t) };

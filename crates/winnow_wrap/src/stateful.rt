@@ -68,6 +68,8 @@ impl<I: Stream, S: Debug> Stream for Stateful<I, S> {
 
     ghost is_slice = { I.is_slice };
 
+    ghost slice_from = { I.slice_from };
+
     ghost counts_shortage = { I.counts_shortage };
 
     ghost keeps = { λ s t. (s.state ≡ t.state) × I.keeps s.input t.input };

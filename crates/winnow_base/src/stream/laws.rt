@@ -11,7 +11,7 @@ pub use winnow_match::{
     byte_hit_law, compare_law, compare_more_law, definite_hit_law, find_law, find_more_law,
     stretch_equality_law, stretch_law,
 };
-pub use winnow_recover::recoverable_slice_law;
+pub use winnow_recover::{recoverable_slice_law, recoverable_text_slice_law};
 pub use winnow_run::{answers_law, definite_law};
 pub use winnow_sets::{union_law, union_of_four_law, union_of_three_law};
 pub use winnow_stream::{
@@ -23,5 +23,5 @@ pub use winnow_views::{token_compare_law, token_equality_law, token_order_law};
 pub use winnow_wrap::{
     flagged_equality_law, flagged_order_law, located_equality_law, located_order_law,
     stateful_equality_law, wrapper_checkpoint_equality_law, wrapper_checkpoint_order_law,
-    wrapper_slice_law,
+    wrapper_slice_law, wrapper_text_slice_law,
 };

@@ -1,5 +1,5 @@
 -- The bits of bytes: the answer of each call of a stream of bits, and what the call leaves.
-use Rattle.std.proofs.Common.{◌≡◌, ℕ, zero, suc, ◌+◌, ◌-◌, ◌*◌, ◌/◌, ◌%◌, ◌^◌, ◌≤◌, ◌<◌, leb, true, Bool, List, [], ◌∷◌, ◌++◌, length, map, take, drop, Option, Some, None, Ok, Err, refl, sym, ap, ◌∙◌, subst, arith, IsTrue, zero-add}
+use Rattle.std.proofs.Common.{◌≡◌, ℕ, zero, suc, ◌+◌, ◌-◌, ◌*◌, ◌/◌, ◌%◌, ◌^◌, ◌≤◌, ◌<◌, leb, true, Bool, List, [], ◌∷◌, ◌++◌, length, map, take, drop, length-take-le, Option, Some, None, Ok, Err, refl, sym, ap, ◌∙◌, subst, arith, IsTrue, zero-add}
 use Rattle.std.proofs.lemmas.Bool.Decides.{nat_tests}
 use Rattle.std.proofs.lemmas.List.{length-drop, length-map, drop-drop, drop-take}
 use Rattle.std.specs.Int.NonZero.{non_zero_usize_get}
@@ -11,9 +11,10 @@ use Rattle.winnow_stream.specs.Location.{location_behind}
 use Rattle.winnow_stream.specs.Shortage.{offset_at}
 use Rattle.winnow_stream.specs.Units.{width-units}
 use Rattle.winnow_stream.proofs.lemmas.UnitLemmas.{length-units, is_offset-units, count_to-units, le-from_is_offset, units-take, units-drop, offset_at-units_short, offset_at-units_fits}
-use Rattle.winnow_views.specs.BitSource.{HasUnits, bit_of, byte_bits, bits_of, bits_from, IsBitSource, IsBitSlice}
+use Rattle.winnow_views.specs.BitSource.{HasUnits, bit_of, byte_bits, bits_of, bits_from, bit_place, IsBitSource, IsBitSlice, IsBitSliceFrom}
 use Rattle.winnow_views.specs.BitStream.{location_in_bits}
 use Rattle.winnow_stream.specs.SliceWidths.{SlicesHaveWidths}
+use Rattle.winnow_stream.specs.SliceBytes.{SlicesHaveBytes}
 use Rattle.winnow_views.specs.BitLaws.{units-HasUnits, width-HasUnits, length-bits_past, width-bits_from}
 
 -- ---- the number of bits
@@ -280,6 +281,57 @@ bits_from-front bytes place (suc k) h l =
     ∙ ap (λ bits. units (drop place bits)) (bits_of-take (suc k) bytes)
     ∙ ap units (drop-take_within place (8 * suc k) (bits_of bytes) (omega (arith, h.below)))
     ∙ units-take (drop place (bits_of bytes)) (8 * suc k - place) (omega (arith, l, length-bits_past bytes place))
+
+-- ---- where a slice of bits begins
+
+-- the place below 8 that makes whole bytes with a number of bits
+place-only : (bits place : ℕ) → place < 8 → (bits + place) % 8 ≡ 0 → place ≡ (8 - bits % 8) % 8
+place-only bits place below whole = omega (arith, below, whole)
+
+module _ {S : Type 0} (is_slice : S → Source ℕ → ℕ → Type 0) (s : S × ℕ × ℕ) (r : Source Bool) (n : ℕ) (h : IsBitSliceFrom is_slice s r n) where
+  -- the list tells the place of a slice that was taken from it
+  pub place-of_slice : s.1 ≡ bit_place r
+  place-of_slice =
+      let bytes : Source ℕ = h.0 in
+      let source : IsBitSource bytes s.1 = h.1 in
+      let whole : (width (bits_from bytes s.1) + s.1) % 8 ≡ 0 = place-of_width bytes s.1 source in
+      place-only (width r) s.1 source.below (ap (λ l. (width l + s.1) % 8) h.2 ∙ whole)
+
+  -- and the number of bits beyond the whole bytes
+  pub beyond-of_slice : s.2 ≡ (n + bit_place r) % 8
+  beyond-of_slice = let e : s.2 ≡ (n + s.1) % 8 = h.3.2 in e ∙ ap (λ p. (n + p) % 8) place-of_slice
+
+  module _ (contents : S → List ℕ) (known : SlicesHaveBytes is_slice contents) (o : IsTrue (is_offset r n)) where
+    -- the bytes of the slice are the whole bytes
+    contents-of_slice : units (contents s.0) ≡ front h.0 ((n + s.1) / 8)
+    contents-of_slice =
+        let offset : IsTrue (is_offset (bits_from h.0 s.1) n) = subst (λ l. IsTrue (is_offset l n)) h.2 o in
+        known s.0 h.0 ((n + s.1) / 8) (is_offset-whole h.0 s.1 n ((n + s.1) / 8) h.1 offset refl) h.3.0
+
+    -- the whole bytes are at most the bytes
+    whole-of_slice : (n + s.1) / 8 ≤ length h.0
+    whole-of_slice = whole-le h.0 s.1 n h.1 (subst (λ l. IsTrue (is_offset l n)) h.2 o)
+
+    -- there are as many as the bits fill
+    length-contents : length (contents s.0) ≡ (n + s.1) / 8
+    length-contents =
+        let source : IsBitSource h.0 s.1 = h.1 in
+        sym (length-units (contents s.0)) ∙ ap length contents-of_slice ∙ ap length (front-HasUnits h.0 ((n + s.1) / 8) source.units whole-of_slice)
+        ∙ length-take-le ((n + s.1) / 8) h.0 whole-of_slice
+
+    pub count-of_slice : length (contents s.0) ≡ (n + bit_place r) / 8
+    count-of_slice = length-contents ∙ ap (λ p. (n + p) / 8) place-of_slice
+
+    -- their bits from the place on are the first bits of the list
+    pub bits-of_slice : bits_from (units (contents s.0)) (bit_place r)
+        ≡ front r (8 * length (contents s.0) - bit_place r)
+    bits-of_slice =
+        let there : bits_from (units (contents s.0)) s.1 ≡ front r (8 * length (contents s.0) - s.1) =
+        ap (λ l. bits_from l s.1) contents-of_slice
+        ∙ bits_from-front h.0 s.1 ((n + s.1) / 8) h.1 whole-of_slice
+        ∙ ap (λ l. front l (8 * ((n + s.1) / 8) - s.1)) (sym h.2)
+        ∙ ap (λ k. front r (8 * k - s.1)) (sym length-contents) in
+        subst (λ p. bits_from (units (contents s.0)) p ≡ front r (8 * length (contents s.0) - p)) place-of_slice there
 
 -- the rules for the calls of streams of bits
 pub ruleset bit_steps = (width-bits, place-le, is_offset-bits, offset_at-bits_short, offset_at-bits_fits, first-bit, next-bit)

@@ -4,6 +4,7 @@ use Rattle.winnow_run.specs.declared.script.Answer.TheVariants.{Token, At, Flag,
 use Rattle.std.specs.declared.alloc.AllocError.{AllocError}
 use Rattle.winnow_stream.specs.Source.{offsets, width, first_token, first_offset}
 use Rattle.winnow_stream.specs.Front.{back, is_offset}
+use Rattle.winnow_stream.specs.SliceFrom.{IsSliceFrom}
 use Rattle.winnow_stream.specs.Shortage.{offset_at}
 use Rattle.winnow_stream.specs.Location.{location_behind}
 use Rattle.std.proofs.lemmas.Iterator.{YieldsList, items_from_collect}
@@ -29,7 +30,7 @@ returns-then-is_offset-clause-step g c = record {
   answer =
       λ all cur h q p.
       let b = taken _ all cur h c.in-Take.offset _ c.is_offset.ensures c.if-is_offset.true in
-      rw c.in-Take.is (rw b (c.next_slice.result, refl, slice-front _ all cur h g.S.Stream.is_slice c.in-Take.offset _ c.next_slice.ensures.answer));
+      rw c.in-Take.is (rw b (c.next_slice.result, refl, slice-front _ all cur h (IsSliceFrom g.S.Stream.is_slice g.S.Stream.slice_from) c.in-Take.offset _ (c.next_slice.ensures.answer, c.next_slice.ensures.from)));
   stands =
       λ all cur h.
       rw c.in-Take.is (stands-take _ all cur h c.in-Take.offset _ c.next_slice.ensures.remains);
@@ -56,7 +57,7 @@ returns-then-is_offset-2-clause-step g c = record {
   answer =
       λ all cur h q p.
       let b = taken _ all cur h c.in-Look.offset _ c.is_offset-in-Look.ensures c.if-is_offset-2.true in
-      rw c.in-Look.is (rw b (c.peek_slice.result, refl, slice-front _ all cur h g.S.Stream.is_slice c.in-Look.offset _ c.peek_slice.ensures));
+      rw c.in-Look.is (rw b (c.peek_slice.result, refl, slice-front _ all cur h (IsSliceFrom g.S.Stream.is_slice g.S.Stream.slice_from) c.in-Look.offset _ (c.peek_slice.ensures.answer, c.peek_slice.ensures.from)));
   stands = λ all cur h. rw c.in-Look.is h;
   located = λ whole q. q;
 }
@@ -74,7 +75,7 @@ pub returns-in-Finish-clause-step : goal.returns-in-Finish-clause-step
 returns-in-Finish-clause-step g c = record {
   answer =
       λ all cur h q p.
-      rw c.in-Finish.is (c.finish.result, refl, slice-whole _ all cur h g.S.Stream.is_slice _ c.finish.ensures.answer);
+      rw c.in-Finish.is (c.finish.result, refl, slice-whole _ all cur h (IsSliceFrom g.S.Stream.is_slice g.S.Stream.slice_from) _ (c.finish.ensures.answer, c.finish.ensures.from));
   stands = λ all cur h. rw c.in-Finish.is (stands-end _ all cur h _ c.finish.ensures.remains);
   located =
       λ whole q.
@@ -86,7 +87,7 @@ pub returns-in-PeekFinish-clause-step : goal.returns-in-PeekFinish-clause-step
 returns-in-PeekFinish-clause-step g c = record {
   answer =
       λ all cur h q p.
-      rw c.in-PeekFinish.is (c.peek_finish.result, refl, slice-whole _ all cur h g.S.Stream.is_slice _ c.peek_finish.ensures);
+      rw c.in-PeekFinish.is (c.peek_finish.result, refl, slice-whole _ all cur h (IsSliceFrom g.S.Stream.is_slice g.S.Stream.slice_from) _ (c.peek_finish.ensures.answer, c.peek_finish.ensures.from));
   stands = λ all cur h. rw c.in-PeekFinish.is h;
   located = λ whole q. q;
 }

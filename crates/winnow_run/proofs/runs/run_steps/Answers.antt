@@ -6,6 +6,7 @@ use Rattle.std.specs.List.{All}
 use Rattle.winnow_stream.specs.Source.{width}
 use Rattle.winnow_stream.specs.Cursor.{start}
 use Rattle.winnow_stream.specs.Location.{location_behind}
+use Rattle.winnow_stream.specs.SliceFrom.{IsSliceFrom}
 use Rattle.winnow_run.specs.Script.{step_next, IsReady, IsAnswer}
 use Rattle.winnow_run.proofs.lemmas.AnswerStepLemmas.{behind-none, reach-start}
 use Rattle.winnow_run.proofs.lemmas.ScriptLemmas.{cursor-append, AreGiven-append, later-shorter}
@@ -68,11 +69,11 @@ loop-step-preserved g c =
       stands = rw (cursor-append (step_next all) i.done c.in-Some.step.now start) (c.in_ok-answer.ensures.step.stands _ _ i.stands);
       answers =
           rw c.in_ok-push.ensures.items
-          (AreGiven-append (IsAnswer g.C.ScriptSet.may_answer g.S.Stream.is_slice g.S.Stream.counts_shortage all) (step_next all) i.done start _ c.in-Some.step.now _ i.answers (c.in_ok-answer.ensures.step.answer _ _ i.stands));
+          (AreGiven-append (IsAnswer g.C.ScriptSet.may_answer (IsSliceFrom g.S.Stream.is_slice g.S.Stream.slice_from) g.S.Stream.counts_shortage all) (step_next all) i.done start _ c.in-Some.step.now _ i.answers (c.in_ok-answer.ensures.step.answer _ _ i.stands));
     }
 
-pub returns-clause-answers : goal.returns-clause-answers
-returns-clause-answers g c =
+pub returns-clause-slices : goal.returns-clause-slices
+returns-clause-slices g c =
     let i = c.loop-step.invariant in
     let e : c.args.script.now ≡ i.done = i.split ∙ ap (λ xs. i.done ++ xs) (nil_from_length _ c.in_default.ensures.cases) ∙ append-nil i.done in
     rw e i.answers
@@ -97,8 +98,8 @@ answer_step-requires-clause-stands g c = ((_, _, c.loop-step.invariant.stands), 
 pub loop-step-smaller : goal.loop-step-smaller
 loop-step-smaller g c = later-shorter c.in-Some.step.now _ _ c.in-Some.ensures.cases.0
 
-pub returns-in_err-answers-clause-answers : goal.returns-in_err-answers-clause-answers
-returns-in_err-answers-clause-answers g c = IfOk-from_err _ _ c.from_residual.ensures.0
+pub returns-in_err-answers-clause-slices : goal.returns-in_err-answers-clause-slices
+returns-in_err-answers-clause-slices g c = IfOk-from_err _ _ c.from_residual.ensures.0
 
 pub returns-in_err-answers-clause-remains : goal.returns-in_err-answers-clause-remains
 returns-in_err-answers-clause-remains g c = IfOk-from_err _ _ c.from_residual.ensures.0
@@ -112,8 +113,8 @@ returns-in_err-answers-clause-valid g c = c.requires.valid
 pub returns-in_err-answers-clause-kept : goal.returns-in_err-answers-clause-kept
 returns-in_err-answers-clause-kept g c = g.met.S.Stream.keeps_reflexive _
 
-pub returns-in_err-answer-clause-answers : goal.returns-in_err-answer-clause-answers
-returns-in_err-answer-clause-answers g c = IfOk-from_err _ _ c.from_residual-in_err-answer.ensures.0
+pub returns-in_err-answer-clause-slices : goal.returns-in_err-answer-clause-slices
+returns-in_err-answer-clause-slices g c = IfOk-from_err _ _ c.from_residual-in_err-answer.ensures.0
 
 pub returns-in_err-answer-clause-remains : goal.returns-in_err-answer-clause-remains
 returns-in_err-answer-clause-remains g c = IfOk-from_err _ _ c.from_residual-in_err-answer.ensures.0
@@ -124,8 +125,8 @@ returns-in_err-answer-clause-location g c = IfOk-from_err _ _ c.from_residual-in
 pub returns-in_err-answer-clause-valid : goal.returns-in_err-answer-clause-valid
 returns-in_err-answer-clause-valid g c = c.answer_step.ensures.valid
 
-pub returns-in_err-push-clause-answers : goal.returns-in_err-push-clause-answers
-returns-in_err-push-clause-answers g c = IfOk-from_err _ _ c.from_residual-in_err-push.ensures.0
+pub returns-in_err-push-clause-slices : goal.returns-in_err-push-clause-slices
+returns-in_err-push-clause-slices g c = IfOk-from_err _ _ c.from_residual-in_err-push.ensures.0
 
 pub returns-in_err-push-clause-remains : goal.returns-in_err-push-clause-remains
 returns-in_err-push-clause-remains g c = IfOk-from_err _ _ c.from_residual-in_err-push.ensures.0

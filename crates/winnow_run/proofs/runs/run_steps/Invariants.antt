@@ -1,5 +1,6 @@
 use Rattle.std.proofs.Common.{◌≡◌, List, ◌++◌, length}
 use Rattle.winnow_stream.specs.Cursor.{cursor_after, start}
+use Rattle.winnow_stream.specs.SliceFrom.{IsSliceFrom}
 use Rattle.winnow_run.specs.Script.{step_next, AreReady, AreGiven, IsAnswer}
 use Rattle.winnow_run.specs.RunState.{run_state, StandsAt, AreLocated}
 use Rattle.winnow_run.proofs.runs.run_steps.Given as goal
@@ -20,7 +21,7 @@ invariant-loop-step g l = record {
       (g.S.Stream.remaining l.fn.s)
       (cursor_after (step_next (g.S.Stream.remaining l.fn.s)) done start);
   answers : AreGiven
-      (IsAnswer g.C.ScriptSet.may_answer g.S.Stream.is_slice g.S.Stream.counts_shortage
+      (IsAnswer g.C.ScriptSet.may_answer (IsSliceFrom g.S.Stream.is_slice g.S.Stream.slice_from) g.S.Stream.counts_shortage
       (g.S.Stream.remaining l.fn.s)) (step_next (g.S.Stream.remaining l.fn.s))
       done start l.answers.items;
 }

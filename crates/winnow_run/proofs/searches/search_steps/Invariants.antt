@@ -1,5 +1,6 @@
 use Rattle.std.proofs.Common.{◌≡◌, List, ◌++◌, length}
 use Rattle.winnow_stream.specs.Cursor.{cursor_after, start}
+use Rattle.winnow_stream.specs.SliceFrom.{IsSliceFrom}
 use Rattle.winnow_run.specs.Searching.{search_next, AreSearchReady, IsSearchAnswer}
 use Rattle.winnow_run.specs.Script.{AreGiven}
 use Rattle.winnow_run.specs.RunState.{run_state, StandsAt, AreLocated}
@@ -21,7 +22,7 @@ invariant-loop-step g l = record {
       (g.S.Stream.remaining l.fn.s)
       (cursor_after (search_next (g.S.Stream.remaining l.fn.s)) done start);
   answers : AreGiven
-      (IsSearchAnswer g.C.ScriptSet.may_answer g.S.Stream.is_slice g.S.Stream.counts_shortage
+      (IsSearchAnswer g.C.ScriptSet.may_answer (IsSliceFrom g.S.Stream.is_slice g.S.Stream.slice_from) g.S.Stream.counts_shortage
       g.S.Compare.compared g.S.FindSlice.found (g.S.Stream.remaining l.fn.s))
       (search_next (g.S.Stream.remaining l.fn.s)) done start l.answers.items;
 }

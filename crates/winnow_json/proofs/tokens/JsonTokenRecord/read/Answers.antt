@@ -12,7 +12,7 @@ pub next_slice-requires-clause-offset : goal.next_slice-requires-clause-offset
 next_slice-requires-clause-offset c =
     let now = c.args.input.now.input.input.now in
     let t = c.peek_finish-bytes.result.now in
-    let same = ap units (sym (units-same t now (c.peek_finish-bytes.ensures ∙ sym (front-units now)))) in
+    let same = ap units (sym (units-same t now (c.peek_finish-bytes.ensures.answer ∙ sym (front-units now)))) in
     let is = token-as c.is_partial.result t (after_blanks t) c.token_at.result c.in-Ok-Whole.field-0 (Whole c.in-Ok-Whole.token c.in-Ok-Whole.width) c.token_at.ensures c.in-Ok-Whole.is c.in-Ok-Whole.field-0-is in
     offset-fits (units now) t same c.in-Ok-Whole.width is.0
 
@@ -21,7 +21,7 @@ pub next_slice-requires-in-Ok-Damaged-clause-offset :
 next_slice-requires-in-Ok-Damaged-clause-offset c =
     let now = c.args.input.now.input.input.now in
     let t = c.peek_finish-bytes.result.now in
-    let same = ap units (sym (units-same t now (c.peek_finish-bytes.ensures ∙ sym (front-units now)))) in
+    let same = ap units (sym (units-same t now (c.peek_finish-bytes.ensures.answer ∙ sym (front-units now)))) in
     let is = token-as c.is_partial.result t (after_blanks t) c.token_at.result c.in-Ok-Damaged.field-0 (Damaged c.in-Ok-Damaged.width) c.token_at.ensures c.in-Ok-Damaged.is c.in-Ok-Damaged.field-0-is in
     offset-fits (units now) t same c.in-Ok-Damaged.width is.0
 
@@ -29,7 +29,7 @@ pub returns-in-Ok-Begun : goal.returns-in-Ok-Begun
 returns-in-Ok-Begun c =
     let now = c.args.input.now.input.input.now in
     let t = c.peek_finish-bytes.result.now in
-    let same = ap units (sym (units-same t now (c.peek_finish-bytes.ensures ∙ sym (front-units now)))) in
+    let same = ap units (sym (units-same t now (c.peek_finish-bytes.ensures.answer ∙ sym (front-units now)))) in
     let is = token-as c.is_partial.result t (after_blanks t) c.token_at.result c.in-Ok-Begun.field-0 Begun c.token_at.ensures c.in-Ok-Begun.is c.in-Ok-Begun.field-0-is in
     let needs = begun-answers c.is_partial.result (units now) t same is in
     (sym c.is_partial.ensures ∙ needs.0, c.new.ensures, needs.1)
@@ -39,7 +39,7 @@ returns-in-Ok-Whole c =
     let now = c.args.input.now.input.input.now in
     let new = units c.next_slice.new.self.input.input.now in
     let t = c.peek_finish-bytes.result.now in
-    let same = ap units (sym (units-same t now (c.peek_finish-bytes.ensures ∙ sym (front-units now)))) in
+    let same = ap units (sym (units-same t now (c.peek_finish-bytes.ensures.answer ∙ sym (front-units now)))) in
     let n = c.in-Ok-Whole.width in
     let is = subst (λ p. IsTokenFound p t (after_blanks t) (Whole c.in-Ok-Whole.token n)) c.is_partial.ensures
     (token-as c.is_partial.result t (after_blanks t) c.token_at.result c.in-Ok-Whole.field-0 (Whole c.in-Ok-Whole.token n) c.token_at.ensures c.in-Ok-Whole.is c.in-Ok-Whole.field-0-is) in (
@@ -52,7 +52,7 @@ returns-in-Ok-Damaged c =
     let now = c.args.input.now.input.input.now in
     let new = units c.next_slice-in-Ok-Damaged.new.self.input.input.now in
     let t = c.peek_finish-bytes.result.now in
-    let same = ap units (sym (units-same t now (c.peek_finish-bytes.ensures ∙ sym (front-units now)))) in
+    let same = ap units (sym (units-same t now (c.peek_finish-bytes.ensures.answer ∙ sym (front-units now)))) in
     let n = c.in-Ok-Damaged.width in
     let is = subst (λ p. IsTokenFound p t (after_blanks t) (Damaged n)) c.is_partial.ensures
     (token-as c.is_partial.result t (after_blanks t) c.token_at.result c.in-Ok-Damaged.field-0 (Damaged n) c.token_at.ensures c.in-Ok-Damaged.is c.in-Ok-Damaged.field-0-is) in (

@@ -11,7 +11,7 @@ pub next_slice-requires-clause-offset : goal.next_slice-requires-clause-offset
 next_slice-requires-clause-offset g c =
     let now = (locating_inner (partial_inner c.args.input.now)).now in
     let bytes = c.peek_finish-bytes.result.now in
-    let whole = units-same bytes now (c.peek_finish-bytes.ensures ∙ sym (front-units now)) in
+    let whole = units-same bytes now (c.peek_finish-bytes.ensures.answer ∙ sym (front-units now)) in
     is_offset-from_le now c.ask_fronts-answer.result.1 (subst (λ l. c.ask_fronts-answer.result.1 ≤ length l) whole c.ask_fronts-answer.ensures.within)
 
 pub returns : goal.returns
@@ -22,7 +22,7 @@ returns g c =
     let now = (locating_inner old).now in
     let bytes = c.peek_finish-bytes.result.now in
     let taken = c.ask_fronts-answer.result.1 in
-    let whole = units-same bytes now (c.peek_finish-bytes.ensures ∙ sym (front-units now)) in
+    let whole = units-same bytes now (c.peek_finish-bytes.ensures.answer ∙ sym (front-units now)) in
     let within = subst (λ l. taken ≤ length l) whole c.ask_fronts-answer.ensures.within in
     let there = past-told (location_of old) now taken (location_of new) (locating_inner new).now within c.next_slice.ensures.remains c.next_slice.ensures.location in
     asked-of means (outcome c.ask_fronts-answer.result.0) c.is_partial-partial.result (flag c.args.input.now) c.current_token_start-place.result (location_of old) bytes now taken (stands c.next_slice.new.self)

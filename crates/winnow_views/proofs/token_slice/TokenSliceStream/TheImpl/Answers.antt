@@ -19,6 +19,7 @@ next_token-tells g x c =
 pub next_slice-tells : goal.next_slice-tells
 next_slice-tells g x c = record {
   answer = c.ensures.answer;
+  from = tt;
   remains = c.ensures.remains;
   location = ap Some c.ensures.place;
   valid = tt;
@@ -30,6 +31,7 @@ finish-tells g x c =
     let rest = slice_of g.row.T c.args.self.now.view.window in
     record {
       answer = c.ensures.answer;
+      from = tt;
       remains = c.ensures.remains;
       location = place-all (type_size g.row.T) rest.ref_ptr rest.now _ _ c.ensures.place;
       valid = tt;
