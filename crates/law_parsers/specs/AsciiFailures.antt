@@ -4,7 +4,7 @@ use Rattle.winnow_stream.specs.declared.needed.Needed.{Needed}
 use Rattle.winnow_count.specs.Reading.{IsSomeExactly}
 use Rattle.winnow_parser.specs.declared.failure.Failure.{Failure}
 use Rattle.winnow_parser.specs.declared.failure.Failure.TheVariants.{Incomplete, Backtrack, Cut, Refused}
-use Rattle.winnow_parser.specs.Outcome.{Ahead, Gives, Meaning}
+use Rattle.winnow_parser.specs.Outcome.{Ahead, Backtracks, Gives, Fails, Meaning}
 use Rattle.winnow_parser.specs.Errors.{Errors}
 use Rattle.winnow_ascii.specs.Escapes.{IsAbsent}
 
@@ -26,20 +26,24 @@ IsOfPart {T = T} normal normal_errors control control_errors errors partial s (C
 IsOfPart normal normal_errors control control_errors errors partial s (Incomplete n) = ⊤
 IsOfPart normal normal_errors control control_errors errors partial s (Refused r) = ⊤
 
--- an error that joins two, each made of a stream, the second of the stream as it is left
-abbrev pub JoinsTwo : {E S : Type 0} → (S → E → Type 0) → (E → E → E → Type 0) → S → E → Type 0
-JoinsTwo {E} {S} made joins s e =
-    (one : E) × ((other : E) × ((r : S) × (made r one × made s other × joins one other e)))
+-- an error that joins two, each made of a stream: the first of one that stands where the first
+-- alternative backtracks, the second of the stream as it is left
+abbrev pub JoinsTwo : {O E S T : Type 0} → (S → Ahead T) → Meaning O T → (S → E → Type 0)
+    → (E → E → E → Type 0) → Bool → Ahead T → S → E → Type 0
+JoinsTwo {E = E} {S = S} stands first made joins partial a s e = (one : E) × ((other : E)
+    × (((r : S) × (made r one × first partial a (Fails (Backtracks (stands r))))) × made s other
+    × joins one other e))
 
 -- a backtrack of a number: its digits stand there, and read as none, and the error is made of the
 -- stream; or they do not, and the error joins two. Or a cut, with an error that is made of the
 -- stream in another way
-abbrev pub IsOfNumber : {G R E S T : Type 0} → (G → R → Type 0) → Meaning G T → (S → E → Type 0)
-    → (S → E → Type 0) → (E → E → E → Type 0) → Bool → Ahead T → S → Failure E Needed → Type 0
-IsOfNumber {G = G} {T = T} reads digits found asserted joins partial a s (Backtrack e) =
+abbrev pub IsOfNumber : {G R O E S T : Type 0} → (G → R → Type 0) → Meaning G T → (S → Ahead T)
+    → Meaning O T → (S → E → Type 0) → (S → E → Type 0) → (E → E → E → Type 0) → Bool → Ahead T
+    → S → Failure E Needed → Type 0
+IsOfNumber {G = G} {T = T} reads digits stands first found asserted joins partial a s (Backtrack e) =
     ((slice : G) × ((b : Ahead T) × (digits partial a (Gives slice b)
     × IsSomeExactly (reads slice) None × found s e)))
-    ⊎ (IsAbsent digits partial a × JoinsTwo found joins s e)
-IsOfNumber reads digits found asserted joins partial a s (Cut e) = asserted s e
-IsOfNumber reads digits found asserted joins partial a s (Incomplete n) = ⊤
-IsOfNumber reads digits found asserted joins partial a s (Refused r) = ⊤
+    ⊎ (IsAbsent digits partial a × JoinsTwo stands first found joins partial a s e)
+IsOfNumber reads digits stands first found asserted joins partial a s (Cut e) = asserted s e
+IsOfNumber reads digits stands first found asserted joins partial a s (Incomplete n) = ⊤
+IsOfNumber reads digits stands first found asserted joins partial a s (Refused r) = ⊤

@@ -32,14 +32,16 @@ IsLabelled made tells stood a s (Cut e) = HasLabel made tells stood a s e
 IsLabelled made tells stood a s (Incomplete n) = ⊤
 IsLabelled made tells stood a s (Refused r) = ⊤
 
--- a backtrack, with an error that is joined of two, the second made of the stream as it is left
-abbrev pub IsJoined : {E S : Type 0} → (S → E → Type 0) → (E → E → E → Type 0) → S
-    → Failure E Needed → Type 0
-IsJoined {E} {S} made joins s (Backtrack e) =
-    (left : E) × ((right : E) × ((r : S) × (made r left × made s right × joins left right e)))
-IsJoined made joins s (Cut e) = ⊥
-IsJoined made joins s (Incomplete n) = ⊤
-IsJoined made joins s (Refused r) = ⊤
+-- a backtrack, with an error that is joined of two: the first made of a stream that stands where
+-- the parser began, the second of the stream as it is left
+abbrev pub IsJoined : {E S T : Type 0} → (S → E → Type 0) → (E → E → E → Type 0) → (S → Ahead T)
+    → Ahead T → S → Failure E Needed → Type 0
+IsJoined {E} {S} made joins stands a s (Backtrack e) =
+    (left : E)
+    × ((right : E) × ((r : S) × (made r left × (stands r ≡ a) × made s right × joins left right e)))
+IsJoined made joins stands a s (Cut e) = ⊥
+IsJoined made joins stands a s (Incomplete n) = ⊤
+IsJoined made joins stands a s (Refused r) = ⊤
 
 -- a backtrack, with an error that is made of the stream as it is left
 abbrev pub IsOwn : {E S : Type 0} → (S → E → Type 0) → S → Failure E Needed → Type 0

@@ -4,9 +4,10 @@
 ghost use Rattle.std.specs.Prelude.{◌≡◌, IfErr};
 ghost use Rattle.winnow_parser.specs.Determined.{IsDetermined, Shows};
 ghost use Rattle.winnow_parser.specs.Answer.{ahead};
+ghost use Rattle.winnow_parser.specs.Meanings.{Maps, IsForgotten};
 ghost use Rattle.winnow_parser.specs.Taken.{Taken};
 ghost use Rattle.winnow_ascii.specs.Escapes.{Fragments};
-ghost use Rattle.winnow_ascii.specs.Numbers.{Unsigned};
+ghost use Rattle.winnow_ascii.specs.Numbers.{Digits, Unsigned};
 ghost use Rattle.law_parsers.specs.AsciiFailures.{IsOfPart, IsOfNumber};
 
 use std::alloc::Global;
@@ -68,6 +69,7 @@ where
     requires { I.valid input.old }
     ensures { IfErr result (IsOfNumber I.Slice.reads
         (Taken I.is_slice (Unsigned E.or_refusable I.is_slice I.Token.code))
+        (ahead I.location I.remaining) (Maps IsForgotten (Digits I.is_slice I.Token.code))
         E.from_input_gives E.assert_gives E.or_gives (I.expects_more input.old)
         (ahead I.location I.remaining input.old) input.new) }
 {

@@ -47,8 +47,8 @@ pub fn token_tried_twice<I: StreamIsPartial, E: ParserError<I>>(
     input: &mut I,
 ) -> ModalResult<I::Token, E>
     requires { I.valid input.old }
-    ensures { IfErr result (IsJoined (IsMade E.from_input_gives E.assert_gives)
-        E.or_gives input.new) }
+    ensures { IfErr result (IsJoined (IsMade E.from_input_gives E.assert_gives) E.or_gives
+        (ahead I.location I.remaining) (ahead I.location I.remaining input.old) input.new) }
 {
     alt((backtrack_err(any()), backtrack_err(any()))).parse_next(alloc, input)
 }

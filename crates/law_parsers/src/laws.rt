@@ -4,12 +4,12 @@
 use winnow_ascii::{Fragment, ascii_law, determined_escaped_law, determined_number_law};
 use winnow_binary::{Numeral, determined_length_law, determined_slice_read_law, fixed_number_law};
 use winnow_combinator::{
-    Accumulated, Gather, alternatives_law, determined_choice_law, determined_choosing_law,
-    determined_end_law, determined_gathered_law, determined_repeat_law, determined_row_law,
-    determined_sequence_law, determined_till_law, determined_value_law,
+    Accumulated, Gather, alternative_errors_law, alternatives_law, determined_choice_law,
+    determined_choosing_law, determined_end_law, determined_gathered_law, determined_repeat_law,
+    determined_row_law, determined_sequence_law, determined_till_law, determined_value_law,
 };
 use winnow_count::Accumulate;
-use winnow_error::{AddContext, EmptyError, ParserError};
+use winnow_error::{AddContext, AssociativeOr, EmptyError, ParserError};
 use winnow_parser::{
     Parser, determined_function_law, determined_law, determined_pair_law, determined_slice_law,
     parser_law, taken_width_law,
@@ -47,8 +47,13 @@ fn call_laws<
     determined_function_law::<I, E, P, P::Output, F, T, usize, usize>();
     determined_repeat_law::<I, E, P, P, G, usize, usize, usize>();
     determined_choice_law::<I, E, P, P, P, P, P, P, P, P, P, P, usize>();
-    determined_end_law::<I>();
+    determined_end_law::<I, u8, usize>();
+}
+
+// Calls the laws of alternatives in alternatives.
+fn call_bracket_laws<I: StreamIsPartial, E: AssociativeOr<I>, P: Parser<I, E>>() {
     alternatives_law::<I, E, P, P, P>();
+    alternative_errors_law::<I, E, P, P, P>();
 }
 
 // Calls the laws of parsers that are made of parts with one answer each.
@@ -103,6 +108,7 @@ fn laws_are_called(_rt: HostRuntime) {
     type Op = fn(char, char, char) -> char;
     call_till_law::<Text, EmptyError, AnyToken, Accumulated<usize>, Op>();
     call_ascii_laws::<Text, EmptyError, AnyToken, String>();
+    call_bracket_laws::<Text, EmptyError, AnyToken>();
 }
 
 #[test]

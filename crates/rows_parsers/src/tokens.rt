@@ -44,7 +44,7 @@ where
         "rest_len" => ask::<I, _>(alloc, &rest_len(), row),
         "eof" => ask::<I, _>(alloc, &eof(), row),
         "empty" => ask::<I, _>(alloc, &empty(), row),
-        "fail" => ask::<I, _>(alloc, &fail(), row),
+        "fail" => ask::<I, _>(alloc, &fail::<()>(), row),
         _ => Err(Fault::NoSuchCall),
     }
 }

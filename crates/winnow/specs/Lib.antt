@@ -2,6 +2,8 @@
 pub use Rattle.winnow_parser.specs.Outcome
 pub use Rattle.winnow_parser.specs.Answer
 pub use Rattle.winnow_parser.specs.Errors
+pub use Rattle.winnow_parser.specs.Failures
+pub use Rattle.winnow_parser.specs.FailureText
 pub use Rattle.winnow_parser.specs.Laws
 pub use Rattle.winnow_parser.specs.Meanings
 pub use Rattle.winnow_parser.specs.Parts
@@ -30,9 +32,11 @@ pub use Rattle.winnow_combinator.specs.Gathering
 pub use Rattle.winnow_combinator.specs.Separation
 pub use Rattle.winnow_combinator.specs.Till
 pub use Rattle.winnow_combinator.specs.ChoiceErrors
+pub use Rattle.winnow_combinator.specs.Bracketing
 pub use Rattle.winnow_combinator.specs.Choices
 pub use Rattle.winnow_combinator.specs.Conditional
 pub use Rattle.winnow_combinator.specs.DeterminedLists
+pub use Rattle.winnow_combinator.specs.OneAnswer
 pub use Rattle.winnow_combinator.specs.Words
 pub use Rattle.winnow_combinator.specs.OneAnswer
 pub use Rattle.winnow_combinator.specs.Bracketing

@@ -3,8 +3,8 @@
 //!
 //! It is laid out as the Rust crate is: [`Parser`] and [`ModalResult`] at the top, parsers of
 //! tokens in [`token`], of ASCII text in [`ascii`], of numbers and counted parts in [`binary`],
-//! parsers that are made of parsers in [`combinator`], grammars of one's own in [`grammar`], and
-//! [`stream`] and [`error`] as `winnow_base` has them.
+//! parsers that are made of parsers in [`combinator`], grammars of one's own in [`grammar`],
+//! errors in [`error`], and [`stream`] as `winnow_base` has it.
 //!
 //! Laws stand in modules of their own: [`laws`], [`token::laws`], and so on. Everything here comes
 //! from a crate of its own, with its proofs. `specs/` passes on the definitions that contracts of
@@ -15,10 +15,11 @@
 pub mod ascii;
 pub mod binary;
 pub mod combinator;
+pub mod error;
 pub mod laws;
 pub mod token;
 
-pub use winnow_base::{error, stream};
+pub use winnow_base::stream;
 pub use winnow_grammar as grammar;
 pub use winnow_parser::{
     Contextual, Failure, FlatMapped, Mapped, ModalResult, Parser, Rule, RuledFunction, Spanned,

@@ -1,5 +1,5 @@
 -- The numbers that decimal digits write.
-use Rattle.std.specs.Prelude.{◌≡◌, ℕ, ◌==◌, Bool, ◌||◌, ◌⊎◌, ⊤, None}
+use Rattle.std.specs.Prelude.{◌≡◌, ℕ, ◌==◌, Bool, ◌||◌, ◌⊎◌, ⊤, Option, None}
 use Rattle.std.specs.Char.{is_ascii_digit}
 use Rattle.std.specs.Int.{is_in_range}
 use Rattle.winnow_stream.specs.Source.{Source}
@@ -7,7 +7,7 @@ use Rattle.winnow_stream.specs.Longer.{SlicesStay}
 use Rattle.winnow_count.specs.Reading.{IsSomeExactly}
 use Rattle.winnow_parser.specs.declared.failure.Failure.TheVariants.{Incomplete, Backtrack, Cut, Refused}
 use Rattle.winnow_parser.specs.Outcome.{Ahead, Gives, Meaning}
-use Rattle.winnow_parser.specs.Errors.{Errors}
+use Rattle.winnow_parser.specs.Errors.{Errors, OwnErrors, FailsLeaving}
 use Rattle.winnow_parser.specs.Laws.{IsParser}
 use Rattle.winnow_parser.specs.Meanings.{Maps, IsForgotten, Pair, Either, Optional, Chosen}
 use Rattle.winnow_parser.specs.Taken.{Taken, IsParser-Taken}
@@ -33,6 +33,11 @@ module _ {S T : Type 0} (is_slice : S → Source T → ℕ → Type 0) (code : T
   abbrev pub Zero : Meaning T T
   Zero = OneOf (λ token. 48 == code token)
 
+-- such digits, with a sign before them or none
+abbrev pub SignedDigits : {S T : Type 0} → (S → Source T → ℕ → Type 0) → (T → ℕ)
+    → Meaning (Option T × (T × S)) T
+SignedDigits is_slice code = Pair (Optional (OneOf (λ token. is_sign (code token)))) (Digits is_slice code)
+
 -- such digits, or 0 alone; memory may be refused while the errors of both are joined
 abbrev pub Unsigned : {S T : Type 0} → Type 0 → (S → Source T → ℕ → Type 0) → (T → ℕ)
     → Meaning (Unit {0}) T
@@ -42,7 +47,7 @@ Unsigned refusable is_slice code = Either refusable (Maps IsForgotten (Digits is
 abbrev pub Signed : {S T : Type 0} → Type 0 → (S → Source T → ℕ → Type 0) → (T → ℕ)
     → Meaning (Unit {0}) T
 Signed refusable is_slice code = Either refusable
-    (Maps IsForgotten (Pair (Optional (OneOf (λ token. is_sign (code token)))) (Digits is_slice code))) (Maps IsForgotten (Zero is_slice code))
+    (Maps IsForgotten (SignedDigits is_slice code)) (Maps IsForgotten (Zero is_slice code))
 
 -- the value that the slice of the inner parser reads as; where it reads as none, the parser
 -- backtracks, from where it began
@@ -54,14 +59,16 @@ ReadAs reads is_slice inner = Chosen (λ slice value. IsSomeExactly (reads slice
 abbrev pub ReadsAlike : {S R V : Type 0} → (S → V) → (S → R → Type 0) → Type 0
 ReadsAlike {S} {R} {V} view reads = (s t : S) (x : R) → view s ≡ view t → reads s x → reads t x
 
--- an error that joins two, each made of the stream as one alternative leaves it
-abbrev pub DigitErrors : {E S T : Type 0} → (S → E → Type 0) → (S → E → Type 0)
-    → (E → E → E → Type 0) → Errors E S T
-DigitErrors {E} {S} {T} makes cuts joins partial a s (Backtrack e) =
-    (one : E) × ((other : E) × ((r : S) × (makes r one × makes s other × joins one other e)))
-DigitErrors makes cuts joins partial a s (Cut e) = cuts s e
-DigitErrors makes cuts joins partial a s (Incomplete n) = ⊤
-DigitErrors makes cuts joins partial a s (Refused r) = ⊤
+-- an error that joins two, each made of the stream as one alternative leaves it; the first of the
+-- two alternatives backtracks where it left the stream
+abbrev pub DigitErrors : {O E S T : Type 0} → (S → Ahead T) → Meaning O T → (S → E → Type 0)
+    → (S → E → Type 0) → (E → E → E → Type 0) → Errors E S T
+DigitErrors {E = E} stands first makes cuts joins partial a s (Backtrack e) = (one : E) × ((other : E)
+    × (FailsLeaving stands first (OwnErrors makes cuts) partial a (Backtrack one) × makes s other
+    × joins one other e))
+DigitErrors stands first makes cuts joins partial a s (Cut e) = cuts s e
+DigitErrors stands first makes cuts joins partial a s (Incomplete n) = ⊤
+DigitErrors stands first makes cuts joins partial a s (Refused r) = ⊤
 
 -- where the inner parser gives a slice that reads as no value, an error that is made of the stream;
 -- and where it fails, its own

@@ -1,9 +1,10 @@
 ghost use Rattle.std.specs.Prelude.{◌≡◌, IfErr};
 ghost use Rattle.winnow_count.specs.Reading.{IsSomeExactly};
 ghost use Rattle.winnow_parser.specs.Answer.{ahead, outcome};
-ghost use Rattle.winnow_parser.specs.Meanings.{Chosen};
+ghost use Rattle.winnow_parser.specs.Meanings.{Chosen, Maps, IsForgotten};
 ghost use Rattle.winnow_parser.specs.Taken.{Taken, IsParser-Taken};
 ghost use Rattle.winnow_ascii.specs.Numbers.{Unsigned, Signed, ReadAs, DigitErrors, ReadErrors};
+ghost use Rattle.winnow_ascii.specs.Numbers.{Digits, SignedDigits};
 ghost use Rattle.winnow_ascii.specs.Numbers.{IsParser-Unsigned, IsParser-Signed, IsParser-ReadAs};
 
 use crate::digit0;
@@ -30,7 +31,9 @@ where
 
     ghost means = { λ _. Taken I.is_slice (Unsigned E.or_refusable I.is_slice I.Token.code) };
 
-    ghost errors = { λ _. DigitErrors E.from_input_gives E.assert_gives E.or_gives };
+    ghost errors = { λ _. DigitErrors (ahead I.location I.remaining)
+        (Maps IsForgotten (Digits I.is_slice I.Token.code))
+        E.from_input_gives E.assert_gives E.or_gives };
 
     ghost ready = { λ _. Unit {0} };
 
@@ -59,7 +62,9 @@ where
 
     ghost means = { λ _. Taken I.is_slice (Signed E.or_refusable I.is_slice I.Token.code) };
 
-    ghost errors = { λ _. DigitErrors E.from_input_gives E.assert_gives E.or_gives };
+    ghost errors = { λ _. DigitErrors (ahead I.location I.remaining)
+        (Maps IsForgotten (SignedDigits I.is_slice I.Token.code))
+        E.from_input_gives E.assert_gives E.or_gives };
 
     ghost ready = { λ _. Unit {0} };
 
@@ -138,7 +143,9 @@ where
 
     ghost errors = { λ _. ReadErrors I.Slice.reads E.from_input_gives
         (Taken I.is_slice (Unsigned E.or_refusable I.is_slice I.Token.code))
-        (DigitErrors E.from_input_gives E.assert_gives E.or_gives) };
+        (DigitErrors (ahead I.location I.remaining)
+        (Maps IsForgotten (Digits I.is_slice I.Token.code))
+        E.from_input_gives E.assert_gives E.or_gives) };
 
     ghost ready = { λ _. Unit {0} };
 
@@ -175,7 +182,9 @@ where
 
     ghost errors = { λ _. ReadErrors I.Slice.reads E.from_input_gives
         (Taken I.is_slice (Signed E.or_refusable I.is_slice I.Token.code))
-        (DigitErrors E.from_input_gives E.assert_gives E.or_gives) };
+        (DigitErrors (ahead I.location I.remaining)
+        (Maps IsForgotten (SignedDigits I.is_slice I.Token.code))
+        E.from_input_gives E.assert_gives E.or_gives) };
 
     ghost ready = { λ _. Unit {0} };
 

@@ -1,8 +1,10 @@
 -- A count, and then as much as it says.
 use Rattle.std.specs.Prelude.{◌≡◌, ℕ, Bool, Option, Some, List}
+use Rattle.std.proofs.Common.{ap, sym, ◌∙◌}
 use Rattle.winnow_stream.specs.Source.{Source}
-use Rattle.winnow_stream.specs.Longer.{SlicesStay}
-use Rattle.winnow_parser.specs.Outcome.{Meaning}
+use Rattle.winnow_stream.specs.Front.{front}
+use Rattle.winnow_stream.specs.Longer.{SlicesStay, front-longer}
+use Rattle.winnow_parser.specs.Outcome.{Ahead, Meaning}
 use Rattle.winnow_parser.specs.Laws.{IsParser}
 use Rattle.winnow_parser.specs.Continued.{Continued, IsParser-Continued}
 use Rattle.winnow_token.specs.Counted.{Counted, IsParser-Counted}
@@ -17,6 +19,19 @@ IsNumber number x n = n ≡ number x
 abbrev pub CountedSlice : {L S T : Type 0} → (L → ℕ) → Bool → (S → Source T → ℕ → Type 0)
     → Meaning L T → Meaning S T
 CountedSlice number counts_shortage is_slice length = Continued (IsNumber number) (Counted counts_shortage is_slice) length
+
+-- the stream stands at this location, and the front of this width remains of it
+abbrev pub IsFrontAt : {S T : Type 0} → (S → Ahead T) → Option ℕ → S → Source T → ℕ → Type 0
+IsFrontAt stands location s tokens n = stands s ≡ record { location = location; tokens = front tokens n }
+
+-- a stream of the first n tokens alone, which stands where they do
+abbrev pub FrontOf : {S T : Type 0} → (S → Ahead T) → Bool → ℕ → Meaning S T
+FrontOf stands counts_shortage n partial a v = Counted counts_shortage (IsFrontAt stands a.location) n partial a v
+
+-- a count, and then a stream of that number of tokens alone
+abbrev pub CountedFront : {L S T : Type 0} → (L → ℕ) → (S → Ahead T) → Bool → Meaning L T
+    → Meaning S T
+CountedFront number stands counts_shortage length = Continued (IsNumber number) (FrontOf stands counts_shortage) length
 
 -- n values of the parser, one after the other, and what is made of them
 abbrev pub Times : {O A T : Type 0} → Type 0 → (List O → A → Type 0) → Meaning O T → ℕ → Meaning A T
@@ -35,6 +50,31 @@ pub IsParser-CountedSlice : {L S T : Type 0} (number : L → ℕ) (counts_shorta
     → IsParser length → IsParser (CountedSlice number counts_shortage is_slice length)
 IsParser-CountedSlice number counts_shortage is_slice stay length p =
     IsParser-Continued (IsNumber number) (Counted counts_shortage is_slice) length (IsParser-Counted counts_shortage is_slice stay) p
+
+module _ {S T : Type 0} (stands : S → Ahead T) (counts_shortage : Bool) where
+  -- a stream of a front is one of that front of each longer list
+  front_at-stay : (location : Option ℕ) → SlicesStay (IsFrontAt stands location)
+  front_at-stay location s tokens more n offset e =
+      e ∙ ap (λ t. record { location = location; tokens = t }) (sym (front-longer tokens more n offset))
+
+  -- `Counted` keeps the laws of a parser where it gives a stream of the front
+  front_of-counted : (location : Option ℕ) (n : ℕ)
+      → IsParser (Counted counts_shortage (IsFrontAt stands location) n)
+  front_of-counted location n = IsParser-Counted counts_shortage (IsFrontAt stands location) (front_at-stay location) n
+
+  -- `FrontOf` keeps the laws of a parser
+  pub IsParser-FrontOf : (n : ℕ) → IsParser (FrontOf stands counts_shortage n)
+  IsParser-FrontOf n = record {
+    stable = λ more partial a v s h. (front_of-counted a.location n).stable more partial a v s h;
+    final = λ a missing h. (front_of-counted a.location n).final a missing h;
+    onward = λ partial a v h. (front_of-counted a.location n).onward partial a v h;
+  }
+
+  -- `CountedFront` keeps the laws of a parser
+  pub IsParser-CountedFront : {L : Type 0} (number : L → ℕ) (length : Meaning L T)
+      → IsParser length → IsParser (CountedFront number stands counts_shortage length)
+  IsParser-CountedFront number length p =
+      IsParser-Continued (IsNumber number) (FrontOf stands counts_shortage) length IsParser-FrontOf p
 
 -- `CountedValues` keeps the laws of a parser
 pub IsParser-CountedValues : {L O A T : Type 0} (number : L → ℕ) (refusable : Type 0)

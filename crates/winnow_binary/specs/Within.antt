@@ -1,28 +1,28 @@
--- A parser that reads a slice alone, which another parser took.
+-- A parser that reads a part of the input alone, which another parser took.
 use Rattle.std.specs.Prelude.{false, Result, ◌⊎◌}
 use Rattle.std.proofs.Common.{inl, inr}
 use Rattle.winnow_stream.specs.declared.needed.Needed.{Needed}
 use Rattle.winnow_parser.specs.declared.failure.Failure.{Failure}
 use Rattle.winnow_parser.specs.Outcome.{Ahead, Failed, Backtracks, Cuts, Needs, Refuses, Gives, Fails, Meaning}
 use Rattle.winnow_parser.specs.Answer.{outcome}
-use Rattle.winnow_parser.specs.Errors.{Errors}
+use Rattle.winnow_parser.specs.Errors.{Errors, FailsLeaving}
 use Rattle.winnow_parser.specs.Laws.{IsStable, IsFinal, IsOnward, IsParser}
 
--- the inner parser, asked of what stands in the slice, after which nothing follows, gives this
+-- the inner parser, asked of what stands in the part, after which nothing follows, gives this
 -- value
 abbrev pub GivesAlone : {O U : Type 0} → Meaning O U → Ahead U → O → Type 0
 GivesAlone {O} {U} inner s x = (c : Ahead U) × inner false s (Gives x c)
 
--- the inner parser, asked of what stands in the slice, after which nothing follows, backtracks
+-- the inner parser, asked of what stands in the part, after which nothing follows, backtracks
 abbrev pub BacktracksAlone : {O U : Type 0} → Meaning O U → Ahead U → Type 0
 BacktracksAlone {O} {U} inner s = (c : Ahead U) × inner false s (Fails (Backtracks c))
 
--- the inner parser, asked of what stands in the slice, after which nothing follows, cuts
+-- the inner parser, asked of what stands in the part, after which nothing follows, cuts
 abbrev pub CutsAlone : {O U : Type 0} → Meaning O U → Ahead U → Type 0
 CutsAlone {O} {U} inner s = (c : Ahead U) × inner false s (Fails (Cuts c))
 
--- the inner parser on the slice of the outer one, after which nothing follows; the stream stands
--- after the slice
+-- the inner parser on the part that the outer one gives, after which nothing follows; the stream
+-- stands after that part
 abbrev pub Within : {O S T U : Type 0} → (S → Ahead U) → Meaning O U → Meaning S T → Meaning O T
 Within {S = S} stands inner outer partial a (Gives x b) = (s : S) × (outer partial a (Gives s b) × GivesAlone inner (stands s) x)
 Within {S = S} stands inner outer partial a (Fails (Backtracks b)) = outer partial a (Fails (Backtracks b))
@@ -33,20 +33,18 @@ Within stands inner outer partial a (Fails (Needs n)) = outer partial a (Fails (
 Within {S = S} {T = T} stands inner outer partial a (Fails Refuses) = outer partial a (Fails Refuses)
     ⊎ ((s : S) × ((b : Ahead T) × (outer partial a (Gives s b) × inner false (stands s) (Fails Refuses))))
 
--- the errors of the outer parser, or those of the inner one on a slice of it
-abbrev pub WithinErrors : {E S T U : Type 0} {I : Type 0} → (S → Ahead U) → Errors E S U
-    → Meaning S T → Errors E I T → Errors E I T
-WithinErrors {S = S} {T = T} stands inner means outer partial a i failure = outer partial a i failure
-    ⊎ ((s : S) × ((left : S) × ((b : Ahead T) × (means partial a (Gives s b) × inner false (stands s) left failure))))
+-- the errors of the outer parser, or those of the inner one on a stream that the outer one gives:
+-- each is of that stream as the inner parser leaves it
+abbrev pub WithinErrors : {O E S T : Type 0} → (S → Ahead T) → Meaning O T → Errors E S T
+    → Meaning S T → Errors E S T → Errors E S T
+WithinErrors {S = S} {T = T} stands inner inner_errors outer outer_errors partial a i failure = outer_errors partial a i failure
+    ⊎ ((s : S) × ((b : Ahead T) × (outer partial a (Gives s b)
+    × FailsLeaving stands inner inner_errors false (stands s) failure)))
 
--- the answer is one that the inner parser may give of what stands in the slice alone
+-- the answer is one that the inner parser may give of what stands in the part alone
 abbrev pub AnswersAlone : {O E U : Type 0} → Meaning O U → Ahead U → Result O (Failure E Needed)
     → Type 0
 AnswersAlone {U = U} inner s answer = (c : Ahead U) × inner false s (outcome answer c)
-
--- the failure is one of the inner parser on a slice alone
-abbrev pub FailsAlone : {E S U : Type 0} → Errors E S U → Ahead U → Failure E Needed → Type 0
-FailsAlone {S = S} inner s failure = (left : S) × inner false s left failure
 
 -- ---- The laws
 

@@ -4,7 +4,7 @@ ghost use Rattle.winnow_parser.specs.Determined.{IsDetermined, Shows, Respects, 
 ghost use Rattle.winnow_token.specs.Prompt.{IsPrompt};
 ghost use Rattle.winnow_combinator.specs.DeterminedLists.{AreSameEach};
 ghost use Rattle.winnow_binary.specs.declared.word.Endianness.{Endianness};
-ghost use Rattle.winnow_binary.specs.Lengths.{CountedSlice, CountedValues};
+ghost use Rattle.winnow_binary.specs.Lengths.{CountedSlice, CountedFront, CountedValues};
 ghost use Rattle.winnow_binary.specs.Numerals.{bytes_in, FixedNumeral};
 ghost use Rattle.winnow_binary.specs.Numerals.{most_first, least_first};
 ghost use Rattle.winnow_binary.specs.Within.{Within};
@@ -28,9 +28,9 @@ pub fn fixed_number_law<R: FixedNumber>()
 {}
 
 /// The laws of one answer for what comes after a count: where the count and the inner parser have
-/// one answer each, so have the slice of that number of tokens, that number of values, and what is
-/// read in the slice. A view shows what counts of a value or of a slice. It does nothing when
-/// called: its contract is the law.
+/// one answer each, so have the slice of that number of tokens and that number of values. A view
+/// shows what counts of a value or of a slice. It does nothing when called: its contract is the
+/// law.
 pub fn determined_length_law<I: StreamIsPartial, E, P: Parser<I, E>, Q: Parser<I, E>, A, V, W, X>()
 where
     P::Output: Length,
@@ -47,23 +47,16 @@ where
         (λ values a. A.holds a values) (P.means p) (Q.means q)) }
 {}
 
-/// The law of one answer for what is read in a slice alone: where the count and the inner parser
-/// have one answer each, and slices of one front stand for the same, there is one answer. It does
-/// nothing when called: its contract is the law.
-pub fn determined_slice_read_law<
-    I: StreamIsPartial,
-    E,
-    P: Parser<I, E>,
-    Q: Parser<I::Slice, E>,
-    V,
->()
+/// The law of one answer for what is read in a part alone: where the count and the inner parser
+/// have one answer each, so has what `length_and_then` makes of them. It does nothing when called:
+/// its contract is the law.
+pub fn determined_slice_read_law<I: StreamIsPartial, E, P: Parser<I, E>, Q: Parser<I, E>, V>()
 where
-    I::Slice: StreamIsPartial,
     P::Output: Length,
     ensures { (view : Q.Output → V) (p : P) (q : Q)
-        → SlicesRespect I.is_slice (Shows (ahead I.Slice.location I.Slice.remaining))
         → IsDetermined (Shows P.Output.number) (P.means p)
         → IsDetermined (Shows view) (Q.means q)
-        → IsDetermined (Shows view) (Within (ahead I.Slice.location I.Slice.remaining) (Q.means q)
-        (CountedSlice P.Output.number I.counts_shortage I.is_slice (P.means p))) }
+        → IsDetermined (Shows view) (Within (ahead I.location I.remaining) (Q.means q)
+        (CountedFront P.Output.number (ahead I.location I.remaining) I.counts_shortage
+        (P.means p))) }
 {}

@@ -1,46 +1,73 @@
 -- The errors of the first of several parsers that does not backtrack. Where all do, they are joined
--- from the left.
+-- from the left. Of each parser but the last its meaning is named too: it says where it backtracks.
+use Rattle.winnow_parser.specs.Outcome.{Ahead, Meaning}
 use Rattle.winnow_parser.specs.Errors.{Errors, EitherErrors}
+use Rattle.winnow_parser.specs.Meanings.{Either}
+use Rattle.winnow_combinator.specs.Choices.{Choice3, Choice4, Choice5, Choice6}
+use Rattle.winnow_combinator.specs.Choices.{Choice7, Choice8, Choice9}
 
 -- of three
-abbrev pub ChoiceErrors3 : {E S T : Type 0} → (E → E → E → Type 0) → Errors E S T → Errors E S T
-    → Errors E S T → Errors E S T
-ChoiceErrors3 joins a b c = EitherErrors joins (EitherErrors joins a b) c
+abbrev pub ChoiceErrors3 : {O E S T : Type 0} → (S → Ahead T) → Type 0 → (E → E → E → Type 0)
+    → Meaning O T → Errors E S T → Meaning O T → Errors E S T → Errors E S T → Errors E S T
+ChoiceErrors3 stands r joins ma a mb b c = EitherErrors stands joins (Either r ma mb)
+    (EitherErrors stands joins ma a b) c
 
 -- of four
-abbrev pub ChoiceErrors4 : {E S T : Type 0} → (E → E → E → Type 0) → Errors E S T → Errors E S T
-    → Errors E S T → Errors E S T → Errors E S T
-ChoiceErrors4 joins a b c d = EitherErrors joins (ChoiceErrors3 joins a b c) d
+abbrev pub ChoiceErrors4 : {O E S T : Type 0} → (S → Ahead T) → Type 0 → (E → E → E → Type 0)
+    → Meaning O T → Errors E S T → Meaning O T → Errors E S T → Meaning O T → Errors E S T
+    → Errors E S T → Errors E S T
+ChoiceErrors4 stands r joins ma a mb b mc c d = EitherErrors stands joins (Choice3 r ma mb mc)
+    (ChoiceErrors3 stands r joins ma a mb b c) d
 
 -- of five
-abbrev pub ChoiceErrors5 : {E S T : Type 0} → (E → E → E → Type 0) → Errors E S T → Errors E S T
-    → Errors E S T → Errors E S T → Errors E S T → Errors E S T
-ChoiceErrors5 joins a b c d e = EitherErrors joins (ChoiceErrors4 joins a b c d) e
+abbrev pub ChoiceErrors5 : {O E S T : Type 0} → (S → Ahead T) → Type 0 → (E → E → E → Type 0)
+    → Meaning O T → Errors E S T → Meaning O T → Errors E S T → Meaning O T → Errors E S T
+    → Meaning O T → Errors E S T → Errors E S T → Errors E S T
+ChoiceErrors5 stands r joins ma a mb b mc c md d e =
+    EitherErrors stands joins (Choice4 r ma mb mc md)
+    (ChoiceErrors4 stands r joins ma a mb b mc c d) e
 
 -- of six
-abbrev pub ChoiceErrors6 : {E S T : Type 0} → (E → E → E → Type 0) → Errors E S T → Errors E S T
-    → Errors E S T → Errors E S T → Errors E S T → Errors E S T → Errors E S T
-ChoiceErrors6 joins a b c d e f = EitherErrors joins (ChoiceErrors5 joins a b c d e) f
+abbrev pub ChoiceErrors6 : {O E S T : Type 0} → (S → Ahead T) → Type 0 → (E → E → E → Type 0)
+    → Meaning O T → Errors E S T → Meaning O T → Errors E S T → Meaning O T → Errors E S T
+    → Meaning O T → Errors E S T → Meaning O T → Errors E S T → Errors E S T → Errors E S T
+ChoiceErrors6 stands r joins ma a mb b mc c md d me e f =
+    EitherErrors stands joins (Choice5 r ma mb mc md me)
+    (ChoiceErrors5 stands r joins ma a mb b mc c md d e) f
 
 -- of seven
-abbrev pub ChoiceErrors7 : {E S T : Type 0} → (E → E → E → Type 0) → Errors E S T → Errors E S T
-    → Errors E S T → Errors E S T → Errors E S T → Errors E S T → Errors E S T → Errors E S T
-ChoiceErrors7 joins a b c d e f g = EitherErrors joins (ChoiceErrors6 joins a b c d e f) g
+abbrev pub ChoiceErrors7 : {O E S T : Type 0} → (S → Ahead T) → Type 0 → (E → E → E → Type 0)
+    → Meaning O T → Errors E S T → Meaning O T → Errors E S T → Meaning O T → Errors E S T
+    → Meaning O T → Errors E S T → Meaning O T → Errors E S T → Meaning O T → Errors E S T
+    → Errors E S T → Errors E S T
+ChoiceErrors7 stands r joins ma a mb b mc c md d me e mf f g =
+    EitherErrors stands joins (Choice6 r ma mb mc md me mf)
+    (ChoiceErrors6 stands r joins ma a mb b mc c md d me e f) g
 
 -- of eight
-abbrev pub ChoiceErrors8 : {E S T : Type 0} → (E → E → E → Type 0) → Errors E S T → Errors E S T
-    → Errors E S T → Errors E S T → Errors E S T → Errors E S T → Errors E S T → Errors E S T
-    → Errors E S T
-ChoiceErrors8 joins a b c d e f g h = EitherErrors joins (ChoiceErrors7 joins a b c d e f g) h
+abbrev pub ChoiceErrors8 : {O E S T : Type 0} → (S → Ahead T) → Type 0 → (E → E → E → Type 0)
+    → Meaning O T → Errors E S T → Meaning O T → Errors E S T → Meaning O T → Errors E S T
+    → Meaning O T → Errors E S T → Meaning O T → Errors E S T → Meaning O T → Errors E S T
+    → Meaning O T → Errors E S T → Errors E S T → Errors E S T
+ChoiceErrors8 stands r joins ma a mb b mc c md d me e mf f mg g h =
+    EitherErrors stands joins (Choice7 r ma mb mc md me mf mg)
+    (ChoiceErrors7 stands r joins ma a mb b mc c md d me e mf f g) h
 
 -- of nine
-abbrev pub ChoiceErrors9 : {E S T : Type 0} → (E → E → E → Type 0) → Errors E S T → Errors E S T
-    → Errors E S T → Errors E S T → Errors E S T → Errors E S T → Errors E S T → Errors E S T
-    → Errors E S T → Errors E S T
-ChoiceErrors9 joins a b c d e f g h i = EitherErrors joins (ChoiceErrors8 joins a b c d e f g h) i
+abbrev pub ChoiceErrors9 : {O E S T : Type 0} → (S → Ahead T) → Type 0 → (E → E → E → Type 0)
+    → Meaning O T → Errors E S T → Meaning O T → Errors E S T → Meaning O T → Errors E S T
+    → Meaning O T → Errors E S T → Meaning O T → Errors E S T → Meaning O T → Errors E S T
+    → Meaning O T → Errors E S T → Meaning O T → Errors E S T → Errors E S T → Errors E S T
+ChoiceErrors9 stands r joins ma a mb b mc c md d me e mf f mg g mh h i =
+    EitherErrors stands joins (Choice8 r ma mb mc md me mf mg mh)
+    (ChoiceErrors8 stands r joins ma a mb b mc c md d me e mf f mg g h) i
 
 -- of ten
-abbrev pub ChoiceErrors10 : {E S T : Type 0} → (E → E → E → Type 0) → Errors E S T → Errors E S T
-    → Errors E S T → Errors E S T → Errors E S T → Errors E S T → Errors E S T → Errors E S T
-    → Errors E S T → Errors E S T → Errors E S T
-ChoiceErrors10 joins a b c d e f g h i j = EitherErrors joins (ChoiceErrors9 joins a b c d e f g h i) j
+abbrev pub ChoiceErrors10 : {O E S T : Type 0} → (S → Ahead T) → Type 0 → (E → E → E → Type 0)
+    → Meaning O T → Errors E S T → Meaning O T → Errors E S T → Meaning O T → Errors E S T
+    → Meaning O T → Errors E S T → Meaning O T → Errors E S T → Meaning O T → Errors E S T
+    → Meaning O T → Errors E S T → Meaning O T → Errors E S T → Meaning O T → Errors E S T
+    → Errors E S T → Errors E S T
+ChoiceErrors10 stands r joins ma a mb b mc c md d me e mf f mg g mh h mi i j =
+    EitherErrors stands joins (Choice9 r ma mb mc md me mf mg mh mi)
+    (ChoiceErrors9 stands r joins ma a mb b mc c md d me e mf f mg g mh h i) j

@@ -1,4 +1,5 @@
 ghost use Rattle.std.specs.Prelude.{◌≡◌};
+ghost use Rattle.winnow_parser.specs.Answer.{ahead};
 ghost use Rattle.winnow_parser.specs.Meanings.{Either};
 ghost use Rattle.winnow_parser.specs.Errors.{EitherErrors};
 ghost use Rattle.winnow_parser.specs.Parts.{IsParser-Either};
@@ -34,7 +35,8 @@ impl<
 
     ghost means = { λ p. Either E.or_refusable (A.means p.list.0) (B.means p.list.1) };
 
-    ghost errors = { λ p. EitherErrors E.or_gives (A.errors p.list.0) (B.errors p.list.1) };
+    ghost errors = { λ p. EitherErrors (ahead I.location I.remaining) E.or_gives (A.means p.list.0)
+        (A.errors p.list.0) (B.errors p.list.1) };
 
     ghost ready = { λ p. A.ready p.list.0 × B.ready p.list.1 };
 
@@ -72,7 +74,8 @@ impl<
     ghost means = { λ p. Choice3 E.or_refusable (A.means p.list.0) (B.means p.list.1)
         (C.means p.list.2) };
 
-    ghost errors = { λ p. ChoiceErrors3 E.or_gives (A.errors p.list.0) (B.errors p.list.1)
+    ghost errors = { λ p. ChoiceErrors3 (ahead I.location I.remaining) E.or_refusable E.or_gives
+        (A.means p.list.0) (A.errors p.list.0) (B.means p.list.1) (B.errors p.list.1)
         (C.errors p.list.2) };
 
     ghost ready = { λ p. A.ready p.list.0 × B.ready p.list.1 × C.ready p.list.2 };

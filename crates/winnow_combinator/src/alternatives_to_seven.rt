@@ -1,3 +1,4 @@
+ghost use Rattle.winnow_parser.specs.Answer.{ahead};
 ghost use Rattle.winnow_combinator.specs.ChoiceErrors.{ChoiceErrors4, ChoiceErrors5};
 ghost use Rattle.winnow_combinator.specs.ChoiceErrors.{ChoiceErrors6, ChoiceErrors7};
 ghost use Rattle.winnow_combinator.specs.Choices.{Choice4, IsParser-Choice4};
@@ -25,8 +26,9 @@ impl<
     ghost means = { λ p. Choice4 E.or_refusable (A.means p.list.0) (B.means p.list.1)
         (C.means p.list.2) (D.means p.list.3) };
 
-    ghost errors = { λ p. ChoiceErrors4 E.or_gives (A.errors p.list.0) (B.errors p.list.1)
-        (C.errors p.list.2) (D.errors p.list.3) };
+    ghost errors = { λ p. ChoiceErrors4 (ahead I.location I.remaining) E.or_refusable E.or_gives
+        (A.means p.list.0) (A.errors p.list.0) (B.means p.list.1) (B.errors p.list.1)
+        (C.means p.list.2) (C.errors p.list.2) (D.errors p.list.3) };
 
     ghost ready = { λ p. A.ready p.list.0 × B.ready p.list.1 × C.ready p.list.2
         × D.ready p.list.3 };
@@ -60,8 +62,10 @@ impl<
     ghost means = { λ p. Choice5 E.or_refusable (A.means p.list.0) (B.means p.list.1)
         (C.means p.list.2) (D.means p.list.3) (F.means p.list.4) };
 
-    ghost errors = { λ p. ChoiceErrors5 E.or_gives (A.errors p.list.0) (B.errors p.list.1)
-        (C.errors p.list.2) (D.errors p.list.3) (F.errors p.list.4) };
+    ghost errors = { λ p. ChoiceErrors5 (ahead I.location I.remaining) E.or_refusable E.or_gives
+        (A.means p.list.0) (A.errors p.list.0) (B.means p.list.1) (B.errors p.list.1)
+        (C.means p.list.2) (C.errors p.list.2) (D.means p.list.3) (D.errors p.list.3)
+        (F.errors p.list.4) };
 
     ghost ready = { λ p. A.ready p.list.0 × B.ready p.list.1 × C.ready p.list.2 × D.ready p.list.3
         × F.ready p.list.4 };
@@ -96,8 +100,10 @@ impl<
     ghost means = { λ p. Choice6 E.or_refusable (A.means p.list.0) (B.means p.list.1)
         (C.means p.list.2) (D.means p.list.3) (F.means p.list.4) (G.means p.list.5) };
 
-    ghost errors = { λ p. ChoiceErrors6 E.or_gives (A.errors p.list.0) (B.errors p.list.1)
-        (C.errors p.list.2) (D.errors p.list.3) (F.errors p.list.4) (G.errors p.list.5) };
+    ghost errors = { λ p. ChoiceErrors6 (ahead I.location I.remaining) E.or_refusable E.or_gives
+        (A.means p.list.0) (A.errors p.list.0) (B.means p.list.1) (B.errors p.list.1)
+        (C.means p.list.2) (C.errors p.list.2) (D.means p.list.3) (D.errors p.list.3)
+        (F.means p.list.4) (F.errors p.list.4) (G.errors p.list.5) };
 
     ghost ready = { λ p. A.ready p.list.0 × B.ready p.list.1 × C.ready p.list.2 × D.ready p.list.3
         × F.ready p.list.4 × G.ready p.list.5 };
@@ -140,8 +146,10 @@ impl<
         (C.means p.list.2) (D.means p.list.3) (F.means p.list.4) (G.means p.list.5)
         (H.means p.list.6) };
 
-    ghost errors = { λ p. ChoiceErrors7 E.or_gives (A.errors p.list.0) (B.errors p.list.1)
-        (C.errors p.list.2) (D.errors p.list.3) (F.errors p.list.4) (G.errors p.list.5)
+    ghost errors = { λ p. ChoiceErrors7 (ahead I.location I.remaining) E.or_refusable E.or_gives
+        (A.means p.list.0) (A.errors p.list.0) (B.means p.list.1) (B.errors p.list.1)
+        (C.means p.list.2) (C.errors p.list.2) (D.means p.list.3) (D.errors p.list.3)
+        (F.means p.list.4) (F.errors p.list.4) (G.means p.list.5) (G.errors p.list.5)
         (H.errors p.list.6) };
 
     ghost ready = { λ p. A.ready p.list.0 × B.ready p.list.1 × C.ready p.list.2 × D.ready p.list.3

@@ -1,3 +1,4 @@
+ghost use Rattle.winnow_parser.specs.Answer.{ahead};
 ghost use Rattle.winnow_combinator.specs.ChoiceErrors.{ChoiceErrors8, ChoiceErrors9};
 ghost use Rattle.winnow_combinator.specs.ChoiceErrors.{ChoiceErrors10};
 ghost use Rattle.winnow_combinator.specs.Choices.{Choice8, IsParser-Choice8};
@@ -29,9 +30,11 @@ impl<
         (C.means p.list.2) (D.means p.list.3) (F.means p.list.4) (G.means p.list.5)
         (H.means p.list.6) (J.means p.list.7) };
 
-    ghost errors = { λ p. ChoiceErrors8 E.or_gives (A.errors p.list.0) (B.errors p.list.1)
-        (C.errors p.list.2) (D.errors p.list.3) (F.errors p.list.4) (G.errors p.list.5)
-        (H.errors p.list.6) (J.errors p.list.7) };
+    ghost errors = { λ p. ChoiceErrors8 (ahead I.location I.remaining) E.or_refusable E.or_gives
+        (A.means p.list.0) (A.errors p.list.0) (B.means p.list.1) (B.errors p.list.1)
+        (C.means p.list.2) (C.errors p.list.2) (D.means p.list.3) (D.errors p.list.3)
+        (F.means p.list.4) (F.errors p.list.4) (G.means p.list.5) (G.errors p.list.5)
+        (H.means p.list.6) (H.errors p.list.6) (J.errors p.list.7) };
 
     ghost ready = { λ p. A.ready p.list.0 × B.ready p.list.1 × C.ready p.list.2 × D.ready p.list.3
         × F.ready p.list.4 × G.ready p.list.5 × H.ready p.list.6 × J.ready p.list.7 };
@@ -79,9 +82,12 @@ impl<
         (C.means p.list.2) (D.means p.list.3) (F.means p.list.4) (G.means p.list.5)
         (H.means p.list.6) (J.means p.list.7) (K.means p.list.8) };
 
-    ghost errors = { λ p. ChoiceErrors9 E.or_gives (A.errors p.list.0) (B.errors p.list.1)
-        (C.errors p.list.2) (D.errors p.list.3) (F.errors p.list.4) (G.errors p.list.5)
-        (H.errors p.list.6) (J.errors p.list.7) (K.errors p.list.8) };
+    ghost errors = { λ p. ChoiceErrors9 (ahead I.location I.remaining) E.or_refusable E.or_gives
+        (A.means p.list.0) (A.errors p.list.0) (B.means p.list.1) (B.errors p.list.1)
+        (C.means p.list.2) (C.errors p.list.2) (D.means p.list.3) (D.errors p.list.3)
+        (F.means p.list.4) (F.errors p.list.4) (G.means p.list.5) (G.errors p.list.5)
+        (H.means p.list.6) (H.errors p.list.6) (J.means p.list.7) (J.errors p.list.7)
+        (K.errors p.list.8) };
 
     ghost ready = { λ p. A.ready p.list.0 × B.ready p.list.1 × C.ready p.list.2 × D.ready p.list.3
         × F.ready p.list.4 × G.ready p.list.5 × H.ready p.list.6 × J.ready p.list.7
@@ -132,9 +138,12 @@ impl<
         (C.means p.list.2) (D.means p.list.3) (F.means p.list.4) (G.means p.list.5)
         (H.means p.list.6) (J.means p.list.7) (K.means p.list.8) (L.means p.list.9) };
 
-    ghost errors = { λ p. ChoiceErrors10 E.or_gives (A.errors p.list.0) (B.errors p.list.1)
-        (C.errors p.list.2) (D.errors p.list.3) (F.errors p.list.4) (G.errors p.list.5)
-        (H.errors p.list.6) (J.errors p.list.7) (K.errors p.list.8) (L.errors p.list.9) };
+    ghost errors = { λ p. ChoiceErrors10 (ahead I.location I.remaining) E.or_refusable E.or_gives
+        (A.means p.list.0) (A.errors p.list.0) (B.means p.list.1) (B.errors p.list.1)
+        (C.means p.list.2) (C.errors p.list.2) (D.means p.list.3) (D.errors p.list.3)
+        (F.means p.list.4) (F.errors p.list.4) (G.means p.list.5) (G.errors p.list.5)
+        (H.means p.list.6) (H.errors p.list.6) (J.means p.list.7) (J.errors p.list.7)
+        (K.means p.list.8) (K.errors p.list.8) (L.errors p.list.9) };
 
     ghost ready = { λ p. A.ready p.list.0 × B.ready p.list.1 × C.ready p.list.2 × D.ready p.list.3
         × F.ready p.list.4 × G.ready p.list.5 × H.ready p.list.6 × J.ready p.list.7

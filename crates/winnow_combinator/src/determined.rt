@@ -83,8 +83,9 @@ pub fn determined_till_law<
 
 /// The laws of parsers that take nothing: the end, nothing at all and a failure have one answer. It
 /// does nothing when called: its contract is the law.
-pub fn determined_end_law<I: StreamIsPartial>()
+pub fn determined_end_law<I: StreamIsPartial, O, V>()
     ensures ended { IsDetermined {O = Unit {0}} {T = I.Token} (λ _ _. ⊤) Ended }
     ensures nothing { IsDetermined {O = Unit {0}} {T = I.Token} (λ _ _. ⊤) (Returns tt) }
-    ensures failing { IsDetermined {O = Unit {0}} {T = I.Token} (λ _ _. ⊤) Failing }
+    ensures failing { (view : O → V)
+        → IsDetermined {O = O} {T = I.Token} (Shows view) Failing }
 {}

@@ -4,6 +4,8 @@ ghost use Rattle.winnow_parser.specs.Parts.{IsParser-Returns};
 ghost use Rattle.winnow_combinator.specs.Ending.{Ended, Failing, IsParser-Ended, IsParser-Failing};
 
 use std::alloc::Global;
+use std::fmt;
+use std::marker::PhantomData;
 use winnow_error::ParserError;
 use winnow_parser::{Failure, ModalResult, Parser};
 use winnow_stream::{Needed, StreamIsPartial};
@@ -66,17 +68,26 @@ impl<I: StreamIsPartial, E> Parser<I, E> for Nothing {
     }
 }
 
-/// A parser that fails on each input; [`fail`] makes it.
-#[derive(Clone, Copy, Debug)]
-pub struct Failing;
-
-/// Returns the parser that backtracks on each input.
-pub fn fail() -> Failing {
-    Failing
+/// A parser that fails on each input, of values of any type; [`fail`] makes it.
+#[derive_where(Clone, Copy)]
+pub struct Failing<O> {
+    value: PhantomData<O>,
 }
 
-impl<I: StreamIsPartial, E: ParserError<I>> Parser<I, E> for Failing {
-    type Output = ();
+/// Returns the parser that backtracks on each input. Its values may have any type, since it gives
+/// none.
+pub fn fail<O>() -> Failing<O> {
+    Failing { value: PhantomData }
+}
+
+impl<O> fmt::Debug for Failing<O> {
+    fn fmt<W: fmt::Write>(&self, f: &mut fmt::Formatter<W>) -> fmt::Result {
+        f.write_str("Failing")
+    }
+}
+
+impl<I: StreamIsPartial, E: ParserError<I>, O> Parser<I, E> for Failing<O> {
+    type Output = O;
 
     ghost means = { λ _. Failing };
 
@@ -86,7 +97,7 @@ impl<I: StreamIsPartial, E: ParserError<I>> Parser<I, E> for Failing {
 
     ghost lawful = { λ _. IsParser-Failing };
 
-    fn parse_next(&self, alloc: Global, input: &mut I) -> ModalResult<(), E> {
+    fn parse_next(&self, alloc: Global, input: &mut I) -> ModalResult<O, E> {
         Err(Failure::Backtrack(E::from_input(alloc, input)))
     }
 }

@@ -24,7 +24,7 @@ mod sequence;
 mod till;
 
 pub use alternatives::{Alternatives, alt};
-pub use bracketing::alternatives_law;
+pub use bracketing::{alternative_errors_law, alternatives_law};
 pub use conditional::{Conditional, cond};
 pub use determined::{determined_end_law, determined_repeat_law, determined_till_law};
 pub use determined_parts::{

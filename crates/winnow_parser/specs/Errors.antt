@@ -61,17 +61,28 @@ abbrev pub UnwantedErrors : {O E S T : Type 0} → (O → S → E → Type 0) �
 UnwantedErrors {O} {E} {S} {T} makes means inner partial a s failure = inner partial a s failure
     ⊎ ((x : O) × ((b : Ahead T) × (means partial a (Gives x b) × IsBacktrackOf (makes x s) failure)))
 
--- where both backtrack, their errors are joined; a cut comes from either
-abbrev pub EitherErrors : {E S T : Type 0} → (E → E → E → Type 0) → Errors E S T → Errors E S T
-    → Errors E S T
-EitherErrors {E} {S} {T} joins first second partial a s (Backtrack e) =
+-- the failure is one of the parser, with an error that it may carry, both of one stream as it is
+-- left
+abbrev pub FailsLeaving : {O E S T : Type 0} → (S → Ahead T) → Meaning O T → Errors E S T → Bool
+    → Ahead T → Failure E Needed → Type 0
+FailsLeaving {S = S} stands means errors partial a failure = (s : S)
+    × (errors partial a s failure × means partial a (Fails (failed failure (stands s))))
+
+-- where both backtrack, their errors are joined; a cut comes from the first, or from the second
+-- after the first backtracked. The error with which the first backtracked is of the stream as it
+-- left it, at the place that its meaning allows
+abbrev pub EitherErrors : {O E S T : Type 0} → (S → Ahead T) → (E → E → E → Type 0) → Meaning O T
+    → Errors E S T → Errors E S T → Errors E S T
+EitherErrors {E = E} stands joins means first second partial a s (Backtrack e) =
     (e1 : E)
     × ((e2 : E)
-    × ((r : S)
-    × (first partial a r (Backtrack e1) × second partial a s (Backtrack e2) × joins e1 e2 e)))
-EitherErrors joins first second partial a s (Cut e) = first partial a s (Cut e) ⊎ second partial a s (Cut e)
-EitherErrors joins first second partial a s (Incomplete n) = ⊤
-EitherErrors joins first second partial a s (Refused r) = ⊤
+    × (FailsLeaving stands means first partial a (Backtrack e1) × second partial a s (Backtrack e2)
+    × joins e1 e2 e))
+EitherErrors {E = E} stands joins means first second partial a s (Cut e) = first partial a s (Cut e)
+    ⊎ ((e1 : E)
+    × (FailsLeaving stands means first partial a (Backtrack e1) × second partial a s (Cut e)))
+EitherErrors stands joins means first second partial a s (Incomplete n) = ⊤
+EitherErrors stands joins means first second partial a s (Refused r) = ⊤
 
 -- where the inner parser backtracks, this one cuts, with the same error
 abbrev pub CutErrors : {E S T : Type 0} → Errors E S T → Errors E S T
@@ -107,10 +118,3 @@ abbrev pub ContractErrors : {F S O E T : Type 0}
 ContractErrors {F} {S} {O} {E} {T} call valid expects stands f partial a s failure = (alloc : Global) × ((old : MutBor S) × ((new : MutBor S)
     × (call.post f (alloc, (old, tt)) (Err failure, (new, tt)) × valid old.now
     × (expects old.now ≡ partial) × (stands old.now ≡ a) × (new.now ≡ s))))
-
--- the failure is one of the parser, with an error that it may carry, both of one stream as it is
--- left
-abbrev pub FailsLeaving : {O E S T : Type 0} → (S → Ahead T) → Meaning O T → Errors E S T → Bool
-    → Ahead T → Failure E Needed → Type 0
-FailsLeaving {S = S} stands means errors partial a failure = (s : S)
-    × (errors partial a s failure × means partial a (Fails (failed failure (stands s))))

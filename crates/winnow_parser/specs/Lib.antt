@@ -1,6 +1,8 @@
 pub mod Outcome
 pub mod Answer
 pub mod Errors
+pub mod Failures
+pub mod FailureText
 pub mod Laws
 pub mod Meanings
 pub mod Parts

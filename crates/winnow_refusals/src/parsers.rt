@@ -104,7 +104,7 @@ fn join<I: StreamIsPartial + Display + Copy + Drop>(
 ) -> Result<bool, AllocError>
     requires { I.valid input }
 {
-    let both = alt((fail(), fail()));
+    let both = alt((fail::<()>(), fail::<()>()));
     let answer: ModalResult<(), TreeError<I, StrContext>> = both.parse_next(alloc, &mut input);
     match answer {
         Err(Failure::Backtrack(error)) => prints(alloc, &error, wanted),
@@ -117,7 +117,7 @@ fn join<I: StreamIsPartial + Display + Copy + Drop>(
 fn tell_context<I: StreamIsPartial + Drop>(alloc: Global, mut input: I) -> Result<bool, AllocError>
     requires { I.valid input }
 {
-    let told = fail().context('a');
+    let told = fail::<()>().context('a');
     let answer: ModalResult<(), ContextError<char>> = told.parse_next(alloc, &mut input);
     match answer {
         Err(Failure::Backtrack(error)) => Ok(error.context().copied().eq(['a'])),

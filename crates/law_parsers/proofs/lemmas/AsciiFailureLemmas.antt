@@ -37,15 +37,15 @@ of-part normal control escapable normal_errors control_errors errors partial a s
 of-part normal control escapable normal_errors control_errors errors partial a s (Refused r) h = tt
 
 -- a failure of a number is one of its digits, or of what they read as
-pub of-number : {G R E S T : Type 0} (reads : G → R → Type 0) (digits : Meaning G T)
-    (found asserted : S → E → Type 0) (joins : E → E → E → Type 0) (partial : Bool)
-    (a : Ahead T) (s : S) (f : Failure E Needed)
-    → ReadErrors reads found digits (DigitErrors found asserted joins) partial a s f
-    → IsOfNumber reads digits found asserted joins partial a s f
-of-number reads digits found asserted joins partial a s (Backtrack e) h = h
-of-number reads digits found asserted joins partial a s (Cut e) h = h
-of-number reads digits found asserted joins partial a s (Incomplete n) h = tt
-of-number reads digits found asserted joins partial a s (Refused r) h = tt
+pub of-number : {G R O E S T : Type 0} (reads : G → R → Type 0) (digits : Meaning G T)
+    (stands : S → Ahead T) (first : Meaning O T) (found asserted : S → E → Type 0)
+    (joins : E → E → E → Type 0) (partial : Bool) (a : Ahead T) (s : S) (f : Failure E Needed)
+    → ReadErrors reads found digits (DigitErrors stands first found asserted joins) partial a s f
+    → IsOfNumber reads digits stands first found asserted joins partial a s f
+of-number reads digits stands first found asserted joins partial a s (Backtrack e) h = h
+of-number reads digits stands first found asserted joins partial a s (Cut e) h = h
+of-number reads digits stands first found asserted joins partial a s (Incomplete n) h = tt
+of-number reads digits stands first found asserted joins partial a s (Refused r) h = tt
 
 module _ {O P : Type 0} where
   -- fragments that are the same, where only equal values are, are equal

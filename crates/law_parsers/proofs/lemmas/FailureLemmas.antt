@@ -6,6 +6,7 @@ use Rattle.winnow_stream.specs.declared.needed.Needed.{Needed}
 use Rattle.winnow_parser.specs.declared.failure.Failure.{Failure}
 use Rattle.winnow_parser.specs.declared.failure.Failure.TheVariants.{Incomplete, Backtrack, Cut, Refused}
 use Rattle.winnow_parser.specs.Outcome.{Ahead, Meaning}
+use Rattle.winnow_parser.specs.Meanings.{Softened}
 use Rattle.winnow_parser.specs.Errors.{OwnErrors, PairErrors, EitherErrors, CutErrors, SoftenedErrors, ContextErrors, FailsLeaving}
 use Rattle.winnow_token.specs.OneOf.{OneOf}
 use Rattle.law_parsers.specs.Failures.{IsMade, IsNamed, IsLabelled, IsJoined, IsOwn, IsAtEnd}
@@ -31,16 +32,17 @@ module _ {E S T : Type 0} (found asserted : S → E → Type 0) where
   labelled tells stood partial a s (Incomplete n) h = tt
   labelled tells stood partial a s (Refused r) h = tt
 
-  -- two alternatives with errors of their own, neither of which cuts
-  pub joined : (joins : E → E → E → Type 0) (partial : Bool) (a : Ahead T) (s : S)
-      (f : Failure E Needed)
-      → EitherErrors joins (SoftenedErrors (OwnErrors found asserted)) (SoftenedErrors (OwnErrors found asserted)) partial a s f
-      → IsJoined (IsMade found asserted) joins s f
-  joined joins partial a s (Backtrack e) h = h
-  joined joins partial a s (Cut e) (inl h) = absurd h
-  joined joins partial a s (Cut e) (inr h) = absurd h
-  joined joins partial a s (Incomplete n) h = tt
-  joined joins partial a s (Refused r) h = tt
+  -- a token is tried for twice, and neither alternative cuts
+  pub joined : (joins : E → E → E → Type 0) (stands : S → Ahead T) (partial : Bool) (a : Ahead T)
+      (s : S) (f : Failure E Needed)
+      → EitherErrors stands joins (Softened (OneOf (λ _. true))) (SoftenedErrors (OwnErrors found asserted)) (SoftenedErrors (OwnErrors found asserted)) partial a s f
+      → IsJoined (IsMade found asserted) joins stands a s f
+  joined joins stands partial a s (Backtrack e) (left, (right, ((r, (h, inl m)), k, both))) = (left, (right, (r, (h, m.2, k, both))))
+  joined joins stands partial a s (Backtrack e) (left, (right, ((r, (h, inr m)), k, both))) = absurd m
+  joined joins stands partial a s (Cut e) (inl h) = absurd h
+  joined joins stands partial a s (Cut e) (inr (left, (h, k))) = absurd k
+  joined joins stands partial a s (Incomplete n) h = tt
+  joined joins stands partial a s (Refused r) h = tt
 
   -- two parsers with errors of their own, one after the other, neither of which cuts
   pub own : {O : Type 0} (means : Meaning O T) (partial : Bool) (a : Ahead T) (s : S)

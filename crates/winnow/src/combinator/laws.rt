@@ -2,7 +2,7 @@
 //! is the law.
 
 pub use winnow_combinator::{
-    alternatives_law, determined_choice_law, determined_choosing_law, determined_end_law,
-    determined_gathered_law, determined_repeat_law, determined_row_law, determined_sequence_law,
-    determined_till_law, determined_value_law,
+    alternative_errors_law, alternatives_law, determined_choice_law, determined_choosing_law,
+    determined_end_law, determined_gathered_law, determined_repeat_law, determined_row_law,
+    determined_sequence_law, determined_till_law, determined_value_law,
 };

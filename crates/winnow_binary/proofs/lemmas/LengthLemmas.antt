@@ -1,10 +1,10 @@
 -- What comes after a count: asked as a repetition, and that it has one answer.
 use Rattle.std.specs.Prelude.{◌≡◌, ℕ, Bool, List, Option, Some}
-use Rattle.std.proofs.Common.{sym, ◌∙◌, subst, inl, inr, arith}
+use Rattle.std.proofs.Common.{ap, sym, ◌∙◌, subst, inl, inr, arith, true≢false}
 use Rattle.winnow_stream.specs.Source.{Source}
 use Rattle.winnow_stream.specs.declared.needed.Needed.{Needed}
 use Rattle.winnow_parser.specs.declared.failure.Failure.{Failure}
-use Rattle.winnow_parser.specs.Outcome.{Ahead, Outcome, Meaning}
+use Rattle.winnow_parser.specs.Outcome.{Ahead, Backtracks, Cuts, Needs, Refuses, Outcome, Gives, Fails, Meaning}
 use Rattle.winnow_parser.specs.Errors.{Errors}
 use Rattle.winnow_parser.specs.Determined.{IsDetermined, Shows, Respects, SlicesRespect}
 use Rattle.winnow_parser.proofs.lemmas.MadeLemmas.{determined-continued}
@@ -17,7 +17,7 @@ use Rattle.winnow_combinator.specs.Misuse.{AscendingErrors}
 use Rattle.winnow_combinator.specs.Repetition.{Repeated}
 use Rattle.winnow_combinator.proofs.lemmas.AgreeingLemmas.{determined-repeated}
 use Rattle.winnow_combinator.proofs.lemmas.CombinedLemmas.{determined-gathered}
-use Rattle.winnow_binary.specs.Lengths.{IsNumber, CountedSlice, Times, CountedValues}
+use Rattle.winnow_binary.specs.Lengths.{IsNumber, CountedSlice, FrontOf, CountedFront, Times, CountedValues}
 
 module _ {B O A T : Type 0} (refusable : Type 0) (makes : List O → A → Type 0) (means : B → Meaning O T) where
   -- n values are asked for where the counts, from the least to the greatest, are n alone
@@ -60,6 +60,39 @@ pub determined-counted_slice : {L S T : Type 0} (number : L → ℕ) (counts_sho
 determined-counted_slice number counts_shortage is_slice alike fronts length d =
     determined-continued (IsNumber number) (Counted counts_shortage is_slice) length (Shows number) alike (one-number number)
     (λ n. determined-counted is_slice alike fronts counts_shortage n) d
+
+-- a place with this location and these tokens
+pub same-place : {T : Type 0} (a : Ahead T) (l : Option ℕ) (r : Source T) → a.location ≡ l
+    → a.tokens ≡ r → a ≡ record { location = l; tokens = r }
+same-place a l r e f = ap (λ m. record { location = m; tokens = a.tokens }) e ∙ ap (λ t. record { location = l; tokens = t }) f
+
+module _ {S T : Type 0} (stands : S → Ahead T) (counts_shortage : Bool) where
+  -- `FrontOf` has one answer: streams that stand at one place show the same
+  determined-front_of : (n : ℕ) → IsDetermined (Shows stands) (FrontOf stands counts_shortage n)
+  determined-front_of n partial a (Gives s b) (Gives t c) p q h k = (h.2 ∙ sym k.2, h.3 ∙ sym k.3)
+  determined-front_of n partial a (Gives s b) (Fails (Backtracks c)) p q h k = absurd (omega (arith, h.0, k.0))
+  determined-front_of n partial a (Gives s b) (Fails (Cuts c)) p q h k = absurd k
+  determined-front_of n partial a (Gives s b) (Fails (Needs m)) p q h k = absurd (omega (arith, h.0, k.0))
+  determined-front_of n partial a (Gives s b) (Fails Refuses) p q h k = absurd k
+  determined-front_of n partial a (Fails (Backtracks b)) (Gives t c) p q h k = absurd (omega (arith, h.0, k.0))
+  determined-front_of n partial a (Fails (Backtracks b)) (Fails (Backtracks c)) p q h k = ap Backtracks (h.2 ∙ sym k.2)
+  determined-front_of n partial a (Fails (Backtracks b)) (Fails (Cuts c)) p q h k = absurd k
+  determined-front_of n partial a (Fails (Backtracks b)) (Fails (Needs m)) p q h k = absurd (true≢false (sym k.1 ∙ h.1))
+  determined-front_of n partial a (Fails (Backtracks b)) (Fails Refuses) p q h k = absurd k
+  determined-front_of n partial a (Fails (Cuts b)) w p q h k = absurd h
+  determined-front_of n partial a (Fails (Needs m)) (Gives t c) p q h k = absurd (omega (arith, h.0, k.0))
+  determined-front_of n partial a (Fails (Needs m)) (Fails (Backtracks c)) p q h k = absurd (true≢false (sym h.1 ∙ k.1))
+  determined-front_of n partial a (Fails (Needs m)) (Fails (Cuts c)) p q h k = absurd k
+  determined-front_of n partial a (Fails (Needs m)) (Fails (Needs l)) p q h k = ap Needs (h.2 ∙ sym k.2)
+  determined-front_of n partial a (Fails (Needs m)) (Fails Refuses) p q h k = absurd k
+  determined-front_of n partial a (Fails Refuses) w p q h k = absurd h
+
+  -- `CountedFront` has one answer where its count has one
+  pub determined-counted_front : {L : Type 0} (number : L → ℕ) (length : Meaning L T)
+      → IsDetermined (Shows number) length
+      → IsDetermined (Shows stands) (CountedFront number stands counts_shortage length)
+  determined-counted_front number length d =
+      determined-continued (IsNumber number) (FrontOf stands counts_shortage) length (Shows number) (Shows stands) (one-number number) determined-front_of d
 
 -- `CountedValues` has one answer where its parts have one
 pub determined-counted_values : {L O A T : Type 0} (number : L → ℕ) (refusable : Type 0)

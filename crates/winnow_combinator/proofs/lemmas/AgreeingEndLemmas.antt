@@ -40,16 +40,17 @@ module _ {T : Type 0} where
   determined-ended partial a (Fails Refuses) (Fails g) s t h k = absurd h
 
   -- `Failing` has one answer
-  pub determined-failing : IsDetermined {O = Unit {0}} {T = T} AreUnits Failing
-  determined-failing partial a (Gives u b) w s t h k = absurd h
-  determined-failing partial a (Fails (Backtracks b)) (Gives v c) s t h k = k
-  determined-failing partial a (Fails (Backtracks b)) (Fails (Backtracks c)) s t h k = ap Backtracks (sym h ∙ k)
-  determined-failing partial a (Fails (Backtracks b)) (Fails (Cuts c)) s t h k = absurd k
-  determined-failing partial a (Fails (Backtracks b)) (Fails (Needs n)) s t h k = absurd k
-  determined-failing partial a (Fails (Backtracks b)) (Fails Refuses) s t h k = absurd k
-  determined-failing partial a (Fails (Cuts b)) w s t h k = absurd h
-  determined-failing partial a (Fails (Needs n)) w s t h k = absurd h
-  determined-failing partial a (Fails Refuses) w s t h k = absurd h
+  pub determined-failing : {O : Type 0} (same : O → O → Type 0)
+      → IsDetermined {O = O} {T = T} same Failing
+  determined-failing same partial a (Gives u b) w s t h k = absurd h
+  determined-failing same partial a (Fails (Backtracks b)) (Gives v c) s t h k = k
+  determined-failing same partial a (Fails (Backtracks b)) (Fails (Backtracks c)) s t h k = ap Backtracks (sym h ∙ k)
+  determined-failing same partial a (Fails (Backtracks b)) (Fails (Cuts c)) s t h k = absurd k
+  determined-failing same partial a (Fails (Backtracks b)) (Fails (Needs n)) s t h k = absurd k
+  determined-failing same partial a (Fails (Backtracks b)) (Fails Refuses) s t h k = absurd k
+  determined-failing same partial a (Fails (Cuts b)) w s t h k = absurd h
+  determined-failing same partial a (Fails (Needs n)) w s t h k = absurd h
+  determined-failing same partial a (Fails Refuses) w s t h k = absurd h
 
 -- ---- Values folded from the left
 

@@ -1,3 +1,4 @@
+use Rattle.winnow_parser.specs.Determined.{Shows}
 use Rattle.winnow_parser.proofs.lemmas.DeterminedLemmas.{determined-returns}
 use Rattle.winnow_combinator.proofs.lemmas.AgreeingEndLemmas.{determined-ended, determined-failing}
 use Rattle.winnow_combinator.proofs.determined.determined_end_law.Goals as goal
@@ -9,4 +10,4 @@ pub returns-clause-nothing : goal.returns-clause-nothing
 returns-clause-nothing g c = determined-returns tt _ tt
 
 pub returns-clause-failing : goal.returns-clause-failing
-returns-clause-failing g c = determined-failing
+returns-clause-failing g c = λ view. determined-failing (Shows view)
