@@ -15,7 +15,7 @@ use Rattle.example_csv.specs.Failures.{fault_at}
 use Rattle.example_csv.specs.declared.positions.Position.{Position}
 use Rattle.example_csv.specs.declared.failure.Fault.{Fault}
 use Rattle.example_csv.specs.declared.failure.Failure.{Failure}
-use Rattle.example_csv.specs.declared.failure.Failure.TheVariants.{Damaged, Uneven, OutOfMemory, InputOrOutput}
+use Rattle.example_csv.specs.declared.failure.Failure.TheVariants.{Damaged, Uneven, Stopped}
 use Rattle.example_csv.specs.declared.progress.Progress.{Progress}
 
 -- records as lines, one after the other
@@ -73,15 +73,13 @@ pub record IsUneven (input : List ℕ) (rows : List RowVec) (line fields first :
 abbrev pub IsFailureOf : List ℕ → List RowVec → Failure → Type 0
 IsFailureOf input rows (Damaged position fault) = BreaksAt input rows position fault
 IsFailureOf input rows (Uneven line fields first) = IsUneven input rows line fields first
-IsFailureOf input rows OutOfMemory = ⊤
-IsFailureOf input rows InputOrOutput = ⊤
+IsFailureOf input rows (Stopped trouble) = ⊤
 
 -- the failure is one of the input's: memory was not refused, and neither reading nor writing failed
 abbrev pub IsOfInput : Failure → Type 0
 IsOfInput (Damaged position fault) = ⊤
 IsOfInput (Uneven line fields first) = ⊤
-IsOfInput OutOfMemory = ⊥
-IsOfInput InputOrOutput = ⊥
+IsOfInput (Stopped trouble) = ⊥
 
 -- the other number of fields fits what is kept: it is that of the first record, if there was one
 abbrev pub FitsWidth : Option ℕ → ℕ → Type 0

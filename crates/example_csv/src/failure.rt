@@ -1,13 +1,13 @@
 ghost use Rattle.std.specs.Prelude.{◌≡◌, Some};
-ghost use Rattle.std.specs.IoError.{error_kind};
+ghost use Rattle.example_base.specs.declared.trouble.Trouble.TheVariants.{OutOfMemory};
 ghost use Rattle.example_csv.specs.Failures.{fault_at, fault_text};
-ghost use Rattle.example_csv.specs.Failures.{status_of, failure_of, failure_text};
-ghost use Rattle.example_csv.specs.declared.failure.Failure.TheVariants.{OutOfMemory};
+ghost use Rattle.example_csv.specs.Failures.{status_of, failure_text};
+ghost use Rattle.example_csv.specs.declared.failure.Failure.TheVariants.{Stopped};
 
 use crate::positions::Position;
+use example_base::Trouble;
 use std::alloc::AllocError;
 use std::fmt;
-use std::io::{self, ErrorKind};
 
 /// What is wrong where a record breaks off.
 #[derive(Clone, Copy, Debug, Drop, PartialEq, Eq)]
@@ -50,10 +50,8 @@ pub enum Failure {
         /// The number of fields of the first record
         first: usize,
     },
-    /// Memory was refused
-    OutOfMemory,
-    /// Reading or writing failed
-    InputOrOutput,
+    /// Memory was refused, or reading or writing failed
+    Stopped(Trouble),
 }
 
 impl Failure {
@@ -64,8 +62,7 @@ impl Failure {
         match self {
             Failure::Damaged(_, _) => 2,
             Failure::Uneven { .. } => 2,
-            Failure::OutOfMemory => 3,
-            Failure::InputOrOutput => 4,
+            Failure::Stopped(trouble) => trouble.status(),
         }
     }
 }
@@ -102,27 +99,15 @@ impl fmt::Display for Failure {
                 f,
                 "line {line}: {fields} fields, but the first record has {first}"
             ),
-            Failure::OutOfMemory => write!(f, "out of memory"),
-            Failure::InputOrOutput => write!(f, "input or output failed"),
+            Failure::Stopped(trouble) => write!(f, "{trouble}"),
         }
     }
 }
 
 impl From<AllocError> for Failure {
-    ghost from_gives = { λ _ failure. failure ≡ OutOfMemory };
+    ghost from_gives = { λ _ failure. failure ≡ Stopped OutOfMemory };
 
-    fn from(_refused: AllocError) -> Failure {
-        Failure::OutOfMemory
-    }
-}
-
-impl From<io::Error> for Failure {
-    ghost from_gives = { λ error failure. failure ≡ failure_of (error_kind error) };
-
-    fn from(error: io::Error) -> Failure {
-        match error.kind() {
-            ErrorKind::OutOfMemory => Failure::OutOfMemory,
-            _ => Failure::InputOrOutput,
-        }
+    fn from(refused: AllocError) -> Failure {
+        Failure::Stopped(Trouble::from(refused))
     }
 }

@@ -1,5 +1,8 @@
-//! Reads comma-separated values from standard input, and writes each record as a line: its fields
-//! with tabs between them.
+//! Reads comma-separated values, and writes each record as a line: its fields with tabs between
+//! them.
+//!
+//! The records are those of the file that is named as an argument, or of standard input, if none is
+//! or it is `-`.
 //!
 //! The input is read in pieces, and a record is written as soon as it has been read. So the longest
 //! record and one piece bound what is kept, however long the input is.
@@ -7,9 +10,10 @@
 //! Within a field a backslash, a tab, a line feed and a carriage return are written as `\\`, `\t`,
 //! `\n` and `\r`.
 //!
-//! The exit status is 0, or 2 if a record is damaged or has another number of fields than the first
-//! one, 3 if memory was refused, and 4 if reading or writing failed. The records before a failure
-//! are written, and standard error says what is wrong, and where.
+//! The exit status is 0, also where nothing reads the output any more; 2 if a record is damaged or
+//! has another number of fields than the first one, and for arguments that are none; 3 if memory
+//! was refused; and 4 if reading or writing failed. The records before a failure are written, and
+//! standard error says what is wrong, and where.
 #![tactic(auto)]
 
 mod failure;
@@ -18,11 +22,55 @@ mod positions;
 mod program;
 mod progress;
 
+use crate::failure::Failure;
+use clap::ArgMatches;
+use example_base::{Program, Trouble, words_of};
+use std::fs::File;
+use std::io::BufWriter;
 use std::process::ExitCode;
 
+const PROGRAM: Program = Program {
+    name: "example_csv",
+    about: "Writes records of comma-separated values, each as a line",
+    depth: None,
+};
+
 fn main(rt: HostRuntime) -> ExitCode {
-    match program::run(&rt) {
+    let Ok(words) = words_of(&rt) else {
+        let _ = rt.eprintln("an argument is no UTF-8, or memory was refused");
+        return ExitCode::from(2);
+    };
+    match PROGRAM.matches(rt.alloc(), words.as_slice()) {
+        Ok(matches) => status_of(&rt, print(&rt, &matches)),
+        Err(error) => {
+            // If this cannot be written either, only the status tells.
+            let _ = error.print(&rt);
+            ExitCode::from(error.exit_code() as u8)
+        }
+    }
+}
+
+// Writes the records that the arguments name.
+fn print(rt: &HostRuntime, matches: &ArgMatches<'_>) -> Result<(), Failure> {
+    let mut output = match BufWriter::new(rt.alloc(), rt.stdout()) {
+        Ok(output) => output,
+        Err(error) => return Err(Failure::Stopped(Trouble::writing(error))),
+    };
+    match matches.get_str("FILE") {
+        None => program::copy_records(rt.alloc(), &mut rt.stdin(), &mut output),
+        Some("-") => program::copy_records(rt.alloc(), &mut rt.stdin(), &mut output),
+        Some(name) => match File::open(rt, name) {
+            Ok(mut file) => program::copy_records(rt.alloc(), &mut file, &mut output),
+            Err(error) => Err(Failure::Stopped(Trouble::reading(error))),
+        },
+    }
+}
+
+// Says why the program failed, and returns its status.
+fn status_of(rt: &HostRuntime, answer: Result<(), Failure>) -> ExitCode {
+    match answer {
         Ok(()) => ExitCode::SUCCESS,
+        Err(Failure::Stopped(trouble)) if trouble.is_quiet() => ExitCode::SUCCESS,
         Err(failure) => {
             let status = failure.status();
             // If standard error cannot be written either, only the status reports the failure.

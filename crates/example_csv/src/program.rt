@@ -8,24 +8,21 @@ ghost use Rattle.winnow_csv.specs.Writing.{values_in};
 ghost use Rattle.example_csv.specs.Lines.{line_of};
 ghost use Rattle.example_csv.specs.Copying.{IsOfInput, IsDamageAfter, IsBegun, WritesOn, StopsWith};
 ghost use Rattle.example_csv.specs.Copying.{CopiesAll, CopiesUntil};
+ghost use Rattle.example_base.specs.declared.trouble.Trouble.TheVariants.{TooLong};
+ghost use Rattle.example_csv.specs.declared.failure.Failure.TheVariants.{Stopped};
 
 use crate::failure::{Failure, Fault};
 use crate::lines::line_of;
 use crate::positions::position_after;
 use crate::progress::Progress;
+use example_base::Trouble;
 use std::alloc::Global;
-use std::io::{self, BufWriter, ErrorKind, Read, Write};
+use std::io::{ErrorKind, Read, Write};
 use winnow::reader::{ByteReader, Next, ReadError};
 use winnow_csv::{Row, rows_in_pieces_law};
 
 /// How many bytes are asked for in one read.
 const PIECE: usize = 65_536;
-
-/// Reads standard input, and writes its records to standard output.
-pub fn run(rt: &(impl Input + Print + AllocGlobal)) -> Result<(), Failure> {
-    let mut output = BufWriter::new(rt.alloc(), io::writer(rt))?;
-    copy_records(rt.alloc(), &mut rt.reader(), &mut output)
-}
 
 /// Reads the records of an input to its end, and writes each as a line.
 ///
@@ -67,7 +64,7 @@ pub fn copy_records<R: Read, W: Write>(
             return Err(failure);
         }
     }
-    Err(Failure::InputOrOutput)
+    Err(Failure::Stopped(Trouble::TooLong))
 }
 
 // Returns room for a piece.
@@ -92,12 +89,12 @@ fn read_piece<R: Read>(input: &mut R, buffer: &mut [u8]) -> Result<usize, Failur
             Ok(count) => return Ok(count),
             Err(error) => {
                 if error.kind() != ErrorKind::Interrupted {
-                    return Err(Failure::from(error));
+                    return Err(Failure::Stopped(Trouble::reading(error)));
                 }
             }
         }
     }
-    Err(Failure::InputOrOutput)
+    Err(Failure::Stopped(Trouble::TooLong))
 }
 
 // Pushes a piece. An input of more bytes than can be counted is refused.
@@ -107,11 +104,11 @@ fn push(reader: &mut ByteReader<Row>, piece: &[u8]) -> Result<(), Failure>
     ensures read { OnOk result (ReadsAlso (λ r. RowInPieces) reader.old piece.now reader.new) }
     ensures counted { OnOk result (fed_of reader.new + 1 < 2 ^ 64) }
     ensures failed { IfErr result (λ failure. ¬ (IsOfInput failure)) }
-    ensures long { IfErr result (λ failure. failure ≡ Failure.InputOrOutput
+    ensures long { IfErr result (λ failure. failure ≡ Stopped TooLong
         → 2 ^ 64 ≤ fed_of reader.old + length piece.now + 1) }
 {
     if piece.len() >= usize::MAX - reader.fed() {
-        return Err(Failure::InputOrOutput);
+        return Err(Failure::Stopped(Trouble::TooLong));
     }
     match reader.push(piece) {
         Ok(()) => Ok(()),
@@ -136,7 +133,7 @@ fn write_ahead<W: Write>(
 {
     let answer = write_records(alloc, reader, progress, output);
     if let Err(error) = output.flush() {
-        return Err(Failure::from(error));
+        return Err(Failure::Stopped(Trouble::writing(error)));
     }
     answer
 }
@@ -173,7 +170,7 @@ fn write_records<W: Write>(
                 return Err(damage(reader, progress.feeds, place));
             }
             Err(ReadError::TakesNothing { place: _ }) => unreachable!(),
-            Err(ReadError::Refused(_)) => return Err(Failure::OutOfMemory),
+            Err(ReadError::Refused(_)) => return Err(Failure::Stopped(Trouble::OutOfMemory)),
         }
     }
 }
@@ -199,7 +196,7 @@ fn write_line<W: Write>(alloc: Global, fields: &[Vec<u8>], output: &mut W) -> Re
     match line_of(alloc, fields) {
         Ok(line) => match output.write_all(&line) {
             Ok(()) => Ok(()),
-            Err(error) => Err(Failure::from(error)),
+            Err(error) => Err(Failure::Stopped(Trouble::writing(error))),
         },
         Err(refused) => Err(Failure::from(refused)),
     }

@@ -11,7 +11,7 @@ use Rattle.example_resp.specs.declared.placed.Placed.{Placed}
 use Rattle.example_resp.specs.declared.placed.PlacedReply.{PlacedReply}
 use Rattle.example_resp.specs.declared.positions.Position.{Position}
 use Rattle.example_resp.specs.declared.failure.Failure.{Failure}
-use Rattle.example_resp.specs.declared.failure.Failure.TheVariants.{NoReply, EndsInside, OutOfMemory, InputOrOutput}
+use Rattle.example_resp.specs.declared.failure.Failure.TheVariants.{NoReply, EndsInside, Stopped}
 use Rattle.example_resp.specs.Positions.{start, position_after, IsPosition}
 use Rattle.example_resp.specs.Printing.{shown}
 
@@ -58,16 +58,14 @@ abbrev pub ended_as : Result (Unit {0}) Failure → Position → Result (Unit {0
 ended_as (Ok done) place = Ok done
 ended_as (Err (NoReply p)) place = Err (EndsInside place)
 ended_as (Err (EndsInside p)) place = Err (EndsInside p)
-ended_as (Err OutOfMemory) place = Err OutOfMemory
-ended_as (Err InputOrOutput) place = Err InputOrOutput
+ended_as (Err (Stopped trouble)) place = Err (Stopped trouble)
 
 -- this holds, unless memory was refused, or reading or writing failed
 abbrev pub OnAnswer : Result (Unit {0}) Failure → Type 0 → Type 0
 OnAnswer (Ok done) p = p
 OnAnswer (Err (NoReply place)) p = p
 OnAnswer (Err (EndsInside place)) p = p
-OnAnswer (Err OutOfMemory) p = ⊤
-OnAnswer (Err InputOrOutput) p = ⊤
+OnAnswer (Err (Stopped trouble)) p = ⊤
 
 module _ (means : PlacedReply → Meaning Placed ℕ) where
   -- no matter what was read, the other reader has read that, and these replies after it
@@ -88,8 +86,7 @@ module _ (means : PlacedReply → Meaning Placed ℕ) where
   FailsThere f place (NoReply p) = (FailsAt means f p.byte ⊎ IdlesAt means f p.byte)
       × (p ≡ position_after place (take (p.byte - f.place) f.ahead))
   FailsThere f place (EndsInside p) = ⊥
-  FailsThere f place OutOfMemory = ⊤
-  FailsThere f place InputOrOutput = ⊤
+  FailsThere f place (Stopped trouble) = ⊤
 
   -- of this input the reader has read these replies, and stands at this place of it
   pub record Follows (input : List ℕ) (replies : List Reply) (f : ReaderState PlacedReply)
@@ -127,8 +124,7 @@ module _ (means : PlacedReply → Meaning Placed ℕ) where
   EndsAs f place rest (Ok done) = (rest ≡ []) × (f.ended ≡ true) × (f.ahead ≡ [])
   EndsAs f place rest (Err (NoReply p)) = FailsThere f place (NoReply p)
   EndsAs f place rest (Err (EndsInside p)) = (rest ≡ []) × (f.ended ≡ true) × (p ≡ place)
-  EndsAs f place rest (Err OutOfMemory) = ⊤
-  EndsAs f place rest (Err InputOrOutput) = ⊤
+  EndsAs f place rest (Err (Stopped trouble)) = ⊤
 
   -- the program read a front of this input with that parser and wrote the lines of its replies, and
   -- ended as it says

@@ -1,22 +1,22 @@
 ghost use Rattle.std.specs.Prelude.{◌≡◌, Some};
-ghost use Rattle.std.specs.IoError.{error_kind};
-ghost use Rattle.example_resp.specs.Failure.{status_of, position_text, failure_text, failure_of};
-ghost use Rattle.example_resp.specs.declared.failure.Failure.TheVariants.{OutOfMemory};
+ghost use Rattle.example_base.specs.declared.trouble.Trouble.TheVariants.{OutOfMemory};
+ghost use Rattle.example_resp.specs.Failure.{status_of, position_text, failure_text};
+ghost use Rattle.example_resp.specs.declared.failure.Failure.TheVariants.{Stopped};
 
 use crate::positions::Position;
+use example_base::Trouble;
 use std::alloc::AllocError;
 use std::fmt;
-use std::io::{self, ErrorKind};
 
 /// The reason why the program ends with a status other than 0.
 #[derive(Drop)]
 pub enum Failure {
-    /// No reply stands there, no matter what follows
+    /// No reply within the limits stands there, no matter what follows
     NoReply(Position),
     /// The input ends inside the reply that begins there
     EndsInside(Position),
-    OutOfMemory,
-    InputOrOutput,
+    /// Memory was refused, or reading or writing failed
+    Stopped(Trouble),
 }
 
 impl Failure {
@@ -27,8 +27,7 @@ impl Failure {
         match self {
             Failure::NoReply(_) => 2,
             Failure::EndsInside(_) => 2,
-            Failure::OutOfMemory => 3,
-            Failure::InputOrOutput => 4,
+            Failure::Stopped(trouble) => trouble.status(),
         }
     }
 }
@@ -47,34 +46,22 @@ impl fmt::Display for Failure {
 
     fn fmt<W: fmt::Write>(&self, f: &mut fmt::Formatter<W>) -> fmt::Result {
         match self {
-            Failure::NoReply(place) => write!(f, "{place}: no reply stands here"),
+            Failure::NoReply(place) => write!(f, "{place}: no reply within the limits stands here"),
             Failure::EndsInside(place) => {
                 write!(
                     f,
                     "{place}: the input ends inside the reply that begins here"
                 )
             }
-            Failure::OutOfMemory => write!(f, "memory was refused"),
-            Failure::InputOrOutput => write!(f, "reading or writing failed"),
+            Failure::Stopped(trouble) => write!(f, "{trouble}"),
         }
     }
 }
 
 impl From<AllocError> for Failure {
-    ghost from_gives = { λ _ failure. failure ≡ OutOfMemory };
+    ghost from_gives = { λ _ failure. failure ≡ Stopped OutOfMemory };
 
-    fn from(_refused: AllocError) -> Failure {
-        Failure::OutOfMemory
-    }
-}
-
-impl From<io::Error> for Failure {
-    ghost from_gives = { λ error failure. failure ≡ failure_of (error_kind error) };
-
-    fn from(error: io::Error) -> Failure {
-        match error.kind() {
-            ErrorKind::OutOfMemory => Failure::OutOfMemory,
-            _ => Failure::InputOrOutput,
-        }
+    fn from(refused: AllocError) -> Failure {
+        Failure::Stopped(Trouble::from(refused))
     }
 }

@@ -10,12 +10,14 @@ ghost use Rattle.example_resp.specs.Printing.{shown};
 ghost use Rattle.example_resp.specs.Session.{IsSteady, HasSameInput, StandsOn, next_replies};
 ghost use Rattle.example_resp.specs.Session.{ReadsReplies, HasNoneLeft, FailsThere, shown_all};
 ghost use Rattle.example_resp.specs.Session.{OnAnswer, ended_as, Follows, Continues, EndsAs, Tells};
-ghost use Rattle.example_resp.specs.declared.failure.Failure.TheVariants.{OutOfMemory};
+ghost use Rattle.example_base.specs.declared.trouble.Trouble.TheVariants.{OutOfMemory};
+ghost use Rattle.example_resp.specs.declared.failure.Failure.TheVariants.{Stopped};
 
 use crate::failure::Failure;
 use crate::placed::{Placed, PlacedReply};
 use crate::positions::Position;
 use crate::printing::append_reply;
+use example_base::Trouble;
 use std::alloc::{AllocError, Global};
 use std::io::{self, ErrorKind, Read, Write};
 use winnow::reader::{ByteReader, Next, ReadError, Record};
@@ -24,30 +26,24 @@ use winnow_resp::{Reply, ReplyTo};
 // A read of a pipe gives at most as much.
 const PIECE: usize = 64 * 1024;
 
-const LIMITS: ReplyTo = ReplyTo {
-    // Calls are nested as deep as arrays, so this bounds the stack. Replies of the server's own
-    // commands are not a quarter as deep.
-    depth: 32,
-    // The server's own limit on a string, if its configuration names no other.
-    longest: 512 * 1024 * 1024,
-};
-
-/// Reads replies to the end of the input, and prints each as soon as its bytes are there.
+/// Reads replies within these limits to the end of the input, and prints each as soon as its bytes
+/// are there.
 ///
 /// Where it fails, the replies before are printed, unless memory was refused, or reading or writing
 /// failed.
 pub fn print_replies<R: Read, W: Write>(
     alloc: Global,
+    limits: ReplyTo,
     input: &mut R,
     output: &mut W,
 ) -> Result<(), Failure>
     ensures { (whole before : List ℕ) → R.remaining input.old ≡ Some whole
         → W.contents output.old ≡ Some before
-        → OnAnswer result (Tells ⟦<PlacedReply as Record>⟧.means (record { limits = LIMITS })
+        → OnAnswer result (Tells ⟦<PlacedReply as Record>⟧.means (record { limits = limits })
         whole before (W.contents output.new) result) }
 {
     let mut piece = new_piece(alloc)?;
-    let mut reader = ByteReader::new(alloc, PlacedReply { limits: LIMITS });
+    let mut reader = ByteReader::new(alloc, PlacedReply { limits });
     let mut place = Position::start();
     // No input has so many pieces that the turns are used up.
     for _turn in 0..u64::MAX {
@@ -61,12 +57,12 @@ pub fn print_replies<R: Read, W: Write>(
             }
             Err(error) => {
                 if !matches!(error.kind(), ErrorKind::Interrupted) {
-                    return Err(Failure::from(error));
+                    return Err(Failure::Stopped(Trouble::reading(error)));
                 }
             }
         }
     }
-    Err(Failure::InputOrOutput)
+    Err(Failure::Stopped(Trouble::TooLong))
 }
 
 // Returns the memory that pieces are read into. Nothing needs to be known of its bytes.
@@ -115,8 +111,7 @@ fn ended_as(taken: Result<(), Failure>, place: Position) -> Result<(), Failure>
         Ok(()) => Ok(()),
         Err(Failure::NoReply(_)) => Err(Failure::EndsInside(place)),
         Err(Failure::EndsInside(inside)) => Err(Failure::EndsInside(inside)),
-        Err(Failure::OutOfMemory) => Err(Failure::OutOfMemory),
-        Err(Failure::InputOrOutput) => Err(Failure::InputOrOutput),
+        Err(Failure::Stopped(trouble)) => Err(Failure::Stopped(trouble)),
     }
 }
 
@@ -141,7 +136,7 @@ fn print_piece<W: Write>(
         (FailsThere ⟦<PlacedReply as Record>⟧.means reader.new place.new) }
 {
     if piece.len() >= usize::MAX - reader.fed() {
-        return Err(Failure::InputOrOutput);
+        return Err(Failure::Stopped(Trouble::TooLong));
     }
     reader.push(piece)?;
     print_ready(alloc, reader, place, output)
@@ -170,7 +165,7 @@ fn print_ready<W: Write>(
     let taken = take_replies(reader, place, &mut text);
     match output.write_all(&text) {
         Ok(()) => taken,
-        Err(error) => Err(Failure::from(error)),
+        Err(error) => Err(Failure::Stopped(Trouble::writing(error))),
     }
 }
 
@@ -204,7 +199,7 @@ fn take_replies(
 // Appends the lines that show a reply, and drops the reply.
 fn append_lines(reply: Reply, text: &mut Vec<u8>) -> Result<(), Failure>
     ensures shown { OnOk result (text.new.items ≡ text.old.items ++ shown reply []) }
-    ensures refused { IfErr result (λ failure. failure ≡ OutOfMemory) }
+    ensures refused { IfErr result (λ failure. failure ≡ Stopped OutOfMemory) }
 {
     append_reply(&reply, text)?;
     Ok(())

@@ -55,7 +55,9 @@ where
     }
 }
 
-/// Reads a line with an integer. It cuts where there is none, at the start of the line.
+/// Reads a line with an integer. It cuts at the start of the line where its text is no integer, and
+/// where the end of the line is missing: after 21 bytes, at a newline without a carriage return, or
+/// after a carriage return without a newline.
 pub(crate) fn read_integer<I: StreamIsPartial, E: ParserError<I>>(
     alloc: Global,
     input: &mut I,
@@ -79,8 +81,8 @@ where
     cut_err(number).parse_next(alloc, input)
 }
 
-/// Reads a line with a length of at most `greatest`, or with `-1`. It cuts where there is none, at
-/// the start of the line.
+/// Reads a line with a length of at most `greatest`, or with `-1`. It cuts at the start of the line
+/// where its text is neither, and where the end of the line is missing, as for an integer.
 // Inlined: most replies begin with a length, which is read in few steps.
 #[inline(always)]
 pub(crate) fn read_length<I: StreamIsPartial, E: ParserError<I>>(

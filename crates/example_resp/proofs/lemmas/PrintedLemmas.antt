@@ -6,7 +6,7 @@ use Rattle.std.proofs.lemmas.Option.{same_Some, none-some}
 use Rattle.std.specs.Io.KnownBytes.{Appends, Consumes, Keeps, IsAtEnd}
 use Rattle.winnow_parser.specs.Outcome.{Meaning}
 use Rattle.example_resp.specs.declared.failure.Failure.{Failure}
-use Rattle.example_resp.specs.declared.failure.Failure.TheVariants.{NoReply, EndsInside, OutOfMemory, InputOrOutput}
+use Rattle.example_resp.specs.declared.failure.Failure.TheVariants.{NoReply, EndsInside, Stopped}
 use Rattle.winnow_reader.specs.State.{ReaderState, at_start}
 use Rattle.winnow_reader.specs.Reading.{HasRead}
 use Rattle.winnow_resp.specs.declared.reply.Reply.{Reply}
@@ -156,8 +156,7 @@ module _ (means : PlacedReply → Meaning Placed ℕ) where
       tells-printed parser whole before left new g there (Err (NoReply p))
       (printed-piece whole before piece source left output new f g place there h consumes told) same failed
   tells-failed parser whole before piece source left output new f g place there (EndsInside p) h consumes same told failed = absurd failed
-  tells-failed parser whole before piece source left output new f g place there OutOfMemory h consumes same told failed = tt
-  tells-failed parser whole before piece source left output new f g place there InputOrOutput h consumes same told failed = tt
+  tells-failed parser whole before piece source left output new f g place there (Stopped trouble) h consumes same told failed = tt
 
   -- what the program tells at the end of the input
   pub tells-last : (parser : PlacedReply) (whole before bytes : List ℕ)

@@ -10,7 +10,7 @@ use Rattle.winnow_parser.specs.Laws.{IsParser}
 use Rattle.winnow_parser.specs.Taken.{IsFrontTaken}
 use Rattle.std.specs.Borrow.{Bor}
 use Rattle.example_resp.specs.declared.failure.Failure.{Failure}
-use Rattle.example_resp.specs.declared.failure.Failure.TheVariants.{NoReply, EndsInside, OutOfMemory, InputOrOutput}
+use Rattle.example_resp.specs.declared.failure.Failure.TheVariants.{NoReply, EndsInside, Stopped}
 use Rattle.winnow_reader.specs.Place.{bytes_at, IsByteSlice}
 use Rattle.winnow_reader.specs.State.{ReaderState, taken_by, waiting_for, pushed, ended_after}
 use Rattle.winnow_reader.specs.Reading.{MayFollow, HasRead, Lacks, ReadsAlso, ReadsThrough}
@@ -181,8 +181,7 @@ pub on-answer : (r : Result (Unit {0}) Failure) (P : Type 0) → P → OnAnswer 
 on-answer (Ok done) P h = h
 on-answer (Err (NoReply place)) P h = h
 on-answer (Err (EndsInside place)) P h = h
-on-answer (Err OutOfMemory) P h = tt
-on-answer (Err InputOrOutput) P h = tt
+on-answer (Err (Stopped trouble)) P h = tt
 
 -- a reader with the same input as another has that of a third
 pub same-trans : (f g h : ReaderState PlacedReply) → HasSameInput f g → HasSameInput g h
@@ -262,8 +261,7 @@ pub on-answer-map : (r : Result (Unit {0}) Failure) (P Q : Type 0) → (P → Q)
 on-answer-map (Ok done) P Q f h = f h
 on-answer-map (Err (NoReply place)) P Q f h = f h
 on-answer-map (Err (EndsInside place)) P Q f h = f h
-on-answer-map (Err OutOfMemory) P Q f h = tt
-on-answer-map (Err InputOrOutput) P Q f h = tt
+on-answer-map (Err (Stopped trouble)) P Q f h = tt
 
 -- what holds of an answer holds of it at the end
 pub on-ended : (r : Result (Unit {0}) Failure) (place : Position) (P : Type 0) → OnAnswer r P
@@ -271,8 +269,7 @@ pub on-ended : (r : Result (Unit {0}) Failure) (place : Position) (P : Type 0) �
 on-ended (Ok done) place P h = h
 on-ended (Err (NoReply p)) place P h = h
 on-ended (Err (EndsInside p)) place P h = h
-on-ended (Err OutOfMemory) place P h = tt
-on-ended (Err InputOrOutput) place P h = tt
+on-ended (Err (Stopped trouble)) place P h = tt
 
 module _ (means : PlacedReply → Meaning Placed ℕ) where
   -- a reader that is given a piece follows the input with that piece
@@ -340,13 +337,11 @@ module _ (means : PlacedReply → Meaning Placed ℕ) where
   ends-as (Ok done) old f place e none failed = (refl, e, none.0 e)
   ends-as (Err (NoReply p)) old f place e none failed = (refl, e, refl)
   ends-as (Err (EndsInside p)) old f place e none failed = absurd failed
-  ends-as (Err OutOfMemory) old f place e none failed = tt
-  ends-as (Err InputOrOutput) old f place e none failed = tt
+  ends-as (Err (Stopped trouble)) old f place e none failed = tt
 
   -- a reader that failed before the end of the input ends so, with any rest of the input
   pub fails-as : (e : Failure) (f : ReaderState PlacedReply) (place : Position) (rest : List ℕ)
       → FailsThere means f place e → EndsAs means f place rest (Err e)
   fails-as (NoReply p) f place rest h = h
   fails-as (EndsInside p) f place rest h = absurd h
-  fails-as OutOfMemory f place rest h = tt
-  fails-as InputOrOutput f place rest h = tt
+  fails-as (Stopped trouble) f place rest h = tt
