@@ -61,7 +61,7 @@ fn call_bracket_laws<I: StreamIsPartial, E: AssociativeOr<I>, P: Parser<I, E>>()
 fn call_part_laws<
     I: StreamIsPartial,
     C,
-    E: AddContext<I, C>,
+    E: ParserError<I> + AddContext<I, C>,
     P: Parser<I, E>,
     G: Gather<P::Output>,
     Z,
