@@ -17,10 +17,11 @@ returns-clause-error g c =
     let row = ap (λ l. l.0.inner) list ∙ c.void.ensures.inner in
     let first = ap (λ r. r.0.set) row ∙ ap (λ o. o.set) c.one_of.ensures in
     let stands = ahead g.I.Rest.location g.I.Stream.remaining in
+    let stood = ahead g.I.Checkpoint.Rest.location g.I.Stream.remained in
     let makes = g.E.ParserError.from_input_gives in
     let cuts = g.E.ParserError.assert_gives in
     IfErr-weaker c.parse_next.result _ _ (λ f h.
-    unsigned-errors g.E.ParserError.or_refusable g.I.Stream.is_slice g.I.Token.AsChar.code stands makes cuts g.E.ParserError.or_gives _ _ _ f
+    unsigned-errors g.E.ParserError.or_refusable g.E.ParserError.append_refusable g.I.Stream.is_slice g.I.Token.AsChar.code stands makes cuts g.E.ParserError.or_gives stood g.E.ParserError.append_gives _ _ _ f
     (ap (λ s. s.start) first ∙ c.new.ensures.start) (ap (λ s. s.end) first ∙ c.new.ensures.end)
     (ap (λ r. r.1.set) row ∙ c.digit0.ensures.0)
     (ap (λ r. least_count r.1.counts) row ∙ c.digit0.ensures.1.0) (ap (λ r. greatest_count r.1.counts) row ∙ c.digit0.ensures.1.1)
