@@ -74,10 +74,7 @@ impl<'k> ByteFeed<'k> {
                 told,
                 place: 0,
                 marks,
-                settled: Settled {
-                    width: 0,
-                    tokens: 0,
-                },
+                settled: Settled::nothing(),
                 base: 0,
                 pieces: 0,
                 tried: 0,

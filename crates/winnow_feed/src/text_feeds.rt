@@ -71,10 +71,7 @@ impl<'k> TextFeed<'k> {
                 told,
                 place: 0,
                 marks,
-                settled: Settled {
-                    width: 0,
-                    tokens: 0,
-                },
+                settled: Settled::nothing(),
                 base: 0,
                 pieces: 0,
                 tried: 0,

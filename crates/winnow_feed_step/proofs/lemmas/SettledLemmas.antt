@@ -29,7 +29,7 @@ use Rattle.winnow_stream.specs.declared.needed.Needed.{Needed}
 use Rattle.winnow_run.specs.declared.search_steps.SearchStep.{SearchStep}
 use Rattle.winnow_run.specs.declared.search_steps.SearchStep.TheVariants as step
 use Rattle.winnow_run.specs.Definite.{PieceReading}
-use Rattle.winnow_feed_step.specs.Settled.{NoneInSet, NoneOccurs, AreSame, AreCounted, IsNeedSettled, IsSettled, shifted, longer, further}
+use Rattle.winnow_feed_step.specs.Settled.{NoneInSet, NoneOccurs, AreSame, AreCounted, IsNeedSettled, shifted, longer, further}
 use Rattle.winnow_match.specs.Staying.{written-append}
 
 -- ---- `First`
@@ -298,7 +298,7 @@ offset_at-fits counts_shortage r n i o w h e =
 -- ---- all of them
 
 -- what a need has settled stays settled with more input appended
-need_settled-more : {T C : Type 0} (holds : C → T → Bool) (s : Need C) (r more : Source T)
+pub need_settled-more : {T C : Type 0} (holds : C → T → Bool) (s : Need C) (r more : Source T)
     (n tokens : ℕ) → IsNeedSettled holds s r n tokens → IsNeedSettled holds s (r ++ more) n tokens
 need_settled-more holds (need.TokenOf c) r more n tokens h = NoneInSet-more (holds c) r more n h
 need_settled-more holds (need.Tokens asked) r more n tokens h = AreCounted-more asked r more n tokens h
@@ -306,10 +306,3 @@ need_settled-more holds need.Nothing r more n tokens h = tt
 need_settled-more holds need.Token r more n tokens h = tt
 need_settled-more holds (need.Width i) r more n tokens h = tt
 need_settled-more holds need.End r more n tokens h = tt
-
--- what a step has settled stays settled with more input appended
-pub settled-more : (T C L : Type 0) (k : PieceReading T C L) (s : SearchStep C L)
-    (r more : Source T) (n tokens : ℕ) → IsSettled k s r n tokens → IsSettled k s (r ++ more) n tokens
-settled-more T C L k (step.Call s) r more n tokens h = need_settled-more k.holds (call_need s) r more n tokens h
-settled-more T C L k (step.Compare l) r more n tokens h = rw (written-append k.write r more) (AreSame-more (k.literal l) (written k.write r) (written k.write more) n h)
-settled-more T C L k (step.Find ns) r more n tokens h = rw (written-append k.write r more) (NoneOccurs-more (needle_list k.literal ns) (written k.write r) (written k.write more) n h)
