@@ -186,8 +186,8 @@ where
     }
 }
 
-// Returns what a step has settled if a look at it is of no use: no input makes the step definite, or
-// it searches and the bytes still end inside the needle that it has compared so far.
+// Returns what a step has settled if a look at it is of no use: no input makes the step definite,
+// or it searches and the bytes still end inside the needle that it has compared so far.
 #[tactic(auto, using(crate::proofs::lemmas::AttemptLemmas::attempted))]
 #[inline(always)]
 fn waits_on<S: Kept, L: AsBStr>(

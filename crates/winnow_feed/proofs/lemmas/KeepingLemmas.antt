@@ -65,7 +65,8 @@ module _ {T C L : Type 0} (all : Source T) (at : Cursor) where
 -- ---- the least place
 
 -- the least place is no greater than the given one
-pub least-below : {C L : Type 0} (at : ℕ) (marks : List ℕ) (least : ℕ) (steps : List (SearchStep C L))
+pub least-below : {C L : Type 0} (at : ℕ) (marks : List ℕ) (least : ℕ)
+    (steps : List (SearchStep C L))
     → least_place at marks least steps ≤ least
 least-below at marks least [] = omega arith
 least-below at marks least (s ∷ steps) = omega (arith, least-below at marks least steps)

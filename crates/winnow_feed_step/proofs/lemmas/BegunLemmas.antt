@@ -126,7 +126,8 @@ module _ (ls : List (List ℕ)) (bs : List ℕ) where
 
   module _ (settled : Settled) (h : IsSearchSettled ls bs settled) (begun : 0 < settled.compared) (e : comparison (needle_of ls settled.needle) (drop settled.width bs) ≡ compared.Incomplete) where
     -- the bytes still end inside the needle
-    ends-inside : IsPrefixOf (drop settled.width bs) (needle_of ls settled.needle) × (length (drop settled.width bs) < length (needle_of ls settled.needle))
+    ends-inside : IsPrefixOf (drop settled.width bs) (needle_of ls settled.needle) × (length (drop
+        settled.width bs) < length (needle_of ls settled.needle))
     ends-inside = (incomplete-says (needle_of ls settled.needle) (drop settled.width bs)).0 e
 
     -- without more input
@@ -190,7 +191,8 @@ IsSearchSettled-more ls bs more settled h = record {
 }
 
 -- a search has settled nothing at first
-pub IsSearchSettled-none : (ls : List (List ℕ)) (bs : List ℕ) → IsSearchSettled ls bs nothing_settled
+pub IsSearchSettled-none : (ls : List (List ℕ)) (bs : List ℕ)
+    → IsSearchSettled ls bs nothing_settled
 IsSearchSettled-none ls bs = begun-nowhere ls bs nothing_settled (NoneOccurs-none ls bs) refl refl
 
 -- what a step has settled stays settled with more input appended

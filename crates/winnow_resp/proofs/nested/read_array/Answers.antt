@@ -15,8 +15,8 @@ use Rattle.winnow_resp.specs.declared.reply.Reply.{Reply}
 use Rattle.winnow_resp.specs.declared.reply.Reply.TheViews.{the_lemmas}
 use Rattle.winnow_resp.proofs.nested.read_array.Goals as goal
 
--- what is read of an array is its elements: memory may be refused for their vector, and so also while
--- an error is appended to
+-- what is read of an array is its elements: memory may be refused for their vector, and so also
+-- while an error is appended to
 elements-plain : {T : Type 0} (inner : Meaning Reply T) (n : ℕ) (q : Type 0) (partial : Bool)
     (a : Ahead T) (v : Outcome (Vec Reply Global) T)
     → CutOff (Ascending n (Some n) (Gathered ⊤ HasReplies (AppendingIf (needs_some n) q (Repeated n (Some n) inner)))) partial a v
@@ -39,7 +39,7 @@ returns-in-Ok-clause-means g c =
     let flag = g.met.I.StreamIsPartial.keeps_flag c.args.input.now c.read_length.new.input c.in_ok-count.ensures.kept in
     let gives = Gives c.in-Ok.replies (ahead g.I.Rest.location g.I.Stream.remaining c.parse_next.new.input) in
     let answer = elements-plain (g.P.Parser.means c.args.inner) c.in-Some.count g.E.ParserError.append_refusable (g.I.StreamIsPartial.expects_more c.read_length.new.input) b gives
-        (rw (c.cut_err.ensures, c.repeat.ensures.counts.0, c.repeat.ensures.counts.1, c.repeat.ensures.inner) at c.in-Ok.ensures.means) in
+    (rw (c.cut_err.ensures, c.repeat.ensures.counts.0, c.repeat.ensures.counts.1, c.repeat.ensures.inner) at c.in-Ok.ensures.means) in
     let means = subst (λ partial. Elements g.I.Token.AsChar.code g.I.Stream.counts_shortage g.I.Stream.is_slice g.I.Slice.AsBytes.bytes (g.P.Parser.means c.args.inner) c.in-Some.count partial b gives) flag answer in
     (c.in_ok-count.field-0, (b, (Some c.in-Some.count, (c.in_ok-count.ensures.means, c.in-Some.is, (c.in-Ok.replies, (search (rules, the_lemmas), means))))))
 
@@ -49,6 +49,6 @@ returns-clause-means g c =
     let flag = g.met.I.StreamIsPartial.keeps_flag c.args.input.now c.read_length.new.input c.in_ok-count.ensures.kept in
     let fails = Fails (failed c.in-Err.failure (ahead g.I.Rest.location g.I.Stream.remaining c.parse_next.new.input)) in
     let answer = elements-plain (g.P.Parser.means c.args.inner) c.in-Some.count g.E.ParserError.append_refusable (g.I.StreamIsPartial.expects_more c.read_length.new.input) b fails
-        (rw (c.cut_err.ensures, c.repeat.ensures.counts.0, c.repeat.ensures.counts.1, c.repeat.ensures.inner) at c.in-Err.ensures.means) in
+    (rw (c.cut_err.ensures, c.repeat.ensures.counts.0, c.repeat.ensures.counts.1, c.repeat.ensures.inner) at c.in-Err.ensures.means) in
     let means = subst (λ partial. Elements g.I.Token.AsChar.code g.I.Stream.counts_shortage g.I.Stream.is_slice g.I.Slice.AsBytes.bytes (g.P.Parser.means c.args.inner) c.in-Some.count partial b fails) flag answer in
     inr (c.in_ok-count.field-0, (b, (Some c.in-Some.count, (c.in_ok-count.ensures.means, c.in-Some.is, means))))
