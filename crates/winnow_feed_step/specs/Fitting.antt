@@ -1,5 +1,5 @@
--- Searches in few bytes, for the needles that can stand there.
-use Rattle.std.specs.Prelude.{◌≡◌, ℕ, ◌≤◌, List, [], length, Option, None, Some}
+-- Searches in few bytes, for the needles that can stand there, and for their first bytes.
+use Rattle.std.specs.Prelude.{◌≡◌, ℕ, ◌≤◌, List, [], ◌∷◌, map, length, slice_index, Option, None, Some}
 use Rattle.std.specs.Borrow.{Bor}
 use Rattle.winnow_match.specs.declared.needles.Needles.{Needles}
 use Rattle.winnow_match.specs.Search.{hit, bytes_of_needles}
@@ -12,3 +12,7 @@ needles_left (Some needles) = bytes_of_needles needles
 -- in bytes of at most this length, the needles that are left find what all of them find
 abbrev pub FindAlike : ℕ → List (List ℕ) → Option (Needles (Bor (List ℕ))) → Type 0
 FindAlike len needles few = (bytes : List ℕ) → length bytes ≤ len → hit needles bytes ≡ hit (needles_left few) bytes
+
+-- the first byte of each needle, as needles
+abbrev pub first_bytes : List (List ℕ) → List (List ℕ)
+first_bytes needles = map (λ needle. slice_index needle 0 ∷ []) needles

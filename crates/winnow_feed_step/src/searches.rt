@@ -1,10 +1,13 @@
 ghost use Rattle.std.specs.Prelude.{◌≡◌, ◌≤◌, ◌<◌, [], ◌∷◌, None, false, length, drop, IfSome};
 ghost use Rattle.std.specs.Prelude.{IsTrue};
 ghost use Rattle.winnow_match.specs.Comparison.{comparison, is_prefix};
-ghost use Rattle.winnow_match.specs.Search.{hit, needle_of, needle_list, bytes_of_needles};
+ghost use Rattle.std.specs.Prelude.{slice_index};
+ghost use Rattle.std.specs.List.{list_any};
+ghost use Rattle.winnow_match.specs.Search.{hit, is_empty, needle_of, needle_list};
+ghost use Rattle.winnow_match.specs.Search.{bytes_of_needles};
 ghost use Rattle.winnow_match.specs.Stretch.{hit_is_definite, mover, mover_or, stretches};
 ghost use Rattle.winnow_feed_step.specs.Settled.{AreSame, NoneOccurs, IsSearchSettled};
-ghost use Rattle.winnow_feed_step.specs.Fitting.{FindAlike};
+ghost use Rattle.winnow_feed_step.specs.Fitting.{FindAlike, first_bytes};
 
 use crate::calls::Settled;
 use std::ops::Range;
@@ -248,6 +251,30 @@ fn mover(bytes: &[u8], needles: &Needles<&[u8]>) -> Option<usize>
     }
 }
 
+// Returns the first byte of a needle.
+#[inline(always)]
+fn first_byte(needle: &[u8]) -> u8
+    requires { is_empty needle.now ≡ false }
+    ensures { result ≡ slice_index needle.now 0 }
+{
+    needle[0]
+}
+
+// Returns the first place whose byte is the first of a needle.
+#[tactic(auto, using(crate::proofs::lemmas::LookLemmas::hits_fit))]
+fn first_start(needles: &Needles<&[u8]>, bytes: &[u8]) -> Option<Range<usize>>
+    requires { list_any is_empty (bytes_of_needles needles.now) ≡ false }
+    ensures { result ≡ hit (first_bytes (bytes_of_needles needles.now)) bytes.now }
+{
+    match needles {
+        Needles::One(a) => bytes.find_slice(first_byte(a)),
+        Needles::Two(a, b) => bytes.find_slice((first_byte(a), first_byte(b))),
+        Needles::Three(a, b, c) => {
+            bytes.find_slice((first_byte(a), first_byte(b), first_byte(c)))
+        }
+    }
+}
+
 // Returns what a search has settled that found nothing: the first place from `from` on at which the
 // bytes end inside a needle, or their end.
 #[inline(never)]
@@ -257,7 +284,8 @@ fn first_begun(needles: &Needles<&[u8]>, bytes: &[u8], from: usize) -> Settled
     ensures { IsSearchSettled (bytes_of_needles needles.now) bytes.now result }
 {
     let mut place = from;
-    while place < bytes.len() {
+    while let Some(start) = first_start(needles, behind(bytes, place)) {
+        place += start.start;
         if let Some(needle) = mover(behind(bytes, place), needles) {
             return Settled {
                 width: place,
@@ -269,7 +297,7 @@ fn first_begun(needles: &Needles<&[u8]>, bytes: &[u8], from: usize) -> Settled
         place += 1;
     }
     Settled {
-        width: place,
+        width: bytes.len(),
         tokens: 0,
         needle: 0,
         compared: 0,

@@ -19,7 +19,6 @@ use Rattle.winnow_match.specs.Stretch.{stretch_of, longest}
 use Rattle.winnow_match.proofs.lemmas.MoveLemmas.{stretch-within, none-before_stretch}
 use Rattle.winnow_match.proofs.lemmas.RuleLemmas.{none-definite}
 use Rattle.winnow_match.proofs.lemmas.ComparisonLemmas.{incomplete-says}
-use Rattle.winnow_run.specs.declared.need.Need.{Need}
 use Rattle.winnow_run.specs.declared.need.Need.TheVariants as need
 use Rattle.winnow_run.specs.Needs.{call_need}
 use Rattle.winnow_run.specs.declared.search_steps.SearchStep.{SearchStep}

@@ -1,9 +1,10 @@
 -- What a search has settled: the place at which a needle has begun, and how much of it is there.
-use Rattle.std.proofs.Common.{◌≡◌, ℕ, suc, ◌+◌, ◌-◌, ◌≤◌, ◌<◌, max, Bool, true, false, List, [], ◌∷◌, ◌++◌, length, take, drop, Option, Some, None, refl, sym, ap, ◌∙◌, subst, arith, inl, inr, length-drop, take_all}
+use Rattle.std.proofs.Common.{◌≡◌, ℕ, zero, suc, ◌+◌, ◌==◌, get_or, ◌-◌, ◌≤◌, ◌<◌, max, false, List, [], ◌∷◌, ◌++◌, length, take, drop, Option, Some, None, refl, sym, ap, ◌∙◌, subst, arith, inl, inr, length-drop, take_all}
 use Rattle.std.specs.List.{list_any}
 use Rattle.std.specs.declared.ops.Range.{Range}
-use Rattle.std.proofs.lemmas.Bool.{cases_Bool, cases_lt, false≢true}
-use Rattle.std.proofs.lemmas.List.{take_at, drop-append-le, append_assoc, append-nil, get_or_past}
+use Rattle.std.proofs.lemmas.Bool.{cases_Bool, cases_lt, false≢true, true≢false}
+use Rattle.std.proofs.lemmas.Bool.Decides.{nat_tests}
+use Rattle.std.proofs.lemmas.List.{take_at, drop-append-le, append_assoc, append-nil, get_or_past, drop-drop, drop_more}
 use Rattle.std.proofs.lemmas.Option.{none-some}
 use Rattle.winnow_stream.specs.Source.{Source}
 use Rattle.winnow_stream.specs.Span.{span}
@@ -17,14 +18,15 @@ use Rattle.winnow_match.specs.declared.compare.CompareResult.TheVariants as comp
 use Rattle.winnow_match.specs.declared.needles.Stretch.{Stretch}
 use Rattle.winnow_match.specs.Comparison.{is_prefix, IsPrefixOf, comparison}
 use Rattle.winnow_match.specs.Search.{is_empty, needle_at, needle_of, needle_list, hit}
-use Rattle.winnow_match.specs.Stretch.{stretches, mover, mover_or, stretch_of, hit_is_definite, Stretches, CanMove}
+use Rattle.winnow_match.specs.Stretch.{stretches, mover, mover_or, stretch_of, hit_is_definite, CanMove}
 use Rattle.winnow_match.proofs.lemmas.ByteFrontLemmas.{is_prefix-IsPrefixOf, is_prefix-long, no_front}
 use Rattle.winnow_match.proofs.lemmas.ComparisonLemmas.{incomplete-says}
 use Rattle.winnow_match.proofs.lemmas.HitLemmas.{no-needle, needle_at-nowhere, first_hit-nowhere}
 use Rattle.winnow_match.proofs.lemmas.StretchLemmas.{stretches-parts, stretches-from, mover-some, mover-none, first_mover-some}
-use Rattle.winnow_match.proofs.lemmas.MoveLemmas.{stands-before, first, none-contained, hit-empty, stretch-empty, stretch-first, definite-parts}
+use Rattle.winnow_match.proofs.lemmas.MoveLemmas.{stands-before, first, inside, absent-before, none-contained, hit-empty, stretch-empty, stretch-first, definite-parts}
 use Rattle.winnow_match.proofs.lemmas.RuleLemmas.{stretch-none-says}
 use Rattle.winnow_feed_step.specs.declared.calls.Settled.{Settled}
+use Rattle.winnow_feed_step.specs.Fitting.{first_bytes}
 use Rattle.winnow_feed_step.specs.Settled.{NoneOccurs, AreSame, IsSearchSettled, IsSettled, nothing_settled}
 use Rattle.winnow_feed_step.proofs.lemmas.SettledLemmas.{AreSame-none, AreSame-more, NoneOccurs-none, NoneOccurs-more, need_settled-more}
 use Rattle.winnow_feed_step.proofs.lemmas.AttemptLemmas.{searched-hit}
@@ -179,6 +181,64 @@ module _ (ls : List (List ℕ)) (bs : List ℕ) where
       passed = rw (width, needle) h.passed;
       some = λ _. h.some begun;
     }
+
+-- ---- the first bytes of the needles
+
+-- where no needle's first byte stands, no needle stands or stretches
+mover-differs : (ls : List (List ℕ)) (y : ℕ) (xs : List ℕ) → list_any is_empty ls ≡ false
+    → needle_at (first_bytes ls) (y ∷ xs) ≡ None → mover ls (y ∷ xs) ≡ None
+mover-differs [] y xs some h = refl
+mover-differs ([] ∷ ls) y xs some h = absurd (true≢false some)
+mover-differs ((x ∷ n) ∷ ls) y xs some h =
+    elim (cases_Bool (x == y)) [
+      | inl e ↦ absurd (none-some 1 (sym (rw e at h)))
+      | inr e ↦
+          let flipped : (y == x) ≡ false = grind (arith, nat_tests, e) in
+          let later = mover-differs ls y xs some (rw e at h) in
+          rw (e, flipped, later) refl
+    ]
+
+-- no first byte is empty
+some-first_bytes : (ls : List (List ℕ)) → list_any is_empty (first_bytes ls) ≡ false
+some-first_bytes [] = refl
+some-first_bytes (n ∷ ls) = some-first_bytes ls
+
+module _ (ls : List (List ℕ)) (bs : List ℕ) (none : hit ls bs ≡ None) where
+  -- no needle begins at a place without a first byte
+  here : (p k : ℕ) → p + k < length bs
+      → needle_at (first_bytes ls) (drop k (drop p bs)) ≡ None → mover ls (drop (p + k) bs) ≡ None
+  here p k l e =
+      let i = p + k in
+      let d : drop i bs ≡ get_or bs i 0 ∷ drop (i + 1) bs = drop_more bs i 0 l in
+      ap (mover ls) d ∙ mover-differs ls (get_or bs i 0) (drop (i + 1) bs) (none-empty_found ls bs none) (ap (needle_at (first_bytes ls)) (sym d ∙ sym (drop-drop k p bs)) ∙ e)
+
+  -- places at which no needle begins are settled
+  passed-places : (p k : ℕ) → NoneOccurs ls bs p → p + k ≤ length bs
+      → ((j : ℕ) → j < k → needle_at (first_bytes ls) (drop j (drop p bs)) ≡ None)
+      → NoneOccurs ls bs (p + k)
+  passed-places p zero h l each = subst (NoneOccurs ls bs) (omega arith) h
+  passed-places p (suc k) h l each =
+      let before = passed-places p k h (omega (arith, l)) (λ j m. each j (omega (arith, m))) in
+      let e : p + k + 1 ≡ p + suc k = omega arith in
+      subst (NoneOccurs ls bs) e (passed-place ls bs (p + k) none before (omega (arith, l)) (here p k (omega (arith, l)) (each k (omega arith))))
+
+  -- up to the first byte of a needle, no needle stands or stretches
+  pub passed-to : (p : ℕ) (r : Range ℕ) → NoneOccurs ls bs p
+      → hit (first_bytes ls) (drop p bs) ≡ Some r
+      → NoneOccurs ls bs (p + r.start) × (p + r.start < length bs)
+  passed-to p r h e =
+      let some = some-first_bytes ls in
+      let l = inside (first_bytes ls) (drop p bs) some r e in
+      let within : p + r.start < length bs = omega (arith, l, length-drop p bs) in
+      (passed-places p r.start h (omega (arith, within)) (absent-before (first_bytes ls) (drop p bs) some r e), within)
+
+  -- without one, none begins at all
+  pub passed-all : (p : ℕ) → NoneOccurs ls bs p → hit (first_bytes ls) (drop p bs) ≡ None
+      → NoneOccurs ls bs (length bs)
+  passed-all p h e =
+      let nowhere = first_hit-nowhere (first_bytes ls) (drop p bs) 0 (rw (some-first_bytes ls) at e) in
+      let n : p + (length bs - p) ≡ length bs = omega (arith, h.within) in
+      subst (NoneOccurs ls bs) n (passed-places p (length bs - p) h (omega (arith, n)) (λ j l. nowhere j (omega (arith, l, length-drop p bs))))
 
 -- what a search has settled stays settled with more input appended
 pub IsSearchSettled-more : (ls : List (List ℕ)) (bs more : List ℕ) (settled : Settled)

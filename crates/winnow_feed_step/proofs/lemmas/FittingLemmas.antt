@@ -1,9 +1,7 @@
 -- A needle that is longer than the bytes is not found there.
-use Rattle.std.proofs.Common.{◌≡◌, ℕ, ◌+◌, ◌≤◌, ◌<◌, Bool, true, false, List, [], ◌∷◌, ◌++◌, length, None, refl, sym, ap, ◌∙◌, arith}
+use Rattle.std.proofs.Common.{◌≡◌, ℕ, ◌+◌, ◌<◌, false, List, [], ◌∷◌, ◌++◌, length, None, refl, arith}
 use Rattle.std.specs.List.{list_any}
-use Rattle.std.proofs.lemmas.Bool.{cases_Bool}
-use Rattle.winnow_match.specs.Comparison.{is_prefix}
-use Rattle.winnow_match.specs.Search.{is_empty, needle_at, hit_or, first_hit, hit}
+use Rattle.winnow_match.specs.Search.{is_empty, needle_at, first_hit, hit}
 use Rattle.winnow_match.proofs.lemmas.ByteFrontLemmas.{is_prefix-long}
 
 -- a list with a length has an element

@@ -14,23 +14,17 @@ use Rattle.winnow_stream.specs.Shortage.{shortage, offset_at}
 use Rattle.winnow_stream.specs.Span.{span}
 use Rattle.winnow_run.specs.declared.need.Need.{Need}
 use Rattle.winnow_run.specs.declared.need.Need.TheVariants as need
-use Rattle.winnow_run.specs.Needs.{call_need}
 use Rattle.winnow_stream.specs.Longer.{count_to-le, front_count-longer, is_offset-longer, front-longer}
 use Rattle.winnow_stream.proofs.lemmas.FrontLemmas.{width-front, width-back, is_offset-whole, front-whole, HasPositiveWidths-drop}
 use Rattle.winnow_stream.proofs.lemmas.OffsetLemmas.{is_offset-offset_at, is_offset-first_offset}
 use Rattle.winnow_match.specs.declared.compare.CompareResult.{CompareResult}
 use Rattle.winnow_match.specs.declared.compare.CompareResult.TheVariants as compared
-use Rattle.winnow_match.specs.Bytes.{written}
 use Rattle.winnow_match.specs.Comparison.{is_prefix, comparison}
-use Rattle.winnow_match.specs.Search.{is_empty, needle_at, needle_list, hit_or, first_hit, hit}
+use Rattle.winnow_match.specs.Search.{is_empty, needle_at, hit_or, first_hit, hit}
 use Rattle.winnow_match.proofs.lemmas.ByteFrontLemmas.{is_prefix-more}
 use Rattle.winnow_match.proofs.lemmas.HitLemmas.{first_hit-nowhere}
 use Rattle.winnow_stream.specs.declared.needed.Needed.{Needed}
-use Rattle.winnow_run.specs.declared.search_steps.SearchStep.{SearchStep}
-use Rattle.winnow_run.specs.declared.search_steps.SearchStep.TheVariants as step
-use Rattle.winnow_run.specs.Definite.{PieceReading}
 use Rattle.winnow_feed_step.specs.Settled.{NoneInSet, NoneOccurs, AreSame, AreCounted, IsNeedSettled, shifted, longer, further}
-use Rattle.winnow_match.specs.Staying.{written-append}
 
 -- ---- `First`
 

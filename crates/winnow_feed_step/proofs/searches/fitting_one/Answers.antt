@@ -1,4 +1,4 @@
-use Rattle.std.proofs.Common.{[], ◌∙◌, arith}
+use Rattle.std.proofs.Common.{[], arith}
 use Rattle.winnow_feed_step.proofs.lemmas.FittingLemmas.{hit-long}
 use Rattle.winnow_feed_step.proofs.searches.fitting_one.Goals as goal
 

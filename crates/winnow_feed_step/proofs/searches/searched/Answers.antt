@@ -1,4 +1,4 @@
-use Rattle.std.proofs.Common.{◌≡◌, ◌-◌, length, ◌∙◌, ap, refl, sym, subst, arith}
+use Rattle.std.proofs.Common.{◌≡◌, ◌-◌, length, ◌∙◌, refl, sym, subst, arith}
 use Rattle.winnow_match.specs.Search.{bytes_of_needles}
 use Rattle.winnow_match.proofs.lemmas.MoveLemmas.{stretch-within}
 use Rattle.winnow_feed_step.specs.Settled.{NoneOccurs}
