@@ -1,5 +1,5 @@
 -- What may not begin where a text stands: a string, a number or a word.
-use Rattle.std.proofs.Common.{◌≡◌, ℕ, ◌==◌, Bool, true, false, if◌then◌else◌, List, [], ◌∷◌, nat_lt, length, get_or, Option, None, Some, ap, sym, ◌∙◌, subst, refl}
+use Rattle.std.proofs.Common.{◌≡◌, ℕ, ◌==◌, Bool, true, false, if◌then◌else◌, List, [], ◌∷◌, nat_lt, length, get_or, Option, None, Some, ap, ◌∙◌, subst, refl}
 use Rattle.std.specs.declared.string.String.{String}
 use Rattle.std.specs.declared.alloc.Global.{Global}
 use Rattle.winnow.specs.State.{ReaderState}
