@@ -11,8 +11,8 @@ use winnow_combinator::{
 use winnow_count::Accumulate;
 use winnow_error::{AddContext, AssociativeOr, EmptyError, ParserError};
 use winnow_parser::{
-    Parser, determined_function_law, determined_law, determined_pair_law, determined_slice_law,
-    parser_law, taken_width_law,
+    ByValue, Parser, ValueTest, determined_function_law, determined_law, determined_pair_law,
+    determined_slice_law, parser_law, taken_width_law,
 };
 use winnow_stream::{Stream, StreamIsPartial};
 use winnow_token::{
@@ -33,7 +33,8 @@ fn call_laws<
     P: Parser<I, E>,
     G: Gather<P::Output>,
     F: Fn(P::Output) -> P::Output,
-    T: Fn(&P::Output) -> bool,
+    T: ValueTest<P::Output, By>,
+    By,
 >(parser: &P) {
     taken_width_law::<I::Token>();
     count_law::<I::Token>();
@@ -44,7 +45,7 @@ fn call_laws<
     determined_law::<I, E, P, usize>();
     determined_slice_law::<I, E, P, usize, usize>();
     determined_pair_law::<I, E, P, P, P, usize, usize>();
-    determined_function_law::<I, E, P, P::Output, F, T, usize, usize>();
+    determined_function_law::<I, E, P, P::Output, F, T, By, usize, usize>();
     determined_repeat_law::<I, E, P, P, G, usize, usize, usize>();
     determined_choice_law::<I, E, P, P, P, P, P, P, P, P, P, P, usize>();
     determined_end_law::<I, u8, usize>();
@@ -102,9 +103,9 @@ fn call_ascii_laws<
 
 #[test]
 fn laws_are_called(_rt: HostRuntime) {
-    call_laws::<Text, EmptyError, _, Accumulated<usize>, fn(char) -> char, fn(&char) -> bool>(
-        &any(),
-    );
+    type Map = fn(char) -> char;
+    type Test = fn(&char) -> bool;
+    call_laws::<Text, EmptyError, _, Accumulated<usize>, Map, Test, ByValue>(&any());
     type Op = fn(char, char, char) -> char;
     call_till_law::<Text, EmptyError, AnyToken, Accumulated<usize>, Op>();
     call_ascii_laws::<Text, EmptyError, AnyToken, String>();

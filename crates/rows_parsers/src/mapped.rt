@@ -23,7 +23,7 @@ fn of_words<'w, I: Fronts, P: Parser<I, EmptyError, Output = &'w str> + Copy>(
     let (name, number) = method;
     match name {
         ".verify_len" => {
-            let of_width = part.verify(|word: &&str| word.len() == number);
+            let of_width = part.verify(|word: &str| word.len() == number);
             ask::<I, _>(alloc, &of_width, row)
         }
         ".verify_map" => {

@@ -22,7 +22,8 @@ pub mod token;
 pub use winnow_base::stream;
 pub use winnow_grammar as grammar;
 pub use winnow_parser::{
-    Contextual, Failure, FlatMapped, Mapped, ModalResult, Parser, Rule, RuledFunction, Spanned,
-    Taken, TryMapped, Valued, Verified, VerifyMapped, Voided, WithSpan, WithTaken, by_rule,
+    ByBorrow, ByValue, Contextual, Failure, FlatMapped, Mapped, ModalResult, Parser, Rule,
+    RuledFunction, Spanned, Taken, TryMapped, ValueTest, Valued, Verified, VerifyMapped, Voided,
+    WithSpan, WithTaken, by_rule,
 };
 pub use winnow_reader as reader;

@@ -1,10 +1,9 @@
 ghost use Rattle.std.specs.Prelude.{◌≡◌, false, None, Err};
-ghost use Rattle.std.specs.Fn.{FnReturnsAt};
 ghost use Rattle.winnow_parser.specs.Meanings.{Verified, Chosen, TriesTo};
 ghost use Rattle.winnow_parser.specs.Errors.{UnwantedErrors};
 ghost use Rattle.winnow_parser.specs.Parts.{IsParser-Verified, IsParser-Chosen};
 
-use crate::{Failure, ModalResult, Parser};
+use crate::{Failure, ModalResult, Parser, ValueTest};
 use std::alloc::Global;
 use std::marker::PhantomData;
 use winnow_error::{FromExternalError, ParserError};
@@ -13,13 +12,13 @@ use winnow_stream::StreamIsPartial;
 /// A parser of the values of which a test holds; [`Parser::verify`] makes it.
 #[derive(Drop)]
 #[derive_where(Clone, Copy; P, F)]
-pub struct Verified<P, F, I, E> {
+pub struct Verified<P, F, By, I, E> {
     inner: P,
     test: F,
-    parses: PhantomData<(I, E)>,
+    parses: PhantomData<(By, I, E)>,
 }
 
-impl<P, F, I, E> Verified<P, F, I, E> {
+impl<P, F, By, I, E> Verified<P, F, By, I, E> {
     // Returns the parser of the values of which the test holds.
     pub(crate) fn new(inner: P, test: F) -> Self
         ensures inner { result.inner ≡ inner }
@@ -33,38 +32,33 @@ impl<P, F, I, E> Verified<P, F, I, E> {
     }
 }
 
-// Returns whether the test holds of the value.
-fn holds_of<T, F: Fn(&T) -> bool>(test: &F, value: &T) -> bool
-    requires { F.IsAlwaysCallable test.now }
-    ensures { FnReturnsAt F.Fn test.now value.now result }
-{
-    test(value)
-}
-
-impl<I: StreamIsPartial, E: ParserError<I>, P: Parser<I, E>, F: Fn(&P::Output) -> bool> Parser<I, E>
-    for Verified<P, F, I, E>
+impl<
+    I: StreamIsPartial,
+    E: ParserError<I>,
+    P: Parser<I, E>,
+    F: ValueTest<P::Output, By>,
+    By,
+> Parser<I, E> for Verified<P, F, By, I, E>
 where
     P::Output: Drop,
 {
     type Output = P::Output;
 
-    ghost means = { λ p. Verified (FnReturnsAt F.Fn p.test) (P.means p.inner) };
+    ghost means = { λ p. Verified (F.says p.test) (P.means p.inner) };
 
-    ghost errors = { λ p.
-        UnwantedErrors (λ x s e. FnReturnsAt F.Fn p.test x false × E.from_input_gives s e)
+    ghost errors = { λ p. UnwantedErrors (λ x s e. F.says p.test x false × E.from_input_gives s e)
         (P.means p.inner) (P.errors p.inner) };
 
-    ghost ready = { λ p. P.ready p.inner × F.IsAlwaysCallable p.test };
+    ghost ready = { λ p. P.ready p.inner × F.may_ask p.test };
 
-    ghost lawful = { λ p.
-        IsParser-Verified (FnReturnsAt F.Fn p.test) (P.means p.inner) (P.lawful p.inner) };
+    ghost lawful = { λ p. IsParser-Verified (F.says p.test) (P.means p.inner) (P.lawful p.inner) };
 
     // Inlined: an answer that a call hands on is copied through memory.
     #[inline(always)]
     fn parse_next(&self, alloc: Global, input: &mut I) -> ModalResult<P::Output, E> {
         let start = input.checkpoint();
         let value = self.inner.parse_next(alloc, input)?;
-        if holds_of(&self.test, &value) {
+        if self.test.holds_of(&value) {
             return Ok(value);
         }
         input.reset(&start);

@@ -1,5 +1,4 @@
 ghost use Rattle.std.specs.Prelude.{◌≡◌, ⊤};
-ghost use Rattle.std.specs.Fn.{FnReturnsAt};
 ghost use Rattle.winnow_parser.specs.Meanings.{Maps, Pair, Either, Optional, LookedAt};
 ghost use Rattle.winnow_parser.specs.Meanings.{Negated, CutOff, Softened, Verified};
 ghost use Rattle.winnow_parser.specs.Taken.{Taken, WithTaken};
@@ -7,7 +6,7 @@ ghost use Rattle.winnow_parser.specs.Spanned.{Spanned, WithSpan};
 ghost use Rattle.winnow_parser.specs.Determined.{IsDetermined, Shows, AreBothSame};
 ghost use Rattle.winnow_parser.specs.Determined.{AreSameIfAny, Respects, SlicesRespect};
 
-use crate::Parser;
+use crate::{Parser, ValueTest};
 use winnow_error::ParserError;
 use winnow_stream::StreamIsPartial;
 
@@ -71,7 +70,8 @@ pub fn determined_function_law<
     A: Parser<I, E>,
     O,
     F: Fn(A::Output) -> O,
-    G: Fn(&A::Output) -> bool,
+    G: ValueTest<A::Output, By>,
+    By,
     V,
     W,
 >()
@@ -79,7 +79,7 @@ pub fn determined_function_law<
         → Respects (Shows view) (Shows other) (F.post f) → IsDetermined (Shows view) (A.means a)
         → IsDetermined (Shows other) (Maps (F.post f) (A.means a)) }
     ensures verified { (view : A.Output → V) (test : G) (a : A)
-        → Respects (Shows view) (λ x y. x ≡ y) (FnReturnsAt G.Fn test)
+        → Respects (Shows view) (λ x y. x ≡ y) (G.says test)
         → IsDetermined (Shows view) (A.means a)
-        → IsDetermined (Shows view) (Verified (FnReturnsAt G.Fn test) (A.means a)) }
+        → IsDetermined (Shows view) (Verified (G.says test) (A.means a)) }
 {}

@@ -20,6 +20,7 @@ mod rule;
 mod sequences;
 mod spanning;
 mod taking;
+mod value_test;
 mod whole;
 
 pub use choosing::{TryMapped, Verified, VerifyMapped};
@@ -35,3 +36,4 @@ pub use parser::Parser;
 pub use rule::{Rule, RuledFunction, by_rule};
 pub use spanning::{Spanned, WithSpan};
 pub use taking::{Taken, WithTaken};
+pub use value_test::{ByBorrow, ByValue, ValueTest};

@@ -7,8 +7,8 @@ ghost use Rattle.winnow_parser.specs.Whole.{ReadsWhole, StopsAfter, StopsWith, K
 
 use crate::whole::read_whole;
 use crate::{
-    Contextual, FlatMapped, Mapped, ModalResult, Spanned, Taken, TryMapped, Valued, Verified,
-    VerifyMapped, Voided, WithSpan, WithTaken,
+    Contextual, FlatMapped, Mapped, ModalResult, Spanned, Taken, TryMapped, ValueTest, Valued,
+    Verified, VerifyMapped, Voided, WithSpan, WithTaken,
 };
 use std::alloc::{AllocError, Global};
 use winnow_error::ParserError;
@@ -88,8 +88,12 @@ pub trait Parser<I: StreamIsPartial, E>: Sized {
     }
 
     /// Returns the parser of the values of which the test holds. At another value it backtracks,
-    /// from where it began.
-    final fn verify<F>(self, test: F) -> Verified<Self, F, I, E>
+    /// from where it began. The test takes a reference to the value, or what the value borrows as:
+    /// `verify(|text: &str| ..)` of a parser of `&str`.
+    final fn verify<F: ValueTest<Self::Output, By>, By>(
+        self,
+        test: F,
+    ) -> Verified<Self, F, By, I, E>
         ensures inner { result.inner ≡ self }
         ensures test { result.test ≡ test }
     {

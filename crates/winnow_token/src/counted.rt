@@ -1,8 +1,9 @@
-ghost use Rattle.std.specs.Prelude.{◌≡◌};
+ghost use Rattle.std.specs.Prelude.{◌≡◌, ◌≤◌};
 ghost use Rattle.winnow_parser.specs.Errors.{OwnErrors};
 ghost use Rattle.winnow_token.specs.Counted.{Counted, IsParser-Counted};
 
 use std::alloc::Global;
+use winnow_count::ToUsize;
 use winnow_error::ParserError;
 use winnow_parser::{Failure, ModalResult, Parser};
 use winnow_stream::{StreamIsPartial, offset_law};
@@ -13,11 +14,18 @@ pub struct Counted {
     count: usize,
 }
 
-/// Returns the parser of a slice of `count` tokens.
-pub fn take(count: usize) -> Counted
-    ensures { result ≡ record { count = count } }
+/// Returns the parser of a slice of `count` tokens. As in the Rust crate, a number that is written
+/// out says its type: `take(4_usize)`, `take(4_u8)`.
+#[inline(always)]
+pub fn take<N: ToUsize>(count: N) -> Counted
+where
+    N: Drop,
+    requires { N.number count ≤ usize.MAX }
+    ensures { result ≡ record { count = N.number count } }
 {
-    Counted { count }
+    Counted {
+        count: count.to_usize(),
+    }
 }
 
 impl<I: StreamIsPartial, E: ParserError<I>> Parser<I, E> for Counted {
