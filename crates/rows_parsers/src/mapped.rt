@@ -110,7 +110,10 @@ where
 pub fn three_and_end<I: Fronts + Stream<Token = char>>(
     alloc: Global,
     row: &Row<I::Whole>,
-) -> Result<String, Fault> {
+) -> Result<String, Fault>
+where
+    I::Slice: Debug + Drop,
+{
     ask::<I, _>(alloc, &(any(), any(), any(), eof()), row)
 }
 

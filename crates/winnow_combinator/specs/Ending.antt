@@ -1,5 +1,5 @@
 -- Parsers that take nothing: the end, nothing at all, and a failure.
-use Rattle.std.specs.Prelude.{◌≡◌, ◌≢◌, true, false, [], ◌∷◌, ◌++◌}
+use Rattle.std.specs.Prelude.{◌≡◌, ◌≢◌, ℕ, true, false, [], ◌∷◌, ◌++◌}
 use Rattle.std.proofs.Common.{refl, ap}
 use Rattle.winnow_stream.specs.Source.{Source}
 use Rattle.winnow_stream.specs.Shortage.{needed}
@@ -7,13 +7,15 @@ use Rattle.winnow_parser.specs.Outcome.{Backtracks, Cuts, Needs, Refuses, Gives,
 use Rattle.winnow_parser.specs.Laws.{longer, IsStable, IsFinal, IsOnward, IsParser}
 use Rattle.winnow_parser.specs.Parts.{Moves-still}
 
--- nothing remains, and nothing follows; where more may follow, one more token is needed to decide
-abbrev pub Ended : {T : Type 0} → Meaning (Unit {0}) T
-Ended partial a (Gives u b) = (a.tokens ≡ []) × (partial ≡ false) × (a ≡ b)
-Ended partial a (Fails (Backtracks b)) = (a.tokens ≢ []) × (a ≡ b)
-Ended partial a (Fails (Cuts b)) = ⊥
-Ended partial a (Fails (Needs n)) = (a.tokens ≡ []) × (partial ≡ true) × (n ≡ needed 1)
-Ended partial a (Fails Refuses) = ⊥
+-- nothing remains, and nothing follows: the empty slice; where more may follow, one more token is
+-- needed to decide
+abbrev pub Ended : {S T : Type 0} → (S → Source T → ℕ → Type 0) → Meaning S T
+Ended is_slice partial a (Gives s b) =
+    (a.tokens ≡ []) × (partial ≡ false) × (a ≡ b) × is_slice s a.tokens 0
+Ended is_slice partial a (Fails (Backtracks b)) = (a.tokens ≢ []) × (a ≡ b)
+Ended is_slice partial a (Fails (Cuts b)) = ⊥
+Ended is_slice partial a (Fails (Needs n)) = (a.tokens ≡ []) × (partial ≡ true) × (n ≡ needed 1)
+Ended is_slice partial a (Fails Refuses) = ⊥
 
 -- the parser backtracks on each input
 abbrev pub Failing : {O T : Type 0} → Meaning O T
@@ -28,29 +30,29 @@ some-longer : {T : Type 0} (r more : Source T) → r ≢ [] → r ++ more ≢ []
 some-longer [] more n = absurd (n refl)
 some-longer (x ∷ xs) more n = λ e. cc
 
-module _ {T : Type 0} where
+module _ {S T : Type 0} (is_slice : S → Source T → ℕ → Type 0) where
   -- a settled answer of `Ended` stays when more input follows
-  ended-stable : IsStable {O = Unit {0}} {T = T} Ended
-  ended-stable more partial a (Gives u b) s h = absurd (cc)
-  ended-stable more partial a (Fails (Backtracks b)) s h = (some-longer a.tokens more h.0, ap (longer more) h.1)
-  ended-stable more partial a (Fails (Cuts b)) s h = absurd h
-  ended-stable more partial a (Fails (Needs n)) s h = absurd s
-  ended-stable more partial a (Fails Refuses) s h = absurd s
+  ended-stable : IsStable (Ended is_slice)
+  ended-stable more partial a (Gives s b) settled h = absurd (cc)
+  ended-stable more partial a (Fails (Backtracks b)) settled h = (some-longer a.tokens more h.0, ap (longer more) h.1)
+  ended-stable more partial a (Fails (Cuts b)) settled h = absurd h
+  ended-stable more partial a (Fails (Needs n)) settled h = absurd settled
+  ended-stable more partial a (Fails Refuses) settled h = absurd settled
 
   -- `Ended` needs nothing more where nothing more may follow
-  ended-final : IsFinal {O = Unit {0}} {T = T} Ended
+  ended-final : IsFinal (Ended is_slice)
   ended-final a n h = cc
 
   -- `Ended` only moves the stream on
-  ended-onward : IsOnward {O = Unit {0}} {T = T} Ended
-  ended-onward partial a (Gives u b) h = Moves-still a b h.2
+  ended-onward : IsOnward (Ended is_slice)
+  ended-onward partial a (Gives s b) h = Moves-still a b h.2
   ended-onward partial a (Fails (Backtracks b)) h = Moves-still a b h.1
   ended-onward partial a (Fails (Cuts b)) h = absurd h
   ended-onward partial a (Fails (Needs n)) h = tt
   ended-onward partial a (Fails Refuses) h = tt
 
   -- `Ended` keeps the laws of a parser
-  pub IsParser-Ended : IsParser {O = Unit {0}} {T = T} Ended
+  pub IsParser-Ended : IsParser (Ended is_slice)
   IsParser-Ended = record { stable = ended-stable; final = ended-final; onward = ended-onward }
 
 module _ {O T : Type 0} where

@@ -1,6 +1,6 @@
 ghost use Rattle.std.specs.Prelude.{ℕ, Bool, Option, ⊤};
 ghost use Rattle.winnow_parser.specs.Determined.{IsDetermined, Shows, Respects};
-ghost use Rattle.winnow_parser.specs.Determined.{AreSameIfAny, AreBothSame};
+ghost use Rattle.winnow_parser.specs.Determined.{AreSameIfAny, AreBothSame, SlicesRespect};
 ghost use Rattle.winnow_parser.specs.Meanings.{Returns};
 ghost use Rattle.winnow_combinator.specs.Conditional.{Conditional};
 ghost use Rattle.winnow_combinator.specs.Counts.{Ascending};
@@ -81,10 +81,12 @@ pub fn determined_till_law<
         (B.means b) (A.means a)) }
 {}
 
-/// The laws of parsers that take nothing: the end, nothing at all and a failure have one answer. It
-/// does nothing when called: its contract is the law.
+/// The laws of parsers that take nothing: the end, nothing at all and a failure have one answer, the
+/// end for a view that shows the same of all slices of one front. It does nothing when called: its
+/// contract is the law.
 pub fn determined_end_law<I: StreamIsPartial, O, V>()
-    ensures ended { IsDetermined {O = Unit {0}} {T = I.Token} (λ _ _. ⊤) Ended }
+    ensures ended { (view : I.Slice → V) → SlicesRespect I.is_slice (Shows view)
+        → IsDetermined (Shows view) (Ended I.is_slice) }
     ensures nothing { IsDetermined {O = Unit {0}} {T = I.Token} (λ _ _. ⊤) (Returns tt) }
     ensures failing { (view : O → V)
         → IsDetermined {O = O} {T = I.Token} (Shows view) Failing }

@@ -14,8 +14,8 @@ use winnow_stream::{Needed, StreamIsPartial};
 #[derive(Clone, Copy, Debug)]
 pub struct Ended;
 
-/// Returns the parser of the end of the input. Where more may follow, it needs one more token to
-/// decide.
+/// Returns the parser of the end of the input, which gives the empty slice. Where more may follow,
+/// it needs one more token to decide.
 pub fn eof() -> Ended {
     Ended
 }
@@ -24,21 +24,21 @@ impl<I: StreamIsPartial, E: ParserError<I>> Parser<I, E> for Ended
 where
     I::Token: Drop,
 {
-    type Output = ();
+    type Output = I::Slice;
 
-    ghost means = { λ _. Ended };
+    ghost means = { λ _. Ended I.is_slice };
 
     ghost errors = { λ _. OwnErrors E.from_input_gives E.assert_gives };
 
     ghost ready = { λ _. Unit {0} };
 
-    ghost lawful = { λ _. IsParser-Ended };
+    ghost lawful = { λ _. IsParser-Ended I.is_slice };
 
-    fn parse_next(&self, alloc: Global, input: &mut I) -> ModalResult<(), E> {
+    fn parse_next(&self, alloc: Global, input: &mut I) -> ModalResult<I::Slice, E> {
         match input.peek_token() {
             Some(_) => Err(Failure::Backtrack(E::from_input(alloc, input))),
             None if input.is_partial() => Err(Failure::Incomplete(Needed::new(1))),
-            None => Ok(()),
+            None => Ok(input.next_slice(0)),
         }
     }
 }

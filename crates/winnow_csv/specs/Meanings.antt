@@ -74,24 +74,27 @@ module _ {S : Type 0} (is_slice : S → Source ℕ → ℕ → Type 0) (bytes : 
       Countable (Gathered ⊤ HasFields (Separated 1 None (Byte 44) (AnyField refusable)))
 
 -- the end of a record: LF, CR LF, or the end of the input
-abbrev pub RecordEnd : Type 0 → Meaning (Unit {0}) ℕ
-RecordEnd refusable = Choice3 refusable (Maps IsForgotten (Byte 10))
-    (Maps IsForgotten (Pair (Byte 13) (Byte 10))) Ended
+abbrev pub RecordEnd : {S : Type 0} → (S → Source ℕ → ℕ → Type 0) → Type 0
+    → Meaning (Unit {0}) ℕ
+RecordEnd is_slice refusable = Choice3 refusable (Maps IsForgotten (Byte 10))
+    (Maps IsForgotten (Pair (Byte 13) (Byte 10))) (Maps IsForgotten (Ended is_slice))
 
 -- a record: fields and an end, where the input has not ended; the parser cuts where the end is
 -- missing
 abbrev pub OneRow : {S : Type 0} → (S → Source ℕ → ℕ → Type 0) → (S → List ℕ) → Type 0
     → Meaning (Vec (Vec ℕ Global) Global) ℕ
 OneRow is_slice bytes refusable =
-    Preceded (Negated Ended)
-    (Terminated (FieldList is_slice bytes refusable) (CutOff (RecordEnd refusable)))
+    Preceded (Negated (Ended is_slice))
+    (Terminated (FieldList is_slice bytes refusable) (CutOff (RecordEnd is_slice refusable)))
 
 -- `RecordEnd` keeps the laws of a parser
-pub IsParser-RecordEnd : (refusable : Type 0) → IsParser (RecordEnd refusable)
-IsParser-RecordEnd refusable =
+pub IsParser-RecordEnd : {S : Type 0} (is_slice : S → Source ℕ → ℕ → Type 0) (refusable : Type 0)
+    → IsParser (RecordEnd is_slice refusable)
+IsParser-RecordEnd is_slice refusable =
     let byte : (n : ℕ) → IsParser (Byte n) = λ n. IsParser-OneOf (λ token. n == token) in
     IsParser-Choice3 refusable (IsParser-Maps IsForgotten (Byte 10) (byte 10))
-    (IsParser-Maps IsForgotten (Pair (Byte 13) (Byte 10)) (IsParser-Pair (Byte 13) (Byte 10) (byte 13) (byte 10))) IsParser-Ended
+    (IsParser-Maps IsForgotten (Pair (Byte 13) (Byte 10)) (IsParser-Pair (Byte 13) (Byte 10) (byte 13) (byte 10)))
+    (IsParser-Maps IsForgotten (Ended is_slice) (IsParser-Ended is_slice))
 
 module _ {S : Type 0} (is_slice : S → Source ℕ → ℕ → Type 0) (bytes : S → List ℕ) (stay : SlicesStay is_slice) where
   -- `Chunk` keeps the laws of a parser
@@ -126,6 +129,8 @@ module _ {S : Type 0} (is_slice : S → Source ℕ → ℕ → Type 0) (bytes : 
   pub IsParser-OneRow : (refusable : Type 0) → IsParser (OneRow is_slice bytes refusable)
   IsParser-OneRow refusable =
       let list = FieldList is_slice bytes refusable in
-      let close = CutOff (RecordEnd refusable) in
-      IsParser-Preceded (Negated Ended) (Terminated list close) (IsParser-Negated Ended IsParser-Ended)
-      (IsParser-Terminated list close (IsParser-FieldList refusable) (IsParser-CutOff (RecordEnd refusable) (IsParser-RecordEnd refusable)))
+      let ended = Ended is_slice in
+      let end = RecordEnd is_slice refusable in
+      let close = CutOff end in
+      IsParser-Preceded (Negated ended) (Terminated list close) (IsParser-Negated ended (IsParser-Ended is_slice))
+      (IsParser-Terminated list close (IsParser-FieldList refusable) (IsParser-CutOff end (IsParser-RecordEnd is_slice refusable)))

@@ -47,21 +47,25 @@ where
 #[derive(Clone, Copy, Debug)]
 pub struct RowEnd;
 
-impl<I: StreamIsPartial + Stream<Token = u8>, E: ParserError<I>> Parser<I, E> for RowEnd {
+impl<I: StreamIsPartial + Stream<Token = u8>, E: ParserError<I>> Parser<I, E> for RowEnd
+where
+    I::Slice: Drop,
+{
     type Output = ();
 
-    ghost means = { λ _. RecordEnd E.or_refusable };
+    ghost means = { λ _. RecordEnd I.is_slice E.or_refusable };
 
     ghost errors = { λ _. AnyError };
 
     ghost ready = { λ _. Unit {0} };
 
-    ghost lawful = { λ _. IsParser-RecordEnd E.or_refusable };
+    ghost lawful = { λ _. IsParser-RecordEnd I.is_slice E.or_refusable };
 
     fn parse_next(&self, alloc: Global, input: &mut I) -> ModalResult<(), E> {
         let newline = Parser::<I, E>::void(one_of(b'\n'));
         let both = Parser::<I, E>::void((one_of(b'\r'), one_of(b'\n')));
-        match alt((newline, both, eof())).parse_next(alloc, input) {
+        let ended = Parser::<I, E>::void(eof());
+        match alt((newline, both, ended)).parse_next(alloc, input) {
             Ok(()) => Ok(()),
             Err(failure) => Err(failure),
         }

@@ -1,10 +1,13 @@
 -- Parsers that take nothing have one answer, and so have values folded from the left.
-use Rattle.std.proofs.Common.{List, [], ◌∷◌, None, sym, ◌∙◌, ap, subst}
-use Rattle.std.specs.Prelude.{⊤}
+use Rattle.std.proofs.Common.{◌≡◌, ℕ, List, [], ◌∷◌, None, refl, sym, ◌∙◌, ap, subst}
+use Rattle.std.specs.Prelude.{IsTrue}
 use Rattle.std.specs.List.{FoldsTo}
-use Rattle.winnow_parser.specs.Outcome.{Backtracks, Cuts, Needs, Refuses, Gives, Fails, Meaning}
+use Rattle.winnow_stream.specs.Source.{Source}
+use Rattle.winnow_stream.specs.Front.{is_offset}
+use Rattle.winnow_parser.specs.Outcome.{Ahead, after, Backtracks, Cuts, Needs, Refuses, Gives, Fails, Meaning}
 use Rattle.winnow_parser.specs.Meanings.{Pair}
-use Rattle.winnow_parser.specs.Determined.{IsDetermined, AreBothSame}
+use Rattle.winnow_parser.specs.Taken.{IsFrontTaken}
+use Rattle.winnow_parser.specs.Determined.{IsDetermined, AreBothSame, SlicesRespect}
 use Rattle.winnow_parser.proofs.lemmas.DeterminedLemmas.{determined-maps, determined-pair}
 use Rattle.winnow_combinator.specs.DeterminedLists.{AreSameEach, StepsRespect}
 use Rattle.winnow_combinator.specs.Ending.{Ended, Failing}
@@ -12,14 +15,16 @@ use Rattle.winnow_combinator.specs.Repetition.{Repeated}
 use Rattle.winnow_combinator.specs.Separation.{FoldsLeft, FoldedLeft}
 use Rattle.winnow_combinator.proofs.lemmas.AgreeingLemmas.{determined-repeated}
 
--- two units are the same
-abbrev AreUnits : Unit {0} → Unit {0} → Type 0
-AreUnits u v = ⊤
+module _ {S T : Type 0} (is_slice : S → Source T → ℕ → Type 0) (alike : S → S → Type 0) (fronts : SlicesRespect is_slice alike) where
+  -- an empty slice at the end is that of a front
+  ends-front : (s : S) (a b : Ahead T) → a.tokens ≡ [] → is_slice s a.tokens 0
+      → IsFrontTaken is_slice s a (after a 0)
+  ends-front s a b e h = (0, (subst (λ r. IsTrue (is_offset r 0)) (sym e) refl, h, refl))
 
-module _ {T : Type 0} where
   -- `Ended` has one answer
-  pub determined-ended : IsDetermined {O = Unit {0}} {T = T} AreUnits Ended
-  determined-ended partial a (Gives u b) (Gives v c) s t h k = (tt, sym h.2 ∙ k.2)
+  pub determined-ended : IsDetermined alike (Ended is_slice)
+  determined-ended partial a (Gives u b) (Gives v c) s t h k =
+      (fronts u v a (after a 0) (ends-front u a b h.0 h.3) (ends-front v a c k.0 k.3), sym h.2 ∙ k.2)
   determined-ended partial a (Gives u b) (Fails (Backtracks c)) s t h k = k.0 h.0
   determined-ended partial a (Gives u b) (Fails (Cuts c)) s t h k = k
   determined-ended partial a (Gives u b) (Fails (Needs n)) s t h k = cc
@@ -39,6 +44,7 @@ module _ {T : Type 0} where
   determined-ended partial a (Fails (Needs n)) (Fails Refuses) s t h k = absurd k
   determined-ended partial a (Fails Refuses) (Fails g) s t h k = absurd h
 
+module _ {T : Type 0} where
   -- `Failing` has one answer
   pub determined-failing : {O : Type 0} (same : O → O → Type 0)
       → IsDetermined {O = O} {T = T} same Failing

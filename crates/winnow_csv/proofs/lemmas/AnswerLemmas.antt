@@ -59,7 +59,7 @@ module _ {S : Type 0} (is_slice : S → Source ℕ → ℕ → Type 0) (bytes : 
             (
               ap (λ p. bytes_of p.tokens) at ∙ one.1.0,
               subst (λ r. SpellsRecord (values_of r) one.0) (first ∙ is) one.1.1,
-              end-given refusable partial pair.1 c d close,
+              end-given is_slice refusable partial pair.1 c d close,
             ),
           ),
         ),
@@ -87,10 +87,10 @@ module _ {S : Type 0} (is_slice : S → Source ℕ → ℕ → Type 0) (bytes : 
       inr (subst (λ p. IsUnclosed (bytes_of p.tokens)) (sym at) fails.0, fails.1, fails.2)
   row-fails (Cuts d) a wide (inr (u, (b, ((at, started), inr (row, (c, (list, inl close))))))) =
       let one = list-given is_slice bytes stay have refusable partial row b c (subst (λ p. HasPositiveWidths p.tokens) at wide) list in
-      let fails = end-fails refusable partial (Backtracks d) c close in
+      let fails = end-fails is_slice refusable partial (Backtracks d) c close in
       inl (subst (λ p. BreaksOff partial (bytes_of a.tokens) (bytes_of p.tokens)) (sym fails.1)
       (values_of row, (one.0, (ap (λ p. bytes_of p.tokens) at ∙ one.1.0, one.1.1, one.1.2, fails.0))))
-  row-fails (Cuts d) a wide (inr (u, (b, (n, inr (row, (c, (list, inr close))))))) = absurd (end-fails refusable partial (Cuts d) c close)
+  row-fails (Cuts d) a wide (inr (u, (b, (n, inr (row, (c, (list, inr close))))))) = absurd (end-fails is_slice refusable partial (Cuts d) c close)
   row-fails (Needs n) a wide (inl h) =
       (h.1, end-begun ([] ∷ []) (bytes_of a.tokens) [] (bytes_of a.tokens) refl ([], ([], (refl, inl (tt, refl), refl))) (inl (ap bytes_of h.0)))
   row-fails (Needs n) a wide (inr (u, (b, ((at, started), inl h)))) =
@@ -98,7 +98,7 @@ module _ {S : Type 0} (is_slice : S → Source ℕ → ℕ → Type 0) (bytes : 
       (fails.0, subst (λ p. IsBegun (bytes_of p.tokens)) (sym at) (fields-begun (bytes_of b.tokens) fails.1))
   row-fails (Needs n) a wide (inr (u, (b, ((at, started), inr (row, (c, (list, close))))))) =
       let one = list-given is_slice bytes stay have refusable partial row b c (subst (λ p. HasPositiveWidths p.tokens) at wide) list in
-      let fails = end-fails refusable partial (Needs n) c close in
+      let fails = end-fails is_slice refusable partial (Needs n) c close in
       (fails.0, end-begun (values_of row) (bytes_of a.tokens) one.0 (bytes_of c.tokens) (ap (λ p. bytes_of p.tokens) at ∙ one.1.0) one.1.1 fails.2)
   row-fails Refuses a wide h = tt
 
@@ -114,7 +114,7 @@ module _ {S : Type 0} (is_slice : S → Source ℕ → ℕ → Type 0) (bytes : 
       let wide_b = subst (λ p. HasPositiveWidths p.tokens) at wide in
       let one = list-once is_slice bytes stay have refusable partial pair.0 ws b c text more after wide_b (sym (ap (λ p. bytes_of p.tokens) at) ∙ e) spells ends list in (
         sym (ap values_of (first ∙ is)) ∙ one.0,
-        ends-once partial (bytes_of c.tokens) (bytes_of d.tokens) after (end-given refusable partial pair.1 c d close) (subst (λ r. EndsRecord partial r after) (sym one.1) ends),
+        ends-once partial (bytes_of c.tokens) (bytes_of d.tokens) after (end-given is_slice refusable partial pair.1 c d close) (subst (λ r. EndsRecord partial r after) (sym one.1) ends),
       )
 
   -- where a record stands ahead, only refused memory makes the reader fail
@@ -131,7 +131,7 @@ module _ {S : Type 0} (is_slice : S → Source ℕ → ℕ → Type 0) (bytes : 
   row-missed f a ws after wide (some, (text, (more, (e, spells, ends)))) (inr (u, (b, ((at, started), inr (row, (c, (list, close))))))) =
       let wide_b = subst (λ p. HasPositiveWidths p.tokens) at wide in
       let one = list-once is_slice bytes stay have refusable partial row ws b c text more after wide_b (sym (ap (λ p. bytes_of p.tokens) at) ∙ e) spells ends list in
-      end-missed refusable partial f c after (subst (λ r. EndsRecord partial r after) (sym one.1) ends) close
+      end-missed is_slice refusable partial f c after (subst (λ r. EndsRecord partial r after) (sym one.1) ends) close
 
   -- a cut is one for each longer input, so no record can stand ahead
   cut-final : (a b : Ahead ℕ) → HasPositiveWidths a.tokens

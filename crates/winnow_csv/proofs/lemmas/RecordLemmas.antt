@@ -90,14 +90,14 @@ no-end-other partial r n m some after (inr (inr f)) = some f.0
 abbrev pub MayEnd : List ℕ → Type 0
 MayEnd r = (r ≡ []) ⊎ (r ≡ 13 ∷ [])
 
-module _ (refusable : Type 0) (partial : Bool) where
+module _ {S : Type 0} (is_slice : S → Source ℕ → ℕ → Type 0) (refusable : Type 0) (partial : Bool) where
   -- an end that is given stands ahead
-  pub end-given : (u : Unit {0}) (a b : Ahead ℕ) → RecordEnd refusable partial a (Gives u b)
+  pub end-given : (u : Unit {0}) (a b : Ahead ℕ) → RecordEnd is_slice refusable partial a (Gives u b)
       → EndsRecord partial (bytes_of a.tokens) (bytes_of b.tokens)
   end-given u a b (inl (inl (x, (f, h)))) = inr (inl (byte-given 10 partial a b x h))
   end-given u a b (inl (inr (c, (n, (x, (f, (m, (h, k)))))))) =
       inl (byte-given 13 partial a m x.0 h ∙ ap (λ r. 13 ∷ r) (byte-given 10 partial m b x.1 k))
-  end-given u a b (inr (d, ((c, (n, m)), h))) =
+  end-given u a b (inr (d, ((c, (n, m)), (x, (f, h))))) =
       let e = ap bytes_of h.0 in inr (inr (e, sym (ap (λ p. bytes_of p.tokens) h.2) ∙ e, h.1))
 
   -- an end fails where no record ends
@@ -117,7 +117,7 @@ module _ (refusable : Type 0) (partial : Bool) where
   needs-end a e p = (p, no-end-empty partial (bytes_of a.tokens) p (ap bytes_of e), inl (ap bytes_of e))
 
   -- an end fails as `EndFails` says
-  pub end-fails : (f : Failed ℕ) (a : Ahead ℕ) → RecordEnd refusable partial a (Fails f)
+  pub end-fails : (f : Failed ℕ) (a : Ahead ℕ) → RecordEnd is_slice refusable partial a (Fails f)
       → EndFails a f
   end-fails (Backtracks b) a (d, ((c, (n, inl m)), e)) =
       (no-end-other partial (bytes_of a.tokens) (byte-missing 10 partial a c n).0 (byte-missing 13 partial a d m).0 (some-bytes a.tokens e.0), sym e.1)
@@ -140,7 +140,7 @@ module _ (refusable : Type 0) (partial : Bool) where
   -- where a record ends, only refused memory makes the end fail
   pub end-missed : (f : Failed ℕ) (a : Ahead ℕ) (after : List ℕ)
       → EndsRecord partial (bytes_of a.tokens) after
-      → CutOff (RecordEnd refusable) partial a (Fails f) → IsRefusal f
+      → CutOff (RecordEnd is_slice refusable) partial a (Fails f) → IsRefusal f
   end-missed (Backtracks b) a after ends h = h
   end-missed (Cuts b) a after ends (inl h) = (end-fails (Backtracks b) a h).0 after ends
   end-missed (Cuts b) a after ends (inr h) = end-fails (Cuts b) a h

@@ -5,11 +5,11 @@ use Rattle.winnow_combinator.proofs.bracketing.alternative_errors_law.Goals as g
 pub returns-clause-left : goal.returns-clause-left
 returns-clause-left g c = λ x y z partial at s e h.
     let stands = ahead g.I.Rest.location g.I.Stream.remaining in
-    joins-left g.E.ParserError.or_refusable stands g.E.ParserError.or_gives g.E.AssociativeOr.joined g.E.AssociativeOr.or_gives_joined
+    joins-left g.E.ParserError.or_refusable stands g.E.ParserError.or_gives g.E.AssociativeOr.joined g.met.E.AssociativeOr.or_gives_joined
     (g.A.Parser.means x) (g.A.Parser.errors x) (g.B.Parser.means y) (g.B.Parser.errors y) (g.C.Parser.errors z) partial at s e h
 
 pub returns-clause-right : goal.returns-clause-right
 returns-clause-right g c = λ x y z partial at s e h.
     let stands = ahead g.I.Rest.location g.I.Stream.remaining in
-    joins-right g.E.ParserError.or_refusable stands g.E.ParserError.or_gives g.E.AssociativeOr.joined g.E.AssociativeOr.or_gives_joined
-    (g.A.Parser.means x) (g.A.Parser.errors x) (g.B.Parser.means y) (g.B.Parser.errors y) (g.C.Parser.errors z) g.E.AssociativeOr.joined_associative partial at s e h
+    joins-right g.E.ParserError.or_refusable stands g.E.ParserError.or_gives g.E.AssociativeOr.joined g.met.E.AssociativeOr.or_gives_joined
+    (g.A.Parser.means x) (g.A.Parser.errors x) (g.B.Parser.means y) (g.B.Parser.errors y) (g.C.Parser.errors z) g.met.E.AssociativeOr.joined_associative partial at s e h

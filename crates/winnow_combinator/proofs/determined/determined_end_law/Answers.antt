@@ -4,7 +4,7 @@ use Rattle.winnow_combinator.proofs.lemmas.AgreeingEndLemmas.{determined-ended, 
 use Rattle.winnow_combinator.proofs.determined.determined_end_law.Goals as goal
 
 pub returns-clause-ended : goal.returns-clause-ended
-returns-clause-ended g c = determined-ended
+returns-clause-ended g c = λ view fronts. determined-ended g.I.Stream.is_slice (Shows view) fronts
 
 pub returns-clause-nothing : goal.returns-clause-nothing
 returns-clause-nothing g c = determined-returns tt _ tt
