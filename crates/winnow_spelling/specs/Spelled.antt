@@ -13,7 +13,7 @@ use Rattle.winnow_combinator.specs.Gathering.{Gathered}
 use Rattle.winnow_combinator.specs.Repetition.{Taking, InTurn, Repeated}
 use Rattle.winnow_combinator.specs.Separation.{FoldsLeft, FoldedLeft}
 use Rattle.winnow_spelling.specs.Spelling.{Spelling, tokens_of, TakesFor, IsSpelled}
-use Rattle.winnow_spelling.specs.Spellings.{NoToken, Then, Then3, Then4, Then5, After, Before, InRow, Or, Perhaps, MadeOf, Such, Counted}
+use Rattle.winnow_spelling.specs.Spellings.{NoToken, Then, Then3, Then4, Then5, After, Before, InRow, Or, Perhaps, MadeOf, Several, Counted, Chain}
 
 -- what follows a front has positive widths
 pub wide-after : {T : Type 0} (front rest : Source T) → HasPositiveWidths (front ++ rest)
@@ -32,7 +32,7 @@ pub takes-on : {O P T : Type 0} (spells : Spelling O T) (others : Spelling P T) 
     → TakesFor others y a b
 takes-on spells others x y a b on (taken, (whole, h)) = (taken, (whole, on (tokens_of taken) h))
 
-module _ {O P T : Type 0} (p : Spelling O T) (q : Spelling P T) {first : Meaning O T} {second : Meaning P T} (one : IsSpelled p first) (two : IsSpelled q second) where
+module _ {O P T : Type 0} (p : Spelling O T) (q : Spelling P T) (first : Meaning O T) (second : Meaning P T) (one : IsSpelled p first) (two : IsSpelled q second) where
   -- two values in a row
   pub spelled-Then : IsSpelled (Then p q) (Pair first second)
   spelled-Then partial a c both wide (b, (h, k)) =
@@ -55,7 +55,7 @@ module _ {O P T : Type 0} (p : Spelling O T) (q : Spelling P T) {first : Meaning
   spelled-Before partial a c x wide (both, (same, h)) =
       takes-on (Then p q) (Before p q) both x a c (λ ts k. (both.1, subst (λ z. Then p q (z, both.1) ts) same k)) (spelled-Then partial a c both wide h)
 
-module _ {O P T : Type 0} (makes : O → P → Type 0) (p : Spelling O T) {inner : Meaning O T} (one : IsSpelled p inner) where
+module _ {O P T : Type 0} (makes : O → P → Type 0) (p : Spelling O T) (inner : Meaning O T) (one : IsSpelled p inner) where
   -- what a relation makes of a value
   pub spelled-MadeOf : IsSpelled (MadeOf makes p) (Maps makes inner)
   spelled-MadeOf partial a b y wide (x, (made, h)) =
@@ -68,71 +68,71 @@ module _ {O P T : Type 0} (makes : O → P → Type 0) (p : Spelling O T) {inner
 
 -- what a relation may make of a value
 pub spelled-Chosen : {O P T : Type 0} (makes : O → Option P → Type 0) (p : Spelling O T)
-    {inner : Meaning O T} → IsSpelled p inner
+    (inner : Meaning O T) → IsSpelled p inner
     → IsSpelled (MadeOf (λ x y. makes x (Some y)) p) (Chosen makes inner)
-spelled-Chosen makes p one partial a b y wide (x, (made, h)) =
+spelled-Chosen makes p inner one partial a b y wide (x, (made, h)) =
     takes-on p (MadeOf (λ x y. makes x (Some y)) p) x y a b (λ ts k. (x, (made, k))) (one partial a b x wide h)
 
 -- ---- Tuples
 
 pub spelled-Then3 : {A B C T : Type 0} (p : Spelling A T) (q : Spelling B T) (r : Spelling C T)
-    {x : Meaning A T} {y : Meaning B T} {z : Meaning C T}
+    (x : Meaning A T) (y : Meaning B T) (z : Meaning C T)
     → IsSpelled p x → IsSpelled q y → IsSpelled r z → IsSpelled (Then3 p q r) (Row3 x y z)
-spelled-Then3 p q r one two three partial a b all wide (parts, (same, h)) =
-    takes-on (Then p (Then q r)) (Then3 p q r) parts all a b (λ ts k. subst (λ v. Then3 p q r v ts) same k)
-    (spelled-Then p (Then q r) one (spelled-Then q r two three) partial a b parts wide h)
+spelled-Then3 p q r x y z one two three partial a b all wide (parts, (same, h)) =
+    takes-on (Then p (Then q r)) (Then3 p q r) parts all a b (λ ts k. subst (λ u. Then3 p q r u ts) same k)
+    (spelled-Then p (Then q r) x (Pair y z) one (spelled-Then q r y z two three) partial a b parts wide h)
 
 pub spelled-Then4 : {A B C D T : Type 0} (p : Spelling A T) (q : Spelling B T) (r : Spelling C T)
-    (s : Spelling D T) {x : Meaning A T} {y : Meaning B T} {z : Meaning C T} {w : Meaning D T}
+    (s : Spelling D T) (x : Meaning A T) (y : Meaning B T) (z : Meaning C T) (w : Meaning D T)
     → IsSpelled p x → IsSpelled q y → IsSpelled r z → IsSpelled s w
     → IsSpelled (Then4 p q r s) (Row4 x y z w)
-spelled-Then4 p q r s one two three four partial a b all wide (parts, (same, h)) =
-    takes-on (Then p (Then3 q r s)) (Then4 p q r s) parts all a b (λ ts k. subst (λ v. Then4 p q r s v ts) same k)
-    (spelled-Then p (Then3 q r s) one (spelled-Then3 q r s two three four) partial a b parts wide h)
+spelled-Then4 p q r s x y z w one two three four partial a b all wide (parts, (same, h)) =
+    takes-on (Then p (Then3 q r s)) (Then4 p q r s) parts all a b (λ ts k. subst (λ u. Then4 p q r s u ts) same k)
+    (spelled-Then p (Then3 q r s) x (Row3 y z w) one (spelled-Then3 q r s y z w two three four) partial a b parts wide h)
 
 pub spelled-Then5 : {A B C D E T : Type 0} (p : Spelling A T) (q : Spelling B T)
-    (r : Spelling C T) (s : Spelling D T) (t : Spelling E T) {x : Meaning A T} {y : Meaning B T}
-    {z : Meaning C T} {w : Meaning D T} {v : Meaning E T}
+    (r : Spelling C T) (s : Spelling D T) (t : Spelling E T) (x : Meaning A T) (y : Meaning B T)
+    (z : Meaning C T) (w : Meaning D T) (v : Meaning E T)
     → IsSpelled p x → IsSpelled q y → IsSpelled r z → IsSpelled s w → IsSpelled t v
     → IsSpelled (Then5 p q r s t) (Row5 x y z w v)
-spelled-Then5 p q r s t one two three four five partial a b all wide (parts, (same, h)) =
-    takes-on (Then p (Then4 q r s t)) (Then5 p q r s t) parts all a b (λ ts k. subst (λ v. Then5 p q r s t v ts) same k)
-    (spelled-Then p (Then4 q r s t) one (spelled-Then4 q r s t two three four five) partial a b parts wide h)
+spelled-Then5 p q r s t x y z w v one two three four five partial a b all wide (parts, (same, h)) =
+    takes-on (Then p (Then4 q r s t)) (Then5 p q r s t) parts all a b (λ ts k. subst (λ u. Then5 p q r s t u ts) same k)
+    (spelled-Then p (Then4 q r s t) x (Row4 y z w v) one (spelled-Then4 q r s t y z w v two three four five) partial a b parts wide h)
 
 -- ---- Choices
 
 -- one of two parsers
 pub spelled-Or : {O T : Type 0} (refusable : Type 0) (p q : Spelling O T)
-    {first second : Meaning O T}
+    (first second : Meaning O T)
     → IsSpelled p first → IsSpelled q second → IsSpelled (Or p q) (Either refusable first second)
-spelled-Or refusable p q one two partial a b x wide (inl h) =
+spelled-Or refusable p q first second one two partial a b x wide (inl h) =
     takes-on p (Or p q) x x a b (λ ts k. inl k) (one partial a b x wide h)
-spelled-Or refusable p q one two partial a b x wide (inr (c, (g, h))) =
+spelled-Or refusable p q first second one two partial a b x wide (inr (c, (g, h))) =
     takes-on q (Or p q) x x a b (λ ts k. inr k) (two partial a b x wide h)
 
 -- a value, or none
-pub spelled-Perhaps : {O T : Type 0} (p : Spelling O T) {inner : Meaning O T} → IsSpelled p inner
+pub spelled-Perhaps : {O T : Type 0} (p : Spelling O T) (inner : Meaning O T) → IsSpelled p inner
     → IsSpelled (Perhaps p) (Optional inner)
-spelled-Perhaps p one partial a b (Some x) wide h =
+spelled-Perhaps p inner one partial a b (Some x) wide h =
     takes-on p (Perhaps p) x (Some x) a b (λ ts k. k) (one partial a b x wide h)
-spelled-Perhaps p one partial a b None wide (same, h) = takes-none (Perhaps p) None a b same refl
+spelled-Perhaps p inner one partial a b None wide (same, h) = takes-none (Perhaps p) None a b same refl
 
 -- nothing at all
 pub spelled-Returns : {O T : Type 0} (x : O) → IsSpelled {T = T} NoToken (Returns x)
 spelled-Returns x partial a b y wide (is, same) = takes-none NoToken y a b same refl
 
 -- what only changes a failure
-pub spelled-CutOff : {O T : Type 0} (p : Spelling O T) {inner : Meaning O T} → IsSpelled p inner
+pub spelled-CutOff : {O T : Type 0} (p : Spelling O T) (inner : Meaning O T) → IsSpelled p inner
     → IsSpelled p (CutOff inner)
-spelled-CutOff p one partial a b x wide h = one partial a b x wide h
+spelled-CutOff p inner one partial a b x wide h = one partial a b x wide h
 
-pub spelled-Softened : {O T : Type 0} (p : Spelling O T) {inner : Meaning O T} → IsSpelled p inner
+pub spelled-Softened : {O T : Type 0} (p : Spelling O T) (inner : Meaning O T) → IsSpelled p inner
     → IsSpelled p (Softened inner)
-spelled-Softened p one partial a b x wide h = one partial a b x wide h
+spelled-Softened p inner one partial a b x wide h = one partial a b x wide h
 
 pub spelled-InContext : {O T : Type 0} (refusable : Type 0) (p : Spelling O T)
-    {inner : Meaning O T} → IsSpelled p inner → IsSpelled p (InContext refusable inner)
-spelled-InContext refusable p one partial a b x wide h = one partial a b x wide h
+    (inner : Meaning O T) → IsSpelled p inner → IsSpelled p (InContext refusable inner)
+spelled-InContext refusable p inner one partial a b x wide h = one partial a b x wide h
 
 -- ---- Repetition
 
@@ -143,7 +143,7 @@ up-to None n P h = tt
 up-to (Some m) n P (inl e) = let same = same_Some _ _ e in omega (arith, same)
 up-to (Some m) n P (inr (l, h)) = omega (arith, l)
 
-module _ {O T : Type 0} (p : Spelling O T) {inner : Meaning O T} (one : IsSpelled p inner) where
+module _ {O T : Type 0} (p : Spelling O T) (inner : Meaning O T) (one : IsSpelled p inner) where
   -- values in turn
   spelled-InTurn : (partial : Bool) (xs : List O) (a b : Ahead T) → HasPositiveWidths a.tokens
       → InTurn (Taking inner) partial xs a b → TakesFor (InRow p) xs a b
@@ -160,9 +160,9 @@ module _ {O T : Type 0} (p : Spelling O T) {inner : Meaning O T} (one : IsSpelle
 
   -- so many values in a row
   spelled-Repeated : (least : ℕ) (greatest : Option ℕ)
-      → IsSpelled (Such (λ xs. (least ≤ length xs) × IsUpTo greatest (length xs)) (InRow p)) (Repeated least greatest inner)
+      → IsSpelled (Several least greatest p) (Repeated least greatest inner)
   spelled-Repeated least greatest partial a b xs wide (turns, enough, most) =
-      takes-on (InRow p) (Such (λ xs. (least ≤ length xs) × IsUpTo greatest (length xs)) (InRow p)) xs xs a b (λ ts k. ((enough, up-to greatest (length xs) _ most), k))
+      takes-on (InRow p) (Several least greatest p) xs xs a b (λ ts k. ((enough, up-to greatest (length xs) _ most), k))
       (spelled-InTurn partial xs a b wide turns)
 
   -- of which a value is made
@@ -170,15 +170,17 @@ module _ {O T : Type 0} (p : Spelling O T) {inner : Meaning O T} (one : IsSpelle
       (makes : List O → P → Type 0)
       → IsSpelled (Counted least greatest makes p) (Ascending least greatest (Gathered refusable makes (Repeated least greatest inner)))
   spelled-Counted least None refusable makes partial a b y wide h =
-      spelled-Gathered makes _ (spelled-Repeated least None) refusable partial a b y wide h
+      spelled-Gathered makes (Several least None p) (Repeated least None inner) (spelled-Repeated least None) refusable partial a b y wide h
   spelled-Counted least (Some g) refusable makes partial a b y wide (inl (l, h)) =
-      spelled-Gathered makes _ (spelled-Repeated least (Some g)) refusable partial a b y wide h
+      spelled-Gathered makes (Several least (Some g) p) (Repeated least (Some g) inner) (spelled-Repeated least (Some g)) refusable partial a b y wide h
   spelled-Counted least (Some g) refusable makes partial a b y wide (inr (l, e)) = absurd (cc e)
 
 -- values with separators between them, folded from the left
-pub spelled-FoldedLeft : {O S T : Type 0} (step : O → S × O → O → Type 0) (s : Spelling S T)
-    (p : Spelling O T) {separator : Meaning S T} {inner : Meaning O T}
+pub spelled-Chain : {O S T : Type 0} (step : O → S × O → O → Type 0) (s : Spelling S T)
+    (p : Spelling O T) (separator : Meaning S T) (inner : Meaning O T)
     → IsSpelled s separator → IsSpelled p inner
-    → IsSpelled (MadeOf (FoldsLeft step) (Then p (Such (λ xs. (0 ≤ length xs) × IsUpTo None (length xs)) (InRow (Then s p))))) (FoldedLeft step separator inner)
-spelled-FoldedLeft step s p one two =
-    spelled-MadeOf (FoldsLeft step) _ (spelled-Then p _ two (spelled-Repeated (Then s p) (spelled-Then s p one two) 0 None))
+    → IsSpelled (Chain step s p) (FoldedLeft step separator inner)
+spelled-Chain step s p separator inner one two =
+    let pair = Pair separator inner in
+    spelled-MadeOf (FoldsLeft step) (Then p (Several 0 None (Then s p))) (Pair inner (Repeated 0 None pair))
+    (spelled-Then p (Several 0 None (Then s p)) inner (Repeated 0 None pair) two (spelled-Repeated (Then s p) pair (spelled-Then s p separator inner one two) 0 None))

@@ -74,7 +74,7 @@ module _ {T : Type 0} where
     within-short (Some n) r = take-short n r
 
     -- what follows the held tokens
-    rest-within : Option ℕ → Source T → Source T
+    abbrev rest-within : Option ℕ → Source T → Source T
     rest-within None r = drop (length (held_front holds r)) r
     rest-within (Some n) r = drop n (held_front holds r) ++ drop (length (held_front holds r)) r
 

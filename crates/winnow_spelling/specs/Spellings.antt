@@ -2,6 +2,7 @@
 use Rattle.std.specs.Prelude.{◌≡◌, ℕ, ◌≤◌, Bool, true, List, [], ◌∷◌, ◌++◌, length, Option, Some, None, ◌⊎◌, ⊤}
 use Rattle.winnow_stream.specs.Source.{Source, width}
 use Rattle.winnow_combinator.specs.Counts.{IsUpTo}
+use Rattle.winnow_combinator.specs.Separation.{FoldsLeft}
 use Rattle.winnow_spelling.specs.Spelling.{Spelling, tokens_of}
 
 -- ---- Tokens
@@ -85,8 +86,18 @@ MadeOf {O} makes spells y ts = (x : O) × (makes x y × spells x ts)
 abbrev pub Such : {O T : Type 0} → (O → Type 0) → Spelling O T → Spelling O T
 Such holds spells x ts = holds x × spells x ts
 
+-- at least and at most so many values in a row
+abbrev pub Several : {O T : Type 0} → ℕ → Option ℕ → Spelling O T → Spelling (List O) T
+Several least greatest spells =
+    Such (λ xs. (least ≤ length xs) × IsUpTo greatest (length xs)) (InRow spells)
+
 -- so many values in a row, of which one is made
 abbrev pub Counted : {O P T : Type 0} → ℕ → Option ℕ → (List O → P → Type 0) → Spelling O T
     → Spelling P T
-Counted least greatest makes spells = MadeOf makes
-    (Such (λ xs. (least ≤ length xs) × IsUpTo greatest (length xs)) (InRow spells))
+Counted least greatest makes spells = MadeOf makes (Several least greatest spells)
+
+-- a value, and then others after separators, folded from the left
+abbrev pub Chain : {O S T : Type 0} → (O → S × O → O → Type 0) → Spelling S T → Spelling O T
+    → Spelling O T
+Chain step separator spells =
+    MadeOf (FoldsLeft step) (Then spells (Several 0 None (Then separator spells)))

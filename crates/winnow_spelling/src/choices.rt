@@ -1,3 +1,4 @@
+ghost use Rattle.winnow_parser.specs.Meanings.{Either};
 ghost use Rattle.winnow_spelling.specs.Spellings.{NoToken, Or, Perhaps};
 ghost use Rattle.winnow_spelling.specs.Spelled.{spelled-Or, spelled-Perhaps, spelled-Returns};
 ghost use Rattle.winnow_spelling.specs.Spelled.{spelled-CutOff, spelled-Softened};
@@ -16,6 +17,7 @@ impl<
     ghost spells = { λ p. Or (A.spells p.list.0) (B.spells p.list.1) };
 
     ghost spelled = { λ p. spelled-Or E.or_refusable (A.spells p.list.0) (B.spells p.list.1)
+        (A.means p.list.0) (B.means p.list.1)
         (A.spelled p.list.0) (B.spelled p.list.1) };
 }
 
@@ -30,14 +32,16 @@ impl<
 
     ghost spelled = { λ p. spelled-Or E.or_refusable
         (Or (A.spells p.list.0) (B.spells p.list.1)) (C.spells p.list.2)
+        (Either E.or_refusable (A.means p.list.0) (B.means p.list.1)) (C.means p.list.2)
         (spelled-Or E.or_refusable (A.spells p.list.0) (B.spells p.list.1)
+        (A.means p.list.0) (B.means p.list.1)
         (A.spelled p.list.0) (B.spelled p.list.1)) (C.spelled p.list.2) };
 }
 
 impl<I: StreamIsPartial, E: Drop, P: Spells<I, E>> Spells<I, E> for Optional<P> {
     ghost spells = { λ p. Perhaps (P.spells p.inner) };
 
-    ghost spelled = { λ p. spelled-Perhaps (P.spells p.inner) (P.spelled p.inner) };
+    ghost spelled = { λ p. spelled-Perhaps (P.spells p.inner) (P.means p.inner) (P.spelled p.inner) };
 }
 
 impl<I: StreamIsPartial, E> Spells<I, E> for Nothing {
@@ -49,11 +53,11 @@ impl<I: StreamIsPartial, E> Spells<I, E> for Nothing {
 impl<I: StreamIsPartial, E, P: Spells<I, E>> Spells<I, E> for CutOff<P> {
     ghost spells = { λ p. P.spells p.inner };
 
-    ghost spelled = { λ p. spelled-CutOff (P.spells p.inner) (P.spelled p.inner) };
+    ghost spelled = { λ p. spelled-CutOff (P.spells p.inner) (P.means p.inner) (P.spelled p.inner) };
 }
 
 impl<I: StreamIsPartial, E, P: Spells<I, E>> Spells<I, E> for Softened<P> {
     ghost spells = { λ p. P.spells p.inner };
 
-    ghost spelled = { λ p. spelled-Softened (P.spells p.inner) (P.spelled p.inner) };
+    ghost spelled = { λ p. spelled-Softened (P.spells p.inner) (P.means p.inner) (P.spelled p.inner) };
 }

@@ -12,7 +12,12 @@ impl<I: StreamIsPartial, E, P: Spells<I, E>, O, F: Fn(P::Output) -> O> Spells<I,
     for Mapped<P, F, I, E> {
     ghost spells = { λ p. MadeOf (F.post p.f) (P.spells p.inner) };
 
-    ghost spelled = { λ p. spelled-MadeOf (F.post p.f) (P.spells p.inner) (P.spelled p.inner) };
+    ghost spelled = { λ p. spelled-MadeOf (F.post p.f) (P.spells p.inner) (P.means p.inner) (P.spelled p.inner) };
+
+    // The check states a bound on a function of a block that has a method.
+    fn this(&self) -> &Self {
+        self
+    }
 }
 
 impl<I: StreamIsPartial, E, P: Spells<I, E>, V: Copy> Spells<I, E> for Valued<P, V, I, E>
@@ -21,7 +26,7 @@ where
 {
     ghost spells = { λ p. MadeOf (IsAlways p.value) (P.spells p.inner) };
 
-    ghost spelled = { λ p. spelled-MadeOf (IsAlways p.value) (P.spells p.inner)
+    ghost spelled = { λ p. spelled-MadeOf (IsAlways p.value) (P.spells p.inner) (P.means p.inner)
         (P.spelled p.inner) };
 }
 
@@ -31,20 +36,30 @@ where
 {
     ghost spells = { λ p. MadeOf IsForgotten (P.spells p.inner) };
 
-    ghost spelled = { λ p. spelled-MadeOf IsForgotten (P.spells p.inner) (P.spelled p.inner) };
+    ghost spelled = { λ p. spelled-MadeOf IsForgotten (P.spells p.inner) (P.means p.inner) (P.spelled p.inner) };
 }
 
-impl<I: StreamIsPartial, E: ParserError<I>, P: Spells<I, E>, O, F: Fn(P::Output) -> Option<O>>
-    Spells<I, E> for VerifyMapped<P, F, I, E> {
+impl<
+    I: StreamIsPartial,
+    E: ParserError<I>,
+    P: Spells<I, E>,
+    O,
+    F: Fn(P::Output) -> Option<O>,
+> Spells<I, E> for VerifyMapped<P, F, I, E> {
     ghost spells = { λ p. MadeOf (λ x y. F.post p.f x (Some y)) (P.spells p.inner) };
 
-    ghost spelled = { λ p. spelled-Chosen (F.post p.f) (P.spells p.inner) (P.spelled p.inner) };
+    ghost spelled = { λ p. spelled-Chosen (F.post p.f) (P.spells p.inner) (P.means p.inner) (P.spelled p.inner) };
+
+    // The check states a bound on a function of a block that has a method.
+    fn this(&self) -> &Self {
+        self
+    }
 }
 
 impl<I: StreamIsPartial, C: Copy, E: AddContext<I, C>, P: Spells<I, E>> Spells<I, E>
     for Contextual<P, C, I, E> {
     ghost spells = { λ p. P.spells p.inner };
 
-    ghost spelled = { λ p. spelled-InContext E.add_context_refusable (P.spells p.inner)
+    ghost spelled = { λ p. spelled-InContext E.add_context_refusable (P.spells p.inner) (P.means p.inner)
         (P.spelled p.inner) };
 }

@@ -1,3 +1,4 @@
+ghost use Rattle.std.specs.Prelude.{◌≡◌};
 ghost use Rattle.winnow_parser.specs.Answer.{ahead, outcome};
 ghost use Rattle.winnow_parser.specs.Errors.{AnyError};
 ghost use Rattle.winnow_spelling.specs.Spelling.{Spelling};

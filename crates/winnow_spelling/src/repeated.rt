@@ -1,9 +1,6 @@
-ghost use Rattle.std.specs.Prelude.{◌≤◌, None, length};
 ghost use Rattle.winnow_count.specs.CountRange.{least_count, greatest_count};
-ghost use Rattle.winnow_combinator.specs.Counts.{IsUpTo};
-ghost use Rattle.winnow_combinator.specs.Separation.{FoldsLeft};
-ghost use Rattle.winnow_spelling.specs.Spellings.{Counted, InRow, MadeOf, Such, Then};
-ghost use Rattle.winnow_spelling.specs.Spelled.{spelled-Counted, spelled-FoldedLeft};
+ghost use Rattle.winnow_spelling.specs.Spellings.{Counted, Chain};
+ghost use Rattle.winnow_spelling.specs.Spelled.{spelled-Counted, spelled-Chain};
 
 use crate::Spells;
 use winnow_combinator::{Begin, LeftFold, Repeated};
@@ -18,7 +15,7 @@ where
     ghost spells = { λ p. Counted (least_count p.counts) (greatest_count p.counts)
         (G.makes p.gather) (P.spells p.inner) };
 
-    ghost spelled = { λ p. spelled-Counted (P.spells p.inner) (P.spelled p.inner)
+    ghost spelled = { λ p. spelled-Counted (P.spells p.inner) (P.means p.inner) (P.spelled p.inner)
         (least_count p.counts) (greatest_count p.counts) G.refusable (G.makes p.gather) };
 }
 
@@ -31,11 +28,15 @@ impl<
     S: Spells<I, E, Output = T>,
     F: Fn(O, T, O) -> O,
 > Spells<I, E> for LeftFold<P, S, F> {
-    ghost spells = { λ p. MadeOf (FoldsLeft (λ left pair new. F.post p.op left pair.0 pair.1 new))
-        (Then (P.spells p.inner) (Such (λ xs. (0 ≤ length xs) × IsUpTo None (length xs))
-        (InRow (Then (S.spells p.separator) (P.spells p.inner))))) };
+    ghost spells = { λ p. Chain (λ left pair new. F.post p.op left pair.0 pair.1 new)
+        (S.spells p.separator) (P.spells p.inner) };
 
-    ghost spelled = { λ p. spelled-FoldedLeft
+    ghost spelled = { λ p. spelled-Chain
         (λ left pair new. F.post p.op left pair.0 pair.1 new) (S.spells p.separator)
-        (P.spells p.inner) (S.spelled p.separator) (P.spelled p.inner) };
+        (P.spells p.inner) (S.means p.separator) (P.means p.inner) (S.spelled p.separator) (P.spelled p.inner) };
+
+    // The check states a bound on a function of a block that has a method.
+    fn this(&self) -> &Self {
+        self
+    }
 }

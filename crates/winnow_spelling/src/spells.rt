@@ -1,3 +1,4 @@
+ghost use Rattle.std.specs.Prelude.{◌≡◌};
 ghost use Rattle.winnow_spelling.specs.Spelling.{Spelling, IsSpelled};
 
 use winnow_parser::Parser;
@@ -7,6 +8,13 @@ use winnow_stream::StreamIsPartial;
 pub trait Spells<I: StreamIsPartial, E>: Parser<I, E> {
     // The tokens that spell each value.
     ghost spells: { Self → Spelling Self.Output I.Token };
+
+    /// Returns the parser itself.
+    fn this(&self) -> &Self
+        ensures { result.now ≡ self.now }
+    {
+        self
+    }
 
     // The tokens that are taken for a value spell it.
     ghost spelled: { (p : Self) → IsSpelled (spells p) (Self.means p) };
