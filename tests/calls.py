@@ -122,7 +122,7 @@ def calls_of(crate, is_format):
     """Yields the calls of a crate that may be refused memory, as rows are named."""
     texts = [text for _, text in sources(crate)]
     exported = set(re.findall(r"\w+", " ".join(re.findall(r"^pub use ([^;]*);", "\n".join(texts), flags=re.M | re.S))))
-    private = set(re.findall(r"^(?:struct|enum) (\w+)", "\n".join(texts), flags=re.M))
+    private = set(re.findall(r"^(?:pub\(crate\) )?(?:struct|enum) (\w+)", "\n".join(texts), flags=re.M))
     for block in (block for text in texts for block in re.split(r"\n\n(?=\S)", text)):
         of = owner(block)
         members = re.split(r"\n\n(?=    \S)", block) if of else [block]

@@ -1,5 +1,5 @@
 -- Which errors the failures of text with escapes and of numbers carry.
-use Rattle.std.specs.Prelude.{Bool, ◌⊎◌, None, ⊤}
+use Rattle.std.specs.Prelude.{◌≡◌, Bool, ◌⊎◌, None, ⊤}
 use Rattle.winnow_stream.specs.declared.needed.Needed.{Needed}
 use Rattle.winnow_count.specs.Reading.{IsSomeExactly}
 use Rattle.winnow_parser.specs.declared.failure.Failure.{Failure}
@@ -26,24 +26,27 @@ IsOfPart {T = T} normal normal_errors control control_errors errors partial s (C
 IsOfPart normal normal_errors control control_errors errors partial s (Incomplete n) = ⊤
 IsOfPart normal normal_errors control control_errors errors partial s (Refused r) = ⊤
 
--- an error that joins two, each made of a stream: the first of one that stands where the first
--- alternative backtracks, the second of the stream as it is left
-abbrev pub JoinsTwo : {O E S T : Type 0} → (S → Ahead T) → Meaning O T → (S → E → Type 0)
-    → (E → E → E → Type 0) → Bool → Ahead T → S → E → Type 0
-JoinsTwo {E = E} {S = S} stands first made joins partial a s e = (one : E) × ((other : E)
+-- an error that joins two and is then appended to: the first is made of a stream that stands where
+-- the first alternative backtracks, the second of the stream as it is left; it is appended to by
+-- that stream and a checkpoint of where the number began
+abbrev pub JoinsTwo : {O E S C T : Type 0} → (S → Ahead T) → (C → Ahead T) → Meaning O T
+    → (S → E → Type 0) → (E → E → E → Type 0) → (E → S → C → E → Type 0) → Bool → Ahead T → S → E
+    → Type 0
+JoinsTwo {E = E} {S = S} {C = C} stands stood first made joins appends partial a s e =
+    (one : E) × ((other : E) × ((whole : E) × ((start : C)
     × (((r : S) × (made r one × first partial a (Fails (Backtracks (stands r))))) × made s other
-    × joins one other e))
+    × joins one other whole × (stood start ≡ a) × appends whole s start e))))
 
 -- a backtrack of a number: its digits stand there, and read as none, and the error is made of the
 -- stream; or they do not, and the error joins two. Or a cut, with an error that is made of the
 -- stream in another way
-abbrev pub IsOfNumber : {G R O E S T : Type 0} → (G → R → Type 0) → Meaning G T → (S → Ahead T)
-    → Meaning O T → (S → E → Type 0) → (S → E → Type 0) → (E → E → E → Type 0) → Bool → Ahead T
-    → S → Failure E Needed → Type 0
-IsOfNumber {G = G} {T = T} reads digits stands first found asserted joins partial a s (Backtrack e) =
+abbrev pub IsOfNumber : {G R O E S C T : Type 0} → (G → R → Type 0) → Meaning G T → (S → Ahead T)
+    → (C → Ahead T) → Meaning O T → (S → E → Type 0) → (S → E → Type 0) → (E → E → E → Type 0)
+    → (E → S → C → E → Type 0) → Bool → Ahead T → S → Failure E Needed → Type 0
+IsOfNumber {G = G} {T = T} reads digits stands stood first found asserted joins appends partial a s (Backtrack e) =
     ((slice : G) × ((b : Ahead T) × (digits partial a (Gives slice b)
     × IsSomeExactly (reads slice) None × found s e)))
-    ⊎ (IsAbsent digits partial a × JoinsTwo stands first found joins partial a s e)
-IsOfNumber reads digits stands first found asserted joins partial a s (Cut e) = asserted s e
-IsOfNumber reads digits stands first found asserted joins partial a s (Incomplete n) = ⊤
-IsOfNumber reads digits stands first found asserted joins partial a s (Refused r) = ⊤
+    ⊎ (IsAbsent digits partial a × JoinsTwo stands stood first found joins appends partial a s e)
+IsOfNumber reads digits stands stood first found asserted joins appends partial a s (Cut e) = asserted s e
+IsOfNumber reads digits stands stood first found asserted joins appends partial a s (Incomplete n) = ⊤
+IsOfNumber reads digits stands stood first found asserted joins appends partial a s (Refused r) = ⊤

@@ -32,16 +32,18 @@ IsLabelled made tells stood a s (Cut e) = HasLabel made tells stood a s e
 IsLabelled made tells stood a s (Incomplete n) = ⊤
 IsLabelled made tells stood a s (Refused r) = ⊤
 
--- a backtrack, with an error that is joined of two: the first made of a stream that stands where
--- the parser began, the second of the stream as it is left
-abbrev pub IsJoined : {E S T : Type 0} → (S → E → Type 0) → (E → E → E → Type 0) → (S → Ahead T)
-    → Ahead T → S → Failure E Needed → Type 0
-IsJoined {E} {S} made joins stands a s (Backtrack e) =
-    (left : E)
-    × ((right : E) × ((r : S) × (made r left × (stands r ≡ a) × made s right × joins left right e)))
-IsJoined made joins stands a s (Cut e) = ⊥
-IsJoined made joins stands a s (Incomplete n) = ⊤
-IsJoined made joins stands a s (Refused r) = ⊤
+-- a backtrack, with an error that is joined of two and then appended to: the first is made of a
+-- stream that stands where the parser began, the second of the stream as it is left; it is appended
+-- to by that stream and a checkpoint of where the parser began
+abbrev pub IsJoined : {E S C T : Type 0} → (S → E → Type 0) → (E → E → E → Type 0)
+    → (E → S → C → E → Type 0) → (C → Ahead T) → (S → Ahead T) → Ahead T → S → Failure E Needed
+    → Type 0
+IsJoined {E} {S} {C} made joins appends stood stands a s (Backtrack e) = (left : E) × ((right : E) × ((whole : E) × ((r : S) × ((start : C)
+    × (made r left × (stands r ≡ a) × made s right × joins left right whole × (stood start ≡ a)
+    × appends whole s start e)))))
+IsJoined made joins appends stood stands a s (Cut e) = ⊥
+IsJoined made joins appends stood stands a s (Incomplete n) = ⊤
+IsJoined made joins appends stood stands a s (Refused r) = ⊤
 
 -- a backtrack, with an error that is made of the stream as it is left
 abbrev pub IsOwn : {E S : Type 0} → (S → E → Type 0) → S → Failure E Needed → Type 0

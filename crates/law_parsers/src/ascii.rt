@@ -68,9 +68,10 @@ where
     I::Slice: ParseSlice<R> + Drop,
     requires { I.valid input.old }
     ensures { IfErr result (IsOfNumber I.Slice.reads
-        (Taken I.is_slice (Unsigned E.or_refusable I.is_slice I.Token.code))
-        (ahead I.location I.remaining) (Maps IsForgotten (Digits I.is_slice I.Token.code))
-        E.from_input_gives E.assert_gives E.or_gives (I.expects_more input.old)
+        (Taken I.is_slice (Unsigned E.or_refusable E.append_refusable I.is_slice I.Token.code))
+        (ahead I.location I.remaining) (ahead I.Checkpoint.location I.remained)
+        (Maps IsForgotten (Digits I.is_slice I.Token.code)) E.from_input_gives E.assert_gives
+        E.or_gives E.append_gives (I.expects_more input.old)
         (ahead I.location I.remaining input.old) input.new) }
 {
     dec_uint().parse_next(alloc, input)

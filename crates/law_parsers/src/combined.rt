@@ -41,14 +41,16 @@ pub fn labelled_token<I: StreamIsPartial, C: Copy, E: ParserError<I> + AddContex
     cut_err(any()).context(label).parse_next(alloc, input)
 }
 
-/// Reads a token, tries so once more where that fails, and joins the errors.
+/// Reads a token, tries so once more where that fails, joins the errors and appends to the joined
+/// one.
 pub fn token_tried_twice<I: StreamIsPartial, E: ParserError<I>>(
     alloc: Global,
     input: &mut I,
 ) -> ModalResult<I::Token, E>
     requires { I.valid input.old }
     ensures { IfErr result (IsJoined (IsMade E.from_input_gives E.assert_gives) E.or_gives
-        (ahead I.location I.remaining) (ahead I.location I.remaining input.old) input.new) }
+        E.append_gives (ahead I.Checkpoint.location I.remained) (ahead I.location I.remaining)
+        (ahead I.location I.remaining input.old) input.new) }
 {
     alt((backtrack_err(any()), backtrack_err(any()))).parse_next(alloc, input)
 }

@@ -1,6 +1,7 @@
 //! The laws of parsers, each called once. They do nothing, so the calls show that they can be
 //! called.
 
+use crate::value_tests::value_test_law;
 use winnow_ascii::{Fragment, ascii_law, determined_escaped_law, determined_number_law};
 use winnow_binary::{Numeral, determined_length_law, determined_slice_read_law, fixed_number_law};
 use winnow_combinator::{
@@ -61,7 +62,7 @@ fn call_bracket_laws<I: StreamIsPartial, E: AssociativeOr<I>, P: Parser<I, E>>()
 fn call_part_laws<
     I: StreamIsPartial,
     C,
-    E: AddContext<I, C>,
+    E: ParserError<I> + AddContext<I, C>,
     P: Parser<I, E>,
     G: Gather<P::Output>,
     Z,
@@ -110,6 +111,8 @@ fn laws_are_called(_rt: HostRuntime) {
     call_till_law::<Text, EmptyError, AnyToken, Accumulated<usize>, Op>();
     call_ascii_laws::<Text, EmptyError, AnyToken, String>();
     call_bracket_laws::<Text, EmptyError, AnyToken>();
+    type TextTest = fn(&str) -> bool;
+    value_test_law::<char, char, Test, TextTest, fn(&[char]) -> bool, Test>();
 }
 
 #[test]

@@ -14,3 +14,5 @@ mod lines;
 mod readers;
 #[cfg(test)]
 mod text_lines;
+#[cfg(test)]
+mod value_tests;

@@ -44,6 +44,7 @@ impl Record for NumberLine {
     ghost lawful = { λ r. IsParser-Terminated _ _
         (IsParser-ReadAs ⟦<&'static [u8] as ParseSlice<u32>>⟧.reads IsByteSlice SlicesStay-bytes _
         (IsParser-Unsigned ⟦<EmptyError as ParserError<RecordInput<'static>>>⟧.or_refusable
+        ⟦<EmptyError as ParserError<RecordInput<'static>>>⟧.append_refusable
         IsByteSlice SlicesStay-bytes ⟦<u8 as AsChar>⟧.code))
         (IsParser-OneOf (⟦<u8 as FixedSet<u8>>⟧.holds r.parser.second.set)) };
 

@@ -24,6 +24,7 @@ pub use Rattle.winnow_token.specs.Until
 pub use Rattle.winnow_token.specs.Remaining
 pub use Rattle.winnow_token.specs.Prompt
 pub use Rattle.winnow_token.specs.Run
+pub use Rattle.winnow_combinator.specs.Appended
 pub use Rattle.winnow_combinator.specs.Ending
 pub use Rattle.winnow_combinator.specs.Misuse
 pub use Rattle.winnow_combinator.specs.Repetition
@@ -38,8 +39,6 @@ pub use Rattle.winnow_combinator.specs.Conditional
 pub use Rattle.winnow_combinator.specs.DeterminedLists
 pub use Rattle.winnow_combinator.specs.OneAnswer
 pub use Rattle.winnow_combinator.specs.Words
-pub use Rattle.winnow_combinator.specs.OneAnswer
-pub use Rattle.winnow_combinator.specs.Bracketing
 pub use Rattle.winnow_ascii.specs.Alike
 pub use Rattle.winnow_ascii.specs.Classes
 pub use Rattle.winnow_ascii.specs.EscapeLaws

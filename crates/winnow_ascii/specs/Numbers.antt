@@ -14,6 +14,7 @@ use Rattle.winnow_parser.specs.Taken.{Taken, IsParser-Taken}
 use Rattle.winnow_parser.specs.Parts.{IsParser-Maps, IsParser-Pair, IsParser-Either, IsParser-Optional, IsParser-Chosen}
 use Rattle.winnow_token.specs.OneOf.{OneOf, IsParser-OneOf}
 use Rattle.winnow_token.specs.Held.{HeldFront, IsParser-HeldFront}
+use Rattle.winnow_combinator.specs.Appended.{Appending, IsParser-Appending}
 use Rattle.winnow_ascii.specs.Escapes.{IsAbsent}
 
 -- a sign: a plus (43) or a minus (45)
@@ -38,16 +39,18 @@ abbrev pub SignedDigits : {S T : Type 0} → (S → Source T → ℕ → Type 0)
     → Meaning (Option T × (T × S)) T
 SignedDigits is_slice code = Pair (Optional (OneOf (λ token. is_sign (code token)))) (Digits is_slice code)
 
--- such digits, or 0 alone; memory may be refused while the errors of both are joined
-abbrev pub Unsigned : {S T : Type 0} → Type 0 → (S → Source T → ℕ → Type 0) → (T → ℕ)
+-- such digits, or 0 alone; memory may be refused while the errors of both are joined, and while
+-- the joined one is appended to
+abbrev pub Unsigned : {S T : Type 0} → Type 0 → Type 0 → (S → Source T → ℕ → Type 0) → (T → ℕ)
     → Meaning (Unit {0}) T
-Unsigned refusable is_slice code = Either refusable (Maps IsForgotten (Digits is_slice code)) (Maps IsForgotten (Zero is_slice code))
+Unsigned refusable appends is_slice code = Appending appends
+    (Either refusable (Maps IsForgotten (Digits is_slice code)) (Maps IsForgotten (Zero is_slice code)))
 
 -- such digits, with a sign before them or none; or 0 alone
-abbrev pub Signed : {S T : Type 0} → Type 0 → (S → Source T → ℕ → Type 0) → (T → ℕ)
+abbrev pub Signed : {S T : Type 0} → Type 0 → Type 0 → (S → Source T → ℕ → Type 0) → (T → ℕ)
     → Meaning (Unit {0}) T
-Signed refusable is_slice code = Either refusable
-    (Maps IsForgotten (SignedDigits is_slice code)) (Maps IsForgotten (Zero is_slice code))
+Signed refusable appends is_slice code = Appending appends
+    (Either refusable (Maps IsForgotten (SignedDigits is_slice code)) (Maps IsForgotten (Zero is_slice code)))
 
 -- the value that the slice of the inner parser reads as; where it reads as none, the parser
 -- backtracks, from where it began
@@ -84,7 +87,7 @@ ReadErrors reads makes means inner partial a s (Refused r) = inner partial a s (
 
 -- ---- The laws
 
-module _ {S T : Type 0} (refusable : Type 0) (is_slice : S → Source T → ℕ → Type 0) (stay : SlicesStay is_slice) (code : T → ℕ) where
+module _ {S T : Type 0} (refusable appends : Type 0) (is_slice : S → Source T → ℕ → Type 0) (stay : SlicesStay is_slice) (code : T → ℕ) where
   -- `Digits` keeps the laws of a parser
   digits-parser : IsParser (Digits is_slice code)
   digits-parser = IsParser-Pair _ _ (IsParser-OneOf _) (IsParser-HeldFront is_slice stay _ 0 None)
@@ -94,13 +97,14 @@ module _ {S T : Type 0} (refusable : Type 0) (is_slice : S → Source T → ℕ 
   zero-parser = IsParser-Maps IsForgotten _ (IsParser-OneOf _)
 
   -- `Unsigned` keeps the laws of a parser
-  pub IsParser-Unsigned : IsParser (Unsigned refusable is_slice code)
-  IsParser-Unsigned = IsParser-Either refusable _ _ (IsParser-Maps IsForgotten _ digits-parser) zero-parser
+  pub IsParser-Unsigned : IsParser (Unsigned refusable appends is_slice code)
+  IsParser-Unsigned =
+      IsParser-Appending appends (IsParser-Either refusable _ _ (IsParser-Maps IsForgotten _ digits-parser) zero-parser)
 
   -- `Signed` keeps the laws of a parser
-  pub IsParser-Signed : IsParser (Signed refusable is_slice code)
-  IsParser-Signed =
-      IsParser-Either refusable _ _ (IsParser-Maps IsForgotten _ (IsParser-Pair _ _ (IsParser-Optional _ (IsParser-OneOf _)) digits-parser)) zero-parser
+  pub IsParser-Signed : IsParser (Signed refusable appends is_slice code)
+  IsParser-Signed = IsParser-Appending appends
+      (IsParser-Either refusable _ _ (IsParser-Maps IsForgotten _ (IsParser-Pair _ _ (IsParser-Optional _ (IsParser-OneOf _)) digits-parser)) zero-parser)
 
 module _ {S R T : Type 0} (reads : S → R → Type 0) (is_slice : S → Source T → ℕ → Type 0) (stay : SlicesStay is_slice) (inner : Meaning (Unit {0}) T) (p : IsParser inner) where
   -- `ReadAs` keeps the laws of a parser

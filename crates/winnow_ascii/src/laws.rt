@@ -42,10 +42,12 @@ where
     I::Slice: ParseSlice<R> + AsBStr,
     ensures unsigned { (view : I.Slice → V) → SlicesRespect I.is_slice (Shows view)
         → ReadsAlike view I.Slice.reads → IsDetermined (λ x y. x ≡ y)
-        (ReadAs I.Slice.reads I.is_slice (Unsigned E.or_refusable I.is_slice I.Token.code)) }
+        (ReadAs I.Slice.reads I.is_slice
+        (Unsigned E.or_refusable E.append_refusable I.is_slice I.Token.code)) }
     ensures signed { (view : I.Slice → V) → SlicesRespect I.is_slice (Shows view)
         → ReadsAlike view I.Slice.reads → IsDetermined (λ x y. x ≡ y)
-        (ReadAs I.Slice.reads I.is_slice (Signed E.or_refusable I.is_slice I.Token.code)) }
+        (ReadAs I.Slice.reads I.is_slice
+        (Signed E.or_refusable E.append_refusable I.is_slice I.Token.code)) }
     ensures hexadecimal { (view : I.Slice → V) → SlicesRespect I.is_slice (Shows view)
         → ReadsAlike view (λ s. ReadsText H.reads (I.Slice.text_bytes s))
         → IsDetermined (λ x y. x ≡ y) (Hexadecimal (λ s. ReadsText H.reads (I.Slice.text_bytes s))

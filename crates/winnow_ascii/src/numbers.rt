@@ -3,6 +3,7 @@ ghost use Rattle.winnow_count.specs.Reading.{IsSomeExactly};
 ghost use Rattle.winnow_parser.specs.Answer.{ahead, outcome};
 ghost use Rattle.winnow_parser.specs.Meanings.{Chosen, Maps, IsForgotten};
 ghost use Rattle.winnow_parser.specs.Taken.{Taken, IsParser-Taken};
+ghost use Rattle.winnow_combinator.specs.Appended.{AppendedErrors};
 ghost use Rattle.winnow_ascii.specs.Numbers.{Unsigned, Signed, ReadAs, DigitErrors, ReadErrors};
 ghost use Rattle.winnow_ascii.specs.Numbers.{Digits, SignedDigits};
 ghost use Rattle.winnow_ascii.specs.Numbers.{IsParser-Unsigned, IsParser-Signed, IsParser-ReadAs};
@@ -29,16 +30,17 @@ where
 {
     type Output = I::Slice;
 
-    ghost means = { λ _. Taken I.is_slice (Unsigned E.or_refusable I.is_slice I.Token.code) };
+    ghost means = { λ _. Taken I.is_slice (Unsigned E.or_refusable E.append_refusable I.is_slice I.Token.code) };
 
-    ghost errors = { λ _. DigitErrors (ahead I.location I.remaining)
+    ghost errors = { λ _. AppendedErrors (ahead I.Checkpoint.location I.remained) E.append_gives
+        (DigitErrors (ahead I.location I.remaining)
         (Maps IsForgotten (Digits I.is_slice I.Token.code))
-        E.from_input_gives E.assert_gives E.or_gives };
+        E.from_input_gives E.assert_gives E.or_gives) };
 
     ghost ready = { λ _. Unit {0} };
 
     ghost lawful = { λ _. IsParser-Taken I.is_slice I.slices_stay _
-        (IsParser-Unsigned E.or_refusable I.is_slice I.slices_stay I.Token.code) };
+        (IsParser-Unsigned E.or_refusable E.append_refusable I.is_slice I.slices_stay I.Token.code) };
 
     #[inline(always)]
     fn parse_next(&self, alloc: Global, input: &mut I) -> ModalResult<I::Slice, E> {
@@ -60,16 +62,17 @@ where
 {
     type Output = I::Slice;
 
-    ghost means = { λ _. Taken I.is_slice (Signed E.or_refusable I.is_slice I.Token.code) };
+    ghost means = { λ _. Taken I.is_slice (Signed E.or_refusable E.append_refusable I.is_slice I.Token.code) };
 
-    ghost errors = { λ _. DigitErrors (ahead I.location I.remaining)
+    ghost errors = { λ _. AppendedErrors (ahead I.Checkpoint.location I.remained) E.append_gives
+        (DigitErrors (ahead I.location I.remaining)
         (Maps IsForgotten (SignedDigits I.is_slice I.Token.code))
-        E.from_input_gives E.assert_gives E.or_gives };
+        E.from_input_gives E.assert_gives E.or_gives) };
 
     ghost ready = { λ _. Unit {0} };
 
     ghost lawful = { λ _. IsParser-Taken I.is_slice I.slices_stay _
-        (IsParser-Signed E.or_refusable I.is_slice I.slices_stay I.Token.code) };
+        (IsParser-Signed E.or_refusable E.append_refusable I.is_slice I.slices_stay I.Token.code) };
 
     #[inline(always)]
     fn parse_next(&self, alloc: Global, input: &mut I) -> ModalResult<I::Slice, E> {
@@ -139,18 +142,19 @@ where
     type Output = R;
 
     ghost means = { λ _. ReadAs I.Slice.reads I.is_slice
-        (Unsigned E.or_refusable I.is_slice I.Token.code) };
+        (Unsigned E.or_refusable E.append_refusable I.is_slice I.Token.code) };
 
     ghost errors = { λ _. ReadErrors I.Slice.reads E.from_input_gives
-        (Taken I.is_slice (Unsigned E.or_refusable I.is_slice I.Token.code))
+        (Taken I.is_slice (Unsigned E.or_refusable E.append_refusable I.is_slice I.Token.code))
+        (AppendedErrors (ahead I.Checkpoint.location I.remained) E.append_gives
         (DigitErrors (ahead I.location I.remaining)
         (Maps IsForgotten (Digits I.is_slice I.Token.code))
-        E.from_input_gives E.assert_gives E.or_gives) };
+        E.from_input_gives E.assert_gives E.or_gives)) };
 
     ghost ready = { λ _. Unit {0} };
 
     ghost lawful = { λ _. IsParser-ReadAs I.Slice.reads I.is_slice I.slices_stay _
-        (IsParser-Unsigned E.or_refusable I.is_slice I.slices_stay I.Token.code) };
+        (IsParser-Unsigned E.or_refusable E.append_refusable I.is_slice I.slices_stay I.Token.code) };
 
     fn parse_next(&self, alloc: Global, input: &mut I) -> ModalResult<R, E> {
         read_as(&UnsignedDigits, alloc, input)
@@ -178,18 +182,19 @@ where
     type Output = R;
 
     ghost means = { λ _. ReadAs I.Slice.reads I.is_slice
-        (Signed E.or_refusable I.is_slice I.Token.code) };
+        (Signed E.or_refusable E.append_refusable I.is_slice I.Token.code) };
 
     ghost errors = { λ _. ReadErrors I.Slice.reads E.from_input_gives
-        (Taken I.is_slice (Signed E.or_refusable I.is_slice I.Token.code))
+        (Taken I.is_slice (Signed E.or_refusable E.append_refusable I.is_slice I.Token.code))
+        (AppendedErrors (ahead I.Checkpoint.location I.remained) E.append_gives
         (DigitErrors (ahead I.location I.remaining)
         (Maps IsForgotten (SignedDigits I.is_slice I.Token.code))
-        E.from_input_gives E.assert_gives E.or_gives) };
+        E.from_input_gives E.assert_gives E.or_gives)) };
 
     ghost ready = { λ _. Unit {0} };
 
     ghost lawful = { λ _. IsParser-ReadAs I.Slice.reads I.is_slice I.slices_stay _
-        (IsParser-Signed E.or_refusable I.is_slice I.slices_stay I.Token.code) };
+        (IsParser-Signed E.or_refusable E.append_refusable I.is_slice I.slices_stay I.Token.code) };
 
     fn parse_next(&self, alloc: Global, input: &mut I) -> ModalResult<R, E> {
         read_as(&SignedDigits, alloc, input)

@@ -5,10 +5,13 @@ use Rattle.winnow_stream.specs.Source.{Source}
 use Rattle.winnow_stream.specs.Front.{front}
 use Rattle.winnow_stream.specs.Longer.{SlicesStay, front-longer}
 use Rattle.winnow_parser.specs.Outcome.{Ahead, Meaning}
+use Rattle.winnow_parser.specs.Errors.{Errors}
 use Rattle.winnow_parser.specs.Laws.{IsParser}
 use Rattle.winnow_parser.specs.Continued.{Continued, IsParser-Continued}
 use Rattle.winnow_token.specs.Counted.{Counted, IsParser-Counted}
-use Rattle.winnow_combinator.specs.Repetition.{Repeated, IsParser-Repeated}
+use Rattle.winnow_combinator.specs.Appended.{AppendingIf, AppendedErrorsIf, needs_some, IsParser-AppendingIf}
+use Rattle.winnow_combinator.specs.Misuse.{TakingErrors, GatheredErrors}
+use Rattle.winnow_combinator.specs.Repetition.{Repeated, RepeatedErrors, IsParser-Repeated}
 use Rattle.winnow_combinator.specs.Gathering.{Gathered, IsParser-Gathered}
 
 -- the value of the first parser is this number
@@ -33,14 +36,22 @@ abbrev pub CountedFront : {L S T : Type 0} → (L → ℕ) → (S → Ahead T) �
     → Meaning S T
 CountedFront number stands counts_shortage length = Continued (IsNumber number) (FrontOf stands counts_shortage) length
 
--- n values of the parser, one after the other, and what is made of them
-abbrev pub Times : {O A T : Type 0} → Type 0 → (List O → A → Type 0) → Meaning O T → ℕ → Meaning A T
-Times refusable makes inner n = Gathered refusable makes (Repeated n (Some n) inner)
+-- n values of the parser, one after the other, and what is made of them; memory may be refused
+-- while the error of a missing value is appended to
+abbrev pub Times : {O A T : Type 0} → Type 0 → Type 0 → (List O → A → Type 0) → Meaning O T → ℕ
+    → Meaning A T
+Times refusable appends makes inner n = Gathered refusable makes (AppendingIf (needs_some n) appends (Repeated n (Some n) inner))
 
 -- a count, and then that number of values
-abbrev pub CountedValues : {L O A T : Type 0} → (L → ℕ) → Type 0 → (List O → A → Type 0)
-    → Meaning L T → Meaning O T → Meaning A T
-CountedValues number refusable makes length inner = Continued (IsNumber number) (Times refusable makes inner) length
+abbrev pub CountedValues : {L O A T : Type 0} → (L → ℕ) → Type 0 → Type 0
+    → (List O → A → Type 0) → Meaning L T → Meaning O T → Meaning A T
+CountedValues number refusable appends makes length inner = Continued (IsNumber number) (Times refusable appends makes inner) length
+
+-- the errors of n values: that of a missing value is appended to
+abbrev pub TimesErrors : {O E S C T : Type 0} → (C → Ahead T) → (E → S → C → E → Type 0)
+    → (S → E → Type 0) → Meaning O T → Errors E S T → ℕ → Errors E S T
+TimesErrors stood appends cuts inner errors n = GatheredErrors (RepeatedErrors inner
+    (AppendedErrorsIf (needs_some n) stood appends (TakingErrors cuts inner errors)))
 
 -- ---- The laws
 
@@ -77,9 +88,9 @@ module _ {S T : Type 0} (stands : S → Ahead T) (counts_shortage : Bool) where
       IsParser-Continued (IsNumber number) (FrontOf stands counts_shortage) length IsParser-FrontOf p
 
 -- `CountedValues` keeps the laws of a parser
-pub IsParser-CountedValues : {L O A T : Type 0} (number : L → ℕ) (refusable : Type 0)
+pub IsParser-CountedValues : {L O A T : Type 0} (number : L → ℕ) (refusable appends : Type 0)
     (makes : List O → A → Type 0) (length : Meaning L T) (inner : Meaning O T) → IsParser length
-    → IsParser inner → IsParser (CountedValues number refusable makes length inner)
-IsParser-CountedValues number refusable makes length inner p q =
-    IsParser-Continued (IsNumber number) (Times refusable makes inner) length
-    (λ n. IsParser-Gathered refusable makes (IsParser-Repeated n (Some n) q)) p
+    → IsParser inner → IsParser (CountedValues number refusable appends makes length inner)
+IsParser-CountedValues number refusable appends makes length inner p q =
+    IsParser-Continued (IsNumber number) (Times refusable appends makes inner) length
+    (λ n. IsParser-Gathered refusable makes (IsParser-AppendingIf (needs_some n) appends (IsParser-Repeated n (Some n) q))) p

@@ -11,6 +11,7 @@ ghost use Rattle.winnow_binary.specs.Within.{Within};
 
 use crate::{FixedNumber, Length};
 use winnow_count::Accumulate;
+use winnow_error::ParserError;
 use winnow_parser::Parser;
 use winnow_stream::StreamIsPartial;
 
@@ -31,7 +32,16 @@ pub fn fixed_number_law<R: FixedNumber>()
 /// one answer each, so have the slice of that number of tokens and that number of values. A view
 /// shows what counts of a value or of a slice. It does nothing when called: its contract is the
 /// law.
-pub fn determined_length_law<I: StreamIsPartial, E, P: Parser<I, E>, Q: Parser<I, E>, A, V, W, X>()
+pub fn determined_length_law<
+    I: StreamIsPartial,
+    E: ParserError<I>,
+    P: Parser<I, E>,
+    Q: Parser<I, E>,
+    A,
+    V,
+    W,
+    X,
+>()
 where
     P::Output: Length,
     A: Accumulate<Q::Output>,
@@ -44,7 +54,7 @@ where
         → IsDetermined (Shows P.Output.number) (P.means p)
         → IsDetermined (Shows view) (Q.means q)
         → IsDetermined (Shows whole) (CountedValues P.Output.number A.refusable
-        (λ values a. A.holds a values) (P.means p) (Q.means q)) }
+        E.append_refusable (λ values a. A.holds a values) (P.means p) (Q.means q)) }
 {}
 
 /// The law of one answer for what is read in a part alone: where the count and the inner parser

@@ -1,8 +1,8 @@
 ghost use Rattle.std.specs.Prelude.{◌≡◌};
-ghost use Rattle.winnow_parser.specs.Errors.{PairErrors};
-ghost use Rattle.winnow_combinator.specs.Repetition.{RepeatedErrors};
-ghost use Rattle.winnow_combinator.specs.Misuse.{TakingErrors, GatheredErrors};
-ghost use Rattle.winnow_binary.specs.Lengths.{CountedValues, IsParser-CountedValues};
+ghost use Rattle.winnow_parser.specs.Answer.{ahead};
+ghost use Rattle.winnow_parser.specs.Errors.{ContinuedErrors};
+ghost use Rattle.winnow_binary.specs.Lengths.{IsNumber, CountedValues, TimesErrors};
+ghost use Rattle.winnow_binary.specs.Lengths.{IsParser-CountedValues};
 
 use crate::Length;
 use std::alloc::Global;
@@ -25,7 +25,8 @@ pub struct LengthRepeated<P, Q, A> {
 /// Returns the parser of a count, and then of that number of values of the inner parser, which it
 /// gathers in an `A`. Memory is asked for as values come, never for the count.
 ///
-/// It cuts where the inner parser gives a value and takes nothing.
+/// It cuts where the inner parser gives a value and takes nothing. Where a value is missing, `append`
+/// records in the inner parser's error that this one failed.
 pub fn length_repeat<P, Q, A>(length: P, inner: Q) -> LengthRepeated<P, Q, A>
     ensures length { result.length ≡ length }
     ensures inner { result.inner ≡ inner }
@@ -46,16 +47,16 @@ where
 {
     type Output = A;
 
-    ghost means = { λ p. CountedValues P.Output.number A.refusable
+    ghost means = { λ p. CountedValues P.Output.number A.refusable E.append_refusable
         (λ values whole. A.holds whole values) (P.means p.length) (Q.means p.inner) };
 
-    ghost errors = { λ p. PairErrors (P.means p.length) (P.errors p.length)
-        (GatheredErrors (RepeatedErrors (Q.means p.inner)
-        (TakingErrors E.assert_gives (Q.means p.inner) (Q.errors p.inner)))) };
+    ghost errors = { λ p. ContinuedErrors (IsNumber P.Output.number)
+        (TimesErrors (ahead I.Checkpoint.location I.remained) E.append_gives E.assert_gives
+        (Q.means p.inner) (Q.errors p.inner)) (P.means p.length) (P.errors p.length) };
 
     ghost ready = { λ p. P.ready p.length × Q.ready p.inner };
 
-    ghost lawful = { λ p. IsParser-CountedValues P.Output.number A.refusable
+    ghost lawful = { λ p. IsParser-CountedValues P.Output.number A.refusable E.append_refusable
         (λ values whole. A.holds whole values) (P.means p.length) (Q.means p.inner)
         (P.lawful p.length) (Q.lawful p.inner) };
 

@@ -1,3 +1,4 @@
+pub mod AppendedLemmas
 pub mod AgreeingLemmas
 pub mod CombinedLemmas
 pub mod CountLemmas

@@ -1,3 +1,4 @@
+pub mod Appended
 pub mod Bracketing
 pub mod ChoiceErrors
 pub mod Choices

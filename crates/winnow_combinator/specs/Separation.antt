@@ -2,11 +2,12 @@
 use Rattle.std.specs.Prelude.{◌≡◌, ℕ, ◌+◌, ◌-◌, ◌^◌, ◌≤◌, zero, suc, List, [], ◌∷◌, Option, Some, None, ◌⊎◌}
 use Rattle.std.specs.List.{FoldsTo}
 use Rattle.winnow_stream.specs.Source.{width}
-use Rattle.winnow_parser.specs.Outcome.{Backtracks, Cuts, Needs, Refuses, Gives, Fails, Meaning}
+use Rattle.winnow_parser.specs.Outcome.{Ahead, Backtracks, Cuts, Needs, Refuses, Gives, Fails, Meaning}
 use Rattle.winnow_parser.specs.Errors.{Errors, PairErrors}
 use Rattle.winnow_parser.specs.Laws.{IsStable, IsOnward, IsParser}
 use Rattle.winnow_parser.specs.Meanings.{Returns, Maps, Pair, Preceded, Optional}
 use Rattle.winnow_parser.specs.Parts.{IsParser-Returns, IsParser-Maps, IsParser-Pair, IsParser-Preceded, IsParser-Optional}
+use Rattle.winnow_combinator.specs.Appended.{AppendedErrorsIf, needs_some, appends_to_first}
 use Rattle.winnow_combinator.specs.Counts.{fewer}
 use Rattle.winnow_combinator.specs.Misuse.{TakingErrors}
 use Rattle.winnow_combinator.specs.Repetition.{Repeated, RepeatedErrors, IsParser-Repeated}
@@ -63,6 +64,16 @@ abbrev pub ListErrors : {O P Q E S T : Type 0} → (S → E → Type 0) → Mean
     → Errors E S T → Meaning O T → Errors E S T → Errors E S T
 ListErrors cuts pairs separator separator_errors inner errors =
     PairErrors inner errors (RepeatedErrors pairs (TakingErrors cuts pairs (PairErrors separator separator_errors errors)))
+
+-- the errors of the first value; or, after it and some pairs, those of the next separator and its
+-- value. Where these are needed, the error of a backtrack is appended to, by the stream as it is left
+-- and a checkpoint of where they were asked for
+abbrev pub SeparatedErrors : {O P Q C E S T : Type 0} → ℕ → Option ℕ → (C → Ahead T)
+    → (E → S → C → E → Type 0) → (S → E → Type 0) → Meaning Q T → Meaning P T → Errors E S T
+    → Meaning O T → Errors E S T → Errors E S T
+SeparatedErrors least greatest stood gives cuts pairs separator separator_errors inner errors =
+    PairErrors inner (AppendedErrorsIf (appends_to_first least greatest) stood gives errors)
+    (RepeatedErrors pairs (AppendedErrorsIf (needs_some (least - 1)) stood gives (TakingErrors cuts pairs (PairErrors separator separator_errors errors))))
 
 module _ {O S T : Type 0} {separator : Meaning S T} {inner : Meaning O T} (q : IsParser separator) (p : IsParser inner) where
   -- `FoldedLeft` keeps the laws of a parser

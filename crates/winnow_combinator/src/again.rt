@@ -2,6 +2,7 @@ ghost use Rattle.std.specs.Prelude.{◌+◌, ◌<◌, ◌^◌, List, length, IfE
 ghost use Rattle.std.specs.List.{FoldsTo};
 ghost use Rattle.winnow_stream.specs.Source.{width};
 ghost use Rattle.winnow_parser.specs.Answer.{ahead, outcome};
+ghost use Rattle.winnow_combinator.specs.Appended.{AppendingIf, AppendedErrorsIf, needs_some};
 ghost use Rattle.winnow_combinator.specs.Counts.{Ascends};
 ghost use Rattle.winnow_combinator.specs.Misuse.{TakingErrors, GatheredErrors};
 ghost use Rattle.winnow_combinator.specs.Repetition.{Taking, IsParser-Taking, OneMore, Repeated};
@@ -50,22 +51,27 @@ where
 }
 
 // Asks a parser for one more value, after `count` values. Returns `None`, and resets the stream,
-// where the parser backtracks and these values are enough.
+// where the parser backtracks and these values are enough. Where they are not, the parser backtracks
+// too, and `append` records that in its error if `appends` says so.
 #[inline(always)]
 pub(crate) fn one_more<I: StreamIsPartial, E: ParserError<I>, P: Parser<I, E>>(
     parser: &P,
     least: usize,
     count: usize,
+    appends: bool,
     alloc: Global,
     input: &mut I,
 ) -> ModalResult<Option<P::Output>, E>
     requires ready { P.ready parser.now }
     requires valid { I.valid input.old }
-    ensures means { OneMore least count (P.means parser.now) (I.expects_more input.old)
+    ensures means { AppendingIf appends E.append_refusable
+        (OneMore least count (P.means parser.now))
+        (I.expects_more input.old)
         (ahead I.location I.remaining input.old)
         (outcome result (ahead I.location I.remaining input.new)) }
-    ensures error { IfErr result (P.errors parser.now (I.expects_more input.old)
-        (ahead I.location I.remaining input.old) input.new) }
+    ensures error { IfErr result (AppendedErrorsIf appends
+        (ahead I.Checkpoint.location I.remained) E.append_gives (P.errors parser.now)
+        (I.expects_more input.old) (ahead I.location I.remaining input.old) input.new) }
     ensures valid { I.valid input.new }
     ensures kept { I.keeps input.old input.new }
 {
@@ -73,11 +79,17 @@ pub(crate) fn one_more<I: StreamIsPartial, E: ParserError<I>, P: Parser<I, E>>(
     match parser.parse_next(alloc, input) {
         Ok(value) => Ok(Some(value)),
         Err(Failure::Backtrack(error)) => {
-            if count < least {
+            if least <= count {
+                input.reset(&start);
+                return Ok(None);
+            }
+            if !appends {
                 return Err(Failure::Backtrack(error));
             }
-            input.reset(&start);
-            Ok(None)
+            match error.append(alloc, input, &start) {
+                Ok(appended) => Err(Failure::Backtrack(appended)),
+                Err(refused) => Err(Failure::Refused(refused)),
+            }
         }
         Err(Failure::Cut(error)) => Err(Failure::Cut(error)),
         Err(Failure::Incomplete(needed)) => Err(Failure::Incomplete(needed)),
@@ -113,13 +125,16 @@ where
     requires room { (before : List P.Output) × (G.makes again.now.gather.now before whole
         × (length before + width (I.remaining input.old) < 2 ^ 64)) }
     ensures means { Gathered G.refusable (FoldsTo (G.takes again.now.gather.now) whole)
-        (Repeated again.now.counts.least again.now.counts.greatest (P.means again.now.parser.now))
+        (AppendingIf (needs_some again.now.counts.least) E.append_refusable
+        (Repeated again.now.counts.least again.now.counts.greatest (P.means again.now.parser.now)))
         (I.expects_more input.old)
         (ahead I.location I.remaining input.old)
         (outcome result (ahead I.location I.remaining input.new)) }
     ensures error { IfErr result (GatheredErrors (RepeatedErrors (P.means again.now.parser.now)
+        (AppendedErrorsIf (needs_some again.now.counts.least)
+        (ahead I.Checkpoint.location I.remained) E.append_gives
         (TakingErrors E.assert_gives (P.means again.now.parser.now)
-        (P.errors again.now.parser.now)))
+        (P.errors again.now.parser.now))))
         (I.expects_more input.old) (ahead I.location I.remaining input.old) input.new) }
     ensures valid { I.valid input.new }
     ensures kept { I.keeps input.old input.new }
@@ -129,7 +144,7 @@ where
     };
     let mut count = 0;
     while again.counts.allow_more(count) {
-        match one_more(&parser, again.counts.least, count, alloc, input) {
+        match one_more(&parser, again.counts.least, count, true, alloc, input) {
             Ok(Some(value)) => match again.gather.take(alloc, &mut whole, value) {
                 Ok(()) => count += 1,
                 Err(refused) => return Err(Failure::Refused(refused)),

@@ -1,4 +1,5 @@
 ghost use Rattle.winnow_parser.specs.Answer.{ahead};
+ghost use Rattle.winnow_combinator.specs.Appended.{Appending, AppendedErrors, IsParser-Appending};
 ghost use Rattle.winnow_combinator.specs.ChoiceErrors.{ChoiceErrors4, ChoiceErrors5};
 ghost use Rattle.winnow_combinator.specs.ChoiceErrors.{ChoiceErrors6, ChoiceErrors7};
 ghost use Rattle.winnow_combinator.specs.Choices.{Choice4, IsParser-Choice4};
@@ -7,6 +8,8 @@ ghost use Rattle.winnow_combinator.specs.Choices.{Choice6, IsParser-Choice6};
 ghost use Rattle.winnow_combinator.specs.Choices.{Choice7, IsParser-Choice7};
 
 use crate::Alternatives;
+use crate::appended::Appended;
+use crate::choice::Choice;
 use std::alloc::Global;
 use winnow_error::ParserError;
 use winnow_parser::{ModalResult, Parser};
@@ -23,27 +26,25 @@ impl<
 > Parser<I, E> for Alternatives<(A, B, C, D)> {
     type Output = A::Output;
 
-    ghost means = { λ p. Choice4 E.or_refusable (A.means p.list.0) (B.means p.list.1)
-        (C.means p.list.2) (D.means p.list.3) };
+    ghost means = { λ p. Appending E.append_refusable (Choice4 E.or_refusable (A.means p.list.0)
+        (B.means p.list.1) (C.means p.list.2) (D.means p.list.3)) };
 
-    ghost errors = { λ p. ChoiceErrors4 (ahead I.location I.remaining) E.or_refusable E.or_gives
-        (A.means p.list.0) (A.errors p.list.0) (B.means p.list.1) (B.errors p.list.1)
-        (C.means p.list.2) (C.errors p.list.2) (D.errors p.list.3) };
+    ghost errors = { λ p. AppendedErrors (ahead I.Checkpoint.location I.remained) E.append_gives
+        (ChoiceErrors4 (ahead I.location I.remaining) E.or_refusable E.or_gives (A.means p.list.0)
+        (A.errors p.list.0) (B.means p.list.1) (B.errors p.list.1) (C.means p.list.2)
+        (C.errors p.list.2) (D.errors p.list.3)) };
 
     ghost ready = { λ p. A.ready p.list.0 × B.ready p.list.1 × C.ready p.list.2
         × D.ready p.list.3 };
 
-    ghost lawful = { λ p. IsParser-Choice4 E.or_refusable (A.lawful p.list.0) (B.lawful p.list.1)
-        (C.lawful p.list.2) (D.lawful p.list.3) };
+    ghost lawful = { λ p. IsParser-Appending E.append_refusable (IsParser-Choice4 E.or_refusable
+        (A.lawful p.list.0) (B.lawful p.list.1) (C.lawful p.list.2) (D.lawful p.list.3)) };
 
     fn parse_next(&self, alloc: Global, input: &mut I) -> ModalResult<A::Output, E> {
-        let first = Alternatives {
-            list: (&self.list.0, &self.list.1, &self.list.2),
+        let choice = Choice {
+            list: (&self.list.0, &self.list.1, &self.list.2, &self.list.3),
         };
-        Alternatives {
-            list: (first, &self.list.3),
-        }
-        .parse_next(alloc, input)
+        Appended { inner: &choice }.parse_next(alloc, input)
     }
 }
 
@@ -59,28 +60,32 @@ impl<
 > Parser<I, E> for Alternatives<(A, B, C, D, F)> {
     type Output = A::Output;
 
-    ghost means = { λ p. Choice5 E.or_refusable (A.means p.list.0) (B.means p.list.1)
-        (C.means p.list.2) (D.means p.list.3) (F.means p.list.4) };
+    ghost means = { λ p. Appending E.append_refusable (Choice5 E.or_refusable (A.means p.list.0)
+        (B.means p.list.1) (C.means p.list.2) (D.means p.list.3) (F.means p.list.4)) };
 
-    ghost errors = { λ p. ChoiceErrors5 (ahead I.location I.remaining) E.or_refusable E.or_gives
-        (A.means p.list.0) (A.errors p.list.0) (B.means p.list.1) (B.errors p.list.1)
-        (C.means p.list.2) (C.errors p.list.2) (D.means p.list.3) (D.errors p.list.3)
-        (F.errors p.list.4) };
+    ghost errors = { λ p. AppendedErrors (ahead I.Checkpoint.location I.remained) E.append_gives
+        (ChoiceErrors5 (ahead I.location I.remaining) E.or_refusable E.or_gives (A.means p.list.0)
+        (A.errors p.list.0) (B.means p.list.1) (B.errors p.list.1) (C.means p.list.2)
+        (C.errors p.list.2) (D.means p.list.3) (D.errors p.list.3) (F.errors p.list.4)) };
 
     ghost ready = { λ p. A.ready p.list.0 × B.ready p.list.1 × C.ready p.list.2 × D.ready p.list.3
         × F.ready p.list.4 };
 
-    ghost lawful = { λ p. IsParser-Choice5 E.or_refusable (A.lawful p.list.0) (B.lawful p.list.1)
-        (C.lawful p.list.2) (D.lawful p.list.3) (F.lawful p.list.4) };
+    ghost lawful = { λ p. IsParser-Appending E.append_refusable (IsParser-Choice5 E.or_refusable
+        (A.lawful p.list.0) (B.lawful p.list.1) (C.lawful p.list.2) (D.lawful p.list.3)
+        (F.lawful p.list.4)) };
 
     fn parse_next(&self, alloc: Global, input: &mut I) -> ModalResult<A::Output, E> {
-        let first = Alternatives {
-            list: (&self.list.0, &self.list.1, &self.list.2, &self.list.3),
+        let choice = Choice {
+            list: (
+                &self.list.0,
+                &self.list.1,
+                &self.list.2,
+                &self.list.3,
+                &self.list.4,
+            ),
         };
-        Alternatives {
-            list: (first, &self.list.4),
-        }
-        .parse_next(alloc, input)
+        Appended { inner: &choice }.parse_next(alloc, input)
     }
 }
 
@@ -97,34 +102,35 @@ impl<
 > Parser<I, E> for Alternatives<(A, B, C, D, F, G)> {
     type Output = A::Output;
 
-    ghost means = { λ p. Choice6 E.or_refusable (A.means p.list.0) (B.means p.list.1)
-        (C.means p.list.2) (D.means p.list.3) (F.means p.list.4) (G.means p.list.5) };
+    ghost means = { λ p. Appending E.append_refusable (Choice6 E.or_refusable (A.means p.list.0)
+        (B.means p.list.1) (C.means p.list.2) (D.means p.list.3) (F.means p.list.4)
+        (G.means p.list.5)) };
 
-    ghost errors = { λ p. ChoiceErrors6 (ahead I.location I.remaining) E.or_refusable E.or_gives
-        (A.means p.list.0) (A.errors p.list.0) (B.means p.list.1) (B.errors p.list.1)
-        (C.means p.list.2) (C.errors p.list.2) (D.means p.list.3) (D.errors p.list.3)
-        (F.means p.list.4) (F.errors p.list.4) (G.errors p.list.5) };
+    ghost errors = { λ p. AppendedErrors (ahead I.Checkpoint.location I.remained) E.append_gives
+        (ChoiceErrors6 (ahead I.location I.remaining) E.or_refusable E.or_gives (A.means p.list.0)
+        (A.errors p.list.0) (B.means p.list.1) (B.errors p.list.1) (C.means p.list.2)
+        (C.errors p.list.2) (D.means p.list.3) (D.errors p.list.3) (F.means p.list.4)
+        (F.errors p.list.4) (G.errors p.list.5)) };
 
     ghost ready = { λ p. A.ready p.list.0 × B.ready p.list.1 × C.ready p.list.2 × D.ready p.list.3
         × F.ready p.list.4 × G.ready p.list.5 };
 
-    ghost lawful = { λ p. IsParser-Choice6 E.or_refusable (A.lawful p.list.0) (B.lawful p.list.1)
-        (C.lawful p.list.2) (D.lawful p.list.3) (F.lawful p.list.4) (G.lawful p.list.5) };
+    ghost lawful = { λ p. IsParser-Appending E.append_refusable (IsParser-Choice6 E.or_refusable
+        (A.lawful p.list.0) (B.lawful p.list.1) (C.lawful p.list.2) (D.lawful p.list.3)
+        (F.lawful p.list.4) (G.lawful p.list.5)) };
 
     fn parse_next(&self, alloc: Global, input: &mut I) -> ModalResult<A::Output, E> {
-        let first = Alternatives {
+        let choice = Choice {
             list: (
                 &self.list.0,
                 &self.list.1,
                 &self.list.2,
                 &self.list.3,
                 &self.list.4,
+                &self.list.5,
             ),
         };
-        Alternatives {
-            list: (first, &self.list.5),
-        }
-        .parse_next(alloc, input)
+        Appended { inner: &choice }.parse_next(alloc, input)
     }
 }
 
@@ -142,25 +148,25 @@ impl<
 > Parser<I, E> for Alternatives<(A, B, C, D, F, G, H)> {
     type Output = A::Output;
 
-    ghost means = { λ p. Choice7 E.or_refusable (A.means p.list.0) (B.means p.list.1)
-        (C.means p.list.2) (D.means p.list.3) (F.means p.list.4) (G.means p.list.5)
-        (H.means p.list.6) };
+    ghost means = { λ p. Appending E.append_refusable (Choice7 E.or_refusable (A.means p.list.0)
+        (B.means p.list.1) (C.means p.list.2) (D.means p.list.3) (F.means p.list.4)
+        (G.means p.list.5) (H.means p.list.6)) };
 
-    ghost errors = { λ p. ChoiceErrors7 (ahead I.location I.remaining) E.or_refusable E.or_gives
-        (A.means p.list.0) (A.errors p.list.0) (B.means p.list.1) (B.errors p.list.1)
-        (C.means p.list.2) (C.errors p.list.2) (D.means p.list.3) (D.errors p.list.3)
-        (F.means p.list.4) (F.errors p.list.4) (G.means p.list.5) (G.errors p.list.5)
-        (H.errors p.list.6) };
+    ghost errors = { λ p. AppendedErrors (ahead I.Checkpoint.location I.remained) E.append_gives
+        (ChoiceErrors7 (ahead I.location I.remaining) E.or_refusable E.or_gives (A.means p.list.0)
+        (A.errors p.list.0) (B.means p.list.1) (B.errors p.list.1) (C.means p.list.2)
+        (C.errors p.list.2) (D.means p.list.3) (D.errors p.list.3) (F.means p.list.4)
+        (F.errors p.list.4) (G.means p.list.5) (G.errors p.list.5) (H.errors p.list.6)) };
 
     ghost ready = { λ p. A.ready p.list.0 × B.ready p.list.1 × C.ready p.list.2 × D.ready p.list.3
         × F.ready p.list.4 × G.ready p.list.5 × H.ready p.list.6 };
 
-    ghost lawful = { λ p. IsParser-Choice7 E.or_refusable (A.lawful p.list.0) (B.lawful p.list.1)
-        (C.lawful p.list.2) (D.lawful p.list.3) (F.lawful p.list.4) (G.lawful p.list.5)
-        (H.lawful p.list.6) };
+    ghost lawful = { λ p. IsParser-Appending E.append_refusable (IsParser-Choice7 E.or_refusable
+        (A.lawful p.list.0) (B.lawful p.list.1) (C.lawful p.list.2) (D.lawful p.list.3)
+        (F.lawful p.list.4) (G.lawful p.list.5) (H.lawful p.list.6)) };
 
     fn parse_next(&self, alloc: Global, input: &mut I) -> ModalResult<A::Output, E> {
-        let first = Alternatives {
+        let choice = Choice {
             list: (
                 &self.list.0,
                 &self.list.1,
@@ -168,11 +174,9 @@ impl<
                 &self.list.3,
                 &self.list.4,
                 &self.list.5,
+                &self.list.6,
             ),
         };
-        Alternatives {
-            list: (first, &self.list.6),
-        }
-        .parse_next(alloc, input)
+        Appended { inner: &choice }.parse_next(alloc, input)
     }
 }

@@ -1,4 +1,5 @@
 ghost use Rattle.winnow_parser.specs.Answer.{ahead};
+ghost use Rattle.winnow_combinator.specs.Appended.{Appending, AppendedErrors, IsParser-Appending};
 ghost use Rattle.winnow_combinator.specs.ChoiceErrors.{ChoiceErrors8, ChoiceErrors9};
 ghost use Rattle.winnow_combinator.specs.ChoiceErrors.{ChoiceErrors10};
 ghost use Rattle.winnow_combinator.specs.Choices.{Choice8, IsParser-Choice8};
@@ -6,6 +7,8 @@ ghost use Rattle.winnow_combinator.specs.Choices.{Choice9, IsParser-Choice9};
 ghost use Rattle.winnow_combinator.specs.Choices.{Choice10, IsParser-Choice10};
 
 use crate::Alternatives;
+use crate::appended::Appended;
+use crate::choice::Choice;
 use std::alloc::Global;
 use winnow_error::ParserError;
 use winnow_parser::{ModalResult, Parser};
@@ -26,25 +29,26 @@ impl<
 > Parser<I, E> for Alternatives<(A, B, C, D, F, G, H, J)> {
     type Output = A::Output;
 
-    ghost means = { λ p. Choice8 E.or_refusable (A.means p.list.0) (B.means p.list.1)
-        (C.means p.list.2) (D.means p.list.3) (F.means p.list.4) (G.means p.list.5)
-        (H.means p.list.6) (J.means p.list.7) };
+    ghost means = { λ p. Appending E.append_refusable (Choice8 E.or_refusable (A.means p.list.0)
+        (B.means p.list.1) (C.means p.list.2) (D.means p.list.3) (F.means p.list.4)
+        (G.means p.list.5) (H.means p.list.6) (J.means p.list.7)) };
 
-    ghost errors = { λ p. ChoiceErrors8 (ahead I.location I.remaining) E.or_refusable E.or_gives
-        (A.means p.list.0) (A.errors p.list.0) (B.means p.list.1) (B.errors p.list.1)
-        (C.means p.list.2) (C.errors p.list.2) (D.means p.list.3) (D.errors p.list.3)
-        (F.means p.list.4) (F.errors p.list.4) (G.means p.list.5) (G.errors p.list.5)
-        (H.means p.list.6) (H.errors p.list.6) (J.errors p.list.7) };
+    ghost errors = { λ p. AppendedErrors (ahead I.Checkpoint.location I.remained) E.append_gives
+        (ChoiceErrors8 (ahead I.location I.remaining) E.or_refusable E.or_gives (A.means p.list.0)
+        (A.errors p.list.0) (B.means p.list.1) (B.errors p.list.1) (C.means p.list.2)
+        (C.errors p.list.2) (D.means p.list.3) (D.errors p.list.3) (F.means p.list.4)
+        (F.errors p.list.4) (G.means p.list.5) (G.errors p.list.5) (H.means p.list.6)
+        (H.errors p.list.6) (J.errors p.list.7)) };
 
     ghost ready = { λ p. A.ready p.list.0 × B.ready p.list.1 × C.ready p.list.2 × D.ready p.list.3
         × F.ready p.list.4 × G.ready p.list.5 × H.ready p.list.6 × J.ready p.list.7 };
 
-    ghost lawful = { λ p. IsParser-Choice8 E.or_refusable (A.lawful p.list.0) (B.lawful p.list.1)
-        (C.lawful p.list.2) (D.lawful p.list.3) (F.lawful p.list.4) (G.lawful p.list.5)
-        (H.lawful p.list.6) (J.lawful p.list.7) };
+    ghost lawful = { λ p. IsParser-Appending E.append_refusable (IsParser-Choice8 E.or_refusable
+        (A.lawful p.list.0) (B.lawful p.list.1) (C.lawful p.list.2) (D.lawful p.list.3)
+        (F.lawful p.list.4) (G.lawful p.list.5) (H.lawful p.list.6) (J.lawful p.list.7)) };
 
     fn parse_next(&self, alloc: Global, input: &mut I) -> ModalResult<A::Output, E> {
-        let first = Alternatives {
+        let choice = Choice {
             list: (
                 &self.list.0,
                 &self.list.1,
@@ -53,12 +57,10 @@ impl<
                 &self.list.4,
                 &self.list.5,
                 &self.list.6,
+                &self.list.7,
             ),
         };
-        Alternatives {
-            list: (first, &self.list.7),
-        }
-        .parse_next(alloc, input)
+        Appended { inner: &choice }.parse_next(alloc, input)
     }
 }
 
@@ -78,27 +80,28 @@ impl<
 > Parser<I, E> for Alternatives<(A, B, C, D, F, G, H, J, K)> {
     type Output = A::Output;
 
-    ghost means = { λ p. Choice9 E.or_refusable (A.means p.list.0) (B.means p.list.1)
-        (C.means p.list.2) (D.means p.list.3) (F.means p.list.4) (G.means p.list.5)
-        (H.means p.list.6) (J.means p.list.7) (K.means p.list.8) };
+    ghost means = { λ p. Appending E.append_refusable (Choice9 E.or_refusable (A.means p.list.0)
+        (B.means p.list.1) (C.means p.list.2) (D.means p.list.3) (F.means p.list.4)
+        (G.means p.list.5) (H.means p.list.6) (J.means p.list.7) (K.means p.list.8)) };
 
-    ghost errors = { λ p. ChoiceErrors9 (ahead I.location I.remaining) E.or_refusable E.or_gives
-        (A.means p.list.0) (A.errors p.list.0) (B.means p.list.1) (B.errors p.list.1)
-        (C.means p.list.2) (C.errors p.list.2) (D.means p.list.3) (D.errors p.list.3)
-        (F.means p.list.4) (F.errors p.list.4) (G.means p.list.5) (G.errors p.list.5)
-        (H.means p.list.6) (H.errors p.list.6) (J.means p.list.7) (J.errors p.list.7)
-        (K.errors p.list.8) };
+    ghost errors = { λ p. AppendedErrors (ahead I.Checkpoint.location I.remained) E.append_gives
+        (ChoiceErrors9 (ahead I.location I.remaining) E.or_refusable E.or_gives (A.means p.list.0)
+        (A.errors p.list.0) (B.means p.list.1) (B.errors p.list.1) (C.means p.list.2)
+        (C.errors p.list.2) (D.means p.list.3) (D.errors p.list.3) (F.means p.list.4)
+        (F.errors p.list.4) (G.means p.list.5) (G.errors p.list.5) (H.means p.list.6)
+        (H.errors p.list.6) (J.means p.list.7) (J.errors p.list.7) (K.errors p.list.8)) };
 
     ghost ready = { λ p. A.ready p.list.0 × B.ready p.list.1 × C.ready p.list.2 × D.ready p.list.3
         × F.ready p.list.4 × G.ready p.list.5 × H.ready p.list.6 × J.ready p.list.7
         × K.ready p.list.8 };
 
-    ghost lawful = { λ p. IsParser-Choice9 E.or_refusable (A.lawful p.list.0) (B.lawful p.list.1)
-        (C.lawful p.list.2) (D.lawful p.list.3) (F.lawful p.list.4) (G.lawful p.list.5)
-        (H.lawful p.list.6) (J.lawful p.list.7) (K.lawful p.list.8) };
+    ghost lawful = { λ p. IsParser-Appending E.append_refusable (IsParser-Choice9 E.or_refusable
+        (A.lawful p.list.0) (B.lawful p.list.1) (C.lawful p.list.2) (D.lawful p.list.3)
+        (F.lawful p.list.4) (G.lawful p.list.5) (H.lawful p.list.6) (J.lawful p.list.7)
+        (K.lawful p.list.8)) };
 
     fn parse_next(&self, alloc: Global, input: &mut I) -> ModalResult<A::Output, E> {
-        let first = Alternatives {
+        let choice = Choice {
             list: (
                 &self.list.0,
                 &self.list.1,
@@ -108,12 +111,10 @@ impl<
                 &self.list.5,
                 &self.list.6,
                 &self.list.7,
+                &self.list.8,
             ),
         };
-        Alternatives {
-            list: (first, &self.list.8),
-        }
-        .parse_next(alloc, input)
+        Appended { inner: &choice }.parse_next(alloc, input)
     }
 }
 
@@ -134,27 +135,30 @@ impl<
 > Parser<I, E> for Alternatives<(A, B, C, D, F, G, H, J, K, L)> {
     type Output = A::Output;
 
-    ghost means = { λ p. Choice10 E.or_refusable (A.means p.list.0) (B.means p.list.1)
-        (C.means p.list.2) (D.means p.list.3) (F.means p.list.4) (G.means p.list.5)
-        (H.means p.list.6) (J.means p.list.7) (K.means p.list.8) (L.means p.list.9) };
+    ghost means = { λ p. Appending E.append_refusable (Choice10 E.or_refusable (A.means p.list.0)
+        (B.means p.list.1) (C.means p.list.2) (D.means p.list.3) (F.means p.list.4)
+        (G.means p.list.5) (H.means p.list.6) (J.means p.list.7) (K.means p.list.8)
+        (L.means p.list.9)) };
 
-    ghost errors = { λ p. ChoiceErrors10 (ahead I.location I.remaining) E.or_refusable E.or_gives
+    ghost errors = { λ p. AppendedErrors (ahead I.Checkpoint.location I.remained) E.append_gives
+        (ChoiceErrors10 (ahead I.location I.remaining) E.or_refusable E.or_gives
         (A.means p.list.0) (A.errors p.list.0) (B.means p.list.1) (B.errors p.list.1)
         (C.means p.list.2) (C.errors p.list.2) (D.means p.list.3) (D.errors p.list.3)
         (F.means p.list.4) (F.errors p.list.4) (G.means p.list.5) (G.errors p.list.5)
         (H.means p.list.6) (H.errors p.list.6) (J.means p.list.7) (J.errors p.list.7)
-        (K.means p.list.8) (K.errors p.list.8) (L.errors p.list.9) };
+        (K.means p.list.8) (K.errors p.list.8) (L.errors p.list.9)) };
 
     ghost ready = { λ p. A.ready p.list.0 × B.ready p.list.1 × C.ready p.list.2 × D.ready p.list.3
         × F.ready p.list.4 × G.ready p.list.5 × H.ready p.list.6 × J.ready p.list.7
         × K.ready p.list.8 × L.ready p.list.9 };
 
-    ghost lawful = { λ p. IsParser-Choice10 E.or_refusable (A.lawful p.list.0) (B.lawful p.list.1)
-        (C.lawful p.list.2) (D.lawful p.list.3) (F.lawful p.list.4) (G.lawful p.list.5)
-        (H.lawful p.list.6) (J.lawful p.list.7) (K.lawful p.list.8) (L.lawful p.list.9) };
+    ghost lawful = { λ p. IsParser-Appending E.append_refusable (IsParser-Choice10 E.or_refusable
+        (A.lawful p.list.0) (B.lawful p.list.1) (C.lawful p.list.2) (D.lawful p.list.3)
+        (F.lawful p.list.4) (G.lawful p.list.5) (H.lawful p.list.6) (J.lawful p.list.7)
+        (K.lawful p.list.8) (L.lawful p.list.9)) };
 
     fn parse_next(&self, alloc: Global, input: &mut I) -> ModalResult<A::Output, E> {
-        let first = Alternatives {
+        let choice = Choice {
             list: (
                 &self.list.0,
                 &self.list.1,
@@ -165,11 +169,9 @@ impl<
                 &self.list.6,
                 &self.list.7,
                 &self.list.8,
+                &self.list.9,
             ),
         };
-        Alternatives {
-            list: (first, &self.list.9),
-        }
-        .parse_next(alloc, input)
+        Appended { inner: &choice }.parse_next(alloc, input)
     }
 }

@@ -1,5 +1,6 @@
 ghost use Rattle.std.specs.Prelude.{◌≡◌, ◌↔◌, ◌-◌, ◌≤◌, IsTrue};
 ghost use Rattle.winnow_count.specs.CountRange.{least_count, greatest_count};
+ghost use Rattle.winnow_combinator.specs.Appended.{appends_to_first};
 ghost use Rattle.winnow_combinator.specs.Counts.{IsBelow, Ascends, fewer};
 
 use winnow_count::Range;
@@ -40,6 +41,17 @@ impl Counts {
         match self.greatest {
             Some(greatest) => count < greatest,
             None => true,
+        }
+    }
+
+    // Returns whether a list with separators appends to the error of its first value.
+    pub(crate) fn append_to_first(&self) -> bool
+        ensures { result ≡ appends_to_first self.now.least self.now.greatest }
+    {
+        match self.least {
+            0 => false,
+            1 => self.greatest.is_some(),
+            _ => true,
         }
     }
 

@@ -2,6 +2,7 @@ ghost use Rattle.std.specs.Prelude.{ℕ, Bool, Option, ⊤};
 ghost use Rattle.winnow_parser.specs.Determined.{IsDetermined, Shows, Respects};
 ghost use Rattle.winnow_parser.specs.Determined.{AreSameIfAny, AreBothSame, SlicesRespect};
 ghost use Rattle.winnow_parser.specs.Meanings.{Returns};
+ghost use Rattle.winnow_combinator.specs.Appended.{Appending, AppendingIf, needs_some};
 ghost use Rattle.winnow_combinator.specs.Conditional.{Conditional};
 ghost use Rattle.winnow_combinator.specs.Counts.{Ascending};
 ghost use Rattle.winnow_combinator.specs.DeterminedLists.{AreSameEach, StepsRespect};
@@ -12,6 +13,7 @@ ghost use Rattle.winnow_combinator.specs.Separation.{Separated, FoldedLeft};
 ghost use Rattle.winnow_combinator.specs.Till.{RepeatedTill, MakesOfFirst};
 
 use crate::Gather;
+use winnow_error::ParserError;
 use winnow_parser::Parser;
 use winnow_stream::StreamIsPartial;
 
@@ -20,7 +22,7 @@ use winnow_stream::StreamIsPartial;
 /// when called: its contract is the law.
 pub fn determined_repeat_law<
     I: StreamIsPartial,
-    E,
+    E: ParserError<I>,
     A: Parser<I, E>,
     S: Parser<I, E>,
     G: Gather<A::Output>,
@@ -36,7 +38,8 @@ pub fn determined_repeat_law<
         → Respects (AreSameEach (Shows view)) (Shows whole) (G.makes g)
         → IsDetermined (Shows view) (A.means a)
         → IsDetermined (Shows whole) (Ascending least greatest
-        (Gathered G.refusable (G.makes g) (Repeated least greatest (A.means a)))) }
+        (Gathered G.refusable (G.makes g) (AppendingIf (needs_some least) E.append_refusable
+        (Repeated least greatest (A.means a))))) }
     ensures separated { (view : A.Output → V) (other : S.Output → W) (a : A) (s : S) (least : ℕ)
         (greatest : Option ℕ)
         → IsDetermined (Shows other) (S.means s) → IsDetermined (Shows view) (A.means a)
@@ -52,7 +55,7 @@ pub fn determined_repeat_law<
 /// values. It does nothing when called: its contract is the law.
 pub fn determined_till_law<
     I: StreamIsPartial,
-    E,
+    E: ParserError<I>,
     A: Parser<I, E>,
     B: Parser<I, E>,
     G: Gather<A::Output>,
@@ -72,7 +75,8 @@ pub fn determined_till_law<
         → IsDetermined (Shows view) (A.means a) → IsDetermined (Shows other) (B.means b)
         → IsDetermined (AreBothSame (Shows whole) (Shows other)) (Ascending least greatest
         (Gathered G.refusable (MakesOfFirst (G.makes g))
-        (RepeatedTill least greatest (A.means a) (B.means b)))) }
+        (RepeatedTill least greatest (Appending E.append_refusable (A.means a))
+        (B.means b)))) }
     ensures folded { (view : A.Output → V) (other : B.Output → W) (f : F) (a : A) (b : B)
         → StepsRespect (Shows view) (AreBothSame (Shows other) (Shows view))
         (λ left pair new. F.post f left pair.0 pair.1 new)

@@ -5,6 +5,7 @@ ghost use Rattle.winnow_parser.specs.Determined.{IsDetermined, Shows, Respects};
 ghost use Rattle.winnow_parser.specs.Determined.{AreSameIfAny, AreBothSame};
 ghost use Rattle.winnow_parser.specs.Meanings.{Maps, IsAlways, IsForgotten, Pair};
 ghost use Rattle.winnow_parser.specs.Meanings.{Preceded, Terminated, Chosen, TriesTo};
+ghost use Rattle.winnow_combinator.specs.Appended.{AppendingIf, needs_some, appends_to_first};
 ghost use Rattle.winnow_combinator.specs.Counts.{Ascending};
 ghost use Rattle.winnow_combinator.specs.DeterminedLists.{AreSameEach, StepsRespect, IsOneStart};
 ghost use Rattle.winnow_combinator.specs.Gathering.{Gathered, Folds};
@@ -13,7 +14,7 @@ ghost use Rattle.winnow_combinator.specs.Repetition.{Repeated};
 ghost use Rattle.winnow_combinator.specs.Separation.{Separated, Countable};
 
 use crate::Gather;
-use winnow_error::AddContext;
+use winnow_error::{AddContext, ParserError};
 use winnow_parser::Parser;
 use winnow_stream::StreamIsPartial;
 
@@ -90,7 +91,7 @@ pub fn determined_choosing_law<
 /// nothing when called: its contract is the law.
 pub fn determined_gathered_law<
     I: StreamIsPartial,
-    E,
+    E: ParserError<I>,
     A: Parser<I, E>,
     S: Parser<I, E>,
     G: Gather<A::Output>,
@@ -106,11 +107,13 @@ pub fn determined_gathered_law<
         → Respects (AreSameEach (Shows v)) (Shows x) (G.makes g)
         → IsDetermined (Shows x) (Ascending least greatest
         (Countable (Gathered G.refusable (G.makes g)
-        (Separated least greatest (S.means s.parser) (A.means a.parser))))) }
+        (AppendingIf (appends_to_first least greatest) E.append_refusable
+        (Separated least greatest (S.means s.parser) (A.means a.parser)))))) }
     ensures fold { (v : A.Output → V) (x : O → X) (init : N) (f : F) (a : OneAnswer A.means v)
         (least : ℕ) (greatest : Option ℕ) → IsOneStart (Shows x) (N.post init)
         → StepsRespect (Shows x) (Shows v) (F.post f)
         → IsDetermined (Shows x) (Ascending least greatest
         (Gathered ⊥ (Folds (N.post init) (F.post f))
-        (Repeated least greatest (A.means a.parser)))) }
+        (AppendingIf (needs_some least) E.append_refusable
+        (Repeated least greatest (A.means a.parser))))) }
 {}

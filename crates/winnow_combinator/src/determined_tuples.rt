@@ -2,6 +2,8 @@ ghost use Rattle.winnow_parser.specs.Determined.{IsDetermined, Shows};
 ghost use Rattle.winnow_parser.specs.DeterminedRows.{AreSame3, AreSame4, AreSame5, AreSame6};
 ghost use Rattle.winnow_parser.specs.DeterminedRows.{AreSame7, AreSame8, AreSame9, AreSame10};
 ghost use Rattle.winnow_parser.specs.Rows.{Row3, Row4, Row5, Row6, Row7, Row8, Row9, Row10};
+ghost use Rattle.winnow_parser.specs.Meanings.{Either};
+ghost use Rattle.winnow_combinator.specs.Appended.{Appending};
 ghost use Rattle.winnow_combinator.specs.Choices.{Choice3, Choice4, Choice5, Choice6, Choice7};
 ghost use Rattle.winnow_combinator.specs.Choices.{Choice8, Choice9, Choice10};
 ghost use Rattle.winnow_combinator.specs.OneAnswer.{OneAnswer};
@@ -85,8 +87,8 @@ pub fn determined_row_law<
         (H.means h.parser) (J.means j.parser) (K.means k.parser) (L.means l.parser)) }
 {}
 
-/// The laws of alternatives: three to ten that have one answer each have one answer together. It
-/// does nothing when called: its contract is the law.
+/// The laws of alternatives: two to ten that have one answer each have one answer together. It does
+/// nothing when called: its contract is the law.
 pub fn determined_choice_law<
     I: StreamIsPartial,
     E: ParserError<I>,
@@ -102,45 +104,53 @@ pub fn determined_choice_law<
     L: Parser<I, E, Output = A::Output>,
     V,
 >()
-    ensures three { (view : A.Output → V) (a : OneAnswer A.means view) (b : OneAnswer B.means view)
-        (c : OneAnswer C.means view) → IsDetermined (Shows view)
-        (Choice3 E.or_refusable (A.means a.parser) (B.means b.parser) (C.means c.parser)) }
+    ensures two { (view : A.Output → V) (a : OneAnswer A.means view) (b : OneAnswer B.means view)
+        → IsDetermined (Shows view) (Appending E.append_refusable (Either E.or_refusable
+        (A.means a.parser) (B.means b.parser))) }
+    ensures three { (view : A.Output → V) (a : OneAnswer A.means view)
+        (b : OneAnswer B.means view) (c : OneAnswer C.means view) → IsDetermined (Shows view)
+        (Appending E.append_refusable (Choice3 E.or_refusable (A.means a.parser)
+        (B.means b.parser) (C.means c.parser))) }
     ensures four { (view : A.Output → V) (a : OneAnswer A.means view) (b : OneAnswer B.means view)
         (c : OneAnswer C.means view) (d : OneAnswer D.means view) → IsDetermined (Shows view)
-        (Choice4 E.or_refusable (A.means a.parser) (B.means b.parser) (C.means c.parser)
-        (D.means d.parser)) }
+        (Appending E.append_refusable (Choice4 E.or_refusable (A.means a.parser)
+        (B.means b.parser) (C.means c.parser) (D.means d.parser))) }
     ensures five { (view : A.Output → V) (a : OneAnswer A.means view) (b : OneAnswer B.means view)
         (c : OneAnswer C.means view) (d : OneAnswer D.means view) (f : OneAnswer F.means view)
-        → IsDetermined (Shows view) (Choice5 E.or_refusable (A.means a.parser) (B.means b.parser)
-        (C.means c.parser) (D.means d.parser) (F.means f.parser)) }
+        → IsDetermined (Shows view) (Appending E.append_refusable (Choice5 E.or_refusable
+        (A.means a.parser) (B.means b.parser) (C.means c.parser) (D.means d.parser)
+        (F.means f.parser))) }
     ensures six { (view : A.Output → V) (a : OneAnswer A.means view) (b : OneAnswer B.means view)
         (c : OneAnswer C.means view) (d : OneAnswer D.means view) (f : OneAnswer F.means view)
-        (g : OneAnswer G.means view) → IsDetermined (Shows view)
+        (g : OneAnswer G.means view) → IsDetermined (Shows view) (Appending E.append_refusable
         (Choice6 E.or_refusable (A.means a.parser) (B.means b.parser) (C.means c.parser)
-        (D.means d.parser) (F.means f.parser) (G.means g.parser)) }
-    ensures seven { (view : A.Output → V) (a : OneAnswer A.means view) (b : OneAnswer B.means view)
-        (c : OneAnswer C.means view) (d : OneAnswer D.means view) (f : OneAnswer F.means view)
-        (g : OneAnswer G.means view) (h : OneAnswer H.means view) → IsDetermined (Shows view)
-        (Choice7 E.or_refusable (A.means a.parser) (B.means b.parser) (C.means c.parser)
-        (D.means d.parser) (F.means f.parser) (G.means g.parser) (H.means h.parser)) }
-    ensures eight { (view : A.Output → V) (a : OneAnswer A.means view) (b : OneAnswer B.means view)
-        (c : OneAnswer C.means view) (d : OneAnswer D.means view) (f : OneAnswer F.means view)
-        (g : OneAnswer G.means view) (h : OneAnswer H.means view) (j : OneAnswer J.means view)
-        → IsDetermined (Shows view) (Choice8 E.or_refusable (A.means a.parser) (B.means b.parser)
-        (C.means c.parser) (D.means d.parser) (F.means f.parser) (G.means g.parser)
-        (H.means h.parser) (J.means j.parser)) }
+        (D.means d.parser) (F.means f.parser) (G.means g.parser))) }
+    ensures seven { (view : A.Output → V) (a : OneAnswer A.means view)
+        (b : OneAnswer B.means view) (c : OneAnswer C.means view) (d : OneAnswer D.means view)
+        (f : OneAnswer F.means view) (g : OneAnswer G.means view) (h : OneAnswer H.means view)
+        → IsDetermined (Shows view) (Appending E.append_refusable (Choice7 E.or_refusable
+        (A.means a.parser) (B.means b.parser) (C.means c.parser) (D.means d.parser)
+        (F.means f.parser) (G.means g.parser) (H.means h.parser))) }
+    ensures eight { (view : A.Output → V) (a : OneAnswer A.means view)
+        (b : OneAnswer B.means view) (c : OneAnswer C.means view) (d : OneAnswer D.means view)
+        (f : OneAnswer F.means view) (g : OneAnswer G.means view) (h : OneAnswer H.means view)
+        (j : OneAnswer J.means view) → IsDetermined (Shows view) (Appending E.append_refusable
+        (Choice8 E.or_refusable (A.means a.parser) (B.means b.parser) (C.means c.parser)
+        (D.means d.parser) (F.means f.parser) (G.means g.parser) (H.means h.parser)
+        (J.means j.parser))) }
     ensures nine { (view : A.Output → V) (a : OneAnswer A.means view) (b : OneAnswer B.means view)
         (c : OneAnswer C.means view) (d : OneAnswer D.means view) (f : OneAnswer F.means view)
         (g : OneAnswer G.means view) (h : OneAnswer H.means view) (j : OneAnswer J.means view)
-        (k : OneAnswer K.means view) → IsDetermined (Shows view)
+        (k : OneAnswer K.means view) → IsDetermined (Shows view) (Appending E.append_refusable
         (Choice9 E.or_refusable (A.means a.parser) (B.means b.parser) (C.means c.parser)
         (D.means d.parser) (F.means f.parser) (G.means g.parser) (H.means h.parser)
-        (J.means j.parser) (K.means k.parser)) }
+        (J.means j.parser) (K.means k.parser))) }
     ensures ten { (view : A.Output → V) (a : OneAnswer A.means view) (b : OneAnswer B.means view)
         (c : OneAnswer C.means view) (d : OneAnswer D.means view) (f : OneAnswer F.means view)
         (g : OneAnswer G.means view) (h : OneAnswer H.means view) (j : OneAnswer J.means view)
         (k : OneAnswer K.means view) (l : OneAnswer L.means view) → IsDetermined (Shows view)
-        (Choice10 E.or_refusable (A.means a.parser) (B.means b.parser) (C.means c.parser)
-        (D.means d.parser) (F.means f.parser) (G.means g.parser) (H.means h.parser)
-        (J.means j.parser) (K.means k.parser) (L.means l.parser)) }
+        (Appending E.append_refusable (Choice10 E.or_refusable (A.means a.parser)
+        (B.means b.parser) (C.means c.parser) (D.means d.parser) (F.means f.parser)
+        (G.means g.parser) (H.means h.parser) (J.means j.parser) (K.means k.parser)
+        (L.means l.parser))) }
 {}

@@ -1,5 +1,8 @@
 ghost use Rattle.std.specs.Prelude.{◌≡◌};
 ghost use Rattle.winnow_count.specs.CountRange.{least_count, greatest_count};
+ghost use Rattle.winnow_parser.specs.Answer.{ahead};
+ghost use Rattle.winnow_combinator.specs.Appended.{AppendingIf, AppendedErrorsIf, needs_some};
+ghost use Rattle.winnow_combinator.specs.Appended.{IsParser-AppendingIf};
 ghost use Rattle.winnow_combinator.specs.Counts.{Ascending, IsParser-Ascending};
 ghost use Rattle.winnow_combinator.specs.Repetition.{Repeated, IsParser-Repeated};
 ghost use Rattle.winnow_combinator.specs.Repetition.{RepeatedErrors};
@@ -25,7 +28,7 @@ pub struct Repeated<P, G> {
 
 /// Returns the parser that asks the inner one until it backtracks or has given the greatest count
 /// of values, and gathers them in an `A`. Where there are fewer than the least count, the parser
-/// backtracks.
+/// backtracks, and `append` records that in the inner one's error.
 ///
 /// It cuts where the inner parser gives a value and takes nothing, since it would never end, and
 /// where the greatest count is below the least.
@@ -72,19 +75,23 @@ where
 
     ghost means = { λ p. Ascending (least_count p.counts) (greatest_count p.counts)
         (Gathered G.refusable (G.makes p.gather)
-        (Repeated (least_count p.counts) (greatest_count p.counts) (P.means p.inner))) };
+        (AppendingIf (needs_some (least_count p.counts)) E.append_refusable
+        (Repeated (least_count p.counts) (greatest_count p.counts) (P.means p.inner)))) };
 
     ghost errors = { λ p.
         AscendingErrors (least_count p.counts) (greatest_count p.counts) E.assert_gives
         (GatheredErrors (RepeatedErrors (P.means p.inner)
-        (TakingErrors E.assert_gives (P.means p.inner) (P.errors p.inner)))) };
+        (AppendedErrorsIf (needs_some (least_count p.counts))
+        (ahead I.Checkpoint.location I.remained) E.append_gives
+        (TakingErrors E.assert_gives (P.means p.inner) (P.errors p.inner))))) };
 
     ghost ready = { λ p. P.ready p.inner × G.ready p.gather };
 
     ghost lawful = { λ p. IsParser-Ascending (least_count p.counts) (greatest_count p.counts)
         (IsParser-Gathered G.refusable (G.makes p.gather)
+        (IsParser-AppendingIf (needs_some (least_count p.counts)) E.append_refusable
         (IsParser-Repeated (least_count p.counts) (greatest_count p.counts)
-        (P.lawful p.inner))) };
+        (P.lawful p.inner)))) };
 
     fn parse_next(&self, alloc: Global, input: &mut I) -> ModalResult<G::Whole, E> {
         let counts = Counts::of(&self.counts);

@@ -4,11 +4,13 @@ ghost use Rattle.winnow_parser.specs.Answer.{ahead, outcome};
 ghost use Rattle.winnow_parser.specs.Meanings.{Preceded};
 ghost use Rattle.winnow_parser.specs.Errors.{PairErrors};
 ghost use Rattle.winnow_count.specs.CountRange.{least_count, greatest_count};
+ghost use Rattle.winnow_combinator.specs.Appended.{AppendingIf, AppendedErrorsIf, needs_some};
+ghost use Rattle.winnow_combinator.specs.Appended.{appends_to_first, IsParser-AppendingIf};
 ghost use Rattle.winnow_combinator.specs.Counts.{Ascends, fewer, Ascending, IsParser-Ascending};
 ghost use Rattle.winnow_combinator.specs.Repetition.{Repeated, RepeatedErrors};
 ghost use Rattle.winnow_combinator.specs.Misuse.{TakingErrors, GatheredErrors, AscendingErrors};
 ghost use Rattle.winnow_combinator.specs.Gathering.{Gathered, IsParser-Gathered};
-ghost use Rattle.winnow_combinator.specs.Separation.{Chained, IfNeeded, ListErrors};
+ghost use Rattle.winnow_combinator.specs.Separation.{Chained, IfNeeded, SeparatedErrors};
 ghost use Rattle.winnow_combinator.specs.Separation.{Separated, IsParser-Separated};
 ghost use Rattle.winnow_combinator.specs.Separation.{Countable, IsParser-Countable};
 
@@ -34,8 +36,8 @@ pub struct Separation<P, S, G> {
 
 /// Returns the parser that asks the inner one and the separator in turn, until one backtracks or
 /// the inner one has given the greatest count of values, and gathers these in an `A`. Where there
-/// are fewer than the least count, the parser backtracks. It does not take a separator that no
-/// value follows.
+/// are fewer than the least count, the parser backtracks, and `append` records that in the error,
+/// except for the first value of one or more. It does not take a separator that no value follows.
 ///
 /// It cuts where a separator and a value together take nothing, since it would never end, and where
 /// the greatest count is below the least. It refuses an input whose width is the greatest `usize`,
@@ -82,17 +84,20 @@ where
     requires valid { I.valid input.old }
     requires room { width (I.remaining input.old) + 1 < 2 ^ 64 }
     ensures means { Gathered G.refusable (λ xs whole. G.makes list.now.gather (first ∷ xs) whole)
+        (AppendingIf (needs_some (counts.now.least - 1)) E.append_refusable
         (Repeated (counts.now.least - 1) (fewer counts.now.greatest)
-        (Preceded (S.means list.now.separator) (P.means list.now.inner)))
+        (Preceded (S.means list.now.separator) (P.means list.now.inner))))
         (I.expects_more input.old)
         (ahead I.location I.remaining input.old)
         (outcome result (ahead I.location I.remaining input.new)) }
     ensures error { IfErr result (GatheredErrors
         (RepeatedErrors (Preceded (S.means list.now.separator) (P.means list.now.inner))
+        (AppendedErrorsIf (needs_some (counts.now.least - 1))
+        (ahead I.Checkpoint.location I.remained) E.append_gives
         (TakingErrors E.assert_gives
         (Preceded (S.means list.now.separator) (P.means list.now.inner))
         (PairErrors (S.means list.now.separator) (S.errors list.now.separator)
-        (P.errors list.now.inner))))
+        (P.errors list.now.inner)))))
         (I.expects_more input.old) (ahead I.location I.remaining input.old) input.new) }
     ensures valid { I.valid input.new }
     ensures kept { I.keeps input.old input.new }
@@ -138,12 +143,14 @@ where
     requires valid { I.valid input.old }
     requires room { width (I.remaining input.old) + 1 < 2 ^ 64 }
     ensures means { Gathered G.refusable (G.makes list.now.gather)
+        (AppendingIf (appends_to_first counts.now.least counts.now.greatest) E.append_refusable
         (IfNeeded counts.now.least (Chained counts.now.least counts.now.greatest
-        (S.means list.now.separator) (P.means list.now.inner)))
+        (S.means list.now.separator) (P.means list.now.inner))))
         (I.expects_more input.old)
         (ahead I.location I.remaining input.old)
         (outcome result (ahead I.location I.remaining input.new)) }
-    ensures error { IfErr result (GatheredErrors (ListErrors E.assert_gives
+    ensures error { IfErr result (GatheredErrors (SeparatedErrors counts.now.least counts.now.greatest
+        (ahead I.Checkpoint.location I.remained) E.append_gives E.assert_gives
         (Preceded (S.means list.now.separator) (P.means list.now.inner))
         (S.means list.now.separator) (S.errors list.now.separator)
         (P.means list.now.inner) (P.errors list.now.inner))
@@ -151,7 +158,8 @@ where
     ensures valid { I.valid input.new }
     ensures kept { I.keeps input.old input.new }
 {
-    match one_more(&list.inner, counts.least, 0, alloc, input) {
+    let appends = counts.append_to_first();
+    match one_more(&list.inner, counts.least, 0, appends, alloc, input) {
         Ok(Some(first)) => rest(list, counts, first, alloc, input),
         Ok(None) => match list.gather.begin(alloc) {
             Ok(none) => Ok(none),
@@ -176,12 +184,15 @@ where
 
     ghost means = { λ p. Ascending (least_count p.counts) (greatest_count p.counts)
         (Countable (Gathered G.refusable (G.makes p.gather)
+        (AppendingIf (appends_to_first (least_count p.counts) (greatest_count p.counts))
+        E.append_refusable
         (Separated (least_count p.counts) (greatest_count p.counts)
-        (S.means p.separator) (P.means p.inner)))) };
+        (S.means p.separator) (P.means p.inner))))) };
 
     ghost errors = { λ p.
         AscendingErrors (least_count p.counts) (greatest_count p.counts) E.assert_gives
-        (GatheredErrors (ListErrors E.assert_gives
+        (GatheredErrors (SeparatedErrors (least_count p.counts) (greatest_count p.counts)
+        (ahead I.Checkpoint.location I.remained) E.append_gives E.assert_gives
         (Preceded (S.means p.separator) (P.means p.inner))
         (S.means p.separator) (S.errors p.separator) (P.means p.inner) (P.errors p.inner))) };
 
@@ -189,8 +200,10 @@ where
 
     ghost lawful = { λ p. IsParser-Ascending (least_count p.counts) (greatest_count p.counts)
         (IsParser-Countable (IsParser-Gathered G.refusable (G.makes p.gather)
+        (IsParser-AppendingIf
+        (appends_to_first (least_count p.counts) (greatest_count p.counts)) E.append_refusable
         (IsParser-Separated (least_count p.counts) (greatest_count p.counts)
-        (S.lawful p.separator) (P.lawful p.inner)))) };
+        (S.lawful p.separator) (P.lawful p.inner))))) };
 
     fn parse_next(&self, alloc: Global, input: &mut I) -> ModalResult<G::Whole, E> {
         let counts = Counts::of(&self.counts);

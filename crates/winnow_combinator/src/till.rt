@@ -3,6 +3,8 @@ ghost use Rattle.std.specs.List.{FoldsTo};
 ghost use Rattle.winnow_stream.specs.Source.{width};
 ghost use Rattle.winnow_parser.specs.Answer.{ahead, outcome};
 ghost use Rattle.winnow_count.specs.CountRange.{least_count, greatest_count};
+ghost use Rattle.winnow_combinator.specs.Appended.{Appending, AppendedErrors};
+ghost use Rattle.winnow_combinator.specs.Appended.{IsParser-Appending};
 ghost use Rattle.winnow_combinator.specs.Counts.{Ascending, IsParser-Ascending};
 ghost use Rattle.winnow_combinator.specs.Misuse.{TakingErrors, GatheredErrors, AscendingErrors};
 ghost use Rattle.winnow_combinator.specs.Gathering.{Gathered, IsParser-Gathered};
@@ -10,6 +12,7 @@ ghost use Rattle.winnow_combinator.specs.Till.{EndAfter, RepeatedTill, IsParser-
 ghost use Rattle.winnow_combinator.specs.Till.{MakesOfFirst, TillErrors};
 
 use crate::again::{Advancing, Again};
+use crate::appended::Appended;
 use crate::counts::Counts;
 use crate::{Accumulated, Begin, Gather};
 use std::alloc::Global;
@@ -31,7 +34,8 @@ pub struct RepetitionTill<P, Q, G> {
 /// Returns the parser that asks the inner one until the terminator gives a value, gathers the
 /// values before that in an `A`, and gives both. Once there are the least count of values, the
 /// terminator is asked before each further value. At the greatest count the terminator alone is
-/// asked, and where it backtracks then, so does this parser.
+/// asked, and where it backtracks then, so does this parser. Where the inner one backtracks, so
+/// does this parser, and `append` records that in the error.
 ///
 /// It cuts where the inner parser gives a value and takes nothing, since it would never end, and
 /// where the greatest count is below the least.
@@ -167,12 +171,15 @@ where
     ghost means = { λ p. Ascending (least_count p.counts) (greatest_count p.counts)
         (Gathered G.refusable (MakesOfFirst (G.makes p.gather))
         (RepeatedTill (least_count p.counts) (greatest_count p.counts)
-        (P.means p.inner) (Q.means p.terminator))) };
+        (Appending E.append_refusable (P.means p.inner)) (Q.means p.terminator))) };
 
     ghost errors = { λ p.
         AscendingErrors (least_count p.counts) (greatest_count p.counts) E.assert_gives
         (GatheredErrors (TillErrors (least_count p.counts) (greatest_count p.counts)
-        (P.means p.inner) (TakingErrors E.assert_gives (P.means p.inner) (P.errors p.inner))
+        (Appending E.append_refusable (P.means p.inner))
+        (TakingErrors E.assert_gives (Appending E.append_refusable (P.means p.inner))
+        (AppendedErrors (ahead I.Checkpoint.location I.remained) E.append_gives
+        (P.errors p.inner)))
         (Q.means p.terminator) (Q.errors p.terminator))) };
 
     ghost ready = { λ p. P.ready p.inner × Q.ready p.terminator × G.ready p.gather };
@@ -180,7 +187,7 @@ where
     ghost lawful = { λ p. IsParser-Ascending (least_count p.counts) (greatest_count p.counts)
         (IsParser-Gathered G.refusable (MakesOfFirst (G.makes p.gather))
         (IsParser-RepeatedTill (least_count p.counts) (greatest_count p.counts)
-        (P.lawful p.inner) (Q.lawful p.terminator))) };
+        (IsParser-Appending E.append_refusable (P.lawful p.inner)) (Q.lawful p.terminator))) };
 
     fn parse_next(&self, alloc: Global, input: &mut I) -> ModalResult<(G::Whole, Q::Output), E> {
         let counts = Counts::of(&self.counts);
@@ -192,8 +199,9 @@ where
         let _ = input.eof_offset();
         match self.gather.begin(alloc) {
             Ok(whole) => {
+                let inner = Appended { inner: &self.inner };
                 let again = Again {
-                    parser: &self.inner,
+                    parser: &inner,
                     gather: &self.gather,
                     counts,
                 };

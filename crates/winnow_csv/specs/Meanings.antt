@@ -14,6 +14,7 @@ use Rattle.winnow_token.specs.OneOf.{OneOf, IsParser-OneOf}
 use Rattle.winnow_token.specs.Held.{HeldFront, IsParser-HeldFront}
 use Rattle.winnow_token.specs.declared.held.OtherTokens.{OtherTokens}
 use Rattle.winnow_token.specs.declared.one_token.OneOf.{OneOf as OneOfSet}
+use Rattle.winnow_combinator.specs.Appended.{Appending, IsParser-Appending}
 use Rattle.winnow_combinator.specs.Repetition.{Repeated, IsParser-Repeated}
 use Rattle.winnow_combinator.specs.Gathering.{Gathered, IsParser-Gathered}
 use Rattle.winnow_combinator.specs.Separation.{Separated, Countable, IsParser-Separated, IsParser-Countable}
@@ -65,36 +66,36 @@ module _ {S : Type 0} (is_slice : S → Source ℕ → ℕ → Type 0) (bytes : 
       Gathered ⊤ (λ slice field. field.items ≡ bytes slice) (HeldFront is_slice is_plain 0 None)
 
   -- a field of either kind
-  abbrev pub AnyField : Type 0 → Meaning (Vec ℕ Global) ℕ
-  AnyField refusable = Either refusable QuotedField PlainField
+  abbrev pub AnyField : Type 0 → Type 0 → Meaning (Vec ℕ Global) ℕ
+  AnyField appends refusable = Appending appends (Either refusable QuotedField PlainField)
 
   -- fields with commas between them
-  abbrev pub FieldList : Type 0 → Meaning (Vec (Vec ℕ Global) Global) ℕ
-  FieldList refusable =
-      Countable (Gathered ⊤ HasFields (Separated 1 None (Byte 44) (AnyField refusable)))
+  abbrev pub FieldList : Type 0 → Type 0 → Meaning (Vec (Vec ℕ Global) Global) ℕ
+  FieldList appends refusable =
+      Countable (Gathered ⊤ HasFields (Separated 1 None (Byte 44) (AnyField appends refusable)))
 
 -- the end of a record: LF, CR LF, or the end of the input
-abbrev pub RecordEnd : {S : Type 0} → (S → Source ℕ → ℕ → Type 0) → Type 0
+abbrev pub RecordEnd : {S : Type 0} → (S → Source ℕ → ℕ → Type 0) → Type 0 → Type 0
     → Meaning (Unit {0}) ℕ
-RecordEnd is_slice refusable = Choice3 refusable (Maps IsForgotten (Byte 10))
-    (Maps IsForgotten (Pair (Byte 13) (Byte 10))) (Maps IsForgotten (Ended is_slice))
+RecordEnd is_slice appends refusable = Appending appends (Choice3 refusable (Maps IsForgotten (Byte 10))
+    (Maps IsForgotten (Pair (Byte 13) (Byte 10))) (Maps IsForgotten (Ended is_slice)))
 
 -- a record: fields and an end, where the input has not ended; the parser cuts where the end is
 -- missing
 abbrev pub OneRow : {S : Type 0} → (S → Source ℕ → ℕ → Type 0) → (S → List ℕ) → Type 0
-    → Meaning (Vec (Vec ℕ Global) Global) ℕ
-OneRow is_slice bytes refusable =
+    → Type 0 → Meaning (Vec (Vec ℕ Global) Global) ℕ
+OneRow is_slice bytes appends refusable =
     Preceded (Negated (Ended is_slice))
-    (Terminated (FieldList is_slice bytes refusable) (CutOff (RecordEnd is_slice refusable)))
+    (Terminated (FieldList is_slice bytes appends refusable) (CutOff (RecordEnd is_slice appends refusable)))
 
 -- `RecordEnd` keeps the laws of a parser
-pub IsParser-RecordEnd : {S : Type 0} (is_slice : S → Source ℕ → ℕ → Type 0) (refusable : Type 0)
-    → IsParser (RecordEnd is_slice refusable)
-IsParser-RecordEnd is_slice refusable =
+pub IsParser-RecordEnd : {S : Type 0} (is_slice : S → Source ℕ → ℕ → Type 0) (appends refusable : Type 0)
+    → IsParser (RecordEnd is_slice appends refusable)
+IsParser-RecordEnd is_slice appends refusable =
     let byte : (n : ℕ) → IsParser (Byte n) = λ n. IsParser-OneOf (λ token. n == token) in
-    IsParser-Choice3 refusable (IsParser-Maps IsForgotten (Byte 10) (byte 10))
+    IsParser-Appending appends (IsParser-Choice3 refusable (IsParser-Maps IsForgotten (Byte 10) (byte 10))
     (IsParser-Maps IsForgotten (Pair (Byte 13) (Byte 10)) (IsParser-Pair (Byte 13) (Byte 10) (byte 13) (byte 10)))
-    (IsParser-Maps IsForgotten (Ended is_slice) (IsParser-Ended is_slice))
+    (IsParser-Maps IsForgotten (Ended is_slice) (IsParser-Ended is_slice)))
 
 module _ {S : Type 0} (is_slice : S → Source ℕ → ℕ → Type 0) (bytes : S → List ℕ) (stay : SlicesStay is_slice) where
   -- `Chunk` keeps the laws of a parser
@@ -115,22 +116,22 @@ module _ {S : Type 0} (is_slice : S → Source ℕ → ℕ → Type 0) (bytes : 
   IsParser-PlainField = IsParser-Gathered ⊤ (λ slice field. field.items ≡ bytes slice) (IsParser-HeldFront is_slice stay is_plain 0 None)
 
   -- `AnyField` keeps the laws of a parser
-  pub IsParser-AnyField : (refusable : Type 0) → IsParser (AnyField is_slice bytes refusable)
-  IsParser-AnyField refusable =
-      IsParser-Either refusable (QuotedField is_slice bytes) (PlainField is_slice bytes) IsParser-QuotedField IsParser-PlainField
+  pub IsParser-AnyField : (appends refusable : Type 0) → IsParser (AnyField is_slice bytes appends refusable)
+  IsParser-AnyField appends refusable =
+      IsParser-Appending appends (IsParser-Either refusable (QuotedField is_slice bytes) (PlainField is_slice bytes) IsParser-QuotedField IsParser-PlainField)
 
   -- `FieldList` keeps the laws of a parser
-  pub IsParser-FieldList : (refusable : Type 0) → IsParser (FieldList is_slice bytes refusable)
-  IsParser-FieldList refusable =
+  pub IsParser-FieldList : (appends refusable : Type 0) → IsParser (FieldList is_slice bytes appends refusable)
+  IsParser-FieldList appends refusable =
       IsParser-Countable (IsParser-Gathered ⊤ HasFields
-      (IsParser-Separated 1 None (IsParser-OneOf (λ token. 44 == token)) (IsParser-AnyField refusable)))
+      (IsParser-Separated 1 None (IsParser-OneOf (λ token. 44 == token)) (IsParser-AnyField appends refusable)))
 
   -- `OneRow` keeps the laws of a parser
-  pub IsParser-OneRow : (refusable : Type 0) → IsParser (OneRow is_slice bytes refusable)
-  IsParser-OneRow refusable =
-      let list = FieldList is_slice bytes refusable in
+  pub IsParser-OneRow : (appends refusable : Type 0) → IsParser (OneRow is_slice bytes appends refusable)
+  IsParser-OneRow appends refusable =
+      let list = FieldList is_slice bytes appends refusable in
       let ended = Ended is_slice in
-      let end = RecordEnd is_slice refusable in
+      let end = RecordEnd is_slice appends refusable in
       let close = CutOff end in
       IsParser-Preceded (Negated ended) (Terminated list close) (IsParser-Negated ended (IsParser-Ended is_slice))
-      (IsParser-Terminated list close (IsParser-FieldList refusable) (IsParser-CutOff end (IsParser-RecordEnd is_slice refusable)))
+      (IsParser-Terminated list close (IsParser-FieldList appends refusable) (IsParser-CutOff end (IsParser-RecordEnd is_slice appends refusable)))

@@ -10,7 +10,7 @@ use Rattle.winnow_csv.specs.Tables.{rows_in, AreRecords, HasNoRecord, IsDamagedA
 
 -- what a record means to a reader: what `Row` means where the stream's slices are bytes
 abbrev pub RowInPieces : Meaning RowVec ℕ
-RowInPieces = OneRow IsByteSlice (λ slice. slice.now) ⊥
+RowInPieces = OneRow IsByteSlice (λ slice. slice.now) ⊥ ⊥
 
 module _ {R : Type 0} where
   -- no matter what follows, the input and that are these records, one after the other, and then

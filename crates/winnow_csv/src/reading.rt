@@ -24,7 +24,7 @@ impl Record for Row {
 
     ghost ready = { λ _. Unit {0} };
 
-    ghost lawful = { λ _. IsParser-OneRow IsByteSlice (λ slice. slice.now) SlicesStay-bytes ⊥ };
+    ghost lawful = { λ _. IsParser-OneRow IsByteSlice (λ slice. slice.now) SlicesStay-bytes ⊥ ⊥ };
 
     fn read<'b>(
         &self,

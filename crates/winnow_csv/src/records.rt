@@ -26,14 +26,14 @@ where
 {
     type Output = Vec<Vec<u8>>;
 
-    ghost means = { λ _. FieldList I.is_slice I.Slice.bytes E.or_refusable };
+    ghost means = { λ _. FieldList I.is_slice I.Slice.bytes E.append_refusable E.or_refusable };
 
     ghost errors = { λ _. AnyError };
 
     ghost ready = { λ _. Unit {0} };
 
     ghost lawful = { λ _.
-        IsParser-FieldList I.is_slice I.Slice.bytes I.slices_stay E.or_refusable };
+        IsParser-FieldList I.is_slice I.Slice.bytes I.slices_stay E.append_refusable E.or_refusable };
 
     fn parse_next(&self, alloc: Global, input: &mut I) -> ModalResult<Vec<Vec<u8>>, E> {
         match separated(1.., alt((Quoted, Plain)), one_of(b',')).parse_next(alloc, input) {
@@ -53,13 +53,13 @@ where
 {
     type Output = ();
 
-    ghost means = { λ _. RecordEnd I.is_slice E.or_refusable };
+    ghost means = { λ _. RecordEnd I.is_slice E.append_refusable E.or_refusable };
 
     ghost errors = { λ _. AnyError };
 
     ghost ready = { λ _. Unit {0} };
 
-    ghost lawful = { λ _. IsParser-RecordEnd I.is_slice E.or_refusable };
+    ghost lawful = { λ _. IsParser-RecordEnd I.is_slice E.append_refusable E.or_refusable };
 
     fn parse_next(&self, alloc: Global, input: &mut I) -> ModalResult<(), E> {
         let newline = Parser::<I, E>::void(one_of(b'\n'));
@@ -82,13 +82,13 @@ where
 {
     type Output = Vec<Vec<u8>>;
 
-    ghost means = { λ _. OneRow I.is_slice I.Slice.bytes E.or_refusable };
+    ghost means = { λ _. OneRow I.is_slice I.Slice.bytes E.append_refusable E.or_refusable };
 
     ghost errors = { λ _. AnyError };
 
     ghost ready = { λ _. Unit {0} };
 
-    ghost lawful = { λ _. IsParser-OneRow I.is_slice I.Slice.bytes I.slices_stay E.or_refusable };
+    ghost lawful = { λ _. IsParser-OneRow I.is_slice I.Slice.bytes I.slices_stay E.append_refusable E.or_refusable };
 
     fn parse_next(&self, alloc: Global, input: &mut I) -> ModalResult<Vec<Vec<u8>>, E> {
         preceded(not(eof()), terminated(Fields, cut_err(RowEnd))).parse_next(alloc, input)

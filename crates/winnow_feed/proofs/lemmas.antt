@@ -3,6 +3,7 @@ pub mod InputLemmas
 pub mod KeepingLemmas
 pub mod MissingLemmas
 pub mod NamingLemmas
+pub mod EndLemmas
 pub mod OneSearchLemmas
 pub mod PieceLemmas
 pub mod ReachLemmas

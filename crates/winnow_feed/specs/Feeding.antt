@@ -9,7 +9,9 @@ use Rattle.winnow_feed.specs.declared.finished.Finished.{Finished}
 use Rattle.winnow_feed.specs.declared.progress.Progress.{Progress}
 use Rattle.winnow_run.specs.Searching.{search_next}
 use Rattle.winnow_feed.specs.Inputs.{PieceStep, InputRules, joined}
-use Rattle.winnow_feed.specs.Reach.{needed_from, least_marks}
+use Rattle.winnow_feed.specs.Reach.{needed_from}
+use Rattle.winnow_feed.specs.declared.named_marks.NamedMarks.{NamedMarks}
+use Rattle.winnow_feed.specs.NamedMarks.{KnowsMarks}
 use Rattle.winnow_feed.specs.JoinedInput.{IsRunOver, IsAtRest, HasRoom, KeepsLeast}
 use Rattle.winnow_feed.specs.ToldAnswers.{capped, out_on, told_of, tried_of, told_to_end, last_place}
 
@@ -54,13 +56,13 @@ module _ (i : InputRules) where
 
   -- the feed stands for some input; once a piece was fed, its next step waits; there is room for
   -- each answer and mark; the places fit in `usize`; and the marks that steps name are known
-  pub record IsSound (f : FeedState) (named : List ℕ) : Type 0 where
+  pub record IsSound (f : FeedState) (named : NamedMarks) : Type 0 where
     pub input : List ℕ
     pub stands : HoldsInput f input
     pub rests : 0 < f.run.pieces → IsAtRest i.pieces (i.source input) f.run
     pub room : HasRoom f.run
     pub fits : f.run.base + length f.kept < 2 ^ 64
-    pub named_is : named ≡ least_marks f.run.script.now
+    pub knows : KnowsMarks f.run.script.now f.run.marks.items (length f.run.told.items) named
 
   -- the feed fits these pieces: it stands for the joined pieces, its next step waits once there is
   -- a piece, and its answers and attempts are those of the pieces

@@ -102,6 +102,11 @@ Tries old new =
 abbrev pub StaysWithoutAnswer : {T L : Type 0} → Progress T L → Progress T L → Type 0
 StaysWithoutAnswer old new = length new.told.items ≡ length old.told.items → (new.place ≡ old.place) × (new.marks ≡ old.marks)
 
+-- the marks that were added
+pub record AddsMarks {T L : Type 0} (old new : Progress T L) : Type 0 where
+  pub more : List ℕ
+  pub marks : new.marks.items ≡ old.marks.items ++ more
+
 -- the run went on: it has the same script, keeps the same input, and has more answers or is where
 -- it was
 pub record GoesOn {T L : Type 0} (piece : Option ℕ) (old new : Progress T L) : Type 0 where
@@ -109,6 +114,7 @@ pub record GoesOn {T L : Type 0} (piece : Option ℕ) (old new : Progress T L) :
   pub base : new.base ≡ old.base
   pub pieces : new.pieces ≡ old.pieces
   pub adds : AddsAnswers piece old new
+  pub makes : AddsMarks old new
   pub still : StaysWithoutAnswer old new
   pub told : vec_len old.told ≤ vec_len new.told
   pub room : HasRoom new

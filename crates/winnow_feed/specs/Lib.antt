@@ -1,5 +1,6 @@
 pub mod Inputs
 pub mod Reach
+pub mod NamedMarks
 pub mod ToldAnswers
 pub mod JoinedInput
 pub mod Feeding

@@ -53,23 +53,3 @@ least_place at marks least (s ∷ steps) = min (named_place at marks s) (least_p
 abbrev pub needed_place : {C L : Type 0} → ℕ → ℕ → List ℕ → List (SearchStep C L) → ℕ
 needed_place end at marks [] = end
 needed_place end at marks (s ∷ steps) = least_place at marks at (s ∷ steps)
-
--- ---- which marks are still named
-
--- the greatest `u64`, which no mark has as its number
-abbrev pub no_mark : ℕ
-no_mark = 18446744073709551615
-
--- the number of the mark that a step names, or `no_mark`
-abbrev pub mark_named : {C L : Type 0} → SearchStep C L → ℕ
-mark_named s = unwrap_or (step_mark s) no_mark
-
--- the least number of a mark that the steps name
-abbrev pub least_mark : {C L : Type 0} → List (SearchStep C L) → ℕ
-least_mark [] = no_mark
-least_mark (s ∷ steps) = min (mark_named s) (least_mark steps)
-
--- for each step, the least number of a mark that it or a later step names
-abbrev pub least_marks : {C L : Type 0} → List (SearchStep C L) → List ℕ
-least_marks [] = []
-least_marks (s ∷ steps) = least_mark (s ∷ steps) ∷ least_marks steps

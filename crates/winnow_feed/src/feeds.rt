@@ -1,6 +1,6 @@
 use crate::buffers::forget_bytes;
 use crate::missing::next_missing;
-use crate::named_marks::marks_named;
+use crate::named_marks::NamedMarks;
 use crate::progress::{Progress, advance};
 use crate::reach::take_in;
 use crate::{Finished, Told, Waiting};
@@ -16,8 +16,8 @@ use winnow_wrap::Partial;
 /// A script over bytes that arrive in pieces.
 ///
 /// However the input is cut, the answers are those of the script on the joined pieces. After each
-/// piece, the feed has given out the answers that no further input can change. It keeps only those
-/// bytes of the input that a step without an answer can reach.
+/// piece, the feed has given out the longest front of answers that are all definite: no further input
+/// changes these. It keeps only those bytes of the input that a step without an answer can reach.
 ///
 /// A feed is made for a script, and then fed:
 ///
@@ -28,8 +28,8 @@ use winnow_wrap::Partial;
 pub struct ByteFeed<'k> {
     run: Progress<'k, u8, &'k [u8]>,
     kept: Vec<u8>,
-    // For each step, the least number of a mark that it or a later step names.
-    named: Vec<usize>,
+    // The marks that steps without an answer name.
+    named: NamedMarks,
     // The searches that were last set up by a step that waited for a distant hit.
     finders: Option<Finders<'k>>,
 }
@@ -43,7 +43,7 @@ impl<'k> Model for ByteFeed<'k> {
     ghost view = { λ f. record { run = f.run; kept = f.kept.items } };
 
     ghost invariant = { λ f. IsSound byte_input
-        (record { run = f.run; kept = f.kept.items }) f.named.items };
+        (record { run = f.run; kept = f.kept.items }) f.named };
 }
 
 impl<'k> ByteFeed<'k> {
@@ -67,7 +67,7 @@ impl<'k> ByteFeed<'k> {
     {
         let told = Vec::with_capacity(alloc, script.len())?;
         let marks = Vec::with_capacity(alloc, script.len())?;
-        let named = marks_named(alloc, script)?;
+        let named = NamedMarks::new(alloc, script)?;
         Ok(ByteFeed {
             run: Progress {
                 script,
@@ -143,7 +143,7 @@ impl<'k> ByteFeed<'k> {
         let unneeded = take_in(
             &mut self.run,
             &mut self.finders,
-            &self.named,
+            &mut self.named,
             Partial::new(self.kept.as_slice()),
         );
         forget_bytes(&mut self.kept, unneeded);

@@ -1,8 +1,8 @@
 //! Scripts of calls, comparisons and searches over input that arrives in pieces.
 //!
 //! However the input is cut, a script answers as on the joined pieces. After each piece, a feed has
-//! given out the answers that no further input can change, each with the number of the piece that
-//! made it definite. The end gives out the rest. A feed keeps no byte that no later step can reach,
+//! given out the longest front of answers that are all definite, each with the number of the piece
+//! that made it so. The end gives out the rest. A feed keeps no byte that no later step can reach,
 //! and a waiting step resumes after what it has settled. `waits_for` names an input that would
 //! change the waiting step's answer, if there is one.
 //!

@@ -1,6 +1,6 @@
 use crate::buffers::forget_text;
 use crate::missing::next_missing;
-use crate::named_marks::marks_named;
+use crate::named_marks::NamedMarks;
 use crate::progress::{Progress, advance};
 use crate::reach::take_in;
 use crate::spelling::is_spelt;
@@ -17,14 +17,14 @@ use winnow_wrap::Partial;
 /// A script over text that arrives in pieces.
 ///
 /// However the input is cut, the answers are those of the script on the joined pieces. After each
-/// piece, the feed has given out the answers that no further input can change. It keeps only those
-/// bytes of the input that a step without an answer can reach.
+/// piece, the feed has given out the longest front of answers that are all definite: no further input
+/// changes these. It keeps only those bytes of the input that a step without an answer can reach.
 #[derive(Drop)]
 pub struct TextFeed<'k> {
     run: Progress<'k, char, &'k str>,
     kept: String,
-    // For each step, the least number of a mark that it or a later step names.
-    named: Vec<usize>,
+    // The marks that steps without an answer name.
+    named: NamedMarks,
     // The searches that were last set up by a step that waited for a distant hit.
     finders: Option<Finders<'k>>,
 }
@@ -39,7 +39,7 @@ impl<'k> Model for TextFeed<'k> {
     ghost view = { λ f. record { run = f.run; kept = string_bytes f.kept } };
 
     ghost invariant = { λ f. IsSound text_input
-        (record { run = f.run; kept = string_bytes f.kept }) f.named.items };
+        (record { run = f.run; kept = string_bytes f.kept }) f.named };
 }
 
 impl<'k> TextFeed<'k> {
@@ -64,7 +64,7 @@ impl<'k> TextFeed<'k> {
     {
         let told = Vec::with_capacity(alloc, script.len())?;
         let marks = Vec::with_capacity(alloc, script.len())?;
-        let named = marks_named(alloc, script)?;
+        let named = NamedMarks::new(alloc, script)?;
         Ok(TextFeed {
             run: Progress {
                 script,
@@ -140,7 +140,7 @@ impl<'k> TextFeed<'k> {
         let unneeded = take_in(
             &mut self.run,
             &mut self.finders,
-            &self.named,
+            &mut self.named,
             Partial::new(self.kept.as_str()),
         );
         forget_text(&mut self.kept, unneeded);

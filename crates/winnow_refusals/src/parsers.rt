@@ -129,7 +129,7 @@ fn tell_context<I: StreamIsPartial + Drop>(alloc: Global, mut input: I) -> Resul
 /// The cases of parsers.
 pub fn cases(alloc: Global) -> [Case; 8] {
     let [list, text, till, apart, spelled, whole] = gather_all::<&str, EmptyError>(alloc, TEXT);
-    let joined = "during one of:\n   at '12x'\n   at '12x'\n";
+    let joined = "during one of:\n   at '12x'\n   at '12x'\n  0:  at '12x'\n";
     [
         ("repeat into a Vec", list),
         ("repeat into a String", text),

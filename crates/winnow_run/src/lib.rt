@@ -2,8 +2,8 @@
 //!
 //! [`run`] runs a script of calls on any stream, and [`run_search`] a script that also compares and
 //! searches. Both, and each engine for further steps, are built on one function for a step,
-//! [`answer_step`], over one type of marks, [`Marks`]. The crate also defines which answers no
-//! further input can change, and states their law, [`definite_law`].
+//! [`answer_step`], over one type of marks, [`Marks`]. The crate also defines which answers are
+//! definite, so that no further input changes them, and states their law, [`definite_law`].
 #![tactic(auto)]
 
 mod answers;

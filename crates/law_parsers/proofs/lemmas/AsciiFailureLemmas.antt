@@ -8,6 +8,7 @@ use Rattle.winnow_parser.specs.declared.failure.Failure.TheVariants.{Incomplete,
 use Rattle.winnow_parser.specs.Outcome.{Ahead, Outcome, Gives, Fails, Meaning}
 use Rattle.winnow_parser.specs.Errors.{Errors}
 use Rattle.winnow_parser.specs.Determined.{IsDetermined, Agree}
+use Rattle.winnow_combinator.specs.Appended.{AppendedErrors}
 use Rattle.winnow_combinator.specs.DeterminedLists.{AreSameEach}
 use Rattle.winnow_combinator.specs.Misuse.{GatheredErrors}
 use Rattle.winnow_ascii.specs.Escapes.{NextFragment, UpToEnd, EscapeErrors, FragmentErrors, UpToEndErrors, InTurnErrors, AreSameFragments}
@@ -37,15 +38,19 @@ of-part normal control escapable normal_errors control_errors errors partial a s
 of-part normal control escapable normal_errors control_errors errors partial a s (Refused r) h = tt
 
 -- a failure of a number is one of its digits, or of what they read as
-pub of-number : {G R O E S T : Type 0} (reads : G → R → Type 0) (digits : Meaning G T)
-    (stands : S → Ahead T) (first : Meaning O T) (found asserted : S → E → Type 0)
-    (joins : E → E → E → Type 0) (partial : Bool) (a : Ahead T) (s : S) (f : Failure E Needed)
-    → ReadErrors reads found digits (DigitErrors stands first found asserted joins) partial a s f
-    → IsOfNumber reads digits stands first found asserted joins partial a s f
-of-number reads digits stands first found asserted joins partial a s (Backtrack e) h = h
-of-number reads digits stands first found asserted joins partial a s (Cut e) h = h
-of-number reads digits stands first found asserted joins partial a s (Incomplete n) h = tt
-of-number reads digits stands first found asserted joins partial a s (Refused r) h = tt
+pub of-number : {G R O E S C T : Type 0} (reads : G → R → Type 0) (digits : Meaning G T)
+    (stands : S → Ahead T) (stood : C → Ahead T) (first : Meaning O T)
+    (found asserted : S → E → Type 0) (joins : E → E → E → Type 0)
+    (appends : E → S → C → E → Type 0) (partial : Bool) (a : Ahead T) (s : S)
+    (f : Failure E Needed)
+    → ReadErrors reads found digits (AppendedErrors stood appends (DigitErrors stands first found asserted joins)) partial a s f
+    → IsOfNumber reads digits stands stood first found asserted joins appends partial a s f
+of-number reads digits stands stood first found asserted joins appends partial a s (Backtrack e) (inl h) = inl h
+of-number reads digits stands stood first found asserted joins appends partial a s (Backtrack e) (inr (absent, (whole, (start, ((one, (other, (left, k, both))), at, adds))))) =
+    inr (absent, (one, (other, (whole, (start, (left, k, both, at, adds))))))
+of-number reads digits stands stood first found asserted joins appends partial a s (Cut e) h = h
+of-number reads digits stands stood first found asserted joins appends partial a s (Incomplete n) h = tt
+of-number reads digits stands stood first found asserted joins appends partial a s (Refused r) h = tt
 
 module _ {O P : Type 0} where
   -- fragments that are the same, where only equal values are, are equal

@@ -9,6 +9,7 @@ use Rattle.winnow_parser.specs.Outcome.{Ahead, Meaning}
 use Rattle.winnow_parser.specs.Meanings.{Softened}
 use Rattle.winnow_parser.specs.Errors.{OwnErrors, PairErrors, EitherErrors, CutErrors, SoftenedErrors, ContextErrors, FailsLeaving}
 use Rattle.winnow_token.specs.OneOf.{OneOf}
+use Rattle.winnow_combinator.specs.Appended.{AppendedErrors}
 use Rattle.law_parsers.specs.Failures.{IsMade, IsNamed, IsLabelled, IsJoined, IsOwn, IsAtEnd}
 
 module _ {E S T : Type 0} (found asserted : S → E → Type 0) where
@@ -33,16 +34,18 @@ module _ {E S T : Type 0} (found asserted : S → E → Type 0) where
   labelled tells stood partial a s (Refused r) h = tt
 
   -- a token is tried for twice, and neither alternative cuts
-  pub joined : (joins : E → E → E → Type 0) (stands : S → Ahead T) (partial : Bool) (a : Ahead T)
-      (s : S) (f : Failure E Needed)
-      → EitherErrors stands joins (Softened (OneOf (λ _. true))) (SoftenedErrors (OwnErrors found asserted)) (SoftenedErrors (OwnErrors found asserted)) partial a s f
-      → IsJoined (IsMade found asserted) joins stands a s f
-  joined joins stands partial a s (Backtrack e) (left, (right, ((r, (h, inl m)), k, both))) = (left, (right, (r, (h, m.2, k, both))))
-  joined joins stands partial a s (Backtrack e) (left, (right, ((r, (h, inr m)), k, both))) = absurd m
-  joined joins stands partial a s (Cut e) (inl h) = absurd h
-  joined joins stands partial a s (Cut e) (inr (left, (h, k))) = absurd k
-  joined joins stands partial a s (Incomplete n) h = tt
-  joined joins stands partial a s (Refused r) h = tt
+  pub joined : {C : Type 0} (joins : E → E → E → Type 0) (appends : E → S → C → E → Type 0)
+      (stood : C → Ahead T) (stands : S → Ahead T) (partial : Bool) (a : Ahead T) (s : S)
+      (f : Failure E Needed)
+      → AppendedErrors stood appends (EitherErrors stands joins (Softened (OneOf (λ _. true))) (SoftenedErrors (OwnErrors found asserted)) (SoftenedErrors (OwnErrors found asserted))) partial a s f
+      → IsJoined (IsMade found asserted) joins appends stood stands a s f
+  joined joins appends stood stands partial a s (Backtrack e) (whole, (start, ((left, (right, ((r, (h, inl m)), k, both))), at, adds))) =
+      (left, (right, (whole, (r, (start, (h, m.2, k, both, at, adds))))))
+  joined joins appends stood stands partial a s (Backtrack e) (whole, (start, ((left, (right, ((r, (h, inr m)), k, both))), at, adds))) = absurd m
+  joined joins appends stood stands partial a s (Cut e) (inl h) = absurd h
+  joined joins appends stood stands partial a s (Cut e) (inr (left, (h, k))) = absurd k
+  joined joins appends stood stands partial a s (Incomplete n) h = tt
+  joined joins appends stood stands partial a s (Refused r) h = tt
 
   -- two parsers with errors of their own, one after the other, neither of which cuts
   pub own : {O : Type 0} (means : Meaning O T) (partial : Bool) (a : Ahead T) (s : S)

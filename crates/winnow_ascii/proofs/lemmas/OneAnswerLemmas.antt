@@ -10,6 +10,7 @@ use Rattle.winnow_parser.specs.Determined.{IsDetermined, SlicesRespect, Shows, A
 use Rattle.winnow_parser.proofs.lemmas.DeterminedLemmas.{determined-maps, determined-pair, determined-either}
 use Rattle.winnow_parser.proofs.lemmas.ImageLemmas.{determined-optional, determined-chosen}
 use Rattle.winnow_parser.proofs.lemmas.MadeLemmas.{determined-taken}
+use Rattle.winnow_combinator.proofs.lemmas.CombinedLemmas.{determined-appending}
 use Rattle.winnow_token.proofs.lemmas.ToldLemmas.{determined-one_of, determined-held}
 use Rattle.winnow_ascii.specs.Numbers.{Digits, Unsigned, Signed, ReadAs, ReadsAlike}
 use Rattle.winnow_ascii.specs.Hexadecimal.{Hexadecimal}
@@ -38,7 +39,7 @@ module _ {S R V T : Type 0} (view : S → V) (is_slice : S → Source T → ℕ 
       determined-chosen (λ slice value. IsSomeExactly (reads slice) value) _ (Shows view) ◌≡◌ (one-value view reads alike) (determined-held is_slice (Shows view) fronts _ 1 (Some (nibbles + 1)))
 
 -- parsers that take one front, though the values of their parts are dropped
-module _ {S T : Type 0} (refusable : Type 0) (is_slice : S → Source T → ℕ → Type 0) (code : T → ℕ) where
+module _ {S T : Type 0} (refusable appends : Type 0) (is_slice : S → Source T → ℕ → Type 0) (code : T → ℕ) where
   -- any two values are the same
   abbrev Any : {O : Type 0} → O → O → Type 0
   Any x y = ⊤
@@ -48,14 +49,14 @@ module _ {S T : Type 0} (refusable : Type 0) (is_slice : S → Source T → ℕ 
   digits = determined-pair ◌≡◌ Any _ _ (determined-one_of _) (determined-held is_slice Any (λ s t a b h k. tt) _ 0 None)
 
   -- `Unsigned` has one answer
-  pub determined-unsigned : IsDetermined (λ x y. ⊤) (Unsigned refusable is_slice code)
-  determined-unsigned = determined-either refusable Any _ _
+  pub determined-unsigned : IsDetermined (λ x y. ⊤) (Unsigned refusable appends is_slice code)
+  determined-unsigned = determined-appending appends Any _ (determined-either refusable Any _ _
       (determined-maps (AreBothSame ◌≡◌ Any) Any IsForgotten (λ x y p q e u v. tt) _ digits)
-      (determined-maps ◌≡◌ Any IsForgotten (λ x y p q e u v. tt) _ (determined-one_of _))
+      (determined-maps ◌≡◌ Any IsForgotten (λ x y p q e u v. tt) _ (determined-one_of _)))
 
   -- `Signed` has one answer
-  pub determined-signed : IsDetermined (λ x y. ⊤) (Signed refusable is_slice code)
-  determined-signed = determined-either refusable Any _ _
+  pub determined-signed : IsDetermined (λ x y. ⊤) (Signed refusable appends is_slice code)
+  determined-signed = determined-appending appends Any _ (determined-either refusable Any _ _
       (determined-maps (AreBothSame (AreSameIfAny ◌≡◌) (AreBothSame ◌≡◌ Any)) Any IsForgotten (λ x y p q e u v. tt) _
       (determined-pair (AreSameIfAny ◌≡◌) (AreBothSame ◌≡◌ Any) _ _ (determined-optional _ ◌≡◌ (determined-one_of _)) digits))
-      (determined-maps ◌≡◌ Any IsForgotten (λ x y p q e u v. tt) _ (determined-one_of _))
+      (determined-maps ◌≡◌ Any IsForgotten (λ x y p q e u v. tt) _ (determined-one_of _)))

@@ -10,33 +10,37 @@ use Rattle.winnow_parser.specs.Determined.{IsDetermined, Shows, Respects, Slices
 use Rattle.winnow_parser.proofs.lemmas.MadeLemmas.{determined-continued}
 use Rattle.winnow_token.specs.Counted.{Counted}
 use Rattle.winnow_token.proofs.lemmas.ToldLemmas.{determined-counted}
+use Rattle.winnow_combinator.specs.Appended.{AppendingIf, needs_some}
 use Rattle.winnow_combinator.specs.Counts.{Ascends, Ascending}
 use Rattle.winnow_combinator.specs.DeterminedLists.{AreSameEach}
 use Rattle.winnow_combinator.specs.Gathering.{Gathered}
 use Rattle.winnow_combinator.specs.Misuse.{AscendingErrors}
 use Rattle.winnow_combinator.specs.Repetition.{Repeated}
 use Rattle.winnow_combinator.proofs.lemmas.AgreeingLemmas.{determined-repeated}
-use Rattle.winnow_combinator.proofs.lemmas.CombinedLemmas.{determined-gathered}
+use Rattle.winnow_combinator.proofs.lemmas.CombinedLemmas.{determined-gathered, determined-appending_if}
 use Rattle.winnow_binary.specs.Lengths.{IsNumber, CountedSlice, FrontOf, CountedFront, Times, CountedValues}
 
-module _ {B O A T : Type 0} (refusable : Type 0) (makes : List O → A → Type 0) (means : B → Meaning O T) where
+module _ {B O A T : Type 0} (refusable appends : Type 0) (makes : List O → A → Type 0) (means : B → Meaning O T) where
+  -- what is asked for of a parser with these counts
+  abbrev Asked : Meaning O T → ℕ → Option ℕ → Meaning A T
+  Asked inner least greatest =
+      Ascending least greatest (Gathered refusable makes (AppendingIf (needs_some least) appends (Repeated least greatest inner)))
+
   -- n values are asked for where the counts, from the least to the greatest, are n alone
   times-alone : (inner : Meaning O T) (n : ℕ) (partial : Bool) (a : Ahead T) (v : Outcome A T)
-      → Ascending n (Some n) (Times refusable makes inner n) partial a v
-      → Times refusable makes inner n partial a v
+      → Asked inner n (Some n) partial a v → Times refusable appends makes inner n partial a v
   times-alone inner n partial a v (inl h) = h.1
   times-alone inner n partial a v (inr h) = absurd (omega (arith, h.0))
 
   -- the same for counts and a parser that are known by equations
   pub times-asked : (p q : B) (n least : ℕ) (greatest : Option ℕ) → p ≡ q → least ≡ n
       → greatest ≡ Some n → (partial : Bool) (a : Ahead T) (v : Outcome A T)
-      → Ascending least greatest
-      (Gathered refusable makes (Repeated least greatest (means p))) partial a v
-      → Times refusable makes (means q) n partial a v
+      → Asked (means p) least greatest partial a v
+      → Times refusable appends makes (means q) n partial a v
   times-asked p q n least greatest e f h partial a v asked =
-      let one = subst (λ b. Ascending least greatest (Gathered refusable makes (Repeated least greatest (means b))) partial a v) e asked in
-      let two = subst (λ l. Ascending l greatest (Gathered refusable makes (Repeated l greatest (means q))) partial a v) f one in
-      times-alone (means q) n partial a v (subst (λ g. Ascending n g (Gathered refusable makes (Repeated n g (means q))) partial a v) h two)
+      let one = subst (λ b. Asked (means b) least greatest partial a v) e asked in
+      let two = subst (λ l. Asked (means q) l greatest partial a v) f one in
+      times-alone (means q) n partial a v (subst (λ g. Asked (means q) n g partial a v) h two)
 
 module _ {E S T : Type 0} (cuts : S → E → Type 0) (inner : Errors E S T) (partial : Bool) (a : Ahead T) (s : S) (failure : Failure E Needed) where
   -- counts that are n alone allow n, so the errors are those of the inner parser
@@ -95,11 +99,12 @@ module _ {S T : Type 0} (stands : S → Ahead T) (counts_shortage : Bool) where
       determined-continued (IsNumber number) (FrontOf stands counts_shortage) length (Shows number) (Shows stands) (one-number number) determined-front_of d
 
 -- `CountedValues` has one answer where its parts have one
-pub determined-counted_values : {L O A T : Type 0} (number : L → ℕ) (refusable : Type 0)
+pub determined-counted_values : {L O A T : Type 0} (number : L → ℕ) (refusable appends : Type 0)
     (makes : List O → A → Type 0) (same : O → O → Type 0) (alike : A → A → Type 0)
     → Respects (AreSameEach same) alike makes → (length : Meaning L T) (inner : Meaning O T)
     → IsDetermined (Shows number) length → IsDetermined same inner
-    → IsDetermined alike (CountedValues number refusable makes length inner)
-determined-counted_values number refusable makes same alike respects length inner d e =
-    determined-continued (IsNumber number) (Times refusable makes inner) length (Shows number) alike (one-number number)
-    (λ n. determined-gathered (AreSameEach same) alike refusable makes respects (Repeated n (Some n) inner) (determined-repeated same n (Some n) inner e)) d
+    → IsDetermined alike (CountedValues number refusable appends makes length inner)
+determined-counted_values number refusable appends makes same alike respects length inner d e =
+    determined-continued (IsNumber number) (Times refusable appends makes inner) length (Shows number) alike (one-number number)
+    (λ n. determined-gathered (AreSameEach same) alike refusable makes respects (AppendingIf (needs_some n) appends (Repeated n (Some n) inner))
+    (determined-appending_if appends (AreSameEach same) (Repeated n (Some n) inner) (determined-repeated same n (Some n) inner e) (needs_some n))) d

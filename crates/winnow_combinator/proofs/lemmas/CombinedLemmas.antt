@@ -5,6 +5,7 @@ use Rattle.winnow_parser.specs.Meanings.{Maps, Pair, Second, Preceded, Either, O
 use Rattle.winnow_parser.specs.Determined.{IsGranted, Agree, IsDetermined, Respects, AreBothSame, AreSameIfAny}
 use Rattle.winnow_parser.proofs.lemmas.DeterminedLemmas.{determined-returns, determined-maps, determined-pair, determined-either}
 use Rattle.winnow_parser.proofs.lemmas.ImageLemmas.{determined-optional}
+use Rattle.winnow_combinator.specs.Appended.{Appending, AppendingIf}
 use Rattle.winnow_combinator.specs.Choices.{Choice3, Choice4, Choice5, Choice6, Choice7, Choice8, Choice9, Choice10}
 use Rattle.winnow_combinator.specs.Conditional.{IsSomeOf, Conditional}
 use Rattle.winnow_combinator.specs.Counts.{Ascending, fewer}
@@ -43,6 +44,28 @@ module _ {O A T : Type 0} (same : O → O → Type 0) (alike : A → A → Type 
   pub determined-gathered : IsDetermined alike (Gathered refusable makes inner)
   determined-gathered partial a v w s t h k =
       determined-maps same alike makes respects inner d partial a v w s t (gathered-maps partial a v s h) (gathered-maps partial a w t k)
+
+-- ---- A parser that appends to its error
+
+module _ {O T : Type 0} (refusable : Type 0) (same : O → O → Type 0) (inner : Meaning O T) (d : IsDetermined same inner) where
+  -- an answer of `Appending` is one of the inner parser, unless memory was refused
+  appending-granted : (partial : Bool) (a : Ahead T) (v : Outcome O T) → IsGranted v
+      → Appending refusable inner partial a v → inner partial a v
+  appending-granted partial a (Gives x b) s h = h
+  appending-granted partial a (Fails (Backtracks b)) s h = h
+  appending-granted partial a (Fails (Cuts b)) s h = h
+  appending-granted partial a (Fails (Needs n)) s h = h
+  appending-granted partial a (Fails Refuses) s h = absurd s
+
+  -- `Appending` has one answer where the inner parser has one
+  pub determined-appending : IsDetermined same (Appending refusable inner)
+  determined-appending partial a v w s t h k =
+      d partial a v w s t (appending-granted partial a v s h) (appending-granted partial a w t k)
+
+  -- so has `AppendingIf`
+  pub determined-appending_if : (flag : Bool) → IsDetermined same (AppendingIf flag refusable inner)
+  determined-appending_if true = determined-appending
+  determined-appending_if false = d
 
 -- ---- Counts
 

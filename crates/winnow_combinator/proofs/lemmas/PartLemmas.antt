@@ -5,13 +5,14 @@ use Rattle.winnow_parser.specs.Outcome.{Meaning}
 use Rattle.winnow_parser.specs.Meanings.{IsAlways, IsForgotten, First, Second, Pair, Preceded, Terminated}
 use Rattle.winnow_parser.specs.Determined.{IsDetermined, Respects, Shows, AreBothSame}
 use Rattle.winnow_parser.proofs.lemmas.DeterminedLemmas.{determined-maps, determined-pair}
+use Rattle.winnow_combinator.specs.Appended.{AppendingIf, needs_some}
 use Rattle.winnow_combinator.specs.Counts.{Ascending}
 use Rattle.winnow_combinator.specs.DeterminedLists.{AreSameEach, StepsRespect, IsOneStart}
 use Rattle.winnow_combinator.specs.Gathering.{Gathered, Folds}
 use Rattle.winnow_combinator.specs.Repetition.{Repeated}
 use Rattle.winnow_combinator.proofs.lemmas.AgreeingLemmas.{determined-repeated}
 use Rattle.winnow_combinator.proofs.lemmas.AgreeingEndLemmas.{folds-respects}
-use Rattle.winnow_combinator.proofs.lemmas.CombinedLemmas.{determined-gathered, determined-ascending, second-respects}
+use Rattle.winnow_combinator.proofs.lemmas.CombinedLemmas.{determined-gathered, determined-appending_if, determined-ascending, second-respects}
 
 module _ {O P T : Type 0} (same : O → O → Type 0) (alike : P → P → Type 0) (first : Meaning O T) (second : Meaning P T) (d : IsDetermined same first) (e : IsDetermined alike second) where
   -- the first parts of pairs that are the same are the same
@@ -45,10 +46,12 @@ module _ {O P : Type 0} (same : O → O → Type 0) (alike : P → P → Type 0)
       folds-respects same alike step respects h.0 k.0 l r xs ys (start h.0 k.0 h.1.0 k.1.0) e h.1.1 k.1.1
 
   -- folded values have one answer where the values have one
-  pub determined-fold : {T : Type 0} (inner : Meaning P T) → IsDetermined alike inner
-      → (least : ℕ) (greatest : Option ℕ)
-      → IsDetermined same (Ascending least greatest (Gathered ⊥ (Folds starts step) (Repeated least greatest inner)))
-  determined-fold inner d least greatest =
+  pub determined-fold : {T : Type 0} (refusable : Type 0) (inner : Meaning P T)
+      → IsDetermined alike inner → (least : ℕ) (greatest : Option ℕ)
+      → IsDetermined same (Ascending least greatest (Gathered ⊥ (Folds starts step) (AppendingIf (needs_some least) refusable (Repeated least greatest inner))))
+  determined-fold refusable inner d least greatest =
       let values = Repeated least greatest inner in
-      determined-ascending same (Gathered ⊥ (Folds starts step) values)
-      (determined-gathered (AreSameEach alike) same ⊥ (Folds starts step) starting-respects values (determined-repeated alike least greatest inner d)) least greatest
+      let appending = AppendingIf (needs_some least) refusable values in
+      let one = determined-appending_if refusable (AreSameEach alike) values (determined-repeated alike least greatest inner d) (needs_some least) in
+      determined-ascending same (Gathered ⊥ (Folds starts step) appending)
+      (determined-gathered (AreSameEach alike) same ⊥ (Folds starts step) starting-respects appending one) least greatest

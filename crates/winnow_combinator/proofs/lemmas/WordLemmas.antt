@@ -11,6 +11,7 @@ use Rattle.winnow_parser.specs.Meanings.{Maps, Preceded, Terminated}
 use Rattle.winnow_parser.specs.Spanned.{WithSpan}
 use Rattle.winnow_parser.specs.Whole.{ReadsWhole, StopsAt}
 use Rattle.winnow_parser.proofs.lemmas.SpanLemmas.{next-part}
+use Rattle.winnow_combinator.specs.Appended.{AppendingIf, needs_some}
 use Rattle.winnow_combinator.specs.Counts.{Ascending}
 use Rattle.winnow_combinator.specs.Gathering.{Gathered}
 use Rattle.winnow_combinator.specs.Repetition.{Taking, InTurn, Repeated}
@@ -59,14 +60,14 @@ IsPlaced a = HasPositiveWidths a.tokens × ((place : ℕ) × (a.location ≡ Som
 module _ {S K O V T : Type 0} (skip : Meaning S T) (read : Meaning K T) (gap clear : Source T → Type 0) (word : K → Source T → Source T → Type 0) (l : IsLexer skip read gap clear word)
     (makes : K × Range ℕ → O → Type 0) (kind : O → K) (span : O
     → Range ℕ) (made : (both : K × Range ℕ) (x : O) → makes both x
-    → (both.0 ≡ kind x) × (both.1 ≡ span x)) (refusable : Type 0) (items : V → List O) where
+    → (both.0 ≡ kind x) × (both.1 ≡ span x)) (refusable q : Type 0) (items : V → List O) where
   -- a gap and then a word
   abbrev pub Word : Meaning O T
   Word = Maps makes (Preceded skip (WithSpan read))
 
   -- gaps and words, and a gap after the last
   abbrev pub Lexer : ℕ → Option ℕ → Meaning V T
-  Lexer l g = Terminated (Ascending l g (Gathered refusable (λ xs v. items v ≡ xs) (Repeated l g Word))) skip
+  Lexer l g = Terminated (Ascending l g (Gathered refusable (λ xs v. items v ≡ xs) (AppendingIf (needs_some l) q (Repeated l g Word)))) skip
 
   -- the word comes next, its span ends where the stream then stands, and the stream is narrower
   abbrev IsNext : (a b : Ahead T) → IsPlaced a → O → Type 0
@@ -137,21 +138,21 @@ module _ {S K O V T : Type 0} (skip : Meaning S T) (read : Meaning K T) (gap cle
 -- ---- The same for a grammar, whose parsers and counts are equal to these
 
 -- the meaning of `terminated(repeat(counts, preceded(skip, read.with_span()).map(..)), last)`
-abbrev pub LexerOf : {S K O V T : Type 0} → (K × Range ℕ → O → Type 0) → Type 0 → (V → List O) → ℕ
-    → Option ℕ → Meaning S T → Meaning K T → Meaning S T → Meaning V T
-LexerOf makes refusable items l g skip read last =
-    Terminated (Ascending l g (Gathered refusable (λ xs v. items v ≡ xs) (Repeated l g (Maps makes (Preceded skip (WithSpan read)))))) last
+abbrev pub LexerOf : {S K O V T : Type 0} → (K × Range ℕ → O → Type 0) → Type 0 → Type 0
+    → (V → List O) → ℕ → Option ℕ → Meaning S T → Meaning K T → Meaning S T → Meaning V T
+LexerOf makes refusable q items l g skip read last =
+    Terminated (Ascending l g (Gathered refusable (λ xs v. items v ≡ xs) (AppendingIf (needs_some l) q (Repeated l g (Maps makes (Preceded skip (WithSpan read))))))) last
 
 module _ {S K O V T P Q : Type 0} (skips : P → Meaning S T) (reads : Q → Meaning K T) (skip : P) (read : Q) {gap clear : Source T → Type 0} {word : K → Source T → Source T → Type 0} (l : IsLexer (skips skip) (reads read) gap clear word)
     (makes : K × Range ℕ → O → Type 0) (kind : O → K) (span : O
     → Range ℕ) (made : (both : K × Range ℕ) (x : O) → makes both x
-    → (both.0 ≡ kind x) × (both.1 ≡ span x)) (refusable : Type 0) (items : V → List O)
+    → (both.0 ≡ kind x) × (both.1 ≡ span x)) (refusable q : Type 0) (items : V → List O)
     {least : ℕ} {greatest : Option ℕ} (counts : (least ≡ 0)
     × (greatest ≡ None)) {first last : P} {inner : Q} (begins : first ≡ skip) (middle : inner
     ≡ read) (ends : last ≡ skip) where
   -- the meaning of the grammar's parser
   abbrev Meant : ℕ → Option ℕ → P → Q → P → Meaning V T
-  Meant n g f i e = LexerOf makes refusable items n g (skips f) (reads i) (skips e)
+  Meant n g f i e = LexerOf makes refusable q items n g (skips f) (reads i) (skips e)
 
   -- a fact about the grammar's parser is one about `Lexer`
   meant : (F : Meaning V T → Type 0) → F (Meant least greatest first inner last)
@@ -168,10 +169,10 @@ module _ {S K O V T P Q : Type 0} (skips : P → Meaning S T) (reads : Q → Mea
       → ReadsWhole (Meant least greatest first inner last) a v
       → AreWords gap (λ x. word (kind x)) span a.tokens p.1.0 (items v)
   lexer-words v a p h =
-      words (skips skip) (reads read) gap clear word l makes kind span made refusable items v a p (meant (λ m. ReadsWhole m a v) h)
+      words (skips skip) (reads read) gap clear word l makes kind span made refusable q items v a p (meant (λ m. ReadsWhole m a v) h)
 
   -- the grammar's parser never stops before the end of a whole input
   pub lexer-never-stops : (a b : Ahead T) → IsPlaced a
       → ¬ (StopsAt (Meant least greatest first inner last) a b)
   lexer-never-stops a b p h =
-      never-stops (skips skip) (reads read) gap clear word l makes kind span made refusable items a b p (meant (λ m. StopsAt m a b) h)
+      never-stops (skips skip) (reads read) gap clear word l makes kind span made refusable q items a b p (meant (λ m. StopsAt m a b) h)

@@ -41,16 +41,16 @@ end-begun values r text s e spells (inr f) =
     ap (λ t. t ++ 10 ∷ []) (e ∙ ap (λ t. text ++ t) f) ∙ append_assoc text (13 ∷ []) (10 ∷ []) in
     (10 ∷ [], (values, (λ none. some text (10 ∷ []) 13 (sym whole ∙ none), (text, (13 ∷ 10 ∷ [], (whole, spells, inl refl))))))
 
-module _ {S : Type 0} (is_slice : S → Source ℕ → ℕ → Type 0) (bytes : S → List ℕ) (stay : SlicesStay is_slice) (have : SlicesHaveBytes is_slice bytes) (refusable : Type 0) (partial : Bool) where
+module _ {S : Type 0} (is_slice : S → Source ℕ → ℕ → Type 0) (bytes : S → List ℕ) (stay : SlicesStay is_slice) (have : SlicesHaveBytes is_slice bytes) (appends refusable : Type 0) (partial : Bool) where
   -- ---- What is answered
 
   -- a record that is given stands ahead
   row-given : (row : Vec (Vec ℕ Global) Global) (a d : Ahead ℕ) → HasPositiveWidths a.tokens
-      → OneRow is_slice bytes refusable partial a (Gives row d)
+      → OneRow is_slice bytes appends refusable partial a (Gives row d)
       → RecordAhead partial (bytes_of a.tokens) (values_of row) (bytes_of d.tokens)
   row-given row a d wide (both, (is, (b, ((at, (z, started)), (pair, (first, (c, (list, close)))))))) =
       let wide_b = subst (λ p. HasPositiveWidths p.tokens) at wide in
-      let one = list-given is_slice bytes stay have refusable partial pair.0 b c wide_b list in (
+      let one = list-given is_slice bytes stay have appends refusable partial pair.0 b c wide_b list in (
         λ e. started.0 (none-left a.tokens e),
         (
           one.0,
@@ -59,7 +59,7 @@ module _ {S : Type 0} (is_slice : S → Source ℕ → ℕ → Type 0) (bytes : 
             (
               ap (λ p. bytes_of p.tokens) at ∙ one.1.0,
               subst (λ r. SpellsRecord (values_of r) one.0) (first ∙ is) one.1.1,
-              end-given is_slice refusable partial pair.1 c d close,
+              end-given is_slice appends refusable partial pair.1 c d close,
             ),
           ),
         ),
@@ -75,30 +75,30 @@ module _ {S : Type 0} (is_slice : S → Source ℕ → ℕ → Type 0) (bytes : 
 
   -- a row fails as `RowFails` says
   row-fails : (f : Failed ℕ) (a : Ahead ℕ) → HasPositiveWidths a.tokens
-      → OneRow is_slice bytes refusable partial a (Fails f) → RowFails a f
+      → OneRow is_slice bytes appends refusable partial a (Fails f) → RowFails a f
   row-fails (Backtracks d) a wide (inl (at, (x, (c, ended)))) =
       let none = ap bytes_of ended.0 in (none, sym (ap (λ p. bytes_of p.tokens) at) ∙ none, ended.1)
   row-fails (Backtracks d) a wide (inr (u, (b, ((at, started), inl h)))) =
-      absurd (list-fails is_slice bytes stay have refusable partial (Backtracks d) b (subst (λ p. HasPositiveWidths p.tokens) at wide) h)
+      absurd (list-fails is_slice bytes stay have appends refusable partial (Backtracks d) b (subst (λ p. HasPositiveWidths p.tokens) at wide) h)
   row-fails (Backtracks d) a wide (inr (u, (b, (n, inr (row, (c, (list, close))))))) = absurd close
   row-fails (Cuts d) a wide (inl h) = absurd h
   row-fails (Cuts d) a wide (inr (u, (b, ((at, started), inl h)))) =
-      let fails = list-fails is_slice bytes stay have refusable partial (Cuts d) b (subst (λ p. HasPositiveWidths p.tokens) at wide) h in
+      let fails = list-fails is_slice bytes stay have appends refusable partial (Cuts d) b (subst (λ p. HasPositiveWidths p.tokens) at wide) h in
       inr (subst (λ p. IsUnclosed (bytes_of p.tokens)) (sym at) fails.0, fails.1, fails.2)
   row-fails (Cuts d) a wide (inr (u, (b, ((at, started), inr (row, (c, (list, inl close))))))) =
-      let one = list-given is_slice bytes stay have refusable partial row b c (subst (λ p. HasPositiveWidths p.tokens) at wide) list in
-      let fails = end-fails is_slice refusable partial (Backtracks d) c close in
+      let one = list-given is_slice bytes stay have appends refusable partial row b c (subst (λ p. HasPositiveWidths p.tokens) at wide) list in
+      let fails = end-fails is_slice appends refusable partial (Backtracks d) c close in
       inl (subst (λ p. BreaksOff partial (bytes_of a.tokens) (bytes_of p.tokens)) (sym fails.1)
       (values_of row, (one.0, (ap (λ p. bytes_of p.tokens) at ∙ one.1.0, one.1.1, one.1.2, fails.0))))
-  row-fails (Cuts d) a wide (inr (u, (b, (n, inr (row, (c, (list, inr close))))))) = absurd (end-fails is_slice refusable partial (Cuts d) c close)
+  row-fails (Cuts d) a wide (inr (u, (b, (n, inr (row, (c, (list, inr close))))))) = absurd (end-fails is_slice appends refusable partial (Cuts d) c close)
   row-fails (Needs n) a wide (inl h) =
       (h.1, end-begun ([] ∷ []) (bytes_of a.tokens) [] (bytes_of a.tokens) refl ([], ([], (refl, inl (tt, refl), refl))) (inl (ap bytes_of h.0)))
   row-fails (Needs n) a wide (inr (u, (b, ((at, started), inl h)))) =
-      let fails = list-fails is_slice bytes stay have refusable partial (Needs n) b (subst (λ p. HasPositiveWidths p.tokens) at wide) h in
+      let fails = list-fails is_slice bytes stay have appends refusable partial (Needs n) b (subst (λ p. HasPositiveWidths p.tokens) at wide) h in
       (fails.0, subst (λ p. IsBegun (bytes_of p.tokens)) (sym at) (fields-begun (bytes_of b.tokens) fails.1))
   row-fails (Needs n) a wide (inr (u, (b, ((at, started), inr (row, (c, (list, close))))))) =
-      let one = list-given is_slice bytes stay have refusable partial row b c (subst (λ p. HasPositiveWidths p.tokens) at wide) list in
-      let fails = end-fails is_slice refusable partial (Needs n) c close in
+      let one = list-given is_slice bytes stay have appends refusable partial row b c (subst (λ p. HasPositiveWidths p.tokens) at wide) list in
+      let fails = end-fails is_slice appends refusable partial (Needs n) c close in
       (fails.0, end-begun (values_of row) (bytes_of a.tokens) one.0 (bytes_of c.tokens) (ap (λ p. bytes_of p.tokens) at ∙ one.1.0) one.1.1 fails.2)
   row-fails Refuses a wide h = tt
 
@@ -108,38 +108,38 @@ module _ {S : Type 0} (is_slice : S → Source ℕ → ℕ → Type 0) (bytes : 
   row-once : (row : Vec (Vec ℕ Global) Global) (a d : Ahead ℕ) (ws : List (List ℕ))
       (after : List ℕ) → HasPositiveWidths a.tokens
       → RecordAhead partial (bytes_of a.tokens) ws after
-      → OneRow is_slice bytes refusable partial a (Gives row d)
+      → OneRow is_slice bytes appends refusable partial a (Gives row d)
       → (values_of row ≡ ws) × (bytes_of d.tokens ≡ after)
   row-once row a d ws after wide (some, (text, (more, (e, spells, ends)))) (both, (is, (b, ((at, started), (pair, (first, (c, (list, close)))))))) =
       let wide_b = subst (λ p. HasPositiveWidths p.tokens) at wide in
-      let one = list-once is_slice bytes stay have refusable partial pair.0 ws b c text more after wide_b (sym (ap (λ p. bytes_of p.tokens) at) ∙ e) spells ends list in (
+      let one = list-once is_slice bytes stay have appends refusable partial pair.0 ws b c text more after wide_b (sym (ap (λ p. bytes_of p.tokens) at) ∙ e) spells ends list in (
         sym (ap values_of (first ∙ is)) ∙ one.0,
-        ends-once partial (bytes_of c.tokens) (bytes_of d.tokens) after (end-given is_slice refusable partial pair.1 c d close) (subst (λ r. EndsRecord partial r after) (sym one.1) ends),
+        ends-once partial (bytes_of c.tokens) (bytes_of d.tokens) after (end-given is_slice appends refusable partial pair.1 c d close) (subst (λ r. EndsRecord partial r after) (sym one.1) ends),
       )
 
   -- where a record stands ahead, only refused memory makes the reader fail
   row-missed : (f : Failed ℕ) (a : Ahead ℕ) (ws : List (List ℕ)) (after : List ℕ)
       → HasPositiveWidths a.tokens → RecordAhead partial (bytes_of a.tokens) ws after
-      → OneRow is_slice bytes refusable partial a (Fails f) → IsRefusal f
+      → OneRow is_slice bytes appends refusable partial a (Fails f) → IsRefusal f
   row-missed (Backtracks d) a ws after wide stands h =
       stands.0 (row-fails (Backtracks d) a wide h).0
   row-missed (Cuts d) a ws after wide stands (inl h) = absurd h
   row-missed (Needs n) a ws after wide stands (inl h) = stands.0 (ap bytes_of h.0)
   row-missed Refuses a ws after wide stands h = tt
   row-missed f a ws after wide (some, (text, (more, (e, spells, ends)))) (inr (u, (b, ((at, started), inl h)))) =
-      list-missed is_slice bytes stay have refusable partial f ws b text more after (subst (λ p. HasPositiveWidths p.tokens) at wide) (sym (ap (λ p. bytes_of p.tokens) at) ∙ e) spells ends h
+      list-missed is_slice bytes stay have appends refusable partial f ws b text more after (subst (λ p. HasPositiveWidths p.tokens) at wide) (sym (ap (λ p. bytes_of p.tokens) at) ∙ e) spells ends h
   row-missed f a ws after wide (some, (text, (more, (e, spells, ends)))) (inr (u, (b, ((at, started), inr (row, (c, (list, close))))))) =
       let wide_b = subst (λ p. HasPositiveWidths p.tokens) at wide in
-      let one = list-once is_slice bytes stay have refusable partial row ws b c text more after wide_b (sym (ap (λ p. bytes_of p.tokens) at) ∙ e) spells ends list in
-      end-missed is_slice refusable partial f c after (subst (λ r. EndsRecord partial r after) (sym one.1) ends) close
+      let one = list-once is_slice bytes stay have appends refusable partial row ws b c text more after wide_b (sym (ap (λ p. bytes_of p.tokens) at) ∙ e) spells ends list in
+      end-missed is_slice appends refusable partial f c after (subst (λ r. EndsRecord partial r after) (sym one.1) ends) close
 
   -- a cut is one for each longer input, so no record can stand ahead
   cut-final : (a b : Ahead ℕ) → HasPositiveWidths a.tokens
-      → OneRow is_slice bytes refusable partial a (Fails (Cuts b)) → partial ≡ true
+      → OneRow is_slice bytes appends refusable partial a (Fails (Cuts b)) → partial ≡ true
       → ¬ (IsBegun (bytes_of a.tokens))
   cut-final a b wide h p (more, (values, stands)) =
-      let lawful = IsParser-OneRow is_slice bytes stay refusable in
-      let far = lawful.stable (units more) partial a (Fails (Cuts b)) tt (subst (λ q. OneRow is_slice bytes refusable q a (Fails (Cuts b))) p h) in
+      let lawful = IsParser-OneRow is_slice bytes stay appends refusable in
+      let far = lawful.stable (units more) partial a (Fails (Cuts b)) tt (subst (λ q. OneRow is_slice bytes appends refusable q a (Fails (Cuts b))) p h) in
       let here : RecordAhead partial (bytes_of a.tokens ++ more) values [] = subst (λ q. RecordAhead q (bytes_of a.tokens ++ more) values []) (sym p) stands in
       row-missed (Cuts (longer (units more) b)) (longer (units more) a) values [] (positive-both a.tokens (units more) wide (HasPositiveWidths-units more)) (subst (λ r. RecordAhead partial r values []) (sym (bytes-longer a.tokens more)) here) far
 
@@ -148,7 +148,7 @@ module _ {S : Type 0} (is_slice : S → Source ℕ → ℕ → Type 0) (bytes : 
   -- the answer of a row is one that `IsAnswer` allows
   pub answers : {E : Type 0} (a b : Ahead ℕ)
       (result : Result (Vec (Vec ℕ Global) Global) (Failure E Needed)) → HasPositiveWidths a.tokens
-      → OneRow is_slice bytes refusable partial a (outcome result b)
+      → OneRow is_slice bytes appends refusable partial a (outcome result b)
       → IsAnswer partial (bytes_of a.tokens) result (bytes_of b.tokens)
   answers a b (Ok row) wide h = row-given row a b wide h
   answers a b (Err (Backtrack e)) wide h = row-fails (Backtracks b) a wide h
@@ -159,7 +159,7 @@ module _ {S : Type 0} (is_slice : S → Source ℕ → ℕ → Type 0) (bytes : 
   -- each record that stands ahead is given
   pub gives-each : {E : Type 0} (a b : Ahead ℕ)
       (result : Result (Vec (Vec ℕ Global) Global) (Failure E Needed)) → HasPositiveWidths a.tokens
-      → OneRow is_slice bytes refusable partial a (outcome result b)
+      → OneRow is_slice bytes appends refusable partial a (outcome result b)
       → GivesEach partial (bytes_of a.tokens) result (bytes_of b.tokens)
   gives-each a b (Ok row) wide h values after stands = row-once row a b values after wide stands h
   gives-each a b (Err (Backtrack e)) wide h values after stands = row-missed (Backtracks b) a values after wide stands h

@@ -288,11 +288,11 @@ module _ {S : Type 0} (is_slice : S → Source ℕ → ℕ → Type 0) (bytes : 
   -- ---- A field
 
   -- a field of either kind that is given
-  pub field-given : (refusable : Type 0) (v : Vec ℕ Global) (a b : Ahead ℕ)
-      → HasPositiveWidths a.tokens → AnyField is_slice bytes refusable partial a (Gives v b)
+  pub field-given : (appends refusable : Type 0) (v : Vec ℕ Global) (a b : Ahead ℕ)
+      → HasPositiveWidths a.tokens → AnyField is_slice bytes appends refusable partial a (Gives v b)
       → FieldStands v.items (bytes_of a.tokens) (bytes_of b.tokens)
-  field-given refusable v a b wide (inl h) = inl (quoted-given v a b wide h)
-  field-given refusable v a b wide (inr (c, (h, (s, (made, k))))) =
+  field-given appends refusable v a b wide (inl h) = inl (quoted-given v a b wide h)
+  field-given appends refusable v a b wide (inr (c, (h, (s, (made, k))))) =
       let held = held-given is_slice is_plain 0 bytes have partial a b s wide k in
       inr (
         subst (Each is_plain) (sym made) held.1,
@@ -302,13 +302,13 @@ module _ {S : Type 0} (is_slice : S → Source ℕ → ℕ → Type 0) (bytes : 
       )
 
   -- a field of either kind fails as `FieldFails` says
-  pub field-fails : (refusable : Type 0) (f : Failed ℕ) (a : Ahead ℕ) → HasPositiveWidths a.tokens
-      → AnyField is_slice bytes refusable partial a (Fails f)
+  pub field-fails : (appends refusable : Type 0) (f : Failed ℕ) (a : Ahead ℕ) → HasPositiveWidths a.tokens
+      → AnyField is_slice bytes appends refusable partial a (Fails f)
       → FieldFails partial (bytes_of a.tokens) f
-  field-fails refusable (Backtracks d) a wide (c, (h, k)) = absurd (omega (arith, k.1))
-  field-fails refusable (Cuts d) a wide (inl h) = quoted-fails (Cuts d) a wide h
-  field-fails refusable (Cuts d) a wide (inr (c, (h, k))) = absurd (held-fails is_slice is_plain 0 partial a (Cuts d) (omega arith) k)
-  field-fails refusable (Needs n) a wide (inl h) =
+  field-fails appends refusable (Backtracks d) a wide (c, (h, k)) = absurd (omega (arith, k.1))
+  field-fails appends refusable (Cuts d) a wide (inl h) = quoted-fails (Cuts d) a wide h
+  field-fails appends refusable (Cuts d) a wide (inr (c, (h, k))) = absurd (held-fails is_slice is_plain 0 partial a (Cuts d) (omega arith) k)
+  field-fails appends refusable (Needs n) a wide (inl h) =
       let fails = quoted-fails (Needs n) a wide h in (
         fails.0,
         elim fails.1 [
@@ -319,6 +319,6 @@ module _ {S : Type 0} (is_slice : S → Source ℕ → ℕ → Type 0) (bytes : 
           ]
         ],
       )
-  field-fails refusable (Needs n) a wide (inr (c, (h, k))) =
+  field-fails appends refusable (Needs n) a wide (inr (c, (h, k))) =
       let unclosed = held-fails is_slice is_plain 0 partial a (Needs n) (omega arith) k in (unclosed.0, inr (inr unclosed.1))
-  field-fails refusable Refuses a wide h = tt
+  field-fails appends refusable Refuses a wide h = tt

@@ -1,9 +1,10 @@
 -- Failures of a parser whose values are gathered.
-use Rattle.std.proofs.Common.{◌≡◌, ℕ, Bool, List, None, inr}
+use Rattle.std.proofs.Common.{◌≡◌, ℕ, Bool, List, None, inl, inr}
 use Rattle.std.specs.Prelude.{⊤}
 use Rattle.winnow_stream.specs.Source.{Source}
 use Rattle.winnow_parser.specs.Outcome.{Ahead, Failed, Backtracks, Cuts, Needs, Refuses, Fails}
 use Rattle.winnow_token.specs.Held.{HeldFront}
+use Rattle.winnow_combinator.specs.Appended.{Appending}
 use Rattle.winnow_combinator.specs.Repetition.{Repeated}
 use Rattle.winnow_combinator.specs.Gathering.{Gathered}
 use Rattle.winnow_csv.specs.Fields.{is_plain}
@@ -24,11 +25,12 @@ module _ {S : Type 0} (is_slice : S → Source ℕ → ℕ → Type 0) (bytes : 
   plain-failed (Needs n) h = h
   plain-failed Refuses h = inr h
 
-  -- where the chunks of a quoted field fail, the field does
-  pub quoted-failed : (f : Failed ℕ)
-      → Gathered ⊤ (HoldChunks bytes) (Repeated 1 None (Chunk is_slice bytes)) partial a (Fails f)
+  -- where the chunks of a quoted field fail, the field does: memory may be refused for a field, and
+  -- so also while an error is appended to
+  pub quoted-failed : (appends : Type 0) (f : Failed ℕ)
+      → Gathered ⊤ (HoldChunks bytes) (Appending appends (Repeated 1 None (Chunk is_slice bytes))) partial a (Fails f)
       → QuotedField is_slice bytes partial a (Fails f)
-  quoted-failed (Backtracks b) h = h
-  quoted-failed (Cuts b) h = h
-  quoted-failed (Needs n) h = h
-  quoted-failed Refuses h = h
+  quoted-failed appends (Backtracks b) h = h
+  quoted-failed appends (Cuts b) h = h
+  quoted-failed appends (Needs n) h = h
+  quoted-failed appends Refuses h = inl tt

@@ -31,7 +31,7 @@ use Rattle.winnow_csv.proofs.lemmas.AnswerLemmas.{answers, gives-each}
 
 -- `RowInPieces` keeps the laws of a parser
 lawful : IsParser RowInPieces
-lawful = IsParser-OneRow IsByteSlice (λ slice. slice.now) SlicesStay-bytes ⊥
+lawful = IsParser-OneRow IsByteSlice (λ slice. slice.now) SlicesStay-bytes ⊥ ⊥
 
 -- the slices of a reader's stream have the bytes of what was taken
 have-bytes : SlicesHaveBytes IsByteSlice (λ slice. slice.now)
@@ -57,7 +57,7 @@ given-ahead : (row : RowVec) (a b : Ahead ℕ) → HasPositiveWidths a.tokens
     → RowInPieces false a (Gives row b)
     → RecordAhead false (bytes_of a.tokens) (values_of row) (bytes_of b.tokens)
 given-ahead row a b wide h =
-    answers IsByteSlice (λ slice. slice.now) SlicesStay-bytes have-bytes ⊥ false a b (gave row) wide h
+    answers IsByteSlice (λ slice. slice.now) SlicesStay-bytes have-bytes ⊥ ⊥ false a b (gave row) wide h
 
 -- records that are read one after the other stand so
 reads-records : (rows : List RowVec) (a b : Ahead ℕ) → HasPositiveWidths a.tokens
@@ -95,17 +95,17 @@ never-idle f place (e, (row, h)) =
 stops-missed : (a b : Ahead ℕ) → HasPositiveWidths a.tokens → StopsAt RowInPieces false a b
     → HasNoRecord (bytes_of a.tokens)
 stops-missed a b wide (inl h) ws after stands =
-    gives-each IsByteSlice (λ slice. slice.now) SlicesStay-bytes have-bytes ⊥ false a b backtracked wide h ws after stands
+    gives-each IsByteSlice (λ slice. slice.now) SlicesStay-bytes have-bytes ⊥ ⊥ false a b backtracked wide h ws after stands
 stops-missed a b wide (inr h) ws after stands =
-    gives-each IsByteSlice (λ slice. slice.now) SlicesStay-bytes have-bytes ⊥ false a b cut wide h ws after stands
+    gives-each IsByteSlice (λ slice. slice.now) SlicesStay-bytes have-bytes ⊥ ⊥ false a b cut wide h ws after stands
 
 -- where a record fails and something remains, it is damaged
 stops-damaged : (a b : Ahead ℕ) → HasPositiveWidths a.tokens → StopsAt RowInPieces false a b
     → ¬ (bytes_of a.tokens ≡ []) → IsDamagedAt (bytes_of a.tokens) (bytes_of b.tokens)
 stops-damaged a b wide (inl h) some =
-    absurd (some (answers IsByteSlice (λ slice. slice.now) SlicesStay-bytes have-bytes ⊥ false a b backtracked wide h).0)
+    absurd (some (answers IsByteSlice (λ slice. slice.now) SlicesStay-bytes have-bytes ⊥ ⊥ false a b backtracked wide h).0)
 stops-damaged a b wide (inr h) some =
-    cut-damaged (bytes_of a.tokens) (bytes_of b.tokens) ((answers IsByteSlice (λ slice. slice.now) SlicesStay-bytes have-bytes ⊥ false a b cut wide h).0)
+    cut-damaged (bytes_of a.tokens) (bytes_of b.tokens) ((answers IsByteSlice (λ slice. slice.now) SlicesStay-bytes have-bytes ⊥ ⊥ false a b cut wide h).0)
 
 -- where a record fails, the stream moved on
 stops-moved : (a b : Ahead ℕ) → StopsAt RowInPieces false a b → Moves a b

@@ -90,9 +90,9 @@ no-end-other partial r n m some after (inr (inr f)) = some f.0
 abbrev pub MayEnd : List ℕ → Type 0
 MayEnd r = (r ≡ []) ⊎ (r ≡ 13 ∷ [])
 
-module _ {S : Type 0} (is_slice : S → Source ℕ → ℕ → Type 0) (refusable : Type 0) (partial : Bool) where
+module _ {S : Type 0} (is_slice : S → Source ℕ → ℕ → Type 0) (appends refusable : Type 0) (partial : Bool) where
   -- an end that is given stands ahead
-  pub end-given : (u : Unit {0}) (a b : Ahead ℕ) → RecordEnd is_slice refusable partial a (Gives u b)
+  pub end-given : (u : Unit {0}) (a b : Ahead ℕ) → RecordEnd is_slice appends refusable partial a (Gives u b)
       → EndsRecord partial (bytes_of a.tokens) (bytes_of b.tokens)
   end-given u a b (inl (inl (x, (f, h)))) = inr (inl (byte-given 10 partial a b x h))
   end-given u a b (inl (inr (c, (n, (x, (f, (m, (h, k)))))))) =
@@ -117,7 +117,7 @@ module _ {S : Type 0} (is_slice : S → Source ℕ → ℕ → Type 0) (refusabl
   needs-end a e p = (p, no-end-empty partial (bytes_of a.tokens) p (ap bytes_of e), inl (ap bytes_of e))
 
   -- an end fails as `EndFails` says
-  pub end-fails : (f : Failed ℕ) (a : Ahead ℕ) → RecordEnd is_slice refusable partial a (Fails f)
+  pub end-fails : (f : Failed ℕ) (a : Ahead ℕ) → RecordEnd is_slice appends refusable partial a (Fails f)
       → EndFails a f
   end-fails (Backtracks b) a (d, ((c, (n, inl m)), e)) =
       (no-end-other partial (bytes_of a.tokens) (byte-missing 10 partial a c n).0 (byte-missing 13 partial a d m).0 (some-bytes a.tokens e.0), sym e.1)
@@ -140,7 +140,7 @@ module _ {S : Type 0} (is_slice : S → Source ℕ → ℕ → Type 0) (refusabl
   -- where a record ends, only refused memory makes the end fail
   pub end-missed : (f : Failed ℕ) (a : Ahead ℕ) (after : List ℕ)
       → EndsRecord partial (bytes_of a.tokens) after
-      → CutOff (RecordEnd is_slice refusable) partial a (Fails f) → IsRefusal f
+      → CutOff (RecordEnd is_slice appends refusable) partial a (Fails f) → IsRefusal f
   end-missed (Backtracks b) a after ends h = h
   end-missed (Cuts b) a after ends (inl h) = (end-fails (Backtracks b) a h).0 after ends
   end-missed (Cuts b) a after ends (inr h) = end-fails (Cuts b) a h
@@ -183,14 +183,14 @@ AreBegun r = (more : List ℕ) × AreSpelled r more
 abbrev items_of : List (Vec ℕ Global) → List (List ℕ)
 items_of fields = map (λ field. field.items) fields
 
-module _ {S : Type 0} (is_slice : S → Source ℕ → ℕ → Type 0) (bytes : S → List ℕ) (stay : SlicesStay is_slice) (have : SlicesHaveBytes is_slice bytes) (refusable : Type 0) (partial : Bool) where
+module _ {S : Type 0} (is_slice : S → Source ℕ → ℕ → Type 0) (bytes : S → List ℕ) (stay : SlicesStay is_slice) (have : SlicesHaveBytes is_slice bytes) (appends refusable : Type 0) (partial : Bool) where
   -- one more field: a comma and a field
   abbrev Next : Meaning (Vec ℕ Global) ℕ
-  Next = Preceded (Byte 44) (AnyField is_slice bytes refusable)
+  Next = Preceded (Byte 44) (AnyField is_slice bytes appends refusable)
 
   -- the field keeps the laws of a parser
-  field-lawful : IsParser (AnyField is_slice bytes refusable)
-  field-lawful = IsParser-AnyField is_slice bytes stay refusable
+  field-lawful : IsParser (AnyField is_slice bytes appends refusable)
+  field-lawful = IsParser-AnyField is_slice bytes stay appends refusable
 
   -- one more field that is given stands after a comma
   next-given : (x : Vec ℕ Global) (a c : Ahead ℕ) → HasPositiveWidths a.tokens
@@ -201,7 +201,7 @@ module _ {S : Type 0} (is_slice : S → Source ℕ → ℕ → Type 0) (bytes : 
         bytes_of m.tokens,
         (
           byte-given 44 partial a m both.0 h,
-          subst (λ x. FieldStands x.items (bytes_of m.tokens) (bytes_of c.tokens)) is (field-given is_slice bytes stay have partial refusable both.1 m c wide_m k),
+          subst (λ x. FieldStands x.items (bytes_of m.tokens) (bytes_of c.tokens)) is (field-given is_slice bytes stay have partial appends refusable both.1 m c wide_m k),
         ),
       )
 
@@ -231,7 +231,7 @@ module _ {S : Type 0} (is_slice : S → Source ℕ → ℕ → Type 0) (bytes : 
     | inl k ↦ inl (comma-fails f a k)
     | inr k ↦
         let wide_m = positive-moved a k.1.0 ((IsParser-OneOf (λ token. 44 == token)).onward partial a (Gives k.0 k.1.0) k.1.1.0) wide in
-        inr (bytes_of k.1.0.tokens, (byte-given 44 partial a k.1.0 k.0 k.1.1.0, field-fails is_slice bytes stay have partial refusable f k.1.0 wide_m k.1.1.1))
+        inr (bytes_of k.1.0.tokens, (byte-given 44 partial a k.1.0 k.0 k.1.1.0, field-fails is_slice bytes stay have partial appends refusable f k.1.0 wide_m k.1.1.1))
   ]
 
   -- ---- What stands before a place
@@ -257,20 +257,20 @@ module _ {S : Type 0} (is_slice : S → Source ℕ → ℕ → Type 0) (bytes : 
 
   -- the first field is spelled ahead
   first-spelled : (x : Vec ℕ Global) (a b : Ahead ℕ) → HasPositiveWidths a.tokens
-      → AnyField is_slice bytes refusable partial a (Gives x b)
+      → AnyField is_slice bytes appends refusable partial a (Gives x b)
       → (text : List ℕ)
       × ((bytes_of a.tokens ≡ text ++ bytes_of b.tokens) × SpellsField x.items text)
   first-spelled x a b wide h =
-      field-spelled x.items (bytes_of a.tokens) (bytes_of b.tokens) (field-given is_slice bytes stay have partial refusable x a b wide h)
+      field-spelled x.items (bytes_of a.tokens) (bytes_of b.tokens) (field-given is_slice bytes stay have partial appends refusable x a b wide h)
 
   -- the tokens after a field have positive widths
   field-positive : (x : Vec ℕ Global) (a b : Ahead ℕ) → HasPositiveWidths a.tokens
-      → AnyField is_slice bytes refusable partial a (Gives x b) → HasPositiveWidths b.tokens
+      → AnyField is_slice bytes appends refusable partial a (Gives x b) → HasPositiveWidths b.tokens
   field-positive x a b wide h = positive-moved a b (field-lawful.onward partial a (Gives x b) h) wide
 
   -- a list of fields that is given is spelled ahead, and no comma follows
   pub list-given : (row : Vec (Vec ℕ Global) Global) (a b : Ahead ℕ) → HasPositiveWidths a.tokens
-      → FieldList is_slice bytes refusable partial a (Gives row b)
+      → FieldList is_slice bytes appends refusable partial a (Gives row b)
       → (text : List ℕ)
       × ((bytes_of a.tokens ≡ text ++ bytes_of b.tokens) × SpellsRecord (values_of row) text
       × ¬ (StartsWith 44 (bytes_of b.tokens)))
@@ -323,11 +323,11 @@ module _ {S : Type 0} (is_slice : S → Source ℕ → ℕ → Type 0) (bytes : 
 
   -- a list of fields fails as `ListFails` says
   pub list-fails : (f : Failed ℕ) (a : Ahead ℕ) → HasPositiveWidths a.tokens
-      → FieldList is_slice bytes refusable partial a (Fails f) → ListFails a f
-  list-fails (Backtracks b) a wide (inl h) = field-fails is_slice bytes stay have partial refusable (Backtracks b) a wide h
+      → FieldList is_slice bytes appends refusable partial a (Fails f) → ListFails a f
+  list-fails (Backtracks b) a wide (inl h) = field-fails is_slice bytes stay have partial appends refusable (Backtracks b) a wide h
   list-fails (Backtracks b) a wide (inr (x, (m, (h, (xs, (c, (turns, below, (few, k)))))))) = absurd (omega (arith, few))
   list-fails (Cuts b) a wide (inl h) =
-      let fails = field-fails is_slice bytes stay have partial refusable (Cuts b) a wide h in
+      let fails = field-fails is_slice bytes stay have partial appends refusable (Cuts b) a wide h in
       let one = open-spelled (bytes_of a.tokens) fails.0 in
       (first-completed (bytes_of a.tokens) (34 ∷ []) one.0 one.1, fails.1, fails.2)
   list-fails (Cuts b) a wide (inr (x, (m, (h, (xs, (c, (turns, below, (few, k)))))))) =
@@ -343,7 +343,7 @@ module _ {S : Type 0} (is_slice : S → Source ℕ → ℕ → Type 0) (bytes : 
             )
       ]
   list-fails (Needs n) a wide (inl h) =
-      let fails = field-fails is_slice bytes stay have partial refusable (Needs n) a wide h in
+      let fails = field-fails is_slice bytes stay have partial appends refusable (Needs n) a wide h in
       let one = field-begun (bytes_of a.tokens) fails.1 in
       (fails.0, (one.0, first-completed (bytes_of a.tokens) one.0 one.1.0 one.1.1))
   list-fails (Needs n) a wide (inr (x, (m, (h, (xs, (c, (turns, below, (few, k)))))))) =
@@ -434,13 +434,13 @@ module _ {S : Type 0} (is_slice : S → Source ℕ → ℕ → Type 0) (bytes : 
   pub list-once : (row : Vec (Vec ℕ Global) Global) (ws : List (List ℕ)) (a b : Ahead ℕ)
       (text more after : List ℕ) → HasPositiveWidths a.tokens → bytes_of a.tokens ≡ text ++ more
       → SpellsRecord ws text → EndsRecord partial more after
-      → FieldList is_slice bytes refusable partial a (Gives row b)
+      → FieldList is_slice bytes appends refusable partial a (Gives row b)
       → (values_of row ≡ ws) × (bytes_of b.tokens ≡ more)
   list-once row [] a b text more after wide e spells ends h = absurd spells
   list-once row (w ∷ ws) a b text more after wide e spells ends (xs, (made, (both, (pre, (m, (h, (turns, least, inl k))))))) = absurd (none-some _ k)
   list-once row (w ∷ ws) a b text more after wide e (t, (u, (split, first, spells))) ends (xs, (made, (both, (pre, (m, (h, (turns, least, inr (below, (same, enough, (c, fails)))))))))) =
       let whole : bytes_of a.tokens ≡ t ++ (u ++ more) = e ∙ ap (λ z. z ++ more) split ∙ append_assoc t u more in
-      let stands = subst (λ r. FieldStands both.0.items r (bytes_of m.tokens)) whole (field-given is_slice bytes stay have partial refusable both.0 a m wide h) in
+      let stands = subst (λ r. FieldStands both.0.items r (bytes_of m.tokens)) whole (field-given is_slice bytes stay have partial appends refusable both.0 a m wide h) in
       let one = field-once partial both.0.items w t (u ++ more) (bytes_of m.tokens) first (more-stop partial ws u more after spells ends) stands in
       let wide_m = field-positive both.0 a m wide h in
       let left = peel both.1 ws m b u more after wide_m ends one.1 spells turns in
@@ -462,16 +462,16 @@ module _ {S : Type 0} (is_slice : S → Source ℕ → ℕ → Type 0) (bytes : 
   chain-missed : (f : Failed ℕ) (ws : List (List ℕ)) (a : Ahead ℕ) (text more after : List ℕ)
       → HasPositiveWidths a.tokens → bytes_of a.tokens ≡ text ++ more → SpellsRecord ws text
       → EndsRecord partial more after
-      → Chained 1 None (Byte 44) (AnyField is_slice bytes refusable) partial a (Fails f)
+      → Chained 1 None (Byte 44) (AnyField is_slice bytes appends refusable) partial a (Fails f)
       → IsRefusal f
   chain-missed f [] a text more after wide e spells ends h = absurd spells
   chain-missed f (w ∷ ws) a text more after wide e (t, (u, (split, first, spells))) ends (inl h) =
       let whole : bytes_of a.tokens ≡ t ++ (u ++ more) = e ∙ ap (λ z. z ++ more) split ∙ append_assoc t u more in
       field-missed partial f w t (u ++ more) first (more-stop partial ws u more after spells ends)
-      (subst (λ r. FieldFails partial r f) whole (field-fails is_slice bytes stay have partial refusable f a wide h))
+      (subst (λ r. FieldFails partial r f) whole (field-fails is_slice bytes stay have partial appends refusable f a wide h))
   chain-missed f (w ∷ ws) a text more after wide e (t, (u, (split, first, spells))) ends (inr (x, (m, (h, (xs, (c, (turns, below, (few, k)))))))) =
       let whole : bytes_of a.tokens ≡ t ++ (u ++ more) = e ∙ ap (λ z. z ++ more) split ∙ append_assoc t u more in
-      let stands = subst (λ r. FieldStands x.items r (bytes_of m.tokens)) whole (field-given is_slice bytes stay have partial refusable x a m wide h) in
+      let stands = subst (λ r. FieldStands x.items r (bytes_of m.tokens)) whole (field-given is_slice bytes stay have partial appends refusable x a m wide h) in
       let one = field-once partial x.items w t (u ++ more) (bytes_of m.tokens) first (more-stop partial ws u more after spells ends) stands in
       let wide_m = field-positive x a m wide h in
       let left = peel xs ws m c u more after wide_m ends one.1 spells turns in
@@ -481,7 +481,7 @@ module _ {S : Type 0} (is_slice : S → Source ℕ → ℕ → Type 0) (bytes : 
   -- the same for the parser of the list
   pub list-missed : (f : Failed ℕ) (ws : List (List ℕ)) (a : Ahead ℕ) (text more after : List ℕ)
       → HasPositiveWidths a.tokens → bytes_of a.tokens ≡ text ++ more → SpellsRecord ws text
-      → EndsRecord partial more after → FieldList is_slice bytes refusable partial a (Fails f)
+      → EndsRecord partial more after → FieldList is_slice bytes appends refusable partial a (Fails f)
       → IsRefusal f
   list-missed (Backtracks b) ws a text more after wide e spells ends h = chain-missed (Backtracks b) ws a text more after wide e spells ends h
   list-missed (Cuts b) ws a text more after wide e spells ends h = chain-missed (Cuts b) ws a text more after wide e spells ends h

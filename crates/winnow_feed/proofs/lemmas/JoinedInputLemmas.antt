@@ -23,7 +23,7 @@ use Rattle.winnow_feed_step.specs.Settled.{IsNeedSettled, IsSettled}
 use Rattle.winnow_feed_step.specs.Looks.{Look, look_of}
 use Rattle.winnow_feed.specs.Reach.{least_index, needed_from}
 use Rattle.winnow_feed_step.specs.Looks.{under}
-use Rattle.winnow_feed.specs.JoinedInput.{GoesOn, IsRunOver, AddsAnswers, next_step, steps_left, answers_out}
+use Rattle.winnow_feed.specs.JoinedInput.{GoesOn, IsRunOver, AddsAnswers, AddsMarks, next_step, steps_left, answers_out}
 use Rattle.winnow_run.proofs.lemmas.StepLemmas.{Inside, start-inside}
 use Rattle.winnow_feed_step.proofs.lemmas.SettledLemmas.{width-split, NoneInSet-none, NoneOccurs-none, AreCounted-none, AreSame-none}
 use Rattle.winnow_feed_step.proofs.lemmas.CursorLemmas.{cursor-answer, cursor-place, cursor-marks}
@@ -91,6 +91,18 @@ AddsAnswers-more piece p q r h g = record {
   told = g.told ∙ ap (λ t. t ++ map (under piece) g.more) h.told ∙ append_assoc p.told.items (map (under piece) h.more) (map (under piece) g.more) ∙ ap (λ t. p.told.items ++ t) (sym (map-append (under piece) h.more g.more));
 }
 
+-- the same of marks
+pub AddsMarks-none : {T L : Type 0} (p q : Progress T L) → q.marks.items ≡ p.marks.items
+    → AddsMarks p q
+AddsMarks-none p q e = record { more = []; marks = e ∙ sym (append-nil p.marks.items) }
+
+pub AddsMarks-more : {T L : Type 0} (p q r : Progress T L) → AddsMarks p q → AddsMarks q r
+    → AddsMarks p r
+AddsMarks-more p q r h g = record {
+  more = h.more ++ g.more;
+  marks = g.marks ∙ ap (λ m. m ++ g.more) h.marks ∙ append_assoc p.marks.items h.more g.more;
+}
+
 -- a run that went on twice went on
 pub GoesOn-more : {T L : Type 0} (piece : Option ℕ) (p q r : Progress T L) → GoesOn piece p q
     → GoesOn piece q r → length p.told.items ≤ length q.told.items
@@ -100,6 +112,7 @@ GoesOn-more piece p q r h g first second = record {
   base = g.base ∙ h.base;
   pieces = g.pieces ∙ h.pieces;
   adds = AddsAnswers-more piece p q r h.adds g.adds;
+  makes = AddsMarks-more p q r h.makes g.makes;
   still = λ same.
       let a = h.still (omega (arith, same, first, second)) in
       let b = g.still (omega (arith, same, first, second)) in

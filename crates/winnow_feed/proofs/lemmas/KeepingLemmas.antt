@@ -1,6 +1,6 @@
 -- What is kept: the least place that the steps name, more input appended, and a front dropped.
 use Rattle.std.proofs.Common.{◌≡◌, ℕ, ◌+◌, ◌-◌, ◌≤◌, ◌<◌, min, true, false, List, [], ◌∷◌, ◌++◌, length, take, drop, map, refl, sym, ap, ◌∙◌, arith, subst, inl, inr, length-drop}
-use Rattle.std.specs.Prelude.{Option, None, Some, unwrap_or, is_some}
+use Rattle.std.specs.Prelude.{is_some}
 use Rattle.std.specs.List.{AllByRecursion}
 use Rattle.std.proofs.lemmas.Bool.{cases_lt}
 use Rattle.std.proofs.lemmas.List.{drop-drop, take-append-le, drop-append-le, length-append, drop_all}
@@ -19,13 +19,6 @@ use Rattle.winnow_run.proofs.lemmas.StepLemmas.{Inside, start-inside}
 use Rattle.winnow_feed_step.proofs.lemmas.SettledLemmas.{width-split, settled-more}
 use Rattle.winnow_feed_step.proofs.lemmas.CursorLemmas.{mark-place}
 use Rattle.winnow_feed.proofs.lemmas.ReachLemmas.{Reaches-inside, Reaches-more, Reaches-loose, least-at}
-
--- the least of two numbers may be taken before or after the steps' places
-pub least-step : {C L : Type 0} (at : ℕ) (marks : List ℕ) (least : ℕ) (s : ℕ)
-    (steps : List (SearchStep C L))
-    → least_place at marks (min least s) steps ≡ min s (least_place at marks least steps)
-least-step at marks least s [] = omega arith
-least-step at marks least s (x ∷ steps) = let e = least-step at marks least s steps in omega (arith, e)
 
 -- ---- places and indices
 
@@ -71,7 +64,7 @@ module _ {T C L : Type 0} (all : Source T) (at : Cursor) where
 -- ---- the least place
 
 -- the least place is no greater than the given one
-least-below : {C L : Type 0} (at : ℕ) (marks : List ℕ) (least : ℕ) (steps : List (SearchStep C L))
+pub least-below : {C L : Type 0} (at : ℕ) (marks : List ℕ) (least : ℕ) (steps : List (SearchStep C L))
     → least_place at marks least steps ≤ least
 least-below at marks least [] = omega arith
 least-below at marks least (s ∷ steps) = omega (arith, least-below at marks least steps)

@@ -8,7 +8,7 @@ use Rattle.std.proofs.lemmas.Bool.{false≢true, cases_Bool, leb-false, le-leb, 
 use Rattle.std.proofs.lemmas.Option.{none-some, same_Some}
 use Rattle.std.proofs.lemmas.List.{length-append, append-nil}
 use Rattle.winnow_stream.specs.declared.needed.Needed.{Needed}
-use Rattle.winnow_stream.specs.declared.needed.Needed.TheVariants.{Unknown, Size}
+use Rattle.winnow_stream.specs.declared.needed.Needed.TheVariants.{Unknown}
 use Rattle.winnow_stream.specs.Source.{Source, width, HasPositiveWidths, first_token, first_held, first_offset, offsets_from}
 use Rattle.winnow_stream.specs.Front.{front_count, is_offset, count_to, front}
 use Rattle.winnow_stream.specs.Shortage.{needed, offset_at}

@@ -10,8 +10,9 @@ pub returns : goal.returns
 returns g c =
     let input = c.args.input.now in
     let stands = ahead g.I.Rest.location g.I.Stream.remaining in
+    let stood = ahead g.I.Checkpoint.Rest.location g.I.Stream.remained in
     let a = stands input in
     let first = Maps IsForgotten (Digits g.I.Stream.is_slice g.I.Token.AsChar.code) in
     let reads = g.I.Slice.ParseSlice.reads in
-    let digits = Taken g.I.Stream.is_slice (Unsigned g.E.ParserError.or_refusable g.I.Stream.is_slice g.I.Token.AsChar.code) in
-    IfErr-weaker c.parse_next.result _ _ (λ f h. of-number reads digits stands first g.E.ParserError.from_input_gives g.E.ParserError.assert_gives g.E.ParserError.or_gives (g.I.StreamIsPartial.expects_more input) a c.parse_next.new.input f h) c.parse_next.ensures.error
+    let digits = Taken g.I.Stream.is_slice (Unsigned g.E.ParserError.or_refusable g.E.ParserError.append_refusable g.I.Stream.is_slice g.I.Token.AsChar.code) in
+    IfErr-weaker c.parse_next.result _ _ (λ f h. of-number reads digits stands stood first g.E.ParserError.from_input_gives g.E.ParserError.assert_gives g.E.ParserError.or_gives g.E.ParserError.append_gives (g.I.StreamIsPartial.expects_more input) a c.parse_next.new.input f h) c.parse_next.ensures.error

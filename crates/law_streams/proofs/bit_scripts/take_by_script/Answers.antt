@@ -14,8 +14,7 @@ returns g c = record {
       let one = one-take slices _ c.args.count _ _ out.items c.requires.enough given in
       let s = one.0 in
       let place = c.bit_slice_place_law.ensures.place s _ c.args.count one.2.1 in
-      let beyond = c.bit_slice_place_law.ensures.beyond s _ c.args.count one.2.1 in
-      (
+      let beyond = c.bit_slice_place_law.ensures.beyond s _ c.args.count one.2.1 in (
         s.0,
         one.1 ∙ ap₂ (λ p e. answer.Slice (s.0, p, e) ∷ []) place beyond,
         c.bit_slice_place_law.ensures.count g.I.Slice.AsBytes.bytes c.requires.bytes s _ c.args.count c.requires.enough one.2.1,

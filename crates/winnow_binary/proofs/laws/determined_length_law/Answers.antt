@@ -8,4 +8,4 @@ returns-clause-slice g c = λ bytes p fronts d.
 
 pub returns-clause-values : goal.returns-clause-values
 returns-clause-values g c = λ view whole p q respects d e.
-    determined-counted_values g.P.Output.Length.number g.A.Accumulate.refusable (λ values a. g.A.Accumulate.holds a values) (Shows view) (Shows whole) respects (g.P.Parser.means p) (g.Q.Parser.means q) d e
+    determined-counted_values g.P.Output.Length.number g.A.Accumulate.refusable g.E.ParserError.append_refusable (λ values a. g.A.Accumulate.holds a values) (Shows view) (Shows whole) respects (g.P.Parser.means p) (g.Q.Parser.means q) d e

@@ -1,9 +1,10 @@
 use Rattle.winnow_parser.specs.Determined.{Shows}
+use Rattle.winnow_combinator.specs.Appended.{AppendingIf, needs_some}
 use Rattle.winnow_combinator.specs.DeterminedLists.{AreSameEach}
 use Rattle.winnow_combinator.specs.Gathering.{Gathered}
 use Rattle.winnow_combinator.specs.Repetition.{Repeated}
 use Rattle.winnow_combinator.proofs.lemmas.AgreeingLemmas.{determined-repeated}
-use Rattle.winnow_combinator.proofs.lemmas.CombinedLemmas.{determined-conditional, determined-gathered, determined-ascending, determined-separated}
+use Rattle.winnow_combinator.proofs.lemmas.CombinedLemmas.{determined-conditional, determined-gathered, determined-appending_if, determined-ascending, determined-separated}
 use Rattle.winnow_combinator.proofs.determined.determined_repeat_law.Goals as goal
 
 pub returns-clause-repeated : goal.returns-clause-repeated
@@ -12,9 +13,11 @@ returns-clause-repeated g c = λ view a least greatest d. determined-repeated (S
 pub returns-clause-gathered : goal.returns-clause-gathered
 returns-clause-gathered g c = λ view whole gather a least greatest respects d.
     let values = Repeated least greatest (g.A.Parser.means a) in
+    let appending = AppendingIf (needs_some least) g.E.ParserError.append_refusable values in
     let makes = g.G.Gather.makes gather in
-    determined-ascending (Shows whole) (Gathered g.G.Gather.refusable makes values)
-    (determined-gathered (AreSameEach (Shows view)) (Shows whole) g.G.Gather.refusable makes respects values (determined-repeated (Shows view) least greatest (g.A.Parser.means a) d)) least greatest
+    let one = determined-appending_if g.E.ParserError.append_refusable (AreSameEach (Shows view)) values (determined-repeated (Shows view) least greatest (g.A.Parser.means a) d) (needs_some least) in
+    determined-ascending (Shows whole) (Gathered g.G.Gather.refusable makes appending)
+    (determined-gathered (AreSameEach (Shows view)) (Shows whole) g.G.Gather.refusable makes respects appending one) least greatest
 
 pub returns-clause-separated : goal.returns-clause-separated
 returns-clause-separated g c = λ view other a s least greatest q d. determined-separated (Shows view) (Shows other) (g.S.Parser.means s) (g.A.Parser.means a) q d least greatest

@@ -3,7 +3,7 @@ use Rattle.std.proofs.Math.Nat.{le_refl}
 use Rattle.std.proofs.lemmas.Bool.{true≢false, false≢true, lt-ltb, le-ltb}
 use Rattle.std.proofs.lemmas.Option.{slice_get_within}
 use Rattle.winnow_feed.specs.ToldAnswers.{capped}
-use Rattle.winnow_feed.proofs.lemmas.JoinedInputLemmas.{AddsAnswers-none, GoesOn-more}
+use Rattle.winnow_feed.proofs.lemmas.JoinedInputLemmas.{AddsAnswers-none, AddsMarks-none, GoesOn-more}
 use Rattle.winnow_feed.proofs.progress.advance.Goals as goal
 
 -- Facts about numbers alone, so that no goal below has to read all that is known there. There are
@@ -68,6 +68,7 @@ loop-progress-init g c = record {
     base = refl;
     pieces = refl;
     adds = AddsAnswers-none _ _ _ refl;
+    makes = AddsMarks-none _ _ refl;
     still = λ same. (refl, refl);
     told = le_refl _;
     room = c.requires.ready.room;

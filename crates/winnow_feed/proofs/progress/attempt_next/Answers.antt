@@ -1,4 +1,4 @@
-use Rattle.std.proofs.Common.{◌≡◌, ℕ, ◌≤◌, ◌<◌, ◌+◌, ◌^◌, List, [], ◌∷◌, ◌++◌, cond, get_or, length, length-append, vec_len, Some, sym, ap, ◌∙◌, arith, subst, refl}
+use Rattle.std.proofs.Common.{◌≡◌, ℕ, ◌≤◌, ◌<◌, ◌+◌, ◌^◌, Bool, true, false, List, [], ◌∷◌, ◌++◌, cond, get_or, length, length-append, append-nil, vec_len, Some, sym, ap, ◌∙◌, arith, subst, refl}
 use Rattle.std.specs.Prelude.{slice_get}
 use Rattle.std.proofs.Math.Nat.{le_trans}
 use Rattle.std.proofs.lemmas.Bool.{true≢false}
@@ -9,13 +9,12 @@ use Rattle.winnow_feed_step.specs.Looks.{piece_reading}
 use Rattle.winnow_run.specs.Definite.{is_definite}
 use Rattle.winnow_feed_step.specs.Settled.{IsSettled}
 use Rattle.winnow_feed_step.specs.Looks.{look_of}
-use Rattle.winnow_feed_step.specs.Looks.{under}
 use Rattle.winnow_sets.specs.declared.char_set.CharSet.{CharSet}
 use Rattle.winnow_run.specs.declared.search_steps.SearchStep.{SearchStep}
 use Rattle.winnow_feed.specs.declared.progress.Progress.{Progress}
 use Rattle.winnow_feed.specs.JoinedInput.{next_step}
 use Rattle.winnow_feed.specs.ToldAnswers.{capped}
-use Rattle.winnow_feed.proofs.lemmas.JoinedInputLemmas.{next-is, base-le, kept-offset, kept-rest, kept-room, rest-back, IsRunOver-waits, IsRunOver-answered, AddsAnswers-none}
+use Rattle.winnow_feed.proofs.lemmas.JoinedInputLemmas.{next-is, base-le, kept-offset, kept-rest, kept-room, rest-back, IsRunOver-waits, IsRunOver-answered, AddsAnswers-none, AddsMarks-none}
 use Rattle.winnow_feed.proofs.progress.attempt_next.Goals as goal
 
 -- facts about numbers alone, so that no goal below has to read all that is known there
@@ -51,6 +50,12 @@ made-more a b m n made one more = omega arith
 
 capped-fits : (t n : ℕ) → t ≡ capped n → t < 2 ^ 64
 capped-fits t n e = omega arith
+
+-- the marks after a step are those before it and one more, or none
+marks-after : (old new : List ℕ) (at : ℕ) (makes : Bool) → new ≡ cond makes (old ++ at ∷ []) old
+    → (more : List ℕ) × (new ≡ old ++ more)
+marks-after old new at true e = (at ∷ [], e)
+marks-after old new at false e = ([], e ∙ sym (append-nil old))
 
 -- the step at the number of answers is the next step
 next-here : {T L : Type 0} (p : Progress T L) (i : ℕ) (x : SearchStep CharSet L)
@@ -152,6 +157,7 @@ returns-in-Waits-clause-on g c =
       base = refl;
       pieces = refl;
       adds = AddsAnswers-none _ _ _ c.in-Waits.ensures.attempts.3;
+      makes = AddsMarks-none _ _ refl;
       still = λ _. (refl, refl);
       told = le-from-same _ _ (sym same);
       room = record {
@@ -171,11 +177,13 @@ returns-in-Answered-clause-on g c =
     let k = piece_reading g.S.Token.AsChar.code g.S.Stream.counts_shortage g.S.Kept.write g.L.AsBStr.text_bytes in
     let seen = look_of k c.args.progress.now.place c.deref.result.now (g.S.Stream.remaining c.next_slice.new.self) c.index-script-len.result in
     let more = one-longer _ _ _ _ _ c.attempt_step.new.told.ok.0 c.args.progress.now.told.ok.0 c.in-Answered.ensures.attempts.2 in
+    let marks = marks-after _ _ _ _ c.push_mark.ensures.items in
     record {
       script = refl;
       base = refl;
       pieces = refl;
       adds = record { more = seen.answer ∷ []; told = c.in-Answered.ensures.attempts.2 };
+      makes = record { more = marks.0; marks = marks.1 };
       still = λ e. absurd (not-longer _ _ _ e c.in-Answered.ensures.attempts.2);
       told = le-from-more _ _ more;
       room = record {

@@ -5,6 +5,7 @@ use Rattle.winnow_feed.specs.JoinedInput.{steps_left}
 use Rattle.winnow_feed.specs.Reach.{needed_place}
 use Rattle.winnow_feed.proofs.lemmas.JoinedInputLemmas.{IsRunOver-same}
 use Rattle.winnow_feed.proofs.lemmas.KeepingLemmas.{least-from, unneeded-offset, IsRunOver-needed, least-still}
+use Rattle.winnow_feed.proofs.lemmas.NamingLemmas.{KnowsMarks-on}
 use Rattle.winnow_feed.proofs.reach.take_in.Goals as goal
 
 pub advance-requires-clause-ready : goal.advance-requires-clause-ready
@@ -22,17 +23,24 @@ place_needed-least-requires-clause-least g c = λ same.
     let told = c.args.progress.now.told.ok.0 in
     least-still c.args.progress.now c.advance.new.progress _ (c.requires.least _) a.script a.base a.still (omega (arith, same, c.len-before.ensures, told))
 
+pub place_needed-least-requires-clause-knows : goal.place_needed-least-requires-clause-knows
+place_needed-least-requires-clause-knows g c =
+    let on = c.advance.ensures.on in
+    let told = c.args.progress.now.told.ok.0 in
+    let later = c.advance.new.progress.told.ok.0 in
+    KnowsMarks-on _ _ _ _ c.requires.knows _ _ _ on.makes.more (ap (λ s. s.now) on.script) on.makes.marks (omega (arith, on.told, told, later))
+
 pub overflow_sub-unneeded : goal.overflow_sub-unneeded
 overflow_sub-unneeded g c =
     let h = c.requires.ready.stands.1 in
     let after = c.advance.ensures.stands c.requires.ready.stands.0 (rw c.requires.more (IsRunOver-same _ _ _ _ _ h _ refl refl refl refl refl refl)) in
-    least-from _ _ _ _ (rw c.requires.more at after.0) _ _ (ap (λ n. c.advance.new.progress.base + n) c.eof_offset.ensures) c.place_needed-least.ensures
+    least-from _ _ _ _ (rw c.requires.more at after.0) _ _ (ap (λ n. c.advance.new.progress.base + n) c.eof_offset.ensures) c.place_needed-least.ensures.least
 
 pub returns-clause-takes : goal.returns-clause-takes
 returns-clause-takes g c =
     let start = c.requires.ready.stands in
     let end = ap (λ n. c.advance.new.progress.base + n) c.eof_offset.ensures in
-    let least = c.place_needed-least.ensures in
+    let least = c.place_needed-least.ensures.least in
     let on = c.advance.ensures.on in
     let after = c.advance.ensures.stands start.0 (rw c.requires.more (IsRunOver-same _ _ _ _ _ start.1 _ refl refl refl refl refl refl)) in
     let low = least-from _ _ _ _ (rw c.requires.more at after.0) _ _ end least in

@@ -21,5 +21,5 @@ pub returns-in-Err-clause-means : goal.returns-in-Err-clause-means
 returns-in-Err-clause-means g c =
     let stands = ahead g.I.Rest.location g.I.Stream.remaining in
     let parts = c.chunk.ensures in
-    quoted-failed g.I.Stream.is_slice g.I.Slice.AsBytes.bytes (g.I.StreamIsPartial.expects_more c.args.input.now) (stands c.args.input.now) (failed c.in-Err.failure (stands c.parse_next-answer.new.input))
+    quoted-failed g.I.Stream.is_slice g.I.Slice.AsBytes.bytes (g.I.StreamIsPartial.expects_more c.args.input.now) (stands c.args.input.now) g.E.ParserError.append_refusable (failed c.in-Err.failure (stands c.parse_next-answer.new.input))
     (rw (c.repeat.ensures.counts.0, c.repeat.ensures.counts.1, c.repeat.ensures.inner, parts.0, parts.1, parts.2.0, parts.2.1, parts.3) at c.in-Err.ensures.means)

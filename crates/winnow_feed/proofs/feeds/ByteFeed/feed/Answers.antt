@@ -5,7 +5,6 @@ use Rattle.std.proofs.lemmas.Option.{slice_get_within}
 use Rattle.winnow_stream.specs.Front.{back}
 use Rattle.winnow_feed.specs.Inputs.{byte_input, joined}
 use Rattle.winnow_feed.specs.Feeding.{FeedState, bytes_fed}
-use Rattle.winnow_feed.specs.Reach.{least_marks}
 use Rattle.winnow_feed.proofs.lemmas.InputLemmas.{bytes-input}
 use Rattle.winnow_feed.proofs.lemmas.FeedLemmas.{grow, least-anywhere, TookPiece, taken, taken-room, skips, Fits-fed, Fits-skipped, came-out}
 use Rattle.winnow_stream.specs.Source.{units}
@@ -30,6 +29,9 @@ pub take_in-unneeded-requires-clause-least : goal.take_in-unneeded-requires-clau
 take_in-unneeded-requires-clause-least c =
     let old : FeedState = record { run = c.self.inside.run; kept = c.self.inside.kept.items } in
     least-anywhere byte_input bytes-input old c.self.invariant.stands.least (omega (arith, c.if-self-before.false, c.len-before.ensures, c.self.inside.run.told.ok.0))
+
+pub take_in-unneeded-requires-clause-knows : goal.take_in-unneeded-requires-clause-knows
+take_in-unneeded-requires-clause-knows c = c.self.invariant.knows
 
 pub forget_bytes-requires : goal.forget_bytes-requires
 forget_bytes-requires c = rw (← c.as_slice.ensures.value) (rw c.new.ensures.input at c.take_in-unneeded.ensures.takes.offset)
@@ -57,7 +59,7 @@ invariant_of-self-2 c =
       rests = λ _. (taken byte_input bytes-input old new c.args.piece.now took i.input i.stands).1;
       room = t.piece.room;
       fits = omega (arith, taken-room byte_input bytes-input old new c.args.piece.now took i.input i.stands, ap bytes_fed c.self.view_is, c.requires);
-      named_is = i.named_is ∙ ap (λ s. least_marks s.now) (sym t.piece.script);
+      knows = t.knows;
     }
 
 pub returns-clause-fits : goal.returns-clause-fits
@@ -119,7 +121,7 @@ invariant_of-self c =
       rests = λ _ s e. absurd (omega (arith, slice_get_within c.self.inside.run.script.now (length c.self.inside.run.told.items) s e, done));
       room = record { told = i.room.told; marks = i.room.marks; made = i.room.made; counted = i.room.counted };
       fits = omega (arith, c.requires, ap bytes_fed c.self.view_is);
-      named_is = i.named_is;
+      knows = i.knows;
     }
 
 pub returns-then-self-before-clause-fits : goal.returns-then-self-before-clause-fits

@@ -5,7 +5,6 @@ use Rattle.std.proofs.lemmas.Option.{slice_get_within}
 use Rattle.winnow_stream.specs.Front.{back}
 use Rattle.winnow_feed.specs.Inputs.{text_input, joined}
 use Rattle.winnow_feed.specs.Feeding.{FeedState, bytes_fed}
-use Rattle.winnow_feed.specs.Reach.{least_marks}
 use Rattle.winnow_feed.proofs.lemmas.InputLemmas.{texts-input}
 use Rattle.winnow_feed.proofs.lemmas.FeedLemmas.{grow, least-anywhere, TookPiece, taken, taken-room, skips, Fits-fed, Fits-skipped, came-out}
 use Rattle.std.specs.String.{string_bytes}
@@ -33,6 +32,9 @@ take_in-unneeded-requires-clause-least c =
     let old : FeedState = record { run = c.self.inside.run; kept = (string_bytes c.self.inside.kept) } in
     least-anywhere text_input texts-input old c.self.invariant.stands.least (omega (arith, c.if-self-before.false, c.len-before.ensures, c.self.inside.run.told.ok.0))
 
+pub take_in-unneeded-requires-clause-knows : goal.take_in-unneeded-requires-clause-knows
+take_in-unneeded-requires-clause-knows c = c.self.invariant.knows
+
 pub forget_text-requires : goal.forget_text-requires
 forget_text-requires c = rw (← c.as_str.ensures.value) (rw c.new.ensures.input at c.take_in-unneeded.ensures.takes.offset)
 
@@ -59,7 +61,7 @@ invariant_of-self-2 c =
       rests = λ _. (taken text_input texts-input old new c.args.piece.now took i.input i.stands).1;
       room = t.piece.room;
       fits = omega (arith, taken-room text_input texts-input old new c.args.piece.now took i.input i.stands, ap bytes_fed c.self.view_is, c.requires);
-      named_is = i.named_is ∙ ap (λ s. least_marks s.now) (sym t.piece.script);
+      knows = t.knows;
     }
 
 pub returns-clause-fits : goal.returns-clause-fits
@@ -121,7 +123,7 @@ invariant_of-self c =
       rests = λ _ s e. absurd (omega (arith, slice_get_within c.self.inside.run.script.now (length c.self.inside.run.told.items) s e, done));
       room = record { told = i.room.told; marks = i.room.marks; made = i.room.made; counted = i.room.counted };
       fits = omega (arith, c.requires, ap bytes_fed c.self.view_is);
-      named_is = i.named_is;
+      knows = i.knows;
     }
 
 pub returns-then-self-before-clause-fits : goal.returns-then-self-before-clause-fits
