@@ -1,5 +1,5 @@
 -- What combinators take for a value spells it, where that holds of their parts.
-use Rattle.std.specs.Prelude.{◌≡◌, ℕ, ◌≤◌, ◌<◌, Bool, true, List, [], ◌∷◌, ◌++◌, length, Option, Some, None, ◌⊎◌}
+use Rattle.std.specs.Prelude.{◌≡◌, ℕ, ◌≤◌, ◌<◌, Bool, true, false, List, [], ◌∷◌, ◌++◌, length, Option, Some, None, ◌⊎◌}
 use Rattle.std.proofs.Common.{refl, ap, sym, ◌∙◌, subst, inl, inr, arith, append_assoc}
 use Rattle.std.proofs.lemmas.List.{map-append}
 use Rattle.std.proofs.lemmas.Option.{same_Some}
@@ -8,6 +8,7 @@ use Rattle.winnow_parser.specs.Outcome.{Ahead, Gives, Meaning}
 use Rattle.winnow_parser.specs.Meanings.{Returns, Maps, Pair, Preceded, Terminated, Either, Optional, CutOff, Softened, Chosen}
 use Rattle.winnow_parser.specs.Rows.{Row3, Row4, Row5}
 use Rattle.winnow_parser.specs.Context.{InContext}
+use Rattle.winnow_combinator.specs.Appended.{AppendingIf}
 use Rattle.winnow_combinator.specs.Counts.{IsBelow, IsUpTo, Ascending}
 use Rattle.winnow_combinator.specs.Gathering.{Gathered}
 use Rattle.winnow_combinator.specs.Repetition.{Taking, InTurn, Repeated}
@@ -165,15 +166,21 @@ module _ {O T : Type 0} (p : Spelling O T) (inner : Meaning O T) (one : IsSpelle
       takes-on (InRow p) (Several least greatest p) xs xs a b (λ ts k. ((enough, up-to greatest (length xs) _ most), k))
       (spelled-InTurn partial xs a b wide turns)
 
+  -- the same where errors may be appended to
+  spelled-appended : (flag : Bool) (q : Type 0) (least : ℕ) (greatest : Option ℕ)
+      → IsSpelled (Several least greatest p) (AppendingIf flag q (Repeated least greatest inner))
+  spelled-appended true q least greatest partial a b xs wide h = spelled-Repeated least greatest partial a b xs wide h
+  spelled-appended false q least greatest partial a b xs wide h = spelled-Repeated least greatest partial a b xs wide h
+
   -- of which a value is made
-  pub spelled-Counted : {P : Type 0} (least : ℕ) (greatest : Option ℕ) (refusable : Type 0)
-      (makes : List O → P → Type 0)
-      → IsSpelled (Counted least greatest makes p) (Ascending least greatest (Gathered refusable makes (Repeated least greatest inner)))
-  spelled-Counted least None refusable makes partial a b y wide h =
-      spelled-Gathered makes (Several least None p) (Repeated least None inner) (spelled-Repeated least None) refusable partial a b y wide h
-  spelled-Counted least (Some g) refusable makes partial a b y wide (inl (l, h)) =
-      spelled-Gathered makes (Several least (Some g) p) (Repeated least (Some g) inner) (spelled-Repeated least (Some g)) refusable partial a b y wide h
-  spelled-Counted least (Some g) refusable makes partial a b y wide (inr (l, e)) = absurd (cc e)
+  pub spelled-Counted : {P : Type 0} (flag : Bool) (q : Type 0) (least : ℕ) (greatest : Option ℕ)
+      (refusable : Type 0) (makes : List O → P → Type 0)
+      → IsSpelled (Counted least greatest makes p) (Ascending least greatest (Gathered refusable makes (AppendingIf flag q (Repeated least greatest inner))))
+  spelled-Counted flag q least None refusable makes partial a b y wide h =
+      spelled-Gathered makes (Several least None p) (AppendingIf flag q (Repeated least None inner)) (spelled-appended flag q least None) refusable partial a b y wide h
+  spelled-Counted flag q least (Some g) refusable makes partial a b y wide (inl (l, h)) =
+      spelled-Gathered makes (Several least (Some g) p) (AppendingIf flag q (Repeated least (Some g) inner)) (spelled-appended flag q least (Some g)) refusable partial a b y wide h
+  spelled-Counted flag q least (Some g) refusable makes partial a b y wide (inr (l, e)) = absurd (cc e)
 
 -- values with separators between them, folded from the left
 pub spelled-Chain : {O S T : Type 0} (step : O → S × O → O → Type 0) (s : Spelling S T)

@@ -1,4 +1,5 @@
 ghost use Rattle.winnow_count.specs.CountRange.{least_count, greatest_count};
+ghost use Rattle.winnow_combinator.specs.Appended.{needs_some};
 ghost use Rattle.winnow_spelling.specs.Spellings.{Counted, Chain};
 ghost use Rattle.winnow_spelling.specs.Spelled.{spelled-Counted, spelled-Chain};
 
@@ -16,7 +17,7 @@ where
         (G.makes p.gather) (P.spells p.inner) };
 
     ghost spelled = { λ p. spelled-Counted (P.spells p.inner) (P.means p.inner) (P.spelled p.inner)
-        (least_count p.counts) (greatest_count p.counts) G.refusable (G.makes p.gather) };
+        (needs_some (least_count p.counts)) E.append_refusable (least_count p.counts) (greatest_count p.counts) G.refusable (G.makes p.gather) };
 }
 
 impl<
