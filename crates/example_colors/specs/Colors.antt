@@ -11,5 +11,5 @@ WritesByte n text = (high : ℕ) × ((low : ℕ)
 -- a number sign and two digits each for red, green and blue write the colour
 abbrev pub WritesColor : Color → List ℕ → Type 0
 WritesColor color text = (red : List ℕ) × ((green : List ℕ) × ((blue : List ℕ)
-    × ((text ≡ 35 ∷ (red ++ green ++ blue)) × WritesByte color.red red
+    × ((text ≡ 35 ∷ (red ++ (green ++ blue))) × WritesByte color.red red
     × WritesByte color.green green × WritesByte color.blue blue)))

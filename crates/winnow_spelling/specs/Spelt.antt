@@ -41,10 +41,9 @@ pub Spelt-of : {O T : Type 0} (spells : Spelling O T) (means : Meaning O T) → 
 Spelt-of spells means p s partial a (Gives x b) wide h = (p.onward partial a (Gives x b) h, s partial a b x wide h)
 Spelt-of spells means p s partial a (Fails f) wide h = AnyAnswer-of means p partial a (Fails f) h
 
--- what is spelled so is spelled by each weaker relation
-pub Spelt-on : {O T : Type 0} (spells others : Spelling O T)
-    → ((x : O) (ts : List T) → spells x ts → others x ts)
-    → (partial : Bool) (a : Ahead T) (v : Outcome O T) → Spelt spells partial a v
-    → Spelt others partial a v
-Spelt-on spells others on partial a (Gives x b) (m, (taken, (whole, h))) = (m, (taken, (whole, on x (tokens_of taken) h)))
-Spelt-on spells others on partial a (Fails f) h = h
+-- what is spelled by a relation is spelled by each weaker one
+pub Spelt-on : {O T : Type 0} (spells others : Spelling O T) (partial : Bool) (a : Ahead T)
+    (v : Outcome O T) → Spelt spells partial a v
+    → ((x : O) (ts : List T) → spells x ts → others x ts) → Spelt others partial a v
+Spelt-on spells others partial a (Gives x b) (m, (taken, (whole, h))) on = (m, (taken, (whole, on x (tokens_of taken) h)))
+Spelt-on spells others partial a (Fails f) h on = h

@@ -1,6 +1,23 @@
-use Rattle.example_colors.specs.Colors.{WritesColor}
+use Rattle.std.proofs.Common.{◌≡◌, ◌++◌, ◌∷◌, ap, sym, ◌∙◌, subst, arith}
+use Rattle.std.proofs.lemmas.Bool.Decides.{nat_tests}
+use Rattle.example_colors.specs.Colors.{WritesByte, WritesColor}
 use Rattle.winnow_spelling.specs.Spelt.{Spelt-on}
 use Rattle.example_colors.proofs.HexColorReadsAs.read.Goals as goal
 
 pub returns-clause-answer : goal.returns-clause-answer
-returns-clause-answer g c = Spelt-on _ WritesColor (λ color ts h. ?) _ _ _ (rw (c.preceded.ensures, c.map-color.ensures.inner, c.map-color.ensures.f) at c.ask_as.ensures.answer)
+returns-clause-answer g c = Spelt-on _ WritesColor _ _ _ (rw (c.preceded.ensures, c.one_of.ensures) at c.ask_as.ensures.answer)
+    (λ color ts (sign, (one, (other, (whole, (first, held), (bytes, (made, (red, (rest, (left, r, (green, (blue, (right, g, b)))))))))))). (
+      red,
+      (
+        green,
+        (
+          blue,
+          (
+            whole ∙ ap (λ t. t ++ other) first ∙ ap (λ c. c ∷ other) (grind (arith, nat_tests, held)) ∙ ap (λ t. 35 ∷ t) (left ∙ ap (λ t. red ++ t) right),
+            subst (λ c. WritesByte c.red red) (sym made) r,
+            subst (λ c. WritesByte c.green green) (sym made) g,
+            subst (λ c. WritesByte c.blue blue) (sym made) b,
+          ),
+        ),
+      ),
+    ))

@@ -1,7 +1,9 @@
+use Rattle.std.proofs.Common.{◌++◌, ◌∷◌, ap, ◌∙◌}
 use Rattle.example_colors.specs.Colors.{WritesByte}
 use Rattle.winnow_spelling.specs.Spelt.{Spelt-on}
 use Rattle.example_colors.proofs.TwoDigitsReadsAs.read.Goals as goal
 
 pub returns-clause-answer : goal.returns-clause-answer
-returns-clause-answer g c =
-    Spelt-on _ WritesByte (λ n ts (digits, (made, (one, (other, (whole, (first, held), (second, kept)))))). (digits.0, (digits.1, (?, made)))) _ _ _ (rw (c.verify_map-number.ensures.inner, c.verify_map-number.ensures.f) at c.ask_as.ensures.answer)
+returns-clause-answer g c = Spelt-on _ WritesByte _ _ _ c.ask_as.ensures.answer
+    (λ n ts (digits, (made, (one, (other, (whole, (high, held), (low, kept)))))).
+    (digits.0, (digits.1, (whole ∙ ap (λ t. t ++ other) high ∙ ap (λ t. digits.0 ∷ t) low, made))))
