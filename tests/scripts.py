@@ -218,10 +218,49 @@ def waiting_scripts():
         yield waiting_script("text-pieces", step, accents, after, answer)
 
 
+def marked_scripts():
+    """Makes scripts with marks that later steps name, over many pieces of a letter."""
+    count = 10_000
+    answers = [(1, "mark 0"), *((number, "token 97") for number in range(1, count + 1))]
+    steps = ["mark", *["next"] * count, "reset 0"]
+    yield letters_script("mark", steps, count, [*answers, (count, "done")])
+    steps, answers, count = [], [], 5_000
+    for mark in range(count):
+        steps += ["mark", "next"]
+        answers += [(max(mark, 1), f"mark {mark}"), (mark + 1, "token 97")]
+    for mark in range(count):
+        steps += [f"since {mark}", "next"]
+        answers += [(count + mark, f"offset {count}"), (count + mark + 1, "token 97")]
+    yield letters_script("marks", steps, 2 * count, answers)
+
+
+def needle_scripts():
+    """Makes scripts of searches for needles that come by pieces of a letter, or do not."""
+    count = 10_000
+    letters = "61" * count
+    for step, last, answer in (
+        (f"find {letters}62", b"b", (count + 1, f"find 0..{count + 1}")),
+        (f"find {letters}62", b"c", (None, "find none")),
+        (f"find {letters}62 61", b"b", (count + 1, f"find 0..{count + 1}")),
+        (f"find {letters}62 61", b"c", (count + 1, "find 0..1")),
+        (f"find 6162 {letters}63 61", b"b", (count + 1, "find 0..1")),
+        (f"find 6262 {letters}63 {letters}62", b"b", (count + 1, f"find 0..{count + 1}")),
+    ):
+        pieces = [b"a"] * count + [last]
+        for kind in ("byte-pieces", "text-pieces"):
+            yield waiting_script(kind, step, pieces, *answer)
+
+
+def letters_script(name, steps, count, answers):
+    """Returns a script over pieces of a letter, with the pieces that answer its steps."""
+    script = ["byte-pieces", *steps, *piece_lines([b"a"] * count)]
+    return f"many-{name}", lines_of(script), lines_of(f"{piece} {text}" for piece, text in answers)
+
+
 def waiting_script(kind, step, pieces, after, answer):
     """Returns a script of one step, with a name that says which."""
     short = step if len(step) < 40 else step[:36] + "~" + step[-2:]
-    name = f"waiting-{kind}-{short.replace(' ', '_')}-{pieces[0].hex()}"
+    name = f"waiting-{kind}-{short.replace(' ', '_')}-{pieces[0].hex()}-{pieces[-1].hex()}"
     script = lines_of([kind, step, *piece_lines(pieces)])
     return name, script, lines_of(output_over(pieces, [(after, answer)]))
 
@@ -232,6 +271,8 @@ def scripts_made():
     yield from long_scripts()
     yield from many_steps()
     yield from waiting_scripts()
+    yield from marked_scripts()
+    yield from needle_scripts()
 
 
 def write(path, content):

@@ -30,7 +30,8 @@ where
 {
     type Output = I::Slice;
 
-    ghost means = { λ _. Taken I.is_slice (Unsigned E.or_refusable E.append_refusable I.is_slice I.Token.code) };
+    ghost means = { λ _. Taken I.is_slice (Unsigned E.or_refusable E.append_refusable I.is_slice
+        I.Token.code) };
 
     ghost errors = { λ _. AppendedErrors (ahead I.Checkpoint.location I.remained) E.append_gives
         (DigitErrors (ahead I.location I.remaining)
@@ -40,7 +41,8 @@ where
     ghost ready = { λ _. Unit {0} };
 
     ghost lawful = { λ _. IsParser-Taken I.is_slice I.slices_stay _
-        (IsParser-Unsigned E.or_refusable E.append_refusable I.is_slice I.slices_stay I.Token.code) };
+        (IsParser-Unsigned E.or_refusable E.append_refusable I.is_slice I.slices_stay
+        I.Token.code) };
 
     #[inline(always)]
     fn parse_next(&self, alloc: Global, input: &mut I) -> ModalResult<I::Slice, E> {
@@ -62,7 +64,8 @@ where
 {
     type Output = I::Slice;
 
-    ghost means = { λ _. Taken I.is_slice (Signed E.or_refusable E.append_refusable I.is_slice I.Token.code) };
+    ghost means = { λ _. Taken I.is_slice (Signed E.or_refusable E.append_refusable I.is_slice
+        I.Token.code) };
 
     ghost errors = { λ _. AppendedErrors (ahead I.Checkpoint.location I.remained) E.append_gives
         (DigitErrors (ahead I.location I.remaining)
@@ -154,7 +157,8 @@ where
     ghost ready = { λ _. Unit {0} };
 
     ghost lawful = { λ _. IsParser-ReadAs I.Slice.reads I.is_slice I.slices_stay _
-        (IsParser-Unsigned E.or_refusable E.append_refusable I.is_slice I.slices_stay I.Token.code) };
+        (IsParser-Unsigned E.or_refusable E.append_refusable I.is_slice I.slices_stay
+        I.Token.code) };
 
     fn parse_next(&self, alloc: Global, input: &mut I) -> ModalResult<R, E> {
         read_as(&UnsignedDigits, alloc, input)

@@ -3,10 +3,10 @@ use Rattle.std.specs.Prelude.{false, Result, ◌⊎◌}
 use Rattle.std.proofs.Common.{inl, inr}
 use Rattle.winnow_stream.specs.declared.needed.Needed.{Needed}
 use Rattle.winnow_parser.specs.declared.failure.Failure.{Failure}
-use Rattle.winnow_parser.specs.Outcome.{Ahead, Failed, Backtracks, Cuts, Needs, Refuses, Gives, Fails, Meaning}
+use Rattle.winnow_parser.specs.Outcome.{Ahead, Backtracks, Cuts, Needs, Refuses, Gives, Fails, Meaning}
 use Rattle.winnow_parser.specs.Answer.{outcome}
 use Rattle.winnow_parser.specs.Errors.{Errors, FailsLeaving}
-use Rattle.winnow_parser.specs.Laws.{IsStable, IsFinal, IsOnward, IsParser}
+use Rattle.winnow_parser.specs.Laws.{IsStable, IsOnward, IsParser}
 
 -- the inner parser, asked of what stands in the part, after which nothing follows, gives this
 -- value

@@ -25,8 +25,8 @@ pub struct LengthRepeated<P, Q, A> {
 /// Returns the parser of a count, and then of that number of values of the inner parser, which it
 /// gathers in an `A`. Memory is asked for as values come, never for the count.
 ///
-/// It cuts where the inner parser gives a value and takes nothing. Where a value is missing, `append`
-/// records in the inner parser's error that this one failed.
+/// It cuts where the inner parser gives a value and takes nothing. Where a value is missing,
+/// `append` records in the inner parser's error that this one failed.
 pub fn length_repeat<P, Q, A>(length: P, inner: Q) -> LengthRepeated<P, Q, A>
     ensures length { result.length ≡ length }
     ensures inner { result.inner ≡ inner }

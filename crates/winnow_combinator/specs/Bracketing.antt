@@ -43,8 +43,8 @@ JoinsThree {E = E} stands join mx x my y z partial a s e = (e1 : E) × ((e2 : E)
     × FailsLeaving stands my y partial a (Backtrack e2) × z partial a s (Backtrack e3)
     × (e ≡ join (join e1 e2) e3))))
 
--- three parsers backtrack here, the function joins their errors in their order, and the joined error
--- is appended to, by the stream as it is left and a checkpoint of where it stood
+-- three parsers backtrack here, the function joins their errors in their order, and the joined
+-- error is appended to, by the stream as it is left and a checkpoint of where it stood
 abbrev pub AppendsThree : {O E S C T : Type 0} → (C → Ahead T) → (E → S → C → E → Type 0)
     → (S → Ahead T) → (E → E → E) → Meaning O T → Errors E S T → Meaning O T → Errors E S T
     → Errors E S T → Bool → Ahead T → S → E → Type 0

@@ -66,8 +66,8 @@ ListErrors cuts pairs separator separator_errors inner errors =
     PairErrors inner errors (RepeatedErrors pairs (TakingErrors cuts pairs (PairErrors separator separator_errors errors)))
 
 -- the errors of the first value; or, after it and some pairs, those of the next separator and its
--- value. Where these are needed, the error of a backtrack is appended to, by the stream as it is left
--- and a checkpoint of where they were asked for
+-- value. Where these are needed, the error of a backtrack is appended to, by the stream as it is
+-- left and a checkpoint of where they were asked for
 abbrev pub SeparatedErrors : {O P Q C E S T : Type 0} → ℕ → Option ℕ → (C → Ahead T)
     → (E → S → C → E → Type 0) → (S → E → Type 0) → Meaning Q T → Meaning P T → Errors E S T
     → Meaning O T → Errors E S T → Errors E S T

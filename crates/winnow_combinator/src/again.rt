@@ -51,8 +51,8 @@ where
 }
 
 // Asks a parser for one more value, after `count` values. Returns `None`, and resets the stream,
-// where the parser backtracks and these values are enough. Where they are not, the parser backtracks
-// too, and `append` records that in its error if `appends` says so.
+// where the parser backtracks and these values are enough. Where they are not, the parser
+// backtracks too, and `append` records that in its error if `appends` says so.
 #[inline(always)]
 pub(crate) fn one_more<I: StreamIsPartial, E: ParserError<I>, P: Parser<I, E>>(
     parser: &P,

@@ -42,8 +42,8 @@ pub fn alternatives_law<
 
 /// The law of brackets of their errors, where `or` is an associative function. The error of one
 /// `alt` of three is what `append` gives of the three errors, joined in their order. Where `append`
-/// changes nothing, the error of an `alt` in an `alt` is these three, joined in their order, however
-/// the alternatives are bracketed. It does nothing when called: its contract is the law.
+/// changes nothing, the error of an `alt` in an `alt` is these three, joined in their order,
+/// however the alternatives are bracketed. It does nothing when called: its contract is the law.
 pub fn alternative_errors_law<
     I: StreamIsPartial,
     E: AssociativeOr<I>,

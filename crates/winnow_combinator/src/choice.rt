@@ -10,8 +10,8 @@ use winnow_error::ParserError;
 use winnow_parser::{Failure, ModalResult, Parser};
 use winnow_stream::StreamIsPartial;
 
-// The alternatives of an `alt`, which appends to the error of all. Where all backtrack, their errors
-// are joined by `or`, from the left.
+// The alternatives of an `alt`, which appends to the error of all. Where all backtrack, their
+// errors are joined by `or`, from the left.
 #[derive(Clone, Copy)]
 pub(crate) struct Choice<L> {
     pub(crate) list: L,

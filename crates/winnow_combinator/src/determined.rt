@@ -85,9 +85,9 @@ pub fn determined_till_law<
         (B.means b) (A.means a)) }
 {}
 
-/// The laws of parsers that take nothing: the end, nothing at all and a failure have one answer, the
-/// end for a view that shows the same of all slices of one front. It does nothing when called: its
-/// contract is the law.
+/// The laws of parsers that take nothing: the end, nothing at all and a failure have one answer,
+/// the end for a view that shows the same of all slices of one front. It does nothing when called:
+/// its contract is the law.
 pub fn determined_end_law<I: StreamIsPartial, O, V>()
     ensures ended { (view : I.Slice → V) → SlicesRespect I.is_slice (Shows view)
         → IsDetermined (Shows view) (Ended I.is_slice) }

@@ -149,7 +149,8 @@ where
         (I.expects_more input.old)
         (ahead I.location I.remaining input.old)
         (outcome result (ahead I.location I.remaining input.new)) }
-    ensures error { IfErr result (GatheredErrors (SeparatedErrors counts.now.least counts.now.greatest
+    ensures error { IfErr result (GatheredErrors (SeparatedErrors counts.now.least
+        counts.now.greatest
         (ahead I.Checkpoint.location I.remained) E.append_gives E.assert_gives
         (Preceded (S.means list.now.separator) (P.means list.now.inner))
         (S.means list.now.separator) (S.errors list.now.separator)

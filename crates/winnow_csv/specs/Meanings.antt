@@ -89,7 +89,8 @@ OneRow is_slice bytes appends refusable =
     (Terminated (FieldList is_slice bytes appends refusable) (CutOff (RecordEnd is_slice appends refusable)))
 
 -- `RecordEnd` keeps the laws of a parser
-pub IsParser-RecordEnd : {S : Type 0} (is_slice : S → Source ℕ → ℕ → Type 0) (appends refusable : Type 0)
+pub IsParser-RecordEnd : {S : Type 0} (is_slice : S → Source ℕ → ℕ → Type 0)
+    (appends refusable : Type 0)
     → IsParser (RecordEnd is_slice appends refusable)
 IsParser-RecordEnd is_slice appends refusable =
     let byte : (n : ℕ) → IsParser (Byte n) = λ n. IsParser-OneOf (λ token. n == token) in
@@ -116,18 +117,21 @@ module _ {S : Type 0} (is_slice : S → Source ℕ → ℕ → Type 0) (bytes : 
   IsParser-PlainField = IsParser-Gathered ⊤ (λ slice field. field.items ≡ bytes slice) (IsParser-HeldFront is_slice stay is_plain 0 None)
 
   -- `AnyField` keeps the laws of a parser
-  pub IsParser-AnyField : (appends refusable : Type 0) → IsParser (AnyField is_slice bytes appends refusable)
+  pub IsParser-AnyField : (appends refusable : Type 0)
+      → IsParser (AnyField is_slice bytes appends refusable)
   IsParser-AnyField appends refusable =
       IsParser-Appending appends (IsParser-Either refusable (QuotedField is_slice bytes) (PlainField is_slice bytes) IsParser-QuotedField IsParser-PlainField)
 
   -- `FieldList` keeps the laws of a parser
-  pub IsParser-FieldList : (appends refusable : Type 0) → IsParser (FieldList is_slice bytes appends refusable)
+  pub IsParser-FieldList : (appends refusable : Type 0)
+      → IsParser (FieldList is_slice bytes appends refusable)
   IsParser-FieldList appends refusable =
       IsParser-Countable (IsParser-Gathered ⊤ HasFields
       (IsParser-Separated 1 None (IsParser-OneOf (λ token. 44 == token)) (IsParser-AnyField appends refusable)))
 
   -- `OneRow` keeps the laws of a parser
-  pub IsParser-OneRow : (appends refusable : Type 0) → IsParser (OneRow is_slice bytes appends refusable)
+  pub IsParser-OneRow : (appends refusable : Type 0)
+      → IsParser (OneRow is_slice bytes appends refusable)
   IsParser-OneRow appends refusable =
       let list = FieldList is_slice bytes appends refusable in
       let ended = Ended is_slice in

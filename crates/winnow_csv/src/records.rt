@@ -33,7 +33,8 @@ where
     ghost ready = { λ _. Unit {0} };
 
     ghost lawful = { λ _.
-        IsParser-FieldList I.is_slice I.Slice.bytes I.slices_stay E.append_refusable E.or_refusable };
+        IsParser-FieldList I.is_slice I.Slice.bytes I.slices_stay E.append_refusable
+        E.or_refusable };
 
     fn parse_next(&self, alloc: Global, input: &mut I) -> ModalResult<Vec<Vec<u8>>, E> {
         match separated(1.., alt((Quoted, Plain)), one_of(b',')).parse_next(alloc, input) {
@@ -88,7 +89,8 @@ where
 
     ghost ready = { λ _. Unit {0} };
 
-    ghost lawful = { λ _. IsParser-OneRow I.is_slice I.Slice.bytes I.slices_stay E.append_refusable E.or_refusable };
+    ghost lawful = { λ _. IsParser-OneRow I.is_slice I.Slice.bytes I.slices_stay E.append_refusable
+        E.or_refusable };
 
     fn parse_next(&self, alloc: Global, input: &mut I) -> ModalResult<Vec<Vec<u8>>, E> {
         preceded(not(eof()), terminated(Fields, cut_err(RowEnd))).parse_next(alloc, input)

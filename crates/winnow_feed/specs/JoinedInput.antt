@@ -39,7 +39,7 @@ pub record IsRunOver {T L : Type 0} (strict : Bool) (k : PieceReading T CharSet 
   pub based : p.base ≡ place all first
   pub is_kept : kept ≡ drop first all
   pub settled : (s : SearchStep CharSet L) → next_step p ≡ Some s
-      → IsSettled k s (rest all at) p.settled.width p.settled.tokens
+      → IsSettled k s (rest all at) p.settled
 
 -- the next step, if one remains, waits
 abbrev pub IsAtRest : {T L : Type 0} → PieceReading T CharSet L → Source T → Progress T L → Type 0

@@ -30,9 +30,11 @@ ended ends (Some k) end = if nat_lt k (length ends) then set ends k end else end
 abbrev pub Entry : Type 0
 Entry = Reverse (ℕ × ℕ)
 
+-- the entry with a place and an end
 abbrev pub entry : ℕ → ℕ → Entry
 entry place end = record { 0 = (place, end) }
 
+-- the order of entries: the greatest is at the least place
 abbrev pub by_place : Entry → Entry → Ordering
 by_place x y = ordering_then (nat_cmp y.0.0 x.0.0) (nat_cmp y.0.1 x.0.1)
 

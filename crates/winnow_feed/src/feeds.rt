@@ -16,8 +16,9 @@ use winnow_wrap::Partial;
 /// A script over bytes that arrive in pieces.
 ///
 /// However the input is cut, the answers are those of the script on the joined pieces. After each
-/// piece, the feed has given out the longest front of answers that are all definite: no further input
-/// changes these. It keeps only those bytes of the input that a step without an answer can reach.
+/// piece, the feed has given out the longest front of answers that are all definite: no further
+/// input changes these. It keeps only those bytes of the input that a step without an answer can
+/// reach.
 ///
 /// A feed is made for a script, and then fed:
 ///
@@ -74,10 +75,7 @@ impl<'k> ByteFeed<'k> {
                 told,
                 place: 0,
                 marks,
-                settled: Settled {
-                    width: 0,
-                    tokens: 0,
-                },
+                settled: Settled::nothing(),
                 base: 0,
                 pieces: 0,
                 tried: 0,

@@ -97,10 +97,7 @@ where
         Attempt::Answered(seen) => {
             push_mark(&mut progress.marks, progress.place, seen.marks);
             progress.place = seen.place;
-            progress.settled = Settled {
-                width: 0,
-                tokens: 0,
-            };
+            progress.settled = Settled::nothing();
             true
         }
     }

@@ -17,8 +17,9 @@ use winnow_wrap::Partial;
 /// A script over text that arrives in pieces.
 ///
 /// However the input is cut, the answers are those of the script on the joined pieces. After each
-/// piece, the feed has given out the longest front of answers that are all definite: no further input
-/// changes these. It keeps only those bytes of the input that a step without an answer can reach.
+/// piece, the feed has given out the longest front of answers that are all definite: no further
+/// input changes these. It keeps only those bytes of the input that a step without an answer can
+/// reach.
 #[derive(Drop)]
 pub struct TextFeed<'k> {
     run: Progress<'k, char, &'k str>,
@@ -71,10 +72,7 @@ impl<'k> TextFeed<'k> {
                 told,
                 place: 0,
                 marks,
-                settled: Settled {
-                    width: 0,
-                    tokens: 0,
-                },
+                settled: Settled::nothing(),
                 base: 0,
                 pieces: 0,
                 tried: 0,

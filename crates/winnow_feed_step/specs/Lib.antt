@@ -1,3 +1,4 @@
 pub mod Settled
 pub mod Looks
 pub mod Missing
+pub mod Fitting

@@ -4,7 +4,7 @@ use Rattle.std.specs.Prelude.{◌≡◌, ℕ, ◌+◌, ◌-◌, nat_le, Bool, tr
 use Rattle.std.specs.Global.{Vec}
 use Rattle.winnow_stream.specs.Source.{Source, width}
 use Rattle.winnow_stream.specs.Front.{is_offset}
-use Rattle.winnow_run.specs.Needs.{call_need, call_mark, mark_of, is_end, Move, stays, past_token, past_width, to_end, to_mark, marking, call_move}
+use Rattle.winnow_run.specs.Needs.{call_mark, mark_of, Move, stays, past_token, past_width, to_end, to_mark, marking, call_move}
 use Rattle.winnow_run.specs.Script.{PlacedAnswer, call_answer, reset_answer}
 use Rattle.winnow_run.specs.declared.script.Step.{Step}
 use Rattle.winnow_run.specs.declared.script.Answer.TheVariants as answer
@@ -108,16 +108,10 @@ module _ {T C L : Type 0} (k : PieceReading T C L) (at : ℕ) (marks : List ℕ)
     marks = false;
   }
 
--- the step is one that no input makes definite
-abbrev pub never_definite : {C L : Type 0} → SearchStep C L → Bool
-never_definite (step.Call s) = is_end (call_need s)
-never_definite (step.Compare literal) = false
-never_definite (step.Find needles) = false
-
 -- an attempt at a step: either the answer is appended with the number of the piece, and it is
 -- definite or no more may follow; or nothing is appended, and the step waits and has settled what
 -- the attempt says
 module _ {T C L : Type 0} (k : PieceReading T C L) (at : ℕ) (marks : List ℕ) (r : Source T) (s : SearchStep C L) (more : Bool) (piece : Option ℕ) (before after : List (Told T)) where
   abbrev pub Attempts : Attempt → Type 0
   Attempts (attempt.Answered seen) = (more ≡ true → is_definite k s r ≡ true) × (seen ≡ seen_of (look_of k at marks r s)) × (after ≡ before ++ under piece (look_of k at marks r s).answer ∷ [])
-  Attempts (attempt.Waits settled) = (more ≡ true) × (is_definite k s r ≡ false) × IsSettled k s r settled.width settled.tokens × (after ≡ before)
+  Attempts (attempt.Waits settled) = (more ≡ true) × (is_definite k s r ≡ false) × IsSettled k s r settled × (after ≡ before)

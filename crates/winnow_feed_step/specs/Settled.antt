@@ -1,6 +1,7 @@
 -- What a waiting step has settled, with one definition for each kind of step, in terms of the step
 -- and what remains.
-use Rattle.std.specs.Prelude.{◌≡◌, ℕ, ◌+◌, ◌≤◌, ◌<◌, Bool, true, List, ◌++◌, length, take, drop, Option, None, Some, Result, Ok, Err, ⊤}
+use Rattle.std.specs.Prelude.{◌≡◌, ℕ, ◌+◌, ◌≤◌, ◌<◌, Bool, true, false, List, ◌++◌, length, take, drop, Option, None, Some, Result, Ok, Err, ⊤}
+use Rattle.std.specs.List.{list_any}
 use Rattle.std.specs.declared.ops.Range.{Range}
 use Rattle.winnow_stream.specs.declared.needed.Needed.{Needed}
 use Rattle.winnow_match.specs.declared.compare.CompareResult.{CompareResult}
@@ -12,10 +13,12 @@ use Rattle.winnow_run.specs.declared.need.Need.{Need}
 use Rattle.winnow_run.specs.declared.need.Need.TheVariants as need
 use Rattle.winnow_run.specs.Needs.{call_need}
 use Rattle.winnow_match.specs.Bytes.{written}
-use Rattle.winnow_match.specs.Search.{needle_at, needle_list}
+use Rattle.winnow_match.specs.Comparison.{is_prefix}
+use Rattle.winnow_match.specs.Search.{is_empty, needle_at, needle_of, needle_list}
 use Rattle.winnow_run.specs.declared.search_steps.SearchStep.{SearchStep}
 use Rattle.winnow_run.specs.declared.search_steps.SearchStep.TheVariants as step
 use Rattle.winnow_run.specs.Definite.{PieceReading}
+use Rattle.winnow_feed_step.specs.declared.calls.Settled.{Settled}
 
 -- a token of a set: an offset up to which the set holds none
 pub record NoneInSet {T : Type 0} (holds : T → Bool) (r : Source T) (n : ℕ) : Type 0 where
@@ -32,6 +35,19 @@ pub record AreSame (literal bytes : List ℕ) (n : ℕ) : Type 0 where
   pub within : n ≤ length bytes
   pub fits : n ≤ length literal
   pub same : take n bytes ≡ take n literal
+
+-- a search: no needle stands before its width, no matter what follows; there the bytes that were
+-- compared are those of its needle, and no needle listed before that one comes to stand there
+pub record IsSearchSettled (needles : List (List ℕ)) (bytes : List ℕ) (settled : Settled) : Type 0 where
+  pub none : NoneOccurs needles bytes settled.width
+  pub same : AreSame (needle_of needles settled.needle) (drop settled.width bytes) settled.compared
+  pub passed : (m : List ℕ) (i : ℕ) → i < settled.needle
+      → is_prefix (needle_of needles i) (drop settled.width (bytes ++ m)) ≡ false
+  pub some : 0 < settled.compared → list_any is_empty needles ≡ false
+
+-- nothing is settled
+abbrev pub nothing_settled : Settled
+nothing_settled = record { width = 0; tokens = 0; needle = 0; compared = 0 }
 
 -- a number of tokens: the offset after `count` of them, which are no more than are asked for
 pub record AreCounted {T : Type 0} (asked : ℕ) (r : Source T) (n count : ℕ) : Type 0 where
@@ -51,15 +67,15 @@ abbrev pub IsCallSettled : {T C : Type 0} → (C → T → Bool) → Step C → 
 IsCallSettled holds s r n tokens = IsNeedSettled holds (call_need s) r n tokens
 
 module _ {T C L : Type 0} (k : PieceReading T C L) where
-  abbrev pub IsSettled : SearchStep C L → Source T → ℕ → ℕ → Type 0
-  IsSettled (step.Call s) r n tokens = IsCallSettled k.holds s r n tokens
-  IsSettled (step.Compare literal) r n tokens = AreSame (k.literal literal) (written k.write r) n
-  IsSettled (step.Find needles) r n tokens = NoneOccurs (needle_list k.literal needles) (written k.write r) n
+  abbrev pub IsSettled : SearchStep C L → Source T → Settled → Type 0
+  IsSettled (step.Call s) r settled = IsCallSettled k.holds s r settled.width settled.tokens
+  IsSettled (step.Compare literal) r settled = AreSame (k.literal literal) (written k.write r) settled.width
+  IsSettled (step.Find needles) r settled = IsSearchSettled (needle_list k.literal needles) (written k.write r) settled
 
-  -- no needle of a search stands before place n, no matter what follows
-  abbrev pub IsSearched : SearchStep C L → Source T → ℕ → Type 0
-  IsSearched (step.Find needles) r n = NoneOccurs (needle_list k.literal needles) (written k.write r) n
-  IsSearched _ r n = ⊤
+  -- what a search has settled
+  abbrev pub IsSearched : SearchStep C L → Source T → Settled → Type 0
+  IsSearched (step.Find needles) r settled = IsSearchSettled (needle_list k.literal needles) (written k.write r) settled
+  IsSearched _ r settled = ⊤
 
 -- ---- an answer that was found from n on, as an answer for the whole
 

@@ -1,17 +1,17 @@
 ghost use Rattle.std.specs.Prelude.{◌≡◌, ℕ, ◌+◌, ◌≤◌, ◌<◌, ◌^◌, ◌∷◌, ◌++◌, [], List, Option, false};
-ghost use Rattle.std.specs.Prelude.{length, vec_len, vec_capacity};
+ghost use Rattle.std.specs.Prelude.{length, vec_len, vec_capacity, IfSome};
 ghost use Rattle.winnow_stream.specs.Source.{width};
 ghost use Rattle.winnow_feed_step.specs.Settled.{IsSettled, IsSearched, AreCounted};
 ghost use Rattle.winnow_run.specs.Definite.{is_definite, is_decided};
 ghost use Rattle.winnow_feed_step.specs.Looks.{piece_reading, look_of, seen_of, under};
-ghost use Rattle.winnow_feed_step.specs.Looks.{never_definite, Attempts, GrowsByOne};
+ghost use Rattle.winnow_feed_step.specs.Looks.{Attempts, GrowsByOne};
 ghost use Rattle.winnow_feed_step.specs.declared.told.Told.{Told};
 ghost use Rattle.winnow_run.specs.Searching.{PlacedSearchAnswer};
 
 use crate::Told;
 use crate::calls::{Seen, Settled, Standing, look_call, tell};
 use crate::kept::Kept;
-use crate::searches::{compare_from, find_from, needle_bytes, searched};
+use crate::searches::{begun_further, compare_from, find_from, needle_bytes, searched};
 use winnow_match::{CompareResult, Finders};
 use winnow_run::{Need, SearchAnswer, SearchStep};
 use winnow_sets::{AsChar, CharSet};
@@ -49,8 +49,7 @@ fn seen_at(definite: bool, place: usize) -> Seen
 }
 
 /// Looks at a step, resuming after what it has settled, and appends its answer with the number of
-/// the piece. Returns what it saw, and the place that a search has settled, which is 0 for any
-/// other step.
+/// the piece. Returns what it saw, and what a search has settled.
 #[inline(always)]
 pub(crate) fn look<'k, S: Kept, L: AsBStr>(
     step: &'k SearchStep<CharSet<'k>, L>,
@@ -58,7 +57,7 @@ pub(crate) fn look<'k, S: Kept, L: AsBStr>(
     here: Standing,
     finders: &mut Option<Finders<'k>>,
     told: &mut Vec<Told<S::Token>>,
-) -> (Seen, usize)
+) -> (Seen, Settled)
 where
     S::Token: AsChar + Drop,
     S::Slice: Drop,
@@ -66,7 +65,7 @@ where
     requires room { here.place + width (S.remaining rest) < 2 ^ 64 }
     requires settled { IsSettled
         (piece_reading S.Token.code S.counts_shortage S.write L.text_bytes)
-        step.now (S.remaining rest) here.settled.width here.settled.tokens }
+        step.now (S.remaining rest) here.settled }
     requires told_room { vec_len told.old < vec_capacity told.old }
     ensures seen { result.0 ≡ seen_of (look_of
         (piece_reading S.Token.code S.counts_shortage S.write L.text_bytes)
@@ -82,20 +81,20 @@ where
     match step {
         SearchStep::Call(call) => {
             let seen = look_call(call, rest, here, told);
-            (seen, 0)
+            (seen, here.settled)
         }
         SearchStep::Compare(literal) => {
             let compared = compare_from(literal.as_bstr(), rest.bytes(), here.settled.width);
             let definite = is_decided_now(&compared);
             tell(told, here.piece, SearchAnswer::Compared(compared));
-            (seen_at(definite, here.place), 0)
+            (seen_at(definite, here.place), here.settled)
         }
         SearchStep::Find(needles) => {
             let needles = needle_bytes(needles);
-            let found = find_from(&needles, rest.bytes(), here.settled.width, finders);
-            let (definite, width) = searched(&needles, rest.bytes(), &found);
+            let found = find_from(&needles, rest.bytes(), here.settled, finders);
+            let (definite, settled) = searched(&needles, rest.bytes(), &found, here.settled);
             tell(told, here.piece, SearchAnswer::Hit(found));
-            (seen_at(definite, here.place), width)
+            (seen_at(definite, here.place), settled)
         }
     }
 }
@@ -141,15 +140,16 @@ where
     Settled {
         width: rest.eof_offset(),
         tokens: settled.tokens + tokens_left(later),
+        ..settled
     }
 }
 
-/// Returns what a waiting step has settled. For a search that is the place `searched`.
+/// Returns what a waiting step has settled. For a search that is `searched`.
 #[tactic(auto, using(crate::proofs::lemmas::AttemptLemmas::passes))]
 pub(crate) fn settle<S: Kept, L: AsBStr>(
     step: &SearchStep<CharSet, L>,
     rest: S,
-    searched: usize,
+    searched: Settled,
     settled: Settled,
 ) -> Settled
 where
@@ -158,7 +158,7 @@ where
     requires valid { S.valid rest }
     requires settled { IsSettled
         (piece_reading S.Token.code S.counts_shortage S.write L.text_bytes)
-        step.now (S.remaining rest) settled.width settled.tokens }
+        step.now (S.remaining rest) settled }
     requires searched { IsSearched
         (piece_reading S.Token.code S.counts_shortage S.write L.text_bytes)
         step.now (S.remaining rest) searched }
@@ -167,39 +167,56 @@ where
         step.now (S.remaining rest) ≡ false }
     ensures { IsSettled
         (piece_reading S.Token.code S.counts_shortage S.write L.text_bytes)
-        step.now (S.remaining rest) result.width result.tokens }
+        step.now (S.remaining rest) result }
 {
     match step {
         SearchStep::Call(call) => match call.need() {
             Need::TokenOf(_) => Settled {
                 width: rest.eof_offset(),
-                tokens: 0,
+                ..settled
             },
             Need::Tokens(asked) => count_on(rest, asked, settled),
             _ => settled,
         },
         SearchStep::Compare(_) => Settled {
             width: rest.bytes().len(),
-            tokens: 0,
+            ..settled
         },
-        SearchStep::Find(_) => Settled {
-            width: searched,
-            tokens: 0,
-        },
+        SearchStep::Find(_) => searched,
     }
 }
 
-// Returns whether no input makes the step definite, so that a look at it is of no use.
-fn waits_to_the_end<L>(step: &SearchStep<CharSet, L>) -> bool
-    ensures { result ≡ never_definite step.now }
+// Returns what a step has settled if a look at it is of no use: no input makes the step definite,
+// or it searches and the bytes still end inside the needle that it has compared so far.
+#[tactic(auto, using(crate::proofs::lemmas::AttemptLemmas::attempted))]
+#[inline(always)]
+fn waits_on<S: Kept, L: AsBStr>(
+    step: &SearchStep<CharSet, L>,
+    rest: S,
+    settled: Settled,
+) -> Option<Settled>
+where
+    S::Token: AsChar + Drop,
+    S::Slice: Drop,
+    requires valid { S.valid rest }
+    requires settled { IsSettled
+        (piece_reading S.Token.code S.counts_shortage S.write L.text_bytes)
+        step.now (S.remaining rest) settled }
+    ensures { IfSome result (λ more. (is_definite
+        (piece_reading S.Token.code S.counts_shortage S.write L.text_bytes)
+        step.now (S.remaining rest) ≡ false) × IsSettled
+        (piece_reading S.Token.code S.counts_shortage S.write L.text_bytes)
+        step.now (S.remaining rest) more) }
 {
     match step {
         SearchStep::Call(call) => match call.need() {
-            Need::End => true,
-            _ => false,
+            Need::End => Some(settled),
+            _ => None,
         },
-        SearchStep::Compare(_) => false,
-        SearchStep::Find(_) => false,
+        SearchStep::Compare(_) => None,
+        SearchStep::Find(needles) => {
+            begun_further(&needle_bytes(needles), rest.bytes(), settled)
+        }
     }
 }
 
@@ -223,7 +240,7 @@ where
     requires room { here.place + width (S.remaining rest) < 2 ^ 64 }
     requires settled { IsSettled
         (piece_reading S.Token.code S.counts_shortage S.write L.text_bytes)
-        step.now (S.remaining rest) here.settled.width here.settled.tokens }
+        step.now (S.remaining rest) here.settled }
     requires told_room { vec_len told.old < vec_capacity told.old }
     ensures attempts { Attempts
         (piece_reading S.Token.code S.counts_shortage S.write L.text_bytes)
@@ -232,8 +249,10 @@ where
     ensures capacity { vec_capacity told.old ≤ vec_capacity told.new }
 {
     let partial = rest.is_partial();
-    if partial && waits_to_the_end(step) {
-        return Attempt::Waits(here.settled);
+    if partial {
+        if let Some(settled) = waits_on(step, rest, here.settled) {
+            return Attempt::Waits(settled);
+        }
     }
     let (seen, searched) = look(step, rest, here, finders, told);
     if seen.definite || !partial {

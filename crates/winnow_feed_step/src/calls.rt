@@ -4,6 +4,7 @@ ghost use Rattle.winnow_stream.specs.Source.{width, first_offset};
 ghost use Rattle.winnow_stream.specs.Front.{is_offset};
 ghost use Rattle.winnow_stream.specs.Shortage.{offset_at};
 ghost use Rattle.winnow_feed_step.specs.Settled.{NoneInSet, AreCounted, IsCallSettled};
+ghost use Rattle.winnow_feed_step.specs.Settled.{nothing_settled};
 ghost use Rattle.winnow_feed_step.specs.Looks.{in_set, first_width, GrowsByOne, call_look};
 ghost use Rattle.winnow_feed_step.specs.Looks.{seen_of, under};
 ghost use Rattle.winnow_run.specs.declared.search_steps.SearchAnswer.TheVariants as
@@ -75,11 +76,32 @@ where
     }
 }
 
-/// What a waiting step has settled: a width, and a number of tokens if the step counts them.
+/// What a waiting step has settled.
 #[derive(Clone, Copy)]
 pub struct Settled {
+    /// The width of the front that need not be looked at again. For a search, the first place at
+    /// which a needle can come to stand.
     pub width: usize,
+    /// The number of tokens in that front, if the step counts them
     pub tokens: usize,
+    /// For a search, the number of the first needle listed that can stand at that place
+    pub needle: usize,
+    /// For a search, the number of bytes at that place that are known to be those of the needle
+    pub compared: usize,
+}
+
+impl Settled {
+    /// Returns what a step has settled before it is attempted.
+    pub fn nothing() -> Settled
+        ensures { result ≡ nothing_settled }
+    {
+        Settled {
+            width: 0,
+            tokens: 0,
+            needle: 0,
+            compared: 0,
+        }
+    }
 }
 
 /// Where a run stands when it attempts a step: the place of its cursor, the places of its marks,
@@ -141,9 +163,9 @@ where
     rest.eof_offset() - later.eof_offset()
 }
 
-/// Returns the place of the mark with that number, counted from 0, if it was made.
+// Returns the place of the mark with that number, counted from 0, if it was made.
 #[tactic(auto, using(crate::proofs::lemmas::LookLemmas::marks_read))]
-pub fn mark_at(marks: &[usize], number: usize) -> Option<usize>
+fn mark_at(marks: &[usize], number: usize) -> Option<usize>
     ensures { result ≡ slice_get marks.now number }
 {
     if number < marks.len() {

@@ -17,7 +17,7 @@ mod searches;
 mod told;
 
 pub use attempts::{Attempt, attempt_step};
-pub use calls::{Seen, Settled, Standing, mark_at};
+pub use calls::{Seen, Settled, Standing};
 pub use kept::Kept;
 pub use laws::told_equality_law;
 pub use missing::step_missing;

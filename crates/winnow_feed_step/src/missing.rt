@@ -1,13 +1,13 @@
 ghost use Rattle.std.specs.Prelude.{◌≡◌, ◌<◌, Some, drop, option_map};
 ghost use Rattle.std.specs.Prelude.{IfOk, OnErr, IsSome};
-ghost use Rattle.winnow_match.specs.Search.{hit, bytes_of_needles, needle_of};
+ghost use Rattle.winnow_match.specs.Search.{hit, bytes_of_needles};
 ghost use Rattle.winnow_feed_step.specs.Settled.{IsSettled, NoneOccurs};
 ghost use Rattle.winnow_feed_step.specs.Looks.{piece_reading};
 ghost use Rattle.winnow_feed_step.specs.Missing.{letters, needle_missing, need_missing, missing};
 
 use crate::calls::Settled;
 use crate::kept::Kept;
-use crate::searches::{find_from, needle_bytes};
+use crate::searches::{find_from, needle_bytes, needle_of};
 use std::alloc::{AllocError, Global};
 use std::ops::Range;
 use winnow_match::{Needles, stretch};
@@ -40,30 +40,18 @@ fn after(bytes: &[u8], n: usize) -> &[u8]
     }
 }
 
-// Returns the needle with that number, counted from 0, or nothing if there is none.
-fn needle_of<'n>(needles: &Needles<&'n [u8]>, number: usize) -> &'n [u8]
-    ensures { result.now ≡ needle_of (bytes_of_needles needles.now) number }
-{
-    match needles {
-        Needles::One(a) | Needles::Two(a, _) | Needles::Three(a, _, _) if number == 0 => a,
-        Needles::Two(_, b) | Needles::Three(_, b, _) if number == 1 => b,
-        Needles::Three(_, _, c) if number == 2 => c,
-        _ => &[],
-    }
-}
-
-// Returns the first place of a needle, where no needle stands before `settled`. Searches that it
+// Returns the first place of a needle, where none stands before what is settled. Searches that it
 // sets up are dropped here, so that no exit of its caller has to drop them.
-fn first_hit(needles: &Needles<&[u8]>, bytes: &[u8], settled: usize) -> Option<Range<usize>>
-    requires { NoneOccurs (bytes_of_needles needles.now) bytes.now settled }
+fn first_hit(needles: &Needles<&[u8]>, bytes: &[u8], settled: Settled) -> Option<Range<usize>>
+    requires { NoneOccurs (bytes_of_needles needles.now) bytes.now settled.width }
     ensures { result ≡ hit (bytes_of_needles needles.now) bytes.now }
 {
     find_from(needles, bytes, settled, &mut None)
 }
 
-// Returns what a search is missing, where no needle stands before `settled`.
-fn needle_missing<'n>(needles: &Needles<&'n [u8]>, bytes: &[u8], settled: usize) -> &'n [u8]
-    requires { NoneOccurs (bytes_of_needles needles.now) bytes.now settled }
+// Returns what a search is missing, where no needle stands before what is settled.
+fn needle_missing<'n>(needles: &Needles<&'n [u8]>, bytes: &[u8], settled: Settled) -> &'n [u8]
+    requires { NoneOccurs (bytes_of_needles needles.now) bytes.now settled.width }
     ensures { result.now ≡ needle_missing (bytes_of_needles needles.now) bytes.now }
 {
     match first_hit(needles, bytes, settled) {
@@ -115,7 +103,7 @@ where
     requires valid { S.valid rest }
     requires settled { IsSettled
         (piece_reading S.Token.code S.counts_shortage S.write L.text_bytes)
-        step.now (S.remaining rest) settled.width settled.tokens }
+        step.now (S.remaining rest) settled }
     ensures told { IfOk result (λ more. option_map (λ bytes. bytes.items) more ≡ missing
         (piece_reading S.Token.code S.counts_shortage S.write L.text_bytes)
         S.greatest S.spell (S.remaining rest) step.now) }
@@ -131,7 +119,7 @@ where
         }
         SearchStep::Find(needles) => {
             let needles = needle_bytes(needles);
-            let more = needle_missing(&needles, rest.bytes(), settled.width);
+            let more = needle_missing(&needles, rest.bytes(), settled);
             copied(alloc, more)
         }
     }

@@ -48,8 +48,8 @@ impl Holds<char> for Vec<char> {
     }
 }
 
-/// What ends the items is nothing.
-impl Holds<char> for (Vec<char>, ()) {
+/// What ends the items is no item.
+impl<S> Holds<char> for (Vec<char>, S) {
     fn holds_first(&self, count: usize) -> bool {
         self.0.holds_first(count)
     }

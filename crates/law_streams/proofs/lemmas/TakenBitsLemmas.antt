@@ -1,6 +1,6 @@
 -- A script of one `Take`: its answer is the slice of that width of the list.
-use Rattle.std.proofs.Common.{◌≡◌, ℕ, ◌+◌, ◌-◌, Bool, true, List, [], ◌∷◌, Option, Some, None, refl, sym, ap, ◌∙◌, subst, arith, zero-add}
-use Rattle.std.specs.Prelude.{IsTrue, is_some}
+use Rattle.std.proofs.Common.{◌≡◌, ℕ, ◌+◌, ◌-◌, Bool, true, List, [], ◌∷◌, Option, Some, None, refl, ap, subst, arith}
+use Rattle.std.specs.Prelude.{IsTrue, IfOk, Result, Ok, Err, is_some}
 use Rattle.std.specs.Global.{Vec}
 use Rattle.winnow_stream.specs.declared.needed.Needed.{Needed}
 use Rattle.winnow_stream.specs.Source.{Source}
@@ -37,3 +37,17 @@ module _ {T S : Type 0} (is_slice : S → Source T → ℕ → Type 0) (all : So
       let one = one-slice (front_count all n) g offset (h.0 (λ c t. true) tt) in
       (one.0, ap (λ x. x ∷ []) one.1, one.2)
   one-take may_answer counts_shortage (g ∷ (more ∷ gs)) offset h = absurd (h.1)
+
+-- what holds of the slice of a front holds of the answers of a script that takes that front
+pub taken-ok : {C T S E : Type 0}
+    (result : Result (Vec (Answer T S (Vec (ℕ × T)) Needed)) E)
+    (P : Vec (Answer T S (Vec (ℕ × T)) Needed) → Type 0) (may_answer : C → T → Bool → Type 0)
+    (is_slice : S → Source T → ℕ → Type 0) (counts_shortage : Bool) (all : Source T) (n : ℕ)
+    → IsTrue (is_offset all n)
+    → IfOk result (λ out. AreAnswers may_answer is_slice counts_shortage all (step.Take n ∷ []) out.items)
+    → ((out : Vec (Answer T S (Vec (ℕ × T)) Needed)) (s : S) → out.items ≡ answer.Slice s ∷ []
+    → is_slice s all n → P out) → IfOk result P
+taken-ok (Ok out) P may_answer is_slice counts_shortage all n offset h on =
+    let one = one-take is_slice all n may_answer counts_shortage out.items offset h in
+    on out one.0 one.1 one.2
+taken-ok (Err e) P may_answer is_slice counts_shortage all n offset h on = tt

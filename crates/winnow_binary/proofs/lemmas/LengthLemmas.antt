@@ -11,14 +11,14 @@ use Rattle.winnow_parser.proofs.lemmas.MadeLemmas.{determined-continued}
 use Rattle.winnow_token.specs.Counted.{Counted}
 use Rattle.winnow_token.proofs.lemmas.ToldLemmas.{determined-counted}
 use Rattle.winnow_combinator.specs.Appended.{AppendingIf, needs_some}
-use Rattle.winnow_combinator.specs.Counts.{Ascends, Ascending}
+use Rattle.winnow_combinator.specs.Counts.{Ascending}
 use Rattle.winnow_combinator.specs.DeterminedLists.{AreSameEach}
 use Rattle.winnow_combinator.specs.Gathering.{Gathered}
 use Rattle.winnow_combinator.specs.Misuse.{AscendingErrors}
 use Rattle.winnow_combinator.specs.Repetition.{Repeated}
 use Rattle.winnow_combinator.proofs.lemmas.AgreeingLemmas.{determined-repeated}
 use Rattle.winnow_combinator.proofs.lemmas.CombinedLemmas.{determined-gathered, determined-appending_if}
-use Rattle.winnow_binary.specs.Lengths.{IsNumber, CountedSlice, FrontOf, CountedFront, Times, CountedValues}
+use Rattle.winnow_binary.specs.Lengths.{IsNumber, CountedSlice, FrontOf, CountedFront, Times, TimesErrors, CountedValues}
 
 module _ {B O A T : Type 0} (refusable appends : Type 0) (makes : List O → A → Type 0) (means : B → Meaning O T) where
   -- what is asked for of a parser with these counts
@@ -42,14 +42,27 @@ module _ {B O A T : Type 0} (refusable appends : Type 0) (makes : List O → A �
       let two = subst (λ l. Asked (means q) l greatest partial a v) f one in
       times-alone (means q) n partial a v (subst (λ g. Asked (means q) n g partial a v) h two)
 
-module _ {E S T : Type 0} (cuts : S → E → Type 0) (inner : Errors E S T) (partial : Bool) (a : Ahead T) (s : S) (failure : Failure E Needed) where
-  -- counts that are n alone allow n, so the errors are those of the inner parser
-  pub times-errors : (n least : ℕ) (greatest : Option ℕ) → least ≡ n → greatest ≡ Some n
-      → AscendingErrors least greatest cuts inner partial a s failure → inner partial a s failure
-  times-errors n least greatest f h (inl e) = e
-  times-errors n least greatest f h (inr e) =
-      let alone : Ascends n (Some n) = omega arith in
-      absurd (e.0 (subst (λ l. Ascends l greatest) (sym f) (subst (Ascends n) (sym h) alone)))
+module _ {B O E S C T : Type 0} (stood : C → Ahead T) (appends : E → S → C → E → Type 0) (cuts : S → E → Type 0) (means : B → Meaning O T) (errors : B → Errors E S T) (partial : Bool) (a : Ahead T) (s : S) (failure : Failure E Needed) where
+  -- the errors of this many values of a parser
+  abbrev Fail : B → ℕ → Type 0
+  Fail p n = TimesErrors stood appends cuts (means p) (errors p) n partial a s failure
+
+  -- counts that are n alone allow n, so the errors are those of n values
+  errors-alone : (p : B) (n : ℕ)
+      → AscendingErrors n (Some n) cuts (TimesErrors stood appends cuts (means p) (errors p) n) partial a s failure
+      → Fail p n
+  errors-alone p n (inl e) = e
+  errors-alone p n (inr e) = absurd (e.0 (omega arith))
+
+  -- the same for counts and a parser that are known by equations
+  pub times-errors : (p q : B) (n least : ℕ) (greatest : Option ℕ) → p ≡ q → least ≡ n
+      → greatest ≡ Some n
+      → AscendingErrors least greatest cuts (TimesErrors stood appends cuts (means p) (errors p) least) partial a s failure
+      → Fail q n
+  times-errors p q n least greatest e f h asked =
+      let one = subst (λ l. AscendingErrors l greatest cuts (TimesErrors stood appends cuts (means p) (errors p) l) partial a s failure) f asked in
+      let two = subst (λ g. AscendingErrors n g cuts (TimesErrors stood appends cuts (means p) (errors p) n) partial a s failure) h one in
+      subst (λ q. Fail q n) e (errors-alone p n two)
 
 -- values that show the same number are the same number
 one-number : {L : Type 0} (number : L → ℕ) (x y : L) (m n : ℕ) → Shows number x y

@@ -302,7 +302,8 @@ module _ {S : Type 0} (is_slice : S → Source ℕ → ℕ → Type 0) (bytes : 
       )
 
   -- a field of either kind fails as `FieldFails` says
-  pub field-fails : (appends refusable : Type 0) (f : Failed ℕ) (a : Ahead ℕ) → HasPositiveWidths a.tokens
+  pub field-fails : (appends refusable : Type 0) (f : Failed ℕ) (a : Ahead ℕ)
+      → HasPositiveWidths a.tokens
       → AnyField is_slice bytes appends refusable partial a (Fails f)
       → FieldFails partial (bytes_of a.tokens) f
   field-fails appends refusable (Backtracks d) a wide (c, (h, k)) = absurd (omega (arith, k.1))

@@ -92,7 +92,8 @@ MayEnd r = (r ≡ []) ⊎ (r ≡ 13 ∷ [])
 
 module _ {S : Type 0} (is_slice : S → Source ℕ → ℕ → Type 0) (appends refusable : Type 0) (partial : Bool) where
   -- an end that is given stands ahead
-  pub end-given : (u : Unit {0}) (a b : Ahead ℕ) → RecordEnd is_slice appends refusable partial a (Gives u b)
+  pub end-given : (u : Unit {0}) (a b : Ahead ℕ)
+      → RecordEnd is_slice appends refusable partial a (Gives u b)
       → EndsRecord partial (bytes_of a.tokens) (bytes_of b.tokens)
   end-given u a b (inl (inl (x, (f, h)))) = inr (inl (byte-given 10 partial a b x h))
   end-given u a b (inl (inr (c, (n, (x, (f, (m, (h, k)))))))) =
@@ -117,7 +118,8 @@ module _ {S : Type 0} (is_slice : S → Source ℕ → ℕ → Type 0) (appends 
   needs-end a e p = (p, no-end-empty partial (bytes_of a.tokens) p (ap bytes_of e), inl (ap bytes_of e))
 
   -- an end fails as `EndFails` says
-  pub end-fails : (f : Failed ℕ) (a : Ahead ℕ) → RecordEnd is_slice appends refusable partial a (Fails f)
+  pub end-fails : (f : Failed ℕ) (a : Ahead ℕ)
+      → RecordEnd is_slice appends refusable partial a (Fails f)
       → EndFails a f
   end-fails (Backtracks b) a (d, ((c, (n, inl m)), e)) =
       (no-end-other partial (bytes_of a.tokens) (byte-missing 10 partial a c n).0 (byte-missing 13 partial a d m).0 (some-bytes a.tokens e.0), sym e.1)

@@ -46,7 +46,8 @@ module _ {C L : Type 0} (steps : List (SearchStep C L)) (ends : List ℕ) (i : �
   }
 
   -- one more step
-  pub AreEnds-more : (mark : Option ℕ) → step_mark s ≡ mark → AreEnds steps (i + 1) (ended ends mark (i + 1))
+  pub AreEnds-more : (mark : Option ℕ) → step_mark s ≡ mark
+      → AreEnds steps (i + 1) (ended ends mark (i + 1))
   AreEnds-more None e = AreEnds-same (λ k l n. none-some k (sym e ∙ n))
   AreEnds-more (Some x) e =
       elim (cases_lt x (length ends)) [

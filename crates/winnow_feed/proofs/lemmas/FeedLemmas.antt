@@ -20,6 +20,7 @@ use Rattle.winnow_feed_step.specs.Looks.{under}
 use Rattle.winnow_feed.specs.Feeding.{FeedState, Fits, HoldsInput, Finishes, held_after, script_of, bytes_fed}
 use Rattle.winnow_feed.proofs.lemmas.InputLemmas.{IsInput, joined-push}
 use Rattle.winnow_feed.proofs.lemmas.ToldLemmas.{AreInputs, answers_of, answers-under, told_of-push, waits-push}
+use Rattle.winnow_feed_step.specs.Settled.{nothing_settled}
 use Rattle.winnow_feed.proofs.lemmas.JoinedInputLemmas.{rest-back, none-settled}
 use Rattle.winnow_feed.proofs.lemmas.KeepingLemmas.{IsRunOver-more, IsRunOver-skips, place-kept, fed-is, end-is, needed-none, needed-done, needed-same_end}
 use Rattle.winnow_feed.proofs.lemmas.ReachLemmas.{Reaches-out, Reaches-cursor, Reaches-all}
@@ -86,9 +87,9 @@ module _ (i : InputRules) (law : IsInput i) where
 
   -- a feed that was fed nothing holds the empty input
   pub new-stands : (run : Run) (kept : List ℕ) → run.told.items ≡ [] → run.marks.items ≡ []
-      → kept ≡ [] → run.place ≡ 0 → run.base ≡ 0 → run.settled.width ≡ 0 → run.settled.tokens ≡ 0
+      → kept ≡ [] → run.place ≡ 0 → run.base ≡ 0 → run.settled ≡ nothing_settled
       → HoldsInput i (record { run = run; kept = kept }) []
-  new-stands run kept told marks none here base w t =
+  new-stands run kept told marks none here base settled =
       record {
         is_input = law.empty;
         is_kept = rw none law.empty;
@@ -103,7 +104,7 @@ module _ (i : InputRules) (law : IsInput i) where
           reached = omega arith;
           based = base;
           is_kept = ap i.source none;
-          settled = λ s e. rw (w, t) (none-settled i.pieces s (rest (i.source []) start));
+          settled = λ s e. rw settled (none-settled i.pieces s (rest (i.source []) start));
         };
       }
 

@@ -19,13 +19,14 @@ use Rattle.winnow_run.specs.declared.search_steps.SearchStep.TheVariants as step
 use Rattle.winnow_feed.specs.declared.progress.Progress.{Progress}
 use Rattle.winnow_run.specs.Searching.{search_answer, search_next}
 use Rattle.winnow_run.specs.Definite.{PieceReading, kind_on_pieces, is_definite}
-use Rattle.winnow_feed_step.specs.Settled.{IsNeedSettled, IsSettled}
+use Rattle.winnow_feed_step.specs.Settled.{IsNeedSettled, IsSettled, nothing_settled}
 use Rattle.winnow_feed_step.specs.Looks.{Look, look_of}
 use Rattle.winnow_feed.specs.Reach.{least_index, needed_from}
 use Rattle.winnow_feed_step.specs.Looks.{under}
 use Rattle.winnow_feed.specs.JoinedInput.{GoesOn, IsRunOver, AddsAnswers, AddsMarks, next_step, steps_left, answers_out}
 use Rattle.winnow_run.proofs.lemmas.StepLemmas.{Inside, start-inside}
-use Rattle.winnow_feed_step.proofs.lemmas.SettledLemmas.{width-split, NoneInSet-none, NoneOccurs-none, AreCounted-none, AreSame-none}
+use Rattle.winnow_feed_step.proofs.lemmas.SettledLemmas.{width-split, NoneInSet-none, AreCounted-none, AreSame-none}
+use Rattle.winnow_feed_step.proofs.lemmas.BegunLemmas.{IsSearchSettled-none}
 use Rattle.winnow_feed_step.proofs.lemmas.CursorLemmas.{cursor-answer, cursor-place, cursor-marks}
 use Rattle.winnow_feed.proofs.lemmas.ReachLemmas.{Reaches-inside, Reaches-push, least-at, never_back}
 
@@ -54,10 +55,10 @@ need-none_settled holds need.End r = tt
 
 -- at first, a step has settled nothing
 pub none-settled : {T C L : Type 0} (k : PieceReading T C L) (s : SearchStep C L) (r : Source T)
-    → IsSettled k s r 0 0
+    → IsSettled k s r nothing_settled
 none-settled k (step.Call s) r = need-none_settled k.holds (call_need s) r
 none-settled k (step.Compare l) r = AreSame-none (k.literal l) (written k.write r)
-none-settled k (step.Find ns) r = NoneOccurs-none (needle_list k.literal ns) (written k.write r)
+none-settled k (step.Find ns) r = IsSearchSettled-none (needle_list k.literal ns) (written k.write r)
 
 -- a run that differs only in what it counts stands for the same input
 pub IsRunOver-same : {T L : Type 0} (strict : Bool) (k : PieceReading T CharSet L)
@@ -189,7 +190,7 @@ module _ {T L : Type 0} (strict : Bool) (k : PieceReading T CharSet L) (all kept
   -- a run whose next step waits stands for the same input
   pub IsRunOver-waits : (q : Progress T L) → q.script ≡ p.script → q.told.items ≡ p.told.items
       → q.place ≡ p.place → q.marks ≡ p.marks → q.base ≡ p.base
-      → IsSettled k x (rest all h.at) q.settled.width q.settled.tokens → IsRunOver strict k all kept q
+      → IsSettled k x (rest all h.at) q.settled → IsRunOver strict k all kept q
   IsRunOver-waits q script told here marks base settled =
       let same : next_step q ≡ Some x = rw (script, told) next in
       record {
@@ -202,7 +203,7 @@ module _ {T L : Type 0} (strict : Bool) (k : PieceReading T CharSet L) (all kept
         reached = rw (script, told) h.reached;
         based = base ∙ h.based;
         is_kept = h.is_kept;
-        settled = λ s e. subst (λ y. IsSettled k y (rest all h.at) q.settled.width q.settled.tokens) (same_Some x s (sym same ∙ e)) settled;
+        settled = λ s e. subst (λ y. IsSettled k y (rest all h.at) q.settled) (same_Some x s (sym same ∙ e)) settled;
       }
 
   -- ---- an attempt that was answered
@@ -212,8 +213,8 @@ module _ {T L : Type 0} (strict : Bool) (k : PieceReading T CharSet L) (all kept
       → (strict ≡ true → is_definite k x (rest all h.at) ≡ true)
       → look ≡ look_of k p.place p.marks.items (rest all h.at) x → q.script ≡ p.script
       → q.base ≡ p.base
-      → q.told.items ≡ p.told.items ++ record { piece = piece; answer = look.answer } ∷ [] → q.place ≡ look.place → q.marks.items ≡ cond look.marks (p.marks.items ++ p.place ∷ []) p.marks.items → q.settled.width ≡ 0 → q.settled.tokens ≡ 0 → IsRunOver strict k all kept q
-  IsRunOver-answered q piece look definite is script base told here marks width_none tokens_none =
+      → q.told.items ≡ p.told.items ++ record { piece = piece; answer = look.answer } ∷ [] → q.place ≡ look.place → q.marks.items ≡ cond look.marks (p.marks.items ++ p.place ∷ []) p.marks.items → q.settled ≡ nothing_settled → IsRunOver strict k all kept q
+  IsRunOver-answered q piece look definite is script base told here marks none =
       let seen : look ≡ look_of k (place all h.at.index) (map (place all) h.at.marks) (rest all h.at) x = is ∙ ap (λ n. look_of k n p.marks.items (rest all h.at) x) h.here ∙ ap (λ ms. look_of k (place all h.at.index) ms (rest all h.at) x) h.marked in
       let answer : look.answer ≡ search_answer (kind_on_pieces k) all x h.at = ap (λ l. l.answer) seen ∙ cursor-answer k all h.at h.widths inside x in
       let place_is : look.place ≡ place all (search_next all x h.at).index = ap (λ l. l.place) seen ∙ cursor-place k all h.at h.widths inside x in
@@ -239,5 +240,5 @@ module _ {T L : Type 0} (strict : Bool) (k : PieceReading T CharSet L) (all kept
         reached = rw (script, count) needed;
         based = base ∙ h.based;
         is_kept = h.is_kept;
-        settled = λ s e. rw (width_none, tokens_none) (none-settled k s (rest all (search_next all x h.at)));
+        settled = λ s e. rw none (none-settled k s (rest all (search_next all x h.at)));
       }

@@ -16,7 +16,8 @@ use Rattle.winnow_feed.specs.Reach.{step_mark, named_index, least_index, needed_
 use Rattle.winnow_feed.specs.JoinedInput.{IsRunOver, StaysWithoutAnswer, KeepsLeast, steps_left, answers_out}
 use Rattle.winnow_run.proofs.lemmas.MoreLemmas.{width-append}
 use Rattle.winnow_run.proofs.lemmas.StepLemmas.{Inside, start-inside}
-use Rattle.winnow_feed_step.proofs.lemmas.SettledLemmas.{width-split, settled-more}
+use Rattle.winnow_feed_step.proofs.lemmas.SettledLemmas.{width-split}
+use Rattle.winnow_feed_step.proofs.lemmas.BegunLemmas.{settled-more}
 use Rattle.winnow_feed_step.proofs.lemmas.CursorLemmas.{mark-place}
 use Rattle.winnow_feed.proofs.lemmas.ReachLemmas.{Reaches-inside, Reaches-more, Reaches-loose, least-at}
 
@@ -64,7 +65,8 @@ module _ {T C L : Type 0} (all : Source T) (at : Cursor) where
 -- ---- the least place
 
 -- the least place is no greater than the given one
-pub least-below : {C L : Type 0} (at : ℕ) (marks : List ℕ) (least : ℕ) (steps : List (SearchStep C L))
+pub least-below : {C L : Type 0} (at : ℕ) (marks : List ℕ) (least : ℕ)
+    (steps : List (SearchStep C L))
     → least_place at marks least steps ≤ least
 least-below at marks least [] = omega arith
 least-below at marks least (s ∷ steps) = omega (arith, least-below at marks least steps)
@@ -140,7 +142,7 @@ module _ {T L : Type 0} (k : PieceReading T CharSet L) (all kept : Source T) (p 
         is_kept = ap (λ r. r ++ more) h.is_kept ∙ sym (drop-append-le h.first all more first-within);
         settled = λ s e.
             let r : drop h.at.index (all ++ more) ≡ rest all h.at ++ more = drop-append-le h.at.index all more i.index in
-            rw r (settled-more T CharSet L k s (rest all h.at) more p.settled.width p.settled.tokens (h.settled s e));
+            rw r (settled-more k s (rest all h.at) more p.settled (h.settled s e));
       }
 
   -- a run without remaining steps stands for the input with a piece of which nothing is kept

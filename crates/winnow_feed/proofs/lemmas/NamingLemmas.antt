@@ -53,7 +53,8 @@ module _ {C L : Type 0} (at : ℕ) (marks : List ℕ) where
       omega (arith, here, later)
 
 -- an element of a rest is a later element of the list
-slice_get-drop : {X : Type 0} (n i : ℕ) (xs : List X) → slice_get (drop n xs) i ≡ slice_get xs (n + i)
+slice_get-drop : {X : Type 0} (n i : ℕ) (xs : List X)
+    → slice_get (drop n xs) i ≡ slice_get xs (n + i)
 slice_get-drop zero i xs = let e : i ≡ 0 + i = omega arith in ap (slice_get xs) e
 slice_get-drop (suc n) i [] = refl
 slice_get-drop (suc n) i (x ∷ xs) = let e : suc (n + i) ≡ suc n + i = omega arith in slice_get-drop n i xs ∙ ap (slice_get (x ∷ xs)) e
@@ -107,7 +108,8 @@ Contains-cons x y xs h = (suc h.0, omega (arith, h.1), h.2)
 Contains-head : {X : Type 0} (x : X) (xs : List X) → Contains (x ∷ xs) x
 Contains-head x xs = (0, omega arith, refl)
 
-Contains-split : {X : Type 0} (x y : X) (xs : List X) → Contains (x ∷ xs) y → (x ≡ y) ⊎ Contains xs y
+Contains-split : {X : Type 0} (x y : X) (xs : List X) → Contains (x ∷ xs) y
+    → (x ≡ y) ⊎ Contains xs y
 Contains-split x y xs (zero, l, e) = inl e
 Contains-split x y xs (suc k, l, e) = inr (k, omega (arith, l), e)
 

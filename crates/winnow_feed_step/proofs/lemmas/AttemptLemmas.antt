@@ -19,13 +19,13 @@ use Rattle.winnow_match.specs.Stretch.{stretch_of, longest}
 use Rattle.winnow_match.proofs.lemmas.MoveLemmas.{stretch-within, none-before_stretch}
 use Rattle.winnow_match.proofs.lemmas.RuleLemmas.{none-definite}
 use Rattle.winnow_match.proofs.lemmas.ComparisonLemmas.{incomplete-says}
-use Rattle.winnow_run.specs.declared.need.Need.{Need}
 use Rattle.winnow_run.specs.declared.need.Need.TheVariants as need
-use Rattle.winnow_run.specs.Needs.{call_need, is_met, is_end}
+use Rattle.winnow_run.specs.Needs.{call_need}
 use Rattle.winnow_run.specs.declared.search_steps.SearchStep.{SearchStep}
 use Rattle.winnow_run.specs.declared.search_steps.SearchStep.TheVariants as step
-use Rattle.winnow_feed_step.specs.Looks.{never_definite, look_of}
-use Rattle.winnow_run.specs.Definite.{PieceReading, is_definite, is_decided}
+use Rattle.winnow_feed_step.specs.Looks.{look_of}
+use Rattle.winnow_run.specs.declared.script.Step.{Step}
+use Rattle.winnow_run.specs.Definite.{PieceReading, is_call_definite, is_definite, is_decided}
 use Rattle.winnow_feed_step.specs.Settled.{NoneInSet, NoneOccurs, AreSame, AreCounted}
 use Rattle.winnow_feed_step.proofs.lemmas.SettledLemmas.{NoneInSet-whole, NoneOccurs-searched, have_most}
 
@@ -113,22 +113,10 @@ one-left (x ∷ r) h = omega arith
 
 -- ---- attempts
 
--- a need that waits for the end is not met
-never_met : {T C : Type 0} (holds : C → T → Bool) (counts_shortage : Bool) (n : Need C)
-    (r : Source T) → is_end n ≡ true → is_met holds counts_shortage n r ≡ false
-never_met holds counts_shortage need.End r h = refl
-never_met holds counts_shortage need.Nothing r h = absurd (cc)
-never_met holds counts_shortage need.Token r h = absurd (cc)
-never_met holds counts_shortage (need.Width n) r h = absurd (cc)
-never_met holds counts_shortage (need.Tokens n) r h = absurd (cc)
-never_met holds counts_shortage (need.TokenOf c) r h = absurd (cc)
-
--- a step that no input makes definite is not definite
-pub never : {T C L : Type 0} (k : PieceReading T C L) (s : SearchStep C L) (r : Source T)
-    → never_definite s ≡ true → is_definite k s r ≡ false
-never k (step.Call s) r h = never_met k.holds k.counts_shortage (call_need s) r h
-never k (step.Compare l) r h = absurd (cc)
-never k (step.Find ns) r h = absurd (cc)
+-- a call that needs the end is not definite
+pub never : {T C : Type 0} (holds : C → T → Bool) (counts_shortage : Bool) (s : Step C)
+    (r : Source T) → need.End ≡ call_need s → is_call_definite holds counts_shortage s r ≡ false
+never holds counts_shortage s r e = rw (← e) refl
 
 -- a look says whether the step is definite
 pub look-definite : {T C L : Type 0} (k : PieceReading T C L) (at : ℕ) (marks : List ℕ)

@@ -14,23 +14,17 @@ use Rattle.winnow_stream.specs.Shortage.{shortage, offset_at}
 use Rattle.winnow_stream.specs.Span.{span}
 use Rattle.winnow_run.specs.declared.need.Need.{Need}
 use Rattle.winnow_run.specs.declared.need.Need.TheVariants as need
-use Rattle.winnow_run.specs.Needs.{call_need}
 use Rattle.winnow_stream.specs.Longer.{count_to-le, front_count-longer, is_offset-longer, front-longer}
 use Rattle.winnow_stream.proofs.lemmas.FrontLemmas.{width-front, width-back, is_offset-whole, front-whole, HasPositiveWidths-drop}
 use Rattle.winnow_stream.proofs.lemmas.OffsetLemmas.{is_offset-offset_at, is_offset-first_offset}
 use Rattle.winnow_match.specs.declared.compare.CompareResult.{CompareResult}
 use Rattle.winnow_match.specs.declared.compare.CompareResult.TheVariants as compared
-use Rattle.winnow_match.specs.Bytes.{written}
 use Rattle.winnow_match.specs.Comparison.{is_prefix, comparison}
-use Rattle.winnow_match.specs.Search.{is_empty, needle_at, needle_list, hit_or, first_hit, hit}
+use Rattle.winnow_match.specs.Search.{is_empty, needle_at, hit_or, first_hit, hit}
 use Rattle.winnow_match.proofs.lemmas.ByteFrontLemmas.{is_prefix-more}
 use Rattle.winnow_match.proofs.lemmas.HitLemmas.{first_hit-nowhere}
 use Rattle.winnow_stream.specs.declared.needed.Needed.{Needed}
-use Rattle.winnow_run.specs.declared.search_steps.SearchStep.{SearchStep}
-use Rattle.winnow_run.specs.declared.search_steps.SearchStep.TheVariants as step
-use Rattle.winnow_run.specs.Definite.{PieceReading}
-use Rattle.winnow_feed_step.specs.Settled.{NoneInSet, NoneOccurs, AreSame, AreCounted, IsNeedSettled, IsSettled, shifted, longer, further}
-use Rattle.winnow_match.specs.Staying.{written-append}
+use Rattle.winnow_feed_step.specs.Settled.{NoneInSet, NoneOccurs, AreSame, AreCounted, IsNeedSettled, shifted, longer, further}
 
 -- ---- `First`
 
@@ -298,7 +292,7 @@ offset_at-fits counts_shortage r n i o w h e =
 -- ---- all of them
 
 -- what a need has settled stays settled with more input appended
-need_settled-more : {T C : Type 0} (holds : C → T → Bool) (s : Need C) (r more : Source T)
+pub need_settled-more : {T C : Type 0} (holds : C → T → Bool) (s : Need C) (r more : Source T)
     (n tokens : ℕ) → IsNeedSettled holds s r n tokens → IsNeedSettled holds s (r ++ more) n tokens
 need_settled-more holds (need.TokenOf c) r more n tokens h = NoneInSet-more (holds c) r more n h
 need_settled-more holds (need.Tokens asked) r more n tokens h = AreCounted-more asked r more n tokens h
@@ -306,10 +300,3 @@ need_settled-more holds need.Nothing r more n tokens h = tt
 need_settled-more holds need.Token r more n tokens h = tt
 need_settled-more holds (need.Width i) r more n tokens h = tt
 need_settled-more holds need.End r more n tokens h = tt
-
--- what a step has settled stays settled with more input appended
-pub settled-more : (T C L : Type 0) (k : PieceReading T C L) (s : SearchStep C L)
-    (r more : Source T) (n tokens : ℕ) → IsSettled k s r n tokens → IsSettled k s (r ++ more) n tokens
-settled-more T C L k (step.Call s) r more n tokens h = need_settled-more k.holds (call_need s) r more n tokens h
-settled-more T C L k (step.Compare l) r more n tokens h = rw (written-append k.write r more) (AreSame-more (k.literal l) (written k.write r) (written k.write more) n h)
-settled-more T C L k (step.Find ns) r more n tokens h = rw (written-append k.write r more) (NoneOccurs-more (needle_list k.literal ns) (written k.write r) (written k.write more) n h)

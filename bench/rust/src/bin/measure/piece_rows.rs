@@ -60,6 +60,9 @@ pub struct Pieces {
     lines: Vec<u8>,
     line_script: Vec<RawStep>,
     long_run: usize,
+    /// A mark that the last of many steps goes back to, and marks that each a later step names
+    marked: Vec<RawStep>,
+    marks: Vec<RawStep>,
 }
 
 impl Pieces {
@@ -95,6 +98,8 @@ impl Pieces {
             lines,
             line_script: (0..LINES).flat_map(line_steps).collect(),
             long_run: long,
+            marked: marked_steps(),
+            marks: steps_of_marks(),
         }
     }
 }
@@ -104,6 +109,19 @@ fn line_steps(line: usize) -> [RawStep; 5] {
     let newline = RawStep::search(FIND[0], 0, 1);
     let take = RawStep::from(Step::Take(LINE));
     [RawStep::from(Step::Mark), newline, take, RawStep::from(Step::Reset(line)), take]
+}
+
+// A mark, tokens, and the way back.
+fn marked_steps() -> Vec<RawStep> {
+    let tokens = (0..STEPS).map(|_| Step::Next);
+    [Step::Mark].into_iter().chain(tokens).chain([Step::Reset(0)]).map(RawStep::from).collect()
+}
+
+// A mark before each token, and after them all a step and a token for each mark.
+fn steps_of_marks() -> Vec<RawStep> {
+    let made = (0..STEPS / 2).flat_map(|_| [Step::Mark, Step::Next]);
+    let named = (0..STEPS / 2).flat_map(|mark| [Step::Since(mark), Step::Next]);
+    made.chain(named).map(RawStep::from).collect()
 }
 
 // At most so many bytes of a text.
@@ -141,6 +159,7 @@ pub fn piece_rows(pieces: &Pieces) -> Vec<Row<'_>> {
     rows.extend(whole_rows(pieces));
     rows.extend(long_rows(pieces));
     rows.extend(begun_rows(pieces));
+    rows.extend(mark_rows(pieces));
     rows.extend(line_rows(pieces));
     rows
 }
@@ -219,6 +238,23 @@ fn begun_rows(pieces: &Pieces) -> Vec<Row<'_>> {
         row_of_one(waits(one, whole, name), all, length),
         row_of_one(waits(one, front.len(), short_name), front, short),
         row_of_one(waits_whole(one, whole), all, WHOLE),
+    ]
+}
+
+// Scripts with marks, and a needle that is there but for its last byte, in pieces of a byte.
+fn mark_rows(pieces: &Pieces) -> [Row<'_>; 3] {
+    let input = &pieces.begun[..pieces.begun.len().min(STEPS)];
+    let over = |name: &str, script| {
+        let on = On { name: "bytes", input: (input, b"".as_slice(), script), units: input.len(), calls: 1 };
+        let name = format!("{name}, {} in pieces of 1 byte", size(input.len()));
+        on.row(&name, 1, ours::feed_bytes, theirs::feed_bytes).fed()
+    };
+    let needle = &pieces.begun[..pieces.begun.len().min(LONGER - 1)];
+    let name = waits("Find of a needle of 16 KB that has begun", needle.len(), "1 byte");
+    [
+        over("a mark named after 10,000 steps", pieces.marked.as_slice()),
+        over("5,000 marks named in turn", pieces.marks.as_slice()),
+        waiting_row(&name, needle, &pieces.long_begun, &pieces.find_long_begun, 1),
     ]
 }
 

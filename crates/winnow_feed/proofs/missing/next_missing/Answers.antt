@@ -21,7 +21,7 @@ step_missing-requires-clause-settled g c =
     let h = c.requires.stands.1 in
     let k = piece_reading g.S.Token.AsChar.code g.S.Stream.counts_shortage g.S.Kept.write g.L.AsBStr.text_bytes in
     let e = c.next_slice.ensures.remains ∙ kept-rest _ _ _ _ _ h _ next in
-    subst (λ r. IsSettled k c.index-script-len.result r c.args.progress.now.settled.width c.args.progress.now.settled.tokens) (sym e) (h.settled _ next)
+    subst (λ r. IsSettled k c.index-script-len.result r c.args.progress.now.settled) (sym e) (h.settled _ next)
 
 pub returns-clause-told : goal.returns-clause-told
 returns-clause-told g c =

@@ -5,7 +5,8 @@ use Rattle.winnow_feed.proofs.named_marks.first_named.Given as goal
 
 abbrev pub invariant-loop-place : goal.invariant-loop-place
 invariant-loop-place l = record {
-  queues : (ends marks : List ℕ) (seen : ℕ) → Queues ends marks l.told seen (heap_items l.initial.queue)
+  queues : (ends marks : List ℕ) (seen : ℕ)
+      → Queues ends marks l.told seen (heap_items l.initial.queue)
       → Queues ends marks l.told seen (heap_items l.queue);
   capacity : heap_capacity l.queue ≡ heap_capacity l.initial.queue;
 }

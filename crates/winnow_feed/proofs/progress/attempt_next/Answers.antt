@@ -86,14 +86,14 @@ attempt_step-requires-clause-settled g c =
     let h = c.requires.ready.stands.1 in
     let k = piece_reading g.S.Token.AsChar.code g.S.Stream.counts_shortage g.S.Kept.write g.L.AsBStr.text_bytes in
     let e = c.next_slice.ensures.remains ∙ kept-rest _ _ _ _ _ h _ next in
-    subst (λ r. IsSettled k c.index-script-len.result r c.args.progress.now.settled.width c.args.progress.now.settled.tokens) (sym e) (h.settled _ next)
+    subst (λ r. IsSettled k c.index-script-len.result r c.args.progress.now.settled) (sym e) (h.settled _ next)
 
 pub returns-in-Waits-clause-stands : goal.returns-in-Waits-clause-stands
 returns-in-Waits-clause-stands g c = λ all h.
     let next = next-here c.args.progress.now c.len.result c.index-script-len.result c.len.ensures c.args.progress.now.told.ok.0 c.requires.left c.index-script-len.is in
     let k = piece_reading g.S.Token.AsChar.code g.S.Stream.counts_shortage g.S.Kept.write g.L.AsBStr.text_bytes in
     let e = c.next_slice.ensures.remains ∙ kept-rest _ _ _ _ _ h _ next in
-    let settled = subst (λ r. IsSettled k c.index-script-len.result r c.in-Waits.settled.width c.in-Waits.settled.tokens) e c.in-Waits.ensures.attempts.2 in
+    let settled = subst (λ r. IsSettled k c.index-script-len.result r c.in-Waits.settled) e c.in-Waits.ensures.attempts.2 in
     IsRunOver-waits _ _ _ _ _ h _ next _ refl c.in-Waits.ensures.attempts.3 refl refl refl settled
 
 pub returns-in-Waits-clause-waits : goal.returns-in-Waits-clause-waits
@@ -122,7 +122,7 @@ returns-in-Answered-clause-stands g c = λ all h.
     ∙ ap (λ r. look_of k p.place p.marks.items r step) e in
     let is = c.in-Answered.ensures.attempts.1 in
     let marks = c.push_mark.ensures.items ∙ ap (λ s. cond s.marks (p.marks.items ++ p.place ∷ []) p.marks.items) is in
-    IsRunOver-answered _ _ _ _ _ h _ next _ c.args.piece seen (λ more. sym (ap (is_definite k step) e) ∙ c.in-Answered.ensures.attempts.0 (mark ∙ more)) look refl refl c.in-Answered.ensures.attempts.2 (ap (λ s. s.place) is) marks refl refl
+    IsRunOver-answered _ _ _ _ _ h _ next _ c.args.piece seen (λ more. sym (ap (is_definite k step) e) ∙ c.in-Answered.ensures.attempts.0 (mark ∙ more)) look refl refl c.in-Answered.ensures.attempts.2 (ap (λ s. s.place) is) marks c.nothing-progress.ensures
 
 pub bounds-script-len : goal.bounds-script-len
 bounds-script-len g c = rw c.len.ensures c.requires.left

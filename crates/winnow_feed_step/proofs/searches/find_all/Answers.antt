@@ -3,6 +3,10 @@ use Rattle.winnow_match.proofs.lemmas.AnswerLemmas.{AreOffsets-bytes}
 use Rattle.winnow_feed_step.proofs.lemmas.LookLemmas.{hit-fits}
 use Rattle.winnow_feed_step.proofs.searches.find_all.Goals as goal
 
-pub returns-then-bytes-ge-FAR-clause-fits : goal.returns-then-bytes-ge-FAR-clause-fits
-returns-then-bytes-ge-FAR-clause-fits c =
-    hit-fits _ c.args.bytes.now (AreOffsets-bytes (bytes_of_needles c.args.needles.now) c.args.bytes.now c.find_far.result c.find_far.ensures)
+pub returns-then-resumes-clause-fits : goal.returns-then-resumes-clause-fits
+returns-then-resumes-clause-fits c =
+    hit-fits _ c.args.bytes.now (AreOffsets-bytes (bytes_of_needles c.args.needles.now) c.args.bytes.now c.find_on.result c.find_on.ensures)
+
+pub returns-else-resumes-clause-fits : goal.returns-else-resumes-clause-fits
+returns-else-resumes-clause-fits c =
+    hit-fits _ c.args.bytes.now (AreOffsets-bytes (bytes_of_needles c.args.needles.now) c.args.bytes.now c.find_once.result c.find_once.ensures)

@@ -29,10 +29,7 @@ returns-in-Err-clause-error g c =
     let expects = g.I.StreamIsPartial.expects_more c.parse_next.new.input in
     let counts = c.repeat.ensures.counts in
     let n = c.length-count.result in
-    let given = λ q least. TimesErrors stood appends asserts (g.Q.Parser.means q) (g.Q.Parser.errors q) least in
-    let held = c.repeat.result.inner.now in
-    let asked = times-errors asserts (given held _) expects between left c.in-Err.failure n _ _ counts.0 counts.1 c.in-Err.ensures.error in
-    let own = subst (λ q. given q.now _ expects between left c.in-Err.failure) c.repeat.ensures.inner asked in
-    let exact = subst (λ least. given c.args.self.now.inner least expects between left c.in-Err.failure) counts.0 own in
-    let second = subst (λ partial. given c.args.self.now.inner n partial between left c.in-Err.failure) flag exact in
+    let inner = c.args.self.now.inner in
+    let own = times-errors stood appends asserts (λ q. g.Q.Parser.means q.now) (λ q. g.Q.Parser.errors q.now) expects between left c.in-Err.failure _ _ n _ _ c.repeat.ensures.inner counts.0 counts.1 c.in-Err.ensures.error in
+    let second = subst (λ partial. TimesErrors stood appends asserts (g.Q.Parser.means inner) (g.Q.Parser.errors inner) n partial between left c.in-Err.failure) flag own in
     inr (c.in_ok-count.count, (between, (n, (c.in_ok-count.ensures.means, c.length-count.ensures, second))))

@@ -8,7 +8,7 @@ use Rattle.winnow_feed.proofs.feeds.ByteFeed.new.Goals as goal
 pub invariant_of-result : goal.invariant_of-result
 invariant_of-result c = record {
   input = [];
-  stands = new-stands byte_input bytes-input _ _ c.in_ok-told.ensures.items c.in_ok-marks.ensures.items c.new-2.ensures.items refl refl refl refl;
+  stands = new-stands byte_input bytes-input _ _ c.in_ok-told.ensures.items c.in_ok-marks.ensures.items c.new-2.ensures.items refl refl c.nothing.ensures;
   rests = λ l. absurd (omega arith);
   room = record { told = omega (arith, c.in_ok-told.ensures.capacity); marks = omega (arith, c.in_ok-marks.ensures.capacity); made = omega (arith, c.in_ok-told.ensures.len, c.in_ok-marks.ensures.len); counted = omega arith };
   fits = omega (arith, ap length c.new-2.ensures.items);
@@ -18,7 +18,7 @@ invariant_of-result c = record {
 pub returns-clause-fits : goal.returns-clause-fits
 returns-clause-fits c = record {
   are_pieces = tt;
-  stands = new-stands byte_input bytes-input _ _ c.in_ok-told.ensures.items c.in_ok-marks.ensures.items c.new-2.ensures.items refl refl refl refl;
+  stands = new-stands byte_input bytes-input _ _ c.in_ok-told.ensures.items c.in_ok-marks.ensures.items c.new-2.ensures.items refl refl c.nothing.ensures;
   rests = λ l. absurd (omega arith);
   told = c.in_ok-told.ensures.items;
   count = refl;
