@@ -1,6 +1,5 @@
 pub mod PositionLemmas
 pub mod LineLemmas
-pub mod ReaderLemmas
 pub mod TakenLemmas
 pub mod FailureLemmas
 pub mod KnownLemmas

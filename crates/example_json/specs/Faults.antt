@@ -11,7 +11,7 @@ use Rattle.example_json.specs.declared.failure.Failure.TheVariants.{Damaged, Une
 
 -- the reader has no next event, for this reason: no token stands ahead of it, or one that may not
 abbrev pub StopsAt : EventState → EventError → Type 0
-StopsAt r e = IsNoNext r.tokens e ⊎ ((new : EventState) × IsMisplaced r e new)
+StopsAt r e = IsNoNext r.text r.tokens e ⊎ ((new : EventState) × IsMisplaced r e new)
 
 -- the reader stops with this fault, at a place that has this position in the input
 abbrev pub HasFault : List ℕ → EventState → (ℕ → EventError) → Position → Type 0

@@ -2,7 +2,7 @@
 #![tactic(auto)]
 
 use winnow_csv::rows_in_pieces_law;
-use winnow_json::{events_law, place_law, round_trip_law};
+use winnow_json::{events_law, place_law, round_trip_law, stops_law};
 use winnow_resp::spelling_law;
 
 /// Calls each law: a caller then knows what it says.
@@ -12,4 +12,5 @@ pub fn call_laws() {
     place_law();
     round_trip_law();
     events_law();
+    stops_law();
 }

@@ -33,5 +33,9 @@ pub mod SameTurnLemmas
 pub mod ValueTurnLemmas
 pub mod AllowedTokenLemmas
 pub mod LeadingLemmas
+pub mod BarLemmas
+pub mod StopLemmas
 pub mod BrokenTurnLemmas
+pub mod ReaderPlaceLemmas
+pub mod PlacedErrorLemmas
 pub mod EventLawLemmas

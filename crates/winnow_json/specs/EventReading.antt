@@ -1,5 +1,5 @@
 -- The events that a reader has given of the joined input.
-use Rattle.std.specs.Prelude.{◌≡◌, ℕ, ◌+◌, ◌-◌, ◌<◌, true, false, not, List, [], ◌∷◌, ◌++◌, length, drop, Option, Some, None, Result, Ok, Err, ◌⊎◌, ⊤}
+use Rattle.std.specs.Prelude.{◌≡◌, ℕ, ◌+◌, ◌-◌, ◌<◌, true, false, not, List, [], ◌∷◌, ◌++◌, length, drop, get_or, Option, Some, None, Result, Ok, Err, ◌⊎◌, ⊤}
 use Rattle.winnow.specs.State.{ReaderState, at_start, pushed, unspent, ended_after, waiting_for, fed_of}
 use Rattle.winnow.specs.Reading.{HasRead, Lacks}
 use Rattle.winnow.specs.SameValues.{IsThrough}
@@ -10,7 +10,7 @@ use Rattle.winnow_json.specs.Tokens.{TokenAhead}
 use Rattle.winnow_json.specs.TokenAnswers.{OneToken}
 use Rattle.winnow_json.specs.TokenReading.{FindsDamage}
 use Rattle.winnow_json.specs.Causes.{cause_of, IsCut}
-use Rattle.winnow_json.specs.Turns.{TextState, at_begin, turn_at, turn_events, after_turn}
+use Rattle.winnow_json.specs.Turns.{TextState, at_begin, bar_from, turn_at, turn_events, after_turn}
 use Rattle.winnow_json.specs.declared.tokens.Token.{Token}
 use Rattle.winnow_json.specs.declared.tokens.Token.TheVariants as token
 use Rattle.winnow_json.specs.declared.tokens.JsonToken.{JsonToken}
@@ -115,16 +115,30 @@ ahead_from f place = drop (place - f.place) f.ahead
 abbrev pub IsCutAt : ReaderState JsonToken → ℕ → Type 0
 IsCutAt f place = (f.ended ≡ true) × IsCut (after_blanks f.ahead) (ahead_from f place)
 
--- no token stands there, no matter what follows, for this cause; or the input ends in one; or
--- memory was refused
-abbrev pub IsNoNext : ReaderState JsonToken → EventError → Type 0
-IsNoNext f (error.Damaged place cause) = FindsDamage f place × ¬ (IsCutAt f place)
-    × (cause ≡ cause_of (after_blanks f.ahead) (ahead_from f place))
-IsNoNext f (error.Unexpected place) = ⊥
-IsNoNext f (error.TooDeep place) = ⊥
-IsNoNext f (error.EndsEarly place) =
-    (place ≡ fed_of f) × ((at : ℕ) × (FindsDamage f at × IsCutAt f at))
-IsNoNext f (error.Refused r) = ⊤
+-- where the token ahead begins in the joined input: after the blanks before it
+abbrev pub token_place : ReaderState JsonToken → ℕ
+token_place f = (f.place + length f.ahead) - length (after_blanks f.ahead)
+
+-- why what the first byte ahead begins may not come next, if it may not
+abbrev pub bar_ahead : TextState → ReaderState JsonToken → Option Misplaced
+bar_ahead text f = bar_from text (get_or (after_blanks f.ahead) 0 0)
+
+-- the token ahead is damaged, and what its first byte begins may not come next, for this reason
+abbrev pub IsBarred : TextState → ReaderState JsonToken → Misplaced → ℕ → Type 0
+IsBarred text f misplaced place = (place ≡ token_place f) × (bar_ahead text f ≡ Some misplaced)
+    × ((at : ℕ) × FindsDamage f at)
+
+-- where the text stands: no token is ahead, no matter what follows, for this cause, and one might
+-- come that begins so; or the input ends in one that might come; or none may come that begins so;
+-- or memory was refused
+abbrev pub IsNoNext : TextState → ReaderState JsonToken → EventError → Type 0
+IsNoNext text f (error.Damaged place cause) = FindsDamage f place × ¬ (IsCutAt f place)
+    × (cause ≡ cause_of (after_blanks f.ahead) (ahead_from f place)) × (bar_ahead text f ≡ None)
+IsNoNext text f (error.Unexpected place) = IsBarred text f misplaced.Unexpected place
+IsNoNext text f (error.TooDeep place) = IsBarred text f misplaced.TooDeep place
+IsNoNext text f (error.EndsEarly place) = (place ≡ fed_of f)
+    × ((at : ℕ) × (FindsDamage f at × IsCutAt f at)) × (bar_ahead text f ≡ None)
+IsNoNext text f (error.Refused r) = ⊤
 
 -- the end of the text stands ahead of the one reader, which is the other then
 abbrev pub BringsEnd : ReaderState JsonToken → ReaderState JsonToken → Type 0
@@ -135,18 +149,15 @@ abbrev pub Awaits : ReaderState JsonToken → Type 0
 Awaits f = (f.ended ≡ false)
     × ((input : List ℕ) (tokens : List Token) → HasRead (λ p. OneToken) f input tokens → Lacks (λ p. OneToken) f)
 
--- the next token, or the end; or it is awaited; or none stands there, and nothing changes
-abbrev pub IsComing : ReaderState JsonToken → Result Coming EventError → ReaderState JsonToken
-    → Type 0
-IsComing old (Ok (coming.Token t)) new = Brings old t new
-IsComing old (Ok coming.End) new = BringsEnd old new
-IsComing old (Ok coming.NeedsMore) new = (new ≡ waiting_for old new.wanted) × Awaits old
+-- where the text stands: the next token, or the end; or it is awaited; or none stands there, and
+-- nothing changes
+abbrev pub IsComing : TextState → ReaderState JsonToken → Result Coming EventError
+    → ReaderState JsonToken → Type 0
+IsComing text old (Ok (coming.Token t)) new = Brings old t new
+IsComing text old (Ok coming.End) new = BringsEnd old new
+IsComing text old (Ok coming.NeedsMore) new = (new ≡ waiting_for old new.wanted) × Awaits old
     × ((input : List ℕ) (tokens : List Token) → HasRead (λ p. OneToken) old input tokens → HasRead (λ p. OneToken) new input tokens)
-IsComing old (Err e) new = (new ≡ old) × IsNoNext old e
-
--- where the token ahead begins in the joined input: after the blanks before it
-abbrev pub token_place : ReaderState JsonToken → ℕ
-token_place f = (f.place + length f.ahead) - length (after_blanks f.ahead)
+IsComing text old (Err e) new = (new ≡ old) × IsNoNext text old e
 
 -- ---- Answers
 
@@ -197,7 +208,7 @@ IsStep old (Ok (step.Took taken.Passes)) new =
     (new.stopped ≡ None) × (length new.tokens.ahead < length old.tokens.ahead)
 IsStep old (Ok step.Done) new = (new.stopped ≡ None) × IsWhole new
 IsStep old (Ok step.NeedsMore) new = (new.stopped ≡ None) × StaysAt old new × Awaits old.tokens
-IsStep old (Err e) new = ((new ≡ old) × IsNoNext old.tokens e)
+IsStep old (Err e) new = ((new ≡ old) × IsNoNext old.text old.tokens e)
     ⊎ ((new.text ≡ old.text) × (new.stopped ≡ Some e) × IsMisplaced old e new)
 
 -- a reader that has given no more events than the other, after tokens that have none

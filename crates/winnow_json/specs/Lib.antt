@@ -25,4 +25,5 @@ pub mod Writing
 pub mod Appending
 pub mod Turns
 pub mod EventReading
+pub mod Stops
 pub mod ValueEvents

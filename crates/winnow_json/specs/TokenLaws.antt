@@ -137,7 +137,7 @@ blanks-more [] c q more e = absurd (cc e)
 blanks-more (x ∷ b) c q more e = longer-if (is_blank x) x b c q more (blanks-more b c q more) e
 
 -- where something stands after blanks, more bytes come after it
-after-longer : (b more : List ℕ) → after_blanks b ≢ []
+pub after-longer : (b more : List ℕ) → after_blanks b ≢ []
     → after_blanks (b ++ more) ≡ after_blanks b ++ more
 after-longer b more some = at (after_blanks b) refl some
   where
@@ -152,7 +152,7 @@ run-none [] r e ends = ends.1 refl (sym e)
 run-none (x ∷ text) r e ends = cc e
 
 -- where a token stands, there are bytes, if more may follow
-lexeme-some : (t : Token) (here r : List ℕ) → TokenHere true t here r → here ≢ []
+pub lexeme-some : (t : Token) (here r : List ℕ) → TokenHere true t here r → here ≢ []
 lexeme-some t [] r h = absurd (empty-none t r h)
   where
     empty-none : (t : Token) (r : List ℕ) → ¬ (TokenHere true t [] r)
@@ -171,7 +171,7 @@ lexeme-some t [] r h = absurd (empty-none t r h)
 lexeme-some t (x ∷ here) r h = λ e. cc e
 
 -- what stands first after blanks still does where more follows
-ahead-longer : (partial : Bool) (t : Token) (b r more : List ℕ) → TokenAhead true t b r
+pub ahead-longer : (partial : Bool) (t : Token) (b r more : List ℕ) → TokenAhead true t b r
     → TokenAhead partial t (b ++ more) (r ++ more)
 ahead-longer partial t b r more h =
     subst (λ l. LexemeHere partial (lexeme_of t) l (r ++ more)) (sym (after-longer b more (lexeme-some t (after_blanks b) r h)))

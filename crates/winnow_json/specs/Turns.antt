@@ -1,5 +1,6 @@
 -- Where a text stands between two tokens, and what the next token does there.
-use Rattle.std.specs.Prelude.{ℕ, ◌-◌, nat_lt, Bool, true, false, List, [], ◌∷◌, ◌++◌, length, take, slice_get, unwrap_or, Result, Ok, Err}
+use Rattle.std.specs.Prelude.{ℕ, ◌-◌, ◌==◌, nat_lt, Bool, true, false, ◌||◌, if◌then◌else◌, Option, Some, None, List, [], ◌∷◌, ◌++◌, length, take, slice_get, unwrap_or, Result, Ok, Err}
+use Rattle.std.specs.Char.{is_ascii_digit}
 use Rattle.winnow_json.specs.declared.tokens.Token.{Token}
 use Rattle.winnow_json.specs.declared.tokens.Token.TheVariants as token
 use Rattle.winnow_json.specs.declared.event_reader.Event.{Event}
@@ -18,7 +19,7 @@ use Rattle.winnow_json.specs.declared.syntax.Taken.TheVariants as taken
 
 -- ---- What a token does
 
--- a value begins, unless it would stand too deep
+-- a value or a name begins, unless the value would stand too deep
 abbrev pub within : Bool → Turn → Turn
 within true turn = Refuses TooDeep
 within false turn = turn
@@ -35,10 +36,10 @@ value_turn deep token.End = Refuses EndsEarly
 value_turn deep other = Refuses Unexpected
 
 -- where a name is expected
-abbrev pub key_turn : Token → Turn
-key_turn (token.String s) = Names s
-key_turn token.End = Refuses EndsEarly
-key_turn other = Refuses Unexpected
+abbrev pub key_turn : Bool → Token → Turn
+key_turn deep (token.String s) = within deep (Names s)
+key_turn deep token.End = Refuses EndsEarly
+key_turn deep other = Refuses Unexpected
 
 -- after a value in an array or an object
 abbrev pub next_turn : Token → Bracket → Turn
@@ -55,14 +56,36 @@ turn_of deep inner expect.Value token = value_turn deep token
 turn_of deep inner expect.FirstValue token.EndArray = Closes bracket.Array
 turn_of deep inner expect.FirstValue token = value_turn deep token
 turn_of deep inner expect.FirstKey token.EndObject = Closes bracket.Object
-turn_of deep inner expect.FirstKey token = key_turn token
-turn_of deep inner expect.Key token = key_turn token
+turn_of deep inner expect.FirstKey token = key_turn deep token
+turn_of deep inner expect.Key token = key_turn deep token
 turn_of deep inner expect.Colon token.Colon = Passes expect.Value
 turn_of deep inner expect.Colon token.End = Refuses EndsEarly
 turn_of deep inner expect.Colon token = Refuses Unexpected
 turn_of deep inner expect.Next token = next_turn token inner
 turn_of deep inner expect.End token.End = Ends
 turn_of deep inner expect.End token = Refuses Unexpected
+
+-- ---- What may begin there
+
+-- a value that is neither an array nor an object may stand where this is expected; a string, which
+-- `quoted` says, may be a name too
+abbrev pub takes_scalar : Bool → Expected → Bool
+takes_scalar quoted expect.Value = true
+takes_scalar quoted expect.FirstValue = true
+takes_scalar quoted expect.FirstKey = quoted
+takes_scalar quoted expect.Key = quoted
+takes_scalar quoted other = false
+
+-- why such a value or name may not stand there; none where it may
+abbrev pub scalar_bar : Bool → Bool → Expected → Option Misplaced
+scalar_bar deep quoted expected =
+    if takes_scalar quoted expected then (if deep then Some TooDeep else None)
+    else Some Unexpected
+
+-- a number or a word begins with the byte: a digit, a minus, or an n, t or f
+abbrev pub begins_plain : ℕ → Bool
+begins_plain first =
+    is_ascii_digit first || (45 == first || (110 == first || (116 == first || 102 == first)))
 
 -- ---- Where a text stands
 
@@ -110,10 +133,23 @@ closed s =
 abbrev pub expecting : TextState → Expected → TextState
 expecting s expected = record s { expected = expected }
 
+-- a value would stand too deep there
+abbrev pub is_deep : TextState → Bool
+is_deep s = nat_lt s.depth (length s.open_brackets)
+
 -- what a token does there
 abbrev pub turn_at : TextState → Token → Turn
-turn_at s token =
-    turn_of (nat_lt s.depth (length s.open_brackets)) (inner_of s.open_brackets) s.expected token
+turn_at s token = turn_of (is_deep s) (inner_of s.open_brackets) s.expected token
+
+-- why a string may not stand there, or a value that is neither a string nor an array nor an object
+abbrev pub bar_at : TextState → Bool → Option Misplaced
+bar_at s quoted = scalar_bar (is_deep s) quoted s.expected
+
+-- why what begins with the byte may not stand there: a string, which a quote begins, a number or a
+-- word; none where it may, or where none of these does
+abbrev pub bar_from : TextState → ℕ → Option Misplaced
+bar_from s first =
+    if 34 == first then bar_at s true else (if begins_plain first then bar_at s false else None)
 
 -- where the text stands then; a token that may not stand there changes nothing
 abbrev pub after_turn : TextState → Turn → TextState

@@ -10,7 +10,9 @@ use std::alloc::{AllocError, Global};
 #[derive(Clone, Copy, Debug, Drop, PartialEq, Eq)]
 pub struct Damage {
     /// The offset at which the value breaks off, as for [`read_value`](crate::read_value), or at
-    /// which something else follows it. It is the length of the text where that ends too early.
+    /// which something else follows it. Where the text ends too early, it is the length of the
+    /// text, or the offset at which a word, a number or a character of a string begins that is cut
+    /// off.
     pub offset: usize,
 }
 

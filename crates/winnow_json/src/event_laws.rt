@@ -1,8 +1,9 @@
 ghost use Rattle.std.specs.Prelude.{◌≡◌, ℕ, false, List, ◌++◌, None, Ok, Err};
-ghost use Rattle.winnow.specs.Reading.{Lacks};
-ghost use Rattle.winnow_json.specs.Documents.{IsDamage};
+ghost use Rattle.winnow.specs.Reading.{Lacks, MayFollow};
+ghost use Rattle.winnow_json.specs.Documents.{IsDocument, IsDamage};
 ghost use Rattle.winnow_json.specs.EventReading.{EventState, HasGiven, GivesOn, KeepsLimits};
 ghost use Rattle.winnow_json.specs.EventReading.{IsWhole, IsNext};
+ghost use Rattle.winnow_json.specs.Stops.{StopsAt, TellsStop, IsAtOffset};
 ghost use Rattle.winnow_json.specs.TokenAnswers.{OneToken};
 ghost use Rattle.winnow_json.specs.ValueEvents.{ReadsValue, AreFirstOf, AreAllOf, IsRefusal};
 ghost use Rattle.winnow_json.specs.declared.documents.Damage.{Damage};
@@ -38,4 +39,28 @@ pub fn events_law()
     ensures goes_on { (r new : EventState) (input : List ℕ) (events given : List Event)
         (value : Value) → ReadsValue r input events value → GivesOn r given new
         → KeepsLimits r new → ReadsValue new input (events ++ given) value }
+{}
+
+/// The law of the place of an error. It does nothing when called: its contract is the law.
+///
+/// A text stops where tokens that may come stand one after the other, and the next does not: at the
+/// place where a string is damaged, if one may come there, and else where the next token would
+/// begin, after blanks. It stops in one place at most, and in none if it is a value.
+///
+/// Where [`read_document`](crate::read_document) finds damage, the text stops. So it does where an
+/// [`EventReader`](crate::EventReader) fails, unless memory was refused, and no matter what follows
+/// the joined input: at the place of the error; or, where the input ends too early, at some place,
+/// and the error has the length of the input. So both name one place, but for the last case.
+pub fn stops_law()
+    ensures once { (depth : ℕ) (text : List ℕ) (place other : ℕ)
+        → StopsAt depth text place → StopsAt depth text other → place ≡ other }
+    ensures none { (depth : ℕ) (text : List ℕ) (value : Value) (place : ℕ)
+        → IsDocument depth text value → ¬ (StopsAt depth text place) }
+    ensures document { (depth : ℕ) (text : List ℕ) (damage : Damage)
+        → IsDamage depth text damage → StopsAt depth text damage.offset }
+    ensures reader { (r new : EventState) (input more : List ℕ) (events : List Event)
+        (e : EventError) → HasGiven r input events → MayFollow r.tokens.ended more false
+        → IsNext r (Err e) new → TellsStop r.text.depth (input ++ more) e }
+    ensures same { (depth : ℕ) (text : List ℕ) (damage : Damage) (e : EventError)
+        → IsDamage depth text damage → TellsStop depth text e → IsAtOffset text e damage.offset }
 {}

@@ -1,8 +1,10 @@
 ghost use Rattle.std.specs.Prelude.{◌≡◌};
 ghost use Rattle.winnow_json.specs.TokenReading.{FindsDamage};
+ghost use Rattle.winnow_json.specs.Turns.{state_of};
 ghost use Rattle.winnow_json.specs.EventReading.{IsComing, IsNoNext, token_place, error_at};
 
 use crate::causes::{cause_of, is_cut};
+use crate::escapes::byte_or;
 use crate::found::blank_count;
 use crate::syntax::{Syntax, Taken};
 use crate::turns::Misplaced;
@@ -34,29 +36,34 @@ pub enum Event {
     String(String),
 }
 
-/// Why a reader has no event. Places are those in the joined input.
+/// Why a reader has no event. Places are those in the joined input. They are the places that
+/// [`read_document`](crate::read_document) names, but for `EndsEarly`: see
+/// [`stops_law`](crate::stops_law).
 #[derive(Clone, Copy, Debug, Drop, PartialEq, Eq)]
 pub enum EventError {
-    /// No token stands there, whatever follows
+    /// No token stands there, whatever follows, and one might come next that begins so
     Damaged {
         /// The place that is wrong, as of [`JsonToken`]
         place: usize,
         /// What is wrong there
         cause: Cause,
     },
-    /// A token stands there that may not come next
+    /// A token stands there that may not come next; or its first byte does, and the rest is damaged
+    /// or cut off by the end of the input
     Unexpected {
         /// Where the token begins
         place: usize,
     },
-    /// A value stands there within too many arrays and objects
+    /// A value stands there within too many arrays and objects, or the name before one, or the
+    /// first byte of either
     TooDeep {
-        /// Where the value begins
+        /// Where the value or the name begins
         place: usize,
     },
-    /// The input ends before the text does: between two tokens, or in one
+    /// The input ends before the text does: between two tokens, or in one that may come next
     EndsEarly {
-        /// The length of the input
+        /// The length of the input, also where [`read_document`](crate::read_document) names the
+        /// offset at which what is cut off begins
         place: usize,
     },
     /// Memory was refused. Nothing has changed, and the call may be made again
@@ -91,6 +98,9 @@ enum Step {
 /// within at most `depth` arrays and objects: the texts that
 /// [`read_document`](crate::read_document) reads. The reader keeps the longest token, one piece,
 /// and a byte for each array and object that is open.
+///
+/// A token that may not come next is refused once all its bytes are there, or are damaged, or the
+/// input has ended: until then the reader needs more.
 ///
 /// ```
 /// let mut reader = EventReader::new(alloc, DEPTH);
@@ -201,7 +211,7 @@ impl EventReader {
             return Err(EventError::Refused(refused));
         }
         let start = token_start(&self.tokens);
-        match next_token(&mut self.tokens) {
+        match next_token(&mut self.tokens, &self.syntax) {
             Ok(Coming::Token(token)) => match self.syntax.take(token) {
                 Ok(taken) => Ok(Step::Took(taken)),
                 Err(misplaced) => {
@@ -267,28 +277,31 @@ fn token_start(tokens: &ByteReader<JsonToken>) -> usize
 }
 
 // Reads the next token, if its bytes are there.
-fn next_token(tokens: &mut ByteReader<JsonToken>) -> Result<Coming, EventError>
-    ensures { IsComing tokens.old result tokens.new }
+fn next_token(tokens: &mut ByteReader<JsonToken>, syntax: &Syntax) -> Result<Coming, EventError>
+    ensures { IsComing (state_of syntax.now) tokens.old result tokens.new }
 {
     match tokens.read_next() {
         Ok(Next::Value(Token::End)) => Ok(Coming::End),
         Ok(Next::Value(token)) => Ok(Coming::Token(token)),
         Ok(Next::NeedsMore) => Ok(Coming::NeedsMore),
         Ok(Next::Done) => Ok(Coming::End),
-        Err(ReadError::Failed { error: _, place }) => Err(damage_at(tokens, place)),
+        Err(ReadError::Failed { error: _, place }) => Err(damage_at(tokens, syntax, place)),
         Err(ReadError::TakesNothing { place: _ }) => unreachable!(),
         Err(ReadError::Refused(refused)) => Err(EventError::Refused(refused)),
     }
 }
 
-// Returns the error of a token that is damaged at the place: it is cut off by the end of the input,
-// or no bytes make it whole.
-fn damage_at(tokens: &ByteReader<JsonToken>, place: usize) -> EventError
+// Returns the error of a token that is damaged at the place: it may not come next; or it is cut off
+// by the end of the input; or no bytes make it whole.
+fn damage_at(tokens: &ByteReader<JsonToken>, syntax: &Syntax, place: usize) -> EventError
     requires { FindsDamage tokens.now place }
-    ensures { IsNoNext tokens.now result }
+    ensures { IsNoNext (state_of syntax.now) tokens.now result }
 {
     let ahead = tokens.ahead();
     let here = &ahead[blank_count(ahead)..];
+    if let Some(misplaced) = syntax.bar_from(byte_or(here, 0, 0)) {
+        return error_at(misplaced, token_start(tokens));
+    }
     let rest = &ahead[place - tokens.place()..];
     if tokens.has_ended() && is_cut(here, rest) {
         return EventError::EndsEarly {

@@ -15,7 +15,8 @@
 //! [`tokens_in_pieces_law`] says what such a reader reads. An [`EventReader`] gives the events of a
 //! text that comes in pieces, and keeps no more than a token and a piece. Of a text that is a value
 //! it gives that value's events, and it is done with no damaged text, as [`events_law`] says. Of a
-//! damaged token it tells the [`Cause`], and of one that the input ends in, that it ends early.
+//! damaged token it tells the [`Cause`], and of one that the input ends in, that it ends early. Its
+//! errors and [`read_document`] name one place of a damaged text, as [`stops_law`] says.
 //!
 //! [`write_value`] appends the text of a value, and [`write_string`] that of a string. What the
 //! first writes is read back as the same value, as [`round_trip_law`] says.
@@ -45,7 +46,7 @@ mod writing;
 
 pub use causes::Cause;
 pub use documents::{Damage, read_document};
-pub use event_laws::events_law;
+pub use event_laws::{events_law, stops_law};
 pub use event_reader::{Event, EventError, EventReader};
 pub use laws::{place_law, round_trip_law};
 pub use numbers::{Number, read_number};

@@ -1,12 +1,12 @@
 ghost use Rattle.std.specs.Prelude.{◌≡◌, ◌+◌, ◌<◌, ◌≤◌, [], vec_len, vec_capacity, OnOk, IfErr};
 ghost use Rattle.winnow_json.specs.Turns.{TextState, state_of, at_begin, after_value, inner_of};
-ghost use Rattle.winnow_json.specs.Turns.{turn_at, after_turn, answer_of};
+ghost use Rattle.winnow_json.specs.Turns.{is_deep, turn_at, after_turn, answer_of, bar_from};
 ghost use Rattle.winnow_json.specs.Turns.{opened, start_of, closed, finish_of};
 ghost use Rattle.winnow_json.specs.declared.turns.Turn.TheVariants.{Ends, Refuses};
 ghost use Rattle.winnow_json.specs.declared.turns.Expected.TheVariants as expect;
 ghost use Rattle.winnow_json.specs.declared.tokens.Token.TheVariants as token;
 
-use crate::turns::{Bracket, Expected, Misplaced, Turn, turn_of};
+use crate::turns::{Bracket, Expected, Misplaced, Turn, begins_plain, scalar_bar, turn_of};
 use crate::{Event, Token};
 use std::alloc::{AllocError, Global};
 
@@ -57,8 +57,7 @@ impl Syntax {
             ≡ after_turn (state_of self.old) (turn_at (state_of self.old) token) }
         ensures answer { result ≡ answer_of (turn_at (state_of self.old) token) }
     {
-        let deep = self.depth < self.open.len();
-        match turn_of(deep, self.inner(), self.expected, token) {
+        match turn_of(self.is_deep(), self.inner(), self.expected, token) {
             Turn::Opens(bracket) => Ok(Taken::Has(self.begin(bracket))),
             Turn::Closes(bracket) => Ok(Taken::Has(self.finish(bracket))),
             Turn::Gives(event) => {
@@ -89,6 +88,27 @@ impl Syntax {
             Expected::End => Ok(()),
             _ => Err(Misplaced::EndsEarly),
         }
+    }
+
+    /// Returns why the string, the number or the word that the byte begins may not stand there;
+    /// `None` where it may, or where the byte begins none of these.
+    pub(crate) fn bar_from(&self, first: u8) -> Option<Misplaced>
+        ensures { result ≡ bar_from (state_of self.now) first }
+    {
+        if first == b'"' {
+            return scalar_bar(self.is_deep(), true, self.expected);
+        }
+        if begins_plain(first) {
+            return scalar_bar(self.is_deep(), false, self.expected);
+        }
+        None
+    }
+
+    // Returns whether a value would stand too deep.
+    fn is_deep(&self) -> bool
+        ensures { result ≡ is_deep (state_of self.now) }
+    {
+        self.depth < self.open.len()
     }
 
     // Returns what the innermost bracket begins, or an array where none is open.

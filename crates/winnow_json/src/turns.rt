@@ -1,5 +1,6 @@
 ghost use Rattle.std.specs.Prelude.{◌≡◌};
 ghost use Rattle.winnow_json.specs.Turns.{within, value_turn, key_turn, next_turn, turn_of};
+ghost use Rattle.winnow_json.specs.Turns.{takes_scalar, scalar_bar, begins_plain};
 
 use crate::{Event, Token};
 
@@ -36,7 +37,7 @@ pub(crate) enum Expected {
 pub(crate) enum Misplaced {
     /// Another one is expected
     Unexpected,
-    /// It begins a value within too many arrays and objects
+    /// It begins a value within too many arrays and objects, or is the name before one
     TooDeep,
     /// It is the end of the text, and more is expected
     EndsEarly,
@@ -61,7 +62,8 @@ pub(crate) enum Turn {
     Refuses(Misplaced),
 }
 
-// Returns what a token does that begins a value: `deep` says that it would stand too deep.
+// Returns what a token does that begins a value or is a name: `deep` says that the value would
+// stand too deep.
 fn within(deep: bool, turn: Turn) -> Turn
     ensures { result ≡ within deep turn }
 {
@@ -88,11 +90,11 @@ fn value_turn(deep: bool, token: Token) -> Turn
 }
 
 // Returns what a token does where the name of a member is expected.
-fn key_turn(token: Token) -> Turn
-    ensures { result ≡ key_turn token }
+fn key_turn(deep: bool, token: Token) -> Turn
+    ensures { result ≡ key_turn deep token }
 {
     match token {
-        Token::String(name) => Turn::Names(name),
+        Token::String(name) => within(deep, Turn::Names(name)),
         Token::End => Turn::Refuses(Misplaced::EndsEarly),
         _ => Turn::Refuses(Misplaced::Unexpected),
     }
@@ -121,8 +123,8 @@ pub(crate) fn turn_of(deep: bool, inner: Bracket, expected: Expected, token: Tok
         (Expected::FirstValue, Token::EndArray) => Turn::Closes(Bracket::Array),
         (Expected::FirstValue, token) => value_turn(deep, token),
         (Expected::FirstKey, Token::EndObject) => Turn::Closes(Bracket::Object),
-        (Expected::FirstKey, token) => key_turn(token),
-        (Expected::Key, token) => key_turn(token),
+        (Expected::FirstKey, token) => key_turn(deep, token),
+        (Expected::Key, token) => key_turn(deep, token),
         (Expected::Colon, Token::Colon) => Turn::Passes(Expected::Value),
         (Expected::Colon, Token::End) => Turn::Refuses(Misplaced::EndsEarly),
         (Expected::Colon, _) => Turn::Refuses(Misplaced::Unexpected),
@@ -130,4 +132,39 @@ pub(crate) fn turn_of(deep: bool, inner: Bracket, expected: Expected, token: Tok
         (Expected::End, Token::End) => Turn::Ends,
         (Expected::End, _) => Turn::Refuses(Misplaced::Unexpected),
     }
+}
+
+// Returns whether a value that is neither an array nor an object may stand where this is expected.
+// A string, which `quoted` says, may be a name too.
+fn takes_scalar(quoted: bool, expected: Expected) -> bool
+    ensures { result ≡ takes_scalar quoted expected }
+{
+    match expected {
+        Expected::Value => true,
+        Expected::FirstValue => true,
+        Expected::FirstKey => quoted,
+        Expected::Key => quoted,
+        _ => false,
+    }
+}
+
+/// Returns why a string may not stand where this is expected, or another value that is neither an
+/// array nor an object; `None` where it may.
+pub(crate) fn scalar_bar(deep: bool, quoted: bool, expected: Expected) -> Option<Misplaced>
+    ensures { result ≡ scalar_bar deep quoted expected }
+{
+    if !takes_scalar(quoted, expected) {
+        return Some(Misplaced::Unexpected);
+    }
+    if deep {
+        return Some(Misplaced::TooDeep);
+    }
+    None
+}
+
+/// Returns whether a number or a word begins with the byte.
+pub(crate) fn begins_plain(first: u8) -> bool
+    ensures { result ≡ begins_plain first }
+{
+    first.is_ascii_digit() || first == b'-' || first == b'n' || first == b't' || first == b'f'
 }

@@ -16,7 +16,7 @@ use Rattle.example_json.specs.declared.failure.Failure.TheVariants.{Damaged, Une
 use Rattle.example_json.specs.declared.program.Progress.{Progress}
 use Rattle.example_json.proofs.lemmas.PositionLemmas.{placed-longer}
 use Rattle.example_json.proofs.lemmas.LineLemmas.{level-append, lines-append}
-use Rattle.example_json.proofs.lemmas.ReaderLemmas.{given-fed}
+use Rattle.winnow_json.proofs.lemmas.ReaderPlaceLemmas.{given-fed}
 use Rattle.example_json.proofs.lemmas.KnownLemmas.{consumes-more, appends-more}
 
 -- the line of what was begun counts the bytes that the reader has

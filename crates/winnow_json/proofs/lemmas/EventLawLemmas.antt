@@ -22,6 +22,7 @@ use Rattle.winnow_json.specs.declared.event_reader.EventError.TheVariants as err
 use Rattle.winnow_json.specs.declared.value.Value.{Value}
 use Rattle.winnow_json.proofs.lemmas.JsonTokenLemmas.{damage-none}
 use Rattle.winnow_json.proofs.lemmas.TokenReadingLemmas.{read-tokens}
+use Rattle.winnow_json.proofs.lemmas.StopLemmas.{stops-none}
 use Rattle.winnow_json.proofs.lemmas.BrokenTurnLemmas.{text-broken}
 use Rattle.winnow_json.proofs.lemmas.LeadingLemmas.{Follows, document-leads, goes-on, one-stands, none-left, tokens-follow}
 
@@ -94,11 +95,11 @@ module _ (r : EventState) (input : List ℕ) (events : List Event) (value : Valu
         damage-none false (after_blanks (r.tokens.ahead ++ h.more)) one.0 one.1.0 (rest ++ h.more) (wrong h.more h.may) (subst (λ b. TokenAhead false one.0 b one.1.0) stand one.1.1)
 
     -- so the reader fails for want of memory alone
-    undamaged : (e : EventError) → IsNoNext r.tokens e → IsRefusal e
-    undamaged (error.Damaged place cause) (damage, cut, is) = no-damage place damage
-    undamaged (error.Unexpected place) none = none
-    undamaged (error.TooDeep place) none = none
-    undamaged (error.EndsEarly place) (end, (at, (damage, cut))) = no-damage at damage
+    undamaged : (e : EventError) → IsNoNext r.text r.tokens e → IsRefusal e
+    undamaged (error.Damaged place cause) (damage, cut, is, free) = no-damage place damage
+    undamaged (error.Unexpected place) (same, bar, (at, damage)) = no-damage at damage
+    undamaged (error.TooDeep place) (same, bar, (at, damage)) = no-damage at damage
+    undamaged (error.EndsEarly place) (end, (at, (damage, cut)), free) = no-damage at damage
     undamaged (error.Refused why) none = tt
 
     -- a token that is read may stand there
@@ -139,7 +140,7 @@ value-sound r new input events value e h (q, ((gives, going, keeps), step)) =
     by (value-goes_on r input events value h [] q gives keeps) step
   where
     by : ReadsValue q input (events ++ []) value
-        → (((new ≡ q) × IsNoNext q.tokens e)
+        → (((new ≡ q) × IsNoNext q.text q.tokens e)
         ⊎ ((new.text ≡ q.text) × (new.stopped ≡ Some e) × IsMisplaced q e new)) → IsRefusal e
     by l (inl (same, none)) = undamaged q input (events ++ []) value l going e none
     by l (inr (text, stopped, wrong)) = absurd (placed q input (events ++ []) value l going e new wrong)
@@ -153,7 +154,8 @@ whole-unbroken r input events damage g going ((ended, none), end) (within, never
     let read = read-tokens r.tokens input (g.taken ++ g.others) g.read [] may in
     let taken = ap (λ us. g.taken ++ us) (g.going going) ∙ append-nil g.taken in
     let stand = subst (λ ts. AreTokens false ts (input ++ []) (r.tokens.ahead ++ [])) taken read in
-    text-broken r.text.depth input (drop damage.offset input) breaks events (record {
+    let stops = text-broken r.text.depth input (drop damage.offset input) breaks in
+    stops-none (at_begin r.text.depth) input (drop damage.offset input) stops events (record {
       last = r.text;
       rest = [];
       runs = record {

@@ -97,8 +97,8 @@ takes-more s (x ∷ tokens) events t last (may, (rest, (e, more))) ok = (
 
 -- ---- The reader
 
--- an option that is no error is none
-pub none-is : (o : Option EventError) → ((x : EventError) → o ≡ Some x → ⊥) → o ≡ None
+-- an option that is nothing else is none
+pub none-is : {T : Type 0} (o : Option T) → ((x : T) → o ≡ Some x → ⊥) → o ≡ None
 none-is None none = refl
 none-is (Some x) none = absurd (none x refl)
 
@@ -212,13 +212,14 @@ module _ (old : EventState) (f : ReaderState JsonToken) (going : old.stopped ≡
         subst (λ s. GivesOn old [] (reader_at s old.stopped)) (sym (e ∙ same)) (given-same old.stopped (λ none. none) read)
 
 -- the reader that is there with what comes next has ended as before
-pub coming-ended : (old : ReaderState JsonToken) (r : Result Coming EventError)
-    (new : ReaderState JsonToken) → IsComing old r new → new.ended ≡ old.ended
-coming-ended old (Ok (coming.Token t)) new b = b.ended
-coming-ended old (Ok coming.End) new (through, inl b) = b.ended
-coming-ended old (Ok coming.End) new (through, inr same) = ap (λ f. f.ended) same
-coming-ended old (Ok coming.NeedsMore) new (same, awaits, read) = ap (λ f. f.ended) same
-coming-ended old (Err e) new (same, none) = ap (λ f. f.ended) same
+pub coming-ended : (text : TextState) (old : ReaderState JsonToken)
+    (r : Result Coming EventError)
+    (new : ReaderState JsonToken) → IsComing text old r new → new.ended ≡ old.ended
+coming-ended text old (Ok (coming.Token t)) new b = b.ended
+coming-ended text old (Ok coming.End) new (through, inl b) = b.ended
+coming-ended text old (Ok coming.End) new (through, inr same) = ap (λ f. f.ended) same
+coming-ended text old (Ok coming.NeedsMore) new (same, awaits, read) = ap (λ f. f.ended) same
+coming-ended text old (Err e) new (same, none) = ap (λ f. f.ended) same
 
 -- values may stand as deep after a token as before
 pub taken-depth : (old middle new : TextState) (t : Token) → middle ≡ old

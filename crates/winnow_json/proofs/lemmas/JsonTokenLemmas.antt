@@ -147,7 +147,7 @@ module _ (partial : Bool) where
       wrong-once cs ds g k r s more later same.1 wr ws
 
   -- so a string is damaged at one place
-  damaged-once : (b r s : List ℕ) → IsDamagedAt partial b r → IsDamagedAt partial b s → r ≡ s
+  pub damaged-once : (b r s : List ℕ) → IsDamagedAt partial b r → IsDamagedAt partial b s → r ≡ s
   damaged-once b r s (t, (cs, (e, p, wr))) (u, (ds, (f, q, ws))) =
       wrong-once cs ds t u r s p q (tails 34 34 (t ++ r) (u ++ s) (sym e ∙ f)) wr ws
 

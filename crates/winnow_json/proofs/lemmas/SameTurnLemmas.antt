@@ -125,7 +125,7 @@ number-only (token.String w) text integer e = absurd (cc e)
 number-only token.End text integer e = absurd (cc e)
 
 -- one that says the same as a string is a string
-string-only : (u : Token) (value : List ℕ) → Quoted value ≡ lexeme_of u
+pub string-only : (u : Token) (value : List ℕ) → Quoted value ≡ lexeme_of u
     → (w : String Global) × ((u ≡ token.String w) × (value ≡ string_bytes w))
 string-only token.StartArray value e = absurd (cc e)
 string-only token.EndArray value e = absurd (cc e)
@@ -163,8 +163,10 @@ string-turn true i expect.Value v w same = same-self _
 string-turn false i expect.Value v w same = gives-same (event.String v) (event.String w) same
 string-turn true i expect.FirstValue v w same = same-self _
 string-turn false i expect.FirstValue v w same = gives-same (event.String v) (event.String w) same
-string-turn deep i expect.FirstKey v w same = names-same v w same
-string-turn deep i expect.Key v w same = names-same v w same
+string-turn true i expect.FirstKey v w same = same-self _
+string-turn false i expect.FirstKey v w same = names-same v w same
+string-turn true i expect.Key v w same = same-self _
+string-turn false i expect.Key v w same = names-same v w same
 string-turn deep i expect.Colon v w same = same-self _
 string-turn deep i expect.Next v w same = same-self _
 string-turn deep i expect.End v w same = same-self _

@@ -20,7 +20,7 @@ within-if true x b h = omega (arith, h)
 within-if false x b h = omega arith
 
 -- what stands after blanks is no longer
-blanks-within : (b : List ℕ) → length (after_blanks b) ≤ length b
+pub blanks-within : (b : List ℕ) → length (after_blanks b) ≤ length b
 blanks-within [] = omega arith
 blanks-within (x ∷ b) = within-if (is_blank x) x b (blanks-within b)
 

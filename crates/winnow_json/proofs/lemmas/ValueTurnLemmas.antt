@@ -1,5 +1,5 @@
 -- The tokens of a value that stands ahead may come where a value is expected, and have its events.
-use Rattle.std.proofs.Common.{◌≡◌, ℕ, zero, suc, ◌+◌, ◌-◌, ◌≤◌, nat_lt, Bool, false, List, [], ◌∷◌, ◌++◌, ◌⊎◌, inl, inr, length, take, get_or, ap, sym, ◌∙◌, subst, refl, arith, append_assoc, append-nil, length-append}
+use Rattle.std.proofs.Common.{◌≡◌, ℕ, zero, suc, ◌+◌, ◌-◌, ◌<◌, ◌≤◌, nat_lt, Bool, false, List, [], ◌∷◌, ◌++◌, ◌⊎◌, inl, inr, length, take, get_or, ap, sym, ◌∙◌, subst, refl, arith, append_assoc, append-nil, length-append}
 use Rattle.std.specs.List.{flat_map}
 use Rattle.std.specs.declared.string.String.{String}
 use Rattle.std.specs.declared.alloc.Global.{Global}
@@ -63,7 +63,7 @@ takes-on s (x ∷ ts) us es fs t u (may, (rest, (e, more))) h = (
 
 module _ {s t : TextState} {b c : List ℕ} {es : List Event} where
   -- runs in a row
-  runs-on : {u : TextState} {r : List ℕ} {fs : List Event} → Runs s b es t c → Runs t c fs u r
+  pub runs-on : {u : TextState} {r : List ℕ} {fs : List Event} → Runs s b es t c → Runs t c fs u r
       → Runs s b (es ++ fs) u r
   runs-on {u} {r} {fs} h g = record {
     tokens = h.tokens ++ g.tokens;
@@ -225,17 +225,34 @@ module _ (s : TextState) where
   array-place e (inl first) = inr first
   array-place e (inr later) = inl later
 
-  -- the name of a member may come there
-  pub name-turn : (deep : Bool) (i : Bracket) (e : Expected) → IsItem s bracket.Object e
-      → (name : String Global) → turn_of deep i e (token.String name) ≡ Names name
-  name-turn deep i e (inl is) name = ap (λ x. turn_of deep i x (token.String name)) is
-  name-turn deep i e (inr is) name = ap (λ x. turn_of deep i x (token.String name)) is
+  -- the name of a member may come there, where its value does not stand too deep
+  pub name-turn : length (s.open_brackets ++ bracket.Object ∷ []) ≤ s.depth → (e : Expected)
+      → IsItem s bracket.Object e → (name : String Global)
+      → turn_at (inside s bracket.Object e) (token.String name) ≡ Names name
+  name-turn room e at name =
+      let all = s.open_brackets ++ bracket.Object ∷ [] in
+      ap (λ deep. turn_of deep (inner_of all) e (token.String name)) (le-ltb s.depth (length all) room)
+      ∙ by (inner_of all) at
+    where
+      by : (i : Bracket) → IsItem s bracket.Object e
+          → turn_of false i e (token.String name) ≡ Names name
+      by i (inl is) = ap (λ x. turn_of false i x (token.String name)) is
+      by i (inr is) = ap (λ x. turn_of false i x (token.String name)) is
 
 -- a number that stands there is a token
 number-here : (n : Number) (b r : List ℕ) → NumberHere false n b r
     → TokenHere false (token.Number n) b r
 number-here n b r (text, (ahead, (is, reads))) =
     subst (λ l. LexemeHere false (Digits l n.integer) b r) (sym is) (ahead, reads)
+
+-- a value stands within one array or object more at least, if it stands anywhere
+abbrev HasDepth : (Value → List ℕ → List ℕ → Type 0) → ℕ → Type 0
+HasDepth inner depth = (v : Value) (b r : List ℕ) → inner v b r → 0 < depth
+
+-- so a value does that is nested to a depth
+pub nested-depth : (depth : ℕ) → HasDepth (Nested false depth) depth
+nested-depth zero v b r h = absurd h
+nested-depth (suc depth) v b r h = omega arith
 
 -- the value stands ahead, no matter where it may come, as tokens that have its events
 abbrev ValueRuns : (Value → List ℕ → List ℕ → Type 0) → ℕ → Type 0
@@ -256,13 +273,15 @@ module _ (inner : Value → List ℕ → List ℕ → Type 0) (depth : ℕ) (eac
       (each v (inside s k e) at (room-inside k e) b r h)
 
   -- a member of an object
-  pub member-inside : (e : Expected) → IsItem s bracket.Object e → (m : String Global × Value)
-      → (b r : List ℕ) → MemberAhead inner m b r
+  pub member-inside : HasDepth inner depth → (e : Expected) → IsItem s bracket.Object e
+      → (m : String Global × Value) (b r : List ℕ) → MemberAhead inner m b r
       → Runs (inside s bracket.Object e) b (member_events (m.0, events_of m.1)) (inside s bracket.Object expect.Next) r
-  member-inside e at m b r (a, (n, (name, colon, h))) =
+  member-inside some e at m b r (a, (n, (name, colon, h))) =
       let k = bracket.Object in
-      let deep = nat_lt s.depth (length (s.open_brackets ++ k ∷ [])) in
-      let first = runs-one (inside s k e) (token.String m.0) (Names m.0) b a (name-turn s deep (inner_of (s.open_brackets ++ k ∷ [])) e at m.0) tt name in
+      let long = length-append s.open_brackets (k ∷ []) in
+      let least = some m.1 n r h in
+      let turn = name-turn s (omega (arith, long, room, least)) e at m.0 in
+      let first = runs-one (inside s k e) (token.String m.0) (Names m.0) b a turn tt name in
       let second = runs-one (inside s k expect.Colon) token.Colon (Passes expect.Value) a n refl tt colon in
       runs-on first (runs-on second (value-inside k expect.Value (inl refl) m.1 n r h))
 
@@ -276,31 +295,32 @@ module _ (inner : Value → List ℕ → List ℕ → Type 0) (depth : ℕ) (eac
         runs-one s t (Gives e) b r (value-begins s depth at room t (Gives e) value first) tt h
 
     -- a layer of a value
-    layer-runs : (x : Value-F Value) → Layer false inner x (after_blanks b) r
+    layer-runs : HasDepth inner depth → (x : Value-F Value)
+        → Layer false inner x (after_blanks b) r
         → Runs s b (layer_events (map-Value Value (List Event) events_of x)) (past s) r
-    layer-runs Null h = scalar-runs token.Null event.Null (λ i. refl) (λ i. refl) h
-    layer-runs (open_value.Bool v) h =
+    layer-runs some Null h = scalar-runs token.Null event.Null (λ i. refl) (λ i. refl) h
+    layer-runs some (open_value.Bool v) h =
         scalar-runs (token.Bool v) (event.Bool v) (λ i. refl) (λ i. refl) h
-    layer-runs (open_value.Number n) h =
+    layer-runs some (open_value.Number n) h =
         scalar-runs (token.Number n) (event.Number n) (λ i. refl) (λ i. refl) (number-here n (after_blanks b) r h)
-    layer-runs (open_value.String v) h =
+    layer-runs some (open_value.String v) h =
         scalar-runs (token.String v) (event.String v) (λ i. refl) (λ i. refl) h
-    layer-runs (open_value.Array vs) (n, (is, h)) =
+    layer-runs some (open_value.Array vs) (n, (is, h)) =
         let k = bracket.Array in
         let start = runs-one s token.StartArray (Opens k) b n (value-begins s depth at room token.StartArray (Opens k) (λ i. refl) (λ i. refl)) tt is in
         let same = flat_map-map (λ (l : List Event). l) events_of vs.items in
         subst (λ l. Runs s b (event.StartArray ∷ (l ++ event.EndArray ∷ [])) (past s) r) (sym same)
         (runs-on start (inside-runs s k inner events_of (λ e place v. value-inside k e (array-place s e place) v) vs.items n r h))
-    layer-runs (open_value.Object ms) (n, (is, h)) =
+    layer-runs some (open_value.Object ms) (n, (is, h)) =
         let k = bracket.Object in
         let start = runs-one s token.StartObject (Opens k) b n (value-begins s depth at room token.StartObject (Opens k) (λ i. refl) (λ i. refl)) tt is in
         let same = flat_map-map member_events (λ m. (m.0, events_of m.1)) ms.items in
         subst (λ l. Runs s b (event.StartObject ∷ (l ++ event.EndObject ∷ [])) (past s) r) (sym same)
-        (runs-on start (inside-runs s k (MemberAhead inner) (λ m. member_events (m.0, events_of m.1)) member-inside ms.items n r h))
+        (runs-on start (inside-runs s k (MemberAhead inner) (λ m. member_events (m.0, events_of m.1)) (member-inside some) ms.items n r h))
 
 -- the tokens of a value have its events
 pub value-runs : (depth : ℕ) → ValueRuns (Nested false depth) depth
 value-runs zero v s at room b r h = absurd h
 value-runs (suc depth) v s at room b r h =
     subst (λ l. Runs s b l (past s) r) (sym (fold_out-Value (List Event) layer_events v))
-    (layer-runs (Nested false depth) depth (value-runs depth) s room at b r (out-Value v) h)
+    (layer-runs (Nested false depth) depth (value-runs depth) s room at b r (nested-depth depth) (out-Value v) h)

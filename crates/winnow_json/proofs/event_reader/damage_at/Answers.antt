@@ -1,12 +1,15 @@
-use Rattle.std.proofs.Common.{◌-◌, ◌<◌, length, take, drop, ap, sym, ◌∙◌, subst, arith}
+use Rattle.std.proofs.Common.{◌-◌, ◌<◌, length, take, drop, get_or, ap, sym, ◌∙◌, subst, arith}
 use Rattle.std.proofs.lemmas.List.{take_rest}
 use Rattle.winnow_format.specs.Bytes.{StartsWith}
 use Rattle.winnow_json.specs.Numbers.{Tells}
 use Rattle.winnow_json.specs.StringAnswers.{BeginsChar}
 use Rattle.winnow_json.specs.Values.{after_blanks}
 use Rattle.winnow_json.specs.Causes.{cause_of, IsCut}
-use Rattle.winnow_json.specs.EventReading.{ahead_from}
+use Rattle.winnow_json.specs.Turns.{state_of, bar_from}
+use Rattle.winnow_json.specs.EventReading.{ahead_from, IsNoNext}
+use Rattle.winnow_json.proofs.lemmas.BarLemmas.{barred-none}
 use Rattle.winnow_json.proofs.lemmas.CauseLemmas.{damage-after, damage-some, damage-char}
+use Rattle.winnow_json.proofs.lemmas.EventLemmas.{none-is}
 use Rattle.winnow_json.proofs.event_reader.damage_at.Goals.{else-has_ended-via-then-has_ended+else-is_cut, else-has_ended-via-else-has_ended}
 use Rattle.winnow_json.proofs.event_reader.damage_at.Goals as goal
 
@@ -38,7 +41,12 @@ returns-then-is_cut c =
     let rest = take_rest all (c.args.place - c.place.result) ∙ ap (λ n. drop (c.args.place - n) all) c.place.ensures
     ∙ ap (drop (c.args.place - f.place)) c.ahead-ahead.ensures in
     let cut = subst (λ t. Tells t (IsCut from at)) c.if-is_cut.true c.is_cut.ensures in
-    (c.fed.ensures, (c.args.place, (c.requires, (sym c.has_ended.ensures ∙ c.if-has_ended.true, subst (λ l. IsCut l (ahead_from f c.args.place)) here (subst (λ l. IsCut from l) rest cut)))))
+    let free = none-is c.bar_from.result (λ x e. c.in_default.not-Some x e) in
+    let first = ap (bar_from (state_of c.args.syntax.now)) (c.byte_or.ensures ∙ ap (λ l. get_or l 0 0) here) in (
+      c.fed.ensures,
+      (c.args.place, (c.requires, (sym c.has_ended.ensures ∙ c.if-has_ended.true, subst (λ l. IsCut l (ahead_from f c.args.place)) here (subst (λ l. IsCut from l) rest cut)))),
+      sym (c.bar_from.ensures ∙ first) ∙ free,
+    )
 
 pub returns : goal.returns
 returns c =
@@ -48,7 +56,9 @@ returns c =
     let at = take (length all - (c.args.place - c.place.result)) (drop (c.args.place - c.place.result) all) in
     let here = take_rest all c.blank_count.result ∙ c.blank_count.ensures.rest ∙ ap after_blanks c.ahead-ahead.ensures in
     let rest = take_rest all (c.args.place - c.place.result) ∙ ap (λ n. drop (c.args.place - n) all) c.place.ensures
-    ∙ ap (drop (c.args.place - f.place)) c.ahead-ahead.ensures in (
+    ∙ ap (drop (c.args.place - f.place)) c.ahead-ahead.ensures in
+    let free = none-is c.bar_from.result (λ x e. c.in_default.not-Some x e) in
+    let first = ap (bar_from (state_of c.args.syntax.now)) (c.byte_or.ensures ∙ ap (λ l. get_or l 0 0) here) in (
       c.requires,
       (λ cut. elim c.else-has_ended.branch [
         | else-has_ended-via-then-has_ended+else-is_cut w ↦
@@ -57,4 +67,14 @@ returns c =
         | else-has_ended-via-else-has_ended w ↦ let z = sym cut.0 ∙ (sym c.has_ended.ensures ∙ w.if-has_ended.false) in cc z
       ]),
       c.cause_of.ensures ∙ ap (λ l. cause_of l at) here ∙ ap (cause_of (after_blanks f.ahead)) rest,
+      sym (c.bar_from.ensures ∙ first) ∙ free,
     )
+
+pub returns-in-Some : goal.returns-in-Some
+returns-in-Some c =
+    let f = c.args.tokens.now in
+    let here = take_rest c.ahead-ahead.result.now c.blank_count.result ∙ c.blank_count.ensures.rest ∙ ap after_blanks c.ahead-ahead.ensures in
+    let first = ap (bar_from (state_of c.args.syntax.now)) (c.byte_or.ensures ∙ ap (λ l. get_or l 0 0) here) in
+    let bar = sym (c.bar_from.ensures ∙ first) ∙ c.in-Some.is in
+    subst (IsNoNext (state_of c.args.syntax.now) f) (sym c.error_at.ensures)
+    (barred-none (state_of c.args.syntax.now) f c.in-Some.misplaced c.token_start.result c.args.place c.token_start.ensures bar c.requires)

@@ -4,6 +4,7 @@ use Rattle.winnow.specs.Answering.{StaysWithout, WaitsWell}
 use Rattle.winnow_reader.specs.declared.next.Next.TheVariants as next
 use Rattle.winnow_json.specs.TokenAnswers.{OneToken}
 use Rattle.winnow_json.specs.TokenReading.{FindsDamage}
+use Rattle.winnow_json.specs.Turns.{state_of}
 use Rattle.winnow_json.specs.EventReading.{IsNoNext}
 use Rattle.winnow_json.specs.declared.tokens.Token.TheVariants as token
 use Rattle.winnow_json.proofs.lemmas.NextTokenLemmas.{value-brings, end-brings, waits-read, failed-there, never-idle}
@@ -38,7 +39,7 @@ pub returns-in-Err-Failed : goal.returns-in-Err-Failed
 returns-in-Err-Failed c =
     let e = c.in-Err-Failed.is ∙ ap Err c.in-Err-Failed.field-0-is in
     let there = failed-there c.args.tokens.now c.read_next.new.self _ c.in-Err-Failed.place c.read_next.result e c.read_next.ensures.failed c.read_next.ensures.kept in
-    (there.0, subst (λ r. IsNoNext r c.damage_at.result) there.0 c.damage_at.ensures)
+    (there.0, subst (λ r. IsNoNext (state_of c.args.syntax.now) r c.damage_at.result) there.0 c.damage_at.ensures)
 
 -- a reader with nothing left is done, and elsewhere a token takes something
 pub unreachable-requires : goal.unreachable-requires
