@@ -1,0 +1,5 @@
+pub mod Spelling
+pub mod Spellings
+pub mod Spelt
+pub mod Spelled
+pub mod SpelledTokens

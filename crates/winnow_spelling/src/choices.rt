@@ -1,0 +1,63 @@
+ghost use Rattle.winnow_parser.specs.Meanings.{Either};
+ghost use Rattle.winnow_spelling.specs.Spellings.{NoToken, Or, Perhaps};
+ghost use Rattle.winnow_spelling.specs.Spelled.{spelled-Or, spelled-Perhaps, spelled-Returns};
+ghost use Rattle.winnow_spelling.specs.Spelled.{spelled-CutOff, spelled-Softened};
+
+use crate::Spells;
+use winnow_combinator::{Alternatives, CutOff, Nothing, Optional, Softened};
+use winnow_error::ParserError;
+use winnow_stream::StreamIsPartial;
+
+impl<
+    I: StreamIsPartial,
+    E: ParserError<I>,
+    A: Spells<I, E>,
+    B: Spells<I, E, Output = A::Output>,
+> Spells<I, E> for Alternatives<(A, B)> {
+    ghost spells = { λ p. Or (A.spells p.list.0) (B.spells p.list.1) };
+
+    ghost spelled = { λ p. spelled-Or E.or_refusable (A.spells p.list.0) (B.spells p.list.1)
+        (A.means p.list.0) (B.means p.list.1)
+        (A.spelled p.list.0) (B.spelled p.list.1) };
+}
+
+impl<
+    I: StreamIsPartial,
+    E: ParserError<I>,
+    A: Spells<I, E>,
+    B: Spells<I, E, Output = A::Output>,
+    C: Spells<I, E, Output = A::Output>,
+> Spells<I, E> for Alternatives<(A, B, C)> {
+    ghost spells = { λ p. Or (Or (A.spells p.list.0) (B.spells p.list.1)) (C.spells p.list.2) };
+
+    ghost spelled = { λ p. spelled-Or E.or_refusable
+        (Or (A.spells p.list.0) (B.spells p.list.1)) (C.spells p.list.2)
+        (Either E.or_refusable (A.means p.list.0) (B.means p.list.1)) (C.means p.list.2)
+        (spelled-Or E.or_refusable (A.spells p.list.0) (B.spells p.list.1)
+        (A.means p.list.0) (B.means p.list.1)
+        (A.spelled p.list.0) (B.spelled p.list.1)) (C.spelled p.list.2) };
+}
+
+impl<I: StreamIsPartial, E: Drop, P: Spells<I, E>> Spells<I, E> for Optional<P> {
+    ghost spells = { λ p. Perhaps (P.spells p.inner) };
+
+    ghost spelled = { λ p. spelled-Perhaps (P.spells p.inner) (P.means p.inner) (P.spelled p.inner) };
+}
+
+impl<I: StreamIsPartial, E> Spells<I, E> for Nothing {
+    ghost spells = { λ _. NoToken };
+
+    ghost spelled = { λ _. spelled-Returns tt };
+}
+
+impl<I: StreamIsPartial, E, P: Spells<I, E>> Spells<I, E> for CutOff<P> {
+    ghost spells = { λ p. P.spells p.inner };
+
+    ghost spelled = { λ p. spelled-CutOff (P.spells p.inner) (P.means p.inner) (P.spelled p.inner) };
+}
+
+impl<I: StreamIsPartial, E, P: Spells<I, E>> Spells<I, E> for Softened<P> {
+    ghost spells = { λ p. P.spells p.inner };
+
+    ghost spelled = { λ p. spelled-Softened (P.spells p.inner) (P.means p.inner) (P.spelled p.inner) };
+}

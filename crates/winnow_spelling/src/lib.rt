@@ -1,0 +1,24 @@
+//! Grammars of which it is known which tokens spell each value that they give.
+//!
+//! A part of a grammar says in one line which tokens spell what it reads ([`ReadsAs`], member
+//! `spells`), and a check proves that what it takes for a value is so spelled. It says nothing of
+//! failures: whether all that is so spelled is read is not promised. That is more than the parts of
+//! `winnow_grammar` say, which are only safe, and less than a meaning, as `by_rule` takes.
+//!
+//! The spelling of a parser is made of those of its parts ([`Spells`]): values in a row are spelled
+//! by their tokens in a row, a choice by one of its spellings, and so on
+//! (`specs/Spellings.antt`).
+#![tactic(auto)]
+
+mod asking;
+mod choices;
+mod made;
+mod parts;
+mod repeated;
+mod rows;
+mod spells;
+mod tokens;
+
+pub use asking::ask_as;
+pub use parts::{ReadsAs, SpelledPart, part_as};
+pub use spells::Spells;

@@ -1,0 +1,65 @@
+ghost use Rattle.std.specs.Prelude.{Some};
+ghost use Rattle.winnow_parser.specs.Meanings.{IsAlways, IsForgotten, TriesTo};
+ghost use Rattle.winnow_spelling.specs.Spellings.{MadeOf};
+ghost use Rattle.winnow_spelling.specs.Spelled.{spelled-MadeOf, spelled-Chosen, spelled-InContext};
+
+use crate::Spells;
+use winnow_error::{AddContext, FromExternalError, ParserError};
+use winnow_parser::{Contextual, Mapped, Parser, TryMapped, Valued, VerifyMapped, Voided};
+use winnow_stream::StreamIsPartial;
+
+impl<I: StreamIsPartial, E, P: Spells<I, E>, O, F: Fn(P::Output) -> O> Spells<I, E>
+    for Mapped<P, F, I, E> {
+    ghost spells = { λ p. MadeOf (F.post p.f) (P.spells p.inner) };
+
+    ghost spelled = { λ p. spelled-MadeOf (F.post p.f) (P.spells p.inner) (P.means p.inner) (P.spelled p.inner) };
+
+    // The check states a bound on a function of a block that has a method.
+    fn this(&self) -> &Self {
+        self
+    }
+}
+
+impl<I: StreamIsPartial, E, P: Spells<I, E>, V: Copy> Spells<I, E> for Valued<P, V, I, E>
+where
+    P::Output: Drop,
+{
+    ghost spells = { λ p. MadeOf (IsAlways p.value) (P.spells p.inner) };
+
+    ghost spelled = { λ p. spelled-MadeOf (IsAlways p.value) (P.spells p.inner) (P.means p.inner)
+        (P.spelled p.inner) };
+}
+
+impl<I: StreamIsPartial, E, P: Spells<I, E>> Spells<I, E> for Voided<P, I, E>
+where
+    P::Output: Drop,
+{
+    ghost spells = { λ p. MadeOf IsForgotten (P.spells p.inner) };
+
+    ghost spelled = { λ p. spelled-MadeOf IsForgotten (P.spells p.inner) (P.means p.inner) (P.spelled p.inner) };
+}
+
+impl<
+    I: StreamIsPartial,
+    E: ParserError<I>,
+    P: Spells<I, E>,
+    O,
+    F: Fn(P::Output) -> Option<O>,
+> Spells<I, E> for VerifyMapped<P, F, I, E> {
+    ghost spells = { λ p. MadeOf (λ x y. F.post p.f x (Some y)) (P.spells p.inner) };
+
+    ghost spelled = { λ p. spelled-Chosen (F.post p.f) (P.spells p.inner) (P.means p.inner) (P.spelled p.inner) };
+
+    // The check states a bound on a function of a block that has a method.
+    fn this(&self) -> &Self {
+        self
+    }
+}
+
+impl<I: StreamIsPartial, C: Copy, E: AddContext<I, C>, P: Spells<I, E>> Spells<I, E>
+    for Contextual<P, C, I, E> {
+    ghost spells = { λ p. P.spells p.inner };
+
+    ghost spelled = { λ p. spelled-InContext E.add_context_refusable (P.spells p.inner) (P.means p.inner)
+        (P.spelled p.inner) };
+}
