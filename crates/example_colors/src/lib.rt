@@ -46,7 +46,8 @@ impl<I: Text, E: ParserError<I>> ReadsAs<I, E> for TwoDigits {
     fn read(&self, alloc: Global, input: &mut I) -> ModalResult<u8, E> {
         let number = (any(), any()).verify_map(
             |digits: (char, char)| -> Option<u8>
-                ensures { IfSome result (λ n. n ≡ 16 * digit_value digits.0 + digit_value digits.1) }
+                ensures { IfSome result (λ n.
+                    n ≡ 16 * digit_value digits.0 + digit_value digits.1) }
             { byte_of(digits.0, digits.1) },
         );
         ask_as(alloc, input, &number)

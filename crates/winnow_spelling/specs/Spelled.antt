@@ -63,7 +63,8 @@ module _ {O P T : Type 0} (makes : O → P → Type 0) (p : Spelling O T) (inner
       takes-on p (MadeOf makes p) x y a b (λ ts k. (x, (made, k))) (one partial a b x wide h)
 
   -- what it gathers, where memory may be refused
-  pub spelled-Gathered : (refusable : Type 0) → IsSpelled (MadeOf makes p) (Gathered refusable makes inner)
+  pub spelled-Gathered : (refusable : Type 0)
+      → IsSpelled (MadeOf makes p) (Gathered refusable makes inner)
   spelled-Gathered refusable partial a b y wide (x, (made, h)) =
       takes-on p (MadeOf makes p) x y a b (λ ts k. (x, (made, k))) (one partial a b x wide h)
 

@@ -69,7 +69,8 @@ module _ {T : Type 0} where
     take-short (suc n) [] = omega arith
     take-short (suc n) (x ∷ xs) = let l = take-short n xs in omega (arith, l)
 
-    within-short : (greatest : Option ℕ) (r : Source T) → IsUpTo greatest (length (up_to greatest r))
+    within-short : (greatest : Option ℕ) (r : Source T)
+        → IsUpTo greatest (length (up_to greatest r))
     within-short None r = tt
     within-short (Some n) r = take-short n r
 

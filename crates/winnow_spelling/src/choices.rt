@@ -41,7 +41,8 @@ impl<
 impl<I: StreamIsPartial, E: Drop, P: Spells<I, E>> Spells<I, E> for Optional<P> {
     ghost spells = { λ p. Perhaps (P.spells p.inner) };
 
-    ghost spelled = { λ p. spelled-Perhaps (P.spells p.inner) (P.means p.inner) (P.spelled p.inner) };
+    ghost spelled = { λ p. spelled-Perhaps (P.spells p.inner) (P.means p.inner)
+        (P.spelled p.inner) };
 }
 
 impl<I: StreamIsPartial, E> Spells<I, E> for Nothing {
@@ -53,11 +54,13 @@ impl<I: StreamIsPartial, E> Spells<I, E> for Nothing {
 impl<I: StreamIsPartial, E, P: Spells<I, E>> Spells<I, E> for CutOff<P> {
     ghost spells = { λ p. P.spells p.inner };
 
-    ghost spelled = { λ p. spelled-CutOff (P.spells p.inner) (P.means p.inner) (P.spelled p.inner) };
+    ghost spelled = { λ p. spelled-CutOff (P.spells p.inner) (P.means p.inner)
+        (P.spelled p.inner) };
 }
 
 impl<I: StreamIsPartial, E, P: Spells<I, E>> Spells<I, E> for Softened<P> {
     ghost spells = { λ p. P.spells p.inner };
 
-    ghost spelled = { λ p. spelled-Softened (P.spells p.inner) (P.means p.inner) (P.spelled p.inner) };
+    ghost spelled = { λ p. spelled-Softened (P.spells p.inner) (P.means p.inner)
+        (P.spelled p.inner) };
 }

@@ -12,7 +12,8 @@ impl<I: StreamIsPartial, E, P: Spells<I, E>, O, F: Fn(P::Output) -> O> Spells<I,
     for Mapped<P, F, I, E> {
     ghost spells = { λ p. MadeOf (F.post p.f) (P.spells p.inner) };
 
-    ghost spelled = { λ p. spelled-MadeOf (F.post p.f) (P.spells p.inner) (P.means p.inner) (P.spelled p.inner) };
+    ghost spelled = { λ p. spelled-MadeOf (F.post p.f) (P.spells p.inner) (P.means p.inner)
+        (P.spelled p.inner) };
 
     // The check states a bound on a function of a block that has a method.
     fn this(&self) -> &Self {
@@ -36,7 +37,8 @@ where
 {
     ghost spells = { λ p. MadeOf IsForgotten (P.spells p.inner) };
 
-    ghost spelled = { λ p. spelled-MadeOf IsForgotten (P.spells p.inner) (P.means p.inner) (P.spelled p.inner) };
+    ghost spelled = { λ p. spelled-MadeOf IsForgotten (P.spells p.inner) (P.means p.inner)
+        (P.spelled p.inner) };
 }
 
 impl<
@@ -48,7 +50,8 @@ impl<
 > Spells<I, E> for VerifyMapped<P, F, I, E> {
     ghost spells = { λ p. MadeOf (λ x y. F.post p.f x (Some y)) (P.spells p.inner) };
 
-    ghost spelled = { λ p. spelled-Chosen (F.post p.f) (P.spells p.inner) (P.means p.inner) (P.spelled p.inner) };
+    ghost spelled = { λ p. spelled-Chosen (F.post p.f) (P.spells p.inner) (P.means p.inner)
+        (P.spelled p.inner) };
 
     // The check states a bound on a function of a block that has a method.
     fn this(&self) -> &Self {
@@ -60,6 +63,7 @@ impl<I: StreamIsPartial, C: Copy, E: AddContext<I, C>, P: Spells<I, E>> Spells<I
     for Contextual<P, C, I, E> {
     ghost spells = { λ p. P.spells p.inner };
 
-    ghost spelled = { λ p. spelled-InContext E.add_context_refusable (P.spells p.inner) (P.means p.inner)
+    ghost spelled = { λ p. spelled-InContext E.add_context_refusable (P.spells p.inner)
+        (P.means p.inner)
         (P.spelled p.inner) };
 }

@@ -17,7 +17,8 @@ where
         (G.makes p.gather) (P.spells p.inner) };
 
     ghost spelled = { λ p. spelled-Counted (P.spells p.inner) (P.means p.inner) (P.spelled p.inner)
-        (needs_some (least_count p.counts)) E.append_refusable (least_count p.counts) (greatest_count p.counts) G.refusable (G.makes p.gather) };
+        (needs_some (least_count p.counts)) E.append_refusable (least_count p.counts)
+        (greatest_count p.counts) G.refusable (G.makes p.gather) };
 }
 
 impl<
@@ -34,7 +35,8 @@ impl<
 
     ghost spelled = { λ p. spelled-Chain
         (λ left pair new. F.post p.op left pair.0 pair.1 new) (S.spells p.separator)
-        (P.spells p.inner) (S.means p.separator) (P.means p.inner) (S.spelled p.separator) (P.spelled p.inner) };
+        (P.spells p.inner) (S.means p.separator) (P.means p.inner) (S.spelled p.separator)
+        (P.spelled p.inner) };
 
     // The check states a bound on a function of a block that has a method.
     fn this(&self) -> &Self {

@@ -12,7 +12,8 @@ where
 {
     ghost spells = { λ p. Then (A.spells p.0) (B.spells p.1) };
 
-    ghost spelled = { λ p. spelled-Then (A.spells p.0) (B.spells p.1) (A.means p.0) (B.means p.1) (A.spelled p.0)
+    ghost spelled = { λ p. spelled-Then (A.spells p.0) (B.spells p.1) (A.means p.0) (B.means p.1)
+        (A.spelled p.0)
         (B.spelled p.1) };
 }
 
@@ -24,7 +25,8 @@ where
 {
     ghost spells = { λ p. Then3 (A.spells p.0) (B.spells p.1) (C.spells p.2) };
 
-    ghost spelled = { λ p. spelled-Then3 (A.spells p.0) (B.spells p.1) (C.spells p.2) (A.means p.0) (B.means p.1) (C.means p.2)
+    ghost spelled = { λ p. spelled-Then3 (A.spells p.0) (B.spells p.1) (C.spells p.2) (A.means p.0)
+        (B.means p.1) (C.means p.2)
         (A.spelled p.0) (B.spelled p.1) (C.spelled p.2) };
 }
 
@@ -44,7 +46,8 @@ where
     ghost spells = { λ p. Then4 (A.spells p.0) (B.spells p.1) (C.spells p.2) (D.spells p.3) };
 
     ghost spelled = { λ p. spelled-Then4 (A.spells p.0) (B.spells p.1) (C.spells p.2)
-        (D.spells p.3) (A.means p.0) (B.means p.1) (C.means p.2) (D.means p.3) (A.spelled p.0) (B.spelled p.1) (C.spelled p.2) (D.spelled p.3) };
+        (D.spells p.3) (A.means p.0) (B.means p.1) (C.means p.2) (D.means p.3) (A.spelled p.0)
+        (B.spelled p.1) (C.spelled p.2) (D.spelled p.3) };
 }
 
 impl<
@@ -66,7 +69,8 @@ where
         (F.spells p.4) };
 
     ghost spelled = { λ p. spelled-Then5 (A.spells p.0) (B.spells p.1) (C.spells p.2)
-        (D.spells p.3) (F.spells p.4) (A.means p.0) (B.means p.1) (C.means p.2) (D.means p.3) (F.means p.4) (A.spelled p.0) (B.spelled p.1) (C.spelled p.2)
+        (D.spells p.3) (F.spells p.4) (A.means p.0) (B.means p.1) (C.means p.2) (D.means p.3)
+        (F.means p.4) (A.spelled p.0) (B.spelled p.1) (C.spelled p.2)
         (D.spelled p.3) (F.spelled p.4) };
 }
 
@@ -76,7 +80,8 @@ where
 {
     ghost spells = { λ p. After (A.spells p.first) (B.spells p.second) };
 
-    ghost spelled = { λ p. spelled-After (A.spells p.first) (B.spells p.second) (A.means p.first) (B.means p.second)
+    ghost spelled = { λ p. spelled-After (A.spells p.first) (B.spells p.second) (A.means p.first)
+        (B.means p.second)
         (A.spelled p.first) (B.spelled p.second) };
 }
 
@@ -87,6 +92,7 @@ where
 {
     ghost spells = { λ p. Before (A.spells p.first) (B.spells p.second) };
 
-    ghost spelled = { λ p. spelled-Before (A.spells p.first) (B.spells p.second) (A.means p.first) (B.means p.second)
+    ghost spelled = { λ p. spelled-Before (A.spells p.first) (B.spells p.second) (A.means p.first)
+        (B.means p.second)
         (A.spelled p.first) (B.spelled p.second) };
 }
