@@ -10,6 +10,7 @@ ghost use Rattle.example_resp.specs.Printing.{shown};
 ghost use Rattle.example_resp.specs.Session.{IsSteady, HasSameInput, StandsOn, next_replies};
 ghost use Rattle.example_resp.specs.Session.{ReadsReplies, HasNoneLeft, FailsThere, shown_all};
 ghost use Rattle.example_resp.specs.Session.{OnAnswer, ended_as, Follows, Continues, EndsAs, Tells};
+ghost use Rattle.example_resp.specs.Session.{IsCauseAt, AddsCause};
 ghost use Rattle.example_base.specs.declared.trouble.Trouble.TheVariants.{OutOfMemory};
 ghost use Rattle.example_resp.specs.declared.failure.Failure.TheVariants.{Stopped};
 
@@ -21,7 +22,7 @@ use example_base::Trouble;
 use std::alloc::{AllocError, Global};
 use std::io::{self, ErrorKind, Read, Write};
 use winnow::reader::{ByteReader, Next, ReadError, Record};
-use winnow_resp::{Reply, ReplyTo};
+use winnow_resp::{Cause, Reply, ReplyTo, cause_of};
 
 // A read of a pipe gives at most as much.
 const PIECE: usize = 64 * 1024;
@@ -52,7 +53,7 @@ pub fn print_replies<R: Read, W: Write>(
             Ok(count) => {
                 match print_piece(alloc, &piece[..count], &mut reader, &mut place, output) {
                     Ok(()) => {}
-                    Err(failure) => return Err(failure),
+                    Err(failure) => return Err(with_cause(failure, &reader, limits)),
                 }
             }
             Err(error) => {
@@ -63,6 +64,30 @@ pub fn print_replies<R: Read, W: Write>(
         }
     }
     Err(Failure::Stopped(Trouble::TooLong))
+}
+
+// Returns the failure, with its cause where no reply stands.
+fn with_cause(failure: Failure, reader: &ByteReader<PlacedReply>, limits: ReplyTo) -> Failure
+    requires { reader.now.parser.limits ≡ limits }
+    ensures { AddsCause reader.now failure result }
+{
+    match failure {
+        Failure::NoReply(place, _) => {
+            Failure::NoReply(place, cause_at(reader, place.byte, limits.longest))
+        }
+        Failure::EndsInside(place) => Failure::EndsInside(place),
+        Failure::Stopped(trouble) => Failure::Stopped(trouble),
+    }
+}
+
+// Returns what is wrong at this place of the joined input, if that is seen.
+fn cause_at(reader: &ByteReader<PlacedReply>, place: usize, longest: usize) -> Option<Cause>
+    requires { reader.now.parser.limits.longest ≡ longest }
+    ensures { IsCauseAt reader.now place result }
+{
+    let ahead = reader.ahead();
+    let width = place.saturating_sub(reader.place()).min(ahead.len());
+    cause_of(&ahead[..width], &ahead[width..], longest)
 }
 
 // Returns the memory that pieces are read into. Nothing needs to be known of its bytes.
@@ -109,7 +134,7 @@ fn ended_as(taken: Result<(), Failure>, place: Position) -> Result<(), Failure>
 {
     match taken {
         Ok(()) => Ok(()),
-        Err(Failure::NoReply(_)) => Err(Failure::EndsInside(place)),
+        Err(Failure::NoReply(_, _)) => Err(Failure::EndsInside(place)),
         Err(Failure::EndsInside(inside)) => Err(Failure::EndsInside(inside)),
         Err(Failure::Stopped(trouble)) => Err(Failure::Stopped(trouble)),
     }
@@ -238,9 +263,9 @@ fn next_reply(
                 error: _,
                 place: failed,
             },
-        ) => Err(Failure::NoReply(place_ahead(reader, *place, failed))),
+        ) => Err(Failure::NoReply(place_ahead(reader, *place, failed), None)),
         Err(ReadError::TakesNothing { place: failed }) => {
-            Err(Failure::NoReply(place_ahead(reader, *place, failed)))
+            Err(Failure::NoReply(place_ahead(reader, *place, failed), None))
         }
         Err(ReadError::Refused(refused)) => Err(Failure::from(refused)),
     }

@@ -7,3 +7,5 @@ pub mod ReplyLemmas
 pub mod DamageLemmas
 pub mod AnswerLemmas
 pub mod WritingLemmas
+pub mod CauseLemmas
+pub mod WalkLemmas

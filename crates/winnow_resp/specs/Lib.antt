@@ -6,3 +6,4 @@ pub mod Grammar
 pub mod Ahead
 pub mod Damage
 pub mod Answers
+pub mod Causes

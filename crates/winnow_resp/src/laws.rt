@@ -1,8 +1,11 @@
-ghost use Rattle.std.specs.Prelude.{◌≡◌, ◌≢◌, ℕ, true, List, Result, Err};
+ghost use Rattle.std.specs.Prelude.{◌≡◌, ◌≢◌, ℕ, true, false, List, Result, Err};
 ghost use Rattle.winnow_stream.specs.Source.{Source};
 ghost use Rattle.winnow_resp.specs.Replies.{Spells};
 ghost use Rattle.winnow_resp.specs.Writing.{is_writable, written, TellsLineEnd, IsWithin};
 ghost use Rattle.winnow_resp.specs.Ahead.{IsAhead};
+ghost use Rattle.winnow_format.specs.Bytes.{bytes_of};
+ghost use Rattle.winnow_resp.specs.Damage.{BreaksOff};
+ghost use Rattle.winnow_resp.specs.Causes.{HasCauseAt};
 ghost use Rattle.winnow_resp.specs.Answers.{StandsAhead};
 ghost use Rattle.winnow_resp.specs.declared.reply.Reply.{Reply};
 ghost use Rattle.winnow_resp.specs.declared.writing.Unwritten.{Unwritten};
@@ -25,4 +28,11 @@ pub fn spelling_law()
     ensures read_back { (longest depth : ℕ) (reply : Reply) (whole rest : Source ℕ)
         → IsWithin longest depth reply → IsAhead whole (written reply) rest
         → StandsAhead longest depth whole reply rest }
+{}
+
+/// The law of causes: where a reply breaks off, there is a cause, or the input ends inside a bulk
+/// string.
+pub fn cause_law()
+    ensures { (longest depth : ℕ) (whole rest : Source ℕ) → BreaksOff false longest depth whole rest
+        → HasCauseAt longest (bytes_of whole) (bytes_of rest) }
 {}

@@ -12,6 +12,7 @@
 //! the other from bytes that come in pieces.
 #![tactic(auto)]
 
+mod causes;
 mod laws;
 mod lines;
 mod nested;
@@ -20,7 +21,8 @@ mod records;
 mod reply;
 mod writing;
 
-pub use laws::spelling_law;
+pub use causes::{Cause, cause_of};
+pub use laws::{cause_law, spelling_law};
 pub use nested::{ReplyTo, read_reply};
 pub use reply::Reply;
 pub use writing::{Unwritten, write_reply};

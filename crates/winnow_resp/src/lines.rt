@@ -14,7 +14,7 @@ use winnow::token::{OneOf, OtherTokens, one_of, take, take_till};
 use winnow::{Failure, ModalResult, Parser};
 
 // No number of 64 bits has more digits, with its sign.
-const MOST_DIGITS: usize = 21;
+pub(crate) const MOST_DIGITS: usize = 21;
 
 // The parser of the text of a line, and of its end.
 type Line = FirstOf<OtherTokens<(char, char)>, (OneOf<char>, OneOf<char>)>;

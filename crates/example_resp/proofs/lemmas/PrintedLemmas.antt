@@ -1,5 +1,5 @@
 -- What the program has printed of an input whose bytes are known.
-use Rattle.std.proofs.Common.{◌≡◌, ℕ, List, [], ◌∷◌, ◌++◌, refl, ap, sym, ◌∙◌, append_assoc}
+use Rattle.std.proofs.Common.{◌≡◌, ℕ, List, [], ◌∷◌, ◌++◌, refl, ap, sym, ◌∙◌, subst, append_assoc}
 use Rattle.std.specs.Prelude.{Option, None, Some, Result, Err}
 use Rattle.std.proofs.lemmas.List.{append-nil}
 use Rattle.std.proofs.lemmas.Option.{same_Some, none-some}
@@ -14,7 +14,7 @@ use Rattle.example_resp.specs.declared.placed.Placed.{Placed}
 use Rattle.example_resp.specs.declared.placed.PlacedReply.{PlacedReply}
 use Rattle.example_resp.specs.declared.positions.Position.{Position}
 use Rattle.example_resp.specs.Positions.{start}
-use Rattle.example_resp.specs.Session.{Follows, Continues, HasPrinted, EndsAs, Tells, OnAnswer, FailsThere, shown_all}
+use Rattle.example_resp.specs.Session.{Follows, Continues, HasPrinted, EndsAs, Tells, OnAnswer, FailsThere, AddsCause, shown_all}
 use Rattle.example_resp.specs.Printing.{shown}
 use Rattle.example_resp.proofs.lemmas.SessionLemmas.{on-answer-map}
 
@@ -152,11 +152,41 @@ module _ (means : PlacedReply → Meaning Placed ℕ) where
       → ((input : List ℕ) (replies : List Reply) → Follows means input replies f place
       → OnAnswer (Err e) (Continues means (input ++ piece) replies g there output new))
       → FailsThere means g there e → OnAnswer (Err e) (Tells means parser whole before new (Err e))
-  tells-failed parser whole before piece source left output new f g place there (NoReply p) h consumes same told failed =
-      tells-printed parser whole before left new g there (Err (NoReply p))
+  tells-failed parser whole before piece source left output new f g place there (NoReply p cause) h consumes same told failed =
+      tells-printed parser whole before left new g there (Err (NoReply p cause))
       (printed-piece whole before piece source left output new f g place there h consumes told) same failed
   tells-failed parser whole before piece source left output new f g place there (EndsInside p) h consumes same told failed = absurd failed
   tells-failed parser whole before piece source left output new f g place there (Stopped trouble) h consumes same told failed = tt
+
+  -- a failure that is told with a cause is one there
+  adds-fails : (f : ReaderState PlacedReply) (place : Position) (e r : Failure) → AddsCause f e r
+      → FailsThere means f place e → FailsThere means f place r
+  adds-fails f place (NoReply p cause) r (told, (same, is)) h =
+      subst (FailsThere means f place) (sym same) (h.0, h.1, is)
+  adds-fails f place (EndsInside p) r h k = absurd k
+  adds-fails f place (Stopped trouble) r h k = absurd k
+
+  -- what holds unless a call failed, holds where the failure is told with a cause
+  adds-answer : (f : ReaderState PlacedReply) (e r : Failure) (P : Type 0) → AddsCause f e r
+      → OnAnswer (Err e) P → OnAnswer (Err r) P
+  adds-answer f (NoReply p cause) r P (told, (same, is)) h = subst (λ x. OnAnswer (Err x) P) (sym same) h
+  adds-answer f (EndsInside p) r P same h = subst (λ x. OnAnswer (Err x) P) (sym same) h
+  adds-answer f (Stopped trouble) r P same h = subst (λ x. OnAnswer (Err x) P) (sym same) tt
+
+  -- what the program tells where a piece made it fail, for a cause
+  pub tells-cause : (parser : PlacedReply) (whole before piece : List ℕ)
+      (source left output new : Option (List ℕ))
+      (f g : ReaderState PlacedReply) (place there : Position) (e r : Failure)
+      → HasPrinted means whole before source output f place
+      → Consumes source left piece → g.parser ≡ parser
+      → ((input : List ℕ) (replies : List Reply) → Follows means input replies f place
+      → OnAnswer (Err e) (Continues means (input ++ piece) replies g there output new))
+      → FailsThere means g there e → AddsCause g e r
+      → OnAnswer (Err r) (Tells means parser whole before new (Err r))
+  tells-cause parser whole before piece source left output new f g place there e r h consumes same told failed adds =
+      tells-failed parser whole before piece source left output new f g place there r h consumes same
+      (λ input replies k. adds-answer g e r (Continues means (input ++ piece) replies g there output new) adds (told input replies k))
+      (adds-fails g there e r adds failed)
 
   -- what the program tells at the end of the input
   pub tells-last : (parser : PlacedReply) (whole before bytes : List ℕ)

@@ -4,7 +4,7 @@ use Rattle.winnow_reader.specs.State.{ReaderState}
 use Rattle.example_resp.specs.declared.placed.PlacedReply.{PlacedReply}
 use Rattle.example_resp.specs.Session.{IsSteady}
 use Rattle.example_resp.specs.contracts.placed.PlacedReplyRecord.TheImpl.{ghosts}
-use Rattle.example_resp.proofs.lemmas.PrintedLemmas.{printed-start, printed-piece, printed-kept, tells-failed, tells-last}
+use Rattle.example_resp.proofs.lemmas.PrintedLemmas.{printed-start, printed-piece, printed-kept, tells-cause, tells-last}
 use Rattle.example_resp.proofs.program.print_replies.Goals as goal
 use Rattle.example_resp.proofs.program.print_replies.Goals.{in-Ok+in-Ok-print_piece, in-Err+else-not-matches}
 
@@ -85,6 +85,6 @@ returns-in-Err-print_piece g c = λ whole before known written.
     let source = g.R.Read.remaining c.loop-turn.input in
     let left = g.R.Read.remaining c.read_piece.new.input in
     let read = subst (λ bytes. Consumes source left (take c.in-Ok.count bytes)) (sym same) c.in-Ok.ensures.bytes.0 in
-    tells-failed ghosts.means _ whole before (take c.in-Ok.count c.deref.result.now) source left _ _ c.loop-turn.reader c.print_piece.new.reader c.loop-turn.place c.print_piece.new.place
-    c.in-Err-print_piece.failure (c.loop-turn.invariant.told whole before known written) read parser
-    c.in-Err-print_piece.ensures.told c.in-Err-print_piece.ensures.failed
+    tells-cause ghosts.means _ whole before (take c.in-Ok.count c.deref.result.now) source left _ _ c.loop-turn.reader c.print_piece.new.reader c.loop-turn.place c.print_piece.new.place
+    c.in-Err-print_piece.failure c.with_cause.result (c.loop-turn.invariant.told whole before known written) read parser
+    c.in-Err-print_piece.ensures.told c.in-Err-print_piece.ensures.failed c.with_cause.ensures
