@@ -8,7 +8,8 @@
 //! `reply` has the type that is read. `numbers` reads the integers and lengths of lines, `lines`
 //! the parts of a reply, and `nested` whole replies: `read_layer` is one level of the grammar,
 //! generic in the parser of the replies in an array, and `read_nested` ties the levels together.
-//! `writing` is the writer, and `laws` says that it is read back. `records` reads one reply after
+//! `writing` is the writer, `causes` finds what is wrong where a reply breaks off, and `laws` says
+//! that what is written is read back, and that there is a cause. `records` reads one reply after
 //! the other from bytes that come in pieces.
 #![tactic(auto)]
 

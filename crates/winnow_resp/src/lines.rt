@@ -13,7 +13,7 @@ use winnow::stream::{AsBytes, AsChar, StreamIsPartial};
 use winnow::token::{OneOf, OtherTokens, one_of, take, take_till};
 use winnow::{Failure, ModalResult, Parser};
 
-// No number of 64 bits has more digits, with its sign.
+/// No number of 64 bits has more digits, with its sign.
 pub(crate) const MOST_DIGITS: usize = 21;
 
 // The parser of the text of a line, and of its end.

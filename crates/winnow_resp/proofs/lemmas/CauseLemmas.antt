@@ -1,5 +1,5 @@
 -- Where a reply breaks off, something is wrong, and its cause says it.
-use Rattle.std.proofs.Common.{◌≡◌, ℕ, zero, suc, ◌-◌, ◌≤◌, ◌<◌, ◌^◌, Bool, true, false, List, [], ◌∷◌, ◌++◌, length, inl, inr, Option, Some, None, ap, sym, ◌∙◌, subst, refl, arith, append_assoc, ℤ}
+use Rattle.std.proofs.Common.{◌≡◌, ℕ, zero, suc, ◌-◌, ◌≤◌, ◌<◌, ◌^◌, Bool, true, false, List, [], ◌∷◌, ◌++◌, length, inl, inr, Option, Some, None, ap, sym, ◌∙◌, subst, refl, arith, append_assoc, true≢false}
 use Rattle.std.specs.Prelude.{◌⊎◌, IfSome, IsFalse, decimal}
 use Rattle.std.specs.Str.Parse.{digits_value}
 use Rattle.std.proofs.lemmas.Bool.Decides.{eqb_tells, leb_tells}
@@ -99,14 +99,17 @@ held-at longest cause bytes held rest e breaks = (held, (e, inl (cause, ([], (he
 ahead-bytes : (r s : Source ℕ) (t : List ℕ) → IsAhead r t s → bytes_of r ≡ t ++ bytes_of s
 ahead-bytes r s t h = ap bytes_of h.1.0 ∙ map-append (λ x. x.0) h.0 s ∙ ap (λ u. u ++ bytes_of s) h.1.1
 
+-- no reply may begin with this byte
+first-by : (longest c : ℕ) (cs : List ℕ) (b : Bool) → is_no_kind c ≡ b
+    → HasCauseAt longest (c ∷ cs) (c ∷ cs)
+first-by longest c cs true e = held-at longest NoKind (c ∷ cs) [] (c ∷ cs) refl (refl, e)
+first-by longest c cs false e =
+    held-at longest TooDeep (c ∷ cs) [] (c ∷ cs) refl (refl, λ k. true≢false (sym k ∙ e))
+
 -- no reply may begin at the rest, for one of two causes
 first-at : (longest : ℕ) (rest : List ℕ) → HasCauseAt longest rest rest
 first-at longest [] = held-at longest TooDeep [] [] [] refl (refl, λ e. e)
 first-at longest (c ∷ cs) = first-by longest c cs (is_no_kind c) refl
-  where
-  first-by : (longest c : ℕ) (cs : List ℕ) (b : Bool) → is_no_kind c ≡ b → HasCauseAt longest (c ∷ cs) (c ∷ cs)
-  first-by longest c cs true e = held-at longest NoKind (c ∷ cs) [] (c ∷ cs) refl (refl, e)
-  first-by longest c cs false e = held-at longest TooDeep (c ∷ cs) [] (c ∷ cs) refl (refl, λ k. absurd (let f = sym k ∙ e in cc))
 
 -- ---- Lines
 
@@ -121,7 +124,7 @@ ends-line : (longest : ℕ) (text : List ℕ) (end : Source ℕ) → EndsText lo
     → EndsLine longest text (bytes_of end)
 ends-line longest text end (inl e) = inl e
 ends-line longest text [] (inr h) = inr (λ e. e)
-ends-line longest text (x ∷ xs) (inr h) = inr (λ k. absurd (let f = sym k ∙ h in cc))
+ends-line longest text (x ∷ xs) (inr h) = inr (λ k. true≢false (sym k ∙ h))
 
 -- a line that breaks off after the byte of a kind lacks its end
 line-at : (longest kind : ℕ) (whole rest : Source ℕ) → is_kind kind ≡ true
@@ -162,7 +165,7 @@ length-decided text =
     let v = digits_value 10 text in
     elim (same-list text (decimal v)) [
       | inl e ↦ elim (leb_tells v greatest_count) [
-          | inl (_, le) ↦ inl (v, (le, (omega (arith, le), e)))
+          | inl (_, le) ↦ inl (v, (le, omega (arith, le), e))
           | inr (_, l) ↦ inr (λ n h. absurd (omega (arith, l, h.0, written-value text n h.1 h.2)))
         ]
       | inr other ↦ inr (λ n h. other (h.2 ∙ ap decimal (sym (written-value text n h.1 h.2))))
@@ -176,19 +179,23 @@ integer-at longest whole rest (inr (same, (text, (after, (a, fits, none))))) =
     held-at longest NoInteger (58 ∷ bytes_of whole) (58 ∷ []) (bytes_of rest) (ap (λ r. 58 ∷ bytes_of r) same)
     (refl, (text, (bytes_of after, (sym (ap bytes_of same) ∙ ahead-bytes whole after (line text) a, fits, none))))
 
+-- a text that is neither -1 nor a length is no length
+no-length : (longest : ℕ) (text : List ℕ) → ((n : Option ℕ) → ¬ (IsLength longest text n))
+    → ((n : ℕ) → ¬ (IsLength greatest_count text (Some n))) → (n : Option ℕ)
+    → ¬ (IsLength greatest_count text n)
+no-length longest text none no None h = none None h
+no-length longest text none no (Some m) h = no m h
+
 -- a text that is no length within the limit is none, or a length above the limit
 over-limit : (longest : ℕ) (text rest after : List ℕ) → rest ≡ line text ++ after
     → IsText most_digits text → ((n : Option ℕ) → ¬ (IsLength longest text n))
     → (cause : Cause) × BreaksFor longest cause (36 ∷ []) rest
 over-limit longest text rest after e fits none = elim (length-decided text) [
   | inl (n, is) ↦ (TooLong, (refl, (text, (after, (e, fits, (n, (is, elim (leb_tells n longest) [
-      | inl (_, le) ↦ absurd (none (Some n) (le, (is.1, is.2)))
+      | inl (_, le) ↦ absurd (none (Some n) (le, is.1, is.2))
       | inr (_, l) ↦ l
     ])))))))
-  | inr no ↦ (NoLength, (inl refl, (text, (after, (e, fits, λ n h. elim n [
-      | None ↦ none None h
-      | Some m ↦ no m h
-    ])))))
+  | inr no ↦ (NoLength, (inl refl, (text, (after, (e, fits, no-length longest text none no)))))
 ]
 
 -- the length of an array breaks off for a cause

@@ -1,5 +1,5 @@
 -- What the bytes before a place are, as `cause_of` walks over them.
-use Rattle.std.proofs.Common.{◌≡◌, ℕ, ◌+◌, ◌-◌, ◌≤◌, ◌<◌, Bool, true, false, List, [], ◌∷◌, ◌++◌, length, take, drop, get_or, inl, inr, Option, Some, None, ap, sym, ◌∙◌, subst, refl, arith, append_assoc}
+use Rattle.std.proofs.Common.{◌≡◌, ℕ, ◌+◌, ◌-◌, ◌≤◌, ◌<◌, Bool, true, false, List, [], ◌∷◌, ◌++◌, length, take, drop, get_or, inl, inr, Option, Some, None, ap, sym, ◌∙◌, subst, refl, arith, append_assoc, true≢false}
 use Rattle.std.specs.Prelude.{◌⊎◌, not}
 use Rattle.std.proofs.lemmas.List.{append-nil, length-take-le, length-drop, length-append, take-append-drop}
 use Rattle.std.proofs.lemmas.Bool.Decides.{nat_tests}
@@ -142,7 +142,7 @@ starts-first test (b ∷ bytes) l h = h
 pub starts-other : (test : ℕ → Bool) (bytes : List ℕ) → test (get_or bytes 0 0) ≡ false
     → ¬ (Starts test bytes)
 starts-other test [] h k = k
-starts-other test (b ∷ bytes) h k = absurd (let f = sym k ∙ h in cc)
+starts-other test (b ∷ bytes) h k = true≢false (sym k ∙ h)
 
 -- the first byte is another
 pub first-other : (n : ℕ) (bytes : List ℕ) → ¬ (get_or bytes 0 0 ≡ n) → ¬ (StartsWith n bytes)
