@@ -24,9 +24,10 @@ mod progress;
 
 use crate::failure::Failure;
 use clap::ArgMatches;
+use clap::error::ErrorKind;
 use example_base::{Program, Trouble, words_of};
 use std::fs::File;
-use std::io::BufWriter;
+use std::io::{self, BufWriter};
 use std::process::ExitCode;
 
 const PROGRAM: Program = Program {
@@ -36,18 +37,36 @@ const PROGRAM: Program = Program {
 };
 
 fn main(rt: HostRuntime) -> ExitCode {
-    let Ok(words) = words_of(&rt) else {
-        let _ = rt.eprintln("an argument is no UTF-8, or memory was refused");
-        return ExitCode::from(2);
-    };
-    match PROGRAM.matches(rt.alloc(), words.as_slice()) {
-        Ok(matches) => status_of(&rt, print(&rt, &matches)),
-        Err(error) => {
-            // If this cannot be written either, only the status tells.
-            let _ = error.print(&rt);
-            ExitCode::from(error.exit_code() as u8)
-        }
+    match words_of(&rt) {
+        Ok(words) => run(&rt, words.as_slice()),
+        Err(error) => match error.kind() {
+            io::ErrorKind::OutOfMemory => out_of_memory(&rt),
+            _ => {
+                let _ = rt.eprintln("an argument is no UTF-8");
+                ExitCode::from(2)
+            }
+        },
     }
+}
+
+// Does what the words of the command line say, and returns the status.
+fn run(rt: &HostRuntime, words: &[String]) -> ExitCode {
+    match PROGRAM.matches(rt.alloc(), words) {
+        Ok(matches) => status_of(rt, print(rt, &matches)),
+        Err(error) => match error.kind() {
+            ErrorKind::OutOfMemory => out_of_memory(rt),
+            _ => {
+                // If this cannot be written either, only the status tells.
+                let _ = error.print(rt);
+                ExitCode::from(error.exit_code() as u8)
+            }
+        },
+    }
+}
+
+// Says that memory was refused, and returns the status.
+fn out_of_memory(rt: &HostRuntime) -> ExitCode {
+    status_of(rt, Err(Failure::Stopped(Trouble::OutOfMemory)))
 }
 
 // Writes the records that the arguments name.
