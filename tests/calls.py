@@ -43,6 +43,7 @@ NEVER = {
     "begin": r"\bBegin<T> for Folded<",
     # It hands on what was refused.
     "from": r"\bFrom<AllocError> for ",
+    "into_mode": r"\bimpl<E> Failure<E>",
     # It is refused what its parser is.
     "ask": r"^pub fn ask<",
     # It is refused what its record of text is.
