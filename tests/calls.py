@@ -137,7 +137,7 @@ def calls_of(crate, is_format):
                 if re.match(r"<(\w*)", of).group(1) not in private and not is_never_refused(name, block, is_format):
                     yield f"{of}::{name}"
             elif is_public and re.match(r"\w+", of or name).group() in exported:
-                if of or not is_never_refused(name, block, is_format):
+                if (of and name != "into_mode") or not is_never_refused(name, block, is_format):
                     yield f"{of}::{name}" if of else name
 
 
