@@ -2,9 +2,8 @@
 //! that colour.
 #![tactic(auto)]
 
-ghost use Rattle.std.specs.Prelude.{◌≡◌, ◌+◌, ◌*◌, IfSome};
-ghost use Rattle.std.specs.Char.{digit_value};
-ghost use Rattle.example_colors.specs.Colors.{WritesByte, WritesColor};
+ghost use Rattle.std.specs.Prelude.{◌≡◌, IfSome};
+ghost use Rattle.example_colors.specs.Colors.{IsByteOf, WritesByte, WritesColor};
 
 use std::alloc::Global;
 use winnow_combinator::preceded;
@@ -31,7 +30,7 @@ struct TwoDigits;
 
 // Returns the number that two hexadecimal digits write.
 fn byte_of(high: char, low: char) -> Option<u8>
-    ensures { IfSome result (λ n. n ≡ 16 * digit_value high + digit_value low) }
+    ensures { IfSome result (IsByteOf high low) }
 {
     let high = high.to_digit(16)? as u8;
     let low = low.to_digit(16)? as u8;
@@ -46,8 +45,7 @@ impl<I: Text, E: ParserError<I>> ReadsAs<I, E> for TwoDigits {
     fn read(&self, alloc: Global, input: &mut I) -> ModalResult<u8, E> {
         let number = (any(), any()).verify_map(
             |digits: (char, char)| -> Option<u8>
-                ensures { IfSome result (λ n.
-                    n ≡ 16 * digit_value digits.0 + digit_value digits.1) }
+                ensures { IfSome result (IsByteOf digits.0 digits.1) }
             { byte_of(digits.0, digits.1) },
         );
         ask_as(alloc, input, &number)
