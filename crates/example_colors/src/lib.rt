@@ -3,6 +3,7 @@
 #![tactic(auto)]
 
 ghost use Rattle.std.specs.Prelude.{◌≡◌, IfSome};
+ghost use Rattle.winnow_spelling.specs.Texts.{SpelledText};
 ghost use Rattle.example_colors.specs.Colors.{IsByteOf, WritesByte, WritesColor};
 
 use std::alloc::Global;
@@ -10,7 +11,7 @@ use winnow_combinator::preceded;
 use winnow_error::{EmptyError, ParserError};
 use winnow_grammar::Text;
 use winnow_parser::{ModalResult, Parser};
-use winnow_spelling::{ReadsAs, ask_as, part_as};
+use winnow_spelling::{ReadsAs, ask_as, ask_text, part_as};
 use winnow_token::{any, one_of};
 
 /// A colour.
@@ -79,6 +80,8 @@ impl<I: Text, E: ParserError<I>> ReadsAs<I, E> for HexColor {
 }
 
 /// Reads a colour, as `#2F14DF`.
-pub fn hex_color(alloc: Global, input: &mut &str) -> ModalResult<Color, EmptyError> {
-    part_as(HexColor).parse_next(alloc, input)
+pub fn hex_color(alloc: Global, input: &mut &str) -> ModalResult<Color, EmptyError>
+    ensures { SpelledText WritesColor input.old result input.new }
+{
+    ask_text(alloc, input, &part_as(HexColor))
 }

@@ -4,11 +4,17 @@
 #![tactic(auto)]
 
 mod borrowed;
+mod errors;
 mod functions;
+mod literals;
 mod streams;
 
 pub use borrowed::{Item, read_items, read_names, read_pairs, read_sum};
+pub use errors::{NumberError, read_bound, read_number};
 pub use functions::{color, version};
+pub use literals::{
+    Hexadecimal, Word, read_digit, read_hex, read_numbers, read_setting, read_version, read_word,
+};
 pub use streams::{
     read_letters, read_letters_of_bytes, read_letters_of_piece, read_letters_of_text, read_words,
     read_words_of_piece, read_words_with_places, read_words_with_state,

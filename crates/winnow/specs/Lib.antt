@@ -19,7 +19,7 @@ pub use Rattle.winnow_parser.specs.DeterminedRows
 pub use Rattle.winnow_token.specs.OneOf
 pub use Rattle.winnow_token.specs.Counted
 pub use Rattle.winnow_token.specs.Held
-pub use Rattle.winnow_token.specs.Literal
+pub use Rattle.winnow_parser.specs.Literal
 pub use Rattle.winnow_token.specs.Until
 pub use Rattle.winnow_token.specs.Remaining
 pub use Rattle.winnow_token.specs.Prompt

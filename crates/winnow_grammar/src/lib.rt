@@ -33,6 +33,7 @@
 #![tactic(auto)]
 
 mod asking;
+mod errors;
 mod functions;
 mod layers;
 mod memory;
@@ -40,6 +41,7 @@ mod parts;
 mod texts;
 
 pub use asking::ask;
+pub use errors::{Plain, PlainError, PlainFromExternal};
 pub use functions::{FromFn, from_fn};
 pub use layers::{Layer, Layered, nested};
 pub use memory::{MapIn, map_in};

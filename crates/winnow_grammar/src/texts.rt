@@ -26,7 +26,8 @@ impl AsText for &str {
 /// needs one line, the type of its slices.
 pub trait Text: StreamIsPartial
     + Stream<Token = char, Slice = <Self as Text>::Piece>
-    + Compare<&'static str> {
+    + Compare<&'static str>
+    + Compare<char> {
     /// Its slices.
     type Piece: AsText + Copy + Debug + Eq + Hash + Drop;
 }
@@ -35,7 +36,10 @@ pub trait Text: StreamIsPartial
 /// implemented at each stream.
 pub trait Octets: StreamIsPartial
     + Stream<Token = u8, Slice = <Self as Octets>::Piece>
-    + Compare<&'static str> {
+    + Compare<&'static str>
+    + Compare<&'static [u8]>
+    + Compare<u8>
+    + Compare<char> {
     /// Its slices.
     type Piece: AsBytes + Copy + Debug + Eq + Hash + Drop;
 }
@@ -44,7 +48,8 @@ pub trait Octets: StreamIsPartial
 /// why it is implemented at each stream.
 pub trait Chars: StreamIsPartial
     + Stream<Token = <Self as Chars>::Char, Slice = <Self as Chars>::Piece>
-    + Compare<&'static str> {
+    + Compare<&'static str>
+    + Compare<char> {
     /// Its tokens.
     type Char: AsChar + Copy + Debug + Drop;
 

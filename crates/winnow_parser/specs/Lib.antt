@@ -7,10 +7,12 @@ pub mod Laws
 pub mod Meanings
 pub mod Parts
 pub mod Taken
+pub mod Literal
 pub mod Rows
 pub mod Spanned
 pub mod Context
 pub mod Whole
+pub mod ValueTests
 pub mod Following
 pub mod Continued
 pub mod Determined

@@ -2,6 +2,10 @@
 use Rattle.std.specs.Prelude.{◌≡◌, Bool, true, false, Option, Some, None, Result, Ok, Err, ◌⊎◌, ⊤}
 use Rattle.winnow_parser.specs.Outcome.{Ahead, Backtracks, Cuts, Needs, Refuses, Gives, Fails, Meaning}
 
+-- the parser gives no value at which this does not hold
+abbrev pub GivesOnly : {O T : Type 0} → Meaning O T → (O → Type 0) → Type 0
+GivesOnly {O} {T} means holds = (partial : Bool) (a b : Ahead T) (x : O) → means partial a (Gives x b) → holds x
+
 -- gives this value and takes nothing
 abbrev pub Returns : {O T : Type 0} → O → Meaning O T
 Returns x partial a (Gives y b) = (x ≡ y) × (a ≡ b)

@@ -1,5 +1,5 @@
 ghost use Rattle.std.specs.Prelude.{◌≡◌, false, None, Err};
-ghost use Rattle.winnow_parser.specs.Meanings.{Verified, Chosen, TriesTo};
+ghost use Rattle.winnow_parser.specs.Meanings.{GivesOnly, Verified, Chosen, TriesTo};
 ghost use Rattle.winnow_parser.specs.Errors.{UnwantedErrors};
 ghost use Rattle.winnow_parser.specs.Parts.{IsParser-Verified, IsParser-Chosen};
 
@@ -49,7 +49,7 @@ where
     ghost errors = { λ p. UnwantedErrors (λ x s e. F.says p.test x false × E.from_input_gives s e)
         (P.means p.inner) (P.errors p.inner) };
 
-    ghost ready = { λ p. P.ready p.inner × F.may_ask p.test };
+    ghost ready = { λ p. P.ready p.inner × GivesOnly (P.means p.inner) (F.may_ask p.test) };
 
     ghost lawful = { λ p. IsParser-Verified (F.says p.test) (P.means p.inner) (P.lawful p.inner) };
 
@@ -104,7 +104,7 @@ impl<
     ghost errors = { λ p. UnwantedErrors (λ x s e. F.post p.f x None × E.from_input_gives s e)
         (P.means p.inner) (P.errors p.inner) };
 
-    ghost ready = { λ p. P.ready p.inner × F.IsAlwaysCallable p.f };
+    ghost ready = { λ p. P.ready p.inner × GivesOnly (P.means p.inner) (F.pre p.f) };
 
     ghost lawful = { λ p. IsParser-Chosen (F.post p.f) (P.means p.inner) (P.lawful p.inner) };
 
@@ -162,7 +162,7 @@ impl<
         (λ x s e. (error : X) × (F.post p.f x (Err error) × E.from_external_gives s error e))
         (P.means p.inner) (P.errors p.inner) };
 
-    ghost ready = { λ p. P.ready p.inner × F.IsAlwaysCallable p.f };
+    ghost ready = { λ p. P.ready p.inner × GivesOnly (P.means p.inner) (F.pre p.f) };
 
     ghost lawful = { λ p.
         IsParser-Chosen (TriesTo (F.post p.f)) (P.means p.inner) (P.lawful p.inner) };

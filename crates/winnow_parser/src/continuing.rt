@@ -1,5 +1,6 @@
 ghost use Rattle.std.specs.Prelude.{◌≡◌};
 ghost use Rattle.winnow_parser.specs.Errors.{ContinuedErrors};
+ghost use Rattle.winnow_parser.specs.Meanings.{GivesOnly};
 ghost use Rattle.winnow_parser.specs.Continued.{Continued, IsParser-Continued};
 
 use crate::{ModalResult, Parser};
@@ -41,7 +42,7 @@ impl<I: StreamIsPartial, E, P: Parser<I, E>, Q: Parser<I, E> + Drop, F: Fn(P::Ou
     ghost errors = { λ p.
         ContinuedErrors (F.post p.f) Q.errors (P.means p.first) (P.errors p.first) };
 
-    ghost ready = { λ p. P.ready p.first × F.IsAlwaysCallable p.f
+    ghost ready = { λ p. P.ready p.first × GivesOnly (P.means p.first) (F.pre p.f)
         × ((x : P.Output) (q : Q) → F.post p.f x q → Q.ready q) };
 
     ghost lawful = { λ p.

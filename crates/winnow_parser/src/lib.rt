@@ -14,6 +14,7 @@ mod continuing;
 mod determined;
 mod failure;
 mod laws;
+mod literals;
 mod mapping;
 mod parser;
 mod rule;
@@ -31,6 +32,7 @@ pub use determined::{
 };
 pub use failure::{Failure, ModalResult};
 pub use laws::{parser_law, taken_width_law};
+pub use literals::{Wanted, literal};
 pub use mapping::{Mapped, Valued, Voided};
 pub use parser::Parser;
 pub use rule::{Rule, RuledFunction, by_rule};

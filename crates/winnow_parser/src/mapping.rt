@@ -1,5 +1,5 @@
 ghost use Rattle.std.specs.Prelude.{◌≡◌};
-ghost use Rattle.winnow_parser.specs.Meanings.{Maps, IsAlways, IsForgotten};
+ghost use Rattle.winnow_parser.specs.Meanings.{GivesOnly, Maps, IsAlways, IsForgotten};
 ghost use Rattle.winnow_parser.specs.Parts.{IsParser-Maps};
 
 use crate::{ModalResult, Parser};
@@ -38,7 +38,7 @@ impl<I: StreamIsPartial, E, P: Parser<I, E>, O, F: Fn(P::Output) -> O> Parser<I,
 
     ghost errors = { λ p. P.errors p.inner };
 
-    ghost ready = { λ p. P.ready p.inner × F.IsAlwaysCallable p.f };
+    ghost ready = { λ p. P.ready p.inner × GivesOnly (P.means p.inner) (F.pre p.f) };
 
     ghost lawful = { λ p. IsParser-Maps (F.post p.f) (P.means p.inner) (P.lawful p.inner) };
 

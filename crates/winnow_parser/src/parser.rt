@@ -56,7 +56,7 @@ pub trait Parser<I: StreamIsPartial, E>: Sized {
         ensures kept { I.keeps input.old input.new };
 
     /// Returns the parser of what a function makes of the value.
-    final fn map<F>(self, f: F) -> Mapped<Self, F, I, E>
+    final fn map<O, F: Fn(Self::Output) -> O>(self, f: F) -> Mapped<Self, F, I, E>
         ensures inner { result.inner ≡ self }
         ensures f { result.f ≡ f }
     {
@@ -65,7 +65,7 @@ pub trait Parser<I: StreamIsPartial, E>: Sized {
 
     /// Returns the parser that goes on with the parser that a function makes of the value: what
     /// comes first says how to read what comes next.
-    final fn flat_map<F>(self, f: F) -> FlatMapped<Self, F, I, E>
+    final fn flat_map<Q, F: Fn(Self::Output) -> Q>(self, f: F) -> FlatMapped<Self, F, I, E>
         ensures first { result.first ≡ self }
         ensures f { result.f ≡ f }
     {
@@ -102,7 +102,10 @@ pub trait Parser<I: StreamIsPartial, E>: Sized {
 
     /// Returns the parser of what a function makes of the value. Where the function makes nothing,
     /// the parser backtracks, from where it began.
-    final fn verify_map<F>(self, f: F) -> VerifyMapped<Self, F, I, E>
+    final fn verify_map<O, F: Fn(Self::Output) -> Option<O>>(
+        self,
+        f: F,
+    ) -> VerifyMapped<Self, F, I, E>
         ensures inner { result.inner ≡ self }
         ensures f { result.f ≡ f }
     {
@@ -111,7 +114,10 @@ pub trait Parser<I: StreamIsPartial, E>: Sized {
 
     /// Returns the parser of what a function makes of the value. Where the function fails, the
     /// parser backtracks, from where it began, with an error that is made of the function's.
-    final fn try_map<F>(self, f: F) -> TryMapped<Self, F, I, E>
+    final fn try_map<O, X, F: Fn(Self::Output) -> Result<O, X>>(
+        self,
+        f: F,
+    ) -> TryMapped<Self, F, I, E>
         ensures inner { result.inner ≡ self }
         ensures f { result.f ≡ f }
     {

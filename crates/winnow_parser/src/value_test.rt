@@ -2,6 +2,7 @@
 ghost use Rattle.std.specs.Prelude.{Bool};
 ghost use Rattle.std.specs.Fn.{FnReturnsAt};
 ghost use Rattle.std.specs.String.{string_bytes};
+ghost use Rattle.winnow_parser.specs.ValueTests.{TakesAt};
 
 /// A test of values of type `O`, as [`Parser::verify`](crate::Parser::verify) takes it: a function
 /// of a reference to the value ([`ByValue`]), or of what the value borrows as ([`ByBorrow`]). The
@@ -9,15 +10,15 @@ ghost use Rattle.std.specs.String.{string_bytes};
 ///
 /// It stands where Rust has `FnMut(&B) -> bool` and `O: Borrow<B>`, whose `B` may have no size.
 pub trait ValueTest<O, By> {
-    // The tests that may be asked.
-    ghost may_ask: { Self → Type 0 };
+    // The values of which the test may be asked.
+    ghost may_ask: { Self → O → Type 0 };
 
     // What the test may say of a value.
     ghost says: { Self → O → Bool → Type 0 };
 
     /// Returns whether the test holds of the value.
     fn holds_of(&self, value: &O) -> bool
-        requires { may_ask self.now }
+        requires { may_ask self.now value.now }
         ensures { says self.now value.now result };
 }
 
@@ -31,7 +32,7 @@ pub struct ByValue;
 pub struct ByBorrow;
 
 impl<O, F: Fn(&O) -> bool> ValueTest<O, ByValue> for F {
-    ghost may_ask = { F.IsAlwaysCallable };
+    ghost may_ask = { TakesAt F.Fn };
 
     ghost says = { FnReturnsAt F.Fn };
 
@@ -41,7 +42,7 @@ impl<O, F: Fn(&O) -> bool> ValueTest<O, ByValue> for F {
 }
 
 impl<'a, F: Fn(&str) -> bool> ValueTest<&'a str, ByBorrow> for F {
-    ghost may_ask = { F.IsAlwaysCallable };
+    ghost may_ask = { λ test text. TakesAt F.Fn test text.now };
 
     ghost says = { λ test text. FnReturnsAt F.Fn test text.now };
 
@@ -51,7 +52,7 @@ impl<'a, F: Fn(&str) -> bool> ValueTest<&'a str, ByBorrow> for F {
 }
 
 impl<F: Fn(&str) -> bool> ValueTest<String, ByBorrow> for F {
-    ghost may_ask = { F.IsAlwaysCallable };
+    ghost may_ask = { λ test text. TakesAt F.Fn test (string_bytes text) };
 
     ghost says = { λ test text. FnReturnsAt F.Fn test (string_bytes text) };
 
@@ -61,7 +62,7 @@ impl<F: Fn(&str) -> bool> ValueTest<String, ByBorrow> for F {
 }
 
 impl<'a, T, F: Fn(&[T]) -> bool> ValueTest<&'a [T], ByBorrow> for F {
-    ghost may_ask = { F.IsAlwaysCallable };
+    ghost may_ask = { λ test list. TakesAt F.Fn test list.now };
 
     ghost says = { λ test list. FnReturnsAt F.Fn test list.now };
 
@@ -71,7 +72,7 @@ impl<'a, T, F: Fn(&[T]) -> bool> ValueTest<&'a [T], ByBorrow> for F {
 }
 
 impl<T, F: Fn(&[T]) -> bool> ValueTest<Vec<T>, ByBorrow> for F {
-    ghost may_ask = { F.IsAlwaysCallable };
+    ghost may_ask = { λ test list. TakesAt F.Fn test list.items };
 
     ghost says = { λ test list. FnReturnsAt F.Fn test list.items };
 
@@ -81,7 +82,7 @@ impl<T, F: Fn(&[T]) -> bool> ValueTest<Vec<T>, ByBorrow> for F {
 }
 
 impl<'a, T, F: Fn(&T) -> bool> ValueTest<&'a T, ByBorrow> for F {
-    ghost may_ask = { F.IsAlwaysCallable };
+    ghost may_ask = { λ test value. TakesAt F.Fn test value.now };
 
     ghost says = { λ test value. FnReturnsAt F.Fn test value.now };
 

@@ -3,3 +3,4 @@ pub mod Spellings
 pub mod Spelt
 pub mod Spelled
 pub mod SpelledTokens
+pub mod Texts

@@ -17,8 +17,10 @@ mod parts;
 mod repeated;
 mod rows;
 mod spells;
+mod texts;
 mod tokens;
 
 pub use asking::ask_as;
 pub use parts::{ReadsAs, SpelledPart, part_as};
 pub use spells::Spells;
+pub use texts::{ask_bytes, ask_text};

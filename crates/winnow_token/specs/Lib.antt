@@ -1,7 +1,6 @@
 pub mod OneOf
 pub mod Counted
 pub mod Held
-pub mod Literal
 pub mod Until
 pub mod Remaining
 pub mod Prompt

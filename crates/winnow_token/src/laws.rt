@@ -10,7 +10,7 @@ ghost use Rattle.winnow_parser.specs.Determined.{IsDetermined, Shows, SlicesResp
 ghost use Rattle.winnow_token.specs.OneOf.{OneOf};
 ghost use Rattle.winnow_token.specs.Counted.{Counted};
 ghost use Rattle.winnow_token.specs.Held.{HeldFront};
-ghost use Rattle.winnow_token.specs.Literal.{Literal};
+ghost use Rattle.winnow_parser.specs.Literal.{Literal};
 ghost use Rattle.winnow_token.specs.Remaining.{Remaining, RemainingWidth, WholesRespect};
 ghost use Rattle.winnow_token.specs.Until.{HitsStay, Until};
 ghost use Rattle.winnow_token.specs.Prompt.{IsPrompt};

@@ -8,7 +8,6 @@ mod laws;
 mod one_token;
 mod remaining;
 mod until;
-mod wanted;
 
 pub use counted::{Counted, take};
 pub use held::{HeldTokens, OtherTokens, take_till, take_while};
@@ -16,4 +15,4 @@ pub use laws::{count_law, determined_token_law, hits_stay_law, prompt_law};
 pub use one_token::{AnyToken, NoneOf, OneOf, any, none_of, one_of};
 pub use remaining::{Remaining, RemainingWidth, rest, rest_len};
 pub use until::{TokensBefore, take_until};
-pub use wanted::{Wanted, literal};
+pub use winnow_parser::{Wanted, literal};

@@ -16,7 +16,7 @@ use Rattle.winnow_parser.proofs.lemmas.ToldLemmas.{Told, IsTold, determined-told
 use Rattle.winnow_token.specs.OneOf.{OneOf, after_one}
 use Rattle.winnow_token.specs.Counted.{Counted}
 use Rattle.winnow_token.specs.Held.{HeldFront, held_within, may_grow, is_offset-within}
-use Rattle.winnow_token.specs.Literal.{Literal}
+use Rattle.winnow_parser.specs.Literal.{Literal}
 use Rattle.winnow_token.specs.Until.{Until, has_counts}
 
 -- ---- Counts
