@@ -9,13 +9,13 @@ use winnow_stream::{Needed, Stream};
 /// parsers, so it needs no more than this one call. No contract says which error is made.
 ///
 /// ```
-/// impl<I> PlainError<I> for MyError {
+/// impl<I> PlainError<I> for NumberError {
 ///     fn from_input(_alloc: Global, _input: &I) -> Self {
-///         MyError::Unexpected
+///         NumberError::Missing
 ///     }
 /// }
 /// ..
-/// fn number(alloc: Global, input: &mut &str) -> ModalResult<u8, Plain<MyError>>
+/// pub fn read_number(alloc: Global, input: &mut &str) -> ModalResult<u8, Plain<NumberError>> {
 /// ```
 ///
 /// An error whose calls have contracts implements [`ParserError`] itself.
