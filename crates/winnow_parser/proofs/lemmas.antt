@@ -6,3 +6,4 @@ pub mod RowLemmas
 pub mod SpanLemmas
 pub mod ToldLemmas
 pub mod ErrorLemmas
+pub mod OnwardLemmas

@@ -5,7 +5,7 @@
 //! whether more may follow. A combinator builds its meaning from those of its parts, so a grammar
 //! is proved against a definition of its language. A second ghost member, `errors`, says which
 //! errors the failures carry.
-#![tactic(auto)]
+#![tactic(auto, using(crate::proofs::lemmas::OnwardLemmas::onward_steps))]
 
 mod by_ref;
 mod choosing;

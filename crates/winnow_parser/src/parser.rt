@@ -1,5 +1,5 @@
 ghost use Rattle.std.specs.Prelude.{◌≡◌, false, IfOk, IfErr};
-ghost use Rattle.winnow_parser.specs.Outcome.{Meaning, Gives, Fails, Refuses};
+ghost use Rattle.winnow_parser.specs.Outcome.{Meaning, Gives, Fails, Refuses, Moves};
 ghost use Rattle.winnow_parser.specs.Answer.{outcome, ahead};
 ghost use Rattle.winnow_parser.specs.Errors.{Errors, FailsLeaving};
 ghost use Rattle.winnow_parser.specs.Laws.{IsParser};
@@ -50,6 +50,8 @@ pub trait Parser<I: StreamIsPartial, E>: Sized {
         ensures means { means self.now (I.expects_more input.old)
             (ahead I.location I.remaining input.old)
             (outcome result (ahead I.location I.remaining input.new)) }
+        ensures onward { Moves (ahead I.location I.remaining input.old)
+            (ahead I.location I.remaining input.new) }
         ensures error { IfErr result (errors self.now (I.expects_more input.old)
             (ahead I.location I.remaining input.old) input.new) }
         ensures valid { I.valid input.new }
