@@ -9,7 +9,7 @@
 //! generic in the parser of the branches, and `read_nested` ties the levels together. The contract
 //! of `read_tree` says what a caller wants to know: which trees it gives, where it fails, and that
 //! it misses none.
-#![tactic(auto)]
+#![tactic(auto, using(winnow_parser::proofs::lemmas::OnwardLemmas::onward_steps))]
 
 mod nested;
 mod tree;

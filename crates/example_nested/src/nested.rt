@@ -1,7 +1,7 @@
 ghost use Rattle.std.specs.Prelude.{◌≡◌, ◌-◌, ◌<◌};
+ghost use Rattle.winnow_parser.specs.Outcome.{Moves};
 ghost use Rattle.winnow_parser.specs.Answer.{ahead, outcome};
 ghost use Rattle.winnow_parser.specs.Errors.{AnyError};
-ghost use Rattle.winnow_parser.specs.Laws.{LeavesAfter};
 ghost use Rattle.example_nested.specs.Answers.{IsAnswer, MissesNone};
 ghost use Rattle.example_nested.specs.Nested.{Leaf, Around, Nested, IsParser-Nested};
 
@@ -36,6 +36,8 @@ where
     ensures means { Leaf I.Token.code (I.expects_more input.old)
         (ahead I.location I.remaining input.old)
         (outcome result (ahead I.location I.remaining input.new)) }
+    ensures onward { Moves (ahead I.location I.remaining input.old)
+        (ahead I.location I.remaining input.new) }
     ensures valid { I.valid input.new }
     ensures kept { I.keeps input.old input.new }
 {
@@ -60,6 +62,8 @@ where
     ensures means { Around I.Token.code (P.means inner) (I.expects_more input.old)
         (ahead I.location I.remaining input.old)
         (outcome result (ahead I.location I.remaining input.new)) }
+    ensures onward { Moves (ahead I.location I.remaining input.old)
+        (ahead I.location I.remaining input.new) }
     ensures valid { I.valid input.new }
     ensures kept { I.keeps input.old input.new }
 {
@@ -121,6 +125,8 @@ where
     ensures means { Nested I.Token.code depth (I.expects_more input.old)
         (ahead I.location I.remaining input.old)
         (outcome result (ahead I.location I.remaining input.new)) }
+    ensures onward { Moves (ahead I.location I.remaining input.old)
+        (ahead I.location I.remaining input.new) }
     ensures valid { I.valid input.new }
     ensures kept { I.keeps input.old input.new }
 {
@@ -133,6 +139,8 @@ where
         ensures means { Nested I.Token.code (depth - 1) (I.expects_more input.old)
             (ahead I.location I.remaining input.old)
             (outcome result (ahead I.location I.remaining input.new)) }
+        ensures onward { Moves (ahead I.location I.remaining input.old)
+            (ahead I.location I.remaining input.new) }
         ensures valid { I.valid input.new }
         ensures kept { I.keeps input.old input.new }
     { read_nested(alloc, input, depth - 1) };
@@ -154,8 +162,8 @@ where
     requires { I.valid input.old }
     ensures answer { IsAnswer I.Token.code depth (I.expects_more input.old) (I.remaining input.old)
         result (I.remaining input.new) }
-    ensures moved { LeavesAfter (ahead I.location I.remaining input.old)
-        (outcome result (ahead I.location I.remaining input.new)) }
+    ensures onward { Moves (ahead I.location I.remaining input.old)
+        (ahead I.location I.remaining input.new) }
     ensures complete { MissesNone I.Token.code depth (I.remaining input.old) result }
     ensures valid { I.valid input.new }
     ensures kept { I.keeps input.old input.new }

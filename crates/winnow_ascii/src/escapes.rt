@@ -1,5 +1,6 @@
 ghost use Rattle.std.specs.Prelude.{◌≡◌, ◌<◌, ◌^◌, [], IfErr};
 ghost use Rattle.winnow_stream.specs.Source.{width};
+ghost use Rattle.winnow_parser.specs.Outcome.{Moves};
 ghost use Rattle.winnow_parser.specs.Answer.{ahead, outcome};
 ghost use Rattle.winnow_combinator.specs.Gathering.{Gathered, IsParser-Gathered};
 ghost use Rattle.winnow_combinator.specs.Misuse.{GatheredErrors};
@@ -95,6 +96,8 @@ where
         (I.expects_more input.old)
         (ahead I.location I.remaining input.old)
         (outcome result (ahead I.location I.remaining input.new)) }
+    ensures onward { Moves (ahead I.location I.remaining input.old)
+        (ahead I.location I.remaining input.new) }
     ensures error { IfErr result (EscapeErrors (C.means control.now) (C.errors control.now)
         (Q.errors escapable.now) (I.expects_more input.old)
         (ahead I.location I.remaining input.old) input.new) }
@@ -142,6 +145,8 @@ where
         (I.expects_more input.old)
         (ahead I.location I.remaining input.old)
         (outcome result (ahead I.location I.remaining input.new)) }
+    ensures onward { Moves (ahead I.location I.remaining input.old)
+        (ahead I.location I.remaining input.new) }
     ensures error { IfErr result (FragmentErrors (P.means text.now.normal)
         (P.errors text.now.normal)
         (EscapeErrors (C.means text.now.control) (C.errors text.now.control)
@@ -192,6 +197,8 @@ where
         (I.expects_more input.old)
         (ahead I.location I.remaining input.old)
         (outcome result (ahead I.location I.remaining input.new)) }
+    ensures onward { Moves (ahead I.location I.remaining input.old)
+        (ahead I.location I.remaining input.new) }
     ensures error { IfErr result (UpToEndErrors (FragmentErrors (P.means text.now.normal)
         (P.errors text.now.normal)
         (EscapeErrors (C.means text.now.control) (C.errors text.now.control)
@@ -232,6 +239,8 @@ where
         (I.expects_more input.old)
         (ahead I.location I.remaining input.old)
         (outcome result (ahead I.location I.remaining input.new)) }
+    ensures onward { Moves (ahead I.location I.remaining input.old)
+        (ahead I.location I.remaining input.new) }
     ensures error { IfErr result (GatheredErrors (InTurnErrors
         (UpToEnd (NextFragment (P.means text.now.normal) (C.means text.now.control)
         (Q.means text.now.escapable)))

@@ -1,6 +1,6 @@
 //! Parsers of ASCII text: letters, digits and blanks, the ends of lines, text with escapes, and the
 //! numbers that digits write.
-#![tactic(auto)]
+#![tactic(auto, using(winnow_parser::proofs::lemmas::OnwardLemmas::onward_steps))]
 
 mod class;
 mod escapes;

@@ -1,5 +1,6 @@
 ghost use Rattle.std.specs.Prelude.{◌≡◌, IfErr};
 ghost use Rattle.winnow_count.specs.Reading.{IsSomeExactly};
+ghost use Rattle.winnow_parser.specs.Outcome.{Moves};
 ghost use Rattle.winnow_parser.specs.Answer.{ahead, outcome};
 ghost use Rattle.winnow_parser.specs.Meanings.{Chosen, Maps, IsForgotten};
 ghost use Rattle.winnow_parser.specs.Taken.{Taken, IsParser-Taken};
@@ -103,6 +104,8 @@ where
         (I.expects_more input.old)
         (ahead I.location I.remaining input.old)
         (outcome result (ahead I.location I.remaining input.new)) }
+    ensures onward { Moves (ahead I.location I.remaining input.old)
+        (ahead I.location I.remaining input.new) }
     ensures error { IfErr result (ReadErrors I.Slice.reads E.from_input_gives
         (P.means digits.now) (P.errors digits.now) (I.expects_more input.old)
         (ahead I.location I.remaining input.old) input.new) }

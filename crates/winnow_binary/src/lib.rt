@@ -1,6 +1,6 @@
 //! Parsers of binary formats: numbers of a fixed number of bytes, and parts that a count comes
 //! before.
-#![tactic(auto)]
+#![tactic(auto, using(winnow_parser::proofs::lemmas::OnwardLemmas::onward_steps))]
 
 mod bytes;
 mod laws;

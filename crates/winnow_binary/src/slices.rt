@@ -1,4 +1,5 @@
 ghost use Rattle.std.specs.Prelude.{◌≡◌, false, IfErr, IfOk};
+ghost use Rattle.winnow_parser.specs.Outcome.{Moves};
 ghost use Rattle.winnow_parser.specs.Answer.{ahead, outcome};
 ghost use Rattle.winnow_parser.specs.Errors.{OwnErrors, PairErrors, FailsLeaving};
 ghost use Rattle.winnow_binary.specs.Lengths.{FrontOf, CountedFront, IsParser-CountedFront};
@@ -39,6 +40,8 @@ fn take_front<I: StreamIsPartial + UpdateSlice + Copy, E: ParserError<I>>(
     ensures means { FrontOf (ahead I.location I.remaining) I.counts_shortage count
         (I.expects_more input.old) (ahead I.location I.remaining input.old)
         (outcome result (ahead I.location I.remaining input.new)) }
+    ensures onward { Moves (ahead I.location I.remaining input.old)
+        (ahead I.location I.remaining input.new) }
     ensures error { IfErr result (OwnErrors E.from_input_gives E.assert_gives
         (I.expects_more input.old) (ahead I.location I.remaining input.old) input.new) }
     ensures front { IfOk result I.valid }
@@ -65,6 +68,8 @@ where
     ensures means { CountedFront P.Output.number (ahead I.location I.remaining) I.counts_shortage
         (P.means length.now) (I.expects_more input.old) (ahead I.location I.remaining input.old)
         (outcome result (ahead I.location I.remaining input.new)) }
+    ensures onward { Moves (ahead I.location I.remaining input.old)
+        (ahead I.location I.remaining input.new) }
     ensures error { IfErr result (PairErrors (P.means length.now) (P.errors length.now)
         (OwnErrors E.from_input_gives E.assert_gives)
         (I.expects_more input.old) (ahead I.location I.remaining input.old) input.new) }

@@ -1,6 +1,7 @@
 ghost use Rattle.std.specs.Prelude.{◌+◌, ◌<◌, ◌^◌, List, length, IfErr};
 ghost use Rattle.std.specs.List.{FoldsTo};
 ghost use Rattle.winnow_stream.specs.Source.{width};
+ghost use Rattle.winnow_parser.specs.Outcome.{Moves};
 ghost use Rattle.winnow_parser.specs.Answer.{ahead, outcome};
 ghost use Rattle.winnow_combinator.specs.Appended.{AppendingIf, AppendedErrorsIf, needs_some};
 ghost use Rattle.winnow_combinator.specs.Counts.{Ascends};
@@ -69,6 +70,8 @@ pub(crate) fn one_more<I: StreamIsPartial, E: ParserError<I>, P: Parser<I, E>>(
         (I.expects_more input.old)
         (ahead I.location I.remaining input.old)
         (outcome result (ahead I.location I.remaining input.new)) }
+    ensures onward { Moves (ahead I.location I.remaining input.old)
+        (ahead I.location I.remaining input.new) }
     ensures error { IfErr result (AppendedErrorsIf appends
         (ahead I.Checkpoint.location I.remained) E.append_gives (P.errors parser.now)
         (I.expects_more input.old) (ahead I.location I.remaining input.old) input.new) }
@@ -130,6 +133,8 @@ where
         (I.expects_more input.old)
         (ahead I.location I.remaining input.old)
         (outcome result (ahead I.location I.remaining input.new)) }
+    ensures onward { Moves (ahead I.location I.remaining input.old)
+        (ahead I.location I.remaining input.new) }
     ensures error { IfErr result (GatheredErrors (RepeatedErrors (P.means again.now.parser.now)
         (AppendedErrorsIf (needs_some again.now.counts.least)
         (ahead I.Checkpoint.location I.remained) E.append_gives

@@ -1,6 +1,6 @@
 //! Combinators: parsers that are made of parsers. The meaning of each is made of the meanings of
 //! its parts alone.
-#![tactic(auto)]
+#![tactic(auto, using(winnow_parser::proofs::lemmas::OnwardLemmas::onward_steps))]
 
 mod again;
 mod alternatives;

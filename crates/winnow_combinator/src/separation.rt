@@ -1,5 +1,6 @@
 ghost use Rattle.std.specs.Prelude.{◌≡◌, ◌+◌, ◌-◌, ◌<◌, ◌^◌, ◌∷◌, IfErr};
 ghost use Rattle.winnow_stream.specs.Source.{width};
+ghost use Rattle.winnow_parser.specs.Outcome.{Moves};
 ghost use Rattle.winnow_parser.specs.Answer.{ahead, outcome};
 ghost use Rattle.winnow_parser.specs.Meanings.{Preceded};
 ghost use Rattle.winnow_parser.specs.Errors.{PairErrors};
@@ -90,6 +91,8 @@ where
         (I.expects_more input.old)
         (ahead I.location I.remaining input.old)
         (outcome result (ahead I.location I.remaining input.new)) }
+    ensures onward { Moves (ahead I.location I.remaining input.old)
+        (ahead I.location I.remaining input.new) }
     ensures error { IfErr result (GatheredErrors
         (RepeatedErrors (Preceded (S.means list.now.separator) (P.means list.now.inner))
         (AppendedErrorsIf (needs_some (counts.now.least - 1))
@@ -149,6 +152,8 @@ where
         (I.expects_more input.old)
         (ahead I.location I.remaining input.old)
         (outcome result (ahead I.location I.remaining input.new)) }
+    ensures onward { Moves (ahead I.location I.remaining input.old)
+        (ahead I.location I.remaining input.new) }
     ensures error { IfErr result (GatheredErrors (SeparatedErrors counts.now.least
         counts.now.greatest
         (ahead I.Checkpoint.location I.remained) E.append_gives E.assert_gives

@@ -1,6 +1,7 @@
 ghost use Rattle.std.specs.Prelude.{◌≡◌, ◌+◌, ◌<◌, ◌^◌, List, length, IfErr};
 ghost use Rattle.std.specs.List.{FoldsTo};
 ghost use Rattle.winnow_stream.specs.Source.{width};
+ghost use Rattle.winnow_parser.specs.Outcome.{Moves};
 ghost use Rattle.winnow_parser.specs.Answer.{ahead, outcome};
 ghost use Rattle.winnow_count.specs.CountRange.{least_count, greatest_count};
 ghost use Rattle.winnow_combinator.specs.Appended.{Appending, AppendedErrors};
@@ -71,6 +72,8 @@ fn end_after<I: StreamIsPartial, E: ParserError<I>, Q: Parser<I, E>>(
         (I.expects_more input.old)
         (ahead I.location I.remaining input.old)
         (outcome result (ahead I.location I.remaining input.new)) }
+    ensures onward { Moves (ahead I.location I.remaining input.old)
+        (ahead I.location I.remaining input.new) }
     ensures error { IfErr result (Q.errors terminator.now (I.expects_more input.old)
         (ahead I.location I.remaining input.old) input.new) }
     ensures valid { I.valid input.new }
@@ -126,6 +129,8 @@ where
         (I.expects_more input.old)
         (ahead I.location I.remaining input.old)
         (outcome result (ahead I.location I.remaining input.new)) }
+    ensures onward { Moves (ahead I.location I.remaining input.old)
+        (ahead I.location I.remaining input.new) }
     ensures error { IfErr result (GatheredErrors
         (TillErrors again.now.counts.least again.now.counts.greatest
         (P.means again.now.parser.now)

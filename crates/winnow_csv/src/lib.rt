@@ -12,7 +12,7 @@
 //!
 //! A [`Row`] is a record of a reader, too: a `winnow::reader::ByteReader` of it reads records from
 //! bytes that come in pieces. [`rows_in_pieces_law`] says in the words of the format what it reads.
-#![tactic(auto)]
+#![tactic(auto, using(winnow_parser::proofs::lemmas::OnwardLemmas::onward_steps))]
 
 mod fields;
 mod gathering;

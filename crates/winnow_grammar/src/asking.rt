@@ -1,3 +1,4 @@
+ghost use Rattle.winnow_parser.specs.Outcome.{Moves};
 ghost use Rattle.winnow_parser.specs.Answer.{ahead, outcome};
 ghost use Rattle.winnow_grammar.specs.AnyAnswer.{AnyAnswer};
 
@@ -17,6 +18,8 @@ pub fn ask<I: StreamIsPartial, E, P: Parser<I, E>>(
     requires valid { I.valid input.old }
     ensures answer { AnyAnswer (I.expects_more input.old) (ahead I.location I.remaining input.old)
         (outcome result (ahead I.location I.remaining input.new)) }
+    ensures onward { Moves (ahead I.location I.remaining input.old)
+        (ahead I.location I.remaining input.new) }
     ensures valid { I.valid input.new }
     ensures kept { I.keeps input.old input.new }
 {

@@ -1,4 +1,5 @@
 ghost use Rattle.std.specs.Prelude.{◌≡◌, ◌-◌, ◌<◌};
+ghost use Rattle.winnow_parser.specs.Outcome.{Moves};
 ghost use Rattle.winnow_parser.specs.Answer.{ahead, outcome};
 ghost use Rattle.winnow_parser.specs.Errors.{AnyError};
 ghost use Rattle.winnow_grammar.specs.AnyAnswer.{AnyAnswer, IsParser-AnyAnswer};
@@ -26,6 +27,8 @@ pub trait Layer<I: StreamIsPartial, E> {
         ensures answer { AnyAnswer (I.expects_more input.old)
             (ahead I.location I.remaining input.old)
             (outcome result (ahead I.location I.remaining input.new)) }
+        ensures onward { Moves (ahead I.location I.remaining input.old)
+            (ahead I.location I.remaining input.new) }
         ensures valid { I.valid input.new }
         ensures kept { I.keeps input.old input.new };
 }
@@ -55,6 +58,8 @@ fn read_nested<I: StreamIsPartial, X, E: ParserError<I, Inner = X>, L: Layer<I, 
     requires { I.valid input.old }
     ensures answer { AnyAnswer (I.expects_more input.old) (ahead I.location I.remaining input.old)
         (outcome result (ahead I.location I.remaining input.new)) }
+    ensures onward { Moves (ahead I.location I.remaining input.old)
+        (ahead I.location I.remaining input.new) }
     ensures valid { I.valid input.new }
     ensures kept { I.keeps input.old input.new }
 {
@@ -67,6 +72,8 @@ fn read_nested<I: StreamIsPartial, X, E: ParserError<I, Inner = X>, L: Layer<I, 
         ensures answer { AnyAnswer (I.expects_more input.old)
             (ahead I.location I.remaining input.old)
             (outcome result (ahead I.location I.remaining input.new)) }
+        ensures onward { Moves (ahead I.location I.remaining input.old)
+            (ahead I.location I.remaining input.new) }
         ensures valid { I.valid input.new }
         ensures kept { I.keeps input.old input.new }
     { read_nested(layer, alloc, input, depth - 1) };
@@ -82,6 +89,8 @@ fn too_deep<I: StreamIsPartial, O, E: ParserError<I>>(
     requires { I.valid input.old }
     ensures answer { AnyAnswer (I.expects_more input.old) (ahead I.location I.remaining input.old)
         (outcome result (ahead I.location I.remaining input.new)) }
+    ensures onward { Moves (ahead I.location I.remaining input.old)
+        (ahead I.location I.remaining input.new) }
     ensures valid { I.valid input.new }
     ensures kept { I.keeps input.old input.new }
 {

@@ -30,7 +30,7 @@
 //!
 //! The outermost function alone names `&str` or `&[u8]`: a part that is generic has no lifetime,
 //! and what it gives may hold slices of the input all the same.
-#![tactic(auto)]
+#![tactic(auto, using(winnow_parser::proofs::lemmas::OnwardLemmas::onward_steps))]
 
 mod asking;
 mod functions;

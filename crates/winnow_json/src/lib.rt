@@ -20,7 +20,7 @@
 //!
 //! [`write_value`] appends the text of a value, and [`write_string`] that of a string. What the
 //! first writes is read back as the same value, as [`round_trip_law`] says.
-#![tactic(auto)]
+#![tactic(auto, using(winnow_parser::proofs::lemmas::OnwardLemmas::onward_steps))]
 
 mod causes;
 mod characters;

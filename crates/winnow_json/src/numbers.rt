@@ -1,7 +1,7 @@
 ghost use Rattle.std.specs.Prelude.{◌≡◌, IfOk};
 ghost use Rattle.std.specs.Int.{w64};
+ghost use Rattle.winnow.specs.Outcome.{Moves};
 ghost use Rattle.winnow.specs.Answer.{ahead, outcome};
-ghost use Rattle.winnow.specs.Laws.{LeavesAfter};
 ghost use Rattle.winnow_stream.specs.SliceBytes.{SlicesHaveBytes};
 ghost use Rattle.winnow_count.specs.Reading.{IsSomeExactly, ReadsSigned};
 ghost use Rattle.winnow_format.specs.Bytes.{bytes_of};
@@ -71,6 +71,8 @@ where
     ensures means { NumberRun I.Token.code I.is_slice I.Slice.bytes
         (I.expects_more input.old) (ahead I.location I.remaining input.old)
         (outcome result (ahead I.location I.remaining input.new)) }
+    ensures onward { Moves (ahead I.location I.remaining input.old)
+        (ahead I.location I.remaining input.new) }
     ensures valid { I.valid input.new }
     ensures kept { I.keeps input.old input.new }
 {
@@ -107,8 +109,8 @@ where
     ensures complete { GivesEachNumber (I.expects_more input.old)
         (bytes_of (I.remaining input.old)) result (bytes_of (I.remaining input.new)) }
     ensures need { NeedsOneByte result }
-    ensures moved { LeavesAfter (ahead I.location I.remaining input.old)
-        (outcome result (ahead I.location I.remaining input.new)) }
+    ensures onward { Moves (ahead I.location I.remaining input.old)
+        (ahead I.location I.remaining input.new) }
     ensures valid { I.valid input.new }
     ensures kept { I.keeps input.old input.new }
 {

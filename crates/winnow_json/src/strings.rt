@@ -1,7 +1,7 @@
 ghost use Rattle.std.specs.Prelude.{◌≡◌, ◌<◌, length, IfOk};
 ghost use Rattle.std.specs.String.{string_bytes};
-ghost use Rattle.winnow.specs.Answer.{ahead, outcome};
-ghost use Rattle.winnow.specs.Laws.{LeavesAfter};
+ghost use Rattle.winnow.specs.Outcome.{Moves};
+ghost use Rattle.winnow.specs.Answer.{ahead};
 ghost use Rattle.winnow_stream.specs.SliceBytes.{SlicesHaveBytes};
 ghost use Rattle.winnow_format.specs.Bytes.{bytes_of};
 ghost use Rattle.winnow_json.specs.Needing.{NeedsOneByte};
@@ -115,8 +115,8 @@ where
     ensures complete { GivesEachString (bytes_of (I.remaining input.old)) result
         (bytes_of (I.remaining input.new)) }
     ensures need { NeedsOneByte result }
-    ensures moved { LeavesAfter (ahead I.location I.remaining input.old)
-        (outcome result (ahead I.location I.remaining input.new)) }
+    ensures onward { Moves (ahead I.location I.remaining input.old)
+        (ahead I.location I.remaining input.new) }
     ensures valid { I.valid input.new }
     ensures kept { I.keeps input.old input.new }
 {

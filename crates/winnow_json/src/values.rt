@@ -1,6 +1,6 @@
 ghost use Rattle.std.specs.Prelude.{IfOk};
-ghost use Rattle.winnow.specs.Answer.{ahead, outcome};
-ghost use Rattle.winnow.specs.Laws.{LeavesAfter};
+ghost use Rattle.winnow.specs.Outcome.{Moves};
+ghost use Rattle.winnow.specs.Answer.{ahead};
 ghost use Rattle.winnow_stream.specs.SliceBytes.{SlicesHaveBytes};
 ghost use Rattle.winnow_format.specs.Bytes.{bytes_of};
 ghost use Rattle.winnow_json.specs.Needing.{NeedsOneByte};
@@ -78,8 +78,8 @@ where
     ensures complete { GivesEachValue depth (I.expects_more input.old)
         (bytes_of (I.remaining input.old)) result (bytes_of (I.remaining input.new)) }
     ensures need { NeedsOneByte result }
-    ensures moved { LeavesAfter (ahead I.location I.remaining input.old)
-        (outcome result (ahead I.location I.remaining input.new)) }
+    ensures onward { Moves (ahead I.location I.remaining input.old)
+        (ahead I.location I.remaining input.new) }
     ensures valid { I.valid input.new }
     ensures kept { I.keeps input.old input.new }
 {

@@ -10,7 +10,7 @@
 //! generic in the parser of the replies in an array, and `read_nested` ties the levels together.
 //! `writing` is the writer, and `laws` says that it is read back. `records` reads one reply after
 //! the other from bytes that come in pieces.
-#![tactic(auto)]
+#![tactic(auto, using(winnow_parser::proofs::lemmas::OnwardLemmas::onward_steps))]
 
 mod laws;
 mod lines;

@@ -1,4 +1,5 @@
 ghost use Rattle.std.specs.Prelude.{◌≡◌, ◌<◌, ◌^◌, Some};
+ghost use Rattle.winnow.specs.Outcome.{Moves};
 ghost use Rattle.winnow.specs.Answer.{ahead, outcome};
 ghost use Rattle.winnow_count.specs.CountRange.{HasCounts};
 ghost use Rattle.winnow_count.specs.Reading.{IsSomeExactly};
@@ -43,6 +44,8 @@ where
         (I.expects_more input.old)
         (ahead I.location I.remaining input.old)
         (outcome result (ahead I.location I.remaining input.new)) }
+    ensures onward { Moves (ahead I.location I.remaining input.old)
+        (ahead I.location I.remaining input.new) }
     ensures valid { I.valid input.new }
     ensures kept { I.keeps input.old input.new }
 {
@@ -70,6 +73,8 @@ where
         I.counts_shortage I.is_slice I.Slice.bytes (I.expects_more input.old)
         (ahead I.location I.remaining input.old)
         (outcome result (ahead I.location I.remaining input.new)) }
+    ensures onward { Moves (ahead I.location I.remaining input.old)
+        (ahead I.location I.remaining input.new) }
     ensures valid { I.valid input.new }
     ensures kept { I.keeps input.old input.new }
 {
@@ -98,6 +103,8 @@ where
         (I.expects_more input.old)
         (ahead I.location I.remaining input.old)
         (outcome result (ahead I.location I.remaining input.new)) }
+    ensures onward { Moves (ahead I.location I.remaining input.old)
+        (ahead I.location I.remaining input.new) }
     ensures valid { I.valid input.new }
     ensures kept { I.keeps input.old input.new }
 {
@@ -125,6 +132,8 @@ where
     ensures means { Bytes I.Token.code I.counts_shortage I.is_slice I.Slice.bytes count
         (I.expects_more input.old) (ahead I.location I.remaining input.old)
         (outcome result (ahead I.location I.remaining input.new)) }
+    ensures onward { Moves (ahead I.location I.remaining input.old)
+        (ahead I.location I.remaining input.new) }
     ensures valid { I.valid input.new }
     ensures kept { I.keeps input.old input.new }
 {

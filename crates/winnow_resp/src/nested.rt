@@ -1,7 +1,7 @@
 ghost use Rattle.std.specs.Prelude.{◌≡◌, ◌≢◌, ◌-◌, ◌<◌, true};
+ghost use Rattle.winnow.specs.Outcome.{Moves};
 ghost use Rattle.winnow.specs.Answer.{ahead, outcome};
 ghost use Rattle.winnow.specs.Errors.{AnyError};
-ghost use Rattle.winnow.specs.Laws.{LeavesAfter};
 ghost use Rattle.winnow_stream.specs.SliceBytes.{SlicesHaveBytes};
 ghost use Rattle.winnow_combinator.specs.Ending.{Failing, IsParser-Failing};
 ghost use Rattle.winnow_resp.specs.Grammar.{BulkString, ArrayReply, Scalar, Layer, Nested};
@@ -30,6 +30,8 @@ where
     ensures means { BulkString I.Token.code I.counts_shortage I.is_slice I.Slice.bytes longest
         (I.expects_more input.old) (ahead I.location I.remaining input.old)
         (outcome result (ahead I.location I.remaining input.new)) }
+    ensures onward { Moves (ahead I.location I.remaining input.old)
+        (ahead I.location I.remaining input.new) }
     ensures valid { I.valid input.new }
     ensures kept { I.keeps input.old input.new }
 {
@@ -57,6 +59,8 @@ where
         I.counts_shortage I.is_slice I.Slice.bytes (P.means inner)
         (I.expects_more input.old) (ahead I.location I.remaining input.old)
         (outcome result (ahead I.location I.remaining input.new)) }
+    ensures onward { Moves (ahead I.location I.remaining input.old)
+        (ahead I.location I.remaining input.new) }
     ensures valid { I.valid input.new }
     ensures kept { I.keeps input.old input.new }
 {
@@ -87,6 +91,8 @@ where
     ensures means { Scalar I.Token.code I.counts_shortage I.is_slice I.Slice.bytes longest kind
         (I.expects_more input.old) (ahead I.location I.remaining input.old)
         (outcome result (ahead I.location I.remaining input.new)) }
+    ensures onward { Moves (ahead I.location I.remaining input.old)
+        (ahead I.location I.remaining input.new) }
     ensures valid { I.valid input.new }
     ensures kept { I.keeps input.old input.new }
 {
@@ -127,6 +133,8 @@ where
         I.counts_shortage I.is_slice I.Slice.bytes longest (P.means inner)
         (I.expects_more input.old) (ahead I.location I.remaining input.old)
         (outcome result (ahead I.location I.remaining input.new)) }
+    ensures onward { Moves (ahead I.location I.remaining input.old)
+        (ahead I.location I.remaining input.new) }
     ensures valid { I.valid input.new }
     ensures kept { I.keeps input.old input.new }
 {
@@ -220,6 +228,8 @@ where
     ensures means { Nested I.Token.code I.counts_shortage I.is_slice I.Slice.bytes longest depth
         (I.expects_more input.old) (ahead I.location I.remaining input.old)
         (outcome result (ahead I.location I.remaining input.new)) }
+    ensures onward { Moves (ahead I.location I.remaining input.old)
+        (ahead I.location I.remaining input.new) }
     ensures valid { I.valid input.new }
     ensures kept { I.keeps input.old input.new }
 {
@@ -233,6 +243,8 @@ where
             I.counts_shortage I.is_slice I.Slice.bytes longest (depth - 1)
             (I.expects_more input.old) (ahead I.location I.remaining input.old)
             (outcome result (ahead I.location I.remaining input.new)) }
+        ensures onward { Moves (ahead I.location I.remaining input.old)
+            (ahead I.location I.remaining input.new) }
         ensures valid { I.valid input.new }
         ensures kept { I.keeps input.old input.new }
     { read_nested(alloc, input, longest, depth - 1) };
@@ -263,8 +275,8 @@ where
         (I.remaining input.old) result (I.remaining input.new) }
     ensures complete { GivesEach limits.longest limits.depth (I.remaining input.old) result
         (I.remaining input.new) }
-    ensures moved { LeavesAfter (ahead I.location I.remaining input.old)
-        (outcome result (ahead I.location I.remaining input.new)) }
+    ensures onward { Moves (ahead I.location I.remaining input.old)
+        (ahead I.location I.remaining input.new) }
     ensures valid { I.valid input.new }
     ensures kept { I.keeps input.old input.new }
 {

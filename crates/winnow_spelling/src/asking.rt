@@ -1,3 +1,4 @@
+ghost use Rattle.winnow_parser.specs.Outcome.{Moves};
 ghost use Rattle.winnow_parser.specs.Answer.{ahead, outcome};
 ghost use Rattle.winnow_spelling.specs.Spelt.{Spelt};
 
@@ -18,6 +19,8 @@ pub fn ask_as<I: StreamIsPartial, E, P: Spells<I, E>>(
     ensures answer { Spelt (P.spells parser.now) (I.expects_more input.old)
         (ahead I.location I.remaining input.old)
         (outcome result (ahead I.location I.remaining input.new)) }
+    ensures onward { Moves (ahead I.location I.remaining input.old)
+        (ahead I.location I.remaining input.new) }
     ensures valid { I.valid input.new }
     ensures kept { I.keeps input.old input.new }
 {

@@ -1,4 +1,5 @@
 ghost use Rattle.std.specs.Prelude.{◌≡◌};
+ghost use Rattle.winnow_parser.specs.Outcome.{Moves};
 ghost use Rattle.winnow_parser.specs.Answer.{ahead, outcome};
 ghost use Rattle.winnow_parser.specs.Errors.{AnyError};
 ghost use Rattle.winnow_spelling.specs.Spelling.{Spelling};
@@ -23,6 +24,8 @@ pub trait ReadsAs<I: StreamIsPartial, E> {
         ensures answer { Spelt (spells self.now) (I.expects_more input.old)
             (ahead I.location I.remaining input.old)
             (outcome result (ahead I.location I.remaining input.new)) }
+        ensures onward { Moves (ahead I.location I.remaining input.old)
+            (ahead I.location I.remaining input.new) }
         ensures valid { I.valid input.new }
         ensures kept { I.keeps input.old input.new };
 }

@@ -3,6 +3,7 @@ ghost use Rattle.std.specs.Prelude.{IsTrue, IfErr};
 ghost use Rattle.winnow_stream.specs.Source.{width, Computes};
 ghost use Rattle.winnow_stream.specs.Front.{is_offset, front};
 ghost use Rattle.winnow_count.specs.CountRange.{least_count, greatest_count, is_up_to};
+ghost use Rattle.winnow_parser.specs.Outcome.{Moves};
 ghost use Rattle.winnow_parser.specs.Answer.{ahead, outcome};
 ghost use Rattle.winnow_parser.specs.Errors.{OwnErrors};
 ghost use Rattle.winnow_token.specs.Held.{HeldFront, IsFound, IsParser-HeldFront, held_within};
@@ -119,6 +120,8 @@ fn take_front<I: StreamIsPartial, E: ParserError<I>, P: Fn(I::Token) -> bool + D
         (I.expects_more input.old)
         (ahead I.location I.remaining input.old)
         (outcome result (ahead I.location I.remaining input.new)) }
+    ensures onward { Moves (ahead I.location I.remaining input.old)
+        (ahead I.location I.remaining input.new) }
     ensures error { IfErr result (OwnErrors E.from_input_gives E.assert_gives
         (I.expects_more input.old) (ahead I.location I.remaining input.old) input.new) }
     ensures valid { I.valid input.new }
@@ -151,6 +154,8 @@ fn take_found<I: StreamIsPartial, E: ParserError<I>>(
         → HeldFront I.is_slice holds least greatest (I.expects_more input.old)
         (ahead I.location I.remaining input.old)
         (outcome result (ahead I.location I.remaining input.new)) }
+    ensures onward { Moves (ahead I.location I.remaining input.old)
+        (ahead I.location I.remaining input.new) }
     ensures error { IfErr result (OwnErrors E.from_input_gives E.assert_gives
         (I.expects_more input.old) (ahead I.location I.remaining input.old) input.new) }
     ensures valid { I.valid input.new }

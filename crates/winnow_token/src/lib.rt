@@ -1,5 +1,5 @@
 //! Parsers of tokens: one of a set, a number of them, those in a set, a literal, and the rest.
-#![tactic(auto)]
+#![tactic(auto, using(winnow_parser::proofs::lemmas::OnwardLemmas::onward_steps))]
 
 mod counted;
 mod counts;

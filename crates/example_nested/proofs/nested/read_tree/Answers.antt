@@ -1,5 +1,4 @@
 use Rattle.winnow_parser.specs.Answer.{ahead}
-use Rattle.example_nested.specs.Nested.{IsParser-Nested}
 use Rattle.example_nested.proofs.lemmas.AnswerLemmas.{answers, misses_none}
 use Rattle.example_nested.proofs.nested.read_tree.Goals as goal
 
@@ -12,6 +11,3 @@ pub returns-clause-complete : goal.returns-clause-complete
 returns-clause-complete g c =
     misses_none g.I.Token.AsChar.code c.args.depth (g.I.StreamIsPartial.expects_more c.args.input.now) (g.I.Stream.remaining c.args.input.now) (g.I.Stream.remaining c.parse_next.new.input) c.parse_next.result
     (returns-clause-answer g c)
-
-pub returns-clause-moved : goal.returns-clause-moved
-returns-clause-moved g c = (IsParser-Nested g.I.Token.AsChar.code c.args.depth).onward _ _ _ c.parse_next.ensures.means

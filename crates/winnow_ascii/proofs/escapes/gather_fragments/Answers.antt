@@ -2,6 +2,7 @@ use Rattle.std.proofs.Common.{◌<◌, ◌≤◌, [], ◌∷◌, ◌++◌, None,
 use Rattle.winnow_stream.specs.Source.{width}
 use Rattle.winnow_parser.specs.Outcome.{Gives, Fails}
 use Rattle.winnow_parser.specs.Answer.{ahead, failed}
+use Rattle.winnow_parser.specs.Parts.{Moves-on}
 use Rattle.winnow_combinator.proofs.lemmas.GatherLemmas.{Gathered-fails}
 use Rattle.winnow_ascii.specs.Escapes.{NextFragment, UpToEnd, Fragments, EscapeErrors, FragmentErrors, UpToEndErrors}
 use Rattle.winnow_ascii.proofs.lemmas.EscapeLemmas.{some-width, value-before-end, TakesInTurn-more, GivesInTurn-ended, GivesInTurn-last}
@@ -109,6 +110,7 @@ loop-fragment-preserved g c =
       record {
         valid = c.in-Ok-Some.ensures.valid;
         kept = g.met.I.Stream.keeps_transitive start here after so_far.kept c.in-Ok-Some.ensures.kept;
+        onward = Moves-on (stands start) (stands here) (stands after) so_far.onward c.in-Ok-Some.ensures.onward;
         made = g.met.A.Accumulate.holds_taken c.loop-fragment.whole c.accumulate.new.self xs x so_far.made c.in-Ok.ensures.taken;
         room = omega (arith, less, so_far.room, length-append xs (x ∷ []));
         values = TakesInTurn-more step partial xs x (stands start) (stands here) (stands after) so_far.values means less;

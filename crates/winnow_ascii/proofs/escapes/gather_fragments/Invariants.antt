@@ -1,5 +1,6 @@
 use Rattle.std.specs.Prelude.{◌+◌, ◌<◌, ◌^◌, List, length}
 use Rattle.winnow_stream.specs.Source.{width}
+use Rattle.winnow_parser.specs.Outcome.{Moves}
 use Rattle.winnow_parser.specs.Answer.{ahead}
 use Rattle.winnow_ascii.specs.declared.fragment.Fragment.{Fragment}
 use Rattle.winnow_ascii.specs.Escapes.{NextFragment, UpToEnd, TakesInTurn}
@@ -14,6 +15,7 @@ invariant-loop-fragment g l =
     (xs : List (Fragment g.row.P-Output.Denot g.row.Q-Output.Denot)) × record {
       valid : g.I.Stream.valid l.input;
       kept : g.I.Stream.keeps l.fn.input l.input;
+      onward : Moves (stands l.fn.input) (stands l.input);
       made : g.A.Accumulate.holds l.whole xs;
       room : length xs + width (g.I.Stream.remaining l.input) < 2 ^ 64;
       values : TakesInTurn (UpToEnd (NextFragment (g.P.Parser.means text.normal)

@@ -5,6 +5,7 @@ use Rattle.std.specs.List.{FoldsTo}
 use Rattle.winnow_stream.specs.Source.{width}
 use Rattle.winnow_parser.specs.Outcome.{Gives, Fails}
 use Rattle.winnow_parser.specs.Answer.{ahead, failed}
+use Rattle.winnow_parser.specs.Parts.{Moves-on}
 use Rattle.winnow_combinator.specs.Appended.{Appending, AppendingIf, AppendedErrors, needs_some}
 use Rattle.winnow_combinator.specs.Counts.{IsBelow}
 use Rattle.winnow_combinator.specs.Repetition.{Taking, OneMore, InTurn-more, Repeated}
@@ -38,6 +39,7 @@ loop-parser-preserved g c =
         record {
           valid = c.in-Ok-Some.ensures.valid;
           kept = g.met.I.Stream.keeps_transitive c.args.input.now c.loop-parser.input c.one_more.new.input so_far.kept c.in-Ok-Some.ensures.kept;
+          onward = Moves-on (stands c.args.input.now) here next so_far.onward c.in-Ok-Some.ensures.onward;
           gathered = FoldsTo-push (g.G.Gather.takes again.gather.now) c.args.whole xs c.loop-parser.whole x c.take.new.whole so_far.gathered c.in-Ok.ensures.taken;
           made = g.met.G.Gather.makes_taken again.gather.now all c.loop-parser.whole c.take.new.whole x so_far.made c.in-Ok.ensures.taken;
           room = omega (arith, less, so_far.room, length-append all (x ∷ []));

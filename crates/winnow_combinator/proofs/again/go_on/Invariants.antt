@@ -1,6 +1,7 @@
 use Rattle.std.specs.Prelude.{◌≡◌, ◌+◌, ◌<◌, ◌≤◌, ◌^◌, List, length}
 use Rattle.std.specs.List.{FoldsTo}
 use Rattle.winnow_stream.specs.Source.{width}
+use Rattle.winnow_parser.specs.Outcome.{Moves}
 use Rattle.winnow_parser.specs.Answer.{ahead}
 use Rattle.winnow_combinator.specs.Counts.{IsUpTo}
 use Rattle.winnow_combinator.specs.Repetition.{Taking, InTurn}
@@ -14,6 +15,7 @@ invariant-loop-parser g l =
     (xs : List g.row.P-Output.Denot) × ((all : List g.row.P-Output.Denot) × record {
       valid : g.I.Stream.valid l.input;
       kept : g.I.Stream.keeps l.fn.input l.input;
+      onward : Moves (stands l.fn.input) (stands l.input);
       gathered : FoldsTo (g.G.Gather.takes l.again.gather.now) l.fn.whole xs l.whole;
       made : g.G.Gather.makes l.again.gather.now all l.whole;
       room : length all + width (g.I.Stream.remaining l.input) < 2 ^ 64;

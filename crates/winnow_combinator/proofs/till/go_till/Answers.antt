@@ -4,6 +4,7 @@ use Rattle.std.specs.List.{FoldsTo}
 use Rattle.winnow_stream.specs.Source.{width}
 use Rattle.winnow_parser.specs.Outcome.{Gives, Fails}
 use Rattle.winnow_parser.specs.Answer.{ahead, failed}
+use Rattle.winnow_parser.specs.Parts.{Moves-on}
 use Rattle.winnow_combinator.specs.Misuse.{TakingErrors}
 use Rattle.winnow_combinator.specs.Repetition.{Taking}
 use Rattle.winnow_combinator.specs.Till.{EndAfter, RepeatedTill, MakesOfFirst}
@@ -42,6 +43,7 @@ loop-end-preserved g c =
         record {
           valid = c.in-Ok.ensures.valid;
           kept = g.met.I.Stream.keeps_transitive start between after kept c.in-Ok.ensures.kept;
+          onward = Moves-on (stands start) (stands between) (stands after) (Moves-on (stands start) (stands asked) (stands between) so_far.onward c.in-Ok-None.ensures.onward) c.in-Ok.ensures.onward;
           gathered = FoldsTo-push (g.G.Gather.takes again.gather.now) c.args.whole xs c.loop-end.whole x c.take.new.whole so_far.gathered c.in-Ok-take.ensures.taken;
           made = g.met.G.Gather.makes_taken again.gather.now all c.loop-end.whole c.take.new.whole x so_far.made c.in-Ok-take.ensures.taken;
           room = omega (arith, still, less, so_far.room, length-append all (x ∷ []));

@@ -1,5 +1,4 @@
 use Rattle.winnow_parser.specs.Answer.{ahead}
-use Rattle.winnow_csv.specs.Meanings.{IsParser-OneRow}
 use Rattle.winnow_csv.proofs.lemmas.AnswerLemmas.{answers, gives-each}
 use Rattle.winnow_csv.proofs.records.read_record.Goals as goal
 
@@ -12,6 +11,3 @@ pub returns-clause-complete : goal.returns-clause-complete
 returns-clause-complete g c =
     let stands = ahead g.I.Rest.location g.I.Stream.remaining in
     gives-each g.I.Stream.is_slice g.I.Slice.AsBytes.bytes g.met.I.Stream.slices_stay c.requires.bytes g.E.ParserError.append_refusable g.E.ParserError.or_refusable (g.I.StreamIsPartial.expects_more c.args.input.now) (stands c.args.input.now) (stands c.parse_next.new.input) c.parse_next.result (g.met.I.Stream.positive_widths c.args.input.now c.requires.valid) c.parse_next.ensures.means
-
-pub returns-clause-moved : goal.returns-clause-moved
-returns-clause-moved g c = (IsParser-OneRow g.I.Stream.is_slice g.I.Slice.AsBytes.bytes g.met.I.Stream.slices_stay g.E.ParserError.append_refusable g.E.ParserError.or_refusable).onward _ _ _ c.parse_next.ensures.means

@@ -1,6 +1,4 @@
 use Rattle.winnow_parser.specs.Answer.{ahead}
-use Rattle.winnow_format.proofs.lemmas.TokenLemmas.{itself}
-use Rattle.winnow_json.specs.Meanings.{IsParser-NumberRun}
 use Rattle.winnow_json.proofs.lemmas.NumberAnswerLemmas.{number-answers, number-need, number-longest, number-each}
 use Rattle.winnow_json.proofs.numbers.read_number.Goals as goal
 
@@ -23,6 +21,3 @@ pub returns-clause-need : goal.returns-clause-need
 returns-clause-need g c =
     let stands = ahead g.I.Rest.location g.I.Stream.remaining in
     number-need g.I.Stream.is_slice g.I.Slice.AsBytes.bytes c.requires.bytes (g.I.StreamIsPartial.expects_more c.args.input.now) (stands c.args.input.now) (stands c.parse_number.new.input) c.parse_number.result c.parse_number.ensures.means
-
-pub returns-clause-moved : goal.returns-clause-moved
-returns-clause-moved g c = (IsParser-NumberRun itself g.I.Stream.is_slice g.I.Slice.AsBytes.bytes g.met.I.Stream.slices_stay).onward _ _ _ c.parse_number.ensures.means

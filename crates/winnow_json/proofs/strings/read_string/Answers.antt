@@ -87,8 +87,8 @@ returns-in-Ok-Whole-clause-complete g c =
     let is = read-as t c.read_bytes.result c.in-Ok-Whole.field-0 (Whole c.in-Ok-Whole.value c.in-Ok-Whole.width) c.read_bytes.ensures c.in-Ok-Whole.is c.in-Ok-Whole.field-0-is in
     whole-once r t same c.in-Ok-Whole.value c.in-Ok-Whole.width (g.I.Stream.remaining c.next_slice.new.self) is c.next_slice.ensures.remains
 
-pub returns-in-Ok-Whole-clause-moved : goal.returns-in-Ok-Whole-clause-moved
-returns-in-Ok-Whole-clause-moved g c =
+pub returns-in-Ok-Whole-clause-onward : goal.returns-in-Ok-Whole-clause-onward
+returns-in-Ok-Whole-clause-onward g c =
     let r = g.I.Stream.remaining c.args.input.now in
     let t = c.as_bytes.result.now in
     let same : r ≡ units t =
@@ -141,8 +141,8 @@ returns-in-Ok-Begun-2-clause-complete g c =
     let is = read-as t c.read_bytes.result c.in-Ok-Begun.field-0 (Begun c.in-Ok-Begun.field-0-0) c.read_bytes.ensures c.in-Ok-Begun.is c.in-Ok-Begun.field-0-is in
     λ ds after. missed r t same ds after (begun-missed t ds after c.in-Ok-Begun.field-0-0 is)
 
-pub returns-in-Ok-Begun-2-clause-moved : goal.returns-in-Ok-Begun-2-clause-moved
-returns-in-Ok-Begun-2-clause-moved g c =
+pub returns-in-Ok-Begun-2-clause-onward : goal.returns-in-Ok-Begun-2-clause-onward
+returns-in-Ok-Begun-2-clause-onward g c =
     let r = g.I.Stream.remaining c.args.input.now in
     let t = c.as_bytes.result.now in
     let same : r ≡ units t =
@@ -177,8 +177,8 @@ returns-clause-complete g c =
     let is = read-as t c.read_bytes.result c.in-Ok-Damaged.field-0 (Damaged c.in-Ok-Damaged.width) c.read_bytes.ensures c.in-Ok-Damaged.is c.in-Ok-Damaged.field-0-is in
     λ ds after. missed r t same ds after (damaged-missed t ds after c.in-Ok-Damaged.width is)
 
-pub returns-clause-moved : goal.returns-clause-moved
-returns-clause-moved g c =
+pub returns-clause-onward : goal.returns-clause-onward
+returns-clause-onward g c =
     let r = g.I.Stream.remaining c.args.input.now in
     let t = c.as_bytes.result.now in
     let same : r ≡ units t =

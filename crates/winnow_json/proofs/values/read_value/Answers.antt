@@ -84,8 +84,8 @@ returns-in-Ok-Whole-clause-complete g c =
     let is = subst (λ p. IsReading depth p t (Whole c.in-Ok-Whole.value c.in-Ok-Whole.width)) c.is_partial.ensures (value-as depth c.is_partial.result t c.read_bytes.result c.in-Ok-Whole.field-0 (Whole c.in-Ok-Whole.value c.in-Ok-Whole.width) c.read_bytes.ensures c.in-Ok-Whole.is c.in-Ok-Whole.field-0-is) in
     value-once depth partial r t same c.in-Ok-Whole.value c.in-Ok-Whole.width (g.I.Stream.remaining c.next_slice.new.self) is c.next_slice.ensures.remains
 
-pub returns-in-Ok-Whole-clause-moved : goal.returns-in-Ok-Whole-clause-moved
-returns-in-Ok-Whole-clause-moved g c =
+pub returns-in-Ok-Whole-clause-onward : goal.returns-in-Ok-Whole-clause-onward
+returns-in-Ok-Whole-clause-onward g c =
     let r = g.I.Stream.remaining c.args.input.now in
     let t = c.as_bytes.result.now in
     let depth = c.args.depth in
@@ -128,8 +128,8 @@ returns-clause-complete g c =
     let is = subst (λ p. IsReading depth p t (Damaged c.in-Ok-Damaged.width)) c.is_partial.ensures (value-as depth c.is_partial.result t c.read_bytes.result c.in-Ok-Damaged.field-0 (Damaged c.in-Ok-Damaged.width) c.read_bytes.ensures c.in-Ok-Damaged.is c.in-Ok-Damaged.field-0-is) in
     λ v after h. absurd (damaged-missed depth partial r t same is.1 v after h)
 
-pub returns-clause-moved : goal.returns-clause-moved
-returns-clause-moved g c =
+pub returns-clause-onward : goal.returns-clause-onward
+returns-clause-onward g c =
     let r = g.I.Stream.remaining c.args.input.now in
     let t = c.as_bytes.result.now in
     let depth = c.args.depth in

@@ -1,6 +1,4 @@
 use Rattle.winnow_parser.specs.Answer.{ahead}
-use Rattle.winnow_format.proofs.lemmas.TokenLemmas.{itself}
-use Rattle.winnow_resp.specs.Grammar.{IsParser-Nested}
 use Rattle.winnow_resp.proofs.lemmas.AnswerLemmas.{answers, gives-each}
 use Rattle.winnow_resp.proofs.nested.read_reply.Goals as goal
 
@@ -13,7 +11,3 @@ pub returns-clause-complete : goal.returns-clause-complete
 returns-clause-complete g c =
     let stands = ahead g.I.Rest.location g.I.Stream.remaining in
     gives-each g.I.Stream.counts_shortage g.I.Stream.is_slice g.met.I.Stream.slices_stay g.I.Slice.AsBytes.bytes c.requires.bytes c.args.limits.longest c.args.limits.depth (g.I.StreamIsPartial.expects_more c.args.input.now) (stands c.args.input.now) (stands c.parse_next.new.input) c.parse_next.result (g.met.I.Stream.positive_widths c.args.input.now c.requires.valid) c.parse_next.ensures.means
-
-pub returns-clause-moved : goal.returns-clause-moved
-returns-clause-moved g c =
-    (IsParser-Nested itself g.I.Stream.counts_shortage g.I.Stream.is_slice g.I.Slice.AsBytes.bytes g.met.I.Stream.slices_stay c.args.limits.longest c.args.limits.depth).onward _ _ _ c.parse_next.ensures.means
