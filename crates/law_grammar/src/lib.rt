@@ -4,13 +4,11 @@
 #![tactic(auto)]
 
 mod borrowed;
-mod errors;
 mod functions;
 mod literals;
 mod streams;
 
 pub use borrowed::{Item, read_items, read_names, read_pairs, read_sum};
-pub use errors::{NumberError, read_bound, read_number};
 pub use functions::{color, version};
 pub use literals::{
     Hexadecimal, Word, read_digit, read_hex, read_numbers, read_setting, read_version, read_word,
