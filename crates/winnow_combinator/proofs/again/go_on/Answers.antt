@@ -5,16 +5,38 @@ use Rattle.std.specs.List.{FoldsTo}
 use Rattle.winnow_stream.specs.Source.{width}
 use Rattle.winnow_parser.specs.Outcome.{Gives, Fails}
 use Rattle.winnow_parser.specs.Answer.{ahead, failed}
-use Rattle.winnow_parser.specs.Parts.{Moves-on}
+use Rattle.winnow_parser.specs.Parts.{Moves-on, Moves-still}
 use Rattle.winnow_combinator.specs.Appended.{Appending, AppendingIf, AppendedErrors, needs_some}
 use Rattle.winnow_combinator.specs.Counts.{IsBelow}
 use Rattle.winnow_combinator.specs.Repetition.{Taking, OneMore, InTurn-more, Repeated}
 use Rattle.winnow_combinator.specs.Misuse.{TakingErrors}
-use Rattle.winnow_combinator.proofs.lemmas.CountLemmas.{IsUpTo-more, IsUpTo-full, Ascends-full}
+use Rattle.winnow_combinator.proofs.lemmas.CountLemmas.{IsUpTo-zero, IsUpTo-more, IsUpTo-full, Ascends-full}
 use Rattle.winnow_combinator.proofs.lemmas.GatherLemmas.{Gathered-fails}
 use Rattle.winnow_combinator.proofs.lemmas.RepetitionLemmas.{Repeated-ended, Repeated-full}
 use Rattle.winnow_combinator.proofs.lemmas.AppendedLemmas.{AppendingIf-gives, Repeated-fails, RepeatedErrors-fails}
 use Rattle.winnow_combinator.proofs.again.go_on.Goals as goal
+
+pub loop-parser-init : goal.loop-parser-init
+loop-parser-init g c =
+    let here = ahead g.I.Rest.location g.I.Stream.remaining c.args.input.now in
+    let room = c.requires.room in (
+      [],
+      (
+        room.0,
+        record {
+          valid = c.requires.valid;
+          kept = g.met.I.Stream.keeps_reflexive c.args.input.now;
+          onward = Moves-still here here refl;
+          gathered = refl;
+          made = room.1.0;
+          room = room.1.1;
+          counted = refl;
+          within = omega arith;
+          up_to = IsUpTo-zero c.args.again.now.counts.greatest;
+          values = refl;
+        },
+      ),
+    )
 
 pub loop-parser-preserved : goal.loop-parser-preserved
 loop-parser-preserved g c =

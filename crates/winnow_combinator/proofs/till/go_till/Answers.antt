@@ -4,13 +4,34 @@ use Rattle.std.specs.List.{FoldsTo}
 use Rattle.winnow_stream.specs.Source.{width}
 use Rattle.winnow_parser.specs.Outcome.{Gives, Fails}
 use Rattle.winnow_parser.specs.Answer.{ahead, failed}
-use Rattle.winnow_parser.specs.Parts.{Moves-on}
+use Rattle.winnow_parser.specs.Parts.{Moves-on, Moves-still}
 use Rattle.winnow_combinator.specs.Misuse.{TakingErrors}
 use Rattle.winnow_combinator.specs.Repetition.{Taking}
 use Rattle.winnow_combinator.specs.Till.{EndAfter, RepeatedTill, MakesOfFirst}
 use Rattle.winnow_combinator.proofs.lemmas.GatherLemmas.{Gathered-fails}
 use Rattle.winnow_combinator.proofs.lemmas.TillLemmas.{RepeatedTill-more, RepeatedTill-ended, RepeatedTill-no_end, RepeatedTill-no_more, TillErrors-end, TillErrors-more}
 use Rattle.winnow_combinator.proofs.till.go_till.Goals as goal
+
+pub loop-end-init : goal.loop-end-init
+loop-end-init g c =
+    let here = ahead g.I.Rest.location g.I.Stream.remaining c.args.input.now in
+    let room = c.requires.room in (
+      [],
+      (
+        room.0,
+        record {
+          valid = c.requires.valid;
+          kept = g.met.I.Stream.keeps_reflexive c.args.input.now;
+          onward = Moves-still here here refl;
+          gathered = refl;
+          made = room.1.0;
+          room = room.1.1;
+          counted = refl;
+          within = omega arith;
+          values = refl;
+        },
+      ),
+    )
 
 pub loop-end-preserved : goal.loop-end-preserved
 loop-end-preserved g c =
