@@ -7,3 +7,4 @@ pub mod Tables
 pub mod Writing
 pub mod Widths
 pub mod Reading
+pub mod Marks

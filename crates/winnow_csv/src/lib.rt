@@ -12,10 +12,14 @@
 //!
 //! A [`Row`] is a record of a reader, too: a `winnow::reader::ByteReader` of it reads records from
 //! bytes that come in pieces. [`rows_in_pieces_law`] says in the words of the format what it reads.
+//!
+//! A record is read as it stands. [`text_start`] finds a byte order mark before the first one, and
+//! skips it or refuses it, before a reader is pushed anything.
 #![tactic(auto, using(winnow_parser::proofs::lemmas::OnwardLemmas::onward_steps))]
 
 mod fields;
 mod gathering;
+mod marks;
 mod reading;
 mod records;
 mod tables;
@@ -24,6 +28,7 @@ mod writing;
 
 pub use fields::{Plain, Quoted};
 pub use gathering::Chunks;
+pub use marks::{Mark, byte_order_mark, text_start};
 pub use reading::rows_in_pieces_law;
 pub use records::{Fields, Row, RowEnd, read_record};
 pub use tables::{Damage, read_table};

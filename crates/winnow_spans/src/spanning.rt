@@ -1,0 +1,114 @@
+ghost use Rattle.std.specs.Prelude.{◌≡◌};
+ghost use Rattle.winnow_parser.specs.Meanings.{Maps};
+ghost use Rattle.winnow_parser.specs.Parts.{IsParser-Maps};
+ghost use Rattle.winnow_parser.specs.Taken.{Taken, WithTaken, IsParser-Taken, IsParser-WithTaken};
+ghost use Rattle.winnow_spans.specs.Spans.{IsSpanOf, HasSpanOf};
+
+use crate::SliceSpan;
+use std::alloc::Global;
+use std::ops::Range;
+use winnow_parser::{ModalResult, Parser, Taken, WithTaken};
+use winnow_stream::{Location, StreamIsPartial};
+
+/// A parser of the range of the tokens that the inner parser takes; [`token_span`] makes it.
+#[derive(Drop)]
+#[derive_where(Clone, Copy; P)]
+pub struct TokenSpan<P, I, E> {
+    inner: Taken<P, I, E>,
+}
+
+/// Returns the parser of the range of the tokens that a parser takes, from where the first one
+/// starts to where the last one ends.
+///
+/// Where it takes none, the range is that of `span` in the Rust crate, from where the next token
+/// starts to where the last one before it ended: no contract says so.
+pub fn token_span<I: StreamIsPartial, E, P: Parser<I, E>>(parser: P) -> TokenSpan<P, I, E>
+    ensures inner { result.inner.inner ≡ parser }
+{
+    TokenSpan {
+        inner: parser.take(),
+    }
+}
+
+impl<I: StreamIsPartial + Location, E, P: Parser<I, E>> Parser<I, E> for TokenSpan<P, I, E>
+where
+    I::Slice: SliceSpan + Drop,
+    P::Output: Drop,
+{
+    type Output = Range<usize>;
+
+    ghost means = { λ p.
+        Maps (IsSpanOf I.Slice.span) (Taken I.is_slice (P.means p.inner.inner)) };
+
+    ghost errors = { λ p. P.errors p.inner.inner };
+
+    ghost ready = { λ p. P.ready p.inner.inner };
+
+    ghost lawful = { λ p.
+        IsParser-Maps (IsSpanOf I.Slice.span) (Taken I.is_slice (P.means p.inner.inner))
+        (IsParser-Taken I.is_slice I.slices_stay (P.means p.inner.inner)
+        (P.lawful p.inner.inner)) };
+
+    fn parse_next(&self, alloc: Global, input: &mut I) -> ModalResult<Range<usize>, E> {
+        let tokens = self.inner.parse_next(alloc, input)?;
+        Ok(range_of(&tokens, input))
+    }
+}
+
+/// A parser of the value and of the range of the tokens that the inner parser takes;
+/// [`with_token_span`] makes it.
+#[derive(Drop)]
+#[derive_where(Clone, Copy; P)]
+pub struct WithTokenSpan<P, I, E> {
+    inner: WithTaken<P, I, E>,
+}
+
+/// Returns the parser of the value and of the range of the tokens that a parser takes, which is
+/// that of [`token_span`].
+pub fn with_token_span<I: StreamIsPartial, E, P: Parser<I, E>>(parser: P) -> WithTokenSpan<P, I, E>
+    ensures inner { result.inner.inner ≡ parser }
+{
+    WithTokenSpan {
+        inner: parser.with_taken(),
+    }
+}
+
+impl<I: StreamIsPartial + Location, E, P: Parser<I, E>> Parser<I, E> for WithTokenSpan<P, I, E>
+where
+    I::Slice: SliceSpan + Drop,
+{
+    type Output = (P::Output, Range<usize>);
+
+    ghost means = { λ p.
+        Maps (HasSpanOf I.Slice.span) (WithTaken I.is_slice (P.means p.inner.inner)) };
+
+    ghost errors = { λ p. P.errors p.inner.inner };
+
+    ghost ready = { λ p. P.ready p.inner.inner };
+
+    ghost lawful = { λ p.
+        IsParser-Maps (HasSpanOf I.Slice.span) (WithTaken I.is_slice (P.means p.inner.inner))
+        (IsParser-WithTaken I.is_slice I.slices_stay (P.means p.inner.inner)
+        (P.lawful p.inner.inner)) };
+
+    fn parse_next(
+        &self,
+        alloc: Global,
+        input: &mut I,
+    ) -> ModalResult<(P::Output, Range<usize>), E> {
+        let (value, tokens) = self.inner.parse_next(alloc, input)?;
+        let range = range_of(&tokens, input);
+        Ok((value, range))
+    }
+}
+
+// Returns the range of the tokens that were taken. Where none was, it is made of the stream's own
+// locations.
+fn range_of<S: SliceSpan, I: Location>(tokens: &S, input: &I) -> Range<usize>
+    ensures { IsSpanOf S.span tokens.now result }
+{
+    match tokens.span() {
+        Some(span) => span,
+        None => input.current_token_start()..input.previous_token_end(),
+    }
+}
