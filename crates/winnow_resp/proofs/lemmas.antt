@@ -3,6 +3,7 @@ pub mod FailLemmas
 pub mod YieldLemmas
 pub mod AcceptLemmas
 pub mod NumberLemmas
+pub mod LengthLemmas
 pub mod ReplyLemmas
 pub mod DamageLemmas
 pub mod AnswerLemmas

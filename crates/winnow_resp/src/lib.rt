@@ -12,6 +12,7 @@
 //! the other from bytes that come in pieces.
 #![tactic(auto)]
 
+mod causes;
 mod laws;
 mod lines;
 mod nested;
@@ -20,6 +21,7 @@ mod records;
 mod reply;
 mod writing;
 
+pub use causes::Cause;
 pub use laws::spelling_law;
 pub use nested::{ReplyTo, read_reply};
 pub use reply::Reply;
