@@ -8,3 +8,5 @@ pub mod ReplyLemmas
 pub mod DamageLemmas
 pub mod AnswerLemmas
 pub mod WritingLemmas
+pub mod PartLemmas
+pub mod FaultLemmas

@@ -21,6 +21,7 @@ use Rattle.winnow_resp.specs.Grammar.{is_kind, most_digits, HasReplies, LineEnd,
 use Rattle.winnow_resp.specs.Ahead.{IsAhead}
 use Rattle.winnow_resp.specs.Damage.{HasNoKind, cause_at, EndBreaksOff, LineBreaksOff, NumberBreaksOff, IsWrongInteger, IsWrongLength, BytesBreakOff, BulkBreaksOff, ElementsBreakOff, ArrayBreaksOff, BodyBreaksOff, LayerBreaksOff, BeginsNone, StopsAt, BreaksOff}
 use Rattle.winnow_resp.specs.Answers.{IsSettled}
+use Rattle.winnow_resp.specs.Causes.{IsDamaged}
 use Rattle.winnow_resp.specs.declared.causes.Cause.{Cause}
 use Rattle.winnow_resp.specs.declared.causes.Cause.TheVariants.{EndsInside, NoKind, TooDeep, NoInteger, NoLength, TooLong, NoLineEnd}
 use Rattle.winnow_resp.proofs.lemmas.LengthLemmas.{length-decided}
@@ -445,3 +446,13 @@ module _ {S : Type 0} (counts_shortage : Bool) (is_slice : S → Source ℕ → 
       layer-stops longest greatest_count (Spells longest depth) (EitherStops longest depth) (Nested itself counts_shortage is_slice bytes longest depth)
       (yields-nested counts_shortage is_slice bytes have longest depth) (spells-begins counts_shortage is_slice bytes have longest depth)
       (λ partial f a wide h. stops-either longest depth partial f a (nested-stops longest depth partial f a wide h)) partial f a wide h
+
+  -- where the parser of replies stops, that is for a cause
+  pub damage-of : (longest depth : ℕ) (partial : Bool) (a b : Ahead ℕ) → HasPositiveWidths a.tokens
+      → Nested itself counts_shortage is_slice bytes longest depth partial a (Fails (Backtracks b))
+      ⊎ Nested itself counts_shortage is_slice bytes longest depth partial a (Fails (Cuts b))
+      → (cause : Cause) × (IsSettled partial cause × IsDamaged longest depth cause a.tokens b.tokens)
+  damage-of longest depth partial a b wide (inl h) =
+      stops-either longest depth partial (Backtracks b) a (nested-stops longest depth partial (Backtracks b) a wide h)
+  damage-of longest depth partial a b wide (inr h) =
+      stops-either longest depth partial (Cuts b) a (nested-stops longest depth partial (Cuts b) a wide h)
