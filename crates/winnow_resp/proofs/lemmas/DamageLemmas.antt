@@ -130,15 +130,15 @@ wrong-integer text = (NoInteger, (λ e. cc, refl))
 none-above : (greatest : ℕ) (text : List ℕ) → ((n : Option ℕ) → ¬ (IsLength greatest text n))
     → ((n : ℕ) → ¬ (IsLength greatest_count text (Some n))) → (n : Option ℕ)
     → ¬ (IsLength greatest_count text n)
-none-above greatest text none no None h = none None h
-none-above greatest text none no (Some m) h = no m h
+none-above greatest text none lacks None h = none None h
+none-above greatest text none lacks (Some m) h = lacks m h
 
 -- a text that is no length within a limit is wrong
 wrong-length : (above : Cause) → ¬ (above ≡ EndsInside) → (greatest : ℕ) (text : List ℕ)
     → ((n : Option ℕ) → ¬ (IsLength greatest text n)) → Wrong (IsWrongLength above) text
 wrong-length above other greatest text none = elim (length-decided text) [
   | inl is ↦ (above, (other, inr (refl, is)))
-  | inr no ↦ (NoLength, (λ e. cc, inl (refl, none-above greatest text none no)))
+  | inr lacks ↦ (NoLength, (λ e. cc, inl (refl, none-above greatest text none lacks)))
 ]
 
 -- ---- Depth 0
@@ -156,7 +156,7 @@ body-none needs_more cause longest kind r s stops (inl h) = inl h
 body-none needs_more cause longest kind r s stops (inr (inl h)) = inr (inl h)
 body-none needs_more cause longest kind r s stops (inr (inr (inl h))) = inr (inr (inl h))
 body-none needs_more cause longest kind r s stops (inr (inr (inr (e, inl h)))) = inr (inr (inr (e, inl h)))
-body-none needs_more cause longest kind r s stops (inr (inr (inr (e, inr (text, (count, (after, (is, a, few))))))) =
+body-none needs_more cause longest kind r s stops (inr (inr (inr (e, inr (text, (count, (after, (is, a, few)))))))) =
     absurd (omega (arith, is.0, few.1.1.1.2))
 
 -- so none does in an array at depth 0
@@ -232,14 +232,14 @@ module _ {S : Type 0} (counts_shortage : Bool) (is_slice : S → Source ℕ → 
     number-stops partial (Cuts b) a wide (inl (inl h)) = number-line partial (Cuts b) a (line-stops most_digits partial (Backtracks b) a wide h)
     number-stops partial (Cuts b) a wide (inl (inr (same, (slice, (c, (h, none)))))) =
         let k = yields-line counts_shortage is_slice bytes have most_digits partial a c slice wide h in
-        let no : (n : R) → ¬ (reads (bytes slice) n) = λ n is. none-some _ ((none n).1 is) in
-        let wrong = decides (bytes slice) no in (
+        let lacks : (n : R) → ¬ (reads (bytes slice) n) = λ n is. none-some _ ((none n).1 is) in
+        let wrong = decides (bytes slice) lacks in (
           wrong.0,
           (
             λ p. wrong.1.0,
             inr (
               ap (λ p. p.tokens) same,
-              (bytes slice, (c.tokens, (subst (λ t. IsAhead a.tokens t c.tokens) k.1.1.1 k.1.0, k.1.1.0, no, wrong.1.1))),
+              (bytes slice, (c.tokens, (subst (λ t. IsAhead a.tokens t c.tokens) k.1.1.1 k.1.0, k.1.1.0, lacks, wrong.1.1))),
             ),
           ),
         )
@@ -391,7 +391,7 @@ module _ {S : Type 0} (counts_shortage : Bool) (is_slice : S → Source ℕ → 
     body-stops kind partial f a wide (inr (inr (inl (e, h)))) =
         stops-on (LineStops longest) (BodyStops kind) partial a.tokens a.tokens f (λ needs_more cause s k. inl (inr e, k)) (text-stops longest partial f a wide h)
     body-stops kind partial f a wide (inr (inr (inr (inl (e, h))))) =
-        stops-on (NumberStops IsInteger IsWrongInteger (λ text no. wrong-integer text)) (BodyStops kind) partial a.tokens a.tokens f (λ needs_more cause s k. inr (inl (e, k))) (number-stops IsInteger IsWrongInteger (λ text no. wrong-integer text) partial f a wide h)
+        stops-on (NumberStops IsInteger IsWrongInteger (λ text lacks. wrong-integer text)) (BodyStops kind) partial a.tokens a.tokens f (λ needs_more cause s k. inr (inl (e, k))) (number-stops IsInteger IsWrongInteger (λ text lacks. wrong-integer text) partial f a wide h)
     body-stops kind partial f a wide (inr (inr (inr (inr (e, h))))) =
         stops-on (BulkStops longest) (BodyStops kind) partial a.tokens a.tokens f (λ needs_more cause s k. inr (inr (inl (e, k)))) (bulk-stops longest partial f a wide h)
 
