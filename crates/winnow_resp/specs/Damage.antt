@@ -1,7 +1,7 @@
 -- Where a reply breaks off, and for which cause: bytes stand ahead as a reply begins, and the rest
 -- does not go on with it. Where more input is needed, nothing is left, and the missing bytes may
 -- still come.
-use Rattle.std.specs.Prelude.{◌≡◌, ℕ, zero, suc, ◌<◌, Bool, true, false, if◌then◌else◌, List, [], ◌∷◌, length, Option, Some, IfSome, IsFalse, ◌⊎◌}
+use Rattle.std.specs.Prelude.{◌≡◌, ℕ, zero, suc, ◌<◌, Bool, true, if◌then◌else◌, List, [], ◌∷◌, length, Option, Some, IfSome, IsFalse, ◌⊎◌}
 use Rattle.winnow_stream.specs.Source.{Source, first_token}
 use Rattle.winnow_format.specs.Bytes.{bytes_of, StartsWith}
 use Rattle.winnow_resp.specs.Replies.{is_in_line, IsText, line, IsInteger, IsLength, greatest_count, SpellAll, SpellsNone, Spells}

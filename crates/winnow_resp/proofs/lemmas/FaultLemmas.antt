@@ -1,23 +1,23 @@
 -- Where a reply breaks off for a cause, that is wrong with the part that has begun there.
-use Rattle.std.proofs.Common.{◌≡◌, ℕ, zero, suc, ◌+◌, ◌≤◌, ◌<◌, ◌==◌, nat_lt, Bool, true, false, ◌&&◌, List, [], ◌∷◌, ◌++◌, length, take, get_or, inl, inr, Option, Some, None, ap, sym, ◌∙◌, subst, refl, arith, append_assoc, length-append}
-use Rattle.std.specs.Prelude.{◌⊎◌, not, if◌then◌else◌, decimal}
+use Rattle.std.proofs.Common.{◌≡◌, ℕ, zero, suc, ◌+◌, ◌≤◌, ◌<◌, ◌==◌, nat_lt, Bool, true, false, ◌&&◌, List, [], ◌∷◌, ◌++◌, length, get_or, inl, inr, Option, Some, None, ap, sym, ◌∙◌, subst, refl, arith, append_assoc, length-append}
+use Rattle.std.specs.Prelude.{not, if◌then◌else◌}
 use Rattle.std.proofs.lemmas.Bool.Decides.{nat_tests}
 use Rattle.std.proofs.lemmas.List.{append-nil, map-append, append_cancel_right}
-use Rattle.winnow_stream.specs.Source.{Source, first_token}
+use Rattle.winnow_stream.specs.Source.{Source}
 use Rattle.winnow_format.specs.Bytes.{bytes_of, StartsWith}
 use Rattle.winnow_resp.specs.Replies.{is_in_line, AreInLine, line, no_length, IsInteger, IsLength, greatest_count, SpellAll, SpellsLayer, SpellsNone, Spells}
 use Rattle.winnow_resp.specs.Grammar.{most_digits}
 use Rattle.winnow_resp.specs.Ahead.{IsAhead}
 use Rattle.winnow_resp.specs.Damage.{cause_at, EndsText, LineBreaksOff, NumberBreaksOff, IsWrongInteger, IsWrongLength, BulkBreaksOff, ArrayBreaksOff, BodyBreaksOff, LayerBreaksOff, BeginsNone, StopsAt, BreaksOff}
-use Rattle.winnow_resp.specs.Parts.{line_width, count_of, part_width, EndsIn, EndsInPart, is_number_kind, length_fault, number_fault, line_fault, first_fault, is_short, lacks_held, begun_fault, fault, IsFault}
+use Rattle.winnow_resp.specs.Parts.{line_width, count_of, part_width, EndsInPart, is_number_kind, length_fault, number_fault, line_fault, first_fault, lacks_held, begun_fault, fault, IsFault}
 use Rattle.winnow_resp.specs.Causes.{IsDamaged, IsCauseOf}
 use Rattle.winnow_resp.specs.declared.causes.Cause.{Cause}
-use Rattle.winnow_resp.specs.declared.causes.Cause.TheVariants.{EndsInside, NoKind, TooDeep, NoInteger, NoLength, TooLong, NoLineEnd}
+use Rattle.winnow_resp.specs.declared.causes.Cause.TheVariants.{EndsInside, NoKind, TooDeep, TooLong, NoLineEnd}
 use Rattle.winnow_resp.specs.declared.reply.Reply.{Reply}
 use Rattle.winnow_resp.specs.declared.reply.Reply.TheOpen.{Reply-F, Simple, Error, Integer, Bulk, NullBulk, Array, NullArray}
 use Rattle.winnow_resp.specs.declared.reply.Reply.TheViews.{out-Reply}
 use Rattle.winnow_resp.proofs.lemmas.NumberLemmas.{integer-line}
-use Rattle.winnow_resp.proofs.lemmas.PartLemmas.{length-line-of, line-whole, line-text, text-alone, text-return, LineStands, line-stands, count-none, count-length, length-in_line, part-other, part-null, part-held, part-short, part-lacking, short-bulk, null-count, ends-more, ends-once}
+use Rattle.winnow_resp.proofs.lemmas.PartLemmas.{length-line-of, line-whole, line-text, text-alone, text-return, line-stands, count-none, count-length, length-in_line, part-other, part-null, part-held, part-short, part-lacking, short-bulk, null-count, ends-more, ends-once}
 
 -- this is wrong where the bytes break off at the rest
 abbrev pub HasFault : Cause → List ℕ → List ℕ → Type 0

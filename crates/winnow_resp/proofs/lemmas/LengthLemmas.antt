@@ -15,9 +15,9 @@ same-list [] (y ∷ ys) = inr (λ e. cc)
 same-list (x ∷ xs) [] = inr (λ e. cc)
 same-list (x ∷ xs) (y ∷ ys) = elim (eqb_tells x y) [
   | inl (_, e) ↦ elim (same-list xs ys) [
-      | inl f ↦ inl (conses x y xs ys e f)
-      | inr other ↦ inr (λ g. other (tails x y xs ys g))
-    ]
+    | inl f ↦ inl (conses x y xs ys e f)
+    | inr other ↦ inr (λ g. other (tails x y xs ys g))
+  ]
   | inr (_, other) ↦ inr (λ g. other (heads x y xs ys g))
 ]
 
@@ -34,8 +34,8 @@ length-decided text =
     let v = digits_value 10 text in
     elim (same-list text (decimal v)) [
       | inl e ↦ elim (leb_tells v greatest_count) [
-          | inl (_, le) ↦ inl (v, (le, omega (arith, le), e))
-          | inr (_, l) ↦ inr (λ n h. absurd (omega (arith, l, h.0, written-value text n h.1 h.2)))
-        ]
+        | inl (_, le) ↦ inl (v, (le, omega (arith, le), e))
+        | inr (_, l) ↦ inr (λ n h. absurd (omega (arith, l, h.0, written-value text n h.1 h.2)))
+      ]
       | inr other ↦ inr (λ n h. other (h.2 ∙ ap decimal (sym (written-value text n h.1 h.2))))
     ]

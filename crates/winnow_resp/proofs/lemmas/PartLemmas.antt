@@ -1,6 +1,6 @@
 -- How the parts of a reply are told apart.
-use Rattle.std.proofs.Common.{◌≡◌, ℕ, zero, suc, ◌+◌, ◌-◌, ◌≤◌, ◌<◌, ◌^◌, ◌==◌, nat_le, nat_lt, Bool, true, false, ◌&&◌, cond, List, [], ◌∷◌, ◌++◌, length, take, drop, get_or, inl, inr, Option, Some, None, ap, sym, ◌∙◌, subst, refl, arith, append_assoc, length-append, length-drop, true≢false}
-use Rattle.std.specs.Prelude.{◌⊎◌, if◌then◌else◌, decimal}
+use Rattle.std.proofs.Common.{◌≡◌, ℕ, zero, suc, ◌+◌, ◌-◌, ◌≤◌, ◌<◌, ◌^◌, ◌==◌, nat_le, nat_lt, Bool, true, false, ◌&&◌, cond, List, [], ◌∷◌, ◌++◌, length, take, drop, Option, Some, None, ap, sym, ◌∙◌, subst, refl, arith, append_assoc, length-append, length-drop, true≢false}
+use Rattle.std.specs.Prelude.{if◌then◌else◌, decimal}
 use Rattle.std.specs.Cmp.Lexicographic.{pointwise}
 use Rattle.std.specs.List.{prefix_len}
 use Rattle.std.specs.Bool.{Decides}
@@ -11,8 +11,8 @@ use Rattle.std.proofs.lemmas.Option.{none-some, same_Some}
 use Rattle.std.proofs.lemmas.Slice.Eq.{slice_eq-Decides}
 use Rattle.winnow_count.specs.Reading.{IsSomeExactly}
 use Rattle.winnow_format.specs.Bytes.{Starts}
-use Rattle.winnow_resp.specs.Replies.{is_in_line, AreInLine, line, line_end, no_length, IsLength, greatest_count}
-use Rattle.winnow_resp.specs.Parts.{text_width, begins_end, line_width, count_of, held_count, held_width, whole_width, part_width, EndsIn, EndsInPart, is_short, lacks_held, is_fewer}
+use Rattle.winnow_resp.specs.Replies.{is_in_line, AreInLine, line, line_end, no_length, IsLength}
+use Rattle.winnow_resp.specs.Parts.{text_width, begins_end, line_width, count_of, held_width, whole_width, part_width, EndsIn, EndsInPart, is_short, lacks_held, is_fewer}
 use Rattle.winnow_resp.proofs.lemmas.AheadLemmas.{conses}
 use Rattle.winnow_resp.proofs.lemmas.NumberLemmas.{no-minus, length-line}
 use Rattle.winnow_resp.proofs.lemmas.LengthLemmas.{written-value}
