@@ -1,8 +1,9 @@
 -- The cause for which a reply breaks off in what a reader has ahead.
-use Rattle.std.proofs.Common.{◌≡◌, ℕ, ◌+◌, ◌-◌, ◌≤◌, Bool, true, false, List, [], ◌∷◌, ◌++◌, length, take, drop, refl, ap, sym, ◌∙◌, subst, inl, inr, arith}
+use Rattle.std.proofs.Common.{◌≡◌, ℕ, ◌+◌, ◌-◌, ◌≤◌, Bool, true, false, List, [], ◌∷◌, ◌++◌, length, min, take, drop, refl, ap, sym, ◌∙◌, subst, inl, inr, arith}
 use Rattle.std.specs.Prelude.{◌⊎◌, not}
 use Rattle.std.specs.Borrow.{Bor}
-use Rattle.std.proofs.lemmas.List.{append-nil, take-append-drop}
+use Rattle.std.proofs.lemmas.List.{append-nil, take-append-drop, take_all, drop_all}
+use Rattle.std.proofs.lemmas.Bool.Decides.{leb_tells}
 use Rattle.std.proofs.lemmas.Option.{same_Some}
 use Rattle.winnow_stream.specs.Source.{Source, units}
 use Rattle.winnow_stream.specs.Units.{HasPositiveWidths-units}
@@ -54,6 +55,31 @@ told-at : (longest depth n : ℕ) (cause told : Cause) (ahead : List ℕ)
 told-at longest depth n cause told ahead h is =
     is longest depth (units ahead) (units (drop n ahead)) cause (bytes-units ahead ∙ sym (take-append-drop n ahead)) (bytes-units (drop n ahead)) h
 
+-- a front of at most all
+min-take : (k : ℕ) (xs : List ℕ) → take (min k (length xs)) xs ≡ take k xs
+min-take k xs = elim (leb_tells k (length xs)) [
+  | inl (_, le) ↦ let e : min k (length xs) ≡ k = omega (arith, le) in ap (λ n. take n xs) e
+  | inr (_, l) ↦ let e : min k (length xs) ≡ length xs = omega (arith, l) in
+      ap (λ n. take n xs) e ∙ take_all (length xs) xs (omega arith) ∙ sym (take_all k xs (omega (arith, l)))
+]
+
+-- what follows it
+min-drop : (k : ℕ) (xs : List ℕ) → drop (min k (length xs)) xs ≡ drop k xs
+min-drop k xs = elim (leb_tells k (length xs)) [
+  | inl (_, le) ↦ let e : min k (length xs) ≡ k = omega (arith, le) in ap (λ n. drop n xs) e
+  | inr (_, l) ↦ let e : min k (length xs) ≡ length xs = omega (arith, l) in
+      ap (λ n. drop n xs) e ∙ drop_all (length xs) xs (omega arith) ∙ sym (drop_all k xs (omega (arith, l)))
+]
+
+-- the cause of the bytes on both sides of a place, which is within them
+pub cause-within : (told : Cause) (k : ℕ) (ahead before rest : List ℕ)
+    → before ≡ take (min k (length ahead)) ahead → rest ≡ drop (min k (length ahead)) ahead
+    → IsCauseOf told before rest → IsCauseOf told (take k ahead) (drop k ahead)
+cause-within told k ahead before rest e f h =
+    let front : before ≡ take k ahead = e ∙ min-take k ahead in
+    let back : rest ≡ drop k ahead = f ∙ min-drop k ahead in
+    subst (λ r. IsCauseOf told (take k ahead) r) back (subst (λ b. IsCauseOf told b rest) front h)
+
 module _ (counts_shortage : Bool) where
   -- the parser of replies, over the bytes that a reader has ahead
   abbrev Reading : ℕ → ℕ → Meaning Reply ℕ
@@ -67,7 +93,7 @@ module _ (counts_shortage : Bool) where
 
   -- where the parser of a reader fails, no matter what follows, the cause that is told is the one
   pub fails-for : (f : ReaderState PlacedReply) (there : ℕ) (told : Cause)
-      → FailsAt (λ r. Placing (Reading r.limits.longest r.limits.depth)) f there
+      → FailsAt (λ (r : PlacedReply). Placing (Reading r.limits.longest r.limits.depth)) f there
       → IsCauseOf told (take (there - f.place) f.ahead) (drop (there - f.place) f.ahead)
       → IsCauseAt f there told
   fails-for f there told h is =

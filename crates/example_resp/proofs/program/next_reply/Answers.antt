@@ -1,4 +1,4 @@
-use Rattle.std.proofs.Common.{◌-◌, [], ◌∷◌, take, drop, refl, ap, sym, subst, inl, inr}
+use Rattle.std.proofs.Common.{◌-◌, true, [], ◌∷◌, take, drop, refl, ap, sym, subst, inl, inr}
 use Rattle.winnow_reader.specs.State.{ReaderState}
 use Rattle.example_resp.specs.declared.placed.PlacedReply.{PlacedReply}
 use Rattle.winnow_resp.specs.Causes.{IsCauseOf}
@@ -70,7 +70,7 @@ returns-in-Err-Failed-clause-failed c =
     let is = subst (λ (f : ReaderState PlacedReply). IsCauseOf told (take (there - f.place) f.ahead) (drop (there - f.place) f.ahead)) kept c.cause_ahead-cause.ensures in
     stuck-there ghosts.means c.failure_law.ensures
     old c.read_next.new.self c.args.place.now c.place_ahead.result told there
-    kept c.requires (inl (failed, fails-for _ old there told failed is)) c.place_ahead.ensures
+    kept c.requires (inl (failed, fails-for true old there told failed is)) c.place_ahead.ensures
 
 pub returns-in-Err-TakesNothing-clause-failed : goal.returns-in-Err-TakesNothing-clause-failed
 returns-in-Err-TakesNothing-clause-failed c =
