@@ -3,12 +3,13 @@
 
 use winnow_csv::rows_in_pieces_law;
 use winnow_json::{events_law, place_law, round_trip_law, stops_law};
-use winnow_resp::spelling_law;
+use winnow_resp::{cause_law, spelling_law};
 
 /// Calls each law: a caller then knows what it says.
 pub fn call_laws() {
     rows_in_pieces_law();
     spelling_law();
+    cause_law();
     place_law();
     round_trip_law();
     events_law();

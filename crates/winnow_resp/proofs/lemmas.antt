@@ -3,7 +3,10 @@ pub mod FailLemmas
 pub mod YieldLemmas
 pub mod AcceptLemmas
 pub mod NumberLemmas
+pub mod LengthLemmas
 pub mod ReplyLemmas
 pub mod DamageLemmas
 pub mod AnswerLemmas
 pub mod WritingLemmas
+pub mod PartLemmas
+pub mod FaultLemmas

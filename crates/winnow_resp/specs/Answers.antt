@@ -1,5 +1,5 @@
 -- The answers of a reader of replies, in the words of the protocol.
-use Rattle.std.specs.Prelude.{◌≡◌, ℕ, Bool, true, false, List, [], ◌++◌, Result, Ok, Err, ⊤}
+use Rattle.std.specs.Prelude.{◌≡◌, ◌≢◌, ℕ, Bool, true, false, List, [], ◌++◌, Result, Ok, Err, ⊤}
 use Rattle.winnow_stream.specs.Source.{Source, units}
 use Rattle.winnow_stream.specs.declared.needed.Needed.{Needed}
 use Rattle.winnow_parser.specs.declared.failure.Failure.{Failure}
@@ -8,6 +8,8 @@ use Rattle.winnow_resp.specs.Replies.{Spells}
 use Rattle.winnow_resp.specs.Contents.{contents}
 use Rattle.winnow_resp.specs.Ahead.{IsAhead}
 use Rattle.winnow_resp.specs.Damage.{HasNoKind, StopsAt, BreaksOff}
+use Rattle.winnow_resp.specs.declared.causes.Cause.{Cause}
+use Rattle.winnow_resp.specs.declared.causes.Cause.TheVariants.{EndsInside}
 use Rattle.winnow_resp.specs.declared.reply.Reply.{Reply}
 
 -- the source begins with bytes that spell the reply, and then the rest
@@ -28,6 +30,15 @@ abbrev pub CannotBeReply : ℕ → ℕ → Bool → Source ℕ → Type 0
 CannotBeReply longest depth partial whole =
     HasNoReply longest depth whole × (partial ≡ true → ¬ (IsBegun longest depth whole))
 
+-- the cause is not that the input ends, where more may follow
+abbrev pub IsSettled : Bool → Cause → Type 0
+IsSettled partial cause = partial ≡ true → cause ≢ EndsInside
+
+-- a reply within the limits breaks off at the rest, for some cause
+abbrev pub BreaksOffFor : ℕ → ℕ → Bool → Source ℕ → Source ℕ → Type 0
+BreaksOffFor longest depth partial whole rest =
+    (cause : Cause) × (IsSettled partial cause × BreaksOff false cause longest depth whole rest)
+
 -- the answer is a reply that stands ahead, with what remains; or none does and none can, and the
 -- answer is a backtrack where the first byte is that of no kind, and nothing is taken, or a cut
 -- where a reply breaks off at what remains; or more input is needed, where more may follow and a
@@ -36,11 +47,11 @@ abbrev pub IsAnswer : {E : Type 0} → ℕ → ℕ → Bool → Source ℕ → R
     → Source ℕ → Type 0
 IsAnswer longest depth partial whole (Ok reply) rest = StandsAhead longest depth whole reply rest
 IsAnswer longest depth partial whole (Err (Backtrack e)) rest =
-    CannotBeReply longest depth partial whole × HasNoKind whole × (whole ≡ rest)
+    CannotBeReply longest depth partial whole × HasNoKind whole × (whole ≡ rest) × (partial ≡ true → whole ≢ [])
 IsAnswer longest depth partial whole (Err (Cut e)) rest =
-    CannotBeReply longest depth partial whole × BreaksOff false longest depth whole rest
+    CannotBeReply longest depth partial whole × BreaksOffFor longest depth partial whole rest
 IsAnswer longest depth partial whole (Err (Incomplete n)) rest =
-    HasNoReply longest depth whole × (partial ≡ true) × StopsAt (BreaksOff true longest depth) whole []
+    HasNoReply longest depth whole × (partial ≡ true) × StopsAt EndsInside (BreaksOff true EndsInside longest depth) whole []
 IsAnswer longest depth partial whole (Err (Refused e)) rest = ⊤
 
 -- the answer is a reply with the contents of this one, and with this rest after it, unless memory

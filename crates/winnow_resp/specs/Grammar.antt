@@ -168,9 +168,9 @@ module _ {S T : Type 0} (code : T → ℕ) (counts_shortage : Bool) (is_slice : 
   ArrayOf inner None = Maps IsNullArray (Returns tt)
   ArrayOf inner (Some n) = Maps IsArray (Elements inner n)
 
-  -- an array, after the byte of its kind
-  abbrev pub ArrayReply : Meaning Reply T → Meaning Reply T
-  ArrayReply inner = Continued IsSame (ArrayOf inner) (Length greatest_count)
+  -- an array of at most that many replies, after the byte of its kind
+  abbrev pub ArrayReply : ℕ → Meaning Reply T → Meaning Reply T
+  ArrayReply most inner = Continued IsSame (ArrayOf inner) (Length most)
 
   -- a reply that is no array, after the byte of its kind
   abbrev pub Scalar : ℕ → ℕ → Meaning Reply T
@@ -178,27 +178,27 @@ module _ {S T : Type 0} (code : T → ℕ) (counts_shortage : Bool) (is_slice : 
       (Or (Of 58 kind (Maps IsNumber Number)) (Of 36 kind (BulkString longest))))
 
   -- a reply, after the byte of its kind
-  abbrev pub Body : ℕ → Meaning Reply T → ℕ → Meaning Reply T
-  Body longest inner kind = Or (Of 42 kind (ArrayReply inner)) (Scalar longest kind)
+  abbrev pub Body : ℕ → ℕ → Meaning Reply T → ℕ → Meaning Reply T
+  Body longest most inner kind = Or (Of 42 kind (ArrayReply most inner)) (Scalar longest kind)
 
-  -- a reply
-  abbrev pub Layer : ℕ → Meaning Reply T → Meaning Reply T
-  Layer longest inner = Continued (IsCode code) (Body longest inner) (OneOf (λ token. is_kind (code token)))
+  -- a reply, with at most that many replies in it if it is an array
+  abbrev pub Layer : ℕ → ℕ → Meaning Reply T → Meaning Reply T
+  Layer longest most inner = Continued (IsCode code) (Body longest most inner) (OneOf (λ token. is_kind (code token)))
 
-  -- a reply that stands within at most `depth` arrays
+  -- a reply that stands within at most `depth` arrays: at depth 0 no reply stands in an array
   abbrev pub Nested : ℕ → ℕ → Meaning Reply T
-  Nested longest zero = Layer longest Failing
-  Nested longest (suc depth) = Layer longest (Nested longest depth)
+  Nested longest zero = Layer longest 0 Failing
+  Nested longest (suc depth) = Layer longest greatest_count (Nested longest depth)
 
   -- `Nested` at depth 0 has no elements
-  pub Nested-zero : (longest depth : ℕ) → depth ≡ 0 → Layer longest Failing ≡ Nested longest depth
+  pub Nested-zero : (longest depth : ℕ) → depth ≡ 0 → Layer longest 0 Failing ≡ Nested longest depth
   Nested-zero longest depth e = ap (Nested longest) (sym e)
 
   -- `Nested` at another depth is the layer over the one below
   pub Nested-suc : (longest depth : ℕ) → 0 < depth
-      → Layer longest (Nested longest (depth - 1)) ≡ Nested longest depth
+      → Layer longest greatest_count (Nested longest (depth - 1)) ≡ Nested longest depth
   Nested-suc longest zero l = absurd (omega (arith, l))
-  Nested-suc longest (suc depth) l = ap (λ n. Layer longest (Nested longest n)) (omega arith)
+  Nested-suc longest (suc depth) l = ap (λ n. Layer longest greatest_count (Nested longest n)) (omega arith)
 
   -- ---- The laws
 
@@ -249,16 +249,16 @@ module _ {S T : Type 0} (code : T → ℕ) (counts_shortage : Bool) (is_slice : 
       IsParser-ArrayOf (Some n) = IsParser-Maps IsArray _ (IsParser-Elements n)
 
       -- `Body` keeps the laws of a parser
-      IsParser-Body : (longest kind : ℕ) → IsParser (Body longest inner kind)
-      IsParser-Body longest kind =
-          IsParser-Or _ _ (IsParser-Of 42 kind _ (IsParser-Continued IsSame (ArrayOf inner) _ IsParser-ArrayOf (IsParser-Length greatest_count)))
+      IsParser-Body : (longest most kind : ℕ) → IsParser (Body longest most inner kind)
+      IsParser-Body longest most kind =
+          IsParser-Or _ _ (IsParser-Of 42 kind _ (IsParser-Continued IsSame (ArrayOf inner) _ IsParser-ArrayOf (IsParser-Length most)))
           (IsParser-Scalar longest kind)
 
       -- `Layer` keeps the laws of a parser
-      IsParser-Layer : (longest : ℕ) → IsParser (Layer longest inner)
-      IsParser-Layer longest = IsParser-Continued (IsCode code) (Body longest inner) _ (IsParser-Body longest) (IsParser-OneOf (λ token. is_kind (code token)))
+      IsParser-Layer : (longest most : ℕ) → IsParser (Layer longest most inner)
+      IsParser-Layer longest most = IsParser-Continued (IsCode code) (Body longest most inner) _ (IsParser-Body longest most) (IsParser-OneOf (λ token. is_kind (code token)))
 
     -- `Nested` keeps the laws of a parser
     pub IsParser-Nested : (longest depth : ℕ) → IsParser (Nested longest depth)
-    IsParser-Nested longest zero = IsParser-Layer Failing IsParser-Failing longest
-    IsParser-Nested longest (suc depth) = IsParser-Layer (Nested longest depth) (IsParser-Nested longest depth) longest
+    IsParser-Nested longest zero = IsParser-Layer Failing IsParser-Failing longest 0
+    IsParser-Nested longest (suc depth) = IsParser-Layer (Nested longest depth) (IsParser-Nested longest depth) longest greatest_count

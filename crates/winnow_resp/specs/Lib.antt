@@ -6,3 +6,5 @@ pub mod Grammar
 pub mod Ahead
 pub mod Damage
 pub mod Answers
+pub mod Causes
+pub mod Parts

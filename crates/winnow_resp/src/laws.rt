@@ -1,9 +1,12 @@
-ghost use Rattle.std.specs.Prelude.{◌≡◌, ◌≢◌, ℕ, true, List, Result, Err};
+ghost use Rattle.std.specs.Prelude.{◌≡◌, ◌≢◌, ℕ, true, List, ◌++◌, Result, Err};
 ghost use Rattle.winnow_stream.specs.Source.{Source};
 ghost use Rattle.winnow_resp.specs.Replies.{Spells};
 ghost use Rattle.winnow_resp.specs.Writing.{is_writable, written, TellsLineEnd, IsWithin};
 ghost use Rattle.winnow_resp.specs.Ahead.{IsAhead};
 ghost use Rattle.winnow_resp.specs.Answers.{StandsAhead};
+ghost use Rattle.winnow_resp.specs.Causes.{IsDamaged};
+ghost use Rattle.winnow_resp.specs.declared.causes.Cause.{Cause};
+ghost use Rattle.winnow_resp.specs.declared.causes.Cause.TheVariants.{EndsInside};
 ghost use Rattle.winnow_resp.specs.declared.reply.Reply.{Reply};
 ghost use Rattle.winnow_resp.specs.declared.writing.Unwritten.{Unwritten};
 ghost use Rattle.winnow_resp.specs.declared.writing.Unwritten.TheVariants.{LineEnd};
@@ -25,4 +28,12 @@ pub fn spelling_law()
     ensures read_back { (longest depth : ℕ) (reply : Reply) (whole rest : Source ℕ)
         → IsWithin longest depth reply → IsAhead whole (written reply) rest
         → StandsAhead longest depth whole reply rest }
+{}
+
+/// The law of causes: no matter what follows, a reply that breaks off at a place does so for one
+/// cause there, unless it is that the input ends. It does nothing when called.
+pub fn cause_law()
+    ensures { (longest depth : ℕ) (whole rest more : Source ℕ) (cause later : Cause)
+        → cause ≢ EndsInside → IsDamaged longest depth cause whole rest
+        → IsDamaged longest depth later (whole ++ more) (rest ++ more) → later ≡ cause }
 {}

@@ -8,10 +8,12 @@
 //! `reply` has the type that is read. `numbers` reads the integers and lengths of lines, `lines`
 //! the parts of a reply, and `nested` whole replies: `read_layer` is one level of the grammar,
 //! generic in the parser of the replies in an array, and `read_nested` ties the levels together.
-//! `writing` is the writer, and `laws` says that it is read back. `records` reads one reply after
-//! the other from bytes that come in pieces.
+//! `writing` is the writer, `causes` finds what is wrong where a reply breaks off, and `laws` says
+//! that what is written is read back, and that a cause stays. `records` reads one reply after the
+//! other from bytes that come in pieces.
 #![tactic(auto)]
 
+mod causes;
 mod laws;
 mod lines;
 mod nested;
@@ -20,7 +22,8 @@ mod records;
 mod reply;
 mod writing;
 
-pub use laws::spelling_law;
+pub use causes::{Cause, cause_of};
+pub use laws::{cause_law, spelling_law};
 pub use nested::{ReplyTo, read_reply};
 pub use reply::Reply;
 pub use writing::{Unwritten, write_reply};

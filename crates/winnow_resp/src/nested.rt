@@ -42,10 +42,12 @@ where
     }
 }
 
-// Reads an array of replies that the inner parser reads, after the byte of its kind.
+// Reads an array of at most that many replies, which the inner parser reads, after the byte of its
+// kind.
 fn read_array<I: StreamIsPartial, E: ParserError<I>, P: Parser<I, E, Output = Reply> + Drop>(
     alloc: Global,
     input: &mut I,
+    most: usize,
     inner: P,
 ) -> ModalResult<Reply, E>
 where
@@ -54,13 +56,13 @@ where
     requires ready { P.ready inner }
     requires valid { I.valid input.old }
     ensures means { ArrayReply I.Token.code
-        I.counts_shortage I.is_slice I.Slice.bytes (P.means inner)
+        I.counts_shortage I.is_slice I.Slice.bytes most (P.means inner)
         (I.expects_more input.old) (ahead I.location I.remaining input.old)
         (outcome result (ahead I.location I.remaining input.new)) }
     ensures valid { I.valid input.new }
     ensures kept { I.keeps input.old input.new }
 {
-    let Some(count) = read_length(alloc, input, usize::MAX)? else {
+    let Some(count) = read_length(alloc, input, most)? else {
         return Ok(Reply::NullArray);
     };
     match cut_err(repeat(count, inner)).parse_next(alloc, input) {
@@ -111,11 +113,12 @@ where
     read_bulk(alloc, input, longest)
 }
 
-// Reads a reply. The inner parser reads the replies in an array.
+// Reads a reply. The inner parser reads the replies in an array, which are at most that many.
 fn read_layer<I: StreamIsPartial, E: ParserError<I>, P: Parser<I, E, Output = Reply> + Drop>(
     alloc: Global,
     input: &mut I,
     longest: usize,
+    most: usize,
     inner: P,
 ) -> ModalResult<Reply, E>
 where
@@ -124,7 +127,7 @@ where
     requires ready { P.ready inner }
     requires valid { I.valid input.old }
     ensures means { Layer I.Token.code
-        I.counts_shortage I.is_slice I.Slice.bytes longest (P.means inner)
+        I.counts_shortage I.is_slice I.Slice.bytes longest most (P.means inner)
         (I.expects_more input.old) (ahead I.location I.remaining input.old)
         (outcome result (ahead I.location I.remaining input.new)) }
     ensures valid { I.valid input.new }
@@ -133,7 +136,7 @@ where
     let kinds = one_of(('+', '-', ':', '$', '*'));
     let kind = kinds.parse_next(alloc, input)?.as_char();
     if kind == '*' {
-        return read_array(alloc, input, inner);
+        return read_array(alloc, input, most, inner);
     }
     read_scalar(alloc, input, longest, kind)
 }
@@ -224,7 +227,7 @@ where
     ensures kept { I.keeps input.old input.new }
 {
     if depth == 0 {
-        return read_layer(alloc, input, longest, NoReply);
+        return read_layer(alloc, input, longest, 0, NoReply);
     }
     let inner = |alloc: Global, input: &mut I| -> ModalResult<Reply, E>
         requires valid { I.valid input.old }
@@ -240,7 +243,7 @@ where
         depth: depth - 1,
         longest,
     };
-    read_layer(alloc, input, longest, by_rule(rule, inner))
+    read_layer(alloc, input, longest, usize::MAX, by_rule(rule, inner))
 }
 
 /// Reads a reply within these limits from the front of a stream of bytes.
@@ -248,8 +251,8 @@ where
 /// It backtracks where the first byte is that of no kind, and takes nothing then. It cuts at
 /// anything else that is no reply: at the end of the text that is not ended by a line end, at the
 /// start of a line whose integer or length is none, or whose length passes a limit, and where
-/// an array has fewer replies than it says. Nothing is allocated for a length that is only
-/// announced.
+/// an array has fewer replies than it says. The length of an array that stands in `depth` arrays
+/// may only be 0. Nothing is allocated for a length that is only announced.
 pub fn read_reply<I: StreamIsPartial + Stream<Token = u8>, E: ParserError<I>>(
     alloc: Global,
     input: &mut I,

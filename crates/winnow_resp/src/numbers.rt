@@ -44,8 +44,8 @@ fn digits_in(text: &[u8]) -> Option<usize>
     Some(number)
 }
 
-// Returns the number that a text writes as std does, if a `usize` has it.
-fn number_in(text: &[u8]) -> Option<usize>
+/// Returns the number that a text writes as std does, if a `usize` has it.
+pub(crate) fn number_in(text: &[u8]) -> Option<usize>
     ensures { IsSomeExactly (λ n. (n < 2 ^ 64) × (text.now ≡ decimal n)) result }
 {
     if !is_plain(text) {

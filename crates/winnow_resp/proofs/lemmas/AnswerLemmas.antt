@@ -16,6 +16,7 @@ use Rattle.winnow_combinator.specs.Ending.{Failing}
 use Rattle.winnow_format.proofs.lemmas.TokenLemmas.{itself}
 use Rattle.winnow_format.proofs.lemmas.ByteLemmas.{positive-both}
 use Rattle.winnow_resp.specs.Grammar.{is_kind, BulkOf, ArrayOf, Body, Layer, Nested, IsParser-Nested}
+use Rattle.winnow_resp.specs.Replies.{greatest_count}
 use Rattle.winnow_resp.specs.Answers.{HasNoReply, IsBegun, CannotBeReply, IsAnswer, GivesEach}
 use Rattle.winnow_resp.specs.declared.reply.Reply.{Reply}
 use Rattle.winnow_resp.proofs.lemmas.ReplyLemmas.{yields-nested, reads-nested}
@@ -63,33 +64,33 @@ module _ {S : Type 0} (counts_shortage : Bool) (is_slice : S → Source ℕ → 
       (none-stands longest depth partial a f wide h (decided-other f decided), none-can longest depth partial a f wide h decided)
 
   -- what follows the byte of a kind never backtracks
-  body-holds : (longest kind : ℕ) (inner : Meaning Reply ℕ) (partial : Bool) (a b : Ahead ℕ)
+  body-holds : (longest most kind : ℕ) (inner : Meaning Reply ℕ) (partial : Bool) (a b : Ahead ℕ)
       → ¬
-      (Body itself counts_shortage is_slice bytes longest inner kind partial a
+      (Body itself counts_shortage is_slice bytes longest most inner kind partial a
       (Fails (Backtracks b)))
-  body-holds longest kind inner partial a b (inl (e, inl h)) = h
-  body-holds longest kind inner partial a b (inl (e, inr (None, (c, (m, (h, same, k)))))) = absurd (let f : ArrayOf itself counts_shortage is_slice bytes inner None partial c (Fails (Backtracks b)) = subst (λ o. ArrayOf itself counts_shortage is_slice bytes inner o partial c (Fails (Backtracks b))) (sym same) k in f)
-  body-holds longest kind inner partial a b (inl (e, inr (Some n, (c, (m, (h, same, k)))))) = absurd (let f : ArrayOf itself counts_shortage is_slice bytes inner (Some n) partial c (Fails (Backtracks b)) = subst (λ o. ArrayOf itself counts_shortage is_slice bytes inner o partial c (Fails (Backtracks b))) (sym same) k in f)
-  body-holds longest kind inner partial a b (inr (inl (e, h))) = h
-  body-holds longest kind inner partial a b (inr (inr (inl (e, h)))) = h
-  body-holds longest kind inner partial a b (inr (inr (inr (inl (e, h))))) = h
-  body-holds longest kind inner partial a b (inr (inr (inr (inr (e, inl h))))) = h
-  body-holds longest kind inner partial a b (inr (inr (inr (inr (e, inr (None, (c, (m, (h, same, k))))))))) = absurd (let f : BulkOf itself counts_shortage is_slice bytes None partial c (Fails (Backtracks b)) = subst (λ o. BulkOf itself counts_shortage is_slice bytes o partial c (Fails (Backtracks b))) (sym same) k in f)
-  body-holds longest kind inner partial a b (inr (inr (inr (inr (e, inr (Some n, (c, (m, (h, same, k))))))))) = absurd (let f : BulkOf itself counts_shortage is_slice bytes (Some n) partial c (Fails (Backtracks b)) = subst (λ o. BulkOf itself counts_shortage is_slice bytes o partial c (Fails (Backtracks b))) (sym same) k in f)
+  body-holds longest most kind inner partial a b (inl (e, inl h)) = h
+  body-holds longest most kind inner partial a b (inl (e, inr (None, (c, (m, (h, same, k)))))) = absurd (let f : ArrayOf itself counts_shortage is_slice bytes inner None partial c (Fails (Backtracks b)) = subst (λ o. ArrayOf itself counts_shortage is_slice bytes inner o partial c (Fails (Backtracks b))) (sym same) k in f)
+  body-holds longest most kind inner partial a b (inl (e, inr (Some n, (c, (m, (h, same, k)))))) = absurd (let f : ArrayOf itself counts_shortage is_slice bytes inner (Some n) partial c (Fails (Backtracks b)) = subst (λ o. ArrayOf itself counts_shortage is_slice bytes inner o partial c (Fails (Backtracks b))) (sym same) k in f)
+  body-holds longest most kind inner partial a b (inr (inl (e, h))) = h
+  body-holds longest most kind inner partial a b (inr (inr (inl (e, h)))) = h
+  body-holds longest most kind inner partial a b (inr (inr (inr (inl (e, h))))) = h
+  body-holds longest most kind inner partial a b (inr (inr (inr (inr (e, inl h))))) = h
+  body-holds longest most kind inner partial a b (inr (inr (inr (inr (e, inr (None, (c, (m, (h, same, k))))))))) = absurd (let f : BulkOf itself counts_shortage is_slice bytes None partial c (Fails (Backtracks b)) = subst (λ o. BulkOf itself counts_shortage is_slice bytes o partial c (Fails (Backtracks b))) (sym same) k in f)
+  body-holds longest most kind inner partial a b (inr (inr (inr (inr (e, inr (Some n, (c, (m, (h, same, k))))))))) = absurd (let f : BulkOf itself counts_shortage is_slice bytes (Some n) partial c (Fails (Backtracks b)) = subst (λ o. BulkOf itself counts_shortage is_slice bytes o partial c (Fails (Backtracks b))) (sym same) k in f)
 
   -- a backtrack is that of the byte of a kind
-  layer-backtracks : (longest : ℕ) (inner : Meaning Reply ℕ) (partial : Bool) (a b : Ahead ℕ)
-      → Layer itself counts_shortage is_slice bytes longest inner partial a (Fails (Backtracks b))
+  layer-backtracks : (longest most : ℕ) (inner : Meaning Reply ℕ) (partial : Bool) (a b : Ahead ℕ)
+      → Layer itself counts_shortage is_slice bytes longest most inner partial a (Fails (Backtracks b))
       → OneOf is_kind partial a (Fails (Backtracks b))
-  layer-backtracks longest inner partial a b (inl h) = h
-  layer-backtracks longest inner partial a b (inr (x, (c, (k, (h, same, g))))) = absurd (body-holds longest k inner partial c b g)
+  layer-backtracks longest most inner partial a b (inl h) = h
+  layer-backtracks longest most inner partial a b (inr (x, (c, (k, (h, same, g))))) = absurd (body-holds longest most k inner partial c b g)
 
   -- so is that of the whole parser
   nested-backtracks : (longest depth : ℕ) (partial : Bool) (a b : Ahead ℕ)
       → Nested itself counts_shortage is_slice bytes longest depth partial a (Fails (Backtracks b))
       → OneOf is_kind partial a (Fails (Backtracks b))
-  nested-backtracks longest zero partial a b h = layer-backtracks longest Failing partial a b h
-  nested-backtracks longest (suc depth) partial a b h = layer-backtracks longest (Nested itself counts_shortage is_slice bytes longest depth) partial a b h
+  nested-backtracks longest zero partial a b h = layer-backtracks longest 0 Failing partial a b h
+  nested-backtracks longest (suc depth) partial a b h = layer-backtracks longest greatest_count (Nested itself counts_shortage is_slice bytes longest depth) partial a b h
 
   -- more input is needed only where more may follow
   needs-more : (longest depth : ℕ) (partial : Bool) (a : Ahead ℕ) (n : Needed)
@@ -107,7 +108,7 @@ module _ {S : Type 0} (counts_shortage : Bool) (is_slice : S → Source ℕ → 
       let k = yields-nested counts_shortage is_slice bytes have longest depth partial a b y wide h in (k.0, (k.1.0, k.1.1))
   answers longest depth partial a b (Err (Backtrack e)) wide h =
       let first = nested-backtracks longest depth partial a b h in
-      (none-ever longest depth partial a (Backtracks b) wide h tt, first.0, ap (λ s. s.tokens) (sym first.2))
+      (none-ever longest depth partial a (Backtracks b) wide h tt, first.0, ap (λ s. s.tokens) (sym first.2), first.1)
   answers longest depth partial a b (Err (Cut e)) wide h = (
     none-ever longest depth partial a (Cuts b) wide h tt,
     elim (nested-stops counts_shortage is_slice bytes have longest depth partial (Cuts b) a wide h) [

@@ -106,7 +106,7 @@ number_none text plain = λ v. (
 )
 
 -- the first byte of what std writes of a number is no minus
-no-minus : (n : ℕ) (ds : List ℕ) → n < 2 ^ 64 → 45 ∷ ds ≡ decimal n → ⊥
+pub no-minus : (n : ℕ) (ds : List ℕ) → n < 2 ^ 64 → 45 ∷ ds ≡ decimal n → ⊥
 no-minus n ds small e = let d = digit_from_value 45 (subst (AllDigits 10) (sym e) (decimal_is_IsNumeral n small).0.1).0 in omega (arith, d.0)
 
 -- an empty text is no integer

@@ -63,6 +63,17 @@ reads-ascending : {O : Type 0} (n : ℕ) (t : List ℕ) (inner : Meaning O ℕ) 
 reads-ascending n t inner A one r s wide stands partial a v e (inl h) = one r s wide stands partial a v e h.1
 reads-ascending n t inner A one r s wide stands partial a v e (inr h) = absurd (omega (arith, h.0))
 
+-- a length of at most 0 is a length
+pub wider-none : (text : List ℕ) (n : Option ℕ) → IsLength 0 text n → IsLength greatest_count text n
+wider-none text None h = h
+wider-none text (Some n) h = (omega (arith, h.0), h.1, h.2)
+
+-- no replies at all are at most 0
+pub none-within : (ys : List Reply) (t text : List ℕ) → SpellAll SpellsNone ys t
+    → IsLength greatest_count text (Some (length ys)) → IsLength 0 text (Some (length ys))
+none-within [] t text all h = (omega arith, h.1, h.2)
+none-within (y ∷ ys) t text (one, (more, (e, none, all))) h = absurd none
+
 module _ {S : Type 0} (counts_shortage : Bool) (is_slice : S → Source ℕ → ℕ → Type 0) (bytes : S → List ℕ) (have : SlicesHaveBytes is_slice bytes) where
   -- ---- What is given stands ahead
 
@@ -100,7 +111,7 @@ module _ {S : Type 0} (counts_shortage : Bool) (is_slice : S → Source ℕ → 
       (λ x n same. subst (λ m. Yields (BulkOf itself counts_shortage is_slice bytes m) (AfterBulk x)) same (bulk-after x))
       (bulk-whole longest spells)
 
-  module _ (longest : ℕ) (spells : Reply → List ℕ → Type 0) (inner : Meaning Reply ℕ) (one : Yields inner spells) where
+  module _ (longest most : ℕ) (spells : Reply → List ℕ → Type 0) (inner : Meaning Reply ℕ) (one : Yields inner spells) (wider : (text : List ℕ) (n : Option ℕ) → IsLength most text n → IsLength greatest_count text n) where
     -- replies that are given in turn stand one after the other
     pub turns-stand : (partial : Bool) (xs : List Reply) (a b : Ahead ℕ)
         → HasPositiveWidths a.tokens → InTurn (Taking inner) partial xs a b → Stands (SpellAll spells) a.tokens xs b.tokens
@@ -135,26 +146,26 @@ module _ {S : Type 0} (counts_shortage : Bool) (is_slice : S → Source ℕ → 
 
     -- a length and what stands after it spell an array
     array-whole : (n : Option ℕ) (y : Reply) (t u : List ℕ)
-        → (text : List ℕ) × (IsLength greatest_count text n × (t ≡ line text)) → AfterArray n y u
+        → (text : List ℕ) × (IsLength most text n × (t ≡ line text)) → AfterArray n y u
         → SpellsLayer longest spells (out-Reply y) (42 ∷ (t ++ u))
     array-whole None y t u (text, (is, e)) h =
         subst (λ f. SpellsLayer longest spells f (42 ∷ (t ++ u))) (sym h.0)
         (ap (λ s. 42 ∷ s) (ap (λ s. t ++ s) h.1 ∙ append-nil t ∙ e ∙ ap line is))
     array-whole (Some n) y t u (text, (is, e)) (v, h) =
         subst (λ f. SpellsLayer longest spells f (42 ∷ (t ++ u))) (sym h.0)
-        (text, (u, (subst (λ m. IsLength greatest_count text (Some m)) (sym h.1) is, h.2, ap (λ s. 42 ∷ (s ++ u)) e)))
+        (text, (u, (subst (λ m. IsLength greatest_count text (Some m)) (sym h.1) (wider text (Some n) is), h.2, ap (λ s. 42 ∷ (s ++ u)) e)))
 
     -- an array stands ahead
-    yields-array : Yields (ArrayReply itself counts_shortage is_slice bytes inner)
+    yields-array : Yields (ArrayReply itself counts_shortage is_slice bytes most inner)
         (λ y t. SpellsLayer longest spells (out-Reply y) (42 ∷ t))
     yields-array =
-        yields-continued IsSame (ArrayOf itself counts_shortage is_slice bytes inner) (Length itself counts_shortage is_slice bytes greatest_count) (λ n t. (text : List ℕ) × (IsLength greatest_count text n × (t ≡ line text))) AfterArray (λ y t. SpellsLayer longest spells (out-Reply y) (42 ∷ t)) (yields-length counts_shortage is_slice bytes have greatest_count)
+        yields-continued IsSame (ArrayOf itself counts_shortage is_slice bytes inner) (Length itself counts_shortage is_slice bytes most) (λ n t. (text : List ℕ) × (IsLength most text n × (t ≡ line text))) AfterArray (λ y t. SpellsLayer longest spells (out-Reply y) (42 ∷ t)) (yields-length counts_shortage is_slice bytes have most)
         (λ x n same. subst (λ m. Yields (ArrayOf itself counts_shortage is_slice bytes inner m) (AfterArray x)) same (array-after x))
         array-whole
 
     -- a reply stands after the byte of its kind
     yields-body : (kind : ℕ)
-        → Yields (Body itself counts_shortage is_slice bytes longest inner kind)
+        → Yields (Body itself counts_shortage is_slice bytes longest most inner kind)
         (λ y t. SpellsLayer longest spells (out-Reply y) (kind ∷ t))
     yields-body kind partial a b y wide (inl (e, h)) =
         let k = yields-array partial a b y wide h in
@@ -173,22 +184,22 @@ module _ {S : Type 0} (counts_shortage : Bool) (is_slice : S → Source ℕ → 
         (k.0, (k.1.0, subst (λ c. SpellsLayer longest spells (out-Reply y) (c ∷ k.0)) (sym e) k.1.1))
 
     -- a reply stands ahead
-    yields-layer : Yields (Layer itself counts_shortage is_slice bytes longest inner)
+    yields-layer : Yields (Layer itself counts_shortage is_slice bytes longest most inner)
         (λ y t. SpellsLayer longest spells (out-Reply y) t)
     yields-layer =
-        yields-continued (IsCode itself) (Body itself counts_shortage is_slice bytes longest inner) (OneOf is_kind) (λ x t. (is_kind x ≡ true) × (t ≡ x ∷ [])) (λ x y u. SpellsLayer longest spells (out-Reply y) (x ∷ u)) (λ y t. SpellsLayer longest spells (out-Reply y) t) (yields-one is_kind)
-        (λ x k same. subst (λ c. Yields (Body itself counts_shortage is_slice bytes longest inner c) (λ y u. SpellsLayer longest spells (out-Reply y) (x ∷ u))) same (yields-body x))
+        yields-continued (IsCode itself) (Body itself counts_shortage is_slice bytes longest most inner) (OneOf is_kind) (λ x t. (is_kind x ≡ true) × (t ≡ x ∷ [])) (λ x y u. SpellsLayer longest spells (out-Reply y) (x ∷ u)) (λ y t. SpellsLayer longest spells (out-Reply y) t) (yields-one is_kind)
+        (λ x k same. subst (λ c. Yields (Body itself counts_shortage is_slice bytes longest most inner c) (λ y u. SpellsLayer longest spells (out-Reply y) (x ∷ u))) same (yields-body x))
         (λ x y t u q r. subst (λ s. SpellsLayer longest spells (out-Reply y) (s ++ u)) (sym q.1) r)
 
   -- the reply that the parser gives stands ahead
   pub yields-nested : (longest depth : ℕ)
       → Yields (Nested itself counts_shortage is_slice bytes longest depth) (Spells longest depth)
-  yields-nested longest zero = yields-layer longest SpellsNone Failing (λ partial a b x wide h. absurd h)
-  yields-nested longest (suc depth) = yields-layer longest (Spells longest depth) (Nested itself counts_shortage is_slice bytes longest depth) (yields-nested longest depth)
+  yields-nested longest zero = yields-layer longest 0 SpellsNone Failing (λ partial a b x wide h. absurd h) wider-none
+  yields-nested longest (suc depth) = yields-layer longest greatest_count (Spells longest depth) (Nested itself counts_shortage is_slice bytes longest depth) (yields-nested longest depth) (λ text n h. h)
 
   -- ---- What stands ahead is given
 
-  module _ (longest : ℕ) (spells : Reply → List ℕ → Type 0) (inner : Meaning Reply ℕ) (begins : (y : Reply) (t : List ℕ) → spells y t → Begins t) (one : (y : Reply) (t : List ℕ) → spells y t → Reads inner t (λ z. spells z t × (contents z ≡ contents y))) where
+  module _ (longest most : ℕ) (spells : Reply → List ℕ → Type 0) (inner : Meaning Reply ℕ) (begins : (y : Reply) (t : List ℕ) → spells y t → Begins t) (one : (y : Reply) (t : List ℕ) → spells y t → Reads inner t (λ z. spells z t × (contents z ≡ contents y))) (within : (ys : List Reply) (t text : List ℕ) → SpellAll spells ys t → IsLength greatest_count text (Some (length ys)) → IsLength most text (Some (length ys))) where
     -- the bytes spell the second layer, which has the contents of the first
     abbrev Says : Reply-F Reply → Reply-F Reply → List ℕ → Type 0
     Says f g t = SpellsLayer longest spells g t × (value_of g ≡ value_of f)
@@ -305,22 +316,22 @@ module _ {S : Type 0} (counts_shortage : Bool) (is_slice : S → Source ℕ → 
     -- an array is read after the byte of its kind
     reads-array : (v : Vec Reply Global) (text more : List ℕ)
         → IsLength greatest_count text (Some (length v.items)) → SpellAll spells v.items more
-        → Reads (ArrayReply itself counts_shortage is_slice bytes inner) (line text
+        → Reads (ArrayReply itself counts_shortage is_slice bytes most inner) (line text
         ++ more) (λ y. Says (Array v) (out-Reply y) (42 ∷ (line text ++ more)))
     reads-array v text more is all =
-        reads-continued IsSame (ArrayOf itself counts_shortage is_slice bytes inner) (Length itself counts_shortage is_slice bytes greatest_count) (line text) more (λ m. m ≡ Some (length v.items)) (λ y. Says (Array v) (out-Reply y) (42 ∷ (line text ++ more)))
-        (reads-length counts_shortage is_slice bytes have greatest_count text (Some (length v.items)) is (length-line greatest_count text (Some (length v.items)) is))
+        reads-continued IsSame (ArrayOf itself counts_shortage is_slice bytes inner) (Length itself counts_shortage is_slice bytes most) (line text) more (λ m. m ≡ Some (length v.items)) (λ y. Says (Array v) (out-Reply y) (42 ∷ (line text ++ more)))
+        (reads-length counts_shortage is_slice bytes have most text (Some (length v.items)) (within v.items more text all is) (length-line greatest_count text (Some (length v.items)) is))
         (λ x n given same. subst (λ m. Reads (ArrayOf itself counts_shortage is_slice bytes inner m) more (λ y. Says (Array v) (out-Reply y) (42 ∷ (line text ++ more)))) (sym given ∙ same)
         (reads-maps IsArray (Elements itself counts_shortage is_slice bytes inner (length v.items)) more (λ w. SpellAll spells w.items more × (length w.items ≡ length v.items) × (map contents w.items ≡ map contents v.items)) (λ y. Says (Array v) (out-Reply y) (42 ∷ (line text ++ more))) (reads-elements (length v.items) v.items more all refl)
         (λ w y h out. subst (λ g. Says (Array v) g (42 ∷ (line text ++ more))) (sym out)
         ((text, (more, (subst (λ m. IsLength greatest_count text (Some m)) (sym h.1) is, h.0, refl))), ap (λ l. array (values_of l)) h.2))))
 
     -- the null array is read after the byte of its kind
-    reads-null_array : Reads (ArrayReply itself counts_shortage is_slice bytes inner)
+    reads-null_array : Reads (ArrayReply itself counts_shortage is_slice bytes most inner)
         (line no_length) (λ y. Says NullArray (out-Reply y) (42 ∷ line no_length))
     reads-null_array =
-        reads-continued IsSame (ArrayOf itself counts_shortage is_slice bytes inner) (Length itself counts_shortage is_slice bytes greatest_count) (line no_length) [] (λ m. m ≡ None) (λ y. Says NullArray (out-Reply y) (42 ∷ line no_length))
-        (reads-length counts_shortage is_slice bytes have greatest_count no_length None refl no_length-line)
+        reads-continued IsSame (ArrayOf itself counts_shortage is_slice bytes inner) (Length itself counts_shortage is_slice bytes most) (line no_length) [] (λ m. m ≡ None) (λ y. Says NullArray (out-Reply y) (42 ∷ line no_length))
+        (reads-length counts_shortage is_slice bytes have most no_length None refl no_length-line)
         (λ x n given same. subst (λ m. Reads (ArrayOf itself counts_shortage is_slice bytes inner m) [] (λ y. Says NullArray (out-Reply y) (42 ∷ line no_length))) (sym given ∙ same)
         (reads-maps IsNullArray (Returns tt) [] (λ x. ⊤) (λ y. Says NullArray (out-Reply y) (42 ∷ line no_length)) reads-returns
         (λ w y h out. subst (λ g. Says NullArray g (42 ∷ line no_length)) (sym out) (refl, refl))))
@@ -350,8 +361,8 @@ module _ {S : Type 0} (counts_shortage : Bool) (is_slice : S → Source ℕ → 
 
     module _ (u : List ℕ) (P : Reply → Type 0) where
       -- after the byte of an array, an array is read
-      body-array : Reads (ArrayReply itself counts_shortage is_slice bytes inner) u P
-          → Reads (Body itself counts_shortage is_slice bytes longest inner 42) u P
+      body-array : Reads (ArrayReply itself counts_shortage is_slice bytes most inner) u P
+          → Reads (Body itself counts_shortage is_slice bytes longest most inner 42) u P
       body-array one r s wide stands partial a v e (inl h) = one r s wide stands partial a v e h.1
       body-array one r s wide stands partial a v e (inr (inl h)) = absurd (omega (arith, h.0))
       body-array one r s wide stands partial a v e (inr (inr (inl h))) = absurd (omega (arith, h.0))
@@ -360,7 +371,7 @@ module _ {S : Type 0} (counts_shortage : Bool) (is_slice : S → Source ℕ → 
 
       -- after the byte of a simple string, its text is read
       body-simple : Reads (Maps IsSimple (Text itself counts_shortage is_slice bytes longest)) u P
-          → Reads (Body itself counts_shortage is_slice bytes longest inner 43) u P
+          → Reads (Body itself counts_shortage is_slice bytes longest most inner 43) u P
       body-simple one r s wide stands partial a v e (inl h) = absurd (omega (arith, h.0))
       body-simple one r s wide stands partial a v e (inr (inl h)) = one r s wide stands partial a v e h.1
       body-simple one r s wide stands partial a v e (inr (inr (inl h))) = absurd (omega (arith, h.0))
@@ -369,7 +380,7 @@ module _ {S : Type 0} (counts_shortage : Bool) (is_slice : S → Source ℕ → 
 
       -- after the byte of an error, its text is read
       body-error : Reads (Maps IsError (Text itself counts_shortage is_slice bytes longest)) u P
-          → Reads (Body itself counts_shortage is_slice bytes longest inner 45) u P
+          → Reads (Body itself counts_shortage is_slice bytes longest most inner 45) u P
       body-error one r s wide stands partial a v e (inl h) = absurd (omega (arith, h.0))
       body-error one r s wide stands partial a v e (inr (inl h)) = absurd (omega (arith, h.0))
       body-error one r s wide stands partial a v e (inr (inr (inl h))) = one r s wide stands partial a v e h.1
@@ -378,7 +389,7 @@ module _ {S : Type 0} (counts_shortage : Bool) (is_slice : S → Source ℕ → 
 
       -- after the byte of an integer, its number is read
       body-number : Reads (Maps IsNumber (Number itself counts_shortage is_slice bytes)) u P
-          → Reads (Body itself counts_shortage is_slice bytes longest inner 58) u P
+          → Reads (Body itself counts_shortage is_slice bytes longest most inner 58) u P
       body-number one r s wide stands partial a v e (inl h) = absurd (omega (arith, h.0))
       body-number one r s wide stands partial a v e (inr (inl h)) = absurd (omega (arith, h.0))
       body-number one r s wide stands partial a v e (inr (inr (inl h))) = absurd (omega (arith, h.0))
@@ -387,7 +398,7 @@ module _ {S : Type 0} (counts_shortage : Bool) (is_slice : S → Source ℕ → 
 
       -- after the byte of a bulk string, a bulk string is read
       body-bulk : Reads (BulkString itself counts_shortage is_slice bytes longest) u P
-          → Reads (Body itself counts_shortage is_slice bytes longest inner 36) u P
+          → Reads (Body itself counts_shortage is_slice bytes longest most inner 36) u P
       body-bulk one r s wide stands partial a v e (inl h) = absurd (omega (arith, h.0))
       body-bulk one r s wide stands partial a v e (inr (inl h)) = absurd (omega (arith, h.0))
       body-bulk one r s wide stands partial a v e (inr (inr (inl h))) = absurd (omega (arith, h.0))
@@ -396,15 +407,15 @@ module _ {S : Type 0} (counts_shortage : Bool) (is_slice : S → Source ℕ → 
 
       -- after a byte of a kind, what the kind asks for is read
       reads-kind : (kind : ℕ) → is_kind kind ≡ true
-          → Reads (Body itself counts_shortage is_slice bytes longest inner kind) u P
-          → Reads (Layer itself counts_shortage is_slice bytes longest inner) (kind ∷ u) P
+          → Reads (Body itself counts_shortage is_slice bytes longest most inner kind) u P
+          → Reads (Layer itself counts_shortage is_slice bytes longest most inner) (kind ∷ u) P
       reads-kind kind held body =
-          reads-continued (IsCode itself) (Body itself counts_shortage is_slice bytes longest inner) (OneOf is_kind) (kind ∷ []) u (λ x. x ≡ kind) P (reads-one is_kind kind held)
-          (λ x k given same. subst (λ c. Reads (Body itself counts_shortage is_slice bytes longest inner c) u P) (sym given ∙ same) body)
+          reads-continued (IsCode itself) (Body itself counts_shortage is_slice bytes longest most inner) (OneOf is_kind) (kind ∷ []) u (λ x. x ≡ kind) P (reads-one is_kind kind held)
+          (λ x k given same. subst (λ c. Reads (Body itself counts_shortage is_slice bytes longest most inner c) u P) (sym given ∙ same) body)
 
     -- a reply is read, with the contents of a layer
     abbrev LayerIsRead : Reply-F Reply → List ℕ → Type 0
-    LayerIsRead f t = Reads (Layer itself counts_shortage is_slice bytes longest inner) t (λ y. Says f (out-Reply y) t)
+    LayerIsRead f t = Reads (Layer itself counts_shortage is_slice bytes longest most inner) t (λ y. Says f (out-Reply y) t)
 
     -- a reply that stands ahead is read, kind by kind
     reads-layer : (f : Reply-F Reply) (t : List ℕ) → SpellsLayer longest spells f t
@@ -443,7 +454,7 @@ module _ {S : Type 0} (counts_shortage : Bool) (is_slice : S → Source ℕ → 
       (λ z. Spells longest depth z t × (contents z ≡ contents y))
   reads-nested longest zero y t h =
       reads-weaker (Nested itself counts_shortage is_slice bytes longest zero) t (λ z. SpellsLayer longest SpellsNone (out-Reply z) t × (value_of (out-Reply z) ≡ value_of (out-Reply y))) (λ z. Spells longest zero z t × (contents z ≡ contents y))
-      (λ z k. (k.0, same-contents y z k.1)) (reads-layer longest SpellsNone Failing (λ y t h. absurd h) (λ y t h. absurd h) (out-Reply y) t h)
+      (λ z k. (k.0, same-contents y z k.1)) (reads-layer longest 0 SpellsNone Failing (λ y t h. absurd h) (λ y t h. absurd h) none-within (out-Reply y) t h)
   reads-nested longest (suc depth) y t h =
       reads-weaker (Nested itself counts_shortage is_slice bytes longest (suc depth)) t (λ z. SpellsLayer longest (Spells longest depth) (out-Reply z) t × (value_of (out-Reply z) ≡ value_of (out-Reply y))) (λ z. Spells longest (suc depth) z t × (contents z ≡ contents y))
-      (λ z k. (k.0, same-contents y z k.1)) (reads-layer longest (Spells longest depth) (Nested itself counts_shortage is_slice bytes longest depth) (spells-begins longest depth) (reads-nested longest depth) (out-Reply y) t h)
+      (λ z k. (k.0, same-contents y z k.1)) (reads-layer longest greatest_count (Spells longest depth) (Nested itself counts_shortage is_slice bytes longest depth) (spells-begins longest depth) (reads-nested longest depth) (λ ys t text all is. is) (out-Reply y) t h)
