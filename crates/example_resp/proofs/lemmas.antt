@@ -2,3 +2,4 @@ pub mod PositionLemmas
 pub mod PrintingLemmas
 pub mod SessionLemmas
 pub mod PrintedLemmas
+pub mod CauseLemmas

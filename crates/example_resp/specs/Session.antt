@@ -1,11 +1,15 @@
 -- What the program has read of its input, where it stands, and what it prints.
-use Rattle.std.specs.Prelude.{◌≡◌, ℕ, ◌+◌, ◌-◌, ◌<◌, ◌^◌, true, false, List, [], ◌∷◌, ◌++◌, length, take, map, Option, Some, None, Result, Ok, Err, ⊤, ◌⊎◌}
+use Rattle.std.specs.Prelude.{◌≡◌, ℕ, ◌+◌, ◌-◌, ◌<◌, ◌^◌, true, false, not, List, [], ◌∷◌, ◌++◌, length, take, drop, map, Option, Some, None, Result, Ok, Err, ⊤, ◌⊎◌}
 use Rattle.std.specs.List.{flat_map}
 use Rattle.std.specs.Io.KnownBytes.{Appends}
 use Rattle.winnow.specs.Outcome.{Meaning}
 use Rattle.winnow.specs.State.{ReaderState, fed_of}
 use Rattle.winnow.specs.Reading.{HasRead, Lacks}
 use Rattle.winnow.specs.Answering.{FailsAt, IdlesAt}
+use Rattle.winnow_stream.specs.Source.{units}
+use Rattle.winnow_resp.specs.Answers.{IsSettled}
+use Rattle.winnow_resp.specs.Causes.{IsDamaged}
+use Rattle.winnow_resp.specs.declared.causes.Cause.{Cause}
 use Rattle.winnow_resp.specs.declared.reply.Reply.{Reply}
 use Rattle.example_resp.specs.declared.placed.Placed.{Placed}
 use Rattle.example_resp.specs.declared.placed.PlacedReply.{PlacedReply}
@@ -56,16 +60,22 @@ next_replies (Some reply) = reply ∷ []
 -- stands where the input ends inside one
 abbrev pub ended_as : Result (Unit {0}) Failure → Position → Result (Unit {0}) Failure
 ended_as (Ok done) place = Ok done
-ended_as (Err (NoReply p)) place = Err (EndsInside place)
+ended_as (Err (NoReply p cause)) place = Err (EndsInside place)
 ended_as (Err (EndsInside p)) place = Err (EndsInside p)
 ended_as (Err (Stopped trouble)) place = Err (Stopped trouble)
 
 -- this holds, unless memory was refused, or reading or writing failed
 abbrev pub OnAnswer : Result (Unit {0}) Failure → Type 0 → Type 0
 OnAnswer (Ok done) p = p
-OnAnswer (Err (NoReply place)) p = p
+OnAnswer (Err (NoReply place cause)) p = p
 OnAnswer (Err (EndsInside place)) p = p
 OnAnswer (Err (Stopped trouble)) p = ⊤
+
+-- the bytes that are ahead break off at this place of the joined input, as a reply within the limits
+-- does for this cause, which no more input changes
+abbrev pub IsCauseAt : ReaderState PlacedReply → ℕ → Cause → Type 0
+IsCauseAt f there cause = IsSettled (not f.ended) cause
+    × IsDamaged f.parser.limits.longest f.parser.limits.depth cause (units f.ahead) (units (drop (there - f.place) f.ahead))
 
 module _ (means : PlacedReply → Meaning Placed ℕ) where
   -- no matter what was read, the other reader has read that, and these replies after it
@@ -80,10 +90,14 @@ module _ (means : PlacedReply → Meaning Placed ℕ) where
   HasNoneLeft old new = (new.ended ≡ true → new.ahead ≡ []) × (new.ended ≡ false → (input : List ℕ) (values : List Placed)
       → HasRead means old input values → Lacks means new)
 
-  -- the failure is that of the parser, no matter what follows: it fails there or takes nothing. And
-  -- the bytes from the reader's place on lead there
+  -- no matter what follows, the parser fails there, for this cause
+  abbrev pub FailsFor : ReaderState PlacedReply → ℕ → Cause → Type 0
+  FailsFor f there cause = FailsAt means f there × IsCauseAt f there cause
+
+  -- the failure is that of the parser, no matter what follows: it fails there for the cause, or takes
+  -- nothing. And the bytes from the reader's place on lead there
   abbrev pub FailsThere : ReaderState PlacedReply → Position → Failure → Type 0
-  FailsThere f place (NoReply p) = (FailsAt means f p.byte ⊎ IdlesAt means f p.byte)
+  FailsThere f place (NoReply p cause) = (FailsFor f p.byte cause ⊎ IdlesAt means f p.byte)
       × (p ≡ position_after place (take (p.byte - f.place) f.ahead))
   FailsThere f place (EndsInside p) = ⊥
   FailsThere f place (Stopped trouble) = ⊤
@@ -122,7 +136,7 @@ module _ (means : PlacedReply → Meaning Placed ℕ) where
   abbrev pub EndsAs : ReaderState PlacedReply → Position → List ℕ → Result (Unit {0}) Failure
       → Type 0
   EndsAs f place rest (Ok done) = (rest ≡ []) × (f.ended ≡ true) × (f.ahead ≡ [])
-  EndsAs f place rest (Err (NoReply p)) = FailsThere f place (NoReply p)
+  EndsAs f place rest (Err (NoReply p cause)) = FailsThere f place (NoReply p cause)
   EndsAs f place rest (Err (EndsInside p)) = (rest ≡ []) × (f.ended ≡ true) × (p ≡ place)
   EndsAs f place rest (Err (Stopped trouble)) = ⊤
 

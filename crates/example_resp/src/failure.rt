@@ -7,12 +7,13 @@ use crate::positions::Position;
 use example_base::Trouble;
 use std::alloc::AllocError;
 use std::fmt;
+use winnow_resp::Cause;
 
 /// The reason why the program ends with a status other than 0.
 #[derive(Drop)]
 pub enum Failure {
-    /// No reply within the limits stands there, no matter what follows
-    NoReply(Position),
+    /// No reply within the limits stands there, no matter what follows, for this cause
+    NoReply(Position, Cause),
     /// The input ends inside the reply that begins there
     EndsInside(Position),
     /// Memory was refused, or reading or writing failed
@@ -25,7 +26,7 @@ impl Failure {
         ensures { result ≡ status_of self.now }
     {
         match self {
-            Failure::NoReply(_) => 2,
+            Failure::NoReply(_, _) => 2,
             Failure::EndsInside(_) => 2,
             Failure::Stopped(trouble) => trouble.status(),
         }
@@ -46,7 +47,7 @@ impl fmt::Display for Failure {
 
     fn fmt<W: fmt::Write>(&self, f: &mut fmt::Formatter<W>) -> fmt::Result {
         match self {
-            Failure::NoReply(place) => write!(f, "{place}: no reply within the limits stands here"),
+            Failure::NoReply(place, cause) => write!(f, "{place}: {cause}"),
             Failure::EndsInside(place) => {
                 write!(
                     f,

@@ -1,9 +1,10 @@
 ghost use Rattle.std.specs.Prelude.{◌≡◌, ℕ, ◌++◌, ◌+◌, ◌-◌, ◌<◌, ◌≤◌, List, [], false, Some};
-ghost use Rattle.std.specs.Prelude.{take, length, vec_len};
+ghost use Rattle.std.specs.Prelude.{take, drop, length, vec_len};
 ghost use Rattle.std.specs.Prelude.{IfOk, IfErr, OnOk, OnErr, OnSome, IfNone};
 ghost use Rattle.std.specs.Io.KnownBytes.{Appends, ReadConsumes};
 ghost use Rattle.winnow.specs.State.{ReaderState};
 ghost use Rattle.winnow.specs.Answering.{FailsAt};
+ghost use Rattle.winnow_resp.specs.Causes.{IsCauseOf};
 ghost use Rattle.winnow_resp.specs.declared.reply.Reply.{Reply};
 ghost use Rattle.example_resp.specs.Positions.{position_after};
 ghost use Rattle.example_resp.specs.Printing.{shown};
@@ -21,7 +22,7 @@ use example_base::Trouble;
 use std::alloc::{AllocError, Global};
 use std::io::{self, ErrorKind, Read, Write};
 use winnow::reader::{ByteReader, Next, ReadError, Record};
-use winnow_resp::{Reply, ReplyTo};
+use winnow_resp::{Cause, Reply, ReplyTo, cause_of};
 
 // A read of a pipe gives at most as much.
 const PIECE: usize = 64 * 1024;
@@ -109,7 +110,7 @@ fn ended_as(taken: Result<(), Failure>, place: Position) -> Result<(), Failure>
 {
     match taken {
         Ok(()) => Ok(()),
-        Err(Failure::NoReply(_)) => Err(Failure::EndsInside(place)),
+        Err(Failure::NoReply(_, _)) => Err(Failure::EndsInside(place)),
         Err(Failure::EndsInside(inside)) => Err(Failure::EndsInside(inside)),
         Err(Failure::Stopped(trouble)) => Err(Failure::Stopped(trouble)),
     }
@@ -238,9 +239,13 @@ fn next_reply(
                 error: _,
                 place: failed,
             },
-        ) => Err(Failure::NoReply(place_ahead(reader, *place, failed))),
+        ) => {
+            let cause = cause_ahead(reader, failed);
+            Err(Failure::NoReply(place_ahead(reader, *place, failed), cause))
+        }
         Err(ReadError::TakesNothing { place: failed }) => {
-            Err(Failure::NoReply(place_ahead(reader, *place, failed)))
+            let cause = cause_ahead(reader, failed);
+            Err(Failure::NoReply(place_ahead(reader, *place, failed), cause))
         }
         Err(ReadError::Refused(refused)) => Err(Failure::from(refused)),
     }
@@ -255,6 +260,17 @@ fn place_ahead(reader: &ByteReader<PlacedReply>, place: Position, bytes: usize) 
     let ahead = reader.ahead();
     let width = bytes.saturating_sub(reader.place()).min(ahead.len());
     place.after(&ahead[..width])
+}
+
+// Returns the cause for which a reply breaks off after this many bytes of the joined input, if one
+// does that begins at the place of the reader.
+fn cause_ahead(reader: &ByteReader<PlacedReply>, bytes: usize) -> Cause
+    ensures { let width = bytes - reader.now.place in
+        IsCauseOf result (take width reader.now.ahead) (drop width reader.now.ahead) }
+{
+    let ahead = reader.ahead();
+    let width = bytes.saturating_sub(reader.place()).min(ahead.len());
+    cause_of(&ahead[..width], &ahead[width..])
 }
 
 // The law of failures: where a reader's record fails, no matter what follows, is in what is ahead.

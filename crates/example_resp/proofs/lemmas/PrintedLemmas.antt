@@ -152,8 +152,8 @@ module _ (means : PlacedReply → Meaning Placed ℕ) where
       → ((input : List ℕ) (replies : List Reply) → Follows means input replies f place
       → OnAnswer (Err e) (Continues means (input ++ piece) replies g there output new))
       → FailsThere means g there e → OnAnswer (Err e) (Tells means parser whole before new (Err e))
-  tells-failed parser whole before piece source left output new f g place there (NoReply p) h consumes same told failed =
-      tells-printed parser whole before left new g there (Err (NoReply p))
+  tells-failed parser whole before piece source left output new f g place there (NoReply p cause) h consumes same told failed =
+      tells-printed parser whole before left new g there (Err (NoReply p cause))
       (printed-piece whole before piece source left output new f g place there h consumes told) same failed
   tells-failed parser whole before piece source left output new f g place there (EndsInside p) h consumes same told failed = absurd failed
   tells-failed parser whole before piece source left output new f g place there (Stopped trouble) h consumes same told failed = tt

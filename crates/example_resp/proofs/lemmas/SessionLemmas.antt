@@ -22,7 +22,7 @@ use Rattle.example_resp.specs.declared.placed.PlacedReply.{PlacedReply}
 use Rattle.example_resp.specs.declared.positions.Position.{Position}
 use Rattle.example_resp.specs.Positions.{start, position_after, joined_with, IsPosition}
 use Rattle.example_resp.specs.Placing.{IsPlaced}
-use Rattle.example_resp.specs.Session.{StandsOn, ended_as, Follows, Continues, EndsAs, IsSteady, HasSameInput, StandsAt, OnAnswer, ReadsReplies, HasNoneLeft, FailsThere, replies_of, shown_all}
+use Rattle.example_resp.specs.Session.{IsCauseAt, FailsFor, StandsOn, ended_as, Follows, Continues, EndsAs, IsSteady, HasSameInput, StandsAt, OnAnswer, ReadsReplies, HasNoneLeft, FailsThere, replies_of, shown_all}
 use Rattle.example_resp.specs.Printing.{shown}
 use Rattle.example_resp.proofs.lemmas.PositionLemmas.{position_after-append, position_after-byte, joined-after, after-counted, start-counted}
 
@@ -147,15 +147,15 @@ module _ (means : PlacedReply
       omega (arith, byte, some, n, k.1.1, s.same)
 
   -- what a reader that is stuck says of the failure that is told
-  pub stuck-there : (old new : ReaderState PlacedReply) (place p : Position) (there : ℕ) → new ≡ old
-      → IsSteady old place → FailsAt means old there ⊎ IdlesAt means old there
+  pub stuck-there : (old new : ReaderState PlacedReply) (place p : Position) (cause : Cause) (there : ℕ)
+      → new ≡ old → IsSteady old place → FailsFor means old there cause ⊎ IdlesAt means old there
       → p ≡ position_after place (take (there - new.place) new.ahead)
-      → FailsThere means new place (NoReply p)
-  stuck-there old new place p there kept s h e =
-      let stuck = subst (λ f. FailsAt means f there ⊎ IdlesAt means f there) (sym kept) h in
+      → FailsThere means new place (NoReply p cause)
+  stuck-there old new place p cause there kept s h e =
+      let stuck = subst (λ f. FailsFor means f there cause ⊎ IdlesAt means f there) (sym kept) h in
       let steady = subst (λ f. IsSteady f place) (sym kept) s in
-      let byte = stuck-byte new place p there steady stuck e in (
-        subst (λ n. FailsAt means new n ⊎ IdlesAt means new n) byte stuck,
+      let byte = stuck-byte new place p there steady (elim stuck [ inl fails ↦ inl fails.0 | inr idles ↦ inr idles ]) e in (
+        subst (λ n. FailsFor means new n cause ⊎ IdlesAt means new n) byte stuck,
         e ∙ ap
             (λ n. position_after place (take (n - new.place) new.ahead)) byte,
       )
@@ -179,7 +179,7 @@ waits-none means old new kept goes lacks =
 -- what holds, holds unless a call failed
 pub on-answer : (r : Result (Unit {0}) Failure) (P : Type 0) → P → OnAnswer r P
 on-answer (Ok done) P h = h
-on-answer (Err (NoReply place)) P h = h
+on-answer (Err (NoReply place cause)) P h = h
 on-answer (Err (EndsInside place)) P h = h
 on-answer (Err (Stopped trouble)) P h = tt
 
@@ -259,7 +259,7 @@ module _ (means : PlacedReply → Meaning Placed ℕ) where
 pub on-answer-map : (r : Result (Unit {0}) Failure) (P Q : Type 0) → (P → Q) → OnAnswer r P
     → OnAnswer r Q
 on-answer-map (Ok done) P Q f h = f h
-on-answer-map (Err (NoReply place)) P Q f h = f h
+on-answer-map (Err (NoReply place cause)) P Q f h = f h
 on-answer-map (Err (EndsInside place)) P Q f h = f h
 on-answer-map (Err (Stopped trouble)) P Q f h = tt
 
@@ -267,7 +267,7 @@ on-answer-map (Err (Stopped trouble)) P Q f h = tt
 pub on-ended : (r : Result (Unit {0}) Failure) (place : Position) (P : Type 0) → OnAnswer r P
     → OnAnswer (ended_as r place) P
 on-ended (Ok done) place P h = h
-on-ended (Err (NoReply p)) place P h = h
+on-ended (Err (NoReply p cause)) place P h = h
 on-ended (Err (EndsInside p)) place P h = h
 on-ended (Err (Stopped trouble)) place P h = tt
 
@@ -335,13 +335,13 @@ module _ (means : PlacedReply → Meaning Placed ℕ) where
       → OnOk r (HasNoneLeft means old f) → IfErr r (FailsThere means f place)
       → EndsAs means f place [] (ended_as r place)
   ends-as (Ok done) old f place e none failed = (refl, e, none.0 e)
-  ends-as (Err (NoReply p)) old f place e none failed = (refl, e, refl)
+  ends-as (Err (NoReply p cause)) old f place e none failed = (refl, e, refl)
   ends-as (Err (EndsInside p)) old f place e none failed = absurd failed
   ends-as (Err (Stopped trouble)) old f place e none failed = tt
 
   -- a reader that failed before the end of the input ends so, with any rest of the input
   pub fails-as : (e : Failure) (f : ReaderState PlacedReply) (place : Position) (rest : List ℕ)
       → FailsThere means f place e → EndsAs means f place rest (Err e)
-  fails-as (NoReply p) f place rest h = h
+  fails-as (NoReply p cause) f place rest h = h
   fails-as (EndsInside p) f place rest h = absurd h
   fails-as (Stopped trouble) f place rest h = tt

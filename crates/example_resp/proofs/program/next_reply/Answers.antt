@@ -1,10 +1,12 @@
-use Rattle.std.proofs.Common.{[], ◌∷◌, refl, ap, sym, subst, inl, inr}
+use Rattle.std.proofs.Common.{◌-◌, true, [], ◌∷◌, take, drop, refl, ap, sym, subst, inl, inr}
 use Rattle.winnow_reader.specs.State.{ReaderState}
 use Rattle.example_resp.specs.declared.placed.PlacedReply.{PlacedReply}
+use Rattle.winnow_resp.specs.Causes.{IsCauseOf}
 use Rattle.example_resp.specs.Positions.{joined_with}
 use Rattle.example_resp.specs.Session.{StandsAt}
 use Rattle.example_resp.specs.contracts.placed.PlacedReplyRecord.TheImpl.{ghosts}
 use Rattle.example_resp.proofs.lemmas.SessionLemmas.{placed-end, end-counted, taken-byte, joined-fits, stands-after, steady-after, stuck-there, waits-none}
+use Rattle.example_resp.proofs.lemmas.CauseLemmas.{fails-for}
 use Rattle.example_resp.proofs.program.next_reply.Goals as goal
 
 pub joined_with-requires-clause-other_counted : goal.joined_with-requires-clause-other_counted
@@ -62,14 +64,18 @@ pub returns-in-Err-Failed-clause-failed : goal.returns-in-Err-Failed-clause-fail
 returns-in-Err-Failed-clause-failed c =
     let failed = rw c.in-Err-Failed.field-0-is at c.in-Err-Failed.ensures.failed in
     let kept = c.in-Err-Failed.ensures.kept in
+    let old = c.args.reader.now in
+    let told = c.cause_ahead-cause.result in
+    let there = c.in-Err-Failed.failed in
+    let is = subst (λ (f : ReaderState PlacedReply). IsCauseOf told (take (there - f.place) f.ahead) (drop (there - f.place) f.ahead)) kept c.cause_ahead-cause.ensures in
     stuck-there ghosts.means c.failure_law.ensures
-    c.args.reader.now c.read_next.new.self c.args.place.now c.place_ahead.result c.in-Err-Failed.failed
-    kept c.requires (inl failed) c.place_ahead.ensures
+    old c.read_next.new.self c.args.place.now c.place_ahead.result told there
+    kept c.requires (inl (failed, fails-for true old there told failed is)) c.place_ahead.ensures
 
 pub returns-in-Err-TakesNothing-clause-failed : goal.returns-in-Err-TakesNothing-clause-failed
 returns-in-Err-TakesNothing-clause-failed c =
     let failed = rw c.in-Err-TakesNothing.field-0-is at c.in-Err-TakesNothing.ensures.failed in
     let kept = c.in-Err-TakesNothing.ensures.kept in
     stuck-there ghosts.means c.failure_law.ensures
-    c.args.reader.now c.read_next.new.self c.args.place.now c.place_ahead-in-Err-TakesNothing.result c.in-Err-TakesNothing.failed
+    c.args.reader.now c.read_next.new.self c.args.place.now c.place_ahead-in-Err-TakesNothing.result c.cause_ahead-cause-in-Err-TakesNothing.result c.in-Err-TakesNothing.failed
     kept c.requires (inr failed) c.place_ahead-in-Err-TakesNothing.ensures
