@@ -11,11 +11,15 @@
 #![tactic(auto)]
 
 mod asking;
+mod by_ref;
 mod choices;
+mod choices_to_ten;
 mod made;
 mod parts;
 mod repeated;
 mod rows;
+mod rows_to_ten;
+mod slices;
 mod spells;
 mod tokens;
 
