@@ -1,6 +1,12 @@
 pub mod Spelling
 pub mod Spellings
+pub mod SpellingRows
+pub mod Within
 pub mod Spelt
 pub mod Spelled
 pub mod SpelledTokens
 pub mod Texts
+pub mod SpelledSlices
+pub mod SpelledLists
+pub mod SpelledRows
+pub mod SpelledChoices

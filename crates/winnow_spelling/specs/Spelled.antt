@@ -5,8 +5,7 @@ use Rattle.std.proofs.lemmas.List.{map-append}
 use Rattle.std.proofs.lemmas.Option.{same_Some}
 use Rattle.winnow_stream.specs.Source.{Source, width, HasPositiveWidths}
 use Rattle.winnow_parser.specs.Outcome.{Ahead, Gives, Meaning}
-use Rattle.winnow_parser.specs.Meanings.{Returns, Maps, Pair, Preceded, Terminated, Either, Optional, CutOff, Softened, Chosen}
-use Rattle.winnow_parser.specs.Rows.{Row3, Row4, Row5}
+use Rattle.winnow_parser.specs.Meanings.{Returns, Maps, Pair, Preceded, Terminated, Either, Optional, CutOff, Softened, Verified, Chosen}
 use Rattle.winnow_parser.specs.Context.{InContext}
 use Rattle.winnow_combinator.specs.Appended.{AppendingIf}
 use Rattle.winnow_combinator.specs.Counts.{IsBelow, IsUpTo, Ascending}
@@ -14,7 +13,7 @@ use Rattle.winnow_combinator.specs.Gathering.{Gathered}
 use Rattle.winnow_combinator.specs.Repetition.{Taking, InTurn, Repeated}
 use Rattle.winnow_combinator.specs.Separation.{FoldsLeft, FoldedLeft}
 use Rattle.winnow_spelling.specs.Spelling.{Spelling, tokens_of, TakesFor, IsSpelled}
-use Rattle.winnow_spelling.specs.Spellings.{NoToken, Then, Then3, Then4, Then5, After, Before, InRow, Or, Perhaps, MadeOf, Several, Counted, Chain}
+use Rattle.winnow_spelling.specs.Spellings.{NoToken, Then, After, Before, InRow, Or, Perhaps, MadeOf, Such, Several, Counted, Chain}
 
 -- what follows a front has positive widths
 pub wide-after : {T : Type 0} (front rest : Source T) → HasPositiveWidths (front ++ rest)
@@ -75,31 +74,12 @@ pub spelled-Chosen : {O P T : Type 0} (makes : O → Option P → Type 0) (p : S
 spelled-Chosen makes p inner one partial a b y wide (x, (made, h)) =
     takes-on p (MadeOf (λ x y. makes x (Some y)) p) x y a b (λ ts k. (x, (made, k))) (one partial a b x wide h)
 
--- ---- Tuples
-
-pub spelled-Then3 : {A B C T : Type 0} (p : Spelling A T) (q : Spelling B T) (r : Spelling C T)
-    (x : Meaning A T) (y : Meaning B T) (z : Meaning C T)
-    → IsSpelled p x → IsSpelled q y → IsSpelled r z → IsSpelled (Then3 p q r) (Row3 x y z)
-spelled-Then3 p q r x y z one two three partial a b all wide (parts, (same, h)) =
-    takes-on (Then p (Then q r)) (Then3 p q r) parts all a b (λ ts k. subst (λ u. Then3 p q r u ts) same k)
-    (spelled-Then p (Then q r) x (Pair y z) one (spelled-Then q r y z two three) partial a b parts wide h)
-
-pub spelled-Then4 : {A B C D T : Type 0} (p : Spelling A T) (q : Spelling B T) (r : Spelling C T)
-    (s : Spelling D T) (x : Meaning A T) (y : Meaning B T) (z : Meaning C T) (w : Meaning D T)
-    → IsSpelled p x → IsSpelled q y → IsSpelled r z → IsSpelled s w
-    → IsSpelled (Then4 p q r s) (Row4 x y z w)
-spelled-Then4 p q r s x y z w one two three four partial a b all wide (parts, (same, h)) =
-    takes-on (Then p (Then3 q r s)) (Then4 p q r s) parts all a b (λ ts k. subst (λ u. Then4 p q r s u ts) same k)
-    (spelled-Then p (Then3 q r s) x (Row3 y z w) one (spelled-Then3 q r s y z w two three four) partial a b parts wide h)
-
-pub spelled-Then5 : {A B C D E T : Type 0} (p : Spelling A T) (q : Spelling B T)
-    (r : Spelling C T) (s : Spelling D T) (t : Spelling E T) (x : Meaning A T) (y : Meaning B T)
-    (z : Meaning C T) (w : Meaning D T) (v : Meaning E T)
-    → IsSpelled p x → IsSpelled q y → IsSpelled r z → IsSpelled s w → IsSpelled t v
-    → IsSpelled (Then5 p q r s t) (Row5 x y z w v)
-spelled-Then5 p q r s t x y z w v one two three four five partial a b all wide (parts, (same, h)) =
-    takes-on (Then p (Then4 q r s t)) (Then5 p q r s t) parts all a b (λ ts k. subst (λ u. Then5 p q r s t u ts) same k)
-    (spelled-Then p (Then4 q r s t) x (Row4 y z w v) one (spelled-Then4 q r s t y z w v two three four five) partial a b parts wide h)
+-- a value of which a test holds
+pub spelled-Verified : {O T : Type 0} (answers : O → Bool → Type 0) (p : Spelling O T)
+    (inner : Meaning O T) → IsSpelled p inner
+    → IsSpelled (Such (λ x. answers x true) p) (Verified answers inner)
+spelled-Verified answers p inner one partial a b x wide (h, told) =
+    takes-on p (Such (λ x. answers x true) p) x x a b (λ ts k. (told, k)) (one partial a b x wide h)
 
 -- ---- Choices
 
@@ -161,7 +141,7 @@ module _ {O T : Type 0} (p : Spelling O T) (inner : Meaning O T) (one : IsSpelle
       )
 
   -- so many values in a row
-  spelled-Repeated : (least : ℕ) (greatest : Option ℕ)
+  pub spelled-Repeated : (least : ℕ) (greatest : Option ℕ)
       → IsSpelled (Several least greatest p) (Repeated least greatest inner)
   spelled-Repeated least greatest partial a b xs wide (turns, enough, most) =
       takes-on (InRow p) (Several least greatest p) xs xs a b (λ ts k. ((enough, up-to greatest (length xs) _ most), k))

@@ -41,7 +41,7 @@ module _ {T : Type 0} where
   back-seam front rest h = ap (λ n. drop n (front ++ rest)) (count_to-seam front rest h) ∙ drop-seam front rest
 
   -- there are as many tokens
-  length-tokens : (r : Source T) → length (tokens_of r) ≡ length r
+  pub length-tokens : (r : Source T) → length (tokens_of r) ≡ length r
   length-tokens [] = refl
   length-tokens (x ∷ xs) = ap suc (length-tokens xs)
 

@@ -20,3 +20,7 @@ TakesFor {T = T} spells x a b =
 abbrev pub IsSpelled : {O T : Type 0} → Spelling O T → Meaning O T → Type 0
 IsSpelled {O} {T} spells means = (partial : Bool) (a b : Ahead T) (x : O)
     → HasPositiveWidths a.tokens → means partial a (Gives x b) → TakesFor spells x a b
+
+-- what is spelled by the one is spelled by the other
+abbrev pub IsWithin : {O T : Type 0} → Spelling O T → Spelling O T → Type 0
+IsWithin {O} {T} narrow wide = (x : O) (ts : List T) → narrow x ts → wide x ts

@@ -5,7 +5,7 @@ use Rattle.winnow_stream.specs.Source.{Source, HasPositiveWidths}
 use Rattle.winnow_parser.specs.Outcome.{Ahead, Backtracks, Cuts, Needs, Refuses, Outcome, Gives, Fails, Meaning, Moves}
 use Rattle.winnow_parser.specs.Laws.{longer, IsStable, IsOnward, IsParser}
 use Rattle.winnow_grammar.specs.AnyAnswer.{AnyAnswer, IsParser-AnyAnswer, AnyAnswer-of}
-use Rattle.winnow_spelling.specs.Spelling.{Spelling, tokens_of, TakesFor, IsSpelled}
+use Rattle.winnow_spelling.specs.Spelling.{Spelling, tokens_of, TakesFor, IsSpelled, IsWithin}
 
 -- any answer, but the tokens that are taken for a value spell it
 abbrev pub Spelt : {O T : Type 0} → Spelling O T → Meaning O T
@@ -44,6 +44,6 @@ Spelt-of spells means p s partial a (Fails f) wide h = AnyAnswer-of means p part
 -- what is spelled by a relation is spelled by each weaker one
 pub Spelt-on : {O T : Type 0} (spells others : Spelling O T) (partial : Bool) (a : Ahead T)
     (v : Outcome O T) → Spelt spells partial a v
-    → ((x : O) (ts : List T) → spells x ts → others x ts) → Spelt others partial a v
+    → IsWithin spells others → Spelt others partial a v
 Spelt-on spells others partial a (Gives x b) (m, (taken, (whole, h))) on = (m, (taken, (whole, on x (tokens_of taken) h)))
 Spelt-on spells others partial a (Fails f) h on = h

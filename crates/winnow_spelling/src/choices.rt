@@ -1,7 +1,7 @@
-ghost use Rattle.winnow_parser.specs.Meanings.{Either};
-ghost use Rattle.winnow_spelling.specs.Spellings.{NoToken, Or, Perhaps};
+ghost use Rattle.winnow_spelling.specs.Spellings.{NoToken, Or, Or3, Perhaps};
 ghost use Rattle.winnow_spelling.specs.Spelled.{spelled-Or, spelled-Perhaps, spelled-Returns};
 ghost use Rattle.winnow_spelling.specs.Spelled.{spelled-CutOff, spelled-Softened};
+ghost use Rattle.winnow_spelling.specs.SpelledChoices.{spelled-Or3};
 
 use crate::Spells;
 use winnow_combinator::{Alternatives, CutOff, Nothing, Optional, Softened};
@@ -28,14 +28,11 @@ impl<
     B: Spells<I, E, Output = A::Output>,
     C: Spells<I, E, Output = A::Output>,
 > Spells<I, E> for Alternatives<(A, B, C)> {
-    ghost spells = { λ p. Or (Or (A.spells p.list.0) (B.spells p.list.1)) (C.spells p.list.2) };
+    ghost spells = { λ p. Or3 (A.spells p.list.0) (B.spells p.list.1) (C.spells p.list.2) };
 
-    ghost spelled = { λ p. spelled-Or E.or_refusable
-        (Or (A.spells p.list.0) (B.spells p.list.1)) (C.spells p.list.2)
-        (Either E.or_refusable (A.means p.list.0) (B.means p.list.1)) (C.means p.list.2)
-        (spelled-Or E.or_refusable (A.spells p.list.0) (B.spells p.list.1)
-        (A.means p.list.0) (B.means p.list.1)
-        (A.spelled p.list.0) (B.spelled p.list.1)) (C.spelled p.list.2) };
+    ghost spelled = { λ p. spelled-Or3 E.or_refusable (A.spells p.list.0) (B.spells p.list.1)
+        (C.spells p.list.2) (A.means p.list.0) (B.means p.list.1) (C.means p.list.2)
+        (A.spelled p.list.0) (B.spelled p.list.1) (C.spelled p.list.2) };
 }
 
 impl<I: StreamIsPartial, E: Drop, P: Spells<I, E>> Spells<I, E> for Optional<P> {

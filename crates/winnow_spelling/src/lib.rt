@@ -8,19 +8,28 @@
 //! The spelling of a parser is made of those of its parts ([`Spells`]): values in a row are spelled
 //! by their tokens in a row, a choice by one of its spellings, and so on
 //! (`specs/Spellings.antt`).
+//!
+//! A grammar that contains itself is a [`LayerAs`], of which [`nested_as`] makes a parser to a
+//! depth: each layer is proved where what lies inside is spelled as it says.
 #![tactic(auto)]
 
 mod asking;
+mod by_ref;
 mod choices;
+mod choices_to_ten;
+mod layers;
 mod made;
 mod parts;
 mod repeated;
 mod rows;
+mod rows_to_ten;
+mod slices;
 mod spells;
 mod texts;
 mod tokens;
 
 pub use asking::ask_as;
+pub use layers::{LayerAs, LayeredAs, nested_as};
 pub use parts::{ReadsAs, SpelledPart, part_as};
 pub use spells::Spells;
 pub use texts::{ask_bytes, ask_text};

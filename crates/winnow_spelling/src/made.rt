@@ -1,11 +1,14 @@
-ghost use Rattle.std.specs.Prelude.{Some};
+ghost use Rattle.std.specs.Prelude.{Some, Ok, true};
 ghost use Rattle.winnow_parser.specs.Meanings.{IsAlways, IsForgotten, TriesTo};
-ghost use Rattle.winnow_spelling.specs.Spellings.{MadeOf};
+ghost use Rattle.winnow_spelling.specs.Spellings.{MadeOf, Such};
 ghost use Rattle.winnow_spelling.specs.Spelled.{spelled-MadeOf, spelled-Chosen, spelled-InContext};
+ghost use Rattle.winnow_spelling.specs.Spelled.{spelled-Verified};
 
 use crate::Spells;
 use winnow_error::{AddContext, FromExternalError, ParserError};
-use winnow_parser::{Contextual, Mapped, Parser, TryMapped, Valued, VerifyMapped, Voided};
+use winnow_parser::{
+    Contextual, Mapped, Parser, TryMapped, ValueTest, Valued, Verified, VerifyMapped, Voided,
+};
 use winnow_stream::StreamIsPartial;
 
 impl<I: StreamIsPartial, E, P: Spells<I, E>, O, F: Fn(P::Output) -> O> Spells<I, E>
@@ -57,6 +60,42 @@ impl<
     fn this(&self) -> &Self {
         self
     }
+}
+
+impl<
+    I: StreamIsPartial,
+    X,
+    E: ParserError<I> + FromExternalError<I, X>,
+    P: Spells<I, E>,
+    O,
+    F: Fn(P::Output) -> Result<O, X>,
+> Spells<I, E> for TryMapped<P, F, I, E> {
+    ghost spells = { λ p. MadeOf (λ x y. F.post p.f x (Ok y)) (P.spells p.inner) };
+
+    ghost spelled = { λ p. spelled-Chosen (TriesTo (F.post p.f)) (P.spells p.inner)
+        (P.means p.inner)
+        (P.spelled p.inner) };
+
+    // The check states a bound on a function of a block that has a method.
+    fn this(&self) -> &Self {
+        self
+    }
+}
+
+impl<
+    I: StreamIsPartial,
+    E: ParserError<I>,
+    P: Spells<I, E>,
+    F: ValueTest<P::Output, By>,
+    By,
+> Spells<I, E> for Verified<P, F, By, I, E>
+where
+    P::Output: Drop,
+{
+    ghost spells = { λ p. Such (λ x. F.says p.test x true) (P.spells p.inner) };
+
+    ghost spelled = { λ p. spelled-Verified (F.says p.test) (P.spells p.inner) (P.means p.inner)
+        (P.spelled p.inner) };
 }
 
 impl<I: StreamIsPartial, C: Copy, E: AddContext<I, C>, P: Spells<I, E>> Spells<I, E>

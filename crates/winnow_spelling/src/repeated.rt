@@ -1,10 +1,11 @@
 ghost use Rattle.winnow_count.specs.CountRange.{least_count, greatest_count};
-ghost use Rattle.winnow_combinator.specs.Appended.{needs_some};
-ghost use Rattle.winnow_spelling.specs.Spellings.{Counted, Chain};
+ghost use Rattle.winnow_combinator.specs.Appended.{needs_some, appends_to_first};
+ghost use Rattle.winnow_spelling.specs.Spellings.{Counted, Chain, ListOf};
 ghost use Rattle.winnow_spelling.specs.Spelled.{spelled-Counted, spelled-Chain};
+ghost use Rattle.winnow_spelling.specs.SpelledLists.{spelled-ListOf};
 
 use crate::Spells;
-use winnow_combinator::{Begin, LeftFold, Repeated};
+use winnow_combinator::{Begin, LeftFold, Repeated, Separation};
 use winnow_error::ParserError;
 use winnow_stream::StreamIsPartial;
 
@@ -42,4 +43,24 @@ impl<
     fn this(&self) -> &Self {
         self
     }
+}
+
+impl<
+    I: StreamIsPartial,
+    E: ParserError<I>,
+    P: Spells<I, E>,
+    S: Spells<I, E>,
+    G: Begin<P::Output>,
+> Spells<I, E> for Separation<P, S, G>
+where
+    P::Output: Drop,
+    S::Output: Drop,
+{
+    ghost spells = { λ p. ListOf (least_count p.counts) (greatest_count p.counts)
+        (G.makes p.gather) (S.spells p.separator) (P.spells p.inner) };
+
+    ghost spelled = { λ p. spelled-ListOf (S.spells p.separator) (P.spells p.inner)
+        (S.means p.separator) (P.means p.inner) (S.spelled p.separator) (P.spelled p.inner)
+        (appends_to_first (least_count p.counts) (greatest_count p.counts)) E.append_refusable
+        (least_count p.counts) (greatest_count p.counts) G.refusable (G.makes p.gather) };
 }

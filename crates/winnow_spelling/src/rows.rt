@@ -1,6 +1,7 @@
-ghost use Rattle.winnow_spelling.specs.Spellings.{Then, Then3, Then4, Then5, After, Before};
-ghost use Rattle.winnow_spelling.specs.Spelled.{spelled-Then, spelled-Then3, spelled-Then4};
-ghost use Rattle.winnow_spelling.specs.Spelled.{spelled-Then5, spelled-After, spelled-Before};
+ghost use Rattle.winnow_spelling.specs.Spellings.{Then, After, Before};
+ghost use Rattle.winnow_spelling.specs.Spelled.{spelled-Then, spelled-After, spelled-Before};
+ghost use Rattle.winnow_spelling.specs.SpellingRows.{Then3, Then4, Then5};
+ghost use Rattle.winnow_spelling.specs.SpelledRows.{spelled-Then3, spelled-Then4, spelled-Then5};
 
 use crate::Spells;
 use winnow_combinator::{FirstOf, SecondOf};

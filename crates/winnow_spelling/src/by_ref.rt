@@ -1,0 +1,8 @@
+use crate::Spells;
+use winnow_stream::StreamIsPartial;
+
+impl<I: StreamIsPartial, E, P: Spells<I, E>> Spells<I, E> for &P {
+    ghost spells = { λ p. P.spells p.now };
+
+    ghost spelled = { λ p. P.spelled p.now };
+}

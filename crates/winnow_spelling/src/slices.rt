@@ -1,0 +1,50 @@
+ghost use Rattle.winnow_count.specs.CountRange.{least_count, greatest_count};
+ghost use Rattle.winnow_spelling.specs.Spellings.{Covered, Exactly, UntilHit, SliceOver, WithSlice};
+ghost use Rattle.winnow_spelling.specs.SpelledSlices.{spelled-Covered, spelled-Exactly};
+ghost use Rattle.winnow_spelling.specs.SpelledSlices.{spelled-UntilHit, spelled-SliceOver};
+ghost use Rattle.winnow_spelling.specs.SpelledSlices.{spelled-WithSlice};
+
+use crate::Spells;
+use winnow_error::ParserError;
+use winnow_match::{Compare, FindSlice};
+use winnow_parser::{Taken, WithTaken};
+use winnow_stream::StreamIsPartial;
+use winnow_token::{Counted, TokensBefore, Wanted};
+
+impl<I: Compare<T> + StreamIsPartial, E: ParserError<I>, T: Copy> Spells<I, E> for Wanted<T> {
+    ghost spells = { λ p. Covered I.is_slice (I.compared p.text) };
+
+    ghost spelled = { λ p. spelled-Covered I.is_slice (I.compared p.text) };
+}
+
+impl<I: StreamIsPartial, E: ParserError<I>> Spells<I, E> for Counted {
+    ghost spells = { λ p. Exactly I.is_slice p.count };
+
+    ghost spelled = { λ p. spelled-Exactly I.is_slice I.counts_shortage p.count };
+}
+
+impl<I: FindSlice<T> + StreamIsPartial, E: ParserError<I>, T: Copy> Spells<I, E>
+    for TokensBefore<T> {
+    ghost spells = { λ p. UntilHit I.is_slice
+        (I.found p.literal) (least_count p.counts) (greatest_count p.counts) };
+
+    ghost spelled = { λ p. spelled-UntilHit I.is_slice
+        (I.found p.literal) (least_count p.counts) (greatest_count p.counts) };
+}
+
+impl<I: StreamIsPartial, E, P: Spells<I, E>> Spells<I, E> for Taken<P, I, E>
+where
+    P::Output: Drop,
+{
+    ghost spells = { λ p. SliceOver I.is_slice (P.spells p.inner) };
+
+    ghost spelled = { λ p. spelled-SliceOver I.is_slice (P.spells p.inner) (P.means p.inner)
+        (P.spelled p.inner) };
+}
+
+impl<I: StreamIsPartial, E, P: Spells<I, E>> Spells<I, E> for WithTaken<P, I, E> {
+    ghost spells = { λ p. WithSlice I.is_slice (P.spells p.inner) };
+
+    ghost spelled = { λ p. spelled-WithSlice I.is_slice (P.spells p.inner) (P.means p.inner)
+        (P.spelled p.inner) };
+}
