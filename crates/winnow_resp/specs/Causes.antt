@@ -10,7 +10,8 @@ use Rattle.winnow_resp.specs.declared.causes.Cause.TheVariants.{EndsInside, NoKi
 abbrev pub IsDamaged : ℕ → ℕ → Cause → Source ℕ → Source ℕ → Type 0
 IsDamaged longest depth cause whole rest = StopsAt cause (BreaksOff false cause longest depth) whole rest
 
--- no matter the limits, this is the cause if a reply has the bytes before and breaks off at the rest
+-- no matter the limits, this is the cause if a reply has the bytes before and breaks off at the
+-- rest
 abbrev pub IsCauseOf : Cause → List ℕ → List ℕ → Type 0
 IsCauseOf told before rest = (longest depth : ℕ) (whole after : Source ℕ) (cause : Cause)
     → bytes_of whole ≡ before ++ rest → bytes_of after ≡ rest

@@ -34,8 +34,8 @@ count_of text = let n = digits_value 10 text in
 abbrev pub held_count : ℕ → List ℕ → Option ℕ
 held_count kind text = if 36 == kind then count_of text else None
 
--- of n bytes after the byte of a kind, the width of a part whose text is `width` bytes wide and that
--- has this number of bytes after its line, if they and a line end fit
+-- of n bytes after the byte of a kind, the width of a part whose text is `width` bytes wide and
+-- that has this number of bytes after its line, if they and a line end fit
 abbrev pub held_width : ℕ → ℕ → Option ℕ → Option ℕ
 held_width width n None = Some (width + 3)
 held_width width n (Some count) = if nat_le (width + count + 4) n then Some (width + count + 5) else None

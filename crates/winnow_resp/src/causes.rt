@@ -4,7 +4,8 @@ ghost use Rattle.std.specs.Prelude.{◌≡◌, ◌+◌, ◌^◌, ◌≤◌, ◌<
 ghost use Rattle.winnow_resp.specs.Replies.{is_in_line};
 ghost use Rattle.winnow_resp.specs.Parts.{text_width, begins_end, line_width, count_of, held_count};
 ghost use Rattle.winnow_resp.specs.Parts.{held_width, part_width, EndsInPart};
-ghost use Rattle.winnow_resp.specs.Parts.{is_number_kind, number_fault, first_fault, is_short, fault};
+ghost use Rattle.winnow_resp.specs.Parts.{is_number_kind, number_fault, first_fault};
+ghost use Rattle.winnow_resp.specs.Parts.{is_short, fault};
 ghost use Rattle.winnow_resp.specs.Causes.{IsCauseOf, damage_text};
 
 use crate::numbers::number_in;

@@ -2,6 +2,7 @@ ghost use Rattle.std.specs.Prelude.{◌≡◌, ◌-◌, ◌<◌};
 ghost use Rattle.winnow_parser.specs.Answer.{ahead, outcome};
 ghost use Rattle.winnow_parser.specs.Errors.{AnyError};
 ghost use Rattle.winnow_parser.specs.Following.{Follows};
+ghost use Rattle.winnow_parser.specs.Outcome.{Moves};
 ghost use Rattle.winnow_spelling.specs.Spelling.{Spelling, IsWithin};
 ghost use Rattle.winnow_spelling.specs.Spelt.{Spelt, IsParser-Spelt, spelled-Spelt};
 
@@ -33,6 +34,8 @@ pub trait LayerAs<I: StreamIsPartial, E> {
         ensures answer { Spelt (spells self.now) (I.expects_more input.old)
             (ahead I.location I.remaining input.old)
             (outcome result (ahead I.location I.remaining input.new)) }
+        ensures onward { Moves (ahead I.location I.remaining input.old)
+            (ahead I.location I.remaining input.new) }
         ensures valid { I.valid input.new }
         ensures kept { I.keeps input.old input.new };
 }
@@ -108,6 +111,8 @@ fn read_nested_as<I: StreamIsPartial, X, E: ParserError<I, Inner = X>, L: LayerA
     ensures answer { Spelt (L.spells layer.now) (I.expects_more input.old)
         (ahead I.location I.remaining input.old)
         (outcome result (ahead I.location I.remaining input.new)) }
+    ensures onward { Moves (ahead I.location I.remaining input.old)
+        (ahead I.location I.remaining input.new) }
     ensures valid { I.valid input.new }
     ensures kept { I.keeps input.old input.new }
 {
@@ -120,6 +125,8 @@ fn read_nested_as<I: StreamIsPartial, X, E: ParserError<I, Inner = X>, L: LayerA
         ensures answer { Spelt (L.spells layer.entry.now) (I.expects_more input.old)
             (ahead I.location I.remaining input.old)
             (outcome result (ahead I.location I.remaining input.new)) }
+        ensures onward { Moves (ahead I.location I.remaining input.old)
+            (ahead I.location I.remaining input.new) }
         ensures valid { I.valid input.new }
         ensures kept { I.keeps input.old input.new }
     { read_nested_as(layer, alloc, input, depth - 1) };
@@ -137,6 +144,8 @@ fn too_deep<I: StreamIsPartial, X, E: ParserError<I, Inner = X>, L: LayerAs<I, E
     ensures answer { Spelt (L.spells _layer.now) (I.expects_more input.old)
         (ahead I.location I.remaining input.old)
         (outcome result (ahead I.location I.remaining input.new)) }
+    ensures onward { Moves (ahead I.location I.remaining input.old)
+        (ahead I.location I.remaining input.new) }
     ensures valid { I.valid input.new }
     ensures kept { I.keeps input.old input.new }
 {

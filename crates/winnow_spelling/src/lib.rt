@@ -11,7 +11,7 @@
 //!
 //! A grammar that contains itself is a [`LayerAs`], of which [`nested_as`] makes a parser to a
 //! depth: each layer is proved where what lies inside is spelled as it says.
-#![tactic(auto)]
+#![tactic(auto, using(winnow_parser::proofs::lemmas::OnwardLemmas::onward_steps))]
 
 mod asking;
 mod by_ref;

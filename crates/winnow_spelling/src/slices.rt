@@ -1,5 +1,9 @@
 ghost use Rattle.winnow_count.specs.CountRange.{least_count, greatest_count};
-ghost use Rattle.winnow_spelling.specs.Spellings.{Covered, Exactly, UntilHit, SliceOver, WithSlice};
+ghost use Rattle.winnow_parser.specs.Literal.{Literal};
+ghost use Rattle.winnow_parser.specs.Meanings.{IsAlways};
+ghost use Rattle.winnow_spelling.specs.Spelled.{spelled-MadeOf};
+ghost use Rattle.winnow_spelling.specs.Spellings.{MadeOf, Covered, Exactly, UntilHit};
+ghost use Rattle.winnow_spelling.specs.Spellings.{SliceOver, WithSlice};
 ghost use Rattle.winnow_spelling.specs.SpelledSlices.{spelled-Covered, spelled-Exactly};
 ghost use Rattle.winnow_spelling.specs.SpelledSlices.{spelled-UntilHit, spelled-SliceOver};
 ghost use Rattle.winnow_spelling.specs.SpelledSlices.{spelled-WithSlice};
@@ -15,6 +19,40 @@ impl<I: Compare<T> + StreamIsPartial, E: ParserError<I>, T: Copy> Spells<I, E> f
     ghost spells = { λ p. Covered I.is_slice (I.compared p.text) };
 
     ghost spelled = { λ p. spelled-Covered I.is_slice (I.compared p.text) };
+}
+
+impl<I: Compare<char> + StreamIsPartial, E: ParserError<I>> Spells<I, E> for char
+where
+    I::Slice: Drop,
+{
+    ghost spells = { λ p. MadeOf (IsAlways p) (Covered I.is_slice (I.compared p)) };
+
+    ghost spelled = { λ p. spelled-MadeOf (IsAlways p)
+        (Covered I.is_slice (I.compared p)) (Literal I.is_slice (I.compared p))
+        (spelled-Covered I.is_slice (I.compared p)) };
+}
+
+impl<I: Compare<u8> + StreamIsPartial, E: ParserError<I>> Spells<I, E> for u8
+where
+    I::Slice: Drop,
+{
+    ghost spells = { λ p. MadeOf (IsAlways p) (Covered I.is_slice (I.compared p)) };
+
+    ghost spelled = { λ p. spelled-MadeOf (IsAlways p)
+        (Covered I.is_slice (I.compared p)) (Literal I.is_slice (I.compared p))
+        (spelled-Covered I.is_slice (I.compared p)) };
+}
+
+impl<'l, I: Compare<&'l str> + StreamIsPartial, E: ParserError<I>> Spells<I, E> for &'l str {
+    ghost spells = { λ p. Covered I.is_slice (I.compared p) };
+
+    ghost spelled = { λ p. spelled-Covered I.is_slice (I.compared p) };
+}
+
+impl<'l, I: Compare<&'l [u8]> + StreamIsPartial, E: ParserError<I>> Spells<I, E> for &'l [u8] {
+    ghost spells = { λ p. Covered I.is_slice (I.compared p) };
+
+    ghost spelled = { λ p. spelled-Covered I.is_slice (I.compared p) };
 }
 
 impl<I: StreamIsPartial, E: ParserError<I>> Spells<I, E> for Counted {
