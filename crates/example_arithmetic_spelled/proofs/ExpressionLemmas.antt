@@ -71,7 +71,8 @@ pub sum-within : (holds : ℕ → Bool) (p : Spelling (Option ℤ) ℕ) → IsWi
 sum-within holds p within =
     Chain-within (λ left pair new. IfSome new (IsSum left pair.0 pair.1)) (OneToken holds) p (WritesPart Expression) (λ x ts h. term-within x ts (within x ts h)) on
   where
-    on : Keeps (λ left pair new. IfSome new (IsSum left pair.0 pair.1)) (Then (OneToken holds) p) (WritesPart Expression)
+    on : Keeps (λ left pair new. IfSome new (IsSum left pair.0 pair.1)) (Then (OneToken holds) p)
+        (WritesPart Expression)
     on x pair None ts us w t made = tt
     on None pair (Some n) ts us w t made = absurd made
     on (Some x) (sign, None) (Some n) ts us w t made = absurd made
@@ -96,7 +97,8 @@ pub product-within : (holds : ℕ → Bool) (p : Spelling (Option ℤ) ℕ) → 
 product-within holds p within =
     Chain-within (λ left pair new. IfSome new (IsProduct left pair.0 pair.1)) (OneToken holds) p (WritesPart Term) (λ x ts h. factor-within x ts (within x ts h)) on
   where
-    on : Keeps (λ left pair new. IfSome new (IsProduct left pair.0 pair.1)) (Then (OneToken holds) p) (WritesPart Term)
+    on : Keeps (λ left pair new. IfSome new (IsProduct left pair.0 pair.1))
+        (Then (OneToken holds) p) (WritesPart Term)
     on x pair None ts us w t made = tt
     on None pair (Some n) ts us w t made = absurd made
     on (Some x) (sign, None) (Some n) ts us w t made = absurd made

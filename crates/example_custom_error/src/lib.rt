@@ -1,5 +1,5 @@
-//! An error of one's own, as the Rust crate's example `custom_error` has one: it implements one call
-//! for parsers that fail, and one for functions that do.
+//! An error of one's own, as the Rust crate's example `custom_error` has one: it implements one
+//! call for parsers that fail, and one for functions that do.
 #![tactic(auto)]
 
 use std::alloc::Global;

@@ -71,8 +71,8 @@ OnAnswer (Err (NoReply place cause)) p = p
 OnAnswer (Err (EndsInside place)) p = p
 OnAnswer (Err (Stopped trouble)) p = ⊤
 
--- the bytes that are ahead break off at this place of the joined input, as a reply within the limits
--- does for this cause, which no more input changes
+-- the bytes that are ahead break off at this place of the joined input, as a reply within the
+-- limits does for this cause, which no more input changes
 abbrev pub IsCauseAt : ReaderState PlacedReply → ℕ → Cause → Type 0
 IsCauseAt f there cause = IsSettled (not f.ended) cause
     × IsDamaged f.parser.limits.longest f.parser.limits.depth cause (units f.ahead) (units (drop (there - f.place) f.ahead))
@@ -94,8 +94,8 @@ module _ (means : PlacedReply → Meaning Placed ℕ) where
   abbrev pub FailsFor : ReaderState PlacedReply → ℕ → Cause → Type 0
   FailsFor f there cause = FailsAt means f there × IsCauseAt f there cause
 
-  -- the failure is that of the parser, no matter what follows: it fails there for the cause, or takes
-  -- nothing. And the bytes from the reader's place on lead there
+  -- the failure is that of the parser, no matter what follows: it fails there for the cause, or
+  -- takes nothing. And the bytes from the reader's place on lead there
   abbrev pub FailsThere : ReaderState PlacedReply → Position → Failure → Type 0
   FailsThere f place (NoReply p cause) = (FailsFor f p.byte cause ⊎ IdlesAt means f p.byte)
       × (p ≡ position_after place (take (p.byte - f.place) f.ahead))

@@ -147,7 +147,8 @@ module _ (means : PlacedReply
       omega (arith, byte, some, n, k.1.1, s.same)
 
   -- what a reader that is stuck says of the failure that is told
-  pub stuck-there : (old new : ReaderState PlacedReply) (place p : Position) (cause : Cause) (there : ℕ)
+  pub stuck-there : (old new : ReaderState PlacedReply) (place p : Position) (cause : Cause)
+      (there : ℕ)
       → new ≡ old → IsSteady old place → FailsFor means old there cause ⊎ IdlesAt means old there
       → p ≡ position_after place (take (there - new.place) new.ahead)
       → FailsThere means new place (NoReply p cause)

@@ -32,7 +32,8 @@ use Rattle.winnow_resp.proofs.lemmas.ReplyLemmas.{Begins, turns-stand, spells-be
 
 -- a relation holds of what stood ahead and of what the failure leaves, for a cause; nothing is left
 -- where more is needed, and the input ends
-abbrev pub Stops : (Bool → Cause → Source ℕ → Source ℕ → Type 0) → Bool → Source ℕ → Failed ℕ → Type 0
+abbrev pub Stops : (Bool → Cause → Source ℕ → Source ℕ → Type 0) → Bool → Source ℕ → Failed ℕ
+    → Type 0
 Stops breaks partial r (Backtracks b) = (cause : Cause) × (IsSettled partial cause × breaks false cause r b.tokens)
 Stops breaks partial r (Cuts b) = (cause : Cause) × (IsSettled partial cause × breaks false cause r b.tokens)
 Stops breaks partial r (Needs n) = breaks true EndsInside r []

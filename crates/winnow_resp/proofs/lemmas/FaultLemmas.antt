@@ -205,7 +205,8 @@ skips-join : (a b : List ℕ) → Skips a → Skips b → Skips (a ++ b)
 skips-join a b one two s begun h = subst (λ t. EndsInPart t begun) (sym (append_assoc a b s)) (one (b ++ s) begun (two s begun h))
 
 -- the byte of a kind and a line are a part
-line-skips : (kind : ℕ) (text : List ℕ) → (36 == kind) ≡ false → AreInLine text → Skips (kind ∷ line text)
+line-skips : (kind : ℕ) (text : List ℕ) → (36 == kind) ≡ false → AreInLine text
+    → Skips (kind ∷ line text)
 line-skips kind text other h s begun k =
     ends-more (length text + 3) (kind ∷ line text) s begun (part-other kind text s other h) (omega (arith, length-line-of text)) k
 

@@ -77,7 +77,8 @@ line-of text e h none =
     ∙ ap (λ t. if begins_end t then Some (length text) else None) (drop-length text e)
 
 -- a line that stands first has the width of its text
-pub line-whole : (text s : List ℕ) → AreInLine text → line_width (line text ++ s) ≡ Some (length text)
+pub line-whole : (text s : List ℕ) → AreInLine text
+    → line_width (line text ++ s) ≡ Some (length text)
 line-whole text s h = ap line_width (append_assoc text line_end s) ∙ line-of text (line_end ++ s) h (λ k. cc)
 
 -- its text is what it is
@@ -184,7 +185,8 @@ count-case text n false is h =
     absurd (none-some n (sym (ap (λ b. if b then Some (digits_value 10 text) else None) is) ∙ h))
 
 -- a number of bytes is written as std writes it
-pub count-sound : (text : List ℕ) (n : ℕ) → count_of text ≡ Some n → (n < 2 ^ 64) × (text ≡ decimal n)
+pub count-sound : (text : List ℕ) (n : ℕ) → count_of text ≡ Some n
+    → (n < 2 ^ 64) × (text ≡ decimal n)
 count-sound text n h = count-case text n (IsCounted text) refl h
 
 -- by what the number of bytes is
@@ -194,7 +196,8 @@ count-absent text None e lacks = e
 count-absent text (Some n) e lacks = let k = count-sound text n e in absurd (lacks n k.0 k.1)
 
 -- where no number is written, there is no number of bytes
-pub count-none : (text : List ℕ) → ((n : ℕ) → n < 2 ^ 64 → ¬ (text ≡ decimal n)) → count_of text ≡ None
+pub count-none : (text : List ℕ) → ((n : ℕ) → n < 2 ^ 64 → ¬ (text ≡ decimal n))
+    → count_of text ≡ None
 count-none text lacks = count-absent text (count_of text) refl lacks
 
 -- a reader of numbers of 64 bits reads the number of bytes
@@ -296,7 +299,8 @@ ends-more width part s begun e l (n, h) =
     (suc n, (width, (e, subst (λ t. EndsIn n t begun) (sym (drop-front width part s l)) h)))
 
 -- the part that the bytes end in is one
-pub ends-once : (n m : ℕ) (bytes one two : List ℕ) → EndsIn n bytes one → EndsIn m bytes two → one ≡ two
+pub ends-once : (n m : ℕ) (bytes one two : List ℕ) → EndsIn n bytes one → EndsIn m bytes two
+    → one ≡ two
 ends-once zero zero bytes one two h k = sym h.0 ∙ k.0
 ends-once zero (suc m) bytes one two h k = absurd (none-some k.0 (sym h.1 ∙ k.1.0))
 ends-once (suc n) zero bytes one two h k = absurd (none-some h.0 (sym k.1 ∙ h.1.0))
