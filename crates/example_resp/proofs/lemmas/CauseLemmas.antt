@@ -2,8 +2,7 @@
 use Rattle.std.proofs.Common.{◌≡◌, ℕ, ◌+◌, ◌-◌, ◌≤◌, Bool, true, false, List, [], ◌∷◌, ◌++◌, length, min, take, drop, refl, ap, sym, ◌∙◌, subst, inl, inr, arith}
 use Rattle.std.specs.Prelude.{◌⊎◌, not}
 use Rattle.std.specs.Borrow.{Bor}
-use Rattle.std.proofs.lemmas.List.{append-nil, take-append-drop, take_all, drop_all}
-use Rattle.std.proofs.lemmas.Bool.Decides.{leb_tells}
+use Rattle.std.proofs.lemmas.List.{append-nil, length-drop, take-append-drop, take_all, take_min, drop_min}
 use Rattle.std.proofs.lemmas.Option.{same_Some}
 use Rattle.winnow_stream.specs.Source.{Source, units}
 use Rattle.winnow_stream.specs.Units.{HasPositiveWidths-units}
@@ -55,29 +54,16 @@ told-at : (longest depth n : ℕ) (cause told : Cause) (ahead : List ℕ)
 told-at longest depth n cause told ahead h is =
     is longest depth (units ahead) (units (drop n ahead)) cause (bytes-units ahead ∙ sym (take-append-drop n ahead)) (bytes-units (drop n ahead)) h
 
--- a front of at most all
-min-take : (k : ℕ) (xs : List ℕ) → take (min k (length xs)) xs ≡ take k xs
-min-take k xs = elim (leb_tells k (length xs)) [
-  | inl (_, le) ↦ let e : min k (length xs) ≡ k = omega (arith, le) in ap (λ n. take n xs) e
-  | inr (_, l) ↦ let e : min k (length xs) ≡ length xs = omega (arith, l) in
-      ap (λ n. take n xs) e ∙ take_all (length xs) xs (omega arith) ∙ sym (take_all k xs (omega (arith, l)))
-]
-
--- what follows it
-min-drop : (k : ℕ) (xs : List ℕ) → drop (min k (length xs)) xs ≡ drop k xs
-min-drop k xs = elim (leb_tells k (length xs)) [
-  | inl (_, le) ↦ let e : min k (length xs) ≡ k = omega (arith, le) in ap (λ n. drop n xs) e
-  | inr (_, l) ↦ let e : min k (length xs) ≡ length xs = omega (arith, l) in
-      ap (λ n. drop n xs) e ∙ drop_all (length xs) xs (omega arith) ∙ sym (drop_all k xs (omega (arith, l)))
-]
-
 -- the cause of the bytes on both sides of a place, which is within them
-pub cause-within : (told : Cause) (k : ℕ) (ahead before rest : List ℕ)
-    → before ≡ take (min k (length ahead)) ahead → rest ≡ drop (min k (length ahead)) ahead
-    → IsCauseOf told before rest → IsCauseOf told (take k ahead) (drop k ahead)
-cause-within told k ahead before rest e f h =
-    let front : before ≡ take k ahead = e ∙ min-take k ahead in
-    let back : rest ≡ drop k ahead = f ∙ min-drop k ahead in
+pub cause-within : (told : Cause) (k width : ℕ) (bytes ahead : List ℕ)
+    → bytes ≡ ahead → width ≡ min k (length bytes)
+    → IsCauseOf told (take width bytes) (take (length bytes - width) (drop width bytes))
+    → IsCauseOf told (take k ahead) (drop k ahead)
+cause-within told k width bytes ahead same within h =
+    let rest = take (length bytes - width) (drop width bytes) in
+    let front : take width bytes ≡ take k ahead = ap (λ n. take n bytes) within ∙ take_min k bytes ∙ ap (take k) same in
+    let all : rest ≡ drop width bytes = take_all (length bytes - width) (drop width bytes) (omega (arith, length-drop width bytes)) in
+    let back : rest ≡ drop k ahead = all ∙ ap (λ n. drop n bytes) within ∙ drop_min k bytes ∙ ap (drop k) same in
     subst (λ r. IsCauseOf told (take k ahead) r) back (subst (λ b. IsCauseOf told b rest) front h)
 
 module _ (counts_shortage : Bool) where
