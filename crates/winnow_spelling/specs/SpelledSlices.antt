@@ -11,7 +11,7 @@ use Rattle.winnow_match.specs.declared.compare.CompareResult.TheVariants as comp
 use Rattle.winnow_count.specs.CountRange.{is_up_to}
 use Rattle.winnow_parser.specs.Outcome.{Ahead, Meaning, after}
 use Rattle.winnow_parser.specs.Taken.{IsFrontTaken, Taken, WithTaken}
-use Rattle.winnow_token.specs.Literal.{Literal}
+use Rattle.winnow_parser.specs.Literal.{Literal}
 use Rattle.winnow_token.specs.Counted.{Counted}
 use Rattle.winnow_token.specs.Until.{Until}
 use Rattle.winnow_combinator.specs.Counts.{IsUpTo}
