@@ -2,6 +2,7 @@
 ghost use Rattle.std.specs.Prelude.{◌↔◌, Bool};
 ghost use Rattle.std.specs.Fn.{FnReturnsAt};
 ghost use Rattle.std.specs.String.{string_bytes};
+ghost use Rattle.winnow_parser.specs.ValueTests.{TakesAt};
 
 use winnow_parser::{ByBorrow, ByValue, ValueTest};
 
@@ -32,6 +33,6 @@ pub fn value_test_law<
     ensures borrowed { (f : B) (x : _) (answer : Bool)
         → ⟦<B as ValueTest<&'static T, ByBorrow>>⟧.says f x answer
         ↔ FnReturnsAt B.Fn f x.now answer }
-    ensures asked { (f : V)
-        → ⟦<V as ValueTest<O, ByValue>>⟧.may_ask f ↔ V.IsAlwaysCallable f }
+    ensures asked { (f : V) (x : _)
+        → ⟦<V as ValueTest<O, ByValue>>⟧.may_ask f x ↔ TakesAt V.Fn f x }
 {}
