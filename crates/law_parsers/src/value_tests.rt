@@ -7,8 +7,8 @@ ghost use Rattle.winnow_parser.specs.ValueTests.{TakesAt};
 use winnow_parser::{ByBorrow, ByValue, ValueTest};
 
 /// A test says of a value what its function returns: of a reference to the value, or of the text,
-/// list or value that it borrows as. It may be asked where the function may always be called. It
-/// does nothing when called: its contract is the law.
+/// list or value that it borrows as. It may be asked of a value at which the function may be called.
+/// It does nothing when called: its contract is the law.
 pub fn value_test_law<
     O,
     T: 'static,
@@ -33,6 +33,6 @@ pub fn value_test_law<
     ensures borrowed { (f : B) (x : _) (answer : Bool)
         → ⟦<B as ValueTest<&'static T, ByBorrow>>⟧.says f x answer
         ↔ FnReturnsAt B.Fn f x.now answer }
-    ensures asked { (f : V) (x : _)
+    ensures asked { (f : V) (x : O)
         → ⟦<V as ValueTest<O, ByValue>>⟧.may_ask f x ↔ TakesAt V.Fn f x }
 {}
