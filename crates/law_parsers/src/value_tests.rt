@@ -7,8 +7,8 @@ ghost use Rattle.winnow_parser.specs.ValueTests.{TakesAt};
 use winnow_parser::{ByBorrow, ByValue, ValueTest};
 
 /// A test says of a value what its function returns: of a reference to the value, or of the text,
-/// list or value that it borrows as. It may be asked of a value at which the function may be called.
-/// It does nothing when called: its contract is the law.
+/// list or value that it borrows as. It may be asked of a value at which the function may be
+/// called. It does nothing when called: its contract is the law.
 pub fn value_test_law<
     O,
     T: 'static,
