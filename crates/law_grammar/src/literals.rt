@@ -1,3 +1,5 @@
+ghost use Rattle.std.specs.Prelude.{◌≤◌};
+
 use std::alloc::Global;
 use winnow_ascii::digit1;
 use winnow_combinator::{alt, delimited, preceded, separated};
