@@ -1,3 +1,5 @@
+//! Why the program failed.
+
 ghost use Rattle.std.specs.Prelude.{◌≡◌, Some};
 ghost use Rattle.example_base.specs.declared.trouble.Trouble.TheVariants.{OutOfMemory};
 ghost use Rattle.example_json.specs.Failures.{status_of, failure_text};

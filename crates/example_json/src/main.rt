@@ -40,6 +40,7 @@ const PROGRAM: Program = Program {
     name: "example_json",
     about: "Writes the events of a JSON text, each as a line",
     depth: Some("Within how many arrays and objects a value may stand, 128 otherwise"),
+    mark: None,
 };
 
 fn main(rt: HostRuntime) -> ExitCode {

@@ -1,3 +1,5 @@
+//! Lines and columns of the input.
+
 ghost use Rattle.std.specs.Prelude.{◌≡◌, ℕ, ◌∷◌, [], ◌++◌, ◌+◌, ◌<◌, ◌^◌, List, length};
 ghost use Rattle.std.specs.Prelude.{Some, IfSome, IfNone, ◌⊎◌};
 ghost use Rattle.example_json.specs.Positions.{IsPlaced, LeadsTo, IsWithin, position_text};

@@ -1,3 +1,5 @@
+//! Printing the events of an input.
+
 ghost use Rattle.std.specs.Prelude.{◌≡◌, ℕ, ◌++◌, ◌+◌, ◌≤◌, ◌<◌, ◌^◌, List, [], true, false, None};
 ghost use Rattle.std.specs.Prelude.{length, take, vec_len, IfOk, OnOk, IfErr, IfSome};
 ghost use Rattle.std.specs.Io.KnownBytes.{Appends, Consumes, IsAtEnd};

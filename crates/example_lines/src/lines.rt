@@ -1,3 +1,5 @@
+//! The record of a line.
+
 ghost use Rattle.winnow.specs.Answer.{outcome};
 ghost use Rattle.winnow_base.specs.Flag.{flag};
 ghost use Rattle.winnow.specs.Place.{stands};

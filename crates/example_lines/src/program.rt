@@ -1,3 +1,5 @@
+//! Reading lines from pieces.
+
 ghost use Rattle.std.specs.Prelude.{◌≡◌, ℕ, false, List, IfOk, OnOk};
 ghost use Rattle.winnow_base.specs.Inputs.{joined, pieces_in};
 ghost use Rattle.winnow.specs.State.{pushed};

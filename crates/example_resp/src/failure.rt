@@ -1,3 +1,5 @@
+//! Why the program failed.
+
 ghost use Rattle.std.specs.Prelude.{◌≡◌, Some};
 ghost use Rattle.example_base.specs.declared.trouble.Trouble.TheVariants.{OutOfMemory};
 ghost use Rattle.example_resp.specs.Failure.{status_of, position_text, failure_text};

@@ -47,6 +47,7 @@ const PROGRAM: Program = Program {
     name: "example_resp",
     about: "Prints replies of the Redis protocol as redis-cli does",
     depth: Some("Within how many arrays a reply may stand, 32 otherwise"),
+    mark: None,
 };
 
 fn main(rt: HostRuntime) -> ExitCode {

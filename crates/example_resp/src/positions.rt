@@ -1,3 +1,5 @@
+//! Lines and columns of the input.
+
 ghost use Rattle.std.specs.Prelude.{◌≡◌, ◌+◌, ◌<◌, ◌≤◌, ◌^◌, length};
 ghost use Rattle.example_resp.specs.Positions.{start, next, position_after};
 ghost use Rattle.example_resp.specs.Positions.{joined_with, IsPosition};

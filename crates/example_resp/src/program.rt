@@ -1,3 +1,5 @@
+//! Printing the replies of an input.
+
 ghost use Rattle.std.specs.Prelude.{◌≡◌, ℕ, ◌++◌, ◌+◌, ◌-◌, ◌<◌, ◌≤◌, List, [], false, Some};
 ghost use Rattle.std.specs.Prelude.{take, drop, length, vec_len};
 ghost use Rattle.std.specs.Prelude.{IfOk, IfErr, OnOk, OnErr, OnSome, IfNone};
@@ -238,6 +240,7 @@ fn next_reply(
             ReadError::Failed {
                 error: _,
                 place: failed,
+                is_cut: _,
             },
         ) => {
             let cause = cause_ahead(reader, failed);

@@ -1,3 +1,5 @@
+//! `EventReader`: events from bytes that come in pieces.
+
 ghost use Rattle.std.specs.Prelude.{◌≡◌};
 ghost use Rattle.winnow_json.specs.TokenReading.{FindsDamage};
 ghost use Rattle.winnow_json.specs.Turns.{state_of};
@@ -285,7 +287,13 @@ fn next_token(tokens: &mut ByteReader<JsonToken>, syntax: &Syntax) -> Result<Com
         Ok(Next::Value(token)) => Ok(Coming::Token(token)),
         Ok(Next::NeedsMore) => Ok(Coming::NeedsMore),
         Ok(Next::Done) => Ok(Coming::End),
-        Err(ReadError::Failed { error: _, place }) => Err(damage_at(tokens, syntax, place)),
+        Err(
+            ReadError::Failed {
+                error: _,
+                place,
+                is_cut: _,
+            },
+        ) => { Err(damage_at(tokens, syntax, place)) }
         Err(ReadError::TakesNothing { place: _ }) => unreachable!(),
         Err(ReadError::Refused(refused)) => Err(EventError::Refused(refused)),
     }

@@ -1,5 +1,6 @@
 -- What a reader answers, and when.
 use Rattle.std.specs.Prelude.{◌≡◌, ℕ, ◌+◌, ◌-◌, ◌^◌, ◌≤◌, ◌<◌, min, Bool, true, false, not, List, [], ◌++◌, length, Result, Ok, Err, ◌⊎◌, ⊤, ◌↔◌}
+use Rattle.std.proofs.Common.{inl, inr}
 use Rattle.winnow_stream.specs.declared.needed.Needed.{Needed}
 use Rattle.winnow_parser.specs.Outcome.{Ahead, Gives, Fails, Backtracks, Cuts, Needs, Refuses, Meaning}
 use Rattle.winnow_reader.specs.declared.next.Next.{Next}
@@ -15,6 +16,11 @@ use Rattle.winnow_reader.specs.Reading.{MayFollow, HasRead, Lacks}
 abbrev pub StopsAt : {O : Type 0} → Meaning O ℕ → Bool → Ahead ℕ → Ahead ℕ → Type 0
 StopsAt means partial a b = means partial a (Fails (Backtracks b)) ⊎ means partial a (Fails (Cuts b))
 
+-- there the parser fails, from a, and this is left: it cuts, or it backtracks
+abbrev pub StopsBy : {O : Type 0} → Meaning O ℕ → Bool → Bool → Ahead ℕ → Ahead ℕ → Type 0
+StopsBy means true partial a b = means partial a (Fails (Cuts b))
+StopsBy means false partial a b = means partial a (Fails (Backtracks b))
+
 -- of these bytes at a place, to which more might come, the parser needs more, and with as many more
 -- they are n bytes, or the greatest length where those are too many
 abbrev pub NeedsLength : {O : Type 0} → Meaning O ℕ → ℕ → List ℕ → ℕ → Type 0
@@ -26,6 +32,25 @@ module _ {R O : Type 0} (means : R → Meaning O ℕ) where
   abbrev pub FailsAt : ReaderState R → ℕ → Type 0
   FailsAt f place = (rest : List ℕ) × ((more : List ℕ) (partial : Bool) → MayFollow f.ended more partial
       → StopsAt (means f.parser) partial (bytes_at f.place (f.ahead ++ more)) (bytes_at place (rest ++ more)))
+
+  -- no matter what follows, the parser fails there: it cuts, or it backtracks
+  abbrev pub FailsBy : ReaderState R → Bool → ℕ → Type 0
+  FailsBy f cut place = (rest : List ℕ) × ((more : List ℕ) (partial : Bool) → MayFollow f.ended more partial
+      → StopsBy (means f.parser) cut partial (bytes_at f.place (f.ahead ++ more)) (bytes_at place (rest ++ more)))
+
+  stops-at : (cut partial : Bool) (r : R) (a b : Ahead ℕ) → StopsBy (means r) cut partial a b
+      → StopsAt (means r) partial a b
+  stops-at true partial r a b h = inr h
+  stops-at false partial r a b h = inl h
+
+  -- where it cuts or backtracks, it fails
+  pub FailsAt-by : (f : ReaderState R) (cut : Bool) (place : ℕ) → FailsBy f cut place
+      → FailsAt f place
+  FailsAt-by f cut place h = (
+    h.0,
+    λ more partial may.
+        stops-at cut partial f.parser (bytes_at f.place (f.ahead ++ more)) (bytes_at place (h.0 ++ more)) (h.1 more partial may),
+  )
 
   -- no matter what follows, the parser gives a value and takes nothing
   abbrev pub IdlesAt : ReaderState R → ℕ → Type 0
@@ -59,10 +84,10 @@ module _ {R O E : Type 0} (means : R → Meaning O ℕ) where
   WantsNeeded old (Ok Done) new = ⊤
   WantsNeeded old (Err e) new = ⊤
 
-  -- a failure is the parser's, with its place
+  -- a failure is the parser's, with its place, and whether it cuts
   abbrev pub FailsWell : ReaderState R → Result (Next O) (ReadError E) → Type 0
   FailsWell old (Ok next) = ⊤
-  FailsWell old (Err (Failed error place)) = FailsAt means old place
+  FailsWell old (Err (Failed error place cut)) = FailsBy means old cut place
   FailsWell old (Err (TakesNothing place)) = IdlesAt means old place
   FailsWell old (Err (Refused refused)) =
       means old.parser (not old.ended) (bytes_at old.place old.ahead) (Fails Refuses)

@@ -10,7 +10,7 @@ use Rattle.winnow_reader.specs.declared.next.ReadError.{ReadError}
 use Rattle.winnow_reader.specs.declared.next.ReadError.TheVariants.{Failed, TakesNothing, Refused}
 use Rattle.winnow_reader.specs.Place.{bytes_at}
 use Rattle.winnow_reader.specs.State.{ReaderState, taken_by, waiting_for}
-use Rattle.winnow_reader.specs.Answering.{StopsAt, NeedsLength}
+use Rattle.winnow_reader.specs.Answering.{StopsBy, NeedsLength}
 
 -- what the record answers of these bytes at this place
 abbrev pub IsAnswer : {O E : Type 0} → Meaning O ℕ → ℕ → List ℕ → Bool → Asked O E → Type 0
@@ -18,8 +18,8 @@ IsAnswer means place ahead ended (asked.Value x n) = (0 < n) × (n ≤ length ah
     × means (not ended) (bytes_at place ahead) (Gives x (bytes_at (place + n) (drop n ahead)))
 IsAnswer means place ahead ended (asked.Waits w) = (ended ≡ false) × NeedsLength means place ahead w
 IsAnswer means place ahead ended asked.Done = ⊥
-IsAnswer means place ahead ended (asked.Failed e there) =
-    (rest : List ℕ) × StopsAt means (not ended) (bytes_at place ahead) (bytes_at there rest)
+IsAnswer means place ahead ended (asked.Failed e there cut) =
+    (rest : List ℕ) × StopsBy means cut (not ended) (bytes_at place ahead) (bytes_at there rest)
 IsAnswer {O} means place ahead ended asked.Idle =
     (x : O) × means (not ended) (bytes_at place ahead) (Gives x (bytes_at place ahead))
 IsAnswer means place ahead ended (asked.Refused r) = means (not ended) (bytes_at place ahead) (Fails Refuses)
@@ -34,7 +34,7 @@ module _ {R O E : Type 0} where
   IsKnown f (asked.Value x n) = ⊥
   IsKnown f (asked.Waits w) = (f.ended ≡ false) × (w ≡ f.wanted) × (length f.ahead < f.wanted)
   IsKnown f asked.Done = (f.ended ≡ true) × (f.ahead ≡ [])
-  IsKnown f (asked.Failed e there) = ⊥
+  IsKnown f (asked.Failed e there cut) = ⊥
   IsKnown f asked.Idle = ⊥
   IsKnown f (asked.Refused r) = ⊥
 
@@ -48,7 +48,7 @@ module _ {R O E : Type 0} where
   IsWithin f (asked.Value x n) = n ≤ length f.ahead
   IsWithin f (asked.Waits w) = ⊤
   IsWithin f asked.Done = ⊤
-  IsWithin f (asked.Failed e there) = ⊤
+  IsWithin f (asked.Failed e there cut) = ⊤
   IsWithin f asked.Idle = ⊤
   IsWithin f (asked.Refused r) = ⊤
 
@@ -57,7 +57,7 @@ module _ {R O E : Type 0} where
   settled f (asked.Value x n) = taken_by f n
   settled f (asked.Waits w) = waiting_for f w
   settled f asked.Done = f
-  settled f (asked.Failed e there) = f
+  settled f (asked.Failed e there cut) = f
   settled f asked.Idle = f
   settled f (asked.Refused r) = f
 
@@ -66,6 +66,6 @@ abbrev pub answer_of : {O E : Type 0} → ℕ → Asked O E → Result (Next O) 
 answer_of place (asked.Value x n) = Ok (Value x)
 answer_of place (asked.Waits w) = Ok NeedsMore
 answer_of place asked.Done = Ok Done
-answer_of place (asked.Failed e there) = Err (Failed e there)
+answer_of place (asked.Failed e there cut) = Err (Failed e there cut)
 answer_of place asked.Idle = Err (TakesNothing place)
 answer_of place (asked.Refused r) = Err (Refused r)

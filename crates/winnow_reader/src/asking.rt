@@ -1,3 +1,5 @@
+//! One call of a record on the bytes that are not read yet.
+
 ghost use Rattle.std.specs.Prelude.{◌≡◌, ◌+◌, ◌<◌, ◌^◌, length, not};
 ghost use Rattle.winnow_wrap.specs.Flag.{flag};
 ghost use Rattle.winnow_reader.specs.Place.{bytes_at, stands};
@@ -18,8 +20,8 @@ pub(crate) enum Asked<O, E> {
     Waits(usize),
     // Nothing remains of an input that has ended
     Done,
-    // It failed at this place
-    Failed(E, usize),
+    // It failed at this place, and whether it cut
+    Failed(E, usize, bool),
     // It gave a value and took nothing
     Idle,
     // Memory was refused
@@ -74,8 +76,8 @@ pub(crate) fn ask_record<R: Record>(
         Err(Failure::Incomplete(needed)) => {
             Asked::Waits(ahead.len().saturating_add(size_of(needed)))
         }
-        Err(Failure::Backtrack(error)) => Asked::Failed(error, input.current_token_start()),
-        Err(Failure::Cut(error)) => Asked::Failed(error, input.current_token_start()),
+        Err(Failure::Backtrack(error)) => Asked::Failed(error, input.current_token_start(), false),
+        Err(Failure::Cut(error)) => Asked::Failed(error, input.current_token_start(), true),
         Err(Failure::Refused(refused)) => Asked::Refused(refused),
     }
 }

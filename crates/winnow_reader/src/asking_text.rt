@@ -1,3 +1,5 @@
+//! One call of a record of text on bytes that are UTF-8.
+
 ghost use Rattle.std.specs.Prelude.{◌≡◌, ◌+◌, ◌-◌, ◌≤◌, ◌<◌, ◌^◌, ◌==◌, ◌||◌, not, length};
 ghost use Rattle.std.specs.Prelude.{ℕ, IfSome};
 ghost use Rattle.winnow_parser.specs.Outcome.{Ahead};

@@ -1,3 +1,5 @@
+//! `ByteReader`: records, one after the other, from bytes that come in pieces.
+
 use crate::asking::{Asked, ask_record};
 use crate::buffers::drop_bytes;
 use crate::{Next, ReadError, Record};
@@ -162,7 +164,13 @@ impl<R: Record> ByteReader<R> {
                 Ok(Next::NeedsMore)
             }
             Asked::Done => Ok(Next::Done),
-            Asked::Failed(error, place) => Err(ReadError::Failed { error, place }),
+            Asked::Failed(error, place, is_cut) => {
+                Err(ReadError::Failed {
+                    error,
+                    place,
+                    is_cut,
+                })
+            }
             Asked::Idle => Err(ReadError::TakesNothing {
                 place: self.base + self.taken,
             }),

@@ -1,3 +1,5 @@
+//! Laws of readers: the same values for each cut, waiting, places, and damaged text.
+
 ghost use Rattle.std.specs.Prelude.{◌≡◌, ℕ, ◌+◌, ◌≤◌, List, [], ◌++◌, length, take, drop};
 ghost use Rattle.std.specs.Prelude.{true, false, Result, Ok, IsTrue, IsUtf8};
 ghost use Rattle.std.specs.Borrow.{Bor};

@@ -1,3 +1,5 @@
+//! `Record`: a parser of bytes in pieces, generic in the lifetime of the bytes.
+
 ghost use Rattle.std.specs.Prelude.{ℕ};
 ghost use Rattle.winnow_parser.specs.Outcome.{Meaning};
 ghost use Rattle.winnow_parser.specs.Answer.{outcome};

@@ -1,3 +1,5 @@
+//! `TextRecord`: a parser of text in pieces.
+
 ghost use Rattle.std.specs.Prelude.{ℕ};
 ghost use Rattle.winnow_parser.specs.Outcome.{Meaning};
 ghost use Rattle.winnow_parser.specs.Answer.{outcome};

@@ -1,3 +1,5 @@
+//! `Utf8Record`: a record of text as one of bytes that are UTF-8.
+
 ghost use Rattle.std.specs.Prelude.{◌≡◌};
 ghost use Rattle.winnow_reader.specs.InUtf8.{InUtf8};
 ghost use Rattle.winnow_reader.specs.Utf8Laws.{IsParser-InUtf8};

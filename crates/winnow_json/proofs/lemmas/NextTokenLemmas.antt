@@ -4,7 +4,7 @@ use Rattle.std.specs.Prelude.{Result, Ok, Err}
 use Rattle.winnow_stream.specs.Source.{units}
 use Rattle.winnow.specs.State.{ReaderState}
 use Rattle.winnow.specs.Reading.{HasRead, ReadsOn}
-use Rattle.winnow.specs.Answering.{GivesValue, FailsWell, IsDoneAtEnd, StaysWithout}
+use Rattle.winnow.specs.Answering.{GivesValue, FailsWell, FailsAt-by, IsDoneAtEnd, StaysWithout}
 use Rattle.winnow_reader.specs.declared.next.Next.{Next}
 use Rattle.winnow_reader.specs.declared.next.Next.TheVariants as next
 use Rattle.winnow_reader.specs.declared.next.ReadError.{ReadError}
@@ -52,12 +52,12 @@ module _ {E : Type 0} (old new : ReaderState JsonToken) where
       subst (HasRead (λ p. OneToken) new input) (append-nil tokens) (subst (λ r. ReadsOn (λ p. OneToken) old r new) e read input tokens was)
 
   -- where the record failed, the token is damaged, and nothing changed
-  pub failed-there : (x : E) (place : ℕ) (result : Result (Next Token) (ReadError E))
-      → result ≡ Err (Failed x place) → FailsWell (λ p. OneToken) old result
+  pub failed-there : (x : E) (place : ℕ) (cut : Bool) (result : Result (Next Token) (ReadError E))
+      → result ≡ Err (Failed x place cut) → FailsWell (λ p. OneToken) old result
       → StaysWithout old result new → (new ≡ old) × FindsDamage old place
-  failed-there x place result e fails kept = (
+  failed-there x place cut result e fails kept = (
     subst (λ r. StaysWithout old r new) e kept,
-    fails-damaged old place (subst (FailsWell (λ p. OneToken) old) e fails),
+    fails-damaged old place (FailsAt-by (λ (p : JsonToken). OneToken) old cut place (subst (FailsWell (λ p. OneToken) old) e fails)),
   )
 
 -- no token takes nothing: a reader with nothing left is done

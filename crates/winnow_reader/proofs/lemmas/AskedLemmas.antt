@@ -1,5 +1,5 @@
 -- What a reader makes of an answer of its record keeps what its calls promise.
-use Rattle.std.specs.Prelude.{Bool, true, not}
+use Rattle.std.specs.Prelude.{Bool, true, false, not}
 use Rattle.std.proofs.Common.{ℕ, ◌<◌, List, [], ◌++◌, refl, ap, sym, inl, inr, arith}
 use Rattle.std.proofs.lemmas.List.{append-nil}
 use Rattle.winnow_stream.specs.declared.needed.Needed.{Needed}
@@ -12,7 +12,7 @@ use Rattle.winnow_reader.specs.Place.{bytes_at}
 use Rattle.winnow_reader.specs.Wanted.{size_of}
 use Rattle.winnow_reader.specs.State.{ReaderState, waiting_for}
 use Rattle.winnow_reader.specs.Reading.{MayFollow, Asks, ReadsOn}
-use Rattle.winnow_reader.specs.Answering.{StopsAt, GivesValue, WaitsWell, IsDoneAtEnd, FailsWell, StaysWithout, WantsNeeded, StaysTillWanted}
+use Rattle.winnow_reader.specs.Answering.{StopsBy, GivesValue, WaitsWell, IsDoneAtEnd, FailsWell, StaysWithout, WantsNeeded, StaysTillWanted}
 use Rattle.winnow_reader.specs.Asked.{IsAsked, IsWithin, settled, answer_of}
 use Rattle.winnow_reader.proofs.lemmas.PlaceLemmas.{value-stays, backtrack-stays, cut-stays}
 use Rattle.winnow_reader.proofs.lemmas.ReadingLemmas.{HasRead-value, HasRead-waits, HasRead-still}
@@ -29,12 +29,12 @@ module _ {R O : Type 0} (means : R → Meaning O ℕ) (f : ReaderState R) where
   asks-now need h = record { front = f.ahead; need = need; whole = sym (append-nil f.ahead); needs = h; size = refl }
 
   -- no matter what follows, the parser fails where it failed
-  stops-stay : IsParser (means f.parser) → (there : ℕ) (rest : List ℕ)
-      → StopsAt (means f.parser) (not f.ended) (bytes_at f.place f.ahead) (bytes_at there rest)
+  stops-stay : IsParser (means f.parser) → (cut : Bool) (there : ℕ) (rest : List ℕ)
+      → StopsBy (means f.parser) cut (not f.ended) (bytes_at f.place f.ahead) (bytes_at there rest)
       → (more : List ℕ) (partial : Bool) → MayFollow f.ended more partial
-      → StopsAt (means f.parser) partial (bytes_at f.place (f.ahead ++ more)) (bytes_at there (rest ++ more))
-  stops-stay p there rest (inl h) more partial may = inl (backtrack-stays (means f.parser) p f.ended f.place f.ahead there rest h more partial may)
-  stops-stay p there rest (inr h) more partial may = inr (cut-stays (means f.parser) p f.ended f.place f.ahead there rest h more partial may)
+      → StopsBy (means f.parser) cut partial (bytes_at f.place (f.ahead ++ more)) (bytes_at there (rest ++ more))
+  stops-stay p false there rest h more partial may = backtrack-stays (means f.parser) p f.ended f.place f.ahead there rest h more partial may
+  stops-stay p true there rest h more partial may = cut-stays (means f.parser) p f.ended f.place f.ahead there rest h more partial may
 
 module _ {R O E : Type 0} (means : R → Meaning O ℕ) (f : ReaderState R) where
   -- what a value took was ahead
@@ -43,7 +43,7 @@ module _ {R O E : Type 0} (means : R → Meaning O ℕ) (f : ReaderState R) wher
   IsWithin-asked (asked.Value x n) (inr k) = k.1.1
   IsWithin-asked (asked.Waits w) k = tt
   IsWithin-asked asked.Done k = tt
-  IsWithin-asked (asked.Failed e there) k = tt
+  IsWithin-asked (asked.Failed e there cut) k = tt
   IsWithin-asked asked.Idle k = tt
   IsWithin-asked (asked.Refused r) k = tt
 
@@ -59,7 +59,7 @@ module _ {R O E : Type 0} (means : R → Meaning O ℕ) (f : ReaderState R) wher
       let m = k.1.1 in
       HasRead-waits means f w input values h (λ l. ([], (size_of m.0, (asks-now means f m.0 m.1.0, omega (arith, m.1.1)))))
   ReadsOn-settled p asked.Done k input values h = HasRead-still means f input values h
-  ReadsOn-settled p (asked.Failed e there) k input values h = HasRead-still means f input values h
+  ReadsOn-settled p (asked.Failed e there cut) k input values h = HasRead-still means f input values h
   ReadsOn-settled p asked.Idle k input values h = HasRead-still means f input values h
   ReadsOn-settled p (asked.Refused r) k input values h = HasRead-still means f input values h
 
@@ -70,7 +70,7 @@ module _ {R O E : Type 0} (means : R → Meaning O ℕ) (f : ReaderState R) wher
   GivesValue-settled (asked.Value x n) (inr k) = (n, (k.1.0, k.1.1, k.1.2, refl))
   GivesValue-settled (asked.Waits w) k = tt
   GivesValue-settled asked.Done k = tt
-  GivesValue-settled (asked.Failed e there) k = tt
+  GivesValue-settled (asked.Failed e there cut) k = tt
   GivesValue-settled asked.Idle k = tt
   GivesValue-settled (asked.Refused r) k = tt
 
@@ -84,7 +84,7 @@ module _ {R O E : Type 0} (means : R → Meaning O ℕ) (f : ReaderState R) wher
       let m = k.1.1 in
       (k.1.0, λ input values h. ([], (size_of m.0, (asks-now means f m.0 m.1.0, size_of-positive m.0))))
   WaitsWell-settled asked.Done k = tt
-  WaitsWell-settled (asked.Failed e there) k = tt
+  WaitsWell-settled (asked.Failed e there cut) k = tt
   WaitsWell-settled asked.Idle k = tt
   WaitsWell-settled (asked.Refused r) k = tt
 
@@ -97,8 +97,8 @@ module _ {R O E : Type 0} (means : R → Meaning O ℕ) (f : ReaderState R) wher
   IsDoneAtEnd-settled (asked.Waits w) (inr k) = (λ e. absurd (cc), λ e. absurd (k.0.0 e.0 e.1))
   IsDoneAtEnd-settled asked.Done (inl k) = (λ e. k, λ e. refl)
   IsDoneAtEnd-settled asked.Done (inr k) = absurd k.1
-  IsDoneAtEnd-settled (asked.Failed e there) (inl k) = absurd k
-  IsDoneAtEnd-settled (asked.Failed e there) (inr k) = (λ e. absurd (cc), λ e. absurd (k.0.0 e.0 e.1))
+  IsDoneAtEnd-settled (asked.Failed e there cut) (inl k) = absurd k
+  IsDoneAtEnd-settled (asked.Failed e there cut) (inr k) = (λ e. absurd (cc), λ e. absurd (k.0.0 e.0 e.1))
   IsDoneAtEnd-settled asked.Idle (inl k) = absurd k
   IsDoneAtEnd-settled asked.Idle (inr k) = (λ e. absurd (cc), λ e. absurd (k.0.0 e.0 e.1))
   IsDoneAtEnd-settled (asked.Refused r) (inl k) = absurd k
@@ -110,8 +110,8 @@ module _ {R O E : Type 0} (means : R → Meaning O ℕ) (f : ReaderState R) wher
   FailsWell-settled p (asked.Value x n) k = tt
   FailsWell-settled p (asked.Waits w) k = tt
   FailsWell-settled p asked.Done k = tt
-  FailsWell-settled p (asked.Failed e there) (inl k) = absurd k
-  FailsWell-settled p (asked.Failed e there) (inr k) = (k.1.0, stops-stay means f p there k.1.0 k.1.1)
+  FailsWell-settled p (asked.Failed e there cut) (inl k) = absurd k
+  FailsWell-settled p (asked.Failed e there cut) (inr k) = (k.1.0, stops-stay means f p cut there k.1.0 k.1.1)
   FailsWell-settled p asked.Idle (inl k) = absurd k
   FailsWell-settled p asked.Idle (inr k) =
       (refl, (k.1.0, value-stays (means f.parser) p f.ended f.place f.ahead k.1.0 f.place f.ahead k.1.1))
@@ -123,7 +123,7 @@ module _ {R O E : Type 0} (means : R → Meaning O ℕ) (f : ReaderState R) wher
   StaysWithout-settled (asked.Value x n) = tt
   StaysWithout-settled (asked.Waits w) = refl
   StaysWithout-settled asked.Done = refl
-  StaysWithout-settled (asked.Failed e there) = refl
+  StaysWithout-settled (asked.Failed e there cut) = refl
   StaysWithout-settled asked.Idle = refl
   StaysWithout-settled (asked.Refused r) = refl
 
@@ -134,7 +134,7 @@ module _ {R O E : Type 0} (means : R → Meaning O ℕ) (f : ReaderState R) wher
   WantsNeeded-settled (asked.Waits w) (inl k) = λ l. absurd (omega (arith, k.2, l))
   WantsNeeded-settled (asked.Waits w) (inr k) = λ l. k.1.1
   WantsNeeded-settled asked.Done k = tt
-  WantsNeeded-settled (asked.Failed e there) k = tt
+  WantsNeeded-settled (asked.Failed e there cut) k = tt
   WantsNeeded-settled asked.Idle k = tt
   WantsNeeded-settled (asked.Refused r) k = tt
 
@@ -145,6 +145,6 @@ module _ {R O E : Type 0} (means : R → Meaning O ℕ) (f : ReaderState R) wher
   StaysTillWanted-settled (asked.Value x n) (inl k) e l = absurd k
   StaysTillWanted-settled (asked.Waits w) (inl k) e l = (refl, ap (waiting_for f) k.1)
   StaysTillWanted-settled asked.Done (inl k) e l = absurd (let t = k.0 in cc)
-  StaysTillWanted-settled (asked.Failed error there) (inl k) e l = absurd k
+  StaysTillWanted-settled (asked.Failed error there cut) (inl k) e l = absurd k
   StaysTillWanted-settled asked.Idle (inl k) e l = absurd k
   StaysTillWanted-settled (asked.Refused r) (inl k) e l = absurd k

@@ -1,6 +1,7 @@
 use Rattle.std.proofs.Common.{◌≡◌, [], ◌∷◌, ◌++◌, ap, sym, ◌∙◌, subst}
 use Rattle.std.proofs.lemmas.List.{append-nil}
 use Rattle.winnow.specs.Reading.{Lacks}
+use Rattle.winnow.specs.Answering.{FailsAt-by}
 use Rattle.example_lines.specs.Lines.{HasLines, OneLine}
 use Rattle.example_lines.proofs.lemmas.ReadingLemmas.{never-fails, never-idles}
 use Rattle.example_lines.proofs.program.read_lines.Goals as goal
@@ -43,7 +44,7 @@ returns-in-Err-Refused-clause-read c = λ input h.
 pub unreachable-requires-in-Err-Failed : goal.unreachable-requires-in-Err-Failed
 unreachable-requires-in-Err-Failed c =
     let failed = rw c.in-Err-Failed.field-0-is at c.in-Err-Failed.ensures.failed in
-    never-fails c.loop-reader.reader c.loop-reader.invariant.goes_on _ failed
+    never-fails c.loop-reader.reader c.loop-reader.invariant.goes_on _ (FailsAt-by (λ r. OneLine) c.loop-reader.reader _ _ failed)
 
 pub unreachable-requires-in-Err-TakesNothing : goal.unreachable-requires-in-Err-TakesNothing
 unreachable-requires-in-Err-TakesNothing c =

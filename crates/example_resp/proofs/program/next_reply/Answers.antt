@@ -1,5 +1,6 @@
 use Rattle.std.proofs.Common.{◌-◌, true, [], ◌∷◌, take, drop, refl, ap, sym, subst, inl, inr}
 use Rattle.winnow_reader.specs.State.{ReaderState}
+use Rattle.winnow_reader.specs.Answering.{FailsAt-by}
 use Rattle.example_resp.specs.declared.placed.PlacedReply.{PlacedReply}
 use Rattle.winnow_resp.specs.Causes.{IsCauseOf}
 use Rattle.example_resp.specs.Positions.{joined_with}
@@ -62,11 +63,12 @@ returns-in-Ok-NeedsMore-clause-none c =
 
 pub returns-in-Err-Failed-clause-failed : goal.returns-in-Err-Failed-clause-failed
 returns-in-Err-Failed-clause-failed c =
-    let failed = rw c.in-Err-Failed.field-0-is at c.in-Err-Failed.ensures.failed in
+    let by = rw c.in-Err-Failed.field-0-is at c.in-Err-Failed.ensures.failed in
     let kept = c.in-Err-Failed.ensures.kept in
     let old = c.args.reader.now in
     let told = c.cause_ahead-cause.result in
     let there = c.in-Err-Failed.failed in
+    let failed = FailsAt-by ghosts.means old _ there by in
     let is = subst (λ (f : ReaderState PlacedReply). IsCauseOf told (take (there - f.place) f.ahead) (drop (there - f.place) f.ahead)) kept c.cause_ahead-cause.ensures in
     stuck-there ghosts.means c.failure_law.ensures
     old c.read_next.new.self c.args.place.now c.place_ahead.result told there

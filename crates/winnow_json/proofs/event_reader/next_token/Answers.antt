@@ -32,13 +32,13 @@ returns-in-Ok-NeedsMore c =
 pub damage_at-requires : goal.damage_at-requires
 damage_at-requires c =
     let e = c.in-Err-Failed.is ∙ ap Err c.in-Err-Failed.field-0-is in
-    let there = failed-there c.args.tokens.now c.read_next.new.self _ c.in-Err-Failed.place c.read_next.result e c.read_next.ensures.failed c.read_next.ensures.kept in
+    let there = failed-there c.args.tokens.now c.read_next.new.self _ c.in-Err-Failed.place _ c.read_next.result e c.read_next.ensures.failed c.read_next.ensures.kept in
     subst (λ r. FindsDamage r c.in-Err-Failed.place) (sym there.0) there.1
 
 pub returns-in-Err-Failed : goal.returns-in-Err-Failed
 returns-in-Err-Failed c =
     let e = c.in-Err-Failed.is ∙ ap Err c.in-Err-Failed.field-0-is in
-    let there = failed-there c.args.tokens.now c.read_next.new.self _ c.in-Err-Failed.place c.read_next.result e c.read_next.ensures.failed c.read_next.ensures.kept in
+    let there = failed-there c.args.tokens.now c.read_next.new.self _ c.in-Err-Failed.place _ c.read_next.result e c.read_next.ensures.failed c.read_next.ensures.kept in
     (there.0, subst (λ r. IsNoNext (state_of c.args.syntax.now) r c.damage_at.result) there.0 c.damage_at.ensures)
 
 -- a reader with nothing left is done, and elsewhere a token takes something
