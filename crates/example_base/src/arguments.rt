@@ -1,11 +1,12 @@
-//! The arguments of a program: a file or `-`, and a limit on depth where it has one.
+//! The arguments of a program: a file or `-`, a limit on depth and the skipping of a byte order
+//! mark, if it has these.
 
-use clap::{Arg, ArgMatches, Command, Error};
+use clap::{Arg, ArgAction, ArgMatches, Command, Error};
 use std::alloc::{AllocError, Global};
 use std::env::{self, Env};
 use std::io;
 
-/// What a program is called and does, and how it names its limit on depth, if it has one.
+/// What a program is called and does, and how it names the options that it has.
 #[derive(Clone, Copy, Debug)]
 pub struct Program {
     /// Its name
@@ -14,6 +15,8 @@ pub struct Program {
     pub about: &'static str,
     /// What `--depth` limits, with the limit that it has otherwise
     pub depth: Option<&'static str>,
+    /// What `--skip-mark` skips
+    pub mark: Option<&'static str>,
 }
 
 impl Program {
@@ -24,24 +27,34 @@ impl Program {
         command.try_get_matches_from(words)
     }
 
-    // Returns the command line: `[FILE]`, `--depth N` where there is a limit, `--help` and
-    // `--version`.
+    // Returns the command line: `[FILE]`, `--depth N` if there is a limit, `--skip-mark` if a mark
+    // can be skipped, `--help` and `--version`.
     fn command<'a>(&self, alloc: Global) -> Result<Command<'a>, AllocError> {
         let file = Arg::new(alloc, "FILE").help(
             "The file to read; without one, or where it is -, standard input",
         );
         let command = Command::new(alloc, self.name)
             .about(self.about)
-            .version("1.0.5")
+            .version("0.1.0")
             .arg(file)?;
-        match self.depth {
+        let command = match self.depth {
             Some(help) => {
                 let depth = Arg::new(alloc, "depth")
                     .long("depth")
                     .value_name("N")
                     .help(help)
                     .value_parser(clap::value_parser!(usize));
-                command.arg(depth)
+                command.arg(depth)?
+            }
+            None => command,
+        };
+        match self.mark {
+            Some(help) => {
+                let mark = Arg::new(alloc, "skip-mark")
+                    .long("skip-mark")
+                    .help(help)
+                    .action(ArgAction::SetTrue);
+                command.arg(mark)
             }
             None => Ok(command),
         }

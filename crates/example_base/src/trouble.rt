@@ -1,3 +1,5 @@
+//! Why a program stopped, if not because of its input.
+
 ghost use Rattle.std.specs.Prelude.{◌≡◌, Some};
 ghost use Rattle.std.specs.IoError.{error_kind};
 ghost use Rattle.example_base.specs.Trouble.{status_of, reason_of, reason_text, trouble_text};

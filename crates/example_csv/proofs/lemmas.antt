@@ -3,3 +3,4 @@ pub mod FeedLemmas
 pub mod CopyLemmas
 pub mod DamageLemmas
 pub mod CopiedLemmas
+pub mod StartLemmas

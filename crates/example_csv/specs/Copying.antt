@@ -1,5 +1,5 @@
 -- What was read and written of an input, and what a failure says of it.
-use Rattle.std.specs.Prelude.{◌≡◌, ◌≢◌, ℕ, ◌+◌, ◌<◌, ◌^◌, false, List, [], ◌∷◌, ◌++◌, length, Option, None, Some, vec_len, ⊤}
+use Rattle.std.specs.Prelude.{◌≡◌, ◌≢◌, ℕ, ◌+◌, ◌<◌, ◌^◌, Bool, false, List, [], ◌∷◌, ◌++◌, length, Option, None, Some, vec_len, ◌⊎◌, ⊤}
 use Rattle.std.specs.List.{flat_map, sum_by}
 use Rattle.std.specs.Io.KnownBytes.{Appends, Consumes}
 use Rattle.winnow.specs.State.{ReaderState, fed_of}
@@ -9,13 +9,15 @@ use Rattle.winnow_csv.specs.Answers.{values_of}
 use Rattle.winnow_csv.specs.Widths.{RowVec, first_width, HaveWidth}
 use Rattle.winnow_csv.specs.Tables.{rows_in, AreRecords, HasNoRecord, IsDamagedAt}
 use Rattle.winnow_csv.specs.Reading.{RowInPieces}
+use Rattle.winnow_csv.specs.Marks.{HasText, IsRefused}
+use Rattle.winnow_csv.specs.declared.marks.Mark.{Mark}
 use Rattle.example_csv.specs.Positions.{line_feeds, after_feed, IsPositionAfter, feeds_of}
 use Rattle.example_csv.specs.Lines.{line_of}
 use Rattle.example_csv.specs.Failures.{fault_at}
 use Rattle.example_csv.specs.declared.positions.Position.{Position}
 use Rattle.example_csv.specs.declared.failure.Fault.{Fault}
 use Rattle.example_csv.specs.declared.failure.Failure.{Failure}
-use Rattle.example_csv.specs.declared.failure.Failure.TheVariants.{Damaged, Uneven, Stopped}
+use Rattle.example_csv.specs.declared.failure.Failure.TheVariants.{Damaged, Uneven, Marked, Stopped}
 use Rattle.example_csv.specs.declared.progress.Progress.{Progress}
 
 -- records as lines, one after the other
@@ -69,16 +71,18 @@ pub record IsUneven (input : List ℕ) (rows : List RowVec) (line fields first :
   pub had : width_of rows ≡ Some first
   pub differs : fields ≢ first
 
--- what a failure says of an input, after these records of it
+-- what a failure says of a text, after these records of it; a mark stands before a text, not in it
 abbrev pub IsFailureOf : List ℕ → List RowVec → Failure → Type 0
 IsFailureOf input rows (Damaged position fault) = BreaksAt input rows position fault
 IsFailureOf input rows (Uneven line fields first) = IsUneven input rows line fields first
+IsFailureOf input rows (Marked mark) = ⊥
 IsFailureOf input rows (Stopped trouble) = ⊤
 
 -- the failure is one of the input's: memory was not refused, and neither reading nor writing failed
 abbrev pub IsOfInput : Failure → Type 0
 IsOfInput (Damaged position fault) = ⊤
 IsOfInput (Uneven line fields first) = ⊤
+IsOfInput (Marked mark) = ⊤
 IsOfInput (Stopped trouble) = ⊥
 
 -- the other number of fields fits what is kept: it is that of the first record, if there was one
@@ -135,3 +139,14 @@ CopiesAll input held now = (rows : List RowVec) × (AreRecords input (rows_in ro
 abbrev pub CopiesUntil : List ℕ → Failure → Option (List ℕ) → Option (List ℕ) → Type 0
 CopiesUntil input failure held now = IsOfInput failure → (rows : List RowVec)
     × (Appends held now (lines_of rows) × IsFailureOf input rows failure)
+
+-- the input has a text, which is copied whole
+abbrev pub CopiesInput : Bool → List ℕ → Option (List ℕ) → Option (List ℕ) → Type 0
+CopiesInput skips input held now = (text : List ℕ) × (HasText skips input text × CopiesAll text held now)
+
+-- the failure is a mark for which the input has no text, and nothing was written; or it is one of
+-- the text, which was copied until there
+abbrev pub StopsInput : Bool → List ℕ → Failure → Option (List ℕ) → Option (List ℕ) → Type 0
+StopsInput skips input failure held now = IsOfInput failure
+    → ((mark : Mark) × ((failure ≡ Marked mark) × IsRefused skips input mark × Appends held now []))
+    ⊎ ((text : List ℕ) × (HasText skips input text × CopiesUntil text failure held now))

@@ -1,11 +1,12 @@
 -- What is wrong where a record breaks off, and how the program ends.
 use Rattle.std.specs.Prelude.{ℕ, ◌==◌, if◌then◌else◌, List, [], ◌∷◌, ◌++◌, codes, decimal}
+use Rattle.winnow_csv.specs.Marks.{mark_text}
 use Rattle.example_base.specs.Trouble.{status_of as trouble_status, trouble_text}
 use Rattle.example_csv.specs.Positions.{position_text}
 use Rattle.example_csv.specs.declared.failure.Fault.{Fault}
 use Rattle.example_csv.specs.declared.failure.Fault.TheVariants.{Unclosed, QuoteInside, LoneReturn, AfterQuote}
 use Rattle.example_csv.specs.declared.failure.Failure.{Failure}
-use Rattle.example_csv.specs.declared.failure.Failure.TheVariants.{Damaged, Uneven, Stopped}
+use Rattle.example_csv.specs.declared.failure.Failure.TheVariants.{Damaged, Uneven, Marked, Stopped}
 
 -- what is wrong where these bytes follow a field: at the end of the input a closing quote is
 -- missing, and elsewhere the first byte says it (34 is a quote, 13 a carriage return)
@@ -18,6 +19,7 @@ fault_at (byte ∷ rest) =
 abbrev pub status_of : Failure → ℕ
 status_of (Damaged position fault) = 2
 status_of (Uneven line fields first) = 2
+status_of (Marked mark) = 2
 status_of (Stopped trouble) = trouble_status trouble
 
 -- the text of a fault
@@ -32,4 +34,5 @@ abbrev pub failure_text : Failure → List ℕ
 failure_text (Damaged position fault) = position_text position ++ codes ": " ++ fault_text fault
 failure_text (Uneven line fields first) = codes "line " ++ (decimal line ++ (codes ": "
     ++ (decimal fields ++ (codes " fields, but the first record has " ++ decimal first))))
+failure_text (Marked mark) = mark_text mark
 failure_text (Stopped trouble) = trouble_text trouble

@@ -1,3 +1,5 @@
+//! Why the program failed.
+
 ghost use Rattle.std.specs.Prelude.{◌≡◌, Some};
 ghost use Rattle.example_base.specs.declared.trouble.Trouble.TheVariants.{OutOfMemory};
 ghost use Rattle.example_csv.specs.Failures.{fault_at, fault_text};
@@ -8,6 +10,7 @@ use crate::positions::Position;
 use example_base::Trouble;
 use std::alloc::AllocError;
 use std::fmt;
+use winnow_csv::Mark;
 
 /// What is wrong where a record breaks off.
 #[derive(Clone, Copy, Debug, Drop, PartialEq, Eq)]
@@ -50,6 +53,8 @@ pub enum Failure {
         /// The number of fields of the first record
         first: usize,
     },
+    /// This byte order mark stands before the first record
+    Marked(Mark),
     /// Memory was refused, or reading or writing failed
     Stopped(Trouble),
 }
@@ -62,6 +67,7 @@ impl Failure {
         match self {
             Failure::Damaged(_, _) => 2,
             Failure::Uneven { .. } => 2,
+            Failure::Marked(_) => 2,
             Failure::Stopped(trouble) => trouble.status(),
         }
     }
@@ -99,6 +105,7 @@ impl fmt::Display for Failure {
                 f,
                 "line {line}: {fields} fields, but the first record has {first}"
             ),
+            Failure::Marked(mark) => write!(f, "{mark}"),
             Failure::Stopped(trouble) => write!(f, "{trouble}"),
         }
     }

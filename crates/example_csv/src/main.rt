@@ -7,13 +7,16 @@
 //! The input is read in pieces, and a record is written as soon as it has been read. So the longest
 //! record and one piece bound what is kept, however long the input is.
 //!
+//! A byte order mark before the first record is refused, since it would be part of the first field.
+//! With `--skip-mark` one of UTF-8 is skipped, and lines and columns are counted from there on.
+//!
 //! Within a field a backslash, a tab, a line feed and a carriage return are written as `\\`, `\t`,
 //! `\n` and `\r`.
 //!
-//! The exit status is 0, also where nothing reads the output any more; 2 if a record is damaged or
-//! has another number of fields than the first one, and for arguments that are none; 3 if memory
-//! was refused; and 4 if reading or writing failed. The records before a failure are written, and
-//! standard error says what is wrong, and where.
+//! The exit status is 0, also if nothing reads the output any more; 2 if a record is malformed or
+//! has another number of fields than the first one, if a mark is refused, and for arguments that
+//! are none; 3 if memory was refused; and 4 if reading or writing failed. The records before a
+//! failure are written, and standard error says what is wrong, and where.
 #![tactic(auto)]
 
 mod failure;
@@ -34,6 +37,7 @@ const PROGRAM: Program = Program {
     name: "example_csv",
     about: "Writes records of comma-separated values, each as a line",
     depth: None,
+    mark: Some("Skip a byte order mark of UTF-8 before the first record"),
 };
 
 fn main(rt: HostRuntime) -> ExitCode {
@@ -75,11 +79,12 @@ fn print(rt: &HostRuntime, matches: &ArgMatches<'_>) -> Result<(), Failure> {
         Ok(output) => output,
         Err(error) => return Err(Failure::Stopped(Trouble::writing(error))),
     };
+    let skips_mark = matches.get_flag("skip-mark");
     match matches.get_str("FILE") {
-        None => program::copy_records(rt.alloc(), &mut rt.stdin(), &mut output),
-        Some("-") => program::copy_records(rt.alloc(), &mut rt.stdin(), &mut output),
+        None => program::copy_records(rt.alloc(), skips_mark, &mut rt.stdin(), &mut output),
+        Some("-") => program::copy_records(rt.alloc(), skips_mark, &mut rt.stdin(), &mut output),
         Some(name) => match File::open(rt, name) {
-            Ok(mut file) => program::copy_records(rt.alloc(), &mut file, &mut output),
+            Ok(mut file) => program::copy_records(rt.alloc(), skips_mark, &mut file, &mut output),
             Err(error) => Err(Failure::Stopped(Trouble::reading(error))),
         },
     }

@@ -1,3 +1,5 @@
+//! Lines and columns of the input.
+
 ghost use Rattle.std.specs.Prelude.{Some, ◌≡◌, ◌+◌, ◌<◌, ◌^◌, length};
 ghost use Rattle.example_csv.specs.Positions.{line_feeds, after_feed, feeds_of, position_text};
 

@@ -1,13 +1,16 @@
+//! Copying the records of an input as lines.
+
 ghost use Rattle.std.specs.Prelude.{◌≡◌, ◌+◌, ◌-◌, ◌≤◌, ◌<◌, ◌^◌, false, true, [], length};
-ghost use Rattle.std.specs.Prelude.{vec_len, take, drop, IfOk, OnOk, IfErr, IfSome};
-ghost use Rattle.std.specs.Io.KnownBytes.{Appends, Consumes, IsAtEnd};
+ghost use Rattle.std.specs.Prelude.{ℕ, List, Option, vec_len, take, drop, IfOk, OnOk, IfErr};
+ghost use Rattle.std.specs.Prelude.{IfSome};
+ghost use Rattle.std.specs.Io.KnownBytes.{Appends, Consumes, IsAtEnd, prepend_known};
 ghost use Rattle.winnow.specs.State.{pushed, fed_of};
 ghost use Rattle.winnow.specs.Reading.{ReadsAlso};
 ghost use Rattle.winnow_csv.specs.Reading.{RowInPieces};
 ghost use Rattle.winnow_csv.specs.Writing.{values_in};
 ghost use Rattle.example_csv.specs.Lines.{line_of};
 ghost use Rattle.example_csv.specs.Copying.{IsOfInput, IsDamageAfter, IsBegun, WritesOn, StopsWith};
-ghost use Rattle.example_csv.specs.Copying.{CopiesAll, CopiesUntil};
+ghost use Rattle.example_csv.specs.Copying.{CopiesAll, CopiesUntil, CopiesInput, StopsInput};
 ghost use Rattle.example_base.specs.declared.trouble.Trouble.TheVariants.{TooLong};
 ghost use Rattle.example_csv.specs.declared.failure.Failure.TheVariants.{Stopped};
 
@@ -19,37 +22,97 @@ use example_base::Trouble;
 use std::alloc::Global;
 use std::io::{ErrorKind, Read, Write};
 use winnow::reader::{ByteReader, Next, ReadError};
-use winnow_csv::{Row, rows_in_pieces_law};
+use winnow_csv::{Row, rows_in_pieces_law, text_start};
 
 /// How many bytes are asked for in one read.
 const PIECE: usize = 65_536;
 
-/// Reads the records of an input to its end, and writes each as a line.
+/// Reads the records of an input to its end, and writes each as a line. A byte order mark of UTF-8
+/// before the first record is skipped, if it is to be; any other mark is a failure.
 ///
-/// Where the bytes of the input are known, those of the output are known too: the lines of all its
+/// If the bytes of the input are known, those of the output are known too: the lines of all its
 /// records, or of those before the failure.
 pub fn copy_records<R: Read, W: Write>(
     alloc: Global,
+    skips_mark: bool,
     input: &mut R,
     output: &mut W,
 ) -> Result<(), Failure>
     ensures copied { OnOk result (IfSome (R.remaining input.old) (λ bytes.
-        CopiesAll bytes (W.contents output.old) (W.contents output.new))) }
+        CopiesInput skips_mark bytes (W.contents output.old) (W.contents output.new))) }
     ensures failed { IfErr result (λ failure. IfSome (R.remaining input.old) (λ bytes.
-        CopiesUntil bytes failure (W.contents output.old) (W.contents output.new))) }
+        StopsInput skips_mark bytes failure (W.contents output.old) (W.contents output.new))) }
 {
-    rows_in_pieces_law();
     let mut buffer = match buffer(alloc) {
         Ok(buffer) => buffer,
         Err(failure) => return Err(failure),
     };
+    let mut start = Vec::new(alloc);
+    for _ in 0..u64::MAX {
+        let ended = match read_on(input, &mut buffer, &mut start) {
+            Ok(ended) => ended,
+            Err(failure) => return Err(failure),
+        };
+        match text_start(&start, skips_mark, ended) {
+            None => {}
+            Some(Ok(text)) => return copy_text(alloc, text, ended, input, &mut buffer, output),
+            Some(Err(mark)) => return Err(Failure::Marked(mark)),
+        }
+    }
+    Err(Failure::Stopped(Trouble::TooLong))
+}
+
+// Reads a piece, and appends it. Returns whether the input has ended.
+fn read_on<R: Read>(input: &mut R, buffer: &mut [u8], start: &mut Vec<u8>) -> Result<bool, Failure>
+    requires { 0 < length buffer.old }
+    ensures taken { (had : Option (List ℕ)) → OnOk result
+        (Consumes had (R.remaining input.old) start.old.items
+        → Consumes had (R.remaining input.new) start.new.items) }
+    ensures end { IfOk result (λ ended. ended ≡ true → IsAtEnd (R.remaining input.new)) }
+    ensures failed { IfErr result (λ failure. ¬ (IsOfInput failure)) }
+{
+    let count = match read_piece(input, buffer) {
+        Ok(count) => count,
+        Err(failure) => return Err(failure),
+    };
+    match start.extend_from_slice(&buffer[..count]) {
+        Ok(()) => Ok(count == 0),
+        Err(refused) => Err(Failure::from(refused)),
+    }
+}
+
+// Copies the records of a text, which begins with these bytes and goes on with the input, unless
+// that has ended.
+fn copy_text<R: Read, W: Write>(
+    alloc: Global,
+    text: &[u8],
+    ended: bool,
+    input: &mut R,
+    buffer: &mut [u8],
+    output: &mut W,
+) -> Result<(), Failure>
+    requires room { 0 < length buffer.old }
+    requires end { ended ≡ true → IsAtEnd (R.remaining input.old) }
+    ensures copied { OnOk result (IfSome (prepend_known text.now (R.remaining input.old)) (λ bytes.
+        CopiesAll bytes (W.contents output.old) (W.contents output.new))) }
+    ensures failed { IfErr result (λ failure.
+        IfSome (prepend_known text.now (R.remaining input.old)) (λ bytes.
+        CopiesUntil bytes failure (W.contents output.old) (W.contents output.new))) }
+{
+    rows_in_pieces_law();
     let mut reader = ByteReader::new(alloc, Row);
     let mut progress = Progress {
         feeds: 0,
         width: None,
     };
+    if let Err(failure) = push(&mut reader, text) {
+        return Err(failure);
+    }
+    if let Err(failure) = write_ahead(alloc, &mut reader, &mut progress, output) {
+        return Err(failure);
+    }
     for _ in 0..u64::MAX {
-        let count = match read_piece(input, &mut buffer) {
+        let count = match read_unless(ended, input, buffer) {
             Ok(count) => count,
             Err(failure) => return Err(failure),
         };
@@ -73,6 +136,24 @@ fn buffer(alloc: Global) -> Result<Vec<u8>, Failure>
     ensures failed { IfErr result (λ failure. ¬ (IsOfInput failure)) }
 {
     Ok(vec![in alloc; 0; PIECE]?)
+}
+
+// Reads once, unless the input has ended.
+fn read_unless<R: Read>(ended: bool, input: &mut R, buffer: &mut [u8]) -> Result<usize, Failure>
+    requires room { 0 < length buffer.old }
+    requires end { ended ≡ true → IsAtEnd (R.remaining input.old) }
+    ensures room { length buffer.new ≡ length buffer.old }
+    ensures within { IfOk result (λ count. count ≤ length buffer.new) }
+    ensures taken { IfOk result (λ count.
+        Consumes (R.remaining input.old) (R.remaining input.new) (take count buffer.new)) }
+    ensures end { IfOk result (λ count. count ≡ 0 → IsAtEnd (R.remaining input.new)) }
+    ensures last { IfOk result (λ count. ended ≡ true → count ≡ 0) }
+    ensures failed { IfErr result (λ failure. ¬ (IsOfInput failure)) }
+{
+    if ended {
+        return Ok(0);
+    }
+    read_piece(input, buffer)
 }
 
 // Reads once, and again where the read was interrupted. At the end of the input it gives 0.
@@ -166,7 +247,13 @@ fn write_records<W: Write>(
             }
             Ok(Next::NeedsMore) => return Ok(()),
             Ok(Next::Done) => return Ok(()),
-            Err(ReadError::Failed { error: _, place }) => {
+            Err(
+                ReadError::Failed {
+                    error: _,
+                    place,
+                    is_cut: _,
+                },
+            ) => {
                 return Err(damage(reader, progress.feeds, place));
             }
             Err(ReadError::TakesNothing { place: _ }) => unreachable!(),

@@ -1,3 +1,5 @@
+//! The line feeds and the number of fields of the records so far.
+
 ghost use Rattle.std.specs.Prelude.{◌≡◌, ◌+◌, ◌<◌, ◌^◌, length, Some, OnOk, IfErr};
 ghost use Rattle.example_csv.specs.Positions.{feeds_of};
 ghost use Rattle.example_csv.specs.Copying.{FitsWidth, IsOtherWidth};

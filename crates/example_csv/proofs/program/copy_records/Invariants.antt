@@ -1,13 +1,11 @@
-use Rattle.std.proofs.Common.{◌≡◌, ◌<◌, false, vec_len}
-use Rattle.example_csv.specs.Copying.{HasCopied}
+use Rattle.std.proofs.Common.{◌≡◌, ◌<◌, vec_len}
+use Rattle.std.specs.Io.KnownBytes.{Consumes}
 use Rattle.example_csv.proofs.program.copy_records.Given as goal
 
--- the records of the bytes that were read are copied, and more may follow
+-- the bytes so far were taken of the input, and nothing is written
 abbrev pub invariant-loop : goal.invariant-loop
 invariant-loop g l = record {
-  copied : HasCopied l.reader l.progress
-      (g.R.Read.remaining l.fn.input) (g.R.Read.remaining l.input)
-      (g.W.Write.contents l.fn.output) (g.W.Write.contents l.output);
-  ended : l.reader.ended ≡ false;
+  took : Consumes (g.R.Read.remaining l.fn.input) (g.R.Read.remaining l.input) l.start.items;
+  wrote : g.W.Write.contents l.output ≡ g.W.Write.contents l.fn.output;
   room : 0 < vec_len l.buffer;
 }

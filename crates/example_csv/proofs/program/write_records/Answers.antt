@@ -1,5 +1,6 @@
 use Rattle.std.proofs.Common.{◌≡◌, ℕ, ◌+◌, ◌-◌, ◌<◌, ◌^◌, List, length, take, drop, ap, sym, ◌∙◌, subst, arith}
 use Rattle.winnow.specs.State.{ReaderState, fed_of}
+use Rattle.winnow.specs.Answering.{FailsAt-by}
 use Rattle.winnow_csv.specs.declared.records.Row.{Row}
 use Rattle.std.specs.Io.KnownBytes.{Appends}
 use Rattle.std.specs.Prelude.{Some}
@@ -7,6 +8,7 @@ use Rattle.example_csv.specs.Positions.{feeds_of}
 use Rattle.example_csv.specs.Lines.{line_of}
 use Rattle.example_csv.specs.Copying.{IsDamageAfter, IsOtherWidth, FitsWidth}
 use Rattle.winnow_csv.specs.Writing.{values_in}
+use Rattle.winnow_csv.specs.Reading.{RowInPieces}
 use Rattle.example_csv.proofs.lemmas.CopyLemmas.{begun-now, row-fits, writes-row, writes-waiting}
 use Rattle.example_csv.proofs.lemmas.DamageLemmas.{damage-some, damage-within, begun-fits, stops-damaged, stops-uneven}
 use Rattle.example_csv.proofs.program.write_records.Goals as goal
@@ -32,7 +34,7 @@ pub damage-requires-clause-from : goal.damage-requires-clause-from
 damage-requires-clause-from g c =
     let old = c.loop-row.reader in
     let place = c.in-Err-Failed.place in
-    let failed = rw c.in-Err-Failed.field-0-is at c.in-Err-Failed.ensures.failed in
+    let failed = FailsAt-by (λ (r : Row). RowInPieces) old _ place (rw c.in-Err-Failed.field-0-is at c.in-Err-Failed.ensures.failed) in
     let finds = c.rows_in_pieces_law.ensures.damaged old place failed (λ through. let e = c.in-Err-Failed.ensures.done.1 through in cc) in
     omega (arith, (damage-within old place finds).0, ap (λ (f : ReaderState Row). f.place) c.in-Err-Failed.ensures.kept, c.in-Err-Failed.place-is)
 
@@ -40,7 +42,7 @@ pub damage-requires-clause-to : goal.damage-requires-clause-to
 damage-requires-clause-to g c =
     let old = c.loop-row.reader in
     let place = c.in-Err-Failed.place in
-    let failed = rw c.in-Err-Failed.field-0-is at c.in-Err-Failed.ensures.failed in
+    let failed = FailsAt-by (λ (r : Row). RowInPieces) old _ place (rw c.in-Err-Failed.field-0-is at c.in-Err-Failed.ensures.failed) in
     let finds = c.rows_in_pieces_law.ensures.damaged old place failed (λ through. let e = c.in-Err-Failed.ensures.done.1 through in cc) in
     omega (arith, (damage-within old place finds).1, ap (λ (f : ReaderState Row). fed_of f) c.in-Err-Failed.ensures.kept, c.in-Err-Failed.place-is)
 
@@ -51,7 +53,7 @@ damage-requires-clause-counted g c =
     let held = g.W.Write.contents c.args.output.now in
     let now = g.W.Write.contents c.loop-row.output in
     let begun = begun-now c.args.reader.now old c.args.progress.now c.loop-row.progress held now c.requires c.loop-row.invariant.writes in
-    let failed = rw c.in-Err-Failed.field-0-is at c.in-Err-Failed.ensures.failed in
+    let failed = FailsAt-by (λ (r : Row). RowInPieces) old _ place (rw c.in-Err-Failed.field-0-is at c.in-Err-Failed.ensures.failed) in
     let finds = c.rows_in_pieces_law.ensures.damaged old place failed (λ through. let e = c.in-Err-Failed.ensures.done.1 through in cc) in
     let some = damage-some old place finds (λ through. let e = c.in-Err-Failed.ensures.done.1 through in cc) in
     omega (arith, begun-fits c.rows_in_pieces_law.ensures.records old c.loop-row.progress begun some, ap (λ (f : ReaderState Row). length f.ahead) c.in-Err-Failed.ensures.kept)
@@ -65,7 +67,7 @@ returns-in-Err-Failed-clause-failed g c =
     let failure = c.damage.result in
     let held = g.W.Write.contents c.args.output.now in
     let now = g.W.Write.contents c.loop-row.output in
-    let failed = rw c.in-Err-Failed.field-0-is at c.in-Err-Failed.ensures.failed in
+    let failed = FailsAt-by (λ (r : Row). RowInPieces) old _ place (rw c.in-Err-Failed.field-0-is at c.in-Err-Failed.ensures.failed) in
     let finds = c.rows_in_pieces_law.ensures.damaged old place failed (λ through. let e = c.in-Err-Failed.ensures.done.1 through in cc) in
     let some = damage-some old place finds (λ through. let e = c.in-Err-Failed.ensures.done.1 through in cc) in
     let there = subst (λ (n : ℕ). IsDamageAfter feeds (take (n - new.place) new.ahead) (drop (n - new.place) new.ahead) failure) c.in-Err-Failed.place-is c.damage.ensures in
