@@ -1,5 +1,8 @@
-//! The Rust crate's example `arithmetic`: it evaluates expressions, with parentheses to a depth.
+//! The Rust crate's example `arithmetic`: it evaluates expressions, with parentheses to a depth;
+//! [`tree`] reads them as trees.
 #![tactic(auto)]
+
+pub mod tree;
 
 use std::alloc::Global;
 use winnow_ascii::{digit1, multispace0};

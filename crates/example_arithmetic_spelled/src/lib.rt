@@ -3,8 +3,9 @@
 #![tactic(auto)]
 
 ghost use Rattle.std.specs.Prelude.{◌≡◌, pos, Some, IfSome};
-ghost use Rattle.example_arithmetic_spelled.specs.Expressions.{Expression, WritesPart};
+ghost use Rattle.example_arithmetic_spelled.specs.Expressions.{Expression, Writes, WritesPart};
 ghost use Rattle.example_arithmetic_spelled.specs.Expressions.{WritesValue};
+ghost use Rattle.winnow_spelling.specs.Texts.{SpelledText};
 ghost use Rattle.example_arithmetic_spelled.specs.Steps.{HasDigit, IsSum, IsProduct};
 
 use std::alloc::Global;
@@ -13,7 +14,7 @@ use winnow_combinator::{alt, delimited, repeat, separated_foldl1};
 use winnow_error::{EmptyError, ParserError};
 use winnow_grammar::Text;
 use winnow_parser::{ModalResult, Parser};
-use winnow_spelling::{LayerAs, ReadsAs, Spells, ask_as, nested_as, part_as};
+use winnow_spelling::{LayerAs, ReadsAs, Spells, ask_as, ask_text, nested_as, part_as};
 use winnow_token::one_of;
 
 /// A number. It has no value if it is too great.
@@ -108,7 +109,13 @@ impl<I: Text, E: ParserError<I>> LayerAs<I, E> for Expr {
 
 /// Reads an expression, of at most a hundred layers, and returns its value. It backtracks if a
 /// number is too great, or a divisor is 0.
-pub fn parse_expr(alloc: Global, input: &mut &str) -> ModalResult<i64, EmptyError> {
-    let value = nested_as(Expr, 100).verify_map(|value: Option<i64>| value);
-    value.parse_next(alloc, input)
+pub fn parse_expr(alloc: Global, input: &mut &str) -> ModalResult<i64, EmptyError>
+    ensures { SpelledText (Writes Expression) input.old result input.new }
+{
+    let value = nested_as(Expr, 100).verify_map(
+        |value: Option<i64>| -> Option<i64>
+            ensures { result ≡ value }
+        { value },
+    );
+    ask_text(alloc, input, &value)
 }

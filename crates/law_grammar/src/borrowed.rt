@@ -1,3 +1,5 @@
+//! Grammars whose values borrow from the input.
+
 use std::alloc::Global;
 use std::collections::HashMap;
 use winnow_ascii::{alpha1, digit1};

@@ -1,7 +1,5 @@
-ghost use Rattle.std.specs.Prelude.{None};
-ghost use Rattle.winnow_stream.specs.Source.{units};
-ghost use Rattle.winnow_stream.specs.Text.{text_source};
-ghost use Rattle.winnow_parser.specs.Outcome.{Moves};
+//! Functions as parsers.
+
 ghost use Rattle.winnow_grammar.specs.AnyAnswer.{ReadsText, ReadsBytes};
 
 use std::alloc::Global;
@@ -14,9 +12,7 @@ use winnow_token::{one_of, take_while};
 
 // Reads two hexadecimal digits of a text.
 fn hex_primary(alloc: Global, input: &mut &str) -> ModalResult<u8, EmptyError>
-    ensures answer { ReadsText input.old result input.new }
-    ensures onward { Moves (record { location = None; tokens = text_source input.old.now })
-        (record { location = None; tokens = text_source input.new.now }) }
+    ensures { ReadsText input.old result input.new }
 {
     let digits = take_while(2, Class::HexDigit);
     let primary = digits.verify_map(|it: &str| u8::from_str_radix(it, 16).ok());
@@ -35,9 +31,7 @@ pub fn color(alloc: Global, input: &mut &str) -> ModalResult<(u8, u8, u8), Empty
 
 // Reads a digit of bytes.
 fn digit(alloc: Global, input: &mut &[u8]) -> ModalResult<u8, EmptyError>
-    ensures answer { ReadsBytes input.old result input.new }
-    ensures onward { Moves (record { location = None; tokens = units input.old.now })
-        (record { location = None; tokens = units input.new.now }) }
+    ensures { ReadsBytes input.old result input.new }
 {
     let digit = one_of(b'0'..=b'9').map(|digit: u8| digit & 15);
     ask(alloc, input, &digit)

@@ -1,3 +1,5 @@
+//! Characters, bytes and texts as parsers, and closures with a `requires`.
+
 ghost use Rattle.std.specs.Prelude.{◌≤◌};
 
 use std::alloc::Global;

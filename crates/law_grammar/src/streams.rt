@@ -1,3 +1,5 @@
+//! One grammar over each kind of stream.
+
 use std::alloc::Global;
 use winnow_ascii::alpha1;
 use winnow_bytes::Bytes;

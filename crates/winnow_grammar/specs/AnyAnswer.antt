@@ -61,12 +61,25 @@ pub AnyAnswer-of : {O T : Type 0} (means : Meaning O T) → IsParser means → (
     (a : Ahead T) (v : Outcome O T) → means partial a v → AnyAnswer partial a v
 AnyAnswer-of means p partial a v h = (p.onward partial a v h, needs-if means p partial a v h)
 
--- a function over a text answers as some parser may
+-- a function returns a result that some parser may return, and the stream only advanced
+abbrev pub AnswersOnward : {O E T : Type 0} → Bool → Ahead T → Result O (Failure E Needed)
+    → Ahead T → Type 0
+AnswersOnward partial a result b = AnyAnswer partial a (outcome result b) × Moves a b
+
+-- the place of a text that stands ahead
+abbrev pub text_place : List ℕ → Ahead ℕ
+text_place text = record { location = None; tokens = text_source text }
+
+-- the place of bytes that stand ahead
+abbrev pub bytes_place : List ℕ → Ahead ℕ
+bytes_place bytes = record { location = None; tokens = units bytes }
+
+-- a function over a text returns as some parser may
 abbrev pub ReadsText : {O E : Type 0} → Bor (List ℕ) → Result O (Failure E Needed)
     → Bor (List ℕ) → Type 0
-ReadsText old result new = AnyAnswer false (record { location = None; tokens = text_source old.now }) (outcome result (record { location = None; tokens = text_source new.now }))
+ReadsText old result new = AnswersOnward false (text_place old.now) result (text_place new.now)
 
--- a function over bytes answers as some parser may
+-- a function over bytes returns as some parser may
 abbrev pub ReadsBytes : {O E : Type 0} → Bor (List ℕ) → Result O (Failure E Needed)
     → Bor (List ℕ) → Type 0
-ReadsBytes old result new = AnyAnswer false (record { location = None; tokens = units old.now }) (outcome result (record { location = None; tokens = units new.now }))
+ReadsBytes old result new = AnswersOnward false (bytes_place old.now) result (bytes_place new.now)

@@ -1,3 +1,5 @@
+//! `ask`, which reads by a parser and promises what every parser promises.
+
 ghost use Rattle.winnow_parser.specs.Outcome.{Moves};
 ghost use Rattle.winnow_parser.specs.Answer.{ahead, outcome};
 ghost use Rattle.winnow_grammar.specs.AnyAnswer.{AnyAnswer};

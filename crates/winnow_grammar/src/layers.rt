@@ -1,3 +1,5 @@
+//! Grammars that contain themselves: `Layer`, and `nested`, which reads one to a depth.
+
 ghost use Rattle.std.specs.Prelude.{◌≡◌, ◌-◌, ◌<◌};
 ghost use Rattle.winnow_parser.specs.Outcome.{Moves};
 ghost use Rattle.winnow_parser.specs.Answer.{ahead, outcome};
@@ -15,6 +17,9 @@ pub trait Layer<I: StreamIsPartial, E> {
     /// What it reads.
     type Output;
 
+    // The grammars that may be asked. One that holds a parser has that of the parser.
+    ghost ready: { Self → Type 0 } = { λ _. Unit {0} };
+
     /// Reads one layer from the front of the stream; `inner` reads what lies inside.
     fn read<P: Parser<I, E, Output = Self::Output> + Copy + Drop>(
         &self,
@@ -22,7 +27,8 @@ pub trait Layer<I: StreamIsPartial, E> {
         input: &mut I,
         inner: P,
     ) -> ModalResult<Self::Output, E>
-        requires ready { P.ready inner }
+        requires ready { ready self.now }
+        requires inner { P.ready inner }
         requires valid { I.valid input.old }
         ensures answer { AnyAnswer (I.expects_more input.old)
             (ahead I.location I.remaining input.old)
@@ -55,7 +61,8 @@ fn read_nested<I: StreamIsPartial, X, E: ParserError<I, Inner = X>, L: Layer<I, 
     input: &mut I,
     depth: usize,
 ) -> ModalResult<L::Output, E>
-    requires { I.valid input.old }
+    requires ready { L.ready layer.now }
+    requires valid { I.valid input.old }
     ensures answer { AnyAnswer (I.expects_more input.old) (ahead I.location I.remaining input.old)
         (outcome result (ahead I.location I.remaining input.new)) }
     ensures onward { Moves (ahead I.location I.remaining input.old)
@@ -67,6 +74,7 @@ fn read_nested<I: StreamIsPartial, X, E: ParserError<I, Inner = X>, L: Layer<I, 
         return too_deep(alloc, input);
     }
     let inner = |alloc: Global, input: &mut I| -> ModalResult<L::Output, E>
+        requires ready { L.ready layer.now }
         requires valid { I.valid input.old }
         requires deep { 0 < depth }
         ensures answer { AnyAnswer (I.expects_more input.old)
@@ -105,7 +113,7 @@ impl<I: StreamIsPartial, X, E: ParserError<I, Inner = X>, L: Layer<I, E>> Parser
 
     ghost errors = { λ _. AnyError };
 
-    ghost ready = { λ _. Unit {0} };
+    ghost ready = { λ p. L.ready p.layer };
 
     ghost lawful = { λ _. IsParser-AnyAnswer };
 

@@ -1,3 +1,5 @@
+//! Named parts of a grammar: `Reads`, and `part`, which makes a parser of one.
+
 ghost use Rattle.std.specs.Prelude.{◌≡◌};
 ghost use Rattle.winnow_parser.specs.Outcome.{Moves};
 ghost use Rattle.winnow_parser.specs.Answer.{ahead, outcome};
@@ -13,8 +15,12 @@ pub trait Reads<I: StreamIsPartial, E> {
     /// What it reads.
     type Output;
 
+    // The parts that may be asked. A part that holds a parser has that of the parser.
+    ghost ready: { Self → Type 0 } = { λ _. Unit {0} };
+
     /// Reads it from the front of the stream.
     fn read(&self, alloc: Global, input: &mut I) -> ModalResult<Self::Output, E>
+        requires ready { ready self.now }
         requires valid { I.valid input.old }
         ensures answer { AnyAnswer (I.expects_more input.old)
             (ahead I.location I.remaining input.old)
@@ -45,7 +51,7 @@ impl<I: StreamIsPartial, E, R: Reads<I, E>> Parser<I, E> for NamedPart<R> {
 
     ghost errors = { λ _. AnyError };
 
-    ghost ready = { λ _. Unit {0} };
+    ghost ready = { λ p. R.ready p.reads };
 
     ghost lawful = { λ _. IsParser-AnyAnswer };
 

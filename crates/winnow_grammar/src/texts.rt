@@ -1,3 +1,5 @@
+//! The streams that a grammar is generic in: of characters, of bytes, and of either.
+
 use std::fmt::Debug;
 use std::hash::Hash;
 use winnow_bytes::Bytes;

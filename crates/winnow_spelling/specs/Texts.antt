@@ -11,7 +11,7 @@ use Rattle.winnow_stream.specs.declared.needed.Needed.{Needed}
 use Rattle.winnow_parser.specs.declared.failure.Failure.{Failure}
 use Rattle.winnow_parser.specs.Answer.{outcome}
 use Rattle.winnow_parser.specs.Outcome.{Ahead}
-use Rattle.winnow_spelling.specs.Spelling.{Spelling, tokens_of, TakesFor}
+use Rattle.winnow_spelling.specs.Spelling.{Spelling, IsWithin, tokens_of, TakesFor}
 use Rattle.winnow_spelling.specs.Spelt.{Spelt}
 
 -- the items before the rest spell the value
@@ -27,6 +27,24 @@ SpelledText spells old result new = IfOk result (TakenFor spells (chars old.now)
 abbrev pub SpelledBytes : {O E : Type 0} → Spelling O ℕ → Bor (List ℕ) → Result O (Failure E Needed)
     → Bor (List ℕ) → Type 0
 SpelledBytes spells old result new = IfOk result (TakenFor spells old.now new.now)
+
+module _ {O : Type 0} (spells others : Spelling O ℕ) (on : IsWithin spells others) where
+  -- items that spell a value by one relation spell it by each weaker one
+  TakenFor-on : (whole rest : List ℕ) (x : O) → TakenFor spells whole rest x
+      → TakenFor others whole rest x
+  TakenFor-on whole rest x (taken, (split, h)) = (taken, (split, on x taken h))
+
+  -- the characters that a function consumes spell its value by each weaker relation
+  pub SpelledText-on : {E : Type 0} (old new : Bor (List ℕ)) (result : Result O (Failure E Needed))
+      → SpelledText spells old result new → SpelledText others old result new
+  SpelledText-on old new (Ok x) h = TakenFor-on (chars old.now) (chars new.now) x h
+  SpelledText-on old new (Err e) h = tt
+
+  -- the bytes that a function consumes spell its value by each weaker relation
+  pub SpelledBytes-on : {E : Type 0} (old new : Bor (List ℕ)) (result : Result O (Failure E Needed))
+      → SpelledBytes spells old result new → SpelledBytes others old result new
+  SpelledBytes-on old new (Ok x) h = TakenFor-on old.now new.now x h
+  SpelledBytes-on old new (Err e) h = tt
 
 -- the tokens of a source of characters are the characters
 tokens-char_source : (cs : List ℕ) → tokens_of (char_source cs) ≡ cs

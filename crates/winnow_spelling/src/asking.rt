@@ -1,3 +1,5 @@
+//! `ask_as`, which reads by a parser and promises that the consumed tokens spell the value.
+
 ghost use Rattle.winnow_parser.specs.Outcome.{Moves};
 ghost use Rattle.winnow_parser.specs.Answer.{ahead, outcome};
 ghost use Rattle.winnow_spelling.specs.Spelt.{Spelt};

@@ -1,3 +1,5 @@
+//! The spelling of a parser behind a reference.
+
 use crate::Spells;
 use winnow_stream::StreamIsPartial;
 

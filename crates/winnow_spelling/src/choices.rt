@@ -1,3 +1,5 @@
+//! The spellings of `alt` of two and three, `opt`, `empty`, `cut_err` and `backtrack_err`.
+
 ghost use Rattle.winnow_spelling.specs.Spellings.{NoToken, Or, Or3, Perhaps};
 ghost use Rattle.winnow_spelling.specs.Spelled.{spelled-Or, spelled-Perhaps, spelled-Returns};
 ghost use Rattle.winnow_spelling.specs.Spelled.{spelled-CutOff, spelled-Softened};

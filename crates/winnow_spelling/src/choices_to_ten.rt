@@ -1,3 +1,5 @@
+//! The spellings of `alt` of four to ten parsers.
+
 ghost use Rattle.winnow_spelling.specs.Spellings.{Or4, Or5, Or6, Or7, Or8, Or9, Or10};
 ghost use Rattle.winnow_spelling.specs.SpelledChoices.{spelled-Or4, spelled-Or5, spelled-Or6};
 ghost use Rattle.winnow_spelling.specs.SpelledChoices.{spelled-Or7, spelled-Or8, spelled-Or9};

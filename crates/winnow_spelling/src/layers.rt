@@ -1,3 +1,5 @@
+//! Grammars that contain themselves and have a spelling: `LayerAs` and `nested_as`.
+
 ghost use Rattle.std.specs.Prelude.{◌≡◌, ◌-◌, ◌<◌};
 ghost use Rattle.winnow_parser.specs.Answer.{ahead, outcome};
 ghost use Rattle.winnow_parser.specs.Errors.{AnyError};
@@ -20,6 +22,9 @@ pub trait LayerAs<I: StreamIsPartial, E> {
     // The tokens that spell each value.
     ghost spells: { Self → Spelling Self.Output I.Token };
 
+    // The grammars that may be asked. One that holds a parser has that of the parser.
+    ghost ready: { Self → Type 0 } = { λ _. Unit {0} };
+
     /// Reads one layer from the front of the stream; `inner` reads what lies inside, which is
     /// spelled alike.
     fn read<P: Spells<I, E, Output = Self::Output> + Copy + Drop>(
@@ -28,7 +33,8 @@ pub trait LayerAs<I: StreamIsPartial, E> {
         input: &mut I,
         inner: P,
     ) -> ModalResult<Self::Output, E>
-        requires ready { P.ready inner }
+        requires ready { ready self.now }
+        requires inner { P.ready inner }
         requires inside { IsWithin (P.spells inner) (spells self.now) }
         requires valid { I.valid input.old }
         ensures answer { Spelt (spells self.now) (I.expects_more input.old)
@@ -107,7 +113,8 @@ fn read_nested_as<I: StreamIsPartial, X, E: ParserError<I, Inner = X>, L: LayerA
     input: &mut I,
     depth: usize,
 ) -> ModalResult<L::Output, E>
-    requires { I.valid input.old }
+    requires ready { L.ready layer.now }
+    requires valid { I.valid input.old }
     ensures answer { Spelt (L.spells layer.now) (I.expects_more input.old)
         (ahead I.location I.remaining input.old)
         (outcome result (ahead I.location I.remaining input.new)) }
@@ -120,6 +127,7 @@ fn read_nested_as<I: StreamIsPartial, X, E: ParserError<I, Inner = X>, L: LayerA
         return too_deep(layer, alloc, input);
     }
     let read = |alloc: Global, input: &mut I| -> ModalResult<L::Output, E>
+        requires ready { L.ready layer.now }
         requires valid { I.valid input.old }
         requires deep { 0 < depth }
         ensures answer { Spelt (L.spells layer.entry.now) (I.expects_more input.old)
@@ -160,7 +168,7 @@ impl<I: StreamIsPartial, X, E: ParserError<I, Inner = X>, L: LayerAs<I, E>> Pars
 
     ghost errors = { λ _. AnyError };
 
-    ghost ready = { λ _. Unit {0} };
+    ghost ready = { λ p. L.ready p.layer };
 
     ghost lawful = { λ p. IsParser-Spelt (L.spells p.layer) };
 

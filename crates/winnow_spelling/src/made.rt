@@ -1,3 +1,5 @@
+//! The spellings of the methods that make a value of a value, as `map` and `verify`.
+
 ghost use Rattle.std.specs.Prelude.{Some, Ok, true};
 ghost use Rattle.winnow_parser.specs.Meanings.{IsAlways, IsForgotten, TriesTo};
 ghost use Rattle.winnow_spelling.specs.Spellings.{MadeOf, Such};

@@ -1,3 +1,5 @@
+//! Named parts that have a spelling: `ReadsAs` and `part_as`.
+
 ghost use Rattle.std.specs.Prelude.{◌≡◌};
 ghost use Rattle.winnow_parser.specs.Outcome.{Moves};
 ghost use Rattle.winnow_parser.specs.Answer.{ahead, outcome};
@@ -18,8 +20,12 @@ pub trait ReadsAs<I: StreamIsPartial, E> {
     // The tokens that spell each value.
     ghost spells: { Self → Spelling Self.Output I.Token };
 
+    // The parts that may be asked. A part that holds a parser has that of the parser.
+    ghost ready: { Self → Type 0 } = { λ _. Unit {0} };
+
     /// Reads it from the front of the stream.
     fn read(&self, alloc: Global, input: &mut I) -> ModalResult<Self::Output, E>
+        requires ready { ready self.now }
         requires valid { I.valid input.old }
         ensures answer { Spelt (spells self.now) (I.expects_more input.old)
             (ahead I.location I.remaining input.old)
@@ -50,7 +56,7 @@ impl<I: StreamIsPartial, E, R: ReadsAs<I, E>> Parser<I, E> for SpelledPart<R> {
 
     ghost errors = { λ _. AnyError };
 
-    ghost ready = { λ _. Unit {0} };
+    ghost ready = { λ p. R.ready p.reads };
 
     ghost lawful = { λ p. IsParser-Spelt (R.spells p.reads) };
 

@@ -1,3 +1,5 @@
+//! The spellings of `repeat`, `separated`, `separated_foldl1` and folds.
+
 ghost use Rattle.winnow_count.specs.CountRange.{least_count, greatest_count};
 ghost use Rattle.winnow_combinator.specs.Appended.{needs_some, appends_to_first};
 ghost use Rattle.winnow_spelling.specs.Spellings.{Counted, Chain, ListOf};

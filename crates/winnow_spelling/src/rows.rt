@@ -1,3 +1,5 @@
+//! The spellings of tuples to five, of `preceded` and of `terminated`.
+
 ghost use Rattle.winnow_spelling.specs.Spellings.{Then, After, Before};
 ghost use Rattle.winnow_spelling.specs.Spelled.{spelled-Then, spelled-After, spelled-Before};
 ghost use Rattle.winnow_spelling.specs.SpellingRows.{Then3, Then4, Then5};

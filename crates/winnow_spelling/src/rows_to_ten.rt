@@ -1,3 +1,5 @@
+//! The spellings of tuples of six to ten parsers.
+
 ghost use Rattle.winnow_spelling.specs.SpellingRows.{Then6, Then7, Then8, Then9, Then10};
 ghost use Rattle.winnow_spelling.specs.SpelledRows.{spelled-Then6, spelled-Then7, spelled-Then8};
 ghost use Rattle.winnow_spelling.specs.SpelledRows.{spelled-Then9, spelled-Then10};

@@ -1,3 +1,5 @@
+//! The spellings of `literal`, `take`, `take_until`, `take()` and `with_taken()`.
+
 ghost use Rattle.winnow_count.specs.CountRange.{least_count, greatest_count};
 ghost use Rattle.winnow_parser.specs.Literal.{Literal};
 ghost use Rattle.winnow_parser.specs.Meanings.{IsAlways};

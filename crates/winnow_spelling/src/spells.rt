@@ -1,3 +1,5 @@
+//! `Spells`: a parser and the relation between its values and the tokens consumed for them.
+
 ghost use Rattle.std.specs.Prelude.{◌≡◌};
 ghost use Rattle.winnow_spelling.specs.Spelling.{Spelling, IsSpelled};
 

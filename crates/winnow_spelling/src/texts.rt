@@ -1,3 +1,5 @@
+//! `ask_text` and `ask_bytes`: `ask_as` over a text and over bytes.
+
 ghost use Rattle.winnow_spelling.specs.Texts.{SpelledText, SpelledBytes};
 
 use crate::{Spells, ask_as};

@@ -1,3 +1,5 @@
+//! The spellings of `any`, `one_of`, `none_of`, `take_while` and `take_till`.
+
 ghost use Rattle.std.specs.Prelude.{true, not};
 ghost use Rattle.winnow_count.specs.CountRange.{least_count, greatest_count};
 ghost use Rattle.winnow_spelling.specs.Spellings.{OneToken, Run};
