@@ -1,3 +1,5 @@
+//! The parsers of a field, plain or quoted.
+
 ghost use Rattle.std.specs.Prelude.{◌≡◌, None};
 ghost use Rattle.winnow.specs.Answer.{ahead, outcome};
 ghost use Rattle.winnow.specs.Errors.{AnyError};

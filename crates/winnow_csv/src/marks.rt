@@ -1,3 +1,5 @@
+//! Byte order marks before the first record.
+
 ghost use Rattle.std.specs.Prelude.{◌≡◌, true, false, None, Some, IfSome, IfOk, IfErr, ◌↔◌};
 ghost use Rattle.winnow_csv.specs.Marks.{mark_of, ends_in_mark, HasText, IsRefused, BeginsText};
 ghost use Rattle.winnow_csv.specs.Marks.{RefusesText, mark_text, is_cut};

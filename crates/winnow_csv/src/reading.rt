@@ -1,3 +1,5 @@
+//! The law of records that are read from pieces.
+
 ghost use Rattle.std.specs.Prelude.{ℕ, List};
 ghost use Rattle.winnow.specs.Place.{IsByteSlice, SlicesStay-bytes};
 ghost use Rattle.winnow.specs.State.{ReaderState};

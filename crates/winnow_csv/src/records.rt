@@ -1,3 +1,5 @@
+//! The parser of a record, and the record of a reader.
+
 ghost use Rattle.std.specs.Prelude.{◌≡◌};
 ghost use Rattle.winnow.specs.Outcome.{Moves};
 ghost use Rattle.winnow.specs.Answer.{ahead};

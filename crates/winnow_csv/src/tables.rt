@@ -1,3 +1,5 @@
+//! Reading all records of a text.
+
 ghost use Rattle.std.specs.Prelude.{◌≡◌, [], false, IfOk, IfErr};
 ghost use Rattle.winnow_csv.specs.Answers.{IsAnswer, GivesEach};
 ghost use Rattle.winnow_csv.specs.Tables.{rows_in, AreRecords, IsDamage};

@@ -1,3 +1,5 @@
+//! Records with another number of fields than the first.
+
 ghost use Rattle.winnow_csv.specs.Widths.{IsFirstUneven};
 
 /// Returns the index of the first record that has another number of fields than the first record,

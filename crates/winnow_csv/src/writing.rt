@@ -1,3 +1,5 @@
+//! Writing a record.
+
 ghost use Rattle.std.specs.Prelude.{◌≡◌, ◌∷◌, [], ◌++◌, ◌≤◌, length, OnOk, OnErr};
 ghost use Rattle.std.specs.List.{list_any};
 ghost use Rattle.winnow_csv.specs.Fields.{is_special, doubled};

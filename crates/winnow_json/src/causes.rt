@@ -1,3 +1,5 @@
+//! Why a text is malformed: a name for the first byte that cannot continue it.
+
 ghost use Rattle.std.specs.Prelude.{◌≡◌, ◌<◌, length, Some};
 ghost use Rattle.winnow_format.specs.Bytes.{StartsWith};
 ghost use Rattle.winnow_json.specs.Numbers.{Tells};

@@ -1,3 +1,5 @@
+//! The plain characters of a string, as far as they are UTF-8.
+
 ghost use Rattle.std.specs.Prelude.{◌≡◌, ◌≤◌, ◌<◌, length, take, drop, IfOk};
 ghost use Rattle.std.specs.String.{string_bytes};
 ghost use Rattle.winnow_format.specs.Bytes.{Each, Starts, StartsWith};

@@ -1,3 +1,5 @@
+//! Reading a whole text as one value.
+
 ghost use Rattle.std.specs.Prelude.{IfOk, IfErr};
 ghost use Rattle.winnow_json.specs.Documents.{IsDocument, IsOnlyDocument, IsDamage};
 

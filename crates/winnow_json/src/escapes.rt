@@ -1,3 +1,5 @@
+//! Escapes of strings, with pairs of surrogates.
+
 ghost use Rattle.std.specs.Prelude.{◌≡◌, ◌∷◌, get_or, MatchOption};
 ghost use Rattle.std.specs.Char.{digit_value};
 ghost use Rattle.winnow_json.specs.Numbers.{Tells};

@@ -1,3 +1,5 @@
+//! The laws of events: those of the value of the text, and where a text stops.
+
 ghost use Rattle.std.specs.Prelude.{◌≡◌, ℕ, false, List, ◌++◌, None, Ok, Err};
 ghost use Rattle.winnow.specs.Reading.{Lacks, MayFollow};
 ghost use Rattle.winnow_json.specs.Documents.{IsDocument, IsDamage};

@@ -1,3 +1,5 @@
+//! Blanks, and the next byte after them.
+
 ghost use Rattle.std.specs.Prelude.{◌≡◌, ◌≤◌, length, drop};
 ghost use Rattle.winnow_json.specs.Values.{is_blank, after_blanks, WordAhead};
 ghost use Rattle.winnow_json.specs.Founds.{IsFound, IsNext, IsByte};

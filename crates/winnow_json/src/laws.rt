@@ -1,3 +1,5 @@
+//! The laws of values: the round trip, and places.
+
 ghost use Rattle.std.specs.Prelude.{◌≡◌, ◌≢◌, ℕ, suc, Bool, List};
 ghost use Rattle.winnow_json.specs.Values.{ValueAhead};
 ghost use Rattle.winnow_json.specs.Damage.{BreaksOff};

@@ -1,3 +1,5 @@
+//! The parser of a value, nested to a depth.
+
 ghost use Rattle.std.specs.Prelude.{◌≤◌, length, drop, IfOk};
 ghost use Rattle.winnow_format.specs.Bytes.{StartsWith};
 ghost use Rattle.winnow_json.specs.Values.{Nested, Elements, Bracketed, MemberAhead};

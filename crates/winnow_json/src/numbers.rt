@@ -1,3 +1,5 @@
+//! `Number`: the bytes of a number, and the integer that they write.
+
 ghost use Rattle.std.specs.Prelude.{◌≡◌, IfOk};
 ghost use Rattle.std.specs.Int.{w64};
 ghost use Rattle.winnow.specs.Outcome.{Moves};

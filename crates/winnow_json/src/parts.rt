@@ -1,3 +1,5 @@
+//! The parts of a number, byte by byte.
+
 ghost use Rattle.std.specs.Prelude.{◌≡◌};
 ghost use Rattle.winnow_json.specs.Numbers.{IsNumber, BeginsNumber, Tells};
 ghost use Rattle.winnow_json.specs.Parts.{whole_part, letter_part, tail_part, power_part};

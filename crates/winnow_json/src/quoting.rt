@@ -1,3 +1,5 @@
+//! Writing a string.
+
 ghost use Rattle.std.specs.Prelude.{◌≡◌, ◌++◌, ◌<◌, OnOk, OnErr};
 ghost use Rattle.std.specs.Char.{digit_char};
 ghost use Rattle.winnow_json.specs.Quoting.{letter_of, written_byte, written_string, Extends};

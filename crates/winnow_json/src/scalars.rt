@@ -1,3 +1,5 @@
+//! The parsers of values that hold no other value.
+
 ghost use Rattle.std.specs.Prelude.{◌≡◌, ◌≤◌, ℕ, length, take, drop, IfOk};
 ghost use Rattle.winnow_format.specs.Bytes.{Each, Starts, StartsWith};
 ghost use Rattle.winnow_json.specs.Numbers.{is_number_byte, BeginsNumber};

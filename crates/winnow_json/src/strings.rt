@@ -1,3 +1,5 @@
+//! The parser of a string.
+
 ghost use Rattle.std.specs.Prelude.{◌≡◌, ◌<◌, length, IfOk};
 ghost use Rattle.std.specs.String.{string_bytes};
 ghost use Rattle.winnow.specs.Outcome.{Moves};

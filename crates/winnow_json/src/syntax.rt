@@ -1,3 +1,5 @@
+//! The state of a reader of events: open brackets, and the tokens allowed next.
+
 ghost use Rattle.std.specs.Prelude.{◌≡◌, ◌+◌, ◌<◌, ◌≤◌, [], vec_len, vec_capacity, OnOk, IfErr};
 ghost use Rattle.winnow_json.specs.Turns.{TextState, state_of, at_begin, after_value, inner_of};
 ghost use Rattle.winnow_json.specs.Turns.{is_deep, turn_at, after_turn, answer_of, bar_from};

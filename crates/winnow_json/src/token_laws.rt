@@ -1,3 +1,5 @@
+//! The law of tokens that are read from pieces.
+
 ghost use Rattle.std.specs.Prelude.{◌≡◌, ℕ, true, List, ◌++◌};
 ghost use Rattle.winnow.specs.State.{ReaderState};
 ghost use Rattle.winnow.specs.Reading.{HasRead};

@@ -1,3 +1,5 @@
+//! The parser of a token, and the record of a reader.
+
 ghost use Rattle.std.specs.Prelude.{◌≡◌, ◌<◌, true, [], length, IfOk, MatchOption};
 ghost use Rattle.winnow_format.specs.Bytes.{StartsWith, Starts};
 ghost use Rattle.winnow_json.specs.Numbers.{Tells, is_number_byte};

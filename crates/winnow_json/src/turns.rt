@@ -1,3 +1,5 @@
+//! The tokens allowed next.
+
 ghost use Rattle.std.specs.Prelude.{◌≡◌};
 ghost use Rattle.winnow_json.specs.Turns.{within, value_turn, key_turn, next_turn, turn_of};
 ghost use Rattle.winnow_json.specs.Turns.{takes_scalar, scalar_bar, begins_plain};

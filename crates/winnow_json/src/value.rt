@@ -1,3 +1,5 @@
+//! `Value`: a text as a value.
+
 use crate::Number;
 
 /// A value.

@@ -1,3 +1,5 @@
+//! The parser of a value, with its errors.
+
 ghost use Rattle.std.specs.Prelude.{IfOk};
 ghost use Rattle.winnow.specs.Outcome.{Moves};
 ghost use Rattle.winnow.specs.Answer.{ahead};

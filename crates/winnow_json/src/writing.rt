@@ -1,3 +1,5 @@
+//! Writing a value.
+
 ghost use Rattle.std.specs.Prelude.{◌≡◌, ◌++◌, OnOk, OnErr, IfErr};
 ghost use Rattle.winnow_json.specs.Documents.{IsDocument};
 ghost use Rattle.winnow_json.specs.Values.{ValueAhead};

@@ -1,3 +1,5 @@
+//! The laws of replies: how they are spelled, and why one is malformed.
+
 ghost use Rattle.std.specs.Prelude.{◌≡◌, ◌≢◌, ℕ, true, List, ◌++◌, Result, Err};
 ghost use Rattle.winnow_stream.specs.Source.{Source};
 ghost use Rattle.winnow_resp.specs.Replies.{Spells};

@@ -1,3 +1,5 @@
+//! The parsers of the lines of a reply: texts, integers and lengths.
+
 ghost use Rattle.std.specs.Prelude.{◌≡◌, ◌<◌, ◌^◌, Some};
 ghost use Rattle.winnow.specs.Outcome.{Moves};
 ghost use Rattle.winnow.specs.Answer.{ahead, outcome};

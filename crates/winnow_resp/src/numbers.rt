@@ -1,3 +1,5 @@
+//! The numbers of digits, with their limits.
+
 ghost use Rattle.std.specs.Prelude.{◌≡◌, ◌<◌, ◌^◌, suc, negsuc, FitsSigned, decimal};
 ghost use Rattle.std.specs.Int.{w64};
 ghost use Rattle.winnow_count.specs.Reading.{IsSomeExactly};

@@ -1,3 +1,5 @@
+//! `Reply`: a reply as a value.
+
 /// A reply of a server.
 #[derive(Debug, Drop)]
 pub enum Reply {
