@@ -43,7 +43,7 @@ pub record HasCounted {R : Type 0} (f : ReaderState R) (progress : Progress) (in
   pub width : progress.width ≡ width_of rows
   pub even : HaveWidth (first_width rows) rows
 
--- after these records of the input no record stands ahead, and what does is damaged at this
+-- after these records of the input no record stands at the front, and what does is damaged at this
 -- position, by this fault
 pub record BreaksAt (input : List ℕ) (rows : List RowVec) (position : Position) (fault : Fault) : Type 0 where
   pub begun : List ℕ

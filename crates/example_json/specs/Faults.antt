@@ -9,7 +9,8 @@ use Rattle.example_json.specs.declared.positions.Line.{Line}
 use Rattle.example_json.specs.declared.failure.Failure.{Failure}
 use Rattle.example_json.specs.declared.failure.Failure.TheVariants.{Damaged, Unexpected, TooDeep, EndsEarly, Stopped}
 
--- the reader has no next event, for this reason: no token stands ahead of it, or one that may not
+-- the reader has no next event, for this reason: no token stands at the front of it, or one that
+-- may not
 abbrev pub StopsAt : EventState → EventError → Type 0
 StopsAt r e = IsNoNext r.text r.tokens e ⊎ ((new : EventState) × IsMisplaced r e new)
 

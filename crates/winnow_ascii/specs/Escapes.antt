@@ -14,7 +14,7 @@ abbrev pub IsAbsent : {O T : Type 0} → Meaning O T → Bool → Ahead T → Ty
 IsAbsent {T = T} inner partial a = (c : Ahead T) × inner partial a (Fails (Backtracks c))
 
 -- what an escape after the control character stands for; or none, where the control character does
--- not stand ahead, and then nothing is taken
+-- not stand at the front, and then nothing is taken
 abbrev pub Escape : {C P T : Type 0} → Meaning C T → Meaning P T → Meaning (Option P) T
 Escape control escapable partial a (Gives (Some y) b) = Preceded control escapable partial a (Gives y b)
 Escape control escapable partial a (Gives None b) = Optional control partial a (Gives None b)

@@ -33,8 +33,8 @@ pub struct EscapedText<P, C, Q, A> {
 ///
 /// `normal` reads what stands for itself; where it backtracks and the control character stands
 /// ahead, `escapable` reads the escape after it, and gives what the escape stands for. The text
-/// ends where neither stands ahead, where `normal` takes nothing for a value, and at the end of the
-/// input. Where more may follow that, more is needed.
+/// ends where neither stands at the front, where `normal` takes nothing for a value, and at the end
+/// of the input. Where more may follow that, more is needed.
 ///
 /// After the control character, the failures of `escapable` are those of the whole.
 ///
@@ -79,7 +79,7 @@ where
 }
 
 // Reads an escape after the control character. Returns `None`, and resets the stream, where the
-// control character does not stand ahead.
+// control character does not stand at the front.
 #[inline(always)]
 fn escape<I: StreamIsPartial, E: ParserError<I>, C: Parser<I, E>, Q: Parser<I, E>>(
     control: &C,
@@ -120,7 +120,7 @@ where
     }
 }
 
-// Reads the next fragment. Returns `None`, and resets the stream, where none stands ahead.
+// Reads the next fragment. Returns `None`, and resets the stream, where none stands at the front.
 #[inline(always)]
 fn next_fragment<
     I: StreamIsPartial,

@@ -6,13 +6,13 @@ use Rattle.winnow_parser.specs.Meanings.{Either}
 use Rattle.winnow_combinator.specs.Choices.{Choice3, Choice4, Choice5, Choice6}
 use Rattle.winnow_combinator.specs.Choices.{Choice7, Choice8, Choice9}
 
--- of three
+-- the errors of an `alt` of three
 abbrev pub ChoiceErrors3 : {O E S T : Type 0} → (S → Ahead T) → Type 0 → (E → E → E → Type 0)
     → Meaning O T → Errors E S T → Meaning O T → Errors E S T → Errors E S T → Errors E S T
 ChoiceErrors3 stands r joins ma a mb b c = EitherErrors stands joins (Either r ma mb)
     (EitherErrors stands joins ma a b) c
 
--- of four
+-- the errors of an `alt` of four
 abbrev pub ChoiceErrors4 : {O E S T : Type 0} → (S → Ahead T) → Type 0 → (E → E → E → Type 0)
     → Meaning O T → Errors E S T → Meaning O T → Errors E S T → Meaning O T → Errors E S T
     → Errors E S T → Errors E S T

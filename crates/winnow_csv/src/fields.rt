@@ -25,8 +25,8 @@ fn chunk() -> Between<OneOf<u8>, OtherTokens<u8>, CutOff<OneOf<u8>>>
 /// The parser of a quoted field: one or more texts between quotes, with nothing between them. It
 /// gives what the field means, where a doubled quote is one quote.
 ///
-/// It backtracks where no quote stands ahead, and cuts at the end of an input that ends before the
-/// closing quote.
+/// It backtracks where no quote stands at the front, and cuts at the end of an input that ends
+/// before the closing quote.
 #[derive(Clone, Copy, Debug)]
 pub struct Quoted;
 

@@ -41,8 +41,8 @@ impl Record for Row {
 /// contract is the law.
 ///
 /// However the input was cut and no matter what follows, the values that were read are the records
-/// that it begins with, one after the other. Where the reader fails, no record stands ahead, and it
-/// says where what stands there is damaged. Each value takes something.
+/// that it begins with, one after the other. Where the reader fails, no record stands at the front,
+/// and it says where what stands there is damaged. Each value takes something.
 pub fn rows_in_pieces_law()
     ensures records { (f : ReaderState Row) (input : List ℕ) (rows : List RowVec)
         → HasRead ⟦<Row as Record>⟧.means f input rows → BeginsWith f input rows }

@@ -1,4 +1,4 @@
--- The bytes that stand ahead.
+-- The bytes that stand at the front.
 use Rattle.std.specs.Prelude.{◌≡◌, ◌≢◌, ℕ, Bool, true, List, [], ◌∷◌, map, ⊤}
 use Rattle.winnow_stream.specs.Source.{Source}
 

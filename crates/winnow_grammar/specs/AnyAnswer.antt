@@ -66,11 +66,11 @@ abbrev pub AnswersOnward : {O E T : Type 0} → Bool → Ahead T → Result O (F
     → Ahead T → Type 0
 AnswersOnward partial a result b = AnyAnswer partial a (outcome result b) × Moves a b
 
--- the place of a text that stands ahead
+-- the place of a text that stands at the front
 abbrev pub text_place : List ℕ → Ahead ℕ
 text_place text = record { location = None; tokens = text_source text }
 
--- the place of bytes that stand ahead
+-- the place of bytes that stand at the front
 abbrev pub bytes_place : List ℕ → Ahead ℕ
 bytes_place bytes = record { location = None; tokens = units bytes }
 

@@ -56,11 +56,11 @@ module _ (partial : Bool) where
       (BeginsElements (MemberAhead (ValueAhead partial depth))
       (BeginsMember (λ b. BeginsHere depth (after_blanks b))))
 
-  -- the same of a value after blanks
+  -- a value after blanks is begun
   abbrev pub BeginsValue : ℕ → List ℕ → Type 0
   BeginsValue depth bytes = BeginsHere depth (after_blanks bytes)
 
-  -- the same of the elements of an array, and of the members of an object
+  -- the elements of an array, or the members of an object, are begun
   abbrev pub BeginsElementsIn : ℕ → List ℕ → Type 0
   BeginsElementsIn depth = BeginsElements (ValueAhead partial depth) (BeginsValue depth)
 
@@ -71,7 +71,7 @@ module _ (partial : Bool) where
   BeginsMembersIn depth =
       BeginsElements (MemberAhead (ValueAhead partial depth)) (BeginsMemberIn depth)
 
-  -- the same of an array and of an object
+  -- an array or an object is begun
   abbrev pub BeginsArray : ℕ → List ℕ → Type 0
   BeginsArray zero = BeginsBrackets BeginsNothing 91
   BeginsArray (suc depth) = BeginsBrackets (BeginsElementsIn depth) 91

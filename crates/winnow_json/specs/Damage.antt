@@ -91,11 +91,11 @@ module _ (partial : Bool) where
       (ElementsBreakOff (MemberAhead (ValueAhead partial depth))
       (MemberBreaksOff partial (λ b. HereBreaksOff depth (after_blanks b))) 125)
 
-  -- the same of a value after blanks
+  -- a value after blanks breaks off
   abbrev pub BreaksOff : ℕ → List ℕ → List ℕ → Type 0
   BreaksOff depth bytes rest = HereBreaksOff depth (after_blanks bytes) rest
 
-  -- the same of the elements of an array, and of the members of an object
+  -- the elements of an array, or the members of an object, break off
   abbrev pub ElementsIn : ℕ → List ℕ → List ℕ → Type 0
   ElementsIn depth = ElementsBreakOff (ValueAhead partial depth) (BreaksOff depth) 93
 
@@ -105,7 +105,7 @@ module _ (partial : Bool) where
   abbrev pub MembersIn : ℕ → List ℕ → List ℕ → Type 0
   MembersIn depth = ElementsBreakOff (MemberAhead (ValueAhead partial depth)) (MemberIn depth) 125
 
-  -- the same of an array and of an object
+  -- an array or an object breaks off
   abbrev pub ArrayBreaksOff : ℕ → List ℕ → List ℕ → Type 0
   ArrayBreaksOff zero = BracketsBreakOff IsTooDeep 93 91
   ArrayBreaksOff (suc depth) = BracketsBreakOff (ElementsIn depth) 93 91

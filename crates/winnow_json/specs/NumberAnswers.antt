@@ -39,8 +39,8 @@ IsNumberGiven (Err (Cut e)) rest text after = ⊥
 IsNumberGiven (Err (Incomplete n)) rest text after = ⊥
 IsNumberGiven (Err (Refused e)) rest text after = ⊤
 
--- each number that stands ahead is given, unless memory was refused: none is missed, and no bytes
--- are two numbers
+-- each number that stands at the front is given, unless memory was refused: none is missed, and no
+-- bytes are two numbers
 abbrev pub GivesEachNumber : {E : Type 0} → Bool → List ℕ → Result Number (Failure E Needed)
     → List ℕ → Type 0
 GivesEachNumber partial bytes result rest = (text after : List ℕ) → NumberAhead partial bytes text after

@@ -12,7 +12,7 @@ use Rattle.winnow_json.specs.declared.strings.Reading.TheVariants.{Nothing, Miss
 use Rattle.winnow_json.specs.declared.strings.Reading.TheVariants as reading
 
 -- the step takes n bytes, and appends the characters that they spell to a value; or the
--- closing quote stands ahead; or the bytes may be a character; or neither stands there
+-- closing quote stands at the front; or the bytes may be a character; or neither stands there
 abbrev pub IsStep : List ℕ → List ℕ → Step → List ℕ → Type 0
 IsStep bytes old (Taken n) new = (0 < n) × (n ≤ length bytes)
     × ((cs : List ℕ) × (SpellsChars cs (take n bytes) × (new ≡ old ++ encode_utf8_all cs)))

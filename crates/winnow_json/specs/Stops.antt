@@ -17,8 +17,8 @@ abbrev pub NoneMayCome : TextState → List ℕ → Type 0
 NoneMayCome s bytes = ((t : Token) (after : List ℕ) → TokenAhead false t bytes after → ¬ (IsAllowed (turn_at s t)))
     × (bar_at s true ≡ None → ¬ (StartsWith 34 (after_blanks bytes)))
 
--- the next token does not stand ahead: a string may come and is damaged at the rest; or no token
--- that may come stands there, and the rest is where one would begin, after blanks
+-- the next token does not stand at the front: a string may come and is damaged at the rest; or no
+-- token that may come stands there, and the rest is where one would begin, after blanks
 abbrev pub StopsHere : TextState → List ℕ → List ℕ → Type 0
 StopsHere s bytes rest = ((bar_at s true ≡ None) × IsDamagedAt false (after_blanks bytes) rest)
     ⊎ ((rest ≡ after_blanks bytes) × NoneMayCome s bytes)

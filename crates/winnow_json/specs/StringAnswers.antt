@@ -56,8 +56,8 @@ IsStringGiven (Err (Cut e)) rest cs after = ⊥
 IsStringGiven (Err (Incomplete n)) rest cs after = ⊥
 IsStringGiven (Err (Refused e)) rest cs after = ⊤
 
--- each string that stands ahead is given, unless memory was refused: none is missed, and no bytes
--- are two strings
+-- each string that stands at the front is given, unless memory was refused: none is missed, and no
+-- bytes are two strings
 abbrev pub GivesEachString : {E : Type 0} → List ℕ → Result (String Global) (Failure E Needed)
     → List ℕ → Type 0
 GivesEachString bytes result rest = (cs after : List ℕ) → StringAhead bytes cs after

@@ -13,15 +13,16 @@ use Rattle.winnow_json.specs.declared.found.Found.TheVariants as found
 use Rattle.winnow_json.specs.declared.values.Reading.{Reading}
 use Rattle.winnow_json.specs.declared.values.Reading.TheVariants as reading
 
--- no value within the limit stands ahead
+-- no value within the limit stands at the front
 abbrev pub NoValueAhead : ℕ → Bool → List ℕ → Type 0
 NoValueAhead depth partial bytes =
     (value : Value) (rest : List ℕ) → ¬ (ValueAhead partial depth value bytes rest)
 
--- the answer and what remains: a value that stands ahead; or a backtrack, which takes nothing,
--- where only blanks stand ahead and nothing may follow; or a cut, where no value stands ahead, no
--- matter what follows, and what remains is where a value breaks off; or more input is needed, where
--- more may follow, and no value stands ahead yet, but one is begun; or memory was refused
+-- the answer and what remains: a value that stands at the front; or a backtrack, which takes
+-- nothing, where only blanks stand at the front and nothing may follow; or a cut, where no value
+-- stands at the front, no matter what follows, and what remains is where a value breaks off; or
+-- more input is needed, where more may follow, and no value stands at the front yet, but one is
+-- begun; or memory was refused
 abbrev pub IsValueAnswer : {E : Type 0} → ℕ → Bool → List ℕ → Result Value (Failure E Needed)
     → List ℕ → Type 0
 IsValueAnswer depth partial bytes (Ok value) rest = ValueAhead partial depth value bytes rest
@@ -43,7 +44,7 @@ IsValueGiven depth (Err (Cut e)) rest value after = ⊥
 IsValueGiven depth (Err (Incomplete n)) rest value after = ⊥
 IsValueGiven depth (Err (Refused e)) rest value after = ⊤
 
--- each value within the limit that stands ahead is given, unless memory was refused: none is
+-- each value within the limit that stands at the front is given, unless memory was refused: none is
 -- missed, and no bytes are two values
 abbrev pub GivesEachValue : {E : Type 0} → ℕ → Bool → List ℕ → Result Value (Failure E Needed)
     → List ℕ → Type 0

@@ -92,11 +92,11 @@ Nested partial zero value bytes rest = ⊥
 Nested partial (suc depth) value bytes rest =
     Layer partial (Nested partial depth) (out-Value value) (after_blanks bytes) rest
 
--- the same of a value within at most `depth` arrays and objects
+-- a value within at most `depth` arrays and objects stands at the front, after blanks
 abbrev pub ValueAhead : Bool → ℕ → Value → List ℕ → List ℕ → Type 0
 ValueAhead partial depth value bytes rest = Nested partial (suc depth) value bytes rest
 
--- the same of a value before which there are no blanks
+-- a value within at most `depth` arrays and objects stands at the front, with no blanks before it
 abbrev pub ValueHere : Bool → ℕ → Value → List ℕ → List ℕ → Type 0
 ValueHere partial depth value bytes rest =
     Layer partial (Nested partial depth) (out-Value value) bytes rest

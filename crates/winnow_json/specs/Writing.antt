@@ -40,8 +40,8 @@ layer_written (open_value.Object members) =
 abbrev pub written : Value → List ℕ
 written = fold-Value (List ℕ) layer_written
 
--- the value stands ahead where it was written, no matter what follows that does not go on with a
--- number
+-- the value stands at the front where it was written, no matter what follows that does not go on
+-- with a number
 abbrev pub IsReadBack : ℕ → Value → Type 0
 IsReadBack depth value = (partial : Bool) (rest : List ℕ) → EndsRun is_number_byte partial rest
     → ValueAhead partial depth value (written value ++ rest) rest

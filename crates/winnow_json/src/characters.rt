@@ -12,7 +12,7 @@ ghost use Rattle.winnow_json.specs.Steps.{IsStep};
 
 use std::alloc::AllocError;
 
-// What stands ahead in a string.
+// What stands at the front in a string.
 #[derive(Clone, Copy, Debug, Drop, PartialEq, Eq)]
 pub(crate) enum Step {
     // So many bytes that spell characters

@@ -6,7 +6,7 @@ ghost use Rattle.winnow_json.specs.Founds.{IsFound, IsNext, IsByte};
 ghost use Rattle.winnow_json.specs.Damage.{ByteIsMissing, IsPlaced};
 ghost use Rattle.winnow_json.specs.Begun.{BeginsWord, IsOpen};
 
-// What stands ahead in some bytes.
+// What stands at the front in some bytes.
 #[derive(Debug, Drop)]
 pub(crate) enum Found<T> {
     // This value, and the number of its bytes
@@ -50,7 +50,7 @@ pub(crate) fn blank_count(bytes: &[u8]) -> usize
     bytes.len()
 }
 
-// Returns what stands ahead where a word must.
+// Returns what stands at the front where a word must.
 pub(crate) fn word_at(bytes: &[u8], partial: bool, word: &[u8]) -> Found<()>
     ensures found { IsFound (WordAhead word.now) partial bytes.now result }
     ensures place { IsPlaced (λ whole rest. rest ≡ whole) bytes.now result }

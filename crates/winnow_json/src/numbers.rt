@@ -96,7 +96,7 @@ where
 ///
 /// The number ends where no digit, sign, point or `e` follows. Where what stands up to there is no
 /// number, as in `01` or `1-2`, the parser backtracks and does not move. One byte more is needed
-/// where more may follow and each byte that stands ahead may be one of a number.
+/// where more may follow and each byte that stands at the front may be one of a number.
 pub fn read_number<I: StreamIsPartial + Stream<Token = u8>, E: ParserError<I>>(
     alloc: Global,
     input: &mut I,

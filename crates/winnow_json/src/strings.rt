@@ -100,10 +100,11 @@ pub(crate) fn may_be_char(bytes: &[u8]) -> bool
 
 /// Reads a string from the front of a stream of bytes, and moves the stream past its closing quote.
 ///
-/// The parser backtracks where no quote stands ahead, and does not move. After the quote it cuts at
-/// the place that is wrong: at the backslash of an escape that is none, at a control character, at
-/// the first byte that is no UTF-8, and at the end of an input that ends before the closing quote.
-/// One byte more is needed where more may follow and can make a string of what stands ahead.
+/// The parser backtracks where no quote stands at the front, and does not move. After the quote it
+/// cuts at the place that is wrong: at the backslash of an escape that is none, at a control
+/// character, at the first byte that is no UTF-8, and at the end of an input that ends before the
+/// closing quote. One byte more is needed where more may follow and can make a string of what
+/// stands at the front.
 pub fn read_string<I: StreamIsPartial + Stream<Token = u8>, E: ParserError<I>>(
     alloc: Global,
     input: &mut I,

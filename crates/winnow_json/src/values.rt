@@ -55,15 +55,15 @@ fn read_bytes(
 /// stream past its end. Each value in it stands within at most `depth` arrays and objects: at 0 an
 /// array or an object is read only if it is empty.
 ///
-/// The parser backtracks where blanks alone stand ahead and nothing may follow, and does not move.
-/// Elsewhere it cuts where no value stands ahead, no matter what follows, at the place where the
-/// value breaks off: where no value begins, or one that stands too deep; at the start of a word or
-/// a number that is none; where a string is damaged, as in [`read_string`](crate::read_string); and
-/// where a comma, a colon or a closing bracket is missing. A number ends as in
-/// [`read_number`](crate::read_number).
+/// The parser backtracks where blanks alone stand at the front and nothing may follow, and does not
+/// move. Elsewhere it cuts where no value stands at the front, no matter what follows, at the place
+/// where the value breaks off: where no value begins, or one that stands too deep; at the start of
+/// a word or a number that is none; where a string is damaged, as in
+/// [`read_string`](crate::read_string); and where a comma, a colon or a closing bracket is missing.
+/// A number ends as in [`read_number`](crate::read_number).
 ///
-/// One byte more is needed where no value stands ahead yet and one is begun, which more bytes can
-/// make whole: also after a number, which may go on.
+/// One byte more is needed where no value stands at the front yet and one is begun, which more
+/// bytes can make whole: also after a number, which may go on.
 ///
 /// Calls are nested as deep as the arrays and objects that are read, so `depth` limits the stack.
 pub fn read_value<I: StreamIsPartial + Stream<Token = u8>, E: ParserError<I>>(

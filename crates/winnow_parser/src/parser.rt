@@ -33,7 +33,7 @@ pub trait Parser<I: StreamIsPartial, E>: Sized {
     /// What it reads.
     type Output;
 
-    // What it may answer, by what stands ahead.
+    // What it may answer, by what stands at the front.
     ghost means: { Self → Meaning Self.Output I.Token };
 
     // Which errors its failures carry.

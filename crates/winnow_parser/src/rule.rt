@@ -15,7 +15,7 @@ pub trait Rule<I: StreamIsPartial> {
     /// What it reads.
     type Output;
 
-    // What it may answer, by what stands ahead.
+    // What it may answer, by what stands at the front.
     ghost meaning: { Self → Meaning Self.Output I.Token };
 
     /// Does nothing: a rule is there for its meaning alone.

@@ -28,7 +28,7 @@ pub trait Record {
     /// What its failures carry.
     type Error;
 
-    // What it may answer of what stands ahead.
+    // What it may answer of what stands at the front.
     ghost means: { Self → Meaning Self.Output ℕ };
 
     // The records that may be asked.

@@ -29,7 +29,7 @@ pub trait TextRecord {
     /// What its failures carry.
     type Error;
 
-    // What it may answer of the characters that stand ahead.
+    // What it may answer of the characters that stand at the front.
     ghost means: { Self → Meaning Self.Output ℕ };
 
     // The records that may be asked.

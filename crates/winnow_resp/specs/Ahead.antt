@@ -1,4 +1,4 @@
--- Bytes that stand ahead in a source.
+-- Bytes that stand at the front in a source.
 use Rattle.std.specs.Prelude.{◌≡◌, ℕ, List, ◌++◌}
 use Rattle.winnow_stream.specs.Source.{Source}
 use Rattle.winnow_format.specs.Bytes.{bytes_of}

@@ -21,7 +21,7 @@ StandsAhead longest depth whole reply rest =
 abbrev pub HasNoReply : ℕ → ℕ → Source ℕ → Type 0
 HasNoReply longest depth whole = (reply : Reply) (rest : Source ℕ) → ¬ (StandsAhead longest depth whole reply rest)
 
--- more input can make a reply of what stands ahead
+-- more input can make a reply of what stands at the front
 abbrev pub IsBegun : ℕ → ℕ → Source ℕ → Type 0
 IsBegun longest depth whole = (more : List ℕ) × ((reply : Reply) × StandsAhead longest depth (whole ++ units more) reply [])
 
@@ -39,8 +39,8 @@ abbrev pub BreaksOffFor : ℕ → ℕ → Bool → Source ℕ → Source ℕ →
 BreaksOffFor longest depth partial whole rest =
     (cause : Cause) × (IsSettled partial cause × BreaksOff false cause longest depth whole rest)
 
--- the answer is a reply that stands ahead, with what remains; or none does and none can, and the
--- answer is a backtrack where the first byte is that of no kind, and nothing is taken, or a cut
+-- the answer is a reply that stands at the front, with what remains; or none does and none can, and
+-- the answer is a backtrack where the first byte is that of no kind, and nothing is taken, or a cut
 -- where a reply breaks off at what remains; or more input is needed, where more may follow and a
 -- reply breaks off at the end; or memory was refused
 abbrev pub IsAnswer : {E : Type 0} → ℕ → ℕ → Bool → Source ℕ → Result Reply (Failure E Needed)
@@ -64,8 +64,8 @@ IsGiven (Err (Cut e)) rest reply after = ⊥
 IsGiven (Err (Incomplete n)) rest reply after = ⊥
 IsGiven (Err (Refused e)) rest reply after = ⊤
 
--- each reply that stands ahead is given, unless memory was refused: none is missed, and no bytes
--- spell two replies with different contents
+-- each reply that stands at the front is given, unless memory was refused: none is missed, and no
+-- bytes spell two replies with different contents
 abbrev pub GivesEach : {E : Type 0} → ℕ → ℕ → Source ℕ → Result Reply (Failure E Needed)
     → Source ℕ → Type 0
 GivesEach longest depth whole result rest = (reply : Reply) (after : Source ℕ)

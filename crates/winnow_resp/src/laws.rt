@@ -14,7 +14,7 @@ ghost use Rattle.winnow_resp.specs.declared.writing.Unwritten.{Unwritten};
 ghost use Rattle.winnow_resp.specs.declared.writing.Unwritten.TheVariants.{LineEnd};
 
 /// The law of spelling: what is written for a reply within limits spells it, nothing else does, and
-/// the reply stands ahead where that was written, no matter what follows. And
+/// the reply stands at the front where that was written, no matter what follows. And
 /// [`write_reply`](crate::write_reply) refuses a reply that some bytes spell only when memory is
 /// refused. A law does nothing when called: its contract is the law.
 pub fn spelling_law()

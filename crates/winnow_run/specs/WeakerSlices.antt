@@ -45,7 +45,7 @@ module _ {T S : Type 0} (strong weak : S → Source T → ℕ → Type 0) (weake
   StandsFor-weaker answer.NoMark given h = h
   StandsFor-weaker answer.LaterMark given h = h
 
-  -- the same of a step that may compare or search
+  -- an answer of a step that may compare or search stands also with the weaker relation
   pub SearchStandsFor-weaker : (a : PlacedSearchAnswer T) (given : SearchAnswer T S (Vec (ℕ × T)))
       → SearchStandsFor strong all a given → SearchStandsFor weak all a given
   SearchStandsFor-weaker (search.Call a) given h = (h.0, h.1, StandsFor-weaker a h.0 h.2)

@@ -21,7 +21,7 @@ Keeps {A} {O} {T} step p whole = (x : A) (y : O) (z : A) (ts us : List T) → wh
     → step x y z → whole z (ts ++ us)
 
 module _ {A O T : Type 0} (step : A → O → A → Type 0) (p : Spelling O T) (whole : Spelling A T) (on : Keeps step p whole) where
-  -- so does a fold by such steps
+  -- a fold by steps that keep a property keeps it
   pub FoldsTo-within : (xs : List O) (x z : A) (ts us : List T) → whole x ts → InRow p xs us
       → FoldsTo step x xs z → whole z (ts ++ us)
   FoldsTo-within [] x z ts us w e f =

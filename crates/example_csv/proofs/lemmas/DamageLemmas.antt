@@ -78,7 +78,7 @@ module _ (begins : Begins) where
       let lines = rows-lines (input ++ []) rows (f.ahead ++ []) all (append-some f.ahead [] some) in
       omega (arith, ap length lines.whole, length-append lines.text (f.ahead ++ []), length-append f.ahead [], length-append input [], feeds-within lines.text, lines.counted, h.feeds, h.fed, h.fits)
 
-  -- the same of what was begun
+  -- a record that was begun fits into the counts of places
   pub begun-fits : (f : ReaderState Row) (p : Progress) → IsBegun f p → f.ahead ≢ []
       → p.feeds + length f.ahead + 1 < 2 ^ 64
   begun-fits f p (input, (rows, h)) some = ahead-fits f p input rows h some

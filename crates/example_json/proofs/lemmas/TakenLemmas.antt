@@ -26,14 +26,14 @@ pub prints-map : (old new : EventState) (level there : ℕ) (wrote other : List 
 prints-map old new level there wrote other f h input before given =
     let p = h input before given in (p.0, (p.1.0, p.1.1, f (lines_at level p.0) p.1.2))
 
--- the same of a reader that stops
+-- a reader that stops printed text that is also one of the other relation
 stops-map : (old : EventState) (level : ℕ) (e : EventError) (wrote other : List ℕ → Type 0)
     → ((lines : List ℕ) → wrote lines → other lines)
     → StopsAfter old level e wrote → StopsAfter old level e other
 stops-map old level e wrote other f (r, (there, (prints, going, keeps, stops))) =
     (r, (there, (prints-map old r level there wrote other f prints, going, keeps, stops)))
 
--- the same of what is taken
+-- what was taken printed text that is also one of the other relation
 pub taken-map : (old new : EventState) (level there : ℕ)
     (taken : Result (Next (Unit {0})) EventError) (wrote other : List ℕ → Type 0)
     → ((lines : List ℕ) → wrote lines → other lines)

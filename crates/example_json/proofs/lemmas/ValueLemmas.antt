@@ -141,7 +141,7 @@ front-none never depth input failure held now h is value document =
     by (EndsEarly p) is (place, (stops, placed)) = refuses (error.EndsEarly place) stops
     by (Stopped trouble) is told = is
 
--- the same of known bytes
+-- a property of a known byte is carried over
 if-some : {A : Type 0} {P Q : A → Type 0} (o : Option A) → ((a : A) → P a → Q a)
     → IfSome o P → IfSome o Q
 if-some None f h = tt

@@ -125,7 +125,7 @@ module _ (place : ℕ) (bytes : List ℕ) where
       let text : both.0.now ≡ line.items = ap (λ x. x.now) is ∙ sym copied in
       (there + 2, (rest, (left, subst (λ l. IsNextLine bytes l rest) text s.1.1.1)))
 
-  -- where more may follow, more is needed just where no line end stands ahead
+  -- where more may follow, more is needed just where no line end stands in the rest
   pub needs-end : (need : Needed) → OneLine true (bytes_at place bytes) (Fails (Needs need))
       → (first_end bytes ≡ None) × (need ≡ Unknown)
   needs-end need (inl (inl (stays, (may, none, counts, unknown)))) =

@@ -45,7 +45,7 @@ no-bytes : (xs : List ℕ) → length xs < 1 → xs ≡ []
 no-bytes [] h = refl
 no-bytes (x ∷ xs) h = absurd (omega (arith, h))
 
--- where the reader lacks something, no line end stands ahead
+-- where the reader lacks something, no line end stands in the rest
 pub lacks-end : {R : Type 0} (f : ReaderState R) → Lacks (λ r. OneLine) f → first_end f.ahead ≡ None
 lacks-end f (rest, (n, (asks, short))) =
     let needs = needs-end f.place asks.front asks.need asks.needs in

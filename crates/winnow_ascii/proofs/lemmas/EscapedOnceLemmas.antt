@@ -51,7 +51,7 @@ module _ {C P T : Type 0} (same : C → C → Type 0) (alike : P → P → Type 
   escape-fails partial a f (inl h) = inl (optional-fails same control d partial a f h)
   escape-fails partial a f (inr h) = inr h
 
-  -- where the control character does not stand ahead, there is no other answer
+  -- where the control character does not stand at the front, there is no other answer
   no-escape : (partial : Bool) (a : Ahead T) → IsAbsent control partial a → (f : Failed T)
       → IsGrantedFailure f → Escape control escapable partial a (Fails f) → ⊥
   no-escape partial a h f s (inl k) = absent-fails same control d partial a h f s k

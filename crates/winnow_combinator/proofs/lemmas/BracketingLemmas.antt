@@ -127,7 +127,7 @@ module _ {O E S C T : Type 0} (q r : Type 0) (stood : C → Ahead T) (appends : 
       let both : e12 ≡ join e1 e2 = same f12 t begun e12 w ∙ joins e1 e2 f12 j in
       (e1, (e2, (e3, (h, (t, (k, n)), l, same e0 s start e g ∙ whole ∙ ap (λ v. join v e3) both))))
 
-  -- so does that of an `alt` that ends with one, where the function is associative
+  -- the error of an `alt` that ends with an `alt` is the same, if the function is associative
   pub joins-right : AppendsNothing appends → ((a b c : E) → join (join a b) c ≡ join a (join b c))
       → (partial : Bool) (a : Ahead T) (s : S) (e : E)
       → AltErrors stood appends stands gives mx x (AltErrors stood appends stands gives my y z) partial a s (Backtrack e)

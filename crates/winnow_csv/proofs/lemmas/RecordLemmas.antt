@@ -91,7 +91,7 @@ abbrev pub MayEnd : List ℕ → Type 0
 MayEnd r = (r ≡ []) ⊎ (r ≡ 13 ∷ [])
 
 module _ {S : Type 0} (is_slice : S → Source ℕ → ℕ → Type 0) (appends refusable : Type 0) (partial : Bool) where
-  -- an end that is given stands ahead
+  -- an end that is given stands at the front
   pub end-given : (u : Unit {0}) (a b : Ahead ℕ)
       → RecordEnd is_slice appends refusable partial a (Gives u b)
       → EndsRecord partial (bytes_of a.tokens) (bytes_of b.tokens)

@@ -92,7 +92,7 @@ AddsAnswers-more piece p q r h g = record {
   told = g.told ∙ ap (λ t. t ++ map (under piece) g.more) h.told ∙ append_assoc p.told.items (map (under piece) h.more) (map (under piece) g.more) ∙ ap (λ t. p.told.items ++ t) (sym (map-append (under piece) h.more g.more));
 }
 
--- the same of marks
+-- equal marks are marks to which none was added
 pub AddsMarks-none : {T L : Type 0} (p q : Progress T L) → q.marks.items ≡ p.marks.items
     → AddsMarks p q
 AddsMarks-none p q e = record { more = []; marks = e ∙ sym (append-nil p.marks.items) }

@@ -1,4 +1,4 @@
--- From the meanings of parsers of bytes to the bytes that stand ahead.
+-- From the meanings of parsers of bytes to the bytes that stand at the front.
 use Rattle.std.proofs.Common.{◌≡◌, ◌≢◌, ℕ, ◌<◌, ◌≤◌, ◌==◌, nat_le, Bool, true, false, ◌&&◌, List, [], ◌∷◌, ◌++◌, length, drop, cond, Some, None, ap, sym, ◌∙◌, subst, refl, arith, length-append}
 use Rattle.std.specs.Prelude.{IfSome}
 use Rattle.std.proofs.lemmas.Bool.Decides.{nat_tests}

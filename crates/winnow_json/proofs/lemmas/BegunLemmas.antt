@@ -39,14 +39,14 @@ module _ {T : Type 0} (inner : T → List ℕ → List ℕ → Type 0) (begins :
   pub elements-begin : begins (drop at b) → BeginsElements inner begins b
   elements-begin h = (items, (drop at b, (chain, inl h)))
 
-  -- or where only blanks follow it
+  -- elements are begun if the next one is
   pub elements-wait : (v : T) (n : ℕ) → inner v (drop at b) (drop n (drop at b))
       → after_blanks (drop (at + n) b) ≡ [] → BeginsElements inner begins b
   elements-wait v n is blanks =
       (items, (drop at b, (chain, inr (v, (drop (at + n) b, (subst (inner v (drop at b)) (drop-drop n at b) is, blanks))))))
 
 module _ (inside : List ℕ → Type 0) (begin : ℕ) (b : List ℕ) (first : StartsWith begin b) where
-  -- or where what stands inside is
+  -- brackets are begun if what stands inside is
   pub brackets-begin : inside (drop 1 b) → BeginsBrackets inside begin b
   brackets-begin h = (drop 1 b, (starts-split b begin first, inr h))
 
@@ -82,7 +82,7 @@ module _ (partial : Bool) where
     pub name-waits : after_blanks (drop start b) ≡ [] → BeginsMember begins b
     name-waits blanks = inr (name, (drop start b, (named, inl blanks)))
 
-    -- or where its value is
+    -- a member is begun if its value is
     pub value-begins : (at : ℕ) → after_blanks (drop start b) ≡ 58 ∷ drop at b → begins (drop at b)
         → BeginsMember begins b
     value-begins at is h = inr (name, (drop start b, (named, inr (drop at b, (is, h)))))

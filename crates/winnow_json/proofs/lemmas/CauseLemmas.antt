@@ -180,14 +180,14 @@ module _ (f : ReaderState JsonToken) (place : ℕ) (damage : FindsDamage f place
       subst (λ l. IsWrongAt false (after_blanks f.ahead) l) (append-nil damage.0)
       (subst (λ l. IsWrongAt false (after_blanks l) (damage.0 ++ [])) (append-nil f.ahead) (damage.1.1 [] (none-follows f.ended)))
 
-  -- what stands ahead before the rest
+  -- what stands at the front before the rest
   damage-front : (front : List ℕ) × (f.ahead ≡ front ++ damage.0)
   damage-front =
       let blanks = blanks-front f.ahead in
       let front = wrong-front (after_blanks f.ahead) damage.0 damage-wrong in
       (blanks.0 ++ front.0, blanks.1 ∙ ap (λ l. blanks.0 ++ l) front.1 ∙ sym (append_assoc blanks.0 front.0 damage.0))
 
-  -- the place is no further back than what stands ahead
+  -- the place is no further back than what stands at the front
   pub damage-after : f.place ≤ place
   damage-after =
       omega (arith, damage.1.0, ap length damage-front.1, length-append damage-front.0 damage.0)

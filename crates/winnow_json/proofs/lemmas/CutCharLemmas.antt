@@ -109,7 +109,7 @@ CanFinish-cut (a ∷ b ∷ x ∷ y ∷ rest) cut =
 
 -- ---- A proper front of a character is one that breaks off
 
--- of two, three and four bytes
+-- a proper front of a character of two bytes breaks off
 cut_of_two : (c k : ℕ) → 128 ≤ c → c < 2048 → 0 < k → k < length (encode_utf8 c)
     → is_cut_char (take k (encode_utf8 c)) ≡ true
 unfolding encode_utf8
@@ -163,7 +163,7 @@ is_cut_char-take c k scalar some short =
 
 -- ---- The bytes of a character after its first are not ASCII
 
--- of two, three and four bytes
+-- the later byte of a character of two bytes
 after_first_two : (c k : ℕ) → 128 ≤ c → c < 2048 → 0 < k → k < length (encode_utf8 c)
     → 128 ≤ get_or (encode_utf8 c) k 0
 unfolding encode_utf8

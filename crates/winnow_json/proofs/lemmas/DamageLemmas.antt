@@ -39,7 +39,7 @@ module _ {T : Type 0} (inner : T → List ℕ → List ℕ → Type 0) (breaks :
       → ElementsBreakOff inner breaks close b (drop (at + n) b)
   elements-stop n h = (items, (drop at b, (chain, inl (place-after breaks (drop at b) b at n h))))
 
-  -- or where neither a comma nor the closing bracket follows it
+  -- elements break off if neither a comma nor the closing bracket follows a value
   pub elements-end : (v : T) (n m : ℕ) → inner v (drop at b) (drop n (drop at b))
       → IsNext close partial (drop (at + n) b) (next.Damaged m)
       → ElementsBreakOff inner breaks close b (drop (at + n + m) b)
@@ -65,13 +65,13 @@ module _ (partial : Bool) where
   here-array zero b rest h = inr (inr (inl h))
   here-array (suc depth) b rest h = inr (inr (inl h))
 
-  -- so does an object
+  -- a value breaks off if an object does
   pub here-object : (depth : ℕ) (b rest : List ℕ) → ObjectBreaksOff partial depth b rest
       → HereBreaksOff partial depth b rest
   here-object zero b rest h = inr (inr (inr h))
   here-object (suc depth) b rest h = inr (inr (inr h))
 
-  -- so does a scalar
+  -- a value breaks off if a scalar does
   pub here-scalar : (depth : ℕ) (b : List ℕ) (x : Found Value)
       → IsFound (ValueHere partial zero) partial b x → IsPlaced (ScalarBreaksOff partial) b x
       → IsPlaced (HereBreaksOff partial depth) b x
@@ -99,13 +99,13 @@ module _ (partial : Bool) where
         inl (subst (λ l. StringBreaksOff partial l (drop (at + n) b)) e (place-after (StringBreaksOff partial) (drop at b) b at n h))
 
     module _ (name : String Global) (start : ℕ) (named : StringHere name (after_blanks b) (drop start b)) where
-      -- or where the colon after it is missing
+      -- a member breaks off if the colon after its name is missing
       pub colon-stop : (n : ℕ) → ByteIsMissing 58 (drop start b) (drop n (drop start b))
           → MemberBreaksOff partial breaks b (drop (start + n) b)
       colon-stop n h =
           inr (name, (drop start b, (named, inl (place-after (ByteIsMissing 58) (drop start b) b start n h))))
 
-      -- or where the value after the colon does
+      -- a member breaks off if its value does
       pub value-stop : (at n : ℕ) → after_blanks (drop start b) ≡ 58 ∷ drop at b
           → breaks (drop at b) (drop n (drop at b))
           → MemberBreaksOff partial breaks b (drop (at + n) b)

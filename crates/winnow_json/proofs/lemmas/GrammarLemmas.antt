@@ -1,4 +1,4 @@
--- Values: what stands ahead stands there in one way, and still does where more follows.
+-- Values: what stands at the front stands there in one way, and still does where more follows.
 use Rattle.std.proofs.Common.{◌≡◌, ℕ, zero, suc, Bool, true, false, if◌then◌else◌, List, [], ◌∷◌, ◌++◌, ap, sym, ◌∙◌, subst, refl, arith, append_assoc}
 use Rattle.std.specs.declared.string.String.{String}
 use Rattle.std.specs.declared.alloc.Global.{Global}
@@ -40,12 +40,12 @@ blanks-past (x ∷ b) more e = past-if (is_blank x) x b more (blanks-past b more
 abbrev pub Once : {T : Type 0} → (T → List ℕ → List ℕ → Type 0) → Type 0
 Once {T} inner = (v w : T) (b r s : List ℕ) → inner v b r → inner w b s → r ≡ s
 
--- what stands ahead still does where more follows
+-- what stands at the front still does where more follows
 abbrev pub Stable : {T : Type 0} → Bool → (T → List ℕ → List ℕ → Type 0) → Type 0
 Stable {T} partial inner = (v : T) (b r more : List ℕ) → MayFollow partial more → inner v b r
     → inner v (b ++ more) (r ++ more)
 
--- where this byte stands after blanks, nothing stands ahead
+-- where this byte stands after blanks, nothing stands at the front
 abbrev pub NoneAt : {T : Type 0} → ℕ → (T → List ℕ → List ℕ → Type 0) → Type 0
 NoneAt {T} close inner = (v : T) (b r q : List ℕ) → after_blanks b ≡ close ∷ q → ¬ (inner v b r)
 
@@ -72,7 +72,7 @@ module _ {T : Type 0} (inner : T → List ℕ → List ℕ → Type 0) (close : 
         let same = tails 44 44 m n (sym e ∙ ap after_blanks (once v w b a c h g) ∙ f) in
         elements-once (y ∷ vs) (x ∷ ws) n r s (subst (λ t. Elements inner close (y ∷ vs) t r) same k) l
 
-    -- so does what stands between brackets
+    -- two readings of the inside of brackets leave the same rest
     inside-once : (vs ws : List T) (b r s : List ℕ) → Inside inner close vs b r
         → Inside inner close ws b s → r ≡ s
     inside-once [] [] b r s e f = tails close close r s (sym e ∙ f)
@@ -82,7 +82,7 @@ module _ {T : Type 0} (inner : T → List ℕ → List ℕ → Type 0) (close : 
         let first = elements-first v vs b r h in absurd (none v b first.0 s f first.1)
     inside-once (v ∷ vs) (w ∷ ws) b r s h g = elements-once (v ∷ vs) (w ∷ ws) b r s h g
 
-    -- so do the brackets
+    -- two readings of brackets leave the same rest
     pub bracketed-once : (begin : ℕ) (vs ws : List T) (b r s : List ℕ)
         → Bracketed inner close begin vs b r → Bracketed inner close begin ws b s → r ≡ s
     bracketed-once begin vs ws b r s (m, (e, h)) (n, (f, g)) =
@@ -98,13 +98,13 @@ module _ {T : Type 0} (inner : T → List ℕ → List ℕ → Type 0) (close : 
     elements-stable (v ∷ y ∷ vs) b r (a, (n, (h, e, k))) =
         (a ++ more, (n ++ more, (stable v b a more may h, blanks-more a 44 n more e, elements-stable (y ∷ vs) n r k)))
 
-    -- so does what stands between brackets
+    -- the inside of brackets stands also if more follows
     inside-stable : (vs : List T) (b r : List ℕ) → Inside inner close vs b r
         → Inside inner close vs (b ++ more) (r ++ more)
     inside-stable [] b r e = blanks-more b close r more e
     inside-stable (v ∷ vs) b r h = elements-stable (v ∷ vs) b r h
 
-    -- so do the brackets
+    -- brackets stand also if more follows
     pub bracketed-stable : (begin : ℕ) (vs : List T) (b r : List ℕ)
         → Bracketed inner close begin vs b r → Bracketed inner close begin vs (b ++ more) (r ++ more)
     bracketed-stable begin vs b r (n, (e, h)) =

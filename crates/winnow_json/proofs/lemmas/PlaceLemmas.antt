@@ -97,7 +97,7 @@ module _ {T : Type 0} (inner : T → List ℕ → List ℕ → Type 0) (breaks :
   element-comma b r (inr (v, (a, (h, comma, bracket)))) w c next g e =
       comma.1 (subst (StartsWith 44) (sym (comma.0 ∙ ap after_blanks (once v w b a c h g) ∙ e)) refl)
 
-  -- so do elements
+  -- elements break off at one place
   each-place : (vs ws : List T) (b n m r s : List ℕ) → EachWithComma inner vs b n
       → EachWithComma inner ws b m → ElementBreaksOff inner breaks close n r
       → ElementBreaksOff inner breaks close m s → r ≡ s

@@ -99,7 +99,7 @@ none-run (x ∷ run) rest more front tail c some no_slash ends none whole split 
     let at = escape-begins c front tail p in
     no_slash (heads x 92 ((run ++ rest) ++ more) at.0 (split ∙ at.1))
 
--- the same of the bytes that a reader has
+-- bytes of a reader that are neither plain nor an escape have no text
 pub plain-wrong : (bytes : List ℕ) (count : ℕ) → 0 < length bytes → ¬ (StartsWith 92 bytes)
     → ¬ (Starts is_plain (drop count bytes)) → HasNoText (take count bytes)
     → (drop count bytes ≡ [] → is_cut_char (take count bytes) ≡ false) → IsNoChar bytes

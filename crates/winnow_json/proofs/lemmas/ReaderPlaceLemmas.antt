@@ -25,7 +25,7 @@ use Rattle.winnow_json.specs.declared.event_reader.Event.{Event}
 abbrev pub EndsWith : List ℕ → List ℕ → Type 0
 EndsWith b r = (front : List ℕ) × (b ≡ front ++ r)
 
--- so do those that end with them
+-- bytes end with the end of what they end with
 pub ends-on : (a b c : List ℕ) → EndsWith a b → EndsWith b c → EndsWith a c
 ends-on a b c (f, e) (g, is) = (f ++ g, e ∙ ap (λ l. f ++ l) is ∙ sym (append_assoc f g c))
 

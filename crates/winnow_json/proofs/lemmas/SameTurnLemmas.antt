@@ -63,7 +63,7 @@ same-self x = record { after = λ s. refl; events = same-events (turn_events x);
 gives-same : (e f : Event) → SameEvent e f → SameTurn (Gives e) (Gives f)
 gives-same e f same = record { after = λ s. refl; events = (same, tt); allowed = λ a. a }
 
--- so do names
+-- names of the same bytes take the same turn
 names-same : (v w : String Global) → string_bytes v ≡ string_bytes w → SameTurn (Names v) (Names w)
 names-same v w same = record { after = λ s. refl; events = (same, tt); allowed = λ a. a }
 
@@ -155,7 +155,7 @@ number-turn deep i expect.Colon n m same = same-self _
 number-turn deep i expect.Next n m same = same-self _
 number-turn deep i expect.End n m same = same-self _
 
--- so do strings
+-- strings of the same bytes take the same turn
 string-turn : (deep : Bool) (i : Bracket) (x : Expected) (v w : String Global)
     → string_bytes v ≡ string_bytes w
     → SameTurn (turn_of deep i x (token.String v)) (turn_of deep i x (token.String w))
@@ -172,7 +172,7 @@ string-turn deep i expect.Next v w same = same-self _
 string-turn deep i expect.End v w same = same-self _
 
 module _ (deep : Bool) (i : Bracket) (x : Expected) where
-  -- so does a token that is neither
+  -- tokens of one lexeme that are neither number nor string take the same turn
   plain-turn : (t u : Token) → plain_token (lexeme_of t) ≡ Some t → lexeme_of t ≡ lexeme_of u
       → SameTurn (turn_of deep i x t) (turn_of deep i x u)
   plain-turn t u is e =

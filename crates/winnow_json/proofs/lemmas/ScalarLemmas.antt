@@ -39,7 +39,7 @@ number-begun partial bytes count p all each n r (t, ((e, is, ends), of)) =
     none [] h ends = ends.1 p refl
     none (x ∷ r) h ends = ends.0 h.0
 
--- a number that stands ahead begins with each run of bytes of numbers that does
+-- a number that stands at the front begins with each run of bytes of numbers that does
 front-of : (b t more r : List ℕ) → Each is_number_byte b → ¬ (Starts is_number_byte r)
     → b ++ more ≡ t ++ r → (m : List ℕ) × (t ≡ b ++ m)
 front-of [] t more r h never e = (t, refl)

@@ -67,7 +67,7 @@ module _ (r : Source ℕ) (t : List ℕ) (same : r ≡ units t) where
   pub not-empty : ¬ (t ≡ []) → ¬ (bytes_of r ≡ [])
   not-empty some e = some (sym text-is ∙ e)
 
-  -- a whole string stands ahead of the stream
+  -- a whole string stands at the front of the stream
   pub whole-answers : (v : String Global) (n : ℕ) (new : Source ℕ) → IsReading t (reading.Whole v n)
       → new ≡ back r n
       → (cs : List ℕ) × (StringAhead (bytes_of r) cs (bytes_of new) × HasChars v cs)
@@ -99,6 +99,6 @@ module _ (r : Source ℕ) (t : List ℕ) (same : r ≡ units t) where
   pub begun-needs : (n : ℕ) → IsReading t (reading.Begun n) → IsBegun (bytes_of r)
   begun-needs n is = subst IsBegun (sym text-is) (begun-begun t n is)
 
-  -- so does nothing
+  -- an empty input needs more
   pub nothing-needs : t ≡ [] → IsBegun (bytes_of r)
   nothing-needs e = nothing-is-begun (bytes_of r) (text-is ∙ e)

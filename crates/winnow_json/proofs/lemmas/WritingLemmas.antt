@@ -1,4 +1,4 @@
--- A value stands ahead where it was written, and what is refused stands nowhere.
+-- A value stands at the front where it was written, and what is refused stands nowhere.
 use Rattle.std.proofs.Common.{◌≡◌, ℕ, zero, suc, ◌+◌, ◌<◌, Bool, true, false, if◌then◌else◌, List, [], ◌∷◌, ◌++◌, length, take, drop, map, get_or, Result, Ok, Err, ap, sym, ◌∙◌, subst, refl, arith, append_assoc, append-nil, inl, inr}
 use Rattle.std.specs.List.{All, flat_map}
 use Rattle.std.specs.Result.{IsErrAnd}
@@ -66,7 +66,7 @@ module _ {T : Type 0} (inner : Bool → ℕ → T → List ℕ → List ℕ → 
       let split = append_assoc (text x) (44 ∷ listed (map text (y ∷ ys))) (close ∷ rest) in
       (44 ∷ next, (next, (subst (λ l. inner partial depth x l (44 ∷ next)) (sym split) (one partial (44 ∷ next) (ends-at 44 refl partial next)), refl, elements-stand depth y ys (all 0 y (omega arith)) (λ k d l. all (suc k) d (omega (arith, l))) partial rest)))
 
-  -- so do elements between brackets
+  -- elements that were written stand between their brackets
   list-stands : (depth : ℕ) (x : T) (xs : List T) → Stands inner text depth x
       → All (Stands inner text depth) xs
       → Stands ListHere list_text depth (x ∷ xs)
@@ -215,7 +215,7 @@ string-appended depth y v is old new e =
     layer-appended (λ partial limit. StringHere) (λ w. written_string (string_bytes w)) y v (open_value.String v) (ap out-Value is ∙ out-string v) refl
     (λ partial limit b r h. h) (λ partial limit b r h. h) depth old new (Ok tt) (e, λ partial rest ends. string-stands v rest)
 
--- what stands ahead as a number is the one that its text writes
+-- what stands at the front as a number is the one that its text writes
 number-written : (partial : Bool) (n : Number) (b r : List ℕ) → NumberHere partial n b r
     → IsWritten n
 number-written partial n b r (t, ((e, is, ends), of)) =

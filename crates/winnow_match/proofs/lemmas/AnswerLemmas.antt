@@ -98,7 +98,7 @@ module _ (literal bytes : List ℕ) (result : CompareResult) (is : result ≡ co
       let P : CompareResult → Type 0 = λ x. AgreesWithWidth x (length literal) r in
       subst P (sym is) (comparison-agrees r (is_prefix literal bytes) (is_prefix bytes literal) (length literal) (λ h g. let l = shorter-front literal bytes h g in omega (arith, w, l)))
 
-  -- the same of bytes and of a text
+  -- the answer agrees with the widths of bytes, and of a text
   pub AgreesWithWidth-bytes : AgreesWithWidth result (length literal) (units bytes)
   AgreesWithWidth-bytes = agrees (units bytes) (width-units bytes)
 

@@ -22,7 +22,7 @@ module _ {A : Type 0} where
   pub onward_still : (a b : Option ℕ) (r s : Source A) → b ≡ a → s ≡ r → MovesOn a b r s
   onward_still a b r s p q = moved_as a b a r s r p q (MovesOn-still a r)
 
-  -- so does one that is reset to where it began
+  -- a stream that is reset to where it began moves on by nothing
   pub onward_reset : (a k b : Option ℕ) (r t s : Source A) → k ≡ a → t ≡ r → b ≡ k → s ≡ t
       → MovesOn a b r s
   onward_reset a k b r t s k_is t_is b_is s_is = onward_still a b r s (b_is ∙ k_is) (s_is ∙ t_is)

@@ -1,5 +1,5 @@
--- Where bytes stand ahead that a parser reads, the parser gives a value for them, or memory is
--- refused.
+-- Where bytes stand at the front that a parser reads, the parser gives a value for them, or memory
+-- is refused.
 use Rattle.std.proofs.Common.{◌≡◌, ℕ, ◌<◌, ◌≤◌, ◌==◌, nat_le, Bool, true, false, ◌&&◌, List, [], ◌∷◌, ◌++◌, length, take, drop, inl, inr, Option, Some, None, ap, sym, ◌∙◌, subst, refl, arith, length-append}
 use Rattle.std.specs.Prelude.{⊤, IfSome, ℤ}
 use Rattle.std.proofs.lemmas.Bool.Decides.{nat_tests}
@@ -35,7 +35,7 @@ IsAccepted P s (Fails f) = f ≡ Refuses
 abbrev pub Accepts : {O : Type 0} → Meaning O ℕ → Source ℕ → (O → Type 0) → Source ℕ → Type 0
 Accepts {O} means r P s = (partial : Bool) (a : Ahead ℕ) (v : Outcome O ℕ) → a.tokens ≡ r → means partial a v → IsAccepted P s v
 
--- the parser accepts each source in which the text stands ahead
+-- the parser accepts each source in which the text stands at the front
 abbrev pub Reads : {O : Type 0} → Meaning O ℕ → List ℕ → (O → Type 0) → Type 0
 Reads means text P = (r s : Source ℕ) → HasPositiveWidths r → IsAhead r text s → Accepts means r P s
 

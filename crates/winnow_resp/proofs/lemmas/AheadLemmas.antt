@@ -1,4 +1,4 @@
--- Bytes that stand ahead in a source: how they are joined and split.
+-- Bytes that stand at the front in a source: how they are joined and split.
 use Rattle.std.proofs.Common.{◌≡◌, ℕ, ◌<◌, List, [], ◌∷◌, ◌++◌, length, take, drop, ap, sym, ◌∙◌, subst, refl, arith, append_assoc}
 use Rattle.std.proofs.lemmas.List.{map-append}
 use Rattle.winnow_stream.specs.Source.{Source, width, HasPositiveWidths}
@@ -66,7 +66,7 @@ ahead-split t u r q h =
     let k = split t u h.0 h.1.1 in
     (k.1.0 ++ q, ((k.0, (h.1.0 ∙ ap (λ x. x ++ q) k.1.1.0 ∙ append_assoc k.0 k.1.0 q, k.1.1.1)), (k.1.0, (refl, k.1.1.2))))
 
--- what follows bytes that stand ahead has positive widths
+-- what follows bytes that stand at the front has positive widths
 pub ahead-wide : (t : List ℕ) (r s : Source ℕ) → IsAhead r t s → HasPositiveWidths r
     → HasPositiveWidths s
 ahead-wide t r s h wide = positive-after h.0 s (subst HasPositiveWidths h.1.0 wide)
