@@ -1,3 +1,5 @@
+//! The lexer: `tokens` over a text, and `lex` over any stream of bytes that knows its location.
+
 ghost use Rattle.std.specs.Prelude.{◌≡◌, IfOk, All};
 ghost use Rattle.winnow_stream.specs.Source.{units, HoldsAll};
 ghost use Rattle.winnow_stream.specs.Location.{IsLocation};

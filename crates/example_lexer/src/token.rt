@@ -1,3 +1,5 @@
+//! The tokens of the lexer: a `Token` has a `Kind` and a span in the whole input.
+
 use std::fmt;
 use std::ops::Range;
 

@@ -1,3 +1,5 @@
+//! `read_tree`, which reads a tree to a limit on depth, and `TreeTo`, its parser.
+
 ghost use Rattle.std.specs.Prelude.{◌≡◌, ◌-◌, ◌<◌};
 ghost use Rattle.winnow_parser.specs.Outcome.{Moves};
 ghost use Rattle.winnow_parser.specs.Answer.{ahead, outcome};

@@ -1,3 +1,5 @@
+//! A `Fault`: the place at which a line stops being a setting, and the part `Wanted` there.
+
 ghost use Rattle.std.specs.Prelude.{◌≡◌, IfOk, IsTrue, IsFalse};
 ghost use Rattle.winnow_stream.specs.Front.{is_offset};
 ghost use Rattle.winnow_stream.specs.Text.{text_source};

@@ -1,3 +1,5 @@
+//! `read_settings`, which reads lines and records a `Fault` for each line that is no setting.
+
 ghost use Rattle.std.specs.Prelude.{◌≡◌, false, [], IfOk, OnOk, IsTrue};
 ghost use Rattle.winnow_stream.specs.Location.{IsLocation};
 ghost use Rattle.winnow_recover.specs.Recovering.{recoverable_inner, recorded_errors};

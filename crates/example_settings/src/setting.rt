@@ -1,3 +1,5 @@
+//! A `Setting`, which is a key and its value, and `read_setting`, which reads one.
+
 ghost use Rattle.std.specs.Prelude.{◌≡◌, false, IfOk, IfErr, OnOk};
 ghost use Rattle.winnow_parser.specs.Answer.{ahead};
 ghost use Rattle.example_settings.specs.Lines.{IsSetting, Lacks, behind, is_in_line, from_value};

@@ -1,3 +1,5 @@
+//! A call of each law of feeds.
+
 use winnow_feed::{one_search_law, told_law};
 
 /// Calls each law of feeds.

@@ -1,3 +1,5 @@
+//! The ghost members for the printed text of a `Range` of counts, and its conversion by the bound.
+
 ghost use Rattle.std.specs.Prelude.{◌≡◌, Some};
 ghost use Rattle.winnow_count.specs.CountRange.{range_text};
 ghost use Rattle.winnow_count.specs.declared.range.Range.{Range};

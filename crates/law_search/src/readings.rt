@@ -1,3 +1,5 @@
+//! Calls of `parse_slice`: at a type that is named, and through the bound `ParseSlice`.
+
 ghost use Rattle.std.specs.Prelude.{IsUtf8};
 ghost use Rattle.winnow_count.specs.Reading.{IsSomeExactly, ReadsUnsigned};
 

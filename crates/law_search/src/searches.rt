@@ -1,3 +1,5 @@
+//! A call of each law of comparison and search.
+
 use winnow_match::{
     byte_hit_law, compare_law, compare_more_law, definite_hit_law, find_law, find_more_law,
     stretch_law,

@@ -1,3 +1,5 @@
+//! Calls of sets through `ContainsToken` and `ScriptSet`, and a call of each law of unions.
+
 ghost use Rattle.winnow_run.specs.Script.{AreReady};
 
 use std::alloc::{AllocError, Global};

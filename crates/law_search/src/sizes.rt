@@ -1,3 +1,5 @@
+//! A call of `to_usize` through the bound `ToUsize`.
+
 ghost use Rattle.std.specs.Prelude.{◌≡◌, ◌≤◌};
 
 use winnow_count::ToUsize;

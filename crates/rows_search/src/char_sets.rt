@@ -1,3 +1,5 @@
+//! Rows of sets as data: sets of ranges (`CharSet`), and closures as sets.
+
 use crate::sameness::same;
 use crate::sets::{holds, holds_lent};
 use rows::{Fault, Word, Words};

@@ -1,3 +1,5 @@
+//! Rows of the methods of `AsChar`, at bytes, at characters and at references to them.
+
 use crate::sameness::same;
 use rows::{Fault, Word, Words};
 use std::alloc::Global;

@@ -1,3 +1,5 @@
+//! Rows of `compare`, over each stream of bytes or of text and with each kind of literal.
+
 use crate::sameness::same;
 use rows::{Fault, Word, Words};
 use std::alloc::Global;

@@ -1,3 +1,5 @@
+//! Rows of `find_slice`, over each stream of bytes or of text and with each kind of needle.
+
 use crate::needles;
 use crate::sameness::same;
 use rows::{Fault, Word, Words};

@@ -1,3 +1,5 @@
+//! Rows of needles as data: the needle that may move a hit, and the length of the longest needle.
+
 use rows::{Fault, Words};
 use std::alloc::Global;
 use winnow_match::{FindSlice, Needles, Stretch, stretch};

@@ -1,3 +1,5 @@
+//! Rows of `contains_token`, for sets of one token, ranges, arrays and slices.
+
 use crate::sameness::same;
 use crate::{char_sets, unions};
 use rows::{Fault, Word, Words};

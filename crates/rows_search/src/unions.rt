@@ -1,3 +1,5 @@
+//! Rows of unions: tuples of up to ten sets, a closure in a union, and an iterated range.
+
 use crate::sets::holds;
 use rows::{Word, Words};
 use winnow_sets::{ContainsToken, Where};

@@ -1,3 +1,5 @@
+//! Rows of ranges of counts: conversions to a `Range`, counts in a range, and printed texts.
+
 use rows::{Fault, Words};
 use std::alloc::Global;
 use std::ops::RangeBounds;

@@ -1,3 +1,5 @@
+//! Rows of accumulators: `accumulate` at texts, maps, sets and lists of each type of item.
+
 use crate::items::{cows, numbers, pairs, signs, slices, strings, texts};
 use rows::{Fault, Word, Words};
 use std::alloc::{AllocError, Global};

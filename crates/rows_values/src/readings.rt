@@ -1,3 +1,5 @@
+//! Rows of `parse_slice`, at each type that a text or bytes are read as.
+
 use rows::{Fault, Word, Words};
 use std::alloc::{AllocError, Global};
 use std::fmt::Debug;

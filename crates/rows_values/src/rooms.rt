@@ -1,3 +1,5 @@
+//! Rows of the room that a hash map and a hash set have for an announced number of items.
+
 use rows::{Fault, Words};
 use std::alloc::{AllocError, Global};
 use std::collections::{HashMap, HashSet};

@@ -1,3 +1,5 @@
+//! Rows of `to_usize`, at each type of number.
+
 ghost use Rattle.std.specs.Prelude.{◌≡◌, ◌≤◌};
 
 use rows::{Fault, Words};

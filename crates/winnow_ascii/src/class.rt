@@ -1,3 +1,5 @@
+//! The classes of ASCII characters, as sets of tokens: `Class`.
+
 ghost use Rattle.std.specs.Prelude.{◌≡◌};
 ghost use Rattle.winnow_ascii.specs.Classes.{is_in_class};
 

@@ -1,3 +1,5 @@
+//! Parsers of text with escapes: `escaped` gathers its fragments, `take_escaped` returns its slice.
+
 ghost use Rattle.std.specs.Prelude.{◌≡◌, ◌<◌, ◌^◌, [], IfErr};
 ghost use Rattle.winnow_stream.specs.Source.{width};
 ghost use Rattle.winnow_parser.specs.Outcome.{Moves};

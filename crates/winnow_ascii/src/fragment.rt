@@ -1,3 +1,5 @@
+//! A `Fragment` of text with escapes, the trait of its parts (`Spell`), and their accumulators.
+
 ghost use Rattle.std.specs.Prelude.{◌≡◌, ℕ, List, [], ◌∷◌, ◌++◌, encode_utf8, OnOk, OnErr};
 ghost use Rattle.std.specs.List.{flat_map};
 ghost use Rattle.std.specs.String.{string_bytes, StringUnchanged};

@@ -1,3 +1,5 @@
+//! The parser of a number in hexadecimal digits, `hex_uint`, and its types of numbers, `HexUint`.
+
 ghost use Rattle.std.specs.Prelude.{◌≡◌, ℕ, List};
 ghost use Rattle.winnow_count.specs.Reading.{IsSomeExactly};
 ghost use Rattle.winnow_parser.specs.Errors.{OwnErrors};

@@ -1,3 +1,5 @@
+//! Laws of parsers of ASCII text. A law does nothing when called: its contract is the law.
+
 ghost use Rattle.std.specs.Prelude.{◌≡◌, ℕ};
 ghost use Rattle.winnow_parser.specs.Determined.{IsDetermined, Shows, Respects, SlicesRespect};
 ghost use Rattle.winnow_token.specs.declared.held.HeldTokens.{HeldTokens};

@@ -1,3 +1,5 @@
+//! Parsers of lines and of their ends: `newline`, `tab`, `crlf`, `line_ending`, `till_line_ending`.
+
 ghost use Rattle.std.specs.Prelude.{◌≡◌, codes};
 ghost use Rattle.winnow_ascii.specs.Lines.{IsTillLineEnding};
 

@@ -1,3 +1,5 @@
+//! Parsers of a number in decimal digits: `dec_uint`, and `dec_int` with a sign.
+
 ghost use Rattle.std.specs.Prelude.{◌≡◌, IfErr};
 ghost use Rattle.winnow_count.specs.Reading.{IsSomeExactly};
 ghost use Rattle.winnow_parser.specs.Outcome.{Moves};

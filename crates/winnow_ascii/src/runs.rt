@@ -1,3 +1,5 @@
+//! Parsers of the longest prefix of a class of ASCII characters: `alpha0`, `digit1` and their like.
+
 ghost use Rattle.winnow_ascii.specs.Classes.{TakesAll};
 ghost use Rattle.winnow_ascii.specs.declared.class.Class.TheVariants.{Alpha, Digit, Alphanumeric};
 ghost use Rattle.winnow_ascii.specs.declared.class.Class.TheVariants.{HexDigit, OctDigit, Space};

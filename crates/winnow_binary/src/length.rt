@@ -1,3 +1,5 @@
+//! The numbers that a length field may hold: `Length`.
+
 ghost use Rattle.std.specs.Prelude.{◌≡◌, ℕ};
 
 /// A number that says how much comes next, as a length field holds one. Unlike `ToUsize`, it is a

@@ -1,3 +1,5 @@
+//! The types of numbers that a fixed number of bytes writes: `FixedNumber`.
+
 ghost use Rattle.std.specs.Prelude.{◌≡◌, ◌<◌, ◌^◌, ℕ};
 ghost use Rattle.std.specs.Int.{w8, w16, w32, w64, cast_signed};
 ghost use Rattle.winnow_binary.specs.declared.word.Width.{Width as NumberWidth};

@@ -1,3 +1,5 @@
+//! Parsers of numbers of each width and byte order: `be_u16`, `le_i32` and their like.
+
 ghost use Rattle.std.specs.Prelude.{◌≡◌};
 ghost use Rattle.winnow_parser.specs.Errors.{OwnErrors};
 ghost use Rattle.winnow_binary.specs.declared.word.Endianness.TheVariants.{Big, Little};

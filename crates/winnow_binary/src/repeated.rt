@@ -1,3 +1,5 @@
+//! The parser of a count and of that number of values: `length_repeat`.
+
 ghost use Rattle.std.specs.Prelude.{◌≡◌};
 ghost use Rattle.winnow_parser.specs.Answer.{ahead};
 ghost use Rattle.winnow_parser.specs.Errors.{ContinuedErrors};

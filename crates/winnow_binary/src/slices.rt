@@ -1,3 +1,5 @@
+//! The parser of a count and of a value in that number of tokens alone: `length_and_then`.
+
 ghost use Rattle.std.specs.Prelude.{◌≡◌, false, IfErr, IfOk};
 ghost use Rattle.winnow_parser.specs.Outcome.{Moves};
 ghost use Rattle.winnow_parser.specs.Answer.{ahead, outcome};

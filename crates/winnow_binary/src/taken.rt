@@ -1,3 +1,5 @@
+//! The parser of a count and of the slice of that number of tokens: `length_take`.
+
 ghost use Rattle.std.specs.Prelude.{◌≡◌};
 ghost use Rattle.winnow_parser.specs.Errors.{OwnErrors, PairErrors};
 ghost use Rattle.winnow_binary.specs.Lengths.{CountedSlice, IsParser-CountedSlice};

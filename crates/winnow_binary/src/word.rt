@@ -1,3 +1,5 @@
+//! The byte order (`Endianness`) and the `Width` of a number, and numbers joined from their halves.
+
 ghost use Rattle.std.specs.Prelude.{◌≡◌};
 ghost use Rattle.winnow_binary.specs.Numerals.{bytes_in, joined};
 

@@ -1,3 +1,5 @@
+//! `Bytes`: a stream of bytes that prints as hexadecimal digits.
+
 ghost use Rattle.std.specs.Prelude.{◌≡◌, ◌↔◌, ◌<◌, ◌≤◌, true, false, [], ◌∷◌, Some, nat_eq, refl};
 ghost use Rattle.std.specs.Prelude.{length, slice_get, slice_range, IfOk, IsTrue, ⊤};
 ghost use Rattle.std.specs.Cmp.{partial_equiv_from_equiv, on_per, on_equiv, on_po, on_total};

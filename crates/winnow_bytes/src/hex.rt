@@ -1,3 +1,5 @@
+//! Bytes as hexadecimal digits: `UpperBytes` in capitals, `LowerBytes` in small letters.
+
 ghost use Rattle.std.specs.Prelude.{◌≡◌, true, false, Some};
 ghost use Rattle.std.specs.Fmt.{WritesOnOk, WritesStyledOnOk};
 ghost use Rattle.winnow_bytes.specs.ByteContents.{upper_contents, lower_contents};

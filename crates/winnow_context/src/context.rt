@@ -1,3 +1,5 @@
+//! `ContextError`: an error with contexts, and the text of a cause if other code caused it.
+
 ghost use Rattle.std.specs.Prelude.{◌≡◌, nat_eq, true, None, Some, Ok, refl, IfOk, OnOk, OnErr};
 ghost use Rattle.std.specs.Prelude.{option_map, string_bytes, ⊤};
 ghost use Rattle.std.specs.Cmp.Lexicographic.{pointwise};

@@ -1,3 +1,5 @@
+//! `ContextItems`, the iterator over the contexts of an error.
+
 ghost use Rattle.std.specs.Prelude.{◌≡◌, length, IfSome, Some};
 ghost use Rattle.std.specs.Iterator.{at_most, item_count, UpTo, YieldsFirstRef};
 ghost use Rattle.std.specs.Iterator.SizeHint.{IsWithinCount};

@@ -1,3 +1,5 @@
+//! The printed text of a `ContextError` whose contexts are of type `StrContext`.
+
 ghost use Rattle.std.specs.Prelude.{◌≡◌, Some, option_map};
 ghost use Rattle.winnow_context.specs.Line.{line_output};
 ghost use Rattle.winnow_context.specs.ContextText.{first_label, expected, is_any, values_text};

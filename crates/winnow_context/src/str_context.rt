@@ -1,3 +1,5 @@
+//! The contexts `StrContext` and `StrContextValue`: labels and expected values, with their texts.
+
 ghost use Rattle.std.specs.Prelude.{◌≡◌, Some};
 ghost use Rattle.winnow_context.specs.ContextText.{value_text, context_text, char_text};
 ghost use Rattle.winnow_context.specs.ContextDebug.{value_debug, context_debug};

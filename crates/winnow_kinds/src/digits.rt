@@ -1,3 +1,5 @@
+//! The hexadecimal digit of a value: `hex_digit`.
+
 ghost use Rattle.std.specs.Prelude.{◌≡◌, ◌<◌};
 ghost use Rattle.std.specs.Fmt.{digit_glyph};
 

@@ -1,3 +1,5 @@
+//! The debug text of bytes and of characters, with escapes: `write_escaped`.
+
 ghost use Rattle.std.specs.Prelude.{◌<◌, ◌∷◌, [], ◌++◌, false, codes, IsTrue};
 ghost use Rattle.std.specs.Fmt.{WritesOnOk, WritesStyledOnOk, DisplaysOnOk, DisplaysStyledOnOk};
 ghost use Rattle.std.specs.Fmt.{formatter_spec, spec_alternate, digits, digit_glyph};

@@ -1,3 +1,5 @@
+//! The literals that bytes are compared with: `ByteLiteral`.
+
 #![tactic(auto, using(winnow_match::proofs::lemmas::ByteLemmas::source_bytes))]
 
 ghost use Rattle.std.specs.Prelude.{◌≡◌, ℕ, [], ◌∷◌, List};

@@ -1,3 +1,5 @@
+//! The text of bytes, with U+FFFD for damaged parts.
+
 ghost use Rattle.std.specs.Prelude.{take, encode_utf8_all};
 ghost use Rattle.std.specs.Fmt.{WritesOnOk, WritesStyledOnOk, formatter_spec, spec_precision};
 ghost use Rattle.std.specs.Str.Lossy.{utf8_lossy};

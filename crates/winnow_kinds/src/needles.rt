@@ -1,3 +1,5 @@
+//! The needles that bytes are searched for: `ByteNeedles`.
+
 #![tactic(auto, using(winnow_match::proofs::lemmas::ByteLemmas::source_bytes))]
 
 ghost use Rattle.std.specs.Prelude.{◌≡◌, ℕ, [], ◌∷◌, List};

@@ -1,3 +1,5 @@
+//! Comparison of a literal with a prefix of the input: `Compare` and `CompareResult`.
+
 ghost use Rattle.std.specs.Prelude.{◌≡◌, ℕ};
 ghost use Rattle.winnow_stream.specs.Source.{Source};
 ghost use Rattle.winnow_match.specs.Comparison.{EndsAtOffset, AgreesWithWidth};

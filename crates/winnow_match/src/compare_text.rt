@@ -1,3 +1,5 @@
+//! `Compare` for texts.
+
 ghost use Rattle.std.specs.Prelude.{length};
 ghost use Rattle.std.specs.Char.{encode_utf8};
 ghost use Rattle.winnow_match.specs.Bytes.{utf8_of};

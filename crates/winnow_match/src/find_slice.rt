@@ -1,3 +1,5 @@
+//! The trait of a search for the first place of a needle: `FindSlice`.
+
 ghost use Rattle.std.specs.Prelude.{◌≡◌, ℕ, Option, IfSome};
 ghost use Rattle.std.specs.declared.ops.Range as range_declared;
 ghost use Rattle.winnow_stream.specs.Source.{Source};

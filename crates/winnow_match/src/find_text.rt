@@ -1,3 +1,5 @@
+//! `FindSlice` for texts, one `impl` for each kind of needle.
+
 ghost use Rattle.std.specs.Prelude.{[], ◌∷◌};
 ghost use Rattle.std.specs.Char.{encode_utf8};
 ghost use Rattle.winnow_match.specs.Bytes.{utf8_of};

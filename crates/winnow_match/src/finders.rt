@@ -1,3 +1,5 @@
+//! `Finders`: searches for one to three needles over bytes, set up once for many inputs.
+
 ghost use Rattle.std.specs.Prelude.{◌≡◌, ◌↔◌, ℕ, [], ◌∷◌, ◌++◌, List, false, length, IsTrue};
 ghost use Rattle.std.specs.List.{list_any};
 ghost use Rattle.memchr.specs.Find.{IsFirst};

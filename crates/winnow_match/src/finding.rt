@@ -1,3 +1,5 @@
+//! The search for the first hit in bytes, of single bytes and of `Needles`.
+
 ghost use Rattle.std.specs.Prelude.{◌≡◌, ℕ, ◌<◌, ◌≤◌, [], ◌∷◌, ◌++◌, List, false, length};
 ghost use Rattle.std.specs.Prelude.{slice_index, IfSome, MatchOption};
 ghost use Rattle.std.specs.List.{list_any};

@@ -1,3 +1,5 @@
+//! `stretch`, which returns the needle to which a continuation may move a hit.
+
 ghost use Rattle.std.specs.Prelude.{◌≡◌, ◌↔◌, ◌≤◌, [], ◌∷◌, Some, IfSome, IsNone, IsTrue};
 ghost use Rattle.memchr.specs.Find.{FindsNeedle};
 ghost use Rattle.winnow_match.specs.Comparison.{is_prefix};

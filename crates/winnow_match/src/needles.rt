@@ -1,3 +1,5 @@
+//! The types of a search: one to three `Needles` as data, and a needle cut by the end (`Stretch`).
+
 ghost use Rattle.std.specs.Prelude.{◌≡◌};
 ghost use Rattle.winnow_match.specs.Search.{bytes_of_needles};
 ghost use Rattle.winnow_match.specs.Stretch.{longest};

@@ -1,3 +1,5 @@
+//! The span of the character at an offset of bytes, which need not be text.
+
 ghost use Rattle.std.specs.Prelude.{◌≡◌, ◌≤◌, length};
 ghost use Rattle.std.specs.List.{position_or_len};
 ghost use Rattle.winnow_parse_error.specs.CharSpan.{is_boundary, last_boundary, char_span};

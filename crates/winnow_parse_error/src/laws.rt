@@ -1,3 +1,5 @@
+//! Laws of parse errors. A law does nothing when called: its contract is the law.
+
 ghost use Rattle.std.specs.Prelude.{◌≡◌, ◌==◌, ◌&&◌, ◌+◌, ◌<◌, ◌≤◌, ◌++◌, ℕ, List, length};
 ghost use Rattle.std.specs.Str.{IsUtf8};
 ghost use Rattle.std.specs.Char.{IsScalar, encode_utf8};

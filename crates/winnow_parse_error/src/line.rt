@@ -1,3 +1,5 @@
+//! The line of bytes at an offset.
+
 ghost use Rattle.std.specs.Prelude.{◌≡◌, ◌==◌, not, count_by};
 ghost use Rattle.std.specs.List.{before_first};
 ghost use Rattle.winnow_parse_error.specs.Position.{is_newline, line_of};

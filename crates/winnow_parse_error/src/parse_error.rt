@@ -1,3 +1,5 @@
+//! `ParseError`: the error of a whole parse, with its input and its offset.
+
 ghost use Rattle.std.specs.Prelude.{◌≡◌, ◌-◌};
 ghost use Rattle.winnow_stream.specs.Source.{width, IsEndOf};
 ghost use Rattle.winnow_parse_error.specs.CharSpan.{char_span};

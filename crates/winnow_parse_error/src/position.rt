@@ -1,3 +1,5 @@
+//! `translate_position`, which returns the line and the column of an offset.
+
 ghost use Rattle.std.specs.Prelude.{◌≡◌, ◌<◌, ◌≤◌, ℕ, suc, true, length, slice_index, count_by};
 ghost use Rattle.std.specs.Str.{chars};
 ghost use Rattle.winnow_parse_error.specs.Position.{is_newline, line_start, last_column, line_of};

@@ -1,3 +1,5 @@
+//! The printed text of a `ParseError`: the line with a caret, and the inner error.
+
 ghost use Rattle.std.specs.Prelude.{◌≡◌, ◌++◌, IfOk, Some, length, string_bytes};
 ghost use Rattle.std.specs.Fmt.{◌++?◌, decimal};
 ghost use Rattle.winnow_parse_error.specs.Position.{line_of, column_of};

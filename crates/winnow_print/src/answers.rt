@@ -1,3 +1,5 @@
+//! The lines of answers: `push_answer`, `push_answers`, and `push_numbered` over pieces.
+
 ghost use Rattle.std.specs.Prelude.{◌≡◌, ◌++◌, codes, string_bytes, OnOk};
 ghost use Rattle.winnow_print.specs.AnswerLines.{at_words, compared_words, hit_words, offset_words};
 ghost use Rattle.winnow_print.specs.AnswerLines.{token_words, line, call_words, answer_line};

@@ -1,3 +1,5 @@
+//! `print_answers`, which runs a script on a stream and returns the lines of its answers.
+
 ghost use Rattle.std.specs.Prelude.{◌≡◌, IfOk, string_bytes};
 ghost use Rattle.winnow_run.specs.Searching.{AreSearchAnswers};
 ghost use Rattle.winnow_print.specs.AnswerLines.{item_words, answer_lines};

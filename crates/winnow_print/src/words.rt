@@ -1,3 +1,5 @@
+//! The words of slices and of items in a line: `PushWords`.
+
 ghost use Rattle.std.specs.Prelude.{◌≡◌, ◌++◌, ℕ, List, string_bytes, OnOk};
 ghost use Rattle.winnow_match.specs.Bytes.{utf8_of};
 ghost use Rattle.winnow_stream.specs.Text.{text_source};

@@ -1,3 +1,5 @@
+//! The reasons why the program fails: `Failure`, with its text and its exit status.
+
 ghost use Rattle.std.specs.Prelude.{◌≡◌, Some};
 ghost use Rattle.std.specs.IoError.{error_kind};
 ghost use Rattle.winnow_program.specs.Failure.{status_of, failure_text, failure_of};

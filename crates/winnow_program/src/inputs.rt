@@ -1,3 +1,5 @@
+//! `read_input`, which reads a reader to its end, up to a limit on bytes.
+
 ghost use Rattle.std.specs.Prelude.{◌≡◌, ◌≤◌, IfOk, IfSome, vec_len};
 
 use crate::Failure;

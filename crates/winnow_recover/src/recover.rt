@@ -1,3 +1,5 @@
+//! The trait of streams on which a parser may record an error: `Recover`.
+
 ghost use Rattle.std.specs.Prelude.{◌≡◌, Bool, OnErr, OnOk, true, false};
 ghost use Rattle.winnow_recover.specs.Recording.{IsRecording};
 

@@ -1,3 +1,5 @@
+//! `Recoverable`: a stream with a list of recorded errors.
+
 ghost use Rattle.std.specs.Prelude.{◌≡◌, false, not, ◌||◌, is_some, [], refl, true, IsTrue};
 ghost use Rattle.std.proofs.Common.{◌∙◌, sym, subst};
 ghost use Rattle.winnow_stream.specs.Checkpoint.{checkpoint_inner};

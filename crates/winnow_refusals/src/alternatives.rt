@@ -1,3 +1,5 @@
+//! Errors of alternatives, appended and combined while memory may be refused.
+
 ghost use Rattle.std.specs.Prelude.{true, None, Ok, ⊤};
 
 use std::alloc::{AllocError, Global};

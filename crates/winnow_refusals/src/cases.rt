@@ -1,3 +1,5 @@
+//! All cases by their subjects, and `tell`, the result of a case.
+
 use crate::accumulators::gather;
 use crate::items::Cow;
 use crate::{

@@ -1,3 +1,5 @@
+//! Errors with contexts, pushed, extended, cloned and converted while memory may be refused.
+
 ghost use Rattle.std.specs.Prelude.{◌≡◌, ⊤};
 ghost use Rattle.winnow_context.specs.Explanation.{pushed, unexplained};
 ghost use Rattle.winnow_context.specs.declared.str_context.StrContext.TheVariants.{Label};

@@ -1,3 +1,5 @@
+//! Feeds of bytes and of text, whose buffers grow while memory may be refused.
+
 use crate::cases::tell;
 use crate::feeding::Feed;
 use std::alloc::{AllocError, Global};

@@ -1,3 +1,5 @@
+//! Copies of the bytes of a `BStr` and of a `Bytes`, for which memory may be refused.
+
 use crate::cases::tell;
 use crate::printing::gives;
 use std::alloc::{AllocError, Global};

@@ -1,3 +1,5 @@
+//! Errors that a `Recoverable` stream records while memory may be refused.
+
 use crate::cases::tell;
 use std::alloc::{AllocError, Global};
 use winnow_error::ErrMode::{Backtrack, Cut};

@@ -1,3 +1,5 @@
+//! Scripts of calls, with or without a reset after them, and of searches, with memory refused.
+
 use crate::cases::tell;
 use crate::printing::gives;
 use std::alloc::{AllocError, Global};

@@ -1,3 +1,5 @@
+//! Trees of errors, built, printed and converted while memory may be refused.
+
 use crate::alternatives::both;
 use crate::cases::tell;
 use std::alloc::{AllocError, Global};

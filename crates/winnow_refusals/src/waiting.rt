@@ -1,3 +1,5 @@
+//! Feeds that wait for the suffix of a literal, which is copied while memory may be refused.
+
 use crate::cases::tell;
 use crate::feeding::Feed;
 use std::alloc::{AllocError, Global};

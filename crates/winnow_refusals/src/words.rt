@@ -1,3 +1,5 @@
+//! The bytes of a word of a script, read while memory may be refused.
+
 use crate::cases::tell;
 use crate::printing::gives;
 use std::alloc::{AllocError, Global};

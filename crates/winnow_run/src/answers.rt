@@ -1,3 +1,5 @@
+//! `answer_step`, which runs one step of a script on a stream and returns its answer.
+
 ghost use Rattle.std.specs.Prelude.{◌≡◌, ◌≤◌, Bool, IfOk, IsOk, OnErr};
 ghost use Rattle.winnow_stream.specs.SliceFrom.{IsSliceFrom};
 ghost use Rattle.winnow_stream.specs.Source.{Computes, first_offset};

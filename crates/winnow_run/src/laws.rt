@@ -1,3 +1,5 @@
+//! Laws of scripts, and `run_and_reset`, which runs a script and goes back.
+
 ghost use Rattle.std.specs.Prelude.{◌≡◌, IfOk};
 ghost use Rattle.std.specs.List.{AllZip};
 ghost use Rattle.winnow_stream.specs.SliceFrom.{IsSliceFrom};

@@ -1,3 +1,5 @@
+//! The `Marks` of a run, and its `Origin`, the position to which it can go back.
+
 ghost use Rattle.std.specs.Prelude.{◌≡◌, ◌-◌, ◌≤◌, [], ◌∷◌, ◌++◌, length, slice_get, IfOk, IsOk};
 ghost use Rattle.std.specs.Prelude.{OnErr, OnOk};
 ghost use Rattle.winnow_stream.specs.Source.{width};

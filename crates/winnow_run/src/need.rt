@@ -1,3 +1,5 @@
+//! The input that makes the answer of a step definite: `Need`.
+
 ghost use Rattle.std.specs.Prelude.{◌≡◌};
 ghost use Rattle.winnow_run.specs.Needs.{call_need, call_mark};
 

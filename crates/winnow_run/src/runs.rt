@@ -1,3 +1,5 @@
+//! `run`, which runs a script of calls on a stream.
+
 ghost use Rattle.std.specs.Prelude.{◌≡◌, ◌-◌, IfOk, OnErr, OnOk};
 ghost use Rattle.winnow_stream.specs.Source.{width};
 ghost use Rattle.winnow_stream.specs.SliceFrom.{IsSliceFrom};

@@ -1,3 +1,5 @@
+//! The types of a script of calls: a `Step` and its `Answer`.
+
 use winnow_stream::Needed;
 
 /// A call on a stream, as data. `C` is a set of tokens; offsets and marks are numbers.

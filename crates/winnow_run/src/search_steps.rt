@@ -1,3 +1,5 @@
+//! The types of a script that also compares and searches: a `SearchStep` and its `SearchAnswer`.
+
 use crate::{Answer, Step};
 use std::ops::Range;
 use winnow_match::{CompareResult, Needles};

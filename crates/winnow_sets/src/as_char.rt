@@ -1,3 +1,5 @@
+//! Tokens that stand for characters: `AsChar`.
+
 ghost use Rattle.std.specs.Prelude.{◌≡◌, ℕ};
 ghost use Rattle.std.specs.Char.{len_utf8, is_newline, is_ascii_alphabetic, is_ascii_alphanumeric};
 ghost use Rattle.std.specs.Char.{is_ascii_digit, is_ascii_hexdigit};

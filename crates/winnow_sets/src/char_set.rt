@@ -1,3 +1,5 @@
+//! `CharSet`: a set of characters as data, a list of ranges.
+
 ghost use Rattle.std.specs.Prelude.{◌≡◌};
 ghost use Rattle.winnow_sets.specs.Sets.{char_ranges, in_ranges, least_of_first};
 

@@ -1,3 +1,5 @@
+//! Closures as sets of tokens: `Where`.
+
 use crate::ContainsToken;
 use std::fmt;
 use std::fmt::Debug;

@@ -1,3 +1,5 @@
+//! The trait of sets of tokens, `ContainsToken`, and sets of one token or of none.
+
 ghost use Rattle.std.specs.Prelude.{◌≡◌, ◌==◌, Bool, false, ⊤};
 
 use crate::AsChar;

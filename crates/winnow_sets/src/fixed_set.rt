@@ -1,3 +1,5 @@
+//! The trait of sets with one answer for each token, `FixedSet`, at all but ranges and unions.
+
 ghost use Rattle.std.specs.Prelude.{◌≡◌, ◌==◌, Bool, false};
 ghost use Rattle.winnow_sets.specs.Sets.{char_ranges, in_ranges, is_one_of, AnswersOnly};
 

@@ -1,3 +1,5 @@
+//! `FixedSet` for unions: tuples of up to ten sets.
+
 ghost use Rattle.std.specs.Prelude.{◌||◌};
 ghost use Rattle.winnow_sets.specs.SetLaws.{AnswersOnly-union};
 

@@ -1,3 +1,5 @@
+//! `ContainsToken` for lists of members: slices and arrays of bytes or of characters.
+
 ghost use Rattle.std.specs.Prelude.{◌≡◌};
 ghost use Rattle.winnow_sets.specs.Sets.{is_one_of};
 

@@ -1,3 +1,5 @@
+//! `ContainsToken` for ranges.
+
 ghost use Rattle.std.specs.Prelude.{◌≡◌, nat_le, nat_lt, true};
 ghost use Rattle.std.specs.Int.{is_in_range};
 ghost use Rattle.std.specs.Range.{range_inclusive_start, range_inclusive_end};

@@ -1,3 +1,5 @@
+//! `ContainsToken` for unions: tuples of up to ten sets.
+
 ghost use Rattle.winnow_sets.specs.Sets.{◌∪◌};
 
 use crate::ContainsToken;

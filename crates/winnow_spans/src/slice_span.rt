@@ -1,3 +1,5 @@
+//! The span of a slice of tokens: `SliceSpan`.
+
 ghost use Rattle.std.specs.Prelude.{◌≡◌, ℕ, Option};
 ghost use Rattle.std.specs.declared.ops.Range.{Range};
 ghost use Rattle.winnow_spans.specs.Spans.{span_of};

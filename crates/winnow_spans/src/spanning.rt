@@ -1,3 +1,5 @@
+//! Parsers of the span of the consumed tokens: `token_span`, and `with_token_span` with the value.
+
 ghost use Rattle.std.specs.Prelude.{◌≡◌};
 ghost use Rattle.winnow_parser.specs.Meanings.{Maps};
 ghost use Rattle.winnow_parser.specs.Parts.{IsParser-Maps};

@@ -1,3 +1,5 @@
+//! The parser of a number of tokens: `take`.
+
 ghost use Rattle.std.specs.Prelude.{◌≡◌, ◌≤◌};
 ghost use Rattle.winnow_parser.specs.Errors.{OwnErrors};
 ghost use Rattle.winnow_token.specs.Counted.{Counted, IsParser-Counted};

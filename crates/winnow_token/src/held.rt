@@ -1,3 +1,5 @@
+//! Parsers of the longest prefix of members, `take_while`, or of other tokens, `take_till`.
+
 ghost use Rattle.std.specs.Prelude.{◌≡◌, ℕ, ◌≤◌, Bool, Option, not, length, take, Some, None};
 ghost use Rattle.std.specs.Prelude.{IsTrue, IfErr};
 ghost use Rattle.winnow_stream.specs.Source.{width, Computes};

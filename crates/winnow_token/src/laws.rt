@@ -1,3 +1,5 @@
+//! Laws of parsers of tokens. A law does nothing when called: its contract is the law.
+
 ghost use Rattle.std.specs.Prelude.{◌≡◌, ℕ, ◌≤◌, ◌↔◌, Bool, Option, IsTrue, List, [], ◌∷◌, length};
 ghost use Rattle.std.specs.Prelude.{take};
 ghost use Rattle.std.specs.declared.ops.Range.{Range};

@@ -1,3 +1,5 @@
+//! Parsers of one token: `any`, `one_of` and `none_of`.
+
 ghost use Rattle.std.specs.Prelude.{◌≡◌, true, not};
 ghost use Rattle.winnow_parser.specs.Errors.{OwnErrors};
 ghost use Rattle.winnow_token.specs.OneOf.{OneOf, IsParser-OneOf};

@@ -1,3 +1,5 @@
+//! Parsers of the remaining input: its slice, `rest`, and its width, `rest_len`.
+
 ghost use Rattle.winnow_parser.specs.Errors.{NoError};
 ghost use Rattle.winnow_token.specs.Remaining.{Remaining, RemainingWidth};
 ghost use Rattle.winnow_token.specs.Remaining.{IsParser-Remaining, IsParser-RemainingWidth};

@@ -1,3 +1,5 @@
+//! The parser of the tokens before a literal: `take_until`.
+
 ghost use Rattle.std.specs.Prelude.{◌≡◌, true};
 ghost use Rattle.winnow_count.specs.CountRange.{least_count, greatest_count};
 ghost use Rattle.winnow_parser.specs.Errors.{OwnErrors};

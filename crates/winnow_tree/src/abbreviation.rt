@@ -1,3 +1,5 @@
+//! The abbreviated text of an input: the first characters of its first line.
+
 ghost use Rattle.std.specs.Prelude.{◌≡◌, ◌++◌, OnOk, string_bytes};
 ghost use Rattle.std.specs.Str.{chars};
 ghost use Rattle.winnow_tree.specs.Abbreviation.{abbreviation};

@@ -1,3 +1,5 @@
+//! `combine_trees`, which joins the errors of alternatives in the order of their brackets.
+
 ghost use Rattle.std.specs.Prelude.{All, IfOk, IsTrue, IsPermutation};
 ghost use Rattle.std.specs.List.{flat_map};
 ghost use Rattle.winnow_error.specs.Mode.{IsBacktrackOf, ModeOr, mode_backtracks};

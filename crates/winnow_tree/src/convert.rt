@@ -1,3 +1,5 @@
+//! Conversions of a `TreeError` between bytes and their bits.
+
 ghost use Rattle.std.specs.Prelude.{◌≡◌, ⊤};
 ghost use Rattle.winnow_views.specs.BitStream.{bits_inner, bits_place};
 ghost use Rattle.winnow_tree.specs.TreeContents.{tree_contents};

@@ -1,3 +1,5 @@
+//! The alternatives of two errors, joined as one `Alt`.
+
 ghost use Rattle.std.specs.Prelude.{IfOk};
 ghost use Rattle.winnow_tree.specs.Entries.{TreeOr};
 

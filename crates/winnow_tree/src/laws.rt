@@ -1,3 +1,5 @@
+//! Laws of trees of errors. A law does nothing when called: its contract is the law.
+
 ghost use Rattle.std.specs.Prelude.{◌≡◌, ◌++◌, ◌∷◌, List, All, IsTrue, IsSome, IsNone};
 ghost use Rattle.std.specs.Prelude.{IsPermutation};
 ghost use Rattle.std.specs.List.{FoldsTo, flat_map};

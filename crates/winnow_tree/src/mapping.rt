@@ -1,3 +1,5 @@
+//! Trees with other inputs: `map_input`, and `into_owned` with copies of the inputs.
+
 ghost use Rattle.std.specs.Prelude.{◌≡◌, IfOk, map, string_bytes};
 ghost use Rattle.std.specs.List.{AllZip};
 ghost use Rattle.winnow_tree.specs.TreeContents.{tree_contents, frame_contents};

@@ -1,3 +1,5 @@
+//! The parts of a tree: `TreeErrorBase`, `TreeErrorContext` and `TreeErrorFrame`.
+
 ghost use Rattle.std.specs.Prelude.{◌≡◌, IfOk, string_bytes};
 
 use std::alloc::{AllocError, Global};

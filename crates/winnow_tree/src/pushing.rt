@@ -1,3 +1,5 @@
+//! Frames that are pushed on an error: of a parser that failed, or of a context.
+
 ghost use Rattle.std.specs.Prelude.{◌≡◌, IfOk, None, [], ◌∷◌};
 ghost use Rattle.winnow_tree.specs.TreeContents.{tree_contents, frame_contents, with_frame, kind};
 ghost use Rattle.winnow_tree.specs.TreeContents.{context, stack, PushedAt};

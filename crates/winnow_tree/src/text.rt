@@ -1,3 +1,5 @@
+//! The texts of trees of errors and of their parts.
+
 ghost use Rattle.std.specs.Prelude.{◌≡◌, [], IfOk, IfSome, OnOk, string_bytes};
 ghost use Rattle.std.specs.Fmt.{AppendsText};
 ghost use Rattle.winnow_tree.specs.TreeText.{at_text, base_text, told_text, frame_text, frame_line};

@@ -1,3 +1,5 @@
+//! `TreeError`: an error that holds each alternative that was tried.
+
 ghost use Rattle.std.specs.Prelude.{Some, None, Ok, true, string_bytes, ⊤};
 ghost use Rattle.winnow_tree.specs.TreeContents.{tree_contents, kind, context, PushedAt};
 ghost use Rattle.winnow_tree.specs.Entries.{TreeOr, IsBase};

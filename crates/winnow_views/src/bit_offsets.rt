@@ -1,3 +1,5 @@
+//! `BitOffsets`, the iterator over bits with their offsets.
+
 ghost use Rattle.std.specs.Prelude.{◌≡◌, ◌+◌, ◌≤◌, ◌<◌, ◌^◌};
 ghost use Rattle.std.specs.Iterator.{IsFinite, size, at_most};
 ghost use Rattle.winnow_views.specs.BitSource.{bit_of};

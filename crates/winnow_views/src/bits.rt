@@ -1,3 +1,5 @@
+//! `Bits`: the bits of a stream of bytes, as a stream.
+
 ghost use Rattle.std.specs.Prelude.{◌≡◌, ◌+◌, ◌-◌, ◌*◌, ◌/◌, ◌%◌, ◌<◌, true, [], take, drop};
 ghost use Rattle.std.specs.Prelude.{IsTrue, IfSome, IfNone};
 ghost use Rattle.winnow_stream.specs.Checkpoint.{checkpoint_inner};

@@ -1,3 +1,5 @@
+//! `PreviousTokens`, the iterator over the tokens before the place, the last token first.
+
 ghost use Rattle.std.specs.Prelude.{◌≡◌, reverse};
 ghost use Rattle.std.specs.Iterator.{item_count, YieldsFirstRef};
 ghost use Rattle.winnow_views.specs.TokenPrevious.{left_of};

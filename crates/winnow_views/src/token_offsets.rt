@@ -1,3 +1,5 @@
+//! `TokenOffsets`, the iterator over the tokens of a slice with their offsets.
+
 ghost use Rattle.std.specs.Prelude.{◌≡◌, ◌<◌, ◌^◌, length};
 ghost use Rattle.std.specs.Iterator.{at_most, YieldsFirst};
 ghost use Rattle.winnow_stream.specs.Source.{offsets};

@@ -1,3 +1,5 @@
+//! `TokenSlice`: the tokens that a lexer made, as a stream.
+
 ghost use Rattle.std.specs.Prelude.{◌≡◌, ◌+◌, true, [], Some, length, drop, min, reverse, IsTrue};
 ghost use Rattle.std.specs.Prelude.{refl, ⊤, ◌&&◌, ℕ, false};
 ghost use Rattle.std.specs.Iterator.{AlwaysYields, IsFinite};

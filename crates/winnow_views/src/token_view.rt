@@ -1,3 +1,5 @@
+//! `TokenView`: the contents of a checkpoint of a `TokenSlice`.
+
 ghost use Rattle.std.specs.Prelude.{◌≡◌, ⊤, ◌+◌, ◌≤◌, Some, drop, length};
 ghost use Rattle.std.specs.Cmp.{on_per, on_equiv, on_po, on_total};
 ghost use Rattle.std.specs.Cmp.Lexicographic.{pointwise, slice_cmp, slice_partial_cmp, lists_per};

@@ -1,3 +1,5 @@
+//! The methods of a `Window`: its elements, its start, and parts of it.
+
 ghost use Rattle.std.specs.Prelude.{◌≡◌, ◌+◌, ◌<◌, ◌≤◌, Some, length, take, drop, slice_get};
 ghost use Rattle.winnow_window.specs.Contents.{contents_of, start_of, slice_of, slice_behind};
 ghost use Rattle.winnow_window.specs.Contents.{slice_before};

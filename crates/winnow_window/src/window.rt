@@ -1,3 +1,5 @@
+//! `Window`: a part of a slice, with the whole slice.
+
 ghost use Rattle.std.specs.Prelude.{◌≡◌, ◌≤◌, length, ⊤};
 
 use std::alloc::AllocError;

@@ -1,3 +1,5 @@
+//! The types `LocatingSlice`, a stream with its location, and `Placed`, its checkpoint.
+
 ghost use Rattle.std.specs.Prelude.{◌≡◌, ◌+◌, ◌<◌, ◌^◌, ⊤};
 
 use std::alloc::AllocError;

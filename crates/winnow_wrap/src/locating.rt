@@ -1,3 +1,5 @@
+//! The methods and traits of `LocatingSlice`.
+
 ghost use Rattle.std.specs.Prelude.{◌≡◌, ◌+◌, ◌<◌, ◌^◌, [], Some, take, drop, IsTrue, refl, ℕ};
 ghost use Rattle.std.proofs.Common.{◌∙◌, subst};
 ghost use Rattle.winnow_stream.specs.Source.{width, first_token};

@@ -1,3 +1,5 @@
+//! `Partial`: a stream with a flag that more input may follow.
+
 ghost use Rattle.std.specs.Prelude.{◌≡◌, true, false, refl};
 ghost use Rattle.std.proofs.Common.{◌∙◌, sym, ap, subst, true≢false};
 ghost use Rattle.winnow_stream.specs.Checkpoint.{checkpoint_inner};

@@ -1,3 +1,5 @@
+//! `Stateful`: a stream with a state that no call of `Stream` changes.
+
 ghost use Rattle.std.specs.Prelude.{◌≡◌, refl};
 ghost use Rattle.std.proofs.Common.{◌∙◌};
 ghost use Rattle.winnow_stream.specs.Checkpoint.{checkpoint_inner};
