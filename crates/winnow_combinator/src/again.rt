@@ -1,3 +1,5 @@
+//! The loop of repeated parsers: `go_on`, its single call `one_more`, and the check `Advancing`.
+
 ghost use Rattle.std.specs.Prelude.{◌+◌, ◌<◌, ◌^◌, List, length, IfErr};
 ghost use Rattle.std.specs.List.{FoldsTo};
 ghost use Rattle.winnow_stream.specs.Source.{width};

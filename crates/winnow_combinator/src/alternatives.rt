@@ -1,3 +1,5 @@
+//! `alt`, and `Alternatives` of two and three parsers.
+
 ghost use Rattle.std.specs.Prelude.{◌≡◌};
 ghost use Rattle.winnow_parser.specs.Answer.{ahead};
 ghost use Rattle.winnow_parser.specs.Meanings.{Either};

@@ -1,3 +1,5 @@
+//! `Alternatives` of four to seven parsers.
+
 ghost use Rattle.winnow_parser.specs.Answer.{ahead};
 ghost use Rattle.winnow_combinator.specs.Appended.{Appending, AppendedErrors, IsParser-Appending};
 ghost use Rattle.winnow_combinator.specs.ChoiceErrors.{ChoiceErrors4, ChoiceErrors5};

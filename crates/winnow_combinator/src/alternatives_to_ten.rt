@@ -1,3 +1,5 @@
+//! `Alternatives` of eight to ten parsers.
+
 ghost use Rattle.winnow_parser.specs.Answer.{ahead};
 ghost use Rattle.winnow_combinator.specs.Appended.{Appending, AppendedErrors, IsParser-Appending};
 ghost use Rattle.winnow_combinator.specs.ChoiceErrors.{ChoiceErrors8, ChoiceErrors9};

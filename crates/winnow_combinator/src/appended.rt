@@ -1,3 +1,5 @@
+//! `Appended`, which calls `append` on the error with which its parser backtracks.
+
 ghost use Rattle.winnow_parser.specs.Answer.{ahead};
 ghost use Rattle.winnow_combinator.specs.Appended.{Appending, AppendedErrors, IsParser-Appending};
 

@@ -1,3 +1,5 @@
+//! Laws of the meaning and of the errors of an `alt` in an `alt`.
+
 ghost use Rattle.std.specs.Prelude.{Bool};
 ghost use Rattle.winnow_parser.specs.declared.failure.Failure.TheVariants.{Backtrack};
 ghost use Rattle.winnow_parser.specs.Answer.{ahead};

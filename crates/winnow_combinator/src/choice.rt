@@ -1,3 +1,5 @@
+//! `Choice` of two and three parsers: the part of `alt` that calls them and joins their errors.
+
 ghost use Rattle.winnow_parser.specs.Answer.{ahead};
 ghost use Rattle.winnow_parser.specs.Meanings.{Either};
 ghost use Rattle.winnow_parser.specs.Errors.{EitherErrors};

@@ -1,3 +1,5 @@
+//! `Choice` of four to seven parsers.
+
 ghost use Rattle.winnow_parser.specs.Answer.{ahead};
 ghost use Rattle.winnow_combinator.specs.ChoiceErrors.{ChoiceErrors4, ChoiceErrors5};
 ghost use Rattle.winnow_combinator.specs.ChoiceErrors.{ChoiceErrors6, ChoiceErrors7};

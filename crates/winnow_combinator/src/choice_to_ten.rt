@@ -1,3 +1,5 @@
+//! `Choice` of eight to ten parsers.
+
 ghost use Rattle.winnow_parser.specs.Answer.{ahead};
 ghost use Rattle.winnow_combinator.specs.ChoiceErrors.{ChoiceErrors8, ChoiceErrors9};
 ghost use Rattle.winnow_combinator.specs.ChoiceErrors.{ChoiceErrors10};

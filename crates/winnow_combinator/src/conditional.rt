@@ -1,3 +1,5 @@
+//! `cond`, which calls a parser if a flag says so.
+
 ghost use Rattle.std.specs.Prelude.{◌≡◌};
 ghost use Rattle.winnow_combinator.specs.Conditional.{Conditional, IsParser-Conditional};
 

@@ -1,3 +1,5 @@
+//! `Counts`: the least and the greatest number of values of a repeated parser.
+
 ghost use Rattle.std.specs.Prelude.{◌≡◌, ◌↔◌, ◌-◌, ◌≤◌, IsTrue};
 ghost use Rattle.winnow_count.specs.CountRange.{least_count, greatest_count};
 ghost use Rattle.winnow_combinator.specs.Appended.{appends_to_first};

@@ -1,3 +1,5 @@
+//! Laws that repetitions, conditional parsers and parsers of no input are deterministic.
+
 ghost use Rattle.std.specs.Prelude.{ℕ, Bool, Option, ⊤};
 ghost use Rattle.winnow_parser.specs.Determined.{IsDetermined, Shows, Respects};
 ghost use Rattle.winnow_parser.specs.Determined.{AreSameIfAny, AreBothSame, SlicesRespect};

@@ -1,3 +1,5 @@
+//! Laws that sequences with dropped values, mapped parsers and gathered lists are deterministic.
+
 ghost use Rattle.std.specs.Prelude.{◌≡◌, ℕ, Option};
 ghost use Rattle.winnow_parser.specs.Context.{InContext};
 ghost use Rattle.winnow_parser.specs.Continued.{Continued};

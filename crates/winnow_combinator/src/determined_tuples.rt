@@ -1,3 +1,5 @@
+//! Laws that tuples of three to ten parsers, and alternatives of two to ten, are deterministic.
+
 ghost use Rattle.winnow_parser.specs.Determined.{IsDetermined, Shows};
 ghost use Rattle.winnow_parser.specs.DeterminedRows.{AreSame3, AreSame4, AreSame5, AreSame6};
 ghost use Rattle.winnow_parser.specs.DeterminedRows.{AreSame7, AreSame8, AreSame9, AreSame10};

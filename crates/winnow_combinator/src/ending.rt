@@ -1,3 +1,5 @@
+//! `eof`, `empty` and `fail`: the parsers of the end, of nothing and of no value.
+
 ghost use Rattle.winnow_parser.specs.Meanings.{Returns};
 ghost use Rattle.winnow_parser.specs.Errors.{NoError, OwnErrors};
 ghost use Rattle.winnow_parser.specs.Parts.{IsParser-Returns};

@@ -1,3 +1,5 @@
+//! `Gather`, which collects the values of a repeated parser, by `Accumulated` or by `Folded`.
+
 ghost use Rattle.std.specs.Prelude.{◌≡◌, ℕ, ◌+◌, ◌<◌, ◌^◌, List, [], ◌∷◌, ◌++◌, length};
 ghost use Rattle.std.specs.Prelude.{IfOk, OnOk, OnErr, ⊤};
 ghost use Rattle.std.specs.List.{FoldsTo};

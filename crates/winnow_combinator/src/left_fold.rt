@@ -1,3 +1,5 @@
+//! `separated_foldl1`, which folds values and separators from the left.
+
 ghost use Rattle.std.specs.Prelude.{◌≡◌, ⊤};
 ghost use Rattle.winnow_parser.specs.Meanings.{Pair};
 ghost use Rattle.winnow_combinator.specs.Misuse.{GatheredErrors};

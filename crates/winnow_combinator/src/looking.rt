@@ -1,3 +1,5 @@
+//! `peek` and `not`, which consume nothing.
+
 ghost use Rattle.std.specs.Prelude.{◌≡◌};
 ghost use Rattle.winnow_parser.specs.Meanings.{LookedAt, Negated};
 ghost use Rattle.winnow_parser.specs.Errors.{UnwantedErrors};

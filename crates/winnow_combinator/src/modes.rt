@@ -1,3 +1,5 @@
+//! `cut_err`, which turns `Backtrack` into `Cut`, and `backtrack_err`, which turns it back.
+
 ghost use Rattle.std.specs.Prelude.{◌≡◌};
 ghost use Rattle.winnow_parser.specs.Meanings.{CutOff, Softened};
 ghost use Rattle.winnow_parser.specs.Errors.{CutErrors, SoftenedErrors};

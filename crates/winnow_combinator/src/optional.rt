@@ -1,3 +1,5 @@
+//! `opt`, which succeeds with `None` if its parser backtracks.
+
 ghost use Rattle.std.specs.Prelude.{◌≡◌};
 ghost use Rattle.winnow_parser.specs.Meanings.{Optional};
 ghost use Rattle.winnow_parser.specs.Parts.{IsParser-Optional};

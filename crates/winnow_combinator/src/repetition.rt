@@ -1,3 +1,5 @@
+//! `repeat`, which calls a parser again and again, and `fold` of its values.
+
 ghost use Rattle.std.specs.Prelude.{◌≡◌};
 ghost use Rattle.winnow_count.specs.CountRange.{least_count, greatest_count};
 ghost use Rattle.winnow_parser.specs.Answer.{ahead};

@@ -1,3 +1,5 @@
+//! `separated`, the parser of values with separators between them.
+
 ghost use Rattle.std.specs.Prelude.{◌≡◌, ◌+◌, ◌-◌, ◌<◌, ◌^◌, ◌∷◌, IfErr};
 ghost use Rattle.winnow_stream.specs.Source.{width};
 ghost use Rattle.winnow_parser.specs.Outcome.{Moves};

@@ -1,3 +1,5 @@
+//! `preceded`, `terminated`, `delimited` and `separated_pair`: sequences that drop some values.
+
 ghost use Rattle.std.specs.Prelude.{◌≡◌};
 ghost use Rattle.winnow_parser.specs.Meanings.{Pair, Preceded, Terminated};
 ghost use Rattle.winnow_parser.specs.Errors.{PairErrors};

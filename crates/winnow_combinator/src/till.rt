@@ -1,3 +1,5 @@
+//! `repeat_till`, which repeats a parser until another one succeeds.
+
 ghost use Rattle.std.specs.Prelude.{◌≡◌, ◌+◌, ◌<◌, ◌^◌, List, length, IfErr};
 ghost use Rattle.std.specs.List.{FoldsTo};
 ghost use Rattle.winnow_stream.specs.Source.{width};

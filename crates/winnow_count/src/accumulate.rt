@@ -1,3 +1,5 @@
+//! `Accumulate`, the trait of accumulators, and `accumulate_all`.
+
 ghost use Rattle.std.specs.Prelude.{ℕ, ◌+◌, ◌<◌, ◌^◌, List, [], ◌∷◌, ◌++◌, length, Option, IfOk};
 ghost use Rattle.std.specs.Prelude.{OnOk, OnErr, ⊤};
 

@@ -1,3 +1,5 @@
+//! The accumulators, one module for each kind, and the room that they make at first.
+
 ghost use Rattle.std.specs.Prelude.{◌≡◌};
 ghost use Rattle.winnow_count.specs.Accumulation.{room_of};
 

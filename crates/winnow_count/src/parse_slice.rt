@@ -1,3 +1,5 @@
+//! `ParseSlice`, the trait of slices that are read as values.
+
 ghost use Rattle.std.specs.Prelude.{IsUtf8};
 ghost use Rattle.winnow_count.specs.Reading.{IsSomeExactly};
 

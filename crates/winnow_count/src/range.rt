@@ -1,3 +1,5 @@
+//! `Range`, the number of times that a parser may be repeated.
+
 ghost use Rattle.std.specs.Prelude.{◌≡◌, ◌-◌, Some, None, ⊤, MatchOption, IfOk};
 ghost use Rattle.std.specs.declared.ops.Bound.TheVariants.{Included, Unbounded};
 ghost use Rattle.std.specs.Range.{range_inclusive_start, range_inclusive_end};

@@ -1,3 +1,5 @@
+//! The law of equality and of membership of ranges of counts.
+
 ghost use Rattle.std.specs.Prelude.{◌≡◌, ◌↔◌, ℕ, IsTrue};
 ghost use Rattle.std.specs.Range.Bound.{bounds_contain};
 ghost use Rattle.winnow_count.specs.CountRange.{allows_count, greatest_count, least_count};

@@ -1,3 +1,5 @@
+//! `Readable`, the trait of values that are read from a text: whole numbers, `bool` and `char`.
+
 ghost use Rattle.std.specs.Prelude.{List, ℕ};
 ghost use Rattle.std.specs.Int.{w8, w16, w32, w64, w128};
 ghost use Rattle.winnow_count.specs.Reading.{IsSomeExactly, ReadsUnsigned, ReadsSigned, ReadsBool};

@@ -1,3 +1,5 @@
+//! `ToUsize`, the trait of unsigned numbers that can be a count.
+
 ghost use Rattle.std.specs.Prelude.{◌≡◌, ◌≤◌, ℕ};
 
 /// A number that can be a count, as a length field holds one.

@@ -1,3 +1,5 @@
+//! `AddContext`, the trait of errors that record the context of a failure.
+
 ghost use Rattle.std.specs.Prelude.{IfOk, OnErr};
 
 use std::alloc::{AllocError, Global};

@@ -1,3 +1,5 @@
+//! `AssociativeOr`, the trait of errors with an associative `or` that is never refused memory.
+
 ghost use Rattle.std.specs.Prelude.{◌≡◌};
 
 use crate::ParserError;

@@ -1,3 +1,5 @@
+//! `combine` and `join_all`, which join the errors of many alternatives.
+
 ghost use Rattle.std.specs.Prelude.{◌≡◌, Some, IfOk, OnErr};
 ghost use Rattle.winnow_error.specs.Mode.{ModeOr};
 ghost use Rattle.winnow_error.specs.Or.{GivesOnly, IsAssociative};

@@ -1,3 +1,5 @@
+//! `EmptyError`, which holds nothing.
+
 ghost use Rattle.std.specs.Prelude.{◌≡◌, true, None, Ok, Some, refl, codes, ⊤};
 
 use crate::{

@@ -1,3 +1,5 @@
+//! `ErrorConvert`, the trait of errors that convert to another type of error.
+
 ghost use Rattle.std.specs.Prelude.{IfOk, OnErr};
 
 use std::alloc::{AllocError, Global};

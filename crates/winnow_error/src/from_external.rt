@@ -1,3 +1,5 @@
+//! `FromExternalError`, the trait of errors that are made of errors of other code.
+
 use std::alloc::Global;
 
 /// An error that can be made from an error of other code, as when a number could not be read.

@@ -1,3 +1,5 @@
+//! `FromRecoverableError`, the trait of records of errors from which a parser recovers.
+
 ghost use Rattle.std.specs.Prelude.{◌≡◌};
 
 use winnow_stream::Stream;

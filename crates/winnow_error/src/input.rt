@@ -1,3 +1,5 @@
+//! `InputError`, which holds the input at which a parser failed.
+
 ghost use Rattle.std.specs.Prelude.{◌≡◌, ◌++◌, true, None, Ok, Some, refl, codes, IfOk};
 ghost use Rattle.std.specs.Prelude.{string_bytes};
 ghost use Rattle.std.specs.Fmt.{◌++?◌};

@@ -1,3 +1,5 @@
+//! Laws of modes, of `or`, and of the brackets of alternatives' errors.
+
 ghost use Rattle.std.specs.Prelude.{◌≡◌, IsSome};
 ghost use Rattle.winnow_error.specs.declared.combining.OrTree.{OrTree};
 ghost use Rattle.winnow_error.specs.Mode.{Mode, ModeOr, mode_cut, mode_backtrack, mode_joined};

@@ -1,3 +1,5 @@
+//! `ModalError`, the trait of errors with a mode that a caller can change.
+
 ghost use Rattle.std.specs.Prelude.{◌≡◌};
 
 /// An error that says whether another alternative may be tried, and lets a caller change that.

@@ -1,3 +1,5 @@
+//! `ErrMode`, an error with its mode: `Incomplete`, `Backtrack` or `Cut`.
+
 ghost use Rattle.std.specs.Prelude.{◌≡◌, is_some, IfOk, OnErr, IsNone, IsTrue};
 ghost use Rattle.winnow_error.specs.Mode.{mode_needs, mode_backtracks, mode_inner, mode_cut};
 ghost use Rattle.winnow_error.specs.Mode.{mode_backtrack, mode_map, mode_joined, IsBacktrackOf};

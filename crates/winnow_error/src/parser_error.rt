@@ -1,3 +1,5 @@
+//! `ParserError`, the trait of errors that any parser can make, extend and join.
+
 ghost use Rattle.std.specs.Prelude.{◌≡◌, Bool, Option, Result, IfOk, OnErr, is_some};
 ghost use Rattle.winnow_stream.specs.declared.needed.Needed.{Needed};
 

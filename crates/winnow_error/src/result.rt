@@ -1,3 +1,5 @@
+//! `Result` and `ModalResult`, the results of parsers whose errors have no mode, or one.
+
 use crate::ErrMode;
 
 /// What a parser answers whose error needs no mode.

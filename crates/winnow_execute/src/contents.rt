@@ -1,3 +1,5 @@
+//! `Contents` of literals and inputs, as bytes or text, and `Lend`, which lends them for a run.
+
 ghost use Rattle.std.specs.Prelude.{◌≡◌, ◌↔◌, ℕ, List, ⊤, string_bytes, IsSome, IfSome};
 ghost use Rattle.std.specs.Str.{IsUtf8};
 ghost use Rattle.std.proofs.lemmas.Str.{IsUtf8-string_bytes};

@@ -1,3 +1,5 @@
+//! `execute`, which runs the script of a text and returns its answers as lines.
+
 ghost use Rattle.std.specs.Prelude.{◌+◌, IfErr, IfOk, length, string_bytes};
 ghost use Rattle.winnow_execute.specs.Fault.{IsLineWhere, IsWithin};
 ghost use Rattle.winnow_execute.specs.FaultyLines.{FaultsInput, FaultsFed, FaultsAfterSteps};

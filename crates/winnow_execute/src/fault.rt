@@ -1,3 +1,5 @@
+//! `ScriptFault`: a faulty or missing line, or refused memory.
+
 ghost use Rattle.std.specs.Prelude.{◌≡◌, Some};
 ghost use Rattle.winnow_execute.specs.Fault.{fault_text};
 ghost use Rattle.winnow_execute.specs.declared.fault.ScriptFault.TheVariants.{OutOfMemory};

@@ -1,3 +1,5 @@
+//! `FedLine`, a line of an input in pieces, and `read_fed_lines`, which reads them all.
+
 ghost use Rattle.std.specs.Prelude.{◌≡◌, ◌≢◌, ◌+◌, ◌<◌, ◌≤◌, [], IfErr, IfOk, IsTrue, OnOk};
 ghost use Rattle.std.specs.Prelude.{length, sum_by};
 ghost use Rattle.winnow_execute.specs.Fault.{IsLineWhere, IsWithin};

@@ -1,3 +1,5 @@
+//! The lines of the `Kind` of a script, of its input, and of a named literal.
+
 ghost use Rattle.std.specs.Prelude.{◌≡◌, ◌+◌, ◌<◌, ◌≤◌, [], ◌∷◌, codes, IfErr, IfOk, OnOk};
 ghost use Rattle.std.specs.Prelude.{length};
 ghost use Rattle.winnow_execute.specs.Fault.{IsLineWhere, IsWithin};

@@ -1,3 +1,5 @@
+//! `Lines`, the remaining lines of an input, with the number of the first of them.
+
 ghost use Rattle.std.specs.Prelude.{◌≡◌, ◌↔◌, ◌+◌, ◌^◌, ◌<◌, ◌≤◌, ◌==◌, if◌then◌else◌, length};
 ghost use Rattle.std.specs.Prelude.{IsTrue, IsSome, IfSome, position};
 ghost use Rattle.std.specs.Str.{IsUtf8};

@@ -1,3 +1,5 @@
+//! `literal`, which returns the bytes that hexadecimal digits write.
+
 ghost use Rattle.std.specs.Prelude.{◌≡◌, ◌⊎◌, ◌↔◌, codes, IfOk, IsSome, IfSome};
 ghost use Rattle.winnow_execute.specs.Literals.{IsHexWord, DenotesBytes};
 

@@ -1,3 +1,5 @@
+//! `lend_steps`, which lends the steps of a script to a run.
+
 ghost use Rattle.std.specs.Prelude.{IfOk};
 ghost use Rattle.std.specs.List.{AllZip};
 ghost use Rattle.winnow_execute.specs.Loans.{AreSameNeedles, IsSameStep};

@@ -1,3 +1,5 @@
+//! `Report`, the lines that a run over pieces prints.
+
 ghost use Rattle.std.specs.Prelude.{◌≡◌, ◌++◌, ◌+◌, [], drop, length, min, string_bytes, OnOk};
 ghost use Rattle.winnow_feed.specs.ToldAnswers.{capped};
 ghost use Rattle.winnow_execute.specs.ReportLines.{told_lines, waiting_line};

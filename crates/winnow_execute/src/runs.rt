@@ -1,3 +1,5 @@
+//! `ScriptInput`: runs of a script on bytes or text, whole or in pieces.
+
 ghost use Rattle.std.specs.Prelude.{◌≡◌, ◌+◌, ◌<◌, ◌^◌, [], IfOk, OnOk, string_bytes, sum_by};
 ghost use Rattle.winnow_feed.specs.Feeding.{bytes_fed};
 ghost use Rattle.winnow_feed.specs.Inputs.{InputRules, byte_input, text_input};

@@ -1,3 +1,5 @@
+//! `ScriptStep`, a step of a script, and `read_steps`, which reads steps from lines.
+
 ghost use Rattle.std.specs.Prelude.{◌≡◌, ◌+◌, ◌<◌, ◌≤◌, IfOk, IsSome, OnOk, ℕ, is_some, length};
 ghost use Rattle.winnow_execute.specs.Lines.{reach, AreLines};
 ghost use Rattle.winnow_execute.specs.Newline.{first_line, rest_lines};

@@ -1,3 +1,5 @@
+//! The words of a line: numbers, literals, needles and ranges.
+
 ghost use Rattle.std.specs.Prelude.{◌≡◌, ◌↔◌, ◌^◌, ◌<◌, IfOk, IfSome, IsSome};
 ghost use Rattle.std.specs.Char.{IsScalar};
 ghost use Rattle.std.specs.Option.{SomeIff};

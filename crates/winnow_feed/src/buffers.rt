@@ -1,3 +1,5 @@
+//! `forget_bytes` and `forget_text`, which drop a prefix of the kept input.
+
 ghost use Rattle.std.specs.Prelude.{◌≡◌, ◌≤◌, drop, IsTrue, vec_len};
 ghost use Rattle.std.specs.String.{string_bytes};
 ghost use Rattle.std.specs.String.Boundary.{IsSplitPoint};

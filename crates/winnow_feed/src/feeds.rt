@@ -1,3 +1,5 @@
+//! `ByteFeed`, which runs a script over bytes in pieces.
+
 use crate::buffers::forget_bytes;
 use crate::missing::next_missing;
 use crate::named_marks::NamedMarks;

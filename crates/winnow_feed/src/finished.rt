@@ -1,3 +1,5 @@
+//! `Finished`, all answers of a script after the end of its input.
+
 ghost use Rattle.std.specs.Prelude.{◌≡◌};
 ghost use Rattle.winnow_feed.specs.Feeding.{answers_in, place_in};
 

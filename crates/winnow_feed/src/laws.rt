@@ -1,3 +1,5 @@
+//! Laws of a feed's answers, of one search, of joined pieces and of equal `Waiting` values.
+
 ghost use Rattle.std.specs.Prelude.{◌≡◌, ℕ, ◌+◌, ◌<◌, [], ◌∷◌, ◌++◌, List, length, take, get_or};
 ghost use Rattle.std.specs.Prelude.{map, true};
 ghost use Rattle.std.specs.List.{AllByRecursion};

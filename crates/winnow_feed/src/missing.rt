@@ -1,3 +1,5 @@
+//! `next_missing`, which returns the bytes that the next step lacks.
+
 ghost use Rattle.std.specs.Prelude.{◌<◌, true, length, vec_len, option_map, IfOk, OnErr};
 ghost use Rattle.winnow_feed_step.specs.Looks.{piece_reading};
 ghost use Rattle.winnow_feed.specs.JoinedInput.{IsRun};

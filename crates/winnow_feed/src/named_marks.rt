@@ -1,3 +1,5 @@
+//! `NamedMarks`: the marks that unanswered steps name, and the least of their places.
+
 ghost use Rattle.std.specs.Prelude.{◌≡◌, ℕ, ◌+◌, ◌≤◌, ◌<◌};
 ghost use Rattle.std.specs.Prelude.{◌∷◌, [], List, length, slice_get, get_or};
 ghost use Rattle.std.specs.Prelude.{IfOk, IfSome, Some};

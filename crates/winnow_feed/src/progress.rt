@@ -1,3 +1,5 @@
+//! `Progress`, the state of a script over pieces, and `advance`, which attempts its steps.
+
 ghost use Rattle.std.specs.Prelude.{◌≡◌, ◌+◌, ◌≤◌, ◌<◌, ◌∷◌, ◌++◌, [], false, length};
 ghost use Rattle.std.specs.Prelude.{IsTrue, vec_len, vec_capacity, if◌then◌else◌};
 ghost use Rattle.winnow_feed_step.specs.Looks.{piece_reading};

@@ -1,3 +1,5 @@
+//! `take_in`, which takes in a piece and returns the width that no later step can reach.
+
 ghost use Rattle.std.specs.Prelude.{◌≡◌, ℕ, ◌≤◌, ◌<◌, true, length, vec_len, IsTrue};
 ghost use Rattle.winnow_feed_step.specs.Looks.{piece_reading};
 ghost use Rattle.winnow_feed.specs.Reach.{needed_place};

@@ -1,3 +1,5 @@
+//! `run_pieces` and `run_pieces_text`, which feed all pieces to a script.
+
 ghost use Rattle.std.specs.Prelude.{◌<◌, ◌^◌, length, IfOk};
 ghost use Rattle.winnow_feed.specs.Inputs.{byte_input, text_input, joined, pieces_in};
 ghost use Rattle.winnow_feed.specs.Feeding.{Finishes};

@@ -1,3 +1,5 @@
+//! `is_spelt`, a law: the literals and sets of a step over text hold text.
+
 ghost use Rattle.std.specs.Prelude.{◌≡◌, true, IfSome};
 ghost use Rattle.std.specs.List.{AllByRecursion};
 ghost use Rattle.std.specs.Str.{is_utf8};

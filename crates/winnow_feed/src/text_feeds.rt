@@ -1,3 +1,5 @@
+//! `TextFeed`, which runs a script over text in pieces.
+
 use crate::buffers::forget_text;
 use crate::missing::next_missing;
 use crate::named_marks::NamedMarks;

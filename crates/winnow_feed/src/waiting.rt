@@ -1,3 +1,5 @@
+//! `Waiting`, the input that a feed waits for.
+
 /// What a feed waits for.
 #[derive(Debug, Drop, PartialEq, Eq)]
 pub enum Waiting<P> {

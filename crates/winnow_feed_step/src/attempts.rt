@@ -1,3 +1,5 @@
+//! `attempt_step`, which attempts a step on kept input and returns an `Attempt`.
+
 ghost use Rattle.std.specs.Prelude.{◌≡◌, ℕ, ◌+◌, ◌≤◌, ◌<◌, ◌^◌, ◌∷◌, ◌++◌, [], List, Option, false};
 ghost use Rattle.std.specs.Prelude.{length, vec_len, vec_capacity, IfSome};
 ghost use Rattle.winnow_stream.specs.Source.{width};

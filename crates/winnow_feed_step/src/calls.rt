@@ -1,3 +1,5 @@
+//! `look_call`, which looks at a call on kept input, with `Seen`, `Settled` and `Standing`.
+
 ghost use Rattle.std.specs.Prelude.{◌≡◌, ◌+◌, ◌<◌, ◌^◌, ◌≤◌, ◌∷◌, ◌++◌, [], false, slice_get};
 ghost use Rattle.std.specs.Prelude.{IsTrue, vec_len, vec_capacity};
 ghost use Rattle.winnow_stream.specs.Source.{width, first_offset};

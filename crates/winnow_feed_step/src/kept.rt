@@ -1,3 +1,5 @@
+//! `Kept`, the trait of inputs that a feed keeps.
+
 ghost use Rattle.std.specs.Prelude.{◌≡◌, ℕ, ◌-◌, ◌∷◌, [], List, length, if◌then◌else◌};
 ghost use Rattle.std.specs.Prelude.{option_map, IfOk, OnErr, IsSome};
 ghost use Rattle.std.proofs.Common.{sym};

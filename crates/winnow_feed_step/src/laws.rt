@@ -1,3 +1,5 @@
+//! The law of equality of `Told` answers.
+
 ghost use Rattle.std.specs.Prelude.{◌≡◌, ◌&&◌};
 ghost use Rattle.winnow_feed_step.specs.declared.told.Told.{Told};
 

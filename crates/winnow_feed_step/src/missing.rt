@@ -1,3 +1,5 @@
+//! `step_missing`, which returns the bytes that a waiting step lacks.
+
 ghost use Rattle.std.specs.Prelude.{◌≡◌, ◌<◌, Some, drop, option_map};
 ghost use Rattle.std.specs.Prelude.{IfOk, OnErr, IsSome};
 ghost use Rattle.winnow_match.specs.Search.{hit, bytes_of_needles};

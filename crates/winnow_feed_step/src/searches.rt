@@ -1,3 +1,5 @@
+//! Searches for needles, and comparisons with literals, that resume on kept input.
+
 ghost use Rattle.std.specs.Prelude.{◌≡◌, ◌≤◌, ◌<◌, [], ◌∷◌, None, false, length, drop, IfSome};
 ghost use Rattle.std.specs.Prelude.{IsTrue};
 ghost use Rattle.winnow_match.specs.Comparison.{comparison, is_prefix};

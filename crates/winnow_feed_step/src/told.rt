@@ -1,3 +1,5 @@
+//! `Told`, an answer with the number of the piece that made it definite.
+
 use winnow_run::PieceAnswer;
 
 /// An answer with the number, counted from 1, of the piece that made it definite, or `None` if the

@@ -1,3 +1,5 @@
+//! A reference to a parser as a parser.
+
 use crate::{ModalResult, Parser};
 use std::alloc::Global;
 use winnow_stream::StreamIsPartial;

@@ -1,3 +1,5 @@
+//! `Verified`, `VerifyMapped` and `TryMapped`: parsers that backtrack on some values of another.
+
 ghost use Rattle.std.specs.Prelude.{◌≡◌, false, None, Err};
 ghost use Rattle.winnow_parser.specs.Meanings.{GivesOnly, Verified, Chosen, TriesTo};
 ghost use Rattle.winnow_parser.specs.Errors.{UnwantedErrors};

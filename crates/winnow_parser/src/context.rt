@@ -1,3 +1,5 @@
+//! `Contextual`, which adds a context to the errors of a parser.
+
 ghost use Rattle.std.specs.Prelude.{◌≡◌};
 ghost use Rattle.winnow_parser.specs.Answer.{ahead};
 ghost use Rattle.winnow_parser.specs.Errors.{ContextErrors};

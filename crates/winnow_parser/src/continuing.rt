@@ -1,3 +1,5 @@
+//! `FlatMapped`: a parser, and then the one that a function makes of its value.
+
 ghost use Rattle.std.specs.Prelude.{◌≡◌};
 ghost use Rattle.winnow_parser.specs.Errors.{ContinuedErrors};
 ghost use Rattle.winnow_parser.specs.Meanings.{GivesOnly};

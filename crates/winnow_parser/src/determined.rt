@@ -1,3 +1,5 @@
+//! Laws that the parsers made of deterministic parsers are deterministic.
+
 ghost use Rattle.std.specs.Prelude.{◌≡◌, ⊤};
 ghost use Rattle.winnow_parser.specs.Meanings.{Maps, Pair, Either, Optional, LookedAt};
 ghost use Rattle.winnow_parser.specs.Meanings.{Negated, CutOff, Softened, Verified};

@@ -1,3 +1,5 @@
+//! `Failure`, the result of a parser that has no value, and `ModalResult`.
+
 ghost use Rattle.std.specs.Prelude.{◌≡◌, is_some};
 ghost use Rattle.winnow_parser.specs.declared.failure.Failure.TheVariants.{Refused};
 ghost use Rattle.winnow_parser.specs.Failures.{failure_backtracks, failure_needs, failure_cut};

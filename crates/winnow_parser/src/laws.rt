@@ -1,3 +1,5 @@
+//! The laws that each parser keeps (`parser_law`), and of consumed widths (`taken_width_law`).
+
 ghost use Rattle.std.specs.Prelude.{◌≡◌, ◌-◌, IsTrue};
 ghost use Rattle.winnow_stream.specs.Source.{HasPositiveWidths, width, IsEndOf};
 ghost use Rattle.winnow_stream.specs.Front.{is_offset};

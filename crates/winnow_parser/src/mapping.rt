@@ -1,3 +1,5 @@
+//! `Mapped`, `Valued` and `Voided`: parsers that replace or drop the value of another.
+
 ghost use Rattle.std.specs.Prelude.{◌≡◌};
 ghost use Rattle.winnow_parser.specs.Meanings.{GivesOnly, Maps, IsAlways, IsForgotten};
 ghost use Rattle.winnow_parser.specs.Parts.{IsParser-Maps};

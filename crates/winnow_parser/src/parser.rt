@@ -1,3 +1,5 @@
+//! The trait `Parser`, with combinators of one parser as its methods.
+
 ghost use Rattle.std.specs.Prelude.{◌≡◌, false, IfOk, IfErr};
 ghost use Rattle.winnow_parser.specs.Outcome.{Meaning, Gives, Fails, Refuses, Moves};
 ghost use Rattle.winnow_parser.specs.Answer.{outcome, ahead};

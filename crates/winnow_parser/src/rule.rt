@@ -1,3 +1,5 @@
+//! `Rule`, the meaning of a function that parses, and `by_rule`, which makes a parser of both.
+
 ghost use Rattle.std.specs.Prelude.{◌≡◌};
 ghost use Rattle.winnow_parser.specs.Outcome.{Meaning};
 ghost use Rattle.winnow_parser.specs.Answer.{ahead};

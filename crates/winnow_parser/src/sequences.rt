@@ -1,3 +1,5 @@
+//! Tuples of two to ten parsers, which parse one after the other.
+
 ghost use Rattle.winnow_parser.specs.Meanings.{Pair};
 ghost use Rattle.winnow_parser.specs.Errors.{PairErrors};
 ghost use Rattle.winnow_parser.specs.Parts.{IsParser-Pair};

@@ -1,3 +1,5 @@
+//! `Spanned` and `WithSpan`: parsers of the span that another parser consumes.
+
 ghost use Rattle.std.specs.Prelude.{◌≡◌};
 ghost use Rattle.winnow_stream.specs.Location.{IsLocation};
 ghost use Rattle.winnow_parser.specs.Spanned.{Spanned, WithSpan};

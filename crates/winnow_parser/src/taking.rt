@@ -1,3 +1,5 @@
+//! `Taken` and `WithTaken`: parsers of the slice that another parser consumes.
+
 ghost use Rattle.std.specs.Prelude.{◌≡◌};
 ghost use Rattle.winnow_parser.specs.Outcome.{Moves};
 ghost use Rattle.winnow_parser.specs.Answer.{ahead};

@@ -1,3 +1,5 @@
+//! `read_whole`, which parses a whole input to its end.
+
 ghost use Rattle.std.specs.Prelude.{◌≡◌, ◌-◌, false, IfOk, IfErr};
 ghost use Rattle.winnow_stream.specs.Source.{width};
 ghost use Rattle.winnow_parser.specs.Outcome.{Refuses, Fails, Moves};

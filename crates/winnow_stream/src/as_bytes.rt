@@ -1,3 +1,5 @@
+//! `AsBytes` and `AsBStr`: the remaining input as bytes.
+
 ghost use Rattle.std.specs.Prelude.{◌≡◌, ℕ, List};
 
 /// What remains of a stream, as bytes that need not be text.

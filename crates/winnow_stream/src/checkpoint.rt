@@ -1,3 +1,5 @@
+//! `Checkpoint`, a place in the input to which `reset` goes back.
+
 ghost use Rattle.std.specs.Prelude.{◌≡◌};
 ghost use Rattle.winnow_stream.specs.Checkpoint.{checkpoint_inner};
 

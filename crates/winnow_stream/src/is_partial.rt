@@ -1,3 +1,5 @@
+//! `StreamIsPartial`: whether more input may follow the remaining input.
+
 ghost use Rattle.std.specs.Prelude.{◌≡◌, Bool, false, refl};
 
 use crate::Stream;

@@ -1,3 +1,5 @@
+//! `Location`, the trait of streams that report locations in the whole input.
+
 ghost use Rattle.std.specs.Prelude.{◌≡◌, ℕ};
 
 /// A location in the whole input, in its offsets. Spans and messages are made of locations.

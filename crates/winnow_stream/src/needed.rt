@@ -1,3 +1,5 @@
+//! `Needed`, the amount of input that a call lacked.
+
 ghost use Rattle.std.specs.Prelude.{◌≡◌};
 ghost use Rattle.winnow_stream.specs.Shortage.{needed, is_known, IsMapped};
 

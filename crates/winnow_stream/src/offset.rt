@@ -1,3 +1,5 @@
+//! `Offset`, the width between two places of one input.
+
 ghost use Rattle.std.specs.Prelude.{◌≡◌, ◌-◌, ◌≤◌, ⊤};
 ghost use Rattle.winnow_stream.specs.Checkpoint.{checkpoint_inner};
 

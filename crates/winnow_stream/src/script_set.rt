@@ -1,3 +1,5 @@
+//! `ScriptSet`, a set of tokens that a script names, and `NoSet`, the empty one.
+
 ghost use Rattle.std.specs.Prelude.{◌≡◌, Bool, false, ⊤};
 
 /// A set of tokens that a script can name.

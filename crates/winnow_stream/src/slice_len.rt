@@ -1,3 +1,5 @@
+//! `SliceLen`, the width of a slice, an array or a token.
+
 ghost use Rattle.std.specs.Prelude.{◌≡◌, ℕ, ◌+◌, ◌-◌, ◌*◌, ◌^◌, ◌≤◌, ◌<◌, length, ⊤};
 ghost use Rattle.std.specs.Char.{len_utf8};
 

@@ -1,3 +1,5 @@
+//! Slices as streams of their elements.
+
 ghost use Rattle.std.specs.Prelude.{◌≡◌, ◌+◌, ◌-◌, ◌<◌, ◌^◌, true, length, IfSome, ⊤};
 ghost use Rattle.std.specs.Iterator.{at_most, UpTo, YieldsFirst};
 ghost use Rattle.std.specs.Iterator.SizeHint.{IsWithinCount};

@@ -1,3 +1,5 @@
+//! The trait `Stream`, and `Rest`, which the invariants of wrappers name in its place.
+
 ghost use Rattle.std.specs.Prelude.{◌≡◌, ℕ, ◌-◌, ◌≤◌, Bool, [], Option, None, IsTrue, IfSome, take};
 ghost use Rattle.std.specs.Prelude.{drop, ⊤};
 ghost use Rattle.std.specs.Iterator.{IsFinite, AlwaysYields, size};

@@ -1,3 +1,5 @@
+//! Texts as streams of characters.
+
 ghost use Rattle.std.specs.Prelude.{◌≡◌, false, [], ◌∷◌, ⊤, IsTrue, MatchOption, refl};
 ghost use Rattle.std.specs.Str.{chars};
 ghost use Rattle.std.specs.Char.{len_utf8};

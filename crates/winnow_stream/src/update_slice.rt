@@ -1,3 +1,5 @@
+//! `UpdateSlice`, which narrows a stream to a slice of itself.
+
 ghost use Rattle.std.specs.Prelude.{◌≡◌, ℕ, IsTrue};
 ghost use Rattle.winnow_stream.specs.Front.{front, is_offset, IsSomeFront};
 

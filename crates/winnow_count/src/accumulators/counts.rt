@@ -1,3 +1,5 @@
+//! `()` and `usize` as accumulators: one ignores the items, the other counts them.
+
 ghost use Rattle.std.specs.Prelude.{◌≡◌, ◌+◌, ◌<◌, ◌^◌, length, ⊤};
 ghost use Rattle.std.proofs.Common.{rules};
 ghost use Rattle.winnow_count.specs.AccumulationLaws.{count_taken};

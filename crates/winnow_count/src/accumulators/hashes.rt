@@ -1,3 +1,5 @@
+//! `HashMap` and `HashSet` as accumulators.
+
 ghost use Rattle.std.specs.Prelude.{◌≤◌, true, Some};
 ghost use Rattle.std.specs.HashMap as map;
 ghost use Rattle.std.specs.HashSet as set;

@@ -1,3 +1,5 @@
+//! `String` as an accumulator of characters and texts.
+
 ghost use Rattle.std.specs.Prelude.{◌≡◌, ◌++◌, encode_utf8, IfOk, OnErr, ⊤};
 ghost use Rattle.std.specs.Cow.{cow_str_bytes};
 ghost use Rattle.std.specs.List.{flat_map};

@@ -1,3 +1,5 @@
+//! `BTreeMap` and `BTreeSet` as accumulators.
+
 ghost use Rattle.std.specs.Prelude.{true, Some, IsOk, IfOk, OnErr, ⊤};
 ghost use Rattle.std.specs.BTreeMap as map;
 ghost use Rattle.std.specs.BTreeSet as set;

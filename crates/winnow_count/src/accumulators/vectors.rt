@@ -1,3 +1,5 @@
+//! `Vec` as an accumulator of items and of slices, and `VecDeque` as one of slices.
+
 ghost use Rattle.std.specs.Prelude.{◌≡◌, [], ◌∷◌, ◌++◌, OnOk, OnErr};
 ghost use Rattle.std.specs.List.{flat_map};
 ghost use Rattle.std.specs.Vec.{VecUnchanged};
