@@ -46,7 +46,7 @@ pub use Rattle.winnow_ascii.specs.Escapes
 pub use Rattle.winnow_ascii.specs.Hexadecimal
 pub use Rattle.winnow_ascii.specs.Lines
 pub use Rattle.winnow_ascii.specs.Numbers
-pub use Rattle.winnow_ascii.specs.Spelling
+pub use Rattle.winnow_ascii.specs.Fragments
 pub use Rattle.winnow_reader.specs.Place
 pub use Rattle.winnow_reader.specs.Wanted
 pub use Rattle.winnow_reader.specs.State
@@ -61,4 +61,17 @@ pub use Rattle.winnow_binary.specs.Lengths
 pub use Rattle.winnow_binary.specs.Numerals
 pub use Rattle.winnow_binary.specs.Within
 pub use Rattle.winnow_grammar.specs.AnyAnswer
+pub use Rattle.winnow_spelling.specs.Spelling
+pub use Rattle.winnow_spelling.specs.Spellings
+pub use Rattle.winnow_spelling.specs.SpellingRows
+pub use Rattle.winnow_spelling.specs.SpelledFolds
+pub use Rattle.winnow_spelling.specs.Spelt
+pub use Rattle.winnow_spelling.specs.Spelled
+pub use Rattle.winnow_spelling.specs.SpelledTokens
+pub use Rattle.winnow_spelling.specs.Texts
+pub use Rattle.winnow_spelling.specs.SpelledSlices
+pub use Rattle.winnow_spelling.specs.SpelledLists
+pub use Rattle.winnow_spelling.specs.SpelledRows
+pub use Rattle.winnow_spelling.specs.SpelledChoices
+pub use Rattle.winnow_spans.specs.Spans
 pub use Rattle.winnow_parser.specs.declared.failure.Failure

@@ -3,8 +3,9 @@
 //!
 //! It is laid out as the Rust crate is: [`Parser`] and [`ModalResult`] at the top, parsers of
 //! tokens in [`token`], of ASCII text in [`ascii`], of numbers and counted parts in [`binary`],
-//! parsers that are made of parsers in [`combinator`], grammars of one's own in [`grammar`],
-//! errors in [`error`], and [`stream`] as `winnow_base` has it.
+//! parsers that are made of parsers in [`combinator`], grammars of one's own in [`grammar`] and,
+//! with what spells their values, in [`spelling`], ranges of lexed tokens in [`spans`], errors in
+//! [`error`], and [`stream`] as `winnow_base` has it.
 //!
 //! Laws stand in modules of their own: [`laws`], [`token::laws`], and so on. Everything here comes
 //! from a crate of its own, with its proofs. `specs/` passes on the definitions that contracts of
@@ -27,3 +28,5 @@ pub use winnow_parser::{
     WithSpan, WithTaken, by_rule,
 };
 pub use winnow_reader as reader;
+pub use winnow_spans as spans;
+pub use winnow_spelling as spelling;

@@ -7,7 +7,7 @@ ghost use Rattle.std.specs.Vec.{VecUnchanged};
 ghost use Rattle.std.proofs.Common.{rules};
 ghost use Rattle.winnow_count.specs.Accumulation.{StartsText, StartsVector};
 ghost use Rattle.winnow_count.specs.AccumulationLaws.{concat_taken};
-ghost use Rattle.winnow_ascii.specs.Spelling.{spelled};
+ghost use Rattle.winnow_ascii.specs.Fragments.{spelled};
 
 use std::alloc::{AllocError, Global};
 use winnow_count::Accumulate;

@@ -11,7 +11,7 @@ pub use winnow_recover::{RecordError, Recover, Recoverable};
 pub use winnow_run::{
     Answer, Need, PieceAnswer, SearchAnswer, SearchStep, Step, run, run_and_reset, run_search,
 };
-pub use winnow_sets::{AsChar, CharSet, ContainsToken, FixedSet, Where};
+pub use winnow_sets::{AsChar, CharSet, Complement, ContainsToken, FixedSet, Where};
 // `Stream`, the streams that read their input as something else, and the wrappers.
 pub use winnow_stream::{
     AsBStr, AsBytes, Checkpoint, Location, Needed, NoSet, Offset, Rest, ScriptSet, SliceLen,

@@ -44,6 +44,6 @@ pub use asking::ask;
 pub use errors::{Plain, PlainError, PlainFromExternal};
 pub use functions::{FromFn, from_fn};
 pub use layers::{Layer, Layered, nested};
-pub use memory::{MapIn, map_in};
+pub use memory::{MapIn, TryMapIn, map_in, try_map_in};
 pub use parts::{NamedPart, Reads, part};
 pub use texts::{AsText, Chars, Octets, Text};

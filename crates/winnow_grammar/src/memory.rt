@@ -1,4 +1,5 @@
-//! `map_in`, the `map` of a function that takes memory.
+//! `map_in` and `try_map_in`: `map` of a function that takes memory, and `try_map` of one whose
+//! error prints.
 
 ghost use Rattle.std.specs.Prelude.{◌≡◌};
 ghost use Rattle.winnow_parser.specs.Errors.{AnyError};
@@ -6,6 +7,8 @@ ghost use Rattle.winnow_grammar.specs.AnyAnswer.{AnyAnswer, IsParser-AnyAnswer};
 
 use crate::ask;
 use std::alloc::{AllocError, Global};
+use std::fmt::Display;
+use winnow_error::{FromExternalError, ParserError};
 use winnow_parser::{Failure, ModalResult, Parser};
 use winnow_stream::StreamIsPartial;
 
@@ -51,6 +54,65 @@ impl<
             Ok(value) => match (self.f)(alloc, value) {
                 Ok(made) => Ok(made),
                 Err(refused) => Err(Failure::Refused(refused)),
+            },
+            Err(failure) => Err(failure),
+        }
+    }
+}
+
+/// A parser of what a function that may fail makes of a value; [`try_map_in`] makes it.
+#[derive(Clone, Copy, Drop)]
+pub struct TryMapIn<P, F> {
+    inner: P,
+    f: F,
+}
+
+/// Returns the parser of what a function makes of the value, as `try_map` does, for a function
+/// whose error is any type that prints. An error of the function is a backtrack whose cause is the
+/// text that it prints, which `ContextError` and `TreeError` keep. That text takes memory: if it is
+/// refused, the parser answers `Failure::Refused`.
+///
+/// ```
+/// let port = try_map_in(digit1(), |digits: I::Piece| digits.as_text().parse::<u16>());
+/// ```
+pub fn try_map_in<P, F>(inner: P, f: F) -> TryMapIn<P, F>
+    ensures { result ≡ record { inner = inner; f = f } }
+{
+    TryMapIn { inner, f }
+}
+
+impl<
+    I: StreamIsPartial,
+    X: Display + Drop,
+    E: ParserError<I> + FromExternalError<I, String>,
+    P: Parser<I, E>,
+    O,
+    F: Fn(P::Output) -> Result<O, X>,
+> Parser<I, E> for TryMapIn<P, F> {
+    type Output = O;
+
+    ghost means = { λ _. AnyAnswer };
+
+    ghost errors = { λ _. AnyError };
+
+    ghost ready = { λ p. P.ready p.inner × F.IsAlwaysCallable p.f };
+
+    ghost lawful = { λ _. IsParser-AnyAnswer };
+
+    fn parse_next(&self, alloc: Global, input: &mut I) -> ModalResult<O, E> {
+        let start = input.checkpoint();
+        match ask(alloc, input, &self.inner) {
+            Ok(value) => match (self.f)(value) {
+                Ok(made) => Ok(made),
+                Err(error) => {
+                    input.reset(&start);
+                    match error.to_string(alloc) {
+                        Ok(text) => {
+                            Err(Failure::Backtrack(E::from_external_error(alloc, input, text)))
+                        }
+                        Err(refused) => Err(Failure::Refused(refused)),
+                    }
+                }
             },
             Err(failure) => Err(failure),
         }

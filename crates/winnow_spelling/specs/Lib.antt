@@ -1,7 +1,7 @@
 pub mod Spelling
 pub mod Spellings
 pub mod SpellingRows
-pub mod Within
+pub mod SpelledFolds
 pub mod Spelt
 pub mod Spelled
 pub mod SpelledTokens
