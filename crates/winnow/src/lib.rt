@@ -1,7 +1,8 @@
 //! A parser library under one name: parsers that carry their meaning, over the streams and errors
 //! of `winnow_base`.
 //!
-//! It is laid out as the Rust crate is: [`Parser`] and [`ModalResult`] at the top, parsers of
+//! It is laid out as the Rust crate is: [`Parser`], [`ModalResult`] and the wrappers of streams at
+//! the top, the names that most grammars need in [`prelude`], parsers of
 //! tokens in [`token`], of ASCII text in [`ascii`], of numbers and counted parts in [`binary`],
 //! parsers that are made of parsers in [`combinator`], grammars of one's own in [`grammar`] and,
 //! with what spells their values, in [`spelling`], ranges of lexed tokens in [`spans`], errors in
@@ -18,9 +19,11 @@ pub mod binary;
 pub mod combinator;
 pub mod error;
 pub mod laws;
+pub mod prelude;
 pub mod token;
 
 pub use winnow_base::stream;
+pub use winnow_base::stream::{BStr, Bytes, LocatingSlice, Partial, Stateful};
 pub use winnow_grammar as grammar;
 pub use winnow_parser::{
     ByBorrow, ByValue, Contextual, Failure, FlatMapped, Mapped, ModalResult, Parser, Rule,
