@@ -2,11 +2,11 @@
 //! of `winnow_base`.
 //!
 //! It is laid out as the Rust crate is: [`Parser`], [`ModalResult`] and the wrappers of streams at
-//! the top, the names that most grammars need in [`prelude`], parsers of
-//! tokens in [`token`], of ASCII text in [`ascii`], of numbers and counted parts in [`binary`],
-//! parsers that are made of parsers in [`combinator`], grammars of one's own in [`grammar`] and,
-//! with what spells their values, in [`spelling`], ranges of lexed tokens in [`spans`], errors in
-//! [`error`], and [`stream`] as `winnow_base` has it.
+//! the top, the names that most grammars need in [`prelude`], parsers of tokens in [`token`], of
+//! ASCII text in [`ascii`], of numbers and counted parts in [`binary`], parsers that are made of
+//! parsers in [`combinator`], grammars of one's own in [`grammar`] and, with what spells their
+//! values, in [`spelling`], ranges of lexed tokens in [`spans`], errors in [`error`], and
+//! [`stream`] as `winnow_base` has it.
 //!
 //! Laws stand in modules of their own: [`laws`], [`token::laws`], and so on. Everything here comes
 //! from a crate of its own, with its proofs. `specs/` passes on the definitions that contracts of

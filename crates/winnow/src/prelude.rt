@@ -1,4 +1,5 @@
-//! The names that most grammars need, to be imported by name: `use winnow::prelude::{Parser, Reads};`.
+//! The names that most grammars need, imported one by one:
+//! `use winnow::prelude::{Parser, Reads};`.
 
 pub use winnow_base::stream::{Stream, StreamIsPartial};
 pub use winnow_grammar::{Reads, Text, ask, part};
