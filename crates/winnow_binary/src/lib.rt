@@ -10,6 +10,7 @@ mod numbers;
 mod repeated;
 mod slices;
 mod taken;
+mod three;
 mod word;
 
 pub use laws::{determined_length_law, determined_slice_read_law, fixed_number_law};
@@ -22,4 +23,5 @@ pub use numbers::{
 pub use repeated::{LengthRepeated, length_repeat};
 pub use slices::{LengthRead, length_and_then};
 pub use taken::{LengthTaken, length_take};
+pub use three::{ThreeByteNumber, ThreeByteNumeral, be_i24, be_u24, i24, le_i24, le_u24, u24};
 pub use word::{Endianness, Width};
