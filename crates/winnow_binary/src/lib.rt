@@ -8,6 +8,7 @@ mod length;
 mod number;
 mod numbers;
 mod repeated;
+mod sixteen;
 mod slices;
 mod taken;
 mod three;
@@ -21,6 +22,9 @@ pub use numbers::{
     le_i8, le_i16, le_i32, le_i64, le_u8, le_u16, le_u32, le_u64, u8, u16, u32, u64,
 };
 pub use repeated::{LengthRepeated, length_repeat};
+pub use sixteen::{
+    SixteenByteNumber, SixteenByteNumeral, be_i128, be_u128, i128, le_i128, le_u128, u128,
+};
 pub use slices::{LengthRead, length_and_then};
 pub use taken::{LengthTaken, length_take};
 pub use three::{ThreeByteNumber, ThreeByteNumeral, be_i24, be_u24, i24, le_i24, le_u24, u24};

@@ -69,6 +69,16 @@ pub(crate) fn join_quads(order: Endianness, first: u32, second: u32) -> u64
     }
 }
 
+// Returns the number of which the first eight bytes write one number, and the next eight another.
+pub(crate) fn join_eights(order: Endianness, first: u64, second: u64) -> u128
+    ensures { result ≡ joined order 8 first second }
+{
+    match order {
+        Endianness::Big => u128::from(first) * 18_446_744_073_709_551_616 + u128::from(second),
+        Endianness::Little => u128::from(first) + 18_446_744_073_709_551_616 * u128::from(second),
+    }
+}
+
 // Returns the number that three bytes write.
 pub(crate) fn join_three(order: Endianness, first: u8, second: u8, third: u8) -> u32
     ensures number { result ≡ number_in order (first ∷ second ∷ third ∷ []) }
