@@ -1,5 +1,5 @@
 -- The numbers that bytes write.
-use Rattle.std.specs.Prelude.{◌≡◌, ℕ, ◌+◌, ◌*◌, ◌^◌, Bool, List, [], ◌∷◌, length, take, drop}
+use Rattle.std.specs.Prelude.{◌≡◌, ℕ, ◌+◌, ◌-◌, ◌*◌, ◌^◌, ℤ, pos, negsuc, cond, nat_le, Bool, List, [], ◌∷◌, length, take, drop}
 use Rattle.std.proofs.Common.{ap, sym, ◌∙◌}
 use Rattle.winnow_stream.specs.Source.{Source, width}
 use Rattle.winnow_stream.specs.Front.{front}
@@ -35,6 +35,11 @@ number_in Little xs = least_first xs
 abbrev pub joined : Endianness → ℕ → ℕ → ℕ → ℕ
 joined Big count x y = x * 256 ^ count + y
 joined Little count x y = x + 256 ^ count * y
+
+-- the value of which n is the two's complement in three bytes: n itself below 2^23, and n - 2^24 from
+-- there on
+abbrev pub signed_three : ℕ → ℤ
+signed_three n = cond (nat_le 8388608 n) (negsuc (16777215 - n)) (pos n)
 
 -- the number of bytes of this width
 abbrev pub bytes_in : Width → ℕ

@@ -5,7 +5,7 @@ ghost use Rattle.winnow_match.specs.Bytes.{bytes_of};
 ghost use Rattle.winnow_parser.specs.Answer.{ahead};
 ghost use Rattle.winnow_binary.specs.Numerals.{number_in, bytes_in, after_tokens};
 
-use crate::word::{join_bytes, join_pairs, join_quads};
+use crate::word::{join_bytes, join_eights, join_pairs, join_quads, join_three};
 use crate::{Endianness, Width};
 use winnow_stream::Stream;
 
@@ -42,6 +42,24 @@ fn two<I: Stream<Token = u8>>(order: Endianness, input: &mut I) -> u16
     join_bytes(order, first, second)
 }
 
+// Returns the number that the next three bytes write.
+#[inline(always)]
+pub(crate) fn three<I: Stream<Token = u8>>(order: Endianness, input: &mut I) -> u32
+    requires valid { I.valid input.old }
+    requires enough { 3 ≤ length (I.remaining input.old) }
+    ensures number { result ≡ number_in order (bytes_of (take 3 (I.remaining input.old))) }
+    ensures bound { result < 256 ^ 3 }
+    ensures stands { ahead I.location I.remaining input.new
+        ≡ after_tokens 3 (ahead I.location I.remaining input.old) }
+    ensures valid { I.valid input.new }
+    ensures kept { I.keeps input.old input.new }
+{
+    let first = one(order, input);
+    let second = one(order, input);
+    let third = one(order, input);
+    join_three(order, first, second, third)
+}
+
 // Returns the number that the next four bytes write.
 #[inline(always)]
 fn four<I: Stream<Token = u8>>(order: Endianness, input: &mut I) -> u32
@@ -72,6 +90,23 @@ fn eight<I: Stream<Token = u8>>(order: Endianness, input: &mut I) -> u64
     let first = four(order, input);
     let second = four(order, input);
     join_quads(order, first, second)
+}
+
+// Returns the number that the next sixteen bytes write.
+#[inline(always)]
+pub(crate) fn sixteen<I: Stream<Token = u8>>(order: Endianness, input: &mut I) -> u128
+    requires valid { I.valid input.old }
+    requires enough { 16 ≤ length (I.remaining input.old) }
+    ensures number { result ≡ number_in order (bytes_of (take 16 (I.remaining input.old))) }
+    ensures bound { result < 256 ^ 16 }
+    ensures stands { ahead I.location I.remaining input.new
+        ≡ after_tokens 16 (ahead I.location I.remaining input.old) }
+    ensures valid { I.valid input.new }
+    ensures kept { I.keeps input.old input.new }
+{
+    let first = eight(order, input);
+    let second = eight(order, input);
+    join_eights(order, first, second)
 }
 
 // Returns the number that the next bytes write, as many as the width says.

@@ -58,13 +58,49 @@ impl<I: StreamIsPartial<Token = u8>, E: ParserError<I>, R: FixedNumber> Parser<I
 }
 
 /// Returns the parser of an unsigned number of one byte.
-pub fn u8() -> Numeral<u8> {
+pub fn u8() -> Numeral<u8>
+    ensures { result.order ≡ Big }
+{
     Numeral::new(Endianness::Big)
 }
 
 /// Returns the parser of a signed number of one byte.
-pub fn i8() -> Numeral<i8> {
+pub fn i8() -> Numeral<i8>
+    ensures { result.order ≡ Big }
+{
     Numeral::new(Endianness::Big)
+}
+
+/// Returns the parser of an unsigned number of one byte. One byte has one order only, so this is
+/// [`u8`].
+pub fn be_u8() -> Numeral<u8>
+    ensures { result.order ≡ Big }
+{
+    u8()
+}
+
+/// Returns the parser of a signed number of one byte. One byte has one order only, so this is
+/// [`i8`].
+pub fn be_i8() -> Numeral<i8>
+    ensures { result.order ≡ Big }
+{
+    i8()
+}
+
+/// Returns the parser of an unsigned number of one byte. One byte has one order only, so this is
+/// [`u8`].
+pub fn le_u8() -> Numeral<u8>
+    ensures { result.order ≡ Big }
+{
+    u8()
+}
+
+/// Returns the parser of a signed number of one byte. One byte has one order only, so this is
+/// [`i8`].
+pub fn le_i8() -> Numeral<i8>
+    ensures { result.order ≡ Big }
+{
+    i8()
 }
 
 /// Returns the parser of an unsigned number of two bytes in this order.

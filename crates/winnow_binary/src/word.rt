@@ -1,7 +1,7 @@
 //! The byte order (`Endianness`) and the `Width` of a number, and numbers joined from their halves.
 
-ghost use Rattle.std.specs.Prelude.{◌≡◌};
-ghost use Rattle.winnow_binary.specs.Numerals.{bytes_in, joined};
+ghost use Rattle.std.specs.Prelude.{◌≡◌, ◌<◌, ◌^◌, [], ◌∷◌};
+ghost use Rattle.winnow_binary.specs.Numerals.{bytes_in, joined, number_in};
 
 /// The order in which the bytes of a number come.
 #[derive(Clone, Copy, Debug, PartialEq, Eq)]
@@ -66,5 +66,27 @@ pub(crate) fn join_quads(order: Endianness, first: u32, second: u32) -> u64
     match order {
         Endianness::Big => u64::from(first) * 4_294_967_296 + u64::from(second),
         Endianness::Little => u64::from(first) + 4_294_967_296 * u64::from(second),
+    }
+}
+
+// Returns the number of which the first eight bytes write one number, and the next eight another.
+pub(crate) fn join_eights(order: Endianness, first: u64, second: u64) -> u128
+    ensures { result ≡ joined order 8 first second }
+{
+    match order {
+        Endianness::Big => u128::from(first) * 18_446_744_073_709_551_616 + u128::from(second),
+        Endianness::Little => u128::from(first) + 18_446_744_073_709_551_616 * u128::from(second),
+    }
+}
+
+// Returns the number that three bytes write.
+pub(crate) fn join_three(order: Endianness, first: u8, second: u8, third: u8) -> u32
+    ensures number { result ≡ number_in order (first ∷ second ∷ third ∷ []) }
+    ensures bound { result < 256 ^ 3 }
+{
+    let middle = 256 * u32::from(second);
+    match order {
+        Endianness::Big => 65536 * u32::from(first) + middle + u32::from(third),
+        Endianness::Little => u32::from(first) + middle + 65536 * u32::from(third),
     }
 }

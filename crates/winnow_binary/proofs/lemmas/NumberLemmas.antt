@@ -80,6 +80,22 @@ halves-number order k r mid x y l e f h =
     ∙ ap (λ n. joined order k (number_in order (bytes_of (take k r))) n) (h ∙ ap (λ s. number_in order (bytes_of (take k s))) e)
     ∙ number_in-halves order k r l
 
+-- three bytes that were read one after the other are the first three
+pub three-number : (order : Endianness) (r s t : Source ℕ) (x y z : ℕ) → 3 ≤ length r
+    → s ≡ drop 1 r → t ≡ drop 1 s → x ≡ number_in order (bytes_of (take 1 r))
+    → y ≡ number_in order (bytes_of (take 1 s)) → z ≡ number_in order (bytes_of (take 1 t))
+    → number_in order (x ∷ y ∷ z ∷ []) ≡ number_in order (bytes_of (take 3 r))
+three-number order [] s t x y z l e f g h i = absurd (omega (arith, l))
+three-number order (a ∷ []) s t x y z l e f g h i = absurd (omega (arith, l))
+three-number order (a ∷ b ∷ []) s t x y z l e f g h i = absurd (omega (arith, l))
+three-number order (a ∷ b ∷ c ∷ r) s t x y z l e f g h i =
+    let first : x ≡ a.0 = g ∙ number_in-one order a.0 in
+    let second : y ≡ b.0 = h ∙ ap (λ u. number_in order (bytes_of (take 1 u))) e ∙ number_in-one order b.0 in
+    let third : z ≡ c.0 = i ∙ ap (λ u. number_in order (bytes_of (take 1 u))) (f ∙ ap (drop 1) e) ∙ number_in-one order c.0 in
+    ap (λ n. number_in order (n ∷ y ∷ z ∷ [])) first
+    ∙ ap (λ n. number_in order (a.0 ∷ n ∷ z ∷ [])) second
+    ∙ ap (λ n. number_in order (a.0 ∷ b.0 ∷ n ∷ [])) third
+
 -- ---- Places
 
 -- a location after two widths is after their sum
@@ -89,18 +105,23 @@ location_behind-sum None m n = refl
 location_behind-sum (Some l) m n = ap Some (omega arith)
 
 module _ {T : Type 0} where
-  -- k tokens after k tokens are 2 k tokens
-  after_tokens-twice : (k : ℕ) (a : Ahead T)
-      → after_tokens k (after_tokens k a) ≡ after_tokens (k + k) a
-  after_tokens-twice k a =
-      let w : width (take k a.tokens) + width (take k (drop k a.tokens)) ≡ width (take (k + k) a.tokens) = sym (width-append (take k a.tokens) (take k (drop k a.tokens))) ∙ ap width (sym (take-add k k a.tokens)) in
-      ap (λ l. record { location = l; tokens = drop k (drop k a.tokens) }) (location_behind-sum a.location (width (take k a.tokens)) (width (take k (drop k a.tokens))) ∙ ap (location_behind a.location) w)
-      ∙ ap (λ r. record { location = location_behind a.location (width (take (k + k) a.tokens)); tokens = r }) (drop-drop k k a.tokens)
+  -- j tokens and then k tokens are j + k tokens
+  after_tokens-sum : (j k : ℕ) (a : Ahead T)
+      → after_tokens k (after_tokens j a) ≡ after_tokens (j + k) a
+  after_tokens-sum j k a =
+      let w : width (take j a.tokens) + width (take k (drop j a.tokens)) ≡ width (take (j + k) a.tokens) = sym (width-append (take j a.tokens) (take k (drop j a.tokens))) ∙ ap width (sym (take-add j k a.tokens)) in
+      ap (λ l. record { location = l; tokens = drop k (drop j a.tokens) }) (location_behind-sum a.location (width (take j a.tokens)) (width (take k (drop j a.tokens))) ∙ ap (location_behind a.location) w)
+      ∙ ap (λ r. record { location = location_behind a.location (width (take (j + k) a.tokens)); tokens = r }) (drop-drop k j a.tokens)
 
   -- the same for places, one after the other
   pub halves-place : (k : ℕ) (a b c : Ahead T) → b ≡ after_tokens k a → c ≡ after_tokens k b
       → c ≡ after_tokens (k + k) a
-  halves-place k a b c e f = f ∙ ap (after_tokens k) e ∙ after_tokens-twice k a
+  halves-place k a b c e f = f ∙ ap (after_tokens k) e ∙ after_tokens-sum k k a
+
+  -- three tokens, one after the other, are the first three
+  pub three-place : (a b c d : Ahead T) → b ≡ after_tokens 1 a → c ≡ after_tokens 1 b
+      → d ≡ after_tokens 1 c → d ≡ after_tokens 3 a
+  three-place a b c d e f g = g ∙ ap (after_tokens 1) (halves-place 1 a b c e f) ∙ after_tokens-sum 2 1 a
 
   -- the place after the front of the first k tokens is after k tokens
   after-tokens : (k : ℕ) (a : Ahead T) → HasPositiveWidths a.tokens → k ≤ length a.tokens
