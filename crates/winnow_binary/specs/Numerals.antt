@@ -36,8 +36,8 @@ abbrev pub joined : Endianness → ℕ → ℕ → ℕ → ℕ
 joined Big count x y = x * 256 ^ count + y
 joined Little count x y = x + 256 ^ count * y
 
--- the value of which n is the two's complement in three bytes: n itself below 2^23, and n - 2^24 from
--- there on
+-- the value of which n is the two's complement in three bytes: n itself below 2^23, and n - 2^24
+-- from there on
 abbrev pub signed_three : ℕ → ℤ
 signed_three n = cond (nat_le 8388608 n) (negsuc (16777215 - n)) (pos n)
 
