@@ -38,6 +38,7 @@ mod functions;
 mod layers;
 mod memory;
 mod parts;
+mod records;
 mod texts;
 
 pub use asking::ask;
@@ -46,4 +47,7 @@ pub use functions::{FromFn, from_fn};
 pub use layers::{Layer, Layered, nested};
 pub use memory::{MapIn, TryMapIn, map_in, try_map_in};
 pub use parts::{NamedPart, Reads, part};
+pub use records::{
+    PlainRecord, PlainTextRecord, ReadsRecord, ReadsTextRecord, record, text_record,
+};
 pub use texts::{AsText, Chars, Octets, Text};
