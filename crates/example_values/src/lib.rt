@@ -154,7 +154,19 @@ impl<I: Text, E: ParserError<I> + AddContext<I, StrContext>> Layer<I, E> for Val
     }
 }
 
+/// A value of at most a hundred layers, over each stream of characters.
+#[derive(Clone, Copy, Drop)]
+pub struct Json;
+
+impl<I: Text, E: ParserError<I> + AddContext<I, StrContext>> Reads<I, E> for Json {
+    type Output = JsonValue;
+
+    fn read(&self, alloc: Global, input: &mut I) -> ModalResult<JsonValue, E> {
+        ask(alloc, input, &nested(Value, 100))
+    }
+}
+
 /// Reads a value, of at most a hundred layers, with what is blank around it.
 pub fn json(alloc: Global, input: &mut &str) -> ModalResult<JsonValue, ContextError<StrContext>> {
-    delimited(multispace0(), nested(Value, 100), multispace0()).parse_next(alloc, input)
+    delimited(multispace0(), part(Json), multispace0()).parse_next(alloc, input)
 }
