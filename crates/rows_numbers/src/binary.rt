@@ -22,8 +22,8 @@ fn number<I: Fronts + Stream<Token = u8>, N: FixedNumber + Debug + Drop>(
     ask::<I, _>(alloc, &parser, row)
 }
 
-// Returns the order that a call names.
-fn order(name: &str) -> Endianness {
+/// Returns the order that a call names.
+pub fn order(name: &str) -> Endianness {
     if name == "Endianness::Big" {
         return Endianness::Big;
     }

@@ -13,6 +13,7 @@
 
 mod ascii;
 mod binary;
+mod other_widths;
 
 use rows::{Answers, Fault, Word, Words};
 use rows_fronts::Row;
@@ -60,9 +61,16 @@ fn of_bytes(alloc: Global, call: &Words, row: &Row<&[u8]>) -> Result<String, Fau
 // Answers a call on bytes of a number.
 fn of_number(alloc: Global, call: &Words, row: &Row<&[u8]>) -> Result<String, Fault> {
     let number = (call.plain(0)?, call.plain(1).unwrap_or(""));
-    match binary::unsigned::<Bytes<'_>>(alloc, number, row) {
-        Err(Fault::NoSuchCall) => binary::signed::<Bytes<'_>>(alloc, number, row),
-        answer => answer,
+    let name = number.0;
+    if name.ends_with("24") {
+        other_widths::three::<Bytes<'_>>(alloc, number, row)
+    } else if name.ends_with("128") || name.ends_with("_u8") || name.ends_with("_i8") {
+        other_widths::others::<Bytes<'_>>(alloc, number, row)
+    } else {
+        match binary::unsigned::<Bytes<'_>>(alloc, number, row) {
+            Err(Fault::NoSuchCall) => binary::signed::<Bytes<'_>>(alloc, number, row),
+            answer => answer,
+        }
     }
 }
 
