@@ -111,6 +111,20 @@ ContextErrors {E} {S} {C} {T} stood tells inner partial a s (Cut e) =
 ContextErrors stood tells inner partial a s (Incomplete n) = ⊤
 ContextErrors stood tells inner partial a s (Refused r) = ⊤
 
+-- this holds of each error with which the parser backtracks or cuts
+abbrev pub CarriesOnly : {E S T : Type 0} → Errors E S T → (E → Type 0) → Type 0
+CarriesOnly {E} {S} {T} errors holds = (partial : Bool) (a : Ahead T) (s : S) (e : E)
+    → (errors partial a s (Backtrack e) → holds e) × (errors partial a s (Cut e) → holds e)
+
+-- what a relation gives for each error of the inner parser
+abbrev pub MapErrors : {E F S T : Type 0} → (E → F → Type 0) → Errors E S T → Errors F S T
+MapErrors {E} gives inner partial a s (Backtrack e) =
+    (d : E) × (inner partial a s (Backtrack d) × gives d e)
+MapErrors {E} gives inner partial a s (Cut e) =
+    (d : E) × (inner partial a s (Cut d) × gives d e)
+MapErrors gives inner partial a s (Incomplete n) = inner partial a s (Incomplete n)
+MapErrors gives inner partial a s (Refused r) = inner partial a s (Refused r)
+
 -- what the contract of a function says of its failures
 abbrev pub ContractErrors : {F S O E T : Type 0}
     → Shared F (Global × (MutBor S × Unit {0})) (Result O (Failure E Needed)

@@ -20,6 +20,10 @@ Maps gives inner partial a (Fails f) = inner partial a (Fails f)
 abbrev pub IsAlways : {O P : Type 0} → P → O → P → Type 0
 IsAlways value x y = value ≡ y
 
+-- any value of which this holds, for each value of the parser
+abbrev pub IsAnyOf : {O P : Type 0} → (P → Type 0) → O → P → Type 0
+IsAnyOf holds x y = holds y
+
 -- any value, of which nothing is kept
 abbrev pub IsForgotten : {O : Type 0} → O → Unit {0} → Type 0
 IsForgotten x y = ⊤

@@ -11,6 +11,7 @@ mod by_ref;
 mod choosing;
 mod context;
 mod continuing;
+mod converting;
 mod determined;
 mod failure;
 mod laws;
@@ -27,6 +28,7 @@ mod whole;
 pub use choosing::{TryMapped, Verified, VerifyMapped};
 pub use context::Contextual;
 pub use continuing::FlatMapped;
+pub use converting::{DefaultValue, ErrInto, MapErr, OutputInto};
 pub use determined::{
     determined_function_law, determined_law, determined_pair_law, determined_slice_law,
 };

@@ -9,8 +9,9 @@ ghost use Rattle.winnow_parser.specs.Whole.{ReadsWhole, StopsAfter, StopsWith, K
 
 use crate::whole::read_whole;
 use crate::{
-    Contextual, FlatMapped, Mapped, ModalResult, Spanned, Taken, TryMapped, ValueTest, Valued,
-    Verified, VerifyMapped, Voided, WithSpan, WithTaken,
+    Contextual, DefaultValue, ErrInto, FlatMapped, MapErr, Mapped, ModalResult, OutputInto,
+    Spanned, Taken, TryMapped, ValueTest, Valued, Verified, VerifyMapped, Voided, WithSpan,
+    WithTaken,
 };
 use std::alloc::{AllocError, Global};
 use winnow_error::ParserError;
@@ -82,6 +83,22 @@ pub trait Parser<I: StreamIsPartial, E>: Sized {
         ensures value { result.value ≡ value }
     {
         Valued::new(self, value)
+    }
+
+    /// Returns the parser that gives the default of a type where the parser gives a value.
+    final fn default_value<V: Default>(self) -> DefaultValue<Self, V, I, E>
+        ensures inner { result.inner ≡ self }
+    {
+        DefaultValue::new(self)
+    }
+
+    /// Returns the parser that converts the value to another type, by `Into`.
+    final fn output_into<O2>(self) -> OutputInto<Self, O2, I, E>
+    where
+        Self::Output: Into<O2>,
+        ensures inner { result.inner ≡ self }
+    {
+        OutputInto::new(self)
     }
 
     /// Returns the parser that gives nothing where the parser gives a value.
@@ -163,6 +180,24 @@ pub trait Parser<I: StreamIsPartial, E>: Sized {
         ensures context { result.context ≡ context }
     {
         Contextual::new(self, context)
+    }
+
+    /// Returns the parser whose errors are what a function makes of the errors, where the parser
+    /// backtracks or cuts.
+    final fn map_err<E2, F: Fn(E) -> E2>(self, f: F) -> MapErr<Self, F, I, E>
+        ensures inner { result.inner ≡ self }
+        ensures f { result.f ≡ f }
+    {
+        MapErr::new(self, f)
+    }
+
+    /// Returns the parser that converts its errors to another type, by `Into`.
+    final fn err_into<E2>(self) -> ErrInto<Self, E2, I, E>
+    where
+        E: Into<E2>,
+        ensures inner { result.inner ≡ self }
+    {
+        ErrInto::new(self)
     }
 
     /// Returns a reference, which is a parser too, so that the parser itself is not used up.
