@@ -153,7 +153,7 @@ pub fn err_mode_joined_law<I: Stream, E: AssociativeOr<I> + FromRecoverableError
         ≡ mode_map (E.recovered start place input) e }
 {}
 
-/// The same for contexts.
+/// The members of `ErrMode` for contexts are those of its error.
 pub fn err_mode_context_law<I: Stream, C: Drop, E: AddContext<I, C>>()
     ensures told { (e r : Mode E) (input : I) (start : I.Checkpoint) (c : C)
         → ⟦<ErrMode<E> as AddContext<I, C>>⟧.add_context_gives e input start c r
@@ -162,14 +162,14 @@ pub fn err_mode_context_law<I: Stream, C: Drop, E: AddContext<I, C>>()
         → E.add_context_refusable }
 {}
 
-/// The same for the errors of other libraries.
+/// The members of `ErrMode` for errors of other libraries are those of its error.
 pub fn err_mode_cause_law<I, X, E: FromExternalError<I, X>>()
     ensures { (input : I) (x : X) (e : Mode E)
         → ⟦<ErrMode<E> as FromExternalError<I, X>>⟧.from_external_gives input x e
         → IsBacktrackOf (E.from_external_gives input x) e }
 {}
 
-/// The same for conversions.
+/// The members of `ErrMode` for conversions are those of its error.
 pub fn err_mode_convert_law<E: ErrorConvert<E2>, E2>()
     ensures converted { (e : Mode E) (r : Mode E2)
         → ⟦<ErrMode<E> as ErrorConvert<ErrMode<E2>>>⟧.convert_gives e r

@@ -110,7 +110,7 @@ pub fn refusing_law<'i, I: Recover<E> + Stream<Token = u8>, T: Copy + Debug + 'i
     ensures flagged { ⟦<Partial<I> as Recover<E>>⟧.supports_recovery ≡ false }
 {}
 
-/// The same for the calls that are passed on.
+/// A `Recoverable` passes these calls on, and keeps its errors.
 pub fn passed_on_law<I: StreamIsPartial + Display, E: Debug>()
     ensures errors_stay { (s t : Recoverable I E)
         → ⟦<Recoverable<I, E> as StreamIsPartial>⟧.same_but_flag s t

@@ -149,7 +149,7 @@ pub fn unsigned_reading_law()
         × (ReadsChar text c → ⟦<char as Readable>⟧.reads text c) }
 {}
 
-/// The same of numbers with a sign.
+/// A signed number is read exactly if it is one of its width.
 pub fn signed_reading_law()
     ensures i8 { (text : List ℕ) (n : _)
         → (⟦<i8 as Readable>⟧.reads text n → ReadsSigned w8 text n)

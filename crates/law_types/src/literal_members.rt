@@ -119,7 +119,7 @@ pub fn byte_search_law()
         ≡ hit ((needle.0 ∷ []) ∷ (needle.1 ∷ []) ∷ (needle.2 ∷ []) ∷ []) (bytes_of r) }
 {}
 
-/// The same for needles that are texts.
+/// Bytes are searched for a text by the bytes of the text.
 pub fn byte_search_of_text_law()
     ensures text { (needle : _) (r : Source ℕ)
         → ⟦<&'static [u8] as FindSlice<&'static str>>⟧.found needle r

@@ -86,7 +86,7 @@ pub fn wrapper_bytes_law<I: Stream + AsBytes, S, E>()
         → ⟦<Recoverable<I, E> as AsBytes>⟧.bytes s ≡ I.bytes (recoverable_inner s) }
 {}
 
-/// The same for text.
+/// The text of a wrapper is that of the stream inside.
 pub fn wrapper_text_law<I: Stream + AsBStr, S, E>()
     ensures located { (s : LocatingSlice I I.Checkpoint I.Rest I.Checkpoint.Rest)
         → ⟦<LocatingSlice<I> as AsBStr>⟧.text_bytes s ≡ I.text_bytes (locating_inner s) }

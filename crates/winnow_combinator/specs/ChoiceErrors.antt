@@ -19,7 +19,7 @@ abbrev pub ChoiceErrors4 : {O E S T : Type 0} → (S → Ahead T) → Type 0 →
 ChoiceErrors4 stands r joins ma a mb b mc c d = EitherErrors stands joins (Choice3 r ma mb mc)
     (ChoiceErrors3 stands r joins ma a mb b c) d
 
--- of five
+-- the errors of an `alt` of five
 abbrev pub ChoiceErrors5 : {O E S T : Type 0} → (S → Ahead T) → Type 0 → (E → E → E → Type 0)
     → Meaning O T → Errors E S T → Meaning O T → Errors E S T → Meaning O T → Errors E S T
     → Meaning O T → Errors E S T → Errors E S T → Errors E S T
@@ -27,7 +27,7 @@ ChoiceErrors5 stands r joins ma a mb b mc c md d e =
     EitherErrors stands joins (Choice4 r ma mb mc md)
     (ChoiceErrors4 stands r joins ma a mb b mc c d) e
 
--- of six
+-- the errors of an `alt` of six
 abbrev pub ChoiceErrors6 : {O E S T : Type 0} → (S → Ahead T) → Type 0 → (E → E → E → Type 0)
     → Meaning O T → Errors E S T → Meaning O T → Errors E S T → Meaning O T → Errors E S T
     → Meaning O T → Errors E S T → Meaning O T → Errors E S T → Errors E S T → Errors E S T
@@ -35,7 +35,7 @@ ChoiceErrors6 stands r joins ma a mb b mc c md d me e f =
     EitherErrors stands joins (Choice5 r ma mb mc md me)
     (ChoiceErrors5 stands r joins ma a mb b mc c md d e) f
 
--- of seven
+-- the errors of an `alt` of seven
 abbrev pub ChoiceErrors7 : {O E S T : Type 0} → (S → Ahead T) → Type 0 → (E → E → E → Type 0)
     → Meaning O T → Errors E S T → Meaning O T → Errors E S T → Meaning O T → Errors E S T
     → Meaning O T → Errors E S T → Meaning O T → Errors E S T → Meaning O T → Errors E S T
@@ -44,7 +44,7 @@ ChoiceErrors7 stands r joins ma a mb b mc c md d me e mf f g =
     EitherErrors stands joins (Choice6 r ma mb mc md me mf)
     (ChoiceErrors6 stands r joins ma a mb b mc c md d me e f) g
 
--- of eight
+-- the errors of an `alt` of eight
 abbrev pub ChoiceErrors8 : {O E S T : Type 0} → (S → Ahead T) → Type 0 → (E → E → E → Type 0)
     → Meaning O T → Errors E S T → Meaning O T → Errors E S T → Meaning O T → Errors E S T
     → Meaning O T → Errors E S T → Meaning O T → Errors E S T → Meaning O T → Errors E S T
@@ -53,7 +53,7 @@ ChoiceErrors8 stands r joins ma a mb b mc c md d me e mf f mg g h =
     EitherErrors stands joins (Choice7 r ma mb mc md me mf mg)
     (ChoiceErrors7 stands r joins ma a mb b mc c md d me e mf f g) h
 
--- of nine
+-- the errors of an `alt` of nine
 abbrev pub ChoiceErrors9 : {O E S T : Type 0} → (S → Ahead T) → Type 0 → (E → E → E → Type 0)
     → Meaning O T → Errors E S T → Meaning O T → Errors E S T → Meaning O T → Errors E S T
     → Meaning O T → Errors E S T → Meaning O T → Errors E S T → Meaning O T → Errors E S T
@@ -62,7 +62,7 @@ ChoiceErrors9 stands r joins ma a mb b mc c md d me e mf f mg g mh h i =
     EitherErrors stands joins (Choice8 r ma mb mc md me mf mg mh)
     (ChoiceErrors8 stands r joins ma a mb b mc c md d me e mf f mg g h) i
 
--- of ten
+-- the errors of an `alt` of ten
 abbrev pub ChoiceErrors10 : {O E S T : Type 0} → (S → Ahead T) → Type 0 → (E → E → E → Type 0)
     → Meaning O T → Errors E S T → Meaning O T → Errors E S T → Meaning O T → Errors E S T
     → Meaning O T → Errors E S T → Meaning O T → Errors E S T → Meaning O T → Errors E S T

@@ -59,7 +59,7 @@ fn first_place(input: &[u8], needles: &Needles<&[u8]>, stands: &[u8], at: usize)
     }
 }
 
-// The same for one needle.
+// Returns the least place of one needle, if that is at most `at`, or a place after `at`.
 fn place_of(input: &[u8], needle: &[u8], stands: &[u8], at: usize) -> usize
     requires { FindsNeedle input.now stands.now 0 (Some at) }
     ensures { IsLeastPlace (needle.now ∷ []) input.now at result }

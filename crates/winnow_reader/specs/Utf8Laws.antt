@@ -72,7 +72,7 @@ module _ (a : Ahead ℕ) (more : Source ℕ) where
         ap (λ l. record { location = a.location; tokens = text_source l })
         (ap text_in bytes-longer ∙ text_in-damaged (bytes_in a.tokens) (bytes_in more) damage)
 
-    -- so is the place of the damage
+    -- the place of the damage stays when more follows
     past-damaged : past (longer more a) (utf8_valid_len (bytes_in (a.tokens ++ more)))
         ≡ longer more (past a (utf8_valid_len (bytes_in a.tokens)))
     past-damaged =

@@ -1,4 +1,4 @@
-//! The spelling of a parser behind a reference.
+//! The spelling of a reference to a parser.
 
 use crate::Spells;
 use winnow_stream::StreamIsPartial;

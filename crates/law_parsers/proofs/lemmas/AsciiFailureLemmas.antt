@@ -60,7 +60,7 @@ module _ {O P : Type 0} where
   same-fragment (Escaped x) (Normal y) h = absurd h
   same-fragment (Escaped x) (Escaped y) h = ap Escaped h
 
-  -- so are lists of them
+  -- lists of the same fragments are equal
   pub same-fragments : (xs ys : List (Fragment O P)) → AreSameEach (AreSameFragments ◌≡◌ ◌≡◌) xs ys
       → xs ≡ ys
   same-fragments [] [] h = refl

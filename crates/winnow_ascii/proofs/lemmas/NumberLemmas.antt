@@ -25,7 +25,7 @@ module _ {E I T : Type 0} (makes cuts : I → E → Type 0) where
   AreOwn errors = (partial : Bool) (a : Ahead T) (s : I) (f : Failure E Needed)
       → errors partial a s f → OwnErrors makes cuts partial a s f
 
-  -- so are they
+  -- errors of a backtrack and of a cut are made of the stream as it is left
   own-own : AreOwn (OwnErrors makes cuts)
   own-own partial a s f h = h
 

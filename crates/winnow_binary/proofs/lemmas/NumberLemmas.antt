@@ -113,7 +113,7 @@ module _ {T : Type 0} where
       ap (λ l. record { location = l; tokens = drop k (drop j a.tokens) }) (location_behind-sum a.location (width (take j a.tokens)) (width (take k (drop j a.tokens))) ∙ ap (location_behind a.location) w)
       ∙ ap (λ r. record { location = location_behind a.location (width (take (j + k) a.tokens)); tokens = r }) (drop-drop k j a.tokens)
 
-  -- the same for places, one after the other
+  -- the place after k tokens and then k tokens is that after k + k tokens
   pub halves-place : (k : ℕ) (a b c : Ahead T) → b ≡ after_tokens k a → c ≡ after_tokens k b
       → c ≡ after_tokens (k + k) a
   halves-place k a b c e f = f ∙ ap (after_tokens k) e ∙ after_tokens-sum k k a

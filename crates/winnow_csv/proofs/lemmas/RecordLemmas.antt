@@ -480,7 +480,7 @@ module _ {S : Type 0} (is_slice : S → Source ℕ → ℕ → Type 0) (bytes : 
       let wide_c = (nexts-spelled xs m c wide_m turns).1.2 in
       left-missed f left.0 (bytes_of c.tokens) left.1.0 more after ends left.1.1.1 left.1.1.2 (no-backtrack f (length xs) few) (next-fails f c wide_c k)
 
-  -- the same for the parser of the list
+  -- if a record stands at the front, only refused memory makes the parser of the list fail
   pub list-missed : (f : Failed ℕ) (ws : List (List ℕ)) (a : Ahead ℕ) (text more after : List ℕ)
       → HasPositiveWidths a.tokens → bytes_of a.tokens ≡ text ++ more → SpellsRecord ws text
       → EndsRecord partial more after → FieldList is_slice bytes appends refusable partial a (Fails f)

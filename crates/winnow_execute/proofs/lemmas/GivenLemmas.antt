@@ -56,7 +56,7 @@ module _ {S : Type 0} (k : PieceReading ℕ CharSet (Bor (List ℕ))) (all : Sou
   call-line answer.NoMark given e = rw e refl
   call-line answer.LaterMark given e = rw e refl
 
-  -- the same for the answer of any step
+  -- the given answer of any step has the same line, too
   line-given : (a : PlacedSearchAnswer ℕ) (given : SearchAnswer ℕ S (Vec (ℕ × ℕ)))
       → SearchStandsFor is_slice all a given
       → answer_line (λ t. t) words (λ v. item_words (λ t. t) v.items) given ≡ answer_line (λ t. t) (slice_word k all) (listed_words k all) a
@@ -65,7 +65,7 @@ module _ {S : Type 0} (k : PieceReading ℕ CharSet (Bor (List ℕ))) (all : Sou
   line-given (search.Hit o) given e = rw e refl
 
   module _ (may_answer : CharSet → ℕ → Bool → Type 0) (computes : (s : PieceStep) → SearchComputes may_answer k.holds s) where
-    -- the same for all answers of a script
+    -- the given answers of a script have the lines of the definition's
     pub lines-given : (script : List PieceStep) (at : Cursor)
         (given : List (SearchAnswer ℕ S (Vec (ℕ × ℕ))))
         → AreGiven (IsSearchAnswer may_answer is_slice k.counts_shortage (λ literal r. comparison (k.literal literal) (written k.write r)) (λ needles r. hit (needle_list k.literal needles) (written k.write r)) all) (search_next all) script at given
@@ -87,7 +87,7 @@ module _ {T : Type 0} (code : T → ℕ) where
   need-computes (need.Tokens n) = tt
   need-computes need.End = tt
 
-  -- the same for the set of any step
+  -- the set of any step answers whether it holds a token
   step-computes : {L : Type 0} (s : SearchStep CharSet L)
       → SearchComputes (HoldsNumber code) (in_set code) s
   step-computes (step.Call s) = need-computes (call_need s)

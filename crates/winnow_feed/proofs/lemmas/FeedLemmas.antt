@@ -190,7 +190,7 @@ module _ (i : InputRules) (law : IsInput i) where
         tried = omega (arith, tried, w, old_tried, ap length told, ap length old_told, lens);
       }
 
-  -- the same for a piece after the last answer
+  -- a feed that skipped a piece after its last answer fits the pieces with it
   pub Fits-skipped : (old new : FeedState) (pieces : List (List ℕ)) (p : List ℕ)
       → Fits i old pieces → i.valid p ≡ true
       → length old.run.script.now ≤ length old.run.told.items → new.run.script ≡ old.run.script

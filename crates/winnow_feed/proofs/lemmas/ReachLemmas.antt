@@ -121,7 +121,7 @@ mark-above n s t there marks None h = there
 mark-above n s t there marks (Some k) h = marks k h
 
 module _ {C L : Type 0} (n : ℕ) (s t : Cursor) (there : n ≤ t.index) (marks : (k : ℕ) → n ≤ unwrap_or (slice_get s.marks k) s.index → n ≤ unwrap_or (slice_get t.marks k) t.index) where
-  -- so is the index that a step names
+  -- the index that a step names is at n or later
   named-above : (x : SearchStep C L) → n ≤ named_index s x → n ≤ named_index t x
   named-above x h = mark-above n s t there marks (step_mark x) h
 
@@ -149,7 +149,7 @@ module _ {T C L : Type 0} (all : Source T) (s : Cursor) (x : SearchStep C L) (st
       → least_index (x ∷ steps) s ≤ least_index steps t
   to t there marks = least-above (least_index (x ∷ steps) s) s t there marks steps (omega arith)
 
-  -- the same for a move of the index alone
+  -- after a move of the index alone, the steps name nothing before the old least index
   on : (i : ℕ) → least_index (x ∷ steps) s ≤ i
       → least_index (x ∷ steps) s ≤ least_index steps (record s { index = i })
   on i h = to (record s { index = i }) h (λ k g. same-marks (least_index (x ∷ steps) s) s.index i (slice_get s.marks k) h g)

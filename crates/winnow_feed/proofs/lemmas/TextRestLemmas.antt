@@ -41,7 +41,7 @@ rest-boundary l b u v f =
 rest-utf8 : (l b : List ℕ) → IsUtf8 l → IsUtf8 b → IsPrefixOf b l → IsUtf8 (drop (length b) l)
 rest-utf8 l b u v f = IsUtf8-drop l (length b) u (rest-boundary l b u v f)
 
--- the same for the test `is_utf8`
+-- by the test `is_utf8`: the rest of a text after a front that is text is text
 pub rest-text : (l b : List ℕ) → is_utf8 l ≡ true → is_utf8 b ≡ true → IsPrefixOf b l
     → is_utf8 (drop (length b) l) ≡ true
 rest-text l b u v f = is_utf8-from_IsUtf8 (drop (length b) l) (rest-utf8 l b (IsUtf8-from_is_utf8 l u) (IsUtf8-from_is_utf8 b v) f)
@@ -96,7 +96,7 @@ needle-utf8 ls b some us v =
       ]
     ]
 
--- the same for the test `is_utf8`
+-- by the test `is_utf8`: the missing part of a needle that is text is text
 pub needle-text : (ls : List (List ℕ)) (b : List ℕ) → 0 < length ls
     → AllByRecursion (λ needle. is_utf8 needle ≡ true) ls → is_utf8 b ≡ true
     → is_utf8 (needle_missing ls b) ≡ true

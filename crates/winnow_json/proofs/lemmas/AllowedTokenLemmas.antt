@@ -192,7 +192,7 @@ module _ (deep : Bool) (i : Bracket) where
   key-early (token.String v) e = absurd (let z = within-early deep _ e in cc z)
   key-early token.End e = refl
 
-  -- and where anything is
+  -- the end of the input is early wherever a token is expected
   pub early-end : (x : Expected) (t : Token) → turn_of deep i x t ≡ Refuses EndsEarly
       → t ≡ token.End
   early-end expect.Value t e = value-early t e

@@ -152,7 +152,7 @@ module _ (s : TextState) (e : Expected) (at : IsItem s bracket.Object e) where
       let within = ltb-false s.depth (length all) (bar-open member_at true free).1 in
       absurd (omega (arith, deep, within)))
 
-  -- and where no name stands
+  -- a text stops before a member without a name
   name-missing : (b r : List ℕ) → Unclosed bracket.Object e b → r ≡ after_blanks b
       → ¬ (StartsWith 34 (after_blanks b)) → Stops member_at b r
   name-missing b r apart same none =
@@ -314,7 +314,7 @@ module _ (s : TextState) (d : ℕ) (fits : length s.open_brackets + suc d ≡ s.
       (λ e place b q apart h. broken b q h (inside s bracket.Array e) (array-place s e place) (inside-fits bracket.Array) apart)
       vs expect.FirstValue (inl refl) n m r (λ e. wide) commas stop
 
-  -- and where one of an object does
+  -- a text stops at the member of an object that breaks off
   object-broken : (n r : List ℕ) → ¬ (StartsWith 125 (after_blanks n))
       → ElementsBreakOff (MemberAhead (ValueAhead false d))
       (MemberBreaksOff false (λ b. HereBreaksOff false d (after_blanks b))) 125 n r

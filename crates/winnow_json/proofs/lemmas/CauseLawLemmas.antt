@@ -34,7 +34,7 @@ else-same false t s u v e same = same
 newline-begins : BeginsChar (92 ∷ 110 ∷ [])
 newline-begins = (10, (92 ∷ 110 ∷ [], ([], (refl, inr (inl (110, (refl, refl)))))))
 
--- so are `\u` and four zeros
+-- a backslash, a `u` and four zeros are a character
 zeros-begin : BeginsChar (92 ∷ 117 ∷ 48 ∷ 48 ∷ 48 ∷ 48 ∷ [])
 zeros-begin = (0, (92 ∷ 117 ∷ 48 ∷ 48 ∷ 48 ∷ 48 ∷ [], ([], (refl, inr (inr (inl (refl, (48, (48, (48, (48, (refl, (omega arith, omega arith, omega arith, omega arith), refl))))))))))))
 

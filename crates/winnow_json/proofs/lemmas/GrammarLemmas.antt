@@ -204,7 +204,7 @@ module _ (partial : Bool) (inner : Value → List ℕ → List ℕ → Type 0) w
       let k = layer-kind x b r h in
       sym k.1.1.1 ∙ ap kind_of (heads k.0 c k.1.0 q (sym k.1.1.0 ∙ e))
 
-  -- so are two layers of the same bytes
+  -- two layers of the same bytes are of one kind
   pub same-kind : (x y : Value-F Value) (b r s : List ℕ) → Layer partial inner x b r
       → Layer partial inner y b s → kind y ≡ kind x
   same-kind x y b r s h g =

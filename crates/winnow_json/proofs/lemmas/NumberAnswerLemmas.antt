@@ -30,44 +30,44 @@ each-append test (x ∷ t) u g h = (g.0, each-append test t u g.1 h)
 digit-byte : (b : ℕ) → is_ascii_digit b ≡ true → is_number_byte b ≡ true
 digit-byte b e = grind (arith, nat_tests, e)
 
--- so are digits
+-- digits are bytes of a number
 digits-bytes : (t : List ℕ) → Each is_ascii_digit t → Each is_number_byte t
 digits-bytes [] h = tt
 digits-bytes (x ∷ t) h = (digit-byte x h.0, digits-bytes t h.1)
 
--- so are one or more digits
+-- one or more digits are bytes of a number
 some-bytes : (t : List ℕ) → AreDigits t → Each is_number_byte t
 some-bytes [] h = absurd h
 some-bytes (x ∷ t) h = (digit-byte x h.0, digits-bytes t h.1)
 
--- so is a minus
+-- a minus is a byte of a number
 minus-bytes : (t : List ℕ) → IsMinus t → Each is_number_byte t
 minus-bytes t (inl e) = subst (Each is_number_byte) (sym e) tt
 minus-bytes t (inr e) = subst (Each is_number_byte) (sym e) (refl, tt)
 
--- so is a whole part
+-- a whole part is of bytes of a number
 whole-bytes : (t : List ℕ) → IsWhole t → Each is_number_byte t
 whole-bytes [] h = absurd h
 whole-bytes (x ∷ t) (inl (e, none)) = (ap is_number_byte e, subst (Each is_number_byte) (sym none) tt)
 whole-bytes (x ∷ t) (inr (e, h)) = (grind (arith, nat_tests, e), digits-bytes t h)
 
--- so is a fraction
+-- a fraction is of bytes of a number
 fraction-bytes : (t : List ℕ) → IsFraction t → Each is_number_byte t
 fraction-bytes t (inl e) = subst (Each is_number_byte) (sym e) tt
 fraction-bytes t (inr (ds, (e, h))) = subst (Each is_number_byte) (sym e) (refl, some-bytes ds h)
 
--- so is a power
+-- a power is of bytes of a number
 power-bytes : (t : List ℕ) → IsPower t → Each is_number_byte t
 power-bytes [] h = absurd h
 power-bytes (x ∷ t) (inl (e, h)) = (grind (arith, nat_tests, e), some-bytes t h)
 power-bytes (x ∷ t) (inr h) = some-bytes (x ∷ t) h
 
--- so is an exponent
+-- an exponent is of bytes of a number
 exponent-bytes : (t : List ℕ) → IsExponent t → Each is_number_byte t
 exponent-bytes [] h = tt
 exponent-bytes (x ∷ t) (e, h) = (grind (arith, nat_tests, e), power-bytes t h)
 
--- so is each byte of a number
+-- each byte of a number is a byte of a number
 pub number-bytes : (t : List ℕ) → IsNumber t → Each is_number_byte t
 number-bytes t (n, (w, (f, (x, (split, minus, whole, fraction, exponent))))) =
     subst (Each is_number_byte) (sym split)

@@ -129,7 +129,7 @@ char-spelled c scalar =
           (subst (SpellsChar c) (sym (append-nil (written_byte c))) (byte-spelled c p.1 (letter_of c) refl))
     ]
 
--- so is what is written for several
+-- the bytes that are written for several characters spell them
 chars-spelled : (cs : List ℕ) → scalars cs ≡ true
     → SpellsChars cs (flat_map written_byte (encode_utf8_all cs))
 chars-spelled [] h = refl

@@ -29,7 +29,7 @@ EndsWith b r = (front : List ℕ) × (b ≡ front ++ r)
 pub ends-on : (a b c : List ℕ) → EndsWith a b → EndsWith b c → EndsWith a c
 ends-on a b c (f, e) (g, is) = (f ++ g, e ∙ ap (λ l. f ++ l) is ∙ sym (append_assoc f g c))
 
--- and where more follows
+-- bytes end with these also if more follows
 pub ends-longer : (b r more : List ℕ) → EndsWith b r → EndsWith (b ++ more) (r ++ more)
 ends-longer b r more (f, e) = (f, ap (λ l. l ++ more) e ∙ append_assoc f r more)
 

@@ -39,7 +39,7 @@ module _ {T : Type 0} (inner : T → List ℕ → List ℕ → Type 0) (close : 
       let next = tails 44 44 m n (sym e ∙ ap after_blanks (once v w b a c h g) ∙ f) in
       (agree v w b a c h g, elements-same (y ∷ vs) (x ∷ ws) n r s (subst (λ t. Elements inner close (y ∷ vs) t r) next k) l)
 
-  -- so is what stands between brackets
+  -- the same bytes have the same elements between brackets
   inside-same : (vs ws : List T) (b r s : List ℕ) → Inside inner close vs b r
       → Inside inner close ws b s → SameAll same vs ws
   inside-same [] [] b r s e f = tt

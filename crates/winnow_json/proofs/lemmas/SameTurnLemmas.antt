@@ -34,7 +34,7 @@ same-event (event.Bool b) = refl
 same-event (event.Number n) = (refl, refl)
 same-event (event.String v) = refl
 
--- so are events in a row
+-- events in a row are the same as themselves
 pub same-events : (es : List Event) → SameAll SameEvent es es
 same-events [] = tt
 same-events (e ∷ es) = (same-event e, same-events es)

@@ -59,7 +59,7 @@ module _ (r : Source ℕ) (t : List ℕ) (same : r ≡ units t) where
       → ¬ (StringAhead (bytes_of r) ds after)
   missed ds after none h = none (subst (λ l. StringAhead l ds after) text-is h)
 
-  -- so is a quote
+  -- a quote that is missed in the bytes is missed in the stream
   pub no-quote : ¬ (StartsWith 34 t) → ¬ (StartsWith 34 (bytes_of r))
   no-quote none h = none (subst (StartsWith 34) text-is h)
 
@@ -88,7 +88,7 @@ module _ (r : Source ℕ) (t : List ℕ) (same : r ≡ units t) where
   damaged-cuts partial n new is e =
       subst (λ l. IsDamagedAt partial l (bytes_of new)) (sym text-is) (subst (IsDamagedAt partial t) (sym (rest-is n new is.0.0 e)) (damaged-at partial t n is))
 
-  -- so is one that is begun, where nothing follows
+  -- a string that is begun is cut at the end of the input
   pub begun-cuts : (partial : Bool) (n : ℕ) (new : Source ℕ) → partial ≡ false
       → IsReading t (reading.Begun n) → new ≡ back r n
       → IsDamagedAt partial (bytes_of r) (bytes_of new)

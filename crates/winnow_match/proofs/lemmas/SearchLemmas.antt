@@ -205,7 +205,7 @@ first_hit-none ls (y ∷ bytes) base none =
     rw here (first_hit-none ls bytes (base + 1) later)
 
 module _ (ls : List (List ℕ)) (bytes : List ℕ) where
-  -- the same of `hit`
+  -- `hit` finds the first place at which a needle stands, and nothing without one
   pub hit-some : (q n : ℕ) → list_any is_empty ls ≡ false → Nowhere (SomeOccurs ls bytes) 0 q
       → needle_at ls (drop q bytes) ≡ Some n → Some (span q n) ≡ hit ls bytes
   hit-some q n some none e =

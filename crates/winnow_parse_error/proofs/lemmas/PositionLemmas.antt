@@ -58,7 +58,7 @@ column_of-nothing offset =
     let all : offset ≡ 0 + (offset - 0) = omega arith in
     all ∙ ap (λ n. n + (offset - 0)) (sym last_column-nothing) ∙ sym (ap (λ place. last_column (slice_range [] (line_start (take place [])) (place + 1)) + (offset - place)) first)
 
--- the same for bytes whose length is 0
+-- the column in bytes of length 0 is the offset
 pub column_of-empty : (bytes : List ℕ) (offset : ℕ) → length bytes ≡ 0
     → offset ≡ column_of bytes offset
 column_of-empty bytes offset none = subst (λ b. offset ≡ column_of b offset) (sym (nil_from_length bytes none)) (column_of-nothing offset)

@@ -37,7 +37,7 @@ module _ {A : Type 0} where
       → b ≡ location_behind a n → s ≡ back r n → MovesOn a b r s
   onward_front a b r s n h p q = moved_as a b (location_behind a n) r s (back r n) p q (MovesOn-front a r n h)
 
-  -- so is all that remains
+  -- all that remains is a move, if it is taken
   pub onward_finish : (a b : Option ℕ) (r s : Source A) → b ≡ location_behind a (width r) → s ≡ []
       → MovesOn a b r s
   onward_finish a b r s p q = record {

@@ -85,7 +85,7 @@ module _ {S : Type 0} (counts_shortage : Bool) (is_slice : S → Source ℕ → 
   layer-backtracks longest most inner partial a b (inl h) = h
   layer-backtracks longest most inner partial a b (inr (x, (c, (k, (h, same, g))))) = absurd (body-holds longest most k inner partial c b g)
 
-  -- so is that of the whole parser
+  -- a backtrack of the whole parser is that of the byte of a kind
   nested-backtracks : (longest depth : ℕ) (partial : Bool) (a b : Ahead ℕ)
       → Nested itself counts_shortage is_slice bytes longest depth partial a (Fails (Backtracks b))
       → OneOf is_kind partial a (Fails (Backtracks b))

@@ -202,11 +202,11 @@ decimal-line n text small e = (
   omega (arith, ap length e, length-decimal-le 20 n (omega arith) (omega (arith, small)) small),
 )
 
--- so is -1
+-- -1 is the text of a line
 pub no_length-line : IsText most_digits no_length
 no_length-line = ((refl, (refl, tt)), omega arith)
 
--- so is an integer of 64 bits
+-- an integer of 64 bits is the text of a line
 pub integer-line : (text : List ℕ) (n : ℤ) → IsInteger text n → IsText most_digits text
 integer-line text (pos n) h = decimal-line n text (omega (arith, h.0)) h.1
 integer-line text (negsuc n) h =
@@ -215,7 +215,7 @@ integer-line text (negsuc n) h =
       omega (arith, ap length h.1, length-decimal-le 20 (suc n) (omega arith) (omega (arith, h.0)) (omega (arith, h.0))),
     )
 
--- so is a length
+-- a length is the text of a line
 pub length-line : (greatest : ℕ) (text : List ℕ) (n : Option ℕ) → IsLength greatest text n
     → IsText most_digits text
 length-line greatest text None h = subst (IsText most_digits) (sym h) no_length-line

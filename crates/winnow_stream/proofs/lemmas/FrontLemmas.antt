@@ -83,7 +83,7 @@ module _ {A : Type 0} where
       let d : nat_le x.1 (x.1 + w) ≡ true = grind (arith, nat_tests) in
       rw a (rw d (rw b (rw (front_count-seam xs ys h.1) (ap Some (omega arith)))))
 
-  -- the same for the test and for the count
+  -- the width of some tokens is an offset of each list that begins with them
   pub is_offset-seam : (xs ys : List (A × ℕ)) → HasPositiveWidths xs
       → is_offset (xs ++ ys) (width xs) ≡ true
   is_offset-seam xs ys h = ap is_some (front_count-seam xs ys h)
@@ -105,7 +105,7 @@ module _ {A : Type 0} where
       let d : nat_le x.1 (x.1 + w) ≡ true = grind (arith, nat_tests) in
       rw a (rw d (rw b (rw (front_count-place xs i h.1 (omega arith)) (ap Some (omega arith)))))
 
-  -- the same for the count
+  -- the width of the first i tokens counts i tokens
   pub count_to-place : (r : List (A × ℕ)) (i : ℕ) → HasPositiveWidths r → i ≤ length r
       → count_to r (width (take i r)) ≡ i
   count_to-place r i h l = ap (λ o. unwrap_or o 0) (front_count-place r i h l)

@@ -26,7 +26,7 @@ references-take size at zero xs = refl
 references-take size at (suc n) [] = refl
 references-take size at (suc n) (x ∷ xs) = ap (λ r. record { ref_ptr = at; now = x } ∷ r) (references-take size (at.0, size + at.1) n xs)
 
--- the same for what follows the first n elements
+-- the references to what follows the first n elements are those of the whole at its places
 pub references-drop : {T : Type 0} (size : ℕ) (at : ℕ × ℕ) (n : ℕ) (xs : List T)
     → references size (at.0, n * size + at.1) (drop n xs) ≡ drop n (references size at xs)
 references-drop size at zero xs = ap (λ o. references size (at.0, o) xs) (omega arith)

@@ -25,7 +25,7 @@ invariant-append_array-loop-value l =
     (l.bytes.items ≡ l.initial.bytes.items ++ flat_map (λ v. 44 ∷ written v) (take l.value-index l.value-items))
     × All (Stands ValueAhead written (l.depth - 1)) (take l.value-index l.value-items)
 
--- so are the members
+-- the members so far are appended, each after a comma, and each stands where it was written
 abbrev pub invariant-append_object-loop-member : goal.invariant-append_object-loop-member
 invariant-append_object-loop-member l =
     (l.bytes.items ≡ l.initial.bytes.items ++ flat_map (λ m. 44 ∷ member_text m) (take l.member-index l.member-items))
