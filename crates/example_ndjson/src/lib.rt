@@ -2,7 +2,7 @@
 //! pieces.
 #![tactic(auto)]
 
-use example_values::{Json, JsonValue};
+use example_values::{JsonText, JsonValue};
 use std::alloc::Global;
 use winnow_ascii::{line_ending, space0};
 use winnow_combinator::{alt, delimited, eof, opt};
@@ -21,7 +21,7 @@ impl<I: Text, E: ParserError<I> + AddContext<I, StrContext>> Reads<I, E> for Lin
 
     fn read(&self, alloc: Global, input: &mut I) -> ModalResult<Option<JsonValue>, E> {
         let end = (space0(), alt((line_ending(), eof())));
-        ask(alloc, input, &delimited(space0(), opt(part(Json)), end))
+        ask(alloc, input, &delimited(space0(), opt(part(JsonText)), end))
     }
 }
 

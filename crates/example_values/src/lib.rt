@@ -156,9 +156,9 @@ impl<I: Text, E: ParserError<I> + AddContext<I, StrContext>> Layer<I, E> for Val
 
 /// A value of at most a hundred layers, over each stream of characters.
 #[derive(Clone, Copy, Drop)]
-pub struct Json;
+pub struct JsonText;
 
-impl<I: Text, E: ParserError<I> + AddContext<I, StrContext>> Reads<I, E> for Json {
+impl<I: Text, E: ParserError<I> + AddContext<I, StrContext>> Reads<I, E> for JsonText {
     type Output = JsonValue;
 
     fn read(&self, alloc: Global, input: &mut I) -> ModalResult<JsonValue, E> {
@@ -168,5 +168,5 @@ impl<I: Text, E: ParserError<I> + AddContext<I, StrContext>> Reads<I, E> for Jso
 
 /// Reads a value, of at most a hundred layers, with what is blank around it.
 pub fn json(alloc: Global, input: &mut &str) -> ModalResult<JsonValue, ContextError<StrContext>> {
-    delimited(multispace0(), part(Json), multispace0()).parse_next(alloc, input)
+    delimited(multispace0(), part(JsonText), multispace0()).parse_next(alloc, input)
 }
