@@ -44,10 +44,13 @@ NEVER = {
     # It hands on what was refused.
     "from": r"\bFrom<AllocError> for ",
     "into_mode": r"\bimpl<E> Failure<E>",
-    # It is refused what its parser is.
+    # They are refused what their parsers are.
     "ask": r"^pub fn ask<",
-    # It is refused what its record of text is.
-    "read": r"\bRecord for Utf8Record<",
+    "ask_as": r"^pub fn ask_as<",
+    "ask_bytes": r"^pub fn ask_bytes<",
+    "ask_text": r"^pub fn ask_text<",
+    # It is refused what its record of text, or its part of a grammar, is.
+    "read": r"\b(Text)?Record for (Utf8Record|PlainRecord|PlainTextRecord)<",
 }
 
 # How rows begin that are of the program of scripts, and of a reader of text.
