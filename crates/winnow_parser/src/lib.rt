@@ -18,6 +18,7 @@ mod laws;
 mod literals;
 mod mapping;
 mod parser;
+mod reading;
 mod rule;
 mod sequences;
 mod spanning;
@@ -30,13 +31,15 @@ pub use context::Contextual;
 pub use continuing::FlatMapped;
 pub use converting::{DefaultValue, ErrInto, MapErr, OutputInto};
 pub use determined::{
-    determined_function_law, determined_law, determined_pair_law, determined_slice_law,
+    determined_function_law, determined_law, determined_pair_law, determined_reading_law,
+    determined_slice_law,
 };
 pub use failure::{Failure, ModalResult};
 pub use laws::{parser_law, taken_width_law};
 pub use literals::{Wanted, literal};
 pub use mapping::{Mapped, Valued, Voided};
 pub use parser::Parser;
+pub use reading::ParseTo;
 pub use rule::{Rule, RuledFunction, by_rule};
 pub use spanning::{Spanned, WithSpan};
 pub use taking::{Taken, WithTaken};

@@ -10,10 +10,11 @@ ghost use Rattle.winnow_parser.specs.Whole.{ReadsWhole, StopsAfter, StopsWith, K
 use crate::whole::read_whole;
 use crate::{
     Contextual, DefaultValue, ErrInto, FlatMapped, MapErr, Mapped, ModalResult, OutputInto,
-    Spanned, Taken, TryMapped, ValueTest, Valued, Verified, VerifyMapped, Voided, WithSpan,
-    WithTaken,
+    ParseTo, Spanned, Taken, TryMapped, ValueTest, Valued, Verified, VerifyMapped, Voided,
+    WithSpan, WithTaken,
 };
 use std::alloc::{AllocError, Global};
+use winnow_count::ParseSlice;
 use winnow_error::ParserError;
 use winnow_parse_error::ParseError;
 use winnow_stream::StreamIsPartial;
@@ -143,6 +144,17 @@ pub trait Parser<I: StreamIsPartial, E>: Sized {
         ensures f { result.f ≡ f }
     {
         TryMapped::new(self, f)
+    }
+
+    /// Returns the parser of what the value reads as: a number, a `bool`, a character, or a value of
+    /// your own type that says how it is read. Where the value reads as none, the parser backtracks,
+    /// from where it began.
+    final fn parse_to<R>(self) -> ParseTo<Self, R, I, E>
+    where
+        Self::Output: ParseSlice<R>,
+        ensures inner { result.inner ≡ self }
+    {
+        ParseTo::new(self)
     }
 
     /// Returns the parser of the slice that the parser takes.
