@@ -1,3 +1,4 @@
+pub mod AloneLemmas
 pub mod TakenLemmas
 pub mod DeterminedLemmas
 pub mod ImageLemmas

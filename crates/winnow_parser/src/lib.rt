@@ -7,6 +7,7 @@
 //! errors the failures carry.
 #![tactic(auto, using(crate::proofs::lemmas::OnwardLemmas::onward_steps))]
 
+mod alone;
 mod by_ref;
 mod choosing;
 mod context;
@@ -26,6 +27,7 @@ mod taking;
 mod value_test;
 mod whole;
 
+pub use alone::AndThen;
 pub use choosing::{TryMapped, Verified, VerifyMapped};
 pub use context::Contextual;
 pub use continuing::FlatMapped;

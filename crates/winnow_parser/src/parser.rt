@@ -9,9 +9,9 @@ ghost use Rattle.winnow_parser.specs.Whole.{ReadsWhole, StopsAfter, StopsWith, K
 
 use crate::whole::read_whole;
 use crate::{
-    Contextual, DefaultValue, ErrInto, FlatMapped, MapErr, Mapped, ModalResult, OutputInto,
-    ParseTo, Spanned, Taken, TryMapped, ValueTest, Valued, Verified, VerifyMapped, Voided,
-    WithSpan, WithTaken,
+    AndThen, Contextual, DefaultValue, ErrInto, FlatMapped, MapErr, Mapped, ModalResult,
+    OutputInto, ParseTo, Spanned, Taken, TryMapped, ValueTest, Valued, Verified, VerifyMapped,
+    Voided, WithSpan, WithTaken,
 };
 use std::alloc::{AllocError, Global};
 use winnow_count::ParseSlice;
@@ -155,6 +155,16 @@ pub trait Parser<I: StreamIsPartial, E>: Sized {
         ensures inner { result.inner ≡ self }
     {
         ParseTo::new(self)
+    }
+
+    /// Returns the parser of what the parser gives, which another parser reads as an input of its
+    /// own: nothing follows it, so that parser never needs more, and it need not read all. Where it
+    /// fails, the stream stands where the parser began.
+    final fn and_then<Q>(self, inner: Q) -> AndThen<Self, Q, I, E>
+        ensures outer { result.outer ≡ self }
+        ensures inner { result.inner ≡ inner }
+    {
+        AndThen::new(self, inner)
     }
 
     /// Returns the parser of the slice that the parser takes.
