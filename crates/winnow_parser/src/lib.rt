@@ -11,6 +11,7 @@ mod alone;
 mod by_ref;
 mod choosing;
 mod context;
+mod context_with;
 mod continuing;
 mod converting;
 mod determined;
@@ -30,6 +31,7 @@ mod whole;
 pub use alone::AndThen;
 pub use choosing::{TryMapped, Verified, VerifyMapped};
 pub use context::Contextual;
+pub use context_with::ContextWith;
 pub use continuing::FlatMapped;
 pub use converting::{DefaultValue, ErrInto, MapErr, OutputInto};
 pub use determined::{

@@ -9,9 +9,9 @@ ghost use Rattle.winnow_parser.specs.Whole.{ReadsWhole, StopsAfter, StopsWith, K
 
 use crate::whole::read_whole;
 use crate::{
-    AndThen, Contextual, DefaultValue, ErrInto, FlatMapped, MapErr, Mapped, ModalResult,
-    OutputInto, ParseTo, Spanned, Taken, TryMapped, ValueTest, Valued, Verified, VerifyMapped,
-    Voided, WithSpan, WithTaken,
+    AndThen, ContextWith, Contextual, DefaultValue, ErrInto, FlatMapped, MapErr, Mapped,
+    ModalResult, OutputInto, ParseTo, Spanned, Taken, TryMapped, ValueTest, Valued, Verified,
+    VerifyMapped, Voided, WithSpan, WithTaken,
 };
 use std::alloc::{AllocError, Global};
 use winnow_count::ParseSlice;
@@ -202,6 +202,15 @@ pub trait Parser<I: StreamIsPartial, E>: Sized {
         ensures context { result.context ≡ context }
     {
         Contextual::new(self, context)
+    }
+
+    /// Returns the parser that adds to its errors what a function makes, which is only called where
+    /// the parser fails.
+    final fn context_with<C, F: Fn() -> C>(self, f: F) -> ContextWith<Self, F, I, E>
+        ensures inner { result.inner ≡ self }
+        ensures f { result.f ≡ f }
+    {
+        ContextWith::new(self, f)
     }
 
     /// Returns the parser whose errors are what a function makes of the errors, where the parser
