@@ -1,7 +1,6 @@
 -- Parsers of numbers have one answer.
 use Rattle.std.specs.Prelude.{⊤}
-use Rattle.std.proofs.Common.{◌≡◌, ℕ, ◌+◌, Option, None, Some, refl, sym}
-use Rattle.std.proofs.lemmas.Option.{none-some, same_Some}
+use Rattle.std.proofs.Common.{◌≡◌, ℕ, ◌+◌, None, Some}
 use Rattle.winnow_stream.specs.Source.{Source}
 use Rattle.winnow_count.specs.Reading.{IsSomeExactly, ReadsAlike}
 use Rattle.winnow_parser.specs.Outcome.{Meaning}
