@@ -146,9 +146,9 @@ pub trait Parser<I: StreamIsPartial, E>: Sized {
         TryMapped::new(self, f)
     }
 
-    /// Returns the parser of what the value reads as: a number, a `bool`, a character, or a value of
-    /// your own type that says how it is read. Where the value reads as none, the parser backtracks,
-    /// from where it began.
+    /// Returns the parser of what the value reads as: a number, a `bool`, a character, or a value
+    /// of your own type that says how it is read. Where the value reads as none, the parser
+    /// backtracks, from where it began.
     final fn parse_to<R>(self) -> ParseTo<Self, R, I, E>
     where
         Self::Output: ParseSlice<R>,
