@@ -10,6 +10,7 @@ pub mod Gathering
 pub mod Misuse
 pub mod OneAnswer
 pub mod Repetition
+pub mod RefusableFolds
 pub mod Separation
 pub mod Till
 pub mod Words

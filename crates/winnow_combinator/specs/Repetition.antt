@@ -123,14 +123,14 @@ module _ {O T : Type 0} (inner : Meaning O T) where
 
 module _ {O T : Type 0} {inner : Meaning O T} (p : IsParser inner) where
   -- values in turn are the same when more input follows
-  in_turn-longer : (more : Source T) (partial : Bool) (xs : List O) (a b : Ahead T)
+  pub in_turn-longer : (more : Source T) (partial : Bool) (xs : List O) (a b : Ahead T)
       → InTurn inner true xs a b → InTurn inner partial xs (longer more a) (longer more b)
   in_turn-longer more partial [] a b e = ap (longer more) e
   in_turn-longer more partial (x ∷ xs) a b t =
       (longer more t.0, (p.stable more partial a (Gives x t.0) tt t.1.0, in_turn-longer more partial xs t.0 b t.1.1))
 
   -- values in turn move the stream on
-  in_turn-moves : (partial : Bool) (xs : List O) (a b : Ahead T) → InTurn inner partial xs a b
+  pub in_turn-moves : (partial : Bool) (xs : List O) (a b : Ahead T) → InTurn inner partial xs a b
       → Moves a b
   in_turn-moves partial [] a b e = Moves-still a b e
   in_turn-moves partial (x ∷ xs) a b t = Moves-on a t.0 b (p.onward partial a (Gives x t.0) t.1.0) (in_turn-moves partial xs t.0 b t.1.1)

@@ -1,5 +1,5 @@
 -- Values with separators between them.
-use Rattle.std.specs.Prelude.{◌≡◌, ℕ, ◌+◌, ◌-◌, ◌^◌, ◌≤◌, zero, suc, List, [], ◌∷◌, Option, Some, None, ◌⊎◌}
+use Rattle.std.specs.Prelude.{◌≡◌, ℕ, ◌+◌, ◌-◌, ◌^◌, ◌≤◌, zero, suc, List, [], ◌∷◌, Option, Some, None, ◌⊎◌, ⊤}
 use Rattle.std.specs.List.{FoldsTo}
 use Rattle.winnow_stream.specs.Source.{width}
 use Rattle.winnow_parser.specs.Outcome.{Ahead, Backtracks, Cuts, Needs, Refuses, Gives, Fails, Meaning}
@@ -9,6 +9,7 @@ use Rattle.winnow_parser.specs.Meanings.{Returns, Maps, Pair, Preceded, Optional
 use Rattle.winnow_parser.specs.Parts.{IsParser-Returns, IsParser-Maps, IsParser-Pair, IsParser-Preceded, IsParser-Optional}
 use Rattle.winnow_combinator.specs.Appended.{AppendedErrorsIf, needs_some, appends_to_first}
 use Rattle.winnow_combinator.specs.Counts.{fewer}
+use Rattle.winnow_combinator.specs.Gathering.{Gathered, IsParser-Gathered}
 use Rattle.winnow_combinator.specs.Misuse.{TakingErrors}
 use Rattle.winnow_combinator.specs.Repetition.{Repeated, RepeatedErrors, IsParser-Repeated}
 
@@ -58,6 +59,17 @@ abbrev pub FoldedLeft : {O S T : Type 0} → (O → S × O → O → Type 0) →
     → Meaning O T
 FoldedLeft step separator inner = Maps (FoldsLeft step) (Pair inner (Repeated 0 None (Pair separator inner)))
 
+-- a step folds a value and the pairs after it from the right
+abbrev pub FoldsRight : {O S : Type 0} → (O → S → O → O → Type 0) → O → List (S × O) → O → Type 0
+FoldsRight step x [] y = x ≡ y
+FoldsRight {O} step x (pair ∷ pairs) y = (right : O) × (FoldsRight step pair.1 pairs right × step x pair.0 right y)
+
+-- values with separators between them, as many as there are, folded from the right; memory in which
+-- they are kept may be refused
+abbrev pub FoldedRight : {O S T : Type 0} → (O → S → O → O → Type 0) → Meaning S T → Meaning O T
+    → Meaning O T
+FoldedRight step separator inner = Gathered ⊤ (λ both y. FoldsRight step both.0 both.1 y) (Pair inner (Repeated 0 None (Pair separator inner)))
+
 -- the errors of the first value; or, after it and some pairs, those of the next separator and its
 -- value, which together take something
 abbrev pub ListErrors : {O P Q E S T : Type 0} → (S → E → Type 0) → Meaning Q T → Meaning P T
@@ -83,6 +95,14 @@ module _ {O S T : Type 0} {separator : Meaning S T} {inner : Meaning O T} (q : I
       let rest = Repeated 0 None (Pair separator inner) in
       let lawful = IsParser-Repeated 0 None (IsParser-Pair separator inner q p) in
       IsParser-Maps (FoldsLeft step) (Pair inner rest) (IsParser-Pair inner rest p lawful)
+
+  -- `FoldedRight` keeps the laws of a parser
+  pub IsParser-FoldedRight : (step : O → S → O → O → Type 0)
+      → IsParser (FoldedRight step separator inner)
+  IsParser-FoldedRight step =
+      let rest = Repeated 0 None (Pair separator inner) in
+      let lawful = IsParser-Repeated 0 None (IsParser-Pair separator inner q p) in
+      IsParser-Gathered ⊤ (λ both y. FoldsRight step both.0 both.1 y) (IsParser-Pair inner rest p lawful)
 
   -- `Chained` keeps the laws of a parser
   pub IsParser-Chained : (least : ℕ) (greatest : Option ℕ)

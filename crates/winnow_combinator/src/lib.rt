@@ -23,9 +23,11 @@ mod looking;
 mod modes;
 mod optional;
 mod repetition;
+mod right_fold;
 mod separation;
 mod sequence;
 mod till;
+mod try_folding;
 
 pub use alternatives::{Alternatives, alt};
 pub use bracketing::{alternative_errors_law, alternatives_law};
@@ -42,8 +44,10 @@ pub use looking::{LookedAt, Negated, not, peek};
 pub use modes::{CutOff, Softened, backtrack_err, cut_err};
 pub use optional::{Optional, opt};
 pub use repetition::{Repeated, repeat};
+pub use right_fold::{RightFold, separated_foldr1};
 pub use separation::{Separation, separated};
 pub use sequence::{
     Between, FirstOf, SecondOf, Separate, delimited, preceded, separated_pair, terminated,
 };
 pub use till::{RepetitionTill, repeat_till};
+pub use try_folding::{FoldStep, TryFolded, Trying, Verifying};

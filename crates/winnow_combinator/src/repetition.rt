@@ -1,4 +1,4 @@
-//! `repeat`, which calls a parser again and again, and `fold` of its values.
+//! `repeat`, which calls a parser again and again, and folds of its values.
 
 ghost use Rattle.std.specs.Prelude.{◌≡◌};
 ghost use Rattle.winnow_count.specs.CountRange.{least_count, greatest_count};
@@ -13,7 +13,7 @@ ghost use Rattle.winnow_combinator.specs.Gathering.{Gathered, IsParser-Gathered}
 
 use crate::again::{Again, go_on};
 use crate::counts::Counts;
-use crate::{Accumulated, Begin, Folded};
+use crate::{Accumulated, Begin, Folded, TryFolded, Trying, Verifying};
 use std::alloc::Global;
 use winnow_count::Range;
 use winnow_error::ParserError;
@@ -64,6 +64,53 @@ impl<P> Repeated<P, Accumulated<()>> {
             counts,
             inner,
             gather: Folded { init, f },
+        }
+    }
+
+    /// Returns the parser that folds the values by a function, from a start that another function
+    /// gives. Where the function makes nothing, the parser backtracks, from where that value began.
+    pub fn verify_fold<N, F>(self, init: N, f: F) -> TryFolded<P, N, Verifying<F>>
+        ensures { result ≡ record {
+          counts = self.counts;
+          inner = self.inner;
+          init = init;
+          step = record { f = f };
+        } }
+    {
+        let Repeated {
+            counts,
+            inner,
+            gather: _,
+        } = self;
+        TryFolded {
+            counts,
+            inner,
+            init,
+            step: Verifying { f },
+        }
+    }
+
+    /// Returns the parser that folds the values by a function, from a start that another function
+    /// gives. Where the function fails, the parser backtracks, from where that value began, with an
+    /// error that is made of the function's.
+    pub fn try_fold<N, F>(self, init: N, f: F) -> TryFolded<P, N, Trying<F>>
+        ensures { result ≡ record {
+          counts = self.counts;
+          inner = self.inner;
+          init = init;
+          step = record { f = f };
+        } }
+    {
+        let Repeated {
+            counts,
+            inner,
+            gather: _,
+        } = self;
+        TryFolded {
+            counts,
+            inner,
+            init,
+            step: Trying { f },
         }
     }
 }

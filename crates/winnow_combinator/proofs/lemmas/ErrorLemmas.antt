@@ -17,7 +17,7 @@ module _ {O E S T : Type 0} (means : Meaning O T) (errors : Errors E S T) (parti
   RepeatedErrors-after xs failure turns e = inl (xs, (b, (turns, e)))
 
   -- a later error, after a first value, is one of the pair
-  after-first : (later : Errors E S T) (x : O) (failure : Failure E Needed)
+  pub after-first : (later : Errors E S T) (x : O) (failure : Failure E Needed)
       → means partial a (Gives x b) → GatheredErrors later partial b s failure
       → GatheredErrors (PairErrors means errors later) partial a s failure
   after-first later x failure gives (inl e) = inl (inr (x, (b, (gives, e))))

@@ -1,5 +1,5 @@
 -- Steps of reading values with separators between them.
-use Rattle.std.specs.Prelude.{ℕ, ◌-◌, ◌≤◌, zero, suc, Bool, List, [], ◌∷◌, Option, Some, None}
+use Rattle.std.specs.Prelude.{◌≡◌, ℕ, ◌-◌, ◌≤◌, zero, suc, Bool, List, [], ◌∷◌, length, Option, Some, None, ⊤}
 use Rattle.std.specs.List.{FoldsTo}
 use Rattle.std.proofs.Common.{refl, inl, inr, arith}
 use Rattle.winnow_parser.specs.Outcome.{Ahead, Failed, Backtracks, Cuts, Needs, Refuses, Outcome, Gives, Fails, Meaning}
@@ -7,7 +7,7 @@ use Rattle.winnow_parser.specs.Meanings.{Pair, Preceded}
 use Rattle.winnow_combinator.specs.Counts.{IsBelow, fewer}
 use Rattle.winnow_combinator.specs.Repetition.{Repeated, FailsWith}
 use Rattle.winnow_combinator.specs.Gathering.{Gathered}
-use Rattle.winnow_combinator.specs.Separation.{Chained, IfNeeded, Separated, Countable, FoldedLeft}
+use Rattle.winnow_combinator.specs.Separation.{Chained, IfNeeded, Separated, Countable, FoldedLeft, FoldsRight, FoldedRight}
 
 module _ {O S A T : Type 0} (refusable : Type 0) (makes : List O → A → Type 0) (greatest : Option ℕ) (separator : Meaning S T) (inner : Meaning O T) (partial : Bool) (a : Ahead T) where
   -- a first value and then the others are the whole list
@@ -76,6 +76,27 @@ module _ {O S T : Type 0} (step : O → S × O → O → Type 0) (separator : Me
   FoldedLeft-first first b (Fails (Needs n)) means h = inr (first, (b, (means, h)))
   FoldedLeft-first first b (Fails Refuses) means (inl r) = absurd r
   FoldedLeft-first first b (Fails Refuses) means (inr h) = inr (first, (b, (means, h)))
+
+module _ {O S A T : Type 0} (step : O → S → O → O → Type 0) (makes : List (S × O) → A → Type 0) (separator : Meaning S T) (inner : Meaning O T) (partial : Bool) (a b : Ahead T) (first : O) (means : inner partial a (Gives first b)) where
+  -- a first value and then pairs that are folded from the right are the whole
+  pub FoldedRight-gives : (pairs : List (S × O)) (y : O) (c : Ahead T)
+      → Repeated 0 None (Pair separator inner) partial b (Gives pairs c)
+      → FoldsRight step first pairs y → FoldedRight step separator inner partial a (Gives y c)
+  FoldedRight-gives pairs y c h folds = ((first, pairs), (folds, (b, (means, h))))
+
+  -- a first value and then a failure are a failure
+  pub FoldedRight-fails : (f : Failed T)
+      → Gathered ⊤ makes (Repeated 0 None (Pair separator inner)) partial b (Fails f)
+      → FoldedRight step separator inner partial a (Fails f)
+  FoldedRight-fails (Backtracks c) h = inr (first, (b, (means, h)))
+  FoldedRight-fails (Cuts c) h = inr (first, (b, (means, h)))
+  FoldedRight-fails (Needs n) h = inr (first, (b, (means, h)))
+  FoldedRight-fails Refuses h = inl tt
+
+-- a list of no length has no pair
+pub no-pairs : {A : Type 0} (pairs : List A) → length pairs ≡ 0 → pairs ≡ []
+no-pairs [] e = refl
+no-pairs (pair ∷ pairs) e = absurd (omega (arith, e))
 
 -- an answer of the inner parser is one of `Countable`
 pub Countable-passes : {O T : Type 0} (inner : Meaning O T) (partial : Bool) (a : Ahead T)
