@@ -1,5 +1,5 @@
 -- Folding the values of a repeated parser by a step that may refuse a value.
-use Rattle.std.specs.Prelude.{◌≡◌, ℕ, Bool, List, length, Option, Some, None, Result, Ok, Err, ◌⊎◌}
+use Rattle.std.specs.Prelude.{◌≡◌, ℕ, Bool, true, false, List, length, Option, Some, None, Result, Ok, Err, ◌⊎◌}
 use Rattle.std.proofs.Common.{refl, ap, sym, subst, inl, inr}
 use Rattle.winnow_stream.specs.Source.{Source}
 use Rattle.winnow_stream.specs.declared.needed.Needed.{Needed}

@@ -49,7 +49,7 @@ fn fold_right<O: Drop, T: Drop, F: Fn(O, T, O) -> O>(op: &F, first: O, pairs: Ve
         return first;
     };
     let (mut separator, mut right) = (last, value);
-    'pairs: while let Some((before, left)) = pairs.pop() {
+    while let Some((before, left)) = pairs.pop() {
         right = op(left, separator, right);
         separator = before;
     }

@@ -1,6 +1,6 @@
 //! `verify_fold` and `try_fold`: folds of repeated values by a function that may refuse a value.
 
-ghost use Rattle.std.specs.Prelude.{◌<◌, ◌^◌, Ok, IfErr};
+ghost use Rattle.std.specs.Prelude.{◌<◌, ◌^◌, Result, IfErr};
 ghost use Rattle.winnow_stream.specs.Source.{width};
 ghost use Rattle.winnow_count.specs.CountRange.{least_count, greatest_count};
 ghost use Rattle.winnow_parser.specs.Outcome.{Moves};

@@ -16,8 +16,8 @@ use Rattle.winnow_combinator.proofs.lemmas.RepetitionLemmas.{Repeated-ended, Rep
 use Rattle.winnow_combinator.proofs.lemmas.AppendedLemmas.{RepeatedErrors-fails}
 use Rattle.winnow_combinator.proofs.try_folding.fold_on.Goals as goal
 
-pub loop-values-init : goal.loop-values-init
-loop-values-init g c =
+pub values-init : goal.values-init
+values-init g c =
     let here = ahead g.I.Rest.location g.I.Stream.remaining c.args.input.now in (
       [],
       record {
@@ -33,32 +33,32 @@ loop-values-init g c =
       },
     )
 
-pub loop-values-preserved : goal.loop-values-preserved
-loop-values-preserved g c =
+pub values-preserved : goal.values-preserved
+values-preserved g c =
     let stands = ahead g.I.Rest.location g.I.Stream.remaining in
     let fold = c.args.fold.now in
     let taking = Taking (g.P.Parser.means fold.inner) in
-    let xs = c.loop-values.invariant.0 in
-    let so_far = c.loop-values.invariant.1 in
+    let xs = c.values.invariant.0 in
+    let so_far = c.values.invariant.1 in
     let x = c.in-Ok-Some.value in
-    let here = stands c.loop-values.input in
+    let here = stands c.values.input in
     let next = stands c.one_more.new.input in
     let partial = g.I.StreamIsPartial.expects_more c.args.input.now in
-    let flag = g.met.I.StreamIsPartial.keeps_flag c.args.input.now c.loop-values.input so_far.kept in
-    let below = c.loop-values-test.ensures.0 refl in
-    let at_value = subst (λ o. OneMore c.args.counts.least c.loop-values.count taking (g.I.StreamIsPartial.expects_more c.loop-values.input) here (Gives o next)) c.in-Ok-Some.field-0-is c.in-Ok-Some.ensures.means in
+    let flag = g.met.I.StreamIsPartial.keeps_flag c.args.input.now c.values.input so_far.kept in
+    let below = c.values-test.ensures.0 refl in
+    let at_value = subst (λ o. OneMore c.args.counts.least c.values.count taking (g.I.StreamIsPartial.expects_more c.values.input) here (Gives o next)) c.in-Ok-Some.field-0-is c.in-Ok-Some.ensures.means in
     let means = subst (λ more. taking more here (Gives x next)) flag at_value in
-    let less : width (g.I.Stream.remaining c.one_more.new.input) < width (g.I.Stream.remaining c.loop-values.input) = means.1 in (
+    let less : width (g.I.Stream.remaining c.one_more.new.input) < width (g.I.Stream.remaining c.values.input) = means.1 in (
       xs ++ x ∷ [],
       record {
         valid = c.in-Ok-Some.ensures.valid;
-        kept = g.met.I.Stream.keeps_transitive c.args.input.now c.loop-values.input c.one_more.new.input so_far.kept c.in-Ok-Some.ensures.kept;
+        kept = g.met.I.Stream.keeps_transitive c.args.input.now c.values.input c.one_more.new.input so_far.kept c.in-Ok-Some.ensures.kept;
         onward = Moves-on (stands c.args.input.now) here next so_far.onward c.in-Ok-Some.ensures.onward;
-        folds = Folds-taken (λ w. g.N.Fn.post fold.init tt w) (StepsTo (g.S.FoldStep.gives fold.step)) xs c.loop-values.whole c.in-Ok.made x so_far.folds c.in-Ok.ensures;
+        folds = Folds-taken (λ w. g.N.Fn.post fold.init tt w) (StepsTo (g.S.FoldStep.gives fold.step)) xs c.values.whole c.in-Ok.made x so_far.folds c.in-Ok.ensures;
         fits = so_far.fits;
         counted = omega (arith, so_far.counted, length-append xs (x ∷ []));
         within = omega (arith, less, so_far.within);
-        up_to = IsUpTo-more c.args.counts.greatest c.loop-values.count below;
+        up_to = IsUpTo-more c.args.counts.greatest c.values.count below;
         values = InTurn-more taking partial xs x (stands c.args.input.now) here next so_far.values means;
       },
     )
@@ -68,15 +68,15 @@ returns-in-Ok-None-clause-means g c =
     let stands = ahead g.I.Rest.location g.I.Stream.remaining in
     let counts = c.args.counts in
     let inner = g.P.Parser.means c.args.fold.now.inner in
-    let xs = c.loop-values.invariant.0 in
-    let so_far = c.loop-values.invariant.1 in
-    let here = stands c.loop-values.input in
+    let xs = c.values.invariant.0 in
+    let so_far = c.values.invariant.1 in
+    let here = stands c.values.input in
     let next = stands c.one_more.new.input in
     let partial = g.I.StreamIsPartial.expects_more c.args.input.now in
-    let flag = g.met.I.StreamIsPartial.keeps_flag c.args.input.now c.loop-values.input so_far.kept in
-    let below = subst (IsBelow counts.greatest) so_far.counted (c.loop-values-test.ensures.0 refl) in
-    let at_none = subst (λ o. OneMore counts.least c.loop-values.count (Taking inner) (g.I.StreamIsPartial.expects_more c.loop-values.input) here (Gives o next)) c.in-Ok-None.field-0-is c.in-Ok-None.ensures.means in
-    let means = subst (λ more. OneMore counts.least c.loop-values.count (Taking inner) more here (Gives None next)) flag at_none in
+    let flag = g.met.I.StreamIsPartial.keeps_flag c.args.input.now c.values.input so_far.kept in
+    let below = subst (IsBelow counts.greatest) so_far.counted (c.values-test.ensures.0 refl) in
+    let at_none = subst (λ o. OneMore counts.least c.values.count (Taking inner) (g.I.StreamIsPartial.expects_more c.values.input) here (Gives o next)) c.in-Ok-None.field-0-is c.in-Ok-None.ensures.means in
+    let means = subst (λ more. OneMore counts.least c.values.count (Taking inner) more here (Gives None next)) flag at_none in
     let none = subst (λ n. OneMore counts.least n (Taking inner) partial here (Gives None next)) so_far.counted means in
     (xs, (so_far.folds, Repeated-ended counts.least counts.greatest inner partial xs (stands c.args.input.now) here next so_far.values below none))
 
@@ -85,30 +85,30 @@ returns-in-Err-clause-means g c =
     let stands = ahead g.I.Rest.location g.I.Stream.remaining in
     let counts = c.args.counts in
     let inner = g.P.Parser.means c.args.fold.now.inner in
-    let xs = c.loop-values.invariant.0 in
-    let so_far = c.loop-values.invariant.1 in
-    let here = stands c.loop-values.input in
+    let xs = c.values.invariant.0 in
+    let so_far = c.values.invariant.1 in
+    let here = stands c.values.input in
     let f = failed c.in-Err.failure (stands c.one_more.new.input) in
     let partial = g.I.StreamIsPartial.expects_more c.args.input.now in
-    let flag = g.met.I.StreamIsPartial.keeps_flag c.args.input.now c.loop-values.input so_far.kept in
-    let below = subst (IsBelow counts.greatest) so_far.counted (c.loop-values-test.ensures.0 refl) in
+    let flag = g.met.I.StreamIsPartial.keeps_flag c.args.input.now c.values.input so_far.kept in
+    let below = subst (IsBelow counts.greatest) so_far.counted (c.values-test.ensures.0 refl) in
     let refusable = g.E.ParserError.append_refusable in
-    let means = subst (λ more. Appending refusable (OneMore counts.least c.loop-values.count (Taking inner)) more here (Fails f)) flag c.in-Err.ensures.means in
+    let means = subst (λ more. Appending refusable (OneMore counts.least c.values.count (Taking inner)) more here (Fails f)) flag c.in-Err.ensures.means in
     let fails = subst (λ n. Appending refusable (OneMore counts.least n (Taking inner)) partial here (Fails f)) so_far.counted means in
-    (xs, (c.loop-values.whole, (here, (so_far.values, so_far.folds, below, inl fails))))
+    (xs, (c.values.whole, (here, (so_far.values, so_far.folds, below, inl fails))))
 
 pub returns-clause-means : goal.returns-clause-means
 returns-clause-means g c =
     let stands = ahead g.I.Rest.location g.I.Stream.remaining in
     let counts = c.args.counts in
     let inner = g.P.Parser.means c.args.fold.now.inner in
-    let xs = c.loop-values.invariant.0 in
-    let so_far = c.loop-values.invariant.1 in
-    let none_more : ¬ (IsBelow counts.greatest c.loop-values.count) = λ more. absurd (false≢true (c.loop-values-test.ensures.1 more)) in
-    let full = subst (λ n. counts.greatest ≡ Some n) so_far.counted (IsUpTo-full counts.greatest c.loop-values.count so_far.up_to none_more) in
+    let xs = c.values.invariant.0 in
+    let so_far = c.values.invariant.1 in
+    let none_more : ¬ (IsBelow counts.greatest c.values.count) = λ more. absurd (false≢true (c.values-test.ensures.1 more)) in
+    let full = subst (λ n. counts.greatest ≡ Some n) so_far.counted (IsUpTo-full counts.greatest c.values.count so_far.up_to none_more) in
     let enough = Ascends-full counts.least counts.greatest (length xs) c.requires.ascend full in
     let partial = g.I.StreamIsPartial.expects_more c.args.input.now in
-    (xs, (so_far.folds, Repeated-full counts.least counts.greatest inner partial xs (stands c.args.input.now) (stands c.loop-values.input) so_far.values enough full))
+    (xs, (so_far.folds, Repeated-full counts.least counts.greatest inner partial xs (stands c.args.input.now) (stands c.values.input) so_far.values enough full))
 
 pub returns-in-Err-clause-error : goal.returns-in-Err-clause-error
 returns-in-Err-clause-error g c =
@@ -119,16 +119,16 @@ returns-in-Err-clause-error g c =
     let counts = c.args.counts in
     let fold = c.args.fold.now in
     let inner = g.P.Parser.means fold.inner in
-    let xs = c.loop-values.invariant.0 in
-    let so_far = c.loop-values.invariant.1 in
-    let here = stands c.loop-values.input in
+    let xs = c.values.invariant.0 in
+    let so_far = c.values.invariant.1 in
+    let here = stands c.values.input in
     let left = c.one_more.new.input in
     let failure = c.in-Err.failure in
     let f = failed failure (stands left) in
     let partial = g.I.StreamIsPartial.expects_more c.args.input.now in
-    let flag = g.met.I.StreamIsPartial.keeps_flag c.args.input.now c.loop-values.input so_far.kept in
-    let below = subst (IsBelow counts.greatest) so_far.counted (c.loop-values-test.ensures.0 refl) in
-    let means = subst (λ more. Appending refusable (OneMore counts.least c.loop-values.count (Taking inner)) more here (Fails f)) flag c.in-Err.ensures.means in
+    let flag = g.met.I.StreamIsPartial.keeps_flag c.args.input.now c.values.input so_far.kept in
+    let below = subst (IsBelow counts.greatest) so_far.counted (c.values-test.ensures.0 refl) in
+    let means = subst (λ more. Appending refusable (OneMore counts.least c.values.count (Taking inner)) more here (Fails f)) flag c.in-Err.ensures.means in
     let fails = subst (λ n. Appending refusable (OneMore counts.least n (Taking inner)) partial here (Fails f)) so_far.counted means in
     let errors = TakingErrors g.E.ParserError.assert_gives inner (g.P.Parser.errors fold.inner) in
     let error = subst (λ more. AppendedErrors stood appends errors more here left failure) flag c.in-Err.ensures.error in
@@ -139,28 +139,28 @@ returns-in-Err-step-clause-means g c =
     let stands = ahead g.I.Rest.location g.I.Stream.remaining in
     let counts = c.args.counts in
     let taking = Taking (g.P.Parser.means c.args.fold.now.inner) in
-    let xs = c.loop-values.invariant.0 in
-    let so_far = c.loop-values.invariant.1 in
+    let xs = c.values.invariant.0 in
+    let so_far = c.values.invariant.1 in
     let x = c.in-Ok-Some.value in
-    let here = stands c.loop-values.input in
+    let here = stands c.values.input in
     let next = stands c.one_more.new.input in
-    let flag = g.met.I.StreamIsPartial.keeps_flag c.args.input.now c.loop-values.input so_far.kept in
-    let below = subst (IsBelow counts.greatest) so_far.counted (c.loop-values-test.ensures.0 refl) in
-    let at_value = subst (λ o. OneMore counts.least c.loop-values.count taking (g.I.StreamIsPartial.expects_more c.loop-values.input) here (Gives o next)) c.in-Ok-Some.field-0-is c.in-Ok-Some.ensures.means in
+    let flag = g.met.I.StreamIsPartial.keeps_flag c.args.input.now c.values.input so_far.kept in
+    let below = subst (IsBelow counts.greatest) so_far.counted (c.values-test.ensures.0 refl) in
+    let at_value = subst (λ o. OneMore counts.least c.values.count taking (g.I.StreamIsPartial.expects_more c.values.input) here (Gives o next)) c.in-Ok-Some.field-0-is c.in-Ok-Some.ensures.means in
     let means = subst (λ more. taking more here (Gives x next)) flag at_value in
     let back = same-place (stands c.reset.new.self) here (c.reset.ensures.location ∙ c.checkpoint-start.ensures.location) (c.reset.ensures.remains ∙ c.checkpoint-start.ensures.means) in
-    (xs, (c.loop-values.whole, (here, (so_far.values, so_far.folds, below, inr (x, (next, (c.in-Err-step.cause, (means, c.in-Err-step.ensures, ap Backtracks back))))))))
+    (xs, (c.values.whole, (here, (so_far.values, so_far.folds, below, inr (x, (next, (c.in-Err-step.cause, (means, c.in-Err-step.ensures, ap Backtracks back))))))))
 
 pub returns-in-Err-step-clause-error : goal.returns-in-Err-step-clause-error
 returns-in-Err-step-clause-error g c =
     let stands = ahead g.I.Rest.location g.I.Stream.remaining in
     let taking = Taking (g.P.Parser.means c.args.fold.now.inner) in
-    let xs = c.loop-values.invariant.0 in
-    let so_far = c.loop-values.invariant.1 in
+    let xs = c.values.invariant.0 in
+    let so_far = c.values.invariant.1 in
     let x = c.in-Ok-Some.value in
-    let here = stands c.loop-values.input in
+    let here = stands c.values.input in
     let next = stands c.one_more.new.input in
-    let flag = g.met.I.StreamIsPartial.keeps_flag c.args.input.now c.loop-values.input so_far.kept in
-    let at_value = subst (λ o. OneMore c.args.counts.least c.loop-values.count taking (g.I.StreamIsPartial.expects_more c.loop-values.input) here (Gives o next)) c.in-Ok-Some.field-0-is c.in-Ok-Some.ensures.means in
+    let flag = g.met.I.StreamIsPartial.keeps_flag c.args.input.now c.values.input so_far.kept in
+    let at_value = subst (λ o. OneMore c.args.counts.least c.values.count taking (g.I.StreamIsPartial.expects_more c.values.input) here (Gives o next)) c.in-Ok-Some.field-0-is c.in-Ok-Some.ensures.means in
     let means = subst (λ more. taking more here (Gives x next)) flag at_value in
-    inr (xs, (c.loop-values.whole, (here, (so_far.values, so_far.folds, (x, (next, (c.in-Err-step.cause, (means, c.in-Err-step.ensures, c.tell.ensures))))))))
+    inr (xs, (c.values.whole, (here, (so_far.values, so_far.folds, (x, (next, (c.in-Err-step.cause, (means, c.in-Err-step.ensures, c.tell.ensures))))))))

@@ -10,8 +10,8 @@ use Rattle.winnow_combinator.proofs.try_folding.fold_on.Given as goal
 
 -- from the start of the call up to here the parser gave some values, one after the other, and the
 -- step took each of them
-abbrev pub invariant-loop-values : goal.invariant-loop-values
-invariant-loop-values g l =
+abbrev pub invariant-values : goal.invariant-values
+invariant-values g l =
     let stands = ahead g.I.Rest.location g.I.Stream.remaining in
     (xs : List g.row.P-Output.Denot) × record {
       valid : g.I.Stream.valid l.input;
@@ -29,5 +29,5 @@ invariant-loop-values g l =
     }
 
 -- each turn leaves a narrower rest
-abbrev pub decreases-loop-values : goal.decreases-loop-values
-decreases-loop-values g l = width (g.I.Stream.remaining l.input)
+abbrev pub decreases-values : goal.decreases-values
+decreases-values g l = width (g.I.Stream.remaining l.input)
