@@ -1,25 +1,9 @@
 -- A parser that reads a part of the input alone, which another parser took.
-use Rattle.std.specs.Prelude.{false, Result, ◌⊎◌}
+use Rattle.std.specs.Prelude.{false, ◌⊎◌}
 use Rattle.std.proofs.Common.{inl, inr}
-use Rattle.winnow_stream.specs.declared.needed.Needed.{Needed}
-use Rattle.winnow_parser.specs.declared.failure.Failure.{Failure}
+use Rattle.winnow_parser.specs.Alone.{GivesAlone, BacktracksAlone, CutsAlone}
 use Rattle.winnow_parser.specs.Outcome.{Ahead, Backtracks, Cuts, Needs, Refuses, Gives, Fails, Meaning}
-use Rattle.winnow_parser.specs.Answer.{outcome}
-use Rattle.winnow_parser.specs.Errors.{Errors, FailsLeaving}
 use Rattle.winnow_parser.specs.Laws.{IsStable, IsOnward, IsParser}
-
--- the inner parser, asked of what stands in the part, after which nothing follows, gives this
--- value
-abbrev pub GivesAlone : {O U : Type 0} → Meaning O U → Ahead U → O → Type 0
-GivesAlone {O} {U} inner s x = (c : Ahead U) × inner false s (Gives x c)
-
--- the inner parser, asked of what stands in the part, after which nothing follows, backtracks
-abbrev pub BacktracksAlone : {O U : Type 0} → Meaning O U → Ahead U → Type 0
-BacktracksAlone {O} {U} inner s = (c : Ahead U) × inner false s (Fails (Backtracks c))
-
--- the inner parser, asked of what stands in the part, after which nothing follows, cuts
-abbrev pub CutsAlone : {O U : Type 0} → Meaning O U → Ahead U → Type 0
-CutsAlone {O} {U} inner s = (c : Ahead U) × inner false s (Fails (Cuts c))
 
 -- the inner parser on the part that the outer one gives, after which nothing follows; the stream
 -- stands after that part
@@ -32,19 +16,6 @@ Within {S = S} stands inner outer partial a (Fails (Cuts b)) = outer partial a (
 Within stands inner outer partial a (Fails (Needs n)) = outer partial a (Fails (Needs n))
 Within {S = S} {T = T} stands inner outer partial a (Fails Refuses) = outer partial a (Fails Refuses)
     ⊎ ((s : S) × ((b : Ahead T) × (outer partial a (Gives s b) × inner false (stands s) (Fails Refuses))))
-
--- the errors of the outer parser, or those of the inner one on a stream that the outer one gives:
--- each is of that stream as the inner parser leaves it
-abbrev pub WithinErrors : {O E S T : Type 0} → (S → Ahead T) → Meaning O T → Errors E S T
-    → Meaning S T → Errors E S T → Errors E S T
-WithinErrors {S = S} {T = T} stands inner inner_errors outer outer_errors partial a i failure = outer_errors partial a i failure
-    ⊎ ((s : S) × ((b : Ahead T) × (outer partial a (Gives s b)
-    × FailsLeaving stands inner inner_errors false (stands s) failure)))
-
--- the answer is one that the inner parser may give of what stands in the part alone
-abbrev pub AnswersAlone : {O E U : Type 0} → Meaning O U → Ahead U → Result O (Failure E Needed)
-    → Type 0
-AnswersAlone {U = U} inner s answer = (c : Ahead U) × inner false s (outcome answer c)
 
 -- ---- The laws
 

@@ -1,16 +1,17 @@
 //! The parser of a count and of a value in that number of tokens alone: `length_and_then`.
 
-ghost use Rattle.std.specs.Prelude.{◌≡◌, false, IfErr, IfOk};
+ghost use Rattle.std.specs.Prelude.{◌≡◌, IfErr, IfOk};
 ghost use Rattle.winnow_parser.specs.Outcome.{Moves};
+ghost use Rattle.winnow_parser.specs.Alone.{WithinErrors};
 ghost use Rattle.winnow_parser.specs.Answer.{ahead, outcome};
-ghost use Rattle.winnow_parser.specs.Errors.{OwnErrors, PairErrors, FailsLeaving};
+ghost use Rattle.winnow_parser.specs.Errors.{OwnErrors, PairErrors};
 ghost use Rattle.winnow_binary.specs.Lengths.{FrontOf, CountedFront, IsParser-CountedFront};
-ghost use Rattle.winnow_binary.specs.Within.{Within, IsParser-Within, WithinErrors, AnswersAlone};
+ghost use Rattle.winnow_binary.specs.Within.{Within, IsParser-Within};
 
 use crate::Length;
 use std::alloc::Global;
 use winnow_error::ParserError;
-use winnow_parser::{ModalResult, Parser};
+use winnow_parser::{ModalResult, Parser, read_alone};
 use winnow_stream::{StreamIsPartial, UpdateSlice};
 use winnow_token::take;
 
@@ -83,28 +84,6 @@ where
     let count = count.length();
     match take_front(count, alloc, input) {
         Ok(front) => Ok(front),
-        Err(failure) => Err(failure),
-    }
-}
-
-// Asks a parser of a stream, after which nothing follows.
-fn read_alone<S: StreamIsPartial + Drop, E, Q: Parser<S, E>>(
-    inner: &Q,
-    alloc: Global,
-    front: S,
-) -> ModalResult<Q::Output, E>
-where
-    S::PartialState: Drop,
-    requires ready { Q.ready inner.now }
-    requires valid { S.valid front }
-    ensures means { AnswersAlone (Q.means inner.now) (ahead S.location S.remaining front) result }
-    ensures error { IfErr result (FailsLeaving (ahead S.location S.remaining) (Q.means inner.now)
-        (Q.errors inner.now) false (ahead S.location S.remaining front)) }
-{
-    let mut front = front;
-    let _ = front.complete();
-    match inner.parse_next(alloc, &mut front) {
-        Ok(value) => Ok(value),
         Err(failure) => Err(failure),
     }
 }

@@ -11,8 +11,8 @@ use std::alloc::Global;
 use std::marker::PhantomData;
 use winnow_stream::StreamIsPartial;
 
-// Asks a parser of a stream, after which nothing follows, even where its flag says that more may.
-fn read_alone<S: StreamIsPartial + Drop, E, Q: Parser<S, E>>(
+/// Asks a parser of a stream, after which nothing follows, even where its flag says that more may.
+pub fn read_alone<S: StreamIsPartial + Drop, E, Q: Parser<S, E>>(
     inner: &Q,
     alloc: Global,
     part: S,

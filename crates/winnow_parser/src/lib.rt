@@ -28,7 +28,7 @@ mod taking;
 mod value_test;
 mod whole;
 
-pub use alone::AndThen;
+pub use alone::{AndThen, read_alone};
 pub use choosing::{TryMapped, Verified, VerifyMapped};
 pub use context::Contextual;
 pub use context_with::ContextWith;
