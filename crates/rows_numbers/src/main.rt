@@ -64,6 +64,8 @@ fn of_number(alloc: Global, call: &Words, row: &Row<&[u8]>) -> Result<String, Fa
     let name = number.0;
     if name.ends_with("24") {
         other_widths::three::<Bytes<'_>>(alloc, number, row)
+    } else if name.ends_with("f32") || name.ends_with("f64") {
+        other_widths::floats::<Bytes<'_>>(alloc, number, row)
     } else if name.ends_with("128") || name.ends_with("_u8") || name.ends_with("_i8") {
         other_widths::others::<Bytes<'_>>(alloc, number, row)
     } else {
