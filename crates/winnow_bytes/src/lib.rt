@@ -3,6 +3,7 @@
 #![tactic(auto)]
 
 mod bytes;
+mod caseless;
 mod hex;
 mod laws;
 

@@ -4,6 +4,7 @@
 //! stream around a slice of bytes.
 #![tactic(auto)]
 
+mod caseless;
 mod digits;
 mod escapes;
 mod laws;
