@@ -6,12 +6,12 @@ use std::alloc::Global;
 use std::fmt::Debug;
 use winnow_ascii::{
     Fragment, HexUint, alpha0, alpha1, alphanumeric0, alphanumeric1, crlf, dec_int, dec_uint,
-    digit0, digit1, escaped, hex_digit0, hex_digit1, hex_uint, line_ending, multispace0,
+    digit0, digit1, escaped, float, hex_digit0, hex_digit1, hex_uint, line_ending, multispace0,
     multispace1, newline, oct_digit0, oct_digit1, space0, space1, tab, take_escaped,
     till_line_ending,
 };
 use winnow_combinator::alt;
-use winnow_count::{Accumulate, Readable};
+use winnow_count::{Accumulate, ParseSlice, Readable};
 use winnow_error::EmptyError;
 use winnow_match::Compare;
 use winnow_parser::Parser;
@@ -105,6 +105,18 @@ pub fn numbers<'w, I: Fronts + Stream<Token = char, Slice = &'w str>>(
         "hex_uint::<u128>" => hexadecimal::<I, u128>(alloc, row),
         "hex_uint::<usize>" => hexadecimal::<I, usize>(alloc, row),
         _ => Err(Fault::NoSuchCall),
+    }
+}
+
+/// Answers the parsers of floats.
+pub fn floats<I: Fronts>(alloc: Global, name: &str, row: &Row<I::Whole>) -> Result<String, Fault>
+where
+    I::Token: AsChar + Copy,
+    I::Slice: ParseSlice<f32> + ParseSlice<f64> + Drop,
+{
+    match name {
+        "float::<f32>" => ask::<I, _>(alloc, &float::<f32>(), row),
+        _ => ask::<I, _>(alloc, &float::<f64>(), row),
     }
 }
 

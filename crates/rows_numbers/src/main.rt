@@ -36,6 +36,7 @@ fn of_text(alloc: Global, call: &Words, row: &Row<&str>) -> Result<String, Fault
             ascii::lines::<Text<'_>>(alloc, name, row)
         }
         "literal" => caseless::texts::<Text<'_>>(alloc, call, row),
+        "float::<f32>" | "float::<f64>" => ascii::floats::<Text<'_>>(alloc, name, row),
         _ if name.ends_with('>') => ascii::numbers::<Text<'_>>(alloc, name, row),
         _ => ascii::classes::<Text<'_>>(alloc, name, row),
     }
@@ -53,6 +54,7 @@ fn of_bytes(alloc: Global, call: &Words, row: &Row<&[u8]>) -> Result<String, Fau
             binary::counted::<Bytes<'_>>(alloc, (name, inner), row)
         }
         "escaped" => ascii::escaped_bytes::<Bytes<'_>>(alloc, row),
+        "float::<f64>" => ascii::floats::<Bytes<'_>>(alloc, name, row),
         "literal" => match call.word(2)? {
             Word::Bytes(text) => caseless::bytes::<Bytes<'_>>(alloc, text.as_slice(), row),
             _ => caseless::texts::<Bytes<'_>>(alloc, call, row),

@@ -2,6 +2,7 @@ pub mod Alike
 pub mod Classes
 pub mod EscapeLaws
 pub mod Escapes
+pub mod Floats
 pub mod Fragments
 pub mod Hexadecimal
 pub mod Lines

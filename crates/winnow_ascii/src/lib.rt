@@ -4,6 +4,8 @@
 
 mod class;
 mod escapes;
+mod float_parts;
+mod floats;
 mod fragment;
 mod hexadecimal;
 mod laws;
@@ -13,6 +15,7 @@ mod runs;
 
 pub use class::Class;
 pub use escapes::{EscapedText, escaped, take_escaped};
+pub use floats::{DecimalFloat, float};
 pub use fragment::{Fragment, Spell};
 pub use hexadecimal::{HexUint, HexadecimalUnsigned, hex_uint};
 pub use laws::{ascii_law, determined_escaped_law, determined_number_law};

@@ -92,7 +92,7 @@ where
 // Reads the value that the slice of a parser reads as. Where it reads as none, the stream is reset,
 // and a backtrack is returned.
 #[inline(always)]
-fn read_as<I: StreamIsPartial, E: ParserError<I>, P: Parser<I, E, Output = I::Slice>, R>(
+pub(crate) fn read_as<I: StreamIsPartial, E: ParserError<I>, P: Parser<I, E, Output = I::Slice>, R>(
     digits: &P,
     alloc: Global,
     input: &mut I,

@@ -5,9 +5,11 @@ use Rattle.std.proofs.lemmas.Str.{IsUtf8-from_ascii}
 use Rattle.std.proofs.lemmas.Fmt.{IsAscii-from_digits}
 use Rattle.std.specs.Str.Parse.{AllDigits, IsNumeral, digits_value, without_leading_plus, starts_with_minus, signed_digits_value, ParsesUnsigned, ParsesSigned}
 use Rattle.std.specs.Result.{result_ok}
+use Rattle.std.specs.Float.Ieee.{Float, Format}
+use Rattle.std.specs.Float.Parse.{parse_float, ParsesFloat, IsParseFloatResult}
 use Rattle.std.proofs.lemmas.Str.Parse.{digit_from_value, without_leading_plus_none, without_leading_plus_plus}
 use Rattle.std.proofs.lemmas.Bool.Decides.{eqb_tells}
-use Rattle.winnow_count.specs.Reading.{Writes, WritesUpward, WritesSigned, ReadsUnsigned, ReadsSigned, IsSomeExactly}
+use Rattle.winnow_count.specs.Reading.{Writes, WritesUpward, WritesSigned, ReadsUnsigned, ReadsSigned, ReadsFloat, IsSomeExactly}
 use mir.Syntax.{Width}
 
 -- a text that begins with a digit begins with no sign
@@ -39,6 +41,13 @@ unsigned_reading bits text (Err e) h = λ v. (
   λ e. absurd (search rules),
   λ reads. (let w = from_upward text v reads.0 in absurd (h (w.0, subst (λ k. k < 2 ^ bits) (sym w.1) reads.1))),
 )
+
+-- `parse` at a float type answers exactly the float that the text reads as
+pub float_reading : {E : Type 0} (f : Format) (bits : ℕ) (text : List ℕ) (r : Result Float E)
+    → ParsesFloat f bits text r × IsParseFloatResult f text r
+    → IsSomeExactly (ReadsFloat f text) (result_ok r)
+float_reading f bits text (Ok x) h = λ v. (λ e. h.1 ∙ e, λ reads. sym h.1 ∙ reads)
+float_reading f bits text (Err e) h = λ v. (λ e. h.1 ∙ e, λ reads. sym h.1 ∙ reads)
 
 -- the digits after a plus that std skips write only one number
 unsigned_only : (text : List ℕ) (m n : ℕ) → WritesUpward text m → WritesUpward text n → m ≡ n

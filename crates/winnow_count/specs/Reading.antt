@@ -3,6 +3,8 @@ use Rattle.std.specs.Prelude.{◌≡◌, ℕ, ◌<◌, ◌^◌, ◌↔◌, ◌�
 use Rattle.std.specs.Char.{IsScalar}
 use Rattle.std.specs.Str.{IsUtf8}
 use Rattle.std.specs.Str.Parse.{IsNumeral, digits_value}
+use Rattle.std.specs.Float.Ieee.{Float, Format}
+use Rattle.std.specs.Float.Parse.{parse_float}
 use mir.Syntax.{Width}
 
 -- r is `Some v` for exactly the v of which P holds
@@ -33,6 +35,11 @@ ReadsUnsigned bits text n = WritesUpward text n × (n < 2 ^ bits)
 -- the text reads as z at a signed type of this width
 abbrev pub ReadsSigned : Width → List ℕ → ℤ → Type 0
 ReadsSigned width text z = WritesSigned text z × FitsSigned width z
+
+-- the text reads as the float x of this format, as std's `parse` reads it: the nearest to the number
+-- that it writes
+abbrev pub ReadsFloat : Format → List ℕ → Float → Type 0
+ReadsFloat f text x = parse_float f text ≡ Some x
 
 -- the text is the word for the value
 abbrev pub ReadsBool : List ℕ → Bool → Type 0

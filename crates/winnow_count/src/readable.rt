@@ -1,11 +1,12 @@
-//! `Readable`, the trait of values that are read from a text: whole numbers, `bool` and `char`.
+//! `Readable`, the trait of values that are read from a text: numbers, `bool` and `char`.
 
 ghost use Rattle.std.specs.Prelude.{List, ℕ};
 ghost use Rattle.std.specs.Int.{w8, w16, w32, w64, w128};
+ghost use Rattle.std.specs.Float.{binary32, binary64};
 ghost use Rattle.winnow_count.specs.Reading.{IsSomeExactly, ReadsUnsigned, ReadsSigned, ReadsBool};
-ghost use Rattle.winnow_count.specs.Reading.{ReadsChar};
+ghost use Rattle.winnow_count.specs.Reading.{ReadsChar, ReadsFloat};
 
-/// A type whose values are read from a text without memory: a whole-number type, `bool` or `char`.
+/// A type whose values are read from a text without memory: a type of numbers, `bool` or `char`.
 pub trait Readable: Sized {
     // The text reads as the value.
     ghost reads: { List ℕ → Self → Type 0 };
@@ -151,5 +152,27 @@ impl Readable for char {
     #[tactic(auto, using(crate::proofs::Characters::encode_injective))]
     fn read(text: &str) -> Option<Self> {
         text.parse::<char>().ok()
+    }
+}
+
+/// A number in decimal digits, `inf`, `infinity` or `nan`, perhaps with a `+` or a `-` before it:
+/// the float nearest to it.
+impl Readable for f32 {
+    ghost reads = { ReadsFloat binary32 };
+
+    #[tactic(auto, using(crate::proofs::Numbers::float_reading))]
+    fn read(text: &str) -> Option<Self> {
+        text.parse::<f32>().ok()
+    }
+}
+
+/// A number in decimal digits, `inf`, `infinity` or `nan`, perhaps with a `+` or a `-` before it:
+/// the float nearest to it.
+impl Readable for f64 {
+    ghost reads = { ReadsFloat binary64 };
+
+    #[tactic(auto, using(crate::proofs::Numbers::float_reading))]
+    fn read(text: &str) -> Option<Self> {
+        text.parse::<f64>().ok()
     }
 }

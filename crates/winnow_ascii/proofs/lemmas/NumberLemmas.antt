@@ -21,12 +21,12 @@ use Rattle.winnow_ascii.specs.Numbers.{Digits, SignedDigits, Signed, DigitErrors
 
 module _ {E I T : Type 0} (makes cuts : I → E → Type 0) where
   -- these errors are made of the stream as it is left
-  abbrev AreOwn : Errors E I T → Type 0
+  abbrev pub AreOwn : Errors E I T → Type 0
   AreOwn errors = (partial : Bool) (a : Ahead T) (s : I) (f : Failure E Needed)
       → errors partial a s f → OwnErrors makes cuts partial a s f
 
   -- errors of a backtrack and of a cut are made of the stream as it is left
-  own-own : AreOwn (OwnErrors makes cuts)
+  pub own-own : AreOwn (OwnErrors makes cuts)
   own-own partial a s f h = h
 
   -- the place from which a parser was asked does not matter to them
@@ -38,7 +38,7 @@ module _ {E I T : Type 0} (makes cuts : I → E → Type 0) where
   own-anywhere partial a b s (Refused r) h = tt
 
   -- the errors of a pair are so, where those of both are
-  own-pair : {O : Type 0} (means : Meaning O T) (first second : Errors E I T) → AreOwn first
+  pub own-pair : {O : Type 0} (means : Meaning O T) (first second : Errors E I T) → AreOwn first
       → AreOwn second → AreOwn (PairErrors means first second)
   own-pair means first second p q partial a s f (inl h) = p partial a s f h
   own-pair means first second p q partial a s f (inr h) =
