@@ -1,0 +1,5 @@
+mod ReadLemmas
+mod RunLemmas
+mod ExpressionLemmas
+mod AnswerLemmas
+mod DigitLemmas
