@@ -13,7 +13,7 @@ use winnow_count::Accumulate;
 use winnow_error::{AddContext, AssociativeOr, EmptyError, ParserError};
 use winnow_parser::{
     ByValue, Parser, ValueTest, determined_function_law, determined_law, determined_pair_law,
-    determined_slice_law, parser_law, taken_width_law,
+    determined_reading_law, determined_slice_law, parser_law, taken_width_law,
 };
 use winnow_stream::{Stream, StreamIsPartial};
 use winnow_token::{
@@ -99,6 +99,7 @@ fn call_ascii_laws<
 >() {
     ascii_law::<I, E>();
     determined_number_law::<I, E, u8, u8, usize>();
+    determined_reading_law::<I, E, Counted, u8, usize>();
     determined_escaped_law::<I, E, P, P, P, A, usize, usize, usize, usize>();
 }
 

@@ -1,6 +1,7 @@
 -- The definitions that contracts of parsers name, from the crates that this one passes on.
 pub use Rattle.winnow_parser.specs.Outcome
 pub use Rattle.winnow_parser.specs.Answer
+pub use Rattle.winnow_parser.specs.Alone
 pub use Rattle.winnow_parser.specs.Errors
 pub use Rattle.winnow_parser.specs.Failures
 pub use Rattle.winnow_parser.specs.FailureText

@@ -58,10 +58,6 @@ abbrev pub ReadAs : {S R T : Type 0} → (S → R → Type 0) → (S → Source 
     → Meaning (Unit {0}) T → Meaning R T
 ReadAs reads is_slice inner = Chosen (λ slice value. IsSomeExactly (reads slice) value) (Taken is_slice inner)
 
--- slices of which a view shows the same read as the same value
-abbrev pub ReadsAlike : {S R V : Type 0} → (S → V) → (S → R → Type 0) → Type 0
-ReadsAlike {S} {R} {V} view reads = (s t : S) (x : R) → view s ≡ view t → reads s x → reads t x
-
 -- an error that joins two, each made of the stream as one alternative leaves it; the first of the
 -- two alternatives backtracks where it left the stream
 abbrev pub DigitErrors : {O E S T : Type 0} → (S → Ahead T) → Meaning O T → (S → E → Type 0)

@@ -1,6 +1,7 @@
 //! Laws of parsers of ASCII text. A law does nothing when called: its contract is the law.
 
 ghost use Rattle.std.specs.Prelude.{◌≡◌, ℕ};
+ghost use Rattle.winnow_count.specs.Reading.{ReadsAlike};
 ghost use Rattle.winnow_parser.specs.Determined.{IsDetermined, Shows, Respects, SlicesRespect};
 ghost use Rattle.winnow_token.specs.declared.held.HeldTokens.{HeldTokens};
 ghost use Rattle.winnow_combinator.specs.DeterminedLists.{AreSameEach};
@@ -11,7 +12,7 @@ ghost use Rattle.winnow_ascii.specs.Classes.{TakesAll, AllOf};
 ghost use Rattle.winnow_ascii.specs.Escapes.{Fragments, AreSameFragments};
 ghost use Rattle.winnow_ascii.specs.Hexadecimal.{Hexadecimal, ReadsText};
 ghost use Rattle.winnow_ascii.specs.Lines.{LineText, IsTillLineEnding, TillLineEnding};
-ghost use Rattle.winnow_ascii.specs.Numbers.{Unsigned, Signed, ReadAs, ReadsAlike};
+ghost use Rattle.winnow_ascii.specs.Numbers.{Unsigned, Signed, ReadAs};
 
 use crate::{Class, Fragment, HexUint, LineText};
 use winnow_count::{Accumulate, ParseSlice};

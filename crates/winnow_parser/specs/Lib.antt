@@ -1,5 +1,6 @@
 pub mod Outcome
 pub mod Answer
+pub mod Alone
 pub mod Errors
 pub mod Failures
 pub mod FailureText

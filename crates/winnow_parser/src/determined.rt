@@ -1,14 +1,16 @@
 //! Laws that the parsers made of deterministic parsers are deterministic.
 
 ghost use Rattle.std.specs.Prelude.{◌≡◌, ⊤};
+ghost use Rattle.winnow_count.specs.Reading.{IsSomeExactly, ReadsAlike};
 ghost use Rattle.winnow_parser.specs.Meanings.{Maps, Pair, Either, Optional, LookedAt};
-ghost use Rattle.winnow_parser.specs.Meanings.{Negated, CutOff, Softened, Verified};
+ghost use Rattle.winnow_parser.specs.Meanings.{Negated, CutOff, Softened, Verified, Chosen};
 ghost use Rattle.winnow_parser.specs.Taken.{Taken, WithTaken};
 ghost use Rattle.winnow_parser.specs.Spanned.{Spanned, WithSpan};
 ghost use Rattle.winnow_parser.specs.Determined.{IsDetermined, Shows, AreBothSame};
 ghost use Rattle.winnow_parser.specs.Determined.{AreSameIfAny, Respects, SlicesRespect};
 
 use crate::{Parser, ValueTest};
+use winnow_count::ParseSlice;
 use winnow_error::ParserError;
 use winnow_stream::StreamIsPartial;
 
@@ -62,6 +64,18 @@ pub fn determined_slice_law<I: StreamIsPartial, E, A: Parser<I, E>, V, W>()
         → SlicesRespect I.is_slice (Shows bytes) → IsDetermined (Shows view) (A.means a)
         → IsDetermined (AreBothSame (Shows view) (Shows bytes))
         (WithTaken I.is_slice (A.means a)) }
+{}
+
+/// The law of values that are read as others: where slices that show the same read as the same
+/// value, what is read of a parser with one answer is one value. It does nothing when called: its
+/// contract is the law.
+pub fn determined_reading_law<I: StreamIsPartial, E, A: Parser<I, E>, R, V>()
+where
+    A::Output: ParseSlice<R>,
+    ensures { (view : A.Output → V) (a : A)
+        → ReadsAlike view A.Output.reads → IsDetermined (Shows view) (A.means a)
+        → IsDetermined (λ x y. x ≡ y)
+        (Chosen (λ slice value. IsSomeExactly (A.Output.reads slice) value) (A.means a)) }
 {}
 
 /// The laws of functions: where a function gives the same for the same values, what it makes of a

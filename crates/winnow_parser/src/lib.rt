@@ -7,9 +7,11 @@
 //! errors the failures carry.
 #![tactic(auto, using(crate::proofs::lemmas::OnwardLemmas::onward_steps))]
 
+mod alone;
 mod by_ref;
 mod choosing;
 mod context;
+mod context_with;
 mod continuing;
 mod converting;
 mod determined;
@@ -18,6 +20,7 @@ mod laws;
 mod literals;
 mod mapping;
 mod parser;
+mod reading;
 mod rule;
 mod sequences;
 mod spanning;
@@ -25,18 +28,22 @@ mod taking;
 mod value_test;
 mod whole;
 
+pub use alone::AndThen;
 pub use choosing::{TryMapped, Verified, VerifyMapped};
 pub use context::Contextual;
+pub use context_with::ContextWith;
 pub use continuing::FlatMapped;
 pub use converting::{DefaultValue, ErrInto, MapErr, OutputInto};
 pub use determined::{
-    determined_function_law, determined_law, determined_pair_law, determined_slice_law,
+    determined_function_law, determined_law, determined_pair_law, determined_reading_law,
+    determined_slice_law,
 };
 pub use failure::{Failure, ModalResult};
 pub use laws::{parser_law, taken_width_law};
 pub use literals::{Wanted, literal};
 pub use mapping::{Mapped, Valued, Voided};
 pub use parser::Parser;
+pub use reading::ParseTo;
 pub use rule::{Rule, RuledFunction, by_rule};
 pub use spanning::{Spanned, WithSpan};
 pub use taking::{Taken, WithTaken};

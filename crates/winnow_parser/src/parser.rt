@@ -9,11 +9,12 @@ ghost use Rattle.winnow_parser.specs.Whole.{ReadsWhole, StopsAfter, StopsWith, K
 
 use crate::whole::read_whole;
 use crate::{
-    Contextual, DefaultValue, ErrInto, FlatMapped, MapErr, Mapped, ModalResult, OutputInto,
-    Spanned, Taken, TryMapped, ValueTest, Valued, Verified, VerifyMapped, Voided, WithSpan,
-    WithTaken,
+    AndThen, ContextWith, Contextual, DefaultValue, ErrInto, FlatMapped, MapErr, Mapped,
+    ModalResult, OutputInto, ParseTo, Spanned, Taken, TryMapped, ValueTest, Valued, Verified,
+    VerifyMapped, Voided, WithSpan, WithTaken,
 };
 use std::alloc::{AllocError, Global};
+use winnow_count::ParseSlice;
 use winnow_error::ParserError;
 use winnow_parse_error::ParseError;
 use winnow_stream::StreamIsPartial;
@@ -145,6 +146,27 @@ pub trait Parser<I: StreamIsPartial, E>: Sized {
         TryMapped::new(self, f)
     }
 
+    /// Returns the parser of what the value reads as: a number, a `bool`, a character, or a value
+    /// of your own type that says how it is read. Where the value reads as none, the parser
+    /// backtracks, from where it began.
+    final fn parse_to<R>(self) -> ParseTo<Self, R, I, E>
+    where
+        Self::Output: ParseSlice<R>,
+        ensures inner { result.inner ≡ self }
+    {
+        ParseTo::new(self)
+    }
+
+    /// Returns the parser of what the parser gives, which another parser reads as an input of its
+    /// own: nothing follows it, so that parser never needs more, and it need not read all. Where it
+    /// fails, the stream stands where the parser began.
+    final fn and_then<Q>(self, inner: Q) -> AndThen<Self, Q, I, E>
+        ensures outer { result.outer ≡ self }
+        ensures inner { result.inner ≡ inner }
+    {
+        AndThen::new(self, inner)
+    }
+
     /// Returns the parser of the slice that the parser takes.
     final fn take(self) -> Taken<Self, I, E>
         ensures inner { result.inner ≡ self }
@@ -180,6 +202,15 @@ pub trait Parser<I: StreamIsPartial, E>: Sized {
         ensures context { result.context ≡ context }
     {
         Contextual::new(self, context)
+    }
+
+    /// Returns the parser that adds to its errors what a function makes, which is only called where
+    /// the parser fails.
+    final fn context_with<C, F: Fn() -> C>(self, f: F) -> ContextWith<Self, F, I, E>
+        ensures inner { result.inner ≡ self }
+        ensures f { result.f ≡ f }
+    {
+        ContextWith::new(self, f)
     }
 
     /// Returns the parser whose errors are what a function makes of the errors, where the parser

@@ -1,29 +1,19 @@
 -- Parsers of numbers have one answer.
 use Rattle.std.specs.Prelude.{⊤}
-use Rattle.std.proofs.Common.{◌≡◌, ℕ, ◌+◌, Option, None, Some, refl, sym}
-use Rattle.std.proofs.lemmas.Option.{none-some, same_Some}
+use Rattle.std.proofs.Common.{◌≡◌, ℕ, ◌+◌, None, Some}
 use Rattle.winnow_stream.specs.Source.{Source}
-use Rattle.winnow_count.specs.Reading.{IsSomeExactly}
+use Rattle.winnow_count.specs.Reading.{IsSomeExactly, ReadsAlike}
 use Rattle.winnow_parser.specs.Outcome.{Meaning}
 use Rattle.winnow_parser.specs.Meanings.{IsForgotten}
 use Rattle.winnow_parser.specs.Determined.{IsDetermined, SlicesRespect, Shows, AreSameIfAny, AreBothSame}
 use Rattle.winnow_parser.proofs.lemmas.DeterminedLemmas.{determined-maps, determined-pair, determined-either}
 use Rattle.winnow_parser.proofs.lemmas.ImageLemmas.{determined-optional, determined-chosen}
+use Rattle.winnow_parser.proofs.lemmas.ReadingLemmas.{one-value}
 use Rattle.winnow_parser.proofs.lemmas.MadeLemmas.{determined-taken}
 use Rattle.winnow_combinator.proofs.lemmas.CombinedLemmas.{determined-appending}
 use Rattle.winnow_token.proofs.lemmas.ToldLemmas.{determined-one_of, determined-held}
-use Rattle.winnow_ascii.specs.Numbers.{Digits, Unsigned, Signed, ReadAs, ReadsAlike}
+use Rattle.winnow_ascii.specs.Numbers.{Digits, Unsigned, Signed, ReadAs}
 use Rattle.winnow_ascii.specs.Hexadecimal.{Hexadecimal}
-
--- readings of slices of which the view shows the same
-module _ {S R V : Type 0} (view : S → V) (reads : S → R → Type 0) (alike : ReadsAlike view reads) where
-  -- slices of which the view shows the same read as one value, or both as none
-  one-value : (s t : S) (o p : Option R) → Shows view s t → IsSomeExactly (reads s) o
-      → IsSomeExactly (reads t) p → AreSameIfAny ◌≡◌ o p
-  one-value s t (Some x) (Some y) e h k = sym (same_Some _ _ ((k x).1 (alike s t x e ((h x).0 refl))))
-  one-value s t (Some x) None e h k = absurd (none-some _ ((k x).1 (alike s t x e ((h x).0 refl))))
-  one-value s t None (Some y) e h k = absurd (none-some _ ((h y).1 (alike t s y (sym e) ((k y).0 refl))))
-  one-value s t None None e h k = tt
 
 module _ {S R V T : Type 0} (view : S → V) (is_slice : S → Source T → ℕ → Type 0) (fronts : SlicesRespect is_slice (Shows view)) (reads : S → R → Type 0) (alike : ReadsAlike view reads) where
   -- `ReadAs` has one answer where the inner parser has one
