@@ -131,6 +131,8 @@ fn laws_of_parts_are_called(_rt: HostRuntime) {
 fn laws_of_numbers_are_called(_rt: HostRuntime) {
     fixed_number_law::<u16>();
     fixed_number_law::<i64>();
+    fixed_number_law::<u128>();
+    fixed_number_law::<f64>();
     determined_length_law::<Bytes, EmptyError, Numeral<u16>, Numeral<u8>, Vec<u8>, usize, u8, u8>();
     determined_slice_read_law::<Bytes, EmptyError, Numeral<u16>, Counted, usize>();
 }

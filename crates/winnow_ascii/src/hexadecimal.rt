@@ -111,6 +111,24 @@ impl HexUint for u64 {
     }
 }
 
+impl HexUint for u128 {
+    ghost nibbles = { 32 };
+
+    ghost reads = { ReadsHex 32 };
+
+    fn nibbles() -> u8 {
+        32
+    }
+
+    #[tactic(auto, using(crate::proofs::Hex::hex_reading, crate::proofs::Hex::hex_none))]
+    fn read_hex(text: &str) -> Option<Self> {
+        if !may_be_digits(text, 32) {
+            return None;
+        }
+        u128::from_str_radix(text, 16).ok()
+    }
+}
+
 impl HexUint for usize {
     ghost nibbles = { 16 };
 

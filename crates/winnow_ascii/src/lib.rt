@@ -22,3 +22,4 @@ pub use runs::{
     alpha0, alpha1, alphanumeric0, alphanumeric1, digit0, digit1, hex_digit0, hex_digit1,
     multispace0, multispace1, oct_digit0, oct_digit1, space0, space1,
 };
+pub use winnow_match::Caseless;

@@ -12,7 +12,7 @@ use Rattle.winnow_parser.specs.Meanings.{Maps}
 use Rattle.winnow_parser.specs.Parts.{IsParser-Maps}
 use Rattle.winnow_token.specs.Counted.{Counted, IsParser-Counted}
 use Rattle.winnow_binary.specs.declared.word.Endianness.{Endianness}
-use Rattle.winnow_binary.specs.declared.word.Endianness.TheVariants.{Big, Little}
+use Rattle.winnow_binary.specs.declared.word.Endianness.TheVariants.{Big, Little, Native}
 use Rattle.winnow_binary.specs.declared.word.Width.{Width}
 use Rattle.winnow_binary.specs.declared.word.Width.TheVariants.{One, Two, Four, Eight}
 
@@ -26,15 +26,17 @@ abbrev pub least_first : List ℕ → ℕ
 least_first [] = 0
 least_first (x ∷ xs) = x + 256 * least_first xs
 
--- the number that bytes write in this order
+-- the number that bytes write in this order; that of the machine has the least significant first
 abbrev pub number_in : Endianness → List ℕ → ℕ
 number_in Big xs = most_first xs
 number_in Little xs = least_first xs
+number_in Native xs = least_first xs
 
 -- the number of which the first bytes write x, and `count` more bytes write y
 abbrev pub joined : Endianness → ℕ → ℕ → ℕ → ℕ
 joined Big count x y = x * 256 ^ count + y
 joined Little count x y = x + 256 ^ count * y
+joined Native count x y = x + 256 ^ count * y
 
 -- the value of which n is the two's complement in three bytes: n itself below 2^23, and n - 2^24
 -- from there on

@@ -3,6 +3,7 @@
 #![tactic(auto, using(winnow_parser::proofs::lemmas::OnwardLemmas::onward_steps))]
 
 mod bytes;
+mod floats;
 mod laws;
 mod length;
 mod number;
@@ -14,6 +15,7 @@ mod taken;
 mod three;
 mod word;
 
+pub use floats::{be_f32, be_f64, f32, f64, le_f32, le_f64};
 pub use laws::{determined_length_law, determined_slice_read_law, fixed_number_law};
 pub use length::Length;
 pub use number::FixedNumber;

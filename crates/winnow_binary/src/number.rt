@@ -13,8 +13,8 @@ pub trait FixedNumber: Sized {
     // The number of bytes.
     ghost width: { NumberWidth };
 
-    // The value for which a number stands: at an unsigned type the number itself, and at a signed
-    // type the value of which it is the two's complement.
+    // The value for which a number stands: at an unsigned type the number itself, at a signed type
+    // the value of which it is the two's complement, and at a float type the float of its bits.
     ghost value_of: { ℕ → Self };
 
     /// Returns the number of bytes.

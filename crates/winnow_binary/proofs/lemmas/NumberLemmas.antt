@@ -20,7 +20,7 @@ use Rattle.winnow_token.specs.Prompt.{IsPrompt}
 use Rattle.winnow_token.proofs.lemmas.PromptLemmas.{prompt-counted}
 use Rattle.winnow_token.proofs.lemmas.ToldLemmas.{determined-counted}
 use Rattle.winnow_binary.specs.declared.word.Endianness.{Endianness}
-use Rattle.winnow_binary.specs.declared.word.Endianness.TheVariants.{Big, Little}
+use Rattle.winnow_binary.specs.declared.word.Endianness.TheVariants.{Big, Little, Native}
 use Rattle.winnow_binary.specs.Numerals.{most_first, least_first, number_in, joined, after_tokens, AreFrontBytes, FixedNumeral}
 
 -- ---- Bytes
@@ -53,12 +53,14 @@ least_first-append (x ∷ xs) ys =
 pub number_in-one : (order : Endianness) (x : ℕ) → number_in order (x ∷ []) ≡ x
 number_in-one Big x = omega arith
 number_in-one Little x = omega arith
+number_in-one Native x = omega arith
 
 -- two halves of a number make it
 joined-halves : (order : Endianness) (k : ℕ) (xs ys : List ℕ) → length xs ≡ k → length ys ≡ k
     → joined order k (number_in order xs) (number_in order ys) ≡ number_in order (xs ++ ys)
 joined-halves Big k xs ys l m = sym (most_first-append xs ys ∙ ap (λ n. most_first xs * 256 ^ n + most_first ys) m)
 joined-halves Little k xs ys l m = sym (least_first-append xs ys ∙ ap (λ n. least_first xs + 256 ^ n * least_first ys) l)
+joined-halves Native k xs ys l m = sym (least_first-append xs ys ∙ ap (λ n. least_first xs + 256 ^ n * least_first ys) l)
 
 -- the first k bytes and the k bytes after them are halves of the first 2 k
 number_in-halves : (order : Endianness) (k : ℕ) (r : Source ℕ) → k + k ≤ length r
