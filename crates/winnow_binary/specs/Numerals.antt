@@ -10,7 +10,7 @@ use Rattle.winnow_parser.specs.Outcome.{Ahead, Meaning}
 use Rattle.winnow_parser.specs.Laws.{IsParser}
 use Rattle.winnow_parser.specs.Meanings.{Maps}
 use Rattle.winnow_parser.specs.Parts.{IsParser-Maps}
-use Rattle.winnow_token.specs.Counted.{Counted, IsParser-Counted}
+use Rattle.winnow_token.specs.Take.{Takes, IsParser-Takes}
 use Rattle.winnow_binary.specs.declared.word.Endianness.{Endianness}
 use Rattle.winnow_binary.specs.declared.word.Endianness.TheVariants.{Big, Little, Native}
 use Rattle.winnow_binary.specs.declared.word.Width.{Width}
@@ -62,7 +62,7 @@ AreFrontBytes bytes r n = bytes ≡ bytes_of (front r n)
 -- the missing ones if more may follow, and backtracks, from where it began, if nothing may
 abbrev pub FixedNumeral : {N : Type 0} → Bool → ℕ → (ℕ → N) → Endianness → Meaning N ℕ
 FixedNumeral counts_shortage count of order =
-    Maps (λ bytes n. n ≡ of (number_in order bytes)) (Counted counts_shortage AreFrontBytes count)
+    Maps (λ bytes n. n ≡ of (number_in order bytes)) (Takes counts_shortage AreFrontBytes count)
 
 -- ---- The laws
 
@@ -74,4 +74,4 @@ module _ {N : Type 0} (counts_shortage : Bool) (count : ℕ) (of : ℕ → N) (o
   -- `FixedNumeral` keeps the laws of a parser
   pub IsParser-FixedNumeral : IsParser (FixedNumeral counts_shortage count of order)
   IsParser-FixedNumeral = IsParser-Maps (λ bytes n. n ≡ of (number_in order bytes)) _
-      (IsParser-Counted counts_shortage AreFrontBytes SlicesStay-bytes count)
+      (IsParser-Takes counts_shortage AreFrontBytes SlicesStay-bytes count)

@@ -6,9 +6,9 @@ ghost use Rattle.winnow_parser.specs.Determined.{IsDetermined, Shows, Respects, 
 ghost use Rattle.winnow_token.specs.Prompt.{IsPrompt};
 ghost use Rattle.winnow_combinator.specs.DeterminedLists.{AreSameEach};
 ghost use Rattle.winnow_binary.specs.declared.word.Endianness.{Endianness};
-ghost use Rattle.winnow_binary.specs.Lengths.{CountedSlice, CountedFront, CountedValues};
+ghost use Rattle.winnow_binary.specs.Lengths.{LengthTakes, CountedFront, LengthRepeats};
 ghost use Rattle.winnow_binary.specs.Numerals.{most_first, least_first, FixedNumeral};
-ghost use Rattle.winnow_binary.specs.Within.{Within};
+ghost use Rattle.winnow_binary.specs.LengthAndThen.{IsLengthAndThen};
 
 use crate::Length;
 use winnow_count::Accumulate;
@@ -50,12 +50,12 @@ where
     ensures slice { (bytes : I.Slice → V) (p : P) → SlicesRespect I.is_slice (Shows bytes)
         → IsDetermined (Shows P.Output.number) (P.means p)
         → IsDetermined (Shows bytes)
-        (CountedSlice P.Output.number I.counts_shortage I.is_slice (P.means p)) }
+        (LengthTakes P.Output.number I.counts_shortage I.is_slice (P.means p)) }
     ensures values { (view : Q.Output → W) (whole : A → X) (p : P) (q : Q)
         → Respects (AreSameEach (Shows view)) (Shows whole) (λ values a. A.holds a values)
         → IsDetermined (Shows P.Output.number) (P.means p)
         → IsDetermined (Shows view) (Q.means q)
-        → IsDetermined (Shows whole) (CountedValues P.Output.number A.refusable
+        → IsDetermined (Shows whole) (LengthRepeats P.Output.number A.refusable
         E.append_refusable (λ values a. A.holds a values) (P.means p) (Q.means q)) }
 {}
 
@@ -68,7 +68,7 @@ where
     ensures { (view : Q.Output → V) (p : P) (q : Q)
         → IsDetermined (Shows P.Output.number) (P.means p)
         → IsDetermined (Shows view) (Q.means q)
-        → IsDetermined (Shows view) (Within (ahead I.location I.remaining) (Q.means q)
+        → IsDetermined (Shows view) (IsLengthAndThen (ahead I.location I.remaining) (Q.means q)
         (CountedFront P.Output.number (ahead I.location I.remaining) I.counts_shortage
         (P.means p))) }
 {}

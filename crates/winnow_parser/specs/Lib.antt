@@ -10,11 +10,11 @@ pub mod Parts
 pub mod Taken
 pub mod Literal
 pub mod Rows
-pub mod Spanned
+pub mod Span
 pub mod Context
 pub mod Whole
 pub mod ValueTests
 pub mod Following
-pub mod Continued
+pub mod FlatMap
 pub mod Determined
 pub mod DeterminedRows

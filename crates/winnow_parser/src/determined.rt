@@ -2,10 +2,10 @@
 
 ghost use Rattle.std.specs.Prelude.{◌≡◌, ⊤};
 ghost use Rattle.winnow_count.specs.Reading.{IsSomeExactly, ReadsAlike};
-ghost use Rattle.winnow_parser.specs.Meanings.{Maps, Pair, Either, Optional, LookedAt};
-ghost use Rattle.winnow_parser.specs.Meanings.{Negated, CutOff, Softened, Verified, Chosen};
+ghost use Rattle.winnow_parser.specs.Meanings.{Maps, Pair, IsAlt2, IsOpt, Peeks};
+ghost use Rattle.winnow_parser.specs.Meanings.{IsNot, CutsErr, BacktracksErr, Verifies, VerifyMaps};
 ghost use Rattle.winnow_parser.specs.Taken.{Taken, WithTaken};
-ghost use Rattle.winnow_parser.specs.Spanned.{Spanned, WithSpan};
+ghost use Rattle.winnow_parser.specs.Span.{Spans, HasSpan};
 ghost use Rattle.winnow_parser.specs.Determined.{IsDetermined, Shows, AreBothSame};
 ghost use Rattle.winnow_parser.specs.Determined.{AreSameIfAny, Respects, SlicesRespect};
 
@@ -31,26 +31,26 @@ pub fn determined_pair_law<
         → IsDetermined (AreBothSame (Shows view) (Shows other)) (Pair (A.means a) (B.means b)) }
     ensures either { (view : A.Output → V) (a : A) (c : C)
         → IsDetermined (Shows view) (A.means a) → IsDetermined (Shows view) (C.means c)
-        → IsDetermined (Shows view) (Either E.or_refusable (A.means a) (C.means c)) }
+        → IsDetermined (Shows view) (IsAlt2 E.or_refusable (A.means a) (C.means c)) }
 {}
 
 /// The laws of a parser that has one answer: what a combinator makes of it has one answer too. It
 /// does nothing when called: its contract is the law.
 pub fn determined_law<I: StreamIsPartial, E, A: Parser<I, E>, V>()
     ensures optional { (view : A.Output → V) (a : A) → IsDetermined (Shows view) (A.means a)
-        → IsDetermined (AreSameIfAny (Shows view)) (Optional (A.means a)) }
+        → IsDetermined (AreSameIfAny (Shows view)) (IsOpt (A.means a)) }
     ensures looked_at { (view : A.Output → V) (a : A) → IsDetermined (Shows view) (A.means a)
-        → IsDetermined (Shows view) (LookedAt (A.means a)) }
+        → IsDetermined (Shows view) (Peeks (A.means a)) }
     ensures negated { (view : A.Output → V) (a : A) → IsDetermined (Shows view) (A.means a)
-        → IsDetermined (λ _ _. ⊤) (Negated (A.means a)) }
+        → IsDetermined (λ _ _. ⊤) (IsNot (A.means a)) }
     ensures cut_off { (view : A.Output → V) (a : A) → IsDetermined (Shows view) (A.means a)
-        → IsDetermined (Shows view) (CutOff (A.means a)) }
+        → IsDetermined (Shows view) (CutsErr (A.means a)) }
     ensures softened { (view : A.Output → V) (a : A) → IsDetermined (Shows view) (A.means a)
-        → IsDetermined (Shows view) (Softened (A.means a)) }
+        → IsDetermined (Shows view) (BacktracksErr (A.means a)) }
     ensures spanned { (view : A.Output → V) (a : A) → IsDetermined (Shows view) (A.means a)
-        → IsDetermined (λ x y. x ≡ y) (Spanned (A.means a)) }
+        → IsDetermined (λ x y. x ≡ y) (Spans (A.means a)) }
     ensures with_span { (view : A.Output → V) (a : A) → IsDetermined (Shows view) (A.means a)
-        → IsDetermined (AreBothSame (Shows view) (λ x y. x ≡ y)) (WithSpan (A.means a)) }
+        → IsDetermined (AreBothSame (Shows view) (λ x y. x ≡ y)) (HasSpan (A.means a)) }
 {}
 
 /// The laws of slices: where a view shows the same of all slices of one front, the parser of the
@@ -75,7 +75,7 @@ where
     ensures { (view : A.Output → V) (a : A)
         → ReadsAlike view A.Output.reads → IsDetermined (Shows view) (A.means a)
         → IsDetermined (λ x y. x ≡ y)
-        (Chosen (λ slice value. IsSomeExactly (A.Output.reads slice) value) (A.means a)) }
+        (VerifyMaps (λ slice value. IsSomeExactly (A.Output.reads slice) value) (A.means a)) }
 {}
 
 /// The laws of functions: where a function gives the same for the same values, what it makes of a
@@ -97,5 +97,5 @@ pub fn determined_function_law<
     ensures verified { (view : A.Output → V) (test : G) (a : A)
         → Respects (Shows view) (λ x y. x ≡ y) (G.says test)
         → IsDetermined (Shows view) (A.means a)
-        → IsDetermined (Shows view) (Verified (G.says test) (A.means a)) }
+        → IsDetermined (Shows view) (Verifies (G.says test) (A.means a)) }
 {}

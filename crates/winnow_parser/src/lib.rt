@@ -9,42 +9,40 @@
 
 mod alone;
 mod by_ref;
-mod choosing;
-mod context;
 mod context_with;
-mod continuing;
 mod converting;
 mod determined;
 mod failure;
+mod functions;
 mod laws;
-mod literals;
-mod mapping;
 mod parser;
+mod parsers;
 mod reading;
-mod rule;
 mod sequences;
-mod spanning;
-mod taking;
 mod value_test;
 mod whole;
 
 pub use alone::AndThen;
-pub use choosing::{TryMapped, Verified, VerifyMapped};
-pub use context::Contextual;
 pub use context_with::ContextWith;
-pub use continuing::FlatMapped;
 pub use converting::{DefaultValue, ErrInto, MapErr, OutputInto};
-pub use determined::{
-    determined_function_law, determined_law, determined_pair_law, determined_reading_law,
-    determined_slice_law,
-};
+pub use determined::{determined_function_law, determined_law, determined_pair_law, determined_reading_law, determined_slice_law};
 pub use failure::{Failure, ModalResult};
+pub use functions::literal;
 pub use laws::{parser_law, taken_width_law};
-pub use literals::{Wanted, literal};
-pub use mapping::{Mapped, Valued, Voided};
 pub use parser::Parser;
+pub use parsers::by_rule::{Rule, ByRule, by_rule};
+pub use parsers::context::Context;
+pub use parsers::flat_map::FlatMap;
+pub use parsers::literal::Literal;
+pub use parsers::map::Map;
+pub use parsers::span::Span;
+pub use parsers::take::Taken;
+pub use parsers::try_map::TryMap;
+pub use parsers::value::Value;
+pub use parsers::verify::Verify;
+pub use parsers::verify_map::VerifyMap;
+pub use parsers::void::Void;
+pub use parsers::with_span::WithSpan;
+pub use parsers::with_taken::WithTaken;
 pub use reading::ParseTo;
-pub use rule::{Rule, RuledFunction, by_rule};
-pub use spanning::{Spanned, WithSpan};
-pub use taking::{Taken, WithTaken};
 pub use value_test::{ByBorrow, ByValue, ValueTest};

@@ -9,9 +9,9 @@ ghost use Rattle.winnow_parser.specs.Whole.{ReadsWhole, StopsAfter, StopsWith, K
 
 use crate::whole::read_whole;
 use crate::{
-    AndThen, ContextWith, Contextual, DefaultValue, ErrInto, FlatMapped, MapErr, Mapped,
-    ModalResult, OutputInto, ParseTo, Spanned, Taken, TryMapped, ValueTest, Valued, Verified,
-    VerifyMapped, Voided, WithSpan, WithTaken,
+    AndThen, ContextWith, Context, DefaultValue, ErrInto, FlatMap, MapErr, Map,
+    ModalResult, OutputInto, ParseTo, Span, Taken, TryMap, ValueTest, Value, Verify,
+    VerifyMap, Void, WithSpan, WithTaken,
 };
 use std::alloc::{AllocError, Global};
 use winnow_count::ParseSlice;
@@ -62,28 +62,28 @@ pub trait Parser<I: StreamIsPartial, E>: Sized {
         ensures kept { I.keeps input.old input.new };
 
     /// Returns the parser of what a function makes of the value.
-    final fn map<O, F: Fn(Self::Output) -> O>(self, f: F) -> Mapped<Self, F, I, E>
+    final fn map<O, F: Fn(Self::Output) -> O>(self, f: F) -> Map<Self, F, I, E>
         ensures inner { result.inner ≡ self }
         ensures f { result.f ≡ f }
     {
-        Mapped::new(self, f)
+        Map::new(self, f)
     }
 
     /// Returns the parser that goes on with the parser that a function makes of the value: what
     /// comes first says how to read what comes next.
-    final fn flat_map<Q, F: Fn(Self::Output) -> Q>(self, f: F) -> FlatMapped<Self, F, I, E>
+    final fn flat_map<Q, F: Fn(Self::Output) -> Q>(self, f: F) -> FlatMap<Self, F, I, E>
         ensures first { result.first ≡ self }
         ensures f { result.f ≡ f }
     {
-        FlatMapped::new(self, f)
+        FlatMap::new(self, f)
     }
 
     /// Returns the parser that gives this value where the parser gives one.
-    final fn value<V>(self, value: V) -> Valued<Self, V, I, E>
+    final fn value<V>(self, value: V) -> Value<Self, V, I, E>
         ensures inner { result.inner ≡ self }
         ensures value { result.value ≡ value }
     {
-        Valued::new(self, value)
+        Value::new(self, value)
     }
 
     /// Returns the parser that gives the default of a type where the parser gives a value.
@@ -103,10 +103,10 @@ pub trait Parser<I: StreamIsPartial, E>: Sized {
     }
 
     /// Returns the parser that gives nothing where the parser gives a value.
-    final fn void(self) -> Voided<Self, I, E>
+    final fn void(self) -> Void<Self, I, E>
         ensures inner { result.inner ≡ self }
     {
-        Voided::new(self)
+        Void::new(self)
     }
 
     /// Returns the parser of the values of which the test holds. At another value it backtracks,
@@ -115,11 +115,11 @@ pub trait Parser<I: StreamIsPartial, E>: Sized {
     final fn verify<F: ValueTest<Self::Output, By>, By>(
         self,
         test: F,
-    ) -> Verified<Self, F, By, I, E>
+    ) -> Verify<Self, F, By, I, E>
         ensures inner { result.inner ≡ self }
         ensures test { result.test ≡ test }
     {
-        Verified::new(self, test)
+        Verify::new(self, test)
     }
 
     /// Returns the parser of what a function makes of the value. Where the function makes nothing,
@@ -127,11 +127,11 @@ pub trait Parser<I: StreamIsPartial, E>: Sized {
     final fn verify_map<O, F: Fn(Self::Output) -> Option<O>>(
         self,
         f: F,
-    ) -> VerifyMapped<Self, F, I, E>
+    ) -> VerifyMap<Self, F, I, E>
         ensures inner { result.inner ≡ self }
         ensures f { result.f ≡ f }
     {
-        VerifyMapped::new(self, f)
+        VerifyMap::new(self, f)
     }
 
     /// Returns the parser of what a function makes of the value. Where the function fails, the
@@ -139,11 +139,11 @@ pub trait Parser<I: StreamIsPartial, E>: Sized {
     final fn try_map<O, X, F: Fn(Self::Output) -> Result<O, X>>(
         self,
         f: F,
-    ) -> TryMapped<Self, F, I, E>
+    ) -> TryMap<Self, F, I, E>
         ensures inner { result.inner ≡ self }
         ensures f { result.f ≡ f }
     {
-        TryMapped::new(self, f)
+        TryMap::new(self, f)
     }
 
     /// Returns the parser of what the value reads as: a number, a `bool`, a character, or a value
@@ -183,10 +183,10 @@ pub trait Parser<I: StreamIsPartial, E>: Sized {
 
     /// Returns the parser of the range that the parser takes, in offsets of the whole input. The
     /// stream must keep its location.
-    final fn span(self) -> Spanned<Self, I, E>
+    final fn span(self) -> Span<Self, I, E>
         ensures inner { result.inner ≡ self }
     {
-        Spanned::new(self)
+        Span::new(self)
     }
 
     /// Returns the parser of the value and of the range that the parser takes.
@@ -197,11 +197,11 @@ pub trait Parser<I: StreamIsPartial, E>: Sized {
     }
 
     /// Returns the parser that adds to its errors what was being read.
-    final fn context<C>(self, context: C) -> Contextual<Self, C, I, E>
+    final fn context<C>(self, context: C) -> Context<Self, C, I, E>
         ensures inner { result.inner ≡ self }
         ensures context { result.context ≡ context }
     {
-        Contextual::new(self, context)
+        Context::new(self, context)
     }
 
     /// Returns the parser that adds to its errors what a function makes, which is only called where

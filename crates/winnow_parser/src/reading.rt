@@ -3,8 +3,8 @@
 ghost use Rattle.std.specs.Prelude.{◌≡◌, None};
 ghost use Rattle.winnow_count.specs.Reading.{IsSomeExactly};
 ghost use Rattle.winnow_parser.specs.Errors.{UnwantedErrors};
-ghost use Rattle.winnow_parser.specs.Meanings.{Chosen};
-ghost use Rattle.winnow_parser.specs.Parts.{IsParser-Chosen};
+ghost use Rattle.winnow_parser.specs.Meanings.{VerifyMaps};
+ghost use Rattle.winnow_parser.specs.Parts.{IsParser-VerifyMaps};
 
 use crate::{Failure, ModalResult, Parser};
 use std::alloc::Global;
@@ -40,7 +40,7 @@ where
     type Output = R;
 
     ghost means = { λ p.
-        Chosen (λ slice value. IsSomeExactly (P.Output.reads slice) value) (P.means p.inner) };
+        VerifyMaps (λ slice value. IsSomeExactly (P.Output.reads slice) value) (P.means p.inner) };
 
     ghost errors = { λ p. UnwantedErrors
         (λ slice s e. IsSomeExactly (P.Output.reads slice) None × E.from_input_gives s e)
@@ -49,7 +49,7 @@ where
     ghost ready = { λ p. P.ready p.inner };
 
     ghost lawful = { λ p.
-        IsParser-Chosen (λ slice value. IsSomeExactly (P.Output.reads slice) value)
+        IsParser-VerifyMaps (λ slice value. IsSomeExactly (P.Output.reads slice) value)
         (P.means p.inner) (P.lawful p.inner) };
 
     // Inlined: an answer that a call hands on is copied through memory.
