@@ -9,7 +9,7 @@ ghost use Rattle.example_nested.specs.Nested.{Leaf, Around, Nested, IsParser-Nes
 
 use crate::Tree;
 use std::alloc::Global;
-use winnow_combinator::{Delimited, CutErr, cut_err, delimited, empty, repeat};
+use winnow_combinator::{CutErr, Delimited, cut_err, delimited, empty, repeat};
 use winnow_error::ParserError;
 use winnow_parser::{ModalResult, Parser, Rule, by_rule};
 use winnow_sets::AsChar;

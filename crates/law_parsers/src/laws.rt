@@ -16,9 +16,7 @@ use winnow_parser::{
     determined_reading_law, determined_slice_law, parser_law, taken_width_law,
 };
 use winnow_stream::{Stream, StreamIsPartial};
-use winnow_token::{
-    Any, Take, any, count_law, determined_token_law, hits_stay_law, prompt_law,
-};
+use winnow_token::{Any, Take, any, count_law, determined_token_law, hits_stay_law, prompt_law};
 use winnow_wrap::Partial;
 
 type Text = Partial<&'static str>;

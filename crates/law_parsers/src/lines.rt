@@ -16,7 +16,7 @@ use winnow_error::{EmptyError, ParserError};
 use winnow_parser::{Failure, ModalResult, Parser};
 use winnow_reader::{Record, RecordInput};
 use winnow_sets::{AsChar, FixedSet};
-use winnow_token::{TakeWhile, OneOf, one_of};
+use winnow_token::{OneOf, TakeWhile, one_of};
 
 type Line = Terminated<DecUint<u32>, OneOf<u8>>;
 

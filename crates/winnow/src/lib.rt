@@ -26,10 +26,9 @@ pub use winnow_base::stream;
 pub use winnow_base::stream::{BStr, Bytes, LocatingSlice, Partial, Stateful};
 pub use winnow_grammar as grammar;
 pub use winnow_parser::{
-    AndThen, ByBorrow, ByValue, ContextWith, Context, DefaultValue, ErrInto, Failure,
-    FlatMap, MapErr, Map, ModalResult, OutputInto, ParseTo, Parser, Rule, ByRule,
-    Span, Taken, TryMap, ValueTest, Value, Verify, VerifyMap, Void, WithSpan,
-    WithTaken, by_rule,
+    AndThen, ByBorrow, ByRule, ByValue, Context, ContextWith, DefaultValue, ErrInto, Failure,
+    FlatMap, Map, MapErr, ModalResult, OutputInto, ParseTo, Parser, Rule, Span, Taken, TryMap,
+    Value, ValueTest, Verify, VerifyMap, Void, WithSpan, WithTaken, by_rule,
 };
 pub use winnow_reader as reader;
 pub use winnow_spans as spans;

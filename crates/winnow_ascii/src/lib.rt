@@ -21,5 +21,8 @@ pub use parsers::escaped::{Escaped, take_escaped};
 pub use parsers::hex_uint::{HexUint, HexUintOf, hex_uint};
 pub use parsers::line_ending::{LineEnding, line_ending};
 pub use parsers::till_line_ending::{TillLineEnding, till_line_ending};
-pub use runs::{alpha0, alpha1, alphanumeric0, alphanumeric1, digit0, digit1, hex_digit0, hex_digit1, multispace0, multispace1, oct_digit0, oct_digit1, space0, space1};
+pub use runs::{
+    alpha0, alpha1, alphanumeric0, alphanumeric1, digit0, digit1, hex_digit0, hex_digit1,
+    multispace0, multispace1, oct_digit0, oct_digit1, space0, space1,
+};
 pub use winnow_match::Caseless;

@@ -6,7 +6,7 @@ use winnow_error::ParserError;
 use winnow_parser::{Parser, Value};
 use winnow_sets::AsChar;
 use winnow_stream::StreamIsPartial;
-use winnow_token::{OneOf, Literal, literal, one_of};
+use winnow_token::{Literal, OneOf, literal, one_of};
 
 /// Returns the parser of a newline, which gives `'\n'`.
 pub fn newline<I: StreamIsPartial, E: ParserError<I>>() -> Value<OneOf<char>, char, I, E>

@@ -2,7 +2,10 @@
 
 ghost use Rattle.std.specs.Prelude.{◌≡◌};
 
-use crate::{Accumulated, Alt, Delimited, Cond, Eof, Fail, Terminated, Peek, Not, Empty, Opt, Repeat, Preceded, Separated};
+use crate::{
+    Accumulated, Alt, Cond, Delimited, Empty, Eof, Fail, Not, Opt, Peek, Preceded, Repeat,
+    Separated, Terminated,
+};
 use std::marker::PhantomData;
 use winnow_count::Range;
 

@@ -18,9 +18,13 @@ mod parsers;
 
 pub use bracketing::{alternative_errors_law, alternatives_law};
 pub use determined::{determined_end_law, determined_repeat_law, determined_till_law};
-pub use determined_parts::{determined_choosing_law, determined_gathered_law, determined_sequence_law, determined_value_law};
+pub use determined_parts::{
+    determined_choosing_law, determined_gathered_law, determined_sequence_law, determined_value_law,
+};
 pub use determined_tuples::{determined_choice_law, determined_row_law};
-pub use functions::{alt, cond, delimited, empty, eof, fail, not, opt, peek, preceded, repeat, separated, terminated};
+pub use functions::{
+    alt, cond, delimited, empty, eof, fail, not, opt, peek, preceded, repeat, separated, terminated,
+};
 pub use gathering::{Accumulated, Begin, Folded, Gather};
 pub use parsers::alt::Alt;
 pub use parsers::backtrack_err::{BacktrackErr, backtrack_err};

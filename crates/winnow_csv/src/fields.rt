@@ -9,7 +9,7 @@ ghost use Rattle.winnow_csv.specs.Meanings.{IsParser-PlainField, IsParser-Quoted
 
 use crate::Chunks;
 use std::alloc::Global;
-use winnow::combinator::{Delimited, CutErr, cut_err, delimited, repeat};
+use winnow::combinator::{CutErr, Delimited, cut_err, delimited, repeat};
 use winnow::error::ParserError;
 use winnow::stream::{AsBytes, Stream, StreamIsPartial};
 use winnow::token::{OneOf, TakeTill, one_of, take_till};

@@ -46,5 +46,7 @@ pub use parsers::from_fn::{FromFn, from_fn};
 pub use parsers::map_in::{MapIn, TryMapIn, map_in, try_map_in};
 pub use parsers::nested::{Layer, Nested};
 pub use parsers::part::{Part, Reads};
-pub use records::{PlainRecord, PlainTextRecord, ReadsRecord, ReadsTextRecord, record, text_record};
+pub use records::{
+    PlainRecord, PlainTextRecord, ReadsRecord, ReadsTextRecord, record, text_record,
+};
 pub use texts::{AsText, Chars, Octets, Text};

@@ -25,12 +25,15 @@ mod whole;
 pub use alone::AndThen;
 pub use context_with::ContextWith;
 pub use converting::{DefaultValue, ErrInto, MapErr, OutputInto};
-pub use determined::{determined_function_law, determined_law, determined_pair_law, determined_reading_law, determined_slice_law};
+pub use determined::{
+    determined_function_law, determined_law, determined_pair_law, determined_reading_law,
+    determined_slice_law,
+};
 pub use failure::{Failure, ModalResult};
 pub use functions::literal;
 pub use laws::{parser_law, taken_width_law};
 pub use parser::Parser;
-pub use parsers::by_rule::{Rule, ByRule, by_rule};
+pub use parsers::by_rule::{ByRule, Rule, by_rule};
 pub use parsers::context::Context;
 pub use parsers::flat_map::FlatMap;
 pub use parsers::literal::Literal;

@@ -9,9 +9,9 @@ ghost use Rattle.winnow_parser.specs.Whole.{ReadsWhole, StopsAfter, StopsWith, K
 
 use crate::whole::read_whole;
 use crate::{
-    AndThen, ContextWith, Context, DefaultValue, ErrInto, FlatMap, MapErr, Map,
-    ModalResult, OutputInto, ParseTo, Span, Taken, TryMap, ValueTest, Value, Verify,
-    VerifyMap, Void, WithSpan, WithTaken,
+    AndThen, Context, ContextWith, DefaultValue, ErrInto, FlatMap, Map, MapErr, ModalResult,
+    OutputInto, ParseTo, Span, Taken, TryMap, Value, ValueTest, Verify, VerifyMap, Void, WithSpan,
+    WithTaken,
 };
 use std::alloc::{AllocError, Global};
 use winnow_count::ParseSlice;
@@ -112,10 +112,7 @@ pub trait Parser<I: StreamIsPartial, E>: Sized {
     /// Returns the parser of the values of which the test holds. At another value it backtracks,
     /// from where it began. The test takes a reference to the value, or what the value borrows as:
     /// `verify(|text: &str| ..)` of a parser of `&str`.
-    final fn verify<F: ValueTest<Self::Output, By>, By>(
-        self,
-        test: F,
-    ) -> Verify<Self, F, By, I, E>
+    final fn verify<F: ValueTest<Self::Output, By>, By>(self, test: F) -> Verify<Self, F, By, I, E>
         ensures inner { result.inner ≡ self }
         ensures test { result.test ≡ test }
     {
@@ -124,10 +121,7 @@ pub trait Parser<I: StreamIsPartial, E>: Sized {
 
     /// Returns the parser of what a function makes of the value. Where the function makes nothing,
     /// the parser backtracks, from where it began.
-    final fn verify_map<O, F: Fn(Self::Output) -> Option<O>>(
-        self,
-        f: F,
-    ) -> VerifyMap<Self, F, I, E>
+    final fn verify_map<O, F: Fn(Self::Output) -> Option<O>>(self, f: F) -> VerifyMap<Self, F, I, E>
         ensures inner { result.inner ≡ self }
         ensures f { result.f ≡ f }
     {
@@ -136,10 +130,7 @@ pub trait Parser<I: StreamIsPartial, E>: Sized {
 
     /// Returns the parser of what a function makes of the value. Where the function fails, the
     /// parser backtracks, from where it began, with an error that is made of the function's.
-    final fn try_map<O, X, F: Fn(Self::Output) -> Result<O, X>>(
-        self,
-        f: F,
-    ) -> TryMap<Self, F, I, E>
+    final fn try_map<O, X, F: Fn(Self::Output) -> Result<O, X>>(self, f: F) -> TryMap<Self, F, I, E>
         ensures inner { result.inner ≡ self }
         ensures f { result.f ≡ f }
     {

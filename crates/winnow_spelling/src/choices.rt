@@ -6,7 +6,7 @@ ghost use Rattle.winnow_spelling.specs.Spelled.{spelled-CutsErr, spelled-Backtra
 ghost use Rattle.winnow_spelling.specs.SpelledChoices.{spelled-Or3};
 
 use crate::Spells;
-use winnow_combinator::{Alt, CutErr, Empty, Opt, BacktrackErr};
+use winnow_combinator::{Alt, BacktrackErr, CutErr, Empty, Opt};
 use winnow_error::ParserError;
 use winnow_stream::StreamIsPartial;
 

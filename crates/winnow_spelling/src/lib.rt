@@ -29,6 +29,6 @@ mod tokens;
 
 pub use asking::ask_as;
 pub use parsers::nested_as::{LayerAs, NestedAs, nested_as};
-pub use parsers::part_as::{ReadsAs, PartAs, part_as};
+pub use parsers::part_as::{PartAs, ReadsAs, part_as};
 pub use spells::Spells;
 pub use texts::{ask_bytes, ask_text};

@@ -9,9 +9,7 @@ ghost use Rattle.winnow_spelling.specs.Spelled.{spelled-Verifies};
 
 use crate::Spells;
 use winnow_error::{AddContext, FromExternalError, ParserError};
-use winnow_parser::{
-    Context, Map, Parser, TryMap, ValueTest, Value, Verify, VerifyMap, Void,
-};
+use winnow_parser::{Context, Map, Parser, TryMap, Value, ValueTest, Verify, VerifyMap, Void};
 use winnow_stream::StreamIsPartial;
 
 impl<I: StreamIsPartial, E, P: Spells<I, E>, O, F: Fn(P::Output) -> O> Spells<I, E>

@@ -7,7 +7,7 @@ ghost use Rattle.winnow_spelling.specs.Spelled.{spelled-Counted, spelled-Chain};
 ghost use Rattle.winnow_spelling.specs.SpelledLists.{spelled-ListOf};
 
 use crate::Spells;
-use winnow_combinator::{Begin, SeparatedFoldl1, Repeat, Separated};
+use winnow_combinator::{Begin, Repeat, Separated, SeparatedFoldl1};
 use winnow_error::ParserError;
 use winnow_stream::StreamIsPartial;
 

@@ -6,7 +6,7 @@ ghost use Rattle.winnow_spelling.specs.SpellingRows.{Then3, Then4, Then5};
 ghost use Rattle.winnow_spelling.specs.SpelledRows.{spelled-Then3, spelled-Then4, spelled-Then5};
 
 use crate::Spells;
-use winnow_combinator::{Terminated, Preceded};
+use winnow_combinator::{Preceded, Terminated};
 use winnow_stream::StreamIsPartial;
 
 impl<I: StreamIsPartial, E, A: Spells<I, E>, B: Spells<I, E>> Spells<I, E> for (A, B)

@@ -15,7 +15,7 @@ use winnow_error::ParserError;
 use winnow_match::{Compare, FindSlice};
 use winnow_parser::{Taken, WithTaken};
 use winnow_stream::StreamIsPartial;
-use winnow_token::{Take, TakeUntil, Literal};
+use winnow_token::{Literal, Take, TakeUntil};
 
 impl<I: Compare<T> + StreamIsPartial, E: ParserError<I>, T: Copy> Spells<I, E> for Literal<T> {
     ghost spells = { λ p. Covered I.is_slice (I.compared p.text) };
@@ -63,8 +63,7 @@ impl<I: StreamIsPartial, E: ParserError<I>> Spells<I, E> for Take {
     ghost spelled = { λ p. spelled-Exactly I.is_slice I.counts_shortage p.count };
 }
 
-impl<I: FindSlice<T> + StreamIsPartial, E: ParserError<I>, T: Copy> Spells<I, E>
-    for TakeUntil<T> {
+impl<I: FindSlice<T> + StreamIsPartial, E: ParserError<I>, T: Copy> Spells<I, E> for TakeUntil<T> {
     ghost spells = { λ p. UntilHit I.is_slice
         (I.found p.literal) (least_count p.counts) (greatest_count p.counts) };
 

@@ -9,7 +9,7 @@ use crate::Spells;
 use winnow_error::ParserError;
 use winnow_sets::FixedSet;
 use winnow_stream::StreamIsPartial;
-use winnow_token::{Any, TakeWhile, NoneOf, OneOf, TakeTill};
+use winnow_token::{Any, NoneOf, OneOf, TakeTill, TakeWhile};
 
 impl<I: StreamIsPartial, E: ParserError<I>> Spells<I, E> for Any {
     ghost spells = { λ _. OneToken (λ _. true) };

@@ -2,7 +2,7 @@
 
 ghost use Rattle.std.specs.Prelude.{◌≡◌, ◌≤◌};
 
-use crate::{Any, Take, Rest};
+use crate::{Any, Rest, Take};
 use winnow_count::ToUsize;
 
 /// Returns the parser of a slice of `count` tokens. As in the Rust crate, a number that is written

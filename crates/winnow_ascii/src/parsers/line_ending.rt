@@ -6,7 +6,7 @@ use winnow_error::ParserError;
 use winnow_parser::{Parser, Taken};
 use winnow_sets::AsChar;
 use winnow_stream::StreamIsPartial;
-use winnow_token::{OneOf, Literal, one_of};
+use winnow_token::{Literal, OneOf, one_of};
 
 /// A parser of the end of a line; [`line_ending`] makes it.
 pub type LineEnding<I, E> = Alt<(Taken<OneOf<char>, I, E>, Literal<&'static str>)>;

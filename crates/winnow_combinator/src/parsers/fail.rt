@@ -1,8 +1,8 @@
 ghost use Rattle.winnow_parser.specs.Errors.{OwnErrors};
 ghost use Rattle.winnow_combinator.specs.Ending.{IsFail, IsParser-IsFail};
 
-use std::fmt;
 use std::alloc::Global;
+use std::fmt;
 use std::marker::PhantomData;
 use winnow_error::ParserError;
 use winnow_parser::{Failure, ModalResult, Parser};

@@ -10,9 +10,9 @@ ghost use Rattle.winnow_combinator.specs.Repeat.{Repeats, IsParser-Repeats, Repe
 ghost use Rattle.winnow_combinator.specs.Misuse.{TakingErrors, GatheredErrors, AscendingErrors};
 ghost use Rattle.winnow_combinator.specs.Gathering.{Gathered, IsParser-Gathered};
 
-use crate::{Accumulated, Begin, Folded};
 use crate::again::{Again, go_on};
 use crate::counts::Counts;
+use crate::{Accumulated, Begin, Folded};
 use std::alloc::Global;
 use winnow_count::Range;
 use winnow_error::ParserError;

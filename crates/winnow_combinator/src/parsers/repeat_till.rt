@@ -13,10 +13,10 @@ ghost use Rattle.winnow_combinator.specs.Gathering.{Gathered, IsParser-Gathered}
 ghost use Rattle.winnow_combinator.specs.RepeatTill.{EndAfter, RepeatsTill, IsParser-RepeatsTill};
 ghost use Rattle.winnow_combinator.specs.RepeatTill.{MakesOfFirst, RepeatTillErrors};
 
-use crate::{Accumulated, Begin, Gather};
 use crate::again::{Advancing, Again};
 use crate::appended::Appended;
 use crate::counts::Counts;
+use crate::{Accumulated, Begin, Gather};
 use std::alloc::Global;
 use winnow_count::Range;
 use winnow_error::ParserError;

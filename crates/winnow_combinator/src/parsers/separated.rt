@@ -18,10 +18,10 @@ ghost use Rattle.winnow_combinator.specs.Separated.{IsSeparated};
 ghost use Rattle.winnow_combinator.specs.Separated.{IsParser-IsSeparated, Countable};
 ghost use Rattle.winnow_combinator.specs.Separated.{IsParser-Countable};
 
-use crate::{Begin, Preceded};
 use crate::again::{Again, go_on, one_more};
 use crate::counts::Counts;
 use crate::gathering::begin_with;
+use crate::{Begin, Preceded};
 use std::alloc::{AllocError, Global};
 use winnow_count::Range;
 use winnow_error::ParserError;

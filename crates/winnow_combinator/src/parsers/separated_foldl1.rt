@@ -6,10 +6,10 @@ ghost use Rattle.winnow_combinator.specs.Misuse.{GatheredErrors};
 ghost use Rattle.winnow_combinator.specs.Separated.{IsSeparatedFoldl1, SeparatedFoldl1Errors};
 ghost use Rattle.winnow_combinator.specs.Separated.{IsParser-IsSeparatedFoldl1};
 
-use core::mem::replace_with;
 use crate::Gather;
 use crate::again::{Again, go_on};
 use crate::counts::Counts;
+use core::mem::replace_with;
 use std::alloc::{AllocError, Global};
 use winnow_error::ParserError;
 use winnow_parser::{ModalResult, Parser};

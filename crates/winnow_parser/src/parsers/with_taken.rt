@@ -1,8 +1,8 @@
 ghost use Rattle.std.specs.Prelude.{◌≡◌};
 ghost use Rattle.winnow_parser.specs.Taken.{WithTaken, IsParser-WithTaken};
 
-use crate::{ModalResult, Parser};
 use crate::parsers::take::take_since;
+use crate::{ModalResult, Parser};
 use std::alloc::Global;
 use std::marker::PhantomData;
 use winnow_stream::StreamIsPartial;

@@ -36,8 +36,7 @@ pub fn take_until<N: Into<Range>, T>(counts: N, literal: T) -> TakeUntil<T>
     }
 }
 
-impl<I: FindSlice<T> + StreamIsPartial, E: ParserError<I>, T: Copy> Parser<I, E>
-    for TakeUntil<T> {
+impl<I: FindSlice<T> + StreamIsPartial, E: ParserError<I>, T: Copy> Parser<I, E> for TakeUntil<T> {
     type Output = I::Slice;
 
     ghost means = { λ p. TakesUntil I.is_slice
