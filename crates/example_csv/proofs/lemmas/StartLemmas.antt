@@ -15,12 +15,12 @@ use Rattle.example_csv.proofs.lemmas.KnownLemmas.{consumes-start, appends-start}
 use Rattle.example_csv.proofs.lemmas.CopyLemmas.{counted-start}
 use Rattle.example_csv.proofs.lemmas.CopiedLemmas.{copied-pushed}
 
--- what follows a start is anything, unless the input has ended
+-- any bytes may follow a start, unless the input has ended
 may-follow : (ended : Bool) (ys : List ℕ) → (ended ≡ true → ys ≡ []) → MayFollow ended ys false
 may-follow false ys end = tt
 may-follow true ys end = (end refl, refl)
 
--- what is said of known bytes follows from what is said of them
+-- a property of the bytes, if they are known, implies each weaker one
 if-some : {P Q : List ℕ → Type 0} (known : Option (List ℕ)) → ((bytes : List ℕ) → P bytes → Q bytes)
     → IfSome known P → IfSome known Q
 if-some None f h = tt
@@ -32,12 +32,12 @@ consumes-prepended : (bs : List ℕ) (known : Option (List ℕ))
 consumes-prepended bs None = tt
 consumes-prepended bs (Some xs) = refl
 
--- the bytes so far were taken of an input, and where that has ended nothing is left
+-- the bytes so far were consumed of an input, of which nothing remains if it has ended
 pub record HasStart (ended : Bool) (had has : Option (List ℕ)) (start : List ℕ) : Type 0 where
   pub took : Consumes had has start
   pub end : ended ≡ true → IsAtEnd has
 
--- bytes that are equal to those that were taken
+-- bytes that are equal to the consumed ones are a start
 pub start-is : (ended : Bool) (had has : Option (List ℕ)) (start bytes : List ℕ) → start ≡ bytes
     → Consumes had has bytes → (ended ≡ true → IsAtEnd has) → HasStart ended had has start
 start-is ended had has start bytes is took end =
@@ -56,7 +56,7 @@ module _ (skips ended : Bool) where
     (subst (λ b. HasText skips b (text ++ ys)) (sym took) (begins ys (may-follow ended ys end)), h),
   )
 
-  -- what is said of the start of a text and what is left is said of the text of the input
+  -- a property of a start's text and the rest is one of the input's text
   pub text-known : (P : List ℕ → Type 0) (had has : Option (List ℕ)) (start text : List ℕ)
       → HasStart ended had has start → BeginsText skips ended start text
       → IfSome (prepend_known text has) P
@@ -86,7 +86,7 @@ module _ (skips ended : Bool) where
     ),
   )
 
-  -- where a mark is refused nothing was written
+  -- nothing is written if a mark is refused
   pub mark-stops : (had has held : Option (List ℕ)) (start : List ℕ) (mark : Mark)
       → HasStart ended had has start → RefusesText skips ended start mark
       → IfSome had (λ bytes. StopsInput skips bytes (Marked mark) held held)

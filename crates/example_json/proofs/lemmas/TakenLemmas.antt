@@ -19,21 +19,21 @@ use Rattle.example_json.proofs.lemmas.LineLemmas.{level-append, lines-append}
 abbrev pub Adds : List ℕ → List ℕ → List ℕ → Type 0
 Adds old new lines = new ≡ old ++ lines
 
--- what is written in another way, is printed in another way
+-- lines that are printed by a relation are printed by each wider one
 pub prints-map : (old new : EventState) (level there : ℕ) (wrote other : List ℕ → Type 0)
     → ((lines : List ℕ) → wrote lines → other lines)
     → PrintsOn old level new there wrote → PrintsOn old level new there other
 prints-map old new level there wrote other f h input before given =
     let p = h input before given in (p.0, (p.1.0, p.1.1, f (lines_at level p.0) p.1.2))
 
--- a reader that stops printed text that is also one of the other relation
+-- a reader that stops after lines of a relation stops after lines of each wider one
 stops-map : (old : EventState) (level : ℕ) (e : EventError) (wrote other : List ℕ → Type 0)
     → ((lines : List ℕ) → wrote lines → other lines)
     → StopsAfter old level e wrote → StopsAfter old level e other
 stops-map old level e wrote other f (r, (there, (prints, going, keeps, stops))) =
     (r, (there, (prints-map old r level there wrote other f prints, going, keeps, stops)))
 
--- what was taken printed text that is also one of the other relation
+-- an event that prints lines of a relation prints lines of each wider one
 pub taken-map : (old new : EventState) (level there : ℕ)
     (taken : Result (Next (Unit {0})) EventError) (wrote other : List ℕ → Type 0)
     → ((lines : List ℕ) → wrote lines → other lines)
