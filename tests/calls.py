@@ -20,7 +20,7 @@ TOP = os.path.dirname(os.path.dirname(os.path.realpath(__file__)))
 REFUSING = ("AllocError", "RecordError", "ReadError", "ModalResult", "Unwritten", "EventError")
 
 # The sources that make an `AllocError`: of more separators than a `usize` counts, and of the want of memory that `hex` tells of.
-MADE = {"winnow_combinator/src/separation.rt", "winnow_execute/src/literals.rt"}
+MADE = {"winnow_combinator/src/parsers/separated.rt", "winnow_execute/src/literals.rt"}
 
 # Crates that make one to test with it.
 TESTING = {"winnow_refusals"}

@@ -8,10 +8,10 @@ use Rattle.winnow_base.specs.Staying.{ComparisonsStay-written}
 use Rattle.winnow_base.specs.Search.{hit}
 use Rattle.winnow.specs.Outcome.{Meaning}
 use Rattle.winnow.specs.Laws.{IsParser}
-use Rattle.winnow.specs.Meanings.{Terminated}
-use Rattle.winnow.specs.Parts.{IsParser-Terminated}
-use Rattle.winnow.specs.Until.{Until, IsParser-Until}
-use Rattle.winnow.specs.Literal.{Literal, IsParser-Literal}
+use Rattle.winnow.specs.Meanings.{IsTerminated}
+use Rattle.winnow.specs.Parts.{IsParser-IsTerminated}
+use Rattle.winnow.specs.TakeUntil.{TakesUntil, IsParser-TakesUntil}
+use Rattle.winnow.specs.Literal.{IsLiteral, IsParser-IsLiteral}
 use Rattle.winnow.specs.Place.{IsByteSlice, SlicesStay-bytes}
 use Rattle.winnow.specs.State.{ReaderState}
 use Rattle.winnow.specs.Reading.{HasRead}
@@ -41,8 +41,8 @@ AreLines bytes lines rest = StandInTurn LineStands bytes lines rest × (first_en
 
 -- the slice before the first line end, which is taken too
 abbrev pub LineSlice : Meaning (Bor (List ℕ)) ℕ
-LineSlice = Terminated (Until IsByteSlice (λ r. hit (line_end ∷ []) (bytes_of r)) 0 None)
-    (Literal IsByteSlice (λ r. comparison line_end (bytes_of r)))
+LineSlice = IsTerminated (TakesUntil IsByteSlice (λ r. hit (line_end ∷ []) (bytes_of r)) 0 None)
+    (IsLiteral IsByteSlice (λ r. comparison line_end (bytes_of r)))
 
 -- a copy of it
 abbrev pub OneLine : Meaning (Vec ℕ) ℕ
@@ -50,9 +50,9 @@ OneLine = Copied (λ slice. slice.now) (λ line. line.items) LineSlice
 
 -- the parser of a line keeps the laws of a parser
 pub IsParser-OneLine : IsParser OneLine
-IsParser-OneLine = IsParser-Copied _ _ _ (IsParser-Terminated _ _
-    (IsParser-Until IsByteSlice SlicesStay-bytes (λ r. hit (line_end ∷ []) (bytes_of r)) 0 None)
-    (IsParser-Literal IsByteSlice SlicesStay-bytes (λ r. comparison line_end (bytes_of r)) (ComparisonsStay-written (λ byte. byte ∷ []) line_end)))
+IsParser-OneLine = IsParser-Copied _ _ _ (IsParser-IsTerminated _ _
+    (IsParser-TakesUntil IsByteSlice SlicesStay-bytes (λ r. hit (line_end ∷ []) (bytes_of r)) 0 None)
+    (IsParser-IsLiteral IsByteSlice SlicesStay-bytes (λ r. comparison line_end (bytes_of r)) (ComparisonsStay-written (λ byte. byte ∷ []) line_end)))
 
 -- of this joined input a reader of lines, which goes on, has read these
 abbrev pub HasLines : {R : Type 0} → ReaderState R → List ℕ → List (Vec ℕ) → Type 0

@@ -5,10 +5,10 @@ use Rattle.std.specs.declared.vec.Vec.{Vec}
 use Rattle.std.specs.declared.alloc.Global.{Global}
 use Rattle.winnow_parser.specs.Outcome.{Meaning}
 use Rattle.winnow_parser.specs.Laws.{IsParser}
-use Rattle.winnow_parser.specs.Meanings.{Returns, Maps, Preceded, Terminated, CutOff}
-use Rattle.winnow_parser.specs.Parts.{IsParser-Returns, IsParser-Maps, IsParser-Preceded, IsParser-Terminated, IsParser-CutOff}
-use Rattle.winnow_token.specs.OneOf.{OneOf, IsParser-OneOf}
-use Rattle.winnow_combinator.specs.Repetition.{Repeated, IsParser-Repeated}
+use Rattle.winnow_parser.specs.Meanings.{Returns, Maps, IsPreceded, IsTerminated, CutsErr}
+use Rattle.winnow_parser.specs.Parts.{IsParser-Returns, IsParser-Maps, IsParser-IsPreceded, IsParser-IsTerminated, IsParser-CutsErr}
+use Rattle.winnow_token.specs.OneOf.{IsOneOf, IsParser-IsOneOf}
+use Rattle.winnow_combinator.specs.Repeat.{Repeats, IsParser-Repeats}
 use Rattle.winnow_combinator.specs.Gathering.{Gathered, IsParser-Gathered}
 use Rattle.example_nested.specs.Trees.{branches_of}
 use Rattle.example_nested.specs.declared.tree.Tree.{Tree}
@@ -24,19 +24,19 @@ HasBranches vector tree = branches_of tree ≡ vector.items
 module _ {T : Type 0} (code : T → ℕ) where
   -- the opening bracket
   abbrev pub Opens : Meaning T T
-  Opens = OneOf (λ token. 91 == code token)
+  Opens = IsOneOf (λ token. 91 == code token)
 
   -- the closing bracket; the parser cuts where it is missing
   abbrev pub Closes : Meaning T T
-  Closes = CutOff (OneOf (λ token. 93 == code token))
+  Closes = CutsErr (IsOneOf (λ token. 93 == code token))
 
   -- what the inner parser means, between brackets
   abbrev pub Bracketed : {O : Type 0} → Meaning O T → Meaning O T
-  Bracketed inner = Preceded Opens (Terminated inner Closes)
+  Bracketed inner = IsPreceded Opens (IsTerminated inner Closes)
 
   -- trees in a row, gathered in a vector
   abbrev pub Branches : Meaning Tree T → Meaning (Vec Tree Global) T
-  Branches inner = Gathered ⊤ (λ trees vector. vector.items ≡ trees) (Repeated 0 None inner)
+  Branches inner = Gathered ⊤ (λ trees vector. vector.items ≡ trees) (Repeats 0 None inner)
 
   -- brackets with nothing between them
   abbrev pub Leaf : Meaning Tree T
@@ -55,9 +55,9 @@ module _ {T : Type 0} (code : T → ℕ) where
   IsParser-Bracketed : {O : Type 0} (inner : Meaning O T) → IsParser inner
       → IsParser (Bracketed inner)
   IsParser-Bracketed inner p =
-      let closes = OneOf (λ token. 93 == code token) in
-      IsParser-Preceded Opens (Terminated inner Closes) (IsParser-OneOf (λ token. 91 == code token))
-      (IsParser-Terminated inner Closes p (IsParser-CutOff closes (IsParser-OneOf (λ token. 93 == code token))))
+      let closes = IsOneOf (λ token. 93 == code token) in
+      IsParser-IsPreceded Opens (IsTerminated inner Closes) (IsParser-IsOneOf (λ token. 91 == code token))
+      (IsParser-IsTerminated inner Closes p (IsParser-CutsErr closes (IsParser-IsOneOf (λ token. 93 == code token))))
 
   -- `Nested` keeps the laws of a parser
   pub IsParser-Nested : (depth : ℕ) → IsParser (Nested depth)
@@ -65,7 +65,7 @@ module _ {T : Type 0} (code : T → ℕ) where
   IsParser-Nested (suc depth) =
       let inner = Branches (Nested depth) in
       IsParser-Maps HasBranches (Bracketed inner)
-      (IsParser-Bracketed inner (IsParser-Gathered ⊤ (λ trees vector. vector.items ≡ trees) (IsParser-Repeated 0 None (IsParser-Nested depth))))
+      (IsParser-Bracketed inner (IsParser-Gathered ⊤ (λ trees vector. vector.items ≡ trees) (IsParser-Repeats 0 None (IsParser-Nested depth))))
 
   -- `Nested` at depth 0 is `Leaf`
   pub Nested-zero : (depth : ℕ) → depth ≡ 0 → Leaf ≡ Nested depth

@@ -9,7 +9,7 @@ ghost use Rattle.example_nested.specs.Nested.{Leaf, Around, Nested, IsParser-Nes
 
 use crate::Tree;
 use std::alloc::Global;
-use winnow_combinator::{Between, CutOff, cut_err, delimited, empty, repeat};
+use winnow_combinator::{CutErr, Delimited, cut_err, delimited, empty, repeat};
 use winnow_error::ParserError;
 use winnow_parser::{ModalResult, Parser, Rule, by_rule};
 use winnow_sets::AsChar;
@@ -18,7 +18,7 @@ use winnow_token::{OneOf, one_of};
 
 // Returns the parser of what another reads between brackets. It cuts where the closing one is
 // missing.
-fn bracketed<P>(inner: P) -> Between<OneOf<char>, P, CutOff<OneOf<char>>>
+fn bracketed<P>(inner: P) -> Delimited<OneOf<char>, P, CutErr<OneOf<char>>>
     ensures { result ≡ record {
       first = record { set = 91 };
       second = record { first = inner; second = record { inner = record { set = 93 } } };

@@ -6,7 +6,7 @@ use Rattle.winnow_parser.specs.declared.failure.Failure.{Failure}
 use Rattle.winnow_parser.specs.declared.failure.Failure.TheVariants.{Incomplete, Backtrack, Cut, Refused}
 use Rattle.winnow_parser.specs.Outcome.{Ahead, Backtracks, Gives, Fails, Meaning}
 use Rattle.winnow_parser.specs.Errors.{Errors}
-use Rattle.winnow_ascii.specs.Escapes.{IsAbsent}
+use Rattle.winnow_ascii.specs.Escaped.{IsAbsent}
 
 -- an error of the parser of escapes, after a control character that stands here
 abbrev pub AfterControl : {C E S T : Type 0} → Meaning C T → Errors E S T → Bool → Ahead T → S

@@ -6,18 +6,18 @@ ghost use Rattle.winnow_parser.specs.Determined.{IsDetermined, Shows};
 ghost use Rattle.winnow_parser.specs.Answer.{ahead};
 ghost use Rattle.winnow_parser.specs.Meanings.{Maps, IsForgotten};
 ghost use Rattle.winnow_parser.specs.Taken.{Taken};
-ghost use Rattle.winnow_ascii.specs.Escapes.{Fragments};
-ghost use Rattle.winnow_ascii.specs.Numbers.{Digits, Unsigned};
+ghost use Rattle.winnow_ascii.specs.Escaped.{IsEscaped};
+ghost use Rattle.winnow_ascii.specs.Numbers.{Digits, IsDecUint};
 ghost use Rattle.law_parsers.specs.AsciiFailures.{IsOfPart, IsOfNumber};
 
 use std::alloc::Global;
-use winnow_ascii::{EscapedText, Fragment, alpha1, dec_uint, determined_escaped_law, escaped};
+use winnow_ascii::{Escaped, Fragment, alpha1, dec_uint, determined_escaped_law, escaped};
 use winnow_count::{Accumulate, ParseSlice};
 use winnow_error::{EmptyError, ParserError};
 use winnow_parser::{Failure, ModalResult, Parser};
 use winnow_sets::AsChar;
 use winnow_stream::StreamIsPartial;
-use winnow_token::{AnyToken, one_of};
+use winnow_token::{Any, one_of};
 
 /// Reads text with escapes, or fails with an error of one of its parts.
 pub fn text_with_escapes<
@@ -27,7 +27,7 @@ pub fn text_with_escapes<
     C: Parser<I, E>,
     Q: Parser<I, E>,
     A: Accumulate<Fragment<P::Output, Q::Output>> + Drop,
->(alloc: Global, text: &EscapedText<P, C, Q, A>, input: &mut I) -> ModalResult<A, E>
+>(alloc: Global, text: &Escaped<P, C, Q, A>, input: &mut I) -> ModalResult<A, E>
 where
     C::Output: Drop,
     requires normal { P.ready text.now.normal }
@@ -53,7 +53,7 @@ pub fn one_list_of_fragments<
 >()
     ensures { (view : C.Output → V) (p : P) (c : C) (q : Q) → IsDetermined ◌≡◌ (P.means p)
         → IsDetermined (Shows view) (C.means c) → IsDetermined ◌≡◌ (Q.means q)
-        → IsDetermined ◌≡◌ (Fragments (P.means p) (C.means c) (Q.means q)) }
+        → IsDetermined ◌≡◌ (IsEscaped (P.means p) (C.means c) (Q.means q)) }
 {
     determined_escaped_law::<I, E, P, C, Q, A, P::Output, V, Q::Output, V>();
 }
@@ -68,7 +68,7 @@ where
     I::Slice: ParseSlice<R> + Drop,
     requires { I.valid input.old }
     ensures { IfErr result (IsOfNumber I.Slice.reads
-        (Taken I.is_slice (Unsigned E.or_refusable E.append_refusable I.is_slice I.Token.code))
+        (Taken I.is_slice (IsDecUint E.or_refusable E.append_refusable I.is_slice I.Token.code))
         (ahead I.location I.remaining) (ahead I.Checkpoint.location I.remained)
         (Maps IsForgotten (Digits I.is_slice I.Token.code)) E.from_input_gives E.assert_gives
         E.or_gives E.append_gives (I.expects_more input.old)
@@ -79,7 +79,7 @@ where
 
 #[test]
 fn what_is_no_escape_and_no_number_backtracks(rt: HostRuntime) {
-    one_list_of_fragments::<&str, EmptyError, AnyToken, AnyToken, AnyToken, String, char>();
+    one_list_of_fragments::<&str, EmptyError, Any, Any, Any, String, char>();
     let text = escaped::<_, _, String>(alpha1(), '\\', one_of('n'));
     let mut input = "a\\x";
     let answer = text_with_escapes::<_, EmptyError, _, _, _, _>(rt.alloc(), &text, &mut input);

@@ -13,12 +13,10 @@ use winnow_count::Accumulate;
 use winnow_error::{AddContext, AssociativeOr, EmptyError, ParserError};
 use winnow_parser::{
     ByValue, Parser, ValueTest, determined_function_law, determined_law, determined_pair_law,
-    determined_slice_law, parser_law, taken_width_law,
+    determined_reading_law, determined_slice_law, parser_law, taken_width_law,
 };
 use winnow_stream::{Stream, StreamIsPartial};
-use winnow_token::{
-    AnyToken, Counted, any, count_law, determined_token_law, hits_stay_law, prompt_law,
-};
+use winnow_token::{Any, Take, any, count_law, determined_token_law, hits_stay_law, prompt_law};
 use winnow_wrap::Partial;
 
 type Text = Partial<&'static str>;
@@ -99,6 +97,7 @@ fn call_ascii_laws<
 >() {
     ascii_law::<I, E>();
     determined_number_law::<I, E, u8, u8, usize>();
+    determined_reading_law::<I, E, Take, u8, usize>();
     determined_escaped_law::<I, E, P, P, P, A, usize, usize, usize, usize>();
 }
 
@@ -108,9 +107,9 @@ fn laws_are_called(_rt: HostRuntime) {
     type Test = fn(&char) -> bool;
     call_laws::<Text, EmptyError, _, Accumulated<usize>, Map, Test, ByValue>(&any());
     type Op = fn(char, char, char) -> char;
-    call_till_law::<Text, EmptyError, AnyToken, Accumulated<usize>, Op>();
-    call_ascii_laws::<Text, EmptyError, AnyToken, String>();
-    call_bracket_laws::<Text, EmptyError, AnyToken>();
+    call_till_law::<Text, EmptyError, Any, Accumulated<usize>, Op>();
+    call_ascii_laws::<Text, EmptyError, Any, String>();
+    call_bracket_laws::<Text, EmptyError, Any>();
     type TextTest = fn(&str) -> bool;
     value_test_law::<char, char, Test, TextTest, fn(&[char]) -> bool, Test>();
 }
@@ -119,17 +118,19 @@ fn laws_are_called(_rt: HostRuntime) {
 fn laws_of_parts_are_called(_rt: HostRuntime) {
     type Choice = fn(char) -> Option<char>;
     type Trial = fn(char) -> Result<char, u8>;
-    type Next = fn(char) -> AnyToken;
+    type Next = fn(char) -> Any;
     type Start = fn() -> char;
     type Step = fn(char, char) -> char;
     type Whole = Accumulated<usize>;
-    call_part_laws::<Text, u8, EmptyError, AnyToken, Whole, u8, Choice, Trial, Next, Start, Step>();
+    call_part_laws::<Text, u8, EmptyError, Any, Whole, u8, Choice, Trial, Next, Start, Step>();
 }
 
 #[test]
 fn laws_of_numbers_are_called(_rt: HostRuntime) {
     fixed_number_law::<u16>();
     fixed_number_law::<i64>();
+    fixed_number_law::<u128>();
+    fixed_number_law::<f64>();
     determined_length_law::<Bytes, EmptyError, Numeral<u16>, Numeral<u8>, Vec<u8>, usize, u8, u8>();
-    determined_slice_read_law::<Bytes, EmptyError, Numeral<u16>, Counted, usize>();
+    determined_slice_read_law::<Bytes, EmptyError, Numeral<u16>, Take, usize>();
 }

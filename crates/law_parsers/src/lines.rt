@@ -1,24 +1,24 @@
 //! Records: a decimal number or a word on a line of its own, and one that takes nothing.
 
 ghost use Rattle.winnow_parser.specs.Meanings.{Returns};
-ghost use Rattle.winnow_parser.specs.Parts.{IsParser-Returns, IsParser-Terminated};
-ghost use Rattle.winnow_token.specs.OneOf.{IsParser-OneOf};
-ghost use Rattle.winnow_token.specs.Held.{IsParser-HeldFront};
-ghost use Rattle.winnow_ascii.specs.Numbers.{IsParser-Unsigned, IsParser-ReadAs};
+ghost use Rattle.winnow_parser.specs.Parts.{IsParser-Returns, IsParser-IsTerminated};
+ghost use Rattle.winnow_token.specs.OneOf.{IsParser-IsOneOf};
+ghost use Rattle.winnow_token.specs.TakeWhile.{IsParser-TakesWhile};
+ghost use Rattle.winnow_ascii.specs.Numbers.{IsParser-IsDecUint, IsParser-ReadAs};
 ghost use Rattle.winnow_reader.specs.Place.{IsByteSlice, SlicesStay-bytes};
 ghost use Rattle.winnow_reader.specs.Copied.{Copied, IsParser-Copied};
 
 use std::alloc::Global;
-use winnow_ascii::{Class, DecimalUnsigned, alpha1, dec_uint};
-use winnow_combinator::{FirstOf, terminated};
+use winnow_ascii::{Class, DecUint, alpha1, dec_uint};
+use winnow_combinator::{Terminated, terminated};
 use winnow_count::ParseSlice;
 use winnow_error::{EmptyError, ParserError};
 use winnow_parser::{Failure, ModalResult, Parser};
 use winnow_reader::{Record, RecordInput};
 use winnow_sets::{AsChar, FixedSet};
-use winnow_token::{HeldTokens, OneOf, one_of};
+use winnow_token::{OneOf, TakeWhile, one_of};
 
-type Line = FirstOf<DecimalUnsigned<u32>, OneOf<u8>>;
+type Line = Terminated<DecUint<u32>, OneOf<u8>>;
 
 // A number, and a newline after it.
 #[derive(Drop)]
@@ -41,19 +41,19 @@ impl Record for NumberLine {
 
     ghost ready = { λ r. ⟦<Line as Parser<RecordInput<'static>, EmptyError>>⟧.ready r.parser };
 
-    ghost lawful = { λ r. IsParser-Terminated _ _
+    ghost lawful = { λ r. IsParser-IsTerminated _ _
         (IsParser-ReadAs ⟦<&'static [u8] as ParseSlice<u32>>⟧.reads IsByteSlice SlicesStay-bytes _
-        (IsParser-Unsigned ⟦<EmptyError as ParserError<RecordInput<'static>>>⟧.or_refusable
+        (IsParser-IsDecUint ⟦<EmptyError as ParserError<RecordInput<'static>>>⟧.or_refusable
         ⟦<EmptyError as ParserError<RecordInput<'static>>>⟧.append_refusable
         IsByteSlice SlicesStay-bytes ⟦<u8 as AsChar>⟧.code))
-        (IsParser-OneOf (⟦<u8 as FixedSet<u8>>⟧.holds r.parser.second.set)) };
+        (IsParser-IsOneOf (⟦<u8 as FixedSet<u8>>⟧.holds r.parser.second.set)) };
 
     fn read<'b>(&self, alloc: Global, input: &mut RecordInput<'b>) -> ModalResult<u32, EmptyError> {
         self.parser.parse_next(alloc, input)
     }
 }
 
-type Word = FirstOf<HeldTokens<Class>, OneOf<u8>>;
+type Word = Terminated<TakeWhile<Class>, OneOf<u8>>;
 
 // Letters, and a newline after them: what is read is a copy of the letters.
 #[derive(Drop)]
@@ -77,8 +77,8 @@ impl Record for WordLine {
 
     ghost ready = { λ r. ⟦<Word as Parser<RecordInput<'static>, EmptyError>>⟧.ready r.parser };
 
-    ghost lawful = { λ _. IsParser-Copied _ _ _ (IsParser-Terminated _ _
-        (IsParser-HeldFront _ SlicesStay-bytes _ _ _) (IsParser-OneOf _)) };
+    ghost lawful = { λ _. IsParser-Copied _ _ _ (IsParser-IsTerminated _ _
+        (IsParser-TakesWhile _ SlicesStay-bytes _ _ _) (IsParser-IsOneOf _)) };
 
     fn read<'b>(
         &self,

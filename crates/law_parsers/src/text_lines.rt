@@ -1,20 +1,20 @@
 //! Records of text: a word of any characters on a line of its own.
 
 ghost use Rattle.std.specs.String.{string_bytes};
-ghost use Rattle.winnow_parser.specs.Parts.{IsParser-Terminated};
-ghost use Rattle.winnow_token.specs.OneOf.{IsParser-OneOf};
-ghost use Rattle.winnow_token.specs.Held.{IsParser-HeldFront};
+ghost use Rattle.winnow_parser.specs.Parts.{IsParser-IsTerminated};
+ghost use Rattle.winnow_token.specs.OneOf.{IsParser-IsOneOf};
+ghost use Rattle.winnow_token.specs.TakeWhile.{IsParser-TakesWhile};
 ghost use Rattle.winnow_reader.specs.TextPlace.{SlicesStay-text};
 ghost use Rattle.winnow_reader.specs.Copied.{Copied, IsParser-Copied};
 
 use std::alloc::Global;
-use winnow_combinator::{FirstOf, terminated};
+use winnow_combinator::{Terminated, terminated};
 use winnow_error::EmptyError;
 use winnow_parser::{Failure, ModalResult, Parser};
 use winnow_reader::{TextRecord, TextRecordInput};
-use winnow_token::{OneOf, OtherTokens, one_of, take_till};
+use winnow_token::{OneOf, TakeTill, one_of, take_till};
 
-type Word = FirstOf<OtherTokens<char>, OneOf<char>>;
+type Word = Terminated<TakeTill<char>, OneOf<char>>;
 
 // Characters, and a newline after them: what is read is a copy of the characters.
 #[derive(Drop)]
@@ -38,8 +38,8 @@ impl TextRecord for TextLine {
 
     ghost ready = { λ r. ⟦<Word as Parser<TextRecordInput<'static>, EmptyError>>⟧.ready r.parser };
 
-    ghost lawful = { λ _. IsParser-Copied _ _ _ (IsParser-Terminated _ _
-        (IsParser-HeldFront _ SlicesStay-text _ _ _) (IsParser-OneOf _)) };
+    ghost lawful = { λ _. IsParser-Copied _ _ _ (IsParser-IsTerminated _ _
+        (IsParser-TakesWhile _ SlicesStay-text _ _ _) (IsParser-IsOneOf _)) };
 
     fn read<'b>(
         &self,

@@ -102,6 +102,7 @@ pub fn numbers<'w, I: Fronts + Stream<Token = char, Slice = &'w str>>(
         "hex_uint::<u16>" => hexadecimal::<I, u16>(alloc, row),
         "hex_uint::<u32>" => hexadecimal::<I, u32>(alloc, row),
         "hex_uint::<u64>" => hexadecimal::<I, u64>(alloc, row),
+        "hex_uint::<u128>" => hexadecimal::<I, u128>(alloc, row),
         "hex_uint::<usize>" => hexadecimal::<I, usize>(alloc, row),
         _ => Err(Fault::NoSuchCall),
     }

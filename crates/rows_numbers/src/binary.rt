@@ -24,10 +24,11 @@ fn number<I: Fronts + Stream<Token = u8>, N: FixedNumber + Debug + Drop>(
 
 /// Returns the order that a call names.
 pub fn order(name: &str) -> Endianness {
-    if name == "Endianness::Big" {
-        return Endianness::Big;
+    match name {
+        "Endianness::Big" => Endianness::Big,
+        "Endianness::Native" => Endianness::Native,
+        _ => Endianness::Little,
     }
-    Endianness::Little
 }
 
 /// Answers the parsers of unsigned numbers.

@@ -13,6 +13,7 @@
 
 mod ascii;
 mod binary;
+mod caseless;
 mod other_widths;
 
 use rows::{Answers, Fault, Word, Words};
@@ -34,6 +35,7 @@ fn of_text(alloc: Global, call: &Words, row: &Row<&str>) -> Result<String, Fault
         "newline" | "tab" | "crlf" | "line_ending" | "till_line_ending" => {
             ascii::lines::<Text<'_>>(alloc, name, row)
         }
+        "literal" => caseless::texts::<Text<'_>>(alloc, call, row),
         _ if name.ends_with('>') => ascii::numbers::<Text<'_>>(alloc, name, row),
         _ => ascii::classes::<Text<'_>>(alloc, name, row),
     }
@@ -51,6 +53,10 @@ fn of_bytes(alloc: Global, call: &Words, row: &Row<&[u8]>) -> Result<String, Fau
             binary::counted::<Bytes<'_>>(alloc, (name, inner), row)
         }
         "escaped" => ascii::escaped_bytes::<Bytes<'_>>(alloc, row),
+        "literal" => match call.word(2)? {
+            Word::Bytes(text) => caseless::bytes::<Bytes<'_>>(alloc, text.as_slice(), row),
+            _ => caseless::texts::<Bytes<'_>>(alloc, call, row),
+        },
         _ if name.ends_with('1') || name.ends_with('0') => {
             ascii::classes::<Bytes<'_>>(alloc, name, row)
         }
@@ -64,6 +70,8 @@ fn of_number(alloc: Global, call: &Words, row: &Row<&[u8]>) -> Result<String, Fa
     let name = number.0;
     if name.ends_with("24") {
         other_widths::three::<Bytes<'_>>(alloc, number, row)
+    } else if name.ends_with("f32") || name.ends_with("f64") {
+        other_widths::floats::<Bytes<'_>>(alloc, number, row)
     } else if name.ends_with("128") || name.ends_with("_u8") || name.ends_with("_i8") {
         other_widths::others::<Bytes<'_>>(alloc, number, row)
     } else {

@@ -26,9 +26,9 @@ pub use winnow_base::stream;
 pub use winnow_base::stream::{BStr, Bytes, LocatingSlice, Partial, Stateful};
 pub use winnow_grammar as grammar;
 pub use winnow_parser::{
-    ByBorrow, ByValue, Contextual, DefaultValue, ErrInto, Failure, FlatMapped, MapErr, Mapped,
-    ModalResult, OutputInto, Parser, Rule, RuledFunction, Spanned, Taken, TryMapped, ValueTest,
-    Valued, Verified, VerifyMapped, Voided, WithSpan, WithTaken, by_rule,
+    AndThen, ByBorrow, ByRule, ByValue, Context, ContextWith, DefaultValue, ErrInto, Failure,
+    FlatMap, Map, MapErr, ModalResult, OutputInto, ParseTo, Parser, Rule, Span, Taken, TryMap,
+    Value, ValueTest, Verify, VerifyMap, Void, WithSpan, WithTaken, by_rule,
 };
 pub use winnow_reader as reader;
 pub use winnow_spans as spans;

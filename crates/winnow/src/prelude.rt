@@ -1,5 +1,4 @@
-//! The names that most grammars need, imported one by one:
-//! `use winnow::prelude::{Parser, Reads};`.
+//! The names that most grammars need, imported together by `use winnow::prelude::*;`.
 
 pub use winnow_base::stream::{Stream, StreamIsPartial};
 pub use winnow_grammar::{Reads, Text, ask, part};

@@ -3,7 +3,6 @@
 pub mod laws;
 
 pub use winnow_token::{
-    AnyToken, Counted, HeldTokens, NoneOf, OneOf, OtherTokens, Remaining, RemainingWidth,
-    TokensBefore, Wanted, any, literal, none_of, one_of, rest, rest_len, take, take_till,
-    take_until, take_while,
+    Any, Literal, NoneOf, OneOf, Rest, RestLen, Take, TakeTill, TakeUntil, TakeWhile, any, literal,
+    none_of, one_of, rest, rest_len, take, take_till, take_until, take_while,
 };

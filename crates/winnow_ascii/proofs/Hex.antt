@@ -5,7 +5,7 @@ use Rattle.std.specs.Result.{result_ok}
 use Rattle.std.proofs.lemmas.Str.Parse.{without_leading_plus_none}
 use Rattle.std.proofs.lemmas.Bool.Decides.{nat_tests, eqb_tells}
 use Rattle.winnow_count.specs.Reading.{IsSomeExactly}
-use Rattle.winnow_ascii.specs.Hexadecimal.{ReadsHex, may_be_digits}
+use Rattle.winnow_ascii.specs.HexUint.{ReadsHex, may_be_digits}
 
 -- a text that may be digits has at most `nibbles` bytes
 short : (nibbles : ℕ) (text : List ℕ) → may_be_digits nibbles text ≡ true → length text ≤ nibbles

@@ -1,4 +1,4 @@
-pub mod EscapeLemmas
+pub mod EscapedLemmas
 pub mod EscapedOnceLemmas
 pub mod NumberLemmas
 pub mod OneAnswerLemmas

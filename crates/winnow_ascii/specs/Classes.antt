@@ -5,8 +5,8 @@ use Rattle.winnow_sets.specs.Classes.{is_ascii_oct_digit, is_ascii_blank}
 use Rattle.winnow_stream.specs.Source.{Source}
 use Rattle.winnow_count.specs.CountRange.{HasCounts}
 use Rattle.winnow_parser.specs.Outcome.{Meaning}
-use Rattle.winnow_token.specs.Held.{HeldFront}
-use Rattle.winnow_token.specs.declared.held.HeldTokens.{HeldTokens}
+use Rattle.winnow_token.specs.TakeWhile.{TakesWhile}
+use Rattle.winnow_token.specs.declared.parsers.take_while.TakeWhile.{TakeWhile}
 use Rattle.winnow_ascii.specs.declared.class.Class.{Class}
 use Rattle.winnow_ascii.specs.declared.class.Class.TheVariants.{Alpha, Digit, Alphanumeric, HexDigit, OctDigit, Space, Multispace}
 
@@ -25,9 +25,9 @@ is_in_class Space c = is_ascii_blank c
 is_in_class Multispace c = is_ascii_multispace c
 
 -- the parser takes all characters of the class ahead, if there are at least the least count
-abbrev pub TakesAll : Class → ℕ → HeldTokens Class → Type 0
+abbrev pub TakesAll : Class → ℕ → TakeWhile Class → Type 0
 TakesAll class least p = (p.set ≡ class) × HasCounts least None p.counts
 
 -- the meaning of such a parser, for tokens that stand for characters
 abbrev pub AllOf : {S T : Type 0} → (S → Source T → ℕ → Type 0) → (T → ℕ) → Class → ℕ → Meaning S T
-AllOf is_slice code class least = HeldFront is_slice (λ token. is_in_class class (code token)) least None
+AllOf is_slice code class least = TakesWhile is_slice (λ token. is_in_class class (code token)) least None

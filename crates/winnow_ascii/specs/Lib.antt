@@ -1,8 +1,8 @@
 pub mod Alike
 pub mod Classes
-pub mod EscapeLaws
-pub mod Escapes
+pub mod EscapedLaws
+pub mod Escaped
 pub mod Fragments
-pub mod Hexadecimal
+pub mod HexUint
 pub mod Lines
 pub mod Numbers

@@ -9,13 +9,13 @@ use Rattle.winnow_parser.specs.declared.failure.Failure.TheVariants.{Incomplete,
 use Rattle.winnow_parser.specs.Outcome.{Ahead, Gives, Meaning}
 use Rattle.winnow_parser.specs.Errors.{Errors, OwnErrors, FailsLeaving}
 use Rattle.winnow_parser.specs.Laws.{IsParser}
-use Rattle.winnow_parser.specs.Meanings.{Maps, IsForgotten, Pair, Either, Optional, Chosen}
+use Rattle.winnow_parser.specs.Meanings.{Maps, IsForgotten, Pair, IsAlt2, IsOpt, VerifyMaps}
 use Rattle.winnow_parser.specs.Taken.{Taken, IsParser-Taken}
-use Rattle.winnow_parser.specs.Parts.{IsParser-Maps, IsParser-Pair, IsParser-Either, IsParser-Optional, IsParser-Chosen}
-use Rattle.winnow_token.specs.OneOf.{OneOf, IsParser-OneOf}
-use Rattle.winnow_token.specs.Held.{HeldFront, IsParser-HeldFront}
+use Rattle.winnow_parser.specs.Parts.{IsParser-Maps, IsParser-Pair, IsParser-IsAlt2, IsParser-IsOpt, IsParser-VerifyMaps}
+use Rattle.winnow_token.specs.OneOf.{IsOneOf, IsParser-IsOneOf}
+use Rattle.winnow_token.specs.TakeWhile.{TakesWhile, IsParser-TakesWhile}
 use Rattle.winnow_combinator.specs.Appended.{Appending, IsParser-Appending}
-use Rattle.winnow_ascii.specs.Escapes.{IsAbsent}
+use Rattle.winnow_ascii.specs.Escaped.{IsAbsent}
 
 -- a sign: a plus (43) or a minus (45)
 abbrev pub is_sign : ℕ → Bool
@@ -28,39 +28,35 @@ is_nonzero_digit c = is_in_range 49 57 c
 module _ {S T : Type 0} (is_slice : S → Source T → ℕ → Type 0) (code : T → ℕ) where
   -- a digit that is not 0, and all digits after it
   abbrev pub Digits : Meaning (T × S) T
-  Digits = Pair (OneOf (λ token. is_nonzero_digit (code token))) (HeldFront is_slice (λ token. is_ascii_digit (code token)) 0 None)
+  Digits = Pair (IsOneOf (λ token. is_nonzero_digit (code token))) (TakesWhile is_slice (λ token. is_ascii_digit (code token)) 0 None)
 
   -- a 0 (48)
   abbrev pub Zero : Meaning T T
-  Zero = OneOf (λ token. 48 == code token)
+  Zero = IsOneOf (λ token. 48 == code token)
 
 -- such digits, with a sign before them or none
 abbrev pub SignedDigits : {S T : Type 0} → (S → Source T → ℕ → Type 0) → (T → ℕ)
     → Meaning (Option T × (T × S)) T
-SignedDigits is_slice code = Pair (Optional (OneOf (λ token. is_sign (code token)))) (Digits is_slice code)
+SignedDigits is_slice code = Pair (IsOpt (IsOneOf (λ token. is_sign (code token)))) (Digits is_slice code)
 
 -- such digits, or 0 alone; memory may be refused while the errors of both are joined, and while
 -- the joined one is appended to
-abbrev pub Unsigned : {S T : Type 0} → Type 0 → Type 0 → (S → Source T → ℕ → Type 0) → (T → ℕ)
+abbrev pub IsDecUint : {S T : Type 0} → Type 0 → Type 0 → (S → Source T → ℕ → Type 0) → (T → ℕ)
     → Meaning (Unit {0}) T
-Unsigned refusable appends is_slice code = Appending appends
-    (Either refusable (Maps IsForgotten (Digits is_slice code)) (Maps IsForgotten (Zero is_slice code)))
+IsDecUint refusable appends is_slice code = Appending appends
+    (IsAlt2 refusable (Maps IsForgotten (Digits is_slice code)) (Maps IsForgotten (Zero is_slice code)))
 
 -- such digits, with a sign before them or none; or 0 alone
-abbrev pub Signed : {S T : Type 0} → Type 0 → Type 0 → (S → Source T → ℕ → Type 0) → (T → ℕ)
+abbrev pub IsDecInt : {S T : Type 0} → Type 0 → Type 0 → (S → Source T → ℕ → Type 0) → (T → ℕ)
     → Meaning (Unit {0}) T
-Signed refusable appends is_slice code = Appending appends
-    (Either refusable (Maps IsForgotten (SignedDigits is_slice code)) (Maps IsForgotten (Zero is_slice code)))
+IsDecInt refusable appends is_slice code = Appending appends
+    (IsAlt2 refusable (Maps IsForgotten (SignedDigits is_slice code)) (Maps IsForgotten (Zero is_slice code)))
 
 -- the value that the slice of the inner parser reads as; where it reads as none, the parser
 -- backtracks, from where it began
 abbrev pub ReadAs : {S R T : Type 0} → (S → R → Type 0) → (S → Source T → ℕ → Type 0)
     → Meaning (Unit {0}) T → Meaning R T
-ReadAs reads is_slice inner = Chosen (λ slice value. IsSomeExactly (reads slice) value) (Taken is_slice inner)
-
--- slices of which a view shows the same read as the same value
-abbrev pub ReadsAlike : {S R V : Type 0} → (S → V) → (S → R → Type 0) → Type 0
-ReadsAlike {S} {R} {V} view reads = (s t : S) (x : R) → view s ≡ view t → reads s x → reads t x
+ReadAs reads is_slice inner = VerifyMaps (λ slice value. IsSomeExactly (reads slice) value) (Taken is_slice inner)
 
 -- an error that joins two, each made of the stream as one alternative leaves it; the first of the
 -- two alternatives backtracks where it left the stream
@@ -90,23 +86,23 @@ ReadErrors reads makes means inner partial a s (Refused r) = inner partial a s (
 module _ {S T : Type 0} (refusable appends : Type 0) (is_slice : S → Source T → ℕ → Type 0) (stay : SlicesStay is_slice) (code : T → ℕ) where
   -- `Digits` keeps the laws of a parser
   digits-parser : IsParser (Digits is_slice code)
-  digits-parser = IsParser-Pair _ _ (IsParser-OneOf _) (IsParser-HeldFront is_slice stay _ 0 None)
+  digits-parser = IsParser-Pair _ _ (IsParser-IsOneOf _) (IsParser-TakesWhile is_slice stay _ 0 None)
 
   -- `Zero`, with its value dropped, keeps the laws of a parser
   zero-parser : IsParser (Maps IsForgotten (Zero is_slice code))
-  zero-parser = IsParser-Maps IsForgotten _ (IsParser-OneOf _)
+  zero-parser = IsParser-Maps IsForgotten _ (IsParser-IsOneOf _)
 
-  -- `Unsigned` keeps the laws of a parser
-  pub IsParser-Unsigned : IsParser (Unsigned refusable appends is_slice code)
-  IsParser-Unsigned =
-      IsParser-Appending appends (IsParser-Either refusable _ _ (IsParser-Maps IsForgotten _ digits-parser) zero-parser)
+  -- `IsDecUint` keeps the laws of a parser
+  pub IsParser-IsDecUint : IsParser (IsDecUint refusable appends is_slice code)
+  IsParser-IsDecUint =
+      IsParser-Appending appends (IsParser-IsAlt2 refusable _ _ (IsParser-Maps IsForgotten _ digits-parser) zero-parser)
 
-  -- `Signed` keeps the laws of a parser
-  pub IsParser-Signed : IsParser (Signed refusable appends is_slice code)
-  IsParser-Signed = IsParser-Appending appends
-      (IsParser-Either refusable _ _ (IsParser-Maps IsForgotten _ (IsParser-Pair _ _ (IsParser-Optional _ (IsParser-OneOf _)) digits-parser)) zero-parser)
+  -- `IsDecInt` keeps the laws of a parser
+  pub IsParser-IsDecInt : IsParser (IsDecInt refusable appends is_slice code)
+  IsParser-IsDecInt = IsParser-Appending appends
+      (IsParser-IsAlt2 refusable _ _ (IsParser-Maps IsForgotten _ (IsParser-Pair _ _ (IsParser-IsOpt _ (IsParser-IsOneOf _)) digits-parser)) zero-parser)
 
 module _ {S R T : Type 0} (reads : S → R → Type 0) (is_slice : S → Source T → ℕ → Type 0) (stay : SlicesStay is_slice) (inner : Meaning (Unit {0}) T) (p : IsParser inner) where
   -- `ReadAs` keeps the laws of a parser
   pub IsParser-ReadAs : IsParser (ReadAs reads is_slice inner)
-  IsParser-ReadAs = IsParser-Chosen (λ slice value. IsSomeExactly (reads slice) value) _ (IsParser-Taken is_slice stay inner p)
+  IsParser-ReadAs = IsParser-VerifyMaps (λ slice value. IsSomeExactly (reads slice) value) _ (IsParser-Taken is_slice stay inner p)

@@ -1,25 +1,26 @@
 //! Laws of parsers of ASCII text. A law does nothing when called: its contract is the law.
 
 ghost use Rattle.std.specs.Prelude.{◌≡◌, ℕ};
+ghost use Rattle.winnow_count.specs.Reading.{ReadsAlike};
 ghost use Rattle.winnow_parser.specs.Determined.{IsDetermined, Shows, Respects, SlicesRespect};
-ghost use Rattle.winnow_token.specs.declared.held.HeldTokens.{HeldTokens};
+ghost use Rattle.winnow_token.specs.declared.parsers.take_while.TakeWhile.{TakeWhile};
 ghost use Rattle.winnow_combinator.specs.DeterminedLists.{AreSameEach};
 ghost use Rattle.winnow_combinator.specs.Gathering.{Gathered};
 ghost use Rattle.winnow_ascii.specs.declared.class.Class.{Class};
 ghost use Rattle.winnow_ascii.specs.Alike.{AllowSame};
 ghost use Rattle.winnow_ascii.specs.Classes.{TakesAll, AllOf};
-ghost use Rattle.winnow_ascii.specs.Escapes.{Fragments, AreSameFragments};
-ghost use Rattle.winnow_ascii.specs.Hexadecimal.{Hexadecimal, ReadsText};
-ghost use Rattle.winnow_ascii.specs.Lines.{LineText, IsTillLineEnding, TillLineEnding};
-ghost use Rattle.winnow_ascii.specs.Numbers.{Unsigned, Signed, ReadAs, ReadsAlike};
+ghost use Rattle.winnow_ascii.specs.Escaped.{IsEscaped, AreSameFragments};
+ghost use Rattle.winnow_ascii.specs.HexUint.{IsHexUint, ReadsText};
+ghost use Rattle.winnow_ascii.specs.Lines.{TillLineEnding, IsTillLineEnding, TakesTillLineEnding};
+ghost use Rattle.winnow_ascii.specs.Numbers.{IsDecUint, IsDecInt, ReadAs};
 
-use crate::{Class, Fragment, HexUint, LineText};
+use crate::{Class, Fragment, HexUint, TillLineEnding};
 use winnow_count::{Accumulate, ParseSlice};
 use winnow_error::ParserError;
 use winnow_parser::Parser;
 use winnow_sets::AsChar;
 use winnow_stream::{AsBStr, StreamIsPartial};
-use winnow_token::HeldTokens;
+use winnow_token::TakeWhile;
 
 /// The laws of classes and lines: the meanings of their parsers on each stream whose tokens stand
 /// for characters. It does nothing when called: its contract is the law.
@@ -27,12 +28,12 @@ pub fn ascii_law<I: StreamIsPartial, E: ParserError<I>>()
 where
     I::Token: AsChar + Copy,
     I::Slice: Drop,
-    ensures class { (class : Class) (least : ℕ) (p : HeldTokens Class) → TakesAll class least p
-        → AllowSame (⟦<HeldTokens<Class> as Parser<I, E>>⟧.means p)
+    ensures class { (class : Class) (least : ℕ) (p : TakeWhile Class) → TakesAll class least p
+        → AllowSame (⟦<TakeWhile<Class> as Parser<I, E>>⟧.means p)
         (AllOf I.is_slice I.Token.code class least) }
-    ensures line { (p : LineText) → IsTillLineEnding p
-        → AllowSame (⟦<LineText as Parser<I, E>>⟧.means p)
-        (TillLineEnding I.is_slice I.Token.code) }
+    ensures line { (p : TillLineEnding) → IsTillLineEnding p
+        → AllowSame (⟦<TillLineEnding as Parser<I, E>>⟧.means p)
+        (TakesTillLineEnding I.is_slice I.Token.code) }
 {}
 
 /// The laws of one answer for numbers: a parser of a number has one answer where a view shows the
@@ -45,14 +46,14 @@ where
     ensures unsigned { (view : I.Slice → V) → SlicesRespect I.is_slice (Shows view)
         → ReadsAlike view I.Slice.reads → IsDetermined (λ x y. x ≡ y)
         (ReadAs I.Slice.reads I.is_slice
-        (Unsigned E.or_refusable E.append_refusable I.is_slice I.Token.code)) }
+        (IsDecUint E.or_refusable E.append_refusable I.is_slice I.Token.code)) }
     ensures signed { (view : I.Slice → V) → SlicesRespect I.is_slice (Shows view)
         → ReadsAlike view I.Slice.reads → IsDetermined (λ x y. x ≡ y)
         (ReadAs I.Slice.reads I.is_slice
-        (Signed E.or_refusable E.append_refusable I.is_slice I.Token.code)) }
+        (IsDecInt E.or_refusable E.append_refusable I.is_slice I.Token.code)) }
     ensures hexadecimal { (view : I.Slice → V) → SlicesRespect I.is_slice (Shows view)
         → ReadsAlike view (λ s. ReadsText H.reads (I.Slice.text_bytes s))
-        → IsDetermined (λ x y. x ≡ y) (Hexadecimal (λ s. ReadsText H.reads (I.Slice.text_bytes s))
+        → IsDetermined (λ x y. x ≡ y) (IsHexUint (λ s. ReadsText H.reads (I.Slice.text_bytes s))
         I.is_slice I.Token.code H.nibbles) }
 {}
 
@@ -75,7 +76,7 @@ pub fn determined_escaped_law<
         (p : P) (c : C) (q : Q) → IsDetermined (Shows view) (P.means p)
         → IsDetermined (Shows control) (C.means c) → IsDetermined (Shows other) (Q.means q)
         → IsDetermined (AreSameEach (AreSameFragments (Shows view) (Shows other)))
-        (Fragments (P.means p) (C.means c) (Q.means q)) }
+        (IsEscaped (P.means p) (C.means c) (Q.means q)) }
     ensures gathered { (view : P.Output → U) (control : C.Output → V) (other : Q.Output → W)
         (whole : A → X) (p : P) (c : C) (q : Q)
         → Respects (AreSameEach (AreSameFragments (Shows view) (Shows other))) (Shows whole)
@@ -84,5 +85,5 @@ pub fn determined_escaped_law<
         → IsDetermined (Shows control) (C.means c) → IsDetermined (Shows other) (Q.means q)
         → IsDetermined (Shows whole)
         (Gathered A.refusable (λ fragments made. A.holds made fragments)
-        (Fragments (P.means p) (C.means c) (Q.means q))) }
+        (IsEscaped (P.means p) (C.means c) (Q.means q))) }
 {}

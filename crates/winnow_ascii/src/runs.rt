@@ -6,45 +6,45 @@ ghost use Rattle.winnow_ascii.specs.declared.class.Class.TheVariants.{HexDigit, 
 ghost use Rattle.winnow_ascii.specs.declared.class.Class.TheVariants.{Multispace};
 
 use crate::Class;
-use winnow_token::{HeldTokens, take_while};
+use winnow_token::{TakeWhile, take_while};
 
 /// Returns the parser of the letters ahead, if any: `A` to `Z` and `a` to `z`.
-pub fn alpha0() -> HeldTokens<Class>
+pub fn alpha0() -> TakeWhile<Class>
     ensures { TakesAll Alpha 0 result }
 {
     take_while(0.., Class::Alpha)
 }
 
 /// Returns the parser of the letters ahead, one at least: `A` to `Z` and `a` to `z`.
-pub fn alpha1() -> HeldTokens<Class>
+pub fn alpha1() -> TakeWhile<Class>
     ensures { TakesAll Alpha 1 result }
 {
     take_while(1.., Class::Alpha)
 }
 
 /// Returns the parser of the digits ahead, if any: `0` to `9`.
-pub fn digit0() -> HeldTokens<Class>
+pub fn digit0() -> TakeWhile<Class>
     ensures { TakesAll Digit 0 result }
 {
     take_while(0.., Class::Digit)
 }
 
 /// Returns the parser of the digits ahead, one at least: `0` to `9`.
-pub fn digit1() -> HeldTokens<Class>
+pub fn digit1() -> TakeWhile<Class>
     ensures { TakesAll Digit 1 result }
 {
     take_while(1.., Class::Digit)
 }
 
 /// Returns the parser of the letters and digits ahead, if any.
-pub fn alphanumeric0() -> HeldTokens<Class>
+pub fn alphanumeric0() -> TakeWhile<Class>
     ensures { TakesAll Alphanumeric 0 result }
 {
     take_while(0.., Class::Alphanumeric)
 }
 
 /// Returns the parser of the letters and digits ahead, one at least.
-pub fn alphanumeric1() -> HeldTokens<Class>
+pub fn alphanumeric1() -> TakeWhile<Class>
     ensures { TakesAll Alphanumeric 1 result }
 {
     take_while(1.., Class::Alphanumeric)
@@ -52,7 +52,7 @@ pub fn alphanumeric1() -> HeldTokens<Class>
 
 /// Returns the parser of the hexadecimal digits ahead, if any: `0` to `9`, `A` to `F` and `a` to
 /// `f`.
-pub fn hex_digit0() -> HeldTokens<Class>
+pub fn hex_digit0() -> TakeWhile<Class>
     ensures { TakesAll HexDigit 0 result }
 {
     take_while(0.., Class::HexDigit)
@@ -60,49 +60,49 @@ pub fn hex_digit0() -> HeldTokens<Class>
 
 /// Returns the parser of the hexadecimal digits ahead, one at least: `0` to `9`, `A` to `F` and `a`
 /// to `f`.
-pub fn hex_digit1() -> HeldTokens<Class>
+pub fn hex_digit1() -> TakeWhile<Class>
     ensures { TakesAll HexDigit 1 result }
 {
     take_while(1.., Class::HexDigit)
 }
 
 /// Returns the parser of the octal digits ahead, if any: `0` to `7`.
-pub fn oct_digit0() -> HeldTokens<Class>
+pub fn oct_digit0() -> TakeWhile<Class>
     ensures { TakesAll OctDigit 0 result }
 {
     take_while(0.., Class::OctDigit)
 }
 
 /// Returns the parser of the octal digits ahead, one at least: `0` to `7`.
-pub fn oct_digit1() -> HeldTokens<Class>
+pub fn oct_digit1() -> TakeWhile<Class>
     ensures { TakesAll OctDigit 1 result }
 {
     take_while(1.., Class::OctDigit)
 }
 
 /// Returns the parser of the spaces and tabs ahead, if any.
-pub fn space0() -> HeldTokens<Class>
+pub fn space0() -> TakeWhile<Class>
     ensures { TakesAll Space 0 result }
 {
     take_while(0.., Class::Space)
 }
 
 /// Returns the parser of the spaces and tabs ahead, one at least.
-pub fn space1() -> HeldTokens<Class>
+pub fn space1() -> TakeWhile<Class>
     ensures { TakesAll Space 1 result }
 {
     take_while(1.., Class::Space)
 }
 
 /// Returns the parser of the spaces, tabs, carriage returns and newlines ahead, if any.
-pub fn multispace0() -> HeldTokens<Class>
+pub fn multispace0() -> TakeWhile<Class>
     ensures { TakesAll Multispace 0 result }
 {
     take_while(0.., Class::Multispace)
 }
 
 /// Returns the parser of the spaces, tabs, carriage returns and newlines ahead, one at least.
-pub fn multispace1() -> HeldTokens<Class>
+pub fn multispace1() -> TakeWhile<Class>
     ensures { TakesAll Multispace 1 result }
 {
     take_while(1.., Class::Multispace)

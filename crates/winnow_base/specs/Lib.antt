@@ -18,6 +18,7 @@ pub use Rattle.winnow_sets.specs.Classes
 pub use Rattle.winnow_sets.specs.Sets
 pub use Rattle.winnow_sets.specs.SetLaws
 pub use Rattle.winnow_match.specs.Bytes
+pub use Rattle.winnow_match.specs.Caseless
 pub use Rattle.winnow_match.specs.Comparison
 pub use Rattle.winnow_match.specs.Staying
 pub use Rattle.winnow_match.specs.Search

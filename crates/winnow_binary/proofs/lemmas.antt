@@ -1,3 +1,3 @@
 pub mod LengthLemmas
 pub mod NumberLemmas
-pub mod WithinLemmas
+pub mod LengthAndThenLemmas

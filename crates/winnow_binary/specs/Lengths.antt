@@ -7,11 +7,11 @@ use Rattle.winnow_stream.specs.Longer.{SlicesStay, front-longer}
 use Rattle.winnow_parser.specs.Outcome.{Ahead, Meaning}
 use Rattle.winnow_parser.specs.Errors.{Errors}
 use Rattle.winnow_parser.specs.Laws.{IsParser}
-use Rattle.winnow_parser.specs.Continued.{Continued, IsParser-Continued}
-use Rattle.winnow_token.specs.Counted.{Counted, IsParser-Counted}
+use Rattle.winnow_parser.specs.FlatMap.{FlatMaps, IsParser-FlatMaps}
+use Rattle.winnow_token.specs.Take.{Takes, IsParser-Takes}
 use Rattle.winnow_combinator.specs.Appended.{AppendingIf, AppendedErrorsIf, needs_some, IsParser-AppendingIf}
 use Rattle.winnow_combinator.specs.Misuse.{TakingErrors, GatheredErrors}
-use Rattle.winnow_combinator.specs.Repetition.{Repeated, RepeatedErrors, IsParser-Repeated}
+use Rattle.winnow_combinator.specs.Repeat.{Repeats, RepeatErrors, IsParser-Repeats}
 use Rattle.winnow_combinator.specs.Gathering.{Gathered, IsParser-Gathered}
 
 -- the value of the first parser is this number
@@ -19,9 +19,9 @@ abbrev pub IsNumber : {L : Type 0} → (L → ℕ) → L → ℕ → Type 0
 IsNumber number x n = n ≡ number x
 
 -- a count, and then the slice of that number of tokens
-abbrev pub CountedSlice : {L S T : Type 0} → (L → ℕ) → Bool → (S → Source T → ℕ → Type 0)
+abbrev pub LengthTakes : {L S T : Type 0} → (L → ℕ) → Bool → (S → Source T → ℕ → Type 0)
     → Meaning L T → Meaning S T
-CountedSlice number counts_shortage is_slice length = Continued (IsNumber number) (Counted counts_shortage is_slice) length
+LengthTakes number counts_shortage is_slice length = FlatMaps (IsNumber number) (Takes counts_shortage is_slice) length
 
 -- the stream stands at this location, and the front of this width remains of it
 abbrev pub IsFrontAt : {S T : Type 0} → (S → Ahead T) → Option ℕ → S → Source T → ℕ → Type 0
@@ -29,38 +29,38 @@ IsFrontAt stands location s tokens n = stands s ≡ record { location = location
 
 -- a stream of the first n tokens alone, which stands where they do
 abbrev pub FrontOf : {S T : Type 0} → (S → Ahead T) → Bool → ℕ → Meaning S T
-FrontOf stands counts_shortage n partial a v = Counted counts_shortage (IsFrontAt stands a.location) n partial a v
+FrontOf stands counts_shortage n partial a v = Takes counts_shortage (IsFrontAt stands a.location) n partial a v
 
 -- a count, and then a stream of that number of tokens alone
 abbrev pub CountedFront : {L S T : Type 0} → (L → ℕ) → (S → Ahead T) → Bool → Meaning L T
     → Meaning S T
-CountedFront number stands counts_shortage length = Continued (IsNumber number) (FrontOf stands counts_shortage) length
+CountedFront number stands counts_shortage length = FlatMaps (IsNumber number) (FrontOf stands counts_shortage) length
 
 -- n values of the parser, one after the other, and what is made of them; memory may be refused
 -- while the error of a missing value is appended to
 abbrev pub Times : {O A T : Type 0} → Type 0 → Type 0 → (List O → A → Type 0) → Meaning O T → ℕ
     → Meaning A T
-Times refusable appends makes inner n = Gathered refusable makes (AppendingIf (needs_some n) appends (Repeated n (Some n) inner))
+Times refusable appends makes inner n = Gathered refusable makes (AppendingIf (needs_some n) appends (Repeats n (Some n) inner))
 
 -- a count, and then that number of values
-abbrev pub CountedValues : {L O A T : Type 0} → (L → ℕ) → Type 0 → Type 0
+abbrev pub LengthRepeats : {L O A T : Type 0} → (L → ℕ) → Type 0 → Type 0
     → (List O → A → Type 0) → Meaning L T → Meaning O T → Meaning A T
-CountedValues number refusable appends makes length inner = Continued (IsNumber number) (Times refusable appends makes inner) length
+LengthRepeats number refusable appends makes length inner = FlatMaps (IsNumber number) (Times refusable appends makes inner) length
 
 -- the errors of n values: that of a missing value is appended to
 abbrev pub TimesErrors : {O E S C T : Type 0} → (C → Ahead T) → (E → S → C → E → Type 0)
     → (S → E → Type 0) → Meaning O T → Errors E S T → ℕ → Errors E S T
-TimesErrors stood appends cuts inner errors n = GatheredErrors (RepeatedErrors inner
+TimesErrors stood appends cuts inner errors n = GatheredErrors (RepeatErrors inner
     (AppendedErrorsIf (needs_some n) stood appends (TakingErrors cuts inner errors)))
 
 -- ---- The laws
 
--- `CountedSlice` keeps the laws of a parser
-pub IsParser-CountedSlice : {L S T : Type 0} (number : L → ℕ) (counts_shortage : Bool)
+-- `LengthTakes` keeps the laws of a parser
+pub IsParser-LengthTakes : {L S T : Type 0} (number : L → ℕ) (counts_shortage : Bool)
     (is_slice : S → Source T → ℕ → Type 0) → SlicesStay is_slice → (length : Meaning L T)
-    → IsParser length → IsParser (CountedSlice number counts_shortage is_slice length)
-IsParser-CountedSlice number counts_shortage is_slice stay length p =
-    IsParser-Continued (IsNumber number) (Counted counts_shortage is_slice) length (IsParser-Counted counts_shortage is_slice stay) p
+    → IsParser length → IsParser (LengthTakes number counts_shortage is_slice length)
+IsParser-LengthTakes number counts_shortage is_slice stay length p =
+    IsParser-FlatMaps (IsNumber number) (Takes counts_shortage is_slice) length (IsParser-Takes counts_shortage is_slice stay) p
 
 module _ {S T : Type 0} (stands : S → Ahead T) (counts_shortage : Bool) where
   -- a stream of a front is one of that front of each longer list
@@ -68,10 +68,10 @@ module _ {S T : Type 0} (stands : S → Ahead T) (counts_shortage : Bool) where
   front_at-stay location s tokens more n offset e =
       e ∙ ap (λ t. record { location = location; tokens = t }) (sym (front-longer tokens more n offset))
 
-  -- `Counted` keeps the laws of a parser where it gives a stream of the front
+  -- `Takes` keeps the laws of a parser where it gives a stream of the front
   front_of-counted : (location : Option ℕ) (n : ℕ)
-      → IsParser (Counted counts_shortage (IsFrontAt stands location) n)
-  front_of-counted location n = IsParser-Counted counts_shortage (IsFrontAt stands location) (front_at-stay location) n
+      → IsParser (Takes counts_shortage (IsFrontAt stands location) n)
+  front_of-counted location n = IsParser-Takes counts_shortage (IsFrontAt stands location) (front_at-stay location) n
 
   -- `FrontOf` keeps the laws of a parser
   pub IsParser-FrontOf : (n : ℕ) → IsParser (FrontOf stands counts_shortage n)
@@ -85,12 +85,12 @@ module _ {S T : Type 0} (stands : S → Ahead T) (counts_shortage : Bool) where
   pub IsParser-CountedFront : {L : Type 0} (number : L → ℕ) (length : Meaning L T)
       → IsParser length → IsParser (CountedFront number stands counts_shortage length)
   IsParser-CountedFront number length p =
-      IsParser-Continued (IsNumber number) (FrontOf stands counts_shortage) length IsParser-FrontOf p
+      IsParser-FlatMaps (IsNumber number) (FrontOf stands counts_shortage) length IsParser-FrontOf p
 
--- `CountedValues` keeps the laws of a parser
-pub IsParser-CountedValues : {L O A T : Type 0} (number : L → ℕ) (refusable appends : Type 0)
+-- `LengthRepeats` keeps the laws of a parser
+pub IsParser-LengthRepeats : {L O A T : Type 0} (number : L → ℕ) (refusable appends : Type 0)
     (makes : List O → A → Type 0) (length : Meaning L T) (inner : Meaning O T) → IsParser length
-    → IsParser inner → IsParser (CountedValues number refusable appends makes length inner)
-IsParser-CountedValues number refusable appends makes length inner p q =
-    IsParser-Continued (IsNumber number) (Times refusable appends makes inner) length
-    (λ n. IsParser-Gathered refusable makes (IsParser-AppendingIf (needs_some n) appends (IsParser-Repeated n (Some n) q))) p
+    → IsParser inner → IsParser (LengthRepeats number refusable appends makes length inner)
+IsParser-LengthRepeats number refusable appends makes length inner p q =
+    IsParser-FlatMaps (IsNumber number) (Times refusable appends makes inner) length
+    (λ n. IsParser-Gathered refusable makes (IsParser-AppendingIf (needs_some n) appends (IsParser-Repeats n (Some n) q))) p

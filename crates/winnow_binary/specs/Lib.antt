@@ -1,3 +1,3 @@
 pub mod Lengths
 pub mod Numerals
-pub mod Within
+pub mod LengthAndThen

@@ -10,9 +10,9 @@ use Rattle.winnow_parser.specs.Outcome.{Ahead, Meaning}
 use Rattle.winnow_parser.specs.Laws.{IsParser}
 use Rattle.winnow_parser.specs.Meanings.{Maps}
 use Rattle.winnow_parser.specs.Parts.{IsParser-Maps}
-use Rattle.winnow_token.specs.Counted.{Counted, IsParser-Counted}
+use Rattle.winnow_token.specs.Take.{Takes, IsParser-Takes}
 use Rattle.winnow_binary.specs.declared.word.Endianness.{Endianness}
-use Rattle.winnow_binary.specs.declared.word.Endianness.TheVariants.{Big, Little}
+use Rattle.winnow_binary.specs.declared.word.Endianness.TheVariants.{Big, Little, Native}
 use Rattle.winnow_binary.specs.declared.word.Width.{Width}
 use Rattle.winnow_binary.specs.declared.word.Width.TheVariants.{One, Two, Four, Eight}
 
@@ -26,15 +26,17 @@ abbrev pub least_first : List ℕ → ℕ
 least_first [] = 0
 least_first (x ∷ xs) = x + 256 * least_first xs
 
--- the number that bytes write in this order
+-- the number that bytes write in this order; that of the machine has the least significant first
 abbrev pub number_in : Endianness → List ℕ → ℕ
 number_in Big xs = most_first xs
 number_in Little xs = least_first xs
+number_in Native xs = least_first xs
 
 -- the number of which the first bytes write x, and `count` more bytes write y
 abbrev pub joined : Endianness → ℕ → ℕ → ℕ → ℕ
 joined Big count x y = x * 256 ^ count + y
 joined Little count x y = x + 256 ^ count * y
+joined Native count x y = x + 256 ^ count * y
 
 -- the value of which n is the two's complement in three bytes: n itself below 2^23, and n - 2^24
 -- from there on
@@ -60,7 +62,7 @@ AreFrontBytes bytes r n = bytes ≡ bytes_of (front r n)
 -- the missing ones if more may follow, and backtracks, from where it began, if nothing may
 abbrev pub FixedNumeral : {N : Type 0} → Bool → ℕ → (ℕ → N) → Endianness → Meaning N ℕ
 FixedNumeral counts_shortage count of order =
-    Maps (λ bytes n. n ≡ of (number_in order bytes)) (Counted counts_shortage AreFrontBytes count)
+    Maps (λ bytes n. n ≡ of (number_in order bytes)) (Takes counts_shortage AreFrontBytes count)
 
 -- ---- The laws
 
@@ -72,4 +74,4 @@ module _ {N : Type 0} (counts_shortage : Bool) (count : ℕ) (of : ℕ → N) (o
   -- `FixedNumeral` keeps the laws of a parser
   pub IsParser-FixedNumeral : IsParser (FixedNumeral counts_shortage count of order)
   IsParser-FixedNumeral = IsParser-Maps (λ bytes n. n ≡ of (number_in order bytes)) _
-      (IsParser-Counted counts_shortage AreFrontBytes SlicesStay-bytes count)
+      (IsParser-Takes counts_shortage AreFrontBytes SlicesStay-bytes count)

@@ -6,27 +6,27 @@ ghost use Rattle.winnow_parser.specs.Determined.{IsDetermined, Shows, Respects, 
 ghost use Rattle.winnow_token.specs.Prompt.{IsPrompt};
 ghost use Rattle.winnow_combinator.specs.DeterminedLists.{AreSameEach};
 ghost use Rattle.winnow_binary.specs.declared.word.Endianness.{Endianness};
-ghost use Rattle.winnow_binary.specs.Lengths.{CountedSlice, CountedFront, CountedValues};
-ghost use Rattle.winnow_binary.specs.Numerals.{bytes_in, FixedNumeral};
-ghost use Rattle.winnow_binary.specs.Numerals.{most_first, least_first};
-ghost use Rattle.winnow_binary.specs.Within.{Within};
+ghost use Rattle.winnow_binary.specs.Lengths.{LengthTakes, CountedFront, LengthRepeats};
+ghost use Rattle.winnow_binary.specs.Numerals.{most_first, least_first, FixedNumeral};
+ghost use Rattle.winnow_binary.specs.LengthAndThen.{IsLengthAndThen};
 
-use crate::{FixedNumber, Length};
+use crate::Length;
 use winnow_count::Accumulate;
 use winnow_error::ParserError;
 use winnow_parser::Parser;
 use winnow_stream::StreamIsPartial;
 
-/// The laws of numbers. A parser of a number has one answer. Where it needs k more bytes, its
-/// answer is not settled before k have come. Bytes read with the most significant one first are the
-/// number that the reversed bytes are with the least significant one first. It does nothing when
-/// called: its contract is the law.
-pub fn fixed_number_law<R: FixedNumber>()
-    ensures determined { (counts_shortage : Bool) (order : Endianness)
-        → IsDetermined (λ x y. x ≡ y)
-        (FixedNumeral counts_shortage (bytes_in R.width) R.value_of order) }
-    ensures prompt { (counts_shortage : Bool) (order : Endianness)
-        → IsPrompt (FixedNumeral counts_shortage (bytes_in R.width) R.value_of order) }
+/// The laws of numbers of any number of bytes, also of floats. A parser of a number has one answer.
+/// Where it needs k more bytes, its answer is not settled before k have come. Bytes read with the
+/// most significant one first are the number that the reversed bytes are with the least significant
+/// one first. It does nothing when called: its contract is the law.
+pub fn fixed_number_law<N>()
+    ensures determined { (counts_shortage : Bool) (width : ℕ) (value_of : ℕ → N)
+        (order : Endianness)
+        → IsDetermined (λ x y. x ≡ y) (FixedNumeral counts_shortage width value_of order) }
+    ensures prompt { (counts_shortage : Bool) (width : ℕ) (value_of : ℕ → N)
+        (order : Endianness)
+        → IsPrompt (FixedNumeral counts_shortage width value_of order) }
     ensures reversed { (bytes : List ℕ) → most_first bytes ≡ least_first (reverse bytes) }
 {}
 
@@ -50,12 +50,12 @@ where
     ensures slice { (bytes : I.Slice → V) (p : P) → SlicesRespect I.is_slice (Shows bytes)
         → IsDetermined (Shows P.Output.number) (P.means p)
         → IsDetermined (Shows bytes)
-        (CountedSlice P.Output.number I.counts_shortage I.is_slice (P.means p)) }
+        (LengthTakes P.Output.number I.counts_shortage I.is_slice (P.means p)) }
     ensures values { (view : Q.Output → W) (whole : A → X) (p : P) (q : Q)
         → Respects (AreSameEach (Shows view)) (Shows whole) (λ values a. A.holds a values)
         → IsDetermined (Shows P.Output.number) (P.means p)
         → IsDetermined (Shows view) (Q.means q)
-        → IsDetermined (Shows whole) (CountedValues P.Output.number A.refusable
+        → IsDetermined (Shows whole) (LengthRepeats P.Output.number A.refusable
         E.append_refusable (λ values a. A.holds a values) (P.means p) (Q.means q)) }
 {}
 
@@ -68,7 +68,7 @@ where
     ensures { (view : Q.Output → V) (p : P) (q : Q)
         → IsDetermined (Shows P.Output.number) (P.means p)
         → IsDetermined (Shows view) (Q.means q)
-        → IsDetermined (Shows view) (Within (ahead I.location I.remaining) (Q.means q)
+        → IsDetermined (Shows view) (IsLengthAndThen (ahead I.location I.remaining) (Q.means q)
         (CountedFront P.Output.number (ahead I.location I.remaining) I.counts_shortage
         (P.means p))) }
 {}

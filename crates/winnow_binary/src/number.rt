@@ -2,7 +2,7 @@
 
 ghost use Rattle.std.specs.Prelude.{◌≡◌, ◌<◌, ◌^◌, ℕ};
 ghost use Rattle.std.specs.Int.{w8, w16, w32, w64, cast_signed};
-ghost use Rattle.winnow_binary.specs.declared.word.Width.{Width as NumberWidth};
+ghost use Rattle.winnow_binary.specs.declared.word.Width.{Width};
 ghost use Rattle.winnow_binary.specs.declared.word.Width.TheVariants.{One, Two, Four, Eight};
 ghost use Rattle.winnow_binary.specs.Numerals.{bytes_in};
 
@@ -11,10 +11,10 @@ use crate::Width;
 /// A type of numbers that a fixed number of bytes writes.
 pub trait FixedNumber: Sized {
     // The number of bytes.
-    ghost width: { NumberWidth };
+    ghost width: { Width };
 
-    // The value for which a number stands: at an unsigned type the number itself, and at a signed
-    // type the value of which it is the two's complement.
+    // The value for which a number stands: at an unsigned type the number itself, at a signed type
+    // the value of which it is the two's complement, and at a float type the float of its bits.
     ghost value_of: { ℕ → Self };
 
     /// Returns the number of bytes.

@@ -23,7 +23,7 @@ pub struct Numeral<R> {
 
 impl<R> Numeral<R> {
     // Returns the parser of the number that the next bytes write in this order.
-    fn new(order: Endianness) -> Self
+    pub(crate) fn new(order: Endianness) -> Self
         ensures { result.order ≡ order }
     {
         Numeral {

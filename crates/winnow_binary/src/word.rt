@@ -10,6 +10,8 @@ pub enum Endianness {
     Big,
     /// The least significant byte comes first
     Little,
+    /// The order of the machine, which is that of `Little`: Rattle compiles for x86-64
+    Native,
 }
 
 /// The number of bytes of a number.
@@ -45,7 +47,7 @@ pub(crate) fn join_bytes(order: Endianness, first: u8, second: u8) -> u16
 {
     match order {
         Endianness::Big => u16::from(first) * 256 + u16::from(second),
-        Endianness::Little => u16::from(first) + 256 * u16::from(second),
+        Endianness::Little | Endianness::Native => u16::from(first) + 256 * u16::from(second),
     }
 }
 
@@ -55,7 +57,7 @@ pub(crate) fn join_pairs(order: Endianness, first: u16, second: u16) -> u32
 {
     match order {
         Endianness::Big => u32::from(first) * 65536 + u32::from(second),
-        Endianness::Little => u32::from(first) + 65536 * u32::from(second),
+        Endianness::Little | Endianness::Native => u32::from(first) + 65536 * u32::from(second),
     }
 }
 
@@ -65,7 +67,8 @@ pub(crate) fn join_quads(order: Endianness, first: u32, second: u32) -> u64
 {
     match order {
         Endianness::Big => u64::from(first) * 4_294_967_296 + u64::from(second),
-        Endianness::Little => u64::from(first) + 4_294_967_296 * u64::from(second),
+        Endianness::Little | Endianness::Native => u64::from(first)
+            + 4_294_967_296 * u64::from(second),
     }
 }
 
@@ -75,7 +78,9 @@ pub(crate) fn join_eights(order: Endianness, first: u64, second: u64) -> u128
 {
     match order {
         Endianness::Big => u128::from(first) * 18_446_744_073_709_551_616 + u128::from(second),
-        Endianness::Little => u128::from(first) + 18_446_744_073_709_551_616 * u128::from(second),
+        Endianness::Little | Endianness::Native => {
+            u128::from(first) + 18_446_744_073_709_551_616 * u128::from(second)
+        }
     }
 }
 
@@ -87,6 +92,8 @@ pub(crate) fn join_three(order: Endianness, first: u8, second: u8, third: u8) ->
     let middle = 256 * u32::from(second);
     match order {
         Endianness::Big => 65536 * u32::from(first) + middle + u32::from(third),
-        Endianness::Little => u32::from(first) + middle + 65536 * u32::from(third),
+        Endianness::Little | Endianness::Native => u32::from(first)
+            + middle
+            + 65536 * u32::from(third),
     }
 }

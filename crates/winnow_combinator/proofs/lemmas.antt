@@ -3,13 +3,13 @@ pub mod AgreeingLemmas
 pub mod CombinedLemmas
 pub mod CountLemmas
 pub mod GatherLemmas
-pub mod RepetitionLemmas
-pub mod SeparationLemmas
+pub mod RepeatLemmas
+pub mod SeparatedLemmas
 pub mod TurnLemmas
 pub mod WordLemmas
 pub mod ErrorLemmas
-pub mod TillLemmas
+pub mod RepeatTillLemmas
 pub mod AgreeingTillLemmas
 pub mod AgreeingEndLemmas
 pub mod PartLemmas
-pub mod BracketingLemmas
+pub mod AltLemmas

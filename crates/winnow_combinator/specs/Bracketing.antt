@@ -2,11 +2,11 @@
 use Rattle.std.specs.Prelude.{◌≡◌, Bool}
 use Rattle.winnow_parser.specs.declared.failure.Failure.TheVariants.{Backtrack}
 use Rattle.winnow_parser.specs.Outcome.{Ahead, Outcome, Meaning}
-use Rattle.winnow_parser.specs.Errors.{Errors, FailsLeaving, EitherErrors}
-use Rattle.winnow_parser.specs.Meanings.{Either}
+use Rattle.winnow_parser.specs.Errors.{Errors, FailsLeaving, AltErrors2}
+use Rattle.winnow_parser.specs.Meanings.{IsAlt2}
 use Rattle.winnow_parser.specs.Determined.{IsGranted}
 use Rattle.winnow_combinator.specs.Appended.{Appending, AppendedErrors}
-use Rattle.winnow_combinator.specs.Choices.{Choice3}
+use Rattle.winnow_combinator.specs.Alt.{IsAlt3}
 
 -- each answer of one parser is one of the other
 abbrev pub MeansAlike : {O T : Type 0} → Meaning O T → Meaning O T → Type 0
@@ -21,18 +21,18 @@ MeansAlikeGranted {O} {T} first second = (partial : Bool) (a : Ahead T) (v : Out
 -- `alt` of two: memory may be refused while the joined error is appended to (q), and while errors
 -- are joined (r)
 abbrev pub AltOfTwo : {O T : Type 0} → Type 0 → Type 0 → Meaning O T → Meaning O T → Meaning O T
-AltOfTwo q r a b = Appending q (Either r a b)
+AltOfTwo q r a b = Appending q (IsAlt2 r a b)
 
 -- `alt` of three: memory may be refused as for two
 abbrev pub AltOfThree : {O T : Type 0} → Type 0 → Type 0 → Meaning O T → Meaning O T → Meaning O T
     → Meaning O T
-AltOfThree q r a b c = Appending q (Choice3 r a b c)
+AltOfThree q r a b c = Appending q (IsAlt3 r a b c)
 
 -- the errors of `alt` of two
 abbrev pub AltErrors : {O E S C T : Type 0} → (C → Ahead T) → (E → S → C → E → Type 0)
     → (S → Ahead T) → (E → E → E → Type 0) → Meaning O T → Errors E S T → Errors E S T
     → Errors E S T
-AltErrors stood gives stands joins means first second = AppendedErrors stood gives (EitherErrors stands joins means first second)
+AltErrors stood gives stands joins means first second = AppendedErrors stood gives (AltErrors2 stands joins means first second)
 
 -- three parsers backtrack here, each with an error of the stream as it left it, and the function
 -- joins the errors in their order to this one; the last left this stream

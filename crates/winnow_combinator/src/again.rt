@@ -8,8 +8,8 @@ ghost use Rattle.winnow_parser.specs.Answer.{ahead, outcome};
 ghost use Rattle.winnow_combinator.specs.Appended.{AppendingIf, AppendedErrorsIf, needs_some};
 ghost use Rattle.winnow_combinator.specs.Counts.{Ascends};
 ghost use Rattle.winnow_combinator.specs.Misuse.{TakingErrors, GatheredErrors};
-ghost use Rattle.winnow_combinator.specs.Repetition.{Taking, IsParser-Taking, OneMore, Repeated};
-ghost use Rattle.winnow_combinator.specs.Repetition.{RepeatedErrors};
+ghost use Rattle.winnow_combinator.specs.Repeat.{Taking, IsParser-Taking, OneMore, Repeats};
+ghost use Rattle.winnow_combinator.specs.Repeat.{RepeatErrors};
 ghost use Rattle.winnow_combinator.specs.Gathering.{Gathered};
 
 use crate::Gather;
@@ -131,13 +131,13 @@ where
         × (length before + width (I.remaining input.old) < 2 ^ 64)) }
     ensures means { Gathered G.refusable (FoldsTo (G.takes again.now.gather.now) whole)
         (AppendingIf (needs_some again.now.counts.least) E.append_refusable
-        (Repeated again.now.counts.least again.now.counts.greatest (P.means again.now.parser.now)))
+        (Repeats again.now.counts.least again.now.counts.greatest (P.means again.now.parser.now)))
         (I.expects_more input.old)
         (ahead I.location I.remaining input.old)
         (outcome result (ahead I.location I.remaining input.new)) }
     ensures onward { Moves (ahead I.location I.remaining input.old)
         (ahead I.location I.remaining input.new) }
-    ensures error { IfErr result (GatheredErrors (RepeatedErrors (P.means again.now.parser.now)
+    ensures error { IfErr result (GatheredErrors (RepeatErrors (P.means again.now.parser.now)
         (AppendedErrorsIf (needs_some again.now.counts.least)
         (ahead I.Checkpoint.location I.remained) E.append_gives
         (TakingErrors E.assert_gives (P.means again.now.parser.now)

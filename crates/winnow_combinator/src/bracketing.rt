@@ -8,7 +8,7 @@ ghost use Rattle.winnow_combinator.specs.Appended.{AppendedErrors};
 ghost use Rattle.winnow_combinator.specs.Bracketing.{MeansAlike, MeansAlikeGranted};
 ghost use Rattle.winnow_combinator.specs.Bracketing.{AltOfTwo, AltOfThree, AltErrors};
 ghost use Rattle.winnow_combinator.specs.Bracketing.{JoinsThree, AppendsThree, AppendsNothing};
-ghost use Rattle.winnow_combinator.specs.ChoiceErrors.{ChoiceErrors3};
+ghost use Rattle.winnow_combinator.specs.AltErrors.{AltErrors3};
 
 use winnow_error::{AssociativeOr, ParserError};
 use winnow_parser::Parser;
@@ -55,7 +55,7 @@ pub fn alternative_errors_law<
 >()
     ensures three { (a : A) (b : B) (c : C) (partial : Bool) (at : Ahead I.Token) (s : I) (e : E)
         → AppendedErrors (ahead I.Checkpoint.location I.remained) E.append_gives
-        (ChoiceErrors3 (ahead I.location I.remaining) E.or_refusable E.or_gives (A.means a)
+        (AltErrors3 (ahead I.location I.remaining) E.or_refusable E.or_gives (A.means a)
         (A.errors a) (B.means b) (B.errors b) (C.errors c)) partial at s (Backtrack e)
         → AppendsThree (ahead I.Checkpoint.location I.remained) E.append_gives
         (ahead I.location I.remaining) E.joined (A.means a) (A.errors a)

@@ -1,11 +1,11 @@
 //! `Choice` of two and three parsers: the part of `alt` that calls them and joins their errors.
 
 ghost use Rattle.winnow_parser.specs.Answer.{ahead};
-ghost use Rattle.winnow_parser.specs.Meanings.{Either};
-ghost use Rattle.winnow_parser.specs.Errors.{EitherErrors};
-ghost use Rattle.winnow_parser.specs.Parts.{IsParser-Either};
-ghost use Rattle.winnow_combinator.specs.ChoiceErrors.{ChoiceErrors3};
-ghost use Rattle.winnow_combinator.specs.Choices.{Choice3, IsParser-Choice3};
+ghost use Rattle.winnow_parser.specs.Meanings.{IsAlt2};
+ghost use Rattle.winnow_parser.specs.Errors.{AltErrors2};
+ghost use Rattle.winnow_parser.specs.Parts.{IsParser-IsAlt2};
+ghost use Rattle.winnow_combinator.specs.AltErrors.{AltErrors3};
+ghost use Rattle.winnow_combinator.specs.Alt.{IsAlt3, IsParser-IsAlt3};
 
 use std::alloc::Global;
 use winnow_error::ParserError;
@@ -27,14 +27,14 @@ impl<
 > Parser<I, E> for Choice<(A, B)> {
     type Output = A::Output;
 
-    ghost means = { λ p. Either E.or_refusable (A.means p.list.0) (B.means p.list.1) };
+    ghost means = { λ p. IsAlt2 E.or_refusable (A.means p.list.0) (B.means p.list.1) };
 
-    ghost errors = { λ p. EitherErrors (ahead I.location I.remaining) E.or_gives (A.means p.list.0)
+    ghost errors = { λ p. AltErrors2 (ahead I.location I.remaining) E.or_gives (A.means p.list.0)
         (A.errors p.list.0) (B.errors p.list.1) };
 
     ghost ready = { λ p. A.ready p.list.0 × B.ready p.list.1 };
 
-    ghost lawful = { λ p. IsParser-Either E.or_refusable (A.means p.list.0) (B.means p.list.1)
+    ghost lawful = { λ p. IsParser-IsAlt2 E.or_refusable (A.means p.list.0) (B.means p.list.1)
         (A.lawful p.list.0) (B.lawful p.list.1) };
 
     fn parse_next(&self, alloc: Global, input: &mut I) -> ModalResult<A::Output, E> {
@@ -65,16 +65,16 @@ impl<
 > Parser<I, E> for Choice<(A, B, C)> {
     type Output = A::Output;
 
-    ghost means = { λ p. Choice3 E.or_refusable (A.means p.list.0) (B.means p.list.1)
+    ghost means = { λ p. IsAlt3 E.or_refusable (A.means p.list.0) (B.means p.list.1)
         (C.means p.list.2) };
 
-    ghost errors = { λ p. ChoiceErrors3 (ahead I.location I.remaining) E.or_refusable E.or_gives
+    ghost errors = { λ p. AltErrors3 (ahead I.location I.remaining) E.or_refusable E.or_gives
         (A.means p.list.0) (A.errors p.list.0) (B.means p.list.1) (B.errors p.list.1)
         (C.errors p.list.2) };
 
     ghost ready = { λ p. A.ready p.list.0 × B.ready p.list.1 × C.ready p.list.2 };
 
-    ghost lawful = { λ p. IsParser-Choice3 E.or_refusable (A.lawful p.list.0) (B.lawful p.list.1)
+    ghost lawful = { λ p. IsParser-IsAlt3 E.or_refusable (A.lawful p.list.0) (B.lawful p.list.1)
         (C.lawful p.list.2) };
 
     fn parse_next(&self, alloc: Global, input: &mut I) -> ModalResult<A::Output, E> {

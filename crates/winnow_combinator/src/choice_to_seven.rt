@@ -1,12 +1,12 @@
 //! `Choice` of four to seven parsers.
 
 ghost use Rattle.winnow_parser.specs.Answer.{ahead};
-ghost use Rattle.winnow_combinator.specs.ChoiceErrors.{ChoiceErrors4, ChoiceErrors5};
-ghost use Rattle.winnow_combinator.specs.ChoiceErrors.{ChoiceErrors6, ChoiceErrors7};
-ghost use Rattle.winnow_combinator.specs.Choices.{Choice4, IsParser-Choice4};
-ghost use Rattle.winnow_combinator.specs.Choices.{Choice5, IsParser-Choice5};
-ghost use Rattle.winnow_combinator.specs.Choices.{Choice6, IsParser-Choice6};
-ghost use Rattle.winnow_combinator.specs.Choices.{Choice7, IsParser-Choice7};
+ghost use Rattle.winnow_combinator.specs.AltErrors.{AltErrors4, AltErrors5};
+ghost use Rattle.winnow_combinator.specs.AltErrors.{AltErrors6, AltErrors7};
+ghost use Rattle.winnow_combinator.specs.Alt.{IsAlt4, IsParser-IsAlt4};
+ghost use Rattle.winnow_combinator.specs.Alt.{IsAlt5, IsParser-IsAlt5};
+ghost use Rattle.winnow_combinator.specs.Alt.{IsAlt6, IsParser-IsAlt6};
+ghost use Rattle.winnow_combinator.specs.Alt.{IsAlt7, IsParser-IsAlt7};
 
 use crate::choice::Choice;
 use std::alloc::Global;
@@ -25,17 +25,17 @@ impl<
 > Parser<I, E> for Choice<(A, B, C, D)> {
     type Output = A::Output;
 
-    ghost means = { λ p. Choice4 E.or_refusable (A.means p.list.0) (B.means p.list.1)
+    ghost means = { λ p. IsAlt4 E.or_refusable (A.means p.list.0) (B.means p.list.1)
         (C.means p.list.2) (D.means p.list.3) };
 
-    ghost errors = { λ p. ChoiceErrors4 (ahead I.location I.remaining) E.or_refusable E.or_gives
+    ghost errors = { λ p. AltErrors4 (ahead I.location I.remaining) E.or_refusable E.or_gives
         (A.means p.list.0) (A.errors p.list.0) (B.means p.list.1) (B.errors p.list.1)
         (C.means p.list.2) (C.errors p.list.2) (D.errors p.list.3) };
 
     ghost ready = { λ p. A.ready p.list.0 × B.ready p.list.1 × C.ready p.list.2
         × D.ready p.list.3 };
 
-    ghost lawful = { λ p. IsParser-Choice4 E.or_refusable (A.lawful p.list.0) (B.lawful p.list.1)
+    ghost lawful = { λ p. IsParser-IsAlt4 E.or_refusable (A.lawful p.list.0) (B.lawful p.list.1)
         (C.lawful p.list.2) (D.lawful p.list.3) };
 
     fn parse_next(&self, alloc: Global, input: &mut I) -> ModalResult<A::Output, E> {
@@ -61,10 +61,10 @@ impl<
 > Parser<I, E> for Choice<(A, B, C, D, F)> {
     type Output = A::Output;
 
-    ghost means = { λ p. Choice5 E.or_refusable (A.means p.list.0) (B.means p.list.1)
+    ghost means = { λ p. IsAlt5 E.or_refusable (A.means p.list.0) (B.means p.list.1)
         (C.means p.list.2) (D.means p.list.3) (F.means p.list.4) };
 
-    ghost errors = { λ p. ChoiceErrors5 (ahead I.location I.remaining) E.or_refusable E.or_gives
+    ghost errors = { λ p. AltErrors5 (ahead I.location I.remaining) E.or_refusable E.or_gives
         (A.means p.list.0) (A.errors p.list.0) (B.means p.list.1) (B.errors p.list.1)
         (C.means p.list.2) (C.errors p.list.2) (D.means p.list.3) (D.errors p.list.3)
         (F.errors p.list.4) };
@@ -72,7 +72,7 @@ impl<
     ghost ready = { λ p. A.ready p.list.0 × B.ready p.list.1 × C.ready p.list.2 × D.ready p.list.3
         × F.ready p.list.4 };
 
-    ghost lawful = { λ p. IsParser-Choice5 E.or_refusable (A.lawful p.list.0) (B.lawful p.list.1)
+    ghost lawful = { λ p. IsParser-IsAlt5 E.or_refusable (A.lawful p.list.0) (B.lawful p.list.1)
         (C.lawful p.list.2) (D.lawful p.list.3) (F.lawful p.list.4) };
 
     fn parse_next(&self, alloc: Global, input: &mut I) -> ModalResult<A::Output, E> {
@@ -99,10 +99,10 @@ impl<
 > Parser<I, E> for Choice<(A, B, C, D, F, G)> {
     type Output = A::Output;
 
-    ghost means = { λ p. Choice6 E.or_refusable (A.means p.list.0) (B.means p.list.1)
+    ghost means = { λ p. IsAlt6 E.or_refusable (A.means p.list.0) (B.means p.list.1)
         (C.means p.list.2) (D.means p.list.3) (F.means p.list.4) (G.means p.list.5) };
 
-    ghost errors = { λ p. ChoiceErrors6 (ahead I.location I.remaining) E.or_refusable E.or_gives
+    ghost errors = { λ p. AltErrors6 (ahead I.location I.remaining) E.or_refusable E.or_gives
         (A.means p.list.0) (A.errors p.list.0) (B.means p.list.1) (B.errors p.list.1)
         (C.means p.list.2) (C.errors p.list.2) (D.means p.list.3) (D.errors p.list.3)
         (F.means p.list.4) (F.errors p.list.4) (G.errors p.list.5) };
@@ -110,7 +110,7 @@ impl<
     ghost ready = { λ p. A.ready p.list.0 × B.ready p.list.1 × C.ready p.list.2 × D.ready p.list.3
         × F.ready p.list.4 × G.ready p.list.5 };
 
-    ghost lawful = { λ p. IsParser-Choice6 E.or_refusable (A.lawful p.list.0) (B.lawful p.list.1)
+    ghost lawful = { λ p. IsParser-IsAlt6 E.or_refusable (A.lawful p.list.0) (B.lawful p.list.1)
         (C.lawful p.list.2) (D.lawful p.list.3) (F.lawful p.list.4) (G.lawful p.list.5) };
 
     fn parse_next(&self, alloc: Global, input: &mut I) -> ModalResult<A::Output, E> {
@@ -144,11 +144,11 @@ impl<
 > Parser<I, E> for Choice<(A, B, C, D, F, G, H)> {
     type Output = A::Output;
 
-    ghost means = { λ p. Choice7 E.or_refusable (A.means p.list.0) (B.means p.list.1)
+    ghost means = { λ p. IsAlt7 E.or_refusable (A.means p.list.0) (B.means p.list.1)
         (C.means p.list.2) (D.means p.list.3) (F.means p.list.4) (G.means p.list.5)
         (H.means p.list.6) };
 
-    ghost errors = { λ p. ChoiceErrors7 (ahead I.location I.remaining) E.or_refusable E.or_gives
+    ghost errors = { λ p. AltErrors7 (ahead I.location I.remaining) E.or_refusable E.or_gives
         (A.means p.list.0) (A.errors p.list.0) (B.means p.list.1) (B.errors p.list.1)
         (C.means p.list.2) (C.errors p.list.2) (D.means p.list.3) (D.errors p.list.3)
         (F.means p.list.4) (F.errors p.list.4) (G.means p.list.5) (G.errors p.list.5)
@@ -157,7 +157,7 @@ impl<
     ghost ready = { λ p. A.ready p.list.0 × B.ready p.list.1 × C.ready p.list.2 × D.ready p.list.3
         × F.ready p.list.4 × G.ready p.list.5 × H.ready p.list.6 };
 
-    ghost lawful = { λ p. IsParser-Choice7 E.or_refusable (A.lawful p.list.0) (B.lawful p.list.1)
+    ghost lawful = { λ p. IsParser-IsAlt7 E.or_refusable (A.lawful p.list.0) (B.lawful p.list.1)
         (C.lawful p.list.2) (D.lawful p.list.3) (F.lawful p.list.4) (G.lawful p.list.5)
         (H.lawful p.list.6) };
 

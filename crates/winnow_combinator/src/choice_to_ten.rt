@@ -1,11 +1,11 @@
 //! `Choice` of eight to ten parsers.
 
 ghost use Rattle.winnow_parser.specs.Answer.{ahead};
-ghost use Rattle.winnow_combinator.specs.ChoiceErrors.{ChoiceErrors8, ChoiceErrors9};
-ghost use Rattle.winnow_combinator.specs.ChoiceErrors.{ChoiceErrors10};
-ghost use Rattle.winnow_combinator.specs.Choices.{Choice8, IsParser-Choice8};
-ghost use Rattle.winnow_combinator.specs.Choices.{Choice9, IsParser-Choice9};
-ghost use Rattle.winnow_combinator.specs.Choices.{Choice10, IsParser-Choice10};
+ghost use Rattle.winnow_combinator.specs.AltErrors.{AltErrors8, AltErrors9};
+ghost use Rattle.winnow_combinator.specs.AltErrors.{AltErrors10};
+ghost use Rattle.winnow_combinator.specs.Alt.{IsAlt8, IsParser-IsAlt8};
+ghost use Rattle.winnow_combinator.specs.Alt.{IsAlt9, IsParser-IsAlt9};
+ghost use Rattle.winnow_combinator.specs.Alt.{IsAlt10, IsParser-IsAlt10};
 
 use crate::choice::Choice;
 use std::alloc::Global;
@@ -28,11 +28,11 @@ impl<
 > Parser<I, E> for Choice<(A, B, C, D, F, G, H, J)> {
     type Output = A::Output;
 
-    ghost means = { λ p. Choice8 E.or_refusable (A.means p.list.0) (B.means p.list.1)
+    ghost means = { λ p. IsAlt8 E.or_refusable (A.means p.list.0) (B.means p.list.1)
         (C.means p.list.2) (D.means p.list.3) (F.means p.list.4) (G.means p.list.5)
         (H.means p.list.6) (J.means p.list.7) };
 
-    ghost errors = { λ p. ChoiceErrors8 (ahead I.location I.remaining) E.or_refusable E.or_gives
+    ghost errors = { λ p. AltErrors8 (ahead I.location I.remaining) E.or_refusable E.or_gives
         (A.means p.list.0) (A.errors p.list.0) (B.means p.list.1) (B.errors p.list.1)
         (C.means p.list.2) (C.errors p.list.2) (D.means p.list.3) (D.errors p.list.3)
         (F.means p.list.4) (F.errors p.list.4) (G.means p.list.5) (G.errors p.list.5)
@@ -41,7 +41,7 @@ impl<
     ghost ready = { λ p. A.ready p.list.0 × B.ready p.list.1 × C.ready p.list.2 × D.ready p.list.3
         × F.ready p.list.4 × G.ready p.list.5 × H.ready p.list.6 × J.ready p.list.7 };
 
-    ghost lawful = { λ p. IsParser-Choice8 E.or_refusable (A.lawful p.list.0) (B.lawful p.list.1)
+    ghost lawful = { λ p. IsParser-IsAlt8 E.or_refusable (A.lawful p.list.0) (B.lawful p.list.1)
         (C.lawful p.list.2) (D.lawful p.list.3) (F.lawful p.list.4) (G.lawful p.list.5)
         (H.lawful p.list.6) (J.lawful p.list.7) };
 
@@ -80,11 +80,11 @@ impl<
 > Parser<I, E> for Choice<(A, B, C, D, F, G, H, J, K)> {
     type Output = A::Output;
 
-    ghost means = { λ p. Choice9 E.or_refusable (A.means p.list.0) (B.means p.list.1)
+    ghost means = { λ p. IsAlt9 E.or_refusable (A.means p.list.0) (B.means p.list.1)
         (C.means p.list.2) (D.means p.list.3) (F.means p.list.4) (G.means p.list.5)
         (H.means p.list.6) (J.means p.list.7) (K.means p.list.8) };
 
-    ghost errors = { λ p. ChoiceErrors9 (ahead I.location I.remaining) E.or_refusable E.or_gives
+    ghost errors = { λ p. AltErrors9 (ahead I.location I.remaining) E.or_refusable E.or_gives
         (A.means p.list.0) (A.errors p.list.0) (B.means p.list.1) (B.errors p.list.1)
         (C.means p.list.2) (C.errors p.list.2) (D.means p.list.3) (D.errors p.list.3)
         (F.means p.list.4) (F.errors p.list.4) (G.means p.list.5) (G.errors p.list.5)
@@ -95,7 +95,7 @@ impl<
         × F.ready p.list.4 × G.ready p.list.5 × H.ready p.list.6 × J.ready p.list.7
         × K.ready p.list.8 };
 
-    ghost lawful = { λ p. IsParser-Choice9 E.or_refusable (A.lawful p.list.0) (B.lawful p.list.1)
+    ghost lawful = { λ p. IsParser-IsAlt9 E.or_refusable (A.lawful p.list.0) (B.lawful p.list.1)
         (C.lawful p.list.2) (D.lawful p.list.3) (F.lawful p.list.4) (G.lawful p.list.5)
         (H.lawful p.list.6) (J.lawful p.list.7) (K.lawful p.list.8) };
 
@@ -136,11 +136,11 @@ impl<
 > Parser<I, E> for Choice<(A, B, C, D, F, G, H, J, K, L)> {
     type Output = A::Output;
 
-    ghost means = { λ p. Choice10 E.or_refusable (A.means p.list.0) (B.means p.list.1)
+    ghost means = { λ p. IsAlt10 E.or_refusable (A.means p.list.0) (B.means p.list.1)
         (C.means p.list.2) (D.means p.list.3) (F.means p.list.4) (G.means p.list.5)
         (H.means p.list.6) (J.means p.list.7) (K.means p.list.8) (L.means p.list.9) };
 
-    ghost errors = { λ p. ChoiceErrors10 (ahead I.location I.remaining) E.or_refusable E.or_gives
+    ghost errors = { λ p. AltErrors10 (ahead I.location I.remaining) E.or_refusable E.or_gives
         (A.means p.list.0) (A.errors p.list.0) (B.means p.list.1) (B.errors p.list.1)
         (C.means p.list.2) (C.errors p.list.2) (D.means p.list.3) (D.errors p.list.3)
         (F.means p.list.4) (F.errors p.list.4) (G.means p.list.5) (G.errors p.list.5)
@@ -151,7 +151,7 @@ impl<
         × F.ready p.list.4 × G.ready p.list.5 × H.ready p.list.6 × J.ready p.list.7
         × K.ready p.list.8 × L.ready p.list.9 };
 
-    ghost lawful = { λ p. IsParser-Choice10 E.or_refusable (A.lawful p.list.0) (B.lawful p.list.1)
+    ghost lawful = { λ p. IsParser-IsAlt10 E.or_refusable (A.lawful p.list.0) (B.lawful p.list.1)
         (C.lawful p.list.2) (D.lawful p.list.3) (F.lawful p.list.4) (G.lawful p.list.5)
         (H.lawful p.list.6) (J.lawful p.list.7) (K.lawful p.list.8) (L.lawful p.list.9) };
 

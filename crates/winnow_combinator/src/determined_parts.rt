@@ -2,18 +2,18 @@
 
 ghost use Rattle.std.specs.Prelude.{◌≡◌, ℕ, Option};
 ghost use Rattle.winnow_parser.specs.Context.{InContext};
-ghost use Rattle.winnow_parser.specs.Continued.{Continued};
+ghost use Rattle.winnow_parser.specs.FlatMap.{FlatMaps};
 ghost use Rattle.winnow_parser.specs.Determined.{IsDetermined, Shows, Respects};
 ghost use Rattle.winnow_parser.specs.Determined.{AreSameIfAny, AreBothSame};
 ghost use Rattle.winnow_parser.specs.Meanings.{Maps, IsAlways, IsForgotten, Pair};
-ghost use Rattle.winnow_parser.specs.Meanings.{Preceded, Terminated, Chosen, TriesTo};
+ghost use Rattle.winnow_parser.specs.Meanings.{IsPreceded, IsTerminated, VerifyMaps, TriesTo};
 ghost use Rattle.winnow_combinator.specs.Appended.{AppendingIf, needs_some, appends_to_first};
 ghost use Rattle.winnow_combinator.specs.Counts.{Ascending};
 ghost use Rattle.winnow_combinator.specs.DeterminedLists.{AreSameEach, StepsRespect, IsOneStart};
 ghost use Rattle.winnow_combinator.specs.Gathering.{Gathered, Folds};
 ghost use Rattle.winnow_combinator.specs.OneAnswer.{OneAnswer};
-ghost use Rattle.winnow_combinator.specs.Repetition.{Repeated};
-ghost use Rattle.winnow_combinator.specs.Separation.{Separated, Countable};
+ghost use Rattle.winnow_combinator.specs.Repeat.{Repeats};
+ghost use Rattle.winnow_combinator.specs.Separated.{IsSeparated, Countable};
 
 use crate::Gather;
 use winnow_error::{AddContext, ParserError};
@@ -34,18 +34,18 @@ pub fn determined_sequence_law<
 >()
     ensures preceded { (v : A.Output → V) (w : B.Output → W)
         (a : OneAnswer A.means v) (b : OneAnswer B.means w)
-        → IsDetermined (Shows w) (Preceded (A.means a.parser) (B.means b.parser)) }
+        → IsDetermined (Shows w) (IsPreceded (A.means a.parser) (B.means b.parser)) }
     ensures terminated { (v : A.Output → V) (w : B.Output → W)
         (a : OneAnswer A.means v) (b : OneAnswer B.means w)
-        → IsDetermined (Shows v) (Terminated (A.means a.parser) (B.means b.parser)) }
+        → IsDetermined (Shows v) (IsTerminated (A.means a.parser) (B.means b.parser)) }
     ensures delimited { (v : A.Output → V) (w : B.Output → W) (x : C.Output → X)
         (a : OneAnswer A.means v) (b : OneAnswer B.means w) (c : OneAnswer C.means x)
-        → IsDetermined (Shows w) (Preceded (A.means a.parser)
-        (Terminated (B.means b.parser) (C.means c.parser))) }
+        → IsDetermined (Shows w) (IsPreceded (A.means a.parser)
+        (IsTerminated (B.means b.parser) (C.means c.parser))) }
     ensures separated_pair { (v : A.Output → V) (w : B.Output → W) (x : C.Output → X)
         (a : OneAnswer A.means v) (b : OneAnswer B.means w) (c : OneAnswer C.means x)
         → IsDetermined (AreBothSame (Shows v) (Shows x)) (Pair (A.means a.parser)
-        (Preceded (B.means b.parser) (C.means c.parser))) }
+        (IsPreceded (B.means b.parser) (C.means c.parser))) }
 {}
 
 /// The laws of a parser that has one answer: with one value in place of its own, with none, and in
@@ -78,14 +78,14 @@ pub fn determined_choosing_law<
 >()
     ensures verify_map { (v : A.Output → V) (w : O → W) (f : F) (a : OneAnswer A.means v)
         → Respects (Shows v) (AreSameIfAny (Shows w)) (F.post f)
-        → IsDetermined (Shows w) (Chosen (F.post f) (A.means a.parser)) }
+        → IsDetermined (Shows w) (VerifyMaps (F.post f) (A.means a.parser)) }
     ensures try_map { (v : A.Output → V) (w : O → W) (f : G) (a : OneAnswer A.means v)
         → Respects (Shows v) (AreSameIfAny (Shows w)) (TriesTo (G.post f))
-        → IsDetermined (Shows w) (Chosen (TriesTo (G.post f)) (A.means a.parser)) }
+        → IsDetermined (Shows w) (VerifyMaps (TriesTo (G.post f)) (A.means a.parser)) }
     ensures flat_map { (v : A.Output → V) (x : Q.Output → X) (f : H) (a : OneAnswer A.means v)
         → Respects (Shows v) (λ q r. q ≡ r) (H.post f)
         → ((q : Q) → IsDetermined (Shows x) (Q.means q))
-        → IsDetermined (Shows x) (Continued (H.post f) Q.means (A.means a.parser)) }
+        → IsDetermined (Shows x) (FlatMaps (H.post f) Q.means (A.means a.parser)) }
 {}
 
 /// The laws of gathered lists: where the same values make the same, what is gathered of values with
@@ -110,12 +110,12 @@ pub fn determined_gathered_law<
         → IsDetermined (Shows x) (Ascending least greatest
         (Countable (Gathered G.refusable (G.makes g)
         (AppendingIf (appends_to_first least greatest) E.append_refusable
-        (Separated least greatest (S.means s.parser) (A.means a.parser)))))) }
+        (IsSeparated least greatest (S.means s.parser) (A.means a.parser)))))) }
     ensures fold { (v : A.Output → V) (x : O → X) (init : N) (f : F) (a : OneAnswer A.means v)
         (least : ℕ) (greatest : Option ℕ) → IsOneStart (Shows x) (N.post init)
         → StepsRespect (Shows x) (Shows v) (F.post f)
         → IsDetermined (Shows x) (Ascending least greatest
         (Gathered ⊥ (Folds (N.post init) (F.post f))
         (AppendingIf (needs_some least) E.append_refusable
-        (Repeated least greatest (A.means a.parser))))) }
+        (Repeats least greatest (A.means a.parser))))) }
 {}

@@ -4,10 +4,10 @@ ghost use Rattle.winnow_parser.specs.Determined.{IsDetermined, Shows};
 ghost use Rattle.winnow_parser.specs.DeterminedRows.{AreSame3, AreSame4, AreSame5, AreSame6};
 ghost use Rattle.winnow_parser.specs.DeterminedRows.{AreSame7, AreSame8, AreSame9, AreSame10};
 ghost use Rattle.winnow_parser.specs.Rows.{Row3, Row4, Row5, Row6, Row7, Row8, Row9, Row10};
-ghost use Rattle.winnow_parser.specs.Meanings.{Either};
+ghost use Rattle.winnow_parser.specs.Meanings.{IsAlt2};
 ghost use Rattle.winnow_combinator.specs.Appended.{Appending};
-ghost use Rattle.winnow_combinator.specs.Choices.{Choice3, Choice4, Choice5, Choice6, Choice7};
-ghost use Rattle.winnow_combinator.specs.Choices.{Choice8, Choice9, Choice10};
+ghost use Rattle.winnow_combinator.specs.Alt.{IsAlt3, IsAlt4, IsAlt5, IsAlt6, IsAlt7};
+ghost use Rattle.winnow_combinator.specs.Alt.{IsAlt8, IsAlt9, IsAlt10};
 ghost use Rattle.winnow_combinator.specs.OneAnswer.{OneAnswer};
 
 use winnow_error::ParserError;
@@ -107,51 +107,51 @@ pub fn determined_choice_law<
     V,
 >()
     ensures two { (view : A.Output → V) (a : OneAnswer A.means view) (b : OneAnswer B.means view)
-        → IsDetermined (Shows view) (Appending E.append_refusable (Either E.or_refusable
+        → IsDetermined (Shows view) (Appending E.append_refusable (IsAlt2 E.or_refusable
         (A.means a.parser) (B.means b.parser))) }
     ensures three { (view : A.Output → V) (a : OneAnswer A.means view)
         (b : OneAnswer B.means view) (c : OneAnswer C.means view) → IsDetermined (Shows view)
-        (Appending E.append_refusable (Choice3 E.or_refusable (A.means a.parser)
+        (Appending E.append_refusable (IsAlt3 E.or_refusable (A.means a.parser)
         (B.means b.parser) (C.means c.parser))) }
     ensures four { (view : A.Output → V) (a : OneAnswer A.means view) (b : OneAnswer B.means view)
         (c : OneAnswer C.means view) (d : OneAnswer D.means view) → IsDetermined (Shows view)
-        (Appending E.append_refusable (Choice4 E.or_refusable (A.means a.parser)
+        (Appending E.append_refusable (IsAlt4 E.or_refusable (A.means a.parser)
         (B.means b.parser) (C.means c.parser) (D.means d.parser))) }
     ensures five { (view : A.Output → V) (a : OneAnswer A.means view) (b : OneAnswer B.means view)
         (c : OneAnswer C.means view) (d : OneAnswer D.means view) (f : OneAnswer F.means view)
-        → IsDetermined (Shows view) (Appending E.append_refusable (Choice5 E.or_refusable
+        → IsDetermined (Shows view) (Appending E.append_refusable (IsAlt5 E.or_refusable
         (A.means a.parser) (B.means b.parser) (C.means c.parser) (D.means d.parser)
         (F.means f.parser))) }
     ensures six { (view : A.Output → V) (a : OneAnswer A.means view) (b : OneAnswer B.means view)
         (c : OneAnswer C.means view) (d : OneAnswer D.means view) (f : OneAnswer F.means view)
         (g : OneAnswer G.means view) → IsDetermined (Shows view) (Appending E.append_refusable
-        (Choice6 E.or_refusable (A.means a.parser) (B.means b.parser) (C.means c.parser)
+        (IsAlt6 E.or_refusable (A.means a.parser) (B.means b.parser) (C.means c.parser)
         (D.means d.parser) (F.means f.parser) (G.means g.parser))) }
     ensures seven { (view : A.Output → V) (a : OneAnswer A.means view)
         (b : OneAnswer B.means view) (c : OneAnswer C.means view) (d : OneAnswer D.means view)
         (f : OneAnswer F.means view) (g : OneAnswer G.means view) (h : OneAnswer H.means view)
-        → IsDetermined (Shows view) (Appending E.append_refusable (Choice7 E.or_refusable
+        → IsDetermined (Shows view) (Appending E.append_refusable (IsAlt7 E.or_refusable
         (A.means a.parser) (B.means b.parser) (C.means c.parser) (D.means d.parser)
         (F.means f.parser) (G.means g.parser) (H.means h.parser))) }
     ensures eight { (view : A.Output → V) (a : OneAnswer A.means view)
         (b : OneAnswer B.means view) (c : OneAnswer C.means view) (d : OneAnswer D.means view)
         (f : OneAnswer F.means view) (g : OneAnswer G.means view) (h : OneAnswer H.means view)
         (j : OneAnswer J.means view) → IsDetermined (Shows view) (Appending E.append_refusable
-        (Choice8 E.or_refusable (A.means a.parser) (B.means b.parser) (C.means c.parser)
+        (IsAlt8 E.or_refusable (A.means a.parser) (B.means b.parser) (C.means c.parser)
         (D.means d.parser) (F.means f.parser) (G.means g.parser) (H.means h.parser)
         (J.means j.parser))) }
     ensures nine { (view : A.Output → V) (a : OneAnswer A.means view) (b : OneAnswer B.means view)
         (c : OneAnswer C.means view) (d : OneAnswer D.means view) (f : OneAnswer F.means view)
         (g : OneAnswer G.means view) (h : OneAnswer H.means view) (j : OneAnswer J.means view)
         (k : OneAnswer K.means view) → IsDetermined (Shows view) (Appending E.append_refusable
-        (Choice9 E.or_refusable (A.means a.parser) (B.means b.parser) (C.means c.parser)
+        (IsAlt9 E.or_refusable (A.means a.parser) (B.means b.parser) (C.means c.parser)
         (D.means d.parser) (F.means f.parser) (G.means g.parser) (H.means h.parser)
         (J.means j.parser) (K.means k.parser))) }
     ensures ten { (view : A.Output → V) (a : OneAnswer A.means view) (b : OneAnswer B.means view)
         (c : OneAnswer C.means view) (d : OneAnswer D.means view) (f : OneAnswer F.means view)
         (g : OneAnswer G.means view) (h : OneAnswer H.means view) (j : OneAnswer J.means view)
         (k : OneAnswer K.means view) (l : OneAnswer L.means view) → IsDetermined (Shows view)
-        (Appending E.append_refusable (Choice10 E.or_refusable (A.means a.parser)
+        (Appending E.append_refusable (IsAlt10 E.or_refusable (A.means a.parser)
         (B.means b.parser) (C.means c.parser) (D.means d.parser) (F.means f.parser)
         (G.means g.parser) (H.means h.parser) (J.means j.parser) (K.means k.parser)
         (L.means l.parser))) }

@@ -51,3 +51,7 @@ ReadsBytes {S} {R} reads bytes reading = (s : S) (v : R) → reads s v ↔ (IsUt
 abbrev pub ReadsText : {S R : Type 0} → (S → R → Type 0) → (S → List ℕ) → (List ℕ → R → Type 0)
     → Type 0
 ReadsText {S} {R} reads text reading = (s : S) (v : R) → reads s v ↔ reading (text s) v
+
+-- slices of which a view shows the same read as the same value
+abbrev pub ReadsAlike : {S R V : Type 0} → (S → V) → (S → R → Type 0) → Type 0
+ReadsAlike {S} {R} {V} view reads = (s t : S) (x : R) → view s ≡ view t → reads s x → reads t x

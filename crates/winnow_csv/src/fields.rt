@@ -9,14 +9,14 @@ ghost use Rattle.winnow_csv.specs.Meanings.{IsParser-PlainField, IsParser-Quoted
 
 use crate::Chunks;
 use std::alloc::Global;
-use winnow::combinator::{Between, CutOff, cut_err, delimited, repeat};
+use winnow::combinator::{CutErr, Delimited, cut_err, delimited, repeat};
 use winnow::error::ParserError;
 use winnow::stream::{AsBytes, Stream, StreamIsPartial};
-use winnow::token::{OneOf, OtherTokens, one_of, take_till};
+use winnow::token::{OneOf, TakeTill, one_of, take_till};
 use winnow::{Failure, ModalResult, Parser};
 
 // Returns the parser of what stands between two quotes. It cuts where the closing one is missing.
-fn chunk() -> Between<OneOf<u8>, OtherTokens<u8>, CutOff<OneOf<u8>>>
+fn chunk() -> Delimited<OneOf<u8>, TakeTill<u8>, CutErr<OneOf<u8>>>
     ensures { IsChunk result }
 {
     delimited(one_of(b'"'), take_till(0.., b'"'), cut_err(one_of(b'"')))

@@ -35,18 +35,17 @@
 mod asking;
 mod errors;
 mod functions;
-mod layers;
-mod memory;
-mod parts;
+mod parsers;
 mod records;
 mod texts;
 
 pub use asking::ask;
 pub use errors::{Plain, PlainError, PlainFromExternal};
-pub use functions::{FromFn, from_fn};
-pub use layers::{Layer, Layered, nested};
-pub use memory::{MapIn, TryMapIn, map_in, try_map_in};
-pub use parts::{NamedPart, Reads, part};
+pub use functions::{nested, part};
+pub use parsers::from_fn::{FromFn, from_fn};
+pub use parsers::map_in::{MapIn, TryMapIn, map_in, try_map_in};
+pub use parsers::nested::{Layer, Nested};
+pub use parsers::part::{Part, Reads};
 pub use records::{
     PlainRecord, PlainTextRecord, ReadsRecord, ReadsTextRecord, record, text_record,
 };

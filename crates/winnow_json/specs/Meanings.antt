@@ -6,9 +6,9 @@ use Rattle.winnow_stream.specs.Longer.{SlicesStay}
 use Rattle.winnow_count.specs.Reading.{IsSomeExactly, ReadsSigned}
 use Rattle.winnow_parser.specs.Outcome.{Meaning}
 use Rattle.winnow_parser.specs.Laws.{IsParser}
-use Rattle.winnow_parser.specs.Meanings.{Chosen}
-use Rattle.winnow_parser.specs.Parts.{IsParser-Chosen}
-use Rattle.winnow_token.specs.Held.{HeldFront, IsParser-HeldFront}
+use Rattle.winnow_parser.specs.Meanings.{VerifyMaps}
+use Rattle.winnow_parser.specs.Parts.{IsParser-VerifyMaps}
+use Rattle.winnow_token.specs.TakeWhile.{TakesWhile, IsParser-TakesWhile}
 use Rattle.winnow_combinator.specs.Gathering.{Gathered, IsParser-Gathered}
 use Rattle.winnow_json.specs.Numbers.{IsNumber, is_number_byte}
 use Rattle.winnow_json.specs.declared.numbers.Number.{Number}
@@ -30,7 +30,7 @@ IsWritten number = IsNumber number.text.items × IsNumberOf number.text.items nu
 module _ {S T : Type 0} (code : T → ℕ) (is_slice : S → Source T → ℕ → Type 0) (bytes : S → List ℕ) where
   -- the longest run of bytes of a set, if there is one and a fact holds of it
   abbrev pub Run : (ℕ → Bool) → (List ℕ → Type 0) → Meaning S T
-  Run holds fact = Chosen (Keeps (λ slice. fact (bytes slice))) (HeldFront is_slice (λ token. holds (code token)) 1 None)
+  Run holds fact = VerifyMaps (Keeps (λ slice. fact (bytes slice))) (TakesWhile is_slice (λ token. holds (code token)) 1 None)
 
   -- a number
   abbrev pub NumberRun : Meaning Number T
@@ -39,7 +39,7 @@ module _ {S T : Type 0} (code : T → ℕ) (is_slice : S → Source T → ℕ �
   module _ (stay : SlicesStay is_slice) where
     -- `Run` keeps the laws of a parser
     pub IsParser-Run : (holds : ℕ → Bool) (fact : List ℕ → Type 0) → IsParser (Run holds fact)
-    IsParser-Run holds fact = IsParser-Chosen (Keeps (λ slice. fact (bytes slice))) _ (IsParser-HeldFront is_slice stay (λ token. holds (code token)) 1 None)
+    IsParser-Run holds fact = IsParser-VerifyMaps (Keeps (λ slice. fact (bytes slice))) _ (IsParser-TakesWhile is_slice stay (λ token. holds (code token)) 1 None)
 
     -- `NumberRun` keeps the laws of a parser
     pub IsParser-NumberRun : IsParser NumberRun

@@ -9,3 +9,4 @@ pub mod TailLemmas
 pub mod RuleLemmas
 pub mod AnswerLemmas
 pub mod PlaceLemmas
+pub mod CaselessLemmas

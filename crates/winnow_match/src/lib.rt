@@ -5,6 +5,7 @@
 //! form, and neither takes memory.
 #![tactic(auto)]
 
+mod caseless;
 mod compare;
 mod compare_bytes;
 mod compare_text;
@@ -17,6 +18,7 @@ mod laws;
 mod movers;
 mod needles;
 
+pub use caseless::Caseless;
 pub use compare::{Compare, CompareResult};
 pub use find_slice::FindSlice;
 pub use finders::Finders;

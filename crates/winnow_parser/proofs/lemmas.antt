@@ -1,7 +1,9 @@
+pub mod AloneLemmas
 pub mod TakenLemmas
 pub mod DeterminedLemmas
 pub mod ImageLemmas
 pub mod MadeLemmas
+pub mod ReadingLemmas
 pub mod RowLemmas
 pub mod SpanLemmas
 pub mod ToldLemmas

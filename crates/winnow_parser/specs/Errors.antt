@@ -42,9 +42,9 @@ PairErrors {O} {E} {S} {T} means first second partial a s failure = first partia
 
 -- the errors of the first parser, or, after a value of it, those of the parser that is made of the
 -- value
-abbrev pub ContinuedErrors : {O Q E S T : Type 0} → (O → Q → Type 0) → (Q → Errors E S T)
+abbrev pub FlatMapErrors : {O Q E S T : Type 0} → (O → Q → Type 0) → (Q → Errors E S T)
     → Meaning O T → Errors E S T → Errors E S T
-ContinuedErrors {O} {Q} {E} {S} {T} makes errors means first partial a s failure = first partial a s failure
+FlatMapErrors {O} {Q} {E} {S} {T} makes errors means first partial a s failure = first partial a s failure
     ⊎ ((x : O) × ((b : Ahead T) × ((q : Q) × (means partial a (Gives x b) × makes x q × errors q partial b s failure))))
 
 -- the failure is a backtrack whose error is one of these
@@ -71,18 +71,18 @@ FailsLeaving {S = S} stands means errors partial a failure = (s : S)
 -- where both backtrack, their errors are joined; a cut comes from the first, or from the second
 -- after the first backtracked. The error with which the first backtracked is of the stream as it
 -- left it, at the place that its meaning allows
-abbrev pub EitherErrors : {O E S T : Type 0} → (S → Ahead T) → (E → E → E → Type 0) → Meaning O T
+abbrev pub AltErrors2 : {O E S T : Type 0} → (S → Ahead T) → (E → E → E → Type 0) → Meaning O T
     → Errors E S T → Errors E S T → Errors E S T
-EitherErrors {E = E} stands joins means first second partial a s (Backtrack e) =
+AltErrors2 {E = E} stands joins means first second partial a s (Backtrack e) =
     (e1 : E)
     × ((e2 : E)
     × (FailsLeaving stands means first partial a (Backtrack e1) × second partial a s (Backtrack e2)
     × joins e1 e2 e))
-EitherErrors {E = E} stands joins means first second partial a s (Cut e) = first partial a s (Cut e)
+AltErrors2 {E = E} stands joins means first second partial a s (Cut e) = first partial a s (Cut e)
     ⊎ ((e1 : E)
     × (FailsLeaving stands means first partial a (Backtrack e1) × second partial a s (Cut e)))
-EitherErrors stands joins means first second partial a s (Incomplete n) = ⊤
-EitherErrors stands joins means first second partial a s (Refused r) = ⊤
+AltErrors2 stands joins means first second partial a s (Incomplete n) = ⊤
+AltErrors2 stands joins means first second partial a s (Refused r) = ⊤
 
 -- where the inner parser backtracks, this one cuts, with the same error
 abbrev pub CutErrors : {E S T : Type 0} → Errors E S T → Errors E S T
@@ -92,11 +92,11 @@ CutErrors inner partial a s (Incomplete n) = ⊤
 CutErrors inner partial a s (Refused r) = ⊤
 
 -- where the inner parser cuts, this one backtracks, with the same error
-abbrev pub SoftenedErrors : {E S T : Type 0} → Errors E S T → Errors E S T
-SoftenedErrors inner partial a s (Backtrack e) = inner partial a s (Backtrack e) ⊎ inner partial a s (Cut e)
-SoftenedErrors inner partial a s (Cut e) = ⊥
-SoftenedErrors inner partial a s (Incomplete n) = ⊤
-SoftenedErrors inner partial a s (Refused r) = ⊤
+abbrev pub BacktrackErrors : {E S T : Type 0} → Errors E S T → Errors E S T
+BacktrackErrors inner partial a s (Backtrack e) = inner partial a s (Backtrack e) ⊎ inner partial a s (Cut e)
+BacktrackErrors inner partial a s (Cut e) = ⊥
+BacktrackErrors inner partial a s (Incomplete n) = ⊤
+BacktrackErrors inner partial a s (Refused r) = ⊤
 
 -- the errors of the inner parser, each with the context that was added: by the stream as it is left
 -- and a checkpoint of where it stood

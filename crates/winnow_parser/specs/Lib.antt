@@ -1,5 +1,6 @@
 pub mod Outcome
 pub mod Answer
+pub mod Alone
 pub mod Errors
 pub mod Failures
 pub mod FailureText
@@ -9,11 +10,11 @@ pub mod Parts
 pub mod Taken
 pub mod Literal
 pub mod Rows
-pub mod Spanned
+pub mod Span
 pub mod Context
 pub mod Whole
 pub mod ValueTests
 pub mod Following
-pub mod Continued
+pub mod FlatMap
 pub mod Determined
 pub mod DeterminedRows

@@ -16,20 +16,20 @@ use Rattle.winnow_parser.specs.Taken.{after-longer}
 
 -- the slice of the literal, if the input begins with it; where the input is too short to decide,
 -- more is needed if more may follow, and the parser backtracks if nothing may
-abbrev pub Literal : {S T : Type 0} → (S → Source T → ℕ → Type 0) → (Source T → CompareResult)
+abbrev pub IsLiteral : {S T : Type 0} → (S → Source T → ℕ → Type 0) → (Source T → CompareResult)
     → Meaning S T
-Literal is_slice compare partial a (Gives s b) = (n : ℕ) × ((compare a.tokens ≡ compared.Ok n)
+IsLiteral is_slice compare partial a (Gives s b) = (n : ℕ) × ((compare a.tokens ≡ compared.Ok n)
     × IsTrue (is_offset a.tokens n) × is_slice s a.tokens n × (b ≡ after a n))
-Literal is_slice compare partial a (Fails (Backtracks b)) = (b ≡ a)
+IsLiteral is_slice compare partial a (Fails (Backtracks b)) = (b ≡ a)
     × ((compare a.tokens ≡ compared.Error) ⊎ ((compare a.tokens ≡ compared.Incomplete) × (partial ≡ false)))
-Literal is_slice compare partial a (Fails (Cuts b)) = ⊥
-Literal is_slice compare partial a (Fails (Needs n)) =
+IsLiteral is_slice compare partial a (Fails (Cuts b)) = ⊥
+IsLiteral is_slice compare partial a (Fails (Needs n)) =
     (partial ≡ true) × (compare a.tokens ≡ compared.Incomplete) × (n ≡ Unknown)
-Literal is_slice compare partial a (Fails Refuses) = ⊥
+IsLiteral is_slice compare partial a (Fails Refuses) = ⊥
 
 module _ {S T : Type 0} (is_slice : S → Source T → ℕ → Type 0) (stay : SlicesStay is_slice) (compare : Source T → CompareResult) (same : ComparisonsStay compare) where
-  -- a settled answer of `Literal` stays when more input follows
-  literal-stable : IsStable (Literal is_slice compare)
+  -- a settled answer of `IsLiteral` stays when more input follows
+  literal-stable : IsStable (IsLiteral is_slice compare)
   literal-stable more partial a (Gives s b) settled h =
       let n = h.0 in (
         n,
@@ -47,18 +47,18 @@ module _ {S T : Type 0} (is_slice : S → Source T → ℕ → Type 0) (stay : S
   literal-stable more partial a (Fails (Needs n)) settled h = absurd settled
   literal-stable more partial a (Fails Refuses) settled h = absurd settled
 
-  -- `Literal` needs nothing more where nothing more may follow
-  literal-final : IsFinal (Literal is_slice compare)
+  -- `IsLiteral` needs nothing more where nothing more may follow
+  literal-final : IsFinal (IsLiteral is_slice compare)
   literal-final a n h = cc
 
-  -- `Literal` only moves the stream on
-  literal-onward : IsOnward (Literal is_slice compare)
+  -- `IsLiteral` only moves the stream on
+  literal-onward : IsOnward (IsLiteral is_slice compare)
   literal-onward partial a (Gives s b) h = subst (Moves a) (sym h.1.3) (MovesOn-front a.location a.tokens h.0 h.1.1)
   literal-onward partial a (Fails (Backtracks b)) h = Moves-still a b (sym h.0)
   literal-onward partial a (Fails (Cuts b)) h = absurd h
   literal-onward partial a (Fails (Needs n)) h = tt
   literal-onward partial a (Fails Refuses) h = tt
 
-  -- `Literal` keeps the laws of a parser
-  pub IsParser-Literal : IsParser (Literal is_slice compare)
-  IsParser-Literal = record { stable = literal-stable; final = literal-final; onward = literal-onward }
+  -- `IsLiteral` keeps the laws of a parser
+  pub IsParser-IsLiteral : IsParser (IsLiteral is_slice compare)
+  IsParser-IsLiteral = record { stable = literal-stable; final = literal-final; onward = literal-onward }

@@ -43,85 +43,85 @@ abbrev pub First : {O P : Type 0} → O × P → O → Type 0
 First both x = both.0 ≡ x
 
 -- first one parser, then the other: the second value
-abbrev pub Preceded : {O P T : Type 0} → Meaning O T → Meaning P T → Meaning P T
-Preceded first second = Maps Second (Pair first second)
+abbrev pub IsPreceded : {O P T : Type 0} → Meaning O T → Meaning P T → Meaning P T
+IsPreceded first second = Maps Second (Pair first second)
 
 -- first one parser, then the other: the first value
-abbrev pub Terminated : {O P T : Type 0} → Meaning O T → Meaning P T → Meaning O T
-Terminated first second = Maps First (Pair first second)
+abbrev pub IsTerminated : {O P T : Type 0} → Meaning O T → Meaning P T → Meaning O T
+IsTerminated first second = Maps First (Pair first second)
 
 -- the first parser, or, where it backtracks, the second from the same place; where both backtrack,
 -- memory may be refused while their errors are joined
-abbrev pub Either : {O T : Type 0} → Type 0 → Meaning O T → Meaning O T → Meaning O T
-Either {O} {T} refusable first second partial a (Gives x b) = first partial a (Gives x b)
+abbrev pub IsAlt2 : {O T : Type 0} → Type 0 → Meaning O T → Meaning O T → Meaning O T
+IsAlt2 {O} {T} refusable first second partial a (Gives x b) = first partial a (Gives x b)
     ⊎ ((c : Ahead T) × (first partial a (Fails (Backtracks c)) × second partial a (Gives x b)))
-Either {O} {T} refusable first second partial a (Fails (Backtracks b)) =
+IsAlt2 {O} {T} refusable first second partial a (Fails (Backtracks b)) =
     (c : Ahead T)
     × (first partial a (Fails (Backtracks c)) × second partial a (Fails (Backtracks b)))
-Either {O} {T} refusable first second partial a (Fails (Cuts b)) = first partial a (Fails (Cuts b))
+IsAlt2 {O} {T} refusable first second partial a (Fails (Cuts b)) = first partial a (Fails (Cuts b))
     ⊎ ((c : Ahead T) × (first partial a (Fails (Backtracks c)) × second partial a (Fails (Cuts b))))
-Either {O} {T} refusable first second partial a (Fails (Needs n)) = first partial a (Fails (Needs n))
+IsAlt2 {O} {T} refusable first second partial a (Fails (Needs n)) = first partial a (Fails (Needs n))
     ⊎ ((c : Ahead T) × (first partial a (Fails (Backtracks c)) × second partial a (Fails (Needs n))))
-Either {O} {T} refusable first second partial a (Fails Refuses) = first partial a (Fails Refuses)
+IsAlt2 {O} {T} refusable first second partial a (Fails Refuses) = first partial a (Fails Refuses)
     ⊎ ((c : Ahead T) × (first partial a (Fails (Backtracks c)) × (second partial a (Fails Refuses) ⊎ refusable)))
 
 -- the value, or none where the inner parser backtracks, and then nothing is taken
-abbrev pub Optional : {O T : Type 0} → Meaning O T → Meaning (Option O) T
-Optional inner partial a (Gives (Some x) b) = inner partial a (Gives x b)
-Optional {O} {T} inner partial a (Gives None b) = (a ≡ b) × ((c : Ahead T) × inner partial a (Fails (Backtracks c)))
-Optional inner partial a (Fails (Backtracks b)) = ⊥
-Optional inner partial a (Fails (Cuts b)) = inner partial a (Fails (Cuts b))
-Optional inner partial a (Fails (Needs n)) = inner partial a (Fails (Needs n))
-Optional inner partial a (Fails Refuses) = inner partial a (Fails Refuses)
+abbrev pub IsOpt : {O T : Type 0} → Meaning O T → Meaning (Option O) T
+IsOpt inner partial a (Gives (Some x) b) = inner partial a (Gives x b)
+IsOpt {O} {T} inner partial a (Gives None b) = (a ≡ b) × ((c : Ahead T) × inner partial a (Fails (Backtracks c)))
+IsOpt inner partial a (Fails (Backtracks b)) = ⊥
+IsOpt inner partial a (Fails (Cuts b)) = inner partial a (Fails (Cuts b))
+IsOpt inner partial a (Fails (Needs n)) = inner partial a (Fails (Needs n))
+IsOpt inner partial a (Fails Refuses) = inner partial a (Fails Refuses)
 
 -- the value, and nothing is taken
-abbrev pub LookedAt : {O T : Type 0} → Meaning O T → Meaning O T
-LookedAt {O} {T} inner partial a (Gives x b) = (a ≡ b) × ((c : Ahead T) × inner partial a (Gives x c))
-LookedAt inner partial a (Fails f) = inner partial a (Fails f)
+abbrev pub Peeks : {O T : Type 0} → Meaning O T → Meaning O T
+Peeks {O} {T} inner partial a (Gives x b) = (a ≡ b) × ((c : Ahead T) × inner partial a (Gives x c))
+Peeks inner partial a (Fails f) = inner partial a (Fails f)
 
 -- succeeds where the inner parser backtracks, and takes nothing; backtracks where the inner parser
 -- gives a value
-abbrev pub Negated : {O T : Type 0} → Meaning O T → Meaning (Unit {0}) T
-Negated {O} {T} inner partial a (Gives u b) = (a ≡ b) × ((c : Ahead T) × inner partial a (Fails (Backtracks c)))
-Negated {O} {T} inner partial a (Fails (Backtracks b)) = (a ≡ b) × ((x : O) × ((c : Ahead T) × inner partial a (Gives x c)))
-Negated inner partial a (Fails (Cuts b)) = inner partial a (Fails (Cuts b))
-Negated inner partial a (Fails (Needs n)) = inner partial a (Fails (Needs n))
-Negated inner partial a (Fails Refuses) = inner partial a (Fails Refuses)
+abbrev pub IsNot : {O T : Type 0} → Meaning O T → Meaning (Unit {0}) T
+IsNot {O} {T} inner partial a (Gives u b) = (a ≡ b) × ((c : Ahead T) × inner partial a (Fails (Backtracks c)))
+IsNot {O} {T} inner partial a (Fails (Backtracks b)) = (a ≡ b) × ((x : O) × ((c : Ahead T) × inner partial a (Gives x c)))
+IsNot inner partial a (Fails (Cuts b)) = inner partial a (Fails (Cuts b))
+IsNot inner partial a (Fails (Needs n)) = inner partial a (Fails (Needs n))
+IsNot inner partial a (Fails Refuses) = inner partial a (Fails Refuses)
 
 -- where the inner parser backtracks, this one cuts
-abbrev pub CutOff : {O T : Type 0} → Meaning O T → Meaning O T
-CutOff inner partial a (Gives x b) = inner partial a (Gives x b)
-CutOff inner partial a (Fails (Backtracks b)) = ⊥
-CutOff inner partial a (Fails (Cuts b)) = inner partial a (Fails (Backtracks b)) ⊎ inner partial a (Fails (Cuts b))
-CutOff inner partial a (Fails (Needs n)) = inner partial a (Fails (Needs n))
-CutOff inner partial a (Fails Refuses) = inner partial a (Fails Refuses)
+abbrev pub CutsErr : {O T : Type 0} → Meaning O T → Meaning O T
+CutsErr inner partial a (Gives x b) = inner partial a (Gives x b)
+CutsErr inner partial a (Fails (Backtracks b)) = ⊥
+CutsErr inner partial a (Fails (Cuts b)) = inner partial a (Fails (Backtracks b)) ⊎ inner partial a (Fails (Cuts b))
+CutsErr inner partial a (Fails (Needs n)) = inner partial a (Fails (Needs n))
+CutsErr inner partial a (Fails Refuses) = inner partial a (Fails Refuses)
 
 -- where the inner parser cuts, this one backtracks
-abbrev pub Softened : {O T : Type 0} → Meaning O T → Meaning O T
-Softened inner partial a (Gives x b) = inner partial a (Gives x b)
-Softened inner partial a (Fails (Backtracks b)) = inner partial a (Fails (Backtracks b)) ⊎ inner partial a (Fails (Cuts b))
-Softened inner partial a (Fails (Cuts b)) = ⊥
-Softened inner partial a (Fails (Needs n)) = inner partial a (Fails (Needs n))
-Softened inner partial a (Fails Refuses) = inner partial a (Fails Refuses)
+abbrev pub BacktracksErr : {O T : Type 0} → Meaning O T → Meaning O T
+BacktracksErr inner partial a (Gives x b) = inner partial a (Gives x b)
+BacktracksErr inner partial a (Fails (Backtracks b)) = inner partial a (Fails (Backtracks b)) ⊎ inner partial a (Fails (Cuts b))
+BacktracksErr inner partial a (Fails (Cuts b)) = ⊥
+BacktracksErr inner partial a (Fails (Needs n)) = inner partial a (Fails (Needs n))
+BacktracksErr inner partial a (Fails Refuses) = inner partial a (Fails Refuses)
 
 -- the value, if a test holds of it; if not, the parser backtracks, from where it began
-abbrev pub Verified : {O T : Type 0} → (O → Bool → Type 0) → Meaning O T → Meaning O T
-Verified answers inner partial a (Gives x b) = inner partial a (Gives x b) × answers x true
-Verified {O} {T} answers inner partial a (Fails (Backtracks b)) = inner partial a (Fails (Backtracks b))
+abbrev pub Verifies : {O T : Type 0} → (O → Bool → Type 0) → Meaning O T → Meaning O T
+Verifies answers inner partial a (Gives x b) = inner partial a (Gives x b) × answers x true
+Verifies {O} {T} answers inner partial a (Fails (Backtracks b)) = inner partial a (Fails (Backtracks b))
     ⊎ ((a ≡ b) × ((x : O) × ((c : Ahead T) × (inner partial a (Gives x c) × answers x false))))
-Verified answers inner partial a (Fails (Cuts b)) = inner partial a (Fails (Cuts b))
-Verified answers inner partial a (Fails (Needs n)) = inner partial a (Fails (Needs n))
-Verified answers inner partial a (Fails Refuses) = inner partial a (Fails Refuses)
+Verifies answers inner partial a (Fails (Cuts b)) = inner partial a (Fails (Cuts b))
+Verifies answers inner partial a (Fails (Needs n)) = inner partial a (Fails (Needs n))
+Verifies answers inner partial a (Fails Refuses) = inner partial a (Fails Refuses)
 
 -- what a relation gives for the value, if it gives something; if not, the parser backtracks, from
 -- where it began
-abbrev pub Chosen : {O P T : Type 0} → (O → Option P → Type 0) → Meaning O T → Meaning P T
-Chosen {O} gives inner partial a (Gives y b) = (x : O) × (gives x (Some y) × inner partial a (Gives x b))
-Chosen {O} {P} {T} gives inner partial a (Fails (Backtracks b)) = inner partial a (Fails (Backtracks b))
+abbrev pub VerifyMaps : {O P T : Type 0} → (O → Option P → Type 0) → Meaning O T → Meaning P T
+VerifyMaps {O} gives inner partial a (Gives y b) = (x : O) × (gives x (Some y) × inner partial a (Gives x b))
+VerifyMaps {O} {P} {T} gives inner partial a (Fails (Backtracks b)) = inner partial a (Fails (Backtracks b))
     ⊎ ((a ≡ b) × ((x : O) × ((c : Ahead T) × (inner partial a (Gives x c) × gives x None))))
-Chosen gives inner partial a (Fails (Cuts b)) = inner partial a (Fails (Cuts b))
-Chosen gives inner partial a (Fails (Needs n)) = inner partial a (Fails (Needs n))
-Chosen gives inner partial a (Fails Refuses) = inner partial a (Fails Refuses)
+VerifyMaps gives inner partial a (Fails (Cuts b)) = inner partial a (Fails (Cuts b))
+VerifyMaps gives inner partial a (Fails (Needs n)) = inner partial a (Fails (Needs n))
+VerifyMaps gives inner partial a (Fails Refuses) = inner partial a (Fails Refuses)
 
 -- the function returns this value, or fails and there is none
 abbrev pub TriesTo : {O P E : Type 0} → (O → Result P E → Type 0) → O → Option P → Type 0

@@ -4,7 +4,7 @@ use Rattle.std.proofs.Common.{ap, subst, inl, inr}
 use Rattle.winnow_stream.proofs.lemmas.MovingLemmas.{MovesOn-still, MovesOn-on}
 use Rattle.winnow_parser.specs.Outcome.{Ahead, Backtracks, Cuts, Needs, Refuses, Outcome, Gives, Fails, Meaning, Moves}
 use Rattle.winnow_parser.specs.Laws.{longer, IsStable, IsFinal, LeavesAfter, IsOnward, IsParser}
-use Rattle.winnow_parser.specs.Meanings.{Returns, Maps, Pair, Second, First, Preceded, Terminated, Either, Optional, LookedAt, Negated, CutOff, Softened, Verified, Chosen}
+use Rattle.winnow_parser.specs.Meanings.{Returns, Maps, Pair, Second, First, IsPreceded, IsTerminated, IsAlt2, IsOpt, Peeks, IsNot, CutsErr, BacktracksErr, Verifies, VerifyMaps}
 
 module _ {T : Type 0} where
   -- a stream that stays moved on by nothing
@@ -85,19 +85,19 @@ module _ {O P T : Type 0} (first : Meaning O T) (second : Meaning P T) (p : IsPa
   pub IsParser-Pair : IsParser (Pair first second)
   IsParser-Pair = record { stable = pair-stable; final = pair-final; onward = pair-onward }
 
-  -- `Preceded` keeps the laws of a parser
-  pub IsParser-Preceded : IsParser (Preceded first second)
-  IsParser-Preceded = IsParser-Maps Second (Pair first second) IsParser-Pair
+  -- `IsPreceded` keeps the laws of a parser
+  pub IsParser-IsPreceded : IsParser (IsPreceded first second)
+  IsParser-IsPreceded = IsParser-Maps Second (Pair first second) IsParser-Pair
 
-  -- `Terminated` keeps the laws of a parser
-  pub IsParser-Terminated : IsParser (Terminated first second)
-  IsParser-Terminated = IsParser-Maps First (Pair first second) IsParser-Pair
+  -- `IsTerminated` keeps the laws of a parser
+  pub IsParser-IsTerminated : IsParser (IsTerminated first second)
+  IsParser-IsTerminated = IsParser-Maps First (Pair first second) IsParser-Pair
 
--- ---- `Either`
+-- ---- `IsAlt2`
 
 module _ {O T : Type 0} (refusable : Type 0) (first second : Meaning O T) (p : IsParser first) (q : IsParser second) where
-  -- a settled answer of `Either` stays when more input follows
-  either-stable : IsStable (Either refusable first second)
+  -- a settled answer of `IsAlt2` stays when more input follows
+  either-stable : IsStable (IsAlt2 refusable first second)
   either-stable more partial a (Gives x b) s (inl h) = inl (p.stable more partial a (Gives x b) tt h)
   either-stable more partial a (Gives x b) s (inr h) =
       inr (longer more h.0, (p.stable more partial a (Fails (Backtracks h.0)) tt h.1.0, q.stable more partial a (Gives x b) tt h.1.1))
@@ -109,13 +109,13 @@ module _ {O T : Type 0} (refusable : Type 0) (first second : Meaning O T) (p : I
   either-stable more partial a (Fails (Needs n)) s h = absurd s
   either-stable more partial a (Fails Refuses) s h = absurd s
 
-  -- `Either` needs nothing more where nothing more may follow
-  either-final : IsFinal (Either refusable first second)
+  -- `IsAlt2` needs nothing more where nothing more may follow
+  either-final : IsFinal (IsAlt2 refusable first second)
   either-final a n (inl h) = p.final a n h
   either-final a n (inr h) = q.final a n h.1.1
 
-  -- `Either` only moves the stream on
-  either-onward : IsOnward (Either refusable first second)
+  -- `IsAlt2` only moves the stream on
+  either-onward : IsOnward (IsAlt2 refusable first second)
   either-onward partial a (Gives x b) (inl h) = p.onward partial a (Gives x b) h
   either-onward partial a (Gives x b) (inr h) = q.onward partial a (Gives x b) h.1.1
   either-onward partial a (Fails (Backtracks b)) h = q.onward partial a (Fails (Backtracks b)) h.1.1
@@ -124,15 +124,15 @@ module _ {O T : Type 0} (refusable : Type 0) (first second : Meaning O T) (p : I
   either-onward partial a (Fails (Needs n)) h = tt
   either-onward partial a (Fails Refuses) h = tt
 
-  -- `Either` keeps the laws of a parser
-  pub IsParser-Either : IsParser (Either refusable first second)
-  IsParser-Either = record { stable = either-stable; final = either-final; onward = either-onward }
+  -- `IsAlt2` keeps the laws of a parser
+  pub IsParser-IsAlt2 : IsParser (IsAlt2 refusable first second)
+  IsParser-IsAlt2 = record { stable = either-stable; final = either-final; onward = either-onward }
 
 module _ {O T : Type 0} (inner : Meaning O T) (p : IsParser inner) where
-  -- ---- `Optional`
+  -- ---- `IsOpt`
 
-  -- a settled answer of `Optional` stays when more input follows
-  optional-stable : IsStable (Optional inner)
+  -- a settled answer of `IsOpt` stays when more input follows
+  optional-stable : IsStable (IsOpt inner)
   optional-stable more partial a (Gives (Some x) b) s h = p.stable more partial a (Gives x b) tt h
   optional-stable more partial a (Gives None b) s h = (ap (longer more) h.0, (longer more h.1.0, p.stable more partial a (Fails (Backtracks h.1.0)) tt h.1.1))
   optional-stable more partial a (Fails (Backtracks b)) s h = absurd h
@@ -140,8 +140,8 @@ module _ {O T : Type 0} (inner : Meaning O T) (p : IsParser inner) where
   optional-stable more partial a (Fails (Needs n)) s h = absurd s
   optional-stable more partial a (Fails Refuses) s h = absurd s
 
-  -- `Optional` only moves the stream on
-  optional-onward : IsOnward (Optional inner)
+  -- `IsOpt` only moves the stream on
+  optional-onward : IsOnward (IsOpt inner)
   optional-onward partial a (Gives (Some x) b) h = p.onward partial a (Gives x b) h
   optional-onward partial a (Gives None b) h = Moves-still a b h.0
   optional-onward partial a (Fails (Backtracks b)) h = absurd h
@@ -149,30 +149,30 @@ module _ {O T : Type 0} (inner : Meaning O T) (p : IsParser inner) where
   optional-onward partial a (Fails (Needs n)) h = tt
   optional-onward partial a (Fails Refuses) h = tt
 
-  -- `Optional` keeps the laws of a parser
-  pub IsParser-Optional : IsParser (Optional inner)
-  IsParser-Optional = record { stable = optional-stable; final = p.final; onward = optional-onward }
+  -- `IsOpt` keeps the laws of a parser
+  pub IsParser-IsOpt : IsParser (IsOpt inner)
+  IsParser-IsOpt = record { stable = optional-stable; final = p.final; onward = optional-onward }
 
-  -- ---- `LookedAt`
+  -- ---- `Peeks`
 
-  -- a settled answer of `LookedAt` stays when more input follows
-  looked-stable : IsStable (LookedAt inner)
+  -- a settled answer of `Peeks` stays when more input follows
+  looked-stable : IsStable (Peeks inner)
   looked-stable more partial a (Gives x b) s h = (ap (longer more) h.0, (longer more h.1.0, p.stable more partial a (Gives x h.1.0) tt h.1.1))
   looked-stable more partial a (Fails f) s h = p.stable more partial a (Fails f) s h
 
-  -- `LookedAt` only moves the stream on
-  looked-onward : IsOnward (LookedAt inner)
+  -- `Peeks` only moves the stream on
+  looked-onward : IsOnward (Peeks inner)
   looked-onward partial a (Gives x b) h = Moves-still a b h.0
   looked-onward partial a (Fails f) h = p.onward partial a (Fails f) h
 
-  -- `LookedAt` keeps the laws of a parser
-  pub IsParser-LookedAt : IsParser (LookedAt inner)
-  IsParser-LookedAt = record { stable = looked-stable; final = p.final; onward = looked-onward }
+  -- `Peeks` keeps the laws of a parser
+  pub IsParser-Peeks : IsParser (Peeks inner)
+  IsParser-Peeks = record { stable = looked-stable; final = p.final; onward = looked-onward }
 
-  -- ---- `Negated`
+  -- ---- `IsNot`
 
-  -- a settled answer of `Negated` stays when more input follows
-  negated-stable : IsStable (Negated inner)
+  -- a settled answer of `IsNot` stays when more input follows
+  negated-stable : IsStable (IsNot inner)
   negated-stable more partial a (Gives u b) s h = (ap (longer more) h.0, (longer more h.1.0, p.stable more partial a (Fails (Backtracks h.1.0)) tt h.1.1))
   negated-stable more partial a (Fails (Backtracks b)) s h =
       (ap (longer more) h.0, (h.1.0, (longer more h.1.1.0, p.stable more partial a (Gives h.1.0 h.1.1.0) tt h.1.1.1)))
@@ -180,22 +180,22 @@ module _ {O T : Type 0} (inner : Meaning O T) (p : IsParser inner) where
   negated-stable more partial a (Fails (Needs n)) s h = absurd s
   negated-stable more partial a (Fails Refuses) s h = absurd s
 
-  -- `Negated` only moves the stream on
-  negated-onward : IsOnward (Negated inner)
+  -- `IsNot` only moves the stream on
+  negated-onward : IsOnward (IsNot inner)
   negated-onward partial a (Gives u b) h = Moves-still a b h.0
   negated-onward partial a (Fails (Backtracks b)) h = Moves-still a b h.0
   negated-onward partial a (Fails (Cuts b)) h = p.onward partial a (Fails (Cuts b)) h
   negated-onward partial a (Fails (Needs n)) h = tt
   negated-onward partial a (Fails Refuses) h = tt
 
-  -- `Negated` keeps the laws of a parser
-  pub IsParser-Negated : IsParser (Negated inner)
-  IsParser-Negated = record { stable = negated-stable; final = p.final; onward = negated-onward }
+  -- `IsNot` keeps the laws of a parser
+  pub IsParser-IsNot : IsParser (IsNot inner)
+  IsParser-IsNot = record { stable = negated-stable; final = p.final; onward = negated-onward }
 
-  -- ---- `CutOff`
+  -- ---- `CutsErr`
 
-  -- a settled answer of `CutOff` stays when more input follows
-  cut-stable : IsStable (CutOff inner)
+  -- a settled answer of `CutsErr` stays when more input follows
+  cut-stable : IsStable (CutsErr inner)
   cut-stable more partial a (Gives x b) s h = p.stable more partial a (Gives x b) tt h
   cut-stable more partial a (Fails (Backtracks b)) s h = absurd h
   cut-stable more partial a (Fails (Cuts b)) s (inl h) = inl (p.stable more partial a (Fails (Backtracks b)) tt h)
@@ -203,8 +203,8 @@ module _ {O T : Type 0} (inner : Meaning O T) (p : IsParser inner) where
   cut-stable more partial a (Fails (Needs n)) s h = absurd s
   cut-stable more partial a (Fails Refuses) s h = absurd s
 
-  -- `CutOff` only moves the stream on
-  cut-onward : IsOnward (CutOff inner)
+  -- `CutsErr` only moves the stream on
+  cut-onward : IsOnward (CutsErr inner)
   cut-onward partial a (Gives x b) h = p.onward partial a (Gives x b) h
   cut-onward partial a (Fails (Backtracks b)) h = absurd h
   cut-onward partial a (Fails (Cuts b)) (inl h) = p.onward partial a (Fails (Backtracks b)) h
@@ -212,14 +212,14 @@ module _ {O T : Type 0} (inner : Meaning O T) (p : IsParser inner) where
   cut-onward partial a (Fails (Needs n)) h = tt
   cut-onward partial a (Fails Refuses) h = tt
 
-  -- `CutOff` keeps the laws of a parser
-  pub IsParser-CutOff : IsParser (CutOff inner)
-  IsParser-CutOff = record { stable = cut-stable; final = p.final; onward = cut-onward }
+  -- `CutsErr` keeps the laws of a parser
+  pub IsParser-CutsErr : IsParser (CutsErr inner)
+  IsParser-CutsErr = record { stable = cut-stable; final = p.final; onward = cut-onward }
 
-  -- ---- `Softened`
+  -- ---- `BacktracksErr`
 
-  -- a settled answer of `Softened` stays when more input follows
-  softened-stable : IsStable (Softened inner)
+  -- a settled answer of `BacktracksErr` stays when more input follows
+  softened-stable : IsStable (BacktracksErr inner)
   softened-stable more partial a (Gives x b) s h = p.stable more partial a (Gives x b) tt h
   softened-stable more partial a (Fails (Backtracks b)) s (inl h) = inl (p.stable more partial a (Fails (Backtracks b)) tt h)
   softened-stable more partial a (Fails (Backtracks b)) s (inr h) = inr (p.stable more partial a (Fails (Cuts b)) tt h)
@@ -227,8 +227,8 @@ module _ {O T : Type 0} (inner : Meaning O T) (p : IsParser inner) where
   softened-stable more partial a (Fails (Needs n)) s h = absurd s
   softened-stable more partial a (Fails Refuses) s h = absurd s
 
-  -- `Softened` only moves the stream on
-  softened-onward : IsOnward (Softened inner)
+  -- `BacktracksErr` only moves the stream on
+  softened-onward : IsOnward (BacktracksErr inner)
   softened-onward partial a (Gives x b) h = p.onward partial a (Gives x b) h
   softened-onward partial a (Fails (Backtracks b)) (inl h) = p.onward partial a (Fails (Backtracks b)) h
   softened-onward partial a (Fails (Backtracks b)) (inr h) = p.onward partial a (Fails (Cuts b)) h
@@ -236,15 +236,15 @@ module _ {O T : Type 0} (inner : Meaning O T) (p : IsParser inner) where
   softened-onward partial a (Fails (Needs n)) h = tt
   softened-onward partial a (Fails Refuses) h = tt
 
-  -- `Softened` keeps the laws of a parser
-  pub IsParser-Softened : IsParser (Softened inner)
-  IsParser-Softened = record { stable = softened-stable; final = p.final; onward = softened-onward }
+  -- `BacktracksErr` keeps the laws of a parser
+  pub IsParser-BacktracksErr : IsParser (BacktracksErr inner)
+  IsParser-BacktracksErr = record { stable = softened-stable; final = p.final; onward = softened-onward }
 
--- ---- `Verified`
+-- ---- `Verifies`
 
 module _ {O T : Type 0} (answers : O → Bool → Type 0) (inner : Meaning O T) (p : IsParser inner) where
-  -- a settled answer of `Verified` stays when more input follows
-  verified-stable : IsStable (Verified answers inner)
+  -- a settled answer of `Verifies` stays when more input follows
+  verified-stable : IsStable (Verifies answers inner)
   verified-stable more partial a (Gives x b) s h = (p.stable more partial a (Gives x b) tt h.0, h.1)
   verified-stable more partial a (Fails (Backtracks b)) s (inl h) = inl (p.stable more partial a (Fails (Backtracks b)) tt h)
   verified-stable more partial a (Fails (Backtracks b)) s (inr h) =
@@ -253,8 +253,8 @@ module _ {O T : Type 0} (answers : O → Bool → Type 0) (inner : Meaning O T) 
   verified-stable more partial a (Fails (Needs n)) s h = absurd s
   verified-stable more partial a (Fails Refuses) s h = absurd s
 
-  -- `Verified` only moves the stream on
-  verified-onward : IsOnward (Verified answers inner)
+  -- `Verifies` only moves the stream on
+  verified-onward : IsOnward (Verifies answers inner)
   verified-onward partial a (Gives x b) h = p.onward partial a (Gives x b) h.0
   verified-onward partial a (Fails (Backtracks b)) (inl h) = p.onward partial a (Fails (Backtracks b)) h
   verified-onward partial a (Fails (Backtracks b)) (inr h) = Moves-still a b h.0
@@ -262,15 +262,15 @@ module _ {O T : Type 0} (answers : O → Bool → Type 0) (inner : Meaning O T) 
   verified-onward partial a (Fails (Needs n)) h = tt
   verified-onward partial a (Fails Refuses) h = tt
 
-  -- `Verified` keeps the laws of a parser
-  pub IsParser-Verified : IsParser (Verified answers inner)
-  IsParser-Verified = record { stable = verified-stable; final = p.final; onward = verified-onward }
+  -- `Verifies` keeps the laws of a parser
+  pub IsParser-Verifies : IsParser (Verifies answers inner)
+  IsParser-Verifies = record { stable = verified-stable; final = p.final; onward = verified-onward }
 
--- ---- `Chosen`
+-- ---- `VerifyMaps`
 
 module _ {O P T : Type 0} (gives : O → Option P → Type 0) (inner : Meaning O T) (p : IsParser inner) where
-  -- a settled answer of `Chosen` stays when more input follows
-  chosen-stable : IsStable (Chosen gives inner)
+  -- a settled answer of `VerifyMaps` stays when more input follows
+  chosen-stable : IsStable (VerifyMaps gives inner)
   chosen-stable more partial a (Gives y b) s h = (h.0, (h.1.0, p.stable more partial a (Gives h.0 b) tt h.1.1))
   chosen-stable more partial a (Fails (Backtracks b)) s (inl h) = inl (p.stable more partial a (Fails (Backtracks b)) tt h)
   chosen-stable more partial a (Fails (Backtracks b)) s (inr h) =
@@ -279,8 +279,8 @@ module _ {O P T : Type 0} (gives : O → Option P → Type 0) (inner : Meaning O
   chosen-stable more partial a (Fails (Needs n)) s h = absurd s
   chosen-stable more partial a (Fails Refuses) s h = absurd s
 
-  -- `Chosen` only moves the stream on
-  chosen-onward : IsOnward (Chosen gives inner)
+  -- `VerifyMaps` only moves the stream on
+  chosen-onward : IsOnward (VerifyMaps gives inner)
   chosen-onward partial a (Gives y b) h = p.onward partial a (Gives h.0 b) h.1.1
   chosen-onward partial a (Fails (Backtracks b)) (inl h) = p.onward partial a (Fails (Backtracks b)) h
   chosen-onward partial a (Fails (Backtracks b)) (inr h) = Moves-still a b h.0
@@ -288,6 +288,6 @@ module _ {O P T : Type 0} (gives : O → Option P → Type 0) (inner : Meaning O
   chosen-onward partial a (Fails (Needs n)) h = tt
   chosen-onward partial a (Fails Refuses) h = tt
 
-  -- `Chosen` keeps the laws of a parser
-  pub IsParser-Chosen : IsParser (Chosen gives inner)
-  IsParser-Chosen = record { stable = chosen-stable; final = p.final; onward = chosen-onward }
+  -- `VerifyMaps` keeps the laws of a parser
+  pub IsParser-VerifyMaps : IsParser (VerifyMaps gives inner)
+  IsParser-VerifyMaps = record { stable = chosen-stable; final = p.final; onward = chosen-onward }

@@ -1,14 +1,16 @@
 //! Laws that the parsers made of deterministic parsers are deterministic.
 
 ghost use Rattle.std.specs.Prelude.{◌≡◌, ⊤};
-ghost use Rattle.winnow_parser.specs.Meanings.{Maps, Pair, Either, Optional, LookedAt};
-ghost use Rattle.winnow_parser.specs.Meanings.{Negated, CutOff, Softened, Verified};
+ghost use Rattle.winnow_count.specs.Reading.{IsSomeExactly, ReadsAlike};
+ghost use Rattle.winnow_parser.specs.Meanings.{Maps, Pair, IsAlt2, IsOpt, Peeks};
+ghost use Rattle.winnow_parser.specs.Meanings.{IsNot, CutsErr, BacktracksErr, Verifies, VerifyMaps};
 ghost use Rattle.winnow_parser.specs.Taken.{Taken, WithTaken};
-ghost use Rattle.winnow_parser.specs.Spanned.{Spanned, WithSpan};
+ghost use Rattle.winnow_parser.specs.Span.{Spans, HasSpan};
 ghost use Rattle.winnow_parser.specs.Determined.{IsDetermined, Shows, AreBothSame};
 ghost use Rattle.winnow_parser.specs.Determined.{AreSameIfAny, Respects, SlicesRespect};
 
 use crate::{Parser, ValueTest};
+use winnow_count::ParseSlice;
 use winnow_error::ParserError;
 use winnow_stream::StreamIsPartial;
 
@@ -29,26 +31,26 @@ pub fn determined_pair_law<
         → IsDetermined (AreBothSame (Shows view) (Shows other)) (Pair (A.means a) (B.means b)) }
     ensures either { (view : A.Output → V) (a : A) (c : C)
         → IsDetermined (Shows view) (A.means a) → IsDetermined (Shows view) (C.means c)
-        → IsDetermined (Shows view) (Either E.or_refusable (A.means a) (C.means c)) }
+        → IsDetermined (Shows view) (IsAlt2 E.or_refusable (A.means a) (C.means c)) }
 {}
 
 /// The laws of a parser that has one answer: what a combinator makes of it has one answer too. It
 /// does nothing when called: its contract is the law.
 pub fn determined_law<I: StreamIsPartial, E, A: Parser<I, E>, V>()
     ensures optional { (view : A.Output → V) (a : A) → IsDetermined (Shows view) (A.means a)
-        → IsDetermined (AreSameIfAny (Shows view)) (Optional (A.means a)) }
+        → IsDetermined (AreSameIfAny (Shows view)) (IsOpt (A.means a)) }
     ensures looked_at { (view : A.Output → V) (a : A) → IsDetermined (Shows view) (A.means a)
-        → IsDetermined (Shows view) (LookedAt (A.means a)) }
+        → IsDetermined (Shows view) (Peeks (A.means a)) }
     ensures negated { (view : A.Output → V) (a : A) → IsDetermined (Shows view) (A.means a)
-        → IsDetermined (λ _ _. ⊤) (Negated (A.means a)) }
+        → IsDetermined (λ _ _. ⊤) (IsNot (A.means a)) }
     ensures cut_off { (view : A.Output → V) (a : A) → IsDetermined (Shows view) (A.means a)
-        → IsDetermined (Shows view) (CutOff (A.means a)) }
+        → IsDetermined (Shows view) (CutsErr (A.means a)) }
     ensures softened { (view : A.Output → V) (a : A) → IsDetermined (Shows view) (A.means a)
-        → IsDetermined (Shows view) (Softened (A.means a)) }
+        → IsDetermined (Shows view) (BacktracksErr (A.means a)) }
     ensures spanned { (view : A.Output → V) (a : A) → IsDetermined (Shows view) (A.means a)
-        → IsDetermined (λ x y. x ≡ y) (Spanned (A.means a)) }
+        → IsDetermined (λ x y. x ≡ y) (Spans (A.means a)) }
     ensures with_span { (view : A.Output → V) (a : A) → IsDetermined (Shows view) (A.means a)
-        → IsDetermined (AreBothSame (Shows view) (λ x y. x ≡ y)) (WithSpan (A.means a)) }
+        → IsDetermined (AreBothSame (Shows view) (λ x y. x ≡ y)) (HasSpan (A.means a)) }
 {}
 
 /// The laws of slices: where a view shows the same of all slices of one front, the parser of the
@@ -62,6 +64,18 @@ pub fn determined_slice_law<I: StreamIsPartial, E, A: Parser<I, E>, V, W>()
         → SlicesRespect I.is_slice (Shows bytes) → IsDetermined (Shows view) (A.means a)
         → IsDetermined (AreBothSame (Shows view) (Shows bytes))
         (WithTaken I.is_slice (A.means a)) }
+{}
+
+/// The law of values that are read as others: where slices that show the same read as the same
+/// value, what is read of a parser with one answer is one value. It does nothing when called: its
+/// contract is the law.
+pub fn determined_reading_law<I: StreamIsPartial, E, A: Parser<I, E>, R, V>()
+where
+    A::Output: ParseSlice<R>,
+    ensures { (view : A.Output → V) (a : A)
+        → ReadsAlike view A.Output.reads → IsDetermined (Shows view) (A.means a)
+        → IsDetermined (λ x y. x ≡ y)
+        (VerifyMaps (λ slice value. IsSomeExactly (A.Output.reads slice) value) (A.means a)) }
 {}
 
 /// The laws of functions: where a function gives the same for the same values, what it makes of a
@@ -83,5 +97,5 @@ pub fn determined_function_law<
     ensures verified { (view : A.Output → V) (test : G) (a : A)
         → Respects (Shows view) (λ x y. x ≡ y) (G.says test)
         → IsDetermined (Shows view) (A.means a)
-        → IsDetermined (Shows view) (Verified (G.says test) (A.means a)) }
+        → IsDetermined (Shows view) (Verifies (G.says test) (A.means a)) }
 {}

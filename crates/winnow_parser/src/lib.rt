@@ -7,37 +7,45 @@
 //! errors the failures carry.
 #![tactic(auto, using(crate::proofs::lemmas::OnwardLemmas::onward_steps))]
 
+mod alone;
 mod by_ref;
-mod choosing;
-mod context;
-mod continuing;
+mod context_with;
 mod converting;
 mod determined;
 mod failure;
+mod functions;
 mod laws;
-mod literals;
-mod mapping;
 mod parser;
-mod rule;
+mod parsers;
+mod reading;
 mod sequences;
-mod spanning;
-mod taking;
 mod value_test;
 mod whole;
 
-pub use choosing::{TryMapped, Verified, VerifyMapped};
-pub use context::Contextual;
-pub use continuing::FlatMapped;
+pub use alone::AndThen;
+pub use context_with::ContextWith;
 pub use converting::{DefaultValue, ErrInto, MapErr, OutputInto};
 pub use determined::{
-    determined_function_law, determined_law, determined_pair_law, determined_slice_law,
+    determined_function_law, determined_law, determined_pair_law, determined_reading_law,
+    determined_slice_law,
 };
 pub use failure::{Failure, ModalResult};
+pub use functions::literal;
 pub use laws::{parser_law, taken_width_law};
-pub use literals::{Wanted, literal};
-pub use mapping::{Mapped, Valued, Voided};
 pub use parser::Parser;
-pub use rule::{Rule, RuledFunction, by_rule};
-pub use spanning::{Spanned, WithSpan};
-pub use taking::{Taken, WithTaken};
+pub use parsers::by_rule::{ByRule, Rule, by_rule};
+pub use parsers::context::Context;
+pub use parsers::flat_map::FlatMap;
+pub use parsers::literal::Literal;
+pub use parsers::map::Map;
+pub use parsers::span::Span;
+pub use parsers::take::Taken;
+pub use parsers::try_map::TryMap;
+pub use parsers::value::Value;
+pub use parsers::verify::Verify;
+pub use parsers::verify_map::VerifyMap;
+pub use parsers::void::Void;
+pub use parsers::with_span::WithSpan;
+pub use parsers::with_taken::WithTaken;
+pub use reading::ParseTo;
 pub use value_test::{ByBorrow, ByValue, ValueTest};

@@ -9,11 +9,12 @@ ghost use Rattle.winnow_parser.specs.Whole.{ReadsWhole, StopsAfter, StopsWith, K
 
 use crate::whole::read_whole;
 use crate::{
-    Contextual, DefaultValue, ErrInto, FlatMapped, MapErr, Mapped, ModalResult, OutputInto,
-    Spanned, Taken, TryMapped, ValueTest, Valued, Verified, VerifyMapped, Voided, WithSpan,
+    AndThen, Context, ContextWith, DefaultValue, ErrInto, FlatMap, Map, MapErr, ModalResult,
+    OutputInto, ParseTo, Span, Taken, TryMap, Value, ValueTest, Verify, VerifyMap, Void, WithSpan,
     WithTaken,
 };
 use std::alloc::{AllocError, Global};
+use winnow_count::ParseSlice;
 use winnow_error::ParserError;
 use winnow_parse_error::ParseError;
 use winnow_stream::StreamIsPartial;
@@ -61,28 +62,28 @@ pub trait Parser<I: StreamIsPartial, E>: Sized {
         ensures kept { I.keeps input.old input.new };
 
     /// Returns the parser of what a function makes of the value.
-    final fn map<O, F: Fn(Self::Output) -> O>(self, f: F) -> Mapped<Self, F, I, E>
+    final fn map<O, F: Fn(Self::Output) -> O>(self, f: F) -> Map<Self, F, I, E>
         ensures inner { result.inner ≡ self }
         ensures f { result.f ≡ f }
     {
-        Mapped::new(self, f)
+        Map::new(self, f)
     }
 
     /// Returns the parser that goes on with the parser that a function makes of the value: what
     /// comes first says how to read what comes next.
-    final fn flat_map<Q, F: Fn(Self::Output) -> Q>(self, f: F) -> FlatMapped<Self, F, I, E>
+    final fn flat_map<Q, F: Fn(Self::Output) -> Q>(self, f: F) -> FlatMap<Self, F, I, E>
         ensures first { result.first ≡ self }
         ensures f { result.f ≡ f }
     {
-        FlatMapped::new(self, f)
+        FlatMap::new(self, f)
     }
 
     /// Returns the parser that gives this value where the parser gives one.
-    final fn value<V>(self, value: V) -> Valued<Self, V, I, E>
+    final fn value<V>(self, value: V) -> Value<Self, V, I, E>
         ensures inner { result.inner ≡ self }
         ensures value { result.value ≡ value }
     {
-        Valued::new(self, value)
+        Value::new(self, value)
     }
 
     /// Returns the parser that gives the default of a type where the parser gives a value.
@@ -102,47 +103,59 @@ pub trait Parser<I: StreamIsPartial, E>: Sized {
     }
 
     /// Returns the parser that gives nothing where the parser gives a value.
-    final fn void(self) -> Voided<Self, I, E>
+    final fn void(self) -> Void<Self, I, E>
         ensures inner { result.inner ≡ self }
     {
-        Voided::new(self)
+        Void::new(self)
     }
 
     /// Returns the parser of the values of which the test holds. At another value it backtracks,
     /// from where it began. The test takes a reference to the value, or what the value borrows as:
     /// `verify(|text: &str| ..)` of a parser of `&str`.
-    final fn verify<F: ValueTest<Self::Output, By>, By>(
-        self,
-        test: F,
-    ) -> Verified<Self, F, By, I, E>
+    final fn verify<F: ValueTest<Self::Output, By>, By>(self, test: F) -> Verify<Self, F, By, I, E>
         ensures inner { result.inner ≡ self }
         ensures test { result.test ≡ test }
     {
-        Verified::new(self, test)
+        Verify::new(self, test)
     }
 
     /// Returns the parser of what a function makes of the value. Where the function makes nothing,
     /// the parser backtracks, from where it began.
-    final fn verify_map<O, F: Fn(Self::Output) -> Option<O>>(
-        self,
-        f: F,
-    ) -> VerifyMapped<Self, F, I, E>
+    final fn verify_map<O, F: Fn(Self::Output) -> Option<O>>(self, f: F) -> VerifyMap<Self, F, I, E>
         ensures inner { result.inner ≡ self }
         ensures f { result.f ≡ f }
     {
-        VerifyMapped::new(self, f)
+        VerifyMap::new(self, f)
     }
 
     /// Returns the parser of what a function makes of the value. Where the function fails, the
     /// parser backtracks, from where it began, with an error that is made of the function's.
-    final fn try_map<O, X, F: Fn(Self::Output) -> Result<O, X>>(
-        self,
-        f: F,
-    ) -> TryMapped<Self, F, I, E>
+    final fn try_map<O, X, F: Fn(Self::Output) -> Result<O, X>>(self, f: F) -> TryMap<Self, F, I, E>
         ensures inner { result.inner ≡ self }
         ensures f { result.f ≡ f }
     {
-        TryMapped::new(self, f)
+        TryMap::new(self, f)
+    }
+
+    /// Returns the parser of what the value reads as: a number, a `bool`, a character, or a value
+    /// of your own type that says how it is read. Where the value reads as none, the parser
+    /// backtracks, from where it began.
+    final fn parse_to<R>(self) -> ParseTo<Self, R, I, E>
+    where
+        Self::Output: ParseSlice<R>,
+        ensures inner { result.inner ≡ self }
+    {
+        ParseTo::new(self)
+    }
+
+    /// Returns the parser of what the parser gives, which another parser reads as an input of its
+    /// own: nothing follows it, so that parser never needs more, and it need not read all. Where it
+    /// fails, the stream stands where the parser began.
+    final fn and_then<Q>(self, inner: Q) -> AndThen<Self, Q, I, E>
+        ensures outer { result.outer ≡ self }
+        ensures inner { result.inner ≡ inner }
+    {
+        AndThen::new(self, inner)
     }
 
     /// Returns the parser of the slice that the parser takes.
@@ -161,10 +174,10 @@ pub trait Parser<I: StreamIsPartial, E>: Sized {
 
     /// Returns the parser of the range that the parser takes, in offsets of the whole input. The
     /// stream must keep its location.
-    final fn span(self) -> Spanned<Self, I, E>
+    final fn span(self) -> Span<Self, I, E>
         ensures inner { result.inner ≡ self }
     {
-        Spanned::new(self)
+        Span::new(self)
     }
 
     /// Returns the parser of the value and of the range that the parser takes.
@@ -175,11 +188,20 @@ pub trait Parser<I: StreamIsPartial, E>: Sized {
     }
 
     /// Returns the parser that adds to its errors what was being read.
-    final fn context<C>(self, context: C) -> Contextual<Self, C, I, E>
+    final fn context<C>(self, context: C) -> Context<Self, C, I, E>
         ensures inner { result.inner ≡ self }
         ensures context { result.context ≡ context }
     {
-        Contextual::new(self, context)
+        Context::new(self, context)
+    }
+
+    /// Returns the parser that adds to its errors what a function makes, which is only called where
+    /// the parser fails.
+    final fn context_with<C, F: Fn() -> C>(self, f: F) -> ContextWith<Self, F, I, E>
+        ensures inner { result.inner ≡ self }
+        ensures f { result.f ≡ f }
+    {
+        ContextWith::new(self, f)
     }
 
     /// Returns the parser whose errors are what a function makes of the errors, where the parser

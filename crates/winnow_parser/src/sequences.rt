@@ -1,8 +1,9 @@
-//! Tuples of two to ten parsers, which parse one after the other.
+//! Tuples of none to ten parsers, which parse one after the other.
 
-ghost use Rattle.winnow_parser.specs.Meanings.{Pair};
-ghost use Rattle.winnow_parser.specs.Errors.{PairErrors};
-ghost use Rattle.winnow_parser.specs.Parts.{IsParser-Pair};
+ghost use Rattle.std.specs.Prelude.{◌≡◌, ⊤};
+ghost use Rattle.winnow_parser.specs.Meanings.{Maps, Pair, Returns};
+ghost use Rattle.winnow_parser.specs.Errors.{NoError, PairErrors};
+ghost use Rattle.winnow_parser.specs.Parts.{IsParser-Maps, IsParser-Pair, IsParser-Returns};
 ghost use Rattle.winnow_parser.specs.Rows.{Row3, Row4, Row5, Row6, Row7, Row8, Row9, Row10};
 ghost use Rattle.winnow_parser.specs.Rows.{IsParser-Row3, IsParser-Row4, IsParser-Row5};
 ghost use Rattle.winnow_parser.specs.Rows.{IsParser-Row6, IsParser-Row7, IsParser-Row8};
@@ -11,6 +12,46 @@ ghost use Rattle.winnow_parser.specs.Rows.{IsParser-Row9, IsParser-Row10};
 use crate::{ModalResult, Parser};
 use std::alloc::Global;
 use winnow_stream::StreamIsPartial;
+
+/// No parser: it gives nothing and takes nothing.
+impl<I: StreamIsPartial, E> Parser<I, E> for () {
+    type Output = ();
+
+    ghost means = { λ _. Returns tt };
+
+    ghost errors = { λ _. NoError };
+
+    ghost ready = { λ _. ⊤ };
+
+    ghost lawful = { λ _. IsParser-Returns tt };
+
+    fn parse_next(&self, _alloc: Global, _input: &mut I) -> ModalResult<(), E> {
+        Ok(())
+    }
+}
+
+/// One parser: its value, in a tuple.
+impl<I: StreamIsPartial, E, A: Parser<I, E>> Parser<I, E> for (A,) {
+    type Output = (A::Output,);
+
+    ghost means = { λ p. Maps (λ value all. value ≡ all.0) (A.means p.0) };
+
+    ghost errors = { λ p. A.errors p.0 };
+
+    ghost ready = { λ p. A.ready p.0 };
+
+    ghost lawful = { λ p.
+        IsParser-Maps (λ value all. value ≡ all.0) (A.means p.0) (A.lawful p.0) };
+
+    // Inlined: an answer that a call hands on is copied through memory.
+    #[inline(always)]
+    fn parse_next(&self, alloc: Global, input: &mut I) -> ModalResult<(A::Output,), E> {
+        match self.0.parse_next(alloc, input) {
+            Ok(value) => Ok((value,)),
+            Err(failure) => Err(failure),
+        }
+    }
+}
 
 /// Two parsers, one after the other: their values.
 impl<I: StreamIsPartial, E, A: Parser<I, E>, B: Parser<I, E>> Parser<I, E> for (A, B)
@@ -27,7 +68,6 @@ where
 
     ghost lawful = { λ p. IsParser-Pair (A.means p.0) (B.means p.1) (A.lawful p.0) (B.lawful p.1) };
 
-    // Inlined: an answer that a call hands on is copied through memory.
     #[inline(always)]
     fn parse_next(&self, alloc: Global, input: &mut I) -> ModalResult<(A::Output, B::Output), E> {
         match self.0.parse_next(alloc, input) {

@@ -9,18 +9,18 @@ use Rattle.winnow_count.specs.CountRange.{HasCounts}
 use Rattle.winnow_count.specs.Reading.{IsSomeExactly}
 use Rattle.winnow_parser.specs.Outcome.{Meaning}
 use Rattle.winnow_parser.specs.Laws.{IsParser, IsStable, IsFinal, IsOnward}
-use Rattle.winnow_parser.specs.Meanings.{Returns, Maps, Pair, Terminated, CutOff, Chosen}
-use Rattle.winnow_parser.specs.Parts.{IsParser-Returns, IsParser-Maps, IsParser-Pair, IsParser-Terminated, IsParser-CutOff, IsParser-Chosen}
-use Rattle.winnow_parser.specs.Continued.{Continued, IsParser-Continued}
-use Rattle.winnow_token.specs.OneOf.{OneOf, IsParser-OneOf}
-use Rattle.winnow_token.specs.Held.{HeldFront, IsParser-HeldFront}
-use Rattle.winnow_token.specs.declared.held.OtherTokens.{OtherTokens}
-use Rattle.winnow_token.specs.declared.one_token.OneOf.{OneOf as OneOfSet}
-use Rattle.winnow_combinator.specs.declared.sequence.FirstOf.{FirstOf}
-use Rattle.winnow_token.specs.Counted.{Counted, IsParser-Counted}
+use Rattle.winnow_parser.specs.Meanings.{Returns, Maps, Pair, IsTerminated, CutsErr, VerifyMaps}
+use Rattle.winnow_parser.specs.Parts.{IsParser-Returns, IsParser-Maps, IsParser-Pair, IsParser-IsTerminated, IsParser-CutsErr, IsParser-VerifyMaps}
+use Rattle.winnow_parser.specs.FlatMap.{FlatMaps, IsParser-FlatMaps}
+use Rattle.winnow_token.specs.OneOf.{IsOneOf, IsParser-IsOneOf}
+use Rattle.winnow_token.specs.TakeWhile.{TakesWhile, IsParser-TakesWhile}
+use Rattle.winnow_token.specs.declared.parsers.take_till.TakeTill.{TakeTill}
+use Rattle.winnow_token.specs.declared.parsers.one_of.OneOf.{OneOf}
+use Rattle.winnow_combinator.specs.declared.parsers.terminated.Terminated.{Terminated}
+use Rattle.winnow_token.specs.Take.{Takes, IsParser-Takes}
 use Rattle.winnow_combinator.specs.Counts.{Ascending, IsParser-Ascending}
-use Rattle.winnow_combinator.specs.Ending.{Failing, IsParser-Failing}
-use Rattle.winnow_combinator.specs.Repetition.{Repeated, IsParser-Repeated}
+use Rattle.winnow_combinator.specs.Ending.{IsFail, IsParser-IsFail}
+use Rattle.winnow_combinator.specs.Repeat.{Repeats, IsParser-Repeats}
 use Rattle.winnow_combinator.specs.Gathering.{Gathered, IsParser-Gathered}
 use Rattle.winnow_resp.specs.Replies.{is_in_line, IsInteger, IsLength, greatest_count}
 use Rattle.winnow_resp.specs.declared.reply.Reply.{Reply}
@@ -118,37 +118,37 @@ module _ {O T : Type 0} (first second : Meaning O T) (p : IsParser first) (q : I
 
 -- the end of a line
 abbrev pub LineEnd : {T : Type 0} → (T → ℕ) → Meaning (T × T) T
-LineEnd code = Pair (OneOf (λ token. 13 == code token)) (OneOf (λ token. 10 == code token))
+LineEnd code = Pair (IsOneOf (λ token. 13 == code token)) (IsOneOf (λ token. 10 == code token))
 
 -- `LineEnd` keeps the laws of a parser
 IsParser-LineEnd : {T : Type 0} (code : T → ℕ) → IsParser (LineEnd code)
-IsParser-LineEnd code = IsParser-Pair _ _ (IsParser-OneOf (λ token. 13 == code token)) (IsParser-OneOf (λ token. 10 == code token))
+IsParser-LineEnd code = IsParser-Pair _ _ (IsParser-IsOneOf (λ token. 13 == code token)) (IsParser-IsOneOf (λ token. 10 == code token))
 
 -- the parser takes a text of at most that many bytes, and the end of its line
-abbrev pub IsLine : ℕ → FirstOf (OtherTokens (ℕ × ℕ)) (OneOfSet ℕ × OneOfSet ℕ) → Type 0
+abbrev pub IsLine : ℕ → Terminated (TakeTill (ℕ × ℕ)) (OneOf ℕ × OneOf ℕ) → Type 0
 IsLine longest p = (p.first.set ≡ (13, 10)) × HasCounts 0 (Some longest) p.first.counts
     × (p.second.0.set ≡ 13) × (p.second.1.set ≡ 10)
 
 module _ {S T : Type 0} (code : T → ℕ) (counts_shortage : Bool) (is_slice : S → Source T → ℕ → Type 0) (bytes : S → List ℕ) where
   -- a text of at most that many bytes, and the end of its line
   abbrev pub Line : ℕ → Meaning S T
-  Line longest = Terminated (HeldFront is_slice (λ token. is_in_line (code token)) 0 (Some longest)) (LineEnd code)
+  Line longest = IsTerminated (TakesWhile is_slice (λ token. is_in_line (code token)) 0 (Some longest)) (LineEnd code)
 
   -- the bytes of such a text; the parser cuts where it is missing
   abbrev pub Text : ℕ → Meaning (Vec ℕ Global) T
-  Text longest = Gathered ⊤ (HasBytes bytes) (CutOff (Line longest))
+  Text longest = Gathered ⊤ (HasBytes bytes) (CutsErr (Line longest))
 
   -- the integer on a line; the parser cuts where it is missing, at the start of the line
   abbrev pub Number : Meaning ℤ T
-  Number = CutOff (Chosen (λ slice n. IsSomeExactly (IsInteger (bytes slice)) n) (Line most_digits))
+  Number = CutsErr (VerifyMaps (λ slice n. IsSomeExactly (IsInteger (bytes slice)) n) (Line most_digits))
 
   -- the length on a line; the parser cuts where it is missing, at the start of the line
   abbrev pub Length : ℕ → Meaning (Option ℕ) T
-  Length greatest = CutOff (Chosen (λ slice n. IsSomeExactly (IsLength greatest (bytes slice)) n) (Line most_digits))
+  Length greatest = CutsErr (VerifyMaps (λ slice n. IsSomeExactly (IsLength greatest (bytes slice)) n) (Line most_digits))
 
   -- that many bytes, and the end of a line; the parser cuts where they are missing
   abbrev pub Bytes : ℕ → Meaning (Vec ℕ Global) T
-  Bytes n = Gathered ⊤ (HasBytes bytes) (CutOff (Terminated (Counted counts_shortage is_slice n) (LineEnd code)))
+  Bytes n = Gathered ⊤ (HasBytes bytes) (CutsErr (IsTerminated (Takes counts_shortage is_slice n) (LineEnd code)))
 
   -- what follows the length of a bulk string
   abbrev pub BulkOf : Option ℕ → Meaning Reply T
@@ -157,11 +157,11 @@ module _ {S T : Type 0} (code : T → ℕ) (counts_shortage : Bool) (is_slice : 
 
   -- a bulk string, after the byte of its kind
   abbrev pub BulkString : ℕ → Meaning Reply T
-  BulkString longest = Continued IsSame BulkOf (Length longest)
+  BulkString longest = FlatMaps IsSame BulkOf (Length longest)
 
   -- that many replies that the inner meaning gives; the parser cuts where one is missing
   abbrev pub Elements : Meaning Reply T → ℕ → Meaning (Vec Reply Global) T
-  Elements inner n = CutOff (Ascending n (Some n) (Gathered ⊤ HasReplies (Repeated n (Some n) inner)))
+  Elements inner n = CutsErr (Ascending n (Some n) (Gathered ⊤ HasReplies (Repeats n (Some n) inner)))
 
   -- what follows the length of an array
   abbrev pub ArrayOf : Meaning Reply T → Option ℕ → Meaning Reply T
@@ -170,7 +170,7 @@ module _ {S T : Type 0} (code : T → ℕ) (counts_shortage : Bool) (is_slice : 
 
   -- an array of at most that many replies, after the byte of its kind
   abbrev pub ArrayReply : ℕ → Meaning Reply T → Meaning Reply T
-  ArrayReply most inner = Continued IsSame (ArrayOf inner) (Length most)
+  ArrayReply most inner = FlatMaps IsSame (ArrayOf inner) (Length most)
 
   -- a reply that is no array, after the byte of its kind
   abbrev pub Scalar : ℕ → ℕ → Meaning Reply T
@@ -183,15 +183,15 @@ module _ {S T : Type 0} (code : T → ℕ) (counts_shortage : Bool) (is_slice : 
 
   -- a reply, with at most that many replies in it if it is an array
   abbrev pub Layer : ℕ → ℕ → Meaning Reply T → Meaning Reply T
-  Layer longest most inner = Continued (IsCode code) (Body longest most inner) (OneOf (λ token. is_kind (code token)))
+  Layer longest most inner = FlatMaps (IsCode code) (Body longest most inner) (IsOneOf (λ token. is_kind (code token)))
 
   -- a reply that stands within at most `depth` arrays: at depth 0 no reply stands in an array
   abbrev pub Nested : ℕ → ℕ → Meaning Reply T
-  Nested longest zero = Layer longest 0 Failing
+  Nested longest zero = Layer longest 0 IsFail
   Nested longest (suc depth) = Layer longest greatest_count (Nested longest depth)
 
   -- `Nested` at depth 0 has no elements
-  pub Nested-zero : (longest depth : ℕ) → depth ≡ 0 → Layer longest 0 Failing ≡ Nested longest depth
+  pub Nested-zero : (longest depth : ℕ) → depth ≡ 0 → Layer longest 0 IsFail ≡ Nested longest depth
   Nested-zero longest depth e = ap (Nested longest) (sym e)
 
   -- `Nested` at another depth is the layer over the one below
@@ -205,25 +205,25 @@ module _ {S T : Type 0} (code : T → ℕ) (counts_shortage : Bool) (is_slice : 
   module _ (stay : SlicesStay is_slice) where
     -- `Line` keeps the laws of a parser
     IsParser-Line : (longest : ℕ) → IsParser (Line longest)
-    IsParser-Line longest = IsParser-Terminated _ _ (IsParser-HeldFront is_slice stay (λ token. is_in_line (code token)) 0 (Some longest)) (IsParser-LineEnd code)
+    IsParser-Line longest = IsParser-IsTerminated _ _ (IsParser-TakesWhile is_slice stay (λ token. is_in_line (code token)) 0 (Some longest)) (IsParser-LineEnd code)
 
     -- `Text` keeps the laws of a parser
     IsParser-Text : (longest : ℕ) → IsParser (Text longest)
-    IsParser-Text longest = IsParser-Gathered ⊤ (HasBytes bytes) (IsParser-CutOff _ (IsParser-Line longest))
+    IsParser-Text longest = IsParser-Gathered ⊤ (HasBytes bytes) (IsParser-CutsErr _ (IsParser-Line longest))
 
     -- `Number` keeps the laws of a parser
     IsParser-Number : IsParser Number
-    IsParser-Number = IsParser-CutOff _ (IsParser-Chosen (λ slice n. IsSomeExactly (IsInteger (bytes slice)) n) _ (IsParser-Line most_digits))
+    IsParser-Number = IsParser-CutsErr _ (IsParser-VerifyMaps (λ slice n. IsSomeExactly (IsInteger (bytes slice)) n) _ (IsParser-Line most_digits))
 
     -- `Length` keeps the laws of a parser
     IsParser-Length : (greatest : ℕ) → IsParser (Length greatest)
     IsParser-Length greatest =
-        IsParser-CutOff _ (IsParser-Chosen (λ slice n. IsSomeExactly (IsLength greatest (bytes slice)) n) _ (IsParser-Line most_digits))
+        IsParser-CutsErr _ (IsParser-VerifyMaps (λ slice n. IsSomeExactly (IsLength greatest (bytes slice)) n) _ (IsParser-Line most_digits))
 
     -- `Bytes` keeps the laws of a parser
     IsParser-Bytes : (n : ℕ) → IsParser (Bytes n)
     IsParser-Bytes n = IsParser-Gathered ⊤ (HasBytes bytes)
-        (IsParser-CutOff _ (IsParser-Terminated _ _ (IsParser-Counted counts_shortage is_slice stay n) (IsParser-LineEnd code)))
+        (IsParser-CutsErr _ (IsParser-IsTerminated _ _ (IsParser-Takes counts_shortage is_slice stay n) (IsParser-LineEnd code)))
 
     -- `BulkOf` keeps the laws of a parser
     IsParser-BulkOf : (n : Option ℕ) → IsParser (BulkOf n)
@@ -236,12 +236,12 @@ module _ {S T : Type 0} (code : T → ℕ) (counts_shortage : Bool) (is_slice : 
         IsParser-Or _ _ (IsParser-Of 43 kind _ (IsParser-Maps IsSimple _ (IsParser-Text longest)))
         (IsParser-Or _ _ (IsParser-Of 45 kind _ (IsParser-Maps IsError _ (IsParser-Text longest)))
         (IsParser-Or _ _ (IsParser-Of 58 kind _ (IsParser-Maps IsNumber _ IsParser-Number))
-        (IsParser-Of 36 kind _ (IsParser-Continued IsSame BulkOf _ IsParser-BulkOf (IsParser-Length longest)))))
+        (IsParser-Of 36 kind _ (IsParser-FlatMaps IsSame BulkOf _ IsParser-BulkOf (IsParser-Length longest)))))
 
     module _ (inner : Meaning Reply T) (p : IsParser inner) where
       -- `Elements` keeps the laws of a parser
       IsParser-Elements : (n : ℕ) → IsParser (Elements inner n)
-      IsParser-Elements n = IsParser-CutOff _ (IsParser-Ascending n (Some n) (IsParser-Gathered ⊤ HasReplies (IsParser-Repeated n (Some n) p)))
+      IsParser-Elements n = IsParser-CutsErr _ (IsParser-Ascending n (Some n) (IsParser-Gathered ⊤ HasReplies (IsParser-Repeats n (Some n) p)))
 
       -- `ArrayOf` keeps the laws of a parser
       IsParser-ArrayOf : (n : Option ℕ) → IsParser (ArrayOf inner n)
@@ -251,14 +251,14 @@ module _ {S T : Type 0} (code : T → ℕ) (counts_shortage : Bool) (is_slice : 
       -- `Body` keeps the laws of a parser
       IsParser-Body : (longest most kind : ℕ) → IsParser (Body longest most inner kind)
       IsParser-Body longest most kind =
-          IsParser-Or _ _ (IsParser-Of 42 kind _ (IsParser-Continued IsSame (ArrayOf inner) _ IsParser-ArrayOf (IsParser-Length most)))
+          IsParser-Or _ _ (IsParser-Of 42 kind _ (IsParser-FlatMaps IsSame (ArrayOf inner) _ IsParser-ArrayOf (IsParser-Length most)))
           (IsParser-Scalar longest kind)
 
       -- `Layer` keeps the laws of a parser
       IsParser-Layer : (longest most : ℕ) → IsParser (Layer longest most inner)
-      IsParser-Layer longest most = IsParser-Continued (IsCode code) (Body longest most inner) _ (IsParser-Body longest most) (IsParser-OneOf (λ token. is_kind (code token)))
+      IsParser-Layer longest most = IsParser-FlatMaps (IsCode code) (Body longest most inner) _ (IsParser-Body longest most) (IsParser-IsOneOf (λ token. is_kind (code token)))
 
     -- `Nested` keeps the laws of a parser
     pub IsParser-Nested : (longest depth : ℕ) → IsParser (Nested longest depth)
-    IsParser-Nested longest zero = IsParser-Layer Failing IsParser-Failing longest 0
+    IsParser-Nested longest zero = IsParser-Layer IsFail IsParser-IsFail longest 0
     IsParser-Nested longest (suc depth) = IsParser-Layer (Nested longest depth) (IsParser-Nested longest depth) longest greatest_count

@@ -10,17 +10,17 @@ ghost use Rattle.winnow_resp.specs.Grammar.{Text, Number, Length, Bytes, IsLine}
 
 use crate::numbers::{integer_in, length_in};
 use std::alloc::Global;
-use winnow::combinator::{FirstOf, cut_err, terminated};
+use winnow::combinator::{Terminated, cut_err, terminated};
 use winnow::error::ParserError;
 use winnow::stream::{AsBytes, AsChar, StreamIsPartial};
-use winnow::token::{OneOf, OtherTokens, one_of, take, take_till};
+use winnow::token::{OneOf, TakeTill, one_of, take, take_till};
 use winnow::{Failure, ModalResult, Parser};
 
 // No number of 64 bits has more digits, with its sign.
 const MOST_DIGITS: usize = 21;
 
 // The parser of the text of a line, and of its end.
-type Line = FirstOf<OtherTokens<(char, char)>, (OneOf<char>, OneOf<char>)>;
+type Line = Terminated<TakeTill<(char, char)>, (OneOf<char>, OneOf<char>)>;
 
 // Returns the parser of a text of at most `longest` bytes and the end of its line.
 fn line(longest: usize) -> Line

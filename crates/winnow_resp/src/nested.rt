@@ -5,7 +5,7 @@ ghost use Rattle.winnow.specs.Outcome.{Moves};
 ghost use Rattle.winnow.specs.Answer.{ahead, outcome};
 ghost use Rattle.winnow.specs.Errors.{AnyError};
 ghost use Rattle.winnow_stream.specs.SliceBytes.{SlicesHaveBytes};
-ghost use Rattle.winnow_combinator.specs.Ending.{Failing, IsParser-Failing};
+ghost use Rattle.winnow_combinator.specs.Ending.{IsFail, IsParser-IsFail};
 ghost use Rattle.winnow_resp.specs.Grammar.{BulkString, ArrayReply, Scalar, Layer, Nested};
 ghost use Rattle.winnow_resp.specs.Grammar.{is_kind, IsParser-Nested};
 ghost use Rattle.winnow_resp.specs.Answers.{IsAnswer, GivesEach};
@@ -158,13 +158,13 @@ struct NoReply;
 impl<I: StreamIsPartial, E: ParserError<I>> Parser<I, E> for NoReply {
     type Output = Reply;
 
-    ghost means = { λ _. Failing };
+    ghost means = { λ _. IsFail };
 
     ghost errors = { λ _. AnyError };
 
     ghost ready = { λ _. Unit {0} };
 
-    ghost lawful = { λ _. IsParser-Failing };
+    ghost lawful = { λ _. IsParser-IsFail };
 
     fn parse_next(&self, alloc: Global, input: &mut I) -> ModalResult<Reply, E> {
         Err(Failure::Backtrack(E::from_input(alloc, input)))

@@ -1,1 +1,1 @@
-pub mod Spans
+pub mod TokenSpan

@@ -7,8 +7,9 @@
 //! from the tokens: from where the first one starts to where the last one ends.
 #![tactic(auto)]
 
+mod parsers;
 mod slice_span;
-mod spanning;
 
+pub use parsers::token_span::{TokenSpan, token_span};
+pub use parsers::with_token_span::{WithTokenSpan, with_token_span};
 pub use slice_span::SliceSpan;
-pub use spanning::{TokenSpan, WithTokenSpan, token_span, with_token_span};

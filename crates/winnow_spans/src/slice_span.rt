@@ -2,7 +2,7 @@
 
 ghost use Rattle.std.specs.Prelude.{◌≡◌, ℕ, Option};
 ghost use Rattle.std.specs.declared.ops.Range.{Range};
-ghost use Rattle.winnow_spans.specs.Spans.{span_of};
+ghost use Rattle.winnow_spans.specs.TokenSpan.{span_of};
 
 use std::ops::Range;
 use winnow_stream::Location;

@@ -5,13 +5,13 @@ use Rattle.std.proofs.lemmas.List.{map-append}
 use Rattle.std.proofs.lemmas.Option.{same_Some}
 use Rattle.winnow_stream.specs.Source.{Source, width, HasPositiveWidths}
 use Rattle.winnow_parser.specs.Outcome.{Ahead, Gives, Meaning}
-use Rattle.winnow_parser.specs.Meanings.{Returns, Maps, Pair, Preceded, Terminated, Either, Optional, CutOff, Softened, Verified, Chosen}
+use Rattle.winnow_parser.specs.Meanings.{Returns, Maps, Pair, IsPreceded, IsTerminated, IsAlt2, IsOpt, CutsErr, BacktracksErr, Verifies, VerifyMaps}
 use Rattle.winnow_parser.specs.Context.{InContext}
 use Rattle.winnow_combinator.specs.Appended.{AppendingIf}
 use Rattle.winnow_combinator.specs.Counts.{IsBelow, IsUpTo, Ascending}
 use Rattle.winnow_combinator.specs.Gathering.{Gathered}
-use Rattle.winnow_combinator.specs.Repetition.{Taking, InTurn, Repeated}
-use Rattle.winnow_combinator.specs.Separation.{FoldsLeft, FoldedLeft}
+use Rattle.winnow_combinator.specs.Repeat.{Taking, InTurn, Repeats}
+use Rattle.winnow_combinator.specs.Separated.{FoldsLeft, IsSeparatedFoldl1}
 use Rattle.winnow_spelling.specs.Spelling.{Spelling, tokens_of, TakesFor, IsSpelled}
 use Rattle.winnow_spelling.specs.Spellings.{NoToken, Then, After, Before, InRow, Or, Perhaps, MadeOf, Such, Several, Counted, Chain}
 
@@ -46,12 +46,12 @@ module _ {O P T : Type 0} (p : Spelling O T) (q : Spelling P T) (first : Meaning
       )
 
   -- a value after one that is dropped
-  pub spelled-After : IsSpelled (After p q) (Preceded first second)
+  pub spelled-After : IsSpelled (After p q) (IsPreceded first second)
   spelled-After partial a c y wide (both, (same, h)) =
       takes-on (Then p q) (After p q) both y a c (λ ts k. (both.0, subst (λ z. Then p q (both.0, z) ts) same k)) (spelled-Then partial a c both wide h)
 
   -- a value before one that is dropped
-  pub spelled-Before : IsSpelled (Before p q) (Terminated first second)
+  pub spelled-Before : IsSpelled (Before p q) (IsTerminated first second)
   spelled-Before partial a c x wide (both, (same, h)) =
       takes-on (Then p q) (Before p q) both x a c (λ ts k. (both.1, subst (λ z. Then p q (z, both.1) ts) same k)) (spelled-Then partial a c both wide h)
 
@@ -68,17 +68,17 @@ module _ {O P T : Type 0} (makes : O → P → Type 0) (p : Spelling O T) (inner
       takes-on p (MadeOf makes p) x y a b (λ ts k. (x, (made, k))) (one partial a b x wide h)
 
 -- what a relation may make of a value
-pub spelled-Chosen : {O P T : Type 0} (makes : O → Option P → Type 0) (p : Spelling O T)
+pub spelled-VerifyMaps : {O P T : Type 0} (makes : O → Option P → Type 0) (p : Spelling O T)
     (inner : Meaning O T) → IsSpelled p inner
-    → IsSpelled (MadeOf (λ x y. makes x (Some y)) p) (Chosen makes inner)
-spelled-Chosen makes p inner one partial a b y wide (x, (made, h)) =
+    → IsSpelled (MadeOf (λ x y. makes x (Some y)) p) (VerifyMaps makes inner)
+spelled-VerifyMaps makes p inner one partial a b y wide (x, (made, h)) =
     takes-on p (MadeOf (λ x y. makes x (Some y)) p) x y a b (λ ts k. (x, (made, k))) (one partial a b x wide h)
 
 -- a value of which a test holds
-pub spelled-Verified : {O T : Type 0} (answers : O → Bool → Type 0) (p : Spelling O T)
+pub spelled-Verifies : {O T : Type 0} (answers : O → Bool → Type 0) (p : Spelling O T)
     (inner : Meaning O T) → IsSpelled p inner
-    → IsSpelled (Such (λ x. answers x true) p) (Verified answers inner)
-spelled-Verified answers p inner one partial a b x wide (h, told) =
+    → IsSpelled (Such (λ x. answers x true) p) (Verifies answers inner)
+spelled-Verifies answers p inner one partial a b x wide (h, told) =
     takes-on p (Such (λ x. answers x true) p) x x a b (λ ts k. (told, k)) (one partial a b x wide h)
 
 -- ---- Choices
@@ -86,7 +86,7 @@ spelled-Verified answers p inner one partial a b x wide (h, told) =
 -- one of two parsers
 pub spelled-Or : {O T : Type 0} (refusable : Type 0) (p q : Spelling O T)
     (first second : Meaning O T)
-    → IsSpelled p first → IsSpelled q second → IsSpelled (Or p q) (Either refusable first second)
+    → IsSpelled p first → IsSpelled q second → IsSpelled (Or p q) (IsAlt2 refusable first second)
 spelled-Or refusable p q first second one two partial a b x wide (inl h) =
     takes-on p (Or p q) x x a b (λ ts k. inl k) (one partial a b x wide h)
 spelled-Or refusable p q first second one two partial a b x wide (inr (c, (g, h))) =
@@ -94,7 +94,7 @@ spelled-Or refusable p q first second one two partial a b x wide (inr (c, (g, h)
 
 -- a value, or none
 pub spelled-Perhaps : {O T : Type 0} (p : Spelling O T) (inner : Meaning O T) → IsSpelled p inner
-    → IsSpelled (Perhaps p) (Optional inner)
+    → IsSpelled (Perhaps p) (IsOpt inner)
 spelled-Perhaps p inner one partial a b (Some x) wide h =
     takes-on p (Perhaps p) x (Some x) a b (λ ts k. k) (one partial a b x wide h)
 spelled-Perhaps p inner one partial a b None wide (same, h) = takes-none (Perhaps p) None a b same refl
@@ -104,13 +104,13 @@ pub spelled-Returns : {O T : Type 0} (x : O) → IsSpelled {T = T} NoToken (Retu
 spelled-Returns x partial a b y wide (is, same) = takes-none NoToken y a b same refl
 
 -- what only changes a failure
-pub spelled-CutOff : {O T : Type 0} (p : Spelling O T) (inner : Meaning O T) → IsSpelled p inner
-    → IsSpelled p (CutOff inner)
-spelled-CutOff p inner one partial a b x wide h = one partial a b x wide h
+pub spelled-CutsErr : {O T : Type 0} (p : Spelling O T) (inner : Meaning O T) → IsSpelled p inner
+    → IsSpelled p (CutsErr inner)
+spelled-CutsErr p inner one partial a b x wide h = one partial a b x wide h
 
-pub spelled-Softened : {O T : Type 0} (p : Spelling O T) (inner : Meaning O T) → IsSpelled p inner
-    → IsSpelled p (Softened inner)
-spelled-Softened p inner one partial a b x wide h = one partial a b x wide h
+pub spelled-BacktracksErr : {O T : Type 0} (p : Spelling O T) (inner : Meaning O T)
+    → IsSpelled p inner → IsSpelled p (BacktracksErr inner)
+spelled-BacktracksErr p inner one partial a b x wide h = one partial a b x wide h
 
 pub spelled-InContext : {O T : Type 0} (refusable : Type 0) (p : Spelling O T)
     (inner : Meaning O T) → IsSpelled p inner → IsSpelled p (InContext refusable inner)
@@ -141,34 +141,34 @@ module _ {O T : Type 0} (p : Spelling O T) (inner : Meaning O T) (one : IsSpelle
       )
 
   -- so many values in a row
-  pub spelled-Repeated : (least : ℕ) (greatest : Option ℕ)
-      → IsSpelled (Several least greatest p) (Repeated least greatest inner)
-  spelled-Repeated least greatest partial a b xs wide (turns, enough, most) =
+  pub spelled-Repeats : (least : ℕ) (greatest : Option ℕ)
+      → IsSpelled (Several least greatest p) (Repeats least greatest inner)
+  spelled-Repeats least greatest partial a b xs wide (turns, enough, most) =
       takes-on (InRow p) (Several least greatest p) xs xs a b (λ ts k. ((enough, up-to greatest (length xs) _ most), k))
       (spelled-InTurn partial xs a b wide turns)
 
   -- the same where errors may be appended to
   spelled-appended : (flag : Bool) (q : Type 0) (least : ℕ) (greatest : Option ℕ)
-      → IsSpelled (Several least greatest p) (AppendingIf flag q (Repeated least greatest inner))
-  spelled-appended true q least greatest partial a b xs wide h = spelled-Repeated least greatest partial a b xs wide h
-  spelled-appended false q least greatest partial a b xs wide h = spelled-Repeated least greatest partial a b xs wide h
+      → IsSpelled (Several least greatest p) (AppendingIf flag q (Repeats least greatest inner))
+  spelled-appended true q least greatest partial a b xs wide h = spelled-Repeats least greatest partial a b xs wide h
+  spelled-appended false q least greatest partial a b xs wide h = spelled-Repeats least greatest partial a b xs wide h
 
   -- of which a value is made
   pub spelled-Counted : {P : Type 0} (flag : Bool) (q : Type 0) (least : ℕ) (greatest : Option ℕ)
       (refusable : Type 0) (makes : List O → P → Type 0)
-      → IsSpelled (Counted least greatest makes p) (Ascending least greatest (Gathered refusable makes (AppendingIf flag q (Repeated least greatest inner))))
+      → IsSpelled (Counted least greatest makes p) (Ascending least greatest (Gathered refusable makes (AppendingIf flag q (Repeats least greatest inner))))
   spelled-Counted flag q least None refusable makes partial a b y wide h =
-      spelled-Gathered makes (Several least None p) (AppendingIf flag q (Repeated least None inner)) (spelled-appended flag q least None) refusable partial a b y wide h
+      spelled-Gathered makes (Several least None p) (AppendingIf flag q (Repeats least None inner)) (spelled-appended flag q least None) refusable partial a b y wide h
   spelled-Counted flag q least (Some g) refusable makes partial a b y wide (inl (l, h)) =
-      spelled-Gathered makes (Several least (Some g) p) (AppendingIf flag q (Repeated least (Some g) inner)) (spelled-appended flag q least (Some g)) refusable partial a b y wide h
+      spelled-Gathered makes (Several least (Some g) p) (AppendingIf flag q (Repeats least (Some g) inner)) (spelled-appended flag q least (Some g)) refusable partial a b y wide h
   spelled-Counted flag q least (Some g) refusable makes partial a b y wide (inr (l, e)) = absurd (cc e)
 
 -- values with separators between them, folded from the left
 pub spelled-Chain : {O S T : Type 0} (step : O → S × O → O → Type 0) (s : Spelling S T)
     (p : Spelling O T) (separator : Meaning S T) (inner : Meaning O T)
     → IsSpelled s separator → IsSpelled p inner
-    → IsSpelled (Chain step s p) (FoldedLeft step separator inner)
+    → IsSpelled (Chain step s p) (IsSeparatedFoldl1 step separator inner)
 spelled-Chain step s p separator inner one two =
     let pair = Pair separator inner in
-    spelled-MadeOf (FoldsLeft step) (Then p (Several 0 None (Then s p))) (Pair inner (Repeated 0 None pair))
-    (spelled-Then p (Several 0 None (Then s p)) inner (Repeated 0 None pair) two (spelled-Repeated (Then s p) pair (spelled-Then s p separator inner one two) 0 None))
+    spelled-MadeOf (FoldsLeft step) (Then p (Several 0 None (Then s p))) (Pair inner (Repeats 0 None pair))
+    (spelled-Then p (Several 0 None (Then s p)) inner (Repeats 0 None pair) two (spelled-Repeats (Then s p) pair (spelled-Then s p separator inner one two) 0 None))

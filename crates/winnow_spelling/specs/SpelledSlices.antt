@@ -11,9 +11,9 @@ use Rattle.winnow_match.specs.declared.compare.CompareResult.TheVariants as comp
 use Rattle.winnow_count.specs.CountRange.{is_up_to}
 use Rattle.winnow_parser.specs.Outcome.{Ahead, Meaning, after}
 use Rattle.winnow_parser.specs.Taken.{IsFrontTaken, Taken, WithTaken}
-use Rattle.winnow_parser.specs.Literal.{Literal}
-use Rattle.winnow_token.specs.Counted.{Counted}
-use Rattle.winnow_token.specs.Until.{Until}
+use Rattle.winnow_parser.specs.Literal.{IsLiteral}
+use Rattle.winnow_token.specs.Take.{Takes}
+use Rattle.winnow_token.specs.TakeUntil.{TakesUntil}
 use Rattle.winnow_combinator.specs.Counts.{IsUpTo}
 use Rattle.winnow_spelling.specs.Spelling.{Spelling, tokens_of, TakesFor, IsSpelled}
 use Rattle.winnow_spelling.specs.Spellings.{IsSliceOf, IsSliceWhere, Covered, Exactly, FindsAt, UntilHit, SliceOver, WithSlice}
@@ -53,13 +53,13 @@ module _ {S T : Type 0} (is_slice : S → Source T → ℕ → Type 0) where
 
   -- the slice of a literal
   pub spelled-Covered : (compare : Source T → CompareResult)
-      → IsSpelled (Covered is_slice compare) (Literal is_slice compare)
+      → IsSpelled (Covered is_slice compare) (IsLiteral is_slice compare)
   spelled-Covered compare partial a b s wide (n, (same, at, is, place)) =
       takes-front (Covered is_slice compare) s a b n (sym place) (slice-front (λ r m. compare r ≡ compared.Ok m) s a.tokens n at is same)
 
   -- the slice of so many tokens
   pub spelled-Exactly : (counts_shortage : Bool) (n : ℕ)
-      → IsSpelled (Exactly is_slice n) (Counted counts_shortage is_slice n)
+      → IsSpelled (Exactly is_slice n) (Takes counts_shortage is_slice n)
   spelled-Exactly counts_shortage n partial a b s wide (enough, at, is, place) =
       let w = width (take n a.tokens) in
       let k = slice-front (λ r m. Unit {0}) s a.tokens w at is tt in
@@ -69,7 +69,7 @@ module _ {S T : Type 0} (is_slice : S → Source T → ℕ → Type 0) where
 
   -- the slice of the tokens before a hit
   pub spelled-UntilHit : (find : Source T → Option (Range ℕ)) (least : ℕ) (greatest : Option ℕ)
-      → IsSpelled (UntilHit is_slice find least greatest) (Until is_slice find least greatest)
+      → IsSpelled (UntilHit is_slice find least greatest) (TakesUntil is_slice find least greatest)
   spelled-UntilHit find least greatest partial a b s wide (stay, (hit, ((found, at), (is, place, counts)))) =
       let n = hit.start in
       let count = length-tokens (front a.tokens n) in

@@ -7,8 +7,8 @@ use Rattle.winnow_stream.specs.Front.{back}
 use Rattle.winnow_stream.proofs.lemmas.FrontLemmas.{count_to-seam}
 use Rattle.winnow_stream.proofs.lemmas.HeldLemmas.{HoldsAll-held_front, append-held_front}
 use Rattle.winnow_parser.specs.Outcome.{Ahead, Gives, Meaning}
-use Rattle.winnow_token.specs.OneOf.{OneOf}
-use Rattle.winnow_token.specs.Held.{up_to, held_within, HeldFront}
+use Rattle.winnow_token.specs.OneOf.{IsOneOf}
+use Rattle.winnow_token.specs.TakeWhile.{up_to, held_within, TakesWhile}
 use Rattle.winnow_combinator.specs.Counts.{IsUpTo}
 use Rattle.winnow_spelling.specs.Spelling.{Spelling, tokens_of, IsSpelled}
 use Rattle.winnow_spelling.specs.Spellings.{OneToken, AreHeld, IsSliceOf, Run}
@@ -21,7 +21,7 @@ module _ {T : Type 0} where
   first-split (y ∷ ys) x e = (y, (refl, same_Some _ _ e))
 
   -- one token that a set holds
-  pub spelled-OneToken : (holds : T → Bool) → IsSpelled (OneToken holds) (OneOf holds)
+  pub spelled-OneToken : (holds : T → Bool) → IsSpelled (OneToken holds) (IsOneOf holds)
   spelled-OneToken holds partial a b x wide (first, held, place) =
       let s = first-split a.tokens x first in
       (s.0 ∷ [], (s.1.0 ∙ ap (λ r. s.0 ∷ r) (sym (ap (λ p. p.tokens) place)), (ap (λ t. t ∷ []) s.1.1, held)))
@@ -90,7 +90,7 @@ module _ {T : Type 0} where
     -- a run of tokens that a set holds
     pub spelled-Run : {S : Type 0} (is_slice : S → Source T → ℕ → Type 0) (least : ℕ)
         (greatest : Option ℕ)
-        → IsSpelled (Run is_slice holds least greatest) (HeldFront is_slice holds least greatest)
+        → IsSpelled (Run is_slice holds least greatest) (TakesWhile is_slice holds least greatest)
     spelled-Run is_slice least greatest partial a b s wide (is, place, enough, ends) =
         let held = held_within greatest holds a.tokens in
         let rest = rest-within greatest a.tokens in

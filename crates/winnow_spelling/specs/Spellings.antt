@@ -5,7 +5,7 @@ use Rattle.winnow_stream.specs.Source.{Source, width}
 use Rattle.winnow_match.specs.declared.compare.CompareResult.{CompareResult}
 use Rattle.winnow_match.specs.declared.compare.CompareResult.TheVariants as compared
 use Rattle.winnow_combinator.specs.Counts.{IsUpTo}
-use Rattle.winnow_combinator.specs.Separation.{FoldsLeft}
+use Rattle.winnow_combinator.specs.Separated.{FoldsLeft}
 use Rattle.winnow_spelling.specs.Spelling.{Spelling, tokens_of}
 
 -- ---- Tokens

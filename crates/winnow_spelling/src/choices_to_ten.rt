@@ -6,7 +6,7 @@ ghost use Rattle.winnow_spelling.specs.SpelledChoices.{spelled-Or7, spelled-Or8,
 ghost use Rattle.winnow_spelling.specs.SpelledChoices.{spelled-Or10};
 
 use crate::Spells;
-use winnow_combinator::Alternatives;
+use winnow_combinator::Alt;
 use winnow_error::ParserError;
 use winnow_stream::StreamIsPartial;
 
@@ -17,7 +17,7 @@ impl<
     B: Spells<I, E, Output = A::Output>,
     C: Spells<I, E, Output = A::Output>,
     D: Spells<I, E, Output = A::Output>,
-> Spells<I, E> for Alternatives<(A, B, C, D)> {
+> Spells<I, E> for Alt<(A, B, C, D)> {
     ghost spells = { λ p. Or4 (A.spells p.list.0) (B.spells p.list.1) (C.spells p.list.2)
         (D.spells p.list.3) };
 
@@ -35,7 +35,7 @@ impl<
     C: Spells<I, E, Output = A::Output>,
     D: Spells<I, E, Output = A::Output>,
     F: Spells<I, E, Output = A::Output>,
-> Spells<I, E> for Alternatives<(A, B, C, D, F)> {
+> Spells<I, E> for Alt<(A, B, C, D, F)> {
     ghost spells = { λ p. Or5 (A.spells p.list.0) (B.spells p.list.1) (C.spells p.list.2)
         (D.spells p.list.3) (F.spells p.list.4) };
 
@@ -55,7 +55,7 @@ impl<
     D: Spells<I, E, Output = A::Output>,
     F: Spells<I, E, Output = A::Output>,
     G: Spells<I, E, Output = A::Output>,
-> Spells<I, E> for Alternatives<(A, B, C, D, F, G)> {
+> Spells<I, E> for Alt<(A, B, C, D, F, G)> {
     ghost spells = { λ p. Or6 (A.spells p.list.0) (B.spells p.list.1) (C.spells p.list.2)
         (D.spells p.list.3) (F.spells p.list.4) (G.spells p.list.5) };
 
@@ -76,7 +76,7 @@ impl<
     F: Spells<I, E, Output = A::Output>,
     G: Spells<I, E, Output = A::Output>,
     H: Spells<I, E, Output = A::Output>,
-> Spells<I, E> for Alternatives<(A, B, C, D, F, G, H)> {
+> Spells<I, E> for Alt<(A, B, C, D, F, G, H)> {
     ghost spells = { λ p. Or7 (A.spells p.list.0) (B.spells p.list.1) (C.spells p.list.2)
         (D.spells p.list.3) (F.spells p.list.4) (G.spells p.list.5) (H.spells p.list.6) };
 
@@ -99,7 +99,7 @@ impl<
     G: Spells<I, E, Output = A::Output>,
     H: Spells<I, E, Output = A::Output>,
     J: Spells<I, E, Output = A::Output>,
-> Spells<I, E> for Alternatives<(A, B, C, D, F, G, H, J)> {
+> Spells<I, E> for Alt<(A, B, C, D, F, G, H, J)> {
     ghost spells = { λ p. Or8 (A.spells p.list.0) (B.spells p.list.1) (C.spells p.list.2)
         (D.spells p.list.3) (F.spells p.list.4) (G.spells p.list.5) (H.spells p.list.6)
         (J.spells p.list.7) };
@@ -125,7 +125,7 @@ impl<
     H: Spells<I, E, Output = A::Output>,
     J: Spells<I, E, Output = A::Output>,
     K: Spells<I, E, Output = A::Output>,
-> Spells<I, E> for Alternatives<(A, B, C, D, F, G, H, J, K)> {
+> Spells<I, E> for Alt<(A, B, C, D, F, G, H, J, K)> {
     ghost spells = { λ p. Or9 (A.spells p.list.0) (B.spells p.list.1) (C.spells p.list.2)
         (D.spells p.list.3) (F.spells p.list.4) (G.spells p.list.5) (H.spells p.list.6)
         (J.spells p.list.7) (K.spells p.list.8) };
@@ -153,7 +153,7 @@ impl<
     J: Spells<I, E, Output = A::Output>,
     K: Spells<I, E, Output = A::Output>,
     L: Spells<I, E, Output = A::Output>,
-> Spells<I, E> for Alternatives<(A, B, C, D, F, G, H, J, K, L)> {
+> Spells<I, E> for Alt<(A, B, C, D, F, G, H, J, K, L)> {
     ghost spells = { λ p. Or10 (A.spells p.list.0) (B.spells p.list.1) (C.spells p.list.2)
         (D.spells p.list.3) (F.spells p.list.4) (G.spells p.list.5) (H.spells p.list.6)
         (J.spells p.list.7) (K.spells p.list.8) (L.spells p.list.9) };

@@ -3,18 +3,17 @@
 ghost use Rattle.std.specs.Prelude.{Some, Ok, true};
 ghost use Rattle.winnow_parser.specs.Meanings.{IsAlways, IsForgotten, TriesTo};
 ghost use Rattle.winnow_spelling.specs.Spellings.{MadeOf, Such};
-ghost use Rattle.winnow_spelling.specs.Spelled.{spelled-MadeOf, spelled-Chosen, spelled-InContext};
-ghost use Rattle.winnow_spelling.specs.Spelled.{spelled-Verified};
+ghost use Rattle.winnow_spelling.specs.Spelled.{spelled-MadeOf, spelled-VerifyMaps};
+ghost use Rattle.winnow_spelling.specs.Spelled.{spelled-InContext};
+ghost use Rattle.winnow_spelling.specs.Spelled.{spelled-Verifies};
 
 use crate::Spells;
 use winnow_error::{AddContext, FromExternalError, ParserError};
-use winnow_parser::{
-    Contextual, Mapped, Parser, TryMapped, ValueTest, Valued, Verified, VerifyMapped, Voided,
-};
+use winnow_parser::{Context, Map, Parser, TryMap, Value, ValueTest, Verify, VerifyMap, Void};
 use winnow_stream::StreamIsPartial;
 
 impl<I: StreamIsPartial, E, P: Spells<I, E>, O, F: Fn(P::Output) -> O> Spells<I, E>
-    for Mapped<P, F, I, E> {
+    for Map<P, F, I, E> {
     ghost spells = { λ p. MadeOf (F.post p.f) (P.spells p.inner) };
 
     ghost spelled = { λ p. spelled-MadeOf (F.post p.f) (P.spells p.inner) (P.means p.inner)
@@ -26,7 +25,7 @@ impl<I: StreamIsPartial, E, P: Spells<I, E>, O, F: Fn(P::Output) -> O> Spells<I,
     }
 }
 
-impl<I: StreamIsPartial, E, P: Spells<I, E>, V: Copy> Spells<I, E> for Valued<P, V, I, E>
+impl<I: StreamIsPartial, E, P: Spells<I, E>, V: Copy> Spells<I, E> for Value<P, V, I, E>
 where
     P::Output: Drop,
 {
@@ -36,7 +35,7 @@ where
         (P.spelled p.inner) };
 }
 
-impl<I: StreamIsPartial, E, P: Spells<I, E>> Spells<I, E> for Voided<P, I, E>
+impl<I: StreamIsPartial, E, P: Spells<I, E>> Spells<I, E> for Void<P, I, E>
 where
     P::Output: Drop,
 {
@@ -52,10 +51,10 @@ impl<
     P: Spells<I, E>,
     O,
     F: Fn(P::Output) -> Option<O>,
-> Spells<I, E> for VerifyMapped<P, F, I, E> {
+> Spells<I, E> for VerifyMap<P, F, I, E> {
     ghost spells = { λ p. MadeOf (λ x y. F.post p.f x (Some y)) (P.spells p.inner) };
 
-    ghost spelled = { λ p. spelled-Chosen (F.post p.f) (P.spells p.inner) (P.means p.inner)
+    ghost spelled = { λ p. spelled-VerifyMaps (F.post p.f) (P.spells p.inner) (P.means p.inner)
         (P.spelled p.inner) };
 
     // The check states a bound on a function of a block that has a method.
@@ -71,10 +70,10 @@ impl<
     P: Spells<I, E>,
     O,
     F: Fn(P::Output) -> Result<O, X>,
-> Spells<I, E> for TryMapped<P, F, I, E> {
+> Spells<I, E> for TryMap<P, F, I, E> {
     ghost spells = { λ p. MadeOf (λ x y. F.post p.f x (Ok y)) (P.spells p.inner) };
 
-    ghost spelled = { λ p. spelled-Chosen (TriesTo (F.post p.f)) (P.spells p.inner)
+    ghost spelled = { λ p. spelled-VerifyMaps (TriesTo (F.post p.f)) (P.spells p.inner)
         (P.means p.inner)
         (P.spelled p.inner) };
 
@@ -90,18 +89,18 @@ impl<
     P: Spells<I, E>,
     F: ValueTest<P::Output, By>,
     By,
-> Spells<I, E> for Verified<P, F, By, I, E>
+> Spells<I, E> for Verify<P, F, By, I, E>
 where
     P::Output: Drop,
 {
     ghost spells = { λ p. Such (λ x. F.says p.test x true) (P.spells p.inner) };
 
-    ghost spelled = { λ p. spelled-Verified (F.says p.test) (P.spells p.inner) (P.means p.inner)
+    ghost spelled = { λ p. spelled-Verifies (F.says p.test) (P.spells p.inner) (P.means p.inner)
         (P.spelled p.inner) };
 }
 
 impl<I: StreamIsPartial, C: Copy, E: AddContext<I, C>, P: Spells<I, E>> Spells<I, E>
-    for Contextual<P, C, I, E> {
+    for Context<P, C, I, E> {
     ghost spells = { λ p. P.spells p.inner };
 
     ghost spelled = { λ p. spelled-InContext E.add_context_refusable (P.spells p.inner)

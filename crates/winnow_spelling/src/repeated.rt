@@ -7,12 +7,12 @@ ghost use Rattle.winnow_spelling.specs.Spelled.{spelled-Counted, spelled-Chain};
 ghost use Rattle.winnow_spelling.specs.SpelledLists.{spelled-ListOf};
 
 use crate::Spells;
-use winnow_combinator::{Begin, LeftFold, Repeated, Separation};
+use winnow_combinator::{Begin, Repeat, Separated, SeparatedFoldl1};
 use winnow_error::ParserError;
 use winnow_stream::StreamIsPartial;
 
 impl<I: StreamIsPartial, E: ParserError<I>, P: Spells<I, E>, G: Begin<P::Output>> Spells<I, E>
-    for Repeated<P, G>
+    for Repeat<P, G>
 where
     P::Output: Drop,
 {
@@ -32,7 +32,7 @@ impl<
     P: Spells<I, E, Output = O>,
     S: Spells<I, E, Output = T>,
     F: Fn(O, T, O) -> O,
-> Spells<I, E> for LeftFold<P, S, F> {
+> Spells<I, E> for SeparatedFoldl1<P, S, F> {
     ghost spells = { λ p. Chain (λ left pair new. F.post p.op left pair.0 pair.1 new)
         (S.spells p.separator) (P.spells p.inner) };
 
@@ -53,7 +53,7 @@ impl<
     P: Spells<I, E>,
     S: Spells<I, E>,
     G: Begin<P::Output>,
-> Spells<I, E> for Separation<P, S, G>
+> Spells<I, E> for Separated<P, S, G>
 where
     P::Output: Drop,
     S::Output: Drop,

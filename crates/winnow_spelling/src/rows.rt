@@ -6,7 +6,7 @@ ghost use Rattle.winnow_spelling.specs.SpellingRows.{Then3, Then4, Then5};
 ghost use Rattle.winnow_spelling.specs.SpelledRows.{spelled-Then3, spelled-Then4, spelled-Then5};
 
 use crate::Spells;
-use winnow_combinator::{FirstOf, SecondOf};
+use winnow_combinator::{Preceded, Terminated};
 use winnow_stream::StreamIsPartial;
 
 impl<I: StreamIsPartial, E, A: Spells<I, E>, B: Spells<I, E>> Spells<I, E> for (A, B)
@@ -77,7 +77,7 @@ where
         (D.spelled p.3) (F.spelled p.4) };
 }
 
-impl<I: StreamIsPartial, E, A: Spells<I, E>, B: Spells<I, E>> Spells<I, E> for SecondOf<A, B>
+impl<I: StreamIsPartial, E, A: Spells<I, E>, B: Spells<I, E>> Spells<I, E> for Preceded<A, B>
 where
     A::Output: Drop,
 {
@@ -88,7 +88,7 @@ where
         (A.spelled p.first) (B.spelled p.second) };
 }
 
-impl<I: StreamIsPartial, E, A: Spells<I, E>, B: Spells<I, E>> Spells<I, E> for FirstOf<A, B>
+impl<I: StreamIsPartial, E, A: Spells<I, E>, B: Spells<I, E>> Spells<I, E> for Terminated<A, B>
 where
     A::Output: Drop,
     B::Output: Drop,

@@ -1,7 +1,7 @@
 //! The spellings of `literal`, `take`, `take_until`, `take()` and `with_taken()`.
 
 ghost use Rattle.winnow_count.specs.CountRange.{least_count, greatest_count};
-ghost use Rattle.winnow_parser.specs.Literal.{Literal};
+ghost use Rattle.winnow_parser.specs.Literal.{IsLiteral};
 ghost use Rattle.winnow_parser.specs.Meanings.{IsAlways};
 ghost use Rattle.winnow_spelling.specs.Spelled.{spelled-MadeOf};
 ghost use Rattle.winnow_spelling.specs.Spellings.{MadeOf, Covered, Exactly, UntilHit};
@@ -15,9 +15,9 @@ use winnow_error::ParserError;
 use winnow_match::{Compare, FindSlice};
 use winnow_parser::{Taken, WithTaken};
 use winnow_stream::StreamIsPartial;
-use winnow_token::{Counted, TokensBefore, Wanted};
+use winnow_token::{Literal, Take, TakeUntil};
 
-impl<I: Compare<T> + StreamIsPartial, E: ParserError<I>, T: Copy> Spells<I, E> for Wanted<T> {
+impl<I: Compare<T> + StreamIsPartial, E: ParserError<I>, T: Copy> Spells<I, E> for Literal<T> {
     ghost spells = { λ p. Covered I.is_slice (I.compared p.text) };
 
     ghost spelled = { λ p. spelled-Covered I.is_slice (I.compared p.text) };
@@ -30,7 +30,7 @@ where
     ghost spells = { λ p. MadeOf (IsAlways p) (Covered I.is_slice (I.compared p)) };
 
     ghost spelled = { λ p. spelled-MadeOf (IsAlways p)
-        (Covered I.is_slice (I.compared p)) (Literal I.is_slice (I.compared p))
+        (Covered I.is_slice (I.compared p)) (IsLiteral I.is_slice (I.compared p))
         (spelled-Covered I.is_slice (I.compared p)) };
 }
 
@@ -41,7 +41,7 @@ where
     ghost spells = { λ p. MadeOf (IsAlways p) (Covered I.is_slice (I.compared p)) };
 
     ghost spelled = { λ p. spelled-MadeOf (IsAlways p)
-        (Covered I.is_slice (I.compared p)) (Literal I.is_slice (I.compared p))
+        (Covered I.is_slice (I.compared p)) (IsLiteral I.is_slice (I.compared p))
         (spelled-Covered I.is_slice (I.compared p)) };
 }
 
@@ -57,14 +57,13 @@ impl<'l, I: Compare<&'l [u8]> + StreamIsPartial, E: ParserError<I>> Spells<I, E>
     ghost spelled = { λ p. spelled-Covered I.is_slice (I.compared p) };
 }
 
-impl<I: StreamIsPartial, E: ParserError<I>> Spells<I, E> for Counted {
+impl<I: StreamIsPartial, E: ParserError<I>> Spells<I, E> for Take {
     ghost spells = { λ p. Exactly I.is_slice p.count };
 
     ghost spelled = { λ p. spelled-Exactly I.is_slice I.counts_shortage p.count };
 }
 
-impl<I: FindSlice<T> + StreamIsPartial, E: ParserError<I>, T: Copy> Spells<I, E>
-    for TokensBefore<T> {
+impl<I: FindSlice<T> + StreamIsPartial, E: ParserError<I>, T: Copy> Spells<I, E> for TakeUntil<T> {
     ghost spells = { λ p. UntilHit I.is_slice
         (I.found p.literal) (least_count p.counts) (greatest_count p.counts) };
 

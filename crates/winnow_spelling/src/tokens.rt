@@ -9,9 +9,9 @@ use crate::Spells;
 use winnow_error::ParserError;
 use winnow_sets::FixedSet;
 use winnow_stream::StreamIsPartial;
-use winnow_token::{AnyToken, HeldTokens, NoneOf, OneOf, OtherTokens};
+use winnow_token::{Any, NoneOf, OneOf, TakeTill, TakeWhile};
 
-impl<I: StreamIsPartial, E: ParserError<I>> Spells<I, E> for AnyToken {
+impl<I: StreamIsPartial, E: ParserError<I>> Spells<I, E> for Any {
     ghost spells = { λ _. OneToken (λ _. true) };
 
     ghost spelled = { λ _. spelled-OneToken (λ _. true) };
@@ -35,7 +35,7 @@ where
     ghost spelled = { λ p. spelled-OneToken (λ token. not (C.holds p.set token)) };
 }
 
-impl<I: StreamIsPartial, E: ParserError<I>, C: FixedSet<I::Token>> Spells<I, E> for HeldTokens<C> {
+impl<I: StreamIsPartial, E: ParserError<I>, C: FixedSet<I::Token>> Spells<I, E> for TakeWhile<C> {
     ghost spells = { λ p. Run I.is_slice (C.holds p.set) (least_count p.counts)
         (greatest_count p.counts) };
 
@@ -43,7 +43,7 @@ impl<I: StreamIsPartial, E: ParserError<I>, C: FixedSet<I::Token>> Spells<I, E> 
         (greatest_count p.counts) };
 }
 
-impl<I: StreamIsPartial, E: ParserError<I>, C: FixedSet<I::Token>> Spells<I, E> for OtherTokens<C> {
+impl<I: StreamIsPartial, E: ParserError<I>, C: FixedSet<I::Token>> Spells<I, E> for TakeTill<C> {
     ghost spells = { λ p. Run I.is_slice (λ token. not (C.holds p.set token))
         (least_count p.counts) (greatest_count p.counts) };
 

@@ -1,7 +1,7 @@
 pub mod OneOf
-pub mod Counted
-pub mod Held
-pub mod Until
-pub mod Remaining
+pub mod Take
+pub mod TakeWhile
+pub mod TakeUntil
+pub mod Rest
 pub mod Prompt
 pub mod Run

@@ -17,13 +17,13 @@ after_one a = record { location = location_behind a.location (width (take 1 a.to
 
 -- the first token, if the set holds it; at the end the parser needs one more where more may follow,
 -- and backtracks where nothing may
-abbrev pub OneOf : {T : Type 0} → (T → Bool) → Meaning T T
-OneOf holds partial a (Gives x b) = (first_token a.tokens ≡ Some x) × (holds x ≡ true) × (b ≡ after_one a)
-OneOf holds partial a (Fails (Backtracks b)) =
+abbrev pub IsOneOf : {T : Type 0} → (T → Bool) → Meaning T T
+IsOneOf holds partial a (Gives x b) = (first_token a.tokens ≡ Some x) × (holds x ≡ true) × (b ≡ after_one a)
+IsOneOf holds partial a (Fails (Backtracks b)) =
     IfSome (first_token a.tokens) (λ x. holds x ≡ false) × (partial ≡ true → a.tokens ≢ []) × (b ≡ a)
-OneOf holds partial a (Fails (Cuts b)) = ⊥
-OneOf holds partial a (Fails (Needs n)) = (a.tokens ≡ []) × (partial ≡ true) × (n ≡ needed 1)
-OneOf holds partial a (Fails Refuses) = ⊥
+IsOneOf holds partial a (Fails (Cuts b)) = ⊥
+IsOneOf holds partial a (Fails (Needs n)) = (a.tokens ≡ []) × (partial ≡ true) × (n ≡ needed 1)
+IsOneOf holds partial a (Fails Refuses) = ⊥
 
 module _ {T : Type 0} where
   -- the first token stays the first when more follows
@@ -51,8 +51,8 @@ module _ {T : Type 0} (holds : T → Bool) where
   some-longer [] more n = absurd (n refl)
   some-longer (x ∷ xs) more n = λ e. cc
 
-  -- a settled answer of `OneOf` stays when more input follows
-  one_of-stable : IsStable (OneOf holds)
+  -- a settled answer of `IsOneOf` stays when more input follows
+  one_of-stable : IsStable (IsOneOf holds)
   one_of-stable more partial a (Gives x b) s h =
       let first = first-longer a.tokens more x h.0 in
       (first.0, h.1, ap (longer more) h.2 ∙ after_one-longer more a first.1)
@@ -62,18 +62,18 @@ module _ {T : Type 0} (holds : T → Bool) where
   one_of-stable more partial a (Fails (Needs n)) s h = absurd s
   one_of-stable more partial a (Fails Refuses) s h = absurd s
 
-  -- `OneOf` needs nothing more where nothing more may follow
-  one_of-final : IsFinal (OneOf holds)
+  -- `IsOneOf` needs nothing more where nothing more may follow
+  one_of-final : IsFinal (IsOneOf holds)
   one_of-final a n h = cc
 
-  -- `OneOf` only moves the stream on
-  one_of-onward : IsOnward (OneOf holds)
+  -- `IsOneOf` only moves the stream on
+  one_of-onward : IsOnward (IsOneOf holds)
   one_of-onward partial a (Gives x b) h = subst (Moves a) (sym h.2) (MovesOn-token a.location a.tokens)
   one_of-onward partial a (Fails (Backtracks b)) h = Moves-still a b (sym h.2)
   one_of-onward partial a (Fails (Cuts b)) h = absurd h
   one_of-onward partial a (Fails (Needs n)) h = tt
   one_of-onward partial a (Fails Refuses) h = tt
 
-  -- `OneOf` keeps the laws of a parser
-  pub IsParser-OneOf : IsParser (OneOf holds)
-  IsParser-OneOf = record { stable = one_of-stable; final = one_of-final; onward = one_of-onward }
+  -- `IsOneOf` keeps the laws of a parser
+  pub IsParser-IsOneOf : IsParser (IsOneOf holds)
+  IsParser-IsOneOf = record { stable = one_of-stable; final = one_of-final; onward = one_of-onward }

@@ -3,7 +3,7 @@
 ghost use Rattle.std.specs.Prelude.{◌≡◌, ◌≤◌, ◌↔◌, IsTrue, length};
 ghost use Rattle.winnow_stream.specs.Front.{is_offset, front};
 ghost use Rattle.winnow_count.specs.CountRange.{least_count, greatest_count, is_up_to};
-ghost use Rattle.winnow_token.specs.Until.{has_counts};
+ghost use Rattle.winnow_token.specs.TakeUntil.{has_counts};
 
 use winnow_count::Range;
 use winnow_stream::Stream;

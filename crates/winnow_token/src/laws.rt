@@ -9,12 +9,12 @@ ghost use Rattle.winnow_match.specs.Bytes.{bytes_of, utf8_of};
 ghost use Rattle.winnow_match.specs.Search.{hit, have_one_length};
 ghost use Rattle.winnow_match.specs.declared.compare.CompareResult.{CompareResult};
 ghost use Rattle.winnow_parser.specs.Determined.{IsDetermined, Shows, SlicesRespect};
-ghost use Rattle.winnow_token.specs.OneOf.{OneOf};
-ghost use Rattle.winnow_token.specs.Counted.{Counted};
-ghost use Rattle.winnow_token.specs.Held.{HeldFront};
-ghost use Rattle.winnow_parser.specs.Literal.{Literal};
-ghost use Rattle.winnow_token.specs.Remaining.{Remaining, RemainingWidth, WholesRespect};
-ghost use Rattle.winnow_token.specs.Until.{HitsStay, Until};
+ghost use Rattle.winnow_token.specs.OneOf.{IsOneOf};
+ghost use Rattle.winnow_token.specs.Take.{Takes};
+ghost use Rattle.winnow_token.specs.TakeWhile.{TakesWhile};
+ghost use Rattle.winnow_parser.specs.Literal.{IsLiteral};
+ghost use Rattle.winnow_token.specs.Rest.{IsRest, IsRestLen, WholesRespect};
+ghost use Rattle.winnow_token.specs.TakeUntil.{HitsStay, TakesUntil};
 ghost use Rattle.winnow_token.specs.Prompt.{IsPrompt};
 
 use winnow_stream::Stream;
@@ -47,29 +47,29 @@ pub fn hits_stay_law()
 /// k more tokens, it has no settled answer before k have come. It does nothing when called: its
 /// contract is the law.
 pub fn prompt_law<I: Stream>()
-    ensures one { (holds : I.Token → Bool) → IsPrompt (OneOf holds) }
-    ensures counted { (n : ℕ) → IsPrompt (Counted I.counts_shortage I.is_slice n) }
+    ensures one { (holds : I.Token → Bool) → IsPrompt (IsOneOf holds) }
+    ensures counted { (n : ℕ) → IsPrompt (Takes I.counts_shortage I.is_slice n) }
     ensures held { (holds : I.Token → Bool) (least : ℕ) (greatest : Option ℕ)
-        → IsPrompt (HeldFront I.is_slice holds least greatest) }
+        → IsPrompt (TakesWhile I.is_slice holds least greatest) }
 {}
 
 /// The laws of one answer for parsers of tokens: there is one token, one width of what remains, and
 /// one slice, for a view that shows the same of all slices of one front (of one whole, for
 /// [`rest`](crate::rest)). It does nothing when called: its contract is the law.
 pub fn determined_token_law<I: Stream, V>()
-    ensures one { (holds : I.Token → Bool) → IsDetermined (λ x y. x ≡ y) (OneOf holds) }
+    ensures one { (holds : I.Token → Bool) → IsDetermined (λ x y. x ≡ y) (IsOneOf holds) }
     ensures counted { (view : I.Slice → V) (n : ℕ) → SlicesRespect I.is_slice (Shows view)
-        → IsDetermined (Shows view) (Counted I.counts_shortage I.is_slice n) }
+        → IsDetermined (Shows view) (Takes I.counts_shortage I.is_slice n) }
     ensures held { (view : I.Slice → V) (holds : I.Token → Bool) (least : ℕ) (greatest : Option ℕ)
         → SlicesRespect I.is_slice (Shows view)
-        → IsDetermined (Shows view) (HeldFront I.is_slice holds least greatest) }
+        → IsDetermined (Shows view) (TakesWhile I.is_slice holds least greatest) }
     ensures literal { (view : I.Slice → V) (compare : Source I.Token → CompareResult)
         → SlicesRespect I.is_slice (Shows view)
-        → IsDetermined (Shows view) (Literal I.is_slice compare) }
+        → IsDetermined (Shows view) (IsLiteral I.is_slice compare) }
     ensures until { (view : I.Slice → V) (find : Source I.Token → Option (Range ℕ)) (least : ℕ)
         (greatest : Option ℕ) → SlicesRespect I.is_slice (Shows view)
-        → IsDetermined (Shows view) (Until I.is_slice find least greatest) }
+        → IsDetermined (Shows view) (TakesUntil I.is_slice find least greatest) }
     ensures remaining { (view : I.Slice → V) → WholesRespect I.is_slice (Shows view)
-        → IsDetermined (Shows view) (Remaining I.is_slice) }
-    ensures remaining_width { IsDetermined {T = I.Token} (λ x y. x ≡ y) RemainingWidth }
+        → IsDetermined (Shows view) (IsRest I.is_slice) }
+    ensures remaining_width { IsDetermined {T = I.Token} (λ x y. x ≡ y) IsRestLen }
 {}

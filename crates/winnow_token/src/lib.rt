@@ -1,18 +1,20 @@
 //! Parsers of tokens: one of a set, a number of them, those in a set, a literal, and the rest.
 #![tactic(auto, using(winnow_parser::proofs::lemmas::OnwardLemmas::onward_steps))]
 
-mod counted;
 mod counts;
-mod held;
+mod functions;
 mod laws;
-mod one_token;
-mod remaining;
-mod until;
+mod parsers;
 
-pub use counted::{Counted, take};
-pub use held::{HeldTokens, OtherTokens, take_till, take_while};
+pub use functions::{any, rest, take};
 pub use laws::{count_law, determined_token_law, hits_stay_law, prompt_law};
-pub use one_token::{AnyToken, NoneOf, OneOf, any, none_of, one_of};
-pub use remaining::{Remaining, RemainingWidth, rest, rest_len};
-pub use until::{TokensBefore, take_until};
-pub use winnow_parser::{Wanted, literal};
+pub use parsers::any::Any;
+pub use parsers::none_of::{NoneOf, none_of};
+pub use parsers::one_of::{OneOf, one_of};
+pub use parsers::rest::Rest;
+pub use parsers::rest_len::{RestLen, rest_len};
+pub use parsers::take::Take;
+pub use parsers::take_till::{TakeTill, take_till};
+pub use parsers::take_until::{TakeUntil, take_until};
+pub use parsers::take_while::{TakeWhile, take_while};
+pub use winnow_parser::{Literal, literal};

@@ -15,7 +15,7 @@ use winnow_stream::{
 };
 
 /// A stream with a flag that more input may follow. The flag is set at first, `complete` clears it,
-/// and `reset` leaves it as it is.
+/// and `reset` leaves it is.
 ///
 /// At the end of what remains, a parser calls `is_partial`. If more may follow, the parser answers
 /// that it needs more.

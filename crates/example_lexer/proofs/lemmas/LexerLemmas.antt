@@ -5,12 +5,12 @@ use Rattle.std.proofs.lemmas.Bool.Decides.{nat_tests}
 use Rattle.winnow_stream.specs.Source.{Source, HasPositiveWidths, HoldsAll}
 use Rattle.winnow_parser.specs.Outcome.{Ahead, Cuts, Gives, Fails, Meaning, Moves}
 use Rattle.winnow_parser.specs.Meanings.{Maps, IsAlways}
-use Rattle.winnow_token.specs.OneOf.{OneOf}
-use Rattle.winnow_token.specs.Held.{HeldFront}
+use Rattle.winnow_token.specs.OneOf.{IsOneOf}
+use Rattle.winnow_token.specs.TakeWhile.{TakesWhile}
 use Rattle.winnow_token.specs.Run.{IsRun}
 use Rattle.winnow_token.proofs.lemmas.RunLemmas.{held-run, held-few, held-none, held-never-cuts, one_of-taken, any-none}
 use Rattle.winnow_combinator.specs.Appended.{Appending}
-use Rattle.winnow_combinator.specs.Choices.{Choice3}
+use Rattle.winnow_combinator.specs.Alt.{IsAlt3}
 use Rattle.winnow_combinator.specs.Words.{IsLexer}
 use Rattle.example_lexer.specs.Tokens.{is_blank, kind_of, goes_on, IsClear, IsText, IsWord}
 use Rattle.example_lexer.specs.declared.token.Kind.{Kind}
@@ -46,7 +46,7 @@ run-taken kind a b clear run =
 module _ {S : Type 0} (is_slice : S → Source ℕ → ℕ → Type 0) {l m n : ℕ} {i j k : Option ℕ} (any : (l ≡ 0) × (i ≡ None)) (one : (m ≡ 1) × (j ≡ None)) (some : (n ≡ 1) × (k ≡ None)) where
   -- the meaning of the parser of kinds
   abbrev Kinds : Meaning Kind ℕ
-  Kinds = Appending ⊥ (Choice3 ⊥ (Maps (IsAlways Name) (HeldFront is_slice is_ascii_alphabetic m j)) (Maps (IsAlways Number) (HeldFront is_slice is_ascii_digit n k)) (Maps (IsAlways Punctuation) (OneOf (λ _. true))))
+  Kinds = Appending ⊥ (IsAlt3 ⊥ (Maps (IsAlways Name) (TakesWhile is_slice is_ascii_alphabetic m j)) (Maps (IsAlways Number) (TakesWhile is_slice is_ascii_digit n k)) (Maps (IsAlways Punctuation) (IsOneOf (λ _. true))))
 
   -- the parser of kinds takes a token of the kind that it gives
   reads : (kind : Kind) (a b : Ahead ℕ) → HasPositiveWidths a.tokens → IsClear a.tokens
@@ -68,7 +68,7 @@ module _ {S : Type 0} (is_slice : S → Source ℕ → ℕ → Type 0) {l m n : 
   uncut a b (inr (d, ((c, (other, none)), h))) = h
 
   -- the parsers of blanks and kinds make a lexer
-  plain : IsLexer (HeldFront is_slice is_blank l i) Kinds (HoldsAll is_blank) IsClear IsWord
+  plain : IsLexer (TakesWhile is_slice is_blank l i) Kinds (HoldsAll is_blank) IsClear IsWord
   plain = record {
     skips = λ s a b wide h. let run = held-run is_slice is_blank false a b 0 any s wide h in (run.over, (run.held, run.ends));
     skips_one = λ s t a b c h g. h.1 ∙ sym g.1;
@@ -83,5 +83,5 @@ module _ {S : Type 0} (is_slice : S → Source ℕ → ℕ → Type 0) {l m n : 
   pub lexer : {blanks letters digits : ℕ → Bool} {x y z : Kind} → blanks ≡ is_blank
       → letters ≡ is_ascii_alphabetic → digits ≡ is_ascii_digit → x ≡ Name → y ≡ Number
       → z ≡ Punctuation
-      → IsLexer (HeldFront is_slice blanks l i) (Appending ⊥ (Choice3 ⊥ (Maps (IsAlways x) (HeldFront is_slice letters m j)) (Maps (IsAlways y) (HeldFront is_slice digits n k)) (Maps (IsAlways z) (OneOf (λ _. true))))) (HoldsAll is_blank) IsClear IsWord
+      → IsLexer (TakesWhile is_slice blanks l i) (Appending ⊥ (IsAlt3 ⊥ (Maps (IsAlways x) (TakesWhile is_slice letters m j)) (Maps (IsAlways y) (TakesWhile is_slice digits n k)) (Maps (IsAlways z) (IsOneOf (λ _. true))))) (HoldsAll is_blank) IsClear IsWord
   lexer blank letter digit e f g = rw (blank, letter, digit, e, f, g) plain

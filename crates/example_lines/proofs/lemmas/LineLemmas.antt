@@ -15,9 +15,9 @@ use Rattle.winnow_match.proofs.lemmas.ByteLemmas.{bytes_of-units}
 use Rattle.winnow_match.proofs.lemmas.HitLemmas.{hit-splits}
 use Rattle.winnow_match.specs.declared.compare.CompareResult.TheVariants as compared
 use Rattle.winnow.specs.Outcome.{Ahead, Outcome, Meaning, after, Backtracks, Cuts, Needs, Gives, Fails}
-use Rattle.winnow.specs.Meanings.{Terminated}
-use Rattle.winnow.specs.Until.{Until, has_counts}
-use Rattle.winnow.specs.Literal.{Literal}
+use Rattle.winnow.specs.Meanings.{IsTerminated}
+use Rattle.winnow.specs.TakeUntil.{TakesUntil, has_counts}
+use Rattle.winnow.specs.Literal.{IsLiteral}
 use Rattle.winnow.specs.Place.{IsByteSlice, bytes_at}
 use Rattle.winnow.specs.InTurn.{bytes_at-slice}
 use Rattle.winnow_base.specs.Needed.{Needed}
@@ -29,15 +29,15 @@ use Rattle.example_lines.specs.Lines.{line_end, LineSlice, OneLine, IsNextLine, 
 -- what `terminated` of a search and a literal means, of which both are the line end
 abbrev LineBetween : List ℕ → List ℕ → ℕ → Option ℕ → Meaning (Bor (List ℕ)) ℕ
 LineBetween needle text least greatest =
-    Terminated (Until IsByteSlice (λ r. hit (needle ∷ []) (bytes_of r)) least greatest)
-    (Literal IsByteSlice (λ r. comparison text (bytes_of r)))
+    IsTerminated (TakesUntil IsByteSlice (λ r. hit (needle ∷ []) (bytes_of r)) least greatest)
+    (IsLiteral IsByteSlice (λ r. comparison text (bytes_of r)))
 
 -- the search alone, and the literal alone
 abbrev LineStart : Meaning (Bor (List ℕ)) ℕ
-LineStart = Until IsByteSlice (λ r. hit (line_end ∷ []) (bytes_of r)) 0 None
+LineStart = TakesUntil IsByteSlice (λ r. hit (line_end ∷ []) (bytes_of r)) 0 None
 
 abbrev LineEnd : Meaning (Bor (List ℕ)) ℕ
-LineEnd = Literal IsByteSlice (λ r. comparison line_end (bytes_of r))
+LineEnd = IsLiteral IsByteSlice (λ r. comparison line_end (bytes_of r))
 
 -- it is the slice of a line
 pub line-slice : (needle text : List ℕ) (least : ℕ) (greatest : Option ℕ) (partial : Bool)

@@ -14,8 +14,8 @@ use Rattle.winnow_parser.specs.Meanings.{Returns}
 use Rattle.winnow_parser.specs.Answer.{outcome}
 use Rattle.winnow_parser.specs.declared.failure.Failure.{Failure}
 use Rattle.winnow_parser.specs.declared.failure.Failure.TheVariants.{Incomplete, Backtrack, Cut, Refused}
-use Rattle.winnow_token.specs.OneOf.{OneOf}
-use Rattle.winnow_combinator.specs.Repetition.{Taking, InTurn, OneMore}
+use Rattle.winnow_token.specs.OneOf.{IsOneOf}
+use Rattle.winnow_combinator.specs.Repeat.{Taking, InTurn, OneMore}
 use Rattle.example_nested.specs.Trees.{branches_of, written, written_all, above_all, depth_of}
 use Rattle.example_nested.specs.Nested.{Opens, Closes, Bracketed, Branches, Nested}
 use Rattle.example_nested.specs.Answers.{StartsWith, text_of, StandsAhead, AreOpen, EndsBefore, IsBegun, IsAnswer, MissesNone}
@@ -35,7 +35,7 @@ module _ {T : Type 0} (code : T → ℕ) where
 
   -- the token that was taken is the bracket, and the rest follows it
   taken : (n : ℕ) (partial : Bool) (a b : Ahead T) (x : T)
-      → OneOf (λ token. n == code token) partial a (Gives x b)
+      → IsOneOf (λ token. n == code token) partial a (Gives x b)
       → (y : T × ℕ) × ((a.tokens ≡ y ∷ b.tokens) × (code y.0 ≡ n))
   taken n partial a b x h =
       let at = bracket n a.tokens x h.0 h.1 in

@@ -6,9 +6,9 @@ use Rattle.std.proofs.lemmas.Bool.Decides.{nat_tests}
 use Rattle.std.proofs.lemmas.List.{nil_from_length}
 use Rattle.winnow_stream.specs.Source.{Source, width, first_token}
 use Rattle.winnow_parser.specs.Outcome.{Ahead, Gives, Meaning}
-use Rattle.winnow_parser.specs.Meanings.{Pair, Optional}
-use Rattle.winnow_token.specs.Held.{HeldFront}
-use Rattle.winnow_token.specs.OneOf.{OneOf, after_one}
+use Rattle.winnow_parser.specs.Meanings.{Pair, IsOpt}
+use Rattle.winnow_token.specs.TakeWhile.{TakesWhile}
+use Rattle.winnow_token.specs.OneOf.{IsOneOf, after_one}
 use Rattle.example_settings.specs.Lines.{is_blank, is_in_line, behind, behind_line, from_sign, from_value, IsPart, IsSetting, Lacks, told}
 use Rattle.example_settings.specs.declared.fault.Wanted.TheVariants as wanted
 
@@ -29,21 +29,21 @@ length-behind_line a some = shorter _ a.tokens some
 module _ {S : Type 0} (is_slice : S → Source ℕ → ℕ → Type 0) where
   -- the meaning of a part and the blanks after it
   abbrev Spaced : {O : Type 0} → Meaning O ℕ → Meaning (O × S) ℕ
-  Spaced part = Pair part (HeldFront is_slice is_blank 0 None)
+  Spaced part = Pair part (TakesWhile is_slice is_blank 0 None)
 
   -- the meaning of the parser of a line
   abbrev Line : Meaning (Option ((S × S) × Option ((ℕ × S) × Option S))) ℕ
-  Line = Optional (Pair (Spaced (HeldFront is_slice is_ascii_alphabetic 1 None)) (Optional (Pair (Spaced (OneOf (λ c. 61 == c))) (Optional (HeldFront is_slice is_in_line 1 None)))))
+  Line = IsOpt (Pair (Spaced (TakesWhile is_slice is_ascii_alphabetic 1 None)) (IsOpt (Pair (Spaced (IsOneOf (λ c. 61 == c))) (IsOpt (TakesWhile is_slice is_in_line 1 None)))))
 
   -- a key and blanks end at the place of the sign
   key : (partial : Bool) (a b : Ahead ℕ) (both : S × S)
-      → Spaced (HeldFront is_slice is_ascii_alphabetic 1 None) partial a (Gives both b)
+      → Spaced (TakesWhile is_slice is_ascii_alphabetic 1 None) partial a (Gives both b)
       → IsPart is_slice is_ascii_alphabetic a both.0 × (b ≡ from_sign a)
   key partial a b both (c, (h, k)) = ((h.0, λ e. omega (arith, h.2, ap length e)), k.1 ∙ ap (behind is_blank) h.1)
 
   -- a sign and blanks end after the blanks
   sign : (partial : Bool) (a b : Ahead ℕ) (both : ℕ × S)
-      → Spaced (OneOf (λ c. 61 == c)) partial a (Gives both b)
+      → Spaced (IsOneOf (λ c. 61 == c)) partial a (Gives both b)
       → (first_token a.tokens ≡ Some 61) × (b ≡ behind is_blank (after_one a))
   sign partial a b both (c, (h, k)) = (grind (arith, nat_tests, h.0, h.1), k.1 ∙ ap (behind is_blank) h.2)
 

@@ -11,7 +11,7 @@ use Rattle.winnow_parser.specs.Determined.{IsDetermined, Agree}
 use Rattle.winnow_combinator.specs.Appended.{AppendedErrors}
 use Rattle.winnow_combinator.specs.DeterminedLists.{AreSameEach}
 use Rattle.winnow_combinator.specs.Misuse.{GatheredErrors}
-use Rattle.winnow_ascii.specs.Escapes.{NextFragment, UpToEnd, EscapeErrors, FragmentErrors, UpToEndErrors, InTurnErrors, AreSameFragments}
+use Rattle.winnow_ascii.specs.Escaped.{NextFragment, UpToEnd, EscapeErrors, FragmentErrors, UpToEndErrors, InTurnErrors, AreSameFragments}
 use Rattle.winnow_ascii.specs.declared.fragment.Fragment.{Fragment}
 use Rattle.winnow_ascii.specs.declared.fragment.Fragment.TheVariants.{Normal, Escaped}
 use Rattle.winnow_ascii.specs.Numbers.{DigitErrors, ReadErrors}

@@ -6,9 +6,9 @@ use Rattle.winnow_stream.specs.declared.needed.Needed.{Needed}
 use Rattle.winnow_parser.specs.declared.failure.Failure.{Failure}
 use Rattle.winnow_parser.specs.declared.failure.Failure.TheVariants.{Incomplete, Backtrack, Cut, Refused}
 use Rattle.winnow_parser.specs.Outcome.{Ahead, Meaning}
-use Rattle.winnow_parser.specs.Meanings.{Softened}
-use Rattle.winnow_parser.specs.Errors.{OwnErrors, PairErrors, EitherErrors, CutErrors, SoftenedErrors, ContextErrors, FailsLeaving}
-use Rattle.winnow_token.specs.OneOf.{OneOf}
+use Rattle.winnow_parser.specs.Meanings.{BacktracksErr}
+use Rattle.winnow_parser.specs.Errors.{OwnErrors, PairErrors, AltErrors2, CutErrors, BacktrackErrors, ContextErrors, FailsLeaving}
+use Rattle.winnow_token.specs.OneOf.{IsOneOf}
 use Rattle.winnow_combinator.specs.Appended.{AppendedErrors}
 use Rattle.law_parsers.specs.Failures.{IsMade, IsNamed, IsLabelled, IsJoined, IsOwn, IsAtEnd}
 
@@ -37,7 +37,7 @@ module _ {E S T : Type 0} (found asserted : S → E → Type 0) where
   pub joined : {C : Type 0} (joins : E → E → E → Type 0) (appends : E → S → C → E → Type 0)
       (stood : C → Ahead T) (stands : S → Ahead T) (partial : Bool) (a : Ahead T) (s : S)
       (f : Failure E Needed)
-      → AppendedErrors stood appends (EitherErrors stands joins (Softened (OneOf (λ _. true))) (SoftenedErrors (OwnErrors found asserted)) (SoftenedErrors (OwnErrors found asserted))) partial a s f
+      → AppendedErrors stood appends (AltErrors2 stands joins (BacktracksErr (IsOneOf (λ _. true))) (BacktrackErrors (OwnErrors found asserted)) (BacktrackErrors (OwnErrors found asserted))) partial a s f
       → IsJoined (IsMade found asserted) joins appends stood stands a s f
   joined joins appends stood stands partial a s (Backtrack e) (whole, (start, ((left, (right, ((r, (h, inl m)), k, both))), at, adds))) =
       (left, (right, (whole, (r, (start, (h, m.2, k, both, at, adds))))))
@@ -50,7 +50,7 @@ module _ {E S T : Type 0} (found asserted : S → E → Type 0) where
   -- two parsers with errors of their own, one after the other, neither of which cuts
   pub own : {O : Type 0} (means : Meaning O T) (partial : Bool) (a : Ahead T) (s : S)
       (f : Failure E Needed)
-      → SoftenedErrors (PairErrors means (OwnErrors found asserted) (OwnErrors found asserted)) partial a s f
+      → BacktrackErrors (PairErrors means (OwnErrors found asserted) (OwnErrors found asserted)) partial a s f
       → IsOwn (IsMade found asserted) s f
   own means partial a s (Backtrack e) (inl (inl h)) = inl h
   own means partial a s (Backtrack e) (inl (inr h)) = inl h.1.1.1
@@ -69,7 +69,7 @@ no-token (x ∷ xs) h = absurd (true≢false h)
 -- the parser of any token fails at the end alone
 pub at-end : {E S T : Type 0} (found asserted : S → E → Type 0) (stands : S → Ahead T)
     (partial : Bool) (a : Ahead T) (f : Failure E Needed)
-    → FailsLeaving stands (OneOf (λ _. true)) (OwnErrors found asserted) partial a f
+    → FailsLeaving stands (IsOneOf (λ _. true)) (OwnErrors found asserted) partial a f
     → IsAtEnd found stands a f
 at-end found asserted stands partial a (Backtrack e) h = (no-token a.tokens h.1.1.0, (h.0, (h.1.0, h.1.1.2)))
 at-end found asserted stands partial a (Cut e) h = absurd h.1.1

@@ -3,12 +3,12 @@ use Rattle.std.specs.Prelude.{⊤}
 use Rattle.std.proofs.Common.{Bool, true, false, List, [], ◌∷◌, Option, Some, None, refl, sym, ap, ◌∙◌, subst, inl, inr, arith}
 use Rattle.winnow_stream.specs.Source.{width}
 use Rattle.winnow_parser.specs.Outcome.{Ahead, Failed, Backtracks, Cuts, Needs, Refuses, Outcome, Gives, Fails, Meaning}
-use Rattle.winnow_parser.specs.Meanings.{Pair, Second, Preceded, Optional}
+use Rattle.winnow_parser.specs.Meanings.{Pair, Second, IsPreceded, IsOpt}
 use Rattle.winnow_parser.specs.Determined.{IsGrantedFailure, IsGranted, Agree, IsDetermined, AreSameIfAny, AreBothSame}
 use Rattle.winnow_parser.proofs.lemmas.DeterminedLemmas.{determined-maps, determined-pair}
 use Rattle.winnow_combinator.specs.DeterminedLists.{AreSameEach}
 use Rattle.winnow_ascii.specs.declared.fragment.Fragment.TheVariants.{Normal, Escaped}
-use Rattle.winnow_ascii.specs.Escapes.{IsAbsent, Escape, NextFragment, end_answer, UpToEnd, GivesInTurn, AllInTurn, Fragments, AreSameFragments}
+use Rattle.winnow_ascii.specs.Escaped.{IsAbsent, Escape, NextFragment, end_answer, UpToEnd, GivesInTurn, AllInTurn, IsEscaped, AreSameFragments}
 
 -- ---- A part that backtracks
 
@@ -19,14 +19,14 @@ module _ {O T : Type 0} (same : O → O → Type 0) (inner : Meaning O T) (d : I
 
   -- a parser that backtracks fails in no other way
   absent-fails : IsAbsent inner partial a → (f : Failed T) → IsGrantedFailure f
-      → Optional inner partial a (Fails f) → ⊥
+      → IsOpt inner partial a (Fails f) → ⊥
   absent-fails h (Backtracks b) s k = k
   absent-fails h (Cuts b) s k = let e = d partial a (Fails (Backtracks h.0)) (Fails (Cuts b)) tt tt h.1 k in cc
   absent-fails h (Needs n) s k = let e = d partial a (Fails (Backtracks h.0)) (Fails (Needs n)) tt tt h.1 k in cc
   absent-fails h Refuses s k = s
 
-  -- a failure of `Optional` is one of the inner parser
-  optional-fails : (f : Failed T) → Optional inner partial a (Fails f) → inner partial a (Fails f)
+  -- a failure of `IsOpt` is one of the inner parser
+  optional-fails : (f : Failed T) → IsOpt inner partial a (Fails f) → inner partial a (Fails f)
   optional-fails (Backtracks b) k = absurd k
   optional-fails (Cuts b) k = k
   optional-fails (Needs n) k = k
@@ -41,13 +41,13 @@ module _ {C P T : Type 0} (same : C → C → Type 0) (alike : P → P → Type 
   second-same x y p q h i j = subst (λ u. alike u q) i (subst (alike x.1) j h.1)
 
   -- the control character and then the escape have one answer
-  determined-preceded : IsDetermined alike (Preceded control escapable)
+  determined-preceded : IsDetermined alike (IsPreceded control escapable)
   determined-preceded = determined-maps (AreBothSame same alike) alike Second second-same (Pair control escapable) (determined-pair same alike control escapable d e)
 
   -- a failure of `Escape` is one of the control character and the escape
   escape-fails : (partial : Bool) (a : Ahead T) (f : Failed T)
       → Escape control escapable partial a (Fails f)
-      → Preceded control escapable partial a (Fails f)
+      → IsPreceded control escapable partial a (Fails f)
   escape-fails partial a f (inl h) = inl (optional-fails same control d partial a f h)
   escape-fails partial a f (inr h) = inr h
 
@@ -170,12 +170,12 @@ module _ {O T : Type 0} (same : O → O → Type 0) (inner : Meaning (Option O) 
   determined-all partial a (Fails f) (Gives ys c) s t h k = (turns-agree partial h.0 ys a (Fails f) (Gives tt c) s tt h.1 k).1
   determined-all partial a (Fails f) (Fails g) s t h k = (turns-agree partial h.0 k.0 a (Fails f) (Fails g) s t h.1 k.1).1
 
--- `Fragments` has one answer where its parts have one
+-- `IsEscaped` has one answer where its parts have one
 pub determined-escaped : {O C P T : Type 0} (one : O → O → Type 0) (same : C → C → Type 0)
     (alike : P → P → Type 0) (normal : Meaning O T) (control : Meaning C T)
     (escapable : Meaning P T) → IsDetermined one normal
     → IsDetermined same control → IsDetermined alike escapable
-    → IsDetermined (AreSameEach (AreSameFragments one alike)) (Fragments normal control escapable)
+    → IsDetermined (AreSameEach (AreSameFragments one alike)) (IsEscaped normal control escapable)
 determined-escaped one same alike normal control escapable n d e =
     let fragments = AreSameFragments one alike in
     let next = NextFragment normal control escapable in

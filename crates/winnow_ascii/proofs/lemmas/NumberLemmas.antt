@@ -6,16 +6,16 @@ use Rattle.winnow_stream.specs.declared.needed.Needed.{Needed}
 use Rattle.winnow_parser.specs.declared.failure.Failure.{Failure}
 use Rattle.winnow_parser.specs.declared.failure.Failure.TheVariants.{Incomplete, Backtrack, Cut, Refused}
 use Rattle.winnow_parser.specs.Outcome.{Ahead, Outcome, Meaning}
-use Rattle.winnow_parser.specs.Errors.{Errors, OwnErrors, PairErrors, EitherErrors}
-use Rattle.winnow_parser.specs.Meanings.{Maps, IsForgotten, Pair, Either, Optional}
+use Rattle.winnow_parser.specs.Errors.{Errors, OwnErrors, PairErrors, AltErrors2}
+use Rattle.winnow_parser.specs.Meanings.{Maps, IsForgotten, Pair, IsAlt2, IsOpt}
 use Rattle.winnow_parser.specs.Taken.{Taken}
-use Rattle.winnow_token.specs.OneOf.{OneOf}
-use Rattle.winnow_token.specs.Held.{HeldFront}
+use Rattle.winnow_token.specs.OneOf.{IsOneOf}
+use Rattle.winnow_token.specs.TakeWhile.{TakesWhile}
 use Rattle.winnow_combinator.specs.Appended.{Appending, AppendedErrors}
 use Rattle.winnow_ascii.specs.declared.class.Class.{Class}
 use Rattle.winnow_ascii.specs.declared.class.Class.TheVariants.{Digit}
 use Rattle.winnow_ascii.specs.Classes.{is_in_class}
-use Rattle.winnow_ascii.specs.Numbers.{Digits, SignedDigits, Signed, DigitErrors}
+use Rattle.winnow_ascii.specs.Numbers.{Digits, SignedDigits, IsDecInt, DigitErrors}
 
 -- ---- Errors that are made of the stream
 
@@ -48,7 +48,7 @@ module _ {E I T : Type 0} (makes cuts : I → E → Type 0) where
   own-digits : {O : Type 0} (stands : I → Ahead T) (joins : E → E → E → Type 0)
       (means : Meaning O T) (first second : Errors E I T) → AreOwn first → AreOwn second
       → (partial : Bool) (a : Ahead T) (s : I) (f : Failure E Needed)
-      → EitherErrors stands joins means first second partial a s f
+      → AltErrors2 stands joins means first second partial a s f
       → DigitErrors stands means makes cuts joins partial a s f
   own-digits stands joins means first second p q partial a s (Backtrack e) (one, (other, ((r, (h, left)), k, both))) =
       (one, (other, ((r, (p partial a r (Backtrack one) h, left)), q partial a s (Backtrack other) k, both)))
@@ -75,16 +75,16 @@ module _ {S T : Type 0} (refusable q : Type 0) (is_slice : S → Source T → �
   -- the meaning of digits with these first digits, class and counts
   abbrev Counting : ℕ → ℕ → Class → ℕ → Option ℕ → Meaning (T × S) T
   Counting first last class least greatest =
-      Pair (OneOf (λ token. is_in_range first last (code token))) (HeldFront is_slice (λ token. is_in_class class (code token)) least greatest)
+      Pair (IsOneOf (λ token. is_in_range first last (code token))) (TakesWhile is_slice (λ token. is_in_class class (code token)) least greatest)
 
   -- the errors of such digits, whose parts make them of the stream
   abbrev CountingErrors : {E I : Type 0} → (I → E → Type 0) → (I → E → Type 0) → ℕ → ℕ
       → Errors E I T
-  CountingErrors makes cuts first last = PairErrors (OneOf (λ token. is_in_range first last (code token))) (OwnErrors makes cuts) (OwnErrors makes cuts)
+  CountingErrors makes cuts first last = PairErrors (IsOneOf (λ token. is_in_range first last (code token))) (OwnErrors makes cuts) (OwnErrors makes cuts)
 
   -- the meaning of a token that is one of these signs, or none
   abbrev Signing : ℕ × ℕ → Meaning (Option T) T
-  Signing signs = Optional (OneOf (λ token. signs.0 == code token || signs.1 == code token))
+  Signing signs = IsOpt (IsOneOf (λ token. signs.0 == code token || signs.1 == code token))
 
   -- the meaning of such digits with these signs before them
   abbrev Composing : ℕ × ℕ → ℕ → ℕ → Class → ℕ → Option ℕ → Meaning (Option T × (T × S)) T
@@ -98,14 +98,14 @@ module _ {S T : Type 0} (refusable q : Type 0) (is_slice : S → Source T → �
   -- the meaning of a number with these signs, first digits, class, counts, and single digit
   abbrev Composed : ℕ × ℕ → ℕ → ℕ → Class → ℕ → Option ℕ → ℕ → Meaning S T
   Composed signs first last class least greatest alone =
-      Taken is_slice (Appending q (Either refusable (Maps IsForgotten (Composing signs first last class least greatest)) (Maps IsForgotten (OneOf (λ token. alone == code token)))))
+      Taken is_slice (Appending q (IsAlt2 refusable (Maps IsForgotten (Composing signs first last class least greatest)) (Maps IsForgotten (IsOneOf (λ token. alone == code token)))))
 
-  -- with the sets and counts of a decimal number, `Composed` is `Signed`
+  -- with the sets and counts of a decimal number, `Composed` is `IsDecInt`
   pub signed-as : {signs : ℕ
       × ℕ} {first last : ℕ} {class : Class} {least : ℕ} {greatest : Option ℕ} {alone : ℕ}
       (partial : Bool) (a : Ahead T) (v : Outcome S T)
       → signs ≡ (43, 45) → first ≡ 49 → last ≡ 57 → class ≡ Digit → least ≡ 0 → greatest ≡ None → alone ≡ 48
-      → Composed signs first last class least greatest alone partial a v → Taken is_slice (Signed refusable q is_slice code) partial a v
+      → Composed signs first last class least greatest alone partial a v → Taken is_slice (IsDecInt refusable q is_slice code) partial a v
   signed-as {signs} {first} {last} {class} {least} {greatest} {alone} partial a v s f l c n m z h =
       subst (λ signs. Composed signs 49 57 Digit 0 None 48 partial a v) s
       (subst (λ first. Composed signs first 57 Digit 0 None 48 partial a v) f
@@ -119,24 +119,24 @@ module _ {S T : Type 0} (refusable q : Type 0) (is_slice : S → Source T → �
     -- digits and 0 alone, as alternatives, make and join their errors as numbers do
     counting-errors : (first last : ℕ) (class : Class) (least : ℕ) (greatest : Option ℕ)
         (partial : Bool) (a : Ahead T) (s : I) (f : Failure E Needed)
-        → EitherErrors stands joins (Maps IsForgotten (Counting first last class least greatest))
+        → AltErrors2 stands joins (Maps IsForgotten (Counting first last class least greatest))
         (CountingErrors makes cuts first last) (OwnErrors makes cuts) partial a s f
         → DigitErrors stands (Maps IsForgotten (Counting first last class least greatest)) makes cuts joins partial a s f
     counting-errors first last class least greatest partial a s f h =
         let own = own-own {T = T} makes cuts in
-        let digits = own-pair makes cuts (OneOf (λ token. is_in_range first last (code token))) (OwnErrors makes cuts) (OwnErrors makes cuts) own own in
+        let digits = own-pair makes cuts (IsOneOf (λ token. is_in_range first last (code token))) (OwnErrors makes cuts) (OwnErrors makes cuts) own own in
         own-digits makes cuts stands joins (Maps IsForgotten (Counting first last class least greatest)) (CountingErrors makes cuts first last) (OwnErrors makes cuts) digits own partial a s f h
 
     -- digits with a sign before them and 0 alone, as alternatives, do so too
     composing-errors : (signs : ℕ
         × ℕ) (first last : ℕ) (class : Class) (least : ℕ) (greatest : Option ℕ)
         (partial : Bool) (a : Ahead T) (s : I) (f : Failure E Needed)
-        → EitherErrors stands joins (Maps IsForgotten (Composing signs first last class least greatest))
+        → AltErrors2 stands joins (Maps IsForgotten (Composing signs first last class least greatest))
         (ComposingErrors makes cuts signs first last) (OwnErrors makes cuts) partial a s f
         → DigitErrors stands (Maps IsForgotten (Composing signs first last class least greatest)) makes cuts joins partial a s f
     composing-errors signs first last class least greatest partial a s f h =
         let own = own-own {T = T} makes cuts in
-        let digits = own-pair makes cuts (OneOf (λ token. is_in_range first last (code token))) (OwnErrors makes cuts) (OwnErrors makes cuts) own own in
+        let digits = own-pair makes cuts (IsOneOf (λ token. is_in_range first last (code token))) (OwnErrors makes cuts) (OwnErrors makes cuts) own own in
         let signed = own-pair makes cuts (Signing signs) (OwnErrors makes cuts) (CountingErrors makes cuts first last) own digits in
         own-digits makes cuts stands joins (Maps IsForgotten (Composing signs first last class least greatest)) (ComposingErrors makes cuts signs first last) (OwnErrors makes cuts) signed own partial a s f h
 
@@ -149,11 +149,11 @@ module _ {S T : Type 0} (refusable q : Type 0) (is_slice : S → Source T → �
       pub unsigned-errors : {first last : ℕ} {class : Class} {least : ℕ} {greatest : Option ℕ}
           → first ≡ 49 → last ≡ 57 → class ≡ Digit → least ≡ 0 → greatest ≡ None
           → AppendedErrors stood appends
-          (EitherErrors stands joins (Maps IsForgotten (Counting first last class least greatest))
+          (AltErrors2 stands joins (Maps IsForgotten (Counting first last class least greatest))
           (CountingErrors makes cuts first last) (OwnErrors makes cuts)) partial a s f
           → NumberErrors (Maps IsForgotten (Digits is_slice code))
       unsigned-errors {first} {last} {class} {least} {greatest} fi la cl le gr h =
-          let either = EitherErrors stands joins (Maps IsForgotten (Counting first last class least greatest)) (CountingErrors makes cuts first last) (OwnErrors makes cuts) in
+          let either = AltErrors2 stands joins (Maps IsForgotten (Counting first last class least greatest)) (CountingErrors makes cuts first last) (OwnErrors makes cuts) in
           let errors = DigitErrors stands (Maps IsForgotten (Counting first last class least greatest)) makes cuts joins in
           let joined = appended-as stood appends either errors partial a s (λ k j. counting-errors first last class least greatest partial a s k j) f h in
           subst (λ first. NumberErrors (Maps IsForgotten (Counting first 57 Digit 0 None))) fi
@@ -167,11 +167,11 @@ module _ {S T : Type 0} (refusable q : Type 0) (is_slice : S → Source T → �
           × ℕ} {first last : ℕ} {class : Class} {least : ℕ} {greatest : Option ℕ}
           → signs ≡ (43, 45) → first ≡ 49 → last ≡ 57 → class ≡ Digit → least ≡ 0 → greatest ≡ None
           → AppendedErrors stood appends
-          (EitherErrors stands joins (Maps IsForgotten (Composing signs first last class least greatest))
+          (AltErrors2 stands joins (Maps IsForgotten (Composing signs first last class least greatest))
           (ComposingErrors makes cuts signs first last) (OwnErrors makes cuts)) partial a s f
           → NumberErrors (Maps IsForgotten (SignedDigits is_slice code))
       signed-errors {signs} {first} {last} {class} {least} {greatest} si fi la cl le gr h =
-          let either = EitherErrors stands joins (Maps IsForgotten (Composing signs first last class least greatest)) (ComposingErrors makes cuts signs first last) (OwnErrors makes cuts) in
+          let either = AltErrors2 stands joins (Maps IsForgotten (Composing signs first last class least greatest)) (ComposingErrors makes cuts signs first last) (OwnErrors makes cuts) in
           let errors = DigitErrors stands (Maps IsForgotten (Composing signs first last class least greatest)) makes cuts joins in
           let joined = appended-as stood appends either errors partial a s (λ k j. composing-errors signs first last class least greatest partial a s k j) f h in
           subst (λ signs. NumberErrors (Maps IsForgotten (Composing signs 49 57 Digit 0 None))) si

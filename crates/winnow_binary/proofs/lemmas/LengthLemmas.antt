@@ -7,24 +7,24 @@ use Rattle.winnow_parser.specs.declared.failure.Failure.{Failure}
 use Rattle.winnow_parser.specs.Outcome.{Ahead, Backtracks, Cuts, Needs, Refuses, Outcome, Gives, Fails, Meaning}
 use Rattle.winnow_parser.specs.Errors.{Errors}
 use Rattle.winnow_parser.specs.Determined.{IsDetermined, Shows, Respects, SlicesRespect}
-use Rattle.winnow_parser.proofs.lemmas.MadeLemmas.{determined-continued}
-use Rattle.winnow_token.specs.Counted.{Counted}
-use Rattle.winnow_token.proofs.lemmas.ToldLemmas.{determined-counted}
+use Rattle.winnow_parser.proofs.lemmas.MadeLemmas.{determined-flat_map}
+use Rattle.winnow_token.specs.Take.{Takes}
+use Rattle.winnow_token.proofs.lemmas.ToldLemmas.{determined-take}
 use Rattle.winnow_combinator.specs.Appended.{AppendingIf, needs_some}
 use Rattle.winnow_combinator.specs.Counts.{Ascending}
 use Rattle.winnow_combinator.specs.DeterminedLists.{AreSameEach}
 use Rattle.winnow_combinator.specs.Gathering.{Gathered}
 use Rattle.winnow_combinator.specs.Misuse.{AscendingErrors}
-use Rattle.winnow_combinator.specs.Repetition.{Repeated}
-use Rattle.winnow_combinator.proofs.lemmas.AgreeingLemmas.{determined-repeated}
+use Rattle.winnow_combinator.specs.Repeat.{Repeats}
+use Rattle.winnow_combinator.proofs.lemmas.AgreeingLemmas.{determined-repeat}
 use Rattle.winnow_combinator.proofs.lemmas.CombinedLemmas.{determined-gathered, determined-appending_if}
-use Rattle.winnow_binary.specs.Lengths.{IsNumber, CountedSlice, FrontOf, CountedFront, Times, TimesErrors, CountedValues}
+use Rattle.winnow_binary.specs.Lengths.{IsNumber, LengthTakes, FrontOf, CountedFront, Times, TimesErrors, LengthRepeats}
 
 module _ {B O A T : Type 0} (refusable appends : Type 0) (makes : List O → A → Type 0) (means : B → Meaning O T) where
   -- what is asked for of a parser with these counts
   abbrev Asked : Meaning O T → ℕ → Option ℕ → Meaning A T
   Asked inner least greatest =
-      Ascending least greatest (Gathered refusable makes (AppendingIf (needs_some least) appends (Repeated least greatest inner)))
+      Ascending least greatest (Gathered refusable makes (AppendingIf (needs_some least) appends (Repeats least greatest inner)))
 
   -- n values are asked for where the counts, from the least to the greatest, are n alone
   times-alone : (inner : Meaning O T) (n : ℕ) (partial : Bool) (a : Ahead T) (v : Outcome A T)
@@ -69,14 +69,14 @@ one-number : {L : Type 0} (number : L → ℕ) (x y : L) (m n : ℕ) → Shows n
     → IsNumber number x m → IsNumber number y n → m ≡ n
 one-number number x y m n e h k = h ∙ e ∙ sym k
 
--- `CountedSlice` has one answer where its count has one, and slices of one front are the same
-pub determined-counted_slice : {L S T : Type 0} (number : L → ℕ) (counts_shortage : Bool)
+-- `LengthTakes` has one answer where its count has one, and slices of one front are the same
+pub determined-length_take : {L S T : Type 0} (number : L → ℕ) (counts_shortage : Bool)
     (is_slice : S → Source T → ℕ → Type 0) (alike : S → S → Type 0) → SlicesRespect is_slice alike
     → (length : Meaning L T) → IsDetermined (Shows number) length
-    → IsDetermined alike (CountedSlice number counts_shortage is_slice length)
-determined-counted_slice number counts_shortage is_slice alike fronts length d =
-    determined-continued (IsNumber number) (Counted counts_shortage is_slice) length (Shows number) alike (one-number number)
-    (λ n. determined-counted is_slice alike fronts counts_shortage n) d
+    → IsDetermined alike (LengthTakes number counts_shortage is_slice length)
+determined-length_take number counts_shortage is_slice alike fronts length d =
+    determined-flat_map (IsNumber number) (Takes counts_shortage is_slice) length (Shows number) alike (one-number number)
+    (λ n. determined-take is_slice alike fronts counts_shortage n) d
 
 -- a place with this location and these tokens
 pub same-place : {T : Type 0} (a : Ahead T) (l : Option ℕ) (r : Source T) → a.location ≡ l
@@ -109,15 +109,15 @@ module _ {S T : Type 0} (stands : S → Ahead T) (counts_shortage : Bool) where
       → IsDetermined (Shows number) length
       → IsDetermined (Shows stands) (CountedFront number stands counts_shortage length)
   determined-counted_front number length d =
-      determined-continued (IsNumber number) (FrontOf stands counts_shortage) length (Shows number) (Shows stands) (one-number number) determined-front_of d
+      determined-flat_map (IsNumber number) (FrontOf stands counts_shortage) length (Shows number) (Shows stands) (one-number number) determined-front_of d
 
--- `CountedValues` has one answer where its parts have one
-pub determined-counted_values : {L O A T : Type 0} (number : L → ℕ) (refusable appends : Type 0)
+-- `LengthRepeats` has one answer where its parts have one
+pub determined-length_repeat : {L O A T : Type 0} (number : L → ℕ) (refusable appends : Type 0)
     (makes : List O → A → Type 0) (same : O → O → Type 0) (alike : A → A → Type 0)
     → Respects (AreSameEach same) alike makes → (length : Meaning L T) (inner : Meaning O T)
     → IsDetermined (Shows number) length → IsDetermined same inner
-    → IsDetermined alike (CountedValues number refusable appends makes length inner)
-determined-counted_values number refusable appends makes same alike respects length inner d e =
-    determined-continued (IsNumber number) (Times refusable appends makes inner) length (Shows number) alike (one-number number)
-    (λ n. determined-gathered (AreSameEach same) alike refusable makes respects (AppendingIf (needs_some n) appends (Repeated n (Some n) inner))
-    (determined-appending_if appends (AreSameEach same) (Repeated n (Some n) inner) (determined-repeated same n (Some n) inner e) (needs_some n))) d
+    → IsDetermined alike (LengthRepeats number refusable appends makes length inner)
+determined-length_repeat number refusable appends makes same alike respects length inner d e =
+    determined-flat_map (IsNumber number) (Times refusable appends makes inner) length (Shows number) alike (one-number number)
+    (λ n. determined-gathered (AreSameEach same) alike refusable makes respects (AppendingIf (needs_some n) appends (Repeats n (Some n) inner))
+    (determined-appending_if appends (AreSameEach same) (Repeats n (Some n) inner) (determined-repeat same n (Some n) inner e) (needs_some n))) d

@@ -15,12 +15,12 @@ use Rattle.winnow_match.specs.Staying.{written-append}
 use Rattle.winnow_parser.specs.Outcome.{Ahead, Gives, Fails, after}
 use Rattle.winnow_parser.specs.Determined.{IsDetermined, SlicesRespect}
 use Rattle.winnow_parser.proofs.lemmas.DeterminedLemmas.{determined-maps}
-use Rattle.winnow_token.specs.Counted.{Counted}
+use Rattle.winnow_token.specs.Take.{Takes}
 use Rattle.winnow_token.specs.Prompt.{IsPrompt}
-use Rattle.winnow_token.proofs.lemmas.PromptLemmas.{prompt-counted}
-use Rattle.winnow_token.proofs.lemmas.ToldLemmas.{determined-counted}
+use Rattle.winnow_token.proofs.lemmas.PromptLemmas.{prompt-take}
+use Rattle.winnow_token.proofs.lemmas.ToldLemmas.{determined-take}
 use Rattle.winnow_binary.specs.declared.word.Endianness.{Endianness}
-use Rattle.winnow_binary.specs.declared.word.Endianness.TheVariants.{Big, Little}
+use Rattle.winnow_binary.specs.declared.word.Endianness.TheVariants.{Big, Little, Native}
 use Rattle.winnow_binary.specs.Numerals.{most_first, least_first, number_in, joined, after_tokens, AreFrontBytes, FixedNumeral}
 
 -- ---- Bytes
@@ -53,12 +53,14 @@ least_first-append (x ∷ xs) ys =
 pub number_in-one : (order : Endianness) (x : ℕ) → number_in order (x ∷ []) ≡ x
 number_in-one Big x = omega arith
 number_in-one Little x = omega arith
+number_in-one Native x = omega arith
 
 -- two halves of a number make it
 joined-halves : (order : Endianness) (k : ℕ) (xs ys : List ℕ) → length xs ≡ k → length ys ≡ k
     → joined order k (number_in order xs) (number_in order ys) ≡ number_in order (xs ++ ys)
 joined-halves Big k xs ys l m = sym (most_first-append xs ys ∙ ap (λ n. most_first xs * 256 ^ n + most_first ys) m)
 joined-halves Little k xs ys l m = sym (least_first-append xs ys ∙ ap (λ n. least_first xs + 256 ^ n * least_first ys) l)
+joined-halves Native k xs ys l m = sym (least_first-append xs ys ∙ ap (λ n. least_first xs + 256 ^ n * least_first ys) l)
 
 -- the first k bytes and the k bytes after them are halves of the first 2 k
 number_in-halves : (order : Endianness) (k : ℕ) (r : Source ℕ) → k + k ≤ length r
@@ -143,7 +145,7 @@ most_first-reversed (x ∷ xs) =
 -- the bytes of the first k tokens are what a parser of k bytes gives
 counted-bytes : (counts_shortage partial : Bool) (k : ℕ) (a : Ahead ℕ) → HasPositiveWidths a.tokens
     → k ≤ length a.tokens
-    → Counted counts_shortage AreFrontBytes k partial a
+    → Takes counts_shortage AreFrontBytes k partial a
     (Gives (bytes_of (take k a.tokens)) (after_tokens k a))
 counted-bytes counts_shortage partial k a h l = (
   l,
@@ -160,7 +162,7 @@ pub fixed-numeral : {N : Type 0} (counts_shortage partial : Bool) (k count : ℕ
     → FixedNumeral counts_shortage count of order partial a (Gives n b)
 fixed-numeral counts_shortage partial k count of order a b number n h l e f g i =
     let bytes = bytes_of (take k a.tokens) in
-    let counted = subst (λ p. Counted counts_shortage AreFrontBytes k partial a (Gives bytes p)) (sym g) (counted-bytes counts_shortage partial k a h l) in
+    let counted = subst (λ p. Takes counts_shortage AreFrontBytes k partial a (Gives bytes p)) (sym g) (counted-bytes counts_shortage partial k a h l) in
     subst (λ m. FixedNumeral counts_shortage m of order partial a (Gives n b)) e (bytes, (i ∙ ap of f, counted))
 
 -- ---- One answer
@@ -177,9 +179,9 @@ module _ {N : Type 0} (counts_shortage : Bool) (count : ℕ) (of : ℕ → N) (o
   -- `FixedNumeral` has one answer
   pub determined-numeral : IsDetermined (λ x y. x ≡ y) (FixedNumeral counts_shortage count of order)
   determined-numeral = determined-maps (λ xs ys. xs ≡ ys) (λ x y. x ≡ y) (λ bytes n. n ≡ of (number_in order bytes)) (λ xs ys m n e h k. h ∙ ap (λ bytes. of (number_in order bytes)) e ∙ sym k) _
-      (determined-counted AreFrontBytes (λ xs ys. xs ≡ ys) bytes-respect counts_shortage count)
+      (determined-take AreFrontBytes (λ xs ys. xs ≡ ys) bytes-respect counts_shortage count)
 
   -- where `FixedNumeral` needs k more bytes, it has no settled answer before k have come
   pub prompt-numeral : IsPrompt (FixedNumeral counts_shortage count of order)
-  prompt-numeral a n more (Gives x b) h l k = prompt-counted counts_shortage AreFrontBytes count a n more (Gives k.0 b) h l k.1.1
-  prompt-numeral a n more (Fails f) h l k = prompt-counted counts_shortage AreFrontBytes count a n more (Fails f) h l k
+  prompt-numeral a n more (Gives x b) h l k = prompt-take counts_shortage AreFrontBytes count a n more (Gives k.0 b) h l k.1.1
+  prompt-numeral a n more (Fails f) h l k = prompt-take counts_shortage AreFrontBytes count a n more (Fails f) h l k

@@ -10,10 +10,10 @@ use Rattle.winnow_parser.specs.Taken.{IsFrontTaken}
 use Rattle.winnow_parser.specs.Determined.{IsDetermined, AreBothSame, SlicesRespect}
 use Rattle.winnow_parser.proofs.lemmas.DeterminedLemmas.{determined-maps, determined-pair}
 use Rattle.winnow_combinator.specs.DeterminedLists.{AreSameEach, StepsRespect}
-use Rattle.winnow_combinator.specs.Ending.{Ended, Failing}
-use Rattle.winnow_combinator.specs.Repetition.{Repeated}
-use Rattle.winnow_combinator.specs.Separation.{FoldsLeft, FoldedLeft}
-use Rattle.winnow_combinator.proofs.lemmas.AgreeingLemmas.{determined-repeated}
+use Rattle.winnow_combinator.specs.Ending.{IsEof, IsFail}
+use Rattle.winnow_combinator.specs.Repeat.{Repeats}
+use Rattle.winnow_combinator.specs.Separated.{FoldsLeft, IsSeparatedFoldl1}
+use Rattle.winnow_combinator.proofs.lemmas.AgreeingLemmas.{determined-repeat}
 
 module _ {S T : Type 0} (is_slice : S → Source T → ℕ → Type 0) (alike : S → S → Type 0) (fronts : SlicesRespect is_slice alike) where
   -- an empty slice at the end is that of a front
@@ -21,42 +21,42 @@ module _ {S T : Type 0} (is_slice : S → Source T → ℕ → Type 0) (alike : 
       → IsFrontTaken is_slice s a (after a 0)
   ends-front s a b e h = (0, (subst (λ r. IsTrue (is_offset r 0)) (sym e) refl, h, refl))
 
-  -- `Ended` has one answer
-  pub determined-ended : IsDetermined alike (Ended is_slice)
-  determined-ended partial a (Gives u b) (Gives v c) s t h k =
+  -- `IsEof` has one answer
+  pub determined-eof : IsDetermined alike (IsEof is_slice)
+  determined-eof partial a (Gives u b) (Gives v c) s t h k =
       (fronts u v a (after a 0) (ends-front u a b h.0 h.3) (ends-front v a c k.0 k.3), sym h.2 ∙ k.2)
-  determined-ended partial a (Gives u b) (Fails (Backtracks c)) s t h k = k.0 h.0
-  determined-ended partial a (Gives u b) (Fails (Cuts c)) s t h k = k
-  determined-ended partial a (Gives u b) (Fails (Needs n)) s t h k = cc
-  determined-ended partial a (Gives u b) (Fails Refuses) s t h k = k
-  determined-ended partial a (Fails (Backtracks b)) (Gives v c) s t h k = h.0 k.0
-  determined-ended partial a (Fails (Cuts b)) (Gives v c) s t h k = h
-  determined-ended partial a (Fails (Needs n)) (Gives v c) s t h k = cc
-  determined-ended partial a (Fails Refuses) (Gives v c) s t h k = h
-  determined-ended partial a (Fails (Backtracks b)) (Fails (Backtracks c)) s t h k = ap Backtracks (sym h.1 ∙ k.1)
-  determined-ended partial a (Fails (Backtracks b)) (Fails (Cuts c)) s t h k = absurd k
-  determined-ended partial a (Fails (Backtracks b)) (Fails (Needs n)) s t h k = absurd (h.0 k.0)
-  determined-ended partial a (Fails (Backtracks b)) (Fails Refuses) s t h k = absurd k
-  determined-ended partial a (Fails (Cuts b)) (Fails g) s t h k = absurd h
-  determined-ended partial a (Fails (Needs n)) (Fails (Backtracks c)) s t h k = absurd (k.0 h.0)
-  determined-ended partial a (Fails (Needs n)) (Fails (Cuts c)) s t h k = absurd k
-  determined-ended partial a (Fails (Needs n)) (Fails (Needs m)) s t h k = ap Needs (h.2 ∙ sym k.2)
-  determined-ended partial a (Fails (Needs n)) (Fails Refuses) s t h k = absurd k
-  determined-ended partial a (Fails Refuses) (Fails g) s t h k = absurd h
+  determined-eof partial a (Gives u b) (Fails (Backtracks c)) s t h k = k.0 h.0
+  determined-eof partial a (Gives u b) (Fails (Cuts c)) s t h k = k
+  determined-eof partial a (Gives u b) (Fails (Needs n)) s t h k = cc
+  determined-eof partial a (Gives u b) (Fails Refuses) s t h k = k
+  determined-eof partial a (Fails (Backtracks b)) (Gives v c) s t h k = h.0 k.0
+  determined-eof partial a (Fails (Cuts b)) (Gives v c) s t h k = h
+  determined-eof partial a (Fails (Needs n)) (Gives v c) s t h k = cc
+  determined-eof partial a (Fails Refuses) (Gives v c) s t h k = h
+  determined-eof partial a (Fails (Backtracks b)) (Fails (Backtracks c)) s t h k = ap Backtracks (sym h.1 ∙ k.1)
+  determined-eof partial a (Fails (Backtracks b)) (Fails (Cuts c)) s t h k = absurd k
+  determined-eof partial a (Fails (Backtracks b)) (Fails (Needs n)) s t h k = absurd (h.0 k.0)
+  determined-eof partial a (Fails (Backtracks b)) (Fails Refuses) s t h k = absurd k
+  determined-eof partial a (Fails (Cuts b)) (Fails g) s t h k = absurd h
+  determined-eof partial a (Fails (Needs n)) (Fails (Backtracks c)) s t h k = absurd (k.0 h.0)
+  determined-eof partial a (Fails (Needs n)) (Fails (Cuts c)) s t h k = absurd k
+  determined-eof partial a (Fails (Needs n)) (Fails (Needs m)) s t h k = ap Needs (h.2 ∙ sym k.2)
+  determined-eof partial a (Fails (Needs n)) (Fails Refuses) s t h k = absurd k
+  determined-eof partial a (Fails Refuses) (Fails g) s t h k = absurd h
 
 module _ {T : Type 0} where
-  -- `Failing` has one answer
-  pub determined-failing : {O : Type 0} (same : O → O → Type 0)
-      → IsDetermined {O = O} {T = T} same Failing
-  determined-failing same partial a (Gives u b) w s t h k = absurd h
-  determined-failing same partial a (Fails (Backtracks b)) (Gives v c) s t h k = k
-  determined-failing same partial a (Fails (Backtracks b)) (Fails (Backtracks c)) s t h k = ap Backtracks (sym h ∙ k)
-  determined-failing same partial a (Fails (Backtracks b)) (Fails (Cuts c)) s t h k = absurd k
-  determined-failing same partial a (Fails (Backtracks b)) (Fails (Needs n)) s t h k = absurd k
-  determined-failing same partial a (Fails (Backtracks b)) (Fails Refuses) s t h k = absurd k
-  determined-failing same partial a (Fails (Cuts b)) w s t h k = absurd h
-  determined-failing same partial a (Fails (Needs n)) w s t h k = absurd h
-  determined-failing same partial a (Fails Refuses) w s t h k = absurd h
+  -- `IsFail` has one answer
+  pub determined-fail : {O : Type 0} (same : O → O → Type 0)
+      → IsDetermined {O = O} {T = T} same IsFail
+  determined-fail same partial a (Gives u b) w s t h k = absurd h
+  determined-fail same partial a (Fails (Backtracks b)) (Gives v c) s t h k = k
+  determined-fail same partial a (Fails (Backtracks b)) (Fails (Backtracks c)) s t h k = ap Backtracks (sym h ∙ k)
+  determined-fail same partial a (Fails (Backtracks b)) (Fails (Cuts c)) s t h k = absurd k
+  determined-fail same partial a (Fails (Backtracks b)) (Fails (Needs n)) s t h k = absurd k
+  determined-fail same partial a (Fails (Backtracks b)) (Fails Refuses) s t h k = absurd k
+  determined-fail same partial a (Fails (Cuts b)) w s t h k = absurd h
+  determined-fail same partial a (Fails (Needs n)) w s t h k = absurd h
+  determined-fail same partial a (Fails Refuses) w s t h k = absurd h
 
 -- ---- Values folded from the left
 
@@ -71,12 +71,12 @@ module _ {O P : Type 0} (same : O → O → Type 0) (alike : P → P → Type 0)
       folds-respects h.0 k.0 l r ps qs (respects x y p q h.0 k.0 e u.0 h.1 k.1) u.1 h.2 k.2
 
 module _ {O S T : Type 0} (same : O → O → Type 0) (alike : S → S → Type 0) (step : O → S × O → O → Type 0) (respects : StepsRespect same (AreBothSame alike same) step) (separator : Meaning S T) (inner : Meaning O T) (q : IsDetermined alike separator) (d : IsDetermined same inner) where
-  -- `FoldedLeft` has one answer where its parts have one
-  pub determined-folded : IsDetermined same (FoldedLeft step separator inner)
-  determined-folded =
+  -- `IsSeparatedFoldl1` has one answer where its parts have one
+  pub determined-separated_foldl1 : IsDetermined same (IsSeparatedFoldl1 step separator inner)
+  determined-separated_foldl1 =
       let pairs = Pair separator inner in
-      let rest = Repeated 0 None pairs in
-      let others = determined-repeated (AreBothSame alike same) 0 None pairs (determined-pair alike same separator inner q d) in
+      let rest = Repeats 0 None pairs in
+      let others = determined-repeat (AreBothSame alike same) 0 None pairs (determined-pair alike same separator inner q d) in
       let both = AreBothSame same (AreSameEach (AreBothSame alike same)) in
       determined-maps both same (FoldsLeft step)
       (λ x y l r e h k. folds-respects same (AreBothSame alike same) step respects x.0 y.0 l r x.1 y.1 e.0 e.1 h k)

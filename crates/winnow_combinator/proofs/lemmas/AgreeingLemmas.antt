@@ -6,7 +6,7 @@ use Rattle.winnow_stream.specs.Source.{width}
 use Rattle.winnow_parser.specs.Outcome.{Ahead, Failed, Backtracks, Cuts, Needs, Refuses, Outcome, Gives, Fails, Meaning}
 use Rattle.winnow_parser.specs.Determined.{IsGranted, Agree, IsDetermined}
 use Rattle.winnow_combinator.specs.Counts.{IsBelow}
-use Rattle.winnow_combinator.specs.Repetition.{Taking, InTurn, FailsWith, Repeated}
+use Rattle.winnow_combinator.specs.Repeat.{Taking, InTurn, FailsWith, Repeats}
 use Rattle.winnow_combinator.specs.DeterminedLists.{AreSameEach}
 
 -- ---- `Taking`
@@ -60,7 +60,7 @@ pub determined-taking : {O T : Type 0} (same : O → O → Type 0) (inner : Mean
 determined-taking same inner d partial a v w s t h k =
     taking-agree same inner d partial a v w s t (taking-cases same inner d partial a v h) (taking-cases same inner d partial a w k)
 
--- ---- `Repeated`
+-- ---- `Repeats`
 
 -- the lists and the places after them agree, or the failures do
 abbrev Meet : {O P T : Type 0} → (O → O → Type 0) → List O → List O → Outcome P T → Outcome P T
@@ -142,9 +142,9 @@ IsOf xs (Gives ys b) = xs ≡ ys
 IsOf xs (Fails f) = ⊤
 
 module _ {O T : Type 0} (same : O → O → Type 0) (least : ℕ) (greatest : Option ℕ) (inner : Meaning O T) (d : IsDetermined same inner) where
-  -- an answer of `Repeated` is a list of values with an end after it
+  -- an answer of `Repeats` is a list of values with an end after it
   ends : (partial : Bool) (a : Ahead T) (v : Outcome (List O) T)
-      → Repeated least greatest inner partial a v
+      → Repeats least greatest inner partial a v
       → (xs : List O) × ((b : Ahead T) × (InTurn (Taking inner) partial xs a b × Ends same least greatest (Taking inner) (determined-taking same inner d) partial (length xs) b v × IsOf xs v))
   ends partial a (Gives xs b) h = (xs, (b, (h.0, (refl, h.1, elim h.2 [ inl full ↦ inl full | inr k ↦ inr (k.0, k.1.2) ]), refl)))
   ends partial a (Fails f) h = (h.0, (h.1.0, (h.1.1.0, (h.1.1.1, h.1.1.2.0, h.1.1.2.1), tt)))
@@ -157,9 +157,9 @@ module _ {O T : Type 0} (same : O → O → Type 0) (least : ℕ) (greatest : Op
   meet-agree xs ys (Fails g) (Gives q c) e f h = h
   meet-agree xs ys (Fails f) (Fails g) e i h = h
 
-  -- `Repeated` has one answer where its parts have one
-  pub determined-repeated : IsDetermined (AreSameEach same) (Repeated least greatest inner)
-  determined-repeated partial a v w s t h k =
+  -- `Repeats` has one answer where its parts have one
+  pub determined-repeat : IsDetermined (AreSameEach same) (Repeats least greatest inner)
+  determined-repeat partial a v w s t h k =
       let x = ends partial a v h in
       let y = ends partial a w k in
       meet-agree x.0 y.0 v w x.1.1.2 y.1.1.2

@@ -4,8 +4,8 @@ use Rattle.std.specs.Prelude.{◌⊎◌}
 use Rattle.winnow_parser.specs.Outcome.{Ahead, Failed, Backtracks, Outcome, Gives, Fails, Meaning}
 use Rattle.winnow_parser.specs.Determined.{IsGranted, IsDetermined, AreBothSame, AreSameIfAny, Respects}
 use Rattle.winnow_combinator.specs.Counts.{IsBelow}
-use Rattle.winnow_combinator.specs.Repetition.{Taking}
-use Rattle.winnow_combinator.specs.Till.{IsLast, EndAfter, InTurnTill, RepeatedTill, MakesOfFirst}
+use Rattle.winnow_combinator.specs.Repeat.{Taking}
+use Rattle.winnow_combinator.specs.RepeatTill.{IsLast, EndAfter, InTurnTill, RepeatsTill, MakesOfFirst}
 use Rattle.winnow_combinator.specs.DeterminedLists.{AreSameEach}
 use Rattle.winnow_combinator.proofs.lemmas.AgreeingLemmas.{determined-taking}
 
@@ -42,7 +42,7 @@ module _ {P T : Type 0} (alike : P → P → Type 0) (least : ℕ) (greatest : O
   determined-end_after partial a (Fails f) (Gives None c) s t h k = absurd (no_end-fails partial a f s h.0 h.1 h.2 k.1)
   determined-end_after partial a (Fails f) (Fails g) s t h k = e partial a (Fails f) (Fails g) s t h.2 k.2
 
--- ---- `RepeatedTill`
+-- ---- `RepeatsTill`
 
 -- the lists, the ends and the places after them agree, or the failures do
 abbrev MeetTill : {O P T : Type 0} → (O → O → Type 0) → (P → P → Type 0) → List O → List O
@@ -120,16 +120,16 @@ module _ {O P T : Type 0} (same : O → O → Type 0) (alike : P → P → Type 
   till-meet partial a b c xs ys v w s t at to h k =
       turns_till-meet same alike least greatest (Taking inner) terminator (determined-taking same inner d) e partial xs ys 0 (length xs) (length ys) a b c v w (omega arith) (omega arith) s t at to h k
 
-  -- `RepeatedTill` has one answer where its parts have one
-  pub determined-repeated_till : IsDetermined (AreBothSame (AreSameEach same) alike)
-      (RepeatedTill least greatest inner terminator)
-  determined-repeated_till partial a (Gives x b) (Gives y c) s t h k =
+  -- `RepeatsTill` has one answer where its parts have one
+  pub determined-repeat_till : IsDetermined (AreBothSame (AreSameEach same) alike)
+      (RepeatsTill least greatest inner terminator)
+  determined-repeat_till partial a (Gives x b) (Gives y c) s t h k =
       till-meet partial a h.0 k.0 x.0 y.0 (Gives x.1 b) (Gives y.1 c) tt tt h.1.0 k.1.0 h.1.1 k.1.1
-  determined-repeated_till partial a (Gives x b) (Fails g) s t h k =
+  determined-repeat_till partial a (Gives x b) (Fails g) s t h k =
       till-meet partial a h.0 k.1.0 x.0 k.0 (Gives x.1 b) (Fails g) tt t h.1.0 k.1.1.0 h.1.1 k.1.1.1
-  determined-repeated_till partial a (Fails f) (Gives y c) s t h k =
+  determined-repeat_till partial a (Fails f) (Gives y c) s t h k =
       till-meet partial a h.1.0 k.0 h.0 y.0 (Fails f) (Gives y.1 c) s tt h.1.1.0 k.1.0 h.1.1.1 k.1.1
-  determined-repeated_till partial a (Fails f) (Fails g) s t h k =
+  determined-repeat_till partial a (Fails f) (Fails g) s t h k =
       till-meet partial a h.1.0 k.1.0 h.0 k.0 (Fails f) (Fails g) s t h.1.1.0 k.1.1.0 h.1.1.1 k.1.1.1
 
 -- gathering the first part of pairs keeps them the same

@@ -7,12 +7,12 @@ use Rattle.winnow_parser.specs.declared.failure.Failure.TheVariants.{Incomplete,
 use Rattle.winnow_parser.specs.Outcome.{Ahead, Failed, Backtracks, Cuts, Needs, Refuses, Outcome, Gives, Fails, Meaning}
 use Rattle.winnow_parser.specs.Answer.{failed}
 use Rattle.winnow_parser.specs.Errors.{Errors}
-use Rattle.winnow_parser.specs.Meanings.{CutOff}
+use Rattle.winnow_parser.specs.Meanings.{CutsErr}
 use Rattle.winnow_combinator.specs.Appended.{Appending, AppendedErrors, AppendingIf, AppendedErrorsIf, needs_some, appends_to_first}
 use Rattle.winnow_combinator.specs.Counts.{IsBelow, Ascending}
 use Rattle.winnow_combinator.specs.Gathering.{Gathered}
 use Rattle.winnow_combinator.specs.Misuse.{GatheredErrors, IsRefusedMemory}
-use Rattle.winnow_combinator.specs.Repetition.{Taking, InTurn, OneMore, Repeated, RepeatedErrors}
+use Rattle.winnow_combinator.specs.Repeat.{Taking, InTurn, OneMore, Repeats, RepeatErrors}
 
 -- ---- One parser as another
 
@@ -98,7 +98,7 @@ module _ {O T : Type 0} (q : Type 0) (greatest : Option ℕ) (inner : Meaning O 
   -- a failure after some values is one of the repetition
   repeated-appending : (least : ℕ) (f : Failed T)
       → Appending q (OneMore least (length xs) (Taking inner)) partial b (Fails f)
-      → Appending q (Repeated least greatest inner) partial a (Fails f)
+      → Appending q (Repeats least greatest inner) partial a (Fails f)
   repeated-appending least (Backtracks c) h = (xs, (b, (turns, below, h)))
   repeated-appending least (Cuts c) h = (xs, (b, (turns, below, h)))
   repeated-appending least (Needs n) h = (xs, (b, (turns, below, h)))
@@ -108,7 +108,7 @@ module _ {O T : Type 0} (q : Type 0) (greatest : Option ℕ) (inner : Meaning O 
   -- where no value is needed, the repetition does not append
   repeated-plain : (f : Failed T)
       → Appending q (OneMore 0 (length xs) (Taking inner)) partial b (Fails f)
-      → Repeated 0 greatest inner partial a (Fails f)
+      → Repeats 0 greatest inner partial a (Fails f)
   repeated-plain (Backtracks c) h = (xs, (b, (turns, below, h)))
   repeated-plain (Cuts c) h = (xs, (b, (turns, below, h)))
   repeated-plain (Needs n) h = (xs, (b, (turns, below, h)))
@@ -116,24 +116,24 @@ module _ {O T : Type 0} (q : Type 0) (greatest : Option ℕ) (inner : Meaning O 
   repeated-plain Refuses (inr h) = absurd (omega (arith, h.1.1.0))
 
   -- a failure after some values is one of the repetition, which appends if values are needed
-  pub Repeated-fails : (least : ℕ) (f : Failed T)
+  pub Repeats-fails : (least : ℕ) (f : Failed T)
       → Appending q (OneMore least (length xs) (Taking inner)) partial b (Fails f)
-      → AppendingIf (needs_some least) q (Repeated least greatest inner) partial a (Fails f)
-  Repeated-fails zero f h = repeated-plain f h
-  Repeated-fails (suc n) f h = repeated-appending (suc n) f h
+      → AppendingIf (needs_some least) q (Repeats least greatest inner) partial a (Fails f)
+  Repeats-fails zero f h = repeated-plain f h
+  Repeats-fails (suc n) f h = repeated-appending (suc n) f h
 
   module _ {E S C : Type 0} (stood : C → Ahead T) (gives : E → S → C → E → Type 0) (errors : Errors E S T) (s : S) (d : Ahead T) where
     -- an error after some values is one of the repetition
-    pub RepeatedErrors-fails : (least : ℕ) (failure : Failure E Needed)
+    pub RepeatErrors-fails : (least : ℕ) (failure : Failure E Needed)
         → Appending q (OneMore least (length xs) (Taking inner)) partial b (Fails (failed failure d))
         → AppendedErrors stood gives errors partial b s failure
-        → GatheredErrors (RepeatedErrors inner (AppendedErrorsIf (needs_some least) stood gives errors))
+        → GatheredErrors (RepeatErrors inner (AppendedErrorsIf (needs_some least) stood gives errors))
         partial a s failure
-    RepeatedErrors-fails zero (Backtrack x) h e = absurd (omega (arith, h.0))
-    RepeatedErrors-fails zero (Cut x) h e = inl (xs, (b, (turns, e)))
-    RepeatedErrors-fails zero (Incomplete n) h e = inl (xs, (b, (turns, e)))
-    RepeatedErrors-fails zero (Refused x) h e = inr tt
-    RepeatedErrors-fails (suc n) failure h e = inl (xs, (b, (turns, e)))
+    RepeatErrors-fails zero (Backtrack x) h e = absurd (omega (arith, h.0))
+    RepeatErrors-fails zero (Cut x) h e = inl (xs, (b, (turns, e)))
+    RepeatErrors-fails zero (Incomplete n) h e = inl (xs, (b, (turns, e)))
+    RepeatErrors-fails zero (Refused x) h e = inr tt
+    RepeatErrors-fails (suc n) failure h e = inl (xs, (b, (turns, e)))
 
 -- ---- Repetitions for whose values memory may be refused
 
@@ -159,10 +159,10 @@ module _ {O T : Type 0} (first second : Meaning O T) (partial : Bool) (a : Ahead
   Ascending-moves least (Some greatest) v (inr h) = inr h
 
   -- also where both cut
-  pub CutOff-moves : (v : Outcome O T) → CutOff first partial a v → CutOff second partial a v
-  CutOff-moves (Gives x b) h = move (Gives x b) h
-  CutOff-moves (Fails (Backtracks b)) h = absurd h
-  CutOff-moves (Fails (Cuts b)) (inl h) = inl (move (Fails (Backtracks b)) h)
-  CutOff-moves (Fails (Cuts b)) (inr h) = inr (move (Fails (Cuts b)) h)
-  CutOff-moves (Fails (Needs n)) h = move (Fails (Needs n)) h
-  CutOff-moves (Fails Refuses) h = move (Fails Refuses) h
+  pub CutsErr-moves : (v : Outcome O T) → CutsErr first partial a v → CutsErr second partial a v
+  CutsErr-moves (Gives x b) h = move (Gives x b) h
+  CutsErr-moves (Fails (Backtracks b)) h = absurd h
+  CutsErr-moves (Fails (Cuts b)) (inl h) = inl (move (Fails (Backtracks b)) h)
+  CutsErr-moves (Fails (Cuts b)) (inr h) = inr (move (Fails (Cuts b)) h)
+  CutsErr-moves (Fails (Needs n)) h = move (Fails (Needs n)) h
+  CutsErr-moves (Fails Refuses) h = move (Fails Refuses) h

@@ -1,19 +1,19 @@
 -- A combinator of parsers that have one answer has one answer.
 use Rattle.std.proofs.Common.{ℕ, zero, suc, ◌-◌, Bool, true, false, List, [], ◌∷◌, Option, Some, None, inl, inr, refl, sym, subst, arith}
 use Rattle.winnow_parser.specs.Outcome.{Ahead, Backtracks, Cuts, Needs, Refuses, Outcome, Gives, Fails, Meaning}
-use Rattle.winnow_parser.specs.Meanings.{Maps, Pair, Second, Preceded, Either, Optional}
+use Rattle.winnow_parser.specs.Meanings.{Maps, Pair, Second, IsPreceded, IsAlt2, IsOpt}
 use Rattle.winnow_parser.specs.Determined.{IsGranted, Agree, IsDetermined, Respects, AreBothSame, AreSameIfAny}
-use Rattle.winnow_parser.proofs.lemmas.DeterminedLemmas.{determined-returns, determined-maps, determined-pair, determined-either}
-use Rattle.winnow_parser.proofs.lemmas.ImageLemmas.{determined-optional}
+use Rattle.winnow_parser.proofs.lemmas.DeterminedLemmas.{determined-returns, determined-maps, determined-pair, determined-alt2}
+use Rattle.winnow_parser.proofs.lemmas.ImageLemmas.{determined-opt}
 use Rattle.winnow_combinator.specs.Appended.{Appending, AppendingIf}
-use Rattle.winnow_combinator.specs.Choices.{Choice3, Choice4, Choice5, Choice6, Choice7, Choice8, Choice9, Choice10}
-use Rattle.winnow_combinator.specs.Conditional.{IsSomeOf, Conditional}
+use Rattle.winnow_combinator.specs.Alt.{IsAlt3, IsAlt4, IsAlt5, IsAlt6, IsAlt7, IsAlt8, IsAlt9, IsAlt10}
+use Rattle.winnow_combinator.specs.Cond.{IsSomeOf, IsCond}
 use Rattle.winnow_combinator.specs.Counts.{Ascending, fewer}
 use Rattle.winnow_combinator.specs.Gathering.{Gathered}
-use Rattle.winnow_combinator.specs.Repetition.{Repeated}
-use Rattle.winnow_combinator.specs.Separation.{Prepends, Chained, OrNone, IfNeeded, Separated, Countable}
+use Rattle.winnow_combinator.specs.Repeat.{Repeats}
+use Rattle.winnow_combinator.specs.Separated.{Prepends, Chained, OrNone, IfNeeded, IsSeparated, Countable}
 use Rattle.winnow_combinator.specs.DeterminedLists.{AreSameEach}
-use Rattle.winnow_combinator.proofs.lemmas.AgreeingLemmas.{determined-repeated}
+use Rattle.winnow_combinator.proofs.lemmas.AgreeingLemmas.{determined-repeat}
 
 -- ---- A parser that is asked on a condition
 
@@ -22,11 +22,11 @@ module _ {O : Type 0} (same : O → O → Type 0) where
   some-respects : Respects same (AreSameIfAny same) IsSomeOf
   some-respects x y p q e h k = subst (λ o. AreSameIfAny same o q) h (subst (AreSameIfAny same (Some x)) k e)
 
-  -- `Conditional` has one answer where the inner parser has one
-  pub determined-conditional : {T : Type 0} (flag : Bool) (inner : Meaning O T)
-      → IsDetermined same inner → IsDetermined (AreSameIfAny same) (Conditional flag inner)
-  determined-conditional true inner d = determined-maps same (AreSameIfAny same) IsSomeOf some-respects inner d
-  determined-conditional false inner d = determined-returns None (AreSameIfAny same) tt
+  -- `IsCond` has one answer where the inner parser has one
+  pub determined-cond : {T : Type 0} (flag : Bool) (inner : Meaning O T)
+      → IsDetermined same inner → IsDetermined (AreSameIfAny same) (IsCond flag inner)
+  determined-cond true inner d = determined-maps same (AreSameIfAny same) IsSomeOf some-respects inner d
+  determined-cond false inner d = determined-returns None (AreSameIfAny same) tt
 
 -- ---- A result that is made of the value
 
@@ -115,23 +115,23 @@ module _ {O S T : Type 0} (same : O → O → Type 0) (alike : S → S → Type 
   determined-chained : (least : ℕ) (greatest : Option ℕ)
       → IsDetermined (AreSameEach same) (Chained least greatest separator inner)
   determined-chained least greatest =
-      let next = Preceded separator inner in
-      let others = Repeated (least - 1) (fewer greatest) next in
+      let next = IsPreceded separator inner in
+      let others = Repeats (least - 1) (fewer greatest) next in
       let n = determined-maps (AreBothSame alike same) same Second second-respects (Pair separator inner) (determined-pair alike same separator inner q d) in
       determined-maps (AreBothSame same (AreSameEach same)) (AreSameEach same) Prepends prepends-respects (Pair inner others)
-      (determined-pair same (AreSameEach same) inner others d (determined-repeated same (least - 1) (fewer greatest) next n))
+      (determined-pair same (AreSameEach same) inner others d (determined-repeat same (least - 1) (fewer greatest) next n))
 
   -- `IfNeeded` has one answer where its values have one
   determined-if_needed : (least : ℕ) (values : Meaning (List O) T)
       → IsDetermined (AreSameEach same) values
       → IsDetermined (AreSameEach same) (IfNeeded least values)
   determined-if_needed zero values v =
-      determined-maps (AreSameIfAny (AreSameEach same)) (AreSameEach same) OrNone or_none-respects (Optional values) (determined-optional values (AreSameEach same) v)
+      determined-maps (AreSameIfAny (AreSameEach same)) (AreSameEach same) OrNone or_none-respects (IsOpt values) (determined-opt values (AreSameEach same) v)
   determined-if_needed (suc n) values v = v
 
-  -- `Separated` has one answer where its parts have one
+  -- `IsSeparated` has one answer where its parts have one
   pub determined-separated : (least : ℕ) (greatest : Option ℕ)
-      → IsDetermined (AreSameEach same) (Separated least greatest separator inner)
+      → IsDetermined (AreSameEach same) (IsSeparated least greatest separator inner)
   determined-separated least None = determined-if_needed least (Chained least None separator inner) (determined-chained least None)
   determined-separated least (Some zero) = determined-returns [] (AreSameEach same) tt
   determined-separated least (Some (suc n)) =
@@ -141,50 +141,50 @@ module _ {O S T : Type 0} (same : O → O → Type 0) (alike : S → S → Type 
 
 module _ {O T : Type 0} (r : Type 0) (same : O → O → Type 0) where
   -- the first of three parsers has one answer where each has one
-  pub determined-choice3 : (a b c : Meaning O T) → IsDetermined same a → IsDetermined same b
-      → IsDetermined same c → IsDetermined same (Choice3 r a b c)
-  determined-choice3 a b c da db dc = determined-either r same (Either r a b) c (determined-either r same a b da db) dc
+  pub determined-alt3 : (a b c : Meaning O T) → IsDetermined same a → IsDetermined same b
+      → IsDetermined same c → IsDetermined same (IsAlt3 r a b c)
+  determined-alt3 a b c da db dc = determined-alt2 r same (IsAlt2 r a b) c (determined-alt2 r same a b da db) dc
 
   -- the first of four parsers has one answer where each has one
-  pub determined-choice4 : (a b c d : Meaning O T) → IsDetermined same a → IsDetermined same b
-      → IsDetermined same c → IsDetermined same d → IsDetermined same (Choice4 r a b c d)
-  determined-choice4 a b c d da db dc dd = determined-either r same (Choice3 r a b c) d (determined-choice3 a b c da db dc) dd
+  pub determined-alt4 : (a b c d : Meaning O T) → IsDetermined same a → IsDetermined same b
+      → IsDetermined same c → IsDetermined same d → IsDetermined same (IsAlt4 r a b c d)
+  determined-alt4 a b c d da db dc dd = determined-alt2 r same (IsAlt3 r a b c) d (determined-alt3 a b c da db dc) dd
 
   -- the first of five parsers has one answer where each has one
-  pub determined-choice5 : (a b c d e : Meaning O T) → IsDetermined same a → IsDetermined same b
+  pub determined-alt5 : (a b c d e : Meaning O T) → IsDetermined same a → IsDetermined same b
       → IsDetermined same c → IsDetermined same d → IsDetermined same e
-      → IsDetermined same (Choice5 r a b c d e)
-  determined-choice5 a b c d e da db dc dd de = determined-either r same (Choice4 r a b c d) e (determined-choice4 a b c d da db dc dd) de
+      → IsDetermined same (IsAlt5 r a b c d e)
+  determined-alt5 a b c d e da db dc dd de = determined-alt2 r same (IsAlt4 r a b c d) e (determined-alt4 a b c d da db dc dd) de
 
   -- the first of six parsers has one answer where each has one
-  pub determined-choice6 : (a b c d e f : Meaning O T) → IsDetermined same a → IsDetermined same b
+  pub determined-alt6 : (a b c d e f : Meaning O T) → IsDetermined same a → IsDetermined same b
       → IsDetermined same c → IsDetermined same d → IsDetermined same e → IsDetermined same f
-      → IsDetermined same (Choice6 r a b c d e f)
-  determined-choice6 a b c d e f da db dc dd de df = determined-either r same (Choice5 r a b c d e) f (determined-choice5 a b c d e da db dc dd de) df
+      → IsDetermined same (IsAlt6 r a b c d e f)
+  determined-alt6 a b c d e f da db dc dd de df = determined-alt2 r same (IsAlt5 r a b c d e) f (determined-alt5 a b c d e da db dc dd de) df
 
   -- the first of seven parsers has one answer where each has one
-  pub determined-choice7 : (a b c d e f g : Meaning O T) → IsDetermined same a
+  pub determined-alt7 : (a b c d e f g : Meaning O T) → IsDetermined same a
       → IsDetermined same b → IsDetermined same c → IsDetermined same d → IsDetermined same e
-      → IsDetermined same f → IsDetermined same g → IsDetermined same (Choice7 r a b c d e f g)
-  determined-choice7 a b c d e f g da db dc dd de df dg = determined-either r same (Choice6 r a b c d e f) g (determined-choice6 a b c d e f da db dc dd de df) dg
+      → IsDetermined same f → IsDetermined same g → IsDetermined same (IsAlt7 r a b c d e f g)
+  determined-alt7 a b c d e f g da db dc dd de df dg = determined-alt2 r same (IsAlt6 r a b c d e f) g (determined-alt6 a b c d e f da db dc dd de df) dg
 
   -- the first of eight parsers has one answer where each has one
-  pub determined-choice8 : (a b c d e f g h : Meaning O T) → IsDetermined same a
+  pub determined-alt8 : (a b c d e f g h : Meaning O T) → IsDetermined same a
       → IsDetermined same b → IsDetermined same c → IsDetermined same d → IsDetermined same e
       → IsDetermined same f → IsDetermined same g → IsDetermined same h
-      → IsDetermined same (Choice8 r a b c d e f g h)
-  determined-choice8 a b c d e f g h da db dc dd de df dg dh = determined-either r same (Choice7 r a b c d e f g) h (determined-choice7 a b c d e f g da db dc dd de df dg) dh
+      → IsDetermined same (IsAlt8 r a b c d e f g h)
+  determined-alt8 a b c d e f g h da db dc dd de df dg dh = determined-alt2 r same (IsAlt7 r a b c d e f g) h (determined-alt7 a b c d e f g da db dc dd de df dg) dh
 
   -- the first of nine parsers has one answer where each has one
-  pub determined-choice9 : (a b c d e f g h i : Meaning O T) → IsDetermined same a
+  pub determined-alt9 : (a b c d e f g h i : Meaning O T) → IsDetermined same a
       → IsDetermined same b → IsDetermined same c → IsDetermined same d → IsDetermined same e
       → IsDetermined same f → IsDetermined same g → IsDetermined same h → IsDetermined same i
-      → IsDetermined same (Choice9 r a b c d e f g h i)
-  determined-choice9 a b c d e f g h i da db dc dd de df dg dh di = determined-either r same (Choice8 r a b c d e f g h) i (determined-choice8 a b c d e f g h da db dc dd de df dg dh) di
+      → IsDetermined same (IsAlt9 r a b c d e f g h i)
+  determined-alt9 a b c d e f g h i da db dc dd de df dg dh di = determined-alt2 r same (IsAlt8 r a b c d e f g h) i (determined-alt8 a b c d e f g h da db dc dd de df dg dh) di
 
   -- the first of ten parsers has one answer where each has one
-  pub determined-choice10 : (a b c d e f g h i j : Meaning O T) → IsDetermined same a
+  pub determined-alt10 : (a b c d e f g h i j : Meaning O T) → IsDetermined same a
       → IsDetermined same b → IsDetermined same c → IsDetermined same d → IsDetermined same e
       → IsDetermined same f → IsDetermined same g → IsDetermined same h → IsDetermined same i
-      → IsDetermined same j → IsDetermined same (Choice10 r a b c d e f g h i j)
-  determined-choice10 a b c d e f g h i j da db dc dd de df dg dh di dj = determined-either r same (Choice9 r a b c d e f g h i) j (determined-choice9 a b c d e f g h i da db dc dd de df dg dh di) dj
+      → IsDetermined same j → IsDetermined same (IsAlt10 r a b c d e f g h i j)
+  determined-alt10 a b c d e f g h i j da db dc dd de df dg dh di dj = determined-alt2 r same (IsAlt9 r a b c d e f g h i) j (determined-alt9 a b c d e f g h i da db dc dd de df dg dh di) dj

@@ -7,14 +7,14 @@ use Rattle.winnow_parser.specs.declared.failure.Failure.{Failure}
 use Rattle.winnow_parser.specs.Outcome.{Ahead, Gives, Meaning}
 use Rattle.winnow_parser.specs.Errors.{Errors, PairErrors}
 use Rattle.winnow_combinator.specs.Misuse.{GatheredErrors}
-use Rattle.winnow_combinator.specs.Repetition.{Taking, InTurn, RepeatedErrors}
+use Rattle.winnow_combinator.specs.Repeat.{Taking, InTurn, RepeatErrors}
 
 module _ {O E S T : Type 0} (means : Meaning O T) (errors : Errors E S T) (partial : Bool) (a b : Ahead T) (s : S) where
   -- an error of the parser after some values is one of the repetition
-  pub RepeatedErrors-after : (xs : List O) (failure : Failure E Needed)
+  pub RepeatErrors-after : (xs : List O) (failure : Failure E Needed)
       → InTurn (Taking means) partial xs a b → errors partial b s failure
-      → GatheredErrors (RepeatedErrors means errors) partial a s failure
-  RepeatedErrors-after xs failure turns e = inl (xs, (b, (turns, e)))
+      → GatheredErrors (RepeatErrors means errors) partial a s failure
+  RepeatErrors-after xs failure turns e = inl (xs, (b, (turns, e)))
 
   -- a later error, after a first value, is one of the pair
   after-first : (later : Errors E S T) (x : O) (failure : Failure E Needed)

@@ -2,15 +2,15 @@
 use Rattle.std.proofs.Common.{ℕ, Option, refl, subst}
 use Rattle.std.specs.Prelude.{◌≡◌}
 use Rattle.winnow_parser.specs.Outcome.{Meaning}
-use Rattle.winnow_parser.specs.Meanings.{IsAlways, IsForgotten, First, Second, Pair, Preceded, Terminated}
+use Rattle.winnow_parser.specs.Meanings.{IsAlways, IsForgotten, First, Second, Pair, IsPreceded, IsTerminated}
 use Rattle.winnow_parser.specs.Determined.{IsDetermined, Respects, Shows, AreBothSame}
 use Rattle.winnow_parser.proofs.lemmas.DeterminedLemmas.{determined-maps, determined-pair}
 use Rattle.winnow_combinator.specs.Appended.{AppendingIf, needs_some}
 use Rattle.winnow_combinator.specs.Counts.{Ascending}
 use Rattle.winnow_combinator.specs.DeterminedLists.{AreSameEach, StepsRespect, IsOneStart}
 use Rattle.winnow_combinator.specs.Gathering.{Gathered, Folds}
-use Rattle.winnow_combinator.specs.Repetition.{Repeated}
-use Rattle.winnow_combinator.proofs.lemmas.AgreeingLemmas.{determined-repeated}
+use Rattle.winnow_combinator.specs.Repeat.{Repeats}
+use Rattle.winnow_combinator.proofs.lemmas.AgreeingLemmas.{determined-repeat}
 use Rattle.winnow_combinator.proofs.lemmas.AgreeingEndLemmas.{folds-respects}
 use Rattle.winnow_combinator.proofs.lemmas.CombinedLemmas.{determined-gathered, determined-appending_if, determined-ascending, second-respects}
 
@@ -19,14 +19,14 @@ module _ {O P T : Type 0} (same : O → O → Type 0) (alike : P → P → Type 
   first-respects : Respects (AreBothSame same alike) same First
   first-respects x y p r both h k = subst (λ o. same o r) h (subst (same x.0) k both.0)
 
-  -- `Preceded` has one answer where its parts have one
-  pub determined-preceded : IsDetermined alike (Preceded first second)
+  -- `IsPreceded` has one answer where its parts have one
+  pub determined-preceded : IsDetermined alike (IsPreceded first second)
   determined-preceded =
       determined-maps (AreBothSame same alike) alike Second (second-respects alike same first second d e) (Pair first second)
       (determined-pair same alike first second d e)
 
-  -- `Terminated` has one answer where its parts have one
-  pub determined-terminated : IsDetermined same (Terminated first second)
+  -- `IsTerminated` has one answer where its parts have one
+  pub determined-terminated : IsDetermined same (IsTerminated first second)
   determined-terminated =
       determined-maps (AreBothSame same alike) same First first-respects (Pair first second) (determined-pair same alike first second d e)
 
@@ -48,10 +48,10 @@ module _ {O P : Type 0} (same : O → O → Type 0) (alike : P → P → Type 0)
   -- folded values have one answer where the values have one
   pub determined-fold : {T : Type 0} (refusable : Type 0) (inner : Meaning P T)
       → IsDetermined alike inner → (least : ℕ) (greatest : Option ℕ)
-      → IsDetermined same (Ascending least greatest (Gathered ⊥ (Folds starts step) (AppendingIf (needs_some least) refusable (Repeated least greatest inner))))
+      → IsDetermined same (Ascending least greatest (Gathered ⊥ (Folds starts step) (AppendingIf (needs_some least) refusable (Repeats least greatest inner))))
   determined-fold refusable inner d least greatest =
-      let values = Repeated least greatest inner in
+      let values = Repeats least greatest inner in
       let appending = AppendingIf (needs_some least) refusable values in
-      let one = determined-appending_if refusable (AreSameEach alike) values (determined-repeated alike least greatest inner d) (needs_some least) in
+      let one = determined-appending_if refusable (AreSameEach alike) values (determined-repeat alike least greatest inner d) (needs_some least) in
       determined-ascending same (Gathered ⊥ (Folds starts step) appending)
       (determined-gathered (AreSameEach alike) same ⊥ (Folds starts step) starting-respects appending one) least greatest

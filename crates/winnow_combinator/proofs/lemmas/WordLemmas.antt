@@ -7,16 +7,16 @@ use Rattle.std.specs.Prelude.{All}
 use Rattle.winnow_stream.specs.Source.{Source, units, width, HasPositiveWidths}
 use Rattle.winnow_stream.specs.Location.{location_behind}
 use Rattle.winnow_parser.specs.Outcome.{Ahead, Cuts, Gives, Fails, Meaning}
-use Rattle.winnow_parser.specs.Meanings.{Maps, Preceded, Terminated}
-use Rattle.winnow_parser.specs.Spanned.{WithSpan}
+use Rattle.winnow_parser.specs.Meanings.{Maps, IsPreceded, IsTerminated}
+use Rattle.winnow_parser.specs.Span.{HasSpan}
 use Rattle.winnow_parser.specs.Whole.{ReadsWhole, StopsAt}
 use Rattle.winnow_parser.proofs.lemmas.SpanLemmas.{next-part}
 use Rattle.winnow_combinator.specs.Appended.{AppendingIf, needs_some}
 use Rattle.winnow_combinator.specs.Counts.{Ascending}
 use Rattle.winnow_combinator.specs.Gathering.{Gathered}
-use Rattle.winnow_combinator.specs.Repetition.{Taking, InTurn, Repeated}
+use Rattle.winnow_combinator.specs.Repeat.{Taking, InTurn, Repeats}
 use Rattle.winnow_combinator.specs.Words.{IsNextWord, AreWords, IsLexer, StandsAt}
-use Rattle.winnow_combinator.proofs.lemmas.TurnLemmas.{Repeated-failed, Repeated-never-backtracks}
+use Rattle.winnow_combinator.proofs.lemmas.TurnLemmas.{Repeats-failed, Repeats-never-backtracks}
 
 -- ---- Widths
 
@@ -63,11 +63,11 @@ module _ {S K O V T : Type 0} (skip : Meaning S T) (read : Meaning K T) (gap cle
     → (both.0 ≡ kind x) × (both.1 ≡ span x)) (refusable q : Type 0) (items : V → List O) where
   -- a gap and then a word
   abbrev pub Word : Meaning O T
-  Word = Maps makes (Preceded skip (WithSpan read))
+  Word = Maps makes (IsPreceded skip (HasSpan read))
 
   -- gaps and words, and a gap after the last
   abbrev pub Lexer : ℕ → Option ℕ → Meaning V T
-  Lexer l g = Terminated (Ascending l g (Gathered refusable (λ xs v. items v ≡ xs) (AppendingIf (needs_some l) q (Repeated l g Word)))) skip
+  Lexer l g = IsTerminated (Ascending l g (Gathered refusable (λ xs v. items v ≡ xs) (AppendingIf (needs_some l) q (Repeats l g Word)))) skip
 
   -- the word comes next, its span ends where the stream then stands, and the stream is narrower
   abbrev IsNext : (a b : Ahead T) → IsPlaced a → O → Type 0
@@ -125,10 +125,10 @@ module _ {S K O V T : Type 0} (skip : Meaning S T) (read : Meaning K T) (gap cle
 
   -- `Lexer` never stops before the end of a whole input
   never-stops : (a b : Ahead T) → IsPlaced a → ¬ (StopsAt (Lexer 0 None) a b)
-  never-stops a b p (inl (inl h)) = Repeated-never-backtracks None Word false a b h
+  never-stops a b p (inl (inl h)) = Repeats-never-backtracks None Word false a b h
   never-stops a b p (inl (inr (v, (c, (h, k))))) = l.skips_on c b k
   never-stops a b p (inr (inl (inl h))) =
-      let at = Repeated-failed None Word false a 0 IsPlaced placed-after (Cuts b) p h in goes-on at.0 b at.1.0 at.1.1
+      let at = Repeats-failed None Word false a 0 IsPlaced placed-after (Cuts b) p h in goes-on at.0 b at.1.0 at.1.1
   never-stops a b p (inr (inl (inr (v, (c, (h, k)))))) = l.skips_uncut c b k
   never-stops a b p (inr (inr (v, ((both, (same, (c, ((xs, (is, (turns, enough, inl full))), k)))), some)))) = cc
   never-stops a b p (inr (inr (v, ((both, (same, (c, ((xs, (is, (turns, enough, inr (below, (e, le, (d, inl h)))))), k)))), some)))) = l.skips_on c d h
@@ -141,7 +141,7 @@ module _ {S K O V T : Type 0} (skip : Meaning S T) (read : Meaning K T) (gap cle
 abbrev pub LexerOf : {S K O V T : Type 0} → (K × Range ℕ → O → Type 0) → Type 0 → Type 0
     → (V → List O) → ℕ → Option ℕ → Meaning S T → Meaning K T → Meaning S T → Meaning V T
 LexerOf makes refusable q items l g skip read last =
-    Terminated (Ascending l g (Gathered refusable (λ xs v. items v ≡ xs) (AppendingIf (needs_some l) q (Repeated l g (Maps makes (Preceded skip (WithSpan read))))))) last
+    IsTerminated (Ascending l g (Gathered refusable (λ xs v. items v ≡ xs) (AppendingIf (needs_some l) q (Repeats l g (Maps makes (IsPreceded skip (HasSpan read))))))) last
 
 module _ {S K O V T P Q : Type 0} (skips : P → Meaning S T) (reads : Q → Meaning K T) (skip : P) (read : Q) {gap clear : Source T → Type 0} {word : K → Source T → Source T → Type 0} (l : IsLexer (skips skip) (reads read) gap clear word)
     (makes : K × Range ℕ → O → Type 0) (kind : O → K) (span : O

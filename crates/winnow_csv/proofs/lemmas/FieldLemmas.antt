@@ -11,11 +11,11 @@ use Rattle.winnow_stream.specs.Longer.{SlicesStay}
 use Rattle.winnow_stream.specs.SliceBytes.{SlicesHaveBytes}
 use Rattle.winnow_parser.specs.Outcome.{Ahead, Failed, Backtracks, Cuts, Needs, Refuses, Gives, Fails, Meaning}
 use Rattle.winnow_parser.specs.Laws.{IsParser}
-use Rattle.winnow_parser.specs.Meanings.{Terminated, CutOff}
-use Rattle.winnow_parser.specs.Parts.{IsParser-Terminated, IsParser-CutOff}
-use Rattle.winnow_token.specs.OneOf.{IsParser-OneOf}
-use Rattle.winnow_token.specs.Held.{HeldFront, IsParser-HeldFront}
-use Rattle.winnow_combinator.specs.Repetition.{Taking, InTurn, OneMore}
+use Rattle.winnow_parser.specs.Meanings.{IsTerminated, CutsErr}
+use Rattle.winnow_parser.specs.Parts.{IsParser-IsTerminated, IsParser-CutsErr}
+use Rattle.winnow_token.specs.OneOf.{IsParser-IsOneOf}
+use Rattle.winnow_token.specs.TakeWhile.{TakesWhile, IsParser-TakesWhile}
+use Rattle.winnow_combinator.specs.Repeat.{Taking, InTurn, OneMore}
 use Rattle.winnow_format.specs.Bytes.{Each, bytes_of, StartsWith, Starts}
 use Rattle.winnow_format.proofs.lemmas.ByteLemmas.{tails, begins, each-after, none-left}
 use Rattle.winnow_format.proofs.lemmas.TokenLemmas.{positive-moved, byte-given, byte-missing, byte-complete, held-given, held-fails}
@@ -135,20 +135,20 @@ module _ {S : Type 0} (is_slice : S → Source ℕ → ℕ → Type 0) (bytes : 
 
   -- what stands in a chunk, and its closing quote
   abbrev Inside : Meaning S ℕ
-  Inside = Terminated (HeldFront is_slice is_other 0 None) (CutOff (Byte 34))
+  Inside = IsTerminated (TakesWhile is_slice is_other 0 None) (CutsErr (Byte 34))
 
   -- `Inside` keeps the laws of a parser
   IsParser-Inside : IsParser Inside
   IsParser-Inside =
-      IsParser-Terminated (HeldFront is_slice is_other 0 None) (CutOff (Byte 34)) (IsParser-HeldFront is_slice stay is_other 0 None)
-      (IsParser-CutOff (Byte 34) (IsParser-OneOf (λ token. 34 == token)))
+      IsParser-IsTerminated (TakesWhile is_slice is_other 0 None) (CutsErr (Byte 34)) (IsParser-TakesWhile is_slice stay is_other 0 None)
+      (IsParser-CutsErr (Byte 34) (IsParser-IsOneOf (λ token. 34 == token)))
 
   -- a chunk that is given stands between two quotes
   chunk-given : (a d : Ahead ℕ) (s : S) → HasPositiveWidths a.tokens
       → Chunk is_slice bytes partial a (Gives s d)
       → (bytes_of a.tokens ≡ 34 ∷ (bytes s ++ 34 ∷ bytes_of d.tokens)) × Each is_other (bytes s)
   chunk-given a d s wide (both, (is, (b, (h, (pair, (first, (c, (k, l)))))))) =
-      let wide_b = positive-moved a b ((IsParser-OneOf (λ token. 34 == token)).onward partial a (Gives both.0 b) h) wide in
+      let wide_b = positive-moved a b ((IsParser-IsOneOf (λ token. 34 == token)).onward partial a (Gives both.0 b) h) wide in
       let held = held-given is_slice is_other 0 bytes have partial b c pair.0 wide_b k in
       let same : pair.0 ≡ s = first ∙ is in (
         byte-given 34 partial a b both.0 h ∙ ap (λ t. 34 ∷ t) (held.0 ∙ ap (λ t. bytes pair.0 ++ t) (byte-given 34 partial c d pair.1 l))
@@ -193,7 +193,7 @@ module _ {S : Type 0} (is_slice : S → Source ℕ → ℕ → Type 0) (bytes : 
   chunk-fails (Needs n) a wide (inl h) = (h.1, inl (ap bytes_of h.0))
   chunk-fails Refuses a wide (inl h) = tt
   chunk-fails f a wide (inr (x, (b, (h, k)))) =
-      let wide_b = positive-moved a b ((IsParser-OneOf (λ token. 34 == token)).onward partial a (Gives x b) h) wide in
+      let wide_b = positive-moved a b ((IsParser-IsOneOf (λ token. 34 == token)).onward partial a (Gives x b) h) wide in
       inside-fails f a b wide_b (byte-given 34 partial a b x h) k
 
   -- ---- Chunks, one after the other

@@ -12,10 +12,10 @@ use Rattle.winnow_stream.specs.Longer.{SlicesStay}
 use Rattle.winnow_stream.specs.SliceBytes.{SlicesHaveBytes}
 use Rattle.winnow_parser.specs.Outcome.{Ahead, Failed, Backtracks, Cuts, Needs, Refuses, Gives, Fails, Meaning}
 use Rattle.winnow_parser.specs.Laws.{IsParser}
-use Rattle.winnow_parser.specs.Meanings.{Preceded, CutOff}
-use Rattle.winnow_token.specs.OneOf.{IsParser-OneOf}
-use Rattle.winnow_combinator.specs.Repetition.{Taking, InTurn, FailsWith}
-use Rattle.winnow_combinator.specs.Separation.{Chained}
+use Rattle.winnow_parser.specs.Meanings.{IsPreceded, CutsErr}
+use Rattle.winnow_token.specs.OneOf.{IsParser-IsOneOf}
+use Rattle.winnow_combinator.specs.Repeat.{Taking, InTurn, FailsWith}
+use Rattle.winnow_combinator.specs.Separated.{Chained}
 use Rattle.winnow_format.specs.Bytes.{Each, bytes_of, StartsWith}
 use Rattle.winnow_format.proofs.lemmas.ByteLemmas.{heads, tails, begins, none-left}
 use Rattle.winnow_format.proofs.lemmas.TokenLemmas.{positive-moved, byte-given, byte-missing}
@@ -142,7 +142,7 @@ module _ {S : Type 0} (is_slice : S → Source ℕ → ℕ → Type 0) (appends 
   -- where a record ends, only refused memory makes the end fail
   pub end-missed : (f : Failed ℕ) (a : Ahead ℕ) (after : List ℕ)
       → EndsRecord partial (bytes_of a.tokens) after
-      → CutOff (RecordEnd is_slice appends refusable) partial a (Fails f) → IsRefusal f
+      → CutsErr (RecordEnd is_slice appends refusable) partial a (Fails f) → IsRefusal f
   end-missed (Backtracks b) a after ends h = h
   end-missed (Cuts b) a after ends (inl h) = (end-fails (Backtracks b) a h).0 after ends
   end-missed (Cuts b) a after ends (inr h) = end-fails (Cuts b) a h
@@ -188,7 +188,7 @@ items_of fields = map (λ field. field.items) fields
 module _ {S : Type 0} (is_slice : S → Source ℕ → ℕ → Type 0) (bytes : S → List ℕ) (stay : SlicesStay is_slice) (have : SlicesHaveBytes is_slice bytes) (appends refusable : Type 0) (partial : Bool) where
   -- one more field: a comma and a field
   abbrev Next : Meaning (Vec ℕ Global) ℕ
-  Next = Preceded (Byte 44) (AnyField is_slice bytes appends refusable)
+  Next = IsPreceded (Byte 44) (AnyField is_slice bytes appends refusable)
 
   -- the field keeps the laws of a parser
   field-lawful : IsParser (AnyField is_slice bytes appends refusable)
@@ -199,7 +199,7 @@ module _ {S : Type 0} (is_slice : S → Source ℕ → ℕ → Type 0) (bytes : 
       → Next partial a (Gives x c)
       → (r : List ℕ) × ((bytes_of a.tokens ≡ 44 ∷ r) × FieldStands x.items r (bytes_of c.tokens))
   next-given x a c wide (both, (is, (m, (h, k)))) =
-      let wide_m = positive-moved a m ((IsParser-OneOf (λ token. 44 == token)).onward partial a (Gives both.0 m) h) wide in (
+      let wide_m = positive-moved a m ((IsParser-IsOneOf (λ token. 44 == token)).onward partial a (Gives both.0 m) h) wide in (
         bytes_of m.tokens,
         (
           byte-given 44 partial a m both.0 h,
@@ -232,7 +232,7 @@ module _ {S : Type 0} (is_slice : S → Source ℕ → ℕ → Type 0) (bytes : 
   next-fails f a wide h = elim (taking-fails 44 field-lawful partial a wide f h) [
     | inl k ↦ inl (comma-fails f a k)
     | inr k ↦
-        let wide_m = positive-moved a k.1.0 ((IsParser-OneOf (λ token. 44 == token)).onward partial a (Gives k.0 k.1.0) k.1.1.0) wide in
+        let wide_m = positive-moved a k.1.0 ((IsParser-IsOneOf (λ token. 44 == token)).onward partial a (Gives k.0 k.1.0) k.1.1.0) wide in
         inr (bytes_of k.1.0.tokens, (byte-given 44 partial a k.1.0 k.0 k.1.1.0, field-fails is_slice bytes stay have partial appends refusable f k.1.0 wide_m k.1.1.1))
   ]
 

@@ -8,8 +8,8 @@ use Rattle.winnow_stream.specs.Source.{Source, width, first_token, held_front, H
 use Rattle.winnow_stream.specs.SliceBytes.{SlicesHaveBytes}
 use Rattle.winnow_stream.proofs.lemmas.HeldLemmas.{HoldsAll-held_front, next-held_front, is_offset-held_front, back-held_front, front-held_front, append-held_front}
 use Rattle.winnow_parser.specs.Outcome.{Ahead, Failed, Backtracks, Cuts, Needs, Refuses, Gives, Fails, Moves}
-use Rattle.winnow_token.specs.OneOf.{OneOf}
-use Rattle.winnow_token.specs.Held.{HeldFront}
+use Rattle.winnow_token.specs.OneOf.{IsOneOf}
+use Rattle.winnow_token.specs.TakeWhile.{TakesWhile}
 use Rattle.winnow_format.specs.Bytes.{bytes_of, Each, StartsWith, Starts, EndsRun}
 use Rattle.winnow_format.proofs.lemmas.ByteLemmas.{bytes-units, none-left, positive-after}
 
@@ -38,32 +38,32 @@ other n (y ∷ ys) h = λ e. absurd (grind (arith, nat_tests, h, e))
 
 module _ (n : ℕ) (partial : Bool) (a b : Ahead ℕ) where
   -- the token that was taken, which is the byte, and the rest
-  taken : (x : ℕ) → OneOf (λ token. n == token) partial a (Gives x b)
+  taken : (x : ℕ) → IsOneOf (λ token. n == token) partial a (Gives x b)
       → (y : ℕ × ℕ) × ((a.tokens ≡ y ∷ b.tokens) × (y.0 ≡ n))
   taken x h =
       let at = first n a.tokens x h.0 h.1 in
       (at.0, (at.1.0 ∙ ap (λ s. at.0 ∷ s) (sym (ap (λ s. s.tokens) h.2)), at.1.1))
 
   -- a byte that is taken stands first
-  pub byte-given : (x : ℕ) → OneOf (λ token. n == token) partial a (Gives x b)
+  pub byte-given : (x : ℕ) → IsOneOf (λ token. n == token) partial a (Gives x b)
       → bytes_of a.tokens ≡ n ∷ bytes_of b.tokens
   byte-given x h = let at = taken x h in ap bytes_of at.1.0 ∙ ap (λ m. m ∷ bytes_of b.tokens) at.1.1
 
   -- fewer widths remain after a byte that is taken
   pub byte-narrower : (x : ℕ) → HasPositiveWidths a.tokens
-      → OneOf (λ token. n == token) partial a (Gives x b) → width b.tokens < width a.tokens
+      → IsOneOf (λ token. n == token) partial a (Gives x b) → width b.tokens < width a.tokens
   byte-narrower x wide h =
       let at = taken x h in
       let one = subst HasPositiveWidths at.1.0 wide in omega (arith, one.0, ap width at.1.0)
 
   -- where a byte is wanted and backtracks, it does not stand first, and nothing moves
-  pub byte-missing : OneOf (λ token. n == token) partial a (Fails (Backtracks b))
+  pub byte-missing : IsOneOf (λ token. n == token) partial a (Fails (Backtracks b))
       → ¬ (StartsWith n (bytes_of a.tokens)) × (b ≡ a)
   byte-missing h = (other n a.tokens h.0, h.2)
 
 -- where it backtracks at the end, nothing more may follow
 pub byte-complete : (n : ℕ) (partial : Bool) (a b : Ahead ℕ)
-    → OneOf (λ token. n == token) partial a (Fails (Backtracks b)) → a.tokens ≡ []
+    → IsOneOf (λ token. n == token) partial a (Fails (Backtracks b)) → a.tokens ≡ []
     → partial ≡ false
 byte-complete n true a b h e = absurd (h.1 refl e)
 byte-complete n false a b h e = refl
@@ -117,7 +117,7 @@ HeldFails holds partial a Refuses = ⊥
 module _ {S : Type 0} (is_slice : S → Source ℕ → ℕ → Type 0) (holds : ℕ → Bool) (least : ℕ) where
   -- a set fails only there
   pub held-fails : (partial : Bool) (a : Ahead ℕ) (f : Failed ℕ) → least ≤ 1
-      → HeldFront is_slice holds least None partial a (Fails f) → HeldFails holds partial a f
+      → TakesWhile is_slice holds least None partial a (Fails f) → HeldFails holds partial a f
   held-fails partial a (Backtracks b) small h =
       let none : length (held_front holds a.tokens) ≡ 0 = omega (arith, h.1, small) in (
         h.0,
@@ -134,7 +134,7 @@ module _ {S : Type 0} (is_slice : S → Source ℕ → ℕ → Type 0) (holds : 
   -- the bytes of a set that are taken stand first, and end before the rest
   pub held-given : (bytes : S → List ℕ) → SlicesHaveBytes is_slice bytes
       → (partial : Bool) (a b : Ahead ℕ) (s : S) → HasPositiveWidths a.tokens
-      → HeldFront is_slice holds least None partial a (Gives s b)
+      → TakesWhile is_slice holds least None partial a (Gives s b)
       → (bytes_of a.tokens ≡ bytes s ++ bytes_of b.tokens) × Each holds (bytes s)
       × EndsRun holds partial (bytes_of b.tokens)
   held-given bytes have partial a b s wide h =

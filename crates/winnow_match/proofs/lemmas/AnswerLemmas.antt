@@ -45,7 +45,7 @@ boundary-start (x ∷ l) bs k u some h =
     (omega (arith, n, length-drop k bs), λ m a. let f = first.1 (omega arith) (omega (arith, a, here)) in omega (arith, f, here))
 
 -- the place at which it ends is a boundary: a character ends there
-boundary-end : (l bs : List ℕ) (k : ℕ) → IsUtf8 bs → IsUtf8 l → IsCharBoundary bs k
+pub boundary-end : (l bs : List ℕ) (k : ℕ) → IsUtf8 bs → IsUtf8 l → IsCharBoundary bs k
     → is_prefix l (drop k bs) ≡ true → IsCharBoundary bs (k + length l)
 boundary-end l bs k v u b h =
     let whole = subst IsUtf8 (sym (take-front l (drop k bs) h)) u in
@@ -55,7 +55,7 @@ boundary-end l bs k v u b h =
 -- ---- comparisons
 
 -- a comparison ends at an offset if its `Ok` does
-comparison-ends : {T : Type 0} (r : Source T) (a b : Bool) (n : ℕ)
+pub comparison-ends : {T : Type 0} (r : Source T) (a b : Bool) (n : ℕ)
     → (a ≡ true → is_offset r n ≡ true)
     → EndsAtOffset (cond a (compared.Ok n) (cond b compared.Incomplete compared.Error)) r
 comparison-ends r true b n h = h refl
@@ -63,7 +63,7 @@ comparison-ends r false true n h = tt
 comparison-ends r false false n h = tt
 
 -- a comparison agrees with the width if its `Incomplete` means that too little remains
-comparison-agrees : {T : Type 0} (r : Source T) (a b : Bool) (n : ℕ)
+pub comparison-agrees : {T : Type 0} (r : Source T) (a b : Bool) (n : ℕ)
     → (a ≡ false → b ≡ true → width r < n)
     → AgreesWithWidth (cond a (compared.Ok n) (cond b compared.Incomplete compared.Error)) n r
 comparison-agrees r true b n h = refl
@@ -71,7 +71,7 @@ comparison-agrees r false true n h = h refl refl
 comparison-agrees r false false n h = tt
 
 -- a number of bytes up to their length is an offset
-is_offset-le : (xs : List ℕ) (n : ℕ) → n ≤ length xs → is_offset (units xs) n ≡ true
+pub is_offset-le : (xs : List ℕ) (n : ℕ) → n ≤ length xs → is_offset (units xs) n ≡ true
 is_offset-le xs n l = is_offset-units xs n ∙ grind (arith, nat_tests)
 
 module _ (literal bytes : List ℕ) (result : CompareResult) (is : result ≡ comparison literal bytes) where

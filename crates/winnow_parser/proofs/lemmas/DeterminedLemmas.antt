@@ -2,7 +2,7 @@
 use Rattle.std.specs.Prelude.{Bool, ◌⊎◌, ⊤}
 use Rattle.std.proofs.Common.{sym, ◌∙◌, subst, inl, inr}
 use Rattle.winnow_parser.specs.Outcome.{Ahead, Backtracks, Cuts, Needs, Refuses, Outcome, Gives, Fails, Meaning}
-use Rattle.winnow_parser.specs.Meanings.{Returns, Maps, Pair, Either}
+use Rattle.winnow_parser.specs.Meanings.{Returns, Maps, Pair, IsAlt2}
 use Rattle.winnow_parser.specs.Determined.{IsGranted, Agree, IsDetermined, AreBothSame, Respects}
 
 -- ---- A value, and what a relation gives for it
@@ -51,7 +51,7 @@ module _ {O P T : Type 0} (same : O → O → Type 0) (alike : P → P → Type 
 
 -- ---- One of two
 
--- the outcome is not a backtrack, so that `Either` takes it from the first parser
+-- the outcome is not a backtrack, so that `IsAlt2` takes it from the first parser
 abbrev Taken-first : {O T : Type 0} → Outcome O T → Type 0
 Taken-first (Gives x b) = ⊤
 Taken-first (Fails (Backtracks b)) = ⊥
@@ -60,10 +60,10 @@ Taken-first (Fails (Needs n)) = ⊤
 Taken-first (Fails Refuses) = ⊤
 
 module _ {O T : Type 0} (refusable : Type 0) (first second : Meaning O T) where
-  -- an answer of `Either` comes from the first parser, or from the second where the first
+  -- an answer of `IsAlt2` comes from the first parser, or from the second where the first
   -- backtracks
   either-cases : (partial : Bool) (a : Ahead T) (v : Outcome O T) → IsGranted v
-      → Either refusable first second partial a v
+      → IsAlt2 refusable first second partial a v
       → (first partial a v × Taken-first v) ⊎ ((c : Ahead T) × (first partial a (Fails (Backtracks c)) × second partial a v))
   either-cases partial a (Gives x b) s (inl h) = inl (h, tt)
   either-cases partial a (Gives x b) s (inr h) = inr h
@@ -93,7 +93,7 @@ backtracks-first same (Fails (Needs n)) c s e = cc
 backtracks-first same (Fails Refuses) c s e = cc
 
 module _ {O T : Type 0} (refusable : Type 0) (same : O → O → Type 0) (first second : Meaning O T) (d : IsDetermined same first) (e : IsDetermined same second) where
-  -- two answers of `Either` agree, by which parser each comes from
+  -- two answers of `IsAlt2` agree, by which parser each comes from
   either-agree : (partial : Bool) (a : Ahead T) (v w : Outcome O T) → IsGranted v → IsGranted w
       → (first partial a v × Taken-first v) ⊎ ((c : Ahead T) × (first partial a (Fails (Backtracks c)) × second partial a v))
       → (first partial a w × Taken-first w) ⊎ ((c : Ahead T) × (first partial a (Fails (Backtracks c)) × second partial a w))
@@ -103,7 +103,7 @@ module _ {O T : Type 0} (refusable : Type 0) (same : O → O → Type 0) (first 
   either-agree partial a v w s t (inr h) (inl k) = absurd (backtracks-first same w h.0 k.1 (d partial a (Fails (Backtracks h.0)) w tt t h.1.0 k.0))
   either-agree partial a v w s t (inr h) (inr k) = e partial a v w s t h.1.1 k.1.1
 
-  -- `Either` has one answer where its parts have one
-  pub determined-either : IsDetermined same (Either refusable first second)
-  determined-either partial a v w s t h k =
+  -- `IsAlt2` has one answer where its parts have one
+  pub determined-alt2 : IsDetermined same (IsAlt2 refusable first second)
+  determined-alt2 partial a v w s t h k =
       either-agree partial a v w s t (either-cases refusable first second partial a v s h) (either-cases refusable first second partial a w t k)

@@ -2,7 +2,7 @@
 use Rattle.std.specs.Prelude.{◌≡◌, Bool, true, false, Option, Some, None, ⊤}
 use Rattle.std.proofs.Common.{refl, sym, ◌∙◌, ap, subst, inl, inr}
 use Rattle.winnow_parser.specs.Outcome.{Ahead, Failed, Backtracks, Cuts, Needs, Refuses, Outcome, Gives, Fails, Meaning}
-use Rattle.winnow_parser.specs.Meanings.{Optional, LookedAt, Negated, CutOff, Softened, Verified, Chosen}
+use Rattle.winnow_parser.specs.Meanings.{IsOpt, Peeks, IsNot, CutsErr, BacktracksErr, Verifies, VerifyMaps}
 use Rattle.winnow_parser.specs.Determined.{IsGranted, Agree, IsDetermined, AreSameIfAny, Respects}
 
 -- ---- A parser whose answers are made of those of another
@@ -37,9 +37,9 @@ Made-optional {O} {T} a (Fails f) (Gives None c) = (a ≡ c) × ((b : Ahead T) �
 Made-optional {O} {T} a (Fails f) (Fails g) = (f ≡ g) × ((b : Ahead T) → ¬ (f ≡ Backtracks b))
 
 module _ {O T : Type 0} (inner : Meaning O T) (same : O → O → Type 0) (d : IsDetermined same inner) where
-  -- each answer of `Optional` is made of one of the inner parser
+  -- each answer of `IsOpt` is made of one of the inner parser
   optional-image : (partial : Bool) (a : Ahead T) (v : Outcome (Option O) T) → IsGranted v
-      → Optional inner partial a v
+      → IsOpt inner partial a v
       → (u : Outcome O T) × (IsGranted u × inner partial a u × Made-optional a u v)
   optional-image partial a (Gives (Some x) b) s h = (Gives x b, (tt, h, (refl, refl)))
   optional-image partial a (Gives None b) s h = (Fails (Backtracks h.1.0), (tt, h.1.1, (h.0, (h.1.0, refl))))
@@ -48,7 +48,7 @@ module _ {O T : Type 0} (inner : Meaning O T) (same : O → O → Type 0) (d : I
   optional-image partial a (Fails (Needs n)) s h = (Fails (Needs n), (tt, h, (refl, λ c e. cc)))
   optional-image partial a (Fails Refuses) s h = absurd s
 
-  -- answers of `Optional` agree where the answers that they are made of agree
+  -- answers of `IsOpt` agree where the answers that they are made of agree
   optional-respects : (a : Ahead T) (u t : Outcome O T) (v w : Outcome (Option O) T)
       → Agree same u t → Made-optional a u v → Made-optional a t w → Agree (AreSameIfAny same) v w
   optional-respects a (Gives x b) (Gives y c) (Gives (Some p) i) (Gives (Some q) j) e h k =
@@ -67,9 +67,9 @@ module _ {O T : Type 0} (inner : Meaning O T) (same : O → O → Type 0) (d : I
   optional-respects a (Fails f) (Fails g) (Fails m) (Gives None j) e h k = absurd (h.1 k.1.0 (e ∙ k.1.1))
   optional-respects a (Fails f) (Fails g) (Fails m) (Fails l) e h k = sym h.0 ∙ e ∙ k.0
 
-  -- `Optional` has one answer where its parts have one
-  pub determined-optional : IsDetermined (AreSameIfAny same) (Optional inner)
-  determined-optional = determined-image inner (Optional inner) Made-optional same (AreSameIfAny same) optional-image optional-respects d
+  -- `IsOpt` has one answer where its parts have one
+  pub determined-opt : IsDetermined (AreSameIfAny same) (IsOpt inner)
+  determined-opt = determined-image inner (IsOpt inner) Made-optional same (AreSameIfAny same) optional-image optional-respects d
 
 -- the value, from the same place
 abbrev Made-looked : {O T : Type 0} → Ahead T → Outcome O T → Outcome O T → Type 0
@@ -78,14 +78,14 @@ Made-looked a (Gives x b) (Fails g) = ⊥
 Made-looked a (Fails f) v = Keeps-failure f v
 
 module _ {O T : Type 0} (inner : Meaning O T) (same : O → O → Type 0) (d : IsDetermined same inner) where
-  -- each answer of `LookedAt` is made of one of the inner parser
+  -- each answer of `Peeks` is made of one of the inner parser
   looked-image : (partial : Bool) (a : Ahead T) (v : Outcome O T) → IsGranted v
-      → LookedAt inner partial a v
+      → Peeks inner partial a v
       → (u : Outcome O T) × (IsGranted u × inner partial a u × Made-looked a u v)
   looked-image partial a (Gives x b) s h = (Gives x h.1.0, (tt, h.1.1, (refl, h.0)))
   looked-image partial a (Fails f) s h = (Fails f, (s, h, refl))
 
-  -- answers of `LookedAt` agree where the answers that they are made of agree
+  -- answers of `Peeks` agree where the answers that they are made of agree
   looked-respects : (a : Ahead T) (u t v w : Outcome O T) → Agree same u t → Made-looked a u v
       → Made-looked a t w → Agree same v w
   looked-respects a (Gives x b) (Gives y c) (Gives p i) (Gives q j) e h k =
@@ -96,9 +96,9 @@ module _ {O T : Type 0} (inner : Meaning O T) (same : O → O → Type 0) (d : I
   looked-respects a (Fails f) (Gives y c) v w e h k = absurd e
   looked-respects a (Fails f) (Fails g) v w e h k = keeps-failure same f g v w e h k
 
-  -- `LookedAt` has one answer where its parts have one
-  pub determined-looked : IsDetermined same (LookedAt inner)
-  determined-looked = determined-image inner (LookedAt inner) Made-looked same same looked-image looked-respects d
+  -- `Peeks` has one answer where its parts have one
+  pub determined-peek : IsDetermined same (Peeks inner)
+  determined-peek = determined-image inner (Peeks inner) Made-looked same same looked-image looked-respects d
 
 -- success for a backtrack, and a backtrack for a value
 abbrev Made-negated : {O T : Type 0} → Ahead T → Outcome O T → Outcome (Unit {0}) T → Type 0
@@ -112,9 +112,9 @@ abbrev pub AreUnits : Unit {0} → Unit {0} → Type 0
 AreUnits u v = ⊤
 
 module _ {O T : Type 0} (inner : Meaning O T) (same : O → O → Type 0) (d : IsDetermined same inner) where
-  -- each answer of `Negated` is made of one of the inner parser
+  -- each answer of `IsNot` is made of one of the inner parser
   negated-image : (partial : Bool) (a : Ahead T) (v : Outcome (Unit {0}) T) → IsGranted v
-      → Negated inner partial a v
+      → IsNot inner partial a v
       → (u : Outcome O T) × (IsGranted u × inner partial a u × Made-negated a u v)
   negated-image partial a (Gives u b) s h = (Fails (Backtracks h.1.0), (tt, h.1.1, (h.0, (h.1.0, refl))))
   negated-image partial a (Fails (Backtracks b)) s h = (Gives h.1.0 h.1.1.0, (tt, h.1.1.1, ap Backtracks h.0))
@@ -122,7 +122,7 @@ module _ {O T : Type 0} (inner : Meaning O T) (same : O → O → Type 0) (d : I
   negated-image partial a (Fails (Needs n)) s h = (Fails (Needs n), (tt, h, (refl, λ c e. cc)))
   negated-image partial a (Fails Refuses) s h = absurd s
 
-  -- answers of `Negated` agree where the answers that they are made of agree
+  -- answers of `IsNot` agree where the answers that they are made of agree
   negated-respects : (a : Ahead T) (u t : Outcome O T) (v w : Outcome (Unit {0}) T)
       → Agree same u t → Made-negated a u v → Made-negated a t w → Agree AreUnits v w
   negated-respects a (Gives x b) (Gives y c) (Gives p i) w e h k = absurd h
@@ -135,9 +135,9 @@ module _ {O T : Type 0} (inner : Meaning O T) (same : O → O → Type 0) (d : I
   negated-respects a (Fails f) (Fails g) (Fails m) (Gives q j) e h k = absurd (h.1 k.1.0 (e ∙ k.1.1))
   negated-respects a (Fails f) (Fails g) (Fails m) (Fails l) e h k = sym h.0 ∙ e ∙ k.0
 
-  -- `Negated` has one answer where its parts have one
-  pub determined-negated : IsDetermined AreUnits (Negated inner)
-  determined-negated = determined-image inner (Negated inner) Made-negated same AreUnits negated-image negated-respects d
+  -- `IsNot` has one answer where its parts have one
+  pub determined-not : IsDetermined AreUnits (IsNot inner)
+  determined-not = determined-image inner (IsNot inner) Made-negated same AreUnits negated-image negated-respects d
 
 -- a backtrack becomes a cut
 abbrev cut : {T : Type 0} → Failed T → Failed T
@@ -172,9 +172,9 @@ module _ {O T : Type 0} (inner : Meaning O T) (same : O → O → Type 0) (d : I
   mode-respects mode a (Fails f) (Gives y c) v w e h k = absurd e
   mode-respects mode a (Fails f) (Fails g) v w e h k = keeps-failure same (mode f) (mode g) v w (ap mode e) h k
 
-  -- each answer of `CutOff` is made of one of the inner parser
+  -- each answer of `CutsErr` is made of one of the inner parser
   cut-image : (partial : Bool) (a : Ahead T) (v : Outcome O T) → IsGranted v
-      → CutOff inner partial a v
+      → CutsErr inner partial a v
       → (u : Outcome O T) × (IsGranted u × inner partial a u × Made-mode cut a u v)
   cut-image partial a (Gives x b) s h = (Gives x b, (tt, h, (refl, refl)))
   cut-image partial a (Fails (Backtracks b)) s h = absurd h
@@ -183,13 +183,13 @@ module _ {O T : Type 0} (inner : Meaning O T) (same : O → O → Type 0) (d : I
   cut-image partial a (Fails (Needs n)) s h = (Fails (Needs n), (tt, h, refl))
   cut-image partial a (Fails Refuses) s h = absurd s
 
-  -- `CutOff` has one answer where its parts have one
-  pub determined-cut : IsDetermined same (CutOff inner)
-  determined-cut = determined-image inner (CutOff inner) (Made-mode cut) same same cut-image (mode-respects cut) d
+  -- `CutsErr` has one answer where its parts have one
+  pub determined-cut_err : IsDetermined same (CutsErr inner)
+  determined-cut_err = determined-image inner (CutsErr inner) (Made-mode cut) same same cut-image (mode-respects cut) d
 
-  -- each answer of `Softened` is made of one of the inner parser
+  -- each answer of `BacktracksErr` is made of one of the inner parser
   soft-image : (partial : Bool) (a : Ahead T) (v : Outcome O T) → IsGranted v
-      → Softened inner partial a v
+      → BacktracksErr inner partial a v
       → (u : Outcome O T) × (IsGranted u × inner partial a u × Made-mode soften a u v)
   soft-image partial a (Gives x b) s h = (Gives x b, (tt, h, (refl, refl)))
   soft-image partial a (Fails (Backtracks b)) s (inl h) = (Fails (Backtracks b), (tt, h, refl))
@@ -198,9 +198,9 @@ module _ {O T : Type 0} (inner : Meaning O T) (same : O → O → Type 0) (d : I
   soft-image partial a (Fails (Needs n)) s h = (Fails (Needs n), (tt, h, refl))
   soft-image partial a (Fails Refuses) s h = absurd s
 
-  -- `Softened` has one answer where its parts have one
-  pub determined-softened : IsDetermined same (Softened inner)
-  determined-softened = determined-image inner (Softened inner) (Made-mode soften) same same soft-image (mode-respects soften) d
+  -- `BacktracksErr` has one answer where its parts have one
+  pub determined-backtrack_err : IsDetermined same (BacktracksErr inner)
+  determined-backtrack_err = determined-image inner (BacktracksErr inner) (Made-mode soften) same same soft-image (mode-respects soften) d
 
 -- what a relation gives for the value, or a backtrack from where it began
 module _ {O P T : Type 0} (gives : O → Option P → Type 0) (inner : Meaning O T) (same : O → O → Type 0) (alike : P → P → Type 0) (respects : Respects same (AreSameIfAny alike) gives) (d : IsDetermined same inner) where
@@ -210,9 +210,9 @@ module _ {O P T : Type 0} (gives : O → Option P → Type 0) (inner : Meaning O
   Made-chosen a (Gives x b) (Fails g) = gives x None × (Backtracks a ≡ g)
   Made-chosen a (Fails f) v = Keeps-failure f v
 
-  -- each answer of `Chosen` is made of one of the inner parser
+  -- each answer of `VerifyMaps` is made of one of the inner parser
   chosen-image : (partial : Bool) (a : Ahead T) (v : Outcome P T) → IsGranted v
-      → Chosen gives inner partial a v
+      → VerifyMaps gives inner partial a v
       → (u : Outcome O T) × (IsGranted u × inner partial a u × Made-chosen a u v)
   chosen-image partial a (Gives y b) s h = (Gives h.0 b, (tt, h.1.1, (h.1.0, refl)))
   chosen-image partial a (Fails (Backtracks b)) s (inl h) = (Fails (Backtracks b), (tt, h, refl))
@@ -221,7 +221,7 @@ module _ {O P T : Type 0} (gives : O → Option P → Type 0) (inner : Meaning O
   chosen-image partial a (Fails (Needs n)) s h = (Fails (Needs n), (tt, h, refl))
   chosen-image partial a (Fails Refuses) s h = absurd s
 
-  -- answers of `Chosen` agree where the answers that they are made of agree
+  -- answers of `VerifyMaps` agree where the answers that they are made of agree
   chosen-respects : (a : Ahead T) (u t : Outcome O T) (v w : Outcome P T) → Agree same u t
       → Made-chosen a u v → Made-chosen a t w → Agree alike v w
   chosen-respects a (Gives x b) (Gives y c) (Gives p i) (Gives q j) e h k = (respects x y (Some p) (Some q) e.0 h.0 k.0, sym h.1 ∙ e.1 ∙ k.1)
@@ -232,9 +232,9 @@ module _ {O P T : Type 0} (gives : O → Option P → Type 0) (inner : Meaning O
   chosen-respects a (Fails f) (Gives y c) v w e h k = absurd e
   chosen-respects a (Fails f) (Fails g) v w e h k = keeps-failure alike f g v w e h k
 
-  -- `Chosen` has one answer where its parts have one
-  pub determined-chosen : IsDetermined alike (Chosen gives inner)
-  determined-chosen = determined-image inner (Chosen gives inner) Made-chosen same alike chosen-image chosen-respects d
+  -- `VerifyMaps` has one answer where its parts have one
+  pub determined-verify_map : IsDetermined alike (VerifyMaps gives inner)
+  determined-verify_map = determined-image inner (VerifyMaps gives inner) Made-chosen same alike chosen-image chosen-respects d
 
 -- the value of which a test holds, or a backtrack from where it began
 module _ {O T : Type 0} (answers : O → Bool → Type 0) (inner : Meaning O T) (same : O → O → Type 0) (respects : Respects same ◌≡◌ answers) (d : IsDetermined same inner) where
@@ -244,9 +244,9 @@ module _ {O T : Type 0} (answers : O → Bool → Type 0) (inner : Meaning O T) 
   Made-verified a (Gives x b) (Fails g) = answers x false × (Backtracks a ≡ g)
   Made-verified a (Fails f) v = Keeps-failure f v
 
-  -- each answer of `Verified` is made of one of the inner parser
+  -- each answer of `Verifies` is made of one of the inner parser
   verified-image : (partial : Bool) (a : Ahead T) (v : Outcome O T) → IsGranted v
-      → Verified answers inner partial a v
+      → Verifies answers inner partial a v
       → (u : Outcome O T) × (IsGranted u × inner partial a u × Made-verified a u v)
   verified-image partial a (Gives x b) s h = (Gives x b, (tt, h.0, (refl, refl, h.1)))
   verified-image partial a (Fails (Backtracks b)) s (inl h) = (Fails (Backtracks b), (tt, h, refl))
@@ -255,7 +255,7 @@ module _ {O T : Type 0} (answers : O → Bool → Type 0) (inner : Meaning O T) 
   verified-image partial a (Fails (Needs n)) s h = (Fails (Needs n), (tt, h, refl))
   verified-image partial a (Fails Refuses) s h = absurd s
 
-  -- answers of `Verified` agree where the answers that they are made of agree
+  -- answers of `Verifies` agree where the answers that they are made of agree
   verified-respects : (a : Ahead T) (u t v w : Outcome O T) → Agree same u t → Made-verified a u v
       → Made-verified a t w → Agree same v w
   verified-respects a (Gives x b) (Gives y c) (Gives p i) (Gives q j) e h k =
@@ -267,6 +267,6 @@ module _ {O T : Type 0} (answers : O → Bool → Type 0) (inner : Meaning O T) 
   verified-respects a (Fails f) (Gives y c) v w e h k = absurd e
   verified-respects a (Fails f) (Fails g) v w e h k = keeps-failure same f g v w e h k
 
-  -- `Verified` has one answer where its parts have one
-  pub determined-verified : IsDetermined same (Verified answers inner)
-  determined-verified = determined-image inner (Verified answers inner) Made-verified same same verified-image verified-respects d
+  -- `Verifies` has one answer where its parts have one
+  pub determined-verify : IsDetermined same (Verifies answers inner)
+  determined-verify = determined-image inner (Verifies answers inner) Made-verified same same verified-image verified-respects d

@@ -11,11 +11,11 @@ use Rattle.winnow_stream.specs.SliceBytes.{SlicesHaveBytes}
 use Rattle.winnow_stream.proofs.lemmas.HeldLemmas.{held_front-append}
 use Rattle.winnow_count.specs.Reading.{IsSomeExactly}
 use Rattle.winnow_parser.specs.Outcome.{Ahead, Backtracks, Cuts, Needs, Refuses, Outcome, Gives, Fails, Meaning}
-use Rattle.winnow_parser.specs.Meanings.{Maps, Pair, Terminated, CutOff, Chosen, Returns}
-use Rattle.winnow_parser.specs.Continued.{Continued}
-use Rattle.winnow_token.specs.OneOf.{OneOf}
-use Rattle.winnow_token.specs.Held.{HeldFront, held_within, is_offset-within}
-use Rattle.winnow_token.specs.Counted.{Counted}
+use Rattle.winnow_parser.specs.Meanings.{Maps, Pair, IsTerminated, CutsErr, VerifyMaps, Returns}
+use Rattle.winnow_parser.specs.FlatMap.{FlatMaps}
+use Rattle.winnow_token.specs.OneOf.{IsOneOf}
+use Rattle.winnow_token.specs.TakeWhile.{TakesWhile, held_within, is_offset-within}
+use Rattle.winnow_token.specs.Take.{Takes}
 use Rattle.winnow_combinator.specs.Gathering.{Gathered}
 use Rattle.winnow_format.specs.Bytes.{bytes_of}
 use Rattle.winnow_format.proofs.lemmas.TokenLemmas.{itself}
@@ -57,8 +57,8 @@ module _ {O P : Type 0} (first : Meaning O ℕ) (second : Meaning P ℕ) (r m s 
   accepts-pair partial a (Fails f) e (inr (x, (b, (h, g)))) =
       let y = one partial a (Gives x b) e h in two partial b (Fails f) y.1 g
 
-  -- `Terminated` accepts the same, and gives the first value
-  pub accepts-terminated : Accepts (Terminated first second) r A s
+  -- `IsTerminated` accepts the same, and gives the first value
+  pub accepts-terminated : Accepts (IsTerminated first second) r A s
   accepts-terminated partial a (Gives x c) e h =
       let k = accepts-pair partial a (Gives h.0 c) e h.1.1 in (subst A h.1.0 k.0.0, k.1)
   accepts-terminated partial a (Fails f) e h = accepts-pair partial a (Fails f) e h
@@ -70,15 +70,15 @@ module _ {O P : Type 0} (first : Meaning O ℕ) (second : Meaning P ℕ) (t u : 
       let k = ahead-split t u r q stands in
       accepts-pair first second r k.0 q A B (one r k.0 wide k.1.0) (two k.0 q (ahead-wide t r k.0 k.1.0 wide) k.1.1)
 
-  -- `Terminated` reads the same, and gives the first value
-  pub reads-terminated : Reads (Terminated first second) (t ++ u) A
+  -- `IsTerminated` reads the same, and gives the first value
+  pub reads-terminated : Reads (IsTerminated first second) (t ++ u) A
   reads-terminated r q wide stands =
       let k = ahead-split t u r q stands in
       accepts-terminated first second r k.0 q A B (one r k.0 wide k.1.0) (two k.0 q (ahead-wide t r k.0 k.1.0 wide) k.1.1)
 
 module _ {O P V : Type 0} (makes : O → V → Type 0) (means : V → Meaning P ℕ) (first : Meaning O ℕ) (t u : List ℕ) (A : O → Type 0) (B : P → Type 0) (one : Reads first t A) (two : (x : O) (v : V) → A x → makes x v → Reads (means v) u B) where
   -- a parser and the one that is made of its value read two texts in a row
-  pub reads-continued : Reads (Continued makes means first) (t ++ u) B
+  pub reads-continued : Reads (FlatMaps makes means first) (t ++ u) B
   reads-continued r q wide stands partial a (Gives y c) e (x, (b, (v, (h, m, g)))) =
       let k = ahead-split t u r q stands in
       let w = one r k.0 wide k.1.0 partial a (Gives x b) e h in
@@ -111,8 +111,8 @@ backtracks-not : {b : Ahead ℕ} → Backtracks b ≡ Refuses → ⊥
 backtracks-not e = cc
 
 module _ {O : Type 0} (inner : Meaning O ℕ) (t : List ℕ) (A : O → Type 0) (one : Reads inner t A) where
-  -- `CutOff` reads what the inner parser reads
-  pub reads-cut : Reads (CutOff inner) t A
+  -- `CutsErr` reads what the inner parser reads
+  pub reads-cut : Reads (CutsErr inner) t A
   reads-cut r s wide stands partial a (Gives x b) e h = one r s wide stands partial a (Gives x b) e h
   reads-cut r s wide stands partial a (Fails (Backtracks b)) e h = absurd h
   reads-cut r s wide stands partial a (Fails (Cuts b)) e (inl h) =
@@ -122,8 +122,8 @@ module _ {O : Type 0} (inner : Meaning O ℕ) (t : List ℕ) (A : O → Type 0) 
   reads-cut r s wide stands partial a (Fails Refuses) e h = refl
 
 module _ {O P : Type 0} (gives : O → Option P → Type 0) (inner : Meaning O ℕ) (t : List ℕ) (A : O → Type 0) (y : P) (one : Reads inner t A) (on : (x : O) (made : Option P) → A x → gives x made → made ≡ Some y) where
-  -- `Chosen` reads what the inner parser reads, if the value is chosen
-  pub reads-chosen : Reads (Chosen gives inner) t (λ z. z ≡ y)
+  -- `VerifyMaps` reads what the inner parser reads, if the value is chosen
+  pub reads-chosen : Reads (VerifyMaps gives inner) t (λ z. z ≡ y)
   reads-chosen r s wide stands partial a (Gives z b) e h =
       let k = one r s wide stands partial a (Gives h.0 b) e h.1.1 in (same_Some _ _ (on h.0 (Some z) k.0 h.1.0), k.1)
   reads-chosen r s wide stands partial a (Fails (Backtracks b)) e (inl h) = one r s wide stands partial a (Fails (Backtracks b)) e h
@@ -140,7 +140,8 @@ reads-returns r s wide stands partial a (Fails f) e h = absurd h
 
 module _ (holds : ℕ → Bool) (c : ℕ) (held : holds c ≡ true) where
   -- a first token that is held is accepted
-  accepts-one : (x : ℕ × ℕ) (s : Source ℕ) → x.0 ≡ c → Accepts (OneOf holds) (x ∷ s) (λ y. y ≡ c) s
+  accepts-one : (x : ℕ × ℕ) (s : Source ℕ) → x.0 ≡ c
+      → Accepts (IsOneOf holds) (x ∷ s) (λ y. y ≡ c) s
   accepts-one x s is partial a (Gives y b) e h =
       (same_Some y x.0 (sym h.0 ∙ ap first_token e) ∙ is, ap (λ k. k.tokens) h.2 ∙ ap (drop 1) e)
   accepts-one x s is partial a (Fails (Backtracks b)) e h =
@@ -152,7 +153,7 @@ module _ (holds : ℕ → Bool) (c : ℕ) (held : holds c ≡ true) where
   accepts-one x s is partial a (Fails Refuses) e h = absurd h
 
   -- a byte that is held is read
-  pub reads-one : Reads (OneOf holds) (c ∷ []) (λ y. y ≡ c)
+  pub reads-one : Reads (IsOneOf holds) (c ∷ []) (λ y. y ≡ c)
   reads-one r s wide stands partial a v e h =
       let k = ahead-first c [] r s stands in
       accepts-one k.0 s k.1.1.1 partial a v (e ∙ k.1.1.0 ∙ ap (λ q. k.0 ∷ q) (ahead-none k.1.0 s k.1.1.2)) h
@@ -167,7 +168,7 @@ weaker A B s (Fails f) on h = h
 pub reads-end : Reads (LineEnd itself) line_end (λ both. ⊤)
 reads-end r s wide stands partial a v e h =
     weaker (λ both. (both.0 ≡ 13) × (both.1 ≡ 10)) (λ both. ⊤) s v (λ x k. tt)
-    (reads-pair (OneOf (λ token. 13 == token)) (OneOf (λ token. 10 == token)) (13 ∷ []) (10 ∷ []) (λ y. y ≡ 13) (λ y. y ≡ 10) (reads-one (λ token. 13 == token) 13 refl) (reads-one (λ token. 10 == token) 10 refl) r s wide stands partial a v e h)
+    (reads-pair (IsOneOf (λ token. 13 == token)) (IsOneOf (λ token. 10 == token)) (13 ∷ []) (10 ∷ []) (λ y. y ≡ 13) (λ y. y ≡ 10) (reads-one (λ token. 13 == token) 13 refl) (reads-one (λ token. 10 == token) 10 refl) r s wide stands partial a v e h)
 
 -- ---- Slices
 
@@ -191,7 +192,7 @@ module _ {S : Type 0} (counts_shortage : Bool) (is_slice : S → Source ℕ → 
   accepts-front : (longest : ℕ) (f s : Source ℕ) (x : ℕ × ℕ) (a : Ahead ℕ) → a.tokens ≡ f ++ x ∷ s
       → held_within (Some longest) is_in_line a.tokens ≡ f → HasPositiveWidths a.tokens
       → (partial : Bool) (v : Outcome S ℕ)
-      → HeldFront is_slice is_in_line 0 (Some longest) partial a v
+      → TakesWhile is_slice is_in_line 0 (Some longest) partial a v
       → IsAccepted (λ slice. bytes slice ≡ bytes_of f) (x ∷ s) v
   accepts-front longest f s x a whole held wide partial (Gives slice b) h =
       let is = subst (λ t. is_slice slice a.tokens (width t)) held h.0 in
@@ -207,7 +208,7 @@ module _ {S : Type 0} (counts_shortage : Bool) (is_slice : S → Source ℕ → 
   -- a text before a byte that cannot stand in a line is accepted
   accepts-held : (longest : ℕ) (f s : Source ℕ) (x : ℕ × ℕ) (r : Source ℕ) → r ≡ f ++ x ∷ s
       → HoldsAll is_in_line f → is_in_line x.0 ≡ false → length f ≤ longest → HasPositiveWidths r
-      → Accepts (HeldFront is_slice is_in_line 0 (Some longest)) r (λ slice. bytes slice
+      → Accepts (TakesWhile is_slice is_in_line 0 (Some longest)) r (λ slice. bytes slice
       ≡ bytes_of f) (x ∷ s)
   accepts-held longest f s x r whole all ends short wide partial a v e h =
       let here : a.tokens ≡ f ++ x ∷ s = e ∙ whole in
@@ -230,27 +231,27 @@ module _ {S : Type 0} (counts_shortage : Bool) (is_slice : S → Source ℕ → 
       let short : length f ≤ longest = omega (arith, text.1, ap length k.1.0.1.1, length-bytes f) in
       let held = accepts-held longest f x.1.0 x.0 r whole (held-line f t k.1.0.1.1 text.0) ends short wide in
       let end = reads-end k.0 q (ahead-wide t r k.0 k.1.0 wide) k.1.1 in
-      accepts-terminated (HeldFront is_slice is_in_line 0 (Some longest)) (LineEnd itself) r k.0 q (λ slice. bytes slice ≡ t) (λ both. ⊤)
+      accepts-terminated (TakesWhile is_slice is_in_line 0 (Some longest)) (LineEnd itself) r k.0 q (λ slice. bytes slice ≡ t) (λ both. ⊤)
       (λ partial a v e h. weaker _ _ k.0 v (λ slice is. is ∙ k.1.0.1.1) (subst (λ s. IsAccepted (λ slice. bytes slice ≡ bytes_of f) s v) (sym x.1.1.0) (held partial a v e h)))
       end
 
   -- the text of a line is read
   pub reads-text : (longest : ℕ) (t : List ℕ) → IsText longest t
       → Reads (Text itself counts_shortage is_slice bytes longest) (line t) (λ v. v.items ≡ t)
-  reads-text longest t text = reads-gathered (HasBytes bytes) (CutOff (Line itself counts_shortage is_slice bytes longest)) (line t) (λ slice. bytes slice ≡ t) (λ v. v.items ≡ t)
+  reads-text longest t text = reads-gathered (HasBytes bytes) (CutsErr (Line itself counts_shortage is_slice bytes longest)) (line t) (λ slice. bytes slice ≡ t) (λ v. v.items ≡ t)
       (reads-cut (Line itself counts_shortage is_slice bytes longest) (line t) (λ slice. bytes slice ≡ t) (reads-line longest t text)) (λ slice v is has. has ∙ is)
 
   -- the value that a line is read as is read
   pub reads-value : {R : Type 0} (reads : List ℕ → R → Type 0) (t : List ℕ) (n : R) → reads t n
       → IsText most_digits t
       → Reads
-      (CutOff
-      (Chosen (λ slice m. IsSomeExactly (reads (bytes slice)) m)
+      (CutsErr
+      (VerifyMaps (λ slice m. IsSomeExactly (reads (bytes slice)) m)
       (Line itself counts_shortage is_slice bytes most_digits))) (line t) (λ m. m ≡ n)
   reads-value {R = R} reads t n h text =
       let gives : S → Option R → Type 0 = λ slice m. IsSomeExactly (reads (bytes slice)) m in
       let on : (slice : S) (made : Option R) → bytes slice ≡ t → gives slice made → made ≡ Some n = λ slice made is g. (g n).1 (subst (λ s. reads s n) (sym is) h) in
-      reads-cut (Chosen gives (Line itself counts_shortage is_slice bytes most_digits)) (line t) (λ m. m ≡ n)
+      reads-cut (VerifyMaps gives (Line itself counts_shortage is_slice bytes most_digits)) (line t) (λ m. m ≡ n)
       (reads-chosen gives (Line itself counts_shortage is_slice bytes most_digits) (line t) (λ slice. bytes slice ≡ t) n (reads-line most_digits t text) on)
 
   -- an integer is read
@@ -266,7 +267,7 @@ module _ {S : Type 0} (counts_shortage : Bool) (is_slice : S → Source ℕ → 
 
   -- that many bytes are accepted
   accepts-counted : (n : ℕ) (f s r : Source ℕ) → r ≡ f ++ s → length f ≡ n → HasPositiveWidths r
-      → Accepts (Counted counts_shortage is_slice n) r (λ slice. bytes slice ≡ bytes_of f) s
+      → Accepts (Takes counts_shortage is_slice n) r (λ slice. bytes slice ≡ bytes_of f) s
   accepts-counted n f s r whole count wide partial a (Gives slice b) e h =
       let here : a.tokens ≡ f ++ s = e ∙ whole in
       let taken : take n a.tokens ≡ f = ap (take n) here ∙ ap (λ k. take k (f ++ s)) (sym count) ∙ take-seam f s in
@@ -285,9 +286,9 @@ module _ {S : Type 0} (counts_shortage : Bool) (is_slice : S → Source ℕ → 
   pub reads-bytes : (n : ℕ) (t : List ℕ) → length t ≡ n
       → Reads (Bytes itself counts_shortage is_slice bytes n) (line t) (λ v. v.items ≡ t)
   reads-bytes n t count =
-      reads-gathered (HasBytes bytes) (CutOff (Terminated (Counted counts_shortage is_slice n) (LineEnd itself))) (line t) (λ slice. bytes slice ≡ t) (λ v. v.items ≡ t)
-      (reads-cut (Terminated (Counted counts_shortage is_slice n) (LineEnd itself)) (line t) (λ slice. bytes slice ≡ t)
-      (reads-terminated (Counted counts_shortage is_slice n) (LineEnd itself) t line_end (λ slice. bytes slice ≡ t) (λ both. ⊤)
+      reads-gathered (HasBytes bytes) (CutsErr (IsTerminated (Takes counts_shortage is_slice n) (LineEnd itself))) (line t) (λ slice. bytes slice ≡ t) (λ v. v.items ≡ t)
+      (reads-cut (IsTerminated (Takes counts_shortage is_slice n) (LineEnd itself)) (line t) (λ slice. bytes slice ≡ t)
+      (reads-terminated (Takes counts_shortage is_slice n) (LineEnd itself) t line_end (λ slice. bytes slice ≡ t) (λ both. ⊤)
       (λ r s wide stands partial a v e h. weaker _ _ s v (λ slice is. is ∙ stands.1.1) (accepts-counted n stands.0 s r stands.1.0 (sym (length-bytes stands.0) ∙ ap length stands.1.1 ∙ count) wide partial a v e h))
       reads-end))
       (λ slice v is has. has ∙ is)

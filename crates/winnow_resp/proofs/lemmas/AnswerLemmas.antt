@@ -11,8 +11,8 @@ use Rattle.winnow_parser.specs.Laws.{longer, failed_longer, IsDecided}
 use Rattle.winnow_parser.specs.Answer.{outcome}
 use Rattle.winnow_parser.specs.declared.failure.Failure.{Failure}
 use Rattle.winnow_parser.specs.declared.failure.Failure.TheVariants.{Incomplete, Backtrack, Cut, Refused}
-use Rattle.winnow_token.specs.OneOf.{OneOf}
-use Rattle.winnow_combinator.specs.Ending.{Failing}
+use Rattle.winnow_token.specs.OneOf.{IsOneOf}
+use Rattle.winnow_combinator.specs.Ending.{IsFail}
 use Rattle.winnow_format.proofs.lemmas.TokenLemmas.{itself}
 use Rattle.winnow_format.proofs.lemmas.ByteLemmas.{positive-both}
 use Rattle.winnow_resp.specs.Grammar.{is_kind, BulkOf, ArrayOf, Body, Layer, Nested, IsParser-Nested}
@@ -81,15 +81,15 @@ module _ {S : Type 0} (counts_shortage : Bool) (is_slice : S → Source ℕ → 
   -- a backtrack is that of the byte of a kind
   layer-backtracks : (longest most : ℕ) (inner : Meaning Reply ℕ) (partial : Bool) (a b : Ahead ℕ)
       → Layer itself counts_shortage is_slice bytes longest most inner partial a (Fails (Backtracks b))
-      → OneOf is_kind partial a (Fails (Backtracks b))
+      → IsOneOf is_kind partial a (Fails (Backtracks b))
   layer-backtracks longest most inner partial a b (inl h) = h
   layer-backtracks longest most inner partial a b (inr (x, (c, (k, (h, same, g))))) = absurd (body-holds longest most k inner partial c b g)
 
   -- a backtrack of the whole parser is that of the byte of a kind
   nested-backtracks : (longest depth : ℕ) (partial : Bool) (a b : Ahead ℕ)
       → Nested itself counts_shortage is_slice bytes longest depth partial a (Fails (Backtracks b))
-      → OneOf is_kind partial a (Fails (Backtracks b))
-  nested-backtracks longest zero partial a b h = layer-backtracks longest 0 Failing partial a b h
+      → IsOneOf is_kind partial a (Fails (Backtracks b))
+  nested-backtracks longest zero partial a b h = layer-backtracks longest 0 IsFail partial a b h
   nested-backtracks longest (suc depth) partial a b h = layer-backtracks longest greatest_count (Nested itself counts_shortage is_slice bytes longest depth) partial a b h
 
   -- more input is needed only where more may follow

@@ -7,12 +7,12 @@ use Rattle.winnow_stream.specs.Source.{Source, width, HasPositiveWidths}
 use Rattle.winnow_stream.specs.SliceBytes.{SlicesHaveBytes}
 use Rattle.winnow_count.specs.Reading.{IsSomeExactly}
 use Rattle.winnow_parser.specs.Outcome.{Ahead, Failed, Backtracks, Cuts, Needs, Refuses, Gives, Fails, Meaning}
-use Rattle.winnow_parser.specs.Meanings.{Terminated, CutOff, Chosen}
-use Rattle.winnow_token.specs.OneOf.{OneOf}
-use Rattle.winnow_token.specs.Counted.{Counted}
+use Rattle.winnow_parser.specs.Meanings.{IsTerminated, CutsErr, VerifyMaps}
+use Rattle.winnow_token.specs.OneOf.{IsOneOf}
+use Rattle.winnow_token.specs.Take.{Takes}
 use Rattle.winnow_combinator.specs.Counts.{Ascending}
-use Rattle.winnow_combinator.specs.Ending.{Failing}
-use Rattle.winnow_combinator.specs.Repetition.{Repeated, Taking}
+use Rattle.winnow_combinator.specs.Ending.{IsFail}
+use Rattle.winnow_combinator.specs.Repeat.{Repeats, Taking}
 use Rattle.winnow_combinator.specs.Gathering.{Gathered}
 use Rattle.winnow_format.specs.Bytes.{bytes_of, StartsWith}
 use Rattle.winnow_format.proofs.lemmas.TokenLemmas.{itself, byte-missing}
@@ -63,7 +63,7 @@ IsMissing c needs_more cause r s = (cause ≡ cause_at s NoLineEnd) × (r ≡ s)
 
 -- a byte fails where it is missing
 byte-stops : (c : ℕ) (partial : Bool) (f : Failed ℕ) (a : Ahead ℕ)
-    → OneOf (λ token. c == token) partial a (Fails f) → Stops (IsMissing c) partial a.tokens f
+    → IsOneOf (λ token. c == token) partial a (Fails f) → Stops (IsMissing c) partial a.tokens f
 byte-stops c partial (Backtracks b) a h =
     let missing = byte-missing c partial a b h in
     let same : a.tokens ≡ b.tokens = ap (λ p. p.tokens) (sym missing.1) in (
@@ -100,10 +100,10 @@ NoneStops needs_more cause = BeginsNone cause
 
 -- a reply fails where none begins
 abbrev pub FailsFirst : Bool → Ahead ℕ → Failed ℕ → Type 0
-FailsFirst partial a f = OneOf is_kind partial a (Fails f) × Stops NoneStops partial a.tokens f
+FailsFirst partial a f = IsOneOf is_kind partial a (Fails f) × Stops NoneStops partial a.tokens f
 
 -- no reply begins where the byte of a kind fails
-kind-stops : (partial : Bool) (f : Failed ℕ) (a : Ahead ℕ) → OneOf is_kind partial a (Fails f)
+kind-stops : (partial : Bool) (f : Failed ℕ) (a : Ahead ℕ) → IsOneOf is_kind partial a (Fails f)
     → FailsFirst partial a f
 kind-stops partial (Backtracks b) a h =
     let same : a.tokens ≡ b.tokens = ap (λ p. p.tokens) (sym h.2) in (
@@ -212,8 +212,8 @@ module _ {S : Type 0} (counts_shortage : Bool) (is_slice : S → Source ℕ → 
   module _ {R : Type 0} (reads : List ℕ → R → Type 0) (is_wrong : Cause → List ℕ → Type 0) (decides : (text : List ℕ) → ((n : R) → ¬ (reads text n)) → Wrong is_wrong text) where
     -- what a line is read as
     abbrev Read : Meaning R ℕ
-    Read = CutOff
-        (Chosen (λ slice n. IsSomeExactly (reads (bytes slice)) n) (Line itself counts_shortage is_slice bytes most_digits))
+    Read = CutsErr
+        (VerifyMaps (λ slice n. IsSomeExactly (reads (bytes slice)) n) (Line itself counts_shortage is_slice bytes most_digits))
 
     -- a number breaks off, whether more is needed or not
     abbrev NumberStops : Bool → Cause → Source ℕ → Source ℕ → Type 0
@@ -260,7 +260,7 @@ module _ {S : Type 0} (counts_shortage : Bool) (is_slice : S → Source ℕ → 
 
   -- a number of bytes and a line end fail where they break off
   counted-stops : (n : ℕ) (partial : Bool) (f : Failed ℕ) (a : Ahead ℕ) → HasPositiveWidths a.tokens
-      → Terminated (Counted counts_shortage is_slice n) (LineEnd itself) partial a (Fails f)
+      → IsTerminated (Takes counts_shortage is_slice n) (LineEnd itself) partial a (Fails f)
       → Stops (BytesStop n) partial a.tokens f
   counted-stops n partial (Backtracks b) a wide (inl h) = (EndsInside, (λ p. absurd (true≢false (sym p ∙ h.1)), inl (refl, h.0, ap (λ p. p.tokens) h.2)))
   counted-stops n partial (Cuts b) a wide (inl h) = absurd h
@@ -333,7 +333,7 @@ module _ {S : Type 0} (counts_shortage : Bool) (is_slice : S → Source ℕ → 
 
     -- replies in turn fail where one breaks off
     repeated-stops : (n : ℕ) (partial : Bool) (f : Failed ℕ) (a : Ahead ℕ)
-        → HasPositiveWidths a.tokens → Repeated n (Some n) inner partial a (Fails f)
+        → HasPositiveWidths a.tokens → Repeats n (Some n) inner partial a (Fails f)
         → Stops (ElementsStop n) partial a.tokens f
     repeated-stops n partial f a wide (xs, (b, (turns, below, (few, h)))) =
         let k = turns-stand counts_shortage is_slice bytes have longest greatest_count spells inner one (λ text m is. is) partial xs a b wide turns in
@@ -343,7 +343,7 @@ module _ {S : Type 0} (counts_shortage : Bool) (is_slice : S → Source ℕ → 
     -- the number of replies is always allowed
     ascending-stops : (n : ℕ) (partial : Bool) (f : Failed ℕ) (a : Ahead ℕ)
         → HasPositiveWidths a.tokens
-        → Ascending n (Some n) (Gathered ⊤ HasReplies (Repeated n (Some n) inner)) partial a (Fails f)
+        → Ascending n (Some n) (Gathered ⊤ HasReplies (Repeats n (Some n) inner)) partial a (Fails f)
         → Stops (ElementsStop n) partial a.tokens f
     ascending-stops n partial (Backtracks b) a wide (inl h) = repeated-stops n partial (Backtracks b) a wide h.1
     ascending-stops n partial (Cuts b) a wide (inl h) = repeated-stops n partial (Cuts b) a wide h.1
@@ -430,7 +430,7 @@ module _ {S : Type 0} (counts_shortage : Bool) (is_slice : S → Source ℕ → 
 
   -- the parser that gives no reply leaves what stands at the front
   deep-stops : (partial : Bool) (f : Failed ℕ) (a : Ahead ℕ) → HasPositiveWidths a.tokens
-      → Failing {O = Reply} partial a (Fails f) → Stops (λ needs_more cause r s. r ≡ s) partial a.tokens f
+      → IsFail {O = Reply} partial a (Fails f) → Stops (λ needs_more cause r s. r ≡ s) partial a.tokens f
   deep-stops partial (Backtracks b) a wide h = (NoKind, (λ p e. cc, ap (λ p. p.tokens) h))
   deep-stops partial (Cuts b) a wide h = absurd h
   deep-stops partial (Needs n) a wide h = absurd h
@@ -442,7 +442,7 @@ module _ {S : Type 0} (counts_shortage : Bool) (is_slice : S → Source ℕ → 
       → Nested itself counts_shortage is_slice bytes longest depth partial a (Fails f)
       → FailsFirst partial a f ⊎ Stops (NestedStops longest depth) partial a.tokens f
   nested-stops longest zero partial f a wide h =
-      deep-either longest partial f a (layer-stops longest 0 SpellsNone (λ needs_more cause r s. r ≡ s) Failing (λ partial a b x wide h. absurd h) (λ y t h. absurd h) deep-stops partial f a wide h)
+      deep-either longest partial f a (layer-stops longest 0 SpellsNone (λ needs_more cause r s. r ≡ s) IsFail (λ partial a b x wide h. absurd h) (λ y t h. absurd h) deep-stops partial f a wide h)
   nested-stops longest (suc depth) partial f a wide h =
       layer-stops longest greatest_count (Spells longest depth) (EitherStops longest depth) (Nested itself counts_shortage is_slice bytes longest depth)
       (yields-nested counts_shortage is_slice bytes have longest depth) (spells-begins counts_shortage is_slice bytes have longest depth)

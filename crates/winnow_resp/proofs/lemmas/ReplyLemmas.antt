@@ -9,10 +9,10 @@ use Rattle.winnow_stream.specs.Source.{Source, width, HasPositiveWidths}
 use Rattle.winnow_stream.specs.SliceBytes.{SlicesHaveBytes}
 use Rattle.winnow_parser.specs.Outcome.{Ahead, Failed, Backtracks, Cuts, Needs, Refuses, Gives, Fails, Meaning}
 use Rattle.winnow_parser.specs.Meanings.{Maps, Returns}
-use Rattle.winnow_token.specs.OneOf.{OneOf}
+use Rattle.winnow_token.specs.OneOf.{IsOneOf}
 use Rattle.winnow_combinator.specs.Counts.{Ascending}
-use Rattle.winnow_combinator.specs.Ending.{Failing}
-use Rattle.winnow_combinator.specs.Repetition.{Repeated, Taking, InTurn}
+use Rattle.winnow_combinator.specs.Ending.{IsFail}
+use Rattle.winnow_combinator.specs.Repeat.{Repeats, Taking, InTurn}
 use Rattle.winnow_combinator.specs.Gathering.{Gathered}
 use Rattle.winnow_format.proofs.lemmas.TokenLemmas.{itself}
 use Rattle.winnow_resp.specs.Replies.{line, no_length, IsText, IsInteger, IsLength, greatest_count, SpellAll, SpellsLayer, SpellsNone, Spells}
@@ -187,14 +187,14 @@ module _ {S : Type 0} (counts_shortage : Bool) (is_slice : S → Source ℕ → 
     yields-layer : Yields (Layer itself counts_shortage is_slice bytes longest most inner)
         (λ y t. SpellsLayer longest spells (out-Reply y) t)
     yields-layer =
-        yields-continued (IsCode itself) (Body itself counts_shortage is_slice bytes longest most inner) (OneOf is_kind) (λ x t. (is_kind x ≡ true) × (t ≡ x ∷ [])) (λ x y u. SpellsLayer longest spells (out-Reply y) (x ∷ u)) (λ y t. SpellsLayer longest spells (out-Reply y) t) (yields-one is_kind)
+        yields-continued (IsCode itself) (Body itself counts_shortage is_slice bytes longest most inner) (IsOneOf is_kind) (λ x t. (is_kind x ≡ true) × (t ≡ x ∷ [])) (λ x y u. SpellsLayer longest spells (out-Reply y) (x ∷ u)) (λ y t. SpellsLayer longest spells (out-Reply y) t) (yields-one is_kind)
         (λ x k same. subst (λ c. Yields (Body itself counts_shortage is_slice bytes longest most inner c) (λ y u. SpellsLayer longest spells (out-Reply y) (x ∷ u))) same (yields-body x))
         (λ x y t u q r. subst (λ s. SpellsLayer longest spells (out-Reply y) (s ++ u)) (sym q.1) r)
 
   -- the reply that the parser gives stands at the front
   pub yields-nested : (longest depth : ℕ)
       → Yields (Nested itself counts_shortage is_slice bytes longest depth) (Spells longest depth)
-  yields-nested longest zero = yields-layer longest 0 SpellsNone Failing (λ partial a b x wide h. absurd h) wider-none
+  yields-nested longest zero = yields-layer longest 0 SpellsNone IsFail (λ partial a b x wide h. absurd h) wider-none
   yields-nested longest (suc depth) = yields-layer longest greatest_count (Spells longest depth) (Nested itself counts_shortage is_slice bytes longest depth) (yields-nested longest depth) (λ text n h. h)
 
   -- ---- What stands at the front is given
@@ -287,7 +287,7 @@ module _ {S : Type 0} (counts_shortage : Bool) (is_slice : S → Source ℕ → 
 
     -- the elements that stand at the front are read, where their number is asked for
     reads-repeated : (xs : List Reply) (text : List ℕ) → SpellAll spells xs text
-        → Reads (Repeated (length xs) (Some (length xs)) inner) text (λ ys. SpellAll spells ys text
+        → Reads (Repeats (length xs) (Some (length xs)) inner) text (λ ys. SpellAll spells ys text
         × (length ys ≡ length xs) × (map contents ys ≡ map contents xs))
     reads-repeated xs text all r s wide stands partial a (Gives ys b) e (turn, enough, more) =
         let same = full-count (length xs) (length ys) enough more in
@@ -309,8 +309,8 @@ module _ {S : Type 0} (counts_shortage : Bool) (is_slice : S → Source ℕ → 
         × (map contents v.items ≡ map contents xs))
     reads-elements n xs text all count =
         subst (λ m. Reads (Elements itself counts_shortage is_slice bytes inner m) text (λ v. SpellAll spells v.items text × (length v.items ≡ m) × (map contents v.items ≡ map contents xs))) count
-        (reads-cut (Ascending (length xs) (Some (length xs)) (Gathered ⊤ HasReplies (Repeated (length xs) (Some (length xs)) inner))) text (λ v. SpellAll spells v.items text × (length v.items ≡ length xs) × (map contents v.items ≡ map contents xs)) (reads-ascending (length xs) text (Gathered ⊤ HasReplies (Repeated (length xs) (Some (length xs)) inner)) (λ v. SpellAll spells v.items text × (length v.items ≡ length xs) × (map contents v.items ≡ map contents xs))
-        (reads-gathered HasReplies (Repeated (length xs) (Some (length xs)) inner) text (λ ys. SpellAll spells ys text × (length ys ≡ length xs) × (map contents ys ≡ map contents xs)) (λ v. SpellAll spells v.items text × (length v.items ≡ length xs) × (map contents v.items ≡ map contents xs)) (reads-repeated xs text all)
+        (reads-cut (Ascending (length xs) (Some (length xs)) (Gathered ⊤ HasReplies (Repeats (length xs) (Some (length xs)) inner))) text (λ v. SpellAll spells v.items text × (length v.items ≡ length xs) × (map contents v.items ≡ map contents xs)) (reads-ascending (length xs) text (Gathered ⊤ HasReplies (Repeats (length xs) (Some (length xs)) inner)) (λ v. SpellAll spells v.items text × (length v.items ≡ length xs) × (map contents v.items ≡ map contents xs))
+        (reads-gathered HasReplies (Repeats (length xs) (Some (length xs)) inner) text (λ ys. SpellAll spells ys text × (length ys ≡ length xs) × (map contents ys ≡ map contents xs)) (λ v. SpellAll spells v.items text × (length v.items ≡ length xs) × (map contents v.items ≡ map contents xs)) (reads-repeated xs text all)
         (λ ys v h has. (subst (λ zs. SpellAll spells zs text) (sym has) h.0, ap length has ∙ h.1, ap (map contents) has ∙ h.2)))))
 
     -- an array is read after the byte of its kind
@@ -410,7 +410,7 @@ module _ {S : Type 0} (counts_shortage : Bool) (is_slice : S → Source ℕ → 
           → Reads (Body itself counts_shortage is_slice bytes longest most inner kind) u P
           → Reads (Layer itself counts_shortage is_slice bytes longest most inner) (kind ∷ u) P
       reads-kind kind held body =
-          reads-continued (IsCode itself) (Body itself counts_shortage is_slice bytes longest most inner) (OneOf is_kind) (kind ∷ []) u (λ x. x ≡ kind) P (reads-one is_kind kind held)
+          reads-continued (IsCode itself) (Body itself counts_shortage is_slice bytes longest most inner) (IsOneOf is_kind) (kind ∷ []) u (λ x. x ≡ kind) P (reads-one is_kind kind held)
           (λ x k given same. subst (λ c. Reads (Body itself counts_shortage is_slice bytes longest most inner c) u P) (sym given ∙ same) body)
 
     -- a reply is read, with the contents of a layer
@@ -454,7 +454,7 @@ module _ {S : Type 0} (counts_shortage : Bool) (is_slice : S → Source ℕ → 
       (λ z. Spells longest depth z t × (contents z ≡ contents y))
   reads-nested longest zero y t h =
       reads-weaker (Nested itself counts_shortage is_slice bytes longest zero) t (λ z. SpellsLayer longest SpellsNone (out-Reply z) t × (value_of (out-Reply z) ≡ value_of (out-Reply y))) (λ z. Spells longest zero z t × (contents z ≡ contents y))
-      (λ z k. (k.0, same-contents y z k.1)) (reads-layer longest 0 SpellsNone Failing (λ y t h. absurd h) (λ y t h. absurd h) none-within (out-Reply y) t h)
+      (λ z k. (k.0, same-contents y z k.1)) (reads-layer longest 0 SpellsNone IsFail (λ y t h. absurd h) (λ y t h. absurd h) none-within (out-Reply y) t h)
   reads-nested longest (suc depth) y t h =
       reads-weaker (Nested itself counts_shortage is_slice bytes longest (suc depth)) t (λ z. SpellsLayer longest (Spells longest depth) (out-Reply z) t × (value_of (out-Reply z) ≡ value_of (out-Reply y))) (λ z. Spells longest (suc depth) z t × (contents z ≡ contents y))
       (λ z k. (k.0, same-contents y z k.1)) (reads-layer longest greatest_count (Spells longest depth) (Nested itself counts_shortage is_slice bytes longest depth) (spells-begins longest depth) (reads-nested longest depth) (λ ys t text all is. is) (out-Reply y) t h)

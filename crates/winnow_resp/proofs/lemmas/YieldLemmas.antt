@@ -10,11 +10,11 @@ use Rattle.winnow_stream.specs.SliceBytes.{SlicesHaveBytes}
 use Rattle.winnow_stream.proofs.lemmas.HeldLemmas.{append-held_front, HoldsAll-held_front, next-held_front}
 use Rattle.winnow_count.specs.Reading.{IsSomeExactly}
 use Rattle.winnow_parser.specs.Outcome.{Ahead, Gives, Meaning}
-use Rattle.winnow_parser.specs.Meanings.{Maps, Pair, Terminated, CutOff, Chosen}
-use Rattle.winnow_parser.specs.Continued.{Continued}
-use Rattle.winnow_token.specs.OneOf.{OneOf}
-use Rattle.winnow_token.specs.Held.{HeldFront, held_within, may_grow, is_offset-within}
-use Rattle.winnow_token.specs.Counted.{Counted}
+use Rattle.winnow_parser.specs.Meanings.{Maps, Pair, IsTerminated, CutsErr, VerifyMaps}
+use Rattle.winnow_parser.specs.FlatMap.{FlatMaps}
+use Rattle.winnow_token.specs.OneOf.{IsOneOf}
+use Rattle.winnow_token.specs.TakeWhile.{TakesWhile, held_within, may_grow, is_offset-within}
+use Rattle.winnow_token.specs.Take.{Takes}
 use Rattle.winnow_format.specs.Bytes.{bytes_of}
 use Rattle.winnow_format.proofs.lemmas.TokenLemmas.{itself, each-held, all-held}
 use Rattle.winnow_format.proofs.lemmas.ByteLemmas.{bytes-units, length-bytes}
@@ -47,11 +47,11 @@ yields-pair first second Q R one two partial a c both wide h =
     let l = two partial b c both.1 (ahead-wide k.0 a.tokens b.tokens k.1.0 wide) h.1.1 in
     (k.0 ++ l.0, (ahead-join k.0 l.0 a.tokens b.tokens c.tokens k.1.0 l.1.0, (k.0, (l.0, (refl, k.1.1, l.1.1)))))
 
--- what `Terminated` gives stands before what the second parser takes
+-- what `IsTerminated` gives stands before what the second parser takes
 pub yields-terminated : {O P : Type 0} (first : Meaning O ℕ) (second : Meaning P ℕ) (Q : O → List ℕ
     → Type 0) (R : P → List ℕ → Type 0) (whole : O → List ℕ → Type 0) → Yields first Q
     → Yields second R → ((x : O) (y : P) (t u : List ℕ) → Q x t → R y u → whole x (t ++ u))
-    → Yields (Terminated first second) whole
+    → Yields (IsTerminated first second) whole
 yields-terminated first second Q R whole one two on partial a c x wide h =
     let both = h.0 in
     let k = yields-pair first second Q R one two partial a c both wide h.1.1 in (
@@ -62,13 +62,13 @@ yields-terminated first second Q R whole one two on partial a c x wide h =
       ),
     )
 
--- what `Continued` gives stands after the value that it is made of
+-- what `FlatMaps` gives stands after the value that it is made of
 pub yields-continued : {O P V : Type 0} (makes : O → V → Type 0) (means : V
     → Meaning P ℕ) (first : Meaning O ℕ) (Q : O → List ℕ → Type 0) (R : O → P → List ℕ
     → Type 0) (whole : P → List ℕ → Type 0) → Yields first Q
     → ((x : O) (v : V) → makes x v → Yields (means v) (R x))
     → ((x : O) (y : P) (t u : List ℕ) → Q x t → R x y u → whole y (t ++ u))
-    → Yields (Continued makes means first) whole
+    → Yields (FlatMaps makes means first) whole
 yields-continued makes means first Q R whole one two on partial a c y wide h =
     let x = h.0 in
     let b = h.1.0 in
@@ -91,13 +91,14 @@ first-ahead [] s x e f = absurd (none-some _ e)
 first-ahead (y ∷ ys) s x e f = (y ∷ [], (ap (λ t. y ∷ t) (sym f), ap (λ c. c ∷ []) (same_Some _ _ e)))
 
 -- a first token that is held stands as its byte
-pub yields-one : (holds : ℕ → Bool) → Yields (OneOf holds) (λ x t. (holds x ≡ true) × (t ≡ x ∷ []))
+pub yields-one : (holds : ℕ → Bool)
+    → Yields (IsOneOf holds) (λ x t. (holds x ≡ true) × (t ≡ x ∷ []))
 yields-one holds partial a b x wide h = (x ∷ [], (first-ahead a.tokens b.tokens x h.0 (ap (λ s. s.tokens) h.2), (h.1, refl)))
 
 -- the end of a line stands as a carriage return and a newline
 pub yields-end : Yields (LineEnd itself) (λ both t. t ≡ line_end)
 yields-end partial a b both wide h =
-    let k = yields-pair (OneOf (λ token. 13 == token)) (OneOf (λ token. 10 == token)) (λ x t. ((13 == x) ≡ true) × (t ≡ x ∷ [])) (λ x t. ((10 == x) ≡ true) × (t ≡ x ∷ [])) (yields-one (λ token. 13 == token)) (yields-one (λ token. 10 == token)) partial a b both wide h in
+    let k = yields-pair (IsOneOf (λ token. 13 == token)) (IsOneOf (λ token. 10 == token)) (λ x t. ((13 == x) ≡ true) × (t ≡ x ∷ [])) (λ x t. ((10 == x) ≡ true) × (t ≡ x ∷ [])) (yields-one (λ token. 13 == token)) (yields-one (λ token. 10 == token)) partial a b both wide h in
     let one = k.1.1.1.1.1 in
     let two = k.1.1.1.1.2 in
     let cr : both.0 ≡ 13 = grind (arith, nat_tests, one.0) in
@@ -178,7 +179,7 @@ module _ {S : Type 0} (counts_shortage : Bool) (is_slice : S → Source ℕ → 
   -- a text that is taken up to the end of its line stands at the front, and ends there
   pub held-stands : (longest : ℕ) (partial : Bool) (a b : Ahead ℕ) (slice : S)
       → HasPositiveWidths a.tokens
-      → HeldFront is_slice is_in_line 0 (Some longest) partial a (Gives slice b)
+      → TakesWhile is_slice is_in_line 0 (Some longest) partial a (Gives slice b)
       → (t : List ℕ)
       × (IsAhead a.tokens t b.tokens × IsText longest t × EndsText longest t b.tokens × (bytes slice ≡ t))
   held-stands longest partial a b slice wide h =
@@ -214,7 +215,7 @@ module _ {S : Type 0} (counts_shortage : Bool) (is_slice : S → Source ℕ → 
 
   -- a text that is taken up to the end of its line stands at the front
   yields-held : (longest : ℕ)
-      → Yields (HeldFront is_slice is_in_line 0 (Some longest)) (λ slice t. IsText longest t
+      → Yields (TakesWhile is_slice is_in_line 0 (Some longest)) (λ slice t. IsText longest t
       × (bytes slice ≡ t))
   yields-held longest partial a b slice wide h =
       let k = held-stands longest partial a b slice wide h in (k.0, (k.1.0, (k.1.1, k.1.3)))
@@ -223,7 +224,7 @@ module _ {S : Type 0} (counts_shortage : Bool) (is_slice : S → Source ℕ → 
   pub yields-line : (longest : ℕ)
       → Yields (Line itself counts_shortage is_slice bytes longest)
       (λ slice t. IsText longest (bytes slice) × (t ≡ line (bytes slice)))
-  yields-line longest = yields-terminated (HeldFront is_slice is_in_line 0 (Some longest)) (LineEnd itself) (λ slice t. IsText longest t × (bytes slice ≡ t)) (λ both t. t ≡ line_end) (λ slice t. IsText longest (bytes slice) × (t ≡ line (bytes slice))) (yields-held longest) yields-end
+  yields-line longest = yields-terminated (TakesWhile is_slice is_in_line 0 (Some longest)) (LineEnd itself) (λ slice t. IsText longest t × (bytes slice ≡ t)) (λ both t. t ≡ line_end) (λ slice t. IsText longest (bytes slice) × (t ≡ line (bytes slice))) (yields-held longest) yields-end
       (λ slice end t u h k. (subst (IsText longest) (sym h.1) h.0, ap (λ s. s ++ u) (sym h.1) ∙ ap (λ s. bytes slice ++ s) k))
 
   -- the bytes of a text stand at the front in its line
@@ -237,8 +238,8 @@ module _ {S : Type 0} (counts_shortage : Bool) (is_slice : S → Source ℕ → 
   -- what a line is read as stands at the front in the line
   yields-read : {R : Type 0} (reads : List ℕ → R → Type 0)
       → Yields
-      (CutOff
-      (Chosen (λ slice n. IsSomeExactly (reads (bytes slice)) n)
+      (CutsErr
+      (VerifyMaps (λ slice n. IsSomeExactly (reads (bytes slice)) n)
       (Line itself counts_shortage is_slice bytes most_digits))) (λ n t. (text : List ℕ)
       × (reads text n × (t ≡ line text)))
   yields-read reads partial a b n wide h =
@@ -259,7 +260,7 @@ module _ {S : Type 0} (counts_shortage : Bool) (is_slice : S → Source ℕ → 
 
   -- that many bytes stand at the front
   pub yields-counted : (n : ℕ)
-      → Yields (Counted counts_shortage is_slice n) (λ slice t. (length t ≡ n) × (bytes slice ≡ t))
+      → Yields (Takes counts_shortage is_slice n) (λ slice t. (length t ≡ n) × (bytes slice ≡ t))
   yields-counted n partial a b slice wide h =
       let f = take n a.tokens in
       let e : a.tokens ≡ f ++ drop n a.tokens = sym (take-append-drop n a.tokens) in
@@ -272,7 +273,7 @@ module _ {S : Type 0} (counts_shortage : Bool) (is_slice : S → Source ℕ → 
       → Yields (Bytes itself counts_shortage is_slice bytes n) (λ v t. (length v.items ≡ n)
       × (t ≡ line v.items))
   yields-bytes n partial a b v wide h =
-      let k = yields-terminated (Counted counts_shortage is_slice n) (LineEnd itself) (λ slice t. (length t ≡ n) × (bytes slice ≡ t)) (λ both t. t ≡ line_end) (λ slice t. (length (bytes slice) ≡ n) × (t ≡ line (bytes slice))) (yields-counted n) yields-end
+      let k = yields-terminated (Takes counts_shortage is_slice n) (LineEnd itself) (λ slice t. (length t ≡ n) × (bytes slice ≡ t)) (λ both t. t ≡ line_end) (λ slice t. (length (bytes slice) ≡ n) × (t ≡ line (bytes slice))) (yields-counted n) yields-end
       (λ slice end t u h k. (ap length h.1 ∙ h.0, ap (λ s. s ++ u) (sym h.1) ∙ ap (λ s. bytes slice ++ s) k))
       partial a b h.0 wide h.1.1 in
       (k.0, (k.1.0, (ap length h.1.0 ∙ k.1.1.0, k.1.1.1 ∙ ap line (sym h.1.0))))

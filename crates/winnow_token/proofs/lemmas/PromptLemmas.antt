@@ -11,9 +11,9 @@ use Rattle.winnow_stream.specs.declared.needed.Needed.TheVariants.{Unknown, Size
 use Rattle.winnow_stream.proofs.lemmas.CountedShortageLemmas.{number, number-needed}
 use Rattle.winnow_parser.specs.Outcome.{Ahead, Backtracks, Cuts, Needs, Refuses, Outcome, Gives, Fails, Meaning}
 use Rattle.winnow_parser.specs.Laws.{IsSettled}
-use Rattle.winnow_token.specs.OneOf.{OneOf}
-use Rattle.winnow_token.specs.Counted.{Counted}
-use Rattle.winnow_token.specs.Held.{HeldFront}
+use Rattle.winnow_token.specs.OneOf.{IsOneOf}
+use Rattle.winnow_token.specs.Take.{Takes}
+use Rattle.winnow_token.specs.TakeWhile.{TakesWhile}
 use Rattle.winnow_token.specs.Prompt.{IsPrompt}
 
 -- a shortage that has a size has the size k
@@ -37,39 +37,39 @@ module _ {O T : Type 0} (means : Meaning O T) (one : (a : Ahead T) (n : Needed) 
       apart a (Size n) v h (subst (λ b. means true b v) same m)
 
 module _ {T : Type 0} (holds : T → Bool) where
-  -- where `OneOf` needs a token, it has no settled answer
+  -- where `IsOneOf` needs a token, it has no settled answer
   one_of-apart : (a : Ahead T) (n : Needed) (v : Outcome T T)
-      → OneOf holds true a (Fails (Needs n)) → OneOf holds true a v → ¬ IsSettled v
+      → IsOneOf holds true a (Fails (Needs n)) → IsOneOf holds true a v → ¬ IsSettled v
   one_of-apart a n (Gives x b) h m = λ s. none-some _ (sym (ap first_token h.0) ∙ m.0)
   one_of-apart a n (Fails (Backtracks b)) h m = λ s. m.1 refl h.0
   one_of-apart a n (Fails (Cuts b)) h m = λ s. m
   one_of-apart a n (Fails (Needs k)) h m = λ s. s
   one_of-apart a n (Fails Refuses) h m = λ s. s
 
-  -- `OneOf` has no settled answer with fewer tokens than it needs
-  pub prompt-one_of : IsPrompt (OneOf holds)
-  prompt-one_of = prompt-one (OneOf holds) (λ a n h. h.2) one_of-apart
+  -- `IsOneOf` has no settled answer with fewer tokens than it needs
+  pub prompt-one_of : IsPrompt (IsOneOf holds)
+  prompt-one_of = prompt-one (IsOneOf holds) (λ a n h. h.2) one_of-apart
 
 module _ {S T : Type 0} (is_slice : S → Source T → ℕ → Type 0) (holds : T → Bool) (least : ℕ) (greatest : Option ℕ) where
-  -- where `HeldFront` needs a token, it has no settled answer
+  -- where `TakesWhile` needs a token, it has no settled answer
   held-apart : (a : Ahead T) (n : Needed) (v : Outcome S T)
-      → HeldFront is_slice holds least greatest true a (Fails (Needs n))
-      → HeldFront is_slice holds least greatest true a v → ¬ IsSettled v
+      → TakesWhile is_slice holds least greatest true a (Fails (Needs n))
+      → TakesWhile is_slice holds least greatest true a v → ¬ IsSettled v
   held-apart a n (Gives x b) h m = λ s. let e = sym h.2 ∙ m.3 in cc
   held-apart a n (Fails (Backtracks b)) h m = λ s. let e = sym h.2 ∙ m.3 in cc
   held-apart a n (Fails (Cuts b)) h m = λ s. let e = sym h.1 ∙ m.1 in cc
   held-apart a n (Fails (Needs k)) h m = λ s. s
   held-apart a n (Fails Refuses) h m = λ s. s
 
-  -- `HeldFront` has no settled answer with fewer tokens than it needs
-  pub prompt-held : IsPrompt (HeldFront is_slice holds least greatest)
-  prompt-held = prompt-one (HeldFront is_slice holds least greatest) (λ a n h. h.0) held-apart
+  -- `TakesWhile` has no settled answer with fewer tokens than it needs
+  pub prompt-take_while : IsPrompt (TakesWhile is_slice holds least greatest)
+  prompt-take_while = prompt-one (TakesWhile is_slice holds least greatest) (λ a n h. h.0) held-apart
 
 module _ {S T : Type 0} (counts_shortage : Bool) (is_slice : S → Source T → ℕ → Type 0) (count : ℕ) where
-  -- `Counted` has no settled answer with fewer tokens than it needs
-  pub prompt-counted : IsPrompt (Counted counts_shortage is_slice count)
-  prompt-counted a n more (Gives s b) h l m = λ t. omega (arith, m.0, h.0, l, number-shortage counts_shortage (count - length a.tokens) n h.2, length-append a.tokens more)
-  prompt-counted a n more (Fails (Backtracks b)) h l m = λ t. let e = m.1 in cc
-  prompt-counted a n more (Fails (Cuts b)) h l m = λ t. m
-  prompt-counted a n more (Fails (Needs k)) h l m = λ t. t
-  prompt-counted a n more (Fails Refuses) h l m = λ t. t
+  -- `Takes` has no settled answer with fewer tokens than it needs
+  pub prompt-take : IsPrompt (Takes counts_shortage is_slice count)
+  prompt-take a n more (Gives s b) h l m = λ t. omega (arith, m.0, h.0, l, number-shortage counts_shortage (count - length a.tokens) n h.2, length-append a.tokens more)
+  prompt-take a n more (Fails (Backtracks b)) h l m = λ t. let e = m.1 in cc
+  prompt-take a n more (Fails (Cuts b)) h l m = λ t. m
+  prompt-take a n more (Fails (Needs k)) h l m = λ t. t
+  prompt-take a n more (Fails Refuses) h l m = λ t. t

@@ -6,22 +6,22 @@ use Rattle.winnow_stream.specs.Source.{Source, width, first_token, held_front, H
 use Rattle.winnow_stream.specs.Location.{location_behind}
 use Rattle.winnow_stream.proofs.lemmas.HeldLemmas.{append-held_front, back-held_front, HoldsAll-held_front, next-held_front}
 use Rattle.winnow_parser.specs.Outcome.{Ahead, Backtracks, Cuts, Outcome, Gives, Fails, Moves}
-use Rattle.winnow_token.specs.Held.{HeldFront}
-use Rattle.winnow_token.specs.OneOf.{OneOf}
+use Rattle.winnow_token.specs.TakeWhile.{TakesWhile}
+use Rattle.winnow_token.specs.OneOf.{IsOneOf}
 use Rattle.winnow_token.specs.Run.{IsRun}
 
 -- ---- The tokens that a set holds, with no greatest count
 
 module _ {S T : Type 0} (is_slice : S → Source T → ℕ → Type 0) (holds : T → Bool) {least : ℕ} {greatest : Option ℕ} (partial : Bool) (a b : Ahead T) (n : ℕ) (counts : (least ≡ n) × (greatest ≡ None)) where
   -- the same meaning, with the counts replaced by equal ones
-  counted : (v : Outcome S T) → HeldFront is_slice holds least greatest partial a v
-      → HeldFront is_slice holds n None partial a v
+  counted : (v : Outcome S T) → TakesWhile is_slice holds least greatest partial a v
+      → TakesWhile is_slice holds n None partial a v
   counted v h =
-      subst (λ l. HeldFront is_slice holds l None partial a v) counts.0 (subst (λ g. HeldFront is_slice holds least g partial a v) counts.1 h)
+      subst (λ l. TakesWhile is_slice holds l None partial a v) counts.0 (subst (λ g. TakesWhile is_slice holds least g partial a v) counts.1 h)
 
-  -- the tokens that `HeldFront` takes are a run
+  -- the tokens that `TakesWhile` takes are a run
   pub held-run : (s : S) → HasPositiveWidths a.tokens
-      → HeldFront is_slice holds least greatest partial a (Gives s b) → IsRun holds n a b
+      → TakesWhile is_slice holds least greatest partial a (Gives s b) → IsRun holds n a b
   held-run s wide given =
       let h = counted (Gives s b) given in
       let held = held_front holds a.tokens in
@@ -37,13 +37,13 @@ module _ {S T : Type 0} (is_slice : S → Source T → ℕ → Type 0) (holds : 
         ends = λ x e. next-held_front holds a.tokens x (ap first_token (sym rest) ∙ e);
       }
 
-  -- where `HeldFront` backtracks, fewer tokens are held than the least count
-  pub held-few : HeldFront is_slice holds least greatest partial a (Fails (Backtracks b))
+  -- where `TakesWhile` backtracks, fewer tokens are held than the least count
+  pub held-few : TakesWhile is_slice holds least greatest partial a (Fails (Backtracks b))
       → length (held_front holds a.tokens) < n
   held-few h = (counted (Fails (Backtracks b)) h).1
 
-  -- `HeldFront` never cuts without a greatest count
-  pub held-never-cuts : ¬ (HeldFront is_slice holds least greatest partial a (Fails (Cuts b)))
+  -- `TakesWhile` never cuts without a greatest count
+  pub held-never-cuts : ¬ (TakesWhile is_slice holds least greatest partial a (Fails (Cuts b)))
   held-never-cuts h = let e = (counted (Fails (Cuts b)) h).1 in cc
 
 -- where the longest held front is empty, the first token is not held
@@ -68,8 +68,8 @@ module _ {T : Type 0} where
   any-step (x ∷ xs) h = absurd (cc)
 
 module _ {T : Type 0} (partial : Bool) (a b : Ahead T) where
-  -- the token that `OneOf` takes is the first
-  pub one_of-taken : (holds : T → Bool) (x : T) → OneOf holds partial a (Gives x b)
+  -- the token that `IsOneOf` takes is the first
+  pub one_of-taken : (holds : T → Bool) (x : T) → IsOneOf holds partial a (Gives x b)
       → (n : ℕ) × ((m : Moves a b) × (m.taken ≡ (x, n) ∷ []))
   one_of-taken holds x h =
       let one = one-step a.tokens x h.0 in (
@@ -85,5 +85,5 @@ module _ {T : Type 0} (partial : Bool) (a b : Ahead T) where
       )
 
   -- a parser of any token backtracks only at the end
-  pub any-none : OneOf (λ _. true) partial a (Fails (Backtracks b)) → a.tokens ≡ []
+  pub any-none : IsOneOf (λ _. true) partial a (Fails (Backtracks b)) → a.tokens ≡ []
   any-none h = any-step a.tokens h.0

@@ -8,12 +8,12 @@ use Rattle.winnow_parser.specs.Answer.{ahead, failed}
 use Rattle.winnow_parser.specs.Parts.{Moves-on, Moves-still}
 use Rattle.winnow_combinator.specs.Appended.{Appending, AppendingIf, AppendedErrors, needs_some}
 use Rattle.winnow_combinator.specs.Counts.{IsBelow}
-use Rattle.winnow_combinator.specs.Repetition.{Taking, OneMore, InTurn-more, Repeated}
+use Rattle.winnow_combinator.specs.Repeat.{Taking, OneMore, InTurn-more, Repeats}
 use Rattle.winnow_combinator.specs.Misuse.{TakingErrors}
 use Rattle.winnow_combinator.proofs.lemmas.CountLemmas.{IsUpTo-zero, IsUpTo-more, IsUpTo-full, Ascends-full}
 use Rattle.winnow_combinator.proofs.lemmas.GatherLemmas.{Gathered-fails}
-use Rattle.winnow_combinator.proofs.lemmas.RepetitionLemmas.{Repeated-ended, Repeated-full}
-use Rattle.winnow_combinator.proofs.lemmas.AppendedLemmas.{AppendingIf-gives, Repeated-fails, RepeatedErrors-fails}
+use Rattle.winnow_combinator.proofs.lemmas.RepeatLemmas.{Repeats-ended, Repeats-full}
+use Rattle.winnow_combinator.proofs.lemmas.AppendedLemmas.{AppendingIf-gives, Repeats-fails, RepeatErrors-fails}
 use Rattle.winnow_combinator.proofs.again.go_on.Goals as goal
 
 pub loop-parser-init : goal.loop-parser-init
@@ -88,8 +88,8 @@ returns-in-Ok-None-clause-means g c =
     let at_none = subst (λ o. OneMore again.counts.least c.loop-parser.count (Taking inner) (g.I.StreamIsPartial.expects_more c.loop-parser.input) here (Gives o next)) c.in-Ok-None.field-0-is c.in-Ok-None.ensures.means in
     let means = subst (λ more. OneMore again.counts.least c.loop-parser.count (Taking inner) more here (Gives None next)) flag at_none in
     let none = subst (λ n. OneMore again.counts.least n (Taking inner) partial here (Gives None next)) so_far.counted means in
-    let ended = Repeated-ended again.counts.least again.counts.greatest inner partial xs (stands c.args.input.now) here next so_far.values below none in
-    (xs, (so_far.gathered, AppendingIf-gives (needs_some again.counts.least) g.E.ParserError.append_refusable (Repeated again.counts.least again.counts.greatest inner) partial (stands c.args.input.now) next xs ended))
+    let ended = Repeats-ended again.counts.least again.counts.greatest inner partial xs (stands c.args.input.now) here next so_far.values below none in
+    (xs, (so_far.gathered, AppendingIf-gives (needs_some again.counts.least) g.E.ParserError.append_refusable (Repeats again.counts.least again.counts.greatest inner) partial (stands c.args.input.now) next xs ended))
 
 pub returns-in-Err-clause-means : goal.returns-in-Err-clause-means
 returns-in-Err-clause-means g c =
@@ -107,8 +107,8 @@ returns-in-Err-clause-means g c =
     let refusable = g.E.ParserError.append_refusable in
     let means = subst (λ more. Appending refusable (OneMore again.counts.least c.loop-parser.count (Taking inner)) more here (Fails f)) flag c.in-Err.ensures.means in
     let fails = subst (λ n. Appending refusable (OneMore again.counts.least n (Taking inner)) partial here (Fails f)) so_far.counted means in
-    Gathered-fails g.G.Gather.refusable (FoldsTo (g.G.Gather.takes again.gather.now) c.args.whole) (AppendingIf (needs_some again.counts.least) refusable (Repeated again.counts.least again.counts.greatest inner)) partial (stands c.args.input.now) f
-    (Repeated-fails refusable again.counts.greatest inner partial xs (stands c.args.input.now) here so_far.values below again.counts.least f fails)
+    Gathered-fails g.G.Gather.refusable (FoldsTo (g.G.Gather.takes again.gather.now) c.args.whole) (AppendingIf (needs_some again.counts.least) refusable (Repeats again.counts.least again.counts.greatest inner)) partial (stands c.args.input.now) f
+    (Repeats-fails refusable again.counts.greatest inner partial xs (stands c.args.input.now) here so_far.values below again.counts.least f fails)
 
 pub returns-clause-means : goal.returns-clause-means
 returns-clause-means g c =
@@ -122,8 +122,8 @@ returns-clause-means g c =
     let full = subst (λ n. counts.greatest ≡ Some n) so_far.counted (IsUpTo-full counts.greatest c.loop-parser.count so_far.up_to none_more) in
     let enough = Ascends-full counts.least counts.greatest (length xs) c.requires.ascend full in
     let partial = g.I.StreamIsPartial.expects_more c.args.input.now in
-    let whole = Repeated-full counts.least counts.greatest inner partial xs (stands c.args.input.now) (stands c.loop-parser.input) so_far.values enough full in
-    (xs, (so_far.gathered, AppendingIf-gives (needs_some counts.least) g.E.ParserError.append_refusable (Repeated counts.least counts.greatest inner) partial (stands c.args.input.now) (stands c.loop-parser.input) xs whole))
+    let whole = Repeats-full counts.least counts.greatest inner partial xs (stands c.args.input.now) (stands c.loop-parser.input) so_far.values enough full in
+    (xs, (so_far.gathered, AppendingIf-gives (needs_some counts.least) g.E.ParserError.append_refusable (Repeats counts.least counts.greatest inner) partial (stands c.args.input.now) (stands c.loop-parser.input) xs whole))
 
 pub returns-in-Err-clause-error : goal.returns-in-Err-clause-error
 returns-in-Err-clause-error g c =
@@ -146,4 +146,4 @@ returns-in-Err-clause-error g c =
     let fails = subst (λ n. Appending refusable (OneMore again.counts.least n (Taking inner)) partial here (Fails f)) so_far.counted means in
     let errors = TakingErrors g.E.ParserError.assert_gives inner (g.P.Parser.errors again.parser.now) in
     let error = subst (λ more. AppendedErrors stood appends errors more here left failure) flag c.in-Err.ensures.error in
-    RepeatedErrors-fails refusable again.counts.greatest inner partial xs (stands c.args.input.now) here so_far.values below stood appends errors left (stands left) again.counts.least failure fails error
+    RepeatErrors-fails refusable again.counts.greatest inner partial xs (stands c.args.input.now) here so_far.values below stood appends errors left (stands left) again.counts.least failure fails error

@@ -4,7 +4,7 @@ use Rattle.winnow_stream.specs.Source.{width}
 use Rattle.winnow_parser.specs.Outcome.{Moves}
 use Rattle.winnow_parser.specs.Answer.{ahead}
 use Rattle.winnow_combinator.specs.Counts.{IsUpTo}
-use Rattle.winnow_combinator.specs.Repetition.{Taking, InTurn}
+use Rattle.winnow_combinator.specs.Repeat.{Taking, InTurn}
 use Rattle.winnow_combinator.proofs.again.go_on.Given as goal
 
 -- from the start of the call up to here the parser gave some values, one after the other, and they

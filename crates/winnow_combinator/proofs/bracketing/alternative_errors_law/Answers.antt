@@ -1,5 +1,5 @@
 use Rattle.winnow_parser.specs.Answer.{ahead}
-use Rattle.winnow_combinator.proofs.lemmas.BracketingLemmas.{appends-three, joins-left, joins-right}
+use Rattle.winnow_combinator.proofs.lemmas.AltLemmas.{appends-three, joins-left, joins-right}
 use Rattle.winnow_combinator.proofs.bracketing.alternative_errors_law.Goals as goal
 
 pub returns-clause-three : goal.returns-clause-three

@@ -1,4 +1,4 @@
-use Rattle.winnow_combinator.proofs.lemmas.BracketingLemmas.{left-alike, right-alike, left-wholly, right-wholly}
+use Rattle.winnow_combinator.proofs.lemmas.AltLemmas.{left-alike, right-alike, left-wholly, right-wholly}
 use Rattle.winnow_combinator.proofs.bracketing.alternatives_law.Goals as goal
 
 pub returns-clause-left : goal.returns-clause-left

@@ -2,14 +2,14 @@ use Rattle.winnow_parser.specs.Determined.{Shows}
 use Rattle.winnow_combinator.specs.Appended.{AppendingIf, appends_to_first}
 use Rattle.winnow_combinator.specs.DeterminedLists.{AreSameEach}
 use Rattle.winnow_combinator.specs.Gathering.{Gathered}
-use Rattle.winnow_combinator.specs.Separation.{Separated, Countable}
+use Rattle.winnow_combinator.specs.Separated.{IsSeparated, Countable}
 use Rattle.winnow_combinator.proofs.lemmas.CombinedLemmas.{determined-gathered, determined-appending_if, determined-ascending, determined-countable, determined-separated}
 use Rattle.winnow_combinator.proofs.lemmas.PartLemmas.{determined-fold}
 use Rattle.winnow_combinator.proofs.determined_parts.determined_gathered_law.Goals as goal
 
 pub returns-clause-separated : goal.returns-clause-separated
 returns-clause-separated g c = λ v w x gather a s least greatest respects.
-    let values = Separated least greatest (g.S.Parser.means s.parser) (g.A.Parser.means a.parser) in
+    let values = IsSeparated least greatest (g.S.Parser.means s.parser) (g.A.Parser.means a.parser) in
     let makes = g.G.Gather.makes gather in
     let flag = appends_to_first least greatest in
     let appending = AppendingIf flag g.E.ParserError.append_refusable values in

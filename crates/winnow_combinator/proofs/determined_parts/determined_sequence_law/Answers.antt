@@ -1,5 +1,5 @@
 use Rattle.winnow_parser.specs.Determined.{Shows}
-use Rattle.winnow_parser.specs.Meanings.{Preceded, Terminated}
+use Rattle.winnow_parser.specs.Meanings.{IsPreceded, IsTerminated}
 use Rattle.winnow_parser.proofs.lemmas.DeterminedLemmas.{determined-pair}
 use Rattle.winnow_combinator.proofs.lemmas.PartLemmas.{determined-preceded, determined-terminated}
 use Rattle.winnow_combinator.proofs.determined_parts.determined_sequence_law.Goals as goal
@@ -12,12 +12,12 @@ returns-clause-terminated g c = λ v w a b. determined-terminated (Shows v) (Sho
 
 pub returns-clause-delimited : goal.returns-clause-delimited
 returns-clause-delimited g c = λ v w x a b d.
-    let last = Terminated (g.B.Parser.means b.parser) (g.C.Parser.means d.parser) in
+    let last = IsTerminated (g.B.Parser.means b.parser) (g.C.Parser.means d.parser) in
     determined-preceded (Shows v) (Shows w) (g.A.Parser.means a.parser) last a.one
     (determined-terminated (Shows w) (Shows x) (g.B.Parser.means b.parser) (g.C.Parser.means d.parser) b.one d.one)
 
 pub returns-clause-separated_pair : goal.returns-clause-separated_pair
 returns-clause-separated_pair g c = λ v w x a b d.
-    let last = Preceded (g.B.Parser.means b.parser) (g.C.Parser.means d.parser) in
+    let last = IsPreceded (g.B.Parser.means b.parser) (g.C.Parser.means d.parser) in
     determined-pair (Shows v) (Shows x) (g.A.Parser.means a.parser) last a.one
     (determined-preceded (Shows w) (Shows x) (g.B.Parser.means b.parser) (g.C.Parser.means d.parser) b.one d.one)

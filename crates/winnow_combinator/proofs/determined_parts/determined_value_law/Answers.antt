@@ -2,7 +2,7 @@ use Rattle.std.specs.Prelude.{◌≡◌}
 use Rattle.winnow_parser.specs.Determined.{Shows}
 use Rattle.winnow_parser.specs.Meanings.{IsAlways, IsForgotten}
 use Rattle.winnow_parser.proofs.lemmas.DeterminedLemmas.{determined-maps}
-use Rattle.winnow_parser.proofs.lemmas.MadeLemmas.{determined-in_context}
+use Rattle.winnow_parser.proofs.lemmas.MadeLemmas.{determined-context}
 use Rattle.winnow_combinator.proofs.lemmas.PartLemmas.{always-respects, forgotten-respects}
 use Rattle.winnow_combinator.proofs.determined_parts.determined_value_law.Goals as goal
 
@@ -13,4 +13,4 @@ pub returns-clause-void : goal.returns-clause-void
 returns-clause-void g c = λ v a. determined-maps (Shows v) ◌≡◌ IsForgotten (forgotten-respects (Shows v)) (g.A.Parser.means a.parser) a.one
 
 pub returns-clause-context : goal.returns-clause-context
-returns-clause-context g c = λ v a. determined-in_context (g.A.Parser.means a.parser) (Shows v) a.one g.E.AddContext.add_context_refusable
+returns-clause-context g c = λ v a. determined-context (g.A.Parser.means a.parser) (Shows v) a.one g.E.AddContext.add_context_refusable

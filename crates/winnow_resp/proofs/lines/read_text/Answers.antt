@@ -1,6 +1,6 @@
 use Rattle.std.proofs.Common.{◌∙◌}
 use Rattle.winnow_parser.specs.Answer.{ahead, failed}
-use Rattle.winnow_parser.specs.Meanings.{CutOff}
+use Rattle.winnow_parser.specs.Meanings.{CutsErr}
 use Rattle.winnow_format.proofs.lemmas.GatheredLemmas.{gathered-fails}
 use Rattle.winnow_resp.specs.Grammar.{HasBytes, Line}
 use Rattle.winnow_resp.proofs.lines.read_text.Goals as goal
@@ -12,6 +12,6 @@ returns-in-Ok-from_slice-clause-means g c =
 pub returns-clause-means : goal.returns-clause-means
 returns-clause-means g c =
     let stands = ahead g.I.Rest.location g.I.Stream.remaining in
-    gathered-fails (HasBytes g.I.Slice.AsBytes.bytes) (CutOff (Line g.I.Token.AsChar.code g.I.Stream.counts_shortage g.I.Stream.is_slice g.I.Slice.AsBytes.bytes c.args.longest))
+    gathered-fails (HasBytes g.I.Slice.AsBytes.bytes) (CutsErr (Line g.I.Token.AsChar.code g.I.Stream.counts_shortage g.I.Stream.is_slice g.I.Slice.AsBytes.bytes c.args.longest))
     (g.I.StreamIsPartial.expects_more c.args.input.now) (stands c.args.input.now) (failed c.in-Err.failure (stands c.parse_next.new.input))
     (rw (c.cut_err.ensures, c.line.ensures.0, c.line.ensures.1.0, c.line.ensures.1.1, c.line.ensures.2, c.line.ensures.3) at c.in-Err.ensures.means)

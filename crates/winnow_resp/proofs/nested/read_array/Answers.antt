@@ -4,12 +4,12 @@ use Rattle.std.specs.declared.vec.Vec.{Vec}
 use Rattle.std.specs.declared.alloc.Global.{Global}
 use Rattle.winnow_parser.specs.Answer.{ahead, failed}
 use Rattle.winnow_parser.specs.Outcome.{Ahead, Outcome, Gives, Fails, Meaning}
-use Rattle.winnow_parser.specs.Meanings.{CutOff}
+use Rattle.winnow_parser.specs.Meanings.{CutsErr}
 use Rattle.winnow_combinator.specs.Appended.{AppendingIf, needs_some}
 use Rattle.winnow_combinator.specs.Counts.{Ascending}
 use Rattle.winnow_combinator.specs.Gathering.{Gathered}
-use Rattle.winnow_combinator.specs.Repetition.{Repeated}
-use Rattle.winnow_combinator.proofs.lemmas.AppendedLemmas.{Gathered-plain, Ascending-moves, CutOff-moves}
+use Rattle.winnow_combinator.specs.Repeat.{Repeats}
+use Rattle.winnow_combinator.proofs.lemmas.AppendedLemmas.{Gathered-plain, Ascending-moves, CutsErr-moves}
 use Rattle.winnow_resp.specs.Grammar.{Elements, HasReplies}
 use Rattle.winnow_resp.specs.declared.reply.Reply.{Reply}
 use Rattle.winnow_resp.specs.declared.reply.Reply.TheViews.{the_lemmas}
@@ -19,13 +19,13 @@ use Rattle.winnow_resp.proofs.nested.read_array.Goals as goal
 -- while an error is appended to
 elements-plain : {T : Type 0} (inner : Meaning Reply T) (n : ℕ) (q : Type 0) (partial : Bool)
     (a : Ahead T) (v : Outcome (Vec Reply Global) T)
-    → CutOff (Ascending n (Some n) (Gathered ⊤ HasReplies (AppendingIf (needs_some n) q (Repeated n (Some n) inner)))) partial a v
-    → CutOff (Ascending n (Some n) (Gathered ⊤ HasReplies (Repeated n (Some n) inner))) partial a v
+    → CutsErr (Ascending n (Some n) (Gathered ⊤ HasReplies (AppendingIf (needs_some n) q (Repeats n (Some n) inner)))) partial a v
+    → CutsErr (Ascending n (Some n) (Gathered ⊤ HasReplies (Repeats n (Some n) inner))) partial a v
 elements-plain inner n q partial a v =
-    let values = Repeated n (Some n) inner in
+    let values = Repeats n (Some n) inner in
     let appending = AppendingIf (needs_some n) q values in
     let plain = Gathered-plain (needs_some n) q HasReplies values partial a in
-    CutOff-moves (Ascending n (Some n) (Gathered ⊤ HasReplies appending)) (Ascending n (Some n) (Gathered ⊤ HasReplies values)) partial a
+    CutsErr-moves (Ascending n (Some n) (Gathered ⊤ HasReplies appending)) (Ascending n (Some n) (Gathered ⊤ HasReplies values)) partial a
     (λ w. Ascending-moves (Gathered ⊤ HasReplies appending) (Gathered ⊤ HasReplies values) partial a plain n (Some n) w) v
 
 pub returns-in_default-clause-means : goal.returns-in_default-clause-means

@@ -1,6 +1,6 @@
 use Rattle.std.proofs.Common.{inl, inr, sym, subst}
 use Rattle.winnow_parser.specs.Answer.{ahead, outcome}
-use Rattle.winnow_token.specs.OneOf.{OneOf}
+use Rattle.winnow_token.specs.OneOf.{IsOneOf}
 use Rattle.winnow_resp.specs.Grammar.{is_kind, IsCode, ArrayReply, Scalar, Body}
 use Rattle.winnow_resp.proofs.lemmas.FailLemmas.{continued-goes}
 use Rattle.winnow_resp.proofs.nested.read_layer.Goals as goal
@@ -12,7 +12,7 @@ returns-then-kind-eq42-clause-means g c =
     let flag = g.met.I.StreamIsPartial.keeps_flag c.args.input.now c.parse_next.new.input c.in_ok-parse_next.ensures.kept in
     let answer = outcome c.read_array.result (stands c.read_array.new.input) in
     let means = subst (λ partial. ArrayReply g.I.Token.AsChar.code g.I.Stream.counts_shortage g.I.Stream.is_slice g.I.Slice.AsBytes.bytes c.args.most (g.P.Parser.means c.args.inner) partial b answer) flag c.read_array.ensures.means in
-    continued-goes (IsCode g.I.Token.AsChar.code) (Body g.I.Token.AsChar.code g.I.Stream.counts_shortage g.I.Stream.is_slice g.I.Slice.AsBytes.bytes c.args.longest c.args.most (g.P.Parser.means c.args.inner)) (OneOf (λ token. is_kind (g.I.Token.AsChar.code token)))
+    continued-goes (IsCode g.I.Token.AsChar.code) (Body g.I.Token.AsChar.code g.I.Stream.counts_shortage g.I.Stream.is_slice g.I.Slice.AsBytes.bytes c.args.longest c.args.most (g.P.Parser.means c.args.inner)) (IsOneOf (λ token. is_kind (g.I.Token.AsChar.code token)))
     (g.I.StreamIsPartial.expects_more c.args.input.now) (stands c.args.input.now) b c.in_ok-parse_next.field-0 c.as_char-kind.result answer
     (rw c.one_of-kinds.ensures at c.in_ok-parse_next.ensures.means) (sym c.as_char-kind.ensures) (inl (c.if-kind-eq42.true, means))
 
@@ -23,6 +23,6 @@ returns-clause-means g c =
     let flag = g.met.I.StreamIsPartial.keeps_flag c.args.input.now c.parse_next.new.input c.in_ok-parse_next.ensures.kept in
     let answer = outcome c.read_scalar.result (stands c.read_scalar.new.input) in
     let means = subst (λ partial. Scalar g.I.Token.AsChar.code g.I.Stream.counts_shortage g.I.Stream.is_slice g.I.Slice.AsBytes.bytes c.args.longest c.as_char-kind.result partial b answer) flag c.read_scalar.ensures.means in
-    continued-goes (IsCode g.I.Token.AsChar.code) (Body g.I.Token.AsChar.code g.I.Stream.counts_shortage g.I.Stream.is_slice g.I.Slice.AsBytes.bytes c.args.longest c.args.most (g.P.Parser.means c.args.inner)) (OneOf (λ token. is_kind (g.I.Token.AsChar.code token)))
+    continued-goes (IsCode g.I.Token.AsChar.code) (Body g.I.Token.AsChar.code g.I.Stream.counts_shortage g.I.Stream.is_slice g.I.Slice.AsBytes.bytes c.args.longest c.args.most (g.P.Parser.means c.args.inner)) (IsOneOf (λ token. is_kind (g.I.Token.AsChar.code token)))
     (g.I.StreamIsPartial.expects_more c.args.input.now) (stands c.args.input.now) b c.in_ok-parse_next.field-0 c.as_char-kind.result answer
     (rw c.one_of-kinds.ensures at c.in_ok-parse_next.ensures.means) (sym c.as_char-kind.ensures) (inr means)

@@ -1,6 +1,6 @@
 use Rattle.std.proofs.Common.{[], ◌∷◌}
 use Rattle.std.specs.Char.{encode_utf8}
-use Rattle.winnow_token.proofs.lemmas.HitLemmas.{HitsStay-written, one_needle}
+use Rattle.winnow_token.proofs.lemmas.TakeUntilLemmas.{HitsStay-written, one_needle}
 use Rattle.winnow_token.proofs.laws.hits_stay_law.Goals as goal
 
 pub returns-clause-in_bytes : goal.returns-clause-in_bytes

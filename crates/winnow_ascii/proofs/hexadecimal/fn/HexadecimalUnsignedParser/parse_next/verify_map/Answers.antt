@@ -1,8 +1,0 @@
-use Rattle.std.proofs.Common.{subst}
-use Rattle.winnow_count.specs.Reading.{IsSomeExactly}
-use Rattle.winnow_ascii.specs.Hexadecimal.{ReadsText}
-use Rattle.winnow_ascii.proofs.hexadecimal.fn.HexadecimalUnsignedParser.parse_next.verify_map.Goals as goal
-
-pub returns : goal.returns
-returns g c =
-    subst (λ bytes. IsSomeExactly (ReadsText g.R.HexUint.reads bytes) c.read_bytes.result) c.as_bstr.ensures c.read_bytes.ensures

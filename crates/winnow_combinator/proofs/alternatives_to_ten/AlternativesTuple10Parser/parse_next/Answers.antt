@@ -1,7 +1,0 @@
-use Rattle.winnow_combinator.proofs.alternatives_to_ten.AlternativesTuple10Parser.parse_next.Goals as goal
-
-pub returns-clause-means : goal.returns-clause-means
-returns-clause-means g c = c.parse_next.ensures.means
-
-pub returns-clause-error : goal.returns-clause-error
-returns-clause-error g c = c.parse_next.ensures.error
