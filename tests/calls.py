@@ -20,10 +20,10 @@ TOP = os.path.dirname(os.path.dirname(os.path.realpath(__file__)))
 REFUSING = ("AllocError", "RecordError", "ReadError", "ModalResult", "Unwritten", "EventError")
 
 # The sources that make an `AllocError`: of more separators than a `usize` counts, and of the want of memory that `hex` tells of.
-MADE = {"winnow_combinator/src/parsers/separated.rt", "winnow_execute/src/literals.rt"}
+MADE = {"winnow_combinator/src/parsers/separated.rt", "winnow_script_text/src/literals.rt"}
 
 # Crates that make one to test with it.
-TESTING = {"winnow_refusals"}
+TESTING = {"rows_refused"}
 
 # How an impl says that a method is never refused memory of its own.
 NEVER = {
@@ -58,9 +58,9 @@ FURTHER = ("script: ", "text: ")
 
 
 def formats():
-    """Returns the names of the formats: the crates that stand on `winnow_format`."""
+    """Returns the names of the formats: the crates that stand on `format_lemmas`."""
     with open(f"{TOP}/crates.txt", encoding="utf-8") as text:
-        return re.findall(r"^(winnow_\w+):.* winnow_format\b", text.read(), flags=re.M)
+        return re.findall(r"^(winnow_\w+):.* format_lemmas\b", text.read(), flags=re.M)
 
 
 def crates(names):

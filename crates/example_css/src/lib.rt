@@ -3,7 +3,7 @@
 
 use std::alloc::Global;
 use winnow_ascii::Class;
-use winnow_context::{ContextError, StrContext};
+use winnow_error_context::{ContextError, StrContext};
 use winnow_parser::{ModalResult, Parser};
 use winnow_token::{one_of, take_while};
 

@@ -4,13 +4,13 @@ use Rattle.std.specs.List.{flat_map, sum_by}
 use Rattle.std.specs.Io.KnownBytes.{Appends, Consumes}
 use Rattle.winnow.specs.State.{ReaderState, fed_of}
 use Rattle.winnow.specs.Reading.{MayFollow, HasRead}
-use Rattle.winnow_csv.specs.Records.{RecordAhead}
-use Rattle.winnow_csv.specs.Answers.{values_of}
-use Rattle.winnow_csv.specs.Widths.{RowVec, first_width, HaveWidth}
-use Rattle.winnow_csv.specs.Tables.{rows_in, AreRecords, HasNoRecord, IsDamagedAt}
-use Rattle.winnow_csv.specs.Reading.{RowInPieces}
-use Rattle.winnow_csv.specs.Marks.{HasText, IsRefused}
-use Rattle.winnow_csv.specs.declared.marks.Mark.{Mark}
+use Rattle.format_csv.specs.Records.{RecordAhead}
+use Rattle.format_csv.specs.Answers.{values_of}
+use Rattle.format_csv.specs.Widths.{RowVec, first_width, HaveWidth}
+use Rattle.format_csv.specs.Tables.{rows_in, AreRecords, HasNoRecord, IsDamagedAt}
+use Rattle.format_csv.specs.Reading.{RowInPieces}
+use Rattle.format_csv.specs.Marks.{HasText, IsRefused}
+use Rattle.format_csv.specs.declared.marks.Mark.{Mark}
 use Rattle.example_csv.specs.Positions.{line_feeds, after_feed, IsPositionAfter, feeds_of}
 use Rattle.example_csv.specs.Lines.{line_of}
 use Rattle.example_csv.specs.Failures.{fault_at}

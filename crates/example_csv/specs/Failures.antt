@@ -1,6 +1,6 @@
 -- What is wrong where a record breaks off, and how the program ends.
 use Rattle.std.specs.Prelude.{ℕ, ◌==◌, if◌then◌else◌, List, [], ◌∷◌, ◌++◌, codes, decimal}
-use Rattle.winnow_csv.specs.Marks.{mark_text}
+use Rattle.format_csv.specs.Marks.{mark_text}
 use Rattle.example_base.specs.Trouble.{status_of as trouble_status, trouble_text}
 use Rattle.example_csv.specs.Positions.{position_text}
 use Rattle.example_csv.specs.declared.failure.Fault.{Fault}

@@ -8,9 +8,9 @@ ghost use Rattle.example_csv.specs.declared.failure.Failure.TheVariants.{Stopped
 
 use crate::positions::Position;
 use example_base::Trouble;
+use format_csv::Mark;
 use std::alloc::AllocError;
 use std::fmt;
-use winnow_csv::Mark;
 
 /// What is wrong where a record breaks off.
 #[derive(Clone, Copy, Debug, Drop, PartialEq, Eq)]

@@ -1,7 +1,7 @@
 //! A record as a line.
 
 ghost use Rattle.std.specs.Prelude.{◌≡◌, ◌++◌, ◌∷◌, [], IfOk, OnOk};
-ghost use Rattle.winnow_csv.specs.Writing.{values_in};
+ghost use Rattle.format_csv.specs.Writing.{values_in};
 ghost use Rattle.example_csv.specs.Lines.{escape, escaped, tabbed, line_of};
 
 use std::alloc::{AllocError, Global};

@@ -6,8 +6,8 @@ ghost use Rattle.std.specs.Prelude.{IfSome};
 ghost use Rattle.std.specs.Io.KnownBytes.{Appends, Consumes, IsAtEnd, prepend_known};
 ghost use Rattle.winnow.specs.State.{pushed, fed_of};
 ghost use Rattle.winnow.specs.Reading.{ReadsAlso};
-ghost use Rattle.winnow_csv.specs.Reading.{RowInPieces};
-ghost use Rattle.winnow_csv.specs.Writing.{values_in};
+ghost use Rattle.format_csv.specs.Reading.{RowInPieces};
+ghost use Rattle.format_csv.specs.Writing.{values_in};
 ghost use Rattle.example_csv.specs.Lines.{line_of};
 ghost use Rattle.example_csv.specs.Copying.{IsOfInput, IsDamageAfter, IsBegun, WritesOn, StopsWith};
 ghost use Rattle.example_csv.specs.Copying.{CopiesAll, CopiesUntil, CopiesInput, StopsInput};
@@ -19,10 +19,10 @@ use crate::lines::line_of;
 use crate::positions::position_after;
 use crate::progress::Progress;
 use example_base::Trouble;
+use format_csv::{Row, rows_in_pieces_law, text_start};
 use std::alloc::Global;
 use std::io::{ErrorKind, Read, Write};
 use winnow::reader::{ByteReader, Next, ReadError};
-use winnow_csv::{Row, rows_in_pieces_law, text_start};
 
 /// How many bytes are asked for in one read.
 const PIECE: usize = 65_536;

@@ -5,7 +5,7 @@ use std::alloc::Global;
 use std::collections::HashMap;
 use winnow_ascii::{alphanumeric1, multispace0, multispace1, space0};
 use winnow_combinator::{delimited, opt, repeat, separated_pair, terminated};
-use winnow_context::ContextError;
+use winnow_error_context::ContextError;
 use winnow_grammar::{Chars, Reads, ask, part};
 use winnow_parser::{ModalResult, Parser};
 use winnow_token::{one_of, take_till};

@@ -1,7 +1,7 @@
 -- How the program ends when it fails.
 use Rattle.std.specs.Prelude.{ℕ, List, ◌++◌, codes, ⊤}
 use Rattle.example_base.specs.Trouble.{status_of as trouble_status, trouble_text}
-use Rattle.winnow_json.specs.Causes.{damage_text}
+use Rattle.format_json.specs.Causes.{damage_text}
 use Rattle.example_json.specs.Positions.{position_text}
 use Rattle.example_json.specs.declared.failure.Failure.{Failure}
 use Rattle.example_json.specs.declared.failure.Failure.TheVariants.{Damaged, Unexpected, TooDeep, EndsEarly, Stopped}

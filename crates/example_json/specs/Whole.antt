@@ -1,10 +1,10 @@
 -- What the program writes of a text, and when it fails, in the words of the format.
 use Rattle.std.specs.Prelude.{ℕ, List, Option}
 use Rattle.std.specs.Io.KnownBytes.{Appends}
-use Rattle.winnow_json.specs.Documents.{IsDocument, IsDamage}
-use Rattle.winnow_json.specs.ValueEvents.{events_of}
-use Rattle.winnow_json.specs.declared.value.Value.{Value}
-use Rattle.winnow_json.specs.declared.documents.Damage.{Damage}
+use Rattle.format_json.specs.Documents.{IsDocument, IsDamage}
+use Rattle.format_json.specs.ValueEvents.{events_of}
+use Rattle.format_json.specs.declared.value.Value.{Value}
+use Rattle.format_json.specs.declared.documents.Damage.{Damage}
 use Rattle.example_json.specs.Lines.{lines_of}
 use Rattle.example_json.specs.Failures.{IsOfText}
 use Rattle.example_json.specs.declared.failure.Failure.{Failure}

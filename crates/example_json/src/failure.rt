@@ -7,9 +7,9 @@ ghost use Rattle.example_json.specs.declared.failure.Failure.TheVariants.{Stoppe
 
 use crate::positions::Position;
 use example_base::Trouble;
+use format_json::Cause;
 use std::alloc::AllocError;
 use std::fmt;
-use winnow_json::Cause;
 
 /// The reason why the program ends with a status other than 0.
 #[derive(Clone, Copy, Debug, Drop, PartialEq, Eq)]

@@ -3,8 +3,8 @@
 ghost use Rattle.std.specs.Prelude.{◌≡◌, ◌++◌, ◌+◌, ◌*◌, min, replicate, OnOk, IfOk};
 ghost use Rattle.example_json.specs.Lines.{shown, line_of, level_after};
 
+use format_json::{Event, write_string};
 use std::alloc::AllocError;
-use winnow_json::{Event, write_string};
 
 /// Appends the line of an event, before which this many arrays and objects are open, and moves the
 /// level on by the event.

@@ -1,7 +1,7 @@
 -- The status and the text with which the program ends when it fails.
 use Rattle.std.specs.Prelude.{ℕ, List, ◌++◌, codes, decimal}
 use Rattle.example_base.specs.Trouble.{status_of as trouble_status, trouble_text}
-use Rattle.winnow_resp.specs.Causes.{damage_text}
+use Rattle.format_resp.specs.Causes.{damage_text}
 use Rattle.example_resp.specs.declared.positions.Position.{Position}
 use Rattle.example_resp.specs.declared.failure.Failure.{Failure}
 use Rattle.example_resp.specs.declared.failure.Failure.TheVariants.{NoReply, EndsInside, Stopped}

@@ -7,7 +7,7 @@ use Rattle.winnow.specs.Meanings.{Maps}
 use Rattle.winnow.specs.Parts.{IsParser-Maps}
 use Rattle.winnow.specs.Taken.{WithTaken, IsParser-WithTaken}
 use Rattle.winnow.specs.Place.{IsByteSlice, SlicesStay-bytes}
-use Rattle.winnow_resp.specs.declared.reply.Reply.{Reply}
+use Rattle.format_resp.specs.declared.reply.Reply.{Reply}
 use Rattle.example_resp.specs.declared.placed.Placed.{Placed}
 use Rattle.example_resp.specs.Positions.{start, position_after}
 

@@ -2,9 +2,9 @@
 use Rattle.std.specs.Prelude.{ℕ, ◌+◌, ◌-◌, ◌/◌, ◌%◌, ◌==◌, Bool, ◌&&◌, List, [], ◌∷◌, ◌++◌, length, replicate, decimal, codes, Option, None, Some, nat_lt, nat_le, if◌then◌else◌}
 use Rattle.std.specs.List.{flat_map}
 use Rattle.std.specs.Fmt.{signed_decimal}
-use Rattle.winnow_resp.specs.declared.reply.Reply.{Reply}
-use Rattle.winnow_resp.specs.declared.reply.Reply.TheOpen.{Reply-F, Simple, Error, Integer, Bulk, NullBulk, Array, NullArray}
-use Rattle.winnow_resp.specs.declared.reply.Reply.TheFolds.{fold-Reply}
+use Rattle.format_resp.specs.declared.reply.Reply.{Reply}
+use Rattle.format_resp.specs.declared.reply.Reply.TheOpen.{Reply-F, Simple, Error, Integer, Bulk, NullBulk, Array, NullArray}
+use Rattle.format_resp.specs.declared.reply.Reply.TheFolds.{fold-Reply}
 
 -- the digit of a number below 16
 abbrev pub hex_digit : ℕ → ℕ

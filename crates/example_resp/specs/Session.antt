@@ -7,10 +7,10 @@ use Rattle.winnow.specs.State.{ReaderState, fed_of}
 use Rattle.winnow.specs.Reading.{HasRead, Lacks}
 use Rattle.winnow.specs.Answering.{FailsAt, IdlesAt}
 use Rattle.winnow_stream.specs.Source.{units}
-use Rattle.winnow_resp.specs.Answers.{IsSettled}
-use Rattle.winnow_resp.specs.Causes.{IsDamaged}
-use Rattle.winnow_resp.specs.declared.causes.Cause.{Cause}
-use Rattle.winnow_resp.specs.declared.reply.Reply.{Reply}
+use Rattle.format_resp.specs.Answers.{IsSettled}
+use Rattle.format_resp.specs.Causes.{IsDamaged}
+use Rattle.format_resp.specs.declared.causes.Cause.{Cause}
+use Rattle.format_resp.specs.declared.reply.Reply.{Reply}
 use Rattle.example_resp.specs.declared.placed.Placed.{Placed}
 use Rattle.example_resp.specs.declared.placed.PlacedReply.{PlacedReply}
 use Rattle.example_resp.specs.declared.positions.Position.{Position}

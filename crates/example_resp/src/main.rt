@@ -29,10 +29,10 @@ use crate::failure::Failure;
 use clap::ArgMatches;
 use clap::error::ErrorKind;
 use example_base::{Program, Trouble, words_of};
+use format_resp::ReplyTo;
 use std::fs::File;
 use std::io;
 use std::process::ExitCode;
-use winnow_resp::ReplyTo;
 
 // The limits where no argument says otherwise.
 const LIMITS: ReplyTo = ReplyTo {

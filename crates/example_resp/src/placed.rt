@@ -1,16 +1,16 @@
 //! The record that is read.
 
 ghost use Rattle.winnow.specs.Place.{IsByteSlice, SlicesStay-bytes};
-ghost use Rattle.winnow_resp.specs.Grammar.{IsParser-Nested};
+ghost use Rattle.format_resp.specs.Grammar.{IsParser-Nested};
 ghost use Rattle.example_resp.specs.Placing.{Placing, IsParser-Placing};
 
 use crate::positions::Position;
+use format_resp::{Reply, ReplyTo};
 use std::alloc::Global;
 use winnow::error::EmptyError;
 use winnow::reader::{Record, RecordInput};
 use winnow::stream::{AsBytes, AsChar, Stream};
 use winnow::{ModalResult, Parser};
-use winnow_resp::{Reply, ReplyTo};
 
 /// A reply, and the place that its bytes lead to from the start.
 #[derive(Drop)]

@@ -6,9 +6,9 @@ ghost use Rattle.std.specs.Fmt.{signed_decimal};
 ghost use Rattle.example_resp.specs.Printing.{hex_digit, letter_after, escaped, quoted, line_of};
 ghost use Rattle.example_resp.specs.Printing.{widened, label, entry_start, shown};
 
+use format_resp::Reply;
 use itoa::Buffer;
 use std::alloc::{AllocError, Global};
-use winnow_resp::Reply;
 
 /// Appends the lines that show a reply. When memory is refused, the text is what it was.
 ///

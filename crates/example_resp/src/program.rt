@@ -6,8 +6,8 @@ ghost use Rattle.std.specs.Prelude.{IfOk, IfErr, OnOk, OnErr, OnSome, IfNone};
 ghost use Rattle.std.specs.Io.KnownBytes.{Appends, ReadConsumes};
 ghost use Rattle.winnow.specs.State.{ReaderState};
 ghost use Rattle.winnow.specs.Answering.{FailsAt};
-ghost use Rattle.winnow_resp.specs.Causes.{IsCauseOf};
-ghost use Rattle.winnow_resp.specs.declared.reply.Reply.{Reply};
+ghost use Rattle.format_resp.specs.Causes.{IsCauseOf};
+ghost use Rattle.format_resp.specs.declared.reply.Reply.{Reply};
 ghost use Rattle.example_resp.specs.Positions.{position_after};
 ghost use Rattle.example_resp.specs.Printing.{shown};
 ghost use Rattle.example_resp.specs.Session.{IsSteady, HasSameInput, StandsOn, next_replies};
@@ -21,10 +21,10 @@ use crate::placed::{Placed, PlacedReply};
 use crate::positions::Position;
 use crate::printing::append_reply;
 use example_base::Trouble;
+use format_resp::{Cause, Reply, ReplyTo, cause_of};
 use std::alloc::{AllocError, Global};
 use std::io::{self, ErrorKind, Read, Write};
 use winnow::reader::{ByteReader, Next, ReadError, Record};
-use winnow_resp::{Cause, Reply, ReplyTo, cause_of};
 
 // A read of a pipe gives at most as much.
 const PIECE: usize = 64 * 1024;

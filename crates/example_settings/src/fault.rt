@@ -5,9 +5,9 @@ ghost use Rattle.winnow_stream.specs.Front.{is_offset};
 ghost use Rattle.winnow_stream.specs.Text.{text_source};
 
 use std::alloc::{AllocError, Global};
-use winnow_context::{ContextError, StrContext, StrContextValue};
 use winnow_error::FromRecoverableError;
-use winnow_parse_error::ParseError;
+use winnow_error_context::{ContextError, StrContext, StrContextValue};
+use winnow_error_parse::ParseError;
 use winnow_stream::{Location, Stream, front_law};
 
 /// The part with which a setting would have gone on.

@@ -1,6 +1,6 @@
 //! The Rust crate's example `json`: values of JSON, by parsers of their own.
 //!
-//! `winnow_json` is the reader that is proved against the format's definition. This one is safe and
+//! `format_json` is the reader that is proved against the format's definition. This one is safe and
 //! no more, and takes the code alone.
 #![tactic(auto)]
 
@@ -9,8 +9,8 @@ use winnow_ascii::{Class, multispace0};
 use winnow_combinator::{
     alt, cut_err, delimited, preceded, repeat, separated, separated_pair, terminated,
 };
-use winnow_context::{ContextError, StrContext, StrContextValue};
 use winnow_error::{AddContext, ParserError};
+use winnow_error_context::{ContextError, StrContext, StrContextValue};
 use winnow_grammar::{AsText, Layer, Reads, Text, ask, nested, part};
 use winnow_parser::{ModalResult, Parser};
 use winnow_token::{literal, none_of, one_of, take_while};

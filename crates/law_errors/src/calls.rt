@@ -10,12 +10,12 @@ use crate::error_walks::{convert_to, cut_and_back, fail_thrice, kinds, tell_last
 use crate::own_errors::Labelled;
 use std::alloc::{AllocError, Global};
 use std::fmt::{Debug, Display};
-use winnow_context::{ContextError, StrContext};
 use winnow_error::ErrMode::Cut;
 use winnow_error::{
     AddContext, AssociativeOr, EmptyError, ErrMode, ErrorConvert, FromExternalError,
     FromRecoverableError, ModalError, bracket_law, mode_law, or_law,
 };
+use winnow_error_context::{ContextError, StrContext};
 use winnow_stream::Stream;
 use winnow_tree::{tree_bracket_law, tree_or_law};
 

@@ -5,9 +5,12 @@ ghost use Rattle.std.specs.Prelude.{string_bytes};
 ghost use Rattle.std.specs.Cmp.Lexicographic.{pointwise};
 ghost use Rattle.std.specs.Fmt.{◌++?◌};
 ghost use Rattle.std.specs.Option.{option_eq};
-ghost use Rattle.winnow_context.specs.ContextDebug.{value_debug, context_debug, explanation_debug};
-ghost use Rattle.winnow_context.specs.ContextText.{value_text, context_text, explanation_text};
-ghost use Rattle.winnow_context.specs.Explanation.{Explanation, unexplained, caused_by, pushed};
+ghost use Rattle.winnow_error_context.specs.ContextDebug.{value_debug, context_debug};
+ghost use Rattle.winnow_error_context.specs.ContextDebug.{explanation_debug};
+ghost use Rattle.winnow_error_context.specs.ContextText.{value_text, context_text};
+ghost use Rattle.winnow_error_context.specs.ContextText.{explanation_text};
+ghost use Rattle.winnow_error_context.specs.Explanation.{Explanation, unexplained, caused_by};
+ghost use Rattle.winnow_error_context.specs.Explanation.{pushed};
 ghost use Rattle.winnow_error.specs.Mode.{Mode, ModeAppends, ModeMaps, ModeOr, IsBacktrackOf};
 ghost use Rattle.winnow_error.specs.Mode.{IsCutOf, mode_needs, mode_backtracks, mode_inner};
 ghost use Rattle.winnow_error.specs.Mode.{mode_cut, mode_backtrack, mode_map, mode_joined};
@@ -15,18 +18,20 @@ ghost use Rattle.winnow_error.specs.ModeText.{mode_text};
 ghost use Rattle.winnow_error.specs.declared.input.InputError.{InputError};
 ghost use Rattle.winnow_error.specs.declared.mode.ErrMode.TheVariants.{Incomplete};
 ghost use Rattle.winnow_error.specs.declared.empty.EmptyError.{EmptyError};
-ghost use Rattle.winnow_context.specs.declared.str_context.StrContext.{StrContext};
-ghost use Rattle.winnow_context.specs.declared.str_context.StrContextValue.{StrContextValue};
-ghost use Rattle.winnow_context.specs.declared.str_context.StrContextValue.TheVariants.{CharLiteral};
-ghost use Rattle.winnow_context.specs.declared.str_context.StrContextValue.TheVariants.{StringLiteral};
+ghost use Rattle.winnow_error_context.specs.declared.str_context.StrContext.{StrContext};
+ghost use Rattle.winnow_error_context.specs.declared.str_context.StrContextValue.{StrContextValue};
+ghost use Rattle.winnow_error_context.specs.declared.str_context.StrContextValue.TheVariants.{};
+ghost use Rattle.winnow_error_context.specs.declared.str_context.StrContextValue.TheVariants.{CharLiteral};
+ghost use Rattle.winnow_error_context.specs.declared.str_context.StrContextValue.TheVariants.{};
+ghost use Rattle.winnow_error_context.specs.declared.str_context.StrContextValue.TheVariants.{StringLiteral};
 ghost use Rattle.winnow_stream.specs.declared.needed.Needed.{Needed};
 
 use std::fmt::{Debug, Display};
-use winnow_context::{ContextError, StrContext, StrContextValue};
 use winnow_error::{
     AddContext, AssociativeOr, EmptyError, ErrMode, ErrorConvert, FromExternalError,
     FromRecoverableError, InputError, ModalError, ParserError,
 };
+use winnow_error_context::{ContextError, StrContext, StrContextValue};
 use winnow_stream::{Needed, Stream};
 
 /// An `InputError` holds the input where it was made, and nothing is added to it later. Of two

@@ -2,11 +2,11 @@
 ghost use Rattle.std.specs.Prelude.{◌≡◌, IfOk, IsOk, OnErr};
 
 use std::alloc::{AllocError, Global};
-use winnow_context::StrContext;
 use winnow_error::{
     AddContext, AssociativeOr, ErrorConvert, FromExternalError, FromRecoverableError, ModalError,
     ParserError,
 };
+use winnow_error_context::StrContext;
 use winnow_stream::{Needed, Stream};
 
 /// Returns, for an error made in each of three ways, whether another alternative may be tried and

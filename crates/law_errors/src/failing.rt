@@ -1,7 +1,7 @@
 //! The errors of parses that fail at a place, and groups of alternatives.
 use std::alloc::{AllocError, Global};
 use winnow_error::{ErrMode, OrTree, ParserError};
-use winnow_parse_error::ParseError;
+use winnow_error_parse::ParseError;
 use winnow_stream::Stream;
 
 /// Returns the error of a parse that fails after the front of width `offset`, or at the start where

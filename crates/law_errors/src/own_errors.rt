@@ -4,8 +4,8 @@ ghost use Rattle.std.proofs.Common.{ap};
 ghost use Rattle.law_errors.specs.Furthest.{max-associative};
 
 use std::alloc::{AllocError, Global};
-use winnow_context::{ContextError, StrContext};
 use winnow_error::{AssociativeOr, ErrorConvert, ParserError};
+use winnow_error_context::{ContextError, StrContext};
 use winnow_stream::{Needed, Stream};
 
 /// How far a parser came. Of two alternatives the one that came further counts, so its `or` is
@@ -156,8 +156,8 @@ impl<I: Stream> ParserError<I> for Apart {
 pub struct Labelled(pub &'static str);
 
 impl ErrorConvert<ContextError<StrContext>> for Labelled {
-    ghost use Rattle.winnow_context.specs.declared.str_context.StrContext.TheVariants.{Label};
-    ghost use Rattle.winnow_context.specs.Explanation.{unexplained, pushed};
+    ghost use Rattle.winnow_error_context.specs.declared.str_context.StrContext.TheVariants.{Label};
+    ghost use Rattle.winnow_error_context.specs.Explanation.{unexplained, pushed};
 
     ghost convert_gives = { λ e r. r ≡ pushed unexplained (Label e.0) };
 

@@ -1,9 +1,9 @@
 //! A call of each law of the formats. Nothing here is part of the library.
 #![tactic(auto)]
 
-use winnow_csv::rows_in_pieces_law;
-use winnow_json::{events_law, place_law, round_trip_law, stops_law};
-use winnow_resp::{cause_law, spelling_law};
+use format_csv::rows_in_pieces_law;
+use format_json::{events_law, place_law, round_trip_law, stops_law};
+use format_resp::{cause_law, spelling_law};
 
 /// Calls each law: a caller then knows what it says.
 pub fn call_laws() {

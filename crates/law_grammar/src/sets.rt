@@ -4,8 +4,8 @@
 use std::alloc::Global;
 use winnow_ascii::digit1;
 use winnow_combinator::repeat;
-use winnow_context::{ContextError, StrContext};
 use winnow_error::EmptyError;
+use winnow_error_context::{ContextError, StrContext};
 use winnow_grammar::try_map_in;
 use winnow_parser::{ModalResult, Parser};
 use winnow_sets::Complement;

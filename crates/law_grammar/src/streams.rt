@@ -2,12 +2,12 @@
 
 use std::alloc::Global;
 use winnow_ascii::alpha1;
-use winnow_bytes::Bytes;
 use winnow_combinator::{alt, separated};
 use winnow_error::{EmptyError, ParserError};
 use winnow_grammar::{Octets, Reads, Text, ask, part};
 use winnow_kinds::BStr;
 use winnow_parser::{ModalResult, Parser};
+use winnow_stream_bytes::Bytes;
 use winnow_token::{literal, one_of, take_while};
 use winnow_wrap::{LocatingSlice, Partial, Stateful};
 

@@ -1,9 +1,9 @@
 //! Calls of sets through `ContainsToken` and `ScriptSet`, and a call of each law of unions.
 
-ghost use Rattle.winnow_run.specs.Script.{AreReady};
+ghost use Rattle.winnow_script_run.specs.Script.{AreReady};
 
 use std::alloc::{AllocError, Global};
-use winnow_run::{Step, run};
+use winnow_script_run::{Step, run};
 use winnow_sets::{CharSet, ContainsToken, union_law, union_of_four_law, union_of_three_law};
 use winnow_stream::{ScriptSet, Stream};
 

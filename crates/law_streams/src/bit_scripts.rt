@@ -1,7 +1,7 @@
 //! A script on bits inside wrappers: what its slices say follows from the contract of `run`.
 ghost use Rattle.std.specs.Prelude.{◌≡◌, ℕ, ◌+◌, ◌/◌, ◌%◌, List, [], ◌∷◌, length, IfOk, IsTrue};
 ghost use Rattle.std.specs.Borrow.{Bor};
-ghost use Rattle.winnow_run.specs.declared.script.Answer.TheVariants as answer;
+ghost use Rattle.winnow_script_run.specs.declared.script.Answer.TheVariants as answer;
 ghost use Rattle.winnow_stream.specs.Front.{is_offset};
 ghost use Rattle.winnow_stream.specs.SliceBytes.{SlicesHaveBytes};
 ghost use Rattle.winnow_views.specs.BitSource.{bit_place};
@@ -9,7 +9,7 @@ ghost use Rattle.winnow_views.specs.BitSource.{bit_place};
 use crate::recovery::Mode;
 use std::alloc::{AllocError, Global};
 use winnow_recover::Recoverable;
-use winnow_run::{Answer, Step, run};
+use winnow_script_run::{Answer, Step, run};
 use winnow_stream::{AsBytes, NoSet, Stream, slice_bytes_law};
 use winnow_views::{Bits, bit_slice_place_law};
 use winnow_wrap::{LocatingSlice, Partial, Stateful};

@@ -8,10 +8,10 @@ ghost use Rattle.winnow_views.specs.declared.bits.Bits.{Bits};
 
 use crate::calls::{tell, width_from};
 use std::alloc::{AllocError, Global};
-use winnow_bytes::Bytes;
 use winnow_kinds::BStr;
-use winnow_run::Step;
+use winnow_script_run::Step;
 use winnow_stream::{NoSet, SliceLen, Stream, StreamIsPartial, byte_slice_law};
+use winnow_stream_bytes::Bytes;
 use winnow_views::{Bits, bit_checkpoint_law, bit_place_law, bit_slice_law, bit_source_law};
 use winnow_wrap::LocatingSlice;
 

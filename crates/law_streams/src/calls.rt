@@ -2,7 +2,7 @@
 ghost use Rattle.std.specs.Prelude.{◌≡◌, ◌-◌, ◌≤◌};
 
 use std::alloc::{AllocError, Global};
-use winnow_run::{Step, run};
+use winnow_script_run::{Step, run};
 use winnow_stream::{NoSet, Offset, Rest, Stream};
 
 /// Returns the answers of a script, as their debug text.

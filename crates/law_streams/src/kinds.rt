@@ -1,13 +1,13 @@
 //! What the streams of bytes with a text of their own keep.
 ghost use Rattle.std.specs.Prelude.{◌≡◌, []};
 ghost use Rattle.winnow_kinds.specs.TextContents.{bstr_contents};
-ghost use Rattle.winnow_bytes.specs.ByteContents.{bytes_contents};
+ghost use Rattle.winnow_stream_bytes.specs.ByteContents.{bytes_contents};
 ghost use Rattle.winnow_kinds.specs.declared.text.BStr.{BStr};
-ghost use Rattle.winnow_bytes.specs.declared.bytes.Bytes.{Bytes};
+ghost use Rattle.winnow_stream_bytes.specs.declared.bytes.Bytes.{Bytes};
 
-use winnow_bytes::Bytes;
 use winnow_kinds::BStr;
 use winnow_stream::StreamIsPartial;
+use winnow_stream_bytes::Bytes;
 
 /// Neither has a flag, so streams that agree in all but the flag are equal; and a default is empty.
 pub fn kinds_keep<'i>()

@@ -8,13 +8,13 @@ use crate::wrapper_laws::{
     flag_law, lent_law, nest_law, passed_on_law, recovery_law, refusing_law, text_law, width_law,
 };
 use std::fmt::Display;
-use winnow_bytes::{bytes_equality_law, bytes_hash_law, bytes_order_law};
 use winnow_kinds::{text_equality_law, text_hash_law, text_order_law};
-use winnow_run::definite_law;
+use winnow_script_run::definite_law;
 use winnow_stream::{
     NoSet, StreamIsPartial, checkpoint_equality_law, checkpoint_order_law, first_law, front_law,
     offset_law, shortage_law, slice_law, taken_law, text_law as text_source_law, text_slice_law,
 };
+use winnow_stream_bytes::{bytes_equality_law, bytes_hash_law, bytes_order_law};
 use winnow_views::{bit_equality_law, token_compare_law, token_equality_law, token_order_law};
 use winnow_wrap::{
     Partial, Stateful, flagged_equality_law, flagged_order_law, located_equality_law,

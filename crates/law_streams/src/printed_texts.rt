@@ -2,19 +2,20 @@
 ghost use Rattle.std.specs.Prelude.{◌≡◌, ℕ, List, true, false, Some, None};
 ghost use Rattle.std.specs.Fmt.{spec_precision};
 ghost use Rattle.std.specs.Str.Lossy.{utf8_lossy};
-ghost use Rattle.winnow_bytes.specs.ByteContents.{bytes_contents, upper_contents, lower_contents};
-ghost use Rattle.winnow_bytes.specs.Hex.{hex_text};
-ghost use Rattle.winnow_bytes.specs.declared.bytes.Bytes.{Bytes};
-ghost use Rattle.winnow_bytes.specs.declared.hex.LowerBytes.{LowerBytes};
-ghost use Rattle.winnow_bytes.specs.declared.hex.UpperBytes.{UpperBytes};
+ghost use Rattle.winnow_stream_bytes.specs.ByteContents.{bytes_contents, upper_contents};
+ghost use Rattle.winnow_stream_bytes.specs.ByteContents.{lower_contents};
+ghost use Rattle.winnow_stream_bytes.specs.Hex.{hex_text};
+ghost use Rattle.winnow_stream_bytes.specs.declared.bytes.Bytes.{Bytes};
+ghost use Rattle.winnow_stream_bytes.specs.declared.hex.LowerBytes.{LowerBytes};
+ghost use Rattle.winnow_stream_bytes.specs.declared.hex.UpperBytes.{UpperBytes};
 ghost use Rattle.winnow_kinds.specs.Escapes.{debug_text};
 ghost use Rattle.winnow_kinds.specs.LossyText.{lossy_text};
 ghost use Rattle.winnow_kinds.specs.TextContents.{bstr_contents};
 ghost use Rattle.winnow_kinds.specs.declared.text.BStr.{BStr};
 
 use std::fmt::{Debug, Display};
-use winnow_bytes::{Bytes, LowerBytes, UpperBytes};
 use winnow_kinds::BStr;
+use winnow_stream_bytes::{Bytes, LowerBytes, UpperBytes};
 
 /// The members for the printed texts of a text, spelled out. Of the options of a hole only the
 /// precision counts, which is the number of characters that are shown.

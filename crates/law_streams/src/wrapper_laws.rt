@@ -14,11 +14,11 @@ ghost use Rattle.winnow_wrap.specs.declared.stateful.Stateful.{Stateful};
 
 use std::fmt::{Debug, Display};
 use std::ops::Deref;
-use winnow_bytes::Bytes;
 use winnow_error::{FromRecoverableError, ParserError};
 use winnow_kinds::BStr;
 use winnow_recover::{Recover, Recoverable};
 use winnow_stream::{Checkpoint, Offset, Stream, StreamIsPartial};
+use winnow_stream_bytes::Bytes;
 use winnow_views::{Bits, TokenSlice};
 use winnow_wrap::{LocatingSlice, Partial, Stateful};
 

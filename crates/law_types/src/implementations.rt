@@ -1,18 +1,18 @@
 //! What each type derives. Which traits of streams, sets, literals and needles a type implements is
 //! shown where their members are spelled out.
 use std::fmt::Debug;
-use winnow_bytes::Bytes;
-use winnow_context::{StrContext, StrContextValue};
 use winnow_error::{
     AssociativeOr, EmptyError, ErrMode, FromExternalError, FromRecoverableError, InputError,
 };
+use winnow_error_context::{StrContext, StrContextValue};
+use winnow_error_parse::ParseError;
 use winnow_kinds::BStr;
 use winnow_match::{CompareResult, Needles};
-use winnow_parse_error::ParseError;
 use winnow_recover::RecordError;
-use winnow_run::{Answer, SearchStep, Step};
+use winnow_script_run::{Answer, SearchStep, Step};
 use winnow_sets::CharSet;
 use winnow_stream::{Needed, NoSet, Offset, SliceLen, Stream, UpdateSlice};
+use winnow_stream_bytes::Bytes;
 use winnow_views::{Bits, TokenSlice};
 use winnow_wrap::{LocatingSlice, Partial, Stateful};
 

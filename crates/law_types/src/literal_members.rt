@@ -8,10 +8,10 @@ ghost use Rattle.winnow_match.specs.Search.{hit, bytes_of_needles};
 ghost use Rattle.winnow_stream.specs.Source.{Source};
 
 use std::fmt::Debug;
-use winnow_bytes::Bytes;
 use winnow_kinds::BStr;
 use winnow_match::{Compare, FindSlice, Needles};
 use winnow_recover::Recoverable;
+use winnow_stream_bytes::Bytes;
 use winnow_wrap::{LocatingSlice, Partial, Stateful};
 
 /// A literal is compared with bytes by its own bytes, and a character by its UTF-8.

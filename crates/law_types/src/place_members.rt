@@ -1,8 +1,8 @@
 //! The ghost members for places, bytes and text, spelled out for each stream.
 ghost use Rattle.std.specs.Prelude.{◌≡◌, ℕ, List, Some, None};
 ghost use Rattle.std.specs.Borrow.{Bor};
-ghost use Rattle.winnow_bytes.specs.ByteContents.{bytes_contents};
-ghost use Rattle.winnow_bytes.specs.declared.bytes.Bytes.{Bytes};
+ghost use Rattle.winnow_stream_bytes.specs.ByteContents.{bytes_contents};
+ghost use Rattle.winnow_stream_bytes.specs.declared.bytes.Bytes.{Bytes};
 ghost use Rattle.winnow_kinds.specs.TextContents.{bstr_contents};
 ghost use Rattle.winnow_kinds.specs.declared.text.BStr.{BStr};
 ghost use Rattle.winnow_recover.specs.Recovering.{recoverable_inner};
@@ -15,10 +15,10 @@ ghost use Rattle.winnow_wrap.specs.declared.located.LocatingSlice.{LocatingSlice
 ghost use Rattle.winnow_wrap.specs.declared.partial.Partial.{Partial};
 ghost use Rattle.winnow_wrap.specs.declared.stateful.Stateful.{Stateful};
 
-use winnow_bytes::Bytes;
 use winnow_kinds::BStr;
 use winnow_recover::Recoverable;
 use winnow_stream::{AsBStr, AsBytes, Location, Stream};
+use winnow_stream_bytes::Bytes;
 use winnow_views::TokenSlice;
 use winnow_wrap::{LocatingSlice, Partial, Stateful};
 

@@ -5,8 +5,8 @@ use crate::made::{made, texts};
 use crate::parts::Parts;
 use rows::{Fault, Words};
 use std::alloc::{AllocError, Global};
-use winnow_context::{ContextError, StrContext, StrContextValue};
 use winnow_error::{EmptyError, FromExternalError};
+use winnow_error_context::{ContextError, StrContext, StrContextValue};
 
 type Told = ContextError<StrContext>;
 

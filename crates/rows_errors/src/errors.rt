@@ -4,11 +4,11 @@ use crate::made::{TextStream, answer, made, texts};
 use rows::{Fault, Words};
 use std::alloc::Global;
 use std::fmt::Display;
-use winnow_context::{ContextError, StrContext};
 use winnow_error::{
     AddContext, EmptyError, ErrMode, FromExternalError, FromRecoverableError, InputError,
     ParserError,
 };
+use winnow_error_context::{ContextError, StrContext};
 use winnow_tree::TreeError;
 
 // Returns whether a question is a format of a printed text.

@@ -5,8 +5,8 @@ use crate::parts::{Part, Parts, name};
 use rows::{Fault, Word, Words};
 use std::alloc::Global;
 use std::fmt::Debug;
-use winnow_context::{StrContext, StrContextValue};
 use winnow_error::{AddContext, FromExternalError, FromRecoverableError, ParserError, combine};
+use winnow_error_context::{StrContext, StrContextValue};
 use winnow_stream::Stream;
 
 /// A stream that is a text. An error names the stream and no lifetime: so what a row makes of an

@@ -5,7 +5,7 @@ use rows::{Fault, Word, Words};
 use std::alloc::Global;
 use std::fmt::{Debug, Display};
 use winnow_error::{EmptyError, InputError, ParserError};
-use winnow_parse_error::{ParseError, translate_position};
+use winnow_error_parse::{ParseError, translate_position};
 use winnow_stream::{AsBStr, Stream};
 
 // Returns the error of a parse that fails at the offset, which must be one of the input.

@@ -2,8 +2,8 @@
 //! parts of a call are there when its name comes.
 use rows::Fault;
 use std::alloc::{AllocError, Global};
-use winnow_context::{StrContext, StrContextValue};
 use winnow_error::{ErrMode, OrTree};
+use winnow_error_context::{StrContext, StrContextValue};
 use winnow_stream::Needed;
 
 /// What words have made.

@@ -2,8 +2,8 @@
 use crate::formats::shown;
 use rows::{Fault, Words};
 use std::alloc::Global;
-use winnow_bytes::Bytes;
 use winnow_kinds::BStr;
+use winnow_stream_bytes::Bytes;
 
 /// Answers a question about the text that bytes print as.
 pub fn answer(alloc: Global, family: &str, question: &str, input: &Words) -> Result<String, Fault> {

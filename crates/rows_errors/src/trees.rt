@@ -4,11 +4,11 @@ use crate::formats::quoted;
 use crate::made::{TextStream, made, texts};
 use rows::{Fault, Words};
 use std::alloc::{AllocError, Global};
-use winnow_context::StrContext;
 use winnow_error::ErrMode::Backtrack;
 use winnow_error::{
     AddContext, ErrMode, FromExternalError, FromRecoverableError, OrTree, ParserError,
 };
+use winnow_error_context::StrContext;
 use winnow_tree::{TreeError, TreeErrorBase, TreeErrorContext, combine_trees};
 
 type Tree<'w> = TreeError<&'w str, StrContext>;

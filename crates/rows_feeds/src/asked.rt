@@ -4,7 +4,7 @@ use crate::feeds::Feed;
 use rows::{Fault, Words};
 use std::alloc::{AllocError, Global};
 use std::fmt::Debug;
-use winnow_feed::Finished;
+use winnow_script_feed::Finished;
 
 // The number of words before the pieces: the kind and the steps.
 const BEFORE: usize = 2;

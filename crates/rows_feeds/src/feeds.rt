@@ -3,7 +3,7 @@
 use rows::{Fault, Words};
 use std::alloc::{AllocError, Global};
 use std::fmt::Debug;
-use winnow_feed::{ByteFeed, Finished, TextFeed, Waiting};
+use winnow_script_feed::{ByteFeed, Finished, TextFeed, Waiting};
 
 // Places have to fit and no piece of a row is long, so a feed near this takes no more.
 const MOST: usize = 1_000_000;

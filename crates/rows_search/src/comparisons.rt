@@ -3,9 +3,9 @@
 use crate::sameness::same;
 use rows::{Fault, Word, Words};
 use std::alloc::Global;
-use winnow_bytes::Bytes;
 use winnow_kinds::BStr;
 use winnow_match::{Compare, CompareResult};
+use winnow_stream_bytes::Bytes;
 
 // Returns the answer of a comparison, called through its bound.
 fn compared<T, S: Compare<T> + Drop>(stream: S, literal: T) -> CompareResult

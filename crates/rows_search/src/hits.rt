@@ -5,9 +5,9 @@ use crate::sameness::same;
 use rows::{Fault, Word, Words};
 use std::alloc::{AllocError, Global};
 use std::ops::Range;
-use winnow_bytes::Bytes;
 use winnow_kinds::BStr;
 use winnow_match::{FindSlice, Needles};
+use winnow_stream_bytes::Bytes;
 
 // A range, if there is one, in each way to make the call; or none if the ways differ.
 type Hit = Option<Option<Range<usize>>>;

@@ -2,11 +2,11 @@
 
 use std::fmt::Debug;
 use std::hash::Hash;
-use winnow_bytes::Bytes;
 use winnow_kinds::BStr;
 use winnow_match::Compare;
 use winnow_sets::AsChar;
 use winnow_stream::{AsBytes, Stream, StreamIsPartial};
+use winnow_stream_bytes::Bytes;
 use winnow_wrap::{LocatingSlice, Partial, Stateful};
 
 /// A slice of characters.

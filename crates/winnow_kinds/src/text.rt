@@ -38,7 +38,7 @@ use winnow_stream::{
     AsBStr, Checkpoint, Needed, Offset, Rest, SliceLen, SliceOffsets, Stream, StreamIsPartial,
     UpdateSlice,
 };
-use winnow_window::Window;
+use winnow_stream_window::Window;
 
 /// Bytes that are text by convention, as a stream: it streams as `&[u8]` does, and prints as text.
 ///

@@ -16,7 +16,7 @@ use crate::{
 use std::alloc::{AllocError, Global};
 use winnow_count::ParseSlice;
 use winnow_error::ParserError;
-use winnow_parse_error::ParseError;
+use winnow_error_parse::ParseError;
 use winnow_stream::StreamIsPartial;
 
 /// Reads a value from the front of a stream.

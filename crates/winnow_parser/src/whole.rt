@@ -9,7 +9,7 @@ ghost use Rattle.winnow_parser.specs.Whole.{ReadsWhole, StopsAfter, StopsWith, K
 use crate::{Failure, Parser, taken_width_law};
 use std::alloc::{AllocError, Global};
 use winnow_error::ParserError;
-use winnow_parse_error::ParseError;
+use winnow_error_parse::ParseError;
 use winnow_stream::{Stream, StreamIsPartial, taken_law};
 
 // Reads a whole input. Nothing follows it, even where its flag says that more may.

@@ -5,9 +5,9 @@ ghost use Rattle.winnow_views.specs.TokenPlaces.{whole_of};
 
 use crate::{RecordError, Recover};
 use std::fmt::Debug;
-use winnow_bytes::Bytes;
 use winnow_kinds::BStr;
 use winnow_stream::Checkpoint;
+use winnow_stream_bytes::Bytes;
 use winnow_views::{TokenSlice, TokenView};
 
 impl<'i, T: Copy + Debug, E> Recover<E> for &'i [T] {

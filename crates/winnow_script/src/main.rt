@@ -19,8 +19,8 @@
 #![tactic(auto)]
 
 use std::process::ExitCode;
-use winnow_execute::execute;
-use winnow_program::{Failure, read_input};
+use winnow_script_input::{Failure, read_input};
+use winnow_script_text::execute;
 
 fn main(rt: HostRuntime) -> ExitCode {
     match answer(&rt) {

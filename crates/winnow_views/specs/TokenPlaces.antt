@@ -4,7 +4,7 @@ use Rattle.std.specs.Borrow.{Bor, RattleType}
 use Rattle.winnow_stream.specs.Source.{Source, width}
 use Rattle.winnow_stream.specs.Checkpoint.{checkpoint_inner}
 use Rattle.winnow_stream.specs.declared.checkpoint.Checkpoint.{Checkpoint}
-use Rattle.winnow_window.specs.Contents.{contents_of, slice_of, start_of}
+use Rattle.winnow_stream_window.specs.Contents.{contents_of, slice_of, start_of}
 use Rattle.winnow_views.specs.TokenSources.{tokens_of, width-tokens_of}
 use Rattle.winnow_views.specs.declared.token_slice.TokenSlice.{TokenSlice}
 use Rattle.winnow_views.specs.declared.token_view.TokenView.{TokenView}

@@ -29,7 +29,7 @@ use winnow_match::{Compare, CompareResult};
 use winnow_stream::{
     Checkpoint, Location, Needed, Offset, Rest, SliceLen, Stream, StreamIsPartial, UpdateSlice,
 };
-use winnow_window::Window;
+use winnow_stream_window::Window;
 
 /// The tokens that a lexer made, as a stream that lends them: its token is a `&T`, of width 1.
 ///

@@ -13,7 +13,7 @@ use std::cmp::Ordering;
 use std::fmt;
 use std::fmt::Debug;
 use winnow_stream::{Offset, Rest};
-use winnow_window::Window;
+use winnow_stream_window::Window;
 
 /// The contents of a checkpoint of a [`TokenSlice`](crate::TokenSlice): what remains, and its place
 /// in the whole list, at which it starts.

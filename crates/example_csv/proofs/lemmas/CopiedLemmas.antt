@@ -6,12 +6,12 @@ use Rattle.std.proofs.lemmas.List.{append-nil}
 use Rattle.std.proofs.lemmas.Grind.{flat_map-append}
 use Rattle.winnow.specs.State.{ReaderState, pushed, ended_after, fed_of}
 use Rattle.winnow.specs.Reading.{MayFollow, ReadsAlso, ReadsThrough}
-use Rattle.winnow_csv.proofs.lemmas.ReaderLemmas.{none-follows}
-use Rattle.winnow_csv.specs.Answers.{values_of}
-use Rattle.winnow_csv.specs.Widths.{RowVec}
-use Rattle.winnow_csv.specs.Tables.{rows_in, AreRecords}
-use Rattle.winnow_csv.specs.Reading.{RowInPieces}
-use Rattle.winnow_csv.specs.declared.records.Row.{Row}
+use Rattle.format_csv.proofs.lemmas.ReaderLemmas.{none-follows}
+use Rattle.format_csv.specs.Answers.{values_of}
+use Rattle.format_csv.specs.Widths.{RowVec}
+use Rattle.format_csv.specs.Tables.{rows_in, AreRecords}
+use Rattle.format_csv.specs.Reading.{RowInPieces}
+use Rattle.format_csv.specs.declared.records.Row.{Row}
 use Rattle.example_csv.specs.Lines.{line_of}
 use Rattle.example_csv.specs.Copying.{lines_of, HasCounted, HasCopied, IsFailureOf, IsBegun, WritesOn, StopsWith, CopiesAll, CopiesUntil}
 use Rattle.example_csv.specs.declared.progress.Progress.{Progress}

@@ -8,11 +8,11 @@ use Rattle.std.proofs.lemmas.Grind.{flat_map-append}
 use Rattle.std.specs.Io.KnownBytes.{Keeps, Appends}
 use Rattle.winnow.specs.State.{ReaderState, at_start, pushed, ended_after, taken_by, fed_of}
 use Rattle.winnow.specs.Reading.{HasRead, ReadsAlso, ReadsThrough}
-use Rattle.winnow_csv.proofs.lemmas.ReaderLemmas.{none-follows}
-use Rattle.winnow_csv.specs.Answers.{values_of}
-use Rattle.winnow_csv.specs.Widths.{RowVec, first_width, HaveWidth}
-use Rattle.winnow_csv.specs.Reading.{RowInPieces, BeginsWith}
-use Rattle.winnow_csv.specs.declared.records.Row.{Row}
+use Rattle.format_csv.proofs.lemmas.ReaderLemmas.{none-follows}
+use Rattle.format_csv.specs.Answers.{values_of}
+use Rattle.format_csv.specs.Widths.{RowVec, first_width, HaveWidth}
+use Rattle.format_csv.specs.Reading.{RowInPieces, BeginsWith}
+use Rattle.format_csv.specs.declared.records.Row.{Row}
 use Rattle.example_csv.specs.Positions.{feeds_of}
 use Rattle.example_csv.specs.Lines.{line_of}
 use Rattle.example_csv.specs.Copying.{lines_of, width_of, HasCounted, FitsWidth, IsBegun, WritesOn}

@@ -6,11 +6,11 @@ use Rattle.std.specs.declared.vec.Vec.{Vec}
 use Rattle.std.specs.declared.alloc.Global.{Global}
 use Rattle.std.proofs.lemmas.List.Sums.{fold-append, sum_by-cons, sum_by-append, count_by-le-length}
 use Rattle.std.proofs.lemmas.Bool.Decides.{nat_tests}
-use Rattle.winnow_csv.specs.Fields.{twice, doubled, SpellsField}
-use Rattle.winnow_csv.specs.Records.{SpellsMore, SpellsRecord, RecordAhead}
-use Rattle.winnow_csv.specs.Answers.{values_of}
-use Rattle.winnow_csv.specs.Widths.{RowVec}
-use Rattle.winnow_csv.specs.Tables.{rows_in, AreRecords}
+use Rattle.format_csv.specs.Fields.{twice, doubled, SpellsField}
+use Rattle.format_csv.specs.Records.{SpellsMore, SpellsRecord, RecordAhead}
+use Rattle.format_csv.specs.Answers.{values_of}
+use Rattle.format_csv.specs.Widths.{RowVec}
+use Rattle.format_csv.specs.Tables.{rows_in, AreRecords}
 use Rattle.example_csv.specs.Positions.{line_feeds, after_feed, feeds_of}
 use Rattle.example_csv.specs.Copying.{feeds_in}
 

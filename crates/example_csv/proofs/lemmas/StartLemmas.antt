@@ -4,9 +4,9 @@ use Rattle.std.specs.Prelude.{Option, None, Some, IfSome}
 use Rattle.std.specs.Io.KnownBytes.{Consumes, IsAtEnd, prepend_known}
 use Rattle.winnow.specs.State.{ReaderState, at_start, pushed, fed_of}
 use Rattle.winnow.specs.Reading.{MayFollow, HasRead, ReadsAlso}
-use Rattle.winnow_csv.specs.Reading.{RowInPieces}
-use Rattle.winnow_csv.specs.Marks.{HasText, IsRefused, BeginsText, RefusesText}
-use Rattle.winnow_csv.specs.declared.marks.Mark.{Mark}
+use Rattle.format_csv.specs.Reading.{RowInPieces}
+use Rattle.format_csv.specs.Marks.{HasText, IsRefused, BeginsText, RefusesText}
+use Rattle.format_csv.specs.declared.marks.Mark.{Mark}
 use Rattle.example_csv.specs.Copying.{HasCounted, HasCopied, CopiesUntil, StopsInput}
 use Rattle.example_csv.specs.declared.progress.Progress.{Progress}
 use Rattle.example_csv.specs.declared.failure.Failure.{Failure}

@@ -9,20 +9,20 @@ use Rattle.winnow_stream.specs.Units.{HasPositiveWidths-units}
 use Rattle.winnow_stream.specs.SliceBytes.{SlicesHaveBytes}
 use Rattle.winnow_parser.specs.Outcome.{Ahead, Fails, Backtracks, Cuts, Meaning, Moves}
 use Rattle.winnow_parser.specs.Laws.{IsParser}
-use Rattle.winnow_format.specs.Bytes.{bytes_of}
-use Rattle.winnow_format.proofs.lemmas.ByteLemmas.{bytes-units}
-use Rattle.winnow_format.proofs.lemmas.TokenLemmas.{itself}
+use Rattle.format_lemmas.specs.Bytes.{bytes_of}
+use Rattle.format_lemmas.proofs.lemmas.ByteLemmas.{bytes-units}
+use Rattle.format_lemmas.proofs.lemmas.TokenLemmas.{itself}
 use Rattle.winnow_reader.specs.Place.{bytes_at, IsByteSlice, SlicesStay-bytes}
 use Rattle.winnow_reader.specs.State.{ReaderState}
 use Rattle.winnow_reader.specs.Reading.{MayFollow}
 use Rattle.winnow_reader.specs.Answering.{StopsAt, FailsAt}
 use Rattle.winnow_reader.proofs.lemmas.PlaceLemmas.{moved-bytes}
-use Rattle.winnow_resp.specs.Grammar.{Nested, IsParser-Nested}
-use Rattle.winnow_resp.specs.Answers.{IsSettled}
-use Rattle.winnow_resp.specs.Causes.{IsDamaged, IsCauseOf}
-use Rattle.winnow_resp.specs.declared.causes.Cause.{Cause}
-use Rattle.winnow_resp.specs.declared.reply.Reply.{Reply}
-use Rattle.winnow_resp.proofs.lemmas.DamageLemmas.{damage-of}
+use Rattle.format_resp.specs.Grammar.{Nested, IsParser-Nested}
+use Rattle.format_resp.specs.Answers.{IsSettled}
+use Rattle.format_resp.specs.Causes.{IsDamaged, IsCauseOf}
+use Rattle.format_resp.specs.declared.causes.Cause.{Cause}
+use Rattle.format_resp.specs.declared.reply.Reply.{Reply}
+use Rattle.format_resp.proofs.lemmas.DamageLemmas.{damage-of}
 use Rattle.example_resp.specs.declared.placed.PlacedReply.{PlacedReply}
 use Rattle.example_resp.specs.Placing.{Placing}
 use Rattle.example_resp.specs.Session.{IsCauseAt}

@@ -9,7 +9,7 @@ use Rattle.example_resp.specs.declared.failure.Failure.{Failure}
 use Rattle.example_resp.specs.declared.failure.Failure.TheVariants.{NoReply, EndsInside, Stopped}
 use Rattle.winnow_reader.specs.State.{ReaderState, at_start}
 use Rattle.winnow_reader.specs.Reading.{HasRead}
-use Rattle.winnow_resp.specs.declared.reply.Reply.{Reply}
+use Rattle.format_resp.specs.declared.reply.Reply.{Reply}
 use Rattle.example_resp.specs.declared.placed.Placed.{Placed}
 use Rattle.example_resp.specs.declared.placed.PlacedReply.{PlacedReply}
 use Rattle.example_resp.specs.declared.positions.Position.{Position}

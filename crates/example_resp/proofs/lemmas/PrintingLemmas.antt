@@ -4,11 +4,11 @@ use Rattle.std.proofs.lemmas.List.{append-nil, length-map, length-take-le, map_m
 use Rattle.std.specs.Prelude.{decimal, codes}
 use Rattle.std.specs.declared.vec.Vec.{Vec}
 use Rattle.std.specs.declared.alloc.Global.{Global}
-use Rattle.winnow_resp.specs.declared.reply.Reply.{Reply}
-use Rattle.winnow_resp.specs.declared.reply.Reply.TheOpen.{Array}
-use Rattle.winnow_resp.specs.declared.reply.Reply.TheVariants as kind
-use Rattle.winnow_resp.specs.declared.reply.Reply.TheVariants.{rolls-Array}
-use Rattle.winnow_resp.specs.declared.reply.Reply.TheFolds.{fold-roll-Reply}
+use Rattle.format_resp.specs.declared.reply.Reply.{Reply}
+use Rattle.format_resp.specs.declared.reply.Reply.TheOpen.{Array}
+use Rattle.format_resp.specs.declared.reply.Reply.TheVariants as kind
+use Rattle.format_resp.specs.declared.reply.Reply.TheVariants.{rolls-Array}
+use Rattle.format_resp.specs.declared.reply.Reply.TheFolds.{fold-roll-Reply}
 use Rattle.example_resp.specs.Printing.{layer_shown, shown, array_shown, entry_start, entries, widened, line_of}
 
 -- how an array is shown, from how its replies are

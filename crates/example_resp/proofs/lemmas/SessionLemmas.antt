@@ -16,8 +16,8 @@ use Rattle.winnow_reader.specs.State.{ReaderState, taken_by, waiting_for, pushed
 use Rattle.winnow_reader.specs.Reading.{MayFollow, HasRead, Lacks, ReadsAlso, ReadsThrough}
 use Rattle.winnow_reader.specs.Answering.{StopsAt, FailsAt, IdlesAt}
 use Rattle.winnow_reader.proofs.lemmas.PlaceLemmas.{moved-bytes}
-use Rattle.winnow_resp.specs.declared.causes.Cause.{Cause}
-use Rattle.winnow_resp.specs.declared.reply.Reply.{Reply}
+use Rattle.format_resp.specs.declared.causes.Cause.{Cause}
+use Rattle.format_resp.specs.declared.reply.Reply.{Reply}
 use Rattle.example_resp.specs.declared.placed.Placed.{Placed}
 use Rattle.example_resp.specs.declared.placed.PlacedReply.{PlacedReply}
 use Rattle.example_resp.specs.declared.positions.Position.{Position}

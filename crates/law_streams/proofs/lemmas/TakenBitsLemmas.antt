@@ -5,10 +5,10 @@ use Rattle.std.specs.Global.{Vec}
 use Rattle.winnow_stream.specs.declared.needed.Needed.{Needed}
 use Rattle.winnow_stream.specs.Source.{Source}
 use Rattle.winnow_stream.specs.Front.{is_offset, front_count, back}
-use Rattle.winnow_run.specs.declared.script.Answer.{Answer}
-use Rattle.winnow_run.specs.declared.script.Answer.TheVariants as answer
-use Rattle.winnow_run.specs.declared.script.Step.TheVariants as step
-use Rattle.winnow_run.specs.Script.{StandsFor, slice_answer, AreAnswers}
+use Rattle.winnow_script_run.specs.declared.script.Answer.{Answer}
+use Rattle.winnow_script_run.specs.declared.script.Answer.TheVariants as answer
+use Rattle.winnow_script_run.specs.declared.script.Step.TheVariants as step
+use Rattle.winnow_script_run.specs.Script.{StandsFor, slice_answer, AreAnswers}
 
 -- nothing is before what follows the front of width 0
 back-zero : {T : Type 0} (all : Source T) → back all 0 ≡ all

@@ -14,9 +14,9 @@ use Rattle.winnow_stream.proofs.lemmas.FrontLemmas.{width-end}
 use Rattle.winnow_stream.proofs.lemmas.UnitLemmas.{length-units, is_offset-units, le-from_is_offset, units-take, count_to-units, front-units, offset_at-units_short, offset_at-units_fits}
 use Rattle.std.proofs.lemmas.Bool.Decides.{nat_tests}
 use Rattle.std.proofs.lemmas.List.{drop-map, drop_all}
-use Rattle.winnow_window.specs.Contents.{slice_before}
-use Rattle.winnow_window.proofs.lemmas.WindowLemmas.{take-front}
-use Rattle.winnow_window.proofs.lemmas.WindowLemmas.{le-from_front as le-from_units}
+use Rattle.winnow_stream_window.specs.Contents.{slice_before}
+use Rattle.winnow_stream_window.proofs.lemmas.WindowLemmas.{take-front}
+use Rattle.winnow_stream_window.proofs.lemmas.WindowLemmas.{le-from_front as le-from_units}
 use Rattle.winnow_views.specs.TokenSources.{references, tokens_of, length-references, width-tokens_of}
 
 -- the references to a part of the list are those of the whole at its places

@@ -1,5 +1,5 @@
 use Rattle.std.proofs.Common.{◌≡◌, ◌∷◌, ◌++◌, take}
-use Rattle.winnow_csv.specs.Writing.{values_in}
+use Rattle.format_csv.specs.Writing.{values_in}
 use Rattle.example_csv.specs.Lines.{tabbed}
 use Rattle.example_csv.proofs.lines.append_fields.Given as goal
 

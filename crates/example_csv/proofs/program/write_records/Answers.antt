@@ -1,14 +1,14 @@
 use Rattle.std.proofs.Common.{◌≡◌, ℕ, ◌+◌, ◌-◌, ◌<◌, ◌^◌, List, length, take, drop, ap, sym, ◌∙◌, subst, arith}
 use Rattle.winnow.specs.State.{ReaderState, fed_of}
 use Rattle.winnow.specs.Answering.{FailsAt-by}
-use Rattle.winnow_csv.specs.declared.records.Row.{Row}
+use Rattle.format_csv.specs.declared.records.Row.{Row}
 use Rattle.std.specs.Io.KnownBytes.{Appends}
 use Rattle.std.specs.Prelude.{Some}
 use Rattle.example_csv.specs.Positions.{feeds_of}
 use Rattle.example_csv.specs.Lines.{line_of}
 use Rattle.example_csv.specs.Copying.{IsDamageAfter, IsOtherWidth, FitsWidth}
-use Rattle.winnow_csv.specs.Writing.{values_in}
-use Rattle.winnow_csv.specs.Reading.{RowInPieces}
+use Rattle.format_csv.specs.Writing.{values_in}
+use Rattle.format_csv.specs.Reading.{RowInPieces}
 use Rattle.example_csv.proofs.lemmas.CopyLemmas.{begun-now, row-fits, writes-row, writes-waiting}
 use Rattle.example_csv.proofs.lemmas.DamageLemmas.{damage-some, damage-within, begun-fits, stops-damaged, stops-uneven}
 use Rattle.example_csv.proofs.program.write_records.Goals as goal

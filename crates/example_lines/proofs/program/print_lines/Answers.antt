@@ -3,8 +3,8 @@ use Rattle.std.proofs.lemmas.List.{take_all}
 use Rattle.std.specs.Borrow.{Bor}
 use Rattle.winnow.specs.InTurn.{StandInTurn, StandInTurn-read}
 use Rattle.winnow_base.specs.Inputs.{joined, pieces_in}
-use Rattle.winnow_feed.proofs.lemmas.InputLemmas.{joined-push}
-use Rattle.winnow_feed.proofs.lemmas.PieceLemmas.{taken-more}
+use Rattle.winnow_script_feed.proofs.lemmas.InputLemmas.{joined-push}
+use Rattle.winnow_script_feed.proofs.lemmas.PieceLemmas.{taken-more}
 use Rattle.example_lines.specs.Lines.{HasLines, LineStands, OneLine, IsParser-OneLine, first_end}
 use Rattle.example_lines.proofs.lemmas.ReadingLemmas.{lacks-end, gives-lines}
 use Rattle.example_lines.proofs.program.print_lines.Goals as goal

@@ -2,7 +2,7 @@ use Rattle.std.proofs.Common.{◌-◌, true, [], ◌∷◌, take, drop, refl, ap
 use Rattle.winnow_reader.specs.State.{ReaderState}
 use Rattle.winnow_reader.specs.Answering.{FailsAt-by}
 use Rattle.example_resp.specs.declared.placed.PlacedReply.{PlacedReply}
-use Rattle.winnow_resp.specs.Causes.{IsCauseOf}
+use Rattle.format_resp.specs.Causes.{IsCauseOf}
 use Rattle.example_resp.specs.Positions.{joined_with}
 use Rattle.example_resp.specs.Session.{StandsAt}
 use Rattle.example_resp.specs.contracts.placed.PlacedReplyRecord.TheImpl.{ghosts}

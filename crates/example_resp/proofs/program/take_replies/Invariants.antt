@@ -1,5 +1,5 @@
 use Rattle.std.proofs.Common.{◌≡◌, ◌++◌, List, length}
-use Rattle.winnow_resp.specs.declared.reply.Reply.{Reply}
+use Rattle.format_resp.specs.declared.reply.Reply.{Reply}
 use Rattle.example_resp.specs.Session.{IsSteady, HasSameInput, StandsOn, ReadsReplies, shown_all}
 use Rattle.example_resp.specs.contracts.placed.PlacedReplyRecord.TheImpl.{ghosts}
 use Rattle.example_resp.proofs.program.take_replies.Given as goal

@@ -1,6 +1,6 @@
 use Rattle.std.proofs.Common.{true, ◌∙◌, ap₂, ◌∷◌, []}
 use Rattle.std.specs.Prelude.{⊤}
-use Rattle.winnow_run.specs.declared.script.Answer.TheVariants as answer
+use Rattle.winnow_script_run.specs.declared.script.Answer.TheVariants as answer
 use Rattle.winnow_stream.specs.SliceFrom.{IsSliceFrom}
 use Rattle.winnow_views.specs.BitSource.{IsBitSlice, IsBitSliceFrom}
 use Rattle.law_streams.proofs.lemmas.TakenBitsLemmas.{taken-ok}

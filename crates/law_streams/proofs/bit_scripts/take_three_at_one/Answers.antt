@@ -1,7 +1,7 @@
 use Rattle.std.proofs.Common.{◌∙◌, ◌+◌, ◌/◌, ◌%◌, ap, ◌∷◌, []}
 use Rattle.std.proofs.lemmas.List.{nil_from_length}
 use Rattle.std.proofs.lemmas.Result.{IfOk-weaker}
-use Rattle.winnow_run.specs.declared.script.Answer.TheVariants as answer
+use Rattle.winnow_script_run.specs.declared.script.Answer.TheVariants as answer
 use Rattle.law_streams.proofs.bit_scripts.take_three_at_one.Goals as goal
 
 pub returns : goal.returns

@@ -1,7 +1,7 @@
 use Rattle.std.proofs.Common.{length, take, ap, ◌∙◌}
 use Rattle.winnow_stream.specs.Checkpoint.{checkpoint_inner}
 use Rattle.winnow_stream.specs.Source.{units}
-use Rattle.winnow_window.proofs.lemmas.WindowLemmas.{take-front}
+use Rattle.winnow_stream_window.proofs.lemmas.WindowLemmas.{take-front}
 use Rattle.winnow_kinds.specs.TextContents.{bstr_contents}
 use Rattle.winnow_kinds.proofs.text.BStrUpdateSlice.update_slice.Goals as goal
 

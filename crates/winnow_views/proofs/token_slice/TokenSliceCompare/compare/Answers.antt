@@ -1,5 +1,5 @@
 use Rattle.std.specs.Mem.{type_size}
-use Rattle.winnow_window.specs.Contents.{slice_of}
+use Rattle.winnow_stream_window.specs.Contents.{slice_of}
 use Rattle.winnow_views.proofs.lemmas.TokenLemmas.{is_offset-first}
 use Rattle.winnow_views.proofs.token_slice.TokenSliceCompare.compare.Goals as goal
 

@@ -1,7 +1,7 @@
 -- Each call moves the location of the trait as it moves the place of the slice.
 use Rattle.std.specs.Mem.{type_size}
 use Rattle.std.proofs.Common.{ap, Some}
-use Rattle.winnow_window.specs.Contents.{slice_of}
+use Rattle.winnow_stream_window.specs.Contents.{slice_of}
 use Rattle.winnow_views.proofs.lemmas.TokenLemmas.{place-first, place-all}
 use Rattle.winnow_views.proofs.token_slice.TokenSliceStream.TheImpl.Goals as goal
 

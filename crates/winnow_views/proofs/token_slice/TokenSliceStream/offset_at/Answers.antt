@@ -1,6 +1,6 @@
 use Rattle.std.proofs.Common.{arith}
 use Rattle.std.specs.Mem.{type_size}
-use Rattle.winnow_window.specs.Contents.{slice_of}
+use Rattle.winnow_stream_window.specs.Contents.{slice_of}
 use Rattle.winnow_views.proofs.lemmas.TokenLemmas.{offset_at-short}
 use Rattle.winnow_views.proofs.token_slice.TokenSliceStream.offset_at.Goals as goal
 

@@ -1,6 +1,6 @@
 use Rattle.std.proofs.Common.{length, ap, arith}
 use Rattle.winnow_stream.specs.Checkpoint.{checkpoint_inner}
-use Rattle.winnow_window.specs.Contents.{slice_of}
+use Rattle.winnow_stream_window.specs.Contents.{slice_of}
 use Rattle.winnow_views.specs.TokenPlaces.{rest_in}
 use Rattle.winnow_views.proofs.lemmas.TokenLemmas.{le-from_end}
 use Rattle.winnow_views.proofs.token_slice.TokenSliceStream.offset_since.Goals as goal

@@ -1,6 +1,6 @@
 use Rattle.std.proofs.Common.{sym, length-take-le}
 use Rattle.std.specs.Mem.{type_size}
-use Rattle.winnow_window.specs.Contents.{slice_of}
+use Rattle.winnow_stream_window.specs.Contents.{slice_of}
 use Rattle.winnow_views.proofs.lemmas.TokenLemmas.{le-from_offset}
 use Rattle.winnow_views.proofs.token_slice.TokenSliceStream.peek_slice.Goals as goal
 

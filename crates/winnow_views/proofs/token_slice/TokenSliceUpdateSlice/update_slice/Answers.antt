@@ -1,6 +1,6 @@
 use Rattle.std.proofs.Common.{length, take, ap, ◌∙◌}
 use Rattle.winnow_stream.specs.Checkpoint.{checkpoint_inner}
-use Rattle.winnow_window.specs.Contents.{slice_of, slice_before}
+use Rattle.winnow_stream_window.specs.Contents.{slice_of, slice_before}
 use Rattle.winnow_views.specs.TokenSources.{tokens_of}
 use Rattle.winnow_views.specs.TokenPlaces.{rest_in}
 use Rattle.winnow_views.proofs.lemmas.TokenLemmas.{le-from_front, tokens_of-before, now-before}

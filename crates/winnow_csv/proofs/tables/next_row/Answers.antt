@@ -1,8 +1,0 @@
-use Rattle.winnow_csv.proofs.tables.next_row.Goals as goal
-use Rattle.winnow_format.proofs.lemmas.ByteLemmas.{bytes-units}
-
-pub returns-clause-answer : goal.returns-clause-answer
-returns-clause-answer c = rw (bytes-units c.args.input.now.now, bytes-units c.read_record.new.input.now) at c.read_record.ensures.answer
-
-pub returns-clause-complete : goal.returns-clause-complete
-returns-clause-complete c = rw (bytes-units c.args.input.now.now, bytes-units c.read_record.new.input.now) at c.read_record.ensures.complete

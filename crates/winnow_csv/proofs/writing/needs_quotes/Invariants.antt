@@ -1,8 +1,0 @@
-use Rattle.std.proofs.Common.{◌≡◌, false, take}
-use Rattle.std.specs.List.{list_any}
-use Rattle.winnow_csv.specs.Fields.{is_special}
-use Rattle.winnow_csv.proofs.writing.needs_quotes.Given as goal
-
--- no byte so far is special
-abbrev pub invariant-loop-byte : goal.invariant-loop-byte
-invariant-loop-byte l = list_any is_special (take l.byte-index l.field) ≡ false

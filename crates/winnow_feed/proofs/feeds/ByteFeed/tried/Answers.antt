@@ -1,6 +1,0 @@
-use Rattle.std.proofs.Common.{ap, ◌∙◌}
-use Rattle.winnow_feed.specs.Feeding.{FeedState}
-use Rattle.winnow_feed.proofs.feeds.ByteFeed.tried.Goals as goal
-
-pub returns : goal.returns
-returns c = λ pieces h. ap (λ (f : FeedState). f.run.tried) c.self.view_is ∙ h.tried

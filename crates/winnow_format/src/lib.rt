@@ -1,6 +1,0 @@
-//! What readers of formats share: the bytes that stand at the front of a parser, as lists, and
-//! lemmas from the meanings of parsers of bytes to these lists.
-//!
-//! Nothing here runs. The definitions stand in `specs/Bytes.antt`, the lemmas in `proofs/lemmas/`.
-//! `winnow_csv`, `winnow_json` and `winnow_resp` use them, and so can a format of your own.
-#![tactic(auto)]

@@ -1,6 +1,0 @@
-use Rattle.std.proofs.Common.{◌∙◌}
-use Rattle.winnow_parse_error.proofs.lemmas.NthLineLemmas.{is_some-newline}
-use Rattle.winnow_parse_error.proofs.line.has_newline.Goals as goal
-
-pub returns : goal.returns
-returns c = c.is_some.ensures ∙ is_some-newline c.args.bytes.now c.memchr.result c.memchr.ensures

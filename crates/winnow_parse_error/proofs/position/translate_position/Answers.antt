@@ -1,6 +1,0 @@
-use Rattle.std.proofs.Common.{rules}
-use Rattle.winnow_parse_error.proofs.lemmas.PositionLemmas.{column_of-empty}
-use Rattle.winnow_parse_error.proofs.position.translate_position.Goals as goal
-
-pub returns-then-is_empty-clause-column : goal.returns-then-is_empty-clause-column
-returns-then-is_empty-clause-column c = column_of-empty c.args.input.now c.args.index (search rules)
