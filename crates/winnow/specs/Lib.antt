@@ -74,5 +74,6 @@ pub use Rattle.winnow_spelling.specs.SpelledSlices
 pub use Rattle.winnow_spelling.specs.SpelledLists
 pub use Rattle.winnow_spelling.specs.SpelledRows
 pub use Rattle.winnow_spelling.specs.SpelledChoices
+pub use Rattle.winnow_iterator.specs.Iterating
 pub use Rattle.winnow_spans.specs.TokenSpan
 pub use Rattle.winnow_parser.specs.declared.failure.Failure
