@@ -60,7 +60,7 @@ FURTHER = ("script: ", "text: ")
 def formats():
     """Returns the names of the formats: the crates that stand on `format_lemmas`."""
     with open(f"{TOP}/crates.txt", encoding="utf-8") as text:
-        return re.findall(r"^(winnow_\w+):.* format_lemmas\b", text.read(), flags=re.M)
+        return re.findall(r"^(format_\w+):.* format_lemmas\b", text.read(), flags=re.M)
 
 
 def crates(names):
@@ -153,7 +153,7 @@ def makes_refusal(text):
 
 def made_refusals():
     """Yields a line for each source that makes an `AllocError`, and should not; and for each in `MADE` that makes none."""
-    libraries = [name for name in os.listdir(f"{TOP}/crates") if name.startswith("winnow") and name not in TESTING]
+    libraries = [name for name in os.listdir(f"{TOP}/crates") if name.startswith(("winnow", "format")) and name not in TESTING]
     making = {path for crate in libraries for path, text in sources(crate) if makes_refusal(text)}
     yield from (f"{path} makes an AllocError" for path in sorted(making - MADE))
     yield from (f"{path} makes no AllocError" for path in sorted(MADE - making))

@@ -1,13 +1,11 @@
-pub mod Numbers
-pub mod Parts
-pub mod Meanings
-pub mod Needing
-pub mod NumberAnswers
-pub mod Strings
-pub mod StringAnswers
-pub mod Escapes
-pub mod Steps
-pub mod CutChars
+-- The definitions of numbers and strings.
+pub use Rattle.format_json_scalars.specs.Numbers
+pub use Rattle.format_json_scalars.specs.NumberAnswers
+pub use Rattle.format_json_scalars.specs.Needing
+pub use Rattle.format_json_scalars.specs.Strings
+pub use Rattle.format_json_scalars.specs.StringAnswers
+pub use Rattle.format_json_scalars.specs.Quoting
+-- Values and tokens.
 pub mod Values
 pub mod Founds
 pub mod Damage
@@ -20,10 +18,5 @@ pub mod TokenAnswers
 pub mod TokenLaws
 pub mod TokenReading
 pub mod Causes
-pub mod Quoting
 pub mod Writing
 pub mod Appending
-pub mod Turns
-pub mod EventReading
-pub mod Stops
-pub mod ValueEvents

@@ -3,11 +3,11 @@
 use Rattle.std.specs.Prelude.{◌≡◌, ℕ, zero, suc, ◌==◌, Bool, true, false, ◌||◌, if◌then◌else◌, List, [], ◌∷◌, ◌++◌}
 use Rattle.std.specs.declared.string.String.{String}
 use Rattle.std.specs.declared.alloc.Global.{Global}
-use Rattle.format_json.specs.Meanings.{IsNumberOf}
-use Rattle.format_json.specs.Strings.{StringAhead}
-use Rattle.format_json.specs.StringAnswers.{HasChars}
-use Rattle.format_json.specs.NumberAnswers.{NumberAhead}
-use Rattle.format_json.specs.declared.numbers.Number.{Number}
+use Rattle.format_json_scalars.specs.Meanings.{IsNumberOf}
+use Rattle.format_json_scalars.specs.Strings.{StringAhead}
+use Rattle.format_json_scalars.specs.StringAnswers.{HasChars}
+use Rattle.format_json_scalars.specs.NumberAnswers.{NumberAhead}
+use Rattle.format_json_scalars.specs.declared.numbers.Number.{Number}
 use Rattle.format_json.specs.declared.value.Value.{Value}
 use Rattle.format_json.specs.declared.value.Value.TheOpen as open_value
 use Rattle.format_json.specs.declared.value.Value.TheOpen.{Value-F, Null}
@@ -33,15 +33,6 @@ bool_word false = 102 ∷ 97 ∷ 108 ∷ 115 ∷ 101 ∷ []
 -- the bytes begin with the word, and the rest follows
 abbrev pub WordAhead : List ℕ → Unit {0} → List ℕ → List ℕ → Type 0
 WordAhead word done bytes rest = bytes ≡ word ++ rest
-
--- the bytes begin with this number, and the rest follows, in which it does not go on
-abbrev pub NumberHere : Bool → Number → List ℕ → List ℕ → Type 0
-NumberHere partial number bytes rest =
-    (text : List ℕ) × (NumberAhead partial bytes text rest × IsNumberOf text number)
-
--- the bytes begin with a string of this value, and the rest follows
-abbrev pub StringHere : String Global → List ℕ → List ℕ → Type 0
-StringHere value bytes rest = (cs : List ℕ) × (StringAhead bytes cs rest × HasChars value cs)
 
 -- after blanks the bytes begin with a name, after blanks with a colon, and then with a value, where
 -- a relation says which bytes begin with one; and the rest follows

@@ -37,8 +37,9 @@ fn is_blank(byte: u8) -> bool
     matches!(byte, b' ' | b'\t' | b'\n' | b'\r')
 }
 
-// Returns the number of blanks that stand first.
-pub(crate) fn blank_count(bytes: &[u8]) -> usize
+/// Returns the number of blanks that stand first.
+#[doc(hidden)]
+pub fn blank_count(bytes: &[u8]) -> usize
     ensures within { result ≤ length bytes.now }
     ensures rest { drop result bytes.now ≡ after_blanks bytes.now }
 {

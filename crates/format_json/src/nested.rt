@@ -3,7 +3,8 @@
 ghost use Rattle.std.specs.Prelude.{◌≤◌, length, drop, IfOk};
 ghost use Rattle.format_lemmas.specs.Bytes.{StartsWith};
 ghost use Rattle.format_json.specs.Values.{Nested, Elements, Bracketed, MemberAhead};
-ghost use Rattle.format_json.specs.Values.{after_blanks, StringHere, ValueHere, ValueAhead};
+ghost use Rattle.format_json.specs.Values.{after_blanks, ValueHere, ValueAhead};
+ghost use Rattle.format_json_scalars.specs.StringAnswers.{StringHere};
 ghost use Rattle.format_json.specs.Founds.{IsFound};
 ghost use Rattle.format_json.specs.Damage.{IsPlaced, BreaksOff, HereBreaksOff, ElementsIn};
 ghost use Rattle.format_json.specs.Damage.{MemberIn, MembersIn, ArrayBreaksOff, ObjectBreaksOff};

@@ -2,18 +2,16 @@
 
 ghost use Rattle.std.specs.Prelude.{◌≡◌, ◌<◌, true, [], length, IfOk, MatchOption};
 ghost use Rattle.format_lemmas.specs.Bytes.{StartsWith, Starts};
-ghost use Rattle.format_json.specs.Numbers.{Tells, is_number_byte};
+ghost use Rattle.format_json_scalars.specs.Numbers.{Tells, is_number_byte};
 ghost use Rattle.format_json.specs.Values.{after_blanks};
 ghost use Rattle.format_json.specs.Tokens.{Word, lexeme_of, word_from};
 ghost use Rattle.format_json.specs.TokenAnswers.{BeginsWord, IsTokenFound, OneToken};
 ghost use Rattle.format_json.specs.TokenLaws.{IsParser-OneToken};
 
-use crate::Number;
 use crate::found::{Found, blank_count};
-use crate::numbers::number_of;
-use crate::parts::is_number;
-use crate::scalars::{is_number_byte, number_count};
-use crate::strings::{Reading, read_bytes};
+use format_json_scalars::{
+    Number, Reading, is_number, is_number_byte, number_count, number_of, read_bytes,
+};
 use std::alloc::{AllocError, Global};
 use winnow::error::EmptyError;
 use winnow::reader::{Record, RecordInput};

@@ -5,7 +5,7 @@ ghost use Rattle.winnow.specs.Outcome.{Moves};
 ghost use Rattle.winnow.specs.Answer.{ahead};
 ghost use Rattle.winnow_stream.specs.SliceBytes.{SlicesHaveBytes};
 ghost use Rattle.format_lemmas.specs.Bytes.{bytes_of};
-ghost use Rattle.format_json.specs.Needing.{NeedsOneByte};
+ghost use Rattle.format_json_scalars.specs.Needing.{NeedsOneByte};
 ghost use Rattle.format_json.specs.ValueAnswers.{IsReading, IsValueAnswer, GivesEachValue};
 
 use crate::Value;

@@ -9,9 +9,8 @@ ghost use Rattle.format_json.specs.Appending.{ObjectHere, object_text};
 ghost use Rattle.format_json.specs.Appending.{IsAppended, IsNumberAppended};
 ghost use Rattle.format_json.specs.declared.writing.Unwritten.TheVariants.{Refused};
 
-use crate::numbers::is_of_text;
-use crate::quoting::append_string;
-use crate::{Number, Value};
+use crate::Value;
+use format_json_scalars::{Number, append_string, is_of_text};
 use std::alloc::AllocError;
 
 /// Why a value was not written.

@@ -13,12 +13,6 @@ use Rattle.format_json.proofs.lemmas.GrammarLemmas.{Once, Stable, blanks-past, e
 
 -- ---- Words and bytes
 
--- the test holds of one byte more
-pub each-grows : (test : ℕ → Bool) (xs : List ℕ) (b : ℕ) → Each test xs → test b ≡ true
-    → Each test (xs ++ b ∷ [])
-each-grows test [] b h e = (e, tt)
-each-grows test (x ∷ xs) b h e = (h.0, each-grows test xs b h.1 e)
-
 module _ (bytes : List ℕ) (at : ℕ) (inside : at < length bytes) (e : drop at bytes ≡ after_blanks bytes) where
   -- the first byte after blanks, and those after it
   pub blanks-first : after_blanks bytes ≡ get_or bytes at 0 ∷ drop (at + 1) bytes

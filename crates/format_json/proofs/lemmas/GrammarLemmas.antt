@@ -5,18 +5,20 @@ use Rattle.std.specs.declared.alloc.Global.{Global}
 use Rattle.std.specs.declared.vec.Vec.{Vec}
 use Rattle.format_lemmas.specs.Bytes.{EndsRun}
 use Rattle.format_lemmas.proofs.lemmas.ByteLemmas.{heads, tails}
-use Rattle.format_json.specs.Numbers.{IsNumber, is_number_byte}
-use Rattle.format_json.specs.Values.{is_blank, after_blanks, null_word, bool_word, WordAhead, NumberHere, StringHere, MemberAhead, Elements, Inside, Bracketed, Layer, Nested}
+use Rattle.format_json_scalars.specs.Numbers.{IsNumber, is_number_byte}
+use Rattle.format_json.specs.Values.{is_blank, after_blanks, null_word, bool_word, WordAhead, MemberAhead, Elements, Inside, Bracketed, Layer, Nested}
+use Rattle.format_json_scalars.specs.StringAnswers.{StringHere}
+use Rattle.format_json_scalars.specs.NumberAnswers.{NumberHere}
 use Rattle.format_json.specs.Founds.{MayFollow}
-use Rattle.format_json.specs.declared.numbers.Number.{Number}
+use Rattle.format_json_scalars.specs.declared.numbers.Number.{Number}
 use Rattle.format_json.specs.declared.value.Value.{Value}
 use Rattle.format_json.specs.declared.value.Value.TheOpen as open_value
 use Rattle.format_json.specs.declared.value.Value.TheOpen.{Value-F, Null}
 use Rattle.format_json.specs.declared.value.Value.TheViews.{out-Value}
 use Rattle.format_json.specs.TokenLaws.{blanks-more}
-use Rattle.format_json.proofs.lemmas.NumberAnswerLemmas.{number-bytes, number-some}
-use Rattle.format_json.proofs.lemmas.RunLemmas.{split-once}
-use Rattle.format_json.proofs.lemmas.StringLemmas.{string-once}
+use Rattle.format_json_scalars.proofs.lemmas.NumberAnswerLemmas.{number-bytes, number-some}
+use Rattle.format_json_scalars.proofs.lemmas.RunLemmas.{split-once}
+use Rattle.format_json_scalars.proofs.lemmas.StringLemmas.{string-once}
 
 -- ---- Blanks
 

@@ -11,26 +11,27 @@ use Rattle.winnow_parser.specs.Outcome.{Ahead, Backtracks, Cuts, Needs, Refuses,
 use Rattle.winnow_parser.specs.Determined.{IsDetermined, Shows}
 use Rattle.format_lemmas.specs.Bytes.{Each, Starts, StartsWith, EndsRun, bytes_of}
 use Rattle.format_lemmas.proofs.lemmas.ByteLemmas.{heads, tails, length-bytes, each-after}
-use Rattle.format_json.specs.Numbers.{IsNumber, is_number_byte}
-use Rattle.format_json.specs.Strings.{SpellsChars, StringAhead}
-use Rattle.format_json.specs.StringAnswers.{BeginsChar, IsWrong, IsDamagedAt, IsBegun}
-use Rattle.format_json.specs.Values.{after_blanks, NumberHere}
+use Rattle.format_json_scalars.specs.Numbers.{IsNumber, is_number_byte}
+use Rattle.format_json_scalars.specs.Strings.{SpellsChars, StringAhead}
+use Rattle.format_json_scalars.specs.StringAnswers.{BeginsChar, IsWrong, IsDamagedAt, IsBegun}
+use Rattle.format_json.specs.Values.{after_blanks}
+use Rattle.format_json_scalars.specs.NumberAnswers.{NumberHere}
 use Rattle.format_json.specs.Founds.{MayFollow, HasNone, IsFound}
 use Rattle.format_json.specs.Tokens.{Lexeme, Word, Digits, Quoted, Ending, lexeme_of, LexemeHere, TokenHere, word_from}
 use Rattle.format_json.specs.TokenAnswers.{IsWrongAt, MayBecome, IsTokenFound, OneToken}
-use Rattle.format_json.specs.Steps.{IsReading}
-use Rattle.format_json.specs.declared.numbers.Number.{Number}
+use Rattle.format_json_scalars.specs.Steps.{IsReading}
+use Rattle.format_json_scalars.specs.declared.numbers.Number.{Number}
 use Rattle.format_json.specs.declared.found.Found.TheVariants as found
-use Rattle.format_json.specs.declared.strings.Reading.TheVariants as reading
+use Rattle.format_json_scalars.specs.declared.strings.Reading.TheVariants as reading
 use Rattle.format_json.specs.declared.tokens.Token.{Token}
 use Rattle.format_json.specs.declared.tokens.Token.TheVariants as token
 use Rattle.format_json.specs.TokenLaws.{begun-char}
-use Rattle.format_json.proofs.lemmas.NumberAnswerLemmas.{number-bytes, number-some}
-use Rattle.format_json.proofs.lemmas.RunLemmas.{split-once}
-use Rattle.format_json.proofs.lemmas.SpellingLemmas.{spelling-once, spells-past}
-use Rattle.format_json.proofs.lemmas.StringLemmas.{string-once, starts-split, begun-missed, begun-begun}
+use Rattle.format_json_scalars.proofs.lemmas.NumberAnswerLemmas.{number-bytes, number-some}
+use Rattle.format_json_scalars.proofs.lemmas.RunLemmas.{split-once}
+use Rattle.format_json_scalars.proofs.lemmas.SpellingLemmas.{spelling-once, spells-past}
+use Rattle.format_json_scalars.proofs.lemmas.StringLemmas.{string-once, starts-split, begun-missed, begun-begun}
 use Rattle.format_json.proofs.lemmas.ScalarLemmas.{Settled, number-none}
-use Rattle.format_json.proofs.lemmas.SameLemmas.{some-once}
+use Rattle.format_json_scalars.proofs.lemmas.NumberTextLemmas.{some-once}
 use Rattle.format_json.proofs.lemmas.FoundLemmas.{none-here}
 
 -- ---- The first byte of a token

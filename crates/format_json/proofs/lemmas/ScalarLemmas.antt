@@ -4,20 +4,20 @@ use Rattle.std.proofs.lemmas.List.{drop-append-le}
 use Rattle.std.proofs.lemmas.Str.{encode_ascii}
 use Rattle.format_lemmas.specs.Bytes.{Each, Starts, StartsWith, EndsRun}
 use Rattle.format_lemmas.proofs.lemmas.ByteLemmas.{heads, tails, each-after}
-use Rattle.format_json.specs.Numbers.{IsNumber, BeginsNumber, is_number_byte}
-use Rattle.format_json.specs.Meanings.{IsNumberOf}
-use Rattle.format_json.specs.Strings.{StringAhead}
-use Rattle.format_json.specs.Escapes.{IsNoChar}
-use Rattle.format_json.specs.StringAnswers.{BeginsChar}
-use Rattle.format_json.specs.Steps.{StopsAt, IsReading}
-use Rattle.format_json.specs.Values.{NumberHere, StringHere}
+use Rattle.format_json_scalars.specs.Numbers.{IsNumber, BeginsNumber, is_number_byte}
+use Rattle.format_json_scalars.specs.Meanings.{IsNumberOf}
+use Rattle.format_json_scalars.specs.Strings.{StringAhead}
+use Rattle.format_json_scalars.specs.Escapes.{IsNoChar}
+use Rattle.format_json_scalars.specs.StringAnswers.{BeginsChar, StringHere}
+use Rattle.format_json_scalars.specs.Steps.{StopsAt, IsReading}
+use Rattle.format_json_scalars.specs.NumberAnswers.{NumberHere}
 use Rattle.format_json.specs.Founds.{HasNone, IsFound}
-use Rattle.format_json.specs.declared.numbers.Number.{Number}
-use Rattle.format_json.specs.declared.strings.Reading.TheVariants as reading
+use Rattle.format_json_scalars.specs.declared.numbers.Number.{Number}
+use Rattle.format_json_scalars.specs.declared.strings.Reading.TheVariants as reading
 use Rattle.format_json.specs.declared.found.Found.TheVariants.{Whole, Begun, Damaged}
-use Rattle.format_json.proofs.lemmas.NumberAnswerLemmas.{number-bytes}
-use Rattle.format_json.proofs.lemmas.RunLemmas.{split-once}
-use Rattle.format_json.proofs.lemmas.StringLemmas.{stops-none, begun-missed}
+use Rattle.format_json_scalars.proofs.lemmas.NumberAnswerLemmas.{number-bytes}
+use Rattle.format_json_scalars.proofs.lemmas.RunLemmas.{split-once}
+use Rattle.format_json_scalars.proofs.lemmas.StringLemmas.{stops-none, begun-missed}
 
 -- ---- Numbers
 

@@ -13,7 +13,7 @@ use Rattle.format_json.specs.declared.found.Found.{Found}
 use Rattle.format_json.specs.declared.found.Found.TheVariants.{Whole, Begun, Damaged}
 use Rattle.format_json.specs.declared.tokens.Token.{Token}
 use Rattle.format_json.proofs.lemmas.FoundLemmas.{fits-both}
-use Rattle.format_json.proofs.lemmas.StringStreamLemmas.{text-is, rest-is}
+use Rattle.format_json_scalars.proofs.lemmas.StringStreamLemmas.{text-is, rest-is}
 
 -- what is found, as the same
 pub token-as : (partial : Bool) (t here : List ℕ) (result : Result (Found Token) AllocError)

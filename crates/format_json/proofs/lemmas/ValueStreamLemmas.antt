@@ -14,7 +14,7 @@ use Rattle.format_json.specs.ValueAnswers.{NoValueAhead, IsReading}
 use Rattle.format_json.specs.declared.value.Value.{Value}
 use Rattle.format_json.specs.declared.values.Reading.{Reading}
 use Rattle.format_json.specs.declared.values.Reading.TheVariants as reading
-use Rattle.format_json.proofs.lemmas.StringStreamLemmas.{text-is, rest-is}
+use Rattle.format_json_scalars.proofs.lemmas.StringStreamLemmas.{text-is, rest-is}
 use Rattle.format_json.proofs.lemmas.GrammarLemmas.{nested-once}
 use Rattle.format_json.proofs.lemmas.SameLemmas.{nested-same}
 use Rattle.format_json.proofs.lemmas.FoundLemmas.{none-here}

@@ -13,14 +13,16 @@ use Rattle.std.specs.declared.alloc.Global.{Global}
 use Rattle.std.specs.declared.vec.Vec.{Vec}
 use Rattle.winnow_count.specs.Reading.{IsSomeExactly, ReadsSigned}
 use Rattle.format_lemmas.specs.Bytes.{EndsRun}
-use Rattle.format_json.specs.Numbers.{IsNumber, is_number_byte}
-use Rattle.format_json.specs.Meanings.{IsWritten}
-use Rattle.format_json.specs.Values.{is_blank, after_blanks, NumberHere, StringHere, Elements, Bracketed, Layer, Nested, ValueHere, ValueAhead}
-use Rattle.format_json.specs.Quoting.{written_string}
+use Rattle.format_json_scalars.specs.Numbers.{IsNumber, is_number_byte}
+use Rattle.format_json_scalars.specs.Meanings.{IsWritten}
+use Rattle.format_json.specs.Values.{is_blank, after_blanks, Elements, Bracketed, Layer, Nested, ValueHere, ValueAhead}
+use Rattle.format_json_scalars.specs.StringAnswers.{StringHere}
+use Rattle.format_json_scalars.specs.NumberAnswers.{NumberHere}
+use Rattle.format_json_scalars.specs.Quoting.{written_string}
 use Rattle.format_json.specs.Documents.{IsDocument}
 use Rattle.format_json.specs.Writing.{listed, written_member, layer_written, written, IsReadBack}
 use Rattle.format_json.specs.Appending.{ArrayHere, array_text, MemberHere, member_text, ObjectHere, object_text, Stands, Never, IsAppended, IsNumberAppended}
-use Rattle.format_json.specs.declared.numbers.Number.{Number}
+use Rattle.format_json_scalars.specs.declared.numbers.Number.{Number}
 use Rattle.format_json.specs.declared.value.Value.{Value, map-Value}
 use Rattle.format_json.specs.declared.value.Value.TheVariants as value
 use Rattle.format_json.specs.declared.value.Value.TheOpen as open_value
@@ -31,7 +33,7 @@ use Rattle.format_json.specs.declared.writing.Unwritten.{Unwritten}
 use Rattle.format_json.specs.declared.writing.Unwritten.TheVariants.{NoNumber, TooDeep, Refused}
 use Rattle.format_json.proofs.lemmas.GrammarLemmas.{kind_of, kind, layer-kind}
 use Rattle.format_json.proofs.lemmas.LayerLemmas.{out-number, out-string, out-array, out-object}
-use Rattle.format_json.proofs.lemmas.QuotingLemmas.{string-stands}
+use Rattle.format_json_scalars.proofs.lemmas.QuotingLemmas.{string-stands}
 
 -- ---- Elements
 

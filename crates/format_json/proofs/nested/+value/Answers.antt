@@ -2,14 +2,14 @@ use Rattle.std.proofs.Common.{inl, rules, ◌≡◌, ◌∷◌, ◌<◌, suc, �
 use Rattle.std.proofs.lemmas.Result.{IfOk-weaker}
 use Rattle.std.proofs.lemmas.List.{take_rest, drop-drop}
 use Rattle.std.proofs.lemmas.Bool.Decides.{nat_tests}
-use Rattle.format_json.specs.Values.{after_blanks, Nested, Elements, Bracketed, MemberAhead, StringHere, ValueHere}
+use Rattle.format_json.specs.Values.{after_blanks, Nested, Elements, Bracketed, MemberAhead, ValueHere}
 use Rattle.format_json.specs.Founds.{IsFound, IsNext, IsByte, ByteAhead}
-use Rattle.format_json.specs.StringAnswers.{IsBegun}
+use Rattle.format_json_scalars.specs.StringAnswers.{IsBegun, StringHere}
 use Rattle.format_json.specs.Begun.{BeginsScalar, BeginsHere, BeginsValue, BeginsElementsIn, BeginsMemberIn, BeginsMembersIn, BeginsArray, BeginsObject, IsOpen}
 use Rattle.format_json.specs.Damage.{StringBreaksOff, ByteIsMissing, IsTooDeep, HereBreaksOff, BreaksOff, ElementsIn, MemberIn, MembersIn, ArrayBreaksOff, ObjectBreaksOff, ScalarBreaksOff, IsPlaced}
 use Rattle.format_json.specs.declared.found.Found.TheVariants.{Whole, Begun, Damaged}
 use Rattle.format_json.specs.declared.found.Next.TheVariants as next
-use Rattle.format_json.proofs.lemmas.StringLemmas.{starts-with}
+use Rattle.format_json_scalars.proofs.lemmas.StringLemmas.{starts-with}
 use Rattle.format_json.proofs.lemmas.GrammarLemmas.{nested-once, nested-stable, members-once, members-stable}
 use Rattle.format_json.proofs.lemmas.FoundLemmas.{HasRead, found-same, begun-as, damaged-as, missed-as, fits-both, element-covers, read-on, read-ends, read-stops, read-begun}
 use Rattle.format_json.proofs.lemmas.LayerLemmas.{ArrayHere, ObjectHere, array-begun, array-damaged, object-begun, object-damaged}

@@ -3,7 +3,7 @@ use Rattle.winnow_stream.specs.Source.{units}
 use Rattle.format_json.specs.Values.{after_blanks}
 use Rattle.format_json.specs.ValueAnswers.{IsReading}
 use Rattle.format_json.specs.declared.values.Reading.TheVariants.{Nothing, Whole, Begun, Damaged}
-use Rattle.format_json.proofs.lemmas.StringStreamLemmas.{source-is, moved-to, offset-fits, text-is}
+use Rattle.format_json_scalars.proofs.lemmas.StringStreamLemmas.{source-is, moved-to, offset-fits, text-is}
 use Rattle.format_json.proofs.lemmas.ValueStreamLemmas.{value-as, value-missed, value-none, value-place, value-open, blank-missed, damaged-missed, value-answers, value-once}
 use Rattle.format_json.proofs.values.read_value.Goals as goal
 

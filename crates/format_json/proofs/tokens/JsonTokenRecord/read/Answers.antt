@@ -4,7 +4,7 @@ use Rattle.winnow_stream.proofs.lemmas.UnitLemmas.{front-units, units-same}
 use Rattle.format_json.specs.Values.{after_blanks}
 use Rattle.format_json.specs.TokenAnswers.{IsTokenFound}
 use Rattle.format_json.specs.declared.found.Found.TheVariants.{Whole, Begun, Damaged}
-use Rattle.format_json.proofs.lemmas.StringStreamLemmas.{moved-to, offset-fits}
+use Rattle.format_json_scalars.proofs.lemmas.StringStreamLemmas.{moved-to, offset-fits}
 use Rattle.format_json.proofs.lemmas.TokenStreamLemmas.{token-as, token-answers, damage-answers, begun-answers}
 use Rattle.format_json.proofs.tokens.JsonTokenRecord.read.Goals as goal
 

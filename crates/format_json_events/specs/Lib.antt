@@ -1,0 +1,4 @@
+pub mod Turns
+pub mod EventReading
+pub mod Stops
+pub mod ValueEvents
