@@ -5,6 +5,7 @@ pub mod BegunLemmas
 pub mod ScalarLemmas
 pub mod LayerLemmas
 pub mod NestedLemmas
+pub mod ElementLemmas
 pub mod SameLemmas
 pub mod ValueStreamLemmas
 pub mod DocumentLemmas

@@ -2,181 +2,80 @@ use Rattle.std.proofs.Common.{inl, rules, ◌≡◌, ◌∷◌, ◌<◌, suc, �
 use Rattle.std.proofs.lemmas.Result.{IfOk-weaker}
 use Rattle.std.proofs.lemmas.List.{take_rest, drop-drop}
 use Rattle.std.proofs.lemmas.Bool.Decides.{nat_tests}
-use Rattle.format_json.specs.Values.{after_blanks, Nested, Elements, Bracketed, MemberAhead, ValueHere}
-use Rattle.format_json.specs.Founds.{IsFound, IsNext, IsByte, ByteAhead}
+use Rattle.format_json.specs.Values.{after_blanks, Nested, MemberAhead, ValueHere}
+use Rattle.format_json.specs.Founds.{IsFound, IsByte, ByteAhead}
 use Rattle.format_json_scalars.specs.StringAnswers.{IsBegun, StringHere}
 use Rattle.format_json.specs.Begun.{BeginsScalar, BeginsHere, BeginsValue, BeginsElementsIn, BeginsMemberIn, BeginsMembersIn, BeginsArray, BeginsObject, IsOpen}
-use Rattle.format_json.specs.Damage.{StringBreaksOff, ByteIsMissing, IsTooDeep, HereBreaksOff, BreaksOff, ElementsIn, MemberIn, MembersIn, ArrayBreaksOff, ObjectBreaksOff, ScalarBreaksOff, IsPlaced}
+use Rattle.format_json.specs.Damage.{StringBreaksOff, ByteIsMissing, HereBreaksOff, BreaksOff, ElementsIn, MemberIn, MembersIn, ArrayBreaksOff, ObjectBreaksOff, ScalarBreaksOff, IsPlaced}
 use Rattle.format_json.specs.declared.found.Found.TheVariants.{Whole, Begun, Damaged}
-use Rattle.format_json.specs.declared.found.Next.TheVariants as next
 use Rattle.format_json_scalars.proofs.lemmas.StringLemmas.{starts-with}
-use Rattle.format_json.proofs.lemmas.GrammarLemmas.{nested-once, nested-stable, members-once, members-stable}
-use Rattle.format_json.proofs.lemmas.FoundLemmas.{HasRead, found-same, begun-as, damaged-as, missed-as, fits-both, element-covers, read-on, read-ends, read-stops, read-begun}
+use Rattle.format_json.proofs.lemmas.FoundLemmas.{found-same, begun-as, damaged-as, missed-as, fits-both}
 use Rattle.format_json.proofs.lemmas.LayerLemmas.{ArrayHere, ObjectHere, array-begun, array-damaged, object-begun, object-damaged}
-use Rattle.format_json.proofs.lemmas.NestedLemmas.{vec_items, starts-some, value-whole, value-begun, value-damaged, nested-some, members-some, brackets-begun, brackets-missed, brackets-damaged, brackets-deep, brackets-whole, name-covers, colon-covers, member-covers}
-use Rattle.format_json.proofs.lemmas.BegunLemmas.{open-same, open-as, elements-begin, elements-wait, brackets-begin, array-waits, object-waits, here-begins-scalar, here-begins-array, here-begins-object, name-waits, value-begins}
-use Rattle.format_json.proofs.lemmas.DamageLemmas.{if-both, placed-same, elements-stop, elements-end, brackets-stop, here-array, here-object, here-scalar, ahead-placed, name-stop, colon-stop, value-stop}
+use Rattle.format_json.proofs.lemmas.NestedLemmas.{value-whole, value-begun, value-damaged, nested-some, members-some, name-covers, colon-covers, member-covers}
+use Rattle.format_json.proofs.lemmas.BegunLemmas.{open-same, open-as, array-waits, object-waits, here-begins-scalar, here-begins-array, here-begins-object, name-waits, value-begins}
+use Rattle.format_json.proofs.lemmas.DamageLemmas.{if-both, placed-same, here-array, here-object, here-scalar, ahead-placed, name-stop, colon-stop, value-stop}
+use Rattle.format_json.proofs.lemmas.ElementLemmas.{element-begun, element-damaged, element-placed, element-opens, comma-read, close-read, next-begun, next-damaged, next-placed, next-opens, values-in-one-way, members-in-one-way, brackets-wait, brackets-full, brackets-read, brackets-open, brackets-wrong, full-placed, brackets-placed, brackets-opens}
 use Rattle.format_json.proofs.nested.+value.Goals as goal
 
 pub elements_at-returns-in-Begun-clause-found : goal.elements_at-returns-in-Begun-clause-found
 elements_at-returns-in-Begun-clause-found t c =
-    let b = c.args.bytes.now in
-    let p = c.args.partial in
-    let inner = Nested c.args.partial (suc c.args.depth) in
-    let at = c.loop-elements.at in
-    begun-as inner (λ u. Elements inner 93 (vec_items u)) p (drop at b) b (element-covers inner 93 p b at c.loop-elements.elements.items c.loop-elements.invariant vec_items) (found-same inner p (take (length b - at) (drop at b)) (drop at b) c.in_ok-value.field-0 Begun c.in_ok-value.ensures.found (take_rest b at) c.in-Begun.is)
+    element-begun (Nested c.args.partial (suc c.args.depth)) 93 c.args.partial c.args.bytes.now c.loop-elements.at c.loop-elements.elements.items c.loop-elements.invariant c.in_ok-value.field-0 c.in_ok-value.ensures.found c.in-Begun.is
 
 pub elements_at-returns-in-Damaged-clause-found : goal.elements_at-returns-in-Damaged-clause-found
 elements_at-returns-in-Damaged-clause-found t c =
-    let b = c.args.bytes.now in
-    let p = c.args.partial in
-    let inner = Nested c.args.partial (suc c.args.depth) in
-    let at = c.loop-elements.at in
-    let read = c.loop-elements.invariant in
-    let n = c.in-Damaged.width in
-    let found = found-same inner p (take (length b - at) (drop at b)) (drop at b) c.in_ok-value.field-0 (Damaged n) c.in_ok-value.ensures.found (take_rest b at) c.in-Damaged.is in
-    damaged-as inner (λ u. Elements inner 93 (vec_items u)) p (drop at b) b (element-covers inner 93 p b at c.loop-elements.elements.items read vec_items) n (at + n) (fits-both b at n read.within found.0) found
+    element-damaged (Nested c.args.partial (suc c.args.depth)) 93 c.args.partial c.args.bytes.now c.loop-elements.at c.loop-elements.elements.items c.loop-elements.invariant c.in_ok-value.field-0 c.in_ok-value.ensures.found c.in-Damaged.width c.in-Damaged.is
 
 pub elements_at-loop-elements-preserved : goal.elements_at-loop-elements-preserved
 elements_at-loop-elements-preserved t c =
-    let b = c.args.bytes.now in
-    let p = c.args.partial in
-    let inner = Nested c.args.partial (suc c.args.depth) in
-    let at = c.loop-elements.at in
-    let read = c.loop-elements.invariant in
-    let v = c.in-Whole.value in
-    let n = c.in-Whole.width in
-    let found = found-same inner p (take (length b - at) (drop at b)) (drop at b) c.in_ok-value.field-0 (Whole v n) c.in_ok-value.ensures.found (take_rest b at) c.in-Whole.is in
-    let m = c.in-More.width in
-    let ahead = subst (λ l. IsNext 93 p l (next.More m)) (take_rest b (at + n)) c.in-More.ensures in
-    subst (HasRead inner 93 p b (at + n + m)) (sym c.in_ok-push-in-Whole.ensures.items)
-    (read-on inner 93 p b at c.loop-elements.elements.items read (λ e. omega (arith, e)) (nested-once p (suc c.args.depth)) (nested-stable p (suc c.args.depth)) v n found.1 m ahead.1 ahead.2 (fits-both b at n read.within found.0))
+    comma-read (Nested c.args.partial (suc c.args.depth)) 93 c.args.partial c.args.bytes.now c.loop-elements.at c.loop-elements.elements.items c.loop-elements.invariant c.in_ok-value.field-0 c.in_ok-value.ensures.found c.in-Whole.value c.in-Whole.width c.in-Whole.is (values-in-one-way c.args.partial (suc c.args.depth)) c.in-More.width _ c.in-More.ensures c.in_ok-push-in-Whole.ensures.items
 
 pub elements_at-returns-in-Closed-clause-found : goal.elements_at-returns-in-Closed-clause-found
 elements_at-returns-in-Closed-clause-found t c =
-    let b = c.args.bytes.now in
-    let p = c.args.partial in
-    let inner = Nested c.args.partial (suc c.args.depth) in
-    let at = c.loop-elements.at in
-    let read = c.loop-elements.invariant in
-    let v = c.in-Whole.value in
-    let n = c.in-Whole.width in
-    let found = found-same inner p (take (length b - at) (drop at b)) (drop at b) c.in_ok-value.field-0 (Whole v n) c.in_ok-value.ensures.found (take_rest b at) c.in-Whole.is in
-    let m = c.in-Closed.width in
-    let ahead = subst (λ l. IsNext 93 p l (next.Closed m)) (take_rest b (at + n)) c.in-Closed.ensures in
-    (fits-both b (at + n) m (fits-both b at n read.within found.0) ahead.0, subst (λ l. Elements inner 93 l b (drop (at + n + m) b)) (sym c.in_ok-push-in-Whole.ensures.items) (read-ends inner 93 p b at c.loop-elements.elements.items read (λ e. omega (arith, e)) (nested-once p (suc c.args.depth)) (nested-stable p (suc c.args.depth)) v n found.1 m ahead.0 ahead.1))
+    close-read (Nested c.args.partial (suc c.args.depth)) 93 c.args.partial c.args.bytes.now c.loop-elements.at c.loop-elements.elements.items c.loop-elements.invariant c.in_ok-value.field-0 c.in_ok-value.ensures.found c.in-Whole.value c.in-Whole.width c.in-Whole.is (values-in-one-way c.args.partial (suc c.args.depth)) c.in-Closed.width _ c.in-Closed.ensures c.in_ok-push-in-Whole.ensures.items
 
-pub elements_at-returns-in-Begun-next_at-clause-found : goal.elements_at-returns-in-Begun-next_at-clause-found
+pub elements_at-returns-in-Begun-next_at-clause-found :
+    goal.elements_at-returns-in-Begun-next_at-clause-found
 elements_at-returns-in-Begun-next_at-clause-found t c =
-    let b = c.args.bytes.now in
-    let p = c.args.partial in
-    let inner = Nested c.args.partial (suc c.args.depth) in
-    let at = c.loop-elements.at in
-    let v = c.in-Whole.value in
-    let n = c.in-Whole.width in
-    let found = found-same inner p (take (length b - at) (drop at b)) (drop at b) c.in_ok-value.field-0 (Whole v n) c.in_ok-value.ensures.found (take_rest b at) c.in-Whole.is in
-    let ahead = subst (λ l. IsNext 93 p l next.Begun) (take_rest b (at + n)) c.in-Begun-next_at.ensures in
-    (ahead.0, read-begun inner 93 p b at c.loop-elements.elements.items c.loop-elements.invariant (λ e. omega (arith, e)) (nested-once p (suc c.args.depth)) (nested-stable p (suc c.args.depth)) v n found.1 vec_items ahead.1)
+    next-begun (Nested c.args.partial (suc c.args.depth)) 93 c.args.partial c.args.bytes.now c.loop-elements.at c.loop-elements.elements.items c.loop-elements.invariant c.in_ok-value.field-0 c.in_ok-value.ensures.found c.in-Whole.value c.in-Whole.width c.in-Whole.is (values-in-one-way c.args.partial (suc c.args.depth)) c.in-Begun-next_at.ensures
 
-pub elements_at-returns-in-Damaged-next_at-clause-found : goal.elements_at-returns-in-Damaged-next_at-clause-found
+pub elements_at-returns-in-Damaged-next_at-clause-found :
+    goal.elements_at-returns-in-Damaged-next_at-clause-found
 elements_at-returns-in-Damaged-next_at-clause-found t c =
-    let b = c.args.bytes.now in
-    let p = c.args.partial in
-    let inner = Nested c.args.partial (suc c.args.depth) in
-    let at = c.loop-elements.at in
-    let read = c.loop-elements.invariant in
-    let v = c.in-Whole.value in
-    let n = c.in-Whole.width in
-    let found = found-same inner p (take (length b - at) (drop at b)) (drop at b) c.in_ok-value.field-0 (Whole v n) c.in_ok-value.ensures.found (take_rest b at) c.in-Whole.is in
-    let m = c.in-Damaged-next_at.width in
-    let ahead = subst (λ l. IsNext 93 p l (next.Damaged m)) (take_rest b (at + n)) c.in-Damaged-next_at.ensures in
-    (fits-both b (at + n) m (fits-both b at n read.within found.0) ahead.0, read-stops inner 93 p b at c.loop-elements.elements.items read (λ e. omega (arith, e)) (nested-once p (suc c.args.depth)) (nested-stable p (suc c.args.depth)) v n found.1 vec_items ahead.1)
+    next-damaged (Nested c.args.partial (suc c.args.depth)) 93 c.args.partial c.args.bytes.now c.loop-elements.at c.loop-elements.elements.items c.loop-elements.invariant c.in_ok-value.field-0 c.in_ok-value.ensures.found c.in-Whole.value c.in-Whole.width c.in-Whole.is (values-in-one-way c.args.partial (suc c.args.depth)) c.in-Damaged-next_at.width c.in-Damaged-next_at.ensures
 
 pub members_at-returns-in-Begun-clause-found : goal.members_at-returns-in-Begun-clause-found
 members_at-returns-in-Begun-clause-found t c =
-    let b = c.args.bytes.now in
-    let p = c.args.partial in
-    let inner = MemberAhead (Nested c.args.partial (suc c.args.depth)) in
-    let at = c.loop-members.at in
-    begun-as inner (λ u. Elements inner 125 (vec_items u)) p (drop at b) b (element-covers inner 125 p b at c.loop-members.members.items c.loop-members.invariant vec_items) (found-same inner p (take (length b - at) (drop at b)) (drop at b) c.in_ok-member.field-0 Begun c.in_ok-member.ensures.found (take_rest b at) c.in-Begun.is)
+    element-begun (MemberAhead (Nested c.args.partial (suc c.args.depth))) 125 c.args.partial c.args.bytes.now c.loop-members.at c.loop-members.members.items c.loop-members.invariant c.in_ok-member.field-0 c.in_ok-member.ensures.found c.in-Begun.is
 
 pub members_at-returns-in-Damaged-clause-found : goal.members_at-returns-in-Damaged-clause-found
 members_at-returns-in-Damaged-clause-found t c =
-    let b = c.args.bytes.now in
-    let p = c.args.partial in
-    let inner = MemberAhead (Nested c.args.partial (suc c.args.depth)) in
-    let at = c.loop-members.at in
-    let read = c.loop-members.invariant in
-    let n = c.in-Damaged.width in
-    let found = found-same inner p (take (length b - at) (drop at b)) (drop at b) c.in_ok-member.field-0 (Damaged n) c.in_ok-member.ensures.found (take_rest b at) c.in-Damaged.is in
-    damaged-as inner (λ u. Elements inner 125 (vec_items u)) p (drop at b) b (element-covers inner 125 p b at c.loop-members.members.items read vec_items) n (at + n) (fits-both b at n read.within found.0) found
+    element-damaged (MemberAhead (Nested c.args.partial (suc c.args.depth))) 125 c.args.partial c.args.bytes.now c.loop-members.at c.loop-members.members.items c.loop-members.invariant c.in_ok-member.field-0 c.in_ok-member.ensures.found c.in-Damaged.width c.in-Damaged.is
 
 pub members_at-loop-members-preserved : goal.members_at-loop-members-preserved
 members_at-loop-members-preserved t c =
-    let b = c.args.bytes.now in
-    let p = c.args.partial in
-    let inner = MemberAhead (Nested c.args.partial (suc c.args.depth)) in
-    let at = c.loop-members.at in
-    let read = c.loop-members.invariant in
-    let v = c.in-Whole.member in
-    let n = c.in-Whole.width in
-    let found = found-same inner p (take (length b - at) (drop at b)) (drop at b) c.in_ok-member.field-0 (Whole v n) c.in_ok-member.ensures.found (take_rest b at) c.in-Whole.is in
-    let m = c.in-More.width in
-    let ahead = subst (λ l. IsNext 125 p l (next.More m)) (take_rest b (at + n)) c.in-More.ensures in
-    subst (HasRead inner 125 p b (at + n + m)) (sym c.in_ok-push-in-Whole.ensures.items)
-    (read-on inner 125 p b at c.loop-members.members.items read (λ e. omega (arith, e)) (members-once p (suc c.args.depth)) (members-stable p (suc c.args.depth)) v n found.1 m ahead.1 ahead.2 (fits-both b at n read.within found.0))
+    comma-read (MemberAhead (Nested c.args.partial (suc c.args.depth))) 125 c.args.partial c.args.bytes.now c.loop-members.at c.loop-members.members.items c.loop-members.invariant c.in_ok-member.field-0 c.in_ok-member.ensures.found c.in-Whole.member c.in-Whole.width c.in-Whole.is (members-in-one-way c.args.partial (suc c.args.depth)) c.in-More.width _ c.in-More.ensures c.in_ok-push-in-Whole.ensures.items
 
 pub members_at-returns-in-Closed-clause-found : goal.members_at-returns-in-Closed-clause-found
 members_at-returns-in-Closed-clause-found t c =
-    let b = c.args.bytes.now in
-    let p = c.args.partial in
-    let inner = MemberAhead (Nested c.args.partial (suc c.args.depth)) in
-    let at = c.loop-members.at in
-    let read = c.loop-members.invariant in
-    let v = c.in-Whole.member in
-    let n = c.in-Whole.width in
-    let found = found-same inner p (take (length b - at) (drop at b)) (drop at b) c.in_ok-member.field-0 (Whole v n) c.in_ok-member.ensures.found (take_rest b at) c.in-Whole.is in
-    let m = c.in-Closed.width in
-    let ahead = subst (λ l. IsNext 125 p l (next.Closed m)) (take_rest b (at + n)) c.in-Closed.ensures in
-    (fits-both b (at + n) m (fits-both b at n read.within found.0) ahead.0, subst (λ l. Elements inner 125 l b (drop (at + n + m) b)) (sym c.in_ok-push-in-Whole.ensures.items) (read-ends inner 125 p b at c.loop-members.members.items read (λ e. omega (arith, e)) (members-once p (suc c.args.depth)) (members-stable p (suc c.args.depth)) v n found.1 m ahead.0 ahead.1))
+    close-read (MemberAhead (Nested c.args.partial (suc c.args.depth))) 125 c.args.partial c.args.bytes.now c.loop-members.at c.loop-members.members.items c.loop-members.invariant c.in_ok-member.field-0 c.in_ok-member.ensures.found c.in-Whole.member c.in-Whole.width c.in-Whole.is (members-in-one-way c.args.partial (suc c.args.depth)) c.in-Closed.width _ c.in-Closed.ensures c.in_ok-push-in-Whole.ensures.items
 
-pub members_at-returns-in-Begun-next_at-clause-found : goal.members_at-returns-in-Begun-next_at-clause-found
+pub members_at-returns-in-Begun-next_at-clause-found :
+    goal.members_at-returns-in-Begun-next_at-clause-found
 members_at-returns-in-Begun-next_at-clause-found t c =
-    let b = c.args.bytes.now in
-    let p = c.args.partial in
-    let inner = MemberAhead (Nested c.args.partial (suc c.args.depth)) in
-    let at = c.loop-members.at in
-    let v = c.in-Whole.member in
-    let n = c.in-Whole.width in
-    let found = found-same inner p (take (length b - at) (drop at b)) (drop at b) c.in_ok-member.field-0 (Whole v n) c.in_ok-member.ensures.found (take_rest b at) c.in-Whole.is in
-    let ahead = subst (λ l. IsNext 125 p l next.Begun) (take_rest b (at + n)) c.in-Begun-next_at.ensures in
-    (ahead.0, read-begun inner 125 p b at c.loop-members.members.items c.loop-members.invariant (λ e. omega (arith, e)) (members-once p (suc c.args.depth)) (members-stable p (suc c.args.depth)) v n found.1 vec_items ahead.1)
+    next-begun (MemberAhead (Nested c.args.partial (suc c.args.depth))) 125 c.args.partial c.args.bytes.now c.loop-members.at c.loop-members.members.items c.loop-members.invariant c.in_ok-member.field-0 c.in_ok-member.ensures.found c.in-Whole.member c.in-Whole.width c.in-Whole.is (members-in-one-way c.args.partial (suc c.args.depth)) c.in-Begun-next_at.ensures
 
-pub members_at-returns-in-Damaged-next_at-clause-found : goal.members_at-returns-in-Damaged-next_at-clause-found
+pub members_at-returns-in-Damaged-next_at-clause-found :
+    goal.members_at-returns-in-Damaged-next_at-clause-found
 members_at-returns-in-Damaged-next_at-clause-found t c =
-    let b = c.args.bytes.now in
-    let p = c.args.partial in
-    let inner = MemberAhead (Nested c.args.partial (suc c.args.depth)) in
-    let at = c.loop-members.at in
-    let read = c.loop-members.invariant in
-    let v = c.in-Whole.member in
-    let n = c.in-Whole.width in
-    let found = found-same inner p (take (length b - at) (drop at b)) (drop at b) c.in_ok-member.field-0 (Whole v n) c.in_ok-member.ensures.found (take_rest b at) c.in-Whole.is in
-    let m = c.in-Damaged-next_at.width in
-    let ahead = subst (λ l. IsNext 125 p l (next.Damaged m)) (take_rest b (at + n)) c.in-Damaged-next_at.ensures in
-    (fits-both b (at + n) m (fits-both b at n read.within found.0) ahead.0, read-stops inner 125 p b at c.loop-members.members.items read (λ e. omega (arith, e)) (members-once p (suc c.args.depth)) (members-stable p (suc c.args.depth)) v n found.1 vec_items ahead.1)
+    next-damaged (MemberAhead (Nested c.args.partial (suc c.args.depth))) 125 c.args.partial c.args.bytes.now c.loop-members.at c.loop-members.members.items c.loop-members.invariant c.in_ok-member.field-0 c.in_ok-member.ensures.found c.in-Whole.member c.in-Whole.width c.in-Whole.is (members-in-one-way c.args.partial (suc c.args.depth)) c.in-Damaged-next_at.width c.in-Damaged-next_at.ensures
 
 pub array_at-returns-in-Begun-clause-found : goal.array_at-returns-in-Begun-clause-found
 array_at-returns-in-Begun-clause-found t c =
-    let b = c.args.bytes.now in
-    let p = c.args.partial in
-    brackets-begun (Nested c.args.partial c.args.depth) 93 91 vec_items p b c.requires (nested-some p c.args.depth) (subst (λ l. IsByte 93 p l Begun) (take_rest b 1) c.in-Begun.ensures.found)
+    brackets-wait (Nested c.args.partial) 93 91 c.args.partial c.args.bytes.now c.requires c.args.depth (nested-some c.args.partial c.args.depth) c.in-Begun.ensures.found
 
 pub object_at-returns-in-Begun-clause-found : goal.object_at-returns-in-Begun-clause-found
 object_at-returns-in-Begun-clause-found t c =
-    let b = c.args.bytes.now in
-    let p = c.args.partial in
-    brackets-begun (MemberAhead (Nested c.args.partial c.args.depth)) 125 123 vec_items p b c.requires (members-some p c.args.depth) (subst (λ l. IsByte 125 p l Begun) (take_rest b 1) c.in-Begun.ensures.found)
+    brackets-wait (λ d. MemberAhead (Nested c.args.partial d)) 125 123 c.args.partial c.args.bytes.now c.requires c.args.depth (members-some c.args.partial c.args.depth) c.in-Begun.ensures.found
 
 pub member_after-returns-in-Begun-clause-found : goal.member_after-returns-in-Begun-clause-found
 member_after-returns-in-Begun-clause-found t c =
@@ -297,177 +196,73 @@ value_here-returns-in-Damaged-2-clause-found t c =
     let some : 0 < length b = grind (arith, nat_tests, c.is_empty.ensures, c.if-is_empty.false) in
     object-damaged p c.args.depth b (starts-with b 123 some c.if-first-eq123.true) c.in-Damaged-2.width (found-same (ObjectHere p c.args.depth b) p b b c.in_ok-members.field-0 (Damaged c.in-Damaged-2.width) c.in_ok-members.ensures.found refl c.in-Damaged-2.is)
 
-pub array_at-returns-then-depth-eq0-clause-found :
-    goal.array_at-returns-then-depth-eq0-clause-found
+pub array_at-returns-then-depth-eq0-clause-found : goal.array_at-returns-then-depth-eq0-clause-found
 array_at-returns-then-depth-eq0-clause-found t c =
-    let b = c.args.bytes.now in
-    let p = c.args.partial in
-    let n = c.in-Damaged.width in
-    let byte = subst (λ l. IsByte 93 p l (Damaged n)) (take_rest b 1) c.in-Damaged.ensures.found in
-    let deep : 0 ≡ c.args.depth = sym c.if-depth-eq0.true in
-    subst (λ d. IsFound (λ v. Bracketed (Nested p d) 93 91 v.items) p b (Damaged (1 + n))) deep
-    (brackets-deep (Nested p 0) 93 91 vec_items p b c.requires byte.1 (λ v c r h. h) n (fits-both b 1 n (starts-some 91 b c.requires) byte.0) byte.0)
+    brackets-full (Nested c.args.partial) 93 91 c.args.partial c.args.bytes.now c.requires c.args.depth (sym c.if-depth-eq0.true) (λ v c r h. h) c.in-Damaged.width c.in-Damaged.ensures.found
 
-pub array_at-returns-then-depth-eq0-clause-place :
-    goal.array_at-returns-then-depth-eq0-clause-place
+pub array_at-returns-then-depth-eq0-clause-place : goal.array_at-returns-then-depth-eq0-clause-place
 array_at-returns-then-depth-eq0-clause-place t c =
-    let b = c.args.bytes.now in
-    let n = c.in-Damaged.width in
-    let missing = subst (λ l. ByteIsMissing 93 l (drop n l)) (take_rest b 1) c.in-Damaged.ensures.place in
-    let deep : 0 ≡ c.args.depth = sym c.if-depth-eq0.true in
-    subst (λ d. ArrayBreaksOff c.args.partial d b (drop (1 + n) b)) deep (brackets-stop IsTooDeep 93 91 b n n c.requires missing missing.0)
+    full-placed c.args.bytes.now 91 c.requires c.args.depth (ArrayBreaksOff c.args.partial) 93 c.in-Damaged.width (λ r h. h) (sym c.if-depth-eq0.true) c.in-Damaged.ensures.place
 
 pub array_at-returns-in-Whole-2-clause-found : goal.array_at-returns-in-Whole-2-clause-found
 array_at-returns-in-Whole-2-clause-found t c =
-    let b = c.args.bytes.now in
-    let p = c.args.partial in
-    let inner = (Nested p (suc (c.args.depth - 1))) in
-    let less : suc (c.args.depth - 1) ≡ c.args.depth = omega (arith, c.if-depth-eq0.false) in
-    let v = c.in-Whole-2.elements in
-    let n = c.in-Whole-2.width in
-    let found = found-same (λ u. Elements inner 93 (vec_items u)) p (take (length b - 1) (drop 1 b)) (drop 1 b) c.in_ok-elements-in-Damaged.field-0 (Whole v n) c.in_ok-elements-in-Damaged.ensures.found (take_rest b 1) c.in-Whole-2.is in
-    subst (λ d. IsFound (λ v. Bracketed (Nested p d) 93 91 v.items) p b (Whole v (1 + n))) less
-    (brackets-whole inner 93 91 vec_items p b c.requires v n (fits-both b 1 n (starts-some 91 b c.requires) found.0) found)
+    brackets-read (Nested c.args.partial) 93 91 c.args.partial c.args.bytes.now c.requires c.args.depth (omega (arith, c.if-depth-eq0.false)) c.in_ok-elements-in-Damaged.field-0 c.in_ok-elements-in-Damaged.ensures.found c.in-Whole-2.elements c.in-Whole-2.width c.in-Whole-2.is
 
 pub array_at-returns-in-Begun-2-clause-found : goal.array_at-returns-in-Begun-2-clause-found
 array_at-returns-in-Begun-2-clause-found t c =
-    let b = c.args.bytes.now in
-    let p = c.args.partial in
-    let inner = (Nested p (suc (c.args.depth - 1))) in
-    let less : suc (c.args.depth - 1) ≡ c.args.depth = omega (arith, c.if-depth-eq0.false) in
-    subst (λ d. IsFound (λ v. Bracketed (Nested p d) 93 91 v.items) p b Begun) less
-    (brackets-missed inner 93 91 vec_items p b c.requires (subst (λ l. IsByte 93 p l (Damaged c.in-Damaged.width)) (take_rest b 1) c.in-Damaged.ensures.found).1 (found-same (λ u. Elements inner 93 (vec_items u)) p (take (length b - 1) (drop 1 b)) (drop 1 b) c.in_ok-elements-in-Damaged.field-0 Begun c.in_ok-elements-in-Damaged.ensures.found (take_rest b 1) c.in-Begun-2.is))
+    brackets-open (Nested c.args.partial) 93 91 c.args.partial c.args.bytes.now c.requires c.args.depth (omega (arith, c.if-depth-eq0.false)) c.in_ok-elements-in-Damaged.field-0 c.in_ok-elements-in-Damaged.ensures.found c.in-Damaged.width c.in-Damaged.ensures.found c.in-Begun-2.is
 
 pub array_at-returns-in-Damaged-2-clause-found : goal.array_at-returns-in-Damaged-2-clause-found
 array_at-returns-in-Damaged-2-clause-found t c =
-    let b = c.args.bytes.now in
-    let p = c.args.partial in
-    let inner = (Nested p (suc (c.args.depth - 1))) in
-    let less : suc (c.args.depth - 1) ≡ c.args.depth = omega (arith, c.if-depth-eq0.false) in
-    let n = c.in-Damaged-2.width in
-    let found = found-same (λ u. Elements inner 93 (vec_items u)) p (take (length b - 1) (drop 1 b)) (drop 1 b) c.in_ok-elements-in-Damaged.field-0 (Damaged n) c.in_ok-elements-in-Damaged.ensures.found (take_rest b 1) c.in-Damaged-2.is in
-    subst (λ d. IsFound (λ v. Bracketed (Nested p d) 93 91 v.items) p b (Damaged (1 + n))) less
-    (brackets-damaged inner 93 91 vec_items p b c.requires (subst (λ l. IsByte 93 p l (Damaged c.in-Damaged.width)) (take_rest b 1) c.in-Damaged.ensures.found).1 n (fits-both b 1 n (starts-some 91 b c.requires) found.0) found)
+    brackets-wrong (Nested c.args.partial) 93 91 c.args.partial c.args.bytes.now c.requires c.args.depth (omega (arith, c.if-depth-eq0.false)) c.in_ok-elements-in-Damaged.field-0 c.in_ok-elements-in-Damaged.ensures.found c.in-Damaged.width c.in-Damaged.ensures.found c.in-Damaged-2.width c.in-Damaged-2.is
 
 pub array_at-returns-in-Damaged-2-clause-place : goal.array_at-returns-in-Damaged-2-clause-place
 array_at-returns-in-Damaged-2-clause-place t c =
-    let b = c.args.bytes.now in
-    let p = c.args.partial in
-    let less : suc (c.args.depth - 1) ≡ c.args.depth = omega (arith, c.if-depth-eq0.false) in
-    let k = c.in-Damaged.width in
-    let n = c.in-Damaged-2.width in
-    let inside = ElementsIn p (c.args.depth - 1) in
-    let place = placed-same inside (take (length b - 1) (drop 1 b)) (drop 1 b) c.in_ok-elements-in-Damaged.field-0 (Damaged n) c.in_ok-elements-in-Damaged.ensures.place (take_rest b 1) c.in-Damaged-2.is in
-    subst (λ d. ArrayBreaksOff p d b (drop (1 + n) b)) less (brackets-stop inside 93 91 b k n c.requires (subst (λ l. ByteIsMissing 93 l (drop k l)) (take_rest b 1) c.in-Damaged.ensures.place) place)
+    brackets-placed c.args.bytes.now 91 c.requires c.args.depth (ArrayBreaksOff c.args.partial) (ElementsIn c.args.partial (c.args.depth - 1)) 93 c.in-Damaged.width (λ r h. h) (omega (arith, c.if-depth-eq0.false)) c.in-Damaged.ensures.place c.in_ok-elements-in-Damaged.field-0 c.in-Damaged-2.width c.in_ok-elements-in-Damaged.ensures.place c.in-Damaged-2.is
 
 pub object_at-returns-then-depth-eq0-clause-found :
     goal.object_at-returns-then-depth-eq0-clause-found
 object_at-returns-then-depth-eq0-clause-found t c =
-    let b = c.args.bytes.now in
-    let p = c.args.partial in
-    let n = c.in-Damaged.width in
-    let byte = subst (λ l. IsByte 125 p l (Damaged n)) (take_rest b 1) c.in-Damaged.ensures.found in
-    let deep : 0 ≡ c.args.depth = sym c.if-depth-eq0.true in
-    subst (λ d. IsFound (λ v. Bracketed (MemberAhead (Nested p d)) 125 123 v.items) p b (Damaged (1 + n))) deep
-    (brackets-deep (MemberAhead (Nested p 0)) 125 123 vec_items p b c.requires byte.1 (λ v c r h. h.1.1.2) n (fits-both b 1 n (starts-some 123 b c.requires) byte.0) byte.0)
+    brackets-full (λ d. MemberAhead (Nested c.args.partial d)) 125 123 c.args.partial c.args.bytes.now c.requires c.args.depth (sym c.if-depth-eq0.true) (λ v c r h. h.1.1.2) c.in-Damaged.width c.in-Damaged.ensures.found
 
 pub object_at-returns-then-depth-eq0-clause-place :
     goal.object_at-returns-then-depth-eq0-clause-place
 object_at-returns-then-depth-eq0-clause-place t c =
-    let b = c.args.bytes.now in
-    let n = c.in-Damaged.width in
-    let missing = subst (λ l. ByteIsMissing 125 l (drop n l)) (take_rest b 1) c.in-Damaged.ensures.place in
-    let deep : 0 ≡ c.args.depth = sym c.if-depth-eq0.true in
-    subst (λ d. ObjectBreaksOff c.args.partial d b (drop (1 + n) b)) deep (brackets-stop IsTooDeep 125 123 b n n c.requires missing missing.0)
+    full-placed c.args.bytes.now 123 c.requires c.args.depth (ObjectBreaksOff c.args.partial) 125 c.in-Damaged.width (λ r h. h) (sym c.if-depth-eq0.true) c.in-Damaged.ensures.place
 
 pub object_at-returns-in-Whole-2-clause-found : goal.object_at-returns-in-Whole-2-clause-found
 object_at-returns-in-Whole-2-clause-found t c =
-    let b = c.args.bytes.now in
-    let p = c.args.partial in
-    let inner = (MemberAhead (Nested p (suc (c.args.depth - 1)))) in
-    let less : suc (c.args.depth - 1) ≡ c.args.depth = omega (arith, c.if-depth-eq0.false) in
-    let v = c.in-Whole-2.members in
-    let n = c.in-Whole-2.width in
-    let found = found-same (λ u. Elements inner 125 (vec_items u)) p (take (length b - 1) (drop 1 b)) (drop 1 b) c.in_ok-members-in-Damaged.field-0 (Whole v n) c.in_ok-members-in-Damaged.ensures.found (take_rest b 1) c.in-Whole-2.is in
-    subst (λ d. IsFound (λ v. Bracketed (MemberAhead (Nested p d)) 125 123 v.items) p b (Whole v (1 + n))) less
-    (brackets-whole inner 125 123 vec_items p b c.requires v n (fits-both b 1 n (starts-some 123 b c.requires) found.0) found)
+    brackets-read (λ d. MemberAhead (Nested c.args.partial d)) 125 123 c.args.partial c.args.bytes.now c.requires c.args.depth (omega (arith, c.if-depth-eq0.false)) c.in_ok-members-in-Damaged.field-0 c.in_ok-members-in-Damaged.ensures.found c.in-Whole-2.members c.in-Whole-2.width c.in-Whole-2.is
 
 pub object_at-returns-in-Begun-2-clause-found : goal.object_at-returns-in-Begun-2-clause-found
 object_at-returns-in-Begun-2-clause-found t c =
-    let b = c.args.bytes.now in
-    let p = c.args.partial in
-    let inner = (MemberAhead (Nested p (suc (c.args.depth - 1)))) in
-    let less : suc (c.args.depth - 1) ≡ c.args.depth = omega (arith, c.if-depth-eq0.false) in
-    subst (λ d. IsFound (λ v. Bracketed (MemberAhead (Nested p d)) 125 123 v.items) p b Begun) less
-    (brackets-missed inner 125 123 vec_items p b c.requires (subst (λ l. IsByte 125 p l (Damaged c.in-Damaged.width)) (take_rest b 1) c.in-Damaged.ensures.found).1 (found-same (λ u. Elements inner 125 (vec_items u)) p (take (length b - 1) (drop 1 b)) (drop 1 b) c.in_ok-members-in-Damaged.field-0 Begun c.in_ok-members-in-Damaged.ensures.found (take_rest b 1) c.in-Begun-2.is))
+    brackets-open (λ d. MemberAhead (Nested c.args.partial d)) 125 123 c.args.partial c.args.bytes.now c.requires c.args.depth (omega (arith, c.if-depth-eq0.false)) c.in_ok-members-in-Damaged.field-0 c.in_ok-members-in-Damaged.ensures.found c.in-Damaged.width c.in-Damaged.ensures.found c.in-Begun-2.is
 
 pub object_at-returns-in-Damaged-2-clause-found : goal.object_at-returns-in-Damaged-2-clause-found
 object_at-returns-in-Damaged-2-clause-found t c =
-    let b = c.args.bytes.now in
-    let p = c.args.partial in
-    let inner = (MemberAhead (Nested p (suc (c.args.depth - 1)))) in
-    let less : suc (c.args.depth - 1) ≡ c.args.depth = omega (arith, c.if-depth-eq0.false) in
-    let n = c.in-Damaged-2.width in
-    let found = found-same (λ u. Elements inner 125 (vec_items u)) p (take (length b - 1) (drop 1 b)) (drop 1 b) c.in_ok-members-in-Damaged.field-0 (Damaged n) c.in_ok-members-in-Damaged.ensures.found (take_rest b 1) c.in-Damaged-2.is in
-    subst (λ d. IsFound (λ v. Bracketed (MemberAhead (Nested p d)) 125 123 v.items) p b (Damaged (1 + n))) less
-    (brackets-damaged inner 125 123 vec_items p b c.requires (subst (λ l. IsByte 125 p l (Damaged c.in-Damaged.width)) (take_rest b 1) c.in-Damaged.ensures.found).1 n (fits-both b 1 n (starts-some 123 b c.requires) found.0) found)
+    brackets-wrong (λ d. MemberAhead (Nested c.args.partial d)) 125 123 c.args.partial c.args.bytes.now c.requires c.args.depth (omega (arith, c.if-depth-eq0.false)) c.in_ok-members-in-Damaged.field-0 c.in_ok-members-in-Damaged.ensures.found c.in-Damaged.width c.in-Damaged.ensures.found c.in-Damaged-2.width c.in-Damaged-2.is
 
 pub object_at-returns-in-Damaged-2-clause-place : goal.object_at-returns-in-Damaged-2-clause-place
 object_at-returns-in-Damaged-2-clause-place t c =
-    let b = c.args.bytes.now in
-    let p = c.args.partial in
-    let less : suc (c.args.depth - 1) ≡ c.args.depth = omega (arith, c.if-depth-eq0.false) in
-    let k = c.in-Damaged.width in
-    let n = c.in-Damaged-2.width in
-    let inside = MembersIn p (c.args.depth - 1) in
-    let place = placed-same inside (take (length b - 1) (drop 1 b)) (drop 1 b) c.in_ok-members-in-Damaged.field-0 (Damaged n) c.in_ok-members-in-Damaged.ensures.place (take_rest b 1) c.in-Damaged-2.is in
-    subst (λ d. ObjectBreaksOff p d b (drop (1 + n) b)) less (brackets-stop inside 125 123 b k n c.requires (subst (λ l. ByteIsMissing 125 l (drop k l)) (take_rest b 1) c.in-Damaged.ensures.place) place)
+    brackets-placed c.args.bytes.now 123 c.requires c.args.depth (ObjectBreaksOff c.args.partial) (MembersIn c.args.partial (c.args.depth - 1)) 125 c.in-Damaged.width (λ r h. h) (omega (arith, c.if-depth-eq0.false)) c.in-Damaged.ensures.place c.in_ok-members-in-Damaged.field-0 c.in-Damaged-2.width c.in_ok-members-in-Damaged.ensures.place c.in-Damaged-2.is
 
 pub elements_at-returns-in-Damaged-clause-place : goal.elements_at-returns-in-Damaged-clause-place
 elements_at-returns-in-Damaged-clause-place t c =
-    let b = c.args.bytes.now in
-    let p = c.args.partial in
-    let breaks = BreaksOff p c.args.depth in
-    let at = c.loop-elements.at in
-    let n = c.in-Damaged.width in
-    let place = placed-same breaks (take (length b - at) (drop at b)) (drop at b) c.in_ok-value.field-0 (Damaged n) c.in_ok-value.ensures.place (take_rest b at) c.in-Damaged.is in
-    elements-stop (Nested c.args.partial (suc c.args.depth)) breaks 93 p b at c.loop-elements.elements.items c.loop-elements.invariant.chain n place
+    element-placed (Nested c.args.partial (suc c.args.depth)) 93 c.args.partial c.args.bytes.now c.loop-elements.at c.loop-elements.elements.items c.loop-elements.invariant c.in_ok-value.field-0 (BreaksOff c.args.partial c.args.depth) c.in-Damaged.width c.in_ok-value.ensures.place c.in-Damaged.is
 
 pub elements_at-returns-in-Damaged-next_at-clause-place :
     goal.elements_at-returns-in-Damaged-next_at-clause-place
 elements_at-returns-in-Damaged-next_at-clause-place t c =
-    let b = c.args.bytes.now in
-    let p = c.args.partial in
-    let inner = Nested c.args.partial (suc c.args.depth) in
-    let at = c.loop-elements.at in
-    let v = c.in-Whole.value in
-    let n = c.in-Whole.width in
-    let found = found-same inner p (take (length b - at) (drop at b)) (drop at b) c.in_ok-value.field-0 (Whole v n) c.in_ok-value.ensures.found (take_rest b at) c.in-Whole.is in
-    let m = c.in-Damaged-next_at.width in
-    elements-end inner (BreaksOff p c.args.depth) 93 p b at c.loop-elements.elements.items c.loop-elements.invariant.chain v n m found.1 (subst (λ l. IsNext 93 p l (next.Damaged m)) (take_rest b (at + n)) c.in-Damaged-next_at.ensures)
+    next-placed (Nested c.args.partial (suc c.args.depth)) 93 c.args.partial c.args.bytes.now c.loop-elements.at c.loop-elements.elements.items c.loop-elements.invariant c.in_ok-value.field-0 c.in_ok-value.ensures.found c.in-Whole.value c.in-Whole.width c.in-Whole.is (BreaksOff c.args.partial c.args.depth) c.in-Damaged-next_at.width c.in-Damaged-next_at.ensures
 
 pub members_at-returns-in-Damaged-clause-place : goal.members_at-returns-in-Damaged-clause-place
 members_at-returns-in-Damaged-clause-place t c =
-    let b = c.args.bytes.now in
-    let p = c.args.partial in
-    let breaks = MemberIn p c.args.depth in
-    let at = c.loop-members.at in
-    let n = c.in-Damaged.width in
-    let place = placed-same breaks (take (length b - at) (drop at b)) (drop at b) c.in_ok-member.field-0 (Damaged n) c.in_ok-member.ensures.place (take_rest b at) c.in-Damaged.is in
-    elements-stop (MemberAhead (Nested c.args.partial (suc c.args.depth))) breaks 125 p b at c.loop-members.members.items c.loop-members.invariant.chain n place
+    element-placed (MemberAhead (Nested c.args.partial (suc c.args.depth))) 125 c.args.partial c.args.bytes.now c.loop-members.at c.loop-members.members.items c.loop-members.invariant c.in_ok-member.field-0 (MemberIn c.args.partial c.args.depth) c.in-Damaged.width c.in_ok-member.ensures.place c.in-Damaged.is
 
 pub members_at-returns-in-Damaged-next_at-clause-place :
     goal.members_at-returns-in-Damaged-next_at-clause-place
 members_at-returns-in-Damaged-next_at-clause-place t c =
-    let b = c.args.bytes.now in
-    let p = c.args.partial in
-    let inner = MemberAhead (Nested c.args.partial (suc c.args.depth)) in
-    let at = c.loop-members.at in
-    let v = c.in-Whole.member in
-    let n = c.in-Whole.width in
-    let found = found-same inner p (take (length b - at) (drop at b)) (drop at b) c.in_ok-member.field-0 (Whole v n) c.in_ok-member.ensures.found (take_rest b at) c.in-Whole.is in
-    let m = c.in-Damaged-next_at.width in
-    elements-end inner (MemberIn p c.args.depth) 125 p b at c.loop-members.members.items c.loop-members.invariant.chain v n m found.1 (subst (λ l. IsNext 125 p l (next.Damaged m)) (take_rest b (at + n)) c.in-Damaged-next_at.ensures)
+    next-placed (MemberAhead (Nested c.args.partial (suc c.args.depth))) 125 c.args.partial c.args.bytes.now c.loop-members.at c.loop-members.members.items c.loop-members.invariant c.in_ok-member.field-0 c.in_ok-member.ensures.found c.in-Whole.member c.in-Whole.width c.in-Whole.is (MemberIn c.args.partial c.args.depth) c.in-Damaged-next_at.width c.in-Damaged-next_at.ensures
 
 pub member_after-returns-in-Damaged-clause-place : goal.member_after-returns-in-Damaged-clause-place
 member_after-returns-in-Damaged-clause-place t c =
@@ -536,43 +331,21 @@ value_here-returns-in-Damaged-2-clause-place t c =
 
 pub elements_at-returns-in-Begun-clause-begun : goal.elements_at-returns-in-Begun-clause-begun
 elements_at-returns-in-Begun-clause-begun t c =
-    let b = c.args.bytes.now in
-    let begins = BeginsValue c.args.partial c.args.depth in
-    let at = c.loop-elements.at in
-    let begun = open-same begins (take (length b - at) (drop at b)) (drop at b) c.in_ok-value.field-0 Begun c.in_ok-value.ensures.begun (take_rest b at) c.in-Begun.is in
-    elements-begin (Nested c.args.partial (suc c.args.depth)) begins b at c.loop-elements.elements.items c.loop-elements.invariant.chain begun
+    element-opens (Nested c.args.partial (suc c.args.depth)) 93 c.args.partial c.args.bytes.now c.loop-elements.at c.loop-elements.elements.items c.loop-elements.invariant c.in_ok-value.field-0 (BeginsValue c.args.partial c.args.depth) c.in_ok-value.ensures.begun c.in-Begun.is
 
 pub elements_at-returns-in-Begun-next_at-clause-begun :
     goal.elements_at-returns-in-Begun-next_at-clause-begun
 elements_at-returns-in-Begun-next_at-clause-begun t c =
-    let b = c.args.bytes.now in
-    let p = c.args.partial in
-    let inner = Nested c.args.partial (suc c.args.depth) in
-    let at = c.loop-elements.at in
-    let v = c.in-Whole.value in
-    let n = c.in-Whole.width in
-    let found = found-same inner p (take (length b - at) (drop at b)) (drop at b) c.in_ok-value.field-0 (Whole v n) c.in_ok-value.ensures.found (take_rest b at) c.in-Whole.is in
-    elements-wait inner (BeginsValue p c.args.depth) b at c.loop-elements.elements.items c.loop-elements.invariant.chain v n found.1 (subst (λ l. IsNext 93 p l next.Begun) (take_rest b (at + n)) c.in-Begun-next_at.ensures).1
+    next-opens (Nested c.args.partial (suc c.args.depth)) 93 c.args.partial c.args.bytes.now c.loop-elements.at c.loop-elements.elements.items c.loop-elements.invariant c.in_ok-value.field-0 c.in_ok-value.ensures.found c.in-Whole.value c.in-Whole.width c.in-Whole.is (BeginsValue c.args.partial c.args.depth) c.in-Begun-next_at.ensures
 
 pub members_at-returns-in-Begun-clause-begun : goal.members_at-returns-in-Begun-clause-begun
 members_at-returns-in-Begun-clause-begun t c =
-    let b = c.args.bytes.now in
-    let begins = BeginsMemberIn c.args.partial c.args.depth in
-    let at = c.loop-members.at in
-    let begun = open-same begins (take (length b - at) (drop at b)) (drop at b) c.in_ok-member.field-0 Begun c.in_ok-member.ensures.begun (take_rest b at) c.in-Begun.is in
-    elements-begin (MemberAhead (Nested c.args.partial (suc c.args.depth))) begins b at c.loop-members.members.items c.loop-members.invariant.chain begun
+    element-opens (MemberAhead (Nested c.args.partial (suc c.args.depth))) 125 c.args.partial c.args.bytes.now c.loop-members.at c.loop-members.members.items c.loop-members.invariant c.in_ok-member.field-0 (BeginsMemberIn c.args.partial c.args.depth) c.in_ok-member.ensures.begun c.in-Begun.is
 
 pub members_at-returns-in-Begun-next_at-clause-begun :
     goal.members_at-returns-in-Begun-next_at-clause-begun
 members_at-returns-in-Begun-next_at-clause-begun t c =
-    let b = c.args.bytes.now in
-    let p = c.args.partial in
-    let inner = MemberAhead (Nested c.args.partial (suc c.args.depth)) in
-    let at = c.loop-members.at in
-    let v = c.in-Whole.member in
-    let n = c.in-Whole.width in
-    let found = found-same inner p (take (length b - at) (drop at b)) (drop at b) c.in_ok-member.field-0 (Whole v n) c.in_ok-member.ensures.found (take_rest b at) c.in-Whole.is in
-    elements-wait inner (BeginsMemberIn p c.args.depth) b at c.loop-members.members.items c.loop-members.invariant.chain v n found.1 (subst (λ l. IsNext 125 p l next.Begun) (take_rest b (at + n)) c.in-Begun-next_at.ensures).1
+    next-opens (MemberAhead (Nested c.args.partial (suc c.args.depth))) 125 c.args.partial c.args.bytes.now c.loop-members.at c.loop-members.members.items c.loop-members.invariant c.in_ok-member.field-0 c.in_ok-member.ensures.found c.in-Whole.member c.in-Whole.width c.in-Whole.is (BeginsMemberIn c.args.partial c.args.depth) c.in-Begun-next_at.ensures
 
 pub array_at-returns-in-Begun-clause-begun : goal.array_at-returns-in-Begun-clause-begun
 array_at-returns-in-Begun-clause-begun t c =
@@ -582,12 +355,7 @@ array_at-returns-in-Begun-clause-begun t c =
 
 pub array_at-returns-in-Begun-2-clause-begun : goal.array_at-returns-in-Begun-2-clause-begun
 array_at-returns-in-Begun-2-clause-begun t c =
-    let b = c.args.bytes.now in
-    let p = c.args.partial in
-    let less : suc (c.args.depth - 1) ≡ c.args.depth = omega (arith, c.if-depth-eq0.false) in
-    let inside = BeginsElementsIn p (c.args.depth - 1) in
-    let begun = open-same inside (take (length b - 1) (drop 1 b)) (drop 1 b) c.in_ok-elements-in-Damaged.field-0 Begun c.in_ok-elements-in-Damaged.ensures.begun (take_rest b 1) c.in-Begun-2.is in
-    subst (λ d. BeginsArray p d b) less (brackets-begin inside 91 b c.requires begun)
+    brackets-opens c.args.bytes.now 91 c.requires c.args.depth (BeginsArray c.args.partial) (BeginsElementsIn c.args.partial (c.args.depth - 1)) (λ h. h) (omega (arith, c.if-depth-eq0.false)) c.in_ok-elements-in-Damaged.field-0 c.in_ok-elements-in-Damaged.ensures.begun c.in-Begun-2.is
 
 pub object_at-returns-in-Begun-clause-begun : goal.object_at-returns-in-Begun-clause-begun
 object_at-returns-in-Begun-clause-begun t c =
@@ -597,12 +365,7 @@ object_at-returns-in-Begun-clause-begun t c =
 
 pub object_at-returns-in-Begun-2-clause-begun : goal.object_at-returns-in-Begun-2-clause-begun
 object_at-returns-in-Begun-2-clause-begun t c =
-    let b = c.args.bytes.now in
-    let p = c.args.partial in
-    let less : suc (c.args.depth - 1) ≡ c.args.depth = omega (arith, c.if-depth-eq0.false) in
-    let inside = BeginsMembersIn p (c.args.depth - 1) in
-    let begun = open-same inside (take (length b - 1) (drop 1 b)) (drop 1 b) c.in_ok-members-in-Damaged.field-0 Begun c.in_ok-members-in-Damaged.ensures.begun (take_rest b 1) c.in-Begun-2.is in
-    subst (λ d. BeginsObject p d b) less (brackets-begin inside 123 b c.requires begun)
+    brackets-opens c.args.bytes.now 123 c.requires c.args.depth (BeginsObject c.args.partial) (BeginsMembersIn c.args.partial (c.args.depth - 1)) (λ h. h) (omega (arith, c.if-depth-eq0.false)) c.in_ok-members-in-Damaged.field-0 c.in_ok-members-in-Damaged.ensures.begun c.in-Begun-2.is
 
 pub member_after-returns-in-Begun-clause-begun : goal.member_after-returns-in-Begun-clause-begun
 member_after-returns-in-Begun-clause-begun t c =
