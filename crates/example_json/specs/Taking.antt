@@ -2,7 +2,7 @@
 use Rattle.std.specs.Prelude.{◌≡◌, ℕ, false, List, ◌++◌, None, Result, Ok, Err, ⊤}
 use Rattle.winnow_reader.specs.declared.next.Next.{Next}
 use Rattle.winnow_reader.specs.declared.next.Next.TheVariants as next
-use Rattle.format_json_events.specs.EventReading.{EventState, HasGiven, KeepsLimits, IsWhole}
+use Rattle.format_json_events.specs.Reading.{EventState, HasGiven, KeepsLimits, IsWhole}
 use Rattle.format_json_events.specs.declared.event_reader.Event.{Event}
 use Rattle.format_json_events.specs.declared.event_reader.EventError.{EventError}
 use Rattle.format_json_events.specs.declared.event_reader.EventError.TheVariants as error

@@ -2,8 +2,9 @@
 use Rattle.std.specs.Prelude.{◌≡◌, ℕ, ◌-◌, false, List, [], ◌∷◌, length, map, ◌⊎◌}
 use Rattle.std.specs.declared.vec.Vec.{Vec}
 use Rattle.std.specs.declared.alloc.Global.{Global}
-use Rattle.format_csv.specs.Records.{RecordAhead}
-use Rattle.format_csv.specs.Answers.{values_of, BreaksOff, IsUnclosed}
+use Rattle.format_csv.specs.Grammar.{RecordAhead}
+use Rattle.format_csv.specs.Answers.{values_of}
+use Rattle.format_csv.specs.Damage.{BreaksOff, IsUnclosed}
 use Rattle.format_csv.specs.declared.tables.Damage.{Damage}
 
 -- the values of the fields of each record

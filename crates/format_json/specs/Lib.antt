@@ -6,17 +6,17 @@ pub use Rattle.format_json_scalars.specs.Strings
 pub use Rattle.format_json_scalars.specs.StringAnswers
 pub use Rattle.format_json_scalars.specs.Quoting
 -- Values and tokens.
-pub mod Values
+pub mod Grammar
 pub mod Founds
 pub mod Damage
 pub mod Begun
 pub mod SameValues
-pub mod ValueAnswers
+pub mod Answers
 pub mod Documents
 pub mod Tokens
 pub mod TokenAnswers
 pub mod TokenLaws
-pub mod TokenReading
+pub mod Reading
 pub mod Causes
 pub mod Writing
 pub mod Appending

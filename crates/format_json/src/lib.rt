@@ -18,13 +18,12 @@
 mod causes;
 mod documents;
 mod found;
+mod grammar;
 mod laws;
-mod nested;
+mod reading;
 mod scalars;
-mod token_laws;
 mod tokens;
 mod value;
-mod values;
 mod writing;
 
 pub use causes::Cause;
@@ -34,9 +33,9 @@ pub use documents::{Damage, read_document};
 pub use format_json_scalars::{Number, read_number, read_string, write_string};
 #[doc(hidden)]
 pub use found::blank_count;
-pub use laws::{place_law, round_trip_law};
-pub use token_laws::tokens_in_pieces_law;
-pub use tokens::{JsonToken, Token};
+pub use grammar::read_value;
+pub use laws::{place_law, round_trip_law, tokens_in_pieces_law};
+pub use reading::JsonToken;
+pub use tokens::Token;
 pub use value::Value;
-pub use values::read_value;
 pub use writing::{Unwritten, write_value};

@@ -1,4 +1,4 @@
 pub mod Turns
-pub mod EventReading
+pub mod Reading
 pub mod Stops
 pub mod ValueEvents

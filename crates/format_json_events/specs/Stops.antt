@@ -2,11 +2,11 @@
 use Rattle.std.specs.Prelude.{◌≡◌, ℕ, ◌≤◌, true, false, List, length, drop, None, ◌⊎◌, ⊤}
 use Rattle.format_lemmas.specs.Bytes.{StartsWith}
 use Rattle.format_json_scalars.specs.StringAnswers.{IsDamagedAt}
-use Rattle.format_json.specs.Values.{after_blanks}
+use Rattle.format_json.specs.Grammar.{after_blanks}
 use Rattle.format_json.specs.Tokens.{TokenAhead}
-use Rattle.format_json.specs.TokenReading.{AreTokens}
+use Rattle.format_json.specs.Reading.{AreTokens}
 use Rattle.format_json_events.specs.Turns.{TextState, at_begin, bar_at, turn_at}
-use Rattle.format_json_events.specs.EventReading.{IsAllowed, Takes}
+use Rattle.format_json_events.specs.Reading.{IsAllowed, Takes}
 use Rattle.format_json.specs.declared.tokens.Token.{Token}
 use Rattle.format_json_events.specs.declared.event_reader.Event.{Event}
 use Rattle.format_json_events.specs.declared.event_reader.EventError.{EventError}

@@ -7,7 +7,7 @@ use Rattle.std.specs.declared.alloc.Global.{Global}
 use Rattle.winnow.specs.Reading.{MayFollow}
 use Rattle.format_json.specs.Documents.{IsDocument}
 use Rattle.format_json.specs.SameValues.{SameAll}
-use Rattle.format_json_events.specs.EventReading.{EventState, HasGiven}
+use Rattle.format_json_events.specs.Reading.{EventState, HasGiven}
 use Rattle.format_json_events.specs.declared.event_reader.Event.{Event}
 use Rattle.format_json_events.specs.declared.event_reader.Event.TheVariants as event
 use Rattle.format_json_events.specs.declared.event_reader.EventError.{EventError}

@@ -1,9 +1,9 @@
 //! `EventReader`: events from bytes that come in pieces.
 
 ghost use Rattle.std.specs.Prelude.{◌≡◌};
-ghost use Rattle.format_json.specs.TokenReading.{FindsDamage};
+ghost use Rattle.format_json.specs.Reading.{FindsDamage};
 ghost use Rattle.format_json_events.specs.Turns.{state_of};
-ghost use Rattle.format_json_events.specs.EventReading.{IsComing, IsNoNext, token_place, error_at};
+ghost use Rattle.format_json_events.specs.Reading.{IsComing, IsNoNext, token_place, error_at};
 
 use crate::syntax::{Syntax, Taken};
 use crate::turns::Misplaced;
@@ -119,7 +119,7 @@ pub struct EventReader {
 
 impl Model for EventReader {
     ghost use Rattle.format_json_events.specs.Turns.{state_of};
-    ghost use Rattle.format_json_events.specs.EventReading.{EventState};
+    ghost use Rattle.format_json_events.specs.Reading.{EventState};
 
     ghost Value = { EventState };
 
@@ -134,13 +134,13 @@ impl EventReader {
     ghost use Rattle.std.specs.Prelude.{◌≡◌, ◌+◌, ◌<◌, ◌^◌, Some, None, [], false, length};
     ghost use Rattle.std.specs.Prelude.{OnOk, OnErr, Err};
     ghost use Rattle.winnow.specs.State.{fed_of};
-    ghost use Rattle.format_json_events.specs.EventReading.{new_reader, events_pushed};
-    ghost use Rattle.format_json_events.specs.EventReading.{events_unspent};
-    ghost use Rattle.format_json_events.specs.EventReading.{events_ended, HasGiven, GivesAlso};
-    ghost use Rattle.format_json_events.specs.EventReading.{GivesOn};
-    ghost use Rattle.format_json_events.specs.EventReading.{KeepsLimits};
-    ghost use Rattle.format_json_events.specs.EventReading.{step_events, next_events, IsStep};
-    ghost use Rattle.format_json_events.specs.EventReading.{IsNext};
+    ghost use Rattle.format_json_events.specs.Reading.{new_reader, events_pushed};
+    ghost use Rattle.format_json_events.specs.Reading.{events_unspent};
+    ghost use Rattle.format_json_events.specs.Reading.{events_ended, HasGiven, GivesAlso};
+    ghost use Rattle.format_json_events.specs.Reading.{GivesOn};
+    ghost use Rattle.format_json_events.specs.Reading.{KeepsLimits};
+    ghost use Rattle.format_json_events.specs.Reading.{step_events, next_events, IsStep};
+    ghost use Rattle.format_json_events.specs.Reading.{IsNext};
     ghost use Rattle.format_json_events.specs.declared.event_reader.EventError.{EventError};
 
     /// Returns a reader that nothing was pushed to.

@@ -10,10 +10,10 @@
 //! The tokens are those of a `ByteReader` of `format_json::JsonToken`.
 #![tactic(auto)]
 
-mod event_laws;
 mod event_reader;
+mod laws;
 mod syntax;
 mod turns;
 
-pub use event_laws::{events_law, stops_law};
 pub use event_reader::{Event, EventError, EventReader};
+pub use laws::{events_law, stops_law};

@@ -3,7 +3,7 @@ use Rattle.std.proofs.Common.{◌≡◌, ℕ, ◌+◌, ◌<◌, ◌^◌, Bool, t
 use Rattle.std.specs.Prelude.{Option, None, Some, IfSome, Result, Ok, Err, OnOk, IfErr}
 use Rattle.std.specs.Io.KnownBytes.{Appends, Consumes, IsAtEnd}
 use Rattle.winnow.specs.State.{fed_of}
-use Rattle.format_json_events.specs.EventReading.{EventState, HasGiven, GivesOn, GivesAlso, KeepsLimits}
+use Rattle.format_json_events.specs.Reading.{EventState, HasGiven, GivesOn, GivesAlso, KeepsLimits}
 use Rattle.format_json_events.specs.declared.event_reader.Event.{Event}
 use Rattle.example_json.specs.Positions.{LeadsTo}
 use Rattle.example_json.specs.Lines.{level_by, lines_at, lines_of}

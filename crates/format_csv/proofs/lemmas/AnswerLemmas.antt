@@ -16,9 +16,10 @@ use Rattle.winnow_parser.specs.Laws.{longer}
 use Rattle.winnow_parser.specs.Answer.{outcome}
 use Rattle.format_lemmas.specs.Bytes.{bytes_of}
 use Rattle.format_lemmas.proofs.lemmas.ByteLemmas.{some, none-left, positive-both, bytes-longer}
-use Rattle.format_csv.specs.Records.{SpellsRecord, EndsRecord, RecordAhead}
+use Rattle.format_csv.specs.Grammar.{SpellsRecord, EndsRecord, RecordAhead}
 use Rattle.format_csv.specs.Meanings.{OneRow, IsParser-OneRow}
-use Rattle.format_csv.specs.Answers.{values_of, IsAnswer, GivesEach, BreaksOff, IsUnclosed, IsBegun}
+use Rattle.format_csv.specs.Answers.{values_of, IsAnswer, GivesEach, IsBegun}
+use Rattle.format_csv.specs.Damage.{BreaksOff, IsUnclosed}
 use Rattle.format_csv.proofs.lemmas.FieldLemmas.{IsRefusal}
 use Rattle.format_csv.proofs.lemmas.RecordLemmas.{MayEnd, AreBegun, ends-once, end-given, end-fails, end-missed, list-given, list-fails, list-once, list-missed}
 

@@ -20,9 +20,10 @@ use Rattle.format_lemmas.specs.Bytes.{Each, bytes_of, StartsWith}
 use Rattle.format_lemmas.proofs.lemmas.ByteLemmas.{heads, tails, begins, none-left}
 use Rattle.format_lemmas.proofs.lemmas.TokenLemmas.{positive-moved, byte-given, byte-missing}
 use Rattle.format_csv.specs.Fields.{is_plain, twice, doubled, SpellsField}
-use Rattle.format_csv.specs.Records.{SpellsMore, SpellsRecord, EndsRecord}
+use Rattle.format_csv.specs.Grammar.{SpellsMore, SpellsRecord, EndsRecord}
 use Rattle.format_csv.specs.Meanings.{Byte, AnyField, FieldList, RecordEnd, IsParser-AnyField}
-use Rattle.format_csv.specs.Answers.{values_of, IsUnclosed}
+use Rattle.format_csv.specs.Answers.{values_of}
+use Rattle.format_csv.specs.Damage.{IsUnclosed}
 use Rattle.format_csv.proofs.lemmas.ByteLemmas.{doubled-others}
 use Rattle.format_csv.proofs.lemmas.TokenLemmas.{taking-fails, after-positive}
 use Rattle.format_csv.proofs.lemmas.FieldLemmas.{IsOpen, IsClosedOnly, FieldStands, FieldFails, StopsAt, field-spelled, field-once, IsRefusal, field-missed, field-given, field-fails}

@@ -5,15 +5,15 @@ use Rattle.std.specs.declared.alloc.AllocError.{AllocError}
 use Rattle.winnow_stream.specs.Source.{Source, units}
 use Rattle.winnow_stream.specs.Front.{back}
 use Rattle.format_lemmas.specs.Bytes.{bytes_of}
-use Rattle.format_json.specs.Values.{after_blanks, ValueAhead}
+use Rattle.format_json.specs.Grammar.{after_blanks, ValueAhead}
 use Rattle.format_json.specs.Founds.{HasNone}
 use Rattle.format_json.specs.Damage.{BreaksOff}
 use Rattle.format_json.specs.Begun.{BeginsValue}
 use Rattle.format_json.specs.SameValues.{SameValue}
-use Rattle.format_json.specs.ValueAnswers.{NoValueAhead, IsReading}
+use Rattle.format_json.specs.Answers.{NoValueAhead, IsReading}
 use Rattle.format_json.specs.declared.value.Value.{Value}
-use Rattle.format_json.specs.declared.values.Reading.{Reading}
-use Rattle.format_json.specs.declared.values.Reading.TheVariants as reading
+use Rattle.format_json.specs.declared.grammar.Reading.{Reading}
+use Rattle.format_json.specs.declared.grammar.Reading.TheVariants as reading
 use Rattle.format_json_scalars.proofs.lemmas.StringStreamLemmas.{text-is, rest-is}
 use Rattle.format_json.proofs.lemmas.GrammarLemmas.{nested-once}
 use Rattle.format_json.proofs.lemmas.SameLemmas.{nested-same}

@@ -5,12 +5,12 @@ use Rattle.winnow.specs.State.{ReaderState}
 use Rattle.winnow.specs.Reading.{MayFollow}
 use Rattle.format_lemmas.specs.Bytes.{StartsWith}
 use Rattle.format_json_scalars.specs.StringAnswers.{BeginsChar}
-use Rattle.format_json.specs.Values.{is_blank, after_blanks}
+use Rattle.format_json.specs.Grammar.{is_blank, after_blanks}
 use Rattle.format_json.specs.TokenAnswers.{IsWrongAt}
-use Rattle.format_json.specs.TokenReading.{FindsDamage}
-use Rattle.format_json_events.specs.EventReading.{ahead_from}
+use Rattle.format_json.specs.Reading.{FindsDamage}
+use Rattle.format_json_events.specs.Reading.{ahead_from}
 use Rattle.format_json.specs.declared.tokens.Token.TheVariants as token
-use Rattle.format_json.specs.declared.tokens.JsonToken.{JsonToken}
+use Rattle.format_json.specs.declared.reading.JsonToken.{JsonToken}
 
 -- one step of `blanks-front`
 front-if : (t : Bool) (x : ℕ) (b : List ℕ)

@@ -4,7 +4,7 @@ use Rattle.std.specs.Prelude.{⊤}
 use Rattle.std.specs.declared.string.String.{String}
 use Rattle.std.specs.declared.alloc.Global.{Global}
 use Rattle.format_json_events.specs.Turns.{within, next_turn, turn_of}
-use Rattle.format_json_events.specs.EventReading.{IsAllowed}
+use Rattle.format_json_events.specs.Reading.{IsAllowed}
 use Rattle.format_json.specs.declared.tokens.Token.{Token}
 use Rattle.format_json.specs.declared.tokens.Token.TheVariants as token
 use Rattle.format_json_events.specs.declared.turns.Bracket.{Bracket}

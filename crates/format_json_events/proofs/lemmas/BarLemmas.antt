@@ -4,12 +4,12 @@ use Rattle.std.specs.declared.string.String.{String}
 use Rattle.std.specs.declared.alloc.Global.{Global}
 use Rattle.winnow.specs.State.{ReaderState}
 use Rattle.format_lemmas.specs.Bytes.{StartsWith}
-use Rattle.format_json.specs.Values.{after_blanks}
-use Rattle.format_json.specs.TokenReading.{FindsDamage}
+use Rattle.format_json.specs.Grammar.{after_blanks}
+use Rattle.format_json.specs.Reading.{FindsDamage}
 use Rattle.format_json_events.specs.Turns.{TextState, takes_scalar, scalar_bar, begins_plain, bar_at, bar_from, turn_of}
-use Rattle.format_json_events.specs.EventReading.{IsAllowed, token_place, bar_ahead, IsNoNext, error_at}
+use Rattle.format_json_events.specs.Reading.{IsAllowed, token_place, bar_ahead, IsNoNext, error_at}
 use Rattle.format_json.specs.declared.tokens.Token.TheVariants as token
-use Rattle.format_json.specs.declared.tokens.JsonToken.{JsonToken}
+use Rattle.format_json.specs.declared.reading.JsonToken.{JsonToken}
 use Rattle.format_json_events.specs.declared.turns.Bracket.{Bracket}
 use Rattle.format_json_events.specs.declared.turns.Expected.{Expected}
 use Rattle.format_json_events.specs.declared.turns.Expected.TheVariants as expect

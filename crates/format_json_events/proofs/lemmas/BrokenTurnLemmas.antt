@@ -4,13 +4,13 @@ use Rattle.std.proofs.lemmas.Bool.{ltb-false, le-ltb}
 use Rattle.std.specs.declared.string.String.{String}
 use Rattle.std.specs.declared.alloc.Global.{Global}
 use Rattle.format_lemmas.specs.Bytes.{StartsWith}
-use Rattle.format_json.specs.Values.{after_blanks, MemberAhead, Layer, Nested, ValueAhead, ValueHere}
+use Rattle.format_json.specs.Grammar.{after_blanks, MemberAhead, Layer, Nested, ValueAhead, ValueHere}
 use Rattle.format_json_scalars.specs.StringAnswers.{StringHere}
 use Rattle.format_json.specs.Damage.{NoneBegins, ByteIsMissing, EachWithComma, ElementBreaksOff, ElementsBreakOff, IsTooDeep, MemberBreaksOff, LayerBreaksOff, HereBreaksOff}
 use Rattle.format_json.specs.Documents.{TextBreaksOff}
 use Rattle.format_json.specs.Tokens.{TokenHere, TokenAhead}
 use Rattle.format_json_events.specs.Turns.{TextState, at_begin, inner_of, first_in, takes_scalar, turn_of, turn_at}
-use Rattle.format_json_events.specs.EventReading.{IsAllowed}
+use Rattle.format_json_events.specs.Reading.{IsAllowed}
 use Rattle.format_json_events.specs.Stops.{Stops}
 use Rattle.format_json_events.specs.ValueEvents.{member_events, events_of}
 use Rattle.format_json.specs.declared.tokens.Token.{Token}

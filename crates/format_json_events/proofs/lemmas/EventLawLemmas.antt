@@ -4,17 +4,17 @@ use Rattle.std.specs.Prelude.{Ok, Err}
 use Rattle.winnow.specs.State.{ReaderState}
 use Rattle.winnow.specs.Reading.{MayFollow, HasRead, Lacks}
 use Rattle.winnow_reader.specs.declared.next.Next.TheVariants.{NeedsMore}
-use Rattle.format_json.specs.Values.{after_blanks}
+use Rattle.format_json.specs.Grammar.{after_blanks}
 use Rattle.format_json.specs.Documents.{IsDocument, IsDamage}
 use Rattle.format_json.specs.Tokens.{TokenAhead}
 use Rattle.format_json.specs.TokenAnswers.{OneToken}
-use Rattle.format_json.specs.TokenReading.{AreTokens, FindsDamage}
+use Rattle.format_json.specs.Reading.{AreTokens, FindsDamage}
 use Rattle.format_json_events.specs.Turns.{TextState, at_begin, turn_at}
-use Rattle.format_json_events.specs.EventReading.{IsAllowed, Takes, EventState, HasGiven, GivesOn, KeepsLimits, Brings, BringsEnd, IsNoNext, IsMisplaced, IsWhole, IsNext}
+use Rattle.format_json_events.specs.Reading.{IsAllowed, Takes, EventState, HasGiven, GivesOn, KeepsLimits, Brings, BringsEnd, IsNoNext, IsMisplaced, IsWhole, IsNext}
 use Rattle.format_json_events.specs.ValueEvents.{events_of, ReadsValue, AreFirstOf, AreAllOf, IsRefusal}
 use Rattle.format_json.specs.declared.tokens.Token.{Token}
 use Rattle.format_json.specs.declared.tokens.Token.TheVariants as token
-use Rattle.format_json.specs.declared.tokens.JsonToken.{JsonToken}
+use Rattle.format_json.specs.declared.reading.JsonToken.{JsonToken}
 use Rattle.format_json.specs.declared.documents.Damage.{Damage}
 use Rattle.format_json_events.specs.declared.event_reader.Event.{Event}
 use Rattle.format_json_events.specs.declared.event_reader.EventError.{EventError}

@@ -5,10 +5,10 @@ use Rattle.winnow.specs.State.{ReaderState}
 use Rattle.winnow.specs.Reading.{HasRead}
 use Rattle.format_json.specs.TokenAnswers.{OneToken}
 use Rattle.format_json_events.specs.Turns.{TextState, at_begin, turn_at, turn_events, after_turn, answer_of}
-use Rattle.format_json_events.specs.EventReading.{IsAllowed, Takes, EventState, HasGiven, GivesOn, KeepsLimits, Brings, BringsEnd, IsComing, taken_events, step_events, IsStep, Passed}
+use Rattle.format_json_events.specs.Reading.{IsAllowed, Takes, EventState, HasGiven, GivesOn, KeepsLimits, Brings, BringsEnd, IsComing, taken_events, step_events, IsStep, Passed}
 use Rattle.format_json.specs.declared.tokens.Token.{Token}
 use Rattle.format_json.specs.declared.tokens.Token.TheVariants as token
-use Rattle.format_json.specs.declared.tokens.JsonToken.{JsonToken}
+use Rattle.format_json.specs.declared.reading.JsonToken.{JsonToken}
 use Rattle.format_json_events.specs.declared.event_reader.Event.{Event}
 use Rattle.format_json_events.specs.declared.event_reader.EventError.{EventError}
 use Rattle.format_json_events.specs.declared.event_reader.Coming.{Coming}

@@ -1,12 +1,12 @@
 -- Where a text that is a value is read to, the rest of its events come next.
 use Rattle.std.proofs.Common.{◌≡◌, ℕ, suc, false, List, [], ◌∷◌, ◌++◌, nat_lt, length, ap, sym, ◌∙◌, subst, refl, append_assoc, inl, arith}
-use Rattle.format_json.specs.Values.{after_blanks}
+use Rattle.format_json.specs.Grammar.{after_blanks}
 use Rattle.format_json.specs.Documents.{IsDocument}
 use Rattle.format_json.specs.SameValues.{SameAll}
 use Rattle.format_json.specs.Tokens.{TokenAhead}
-use Rattle.format_json.specs.TokenReading.{AreTokens}
+use Rattle.format_json.specs.Reading.{AreTokens}
 use Rattle.format_json_events.specs.Turns.{TextState, at_begin, inner_of, turn_of, turn_at, after_turn, turn_events}
-use Rattle.format_json_events.specs.EventReading.{IsAllowed, Takes}
+use Rattle.format_json_events.specs.Reading.{IsAllowed, Takes}
 use Rattle.format_json_events.specs.ValueEvents.{events_of, SameEvent}
 use Rattle.format_json.specs.declared.tokens.Token.{Token}
 use Rattle.format_json.specs.declared.tokens.Token.TheVariants as token

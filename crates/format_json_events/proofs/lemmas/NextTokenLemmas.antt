@@ -13,11 +13,11 @@ use Rattle.format_lemmas.specs.Bytes.{bytes_of}
 use Rattle.format_lemmas.proofs.lemmas.ByteLemmas.{bytes-units}
 use Rattle.format_json.specs.Tokens.{TokenAhead}
 use Rattle.format_json.specs.TokenAnswers.{OneToken}
-use Rattle.format_json.specs.TokenReading.{FindsDamage}
-use Rattle.format_json_events.specs.EventReading.{Brings, BringsEnd}
+use Rattle.format_json.specs.Reading.{FindsDamage}
+use Rattle.format_json_events.specs.Reading.{Brings, BringsEnd}
 use Rattle.format_json.specs.declared.tokens.Token.{Token}
 use Rattle.format_json.specs.declared.tokens.Token.TheVariants as token
-use Rattle.format_json.specs.declared.tokens.JsonToken.{JsonToken}
+use Rattle.format_json.specs.declared.reading.JsonToken.{JsonToken}
 use Rattle.format_json.proofs.lemmas.TokenReadingLemmas.{fails-damaged}
 use Rattle.format_json_events.proofs.lemmas.TakingLemmas.{idles-at-end}
 

@@ -8,17 +8,17 @@ use Rattle.winnow.specs.Reading.{MayFollow}
 use Rattle.format_lemmas.specs.Bytes.{StartsWith}
 use Rattle.format_lemmas.proofs.lemmas.ByteLemmas.{heads}
 use Rattle.format_json_scalars.specs.Numbers.{is_number_byte}
-use Rattle.format_json.specs.Values.{after_blanks}
+use Rattle.format_json.specs.Grammar.{after_blanks}
 use Rattle.format_json.specs.Tokens.{Lexeme, Word, Digits, Quoted, Ending, lexeme_of, TokenHere, TokenAhead}
 use Rattle.format_json.specs.TokenAnswers.{IsWrongAt}
-use Rattle.format_json.specs.TokenReading.{AreTokens, FindsDamage}
+use Rattle.format_json.specs.Reading.{AreTokens, FindsDamage}
 use Rattle.format_json.specs.TokenLaws.{blanks-more, after-longer, lexeme-some, ahead-longer}
 use Rattle.format_json_events.specs.Turns.{at_begin, inner_of, bar_at, bar_from, turn_at}
-use Rattle.format_json_events.specs.EventReading.{IsAllowed, EventState, HasGiven, Brings, BringsEnd, token_place, bar_ahead, IsNoNext, IsMisplaced, error_at, IsNext}
+use Rattle.format_json_events.specs.Reading.{IsAllowed, EventState, HasGiven, Brings, BringsEnd, token_place, bar_ahead, IsNoNext, IsMisplaced, error_at, IsNext}
 use Rattle.format_json_events.specs.Stops.{StopsHere, Stops, StopsAt, TellsStop}
 use Rattle.format_json.specs.declared.tokens.Token.{Token}
 use Rattle.format_json.specs.declared.tokens.Token.TheVariants as token
-use Rattle.format_json.specs.declared.tokens.JsonToken.{JsonToken}
+use Rattle.format_json.specs.declared.reading.JsonToken.{JsonToken}
 use Rattle.format_json_events.specs.declared.event_reader.Event.{Event}
 use Rattle.format_json_events.specs.declared.event_reader.EventError.{EventError}
 use Rattle.format_json_events.specs.declared.event_reader.EventError.TheVariants as error

@@ -7,7 +7,7 @@ use Rattle.std.specs.declared.alloc.Global.{Global}
 use Rattle.format_json.specs.SameValues.{SameAll}
 use Rattle.format_json.specs.Tokens.{Lexeme, Word, Digits, Quoted, Ending, lexeme_of}
 use Rattle.format_json_events.specs.Turns.{TextState, inner_of, turn_of, turn_at, after_turn, turn_events}
-use Rattle.format_json_events.specs.EventReading.{IsAllowed}
+use Rattle.format_json_events.specs.Reading.{IsAllowed}
 use Rattle.format_json_events.specs.ValueEvents.{SameEvent}
 use Rattle.format_json_scalars.specs.declared.numbers.Number.{Number}
 use Rattle.format_json.specs.declared.tokens.Token.{Token}

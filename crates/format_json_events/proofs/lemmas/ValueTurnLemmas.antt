@@ -8,12 +8,12 @@ use Rattle.std.proofs.Math.Seq.{take-append_seam, get_or-append_seam}
 use Rattle.std.proofs.lemmas.Bool.{le-ltb}
 use Rattle.std.proofs.lemmas.List.Folds.{flat_map-map}
 use Rattle.std.proofs.lemmas.Option.{unwrap_or-slice_get}
-use Rattle.format_json.specs.Values.{after_blanks, MemberAhead, Elements, Inside, Layer, Nested}
+use Rattle.format_json.specs.Grammar.{after_blanks, MemberAhead, Elements, Inside, Layer, Nested}
 use Rattle.format_json_scalars.specs.NumberAnswers.{NumberHere}
 use Rattle.format_json.specs.Tokens.{Digits, LexemeHere, TokenHere, TokenAhead}
-use Rattle.format_json.specs.TokenReading.{AreTokens}
+use Rattle.format_json.specs.Reading.{AreTokens}
 use Rattle.format_json_events.specs.Turns.{TextState, inner_of, after_value, first_in, opened, closed, expecting, turn_of, turn_at, after_turn, finish_of, turn_events}
-use Rattle.format_json_events.specs.EventReading.{IsAllowed, Takes}
+use Rattle.format_json_events.specs.Reading.{IsAllowed, Takes}
 use Rattle.format_json_events.specs.ValueEvents.{layer_events, member_events, events_of}
 use Rattle.format_json_scalars.specs.declared.numbers.Number.{Number}
 use Rattle.format_json.specs.declared.tokens.Token.{Token}

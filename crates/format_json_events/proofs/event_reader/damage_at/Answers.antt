@@ -3,10 +3,10 @@ use Rattle.std.proofs.lemmas.List.{take_rest}
 use Rattle.format_lemmas.specs.Bytes.{StartsWith}
 use Rattle.format_json_scalars.specs.Numbers.{Tells}
 use Rattle.format_json_scalars.specs.StringAnswers.{BeginsChar}
-use Rattle.format_json.specs.Values.{after_blanks}
+use Rattle.format_json.specs.Grammar.{after_blanks}
 use Rattle.format_json.specs.Causes.{cause_of, IsCut}
 use Rattle.format_json_events.specs.Turns.{state_of, bar_from}
-use Rattle.format_json_events.specs.EventReading.{ahead_from, IsNoNext}
+use Rattle.format_json_events.specs.Reading.{ahead_from, IsNoNext}
 use Rattle.format_json_events.proofs.lemmas.BarLemmas.{barred-none}
 use Rattle.format_json_events.proofs.lemmas.AheadLemmas.{damage-after, damage-some, damage-char}
 use Rattle.format_json_events.proofs.lemmas.EventLemmas.{none-is}

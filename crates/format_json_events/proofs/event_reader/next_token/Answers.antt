@@ -3,9 +3,9 @@ use Rattle.std.specs.Prelude.{Ok, Err}
 use Rattle.winnow.specs.Answering.{StaysWithout, WaitsWell}
 use Rattle.winnow_reader.specs.declared.next.Next.TheVariants as next
 use Rattle.format_json.specs.TokenAnswers.{OneToken}
-use Rattle.format_json.specs.TokenReading.{FindsDamage}
+use Rattle.format_json.specs.Reading.{FindsDamage}
 use Rattle.format_json_events.specs.Turns.{state_of}
-use Rattle.format_json_events.specs.EventReading.{IsNoNext}
+use Rattle.format_json_events.specs.Reading.{IsNoNext}
 use Rattle.format_json.specs.declared.tokens.Token.TheVariants as token
 use Rattle.format_json_events.proofs.lemmas.NextTokenLemmas.{value-brings, end-brings, waits-read, failed-there, never-idle}
 use Rattle.format_json_events.proofs.event_reader.next_token.Goals as goal

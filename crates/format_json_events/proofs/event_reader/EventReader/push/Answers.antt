@@ -1,5 +1,5 @@
 use Rattle.std.proofs.Common.{◌++◌, sym, subst}
-use Rattle.format_json_events.specs.EventReading.{HasGiven}
+use Rattle.format_json_events.specs.Reading.{HasGiven}
 use Rattle.format_json_events.proofs.event_reader.EventReader.push.Goals as goal
 
 pub returns-clause-read : goal.returns-clause-read

@@ -1,7 +1,7 @@
 use Rattle.std.proofs.Common.{◌≡◌, Some, [], inl, ap, sym, ◌∙◌, subst, refl}
 use Rattle.std.specs.Prelude.{Ok, OnOk}
 use Rattle.format_json_events.specs.Turns.{state_of, turn_at}
-use Rattle.format_json_events.specs.EventReading.{GivesOn, KeepsLimits, IsComing, IsNoNext, StaysAt, Awaits, taken_events}
+use Rattle.format_json_events.specs.Reading.{GivesOn, KeepsLimits, IsComing, IsNoNext, StaysAt, Awaits, taken_events}
 use Rattle.format_json.specs.declared.tokens.Token.TheVariants as token
 use Rattle.format_json_events.specs.declared.turns.Turn.TheVariants.{Ends}
 use Rattle.format_json_events.proofs.lemmas.EventLemmas.{none-is, coming-ended, taken-depth, reader_of, step-took, step-refused, end-refused, step-ended, step-waits}
