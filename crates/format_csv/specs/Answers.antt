@@ -39,8 +39,8 @@ IsGiven (Err (Cut e)) rest values after = ⊥
 IsGiven (Err (Incomplete n)) rest values after = ⊥
 IsGiven (Err (Refused e)) rest values after = ⊤
 
--- each record that stands at the front is given, unless memory was refused: none is missed, and no
--- bytes are two records
+-- each record with which the bytes begin is returned, unless memory was refused: none is missed,
+-- and no bytes are two records
 abbrev pub GivesEach : {E : Type 0} → Bool → List ℕ
     → Result (Vec (Vec ℕ Global) Global) (Failure E Needed) → List ℕ → Type 0
 GivesEach partial bytes result rest = (values : List (List ℕ)) (after : List ℕ)

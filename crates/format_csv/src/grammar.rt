@@ -99,11 +99,11 @@ where
     }
 }
 
-/// Reads one record from the front of a stream of bytes, and moves the stream past its end.
+/// Reads one record from a stream of bytes, and moves the stream past its end.
 ///
-/// It backtracks at the end of the input, and does not move. Where what stands at the front is no
-/// record, it cuts, and the stream stands at the byte that follows a field and is neither a comma
-/// nor the end of a line, or at the end of the input where a closing quote is missing.
+/// It backtracks at the end of the input, and does not move. If the input starts with no record, it
+/// cuts, and leaves the stream at the byte after a field that is neither a comma nor the end of a
+/// line, or at the end of the input if a closing quote is missing.
 pub fn read_record<I: StreamIsPartial + Stream<Token = u8>, E: ParserError<I>>(
     alloc: Global,
     input: &mut I,

@@ -14,9 +14,9 @@ use winnow::reader::Record;
 /// The law of a reader of records, in the words of the format. It does nothing when called: its
 /// contract is the law.
 ///
-/// However the input was cut and no matter what follows, the values that were read are the records
-/// that it begins with, one after the other. Where the reader fails, no record stands at the front,
-/// and it says where what stands there is damaged. Each value takes something.
+/// However the input was cut and whatever follows, the values that were read are the records with
+/// which it begins, one after the other. If the reader fails, the bytes ahead begin with no record,
+/// and it reports the place at which they are malformed. Each value consumes some bytes.
 pub fn rows_in_pieces_law()
     ensures records { (f : ReaderState Row) (input : List ℕ) (rows : List RowVec)
         → HasRead ⟦<Row as Record>⟧.means f input rows → BeginsWith f input rows }

@@ -13,16 +13,15 @@ use Rattle.format_json.specs.declared.found.Found.TheVariants as found
 use Rattle.format_json.specs.declared.grammar.Reading.{Reading}
 use Rattle.format_json.specs.declared.grammar.Reading.TheVariants as reading
 
--- no value within the limit stands at the front
+-- the bytes begin with no value within the limit
 abbrev pub NoValueAhead : ℕ → Bool → List ℕ → Type 0
 NoValueAhead depth partial bytes =
     (value : Value) (rest : List ℕ) → ¬ (ValueAhead partial depth value bytes rest)
 
--- the answer and what remains: a value that stands at the front; or a backtrack, which takes
--- nothing, where only blanks stand at the front and nothing may follow; or a cut, where no value
--- stands at the front, no matter what follows, and what remains is where a value breaks off; or
--- more input is needed, where more may follow, and no value stands at the front yet, but one is
--- begun; or memory was refused
+-- the result and the rest: a value with which the bytes begin; or a backtrack, which consumes
+-- nothing, if the bytes are blanks and nothing may follow; or a cut, if the bytes begin with no
+-- value on any continuation, and a value breaks off at the rest; or more input is needed, if more
+-- may follow, and the bytes begin with no value yet, but one is begun; or memory was refused
 abbrev pub IsValueAnswer : {E : Type 0} → ℕ → Bool → List ℕ → Result Value (Failure E Needed)
     → List ℕ → Type 0
 IsValueAnswer depth partial bytes (Ok value) rest = ValueAhead partial depth value bytes rest
@@ -44,8 +43,8 @@ IsValueGiven depth (Err (Cut e)) rest value after = ⊥
 IsValueGiven depth (Err (Incomplete n)) rest value after = ⊥
 IsValueGiven depth (Err (Refused e)) rest value after = ⊤
 
--- each value within the limit that stands at the front is given, unless memory was refused: none is
--- missed, and no bytes are two values
+-- each value within the limit with which the bytes begin is returned, unless memory was refused:
+-- none is missed, and no bytes are two values
 abbrev pub GivesEachValue : {E : Type 0} → ℕ → Bool → List ℕ → Result Value (Failure E Needed)
     → List ℕ → Type 0
 GivesEachValue depth partial bytes result rest = (value : Value) (after : List ℕ)

@@ -83,11 +83,11 @@ Nested partial zero value bytes rest = ⊥
 Nested partial (suc depth) value bytes rest =
     Layer partial (Nested partial depth) (out-Value value) (after_blanks bytes) rest
 
--- a value within at most `depth` arrays and objects stands at the front, after blanks
+-- the bytes begin with a value within at most `depth` arrays and objects, after blanks
 abbrev pub ValueAhead : Bool → ℕ → Value → List ℕ → List ℕ → Type 0
 ValueAhead partial depth value bytes rest = Nested partial (suc depth) value bytes rest
 
--- a value within at most `depth` arrays and objects stands at the front, with no blanks before it
+-- the bytes begin with a value within at most `depth` arrays and objects, with no blanks before it
 abbrev pub ValueHere : Bool → ℕ → Value → List ℕ → List ℕ → Type 0
 ValueHere partial depth value bytes rest =
     Layer partial (Nested partial depth) (out-Value value) bytes rest

@@ -20,8 +20,8 @@ module _ {R : Type 0} where
   BeginsWith f input tokens = (more : List ℕ) → MayFollow f.ended more false
       → AreTokens false tokens (input ++ more) (f.ahead ++ more)
 
-  -- no matter what follows, no token stands at the front of the reader, and what does is damaged at
-  -- this place of the joined input
+  -- on each continuation, the token ahead of the reader is malformed at this place of the joined
+  -- input
   abbrev pub FindsDamage : ReaderState R → ℕ → Type 0
   FindsDamage f place = (rest : List ℕ) × ((f.place + length f.ahead ≡ place + length rest)
       × ((more : List ℕ) → MayFollow f.ended more false

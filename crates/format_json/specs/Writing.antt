@@ -40,8 +40,8 @@ layer_written (open_value.Object members) =
 abbrev pub written : Value → List ℕ
 written = fold-Value (List ℕ) layer_written
 
--- the value stands at the front where it was written, no matter what follows that does not go on
--- with a number
+-- the text that is written of the value begins with that value, before each continuation that does
+-- not continue a number
 abbrev pub IsReadBack : ℕ → Value → Type 0
 IsReadBack depth value = (partial : Bool) (rest : List ℕ) → EndsRun is_number_byte partial rest
     → ValueAhead partial depth value (written value ++ rest) rest

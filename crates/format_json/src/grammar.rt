@@ -25,7 +25,7 @@ use winnow::error::ParserError;
 use winnow::stream::{AsBytes, Needed, Stream, StreamIsPartial};
 use winnow::{Failure, ModalResult};
 
-// Reads a value that stands first, within at most `depth` arrays and objects.
+// Reads a value with no blanks before it, within at most `depth` arrays and objects.
 #[cycle(value)]
 fn value_here(
     alloc: Global,
@@ -274,7 +274,7 @@ enum Reading {
     Damaged(usize),
 }
 
-// Reads a value at the front of the bytes.
+// Reads a value with which the bytes begin.
 fn read_bytes(
     alloc: Global,
     bytes: &[u8],
@@ -295,19 +295,19 @@ fn read_bytes(
     }
 }
 
-/// Reads a value from the front of a stream of bytes, with the blanks before it, and moves the
-/// stream past its end. Each value in it stands within at most `depth` arrays and objects: at 0 an
-/// array or an object is read only if it is empty.
+/// Reads a value from a stream of bytes, with the blanks before it, and moves the stream past its
+/// end. Each value in it stands within at most `depth` arrays and objects: at 0 an array or an
+/// object is read only if it is empty.
 ///
-/// The parser backtracks where blanks alone stand at the front and nothing may follow, and does not
-/// move. Elsewhere it cuts where no value stands at the front, no matter what follows, at the place
-/// where the value breaks off: where no value begins, or one that stands too deep; at the start of
-/// a word or a number that is none; where a string is damaged, as in
-/// [`read_string`](crate::read_string); and where a comma, a colon or a closing bracket is missing.
-/// A number ends as in [`read_number`](crate::read_number).
+/// The parser backtracks if the input is blanks alone and nothing may follow, and does not move.
+/// Else it cuts if the input starts with no value on any continuation, at the place at which the
+/// value breaks off: where no value begins, or one that is too deep; at the start of a word or a
+/// number that is none; where a string is malformed, as in [`read_string`](crate::read_string); and
+/// where a comma, a colon or a closing bracket is missing. A number ends as in
+/// [`read_number`](crate::read_number).
 ///
-/// One byte more is needed where no value stands at the front yet and one is begun, which more
-/// bytes can make whole: also after a number, which may go on.
+/// One byte more is needed if the input starts with no value yet, and a value is begun that more
+/// bytes can complete: also after a number, which may continue.
 ///
 /// Calls are nested as deep as the arrays and objects that are read, so `depth` limits the stack.
 pub fn read_value<I: StreamIsPartial + Stream<Token = u8>, E: ParserError<I>>(

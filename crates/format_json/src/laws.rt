@@ -37,8 +37,8 @@ pub fn round_trip_law()
         → (why ≢ NoNumber) × (why ≢ TooDeep) }
 {}
 
-/// The law of places: a value breaks off in one place at most, and nowhere where one stands at the
-/// front. A law does nothing when called: its contract is the law.
+/// The law of places: a value breaks off at one place at most, and at none if the bytes begin with
+/// one. A law does nothing when called: its contract is the law.
 pub fn place_law()
     ensures once { (partial : Bool) (depth : ℕ) (bytes rest other : List ℕ)
         → BreaksOff partial depth bytes rest → BreaksOff partial depth bytes other

@@ -17,7 +17,7 @@ use format_json_scalars::{
 };
 use std::alloc::{AllocError, Global};
 
-// Reads a number at the front of the bytes.
+// Reads a number with which the bytes begin.
 pub(crate) fn number_at(
     alloc: Global,
     bytes: &[u8],
@@ -41,7 +41,7 @@ pub(crate) fn number_at(
     Ok(Found::Whole(number_of(alloc, text)?, count))
 }
 
-// Reads a string at the front of the bytes.
+// Reads a string with which the bytes begin.
 pub(crate) fn string_at(
     alloc: Global,
     bytes: &[u8],

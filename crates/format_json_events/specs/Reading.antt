@@ -99,7 +99,8 @@ KeepsLimits old new =
 
 -- ---- The next token
 
--- the token stands at the front of the one reader, which reads it and is the other then
+-- the bytes ahead of the one reader begin with the token, and once it is read the reader is the
+-- other
 pub record Brings (old : ReaderState JsonToken) (token : Token) (new : ReaderState JsonToken) : Type 0 where
   pub read : (input : List ℕ) (tokens : List Token) → HasRead (λ p. OneToken) old input tokens
       → HasRead (λ p. OneToken) new input (tokens ++ token ∷ [])
@@ -140,7 +141,7 @@ IsNoNext text f (error.EndsEarly place) = (place ≡ fed_of f)
     × ((at : ℕ) × (FindsDamage f at × IsCutAt f at)) × (bar_ahead text f ≡ None)
 IsNoNext text f (error.Refused r) = ⊤
 
--- the end of the text stands at the front of the one reader, which is the other then
+-- the one reader is at the end of the text, and is then the other
 abbrev pub BringsEnd : ReaderState JsonToken → ReaderState JsonToken → Type 0
 BringsEnd old new = IsThrough new × (Brings old token.End new ⊎ (new ≡ old))
 
@@ -194,8 +195,8 @@ IsWhole r = IsThrough r.tokens × (r.text.expected ≡ expect.End)
 abbrev pub StaysAt : EventState → EventState → Type 0
 StaysAt old new = (new.text ≡ old.text) × (new.tokens ≡ waiting_for old.tokens new.tokens.wanted)
 
--- a token stands at the front of the one reader, or the end, that may not stand there: so the error
--- says, with the place where it begins
+-- the one reader is at a token, or at the end, that may not come next: so the error says, with the
+-- place at which it begins
 abbrev pub IsMisplaced : EventState → EventError → EventState → Type 0
 IsMisplaced old e new = (t : Token) × ((m : Misplaced) × ((turn_at old.text t ≡ Refuses m)
     × (e ≡ error_at m (token_place old.tokens)) × (Brings old.tokens t new.tokens ⊎ ((t ≡ token.End) × BringsEnd old.tokens new.tokens))))

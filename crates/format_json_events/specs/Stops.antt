@@ -1,4 +1,5 @@
--- Where a text stops: tokens that may come stand there one after the other, and the next does not.
+-- Where a text stops: it begins with tokens that may come, one after the other, and no such token
+-- comes next.
 use Rattle.std.specs.Prelude.{◌≡◌, ℕ, ◌≤◌, true, false, List, length, drop, None, ◌⊎◌, ⊤}
 use Rattle.format_lemmas.specs.Bytes.{StartsWith}
 use Rattle.format_json_scalars.specs.StringAnswers.{IsDamagedAt}
@@ -17,14 +18,14 @@ abbrev pub NoneMayCome : TextState → List ℕ → Type 0
 NoneMayCome s bytes = ((t : Token) (after : List ℕ) → TokenAhead false t bytes after → ¬ (IsAllowed (turn_at s t)))
     × (bar_at s true ≡ None → ¬ (StartsWith 34 (after_blanks bytes)))
 
--- the next token does not stand at the front: a string may come and is damaged at the rest; or no
--- token that may come stands there, and the rest is where one would begin, after blanks
+-- no token that may come is next: a string may come and is damaged at the rest; or the bytes begin
+-- with no token that may come, and the rest follows the blanks before it
 abbrev pub StopsHere : TextState → List ℕ → List ℕ → Type 0
 StopsHere s bytes rest = ((bar_at s true ≡ None) × IsDamagedAt false (after_blanks bytes) rest)
     ⊎ ((rest ≡ after_blanks bytes) × NoneMayCome s bytes)
 
--- from where the text stands, it stops at the rest: the bytes begin with tokens that may come, one
--- after the other, and after them the next does not stand
+-- from this state the text stops at the rest: the bytes begin with tokens that may come, one after
+-- the other, and no such token comes next
 pub record Stops (s : TextState) (bytes rest : List ℕ) : Type 0 where
   pub tokens : List Token
   pub events : List Event

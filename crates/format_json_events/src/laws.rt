@@ -17,14 +17,14 @@ ghost use Rattle.winnow_reader.specs.declared.next.Next.TheVariants.{NeedsMore};
 /// The law of a reader of events. It does nothing when called: its contract is the law.
 ///
 /// Let the joined input be a value, or become one with what may follow. The events that the reader
-/// gave are the first ones of that value, and where the text is whole they are all of them. The
-/// reader fails only where memory is refused. After more events all this holds again.
+/// returned are the first ones of that value, and all of them if the text is whole. The reader
+/// fails only if memory is refused. After more events all this holds again.
 ///
 /// Where the reader has not stopped and the text is whole, the input is not damaged: the reader is
 /// done with no text in which [`read_document`](format_json::read_document) finds damage.
 ///
-/// A reader that needs more has not stopped, and its input has not ended. Asked of some front of
-/// the bytes ahead, [`JsonToken`](format_json::JsonToken) needs more bytes than follow that front.
+/// A reader that needs more has not stopped, and its input has not ended. Called on some prefix of
+/// the bytes ahead, [`JsonToken`](format_json::JsonToken) needs more bytes than follow that prefix.
 pub fn events_law()
     ensures begins { (r : EventState) (input : List ℕ) (events : List Event) (value : Value)
         → ReadsValue r input events value → AreFirstOf events value }

@@ -21,7 +21,7 @@ is_cut_char bs =
     then is_in_range 0xF0 0xF4 a && is_in_range 0x80 0xBF (slice_index bs 2) && may_follow a b
     else false))
 
--- n bytes are the longest front that is UTF-8
+-- n bytes are the longest prefix that is UTF-8
 abbrev pub IsLongestText : List ℕ → ℕ → Type 0
 IsLongestText bs n = (n ≤ length bs) × IsUtf8 (take n bs)
     × ((m : ℕ) → n < m → m ≤ length bs → ¬ (IsUtf8 (take m bs)))

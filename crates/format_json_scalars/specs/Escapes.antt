@@ -37,7 +37,7 @@ FillsLow rest = (get_or rest 0 92 ≡ 92) × (get_or rest 1 117 ≡ 117)
     × AreHex (get_or rest 2 68) (get_or rest 3 67) (get_or rest 4 48) (get_or rest 5 48)
     × IsLow (low_number rest)
 
--- the number that the digits at the front write; each digit that is missing is taken to be a zero
+-- the number that the first four digits write; each digit that is missing is taken to be a zero
 abbrev pub code_number : List ℕ → ℕ
 code_number rest =
     hex_number (get_or rest 0 48) (get_or rest 1 48) (get_or rest 2 48) (get_or rest 3 48)

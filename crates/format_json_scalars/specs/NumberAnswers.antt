@@ -17,9 +17,9 @@ abbrev pub NumberHere : Bool → Number → List ℕ → List ℕ → Type 0
 NumberHere partial number bytes rest =
     (text : List ℕ) × (NumberAhead partial bytes text rest × IsNumberOf text number)
 
--- the answer and what remains: a number; or a backtrack, which takes nothing, where no byte may
--- follow or one stands that a number does not have; or more input is needed, where more may follow
--- and all bytes may be those of a number; or memory was refused
+-- the result and the rest: a number; or a backtrack, which consumes nothing, if no byte may follow
+-- or some byte is none of a number; or more input is needed, if more may follow and all bytes may
+-- be those of a number; or memory was refused
 abbrev pub IsNumberAnswer : {E : Type 0} → Bool → List ℕ → Result Number (Failure E Needed)
     → List ℕ → Type 0
 IsNumberAnswer partial bytes (Ok number) rest =
@@ -44,8 +44,8 @@ IsNumberGiven (Err (Cut e)) rest text after = ⊥
 IsNumberGiven (Err (Incomplete n)) rest text after = ⊥
 IsNumberGiven (Err (Refused e)) rest text after = ⊤
 
--- each number that stands at the front is given, unless memory was refused: none is missed, and no
--- bytes are two numbers
+-- each number with which the bytes begin is returned, unless memory was refused: none is missed,
+-- and no bytes are two numbers
 abbrev pub GivesEachNumber : {E : Type 0} → Bool → List ℕ → Result Number (Failure E Needed)
     → List ℕ → Type 0
 GivesEachNumber partial bytes result rest = (text after : List ℕ) → NumberAhead partial bytes text after

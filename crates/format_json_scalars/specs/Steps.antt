@@ -11,8 +11,8 @@ use Rattle.format_json_scalars.specs.declared.strings.Reading.{Reading}
 use Rattle.format_json_scalars.specs.declared.strings.Reading.TheVariants.{Nothing, Missing, Damaged}
 use Rattle.format_json_scalars.specs.declared.strings.Reading.TheVariants as reading
 
--- the step takes n bytes, and appends the characters that they spell to a value; or the
--- closing quote stands at the front; or the bytes may be a character; or neither stands there
+-- the step consumes n bytes, and appends the characters that they spell to a value; or the bytes
+-- begin with the closing quote; or they may become a character; or neither
 abbrev pub IsStep : List ℕ → List ℕ → Step → List ℕ → Type 0
 IsStep bytes old (Taken n) new = (0 < n) × (n ≤ length bytes)
     × ((cs : List ℕ) × (SpellsChars cs (take n bytes) × (new ≡ old ++ encode_utf8_all cs)))

@@ -22,14 +22,14 @@ abbrev pub BeginsChar : List ℕ → Type 0
 BeginsChar bytes = (c : ℕ) × ((front : List ℕ) × ((rest : List ℕ)
     × ((bytes ≡ front ++ rest) × SpellsChar c front)))
 
--- neither a character nor a closing quote stands at the rest; and where more may follow, no matter
--- what does
+-- the rest begins neither with a character nor with a closing quote; if more may follow, on any
+-- continuation
 abbrev pub IsWrong : Bool → List ℕ → Type 0
 IsWrong partial rest = ¬ (StartsWith 34 rest)
     × ((more : List ℕ) → (partial ≡ false → more ≡ []) → ¬ (BeginsChar (rest ++ more)))
 
--- a string is damaged at the rest: its quote and some characters stand before it, and there neither
--- one more character nor the closing quote stands
+-- a string is malformed at the rest, which follows its quote and some characters, and begins
+-- neither with one more character nor with the closing quote
 abbrev pub IsDamagedAt : Bool → List ℕ → List ℕ → Type 0
 IsDamagedAt partial bytes rest = (text : List ℕ) × ((cs : List ℕ)
     × ((bytes ≡ 34 ∷ (text ++ rest)) × SpellsChars cs text × IsWrong partial rest))
@@ -38,9 +38,9 @@ IsDamagedAt partial bytes rest = (text : List ℕ) × ((cs : List ℕ)
 abbrev pub IsBegun : List ℕ → Type 0
 IsBegun bytes = (more : List ℕ) × ((cs : List ℕ) × StringAhead (bytes ++ more) cs [])
 
--- the answer and what remains: a string; or a backtrack, which takes nothing, where no quote stands
--- ahead; or a cut, at the place where the string is damaged; or more input is needed, where more
--- may follow and can make a string of the bytes; or memory was refused
+-- the result and the rest: a string; or a backtrack, which consumes nothing, if the bytes begin
+-- with no quote; or a cut, at the place at which the string is malformed; or more input is needed,
+-- if more may follow and can make a string of the bytes; or memory was refused
 abbrev pub IsStringAnswer : {E : Type 0} → Bool → List ℕ → Result (String Global) (Failure E Needed)
     → List ℕ → Type 0
 IsStringAnswer partial bytes (Ok value) rest =
@@ -60,8 +60,8 @@ IsStringGiven (Err (Cut e)) rest cs after = ⊥
 IsStringGiven (Err (Incomplete n)) rest cs after = ⊥
 IsStringGiven (Err (Refused e)) rest cs after = ⊤
 
--- each string that stands at the front is given, unless memory was refused: none is missed, and no
--- bytes are two strings
+-- each string with which the bytes begin is returned, unless memory was refused: none is missed,
+-- and no bytes are two strings
 abbrev pub GivesEachString : {E : Type 0} → List ℕ → Result (String Global) (Failure E Needed)
     → List ℕ → Type 0
 GivesEachString bytes result rest = (cs after : List ℕ) → StringAhead bytes cs after

@@ -12,10 +12,10 @@ ghost use Rattle.format_json_scalars.specs.Steps.{IsStep};
 
 use std::alloc::AllocError;
 
-// What stands at the front in a string.
+// What the bytes of a string begin with.
 #[derive(Clone, Copy, Debug, Drop, PartialEq, Eq)]
 pub(crate) enum Step {
-    // So many bytes that spell characters
+    // This number of bytes, which spell characters
     Taken(usize),
     // The closing quote
     Ended,
@@ -32,7 +32,7 @@ fn is_plain(byte: u8) -> bool
     byte != b'"' && byte != b'\\' && byte >= 0x20
 }
 
-// Returns the number of plain bytes that stand first.
+// Returns the number of plain bytes with which the bytes begin.
 fn plain_count(bytes: &[u8]) -> usize
     ensures within { result ≤ length bytes.now }
     ensures plain { Each is_plain (take result bytes.now) }
@@ -46,7 +46,7 @@ fn plain_count(bytes: &[u8]) -> usize
     bytes.len()
 }
 
-// Returns the longest front of the bytes that is UTF-8.
+// Returns the longest prefix of the bytes that is UTF-8.
 fn text_front(bytes: &[u8]) -> &str
     ensures text { result.now ≡ take (length result.now) bytes.now }
     ensures longest { IsLongestText bytes.now (length result.now) }
@@ -103,8 +103,8 @@ pub(crate) fn is_cut_text(bytes: &[u8]) -> bool
     is_cut_char(bytes)
 }
 
-// Appends the plain characters at the front of bytes that begin neither with a quote nor with a
-// backslash.
+// Appends the plain characters with which the bytes begin, which begin neither with a quote nor
+// with a backslash.
 pub(crate) fn append_plain(value: &mut String, bytes: &[u8]) -> Result<Step, AllocError>
     requires some { 0 < length bytes.now }
     requires no_quote { ¬ (StartsWith 34 bytes.now) }

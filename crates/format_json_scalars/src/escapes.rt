@@ -7,7 +7,7 @@ ghost use Rattle.format_json_scalars.specs.Strings.{AreHex, hex_number, escaped,
 ghost use Rattle.format_json_scalars.specs.Escapes.{IsEscape, IsPair, FillsLow, low_number};
 ghost use Rattle.format_json_scalars.specs.Escapes.{FillsCode, code_number};
 
-// What stands at the front of some bytes that begin with a backslash.
+// What bytes that begin with a backslash are.
 #[derive(Clone, Copy, Debug, Drop, PartialEq, Eq)]
 pub(crate) enum Escape {
     // An escape of this character, and the number of its bytes

@@ -69,7 +69,7 @@ pub fn is_number_byte(byte: u8) -> bool
     matches!(byte, b'0'..=b'9' | b'-' | b'+' | b'.' | b'e' | b'E')
 }
 
-/// Returns how many bytes stand first that a number may have.
+/// Returns the number of bytes of numbers with which the bytes begin.
 pub fn number_count(bytes: &[u8]) -> usize
     ensures within { result ≤ length bytes.now }
     ensures run { Each is_number_byte (take result bytes.now) }
@@ -83,7 +83,7 @@ pub fn number_count(bytes: &[u8]) -> usize
     bytes.len()
 }
 
-/// Reads a number. It backtracks where none stands, and does not move.
+/// Reads a number. It backtracks if the input starts with none, and does not move.
 pub(crate) fn parse_number<I: StreamIsPartial, E: ParserError<I>>(
     alloc: Global,
     input: &mut I,
@@ -114,11 +114,11 @@ where
     }
 }
 
-/// Reads a number from the front of a stream of bytes, and moves the stream past its end.
+/// Reads a number from a stream of bytes, and moves the stream past its end.
 ///
-/// The number ends where no digit, sign, point or `e` follows. Where what stands up to there is no
-/// number, as in `01` or `1-2`, the parser backtracks and does not move. One byte more is needed
-/// where more may follow and each byte that stands at the front may be one of a number.
+/// The number ends before the first byte that is no digit, sign, point or `e`. If the bytes before
+/// it are no number, as in `01` or `1-2`, the parser backtracks and does not move. One byte more is
+/// needed if more may follow and each byte of the input may be one of a number.
 pub fn read_number<I: StreamIsPartial + Stream<Token = u8>, E: ParserError<I>>(
     alloc: Global,
     input: &mut I,

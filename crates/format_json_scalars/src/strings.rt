@@ -25,7 +25,7 @@ use winnow::{Failure, ModalResult};
 pub enum Reading {
     /// There are no bytes
     Nothing,
-    /// No quote stands first
+    /// The first byte is no quote
     Missing,
     /// A string of this value, and the number of its bytes
     Whole(String, usize),
@@ -35,7 +35,7 @@ pub enum Reading {
     Damaged(usize),
 }
 
-// Appends what stands at the front of the bytes of a string after its opening quote.
+// Appends the character with which the bytes of a string after its opening quote begin.
 fn append_next(value: &mut String, bytes: &[u8]) -> Result<Step, AllocError>
     requires { 0 < length bytes.now }
     ensures { IfOk result
@@ -58,7 +58,7 @@ fn append_next(value: &mut String, bytes: &[u8]) -> Result<Step, AllocError>
     }
 }
 
-/// Reads a string at the front of the bytes.
+/// Reads a string with which the bytes begin.
 pub fn read_bytes(alloc: Global, bytes: &[u8]) -> Result<Reading, AllocError>
     ensures { IfOk result (IsReading bytes.now) }
 {
@@ -99,13 +99,12 @@ pub fn may_be_char(bytes: &[u8]) -> bool
     }
 }
 
-/// Reads a string from the front of a stream of bytes, and moves the stream past its closing quote.
+/// Reads a string from a stream of bytes, and moves the stream past its closing quote.
 ///
-/// The parser backtracks where no quote stands at the front, and does not move. After the quote it
+/// The parser backtracks if the input starts with no quote, and does not move. After the quote it
 /// cuts at the place that is wrong: at the backslash of an escape that is none, at a control
 /// character, at the first byte that is no UTF-8, and at the end of an input that ends before the
-/// closing quote. One byte more is needed where more may follow and can make a string of what
-/// stands at the front.
+/// closing quote. One byte more is needed if more may follow and can make a string of the input.
 pub fn read_string<I: StreamIsPartial + Stream<Token = u8>, E: ParserError<I>>(
     alloc: Global,
     input: &mut I,

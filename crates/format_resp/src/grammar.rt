@@ -260,13 +260,13 @@ where
     read_layer(alloc, input, longest, usize::MAX, by_rule(rule, inner))
 }
 
-/// Reads a reply within these limits from the front of a stream of bytes.
+/// Reads a reply within these limits from a stream of bytes.
 ///
-/// It backtracks where the first byte is that of no kind, and takes nothing then. It cuts at
-/// anything else that is no reply: at the end of the text that is not ended by a line end, at the
-/// start of a line whose integer or length is none, or whose length passes a limit, and where
-/// an array has fewer replies than it says. The length of an array that stands in `depth` arrays
-/// may only be 0. Nothing is allocated for a length that is only announced.
+/// It backtracks if the first byte is that of no kind, and consumes nothing then. It cuts at
+/// anything else that is no reply: at the end of a text that no line end follows, at the start of a
+/// line whose integer or length is none, or whose length passes a limit, and where an array has
+/// fewer replies than it says. The length of an array that stands in `depth` arrays may only be 0.
+/// Nothing is allocated for a length that is only announced.
 pub fn read_reply<I: StreamIsPartial + Stream<Token = u8>, E: ParserError<I>>(
     alloc: Global,
     input: &mut I,

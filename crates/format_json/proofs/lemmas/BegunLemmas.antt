@@ -29,7 +29,7 @@ pub nothing-begins : (b : List ℕ) → length b ≡ 0 → BeginsScalar b
 nothing-begins [] e = inl (null_word, refl)
 nothing-begins (x ∷ b) e = absurd (omega (arith, e))
 
--- bytes that are a front of a word begin it
+-- bytes that are a prefix of a word begin it
 pub word-begins : (bytes word : List ℕ) (i : ℕ) → length bytes ≤ i → take i bytes ≡ take i word
     → BeginsWord word bytes
 word-begins bytes word i all same =

@@ -33,7 +33,7 @@ word-none [] some none begins = absurd (omega (arith, some))
 word-none (x ∷ q) some none (t, (more, is)) =
     let z = sym (word-first x q more t is).0 ∙ none in cc z
 
--- the test says whether the bytes are a front of the word
+-- the test says whether the bytes are a prefix of the word
 pub word-tells : (b word : List ℕ) (t : Token) → 0 < length b
     → lexeme_of t ≡ Word (word_from (get_or b 0 0)) → word ≡ word_from (get_or b 0 0)
     → (answer : Bool) → (answer ≡ true → (r : List ℕ) × (word ≡ b ++ r))

@@ -77,7 +77,7 @@ pub none-here : {T : Type 0} (ahead : T → List ℕ → List ℕ → Type 0) (p
 none-here ahead partial b none v r h =
     none [] (λ p. refl) v r (subst (λ l. ahead v l r) (sym (append-nil b)) h)
 
--- the length of a front and of a front of the rest
+-- the length of a prefix and of a prefix of the rest
 pub fits-both : (b : List ℕ) (at n : ℕ) → at ≤ length b → n ≤ length (drop at b)
     → at + n ≤ length b
 fits-both b at n h k = omega (arith, h, k, length-drop at b)

@@ -42,7 +42,7 @@ module _ (partial : Bool) (depth : ℕ) (b : List ℕ) (at : ℕ) (within : at �
 
 -- ---- Brackets
 
--- where only blanks stand, nothing stands at the front
+-- blanks alone begin with no value
 abbrev pub NoneInBlanks : {T : Type 0} → (T → List ℕ → List ℕ → Type 0) → Type 0
 NoneInBlanks {T} inner = (v : T) (b r : List ℕ) → after_blanks b ≡ [] → ¬ (inner v b r)
 

@@ -34,7 +34,7 @@ damage-after partial bytes rest at n within blanks same (fits, wrong) = (
 )
 
 module _ (partial : Bool) (r : Source ℕ) (t : List ℕ) (same : r ≡ units t) where
-  -- a token that is found stands at the front of the stream
+  -- the input starts with a token that is found
   pub token-answers : (token : Token) (n : ℕ) (new : Source ℕ)
       → IsTokenFound partial t (after_blanks t) (Whole token n) → new ≡ back r n
       → TokenAhead partial token (bytes_of r) (bytes_of new)

@@ -60,7 +60,7 @@ module _ (depth : ℕ) (partial : Bool) where
         (subst (BreaksOff partial depth t) (sym (rest-is r t same n new fits e)) place)
 
     module _ (v : Value) (n : ℕ) (new : Source ℕ) (is : IsReading depth partial t (reading.Whole v n)) (e : new ≡ back r n) where
-      -- a value that is found stands at the front of the stream
+      -- the input starts with a value that is found
       pub value-answers : ValueAhead partial depth v (bytes_of r) (bytes_of new)
       value-answers =
           subst (λ l. ValueAhead partial depth v l (bytes_of new)) (sym (text-is r t same))

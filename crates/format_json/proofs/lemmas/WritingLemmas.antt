@@ -1,4 +1,5 @@
--- A value stands at the front where it was written, and what is refused stands nowhere.
+-- The text that is written of a value begins with that value, and no text begins with a value that
+-- is refused.
 use Rattle.std.proofs.Common.{◌≡◌, ℕ, zero, suc, ◌+◌, ◌<◌, Bool, true, false, if◌then◌else◌, List, [], ◌∷◌, ◌++◌, length, take, drop, map, get_or, Result, Ok, Err, ap, sym, ◌∙◌, subst, refl, arith, append_assoc, append-nil, inl, inr}
 use Rattle.std.specs.List.{All, flat_map}
 use Rattle.std.specs.Result.{IsErrAnd}
@@ -217,7 +218,7 @@ string-appended depth y v is old new e =
     layer-appended (λ partial limit. StringHere) (λ w. written_string (string_bytes w)) y v (open_value.String v) (ap out-Value is ∙ out-string v) refl
     (λ partial limit b r h. h) (λ partial limit b r h. h) depth old new (Ok tt) (e, λ partial rest ends. string-stands v rest)
 
--- what stands at the front as a number is the one that its text writes
+-- a number with which bytes begin is the one that its text writes
 number-written : (partial : Bool) (n : Number) (b r : List ℕ) → NumberHere partial n b r
     → IsWritten n
 number-written partial n b r (t, ((e, is, ends), of)) =

@@ -19,12 +19,12 @@ front-if : (t : Bool) (x : ℕ) (b : List ℕ)
 front-if true x b (front, e) = (x ∷ front, ap (λ l. x ∷ l) e)
 front-if false x b h = ([], refl)
 
--- bytes are blanks and what stands after them
+-- bytes are blanks and the bytes after them
 blanks-front : (b : List ℕ) → (front : List ℕ) × (b ≡ front ++ after_blanks b)
 blanks-front [] = ([], refl)
 blanks-front (x ∷ b) = front-if (is_blank x) x b (blanks-front b)
 
--- a damaged token is what stands before the damage and what follows it
+-- a damaged token is the bytes before the damage and those from it on
 wrong-front : (here rest : List ℕ) → IsWrongAt false here rest
     → (front : List ℕ) × (here ≡ front ++ rest)
 wrong-front here rest (inl (t, (cs, (e, spells, wrong)))) = (34 ∷ t, e)
@@ -55,19 +55,19 @@ module _ (f : ReaderState JsonToken) (place : ℕ) (damage : FindsDamage f place
       subst (λ l. IsWrongAt false (after_blanks f.ahead) l) (append-nil damage.0)
       (subst (λ l. IsWrongAt false (after_blanks l) (damage.0 ++ [])) (append-nil f.ahead) (damage.1.1 [] (none-follows f.ended)))
 
-  -- what stands at the front before the rest
+  -- the bytes before the rest
   damage-front : (front : List ℕ) × (f.ahead ≡ front ++ damage.0)
   damage-front =
       let blanks = blanks-front f.ahead in
       let front = wrong-front (after_blanks f.ahead) damage.0 damage-wrong in
       (blanks.0 ++ front.0, blanks.1 ∙ ap (λ l. blanks.0 ++ l) front.1 ∙ sym (append_assoc blanks.0 front.0 damage.0))
 
-  -- the place is no further back than what stands at the front
+  -- the place is not before the bytes ahead
   pub damage-after : f.place ≤ place
   damage-after =
       omega (arith, damage.1.0, ap length damage-front.1, length-append damage-front.0 damage.0)
 
-  -- nor further on than its end
+  -- the place is not after the bytes ahead
   pub damage-inside : place - f.place ≤ length f.ahead
   damage-inside =
       omega (arith, damage.1.0, ap length damage-front.1, length-append damage-front.0 damage.0)

@@ -1,5 +1,4 @@
--- The tokens of a value that stands at the front may come where a value is expected, and have its
--- events.
+-- The tokens of a value may come if a value is expected, and have its events.
 use Rattle.std.proofs.Common.{◌≡◌, ℕ, zero, suc, ◌+◌, ◌-◌, ◌<◌, ◌≤◌, nat_lt, Bool, false, List, [], ◌∷◌, ◌++◌, ◌⊎◌, inl, inr, length, take, get_or, ap, sym, ◌∙◌, subst, refl, arith, append_assoc, append-nil, length-append}
 use Rattle.std.specs.List.{flat_map}
 use Rattle.std.specs.declared.string.String.{String}
@@ -256,7 +255,8 @@ pub nested-depth : (depth : ℕ) → HasDepth (Nested false depth) depth
 nested-depth zero v b r h = absurd h
 nested-depth (suc depth) v b r h = omega arith
 
--- the value stands at the front, no matter where it may come, as tokens that have its events
+-- bytes that begin with a value begin with tokens that may come if a value is expected, and have
+-- its events
 abbrev ValueRuns : (Value → List ℕ → List ℕ → Type 0) → ℕ → Type 0
 ValueRuns inner depth = (v : Value) (s : TextState) → ExpectsValue s → HasRoom s depth
     → (b r : List ℕ) → inner v b r → Runs s b (events_of v) (past s) r

@@ -10,16 +10,16 @@ use Rattle.format_json_scalars.specs.CutChars.{is_cut_char}
 use Rattle.format_json_scalars.specs.Escapes.{MayBeChar, IsNoChar}
 use Rattle.format_json_scalars.proofs.lemmas.PlainLemmas.{plain-taken, plain-wrong, plain-begun}
 
--- where no character begins whatever follows, no bytes make one
+-- if the bytes begin with no character on any continuation, no bytes make one
 pub no-may : (b : List ℕ) → IsNoChar b → ¬ (MayBeChar b)
 no-may b none (more, (c, (some, spells))) =
     none more (c, (b ++ more, ([], (sym (append-nil (b ++ more)), spells))))
 
--- a character may follow nothing
+-- more bytes make a character of no bytes
 empty-may : MayBeChar []
 empty-may = (97 ∷ [], (97, ((λ e. cc e), inl (refl, refl, sym (encode_ascii 97 (omega arith))))))
 
--- so it may where there are no bytes
+-- more bytes make a character of bytes that are none
 pub nothing-may : (b : List ℕ) → length b ≡ 0 → MayBeChar b
 nothing-may [] e = empty-may
 nothing-may (x ∷ b) e = absurd (omega (arith, e))
@@ -36,7 +36,7 @@ spelled-some (c ∷ cs) b n some inside (f, (r, (e, one, more))) =
     (c, (f, (r ++ drop n b, (sym (take-append-drop n b) ∙ ap (λ l. l ++ drop n b) e ∙ append_assoc f r (drop n b), one))))
 
 module _ (b : List ℕ) (count : ℕ) (inside : count ≤ length b) (plain : Each is_plain (take count b)) (none : ¬ (BeginsChar b)) where
-  -- where no character begins, no front of the plain bytes is a text
+  -- if no character begins, no prefix of the plain bytes is a text
   run-no_text : (m : ℕ) → 0 < m → m ≤ length (take count b) → ¬ (IsUtf8 (take m (take count b)))
   run-no_text m some short text =
       let on = plain-taken b count m inside plain short text in

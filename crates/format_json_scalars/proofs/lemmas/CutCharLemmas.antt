@@ -107,9 +107,9 @@ CanFinish-cut (a ∷ b ∷ x ∷ y ∷ rest) cut =
     let n = length (a ∷ b ∷ x ∷ y ∷ rest) in
     absurd (cc (rw (eqb_false n 1 (omega arith), eqb_false n 2 (omega arith), eqb_false n 3 (omega arith)) at cut))
 
--- ---- A proper front of a character is one that breaks off
+-- ---- A proper prefix of a character is one that breaks off
 
--- a proper front of a character of two bytes breaks off
+-- a proper prefix of a character of two bytes breaks off
 cut_of_two : (c k : ℕ) → 128 ≤ c → c < 2048 → 0 < k → k < length (encode_utf8 c)
     → is_cut_char (take k (encode_utf8 c)) ≡ true
 unfolding encode_utf8
@@ -213,7 +213,7 @@ after_first c k some short =
       ]
     ]
 
--- ---- Bytes of which no front is a text
+-- ---- Bytes of which no prefix is a text
 
 -- a character has a byte
 wide : (c : ℕ) → 0 < length (encode_utf8 c)

@@ -11,7 +11,7 @@ use Rattle.format_json_scalars.proofs.lemmas.SpellingLemmas.{writes-once, IsEsca
 
 -- ---- Pairs
 
--- each front of the escape of a second surrogate fills in to one
+-- each prefix of the escape of a second surrogate fills in to one
 fills-low : (rest more tail : List ℕ) (e f g h : ℕ) → rest ++ more ≡ 92 ∷ 117 ∷ e ∷ f ∷ g ∷ h ∷ tail
     → AreHex e f g h → IsLow (hex_number e f g h) → FillsLow rest
 fills-low [] more tail e f g h is hex low = (refl, refl, (omega arith, omega arith, omega arith, omega arith), (omega arith, omega arith))
@@ -117,7 +117,7 @@ module _ (high a b c d : ℕ) (is_high : IsHigh high) (hex : AreHex a b c d) (va
 
 -- ---- Codes
 
--- each front of digits that write no second surrogate fills in to such digits
+-- each prefix of digits that write no second surrogate fills in to such digits
 fills-code : (rest more tail : List ℕ) (e f g h : ℕ) → rest ++ more ≡ e ∷ f ∷ g ∷ h ∷ tail
     → AreHex e f g h → ¬ (IsLow (hex_number e f g h)) → FillsCode rest
 fills-code [] more tail e f g h is hex no_low = ((omega arith, omega arith, omega arith, omega arith), λ low. absurd (omega (arith, low.0)))

@@ -107,7 +107,7 @@ module _ {S : Type 0} (is_slice : S → Source ℕ → ℕ → Type 0) (bytes : 
   number-need (Err (Incomplete n)) h = h.0
   number-need (Err (Refused e)) h = tt
 
-  -- no longer number stands at the front
+  -- the bytes begin with no longer number
   pub number-longest : (result : Result Number (Failure E Needed)) → HasPositiveWidths a.tokens
       → NumberRun itself is_slice bytes partial a (outcome result b)
       → IfOk result (IsLongest (bytes_of a.tokens))
@@ -117,7 +117,7 @@ module _ {S : Type 0} (is_slice : S → Source ℕ → ℕ → Type 0) (bytes : 
       subst (λ t. length text ≤ length t) (sym is.0) on
   number-longest (Err failure) wide h = tt
 
-  -- each number that stands at the front is given
+  -- each number with which the bytes begin is returned
   pub number-each : (result : Result Number (Failure E Needed)) → HasPositiveWidths a.tokens
       → NumberRun itself is_slice bytes partial a (outcome result b)
       → GivesEachNumber partial (bytes_of a.tokens) result (bytes_of b.tokens)

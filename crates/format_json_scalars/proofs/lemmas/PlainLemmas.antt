@@ -39,7 +39,7 @@ spells-plain (c ∷ cs) scalar each =
     let parts = both _ _ scalar in
     (encode_utf8 c, (encode_utf8_all cs, (refl, inl (parts.0, char-plain c (encode_utf8_all cs) each, refl), spells-plain cs parts.1 (each-after is_plain (encode_utf8 c) (encode_utf8_all cs) each))))
 
--- the test holds of each byte of a front, if it holds of all
+-- the test holds of each byte of a prefix, if it holds of all
 each-front : (test : ℕ → Bool) (xs ys : List ℕ) → Each test (xs ++ ys) → Each test xs
 each-front test [] ys h = tt
 each-front test (x ∷ xs) ys h = (h.0, each-front test xs ys h.1)
@@ -50,7 +50,7 @@ pub each-more : (xs : List ℕ) (b : ℕ) → Each is_plain xs → is_plain b �
 each-more [] b h e = (e, tt)
 each-more (x ∷ xs) b h e = (h.0, each-more xs b h.1 e)
 
--- a front of the plain bytes that is UTF-8 spells its characters
+-- a prefix of the plain bytes that is UTF-8 spells its characters
 pub plain-taken : (bytes : List ℕ) (count whole : ℕ) → count ≤ length bytes
     → Each is_plain (take count bytes) → whole ≤ length (take count bytes)
     → IsUtf8 (take whole (take count bytes))
@@ -72,7 +72,7 @@ false_unless_true false h = refl
 special-ascii : (b : ℕ) → ¬ (is_plain b ≡ true) → b < 128
 special-ascii b h = elim (leb_tells 128 b) [ inl p ↦ absurd (h (wide-plain b p.1)) | inr p ↦ p.1 ]
 
--- no front of the run is a text
+-- no prefix of the run is a text
 abbrev pub HasNoText : List ℕ → Type 0
 HasNoText run = (m : ℕ) → 0 < m → m ≤ length run → ¬ (IsUtf8 (take m run))
 

@@ -137,7 +137,7 @@ chars-spelled (c ∷ cs) h =
     let parts = both _ _ h in
     (flat_map written_byte (encode_utf8 c), (flat_map written_byte (encode_utf8_all cs), (flat_map-append written_byte (encode_utf8 c) (encode_utf8_all cs), char-spelled c parts.0, chars-spelled cs parts.1)))
 
--- a string stands at the front where it was written, no matter what follows
+-- the text that is written of a string begins with that string, before each continuation
 pub string-stands : (v : String Global) (rest : List ℕ)
     → StringHere v (written_string (string_bytes v) ++ rest) rest
 string-stands v rest =

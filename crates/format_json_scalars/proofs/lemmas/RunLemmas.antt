@@ -88,7 +88,7 @@ module _ {S : Type 0} (is_slice : S → Source ℕ → ℕ → Type 0) (bytes : 
   run-fails Refuses a wide h = held-fails is_slice holds 1 partial a Refuses (omega arith) h
 
   module _ (t s : List ℕ) (some : 1 ≤ length t) (is : fact t) (each : Each holds t) (ends : EndsRun holds partial s) where
-    -- the run that stands at the front is the one that is given
+    -- the run with which the bytes begin is the one that is returned
     pub run-once : (x : S) (a b : Ahead ℕ) → HasPositiveWidths a.tokens
         → bytes_of a.tokens ≡ t ++ s → Run itself is_slice bytes holds fact partial a (Gives x b)
         → (bytes x ≡ t) × (bytes_of b.tokens ≡ s)
@@ -96,7 +96,7 @@ module _ {S : Type 0} (is_slice : S → Source ℕ → ℕ → Type 0) (bytes : 
         let given = run-given x a b wide h in
         split-once holds (bytes x) (bytes_of b.tokens) t s given.2 given.3.0 each ends.0 (sym given.0 ∙ e)
 
-    -- where a run stands at the front, one is given
+    -- if the bytes begin with a run, one is returned
     pub run-missed : (f : Failed ℕ) (a : Ahead ℕ) → HasPositiveWidths a.tokens
         → bytes_of a.tokens ≡ t ++ s → ¬ (Run itself is_slice bytes holds fact partial a (Fails f))
     run-missed (Backtracks b) a wide e (inl h) =

@@ -83,7 +83,7 @@ pair-letter : (c d : ℕ) (t u r s : List ℕ) → IsPairEscape c t → IsLetter
 pair-letter c d t u r s (h, (l, (a, (b, (is, first, second, high, low, code))))) letter e =
     writes-letter h d a u (b ++ r) s first letter (two-texts t a b r _ is e)
 
--- two escapes at the front of the same bytes are of one character, and end at one place
+-- two escapes with which the same bytes begin are of one character, and end at one place
 escapes-once : (c d : ℕ) (t u r s : List ℕ) → IsEscapeOf c t → IsEscapeOf d u → t ++ r ≡ u ++ s
     → (c ≡ d) × (r ≡ s)
 escapes-once c d t u r s (inl p) (inl q) e = letters-once c d t u r s p q e
@@ -129,7 +129,7 @@ pub spelling-escape : (c : ℕ) (t r s : List ℕ) → SpellsChar c t → t ++ r
 spelling-escape c t r s (inl p) e = absurd (plain-no-special c 92 t r s p (omega arith) refl e)
 spelling-escape c t r s (inr p) e = p
 
--- two spellings at the front of the same bytes are of one character, and end at one place
+-- two spellings with which the same bytes begin are of one character, and end at one place
 pub spelling-once : (c d : ℕ) (t u r s : List ℕ) → SpellsChar c t → SpellsChar d u → t ++ r ≡ u ++ s
     → (c ≡ d) × (r ≡ s)
 spelling-once c d t u r s (inl p) (inl q) e =

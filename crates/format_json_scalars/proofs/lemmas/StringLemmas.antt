@@ -86,7 +86,7 @@ read-on bytes old new at n (within, (text, (cs, (is, spells, value)))) (some, fi
       ),
     )
 
--- where the closing quote stands at the front, the string is whole
+-- if the rest begins with the closing quote, the string is whole
 pub read-ends : (bytes : List ℕ) (at : ℕ) (value : String Global)
     → HasRead bytes at value.bytes.items → StartsWith 34 (drop at bytes) → at < length bytes
     → IsReading bytes (reading.Whole value (at + 1))
@@ -107,7 +107,7 @@ read-ends bytes at value (within, (text, (cs, (is, spells, has)))) quote inside 
   ),
 )
 
--- where none stands at the front, the string stops
+-- if the rest begins with no quote, the string stops
 pub read-stops : (bytes value : List ℕ) (at : ℕ) → HasRead bytes at value
     → ¬ (StartsWith 34 (drop at bytes)) → StopsAt bytes at
 read-stops bytes value at (within, (text, (cs, (is, spells, has)))) no_quote =
@@ -164,7 +164,7 @@ spells-none [] w d s none e no_quote =
 spells-none (c ∷ es) w d s (f, (g, (is, one, more))) e no_quote =
     (c, (f, (g ++ 34 ∷ s, (e ∙ ap (λ l. l ++ 34 ∷ s) is ∙ append_assoc f g (34 ∷ s), one))))
 
--- where a string stops and no character stands at the front, none stands there
+-- if a string stops and the rest begins with no character, the bytes begin with no string
 pub stops-none : (bytes ds after : List ℕ) (n : ℕ) → StopsAt bytes n → ¬ (BeginsChar (drop n bytes))
     → ¬ (StringAhead bytes ds after)
 stops-none bytes ds after n (within, no_quote, (t, (cs, (is, spells)))) none (u, (so, also)) =

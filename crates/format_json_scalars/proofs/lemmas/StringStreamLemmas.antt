@@ -34,7 +34,7 @@ pub read-as : (t : List ℕ) (result : Result Reading AllocError) (x y : Reading
 read-as t result x y is e same =
     subst (IsReading t) same (subst (λ q. IfOk q (IsReading t)) e is)
 
--- a stream that takes a front moves on
+-- a stream that consumes a prefix advances
 pub moved-to : (a b : Option ℕ) (r new : Source ℕ) (n : ℕ) → IsTrue (is_offset r n)
     → b ≡ location_behind a n → new ≡ back r n → MovesOn a b r new
 moved-to a b r new n fits place rest =
@@ -45,11 +45,11 @@ module _ (r : Source ℕ) (t : List ℕ) (same : r ≡ units t) where
   pub text-is : bytes_of r ≡ t
   text-is = ap bytes_of same ∙ bytes-units t
 
-  -- the lengths of fronts are offsets
+  -- the lengths of prefixes are offsets
   pub offset-fits : (n : ℕ) → n ≤ length t → IsTrue (is_offset r n)
   offset-fits n h = subst (λ q. IsTrue (is_offset q n)) (sym same) (is_offset-from_le t n h)
 
-  -- the bytes that remain after a front
+  -- the bytes that remain after a prefix
   pub rest-is : (n : ℕ) (new : Source ℕ) → n ≤ length t → new ≡ back r n → bytes_of new ≡ drop n t
   rest-is n new h e =
       ap bytes_of (e ∙ ap (λ q. back q n) same ∙ sym (units-drop t n h)) ∙ bytes-units (drop n t)
@@ -67,7 +67,7 @@ module _ (r : Source ℕ) (t : List ℕ) (same : r ≡ units t) where
   pub not-empty : ¬ (t ≡ []) → ¬ (bytes_of r ≡ [])
   not-empty some e = some (sym text-is ∙ e)
 
-  -- a whole string stands at the front of the stream
+  -- the input starts with a whole string
   pub whole-answers : (v : String Global) (n : ℕ) (new : Source ℕ) → IsReading t (reading.Whole v n)
       → new ≡ back r n
       → (cs : List ℕ) × (StringAhead (bytes_of r) cs (bytes_of new) × HasChars v cs)

@@ -23,7 +23,7 @@ use Rattle.format_resp.proofs.lemmas.PartLemmas.{length-line-of, line-whole, lin
 abbrev pub HasFault : Cause → List ℕ → List ℕ → Type 0
 HasFault cause bytes rest = (before : List ℕ) × ((bytes ≡ before ++ rest) × IsFault cause before rest)
 
--- the bytes of a source are those that stand at the front, and the rest
+-- the bytes of a source are those with which it begins, and the rest
 ahead-bytes : (r s : Source ℕ) (t : List ℕ) → IsAhead r t s → bytes_of r ≡ t ++ bytes_of s
 ahead-bytes r s t h = ap bytes_of h.1.0 ∙ map-append (λ x. x.0) h.0 s ∙ ap (λ u. u ++ bytes_of s) h.1.1
 

@@ -35,21 +35,21 @@ not-true : (b : Bool) → ¬ (b ≡ true) → b ≡ false
 not-true true h = absurd (h refl)
 not-true false h = refl
 
--- what follows a front of this length
+-- the bytes after a prefix of this length
 drop-length : (p q : List ℕ) → drop (length p) (p ++ q) ≡ q
 drop-length [] q = refl
 drop-length (x ∷ p) q = drop-length p q
 
--- what follows a front
+-- the bytes after a prefix
 pub drop-front : (n : ℕ) (p q : List ℕ) → n ≡ length p → drop n (p ++ q) ≡ q
 drop-front n p q e = ap (λ m. drop m (p ++ q)) e ∙ drop-length p q
 
--- the front of this length
+-- the prefix of this length
 take-length : (p q : List ℕ) → take (length p) (p ++ q) ≡ p
 take-length [] q = refl
 take-length (x ∷ p) q = ap (λ t. x ∷ t) (take-length p q)
 
--- the front
+-- the prefix
 pub take-front : (n : ℕ) (p q : List ℕ) → n ≡ length p → take n (p ++ q) ≡ p
 take-front n p q e = ap (λ m. take m (p ++ q)) e ∙ take-length p q
 
