@@ -4,8 +4,8 @@ use Rattle.std.specs.declared.io.ErrorKind.{ErrorKind}
 use Rattle.std.specs.declared.io.ErrorKind.TheVariants as kind
 use Rattle.winnow_script_text.specs.Fault.{fault_text}
 use Rattle.winnow_script_text.specs.declared.fault.ScriptFault.TheVariants as fault
-use Rattle.winnow_script_input.specs.declared.failure.Failure.{Failure}
-use Rattle.winnow_script_input.specs.declared.failure.Failure.TheVariants.{Script, InputOrOutput}
+use Rattle.winnow_script_text.specs.declared.failure.Failure.{Failure}
+use Rattle.winnow_script_text.specs.declared.failure.Failure.TheVariants.{Script, InputOrOutput}
 
 -- the exit status for a failure
 abbrev pub status_of : Failure → ℕ

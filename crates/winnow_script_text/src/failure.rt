@@ -2,17 +2,19 @@
 
 ghost use Rattle.std.specs.Prelude.{◌≡◌, Some};
 ghost use Rattle.std.specs.IoError.{error_kind};
-ghost use Rattle.winnow_script_input.specs.Failure.{status_of, failure_text, failure_of};
-ghost use Rattle.winnow_script_input.specs.declared.failure.Failure.TheVariants.{Script};
+ghost use Rattle.winnow_script_text.specs.Failure.{status_of, failure_text, failure_of};
+ghost use Rattle.winnow_script_text.specs.declared.failure.Failure.TheVariants.{Script};
 
+use crate::ScriptFault;
 use std::fmt;
 use std::io::{self, ErrorKind};
-use winnow_script_text::ScriptFault;
 
 /// The reason why the program ends with a status other than 0.
 #[derive(Debug, Drop, PartialEq, Eq)]
 pub enum Failure {
+    /// The script is faulty, or memory was refused
     Script(ScriptFault),
+    /// Reading or writing failed, or the script is too long
     InputOrOutput,
 }
 

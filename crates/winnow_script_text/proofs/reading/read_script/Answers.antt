@@ -1,7 +1,7 @@
 use Rattle.std.proofs.Common.{◌≡◌, ℕ, ◌<◌, ◌≤◌, List, length, take, Option, Some, None, ap, ◌∙◌, arith}
 use Rattle.std.specs.Prelude.{IfSome, option_map}
 use Rattle.std.proofs.lemmas.List.{take_all, length-take}
-use Rattle.winnow_script_input.proofs.inputs.read_input.Goals as goal
+use Rattle.winnow_script_text.proofs.reading.read_script.Goals as goal
 
 -- if fewer bytes than the limit were read, all bytes were read
 whole_below : (known : Option (List ℕ)) (limit : ℕ) (read : List ℕ)

@@ -1,4 +1,4 @@
-//! `read_input`, which reads a reader to its end, up to a limit on bytes.
+//! `read_script`, which reads a reader to its end, up to a limit on bytes.
 
 ghost use Rattle.std.specs.Prelude.{◌≡◌, ◌≤◌, IfOk, IfSome, vec_len};
 
@@ -10,7 +10,7 @@ use std::io::Read;
 const MAX_INPUT: u64 = 1_048_576;
 
 /// Returns the bytes of a reader to its end, if there are not too many.
-pub fn read_input<R: Read + Drop>(alloc: Global, reader: R) -> Result<Vec<u8>, Failure>
+pub fn read_script<R: Read + Drop>(alloc: Global, reader: R) -> Result<Vec<u8>, Failure>
     ensures within { IfOk result (λ input. vec_len input ≤ MAX_INPUT) }
     ensures whole { IfOk result (λ input.
         IfSome (R.remaining reader) (λ bytes. input.items ≡ bytes)) }
