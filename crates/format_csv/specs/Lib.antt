@@ -1,7 +1,8 @@
 pub mod Fields
-pub mod Records
+pub mod Grammar
 pub mod Gathering
 pub mod Meanings
+pub mod Damage
 pub mod Answers
 pub mod Tables
 pub mod Writing
