@@ -1,5 +1,5 @@
 pub mod Fields
-pub mod Grammar
+pub mod Language
 pub mod Gathering
 pub mod Meanings
 pub mod Damage

@@ -2,7 +2,7 @@
 use Rattle.std.specs.Prelude.{◌≡◌, ℕ, ◌-◌, false, List, [], ◌∷◌, length, map, ◌⊎◌}
 use Rattle.std.specs.declared.vec.Vec.{Vec}
 use Rattle.std.specs.declared.alloc.Global.{Global}
-use Rattle.format_csv.specs.Grammar.{RecordAhead}
+use Rattle.format_csv.specs.Language.{RecordAhead}
 use Rattle.format_csv.specs.Answers.{values_of}
 use Rattle.format_csv.specs.Damage.{BreaksOff, IsUnclosed}
 use Rattle.format_csv.specs.declared.tables.Damage.{Damage}

@@ -4,7 +4,7 @@ use Rattle.std.specs.List.{flat_map, list_any}
 use Rattle.std.specs.declared.vec.Vec.{Vec}
 use Rattle.std.specs.declared.alloc.Global.{Global}
 use Rattle.format_csv.specs.Fields.{is_special, doubled}
-use Rattle.format_csv.specs.Grammar.{RecordAhead}
+use Rattle.format_csv.specs.Language.{RecordAhead}
 
 -- the values of some fields
 abbrev pub values_in : List (Vec ℕ Global) → List (List ℕ)

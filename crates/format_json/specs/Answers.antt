@@ -3,7 +3,7 @@ use Rattle.std.specs.Prelude.{◌≡◌, ℕ, suc, ◌≤◌, Bool, true, false,
 use Rattle.winnow_stream.specs.declared.needed.Needed.{Needed}
 use Rattle.winnow_parser.specs.declared.failure.Failure.{Failure}
 use Rattle.winnow_parser.specs.declared.failure.Failure.TheVariants.{Incomplete, Backtrack, Cut, Refused}
-use Rattle.format_json.specs.Grammar.{after_blanks, ValueAhead}
+use Rattle.format_json.specs.Language.{after_blanks, ValueAhead}
 use Rattle.format_json.specs.SameValues.{SameValue}
 use Rattle.format_json.specs.Founds.{HasNone, IsFound}
 use Rattle.format_json.specs.Damage.{BreaksOff}

@@ -5,7 +5,7 @@ use Rattle.std.specs.declared.alloc.Global.{Global}
 use Rattle.format_lemmas.specs.Bytes.{EndsRun}
 use Rattle.format_json_scalars.specs.Numbers.{is_number_byte}
 use Rattle.format_json_scalars.specs.Meanings.{IsWritten}
-use Rattle.format_json.specs.Grammar.{MemberAhead, Bracketed, Nested, ValueAhead}
+use Rattle.format_json.specs.Language.{MemberAhead, Bracketed, Nested, ValueAhead}
 use Rattle.format_json.specs.Writing.{listed, written, written_member}
 use Rattle.format_json_scalars.specs.declared.numbers.Number.{Number}
 use Rattle.format_json.specs.declared.value.Value.{Value}

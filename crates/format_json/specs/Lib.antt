@@ -6,7 +6,7 @@ pub use Rattle.format_json_scalars.specs.Strings
 pub use Rattle.format_json_scalars.specs.StringAnswers
 pub use Rattle.format_json_scalars.specs.Quoting
 -- Values and tokens.
-pub mod Grammar
+pub mod Language
 pub mod Founds
 pub mod Damage
 pub mod Begun

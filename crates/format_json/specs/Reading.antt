@@ -2,7 +2,7 @@
 use Rattle.std.specs.Prelude.{◌≡◌, ℕ, ◌+◌, Bool, false, List, [], ◌∷◌, ◌++◌, length}
 use Rattle.winnow.specs.State.{ReaderState}
 use Rattle.winnow.specs.Reading.{MayFollow}
-use Rattle.format_json.specs.Grammar.{after_blanks}
+use Rattle.format_json.specs.Language.{after_blanks}
 use Rattle.format_json.specs.Tokens.{TokenAhead}
 use Rattle.format_json.specs.TokenAnswers.{IsWrongAt}
 use Rattle.format_json.specs.declared.tokens.Token.{Token}

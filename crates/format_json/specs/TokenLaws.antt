@@ -8,7 +8,7 @@ use Rattle.winnow_parser.specs.Laws.{longer, IsStable, IsFinal, IsOnward, IsPars
 use Rattle.format_lemmas.specs.Bytes.{Each, StartsWith, EndsRun, bytes_of}
 use Rattle.format_json_scalars.specs.Numbers.{is_number_byte}
 use Rattle.format_json_scalars.specs.StringAnswers.{BeginsChar, IsWrong}
-use Rattle.format_json.specs.Grammar.{is_blank, after_blanks}
+use Rattle.format_json.specs.Language.{is_blank, after_blanks}
 use Rattle.format_json.specs.Founds.{HasNone}
 use Rattle.format_json.specs.Tokens.{Lexeme, Word, Digits, Quoted, Ending, lexeme_of, LexemeHere, TokenHere, TokenAhead}
 use Rattle.format_json.specs.TokenAnswers.{IsNoToken, IsWrongAt, OneToken}

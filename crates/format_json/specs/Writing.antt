@@ -7,7 +7,7 @@ use Rattle.std.specs.declared.string.String.{String}
 use Rattle.std.specs.declared.alloc.Global.{Global}
 use Rattle.format_lemmas.specs.Bytes.{EndsRun}
 use Rattle.format_json_scalars.specs.Numbers.{is_number_byte}
-use Rattle.format_json.specs.Grammar.{null_word, bool_word, ValueAhead}
+use Rattle.format_json.specs.Language.{null_word, bool_word, ValueAhead}
 use Rattle.format_json.specs.Documents.{IsDocument}
 use Rattle.format_json_scalars.specs.Quoting.{written_string}
 use Rattle.format_json.specs.declared.value.Value.{Value}

@@ -1,7 +1,7 @@
 //! Blanks, and the next byte after them.
 
 ghost use Rattle.std.specs.Prelude.{◌≡◌, ◌≤◌, length, drop};
-ghost use Rattle.format_json.specs.Grammar.{is_blank, after_blanks, WordAhead};
+ghost use Rattle.format_json.specs.Language.{is_blank, after_blanks, WordAhead};
 ghost use Rattle.format_json.specs.Founds.{IsFound, IsNext, IsByte};
 ghost use Rattle.format_json.specs.Damage.{ByteIsMissing, IsPlaced};
 ghost use Rattle.format_json.specs.Begun.{BeginsWord, IsOpen};

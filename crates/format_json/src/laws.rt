@@ -5,7 +5,7 @@ ghost use Rattle.winnow.specs.State.{ReaderState};
 ghost use Rattle.winnow.specs.Reading.{HasRead};
 ghost use Rattle.winnow.specs.Answering.{FailsAt};
 ghost use Rattle.winnow_parser.specs.Determined.{IsDetermined, Shows};
-ghost use Rattle.format_json.specs.Grammar.{ValueAhead};
+ghost use Rattle.format_json.specs.Language.{ValueAhead};
 ghost use Rattle.format_json.specs.Damage.{BreaksOff};
 ghost use Rattle.format_json.specs.Documents.{IsDocument, IsOnlyDocument, IsDamage};
 ghost use Rattle.format_json.specs.SameValues.{SameValue};

@@ -4,7 +4,7 @@ ghost use Rattle.std.specs.Prelude.{◌≡◌, ℕ, IfOk};
 ghost use Rattle.format_lemmas.specs.Bytes.{StartsWith};
 ghost use Rattle.format_json_scalars.specs.Numbers.{BeginsNumber};
 ghost use Rattle.format_json_scalars.specs.StringAnswers.{IsBegun, StringHere};
-ghost use Rattle.format_json.specs.Grammar.{ValueHere};
+ghost use Rattle.format_json.specs.Language.{ValueHere};
 ghost use Rattle.format_json_scalars.specs.NumberAnswers.{NumberHere};
 ghost use Rattle.format_json.specs.Founds.{IsFound, IsWord};
 ghost use Rattle.format_json.specs.Damage.{StringBreaksOff, ScalarBreaksOff, IsPlaced};

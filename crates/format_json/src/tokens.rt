@@ -3,7 +3,7 @@
 ghost use Rattle.std.specs.Prelude.{◌≡◌, ◌<◌, true, [], length, IfOk, MatchOption};
 ghost use Rattle.format_lemmas.specs.Bytes.{StartsWith, Starts};
 ghost use Rattle.format_json_scalars.specs.Numbers.{Tells, is_number_byte};
-ghost use Rattle.format_json.specs.Grammar.{after_blanks};
+ghost use Rattle.format_json.specs.Language.{after_blanks};
 ghost use Rattle.format_json.specs.Tokens.{Word, lexeme_of, word_from};
 ghost use Rattle.format_json.specs.TokenAnswers.{BeginsWord, IsTokenFound};
 

@@ -2,7 +2,7 @@
 
 ghost use Rattle.std.specs.Prelude.{◌≡◌, ◌++◌, OnOk, OnErr, IfErr};
 ghost use Rattle.format_json.specs.Documents.{IsDocument};
-ghost use Rattle.format_json.specs.Grammar.{ValueAhead};
+ghost use Rattle.format_json.specs.Language.{ValueAhead};
 ghost use Rattle.format_json.specs.Writing.{written, IsReadBack, IsWhy};
 ghost use Rattle.format_json.specs.Appending.{ArrayHere, array_text, MemberHere, member_text};
 ghost use Rattle.format_json.specs.Appending.{ObjectHere, object_text};

@@ -5,7 +5,7 @@ use Rattle.winnow.specs.Reading.{HasRead, Lacks}
 use Rattle.winnow.specs.SameValues.{IsThrough}
 use Rattle.winnow_reader.specs.declared.next.Next.{Next}
 use Rattle.winnow_reader.specs.declared.next.Next.TheVariants as next
-use Rattle.format_json.specs.Grammar.{after_blanks}
+use Rattle.format_json.specs.Language.{after_blanks}
 use Rattle.format_json.specs.Tokens.{TokenAhead}
 use Rattle.format_json.specs.TokenAnswers.{OneToken}
 use Rattle.format_json.specs.Reading.{FindsDamage}

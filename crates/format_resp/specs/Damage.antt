@@ -4,7 +4,7 @@
 use Rattle.std.specs.Prelude.{◌≡◌, ℕ, zero, suc, ◌<◌, Bool, true, if◌then◌else◌, List, [], ◌∷◌, length, Option, Some, IfSome, IsFalse, ◌⊎◌}
 use Rattle.winnow_stream.specs.Source.{Source, first_token}
 use Rattle.format_lemmas.specs.Bytes.{bytes_of, StartsWith}
-use Rattle.format_resp.specs.Grammar.{is_in_line, IsText, line, IsInteger, IsLength, greatest_count, SpellAll, SpellsNone, Spells}
+use Rattle.format_resp.specs.Language.{is_in_line, IsText, line, IsInteger, IsLength, greatest_count, SpellAll, SpellsNone, Spells}
 use Rattle.format_resp.specs.Meanings.{is_kind, most_digits}
 use Rattle.format_resp.specs.Ahead.{IsAhead}
 use Rattle.format_resp.specs.declared.reply.Reply.{Reply}

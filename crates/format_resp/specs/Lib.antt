@@ -1,4 +1,4 @@
-pub mod Grammar
+pub mod Language
 pub mod Contents
 pub mod Writing
 pub mod Numbers

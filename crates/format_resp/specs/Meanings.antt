@@ -22,7 +22,7 @@ use Rattle.winnow_combinator.specs.Counts.{Ascending, IsParser-Ascending}
 use Rattle.winnow_combinator.specs.Ending.{IsFail, IsParser-IsFail}
 use Rattle.winnow_combinator.specs.Repeat.{Repeats, IsParser-Repeats}
 use Rattle.winnow_combinator.specs.Gathering.{Gathered, IsParser-Gathered}
-use Rattle.format_resp.specs.Grammar.{is_in_line, IsInteger, IsLength, greatest_count}
+use Rattle.format_resp.specs.Language.{is_in_line, IsInteger, IsLength, greatest_count}
 use Rattle.format_resp.specs.declared.reply.Reply.{Reply}
 use Rattle.format_resp.specs.declared.reply.Reply.TheOpen.{Simple, Error, Integer, Bulk, NullBulk, Array, NullArray}
 use Rattle.format_resp.specs.declared.reply.Reply.TheViews.{out-Reply}

@@ -2,7 +2,7 @@
 
 ghost use Rattle.std.specs.Prelude.{◌≡◌, ◌≢◌, ℕ, true, List, ◌++◌, Result, Err};
 ghost use Rattle.winnow_stream.specs.Source.{Source};
-ghost use Rattle.format_resp.specs.Grammar.{Spells};
+ghost use Rattle.format_resp.specs.Language.{Spells};
 ghost use Rattle.format_resp.specs.Writing.{is_writable, written, TellsLineEnd, IsWithin};
 ghost use Rattle.format_resp.specs.Ahead.{IsAhead};
 ghost use Rattle.format_resp.specs.Answers.{StandsAhead};

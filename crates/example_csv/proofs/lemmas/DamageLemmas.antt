@@ -7,7 +7,7 @@ use Rattle.std.specs.Io.KnownBytes.{Keeps}
 use Rattle.winnow.specs.State.{ReaderState, fed_of}
 use Rattle.winnow.specs.Reading.{MayFollow, HasRead}
 use Rattle.winnow.specs.SameValues.{IsThrough}
-use Rattle.format_csv.specs.Grammar.{RecordAhead}
+use Rattle.format_csv.specs.Language.{RecordAhead}
 use Rattle.format_csv.specs.Answers.{values_of}
 use Rattle.format_csv.specs.Widths.{RowVec}
 use Rattle.format_csv.specs.Tables.{rows_in, AreRecords, IsDamagedAt}

@@ -4,7 +4,7 @@ use Rattle.std.specs.Prelude.{min, Option, None, Some, IfSome, Result, Ok, Err, 
 use Rattle.std.specs.Io.KnownBytes.{Appends}
 use Rattle.winnow.specs.Reading.{MayFollow}
 use Rattle.format_json.specs.Quoting.{written_string}
-use Rattle.format_json.specs.Grammar.{bool_word}
+use Rattle.format_json.specs.Language.{bool_word}
 use Rattle.format_json.specs.SameValues.{SameAll}
 use Rattle.format_json.specs.Documents.{IsDocument, IsDamage}
 use Rattle.format_json_events.specs.Reading.{EventState, HasGiven, GivesOn, IsWhole, IsNext}

@@ -16,7 +16,7 @@ use Rattle.winnow_parser.specs.Laws.{longer}
 use Rattle.winnow_parser.specs.Answer.{outcome}
 use Rattle.format_lemmas.specs.Bytes.{bytes_of}
 use Rattle.format_lemmas.proofs.lemmas.ByteLemmas.{some, none-left, positive-both, bytes-longer}
-use Rattle.format_csv.specs.Grammar.{SpellsRecord, EndsRecord, RecordAhead}
+use Rattle.format_csv.specs.Language.{SpellsRecord, EndsRecord, RecordAhead}
 use Rattle.format_csv.specs.Meanings.{OneRow, IsParser-OneRow}
 use Rattle.format_csv.specs.Answers.{values_of, IsAnswer, GivesEach, IsBegun}
 use Rattle.format_csv.specs.Damage.{BreaksOff, IsUnclosed}

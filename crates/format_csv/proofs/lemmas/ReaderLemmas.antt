@@ -20,7 +20,7 @@ use Rattle.winnow.specs.SameValues.{IsThrough}
 use Rattle.format_lemmas.specs.Bytes.{bytes_of}
 use Rattle.format_lemmas.proofs.lemmas.TokenLemmas.{positive-moved}
 use Rattle.format_lemmas.proofs.lemmas.ByteLemmas.{bytes-units}
-use Rattle.format_csv.specs.Grammar.{RecordAhead}
+use Rattle.format_csv.specs.Language.{RecordAhead}
 use Rattle.format_csv.specs.Answers.{values_of}
 use Rattle.format_csv.specs.Meanings.{IsParser-OneRow}
 use Rattle.format_csv.specs.Widths.{RowVec}

@@ -20,7 +20,7 @@ use Rattle.format_lemmas.specs.Bytes.{Each, bytes_of, StartsWith}
 use Rattle.format_lemmas.proofs.lemmas.ByteLemmas.{heads, tails, begins, none-left}
 use Rattle.format_lemmas.proofs.lemmas.TokenLemmas.{positive-moved, byte-given, byte-missing}
 use Rattle.format_csv.specs.Fields.{is_plain, twice, doubled, SpellsField}
-use Rattle.format_csv.specs.Grammar.{SpellsMore, SpellsRecord, EndsRecord}
+use Rattle.format_csv.specs.Language.{SpellsMore, SpellsRecord, EndsRecord}
 use Rattle.format_csv.specs.Meanings.{Byte, AnyField, FieldList, RecordEnd, IsParser-AnyField}
 use Rattle.format_csv.specs.Answers.{values_of}
 use Rattle.format_csv.specs.Damage.{IsUnclosed}

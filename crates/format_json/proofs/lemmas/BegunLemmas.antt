@@ -4,7 +4,7 @@ use Rattle.std.proofs.lemmas.List.{drop-drop}
 use Rattle.std.specs.declared.string.String.{String}
 use Rattle.std.specs.declared.alloc.Global.{Global}
 use Rattle.format_lemmas.specs.Bytes.{StartsWith}
-use Rattle.format_json.specs.Grammar.{after_blanks, null_word}
+use Rattle.format_json.specs.Language.{after_blanks, null_word}
 use Rattle.format_json_scalars.specs.StringAnswers.{StringHere}
 use Rattle.format_json.specs.Damage.{EachWithComma}
 use Rattle.format_json.specs.Begun.{BeginsWord, BeginsScalar, BeginsElements, BeginsBrackets, BeginsMember, BeginsHere, BeginsArray, BeginsObject, IsOpen}

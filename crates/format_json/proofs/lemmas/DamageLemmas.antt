@@ -5,7 +5,7 @@ use Rattle.std.specs.Prelude.{Result, Ok, Err, IfOk}
 use Rattle.std.specs.declared.string.String.{String}
 use Rattle.std.specs.declared.alloc.Global.{Global}
 use Rattle.format_lemmas.specs.Bytes.{StartsWith}
-use Rattle.format_json.specs.Grammar.{after_blanks, ValueHere}
+use Rattle.format_json.specs.Language.{after_blanks, ValueHere}
 use Rattle.format_json_scalars.specs.StringAnswers.{StringHere}
 use Rattle.format_json.specs.Founds.{IsFound, IsNext}
 use Rattle.format_json.specs.Damage.{StringBreaksOff, ByteIsMissing, EachWithComma, ElementsBreakOff, BracketsBreakOff, MemberBreaksOff, HereBreaksOff, BreaksOff, ArrayBreaksOff, ObjectBreaksOff, ScalarBreaksOff, IsPlaced}

@@ -1,7 +1,7 @@
 -- Texts that are no value, from what is found in them.
 use Rattle.std.proofs.Common.{◌≡◌, ℕ, suc, ◌+◌, ◌-◌, ◌≤◌, false, List, length, take, drop, inr, ap, sym, ◌∙◌, subst, arith, length-drop}
 use Rattle.std.proofs.lemmas.List.{take_rest, drop-drop}
-use Rattle.format_json.specs.Grammar.{after_blanks, ValueAhead}
+use Rattle.format_json.specs.Language.{after_blanks, ValueAhead}
 use Rattle.format_json.specs.Founds.{IsFound}
 use Rattle.format_json.specs.Documents.{IsDocument, IsOnlyDocument, TextBreaksOff}
 use Rattle.format_json.specs.declared.value.Value.{Value}

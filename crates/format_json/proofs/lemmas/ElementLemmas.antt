@@ -4,7 +4,7 @@ use Rattle.std.proofs.lemmas.List.{take_rest}
 use Rattle.std.specs.declared.alloc.Global.{Global}
 use Rattle.std.specs.declared.vec.Vec.{Vec}
 use Rattle.format_lemmas.specs.Bytes.{StartsWith}
-use Rattle.format_json.specs.Grammar.{MemberAhead, Elements, Bracketed, Nested}
+use Rattle.format_json.specs.Language.{MemberAhead, Elements, Bracketed, Nested}
 use Rattle.format_json.specs.Founds.{IsFound, IsNext, IsByte}
 use Rattle.format_json.specs.Begun.{BeginsElements, BeginsBrackets, IsOpen}
 use Rattle.format_json.specs.Damage.{ByteIsMissing, ElementsBreakOff, BracketsBreakOff, IsTooDeep, IsPlaced}

@@ -3,7 +3,7 @@ use Rattle.std.proofs.Common.{◌≡◌, ℕ, ◌+◌, ◌<◌, ◌≤◌, Bool,
 use Rattle.std.proofs.lemmas.List.{drop_more, drop-drop}
 use Rattle.format_lemmas.specs.Bytes.{Each, StartsWith}
 use Rattle.format_lemmas.proofs.lemmas.ByteLemmas.{heads, tails}
-use Rattle.format_json.specs.Grammar.{after_blanks, Elements}
+use Rattle.format_json.specs.Language.{after_blanks, Elements}
 use Rattle.format_json.specs.Founds.{MayFollow, HasNone, IsFound, GoesNotOn}
 use Rattle.format_json.specs.Damage.{EachWithComma}
 use Rattle.format_json.specs.declared.found.Found.{Found}

@@ -6,7 +6,7 @@ use Rattle.std.specs.declared.vec.Vec.{Vec}
 use Rattle.format_lemmas.specs.Bytes.{EndsRun}
 use Rattle.format_lemmas.proofs.lemmas.ByteLemmas.{heads, tails}
 use Rattle.format_json_scalars.specs.Numbers.{IsNumber, is_number_byte}
-use Rattle.format_json.specs.Grammar.{is_blank, after_blanks, null_word, bool_word, WordAhead, MemberAhead, Elements, Inside, Bracketed, Layer, Nested}
+use Rattle.format_json.specs.Language.{is_blank, after_blanks, null_word, bool_word, WordAhead, MemberAhead, Elements, Inside, Bracketed, Layer, Nested}
 use Rattle.format_json_scalars.specs.StringAnswers.{StringHere}
 use Rattle.format_json_scalars.specs.NumberAnswers.{NumberHere}
 use Rattle.format_json.specs.Founds.{MayFollow}

@@ -14,7 +14,7 @@ use Rattle.format_lemmas.proofs.lemmas.ByteLemmas.{heads, tails, length-bytes, e
 use Rattle.format_json_scalars.specs.Numbers.{IsNumber, is_number_byte}
 use Rattle.format_json_scalars.specs.Strings.{SpellsChars, StringAhead}
 use Rattle.format_json_scalars.specs.StringAnswers.{BeginsChar, IsWrong, IsDamagedAt, IsBegun}
-use Rattle.format_json.specs.Grammar.{after_blanks}
+use Rattle.format_json.specs.Language.{after_blanks}
 use Rattle.format_json_scalars.specs.NumberAnswers.{NumberHere}
 use Rattle.format_json.specs.Founds.{MayFollow, HasNone, IsFound}
 use Rattle.format_json.specs.Tokens.{Lexeme, Word, Digits, Quoted, Ending, lexeme_of, LexemeHere, TokenHere, word_from}

@@ -5,7 +5,7 @@ use Rattle.std.specs.declared.alloc.Global.{Global}
 use Rattle.std.specs.declared.vec.Vec.{Vec}
 use Rattle.format_lemmas.specs.Bytes.{StartsWith}
 use Rattle.format_json_scalars.specs.Numbers.{is_number_byte}
-use Rattle.format_json.specs.Grammar.{MemberAhead, Bracketed, Layer, Nested, ValueHere, null_word, bool_word}
+use Rattle.format_json.specs.Language.{MemberAhead, Bracketed, Layer, Nested, ValueHere, null_word, bool_word}
 use Rattle.format_json_scalars.specs.StringAnswers.{StringHere}
 use Rattle.format_json_scalars.specs.NumberAnswers.{NumberHere}
 use Rattle.format_json.specs.Founds.{IsFound, IsWord}

@@ -6,7 +6,7 @@ use Rattle.format_lemmas.specs.Bytes.{StartsWith}
 use Rattle.format_lemmas.proofs.lemmas.ByteLemmas.{heads, tails}
 use Rattle.format_json_scalars.specs.Strings.{SpellsChars}
 use Rattle.format_json_scalars.specs.StringAnswers.{BeginsChar, IsWrong, IsDamagedAt, StringHere}
-use Rattle.format_json.specs.Grammar.{after_blanks, MemberAhead, Elements, Inside, Bracketed, Layer, Nested, ValueHere}
+use Rattle.format_json.specs.Language.{after_blanks, MemberAhead, Elements, Inside, Bracketed, Layer, Nested, ValueHere}
 use Rattle.format_json.specs.Damage.{BeginsNoOther, StringBreaksOff, ByteIsMissing, EachWithComma, ElementBreaksOff, ElementsBreakOff, BracketsBreakOff, IsTooDeep, AfterNameBreaksOff, MemberBreaksOff, LayerBreaksOff, HereBreaksOff, BreaksOff}
 use Rattle.format_json.specs.declared.value.Value.{Value}
 use Rattle.format_json.specs.declared.value.Value.TheOpen as open_value

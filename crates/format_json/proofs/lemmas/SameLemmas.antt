@@ -8,7 +8,7 @@ use Rattle.std.specs.declared.alloc.Global.{Global}
 use Rattle.winnow_count.specs.Reading.{IsSomeExactly, ReadsSigned}
 use Rattle.format_lemmas.proofs.lemmas.ByteLemmas.{heads, tails}
 use Rattle.format_json_scalars.specs.Numbers.{is_number_byte}
-use Rattle.format_json.specs.Grammar.{after_blanks, MemberAhead, Elements, Inside, Bracketed, Layer, Nested}
+use Rattle.format_json.specs.Language.{after_blanks, MemberAhead, Elements, Inside, Bracketed, Layer, Nested}
 use Rattle.format_json_scalars.specs.StringAnswers.{StringHere}
 use Rattle.format_json_scalars.specs.NumberAnswers.{NumberHere}
 use Rattle.format_json.specs.SameValues.{SameAll, SameMember, SameLayer, SameValue}

@@ -6,7 +6,7 @@ use Rattle.std.proofs.lemmas.List.{drop-drop}
 use Rattle.winnow_stream.specs.Source.{Source, units}
 use Rattle.winnow_stream.specs.Front.{back}
 use Rattle.format_lemmas.specs.Bytes.{bytes_of}
-use Rattle.format_json.specs.Grammar.{after_blanks}
+use Rattle.format_json.specs.Language.{after_blanks}
 use Rattle.format_json.specs.Tokens.{TokenAhead}
 use Rattle.format_json.specs.TokenAnswers.{IsWrongAt, MayBecome, IsTokenFound}
 use Rattle.format_json.specs.declared.found.Found.{Found}

@@ -5,7 +5,7 @@ use Rattle.std.specs.declared.alloc.AllocError.{AllocError}
 use Rattle.winnow_stream.specs.Source.{Source, units}
 use Rattle.winnow_stream.specs.Front.{back}
 use Rattle.format_lemmas.specs.Bytes.{bytes_of}
-use Rattle.format_json.specs.Grammar.{after_blanks, ValueAhead}
+use Rattle.format_json.specs.Language.{after_blanks, ValueAhead}
 use Rattle.format_json.specs.Founds.{HasNone}
 use Rattle.format_json.specs.Damage.{BreaksOff}
 use Rattle.format_json.specs.Begun.{BeginsValue}

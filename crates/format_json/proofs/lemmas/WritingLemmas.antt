@@ -16,7 +16,7 @@ use Rattle.winnow_count.specs.Reading.{IsSomeExactly, ReadsSigned}
 use Rattle.format_lemmas.specs.Bytes.{EndsRun}
 use Rattle.format_json_scalars.specs.Numbers.{IsNumber, is_number_byte}
 use Rattle.format_json_scalars.specs.Meanings.{IsWritten}
-use Rattle.format_json.specs.Grammar.{is_blank, after_blanks, Elements, Bracketed, Layer, Nested, ValueHere, ValueAhead}
+use Rattle.format_json.specs.Language.{is_blank, after_blanks, Elements, Bracketed, Layer, Nested, ValueHere, ValueAhead}
 use Rattle.format_json_scalars.specs.StringAnswers.{StringHere}
 use Rattle.format_json_scalars.specs.NumberAnswers.{NumberHere}
 use Rattle.format_json_scalars.specs.Quoting.{written_string}

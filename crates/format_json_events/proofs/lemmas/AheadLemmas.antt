@@ -5,7 +5,7 @@ use Rattle.winnow.specs.State.{ReaderState}
 use Rattle.winnow.specs.Reading.{MayFollow}
 use Rattle.format_lemmas.specs.Bytes.{StartsWith}
 use Rattle.format_json_scalars.specs.StringAnswers.{BeginsChar}
-use Rattle.format_json.specs.Grammar.{is_blank, after_blanks}
+use Rattle.format_json.specs.Language.{is_blank, after_blanks}
 use Rattle.format_json.specs.TokenAnswers.{IsWrongAt}
 use Rattle.format_json.specs.Reading.{FindsDamage}
 use Rattle.format_json_events.specs.Reading.{ahead_from}

@@ -4,7 +4,7 @@ use Rattle.std.specs.declared.string.String.{String}
 use Rattle.std.specs.declared.alloc.Global.{Global}
 use Rattle.winnow.specs.State.{ReaderState}
 use Rattle.format_lemmas.specs.Bytes.{StartsWith}
-use Rattle.format_json.specs.Grammar.{after_blanks}
+use Rattle.format_json.specs.Language.{after_blanks}
 use Rattle.format_json.specs.Reading.{FindsDamage}
 use Rattle.format_json_events.specs.Turns.{TextState, takes_scalar, scalar_bar, begins_plain, bar_at, bar_from, turn_of}
 use Rattle.format_json_events.specs.Reading.{IsAllowed, token_place, bar_ahead, IsNoNext, error_at}

@@ -4,7 +4,7 @@ use Rattle.std.proofs.lemmas.Bool.{ltb-false, le-ltb}
 use Rattle.std.specs.declared.string.String.{String}
 use Rattle.std.specs.declared.alloc.Global.{Global}
 use Rattle.format_lemmas.specs.Bytes.{StartsWith}
-use Rattle.format_json.specs.Grammar.{after_blanks, MemberAhead, Layer, Nested, ValueAhead, ValueHere}
+use Rattle.format_json.specs.Language.{after_blanks, MemberAhead, Layer, Nested, ValueAhead, ValueHere}
 use Rattle.format_json_scalars.specs.StringAnswers.{StringHere}
 use Rattle.format_json.specs.Damage.{NoneBegins, ByteIsMissing, EachWithComma, ElementBreaksOff, ElementsBreakOff, IsTooDeep, MemberBreaksOff, LayerBreaksOff, HereBreaksOff}
 use Rattle.format_json.specs.Documents.{TextBreaksOff}

@@ -4,7 +4,7 @@ use Rattle.std.specs.Prelude.{Ok, Err}
 use Rattle.winnow.specs.State.{ReaderState}
 use Rattle.winnow.specs.Reading.{MayFollow, HasRead, Lacks}
 use Rattle.winnow_reader.specs.declared.next.Next.TheVariants.{NeedsMore}
-use Rattle.format_json.specs.Grammar.{after_blanks}
+use Rattle.format_json.specs.Language.{after_blanks}
 use Rattle.format_json.specs.Documents.{IsDocument, IsDamage}
 use Rattle.format_json.specs.Tokens.{TokenAhead}
 use Rattle.format_json.specs.TokenAnswers.{OneToken}

@@ -1,6 +1,6 @@
 -- Where a text that is a value is read to, the rest of its events come next.
 use Rattle.std.proofs.Common.{◌≡◌, ℕ, suc, false, List, [], ◌∷◌, ◌++◌, nat_lt, length, ap, sym, ◌∙◌, subst, refl, append_assoc, inl, arith}
-use Rattle.format_json.specs.Grammar.{after_blanks}
+use Rattle.format_json.specs.Language.{after_blanks}
 use Rattle.format_json.specs.Documents.{IsDocument}
 use Rattle.format_json.specs.SameValues.{SameAll}
 use Rattle.format_json.specs.Tokens.{TokenAhead}

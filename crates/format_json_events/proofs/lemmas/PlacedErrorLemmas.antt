@@ -8,7 +8,7 @@ use Rattle.winnow.specs.Reading.{MayFollow}
 use Rattle.format_lemmas.specs.Bytes.{StartsWith}
 use Rattle.format_lemmas.proofs.lemmas.ByteLemmas.{heads}
 use Rattle.format_json_scalars.specs.Numbers.{is_number_byte}
-use Rattle.format_json.specs.Grammar.{after_blanks}
+use Rattle.format_json.specs.Language.{after_blanks}
 use Rattle.format_json.specs.Tokens.{Lexeme, Word, Digits, Quoted, Ending, lexeme_of, TokenHere, TokenAhead}
 use Rattle.format_json.specs.TokenAnswers.{IsWrongAt}
 use Rattle.format_json.specs.Reading.{AreTokens, FindsDamage}

@@ -13,7 +13,7 @@ use Rattle.winnow.specs.State.{fed_of}
 use Rattle.winnow.specs.Reading.{Reads, MayFollow}
 use Rattle.format_lemmas.specs.Bytes.{bytes_of}
 use Rattle.format_lemmas.proofs.lemmas.ByteLemmas.{bytes-units}
-use Rattle.format_json.specs.Grammar.{is_blank, after_blanks}
+use Rattle.format_json.specs.Language.{is_blank, after_blanks}
 use Rattle.format_json.specs.TokenAnswers.{OneToken}
 use Rattle.format_json_events.specs.Reading.{EventState, HasGiven}
 use Rattle.format_json.specs.declared.tokens.Token.{Token}

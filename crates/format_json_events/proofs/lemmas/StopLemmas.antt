@@ -2,7 +2,7 @@
 use Rattle.std.proofs.Common.{◌≡◌, ℕ, true, false, List, [], ◌∷◌, ◌++◌, length, drop, None, inl, inr, ap, sym, ◌∙◌, subst, refl, arith, length-drop}
 use Rattle.format_lemmas.specs.Bytes.{StartsWith}
 use Rattle.format_json_scalars.specs.StringAnswers.{IsDamagedAt}
-use Rattle.format_json.specs.Grammar.{after_blanks}
+use Rattle.format_json.specs.Language.{after_blanks}
 use Rattle.format_json.specs.Documents.{IsDocument}
 use Rattle.format_json.specs.Tokens.{TokenAhead}
 use Rattle.format_json.specs.Reading.{AreTokens}

@@ -6,7 +6,7 @@ use Rattle.winnow.specs.Place.{bytes_at}
 use Rattle.winnow.specs.Reading.{MayFollow}
 use Rattle.format_lemmas.specs.Bytes.{bytes_of}
 use Rattle.format_lemmas.proofs.lemmas.ByteLemmas.{bytes-units}
-use Rattle.format_json.specs.Grammar.{is_blank, after_blanks}
+use Rattle.format_json.specs.Language.{is_blank, after_blanks}
 use Rattle.format_json.specs.Tokens.{TokenHere, TokenAhead}
 use Rattle.format_json.specs.TokenAnswers.{OneToken}
 use Rattle.format_json.specs.declared.tokens.Token.{Token}

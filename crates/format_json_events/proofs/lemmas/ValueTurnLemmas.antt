@@ -7,7 +7,7 @@ use Rattle.std.proofs.Math.Seq.{take-append_seam, get_or-append_seam}
 use Rattle.std.proofs.lemmas.Bool.{le-ltb}
 use Rattle.std.proofs.lemmas.List.Folds.{flat_map-map}
 use Rattle.std.proofs.lemmas.Option.{unwrap_or-slice_get}
-use Rattle.format_json.specs.Grammar.{after_blanks, MemberAhead, Elements, Inside, Layer, Nested}
+use Rattle.format_json.specs.Language.{after_blanks, MemberAhead, Elements, Inside, Layer, Nested}
 use Rattle.format_json_scalars.specs.NumberAnswers.{NumberHere}
 use Rattle.format_json.specs.Tokens.{Digits, LexemeHere, TokenHere, TokenAhead}
 use Rattle.format_json.specs.Reading.{AreTokens}

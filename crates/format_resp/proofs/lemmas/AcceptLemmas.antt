@@ -20,7 +20,7 @@ use Rattle.winnow_combinator.specs.Gathering.{Gathered}
 use Rattle.format_lemmas.specs.Bytes.{bytes_of}
 use Rattle.format_lemmas.proofs.lemmas.TokenLemmas.{itself}
 use Rattle.format_lemmas.proofs.lemmas.ByteLemmas.{length-bytes}
-use Rattle.format_resp.specs.Grammar.{line_end, is_in_line, AreInLine, IsText, line, IsInteger, IsLength}
+use Rattle.format_resp.specs.Language.{line_end, is_in_line, AreInLine, IsText, line, IsInteger, IsLength}
 use Rattle.format_resp.specs.Meanings.{most_digits, LineEnd, Line, Text, Number, Length, Bytes, HasBytes}
 use Rattle.format_resp.specs.Ahead.{IsAhead}
 use Rattle.format_resp.proofs.lemmas.AheadLemmas.{ahead-split, ahead-wide, ahead-first, ahead-none, take-seam}

@@ -16,7 +16,7 @@ use Rattle.winnow_combinator.specs.Ending.{IsFail}
 use Rattle.format_lemmas.proofs.lemmas.TokenLemmas.{itself}
 use Rattle.format_lemmas.proofs.lemmas.ByteLemmas.{positive-both}
 use Rattle.format_resp.specs.Meanings.{is_kind, BulkOf, ArrayOf, Body, Layer, Nested, IsParser-Nested}
-use Rattle.format_resp.specs.Grammar.{greatest_count}
+use Rattle.format_resp.specs.Language.{greatest_count}
 use Rattle.format_resp.specs.Answers.{HasNoReply, IsBegun, CannotBeReply, IsAnswer, GivesEach}
 use Rattle.format_resp.specs.declared.reply.Reply.{Reply}
 use Rattle.format_resp.proofs.lemmas.ReplyLemmas.{yields-nested, reads-nested}

@@ -16,7 +16,7 @@ use Rattle.winnow_combinator.specs.Repeat.{Repeats, Taking}
 use Rattle.winnow_combinator.specs.Gathering.{Gathered}
 use Rattle.format_lemmas.specs.Bytes.{bytes_of, StartsWith}
 use Rattle.format_lemmas.proofs.lemmas.TokenLemmas.{itself, byte-missing}
-use Rattle.format_resp.specs.Grammar.{line, IsInteger, IsLength, greatest_count, SpellsNone, Spells}
+use Rattle.format_resp.specs.Language.{line, IsInteger, IsLength, greatest_count, SpellsNone, Spells}
 use Rattle.format_resp.specs.Meanings.{is_kind, most_digits, HasReplies, LineEnd, Line, Text, Length, Bytes, BulkString, Elements, ArrayReply, Body, Layer, Nested}
 use Rattle.format_resp.specs.Ahead.{IsAhead}
 use Rattle.format_resp.specs.Damage.{HasNoKind, cause_at, EndBreaksOff, LineBreaksOff, NumberBreaksOff, IsWrongInteger, IsWrongLength, BytesBreakOff, BulkBreaksOff, ElementsBreakOff, ArrayBreaksOff, BodyBreaksOff, LayerBreaksOff, BeginsNone, StopsAt, BreaksOff}

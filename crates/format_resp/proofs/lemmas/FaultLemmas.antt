@@ -5,7 +5,7 @@ use Rattle.std.proofs.lemmas.Bool.Decides.{nat_tests}
 use Rattle.std.proofs.lemmas.List.{append-nil, map-append, append_cancel_right}
 use Rattle.winnow_stream.specs.Source.{Source}
 use Rattle.format_lemmas.specs.Bytes.{bytes_of, StartsWith}
-use Rattle.format_resp.specs.Grammar.{is_in_line, AreInLine, line, no_length, IsInteger, IsLength, greatest_count, SpellAll, SpellsLayer, SpellsNone, Spells}
+use Rattle.format_resp.specs.Language.{is_in_line, AreInLine, line, no_length, IsInteger, IsLength, greatest_count, SpellAll, SpellsLayer, SpellsNone, Spells}
 use Rattle.format_resp.specs.Meanings.{most_digits}
 use Rattle.format_resp.specs.Ahead.{IsAhead}
 use Rattle.format_resp.specs.Damage.{cause_at, EndsText, LineBreaksOff, NumberBreaksOff, IsWrongInteger, IsWrongLength, BulkBreaksOff, ArrayBreaksOff, BodyBreaksOff, LayerBreaksOff, BeginsNone, StopsAt, BreaksOff}

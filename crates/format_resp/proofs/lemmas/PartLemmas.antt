@@ -11,7 +11,7 @@ use Rattle.std.proofs.lemmas.Option.{none-some, same_Some}
 use Rattle.std.proofs.lemmas.Slice.Eq.{slice_eq-Decides}
 use Rattle.winnow_count.specs.Reading.{IsSomeExactly}
 use Rattle.format_lemmas.specs.Bytes.{Starts}
-use Rattle.format_resp.specs.Grammar.{is_in_line, AreInLine, line, line_end, no_length, IsLength}
+use Rattle.format_resp.specs.Language.{is_in_line, AreInLine, line, line_end, no_length, IsLength}
 use Rattle.format_resp.specs.Parts.{text_width, begins_end, line_width, count_of, held_width, whole_width, part_width, EndsIn, EndsInPart, is_short, lacks_held, is_fewer}
 use Rattle.format_resp.proofs.lemmas.AheadLemmas.{conses}
 use Rattle.format_resp.proofs.lemmas.NumberLemmas.{no-minus, length-line}

@@ -15,7 +15,7 @@ use Rattle.winnow_combinator.specs.Ending.{IsFail}
 use Rattle.winnow_combinator.specs.Repeat.{Repeats, Taking, InTurn}
 use Rattle.winnow_combinator.specs.Gathering.{Gathered}
 use Rattle.format_lemmas.proofs.lemmas.TokenLemmas.{itself}
-use Rattle.format_resp.specs.Grammar.{line, no_length, IsText, IsInteger, IsLength, greatest_count, SpellAll, SpellsLayer, SpellsNone, Spells}
+use Rattle.format_resp.specs.Language.{line, no_length, IsText, IsInteger, IsLength, greatest_count, SpellAll, SpellsLayer, SpellsNone, Spells}
 use Rattle.format_resp.specs.Meanings.{IsSimple, IsError, IsNumber, IsBulk, IsNullBulk, IsArray, IsNullArray, is_kind, HasReplies, IsSame, IsCode, Text, Number, Length, Bytes, BulkOf, BulkString, Elements, ArrayOf, ArrayReply, Body, Layer, Nested}
 use Rattle.format_resp.specs.Ahead.{IsAhead}
 use Rattle.format_resp.specs.Contents.{Value, simple, error, integer, bulk, array, values_of, layer_contents, contents}

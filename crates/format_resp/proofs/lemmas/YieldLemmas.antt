@@ -18,7 +18,7 @@ use Rattle.winnow_token.specs.Take.{Takes}
 use Rattle.format_lemmas.specs.Bytes.{bytes_of}
 use Rattle.format_lemmas.proofs.lemmas.TokenLemmas.{itself, each-held, all-held}
 use Rattle.format_lemmas.proofs.lemmas.ByteLemmas.{bytes-units, length-bytes}
-use Rattle.format_resp.specs.Grammar.{line_end, is_in_line, IsText, line, IsInteger, IsLength}
+use Rattle.format_resp.specs.Language.{line_end, is_in_line, IsText, line, IsInteger, IsLength}
 use Rattle.format_resp.specs.Meanings.{most_digits, LineEnd, Line, Text, Number, Length, Bytes}
 use Rattle.format_resp.specs.Ahead.{IsAhead}
 use Rattle.format_resp.specs.Damage.{EndsText}

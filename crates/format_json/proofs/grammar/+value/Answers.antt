@@ -2,7 +2,7 @@ use Rattle.std.proofs.Common.{inl, rules, ◌≡◌, ◌∷◌, ◌<◌, suc, �
 use Rattle.std.proofs.lemmas.Result.{IfOk-weaker}
 use Rattle.std.proofs.lemmas.List.{take_rest, drop-drop}
 use Rattle.std.proofs.lemmas.Bool.Decides.{nat_tests}
-use Rattle.format_json.specs.Grammar.{after_blanks, Nested, MemberAhead, ValueHere}
+use Rattle.format_json.specs.Language.{after_blanks, Nested, MemberAhead, ValueHere}
 use Rattle.format_json.specs.Founds.{IsFound, IsByte, ByteAhead}
 use Rattle.format_json_scalars.specs.StringAnswers.{IsBegun, StringHere}
 use Rattle.format_json.specs.Begun.{BeginsScalar, BeginsHere, BeginsValue, BeginsElementsIn, BeginsMemberIn, BeginsMembersIn, BeginsArray, BeginsObject, IsOpen}

@@ -1,5 +1,5 @@
 use Rattle.std.proofs.Common.{suc, ◌+◌, ◌-◌, ◌*◌, length}
-use Rattle.format_json.specs.Grammar.{Nested, MemberAhead}
+use Rattle.format_json.specs.Language.{Nested, MemberAhead}
 use Rattle.format_json.proofs.lemmas.FoundLemmas.{HasRead}
 use Rattle.format_json.proofs.grammar.+value.Given as goal
 

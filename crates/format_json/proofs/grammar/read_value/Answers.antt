@@ -1,6 +1,6 @@
 use Rattle.std.proofs.Common.{◌≡◌, [], refl, sym, subst}
 use Rattle.winnow_stream.specs.Source.{units}
-use Rattle.format_json.specs.Grammar.{after_blanks}
+use Rattle.format_json.specs.Language.{after_blanks}
 use Rattle.format_json.specs.Answers.{IsReading}
 use Rattle.format_json.specs.declared.grammar.Reading.TheVariants.{Nothing, Whole, Begun, Damaged}
 use Rattle.format_json_scalars.proofs.lemmas.StringStreamLemmas.{source-is, moved-to, offset-fits, text-is}

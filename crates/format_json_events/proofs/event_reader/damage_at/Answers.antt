@@ -3,7 +3,7 @@ use Rattle.std.proofs.lemmas.List.{take_rest}
 use Rattle.format_lemmas.specs.Bytes.{StartsWith}
 use Rattle.format_json_scalars.specs.Numbers.{Tells}
 use Rattle.format_json_scalars.specs.StringAnswers.{BeginsChar}
-use Rattle.format_json.specs.Grammar.{after_blanks}
+use Rattle.format_json.specs.Language.{after_blanks}
 use Rattle.format_json.specs.Causes.{cause_of, IsCut}
 use Rattle.format_json_events.specs.Turns.{state_of, bar_from}
 use Rattle.format_json_events.specs.Reading.{ahead_from, IsNoNext}

@@ -1,7 +1,7 @@
 use Rattle.std.proofs.Common.{ap, sym, ◌∙◌, subst}
 use Rattle.winnow_stream.specs.Source.{units}
 use Rattle.winnow_stream.proofs.lemmas.UnitLemmas.{front-units, units-same}
-use Rattle.format_json.specs.Grammar.{after_blanks}
+use Rattle.format_json.specs.Language.{after_blanks}
 use Rattle.format_json.specs.TokenAnswers.{IsTokenFound}
 use Rattle.format_json.specs.declared.found.Found.TheVariants.{Whole, Begun, Damaged}
 use Rattle.format_json_scalars.proofs.lemmas.StringStreamLemmas.{moved-to, offset-fits}
