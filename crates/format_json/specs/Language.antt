@@ -3,10 +3,8 @@
 use Rattle.std.specs.Prelude.{◌≡◌, ℕ, zero, suc, ◌==◌, Bool, true, false, ◌||◌, if◌then◌else◌, List, [], ◌∷◌, ◌++◌}
 use Rattle.std.specs.declared.string.String.{String}
 use Rattle.std.specs.declared.alloc.Global.{Global}
-use Rattle.format_json_scalars.specs.Meanings.{IsNumberOf}
-use Rattle.format_json_scalars.specs.Strings.{StringAhead}
-use Rattle.format_json_scalars.specs.StringAnswers.{HasChars}
-use Rattle.format_json_scalars.specs.NumberAnswers.{NumberAhead}
+use Rattle.format_json_scalars.specs.StringAnswers.{StringHere}
+use Rattle.format_json_scalars.specs.NumberAnswers.{NumberHere}
 use Rattle.format_json_scalars.specs.declared.numbers.Number.{Number}
 use Rattle.format_json.specs.declared.value.Value.{Value}
 use Rattle.format_json.specs.declared.value.Value.TheOpen as open_value
