@@ -5,7 +5,6 @@ use Rattle.std.specs.declared.alloc.Global.{Global}
 use Rattle.winnow_stream.specs.declared.needed.Needed.{Needed}
 use Rattle.winnow_parser.specs.declared.failure.Failure.{Failure}
 use Rattle.winnow_parser.specs.declared.failure.Failure.TheVariants.{Incomplete, Backtrack, Cut, Refused}
-use Rattle.format_lemmas.specs.Bytes.{StartsWith}
 use Rattle.format_csv.specs.Language.{RecordAhead}
 use Rattle.format_csv.specs.Damage.{BreaksOff, IsUnclosed}
 

@@ -1,5 +1,6 @@
 -- Where a record breaks off, and whether its closing quote is missing.
 use Rattle.std.specs.Prelude.{◌≡◌, ℕ, Bool, List, [], ◌∷◌, ◌++◌}
+use Rattle.format_lemmas.specs.Bytes.{StartsWith}
 use Rattle.format_csv.specs.Language.{SpellsRecord, EndsRecord}
 
 -- a record breaks off at the rest: fields stand before it, and it begins neither with a comma nor
