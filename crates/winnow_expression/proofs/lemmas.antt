@@ -1,0 +1,3 @@
+pub mod ThenLemmas
+pub mod TurnLemmas
+pub mod LayerLemmas
