@@ -13,11 +13,11 @@ use Rattle.winnow_expression.specs.declared.level.Level.TheVariants.{AtLeast}
 use Rattle.winnow_expression.specs.declared.operators.Infix.{Infix}
 use Rattle.winnow_expression.specs.declared.turn.Turn.{Turn}
 
-module _ {O A B C T : Type 0} (operand : Meaning O T) (prefix : Meaning (ℤ × A) T) (before : A → O → Meaning O T) (postfix : Meaning (ℤ × B) T) (after : B → O → Meaning O T) (infix : Meaning (Infix C) T) (joins : O → C → O → Meaning O T) where
+module _ {O A B C T : Type 0} (operand : Meaning O T) (prefixes : Meaning (ℤ × A) T) (before : A → O → Meaning O T) (postfixes : Meaning (ℤ × B) T) (after : B → O → Meaning O T) (infixes : Meaning (Infix C) T) (joins : O → C → O → Meaning O T) where
   -- a prefix operator, and an expression of operators of its power and greater ones, to which it is
   -- applied
   abbrev pub IsPrefixed : (Level → Meaning O T) → Meaning O T
-  IsPrefixed side = Then prefix (λ p. Then (side (AtLeast p.0)) (before p.1))
+  IsPrefixed side = Then prefixes (λ p. Then (side (AtLeast p.0)) (before p.1))
 
   -- an operand, or, where it backtracks, a prefix operator with what it is applied to
   abbrev pub IsOperand : (Level → Meaning O T) → Meaning O T
@@ -25,7 +25,7 @@ module _ {O A B C T : Type 0} (operand : Meaning O T) (prefix : Meaning (ℤ × 
 
   -- one more operator, with what is right of it; an operator takes something
   abbrev pub IsNext : (Level → Meaning O T) → Level → O → Option ℤ → Meaning (Turn O) T
-  IsNext side level x alone = Advancing (IsTurn postfix after infix joins side level x alone)
+  IsNext side level x alone = Advancing (IsTurn postfixes after infixes joins side level x alone)
 
   -- an operand, and then operators, each of a power that the level admits
   abbrev pub IsLayer : (Level → Meaning O T) → Level → Meaning O T
@@ -48,17 +48,17 @@ module _ {O A B C T : Type 0} (operand : Meaning O T) (prefix : Meaning (ℤ × 
   IsExpression-suc zero level l = absurd (omega (arith, l))
   IsExpression-suc (suc depth) level l = ap (λ n. IsLayer (IsExpression n) level) (omega arith)
 
-module _ {O A B C T : Type 0} {operand : Meaning O T} {prefix : Meaning (ℤ × A) T} {before : A → O → Meaning O T} {postfix : Meaning (ℤ × B) T} {after : B → O → Meaning O T} {infix : Meaning (Infix C) T} {joins : O → C → O → Meaning O T} (o : IsParser operand) (p : IsParser prefix) (ps : (x : A) (y : O) → IsParser (before x y)) (q : IsParser postfix) (qs : (x : B) (y : O) → IsParser (after x y)) (r : IsParser infix) (rs : (x : O) (y : C) (z : O) → IsParser (joins x y z)) where
+module _ {O A B C T : Type 0} {operand : Meaning O T} {prefixes : Meaning (ℤ × A) T} {before : A → O → Meaning O T} {postfixes : Meaning (ℤ × B) T} {after : B → O → Meaning O T} {infixes : Meaning (Infix C) T} {joins : O → C → O → Meaning O T} (o : IsParser operand) (p : IsParser prefixes) (ps : (x : A) (y : O) → IsParser (before x y)) (q : IsParser postfixes) (qs : (x : B) (y : O) → IsParser (after x y)) (r : IsParser infixes) (rs : (x : O) (y : C) (z : O) → IsParser (joins x y z)) where
   -- `IsLayer` keeps the laws of a parser
   IsParser-IsLayer : {side : Level → Meaning O T} → ((level : Level) → IsParser (side level))
-      → (level : Level) → IsParser (IsLayer operand prefix before postfix after infix joins side level)
+      → (level : Level) → IsParser (IsLayer operand prefixes before postfixes after infixes joins side level)
   IsParser-IsLayer {side} sides level =
       let prefixed = IsParser-Then p (λ x. IsParser-Then (sides (AtLeast x.0)) (ps x.1)) in
-      IsParser-Then (IsParser-IsAlt2 ⊥ operand (IsPrefixed operand prefix before postfix after infix joins side) o prefixed)
+      IsParser-Then (IsParser-IsAlt2 ⊥ operand (IsPrefixed operand prefixes before postfixes after infixes joins side) o prefixed)
       (λ x. IsParser-Climbs (λ y alone. IsParser-Advancing (IsParser-IsTurn q qs r rs sides level y alone)) (x, None))
 
   -- `IsExpression` keeps the laws of a parser
   pub IsParser-IsExpression : (depth : ℕ) (level : Level)
-      → IsParser (IsExpression operand prefix before postfix after infix joins depth level)
+      → IsParser (IsExpression operand prefixes before postfixes after infixes joins depth level)
   IsParser-IsExpression zero level = IsParser-CutsErr IsFail IsParser-IsFail
   IsParser-IsExpression (suc depth) level = IsParser-IsLayer (IsParser-IsExpression depth) level

@@ -5,3 +5,4 @@ pub mod Then
 pub mod Found
 pub mod Turns
 pub mod Expression
+pub mod Agreeing

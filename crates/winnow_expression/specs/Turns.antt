@@ -20,7 +20,7 @@ use Rattle.winnow_expression.specs.declared.turn.Turn.TheVariants.{Ended, Went}
 abbrev pub WentOn : {O : Type 0} → Option ℤ → O → Turn O → Type 0
 WentOn alone x turn = turn ≡ Went x alone
 
-module _ {O B C T : Type 0} (postfix : Meaning (ℤ × B) T) (after : B → O → Meaning O T) (infix : Meaning (Infix C) T) (joins : O → C → O → Meaning O T) (side : Level → Meaning O T) (level : Level) where
+module _ {O B C T : Type 0} (postfixes : Meaning (ℤ × B) T) (after : B → O → Meaning O T) (infixes : Meaning (Infix C) T) (joins : O → C → O → Meaning O T) (side : Level → Meaning O T) (level : Level) where
   -- an infix operator is applied to the value and its right side; without one that fits the
   -- expression ends
   abbrev pub IsJoined : O → Found (Infix C) → Meaning (Turn O) T
@@ -33,11 +33,11 @@ module _ {O B C T : Type 0} (postfix : Meaning (ℤ × B) T) (after : B → O �
   abbrev pub IsFollowed : O → Option ℤ → Found (ℤ × B) → Meaning (Turn O) T
   IsFollowed x alone (Fits p) = Maps (WentOn alone) (after p.1 x)
   IsFollowed x alone Unfit = Returns (Ended x)
-  IsFollowed x alone Absent = Then (IsFound (λ i. MayFollow level alone (power_of i)) infix) (IsJoined x)
+  IsFollowed x alone Absent = Then (IsFound (λ i. MayFollow level alone (power_of i)) infixes) (IsJoined x)
 
   -- one more operator after the value, or the end of the expression
   abbrev pub IsTurn : O → Option ℤ → Meaning (Turn O) T
-  IsTurn x alone = Then (IsFound (λ p. Admits level p.0) postfix) (IsFollowed x alone)
+  IsTurn x alone = Then (IsFound (λ p. Admits level p.0) postfixes) (IsFollowed x alone)
 
 -- a turn that takes some tokens, or the end; the parser cuts where an operator was applied and
 -- nothing was taken
@@ -72,10 +72,10 @@ Climbs {O} {T} turn s partial a v = (us : List (O × Option ℤ)) × ((t : O × 
 
 -- ---- `IsTurn`
 
-module _ {O B C T : Type 0} {postfix : Meaning (ℤ × B) T} {after : B → O → Meaning O T} {infix : Meaning (Infix C) T} {joins : O → C → O → Meaning O T} {side : Level → Meaning O T} (p : IsParser postfix) (ps : (y : B) (x : O) → IsParser (after y x)) (q : IsParser infix) (qs : (x : O) (y : C) (z : O) → IsParser (joins x y z)) (sides : (level : Level) → IsParser (side level)) (level : Level) where
+module _ {O B C T : Type 0} {postfixes : Meaning (ℤ × B) T} {after : B → O → Meaning O T} {infixes : Meaning (Infix C) T} {joins : O → C → O → Meaning O T} {side : Level → Meaning O T} (p : IsParser postfixes) (ps : (y : B) (x : O) → IsParser (after y x)) (q : IsParser infixes) (qs : (x : O) (y : C) (z : O) → IsParser (joins x y z)) (sides : (level : Level) → IsParser (side level)) (level : Level) where
   -- `IsJoined` keeps the laws of a parser
   IsParser-IsJoined : (x : O) (found : Found (Infix C))
-      → IsParser (IsJoined postfix after infix joins side level x found)
+      → IsParser (IsJoined postfixes after infixes joins side level x found)
   IsParser-IsJoined x (Fits i) =
       IsParser-Then (sides (right_of i)) (λ y. IsParser-Maps (WentOn (alone_of i)) (joins x (operator_of i) y) (qs x (operator_of i) y))
   IsParser-IsJoined x Unfit = IsParser-Returns (Ended x)
@@ -83,7 +83,7 @@ module _ {O B C T : Type 0} {postfix : Meaning (ℤ × B) T} {after : B → O �
 
   -- `IsFollowed` keeps the laws of a parser
   IsParser-IsFollowed : (x : O) (alone : Option ℤ) (found : Found (ℤ × B))
-      → IsParser (IsFollowed postfix after infix joins side level x alone found)
+      → IsParser (IsFollowed postfixes after infixes joins side level x alone found)
   IsParser-IsFollowed x alone (Fits y) = IsParser-Maps (WentOn alone) (after y.1 x) (ps y.1 x)
   IsParser-IsFollowed x alone Unfit = IsParser-Returns (Ended x)
   IsParser-IsFollowed x alone Absent =
@@ -91,7 +91,7 @@ module _ {O B C T : Type 0} {postfix : Meaning (ℤ × B) T} {after : B → O �
 
   -- `IsTurn` keeps the laws of a parser
   pub IsParser-IsTurn : (x : O) (alone : Option ℤ)
-      → IsParser (IsTurn postfix after infix joins side level x alone)
+      → IsParser (IsTurn postfixes after infixes joins side level x alone)
   IsParser-IsTurn x alone = IsParser-Then (IsParser-IsFound (λ y. Admits level y.0) p) (IsParser-IsFollowed x alone)
 
 -- ---- `Advancing`

@@ -13,9 +13,9 @@ pub fn expression<P>(operand: P, depth: usize) -> Expression<P, NoOperators, NoO
 {
     Expression {
         operand,
-        prefix: NoOperators,
-        postfix: NoOperators,
-        infix: NoOperators,
+        prefixes: NoOperators,
+        postfixes: NoOperators,
+        infixes: NoOperators,
         level: 0,
         depth,
     }

@@ -33,6 +33,21 @@ pub(crate) struct Parts<T> {
     pub(crate) operator: T,
 }
 
+impl<T> Parts<T> {
+    // Returns these parts.
+    fn of(power: i64, right: Level, alone: Option<i64>, operator: T) -> Self
+        ensures { result
+            ≡ record { power = power; right = right; alone = alone; operator = operator } }
+    {
+        Parts {
+            power,
+            right,
+            alone,
+            operator,
+        }
+    }
+}
+
 impl<T> Infix<T> {
     // Returns the parts of the operator.
     pub(crate) fn parts(self) -> Parts<T>
@@ -42,24 +57,13 @@ impl<T> Infix<T> {
         ensures operator { result.operator ≡ operator_of self }
     {
         match self {
-            Infix::Left(power, operator) => Parts {
-                power,
-                right: Level::Above(power),
-                alone: None,
-                operator,
-            },
-            Infix::Right(power, operator) => Parts {
-                power,
-                right: Level::AtLeast(power),
-                alone: None,
-                operator,
-            },
-            Infix::Neither(power, operator) => Parts {
-                power,
-                right: Level::Above(power),
-                alone: Some(power),
-                operator,
-            },
+            Infix::Left(power, operator) => Parts::of(power, Level::Above(power), None, operator),
+            Infix::Right(power, operator) => {
+                Parts::of(power, Level::AtLeast(power), None, operator)
+            }
+            Infix::Neither(power, operator) => {
+                Parts::of(power, Level::Above(power), Some(power), operator)
+            }
         }
     }
 }

@@ -1,5 +1,5 @@
 //! The parsers: a type for each, in a file that is named for its function.
 
 pub(crate) mod expression;
-pub(crate) mod infix;
-pub(crate) mod unary;
+pub(crate) mod infixes;
+pub(crate) mod unaries;

@@ -24,9 +24,9 @@ use winnow_stream::StreamIsPartial;
 #[derive(Clone, Copy, Drop)]
 pub struct Expression<P, A, B, C> {
     pub(crate) operand: P,
-    pub(crate) prefix: A,
-    pub(crate) postfix: B,
-    pub(crate) infix: C,
+    pub(crate) prefixes: A,
+    pub(crate) postfixes: B,
+    pub(crate) infixes: C,
     pub(crate) level: i64,
     pub(crate) depth: usize,
 }
@@ -38,26 +38,26 @@ impl<P, A, B, C> Expression<P, A, B, C> {
         A: Drop,
         ensures { result ≡ record {
           operand = self.operand;
-          prefix = record { parser = parser; fold = fold };
-          postfix = self.postfix;
-          infix = self.infix;
+          prefixes = record { parser = parser; fold = fold };
+          postfixes = self.postfixes;
+          infixes = self.infixes;
           level = self.level;
           depth = self.depth;
         } }
     {
         let Expression {
             operand,
-            prefix: _,
-            postfix,
-            infix,
+            prefixes: _,
+            postfixes,
+            infixes,
             level,
             depth,
         } = self;
         Expression {
             operand,
-            prefix: PrefixBy { parser, fold },
-            postfix,
-            infix,
+            prefixes: PrefixBy { parser, fold },
+            postfixes,
+            infixes,
             level,
             depth,
         }
@@ -69,26 +69,26 @@ impl<P, A, B, C> Expression<P, A, B, C> {
         B: Drop,
         ensures { result ≡ record {
           operand = self.operand;
-          prefix = self.prefix;
-          postfix = record { parser = parser; fold = fold };
-          infix = self.infix;
+          prefixes = self.prefixes;
+          postfixes = record { parser = parser; fold = fold };
+          infixes = self.infixes;
           level = self.level;
           depth = self.depth;
         } }
     {
         let Expression {
             operand,
-            prefix,
-            postfix: _,
-            infix,
+            prefixes,
+            postfixes: _,
+            infixes,
             level,
             depth,
         } = self;
         Expression {
             operand,
-            prefix,
-            postfix: PostfixBy { parser, fold },
-            infix,
+            prefixes,
+            postfixes: PostfixBy { parser, fold },
+            infixes,
             level,
             depth,
         }
@@ -100,26 +100,26 @@ impl<P, A, B, C> Expression<P, A, B, C> {
         C: Drop,
         ensures { result ≡ record {
           operand = self.operand;
-          prefix = self.prefix;
-          postfix = self.postfix;
-          infix = record { parser = parser; fold = fold };
+          prefixes = self.prefixes;
+          postfixes = self.postfixes;
+          infixes = record { parser = parser; fold = fold };
           level = self.level;
           depth = self.depth;
         } }
     {
         let Expression {
             operand,
-            prefix,
-            postfix,
-            infix: _,
+            prefixes,
+            postfixes,
+            infixes: _,
             level,
             depth,
         } = self;
         Expression {
             operand,
-            prefix,
-            postfix,
-            infix: InfixBy { parser, fold },
+            prefixes,
+            postfixes,
+            infixes: InfixBy { parser, fold },
             level,
             depth,
         }
@@ -166,14 +166,14 @@ where
     B::Operator: Drop,
     C::Operator: Drop,
     requires operand { P.ready parser.now.operand }
-    requires prefix { A.ready parser.now.prefix }
-    requires postfix { B.ready parser.now.postfix }
-    requires infix { C.ready parser.now.infix }
+    requires prefixes { A.ready parser.now.prefixes }
+    requires postfixes { B.ready parser.now.postfixes }
+    requires infixes { C.ready parser.now.infixes }
     requires valid { I.valid input.old }
     ensures means { IsExpression (P.means parser.now.operand)
-        (A.reads parser.now.prefix) (A.folds parser.now.prefix)
-        (B.reads parser.now.postfix) (B.folds parser.now.postfix)
-        (C.reads parser.now.infix) (C.folds parser.now.infix) depth level
+        (A.reads parser.now.prefixes) (A.folds parser.now.prefixes)
+        (B.reads parser.now.postfixes) (B.folds parser.now.postfixes)
+        (C.reads parser.now.infixes) (C.folds parser.now.infixes) depth level
         (I.expects_more input.old) (ahead I.location I.remaining input.old)
         (outcome result (ahead I.location I.remaining input.new)) }
     ensures onward { Moves (ahead I.location I.remaining input.old)
@@ -225,18 +225,18 @@ where
     B::Operator: Drop,
     C::Operator: Drop,
     requires operand { P.ready parser.now.operand }
-    requires prefix { A.ready parser.now.prefix }
-    requires postfix { B.ready parser.now.postfix }
-    requires infix { C.ready parser.now.infix }
+    requires prefixes { A.ready parser.now.prefixes }
+    requires postfixes { B.ready parser.now.postfixes }
+    requires infixes { C.ready parser.now.infixes }
     requires valid { I.valid input.old }
     ensures means { IsOperand (P.means parser.now.operand)
-        (A.reads parser.now.prefix) (A.folds parser.now.prefix)
-        (B.reads parser.now.postfix) (B.folds parser.now.postfix)
-        (C.reads parser.now.infix) (C.folds parser.now.infix)
+        (A.reads parser.now.prefixes) (A.folds parser.now.prefixes)
+        (B.reads parser.now.postfixes) (B.folds parser.now.postfixes)
+        (C.reads parser.now.infixes) (C.folds parser.now.infixes)
         (IsExpression (P.means parser.now.operand)
-        (A.reads parser.now.prefix) (A.folds parser.now.prefix)
-        (B.reads parser.now.postfix) (B.folds parser.now.postfix)
-        (C.reads parser.now.infix) (C.folds parser.now.infix) depth)
+        (A.reads parser.now.prefixes) (A.folds parser.now.prefixes)
+        (B.reads parser.now.postfixes) (B.folds parser.now.postfixes)
+        (C.reads parser.now.infixes) (C.folds parser.now.infixes) depth)
         (I.expects_more input.old) (ahead I.location I.remaining input.old)
         (outcome result (ahead I.location I.remaining input.new)) }
     ensures onward { Moves (ahead I.location I.remaining input.old)
@@ -252,9 +252,9 @@ where
         Err(Failure::Incomplete(needed)) => return Err(Failure::Incomplete(needed)),
         Err(Failure::Refused(refused)) => return Err(Failure::Refused(refused)),
     }
-    let (power, operator) = parser.prefix.read_operator(alloc, input)?;
+    let (power, operator) = parser.prefixes.read_operator(alloc, input)?;
     let operand = climb(parser, alloc, input, Level::AtLeast(power), depth)?;
-    parser.prefix.apply(alloc, input, operator, operand)
+    parser.prefixes.apply(alloc, input, operator, operand)
 }
 
 // Reads one more operator that applies to the value, with the side on its right, and takes
@@ -281,18 +281,18 @@ where
     B::Operator: Drop,
     C::Operator: Drop,
     requires operand { P.ready parser.now.operand }
-    requires prefix { A.ready parser.now.prefix }
-    requires postfix { B.ready parser.now.postfix }
-    requires infix { C.ready parser.now.infix }
+    requires prefixes { A.ready parser.now.prefixes }
+    requires postfixes { B.ready parser.now.postfixes }
+    requires infixes { C.ready parser.now.infixes }
     requires valid { I.valid input.old }
     ensures means { IsNext (P.means parser.now.operand)
-        (A.reads parser.now.prefix) (A.folds parser.now.prefix)
-        (B.reads parser.now.postfix) (B.folds parser.now.postfix)
-        (C.reads parser.now.infix) (C.folds parser.now.infix)
+        (A.reads parser.now.prefixes) (A.folds parser.now.prefixes)
+        (B.reads parser.now.postfixes) (B.folds parser.now.postfixes)
+        (C.reads parser.now.infixes) (C.folds parser.now.infixes)
         (IsExpression (P.means parser.now.operand)
-        (A.reads parser.now.prefix) (A.folds parser.now.prefix)
-        (B.reads parser.now.postfix) (B.folds parser.now.postfix)
-        (C.reads parser.now.infix) (C.folds parser.now.infix) side.depth)
+        (A.reads parser.now.prefixes) (A.folds parser.now.prefixes)
+        (B.reads parser.now.postfixes) (B.folds parser.now.postfixes)
+        (C.reads parser.now.infixes) (C.folds parser.now.infixes) side.depth)
         side.level value side.alone
         (I.expects_more input.old) (ahead I.location I.remaining input.old)
         (outcome result (ahead I.location I.remaining input.new)) }
@@ -338,16 +338,16 @@ where
     B::Operator: Drop,
     C::Operator: Drop,
     requires operand { P.ready parser.now.operand }
-    requires prefix { A.ready parser.now.prefix }
-    requires postfix { B.ready parser.now.postfix }
-    requires infix { C.ready parser.now.infix }
+    requires prefixes { A.ready parser.now.prefixes }
+    requires postfixes { B.ready parser.now.postfixes }
+    requires infixes { C.ready parser.now.infixes }
     requires valid { I.valid input.old }
-    ensures means { IsTurn (B.reads parser.now.postfix) (B.folds parser.now.postfix)
-        (C.reads parser.now.infix) (C.folds parser.now.infix)
+    ensures means { IsTurn (B.reads parser.now.postfixes) (B.folds parser.now.postfixes)
+        (C.reads parser.now.infixes) (C.folds parser.now.infixes)
         (IsExpression (P.means parser.now.operand)
-        (A.reads parser.now.prefix) (A.folds parser.now.prefix)
-        (B.reads parser.now.postfix) (B.folds parser.now.postfix)
-        (C.reads parser.now.infix) (C.folds parser.now.infix) side.depth)
+        (A.reads parser.now.prefixes) (A.folds parser.now.prefixes)
+        (B.reads parser.now.postfixes) (B.folds parser.now.postfixes)
+        (C.reads parser.now.infixes) (C.folds parser.now.infixes) side.depth)
         side.level value side.alone
         (I.expects_more input.old) (ahead I.location I.remaining input.old)
         (outcome result (ahead I.location I.remaining input.new)) }
@@ -357,13 +357,13 @@ where
     ensures kept { I.keeps input.old input.new }
 {
     let start = input.checkpoint();
-    match parser.postfix.read_operator(alloc, input) {
+    match parser.postfixes.read_operator(alloc, input) {
         Ok((power, operator)) => {
             if !side.level.admits(power) {
                 input.reset(&start);
                 return Ok(Turn::Ended(value));
             }
-            let value = parser.postfix.apply(alloc, input, operator, value)?;
+            let value = parser.postfixes.apply(alloc, input, operator, value)?;
             Ok(Turn::Went(value, side.alone))
         }
         Err(Failure::Backtrack(_)) => {
@@ -399,16 +399,16 @@ where
     B::Operator: Drop,
     C::Operator: Drop,
     requires operand { P.ready parser.now.operand }
-    requires prefix { A.ready parser.now.prefix }
-    requires postfix { B.ready parser.now.postfix }
-    requires infix { C.ready parser.now.infix }
+    requires prefixes { A.ready parser.now.prefixes }
+    requires postfixes { B.ready parser.now.postfixes }
+    requires infixes { C.ready parser.now.infixes }
     requires valid { I.valid input.old }
-    ensures means { IsFollowed (B.reads parser.now.postfix) (B.folds parser.now.postfix)
-        (C.reads parser.now.infix) (C.folds parser.now.infix)
+    ensures means { IsFollowed (B.reads parser.now.postfixes) (B.folds parser.now.postfixes)
+        (C.reads parser.now.infixes) (C.folds parser.now.infixes)
         (IsExpression (P.means parser.now.operand)
-        (A.reads parser.now.prefix) (A.folds parser.now.prefix)
-        (B.reads parser.now.postfix) (B.folds parser.now.postfix)
-        (C.reads parser.now.infix) (C.folds parser.now.infix) side.depth)
+        (A.reads parser.now.prefixes) (A.folds parser.now.prefixes)
+        (B.reads parser.now.postfixes) (B.folds parser.now.postfixes)
+        (C.reads parser.now.infixes) (C.folds parser.now.infixes) side.depth)
         side.level value side.alone Absent
         (I.expects_more input.old) (ahead I.location I.remaining input.old)
         (outcome result (ahead I.location I.remaining input.new)) }
@@ -418,8 +418,8 @@ where
     ensures kept { I.keeps input.old input.new }
 {
     let start = input.checkpoint();
-    let infix = match parser.infix.read_operator(alloc, input) {
-        Ok(infix) => infix.parts(),
+    let found = match parser.infixes.read_operator(alloc, input) {
+        Ok(found) => found.parts(),
         Err(Failure::Backtrack(_)) => {
             input.reset(&start);
             return Ok(Turn::Ended(value));
@@ -428,13 +428,13 @@ where
         Err(Failure::Incomplete(needed)) => return Err(Failure::Incomplete(needed)),
         Err(Failure::Refused(refused)) => return Err(Failure::Refused(refused)),
     };
-    if !side.level.admits_after(side.alone, infix.power) {
+    if !side.level.admits_after(side.alone, found.power) {
         input.reset(&start);
         return Ok(Turn::Ended(value));
     }
-    let right = climb(parser, alloc, input, infix.right, side.depth)?;
-    let value = parser.infix.apply(alloc, input, value, infix.operator, right)?;
-    Ok(Turn::Went(value, infix.alone))
+    let right = climb(parser, alloc, input, found.right, side.depth)?;
+    let value = parser.infixes.apply(alloc, input, value, found.operator, right)?;
+    Ok(Turn::Went(value, found.alone))
 }
 
 impl<
@@ -454,18 +454,18 @@ where
 {
     type Output = P::Output;
 
-    ghost means = { λ p. IsExpression (P.means p.operand) (A.reads p.prefix) (A.folds p.prefix)
-        (B.reads p.postfix) (B.folds p.postfix) (C.reads p.infix) (C.folds p.infix) p.depth
+    ghost means = { λ p. IsExpression (P.means p.operand) (A.reads p.prefixes) (A.folds p.prefixes)
+        (B.reads p.postfixes) (B.folds p.postfixes) (C.reads p.infixes) (C.folds p.infixes) p.depth
         (AtLeast p.level) };
 
     ghost errors = { λ _. AnyError };
 
-    ghost ready = { λ p. P.ready p.operand × A.ready p.prefix × B.ready p.postfix
-        × C.ready p.infix };
+    ghost ready = { λ p. P.ready p.operand × A.ready p.prefixes × B.ready p.postfixes
+        × C.ready p.infixes };
 
-    ghost lawful = { λ p. IsParser-IsExpression (P.lawful p.operand) (A.reads_lawful p.prefix)
-        (A.folds_lawful p.prefix) (B.reads_lawful p.postfix) (B.folds_lawful p.postfix)
-        (C.reads_lawful p.infix) (C.folds_lawful p.infix) p.depth (AtLeast p.level) };
+    ghost lawful = { λ p. IsParser-IsExpression (P.lawful p.operand) (A.reads_lawful p.prefixes)
+        (A.folds_lawful p.prefixes) (B.reads_lawful p.postfixes) (B.folds_lawful p.postfixes)
+        (C.reads_lawful p.infixes) (C.folds_lawful p.infixes) p.depth (AtLeast p.level) };
 
     fn parse_next(&self, alloc: Global, input: &mut I) -> ModalResult<P::Output, E> {
         climb(self, alloc, input, Level::AtLeast(self.level), self.depth)

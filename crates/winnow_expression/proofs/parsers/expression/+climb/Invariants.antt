@@ -23,18 +23,18 @@ abbrev pub decreases-next : goal.decreases-next
 decreases-next g l = 4 * l.side.depth + 3
 
 -- since the first operand some turns led from its value to this one
-abbrev pub climb-invariant-loop : goal.climb-invariant-loop
-climb-invariant-loop g l =
+abbrev pub invariant-climb-loop-value : goal.invariant-climb-loop-value
+invariant-climb-loop-value g l =
     let stands = ahead g.I.Rest.location g.I.Stream.remaining in
     let parser = l.parser in
-    let side = IsExpression (g.P.Parser.means parser.operand) (g.A.UnaryOperators.reads parser.prefix)
-        (g.A.UnaryOperators.folds parser.prefix) (g.B.UnaryOperators.reads parser.postfix)
-        (g.B.UnaryOperators.folds parser.postfix) (g.C.InfixOperators.reads parser.infix)
-        (g.C.InfixOperators.folds parser.infix) (l.depth - 1) in
-    let turn = IsNext (g.P.Parser.means parser.operand) (g.A.UnaryOperators.reads parser.prefix)
-        (g.A.UnaryOperators.folds parser.prefix) (g.B.UnaryOperators.reads parser.postfix)
-        (g.B.UnaryOperators.folds parser.postfix) (g.C.InfixOperators.reads parser.infix)
-        (g.C.InfixOperators.folds parser.infix) side l.level in
+    let side = IsExpression (g.P.Parser.means parser.operand) (g.A.UnaryOperators.reads parser.prefixes)
+        (g.A.UnaryOperators.folds parser.prefixes) (g.B.UnaryOperators.reads parser.postfixes)
+        (g.B.UnaryOperators.folds parser.postfixes) (g.C.InfixOperators.reads parser.infixes)
+        (g.C.InfixOperators.folds parser.infixes) (l.depth - 1) in
+    let turn = IsNext (g.P.Parser.means parser.operand) (g.A.UnaryOperators.reads parser.prefixes)
+        (g.A.UnaryOperators.folds parser.prefixes) (g.B.UnaryOperators.reads parser.postfixes)
+        (g.B.UnaryOperators.folds parser.postfixes) (g.C.InfixOperators.reads parser.infixes)
+        (g.C.InfixOperators.folds parser.infixes) side l.level in
     record {
       valid : g.I.Stream.valid l.input;
       kept : g.I.Stream.keeps l.fn.input l.input;
@@ -45,5 +45,5 @@ climb-invariant-loop g l =
     }
 
 -- each turn leaves a narrower rest
-abbrev pub climb-decreases-loop : goal.climb-decreases-loop
-climb-decreases-loop g l = width (g.I.Stream.remaining l.input)
+abbrev pub decreases-climb-loop-value : goal.decreases-climb-loop-value
+decreases-climb-loop-value g l = width (g.I.Stream.remaining l.input)
