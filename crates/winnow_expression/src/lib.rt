@@ -1,0 +1,16 @@
+//! Expressions with operators before, between and after their operands, each of a binding power.
+#![tactic(auto, using(winnow_parser::proofs::lemmas::OnwardLemmas::onward_steps))]
+
+mod determined;
+mod functions;
+mod level;
+mod operators;
+mod parsers;
+mod turn;
+
+pub use determined::{determined_expression_law, determined_fold_law};
+pub use functions::expression;
+pub use operators::{Infix, Postfix, Prefix};
+pub use parsers::expression::Expression;
+pub use parsers::infixes::{InfixBy, InfixOperators};
+pub use parsers::unaries::{NoOperators, PostfixBy, PrefixBy, UnaryOperators};

@@ -1,0 +1,5 @@
+//! The parsers: a type for each, in a file that is named for its function.
+
+pub(crate) mod expression;
+pub(crate) mod infixes;
+pub(crate) mod unaries;
