@@ -8,3 +8,4 @@ pub mod Writing
 pub mod Widths
 pub mod Reading
 pub mod Marks
+pub mod Scan

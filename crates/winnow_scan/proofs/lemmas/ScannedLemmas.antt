@@ -1,5 +1,5 @@
 -- The bytes ahead in two parts: those that a scan has seen, and those that it has not.
-use Rattle.std.proofs.Common.{◌≡◌, ℕ, ◌-◌, ◌≤◌, List, ◌++◌, length, take, drop, refl, ap, sym, ◌∙◌, subst, arith, length-drop, length-append}
+use Rattle.std.proofs.Common.{◌≡◌, ℕ, ◌-◌, ◌≤◌, List, ◌++◌, length, take, drop, ap, sym, ◌∙◌, subst, arith, length-drop}
 use Rattle.std.proofs.lemmas.List.{take-append-drop, take_all, take-append-le}
 use Rattle.winnow_parser.specs.Outcome.{Meaning}
 use Rattle.winnow_reader.specs.State.{ReaderState}

@@ -1,4 +1,4 @@
-use Rattle.std.proofs.Common.{◌++◌, subst, sym}
+use Rattle.std.proofs.Common.{subst, sym}
 use Rattle.winnow_reader.specs.Reading.{HasRead}
 use Rattle.winnow_scan.proofs.scan_reader.ScanReader.push.Goals as goal
 
