@@ -9,3 +9,4 @@ pub mod Writing
 pub mod Widths
 pub mod Reading
 pub mod Marks
+pub mod Scan

@@ -34,20 +34,20 @@ lawful : IsParser RowInPieces
 lawful = IsParser-OneRow IsByteSlice (λ slice. slice.now) SlicesStay-bytes ⊥ ⊥
 
 -- the slices of a reader's stream have the bytes of what was taken
-have-bytes : SlicesHaveBytes IsByteSlice (λ slice. slice.now)
+pub have-bytes : SlicesHaveBytes IsByteSlice (λ slice. slice.now)
 have-bytes s r n o h = h
 
 -- the answers that decide, with an error that holds nothing
-abbrev RowAnswer : Type 0
+abbrev pub RowAnswer : Type 0
 RowAnswer = Result RowVec (Failure (Unit {0}) Needed)
 
-abbrev gave : RowVec → RowAnswer
+abbrev pub gave : RowVec → RowAnswer
 gave row = Ok row
 
-abbrev backtracked : RowAnswer
+abbrev pub backtracked : RowAnswer
 backtracked = Err (Backtrack tt)
 
-abbrev cut : RowAnswer
+abbrev pub cut : RowAnswer
 cut = Err (Cut tt)
 
 -- ---- Values
