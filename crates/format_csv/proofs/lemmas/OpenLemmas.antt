@@ -11,7 +11,7 @@ use Rattle.format_lemmas.proofs.lemmas.ByteLemmas.{some, bytes-units}
 use Rattle.winnow.specs.Place.{bytes_at, IsByteSlice, SlicesStay-bytes}
 use Rattle.winnow.specs.Scanning.{IsOpen}
 use Rattle.format_csv.specs.Fields.{is_plain, twice, doubled, SpellsField}
-use Rattle.format_csv.specs.Records.{SpellsMore, SpellsRecord, EndsRecord, RecordAhead}
+use Rattle.format_csv.specs.Language.{SpellsMore, SpellsRecord, EndsRecord, RecordAhead}
 use Rattle.format_csv.specs.Answers.{values_of, IsBegun}
 use Rattle.format_csv.specs.Reading.{RowInPieces}
 use Rattle.format_csv.proofs.lemmas.AnswerLemmas.{answers}

@@ -3,7 +3,7 @@ use Rattle.std.specs.Prelude.{◌==◌, Bool, not, ◌||◌, cond, Option, Some,
 use Rattle.std.proofs.Common.{◌≡◌, ℕ, true, false, List, [], ◌∷◌, ◌++◌, refl, ap, sym, ◌∙◌, subst, inl, inr}
 use Rattle.format_lemmas.specs.Bytes.{Each}
 use Rattle.format_csv.specs.Fields.{is_plain, twice, doubled, SpellsField}
-use Rattle.format_csv.specs.Records.{SpellsMore, SpellsRecord, EndsRecord, RecordAhead}
+use Rattle.format_csv.specs.Language.{SpellsMore, SpellsRecord, EndsRecord, RecordAhead}
 use Rattle.format_csv.specs.declared.scan.RowState.{RowState}
 use Rattle.format_csv.specs.declared.scan.RowState.TheVariants.{Start, Plain, Quoted, Closed, Return}
 use Rattle.format_csv.specs.Scan.{after_field, in_plain, step, step_any, run}
