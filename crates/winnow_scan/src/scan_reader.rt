@@ -13,7 +13,7 @@ use winnow_reader::{ByteReader, Next, ReadError};
 /// value nor a failure.
 ///
 /// ```
-/// let mut reader = ScanReader::new(alloc, Line);
+/// let mut reader = ScanReader::new(rt.alloc(), Line);
 /// ..
 /// reader.end();
 /// ```

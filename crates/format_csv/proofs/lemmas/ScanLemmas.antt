@@ -40,7 +40,7 @@ first-step b h =
     let c = none-holds (34 == b) (44 == b) (13 == b) (10 == b) h in
     ap (λ x. cond x (Some Quoted) (in_plain b)) c.0 ∙ plain-step b h
 
--- so are plain bytes
+-- a scan of plain bytes stays in a plain field
 plain-run : (xs : List ℕ) → Each is_plain xs → run (Some Plain) xs ≡ Some Plain
 plain-run [] h = refl
 plain-run (x ∷ xs) h = ap (λ s. run s xs) (plain-step x h.0) ∙ plain-run xs h.1
@@ -51,7 +51,7 @@ twice-case : (b : ℕ) (q : Bool) → (34 == b) ≡ q
 twice-case b true e = refl
 twice-case b false e = ap (λ x. cond x (Some Closed) (Some Quoted)) e
 
--- so do bytes between quotes
+-- a scan of a doubled text stays between quotes
 doubled-run : (v : List ℕ) → run (Some Quoted) (doubled v) ≡ Some Quoted
 doubled-run [] = refl
 doubled-run (x ∷ xs) =
