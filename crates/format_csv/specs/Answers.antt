@@ -1,5 +1,5 @@
 -- The answers of the reader of records, in the words of the format.
-use Rattle.std.specs.Prelude.{◌≡◌, ℕ, Bool, true, false, List, [], ◌∷◌, ◌++◌, map, Result, Ok, Err, ◌⊎◌, ⊤}
+use Rattle.std.specs.Prelude.{◌≡◌, ℕ, Bool, true, false, List, [], ◌++◌, map, Result, Ok, Err, ◌⊎◌, ⊤}
 use Rattle.std.specs.declared.vec.Vec.{Vec}
 use Rattle.std.specs.declared.alloc.Global.{Global}
 use Rattle.winnow_stream.specs.declared.needed.Needed.{Needed}

@@ -9,7 +9,6 @@ use Rattle.format_json.specs.Tokens.{Word, lexeme_of, LexemeHere, TokenHere, wor
 use Rattle.format_json.specs.TokenAnswers.{BeginsWord}
 use Rattle.format_json.specs.Causes.{IsCut}
 use Rattle.format_json.specs.declared.tokens.Token.{Token}
-use Rattle.format_json.specs.declared.tokens.Token.TheVariants as token
 use Rattle.format_json_scalars.proofs.lemmas.NumberAnswerLemmas.{number-bytes}
 use Rattle.format_json.proofs.lemmas.JsonTokenLemmas.{BeginsAs, token-begins}
 

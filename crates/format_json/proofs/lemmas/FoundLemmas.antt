@@ -1,7 +1,7 @@
 -- What is found in bytes, from what is found in a part of them.
-use Rattle.std.proofs.Common.{◌≡◌, ℕ, ◌+◌, ◌<◌, ◌≤◌, Bool, true, List, [], ◌∷◌, ◌++◌, length, drop, get_or, ap, sym, ◌∙◌, subst, refl, arith, append_assoc, append-nil, length-drop}
+use Rattle.std.proofs.Common.{◌≡◌, ℕ, ◌+◌, ◌<◌, ◌≤◌, Bool, List, [], ◌∷◌, ◌++◌, length, drop, get_or, ap, sym, ◌∙◌, subst, refl, arith, append_assoc, append-nil, length-drop}
 use Rattle.std.proofs.lemmas.List.{drop_more, drop-drop}
-use Rattle.format_lemmas.specs.Bytes.{Each, StartsWith}
+use Rattle.format_lemmas.specs.Bytes.{StartsWith}
 use Rattle.format_lemmas.proofs.lemmas.ByteLemmas.{heads, tails}
 use Rattle.format_json.specs.Language.{after_blanks, Elements}
 use Rattle.format_json.specs.Founds.{MayFollow, HasNone, IsFound, GoesNotOn}

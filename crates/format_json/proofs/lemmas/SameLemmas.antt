@@ -1,5 +1,5 @@
 -- The same bytes spell the same value.
-use Rattle.std.proofs.Common.{◌≡◌, ℕ, zero, suc, Bool, true, false, List, [], ◌∷◌, Option, Some, None, ap, sym, ◌∙◌, subst, refl, arith}
+use Rattle.std.proofs.Common.{◌≡◌, ℕ, zero, suc, Bool, true, false, List, [], ◌∷◌, ap, sym, ◌∙◌, subst, refl, arith}
 use Rattle.std.specs.Int.{w64}
 use Rattle.std.specs.Prelude.{encode_utf8_all}
 use Rattle.std.specs.String.{string_bytes}
