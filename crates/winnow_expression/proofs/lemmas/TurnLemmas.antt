@@ -1,13 +1,14 @@
 -- The answers of a turn: an operator more, or the end of the expression.
-use Rattle.std.proofs.Common.{◌≡◌, refl, ap, subst, inl, inr}
+use Rattle.std.proofs.Common.{◌≡◌, ◌≤◌, refl, ap, subst, inl, inr}
 use Rattle.std.specs.Prelude.{ℤ, Bool, Option}
-use Rattle.winnow_parser.specs.Outcome.{Ahead, Failed, Backtracks, Outcome, Gives, Fails, Meaning}
+use Rattle.winnow_stream.specs.Source.{width}
+use Rattle.winnow_parser.specs.Outcome.{Ahead, Failed, Backtracks, Cuts, Needs, Refuses, Outcome, Gives, Fails, Meaning}
 use Rattle.winnow_parser.specs.Meanings.{Maps}
 use Rattle.winnow_expression.specs.Levels.{Admits, MayFollow}
 use Rattle.winnow_expression.specs.Powers.{power_of, right_of, alone_of, operator_of}
 use Rattle.winnow_expression.specs.Then.{Then}
 use Rattle.winnow_expression.specs.Found.{Found, Fits, Unfit, Absent, IsFound}
-use Rattle.winnow_expression.specs.Turns.{WentOn, IsJoined, IsFollowed, IsTurn}
+use Rattle.winnow_expression.specs.Turns.{WentOn, IsJoined, IsFollowed, IsTurn, Advancing}
 use Rattle.winnow_expression.specs.declared.level.Level.{Level}
 use Rattle.winnow_expression.specs.declared.operators.Infix.{Infix}
 use Rattle.winnow_expression.specs.declared.operators.Parts.{Parts}
@@ -95,3 +96,18 @@ module _ {O B C T : Type 0} (postfixes : Meaning (ℤ × B) T) (after : B → O 
       → postfixes partial a (Fails (Backtracks c)) → Joins partial b v → Turning partial a v
   turns-absent a b c v e h n =
       Then-goes (IsFound (λ k. Admits level k.0) postfixes) (IsFollowed postfixes after infixes joins side level x alone) partial a b Absent v (e, (c, h)) n
+
+module _ {O T : Type 0} (turn : Meaning (Turn O) T) (partial : Bool) (a : Ahead T) where
+  -- a failure of a turn is one of the turn that takes something
+  pub advancing-fails : (f : Failed T) → turn partial a (Fails f)
+      → Advancing turn partial a (Fails f)
+  advancing-fails (Backtracks b) h = h
+  advancing-fails (Cuts b) h = inl h
+  advancing-fails (Needs n) h = h
+  advancing-fails Refuses h = h
+
+  -- a turn that takes nothing is cut
+  pub advancing-stays : (b : Ahead T) (x : O) (alone : Option ℤ)
+      → turn partial a (Gives (Went x alone) b) → width a.tokens ≤ width b.tokens
+      → Advancing turn partial a (Fails (Cuts b))
+  advancing-stays b x alone h l = inr (x, (alone, (h, l)))

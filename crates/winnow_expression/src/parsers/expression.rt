@@ -246,15 +246,17 @@ where
 {
     let start = input.checkpoint();
     match parser.operand.parse_next(alloc, input) {
-        Ok(value) => return Ok(value),
-        Err(Failure::Backtrack(_)) => input.reset(&start),
-        Err(Failure::Cut(error)) => return Err(Failure::Cut(error)),
-        Err(Failure::Incomplete(needed)) => return Err(Failure::Incomplete(needed)),
-        Err(Failure::Refused(refused)) => return Err(Failure::Refused(refused)),
+        Ok(value) => Ok(value),
+        Err(Failure::Backtrack(_)) => {
+            input.reset(&start);
+            let (power, operator) = parser.prefixes.read_operator(alloc, input)?;
+            let operand = climb(parser, alloc, input, Level::AtLeast(power), depth)?;
+            parser.prefixes.apply(alloc, input, operator, operand)
+        }
+        Err(Failure::Cut(error)) => Err(Failure::Cut(error)),
+        Err(Failure::Incomplete(needed)) => Err(Failure::Incomplete(needed)),
+        Err(Failure::Refused(refused)) => Err(Failure::Refused(refused)),
     }
-    let (power, operator) = parser.prefixes.read_operator(alloc, input)?;
-    let operand = climb(parser, alloc, input, Level::AtLeast(power), depth)?;
-    parser.prefixes.apply(alloc, input, operator, operand)
 }
 
 // Reads one more operator that applies to the value, with the side on its right, and takes
@@ -418,23 +420,25 @@ where
     ensures kept { I.keeps input.old input.new }
 {
     let start = input.checkpoint();
-    let found = match parser.infixes.read_operator(alloc, input) {
-        Ok(found) => found.parts(),
+    match parser.infixes.read_operator(alloc, input) {
+        Ok(sign) => {
+            let found = sign.parts();
+            if !side.level.admits_after(side.alone, found.power) {
+                input.reset(&start);
+                return Ok(Turn::Ended(value));
+            }
+            let right = climb(parser, alloc, input, found.right, side.depth)?;
+            let value = parser.infixes.apply(alloc, input, value, found.operator, right)?;
+            Ok(Turn::Went(value, found.alone))
+        }
         Err(Failure::Backtrack(_)) => {
             input.reset(&start);
-            return Ok(Turn::Ended(value));
+            Ok(Turn::Ended(value))
         }
-        Err(Failure::Cut(error)) => return Err(Failure::Cut(error)),
-        Err(Failure::Incomplete(needed)) => return Err(Failure::Incomplete(needed)),
-        Err(Failure::Refused(refused)) => return Err(Failure::Refused(refused)),
-    };
-    if !side.level.admits_after(side.alone, found.power) {
-        input.reset(&start);
-        return Ok(Turn::Ended(value));
+        Err(Failure::Cut(error)) => Err(Failure::Cut(error)),
+        Err(Failure::Incomplete(needed)) => Err(Failure::Incomplete(needed)),
+        Err(Failure::Refused(refused)) => Err(Failure::Refused(refused)),
     }
-    let right = climb(parser, alloc, input, found.right, side.depth)?;
-    let value = parser.infixes.apply(alloc, input, value, found.operator, right)?;
-    Ok(Turn::Went(value, found.alone))
 }
 
 impl<
