@@ -6,7 +6,10 @@ use crate::{Expression, NoOperators};
 
 /// Returns the parser of an expression whose operands the inner one reads, of at most this many
 /// layers. It has no operators yet.
-pub fn expression<P>(operand: P, depth: usize) -> Expression<P, NoOperators, NoOperators, NoOperators>
+pub fn expression<P>(
+    operand: P,
+    depth: usize,
+) -> Expression<P, NoOperators, NoOperators, NoOperators>
     ensures operand { result.operand ≡ operand }
     ensures level { result.level ≡ pos 0 }
     ensures depth { result.depth ≡ depth }

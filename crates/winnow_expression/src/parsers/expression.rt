@@ -19,8 +19,8 @@ use winnow_error::ParserError;
 use winnow_parser::{Failure, ModalResult, Parser};
 use winnow_stream::StreamIsPartial;
 
-/// A parser of operands, with prefix, postfix and infix operators; [`expression`](crate::expression)
-/// makes it.
+/// A parser of operands, with prefix, postfix and infix operators;
+/// [`expression`](crate::expression) makes it.
 #[derive(Clone, Copy, Drop)]
 pub struct Expression<P, A, B, C> {
     pub(crate) operand: P,
@@ -428,7 +428,9 @@ where
                 return Ok(Turn::Ended(value));
             }
             let right = climb(parser, alloc, input, found.right, side.depth)?;
-            let value = parser.infixes.apply(alloc, input, value, found.operator, right)?;
+            let value = parser
+                .infixes
+                .apply(alloc, input, value, found.operator, right)?;
             Ok(Turn::Went(value, found.alone))
         }
         Err(Failure::Backtrack(_)) => {
