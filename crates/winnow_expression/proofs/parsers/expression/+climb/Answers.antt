@@ -45,9 +45,9 @@ climb-returns-in-Err-clause-means g t c =
     let deep : 0 < c.args.depth = omega (arith, c.if-depth-eq0.false) in
     let turns = c.loop-value.invariant.turns in
     let state : g.row.P-Output.Denot × Option ℤ = (c.loop-value.value, c.loop-value.alone) in
-    let last = Fails (failed c.in-Err.failure (stands c.next.new.input)) in
-    let end = subst (λ more. next c.loop-value.value c.loop-value.alone more between last) flag c.in-Err.ensures.means in
-    expression-goes (g.P.Parser.means parser.operand) (g.A.UnaryOperators.reads parser.prefixes) (g.A.UnaryOperators.folds parser.prefixes) (g.B.UnaryOperators.reads parser.postfixes) (g.B.UnaryOperators.folds parser.postfixes) (g.C.InfixOperators.reads parser.infixes) (g.C.InfixOperators.folds parser.infixes) c.args.depth c.args.level partial c.in_ok-value.value turns.0 state here (stands c.first.new.input) between last deep c.in_ok-value.ensures.means turns.1 end
+    let failure = failed c.in-Err.failure (stands c.next.new.input) in
+    let end = subst (λ more. next c.loop-value.value c.loop-value.alone more between (Fails failure)) flag c.in-Err.ensures.means in
+    expression-goes (g.P.Parser.means parser.operand) (g.A.UnaryOperators.reads parser.prefixes) (g.A.UnaryOperators.folds parser.prefixes) (g.B.UnaryOperators.reads parser.postfixes) (g.B.UnaryOperators.folds parser.postfixes) (g.C.InfixOperators.reads parser.infixes) (g.C.InfixOperators.folds parser.infixes) c.args.depth c.args.level partial c.in_ok-value.value turns.0 state here (stands c.first.new.input) between (Fails failure) deep c.in_ok-value.ensures.means turns.1 end
 
 pub climb-loop-value-preserved : goal.climb-loop-value-preserved
 climb-loop-value-preserved g t c =
@@ -106,10 +106,12 @@ first-returns-in_err-operand-in-Err-Backtrack-clause-means g t c =
     let sign = subst (λ more. g.A.UnaryOperators.reads parser.prefixes more back (Gives both after)) flag c.in_ok-power-in-Err-Backtrack.ensures.means in
     let kept_sign = g.met.I.Stream.keeps_transitive c.args.input.now c.reset.new.self c.read_operator.new.input kept c.in_ok-power-in-Err-Backtrack.ensures.kept in
     let flag_sign = g.met.I.StreamIsPartial.keeps_flag c.args.input.now c.read_operator.new.input kept_sign in
+    let in_range : FitsSigned w64 c.in_ok-power-in-Err-Backtrack.power = search rules in
+    let passed : to_z w64 (of_z w64 c.in_ok-power-in-Err-Backtrack.power) ≡ c.in_ok-power-in-Err-Backtrack.power = to_z-of_z w64 c.in_ok-power-in-Err-Backtrack.power in_range in
     let residual = c.from_residual-in_err-operand-in-Err-Backtrack in
     let handed = err_from_is_err_and residual.result residual.ensures.1 in
     let failure = failed c.in_err-operand-in-Err-Backtrack.field-0.0 (stands c.climb.new.input) in
-    let operand = subst (λ more. side (AtLeast c.in_ok-power-in-Err-Backtrack.power) more after (Fails failure)) flag_sign c.in_err-operand-in-Err-Backtrack.ensures.means in
+    let operand = subst (λ power. side (AtLeast power) partial after (Fails failure)) passed (subst (λ more. side (AtLeast (to_z w64 (of_z w64 c.in_ok-power-in-Err-Backtrack.power))) more after (Fails failure)) flag_sign c.in_err-operand-in-Err-Backtrack.ensures.means) in
     rw (handed.1, handed.2) (operand-prefixed (g.P.Parser.means parser.operand) (g.A.UnaryOperators.reads parser.prefixes) (g.A.UnaryOperators.folds parser.prefixes) (g.B.UnaryOperators.reads parser.postfixes) (g.B.UnaryOperators.folds parser.postfixes) (g.C.InfixOperators.reads parser.infixes) (g.C.InfixOperators.folds parser.infixes) side partial here back stopped (Fails failure) same backtracks (prefixed-fails (g.P.Parser.means parser.operand) (g.A.UnaryOperators.reads parser.prefixes) (g.A.UnaryOperators.folds parser.prefixes) (g.B.UnaryOperators.reads parser.postfixes) (g.B.UnaryOperators.folds parser.postfixes) (g.C.InfixOperators.reads parser.infixes) (g.C.InfixOperators.folds parser.infixes) side partial back after both failure sign operand))
 
 pub first-returns-in-Err-Backtrack-clause-means : goal.first-returns-in-Err-Backtrack-clause-means
@@ -130,8 +132,10 @@ first-returns-in-Err-Backtrack-clause-means g t c =
     let sign = subst (λ more. g.A.UnaryOperators.reads parser.prefixes more back (Gives both after)) flag c.in_ok-power-in-Err-Backtrack.ensures.means in
     let kept_sign = g.met.I.Stream.keeps_transitive c.args.input.now c.reset.new.self c.read_operator.new.input kept c.in_ok-power-in-Err-Backtrack.ensures.kept in
     let flag_sign = g.met.I.StreamIsPartial.keeps_flag c.args.input.now c.read_operator.new.input kept_sign in
+    let in_range : FitsSigned w64 c.in_ok-power-in-Err-Backtrack.power = search rules in
+    let passed : to_z w64 (of_z w64 c.in_ok-power-in-Err-Backtrack.power) ≡ c.in_ok-power-in-Err-Backtrack.power = to_z-of_z w64 c.in_ok-power-in-Err-Backtrack.power in_range in
     let beyond = stands c.climb.new.input in
-    let operand = subst (λ more. side (AtLeast c.in_ok-power-in-Err-Backtrack.power) more after (Gives c.in_ok-operand-in-Err-Backtrack.operand beyond)) flag_sign c.in_ok-operand-in-Err-Backtrack.ensures.means in
+    let operand = subst (λ power. side (AtLeast power) partial after (Gives c.in_ok-operand-in-Err-Backtrack.operand beyond)) passed (subst (λ more. side (AtLeast (to_z w64 (of_z w64 c.in_ok-power-in-Err-Backtrack.power))) more after (Gives c.in_ok-operand-in-Err-Backtrack.operand beyond)) flag_sign c.in_ok-operand-in-Err-Backtrack.ensures.means) in
     let kept_operand = g.met.I.Stream.keeps_transitive c.args.input.now c.read_operator.new.input c.climb.new.input kept_sign c.in_ok-operand-in-Err-Backtrack.ensures.kept in
     let flag_operand = g.met.I.StreamIsPartial.keeps_flag c.args.input.now c.climb.new.input kept_operand in
     let answer = outcome c.apply.result (stands c.apply.new.input) in
