@@ -31,9 +31,11 @@ AreAlikeInfix alike (Neither p x) (Neither q y) = (p ≡ q) × alike x y
 pub record HasOneAnswer {O A B C T : Type 0} (same : O → O → Type 0) (a : A → A → Type 0) (b : B → B → Type 0) (c : C → C → Type 0) (operand : Meaning O T) (prefixes : Meaning (ℤ × A) T) (before : A → O → Meaning O T) (postfixes : Meaning (ℤ × B) T) (after : B → O → Meaning O T) (infixes : Meaning (Infix C) T) (joins : O → C → O → Meaning O T) : Type 0 where
   pub operands : IsDetermined same operand
   pub prefix_signs : IsDetermined (AreAlikeUnary a) prefixes
-  pub prefixed : (p q : A) (x y : O) → a p q → same x y → AnswersAgree same (before p x) (before q y)
+  pub prefixed : (p q : A) (x y : O) → a p q → same x y
+      → AnswersAgree same (before p x) (before q y)
   pub postfix_signs : IsDetermined (AreAlikeUnary b) postfixes
-  pub postfixed : (p q : B) (x y : O) → b p q → same x y → AnswersAgree same (after p x) (after q y)
+  pub postfixed : (p q : B) (x y : O) → b p q → same x y
+      → AnswersAgree same (after p x) (after q y)
   pub infix_signs : IsDetermined (AreAlikeInfix c) infixes
   pub joined : (x y : O) (p q : C) (z w : O) → same x y → c p q → same z w
       → AnswersAgree same (joins x p z) (joins y q w)

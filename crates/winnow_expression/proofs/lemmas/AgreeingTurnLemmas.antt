@@ -27,7 +27,8 @@ AreFound alike Absent Absent = ⊤
 
 -- a failure of `IsFound` is one of the parser of operators
 found-fails : {B T : Type 0} (fits : B → Type 0) (inner : Meaning B T) (partial : Bool)
-    (a : Ahead T) (f : Failed T) → IsFound fits inner partial a (Fails f) → inner partial a (Fails f)
+    (a : Ahead T) (f : Failed T) → IsFound fits inner partial a (Fails f)
+    → inner partial a (Fails f)
 found-fails fits inner partial a (Backtracks b) h = absurd h
 found-fails fits inner partial a (Cuts b) h = h
 found-fails fits inner partial a (Needs n) h = h
@@ -123,7 +124,8 @@ module _ {O T : Type 0} (same : O → O → Type 0) (a : Ahead T) where
 
 module _ {O T : Type 0} (same : O → O → Type 0) (turn other : Meaning (Turn O) T) (d : AnswersAgree (AreTurns same) turn other) where
   -- two answers of `Advancing` agree, by these cases
-  cases-agree : (partial : Bool) (a : Ahead T) (v w : Outcome (Turn O) T) → IsGranted v → IsGranted w
+  cases-agree : (partial : Bool) (a : Ahead T) (v w : Outcome (Turn O) T) → IsGranted v
+      → IsGranted w
       → (turn partial a v × Advanced a v) ⊎ Stayed turn partial a v
       → (other partial a w × Advanced a w) ⊎ Stayed other partial a w → Agree (AreTurns same) v w
   cases-agree partial a v w s t (inl h) (inl k) = d partial a v w s t h.0 k.0

@@ -94,13 +94,15 @@ module _ {O A B C T : Type 0} (same : O → O → Type 0) (a : A → A → Type 
     sides l m e = subst (λ n. AnswersAgree same (side l) (side n)) e (d l)
 
     -- a prefix operator with its operand has one answer
-    one-prefixed : IsDetermined same (IsPrefixed operand prefixes before postfixes after infixes joins side)
+    one-prefixed : IsDetermined same
+        (IsPrefixed operand prefixes before postfixes after infixes joins side)
     one-prefixed =
         agree-then (AreAlikeUnary a) same prefixes prefixes (λ p. Then (side (AtLeast p.0)) (before p.1)) (λ p. Then (side (AtLeast p.0)) (before p.1)) one.prefix_signs
         (λ p q e. agree-then same same (side (AtLeast p.0)) (side (AtLeast q.0)) (before p.1) (before q.1) (sides (AtLeast p.0) (AtLeast q.0) (ap AtLeast e.0)) (λ x y f. one.prefixed p.1 q.1 x y e.1 f))
 
     -- an operand has one answer
-    one-operand : IsDetermined same (IsOperand operand prefixes before postfixes after infixes joins side)
+    one-operand : IsDetermined same
+        (IsOperand operand prefixes before postfixes after infixes joins side)
     one-operand = determined-alt2 ⊥ same operand (IsPrefixed operand prefixes before postfixes after infixes joins side) one.operands one-prefixed
 
     module _ (level : Level) (x y : O) (e : same x y) where
@@ -149,14 +151,17 @@ module _ {O A B C T : Type 0} (same : O → O → Type 0) (a : A → A → Type 
             (agree-found (AreAlikeInfix c) fits other infixes one.infix_signs fits-on fits-back) joined-agree
 
         -- turns agree
-        turn-agree : AnswersAgree (AreTurns same) (IsTurn postfixes after infixes joins side level x n) (IsTurn postfixes after infixes joins side level y m)
+        turn-agree : AnswersAgree (AreTurns same)
+            (IsTurn postfixes after infixes joins side level x n)
+            (IsTurn postfixes after infixes joins side level y m)
         turn-agree =
             let fits = λ (p : ℤ × B). Admits level p.0 in
             agree-then (AreFound (AreAlikeUnary b)) (AreTurns same) (IsFound fits postfixes) (IsFound fits postfixes) (IsFollowed postfixes after infixes joins side level x n) (IsFollowed postfixes after infixes joins side level y m)
             (agree-found (AreAlikeUnary b) fits fits postfixes one.postfix_signs (λ p q h f. subst (Admits level) h.0 f) (λ p q h f. subst (Admits level) (sym h.0) f)) followed-agree
 
     -- a layer has one answer
-    one-layer : (level : Level) → IsDetermined same (IsLayer operand prefixes before postfixes after infixes joins side level)
+    one-layer : (level : Level) → IsDetermined same
+        (IsLayer operand prefixes before postfixes after infixes joins side level)
     one-layer level =
         let turn = IsNext operand prefixes before postfixes after infixes joins side level in
         agree-then same same (IsOperand operand prefixes before postfixes after infixes joins side) (IsOperand operand prefixes before postfixes after infixes joins side) (λ x. Climbs turn (x, None)) (λ x. Climbs turn (x, None)) one-operand

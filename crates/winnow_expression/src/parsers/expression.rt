@@ -19,8 +19,8 @@ use winnow_error::ParserError;
 use winnow_parser::{Failure, ModalResult, Parser};
 use winnow_stream::StreamIsPartial;
 
-/// A parser of operands, with prefix, postfix and infix operators; [`expression`](crate::expression)
-/// makes it.
+/// A parser of operands with operators before, after and between them;
+/// [`expression`](crate::expression) makes it.
 #[derive(Clone, Copy, Drop)]
 pub struct Expression<P, A, B, C> {
     pub(crate) operand: P,
