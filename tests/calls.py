@@ -22,9 +22,6 @@ REFUSING = ("AllocError", "RecordError", "ReadError", "ModalResult", "Unwritten"
 # The sources that make an `AllocError`: of more separators than a `usize` counts, and of the want of memory that `hex` tells of.
 MADE = {"winnow_combinator/src/parsers/separated.rt", "winnow_script_text/src/literals.rt"}
 
-# Crates that make one to test with it.
-TESTING = {"rows_refused"}
-
 # How an impl says that a method is never refused memory of its own.
 NEVER = {
     "append": r"ghost append_refusable = \{ ⊥ \}",
@@ -60,7 +57,7 @@ FURTHER = ("script: ", "text: ")
 def formats():
     """Returns the names of the formats: the crates that stand on `format_lemmas`."""
     with open(f"{TOP}/crates.txt", encoding="utf-8") as text:
-        return re.findall(r"^(winnow_\w+):.* format_lemmas\b", text.read(), flags=re.M)
+        return re.findall(r"^(format_\w+):.* format_lemmas\b", text.read(), flags=re.M)
 
 
 def crates(names):
@@ -153,7 +150,7 @@ def makes_refusal(text):
 
 def made_refusals():
     """Yields a line for each source that makes an `AllocError`, and should not; and for each in `MADE` that makes none."""
-    libraries = [name for name in os.listdir(f"{TOP}/crates") if name.startswith("winnow") and name not in TESTING]
+    libraries = [name for name in os.listdir(f"{TOP}/crates") if name.startswith(("winnow", "format_"))]
     making = {path for crate in libraries for path, text in sources(crate) if makes_refusal(text)}
     yield from (f"{path} makes an AllocError" for path in sorted(making - MADE))
     yield from (f"{path} makes no AllocError" for path in sorted(MADE - making))

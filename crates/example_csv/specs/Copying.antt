@@ -4,7 +4,7 @@ use Rattle.std.specs.List.{flat_map, sum_by}
 use Rattle.std.specs.Io.KnownBytes.{Appends, Consumes}
 use Rattle.winnow.specs.State.{ReaderState, fed_of}
 use Rattle.winnow.specs.Reading.{MayFollow, HasRead}
-use Rattle.format_csv.specs.Records.{RecordAhead}
+use Rattle.format_csv.specs.Language.{RecordAhead}
 use Rattle.format_csv.specs.Answers.{values_of}
 use Rattle.format_csv.specs.Widths.{RowVec, first_width, HaveWidth}
 use Rattle.format_csv.specs.Tables.{rows_in, AreRecords, HasNoRecord, IsDamagedAt}

@@ -22,7 +22,8 @@ use example_base::Trouble;
 use format_csv::{Row, rows_in_pieces_law, text_start};
 use std::alloc::Global;
 use std::io::{ErrorKind, Read, Write};
-use winnow::reader::{ByteReader, Next, ReadError};
+use winnow::reader::{Next, ReadError};
+use winnow::scan::ScanReader;
 
 /// How many bytes are asked for in one read.
 const PIECE: usize = 65_536;
@@ -100,7 +101,7 @@ fn copy_text<R: Read, W: Write>(
         CopiesUntil bytes failure (W.contents output.old) (W.contents output.new))) }
 {
     rows_in_pieces_law();
-    let mut reader = ByteReader::new(alloc, Row);
+    let mut reader = ScanReader::new(alloc, Row);
     let mut progress = Progress {
         feeds: 0,
         width: None,
@@ -179,7 +180,7 @@ fn read_piece<R: Read>(input: &mut R, buffer: &mut [u8]) -> Result<usize, Failur
 }
 
 // Pushes a piece. An input of more bytes than can be counted is refused.
-fn push(reader: &mut ByteReader<Row>, piece: &[u8]) -> Result<(), Failure>
+fn push(reader: &mut ScanReader<Row>, piece: &[u8]) -> Result<(), Failure>
     requires { reader.old.ended ≡ false }
     ensures ok { OnOk result (reader.new ≡ pushed reader.old piece.now) }
     ensures read { OnOk result (ReadsAlso (λ r. RowInPieces) reader.old piece.now reader.new) }
@@ -200,7 +201,7 @@ fn push(reader: &mut ByteReader<Row>, piece: &[u8]) -> Result<(), Failure>
 // Writes the records that are ahead, also those before one that fails, and flushes the output.
 fn write_ahead<W: Write>(
     alloc: Global,
-    reader: &mut ByteReader<Row>,
+    reader: &mut ScanReader<Row>,
     progress: &mut Progress,
     output: &mut W,
 ) -> Result<(), Failure>
@@ -222,7 +223,7 @@ fn write_ahead<W: Write>(
 // Reads until there is no record, and writes each.
 fn write_records<W: Write>(
     alloc: Global,
-    reader: &mut ByteReader<Row>,
+    reader: &mut ScanReader<Row>,
     progress: &mut Progress,
     output: &mut W,
 ) -> Result<(), Failure>
@@ -263,7 +264,7 @@ fn write_records<W: Write>(
 }
 
 // Says what is wrong at this place of the joined input.
-fn damage(reader: &ByteReader<Row>, feeds: usize, place: usize) -> Failure
+fn damage(reader: &ScanReader<Row>, feeds: usize, place: usize) -> Failure
     requires from { reader.now.place ≤ place }
     requires to { place ≤ fed_of reader.now }
     requires counted { feeds + length reader.now.ahead + 1 < 2 ^ 64 }

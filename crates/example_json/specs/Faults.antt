@@ -1,8 +1,8 @@
 -- Where a reader of events stops, and what a failure says of that.
 use Rattle.std.specs.Prelude.{◌≡◌, ℕ, List, ◌++◌, ◌⊎◌, ⊤}
-use Rattle.format_json.specs.EventReading.{EventState, IsNoNext, IsMisplaced}
-use Rattle.format_json.specs.declared.event_reader.EventError.{EventError}
-use Rattle.format_json.specs.declared.event_reader.EventError.TheVariants as error
+use Rattle.format_json_events.specs.Reading.{EventState, IsNoNext, IsMisplaced}
+use Rattle.format_json_events.specs.declared.event_reader.EventError.{EventError}
+use Rattle.format_json_events.specs.declared.event_reader.EventError.TheVariants as error
 use Rattle.example_json.specs.Positions.{IsPlaced, LeadsTo}
 use Rattle.example_json.specs.declared.positions.Position.{Position}
 use Rattle.example_json.specs.declared.positions.Line.{Line}

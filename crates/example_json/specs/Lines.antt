@@ -2,10 +2,10 @@
 -- colon, 32 a space and 10 a line feed.
 use Rattle.std.specs.Prelude.{ℕ, ◌+◌, ◌-◌, ◌*◌, min, List, [], ◌∷◌, ◌++◌, replicate}
 use Rattle.std.specs.String.{string_bytes}
-use Rattle.format_json.specs.Values.{null_word, bool_word}
+use Rattle.format_json.specs.Language.{null_word, bool_word}
 use Rattle.format_json.specs.Quoting.{written_string}
-use Rattle.format_json.specs.declared.event_reader.Event.{Event}
-use Rattle.format_json.specs.declared.event_reader.Event.TheVariants.{StartArray, EndArray, StartObject, EndObject, Key, Null, Bool, Number, String}
+use Rattle.format_json_events.specs.declared.event_reader.Event.{Event}
+use Rattle.format_json_events.specs.declared.event_reader.Event.TheVariants.{StartArray, EndArray, StartObject, EndObject, Key, Null, Bool, Number, String}
 
 -- what shows an event: a bracket; the name of a member and a colon; or a value that is no array and
 -- no object

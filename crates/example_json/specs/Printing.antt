@@ -1,8 +1,8 @@
 -- What the program has read of its input, and what it writes.
 use Rattle.std.specs.Prelude.{◌≡◌, ℕ, ◌+◌, ◌<◌, ◌^◌, true, List, [], ◌++◌, length, Option, None}
 use Rattle.std.specs.Io.KnownBytes.{Appends, Consumes}
-use Rattle.format_json.specs.EventReading.{EventState, HasGiven, KeepsLimits}
-use Rattle.format_json.specs.declared.event_reader.Event.{Event}
+use Rattle.format_json_events.specs.Reading.{EventState, HasGiven, KeepsLimits}
+use Rattle.format_json_events.specs.declared.event_reader.Event.{Event}
 use Rattle.example_json.specs.Positions.{LeadsTo}
 use Rattle.example_json.specs.Lines.{level_by, lines_at, lines_of}
 use Rattle.example_json.specs.Failures.{IsOfText}

@@ -2,10 +2,10 @@
 use Rattle.std.specs.Prelude.{◌≡◌, ℕ, false, List, ◌++◌, None, Result, Ok, Err, ⊤}
 use Rattle.winnow_reader.specs.declared.next.Next.{Next}
 use Rattle.winnow_reader.specs.declared.next.Next.TheVariants as next
-use Rattle.format_json.specs.EventReading.{EventState, HasGiven, KeepsLimits, IsWhole}
-use Rattle.format_json.specs.declared.event_reader.Event.{Event}
-use Rattle.format_json.specs.declared.event_reader.EventError.{EventError}
-use Rattle.format_json.specs.declared.event_reader.EventError.TheVariants as error
+use Rattle.format_json_events.specs.Reading.{EventState, HasGiven, KeepsLimits, IsWhole}
+use Rattle.format_json_events.specs.declared.event_reader.Event.{Event}
+use Rattle.format_json_events.specs.declared.event_reader.EventError.{EventError}
+use Rattle.format_json_events.specs.declared.event_reader.EventError.TheVariants as error
 use Rattle.example_json.specs.Lines.{level_by, lines_at}
 use Rattle.example_json.specs.Failures.{IsOfText}
 use Rattle.example_json.specs.Faults.{StopsAt, TellsOf}

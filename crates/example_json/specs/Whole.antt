@@ -2,7 +2,7 @@
 use Rattle.std.specs.Prelude.{ℕ, List, Option}
 use Rattle.std.specs.Io.KnownBytes.{Appends}
 use Rattle.format_json.specs.Documents.{IsDocument, IsDamage}
-use Rattle.format_json.specs.ValueEvents.{events_of}
+use Rattle.format_json_events.specs.ValueEvents.{events_of}
 use Rattle.format_json.specs.declared.value.Value.{Value}
 use Rattle.format_json.specs.declared.documents.Damage.{Damage}
 use Rattle.example_json.specs.Lines.{lines_of}

@@ -3,7 +3,8 @@
 ghost use Rattle.std.specs.Prelude.{◌≡◌, ◌++◌, ◌+◌, ◌*◌, min, replicate, OnOk, IfOk};
 ghost use Rattle.example_json.specs.Lines.{shown, line_of, level_after};
 
-use format_json::{Event, write_string};
+use format_json::write_string;
+use format_json_events::Event;
 use std::alloc::AllocError;
 
 /// Appends the line of an event, before which this many arrays and objects are open, and moves the

@@ -3,7 +3,7 @@
 ghost use Rattle.std.specs.Prelude.{◌≡◌, ℕ, ◌++◌, ◌+◌, ◌≤◌, ◌<◌, ◌^◌, List, [], true, false, None};
 ghost use Rattle.std.specs.Prelude.{length, take, vec_len, IfOk, OnOk, IfErr, IfSome};
 ghost use Rattle.std.specs.Io.KnownBytes.{Appends, Consumes, IsAtEnd};
-ghost use Rattle.format_json.specs.EventReading.{events_ended, KeepsLimits, IsWhole};
+ghost use Rattle.format_json_events.specs.Reading.{events_ended, KeepsLimits, IsWhole};
 ghost use Rattle.example_json.specs.Positions.{IsWithin};
 ghost use Rattle.example_json.specs.Failures.{IsOfText};
 ghost use Rattle.example_json.specs.Faults.{Places};
@@ -18,7 +18,7 @@ use crate::failure::Failure;
 use crate::positions::{Line, Position};
 use crate::printing::append_line;
 use example_base::Trouble;
-use format_json::{EventError, EventReader, events_law};
+use format_json_events::{EventError, EventReader, events_law};
 use std::alloc::Global;
 use std::io::{ErrorKind, Read, Write};
 use winnow::reader::Next;

@@ -1,7 +1,7 @@
 //! The record that is read.
 
 ghost use Rattle.winnow.specs.Place.{IsByteSlice, SlicesStay-bytes};
-ghost use Rattle.format_resp.specs.Grammar.{IsParser-Nested};
+ghost use Rattle.format_resp.specs.Meanings.{IsParser-Nested};
 ghost use Rattle.example_resp.specs.Placing.{Placing, IsParser-Placing};
 
 use crate::positions::Position;

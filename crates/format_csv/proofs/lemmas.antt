@@ -8,3 +8,5 @@ pub mod WritingLemmas
 pub mod WidthLemmas
 pub mod TableLemmas
 pub mod ReaderLemmas
+pub mod ScanLemmas
+pub mod OpenLemmas

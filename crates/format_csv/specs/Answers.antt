@@ -1,27 +1,16 @@
 -- The answers of the reader of records, in the words of the format.
-use Rattle.std.specs.Prelude.{◌≡◌, ℕ, Bool, true, false, List, [], ◌∷◌, ◌++◌, map, Result, Ok, Err, ◌⊎◌, ⊤}
+use Rattle.std.specs.Prelude.{◌≡◌, ℕ, Bool, true, false, List, [], ◌++◌, map, Result, Ok, Err, ◌⊎◌, ⊤}
 use Rattle.std.specs.declared.vec.Vec.{Vec}
 use Rattle.std.specs.declared.alloc.Global.{Global}
 use Rattle.winnow_stream.specs.declared.needed.Needed.{Needed}
 use Rattle.winnow_parser.specs.declared.failure.Failure.{Failure}
 use Rattle.winnow_parser.specs.declared.failure.Failure.TheVariants.{Incomplete, Backtrack, Cut, Refused}
-use Rattle.format_lemmas.specs.Bytes.{StartsWith}
-use Rattle.format_csv.specs.Records.{SpellsRecord, EndsRecord, RecordAhead}
+use Rattle.format_csv.specs.Language.{RecordAhead}
+use Rattle.format_csv.specs.Damage.{BreaksOff, IsUnclosed}
 
 -- the values of the fields of a record
 abbrev pub values_of : Vec (Vec ℕ Global) Global → List (List ℕ)
 values_of row = map (λ field. field.items) row.items
-
--- a record breaks off at the rest: fields stand before it, and it begins neither with a comma nor
--- with the end of a record
-abbrev pub BreaksOff : Bool → List ℕ → List ℕ → Type 0
-BreaksOff partial bytes rest = (values : List (List ℕ)) × ((text : List ℕ) × ((bytes ≡ text ++ rest)
-    × SpellsRecord values text × ¬ (StartsWith 44 rest)
-    × ((after : List ℕ) → ¬ (EndsRecord partial rest after))))
-
--- a closing quote is missing at the end: with one more quote the bytes spell a record
-abbrev pub IsUnclosed : List ℕ → Type 0
-IsUnclosed bytes = (values : List (List ℕ)) × SpellsRecord values (bytes ++ 34 ∷ [])
 
 -- more input can make a record of the bytes: with some after them, they are a record and its end
 abbrev pub IsBegun : List ℕ → Type 0
@@ -49,8 +38,8 @@ IsGiven (Err (Cut e)) rest values after = ⊥
 IsGiven (Err (Incomplete n)) rest values after = ⊥
 IsGiven (Err (Refused e)) rest values after = ⊤
 
--- each record that stands at the front is given, unless memory was refused: none is missed, and no
--- bytes are two records
+-- each record with which the bytes begin is returned, unless memory was refused: none is missed,
+-- and no bytes are two records
 abbrev pub GivesEach : {E : Type 0} → Bool → List ℕ
     → Result (Vec (Vec ℕ Global) Global) (Failure E Needed) → List ℕ → Type 0
 GivesEach partial bytes result rest = (values : List (List ℕ)) (after : List ℕ)

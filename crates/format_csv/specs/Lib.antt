@@ -1,10 +1,12 @@
 pub mod Fields
-pub mod Records
+pub mod Language
 pub mod Gathering
 pub mod Meanings
+pub mod Damage
 pub mod Answers
 pub mod Tables
 pub mod Writing
 pub mod Widths
 pub mod Reading
 pub mod Marks
+pub mod Scan

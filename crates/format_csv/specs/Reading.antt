@@ -19,7 +19,7 @@ module _ {R : Type 0} where
   BeginsWith f input rows = (more : List ℕ) → MayFollow f.ended more false
       → AreRecords (input ++ more) (rows_in rows) (f.ahead ++ more)
 
-  -- no matter what follows, no record stands at the front of the reader, and what does is damaged
+  -- on each continuation, the bytes ahead of the reader begin with no record, and one is malformed
   -- at this place of the joined input
   abbrev pub FindsDamage : ReaderState R → ℕ → Type 0
   FindsDamage f place = (rest : List ℕ) × ((f.place + length f.ahead ≡ place + length rest)

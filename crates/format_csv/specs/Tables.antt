@@ -2,8 +2,9 @@
 use Rattle.std.specs.Prelude.{◌≡◌, ℕ, ◌-◌, false, List, [], ◌∷◌, length, map, ◌⊎◌}
 use Rattle.std.specs.declared.vec.Vec.{Vec}
 use Rattle.std.specs.declared.alloc.Global.{Global}
-use Rattle.format_csv.specs.Records.{RecordAhead}
-use Rattle.format_csv.specs.Answers.{values_of, BreaksOff, IsUnclosed}
+use Rattle.format_csv.specs.Language.{RecordAhead}
+use Rattle.format_csv.specs.Answers.{values_of}
+use Rattle.format_csv.specs.Damage.{BreaksOff, IsUnclosed}
 use Rattle.format_csv.specs.declared.tables.Damage.{Damage}
 
 -- the values of the fields of each record
@@ -16,7 +17,7 @@ AreRecords bytes [] rest = bytes ≡ rest
 AreRecords bytes (row ∷ rows) rest =
     (more : List ℕ) × (RecordAhead false bytes row more × AreRecords more rows rest)
 
--- no record stands at the front
+-- the bytes begin with no record
 abbrev pub HasNoRecord : List ℕ → Type 0
 HasNoRecord bytes = (row : List (List ℕ)) (rest : List ℕ) → ¬ (RecordAhead false bytes row rest)
 
@@ -24,8 +25,8 @@ HasNoRecord bytes = (row : List (List ℕ)) (rest : List ℕ) → ¬ (RecordAhea
 abbrev pub IsDamagedAt : List ℕ → List ℕ → Type 0
 IsDamagedAt bytes rest = BreaksOff false bytes rest ⊎ (IsUnclosed bytes × (rest ≡ []))
 
--- after as many records as the damage says no record stands at the front, and what does breaks off
--- at its offset
+-- after as many records as the damage says, the rest begins with no record, and one breaks off at
+-- its offset
 abbrev pub IsDamage : List ℕ → Damage → Type 0
 IsDamage bytes damage = (rows : List (List (List ℕ))) × ((begun : List ℕ) × ((rest : List ℕ)
     × (AreRecords bytes rows begun × (length rows ≡ damage.rows) × HasNoRecord begun

@@ -4,7 +4,7 @@ use Rattle.std.specs.List.{flat_map, list_any}
 use Rattle.std.specs.declared.vec.Vec.{Vec}
 use Rattle.std.specs.declared.alloc.Global.{Global}
 use Rattle.format_csv.specs.Fields.{is_special, doubled}
-use Rattle.format_csv.specs.Records.{RecordAhead}
+use Rattle.format_csv.specs.Language.{RecordAhead}
 
 -- the values of some fields
 abbrev pub values_in : List (Vec ℕ Global) → List (List ℕ)
@@ -19,7 +19,7 @@ abbrev pub written_record : List (List ℕ) → List ℕ
 written_record [] = []
 written_record (value ∷ values) = written_field value ++ flat_map (λ next. 44 ∷ written_field next) values
 
--- no matter what follows these bytes, a record of these values stands at the front, and what
--- follows remains
+-- before each continuation, the bytes begin with a record of these values, and the continuation
+-- remains
 abbrev pub IsReadBack : List (List ℕ) → List ℕ → Type 0
 IsReadBack values bytes = (partial : Bool) (rest : List ℕ) → RecordAhead partial (bytes ++ rest) values rest

@@ -25,7 +25,7 @@ fn chunk() -> Delimited<OneOf<u8>, TakeTill<u8>, CutErr<OneOf<u8>>>
 /// The parser of a quoted field: one or more texts between quotes, with nothing between them. It
 /// gives what the field means, where a doubled quote is one quote.
 ///
-/// It backtracks where no quote stands at the front, and cuts at the end of an input that ends
+/// It backtracks if the input starts with no quote, and cuts at the end of an input that ends
 /// before the closing quote.
 #[derive(Clone, Copy, Debug)]
 pub struct Quoted;

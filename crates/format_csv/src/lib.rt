@@ -19,18 +19,21 @@
 
 mod fields;
 mod gathering;
+mod grammar;
+mod laws;
 mod marks;
 mod reading;
-mod records;
+mod scan;
 mod tables;
 mod widths;
 mod writing;
 
 pub use fields::{Plain, Quoted};
 pub use gathering::Chunks;
+pub use grammar::{Fields, Row, RowEnd, read_record};
+pub use laws::rows_in_pieces_law;
 pub use marks::{Mark, byte_order_mark, text_start};
-pub use reading::rows_in_pieces_law;
-pub use records::{Fields, Row, RowEnd, read_record};
+pub use scan::RowState;
 pub use tables::{Damage, read_table};
 pub use widths::first_uneven;
 pub use writing::write_record;

@@ -1,14 +1,8 @@
-//! The law of records that are read from pieces.
+//! `Row` as a record of a reader.
 
-ghost use Rattle.std.specs.Prelude.{ℕ, List};
 ghost use Rattle.winnow.specs.Place.{IsByteSlice, SlicesStay-bytes};
-ghost use Rattle.winnow.specs.State.{ReaderState};
-ghost use Rattle.winnow.specs.Reading.{HasRead};
-ghost use Rattle.winnow.specs.Answering.{FailsAt, IdlesAt};
-ghost use Rattle.winnow.specs.SameValues.{IsThrough};
 ghost use Rattle.format_csv.specs.Meanings.{IsParser-OneRow};
-ghost use Rattle.format_csv.specs.Reading.{RowInPieces, BeginsWith, FindsDamage};
-ghost use Rattle.format_csv.specs.Widths.{RowVec};
+ghost use Rattle.format_csv.specs.Reading.{RowInPieces};
 
 use crate::Row;
 use std::alloc::Global;
@@ -36,18 +30,3 @@ impl Record for Row {
         self.parse_next(alloc, input)
     }
 }
-
-/// The law of a reader of records, in the words of the format. It does nothing when called: its
-/// contract is the law.
-///
-/// However the input was cut and no matter what follows, the values that were read are the records
-/// that it begins with, one after the other. Where the reader fails, no record stands at the front,
-/// and it says where what stands there is damaged. Each value takes something.
-pub fn rows_in_pieces_law()
-    ensures records { (f : ReaderState Row) (input : List ℕ) (rows : List RowVec)
-        → HasRead ⟦<Row as Record>⟧.means f input rows → BeginsWith f input rows }
-    ensures damaged { (f : ReaderState Row) (place : ℕ) → FailsAt ⟦<Row as Record>⟧.means f place
-        → ¬ (IsThrough f) → FindsDamage f place }
-    ensures takes { (f : ReaderState Row) (place : ℕ)
-        → ¬ (IdlesAt ⟦<Row as Record>⟧.means f place) }
-{}

@@ -20,7 +20,7 @@ pub struct Damage {
     pub offset: usize,
 }
 
-// Reads one record from the front of bytes to which nothing is added.
+// Reads one record from bytes to which nothing is added.
 fn next_row(alloc: Global, input: &mut &[u8]) -> ModalResult<Vec<Vec<u8>>, EmptyError>
     ensures answer { IsAnswer false input.old.now result input.new.now }
     ensures complete { GivesEach false input.old.now result input.new.now }

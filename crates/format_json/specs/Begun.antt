@@ -2,9 +2,9 @@
 use Rattle.std.specs.Prelude.{◌≡◌, ℕ, zero, suc, Bool, true, false, List, [], ◌∷◌, ◌++◌, ◌⊎◌, ⊤}
 use Rattle.std.specs.declared.string.String.{String}
 use Rattle.std.specs.declared.alloc.Global.{Global}
-use Rattle.format_json.specs.Numbers.{BeginsNumber}
-use Rattle.format_json.specs.StringAnswers.{IsBegun}
-use Rattle.format_json.specs.Values.{after_blanks, null_word, bool_word, StringHere, MemberAhead, ValueAhead}
+use Rattle.format_json_scalars.specs.Numbers.{BeginsNumber}
+use Rattle.format_json_scalars.specs.StringAnswers.{IsBegun, StringHere}
+use Rattle.format_json.specs.Language.{after_blanks, null_word, bool_word, MemberAhead, ValueAhead}
 use Rattle.format_json.specs.Damage.{EachWithComma}
 use Rattle.format_json.specs.declared.found.Found.{Found}
 use Rattle.format_json.specs.declared.found.Found.TheVariants.{Whole, Begun, Damaged}

@@ -4,9 +4,9 @@ use Rattle.std.specs.Prelude.{ℕ, ◌+◌, ◌==◌, nat_lt, Bool, ◌||◌, �
 use Rattle.std.specs.Int.{is_in_range}
 use Rattle.std.specs.Char.{is_ascii_digit, digit_value}
 use Rattle.format_lemmas.specs.Bytes.{StartsWith}
-use Rattle.format_json.specs.Numbers.{is_number_byte, BeginsNumber}
+use Rattle.format_json_scalars.specs.Numbers.{is_number_byte, BeginsNumber}
 use Rattle.format_json.specs.TokenAnswers.{BeginsWord}
-use Rattle.format_json.specs.Escapes.{MayBeChar}
+use Rattle.format_json_scalars.specs.Escapes.{MayBeChar}
 use Rattle.format_json.specs.declared.causes.Cause.{Cause}
 use Rattle.format_json.specs.declared.causes.Cause.TheVariants.{WideText, ByteOrderMark, Comment, SingleQuote, OtherWord, NoToken, LeadingZero, BadNumber, BadEscape, LoneSurrogate, ControlCharacter, BadUtf8}
 

@@ -5,8 +5,8 @@ use Rattle.std.specs.Prelude.{◌≡◌, ℕ, zero, suc, Bool, List, [], ◌∷�
 use Rattle.std.specs.declared.string.String.{String}
 use Rattle.std.specs.declared.alloc.Global.{Global}
 use Rattle.format_lemmas.specs.Bytes.{StartsWith}
-use Rattle.format_json.specs.StringAnswers.{IsDamagedAt}
-use Rattle.format_json.specs.Values.{after_blanks, StringHere, MemberAhead, ValueAhead, ValueHere}
+use Rattle.format_json_scalars.specs.StringAnswers.{IsDamagedAt, StringHere}
+use Rattle.format_json.specs.Language.{after_blanks, MemberAhead, ValueAhead, ValueHere}
 use Rattle.format_json.specs.Founds.{HasNone}
 use Rattle.format_json.specs.declared.found.Found.{Found}
 use Rattle.format_json.specs.declared.found.Found.TheVariants.{Whole, Begun, Damaged}

@@ -1,6 +1,6 @@
 -- Texts that are one value.
 use Rattle.std.specs.Prelude.{◌≡◌, ◌≢◌, ℕ, suc, ◌≤◌, false, List, [], ◌⊎◌, length, drop}
-use Rattle.format_json.specs.Values.{after_blanks, ValueAhead}
+use Rattle.format_json.specs.Language.{after_blanks, ValueAhead}
 use Rattle.format_json.specs.Damage.{BreaksOff}
 use Rattle.format_json.specs.SameValues.{SameValue}
 use Rattle.format_json.specs.declared.value.Value.{Value}

@@ -3,9 +3,9 @@ use Rattle.std.specs.Prelude.{◌≡◌, ℕ, ◌≤◌, Bool, true, List, ◌++
 use Rattle.winnow_stream.specs.Shortage.{needed}
 use Rattle.winnow_parser.specs.Outcome.{Backtracks, Cuts, Needs, Refuses, Gives, Fails, Meaning, Moves}
 use Rattle.format_lemmas.specs.Bytes.{Each, StartsWith, bytes_of}
-use Rattle.format_json.specs.Numbers.{is_number_byte}
-use Rattle.format_json.specs.StringAnswers.{IsDamagedAt, IsBegun}
-use Rattle.format_json.specs.Values.{after_blanks}
+use Rattle.format_json_scalars.specs.Numbers.{is_number_byte}
+use Rattle.format_json_scalars.specs.StringAnswers.{IsDamagedAt, IsBegun}
+use Rattle.format_json.specs.Language.{after_blanks}
 use Rattle.format_json.specs.Founds.{HasNone}
 use Rattle.format_json.specs.Tokens.{Word, lexeme_of, TokenHere, TokenAhead}
 use Rattle.format_json.specs.declared.found.Found.{Found}

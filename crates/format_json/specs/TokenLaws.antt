@@ -6,9 +6,9 @@ use Rattle.winnow_stream.specs.Source.{Source}
 use Rattle.winnow_parser.specs.Outcome.{Ahead, Backtracks, Cuts, Needs, Refuses, Gives, Fails, Moves}
 use Rattle.winnow_parser.specs.Laws.{longer, IsStable, IsFinal, IsOnward, IsParser}
 use Rattle.format_lemmas.specs.Bytes.{Each, StartsWith, EndsRun, bytes_of}
-use Rattle.format_json.specs.Numbers.{is_number_byte}
-use Rattle.format_json.specs.StringAnswers.{BeginsChar, IsWrong}
-use Rattle.format_json.specs.Values.{is_blank, after_blanks}
+use Rattle.format_json_scalars.specs.Numbers.{is_number_byte}
+use Rattle.format_json_scalars.specs.StringAnswers.{BeginsChar, IsWrong}
+use Rattle.format_json.specs.Language.{is_blank, after_blanks}
 use Rattle.format_json.specs.Founds.{HasNone}
 use Rattle.format_json.specs.Tokens.{Lexeme, Word, Digits, Quoted, Ending, lexeme_of, LexemeHere, TokenHere, TokenAhead}
 use Rattle.format_json.specs.TokenAnswers.{IsNoToken, IsWrongAt, OneToken}
@@ -34,7 +34,7 @@ ends-longer : (partial : Bool) (r more : List ℕ) → EndsRun is_number_byte tr
 ends-longer partial [] more ends = absurd (ends.1 refl refl)
 ends-longer partial (x ∷ r) more ends = (ends.0, λ p e. cc e)
 
--- what stands at the front still does where more follows
+-- bytes that begin with a lexeme still do if more follows
 lexeme-longer : (partial : Bool) (x : Lexeme) (b r more : List ℕ) → LexemeHere true x b r
     → LexemeHere partial x (b ++ more) (r ++ more)
 lexeme-longer partial (Word w) b r more e = ap (λ l. l ++ more) e ∙ append_assoc w r more
@@ -52,7 +52,7 @@ ends-blank : (partial : Bool) (r : List ℕ) → EndsRun is_number_byte partial 
 ends-blank partial [] ends = ((λ e. cc e), λ p e. cc e)
 ends-blank partial (x ∷ r) ends = (ends.0, λ p e. cc e)
 
--- what stands at the front, and is not the end, still does where a blank follows and more may
+-- bytes that begin with a lexeme other than the end still do if a blank follows and more may
 lexeme-blank : (partial : Bool) (x : Lexeme) (b r : List ℕ) → LexemeHere partial x b r → b ≢ []
     → LexemeHere true x (b ++ 32 ∷ []) (r ++ 32 ∷ [])
 lexeme-blank partial (Word w) b r e some = ap (λ l. l ++ 32 ∷ []) e ∙ append_assoc w r (32 ∷ [])

@@ -4,9 +4,9 @@ use Rattle.std.specs.Prelude.{◌≡◌, ℕ, ℤ, ◌==◌, Bool, true, false, 
 use Rattle.std.specs.Int.{w64}
 use Rattle.std.specs.String.{string_bytes}
 use Rattle.winnow_count.specs.Reading.{IsSomeExactly, ReadsSigned}
-use Rattle.format_json.specs.Strings.{StringAhead}
-use Rattle.format_json.specs.NumberAnswers.{NumberAhead}
-use Rattle.format_json.specs.Values.{after_blanks, null_word, bool_word}
+use Rattle.format_json_scalars.specs.Strings.{StringAhead}
+use Rattle.format_json_scalars.specs.NumberAnswers.{NumberAhead}
+use Rattle.format_json.specs.Language.{after_blanks, null_word, bool_word}
 use Rattle.format_json.specs.declared.tokens.Token.{Token}
 use Rattle.format_json.specs.declared.tokens.Token.TheVariants as token
 

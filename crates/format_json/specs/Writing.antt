@@ -6,10 +6,10 @@ use Rattle.std.specs.String.{string_bytes}
 use Rattle.std.specs.declared.string.String.{String}
 use Rattle.std.specs.declared.alloc.Global.{Global}
 use Rattle.format_lemmas.specs.Bytes.{EndsRun}
-use Rattle.format_json.specs.Numbers.{is_number_byte}
-use Rattle.format_json.specs.Values.{null_word, bool_word, ValueAhead}
+use Rattle.format_json_scalars.specs.Numbers.{is_number_byte}
+use Rattle.format_json.specs.Language.{null_word, bool_word, ValueAhead}
 use Rattle.format_json.specs.Documents.{IsDocument}
-use Rattle.format_json.specs.Quoting.{written_string}
+use Rattle.format_json_scalars.specs.Quoting.{written_string}
 use Rattle.format_json.specs.declared.value.Value.{Value}
 use Rattle.format_json.specs.declared.value.Value.TheOpen as open_value
 use Rattle.format_json.specs.declared.value.Value.TheOpen.{Value-F, Null}
@@ -40,8 +40,8 @@ layer_written (open_value.Object members) =
 abbrev pub written : Value → List ℕ
 written = fold-Value (List ℕ) layer_written
 
--- the value stands at the front where it was written, no matter what follows that does not go on
--- with a number
+-- the text that is written of the value begins with that value, before each continuation that does
+-- not continue a number
 abbrev pub IsReadBack : ℕ → Value → Type 0
 IsReadBack depth value = (partial : Bool) (rest : List ℕ) → EndsRun is_number_byte partial rest
     → ValueAhead partial depth value (written value ++ rest) rest

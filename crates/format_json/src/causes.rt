@@ -2,17 +2,14 @@
 
 ghost use Rattle.std.specs.Prelude.{◌≡◌, ◌<◌, length, Some};
 ghost use Rattle.format_lemmas.specs.Bytes.{StartsWith};
-ghost use Rattle.format_json.specs.Numbers.{Tells};
-ghost use Rattle.format_json.specs.StringAnswers.{BeginsChar};
+ghost use Rattle.format_json_scalars.specs.Numbers.{Tells};
+ghost use Rattle.format_json_scalars.specs.StringAnswers.{BeginsChar};
 ghost use Rattle.format_json.specs.Causes.{is_wide, is_letter, has_leading_zero};
 ghost use Rattle.format_json.specs.Causes.{number_cause, other_cause, begins_surrogate, char_cause};
 ghost use Rattle.format_json.specs.Causes.{cause_of, IsCut, damage_text};
 
-use crate::escapes::{byte_or, digit_value};
-use crate::parts::begins_number;
-use crate::scalars::is_number_byte;
-use crate::strings::may_be_char;
 use crate::tokens::begins_word;
+use format_json_scalars::{begins_number, byte_or, digit_value, is_number_byte, may_be_char};
 use std::fmt;
 
 /// What is wrong where a token is damaged. Its text says it in a few words.
@@ -160,7 +157,8 @@ fn char_cause(bytes: &[u8]) -> Cause
 }
 
 /// Returns what is wrong with a token, which is damaged at the rest.
-pub(crate) fn cause_of(here: &[u8], rest: &[u8]) -> Cause
+#[doc(hidden)]
+pub fn cause_of(here: &[u8], rest: &[u8]) -> Cause
     ensures { result ≡ cause_of here.now rest.now }
 {
     let first = byte_or(here, 0, 0);
@@ -174,7 +172,8 @@ pub(crate) fn cause_of(here: &[u8], rest: &[u8]) -> Cause
 }
 
 /// Returns whether a token, which is damaged at the rest, is only cut off.
-pub(crate) fn is_cut(here: &[u8], rest: &[u8]) -> bool
+#[doc(hidden)]
+pub fn is_cut(here: &[u8], rest: &[u8]) -> bool
     requires some { 0 < length here.now }
     requires damaged { StartsWith 34 here.now → ¬ (BeginsChar rest.now) }
     ensures { Tells result (IsCut here.now rest.now) }

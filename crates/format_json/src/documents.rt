@@ -5,7 +5,7 @@ ghost use Rattle.format_json.specs.Documents.{IsDocument, IsOnlyDocument, IsDama
 
 use crate::Value;
 use crate::found::{Found, blank_count};
-use crate::nested::value_at;
+use crate::grammar::value_at;
 use std::alloc::{AllocError, Global};
 
 /// Where a text is damaged.

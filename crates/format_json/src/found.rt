@@ -1,12 +1,12 @@
 //! Blanks, and the next byte after them.
 
 ghost use Rattle.std.specs.Prelude.{◌≡◌, ◌≤◌, length, drop};
-ghost use Rattle.format_json.specs.Values.{is_blank, after_blanks, WordAhead};
+ghost use Rattle.format_json.specs.Language.{is_blank, after_blanks, WordAhead};
 ghost use Rattle.format_json.specs.Founds.{IsFound, IsNext, IsByte};
 ghost use Rattle.format_json.specs.Damage.{ByteIsMissing, IsPlaced};
 ghost use Rattle.format_json.specs.Begun.{BeginsWord, IsOpen};
 
-// What stands at the front in some bytes.
+// What some bytes begin with.
 #[derive(Debug, Drop)]
 pub(crate) enum Found<T> {
     // This value, and the number of its bytes
@@ -17,7 +17,7 @@ pub(crate) enum Found<T> {
     Damaged(usize),
 }
 
-// What stands after an element of an array, or after a member of an object.
+// What follows an element of an array, or a member of an object.
 #[derive(Clone, Copy, Debug, Drop)]
 pub(crate) enum Next {
     // A comma, and the number of bytes up to its end
@@ -37,8 +37,9 @@ fn is_blank(byte: u8) -> bool
     matches!(byte, b' ' | b'\t' | b'\n' | b'\r')
 }
 
-// Returns the number of blanks that stand first.
-pub(crate) fn blank_count(bytes: &[u8]) -> usize
+/// Returns the number of blanks with which the bytes begin.
+#[doc(hidden)]
+pub fn blank_count(bytes: &[u8]) -> usize
     ensures within { result ≤ length bytes.now }
     ensures rest { drop result bytes.now ≡ after_blanks bytes.now }
 {
@@ -50,7 +51,7 @@ pub(crate) fn blank_count(bytes: &[u8]) -> usize
     bytes.len()
 }
 
-// Returns what stands at the front where a word must.
+// Returns whether the bytes begin with a word.
 pub(crate) fn word_at(bytes: &[u8], partial: bool, word: &[u8]) -> Found<()>
     ensures found { IsFound (WordAhead word.now) partial bytes.now result }
     ensures place { IsPlaced (λ whole rest. rest ≡ whole) bytes.now result }
@@ -70,7 +71,7 @@ pub(crate) fn word_at(bytes: &[u8], partial: bool, word: &[u8]) -> Found<()>
     Found::Whole((), word.len())
 }
 
-// Returns what stands after blanks where this byte must.
+// Returns whether this byte is the first after blanks.
 pub(crate) fn byte_at(bytes: &[u8], partial: bool, byte: u8) -> Found<()>
     ensures found { IsByte byte partial bytes.now result }
     ensures place { IsPlaced (ByteIsMissing byte) bytes.now result }
@@ -88,7 +89,7 @@ pub(crate) fn byte_at(bytes: &[u8], partial: bool, byte: u8) -> Found<()>
     Found::Damaged(at)
 }
 
-// Returns what stands after blanks where a comma or the closing bracket `close` must.
+// Returns whether a comma, or the closing bracket `close`, is the first byte after blanks.
 pub(crate) fn next_at(bytes: &[u8], partial: bool, close: u8) -> Next
     ensures { IsNext close partial bytes.now result }
 {

@@ -1,43 +1,23 @@
 //! The parsers of values that hold no other value.
 
-ghost use Rattle.std.specs.Prelude.{◌≡◌, ◌≤◌, ℕ, length, take, drop, IfOk};
-ghost use Rattle.format_lemmas.specs.Bytes.{Each, Starts, StartsWith};
-ghost use Rattle.format_json.specs.Numbers.{is_number_byte, BeginsNumber};
-ghost use Rattle.format_json.specs.StringAnswers.{IsBegun};
-ghost use Rattle.format_json.specs.Values.{NumberHere, StringHere, ValueHere};
+ghost use Rattle.std.specs.Prelude.{◌≡◌, ℕ, IfOk};
+ghost use Rattle.format_lemmas.specs.Bytes.{StartsWith};
+ghost use Rattle.format_json_scalars.specs.Numbers.{BeginsNumber};
+ghost use Rattle.format_json_scalars.specs.StringAnswers.{IsBegun, StringHere};
+ghost use Rattle.format_json.specs.Language.{ValueHere};
+ghost use Rattle.format_json_scalars.specs.NumberAnswers.{NumberHere};
 ghost use Rattle.format_json.specs.Founds.{IsFound, IsWord};
 ghost use Rattle.format_json.specs.Damage.{StringBreaksOff, ScalarBreaksOff, IsPlaced};
 ghost use Rattle.format_json.specs.Begun.{BeginsWord, BeginsScalar, IsOpen};
 
+use crate::Value;
 use crate::found::{Found, word_at};
-use crate::numbers::number_of;
-use crate::parts::{begins_number, is_number};
-use crate::strings::{Reading, read_bytes};
-use crate::{Number, Value};
+use format_json_scalars::{
+    Number, Reading, begins_number, is_number, number_count, number_of, read_bytes,
+};
 use std::alloc::{AllocError, Global};
 
-// Returns whether a number may have the byte.
-pub(crate) fn is_number_byte(byte: u8) -> bool
-    ensures { result ≡ is_number_byte byte }
-{
-    matches!(byte, b'0'..=b'9' | b'-' | b'+' | b'.' | b'e' | b'E')
-}
-
-// Returns how many bytes stand first that a number may have.
-pub(crate) fn number_count(bytes: &[u8]) -> usize
-    ensures within { result ≤ length bytes.now }
-    ensures run { Each is_number_byte (take result bytes.now) }
-    ensures ends { ¬ (Starts is_number_byte (drop result bytes.now)) }
-{
-    for (index, byte) in bytes.iter().enumerate() {
-        if !is_number_byte(*byte) {
-            return index;
-        }
-    }
-    bytes.len()
-}
-
-// Reads a number at the front of the bytes.
+// Reads a number with which the bytes begin.
 pub(crate) fn number_at(
     alloc: Global,
     bytes: &[u8],
@@ -61,7 +41,7 @@ pub(crate) fn number_at(
     Ok(Found::Whole(number_of(alloc, text)?, count))
 }
 
-// Reads a string at the front of the bytes.
+// Reads a string with which the bytes begin.
 pub(crate) fn string_at(
     alloc: Global,
     bytes: &[u8],

@@ -1,24 +1,17 @@
-//! The parser of a token, and the record of a reader.
+//! `Token`: a token, and its parser.
 
 ghost use Rattle.std.specs.Prelude.{◌≡◌, ◌<◌, true, [], length, IfOk, MatchOption};
 ghost use Rattle.format_lemmas.specs.Bytes.{StartsWith, Starts};
-ghost use Rattle.format_json.specs.Numbers.{Tells, is_number_byte};
-ghost use Rattle.format_json.specs.Values.{after_blanks};
+ghost use Rattle.format_json_scalars.specs.Numbers.{Tells, is_number_byte};
+ghost use Rattle.format_json.specs.Language.{after_blanks};
 ghost use Rattle.format_json.specs.Tokens.{Word, lexeme_of, word_from};
-ghost use Rattle.format_json.specs.TokenAnswers.{BeginsWord, IsTokenFound, OneToken};
-ghost use Rattle.format_json.specs.TokenLaws.{IsParser-OneToken};
+ghost use Rattle.format_json.specs.TokenAnswers.{BeginsWord, IsTokenFound};
 
-use crate::Number;
 use crate::found::{Found, blank_count};
-use crate::numbers::number_of;
-use crate::parts::is_number;
-use crate::scalars::{is_number_byte, number_count};
-use crate::strings::{Reading, read_bytes};
+use format_json_scalars::{
+    Number, Reading, is_number, is_number_byte, number_count, number_of, read_bytes,
+};
 use std::alloc::{AllocError, Global};
-use winnow::error::EmptyError;
-use winnow::reader::{Record, RecordInput};
-use winnow::stream::{Needed, Stream, StreamIsPartial};
-use winnow::{Failure, ModalResult};
 
 /// A token: what blanks may stand around.
 #[derive(Debug, Drop)]
@@ -148,8 +141,12 @@ fn token_here(alloc: Global, bytes: &[u8], partial: bool) -> Result<Found<Token>
     Ok(word_here(bytes, partial, first))
 }
 
-// Reads a token after blanks.
-fn token_at(alloc: Global, bytes: &[u8], partial: bool) -> Result<Found<Token>, AllocError>
+/// Reads a token after blanks.
+pub(crate) fn token_at(
+    alloc: Global,
+    bytes: &[u8],
+    partial: bool,
+) -> Result<Found<Token>, AllocError>
     ensures { IfOk result (IsTokenFound partial bytes.now (after_blanks bytes.now)) }
 {
     let at = blank_count(bytes);
@@ -157,46 +154,5 @@ fn token_at(alloc: Global, bytes: &[u8], partial: bool) -> Result<Found<Token>, 
         Found::Whole(token, width) => Ok(Found::Whole(token, at + width)),
         Found::Begun => Ok(Found::Begun),
         Found::Damaged(width) => Ok(Found::Damaged(at + width)),
-    }
-}
-
-/// The record of a token, for a `ByteReader` over bytes that come in pieces.
-///
-/// It takes the blanks before the token. It fails at the place that is wrong: where no token
-/// begins, at the start of a word or a number that is none, and where a string is damaged, as in
-/// [`read_string`](crate::read_string). A number ends where no digit, sign, point or `e` follows,
-/// so the record needs one byte more after it.
-#[derive(Clone, Copy, Debug, Drop)]
-pub struct JsonToken;
-
-impl Record for JsonToken {
-    type Output = Token;
-
-    type Error = EmptyError;
-
-    ghost means = { λ _. OneToken };
-
-    ghost ready = { λ _. Unit {0} };
-
-    ghost lawful = { λ _. IsParser-OneToken };
-
-    fn read<'b>(
-        &self,
-        alloc: Global,
-        input: &mut RecordInput<'b>,
-    ) -> ModalResult<Token, EmptyError> {
-        let bytes = input.peek_finish();
-        match token_at(alloc, bytes, input.is_partial()) {
-            Err(refused) => Err(Failure::Refused(refused)),
-            Ok(Found::Begun) => Err(Failure::Incomplete(Needed::new(1))),
-            Ok(Found::Whole(token, width)) => {
-                let _ = input.next_slice(width);
-                Ok(token)
-            }
-            Ok(Found::Damaged(width)) => {
-                let _ = input.next_slice(width);
-                Err(Failure::Cut(EmptyError))
-            }
-        }
     }
 }

@@ -1,6 +1,6 @@
 //! `Value`: a text as a value.
 
-use crate::Number;
+use format_json_scalars::Number;
 
 /// A value.
 #[derive(Debug, Drop)]

@@ -2,16 +2,15 @@
 
 ghost use Rattle.std.specs.Prelude.{◌≡◌, ◌++◌, OnOk, OnErr, IfErr};
 ghost use Rattle.format_json.specs.Documents.{IsDocument};
-ghost use Rattle.format_json.specs.Values.{ValueAhead};
+ghost use Rattle.format_json.specs.Language.{ValueAhead};
 ghost use Rattle.format_json.specs.Writing.{written, IsReadBack, IsWhy};
 ghost use Rattle.format_json.specs.Appending.{ArrayHere, array_text, MemberHere, member_text};
 ghost use Rattle.format_json.specs.Appending.{ObjectHere, object_text};
 ghost use Rattle.format_json.specs.Appending.{IsAppended, IsNumberAppended};
 ghost use Rattle.format_json.specs.declared.writing.Unwritten.TheVariants.{Refused};
 
-use crate::numbers::is_of_text;
-use crate::quoting::append_string;
-use crate::{Number, Value};
+use crate::Value;
+use format_json_scalars::{Number, append_string, is_of_text};
 use std::alloc::AllocError;
 
 /// Why a value was not written.

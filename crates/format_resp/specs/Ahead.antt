@@ -1,4 +1,4 @@
--- Bytes that stand at the front in a source.
+-- Bytes with which a source begins.
 use Rattle.std.specs.Prelude.{◌≡◌, ℕ, List, ◌++◌}
 use Rattle.winnow_stream.specs.Source.{Source}
 use Rattle.format_lemmas.specs.Bytes.{bytes_of}

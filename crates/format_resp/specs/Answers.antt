@@ -4,7 +4,7 @@ use Rattle.winnow_stream.specs.Source.{Source, units}
 use Rattle.winnow_stream.specs.declared.needed.Needed.{Needed}
 use Rattle.winnow_parser.specs.declared.failure.Failure.{Failure}
 use Rattle.winnow_parser.specs.declared.failure.Failure.TheVariants.{Incomplete, Backtrack, Cut, Refused}
-use Rattle.format_resp.specs.Replies.{Spells}
+use Rattle.format_resp.specs.Language.{Spells}
 use Rattle.format_resp.specs.Contents.{contents}
 use Rattle.format_resp.specs.Ahead.{IsAhead}
 use Rattle.format_resp.specs.Damage.{HasNoKind, StopsAt, BreaksOff}
@@ -21,7 +21,7 @@ StandsAhead longest depth whole reply rest =
 abbrev pub HasNoReply : ℕ → ℕ → Source ℕ → Type 0
 HasNoReply longest depth whole = (reply : Reply) (rest : Source ℕ) → ¬ (StandsAhead longest depth whole reply rest)
 
--- more input can make a reply of what stands at the front
+-- more input can make a reply of the source
 abbrev pub IsBegun : ℕ → ℕ → Source ℕ → Type 0
 IsBegun longest depth whole = (more : List ℕ) × ((reply : Reply) × StandsAhead longest depth (whole ++ units more) reply [])
 
@@ -39,10 +39,10 @@ abbrev pub BreaksOffFor : ℕ → ℕ → Bool → Source ℕ → Source ℕ →
 BreaksOffFor longest depth partial whole rest =
     (cause : Cause) × (IsSettled partial cause × BreaksOff false cause longest depth whole rest)
 
--- the answer is a reply that stands at the front, with what remains; or none does and none can, and
--- the answer is a backtrack where the first byte is that of no kind, and nothing is taken, or a cut
--- where a reply breaks off at what remains; or more input is needed, where more may follow and a
--- reply breaks off at the end; or memory was refused
+-- the result is a reply with which the source begins, with the rest; or the source begins with none
+-- and cannot, and the result is a backtrack if the first byte is that of no kind, which consumes
+-- nothing, or a cut if a reply breaks off at the rest; or more input is needed, if more may follow
+-- and a reply breaks off at the end; or memory was refused
 abbrev pub IsAnswer : {E : Type 0} → ℕ → ℕ → Bool → Source ℕ → Result Reply (Failure E Needed)
     → Source ℕ → Type 0
 IsAnswer longest depth partial whole (Ok reply) rest = StandsAhead longest depth whole reply rest
@@ -64,8 +64,8 @@ IsGiven (Err (Cut e)) rest reply after = ⊥
 IsGiven (Err (Incomplete n)) rest reply after = ⊥
 IsGiven (Err (Refused e)) rest reply after = ⊤
 
--- each reply that stands at the front is given, unless memory was refused: none is missed, and no
--- bytes spell two replies with different contents
+-- each reply with which the source begins is returned, unless memory was refused: none is missed,
+-- and no bytes spell two replies with different contents
 abbrev pub GivesEach : {E : Type 0} → ℕ → ℕ → Source ℕ → Result Reply (Failure E Needed)
     → Source ℕ → Type 0
 GivesEach longest depth whole result rest = (reply : Reply) (after : Source ℕ)

@@ -1,11 +1,11 @@
--- Where a reply breaks off, and for which cause: bytes stand at the front as a reply begins, and
--- the rest does not go on with it. Where more input is needed, nothing is left, and the missing
+-- Where a reply breaks off, and for which cause: the source begins with bytes that begin a reply,
+-- and the rest does not continue it. If more input is needed, nothing is left, and the missing
 -- bytes may still come.
 use Rattle.std.specs.Prelude.{◌≡◌, ℕ, zero, suc, ◌<◌, Bool, true, if◌then◌else◌, List, [], ◌∷◌, length, Option, Some, IfSome, IsFalse, ◌⊎◌}
 use Rattle.winnow_stream.specs.Source.{Source, first_token}
 use Rattle.format_lemmas.specs.Bytes.{bytes_of, StartsWith}
-use Rattle.format_resp.specs.Replies.{is_in_line, IsText, line, IsInteger, IsLength, greatest_count, SpellAll, SpellsNone, Spells}
-use Rattle.format_resp.specs.Grammar.{is_kind, most_digits}
+use Rattle.format_resp.specs.Language.{is_in_line, IsText, line, IsInteger, IsLength, greatest_count, SpellAll, SpellsNone, Spells}
+use Rattle.format_resp.specs.Meanings.{is_kind, most_digits}
 use Rattle.format_resp.specs.Ahead.{IsAhead}
 use Rattle.format_resp.specs.declared.reply.Reply.{Reply}
 use Rattle.format_resp.specs.declared.causes.Cause.{Cause}
@@ -16,7 +16,7 @@ abbrev pub cause_at : Source ℕ → Cause → Cause
 cause_at [] cause = EndsInside
 cause_at (x ∷ rest) cause = cause
 
--- the first byte is that of no kind, or nothing stands at the front
+-- the first byte is that of no kind, or there is none
 abbrev pub HasNoKind : Source ℕ → Type 0
 HasNoKind whole = IfSome (first_token whole) (λ c. IsFalse (is_kind c))
 

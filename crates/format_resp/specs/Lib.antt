@@ -1,8 +1,8 @@
-pub mod Replies
+pub mod Language
 pub mod Contents
 pub mod Writing
 pub mod Numbers
-pub mod Grammar
+pub mod Meanings
 pub mod Ahead
 pub mod Damage
 pub mod Answers

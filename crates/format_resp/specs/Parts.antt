@@ -5,7 +5,7 @@ use Rattle.std.specs.Prelude.{◌≡◌, ℕ, zero, suc, ◌+◌, ◌-◌, ◌^�
 use Rattle.std.specs.Cmp.Lexicographic.{pointwise}
 use Rattle.std.specs.List.{prefix_len}
 use Rattle.std.specs.Str.Parse.{digits_value}
-use Rattle.format_resp.specs.Replies.{is_in_line}
+use Rattle.format_resp.specs.Language.{is_in_line}
 use Rattle.format_resp.specs.declared.causes.Cause.{Cause}
 use Rattle.format_resp.specs.declared.causes.Cause.TheVariants.{EndsInside, NoKind, TooDeep, NoInteger, NoLength, TooLong, NoLineEnd}
 

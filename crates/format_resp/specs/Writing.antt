@@ -3,7 +3,7 @@ use Rattle.std.specs.Prelude.{◌≡◌, ℕ, zero, suc, ◌==◌, ◌≤◌, �
 use Rattle.std.specs.List.{flat_map, list_any, list_all}
 use Rattle.std.specs.Fmt.{signed_decimal}
 use Rattle.std.specs.Int.{w64}
-use Rattle.format_resp.specs.Replies.{line, no_length, IsText}
+use Rattle.format_resp.specs.Language.{line, no_length, IsText}
 use Rattle.format_resp.specs.declared.reply.Reply.{Reply}
 use Rattle.format_resp.specs.declared.reply.Reply.TheOpen.{Reply-F, Simple, Error, Integer, Bulk, NullBulk, Array, NullArray}
 use Rattle.format_resp.specs.declared.reply.Reply.TheViews.{out-Reply}

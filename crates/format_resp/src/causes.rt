@@ -1,7 +1,7 @@
 //! What is wrong where a reply breaks off.
 
 ghost use Rattle.std.specs.Prelude.{◌≡◌, ◌+◌, ◌^◌, ◌≤◌, ◌<◌, length, take, drop, Some, IfSome};
-ghost use Rattle.format_resp.specs.Replies.{is_in_line};
+ghost use Rattle.format_resp.specs.Language.{is_in_line};
 ghost use Rattle.format_resp.specs.Parts.{text_width, begins_end, line_width, count_of, held_count};
 ghost use Rattle.format_resp.specs.Parts.{held_width, part_width, EndsInPart};
 ghost use Rattle.format_resp.specs.Parts.{is_number_kind, number_fault, first_fault};

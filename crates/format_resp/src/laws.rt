@@ -2,7 +2,7 @@
 
 ghost use Rattle.std.specs.Prelude.{◌≡◌, ◌≢◌, ℕ, true, List, ◌++◌, Result, Err};
 ghost use Rattle.winnow_stream.specs.Source.{Source};
-ghost use Rattle.format_resp.specs.Replies.{Spells};
+ghost use Rattle.format_resp.specs.Language.{Spells};
 ghost use Rattle.format_resp.specs.Writing.{is_writable, written, TellsLineEnd, IsWithin};
 ghost use Rattle.format_resp.specs.Ahead.{IsAhead};
 ghost use Rattle.format_resp.specs.Answers.{StandsAhead};
@@ -13,8 +13,8 @@ ghost use Rattle.format_resp.specs.declared.reply.Reply.{Reply};
 ghost use Rattle.format_resp.specs.declared.writing.Unwritten.{Unwritten};
 ghost use Rattle.format_resp.specs.declared.writing.Unwritten.TheVariants.{LineEnd};
 
-/// The law of spelling: what is written for a reply within limits spells it, nothing else does, and
-/// the reply stands at the front where that was written, no matter what follows. And
+/// The law of spelling: the bytes that are written of a reply within limits spell it, no others do,
+/// and an input that starts with them starts with the reply, whatever follows. And
 /// [`write_reply`](crate::write_reply) refuses a reply that some bytes spell only when memory is
 /// refused. A law does nothing when called: its contract is the law.
 pub fn spelling_law()

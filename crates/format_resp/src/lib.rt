@@ -6,24 +6,24 @@
 //! newline.
 //!
 //! `reply` has the type that is read. `numbers` reads the integers and lengths of lines, `lines`
-//! the parts of a reply, and `nested` whole replies: `read_layer` is one level of the grammar,
+//! the parts of a reply, and `grammar` whole replies: `read_layer` is one level of the grammar,
 //! generic in the parser of the replies in an array, and `read_nested` ties the levels together.
 //! `writing` is the writer, `causes` finds what is wrong where a reply breaks off, and `laws` says
-//! that what is written is read back, and that a cause stays. `records` reads one reply after the
+//! that what is written is read back, and that a cause stays. `reading` reads one reply after the
 //! other from bytes that come in pieces.
 #![tactic(auto, using(winnow_parser::proofs::lemmas::OnwardLemmas::onward_steps))]
 
 mod causes;
+mod grammar;
 mod laws;
 mod lines;
-mod nested;
 mod numbers;
-mod records;
+mod reading;
 mod reply;
 mod writing;
 
 pub use causes::{Cause, cause_of};
+pub use grammar::{ReplyTo, read_reply};
 pub use laws::{cause_law, spelling_law};
-pub use nested::{ReplyTo, read_reply};
 pub use reply::Reply;
 pub use writing::{Unwritten, write_reply};

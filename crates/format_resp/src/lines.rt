@@ -5,8 +5,8 @@ ghost use Rattle.winnow.specs.Outcome.{Moves};
 ghost use Rattle.winnow.specs.Answer.{ahead, outcome};
 ghost use Rattle.winnow_count.specs.CountRange.{HasCounts};
 ghost use Rattle.winnow_count.specs.Reading.{IsSomeExactly};
-ghost use Rattle.format_resp.specs.Replies.{IsInteger, IsLength};
-ghost use Rattle.format_resp.specs.Grammar.{Text, Number, Length, Bytes, IsLine};
+ghost use Rattle.format_resp.specs.Language.{IsInteger, IsLength};
+ghost use Rattle.format_resp.specs.Meanings.{Text, Number, Length, Bytes, IsLine};
 
 use crate::numbers::{integer_in, length_in};
 use std::alloc::Global;

@@ -3,7 +3,7 @@
 ghost use Rattle.std.specs.Prelude.{◌≡◌, ◌<◌, ◌^◌, suc, negsuc, FitsSigned, decimal};
 ghost use Rattle.std.specs.Int.{w64};
 ghost use Rattle.winnow_count.specs.Reading.{IsSomeExactly};
-ghost use Rattle.format_resp.specs.Replies.{IsInteger, IsLength};
+ghost use Rattle.format_resp.specs.Language.{IsInteger, IsLength};
 ghost use Rattle.format_resp.specs.Numbers.{is_plain, HasDigit, AreDigitsOf};
 ghost use Rattle.format_resp.specs.Numbers.{IsNegative, IsPositive};
 

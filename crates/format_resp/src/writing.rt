@@ -3,7 +3,7 @@
 ghost use Rattle.std.specs.Prelude.{◌≡◌, ◌∷◌, ◌++◌, length, decimal, OnOk, OnErr};
 ghost use Rattle.std.specs.List.{list_any};
 ghost use Rattle.std.specs.Fmt.{signed_decimal};
-ghost use Rattle.format_resp.specs.Replies.{line};
+ghost use Rattle.format_resp.specs.Language.{line};
 ghost use Rattle.format_resp.specs.Writing.{ends_line, is_writable, written, TellsLineEnd};
 
 use crate::Reply;

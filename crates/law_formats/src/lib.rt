@@ -2,7 +2,8 @@
 #![tactic(auto)]
 
 use format_csv::rows_in_pieces_law;
-use format_json::{events_law, place_law, round_trip_law, stops_law};
+use format_json::{place_law, round_trip_law};
+use format_json_events::{events_law, stops_law};
 use format_resp::{cause_law, spelling_law};
 
 /// Calls each law: a caller then knows what it says.

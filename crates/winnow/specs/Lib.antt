@@ -58,6 +58,9 @@ pub use Rattle.winnow_reader.specs.Copied
 pub use Rattle.winnow_reader.specs.SameValues
 pub use Rattle.winnow_reader.specs.TextPlace
 pub use Rattle.winnow_reader.specs.InUtf8
+pub use Rattle.winnow_scan.specs.Scanning
+pub use Rattle.winnow_scan.specs.Waiting
+pub use Rattle.winnow_scan.specs.Line
 pub use Rattle.winnow_binary.specs.Lengths
 pub use Rattle.winnow_binary.specs.Numerals
 pub use Rattle.winnow_binary.specs.LengthAndThen
@@ -74,5 +77,6 @@ pub use Rattle.winnow_spelling.specs.SpelledSlices
 pub use Rattle.winnow_spelling.specs.SpelledLists
 pub use Rattle.winnow_spelling.specs.SpelledRows
 pub use Rattle.winnow_spelling.specs.SpelledChoices
+pub use Rattle.winnow_iterator.specs.Iterating
 pub use Rattle.winnow_spans.specs.TokenSpan
 pub use Rattle.winnow_parser.specs.declared.failure.Failure

@@ -9,3 +9,4 @@ pub use winnow_combinator::{
     opt, peek, preceded, repeat, repeat_till, separated, separated_foldl1, separated_pair,
     terminated,
 };
+pub use winnow_iterator::{ParserIterator, iterator};

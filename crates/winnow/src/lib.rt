@@ -31,5 +31,6 @@ pub use winnow_parser::{
     Value, ValueTest, Verify, VerifyMap, Void, WithSpan, WithTaken, by_rule,
 };
 pub use winnow_reader as reader;
+pub use winnow_scan as scan;
 pub use winnow_spans as spans;
 pub use winnow_spelling as spelling;

@@ -57,8 +57,8 @@ abbrev pub InTurns : {O T : Type 0} → (O → Option ℤ → Meaning (Turn O) T
     → List (O × Option ℤ) → O × Option ℤ → O × Option ℤ → Ahead T → Ahead T → Type 0
 InTurns turn partial [] s t a b = (s ≡ t) × (a ≡ b)
 InTurns {T = T} turn partial (u ∷ us) s t a b =
-    (c : Ahead T)
-    × (turn s.0 s.1 partial a (Gives (Went u.0 u.1) c) × InTurns turn partial us u t c b)
+    (c : Ahead T) × (turn s.0 s.1 partial a (Gives (Went u.0 u.1) c)
+    × InTurns turn partial us u t c b)
 
 -- the answer of the last turn, as that of the whole
 abbrev pub ended : {O T : Type 0} → Outcome O T → Outcome (Turn O) T

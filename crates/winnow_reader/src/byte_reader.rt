@@ -22,9 +22,11 @@ use std::marker::Model;
 pub struct ByteReader<R> {
     parser: R,
     kept: Vec<u8>,
-    // How many bytes at the front of `kept` records took. The next piece drops them.
+    // How many bytes at the front of `kept` records took.
     taken: usize,
-    // How many bytes were dropped.
+    // How many of these they took before the last piece. A later piece moves them away.
+    stale: usize,
+    // How many bytes were moved away.
     base: usize,
     // How many bytes are to be ahead before the record is asked again.
     wanted: usize,
@@ -32,7 +34,7 @@ pub struct ByteReader<R> {
 }
 
 impl<R> Model for ByteReader<R> {
-    ghost use Rattle.std.specs.Prelude.{◌+◌, ◌≤◌, ◌<◌, ◌^◌, drop, length};
+    ghost use Rattle.std.specs.Prelude.{◌+◌, ◌-◌, ◌≤◌, ◌<◌, ◌^◌, drop, length};
     ghost use Rattle.winnow_reader.specs.State.{ReaderState};
 
     ghost Value = { ReaderState R };
@@ -41,13 +43,14 @@ impl<R> Model for ByteReader<R> {
       parser = r.parser;
       place = r.base + r.taken;
       ahead = drop r.taken r.kept.items;
-      spent = r.taken;
+      spent = r.taken - r.stale;
       wanted = r.wanted;
       ended = r.ended;
     } };
 
     ghost invariant = { λ r. (r.taken ≤ length r.kept.items)
-        × (r.base + length r.kept.items < 2 ^ 64) };
+        × (r.base + length r.kept.items < 2 ^ 64) × (r.stale ≤ r.taken)
+        × (r.stale + r.stale ≤ length r.kept.items) };
 }
 
 impl<R: Record> ByteReader<R> {
@@ -67,6 +70,7 @@ impl<R: Record> ByteReader<R> {
             parser,
             kept: Vec::new(alloc),
             taken: 0,
+            stale: 0,
             base: 0,
             wanted: 0,
             ended: false,
@@ -97,13 +101,17 @@ impl<R: Record> ByteReader<R> {
         Ok(())
     }
 
-    // Drops what records took.
+    // Drops what records took. They are moved away once they are at least as many as the bytes
+    // ahead: so moving costs no more than those that go, however long the others wait.
     fn forget(&mut self)
         ensures { self.new ≡ unspent self.old }
     {
-        drop_bytes(&mut self.kept, self.taken);
-        self.base += self.taken;
-        self.taken = 0;
+        if self.taken >= self.kept.len() - self.taken {
+            drop_bytes(&mut self.kept, self.taken);
+            self.base += self.taken;
+            self.taken = 0;
+        }
+        self.stale = self.taken;
     }
 
     /// Reads the next record. After anything but a value all that is ahead is still there, and the
@@ -188,7 +196,7 @@ impl<R: Record> ByteReader<R> {
 }
 
 impl<R> ByteReader<R> {
-    ghost use Rattle.std.specs.Prelude.{◌≡◌};
+    ghost use Rattle.std.specs.Prelude.{◌≡◌, ◌+◌, ◌≤◌};
     ghost use Rattle.winnow_reader.specs.State.{bytes_kept, fed_of};
 
     /// Returns how many bytes are kept: those ahead, and those that records took since the last
@@ -196,7 +204,23 @@ impl<R> ByteReader<R> {
     pub fn held(&self) -> usize
         ensures { result ≡ bytes_kept self.now }
     {
+        self.kept.len() - self.stale
+    }
+
+    /// Returns how many bytes are in the buffer: those of [`held`](Self::held), and at most as many
+    /// that earlier records took and that no piece has moved away yet.
+    pub fn buffered(&self) -> usize
+        ensures held { bytes_kept self.now ≤ result }
+        ensures twice { result ≤ bytes_kept self.now + bytes_kept self.now }
+    {
         self.kept.len()
+    }
+
+    /// Returns the record that is read.
+    pub fn parser(&self) -> &R
+        ensures { result.now ≡ self.now.parser }
+    {
+        &self.parser
     }
 
     /// Returns where the next record begins in the joined input: how many bytes records took.

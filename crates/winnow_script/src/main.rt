@@ -19,8 +19,7 @@
 #![tactic(auto)]
 
 use std::process::ExitCode;
-use winnow_script_input::{Failure, read_input};
-use winnow_script_text::execute;
+use winnow_script_text::{Failure, execute, read_script};
 
 fn main(rt: HostRuntime) -> ExitCode {
     match answer(&rt) {
@@ -37,7 +36,7 @@ fn main(rt: HostRuntime) -> ExitCode {
 // Runs the script on standard input, and writes its answers to standard output after it has all of
 // them.
 fn answer(rt: &(impl Input + Print + AllocGlobal)) -> Result<(), Failure> {
-    let input = read_input(rt.alloc(), rt.reader())?;
+    let input = read_script(rt.alloc(), rt.reader())?;
     let answers = execute(rt.alloc(), &input)?;
     rt.write_all(&answers)?;
     Ok(())

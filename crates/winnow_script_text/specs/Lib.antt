@@ -17,3 +17,5 @@ pub mod ReportLines
 pub mod TakenLines
 pub mod ScriptLines
 pub mod FaultyScripts
+-- How the program ends.
+pub mod Failure

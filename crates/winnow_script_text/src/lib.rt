@@ -8,16 +8,21 @@
 //! [`read_kind`] reads the first line, [`read_steps`] the lines of steps after it, and
 //! [`read_input`] or [`read_fed_lines`] the remaining lines. A script owns what is read, and
 //! [`lend_steps`] lends it for a run.
+//!
+//! For the program, [`read_script`] reads a reader to its end, and a [`Failure`] has a text and an
+//! exit status.
 #![tactic(auto)]
 
 mod contents;
 mod execution;
+mod failure;
 mod fault;
 mod fed_lines;
 mod inputs;
 mod lines;
 mod literals;
 mod loans;
+mod reading;
 mod report;
 mod runs;
 mod steps;
@@ -25,10 +30,12 @@ mod words;
 
 pub use contents::{Contents, Lend};
 pub use execution::execute;
+pub use failure::Failure;
 pub use fault::ScriptFault;
 pub use fed_lines::{FedLine, read_fed_lines};
 pub use inputs::{Kind, read_input, read_kind};
 pub use lines::Lines;
 pub use literals::literal;
 pub use loans::lend_steps;
+pub use reading::read_script;
 pub use steps::{ScriptStep, read_steps};

@@ -11,7 +11,7 @@ use Rattle.format_csv.specs.Answers.{values_of}
 use Rattle.format_csv.specs.Widths.{RowVec}
 use Rattle.format_csv.specs.Tables.{rows_in, AreRecords}
 use Rattle.format_csv.specs.Reading.{RowInPieces}
-use Rattle.format_csv.specs.declared.records.Row.{Row}
+use Rattle.format_csv.specs.declared.grammar.Row.{Row}
 use Rattle.example_csv.specs.Lines.{line_of}
 use Rattle.example_csv.specs.Copying.{lines_of, HasCounted, HasCopied, IsFailureOf, IsBegun, WritesOn, StopsWith, CopiesAll, CopiesUntil}
 use Rattle.example_csv.specs.declared.progress.Progress.{Progress}

@@ -12,7 +12,7 @@ use Rattle.format_csv.proofs.lemmas.ReaderLemmas.{none-follows}
 use Rattle.format_csv.specs.Answers.{values_of}
 use Rattle.format_csv.specs.Widths.{RowVec, first_width, HaveWidth}
 use Rattle.format_csv.specs.Reading.{RowInPieces, BeginsWith}
-use Rattle.format_csv.specs.declared.records.Row.{Row}
+use Rattle.format_csv.specs.declared.grammar.Row.{Row}
 use Rattle.example_csv.specs.Positions.{feeds_of}
 use Rattle.example_csv.specs.Lines.{line_of}
 use Rattle.example_csv.specs.Copying.{lines_of, width_of, HasCounted, FitsWidth, IsBegun, WritesOn}

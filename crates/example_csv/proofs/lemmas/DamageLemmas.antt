@@ -7,12 +7,12 @@ use Rattle.std.specs.Io.KnownBytes.{Keeps}
 use Rattle.winnow.specs.State.{ReaderState, fed_of}
 use Rattle.winnow.specs.Reading.{MayFollow, HasRead}
 use Rattle.winnow.specs.SameValues.{IsThrough}
-use Rattle.format_csv.specs.Records.{RecordAhead}
+use Rattle.format_csv.specs.Language.{RecordAhead}
 use Rattle.format_csv.specs.Answers.{values_of}
 use Rattle.format_csv.specs.Widths.{RowVec}
 use Rattle.format_csv.specs.Tables.{rows_in, AreRecords, IsDamagedAt}
 use Rattle.format_csv.specs.Reading.{RowInPieces, FindsDamage}
-use Rattle.format_csv.specs.declared.records.Row.{Row}
+use Rattle.format_csv.specs.declared.grammar.Row.{Row}
 use Rattle.format_csv.proofs.lemmas.ReaderLemmas.{none-follows, some-ahead, append-some}
 use Rattle.example_csv.specs.Failures.{fault_at}
 use Rattle.example_csv.specs.Copying.{lines_of, HasCounted, BreaksAt, IsUneven, IsFailureOf, IsOtherWidth, IsDamageAfter, IsBegun, WritesOn, StopsWith}

@@ -7,7 +7,7 @@ use Rattle.std.specs.declared.alloc.Global.{Global}
 use Rattle.std.proofs.lemmas.List.Sums.{fold-append, sum_by-cons, sum_by-append, count_by-le-length}
 use Rattle.std.proofs.lemmas.Bool.Decides.{nat_tests}
 use Rattle.format_csv.specs.Fields.{twice, doubled, SpellsField}
-use Rattle.format_csv.specs.Records.{SpellsMore, SpellsRecord, RecordAhead}
+use Rattle.format_csv.specs.Language.{SpellsMore, SpellsRecord, RecordAhead}
 use Rattle.format_csv.specs.Answers.{values_of}
 use Rattle.format_csv.specs.Widths.{RowVec}
 use Rattle.format_csv.specs.Tables.{rows_in, AreRecords}

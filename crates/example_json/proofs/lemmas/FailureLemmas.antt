@@ -4,9 +4,9 @@ use Rattle.std.specs.Prelude.{None, Result, Ok, Err, OnOk, IfErr}
 use Rattle.std.specs.declared.alloc.AllocError.{AllocError}
 use Rattle.winnow_reader.specs.declared.next.Next.{Next}
 use Rattle.winnow_reader.specs.declared.next.Next.TheVariants as next
-use Rattle.format_json.specs.EventReading.{EventState, IsWhole}
-use Rattle.format_json.specs.declared.event_reader.EventError.{EventError}
-use Rattle.format_json.specs.declared.event_reader.EventError.TheVariants as error
+use Rattle.format_json_events.specs.Reading.{EventState, IsWhole}
+use Rattle.format_json_events.specs.declared.event_reader.EventError.{EventError}
+use Rattle.format_json_events.specs.declared.event_reader.EventError.TheVariants as error
 use Rattle.example_json.specs.Positions.{LeadsTo}
 use Rattle.example_json.specs.Failures.{IsOfText}
 use Rattle.example_json.specs.Faults.{StopsAt, IsFailureOf, TellsOf}

@@ -3,8 +3,8 @@ use Rattle.std.proofs.Common.{◌≡◌, ℕ, ◌+◌, ◌<◌, ◌^◌, Bool, t
 use Rattle.std.specs.Prelude.{Option, None, Some, IfSome, Result, Ok, Err, OnOk, IfErr}
 use Rattle.std.specs.Io.KnownBytes.{Appends, Consumes, IsAtEnd}
 use Rattle.winnow.specs.State.{fed_of}
-use Rattle.format_json.specs.EventReading.{EventState, HasGiven, GivesOn, GivesAlso, KeepsLimits}
-use Rattle.format_json.specs.declared.event_reader.Event.{Event}
+use Rattle.format_json_events.specs.Reading.{EventState, HasGiven, GivesOn, GivesAlso, KeepsLimits}
+use Rattle.format_json_events.specs.declared.event_reader.Event.{Event}
 use Rattle.example_json.specs.Positions.{LeadsTo}
 use Rattle.example_json.specs.Lines.{level_by, lines_at, lines_of}
 use Rattle.example_json.specs.Failures.{IsOfText}
@@ -16,7 +16,7 @@ use Rattle.example_json.specs.declared.failure.Failure.TheVariants.{Damaged, Une
 use Rattle.example_json.specs.declared.program.Progress.{Progress}
 use Rattle.example_json.proofs.lemmas.PositionLemmas.{placed-longer}
 use Rattle.example_json.proofs.lemmas.LineLemmas.{level-append, lines-append}
-use Rattle.format_json.proofs.lemmas.ReaderPlaceLemmas.{given-fed}
+use Rattle.format_json_events.proofs.lemmas.ReaderPlaceLemmas.{given-fed}
 use Rattle.example_json.proofs.lemmas.KnownLemmas.{consumes-more, appends-more}
 
 -- the line of what was begun counts the bytes that the reader has

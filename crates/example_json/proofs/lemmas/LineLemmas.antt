@@ -2,7 +2,7 @@
 use Rattle.std.proofs.Common.{◌≡◌, ℕ, ◌+◌, ◌*◌, List, [], ◌∷◌, ◌++◌, replicate, refl, ap, sym, ◌∙◌, arith, append_assoc}
 use Rattle.std.specs.Prelude.{min}
 use Rattle.std.proofs.lemmas.List.{replicate_more}
-use Rattle.format_json.specs.declared.event_reader.Event.{Event}
+use Rattle.format_json_events.specs.declared.event_reader.Event.{Event}
 use Rattle.example_json.specs.Lines.{line_of, level_after, level_by, lines_at}
 
 -- two spaces more

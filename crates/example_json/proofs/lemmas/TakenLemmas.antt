@@ -4,11 +4,11 @@ use Rattle.std.specs.Prelude.{min, Result, Ok, Err}
 use Rattle.winnow_reader.specs.declared.next.Next.{Next}
 use Rattle.winnow_reader.specs.declared.next.Next.TheVariants as next
 use Rattle.winnow.specs.State.{ReaderState}
-use Rattle.format_json.specs.declared.tokens.JsonToken.{JsonToken}
-use Rattle.format_json.specs.EventReading.{EventState, HasGiven, GivesOn, KeepsLimits, StaysAt, Awaits, IsNext}
-use Rattle.format_json.specs.declared.event_reader.Event.{Event}
-use Rattle.format_json.specs.declared.event_reader.EventError.{EventError}
-use Rattle.format_json.specs.declared.event_reader.EventError.TheVariants as error
+use Rattle.format_json.specs.declared.reading.JsonToken.{JsonToken}
+use Rattle.format_json_events.specs.Reading.{EventState, HasGiven, GivesOn, KeepsLimits, StaysAt, Awaits, IsNext}
+use Rattle.format_json_events.specs.declared.event_reader.Event.{Event}
+use Rattle.format_json_events.specs.declared.event_reader.EventError.{EventError}
+use Rattle.format_json_events.specs.declared.event_reader.EventError.TheVariants as error
 use Rattle.example_json.specs.Lines.{line_of, level_after, level_by, lines_at}
 use Rattle.example_json.specs.Taking.{PrintsOn, StopsAfter, IsTaken}
 use Rattle.example_json.proofs.lemmas.LineLemmas.{level-append, lines-append}

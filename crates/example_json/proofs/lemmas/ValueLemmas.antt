@@ -4,17 +4,17 @@ use Rattle.std.specs.Prelude.{min, Option, None, Some, IfSome, Result, Ok, Err, 
 use Rattle.std.specs.Io.KnownBytes.{Appends}
 use Rattle.winnow.specs.Reading.{MayFollow}
 use Rattle.format_json.specs.Quoting.{written_string}
-use Rattle.format_json.specs.Values.{bool_word}
+use Rattle.format_json.specs.Language.{bool_word}
 use Rattle.format_json.specs.SameValues.{SameAll}
 use Rattle.format_json.specs.Documents.{IsDocument, IsDamage}
-use Rattle.format_json.specs.EventReading.{EventState, HasGiven, GivesOn, IsWhole, IsNext}
-use Rattle.format_json.specs.ValueEvents.{events_of, SameEvent, ReadsValue, AreAllOf, IsRefusal}
+use Rattle.format_json_events.specs.Reading.{EventState, HasGiven, GivesOn, IsWhole, IsNext}
+use Rattle.format_json_events.specs.ValueEvents.{events_of, SameEvent, ReadsValue, AreAllOf, IsRefusal}
 use Rattle.format_json.specs.declared.value.Value.{Value}
 use Rattle.format_json.specs.declared.documents.Damage.{Damage}
-use Rattle.format_json.specs.declared.event_reader.Event.{Event}
-use Rattle.format_json.specs.declared.event_reader.Event.TheVariants as event
-use Rattle.format_json.specs.declared.event_reader.EventError.{EventError}
-use Rattle.format_json.specs.declared.event_reader.EventError.TheVariants as error
+use Rattle.format_json_events.specs.declared.event_reader.Event.{Event}
+use Rattle.format_json_events.specs.declared.event_reader.Event.TheVariants as event
+use Rattle.format_json_events.specs.declared.event_reader.EventError.{EventError}
+use Rattle.format_json_events.specs.declared.event_reader.EventError.TheVariants as error
 use Rattle.example_json.specs.Lines.{shown, line_of, level_after, lines_at}
 use Rattle.example_json.specs.Failures.{IsOfText}
 use Rattle.example_json.specs.Faults.{StopsAt, IsFailureOf}

@@ -17,7 +17,7 @@ use Rattle.winnow_reader.specs.State.{ReaderState}
 use Rattle.winnow_reader.specs.Reading.{MayFollow}
 use Rattle.winnow_reader.specs.Answering.{StopsAt, FailsAt}
 use Rattle.winnow_reader.proofs.lemmas.PlaceLemmas.{moved-bytes}
-use Rattle.format_resp.specs.Grammar.{Nested, IsParser-Nested}
+use Rattle.format_resp.specs.Meanings.{Nested, IsParser-Nested}
 use Rattle.format_resp.specs.Answers.{IsSettled}
 use Rattle.format_resp.specs.Causes.{IsDamaged, IsCauseOf}
 use Rattle.format_resp.specs.declared.causes.Cause.{Cause}

@@ -16,9 +16,10 @@ use Rattle.winnow_parser.specs.Laws.{longer}
 use Rattle.winnow_parser.specs.Answer.{outcome}
 use Rattle.format_lemmas.specs.Bytes.{bytes_of}
 use Rattle.format_lemmas.proofs.lemmas.ByteLemmas.{some, none-left, positive-both, bytes-longer}
-use Rattle.format_csv.specs.Records.{SpellsRecord, EndsRecord, RecordAhead}
+use Rattle.format_csv.specs.Language.{SpellsRecord, EndsRecord, RecordAhead}
 use Rattle.format_csv.specs.Meanings.{OneRow, IsParser-OneRow}
-use Rattle.format_csv.specs.Answers.{values_of, IsAnswer, GivesEach, BreaksOff, IsUnclosed, IsBegun}
+use Rattle.format_csv.specs.Answers.{values_of, IsAnswer, GivesEach, IsBegun}
+use Rattle.format_csv.specs.Damage.{BreaksOff, IsUnclosed}
 use Rattle.format_csv.proofs.lemmas.FieldLemmas.{IsRefusal}
 use Rattle.format_csv.proofs.lemmas.RecordLemmas.{MayEnd, AreBegun, ends-once, end-given, end-fails, end-missed, list-given, list-fails, list-once, list-missed}
 
@@ -44,7 +45,7 @@ end-begun values r text s e spells (inr f) =
 module _ {S : Type 0} (is_slice : S → Source ℕ → ℕ → Type 0) (bytes : S → List ℕ) (stay : SlicesStay is_slice) (have : SlicesHaveBytes is_slice bytes) (appends refusable : Type 0) (partial : Bool) where
   -- ---- What is answered
 
-  -- a record that is given stands at the front
+  -- the bytes begin with the record that is returned
   row-given : (row : Vec (Vec ℕ Global) Global) (a d : Ahead ℕ) → HasPositiveWidths a.tokens
       → OneRow is_slice bytes appends refusable partial a (Gives row d)
       → RecordAhead partial (bytes_of a.tokens) (values_of row) (bytes_of d.tokens)
@@ -104,7 +105,7 @@ module _ {S : Type 0} (is_slice : S → Source ℕ → ℕ → Type 0) (bytes : 
 
   -- ---- No record is missed
 
-  -- the record that stands at the front is the one that is given
+  -- the record with which the bytes begin is the one that is returned
   row-once : (row : Vec (Vec ℕ Global) Global) (a d : Ahead ℕ) (ws : List (List ℕ))
       (after : List ℕ) → HasPositiveWidths a.tokens
       → RecordAhead partial (bytes_of a.tokens) ws after
@@ -117,7 +118,7 @@ module _ {S : Type 0} (is_slice : S → Source ℕ → ℕ → Type 0) (bytes : 
         ends-once partial (bytes_of c.tokens) (bytes_of d.tokens) after (end-given is_slice appends refusable partial pair.1 c d close) (subst (λ r. EndsRecord partial r after) (sym one.1) ends),
       )
 
-  -- where a record stands at the front, only refused memory makes the reader fail
+  -- if the bytes begin with a record, the parser fails only if memory is refused
   row-missed : (f : Failed ℕ) (a : Ahead ℕ) (ws : List (List ℕ)) (after : List ℕ)
       → HasPositiveWidths a.tokens → RecordAhead partial (bytes_of a.tokens) ws after
       → OneRow is_slice bytes appends refusable partial a (Fails f) → IsRefusal f
@@ -133,7 +134,7 @@ module _ {S : Type 0} (is_slice : S → Source ℕ → ℕ → Type 0) (bytes : 
       let one = list-once is_slice bytes stay have appends refusable partial row ws b c text more after wide_b (sym (ap (λ p. bytes_of p.tokens) at) ∙ e) spells ends list in
       end-missed is_slice appends refusable partial f c after (subst (λ r. EndsRecord partial r after) (sym one.1) ends) close
 
-  -- a cut is one for each longer input, so no record can stand at the front
+  -- a cut is one on each longer input, so no longer input begins with a record
   cut-final : (a b : Ahead ℕ) → HasPositiveWidths a.tokens
       → OneRow is_slice bytes appends refusable partial a (Fails (Cuts b)) → partial ≡ true
       → ¬ (IsBegun (bytes_of a.tokens))
@@ -156,7 +157,7 @@ module _ {S : Type 0} (is_slice : S → Source ℕ → ℕ → Type 0) (bytes : 
   answers a b (Err (Incomplete n)) wide h = row-fails (Needs n) a wide h
   answers a b (Err (Refused r)) wide h = tt
 
-  -- each record that stands at the front is given
+  -- each record with which the bytes begin is returned
   pub gives-each : {E : Type 0} (a b : Ahead ℕ)
       (result : Result (Vec (Vec ℕ Global) Global) (Failure E Needed)) → HasPositiveWidths a.tokens
       → OneRow is_slice bytes appends refusable partial a (outcome result b)

@@ -62,7 +62,7 @@ FieldFails partial r Refuses = ⊤
 abbrev pub StopsAt : Bool → List ℕ → Type 0
 StopsAt partial rest = ¬ (StartsWith 34 rest) × ¬ (Starts is_plain rest) × (partial ≡ true → rest ≢ [])
 
--- a field that stands at the front is spelled so
+-- if the bytes begin with a field, they begin with a spelling of it
 pub field-spelled : (value r s : List ℕ) → FieldStands value r s
     → (text : List ℕ) × ((r ≡ text ++ s) × SpellsField value text)
 field-spelled value r s (inl h) = (34 ∷ (doubled value ++ 34 ∷ []), (h.0 ∙ ap (λ t. 34 ∷ t) (sym (append_assoc (doubled value) (34 ∷ []) s)), inr refl))
@@ -78,7 +78,7 @@ plain-before : (text value rest s : List ℕ) → Each is_plain value → text �
     → ¬ (StartsWith 34 rest) → text ++ rest ≡ 34 ∷ s → ⊥
 plain-before text value rest s h e p f = plain-no-quote value rest h p (begins 34 (value ++ rest) s (ap (λ t. t ++ rest) (sym e) ∙ f))
 
--- the field that stands at the front is the one that is spelled there
+-- the field with which the bytes begin is the one that they spell there
 pub field-once : (partial : Bool) (v w text rest s : List ℕ) → SpellsField w text
     → StopsAt partial rest → FieldStands v (text ++ rest) s → (v ≡ w) × (s ≡ rest)
 field-once partial v w text rest s (inl h) stops (inl k) = absurd (plain-before text w rest (doubled v ++ 34 ∷ s) h.0 h.1 stops.0 k.0)
@@ -221,7 +221,7 @@ module _ {S : Type 0} (is_slice : S → Source ℕ → ℕ → Type 0) (bytes : 
 
   -- ---- A quoted field
 
-  -- a quoted field that is given stands at the front, and no quote follows it
+  -- the bytes begin with the quoted field that is returned, and no quote follows it
   quoted-given : (v : Vec ℕ Global) (a b : Ahead ℕ) → HasPositiveWidths a.tokens
       → QuotedField is_slice bytes partial a (Gives v b)
       → (bytes_of a.tokens ≡ 34 ∷ (doubled v.items ++ 34 ∷ bytes_of b.tokens))

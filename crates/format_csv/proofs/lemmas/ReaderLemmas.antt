@@ -20,7 +20,7 @@ use Rattle.winnow.specs.SameValues.{IsThrough}
 use Rattle.format_lemmas.specs.Bytes.{bytes_of}
 use Rattle.format_lemmas.proofs.lemmas.TokenLemmas.{positive-moved}
 use Rattle.format_lemmas.proofs.lemmas.ByteLemmas.{bytes-units}
-use Rattle.format_csv.specs.Records.{RecordAhead}
+use Rattle.format_csv.specs.Language.{RecordAhead}
 use Rattle.format_csv.specs.Answers.{values_of}
 use Rattle.format_csv.specs.Meanings.{IsParser-OneRow}
 use Rattle.format_csv.specs.Widths.{RowVec}
@@ -34,25 +34,25 @@ lawful : IsParser RowInPieces
 lawful = IsParser-OneRow IsByteSlice (λ slice. slice.now) SlicesStay-bytes ⊥ ⊥
 
 -- the slices of a reader's stream have the bytes of what was taken
-have-bytes : SlicesHaveBytes IsByteSlice (λ slice. slice.now)
+pub have-bytes : SlicesHaveBytes IsByteSlice (λ slice. slice.now)
 have-bytes s r n o h = h
 
 -- the answers that decide, with an error that holds nothing
-abbrev RowAnswer : Type 0
+abbrev pub RowAnswer : Type 0
 RowAnswer = Result RowVec (Failure (Unit {0}) Needed)
 
-abbrev gave : RowVec → RowAnswer
+abbrev pub gave : RowVec → RowAnswer
 gave row = Ok row
 
-abbrev backtracked : RowAnswer
+abbrev pub backtracked : RowAnswer
 backtracked = Err (Backtrack tt)
 
-abbrev cut : RowAnswer
+abbrev pub cut : RowAnswer
 cut = Err (Cut tt)
 
 -- ---- Values
 
--- a record that is given stands at the front
+-- the bytes begin with the record that is returned
 given-ahead : (row : RowVec) (a b : Ahead ℕ) → HasPositiveWidths a.tokens
     → RowInPieces false a (Gives row b)
     → RecordAhead false (bytes_of a.tokens) (values_of row) (bytes_of b.tokens)
@@ -91,7 +91,7 @@ never-idle f place (e, (row, h)) =
 
 -- ---- Failures
 
--- where a record fails, none stands at the front
+-- if the parser of a record fails, the bytes begin with none
 stops-missed : (a b : Ahead ℕ) → HasPositiveWidths a.tokens → StopsAt RowInPieces false a b
     → HasNoRecord (bytes_of a.tokens)
 stops-missed a b wide (inl h) ws after stands =
@@ -125,8 +125,7 @@ empty-record = (
   ([], (10 ∷ [], (refl, ([], ([], (refl, inl (tt, refl), refl))), inr (inl refl)))),
 )
 
--- where no record stands at the front, no matter what follows, something is ahead, if more may
--- follow
+-- if the bytes ahead begin with no record on any continuation and more may follow, there are some
 pub some-ahead : (ended : Bool) (ahead : List ℕ)
     → ((more : List ℕ) → MayFollow ended more false → HasNoRecord (ahead ++ more))
     → ¬ ((ended ≡ true) × (ahead ≡ [])) → ahead ≢ []
@@ -141,7 +140,7 @@ append-some [] more n e = n refl
 append-some (x ∷ xs) more n e = let f : x ∷ (xs ++ more) ≡ [] = e in cc
 
 module _ {R : Type 0} (f : ReaderState R) (place : ℕ) (fails : FailsAt (λ r. RowInPieces) f place) where
-  -- where a reader fails, no record stands at the front, no matter what follows
+  -- if a reader fails, the bytes ahead begin with no record on any continuation
   fails-missed : (more : List ℕ) → MayFollow f.ended more false → HasNoRecord (f.ahead ++ more)
   fails-missed more may =
       subst HasNoRecord (bytes-units (f.ahead ++ more))

@@ -20,9 +20,10 @@ use Rattle.format_lemmas.specs.Bytes.{Each, bytes_of, StartsWith}
 use Rattle.format_lemmas.proofs.lemmas.ByteLemmas.{heads, tails, begins, none-left}
 use Rattle.format_lemmas.proofs.lemmas.TokenLemmas.{positive-moved, byte-given, byte-missing}
 use Rattle.format_csv.specs.Fields.{is_plain, twice, doubled, SpellsField}
-use Rattle.format_csv.specs.Records.{SpellsMore, SpellsRecord, EndsRecord}
+use Rattle.format_csv.specs.Language.{SpellsMore, SpellsRecord, EndsRecord}
 use Rattle.format_csv.specs.Meanings.{Byte, AnyField, FieldList, RecordEnd, IsParser-AnyField}
-use Rattle.format_csv.specs.Answers.{values_of, IsUnclosed}
+use Rattle.format_csv.specs.Answers.{values_of}
+use Rattle.format_csv.specs.Damage.{IsUnclosed}
 use Rattle.format_csv.proofs.lemmas.ByteLemmas.{doubled-others}
 use Rattle.format_csv.proofs.lemmas.TokenLemmas.{taking-fails, after-positive}
 use Rattle.format_csv.proofs.lemmas.FieldLemmas.{IsOpen, IsClosedOnly, FieldStands, FieldFails, StopsAt, field-spelled, field-once, IsRefusal, field-missed, field-given, field-fails}
@@ -91,7 +92,7 @@ abbrev pub MayEnd : List ℕ → Type 0
 MayEnd r = (r ≡ []) ⊎ (r ≡ 13 ∷ [])
 
 module _ {S : Type 0} (is_slice : S → Source ℕ → ℕ → Type 0) (appends refusable : Type 0) (partial : Bool) where
-  -- an end that is given stands at the front
+  -- the bytes begin with the end that is returned
   pub end-given : (u : Unit {0}) (a b : Ahead ℕ)
       → RecordEnd is_slice appends refusable partial a (Gives u b)
       → EndsRecord partial (bytes_of a.tokens) (bytes_of b.tokens)
@@ -480,7 +481,7 @@ module _ {S : Type 0} (is_slice : S → Source ℕ → ℕ → Type 0) (bytes : 
       let wide_c = (nexts-spelled xs m c wide_m turns).1.2 in
       left-missed f left.0 (bytes_of c.tokens) left.1.0 more after ends left.1.1.1 left.1.1.2 (no-backtrack f (length xs) few) (next-fails f c wide_c k)
 
-  -- if a record stands at the front, only refused memory makes the parser of the list fail
+  -- if the bytes begin with a record, the parser of the list fails only if memory is refused
   pub list-missed : (f : Failed ℕ) (ws : List (List ℕ)) (a : Ahead ℕ) (text more after : List ℕ)
       → HasPositiveWidths a.tokens → bytes_of a.tokens ≡ text ++ more → SpellsRecord ws text
       → EndsRecord partial more after → FieldList is_slice bytes appends refusable partial a (Fails f)

@@ -2,8 +2,9 @@
 use Rattle.std.proofs.Common.{◌≡◌, ◌≢◌, ℕ, ◌<◌, ◌≤◌, false, List, [], ◌∷◌, ◌++◌, length, inl, inr, ap, sym, ◌∙◌, subst, refl, arith, length-append}
 use Rattle.std.specs.Prelude.{◌⊎◌}
 use Rattle.std.proofs.lemmas.List.{map_push}
-use Rattle.format_csv.specs.Records.{EndsRecord, RecordAhead}
-use Rattle.format_csv.specs.Answers.{values_of, BreaksOff, IsUnclosed}
+use Rattle.format_csv.specs.Language.{EndsRecord, RecordAhead}
+use Rattle.format_csv.specs.Answers.{values_of}
+use Rattle.format_csv.specs.Damage.{BreaksOff, IsUnclosed}
 use Rattle.format_csv.specs.Widths.{RowVec}
 use Rattle.format_csv.specs.Tables.{rows_in, AreRecords, IsDamagedAt}
 

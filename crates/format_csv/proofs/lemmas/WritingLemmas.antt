@@ -8,7 +8,7 @@ use Rattle.std.proofs.lemmas.List.{take_more, map_push, flat_map_more}
 use Rattle.format_lemmas.specs.Bytes.{Each}
 use Rattle.format_lemmas.proofs.lemmas.ByteLemmas.{some}
 use Rattle.format_csv.specs.Fields.{is_special, is_plain, doubled, SpellsField}
-use Rattle.format_csv.specs.Records.{SpellsMore}
+use Rattle.format_csv.specs.Language.{SpellsMore}
 use Rattle.format_csv.specs.Writing.{values_in, written_field, written_record, IsReadBack}
 
 -- where neither of two holds, each does not hold

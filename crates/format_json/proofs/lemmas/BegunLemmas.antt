@@ -4,12 +4,13 @@ use Rattle.std.proofs.lemmas.List.{drop-drop}
 use Rattle.std.specs.declared.string.String.{String}
 use Rattle.std.specs.declared.alloc.Global.{Global}
 use Rattle.format_lemmas.specs.Bytes.{StartsWith}
-use Rattle.format_json.specs.Values.{after_blanks, null_word, StringHere}
+use Rattle.format_json.specs.Language.{after_blanks, null_word}
+use Rattle.format_json_scalars.specs.StringAnswers.{StringHere}
 use Rattle.format_json.specs.Damage.{EachWithComma}
 use Rattle.format_json.specs.Begun.{BeginsWord, BeginsScalar, BeginsElements, BeginsBrackets, BeginsMember, BeginsHere, BeginsArray, BeginsObject, IsOpen}
 use Rattle.format_json.specs.declared.found.Found.{Found}
 use Rattle.format_json.specs.declared.found.Found.TheVariants.{Whole, Begun, Damaged}
-use Rattle.format_json.proofs.lemmas.StringLemmas.{starts-split}
+use Rattle.format_json_scalars.proofs.lemmas.StringLemmas.{starts-split}
 
 -- what is begun in bytes that are the same
 pub open-same : {T : Type 0} (R : List ℕ → Type 0) (t u : List ℕ) (x y : Found T) → IsOpen R t x
@@ -28,7 +29,7 @@ pub nothing-begins : (b : List ℕ) → length b ≡ 0 → BeginsScalar b
 nothing-begins [] e = inl (null_word, refl)
 nothing-begins (x ∷ b) e = absurd (omega (arith, e))
 
--- bytes that are a front of a word begin it
+-- bytes that are a prefix of a word begin it
 pub word-begins : (bytes word : List ℕ) (i : ℕ) → length bytes ≤ i → take i bytes ≡ take i word
     → BeginsWord word bytes
 word-begins bytes word i all same =

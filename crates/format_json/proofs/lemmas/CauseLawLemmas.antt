@@ -3,8 +3,8 @@ use Rattle.std.proofs.Common.{◌≡◌, ℕ, ◌==◌, Bool, true, false, ◌&&
 use Rattle.std.proofs.lemmas.Bool.Decides.{nat_tests}
 use Rattle.std.specs.Char.{digit_value}
 use Rattle.format_lemmas.specs.Bytes.{Each}
-use Rattle.format_json.specs.Numbers.{is_number_byte}
-use Rattle.format_json.specs.StringAnswers.{BeginsChar, IsWrong}
+use Rattle.format_json_scalars.specs.Numbers.{is_number_byte}
+use Rattle.format_json_scalars.specs.StringAnswers.{BeginsChar, IsWrong}
 use Rattle.format_json.specs.TokenAnswers.{IsNoToken, IsWrongAt}
 use Rattle.format_json.specs.TokenLaws.{begun-char}
 use Rattle.format_json.specs.Causes.{has_nought, has_leading_zero, begins_surrogate, char_cause, cause_of}

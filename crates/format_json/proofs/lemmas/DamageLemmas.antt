@@ -5,14 +5,15 @@ use Rattle.std.specs.Prelude.{Result, Ok, Err, IfOk}
 use Rattle.std.specs.declared.string.String.{String}
 use Rattle.std.specs.declared.alloc.Global.{Global}
 use Rattle.format_lemmas.specs.Bytes.{StartsWith}
-use Rattle.format_json.specs.Values.{after_blanks, StringHere, ValueHere}
+use Rattle.format_json.specs.Language.{after_blanks, ValueHere}
+use Rattle.format_json_scalars.specs.StringAnswers.{StringHere}
 use Rattle.format_json.specs.Founds.{IsFound, IsNext}
 use Rattle.format_json.specs.Damage.{StringBreaksOff, ByteIsMissing, EachWithComma, ElementsBreakOff, BracketsBreakOff, MemberBreaksOff, HereBreaksOff, BreaksOff, ArrayBreaksOff, ObjectBreaksOff, ScalarBreaksOff, IsPlaced}
 use Rattle.format_json.specs.declared.value.Value.{Value}
 use Rattle.format_json.specs.declared.found.Found.{Found}
 use Rattle.format_json.specs.declared.found.Found.TheVariants.{Whole, Begun, Damaged}
 use Rattle.format_json.specs.declared.found.Next.TheVariants as next
-use Rattle.format_json.proofs.lemmas.StringLemmas.{starts-split}
+use Rattle.format_json_scalars.proofs.lemmas.StringLemmas.{starts-split}
 
 -- two facts of an answer give a third
 pub if-both : {X Y : Type 0} (r : Result X Y) (P Q R : X → Type 0)

@@ -1,7 +1,7 @@
 -- Texts that are no value, from what is found in them.
 use Rattle.std.proofs.Common.{◌≡◌, ℕ, suc, ◌+◌, ◌-◌, ◌≤◌, false, List, length, take, drop, inr, ap, sym, ◌∙◌, subst, arith, length-drop}
 use Rattle.std.proofs.lemmas.List.{take_rest, drop-drop}
-use Rattle.format_json.specs.Values.{after_blanks, ValueAhead}
+use Rattle.format_json.specs.Language.{after_blanks, ValueAhead}
 use Rattle.format_json.specs.Founds.{IsFound}
 use Rattle.format_json.specs.Documents.{IsDocument, IsOnlyDocument, TextBreaksOff}
 use Rattle.format_json.specs.declared.value.Value.{Value}
@@ -11,7 +11,7 @@ use Rattle.format_json.proofs.lemmas.SameLemmas.{nested-same}
 use Rattle.format_json.proofs.lemmas.FoundLemmas.{none-here}
 
 module _ (depth : ℕ) (text : List ℕ) where
-  -- where no value stands at the front, the text is none
+  -- if the text begins with no value, it is none
   pub no-document : (n : ℕ) → IsFound (ValueAhead false depth) false text (Damaged n) → (w : Value)
       → ¬ (IsDocument depth text w)
   no-document n (fits, none) w (rest, (h, e)) = none-here (ValueAhead false depth) false text none w rest h
@@ -41,7 +41,7 @@ module _ (depth : ℕ) (text : List ℕ) where
           ),
         )
 
-    -- each value that the text is, is the one that stands at the front
+    -- the text is no other value than the one with which it begins
     pub only-document : IsOnlyDocument depth text v
     only-document w (rest, (h, e)) =
         nested-same false (suc depth) v w text (drop n text) rest found.1 h

@@ -1,9 +1,9 @@
 -- What is found in bytes, from what is found in a part of them.
-use Rattle.std.proofs.Common.{◌≡◌, ℕ, ◌+◌, ◌<◌, ◌≤◌, Bool, true, List, [], ◌∷◌, ◌++◌, length, drop, get_or, ap, sym, ◌∙◌, subst, refl, arith, append_assoc, append-nil, length-drop}
+use Rattle.std.proofs.Common.{◌≡◌, ℕ, ◌+◌, ◌<◌, ◌≤◌, Bool, List, [], ◌∷◌, ◌++◌, length, drop, get_or, ap, sym, ◌∙◌, subst, refl, arith, append_assoc, append-nil, length-drop}
 use Rattle.std.proofs.lemmas.List.{drop_more, drop-drop}
-use Rattle.format_lemmas.specs.Bytes.{Each, StartsWith}
+use Rattle.format_lemmas.specs.Bytes.{StartsWith}
 use Rattle.format_lemmas.proofs.lemmas.ByteLemmas.{heads, tails}
-use Rattle.format_json.specs.Values.{after_blanks, Elements}
+use Rattle.format_json.specs.Language.{after_blanks, Elements}
 use Rattle.format_json.specs.Founds.{MayFollow, HasNone, IsFound, GoesNotOn}
 use Rattle.format_json.specs.Damage.{EachWithComma}
 use Rattle.format_json.specs.declared.found.Found.{Found}
@@ -12,12 +12,6 @@ use Rattle.format_json.specs.TokenLaws.{blanks-more}
 use Rattle.format_json.proofs.lemmas.GrammarLemmas.{Once, Stable, blanks-past, elements-first}
 
 -- ---- Words and bytes
-
--- the test holds of one byte more
-pub each-grows : (test : ℕ → Bool) (xs : List ℕ) (b : ℕ) → Each test xs → test b ≡ true
-    → Each test (xs ++ b ∷ [])
-each-grows test [] b h e = (e, tt)
-each-grows test (x ∷ xs) b h e = (h.0, each-grows test xs b h.1 e)
 
 module _ (bytes : List ℕ) (at : ℕ) (inside : at < length bytes) (e : drop at bytes ≡ after_blanks bytes) where
   -- the first byte after blanks, and those after it
@@ -83,7 +77,7 @@ pub none-here : {T : Type 0} (ahead : T → List ℕ → List ℕ → Type 0) (p
 none-here ahead partial b none v r h =
     none [] (λ p. refl) v r (subst (λ l. ahead v l r) (sym (append-nil b)) h)
 
--- the length of a front and of a front of the rest
+-- the length of a prefix and of a prefix of the rest
 pub fits-both : (b : List ℕ) (at n : ℕ) → at ≤ length b → n ≤ length (drop at b)
     → at + n ≤ length b
 fits-both b at n h k = omega (arith, h, k, length-drop at b)

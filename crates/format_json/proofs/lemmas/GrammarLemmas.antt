@@ -1,22 +1,24 @@
--- Values: what stands at the front stands there in one way, and still does where more follows.
+-- Values: bytes begin with one in one way, and still do if more follows.
 use Rattle.std.proofs.Common.{◌≡◌, ℕ, zero, suc, Bool, true, false, if◌then◌else◌, List, [], ◌∷◌, ◌++◌, ap, sym, ◌∙◌, subst, refl, arith, append_assoc}
 use Rattle.std.specs.declared.string.String.{String}
 use Rattle.std.specs.declared.alloc.Global.{Global}
 use Rattle.std.specs.declared.vec.Vec.{Vec}
 use Rattle.format_lemmas.specs.Bytes.{EndsRun}
 use Rattle.format_lemmas.proofs.lemmas.ByteLemmas.{heads, tails}
-use Rattle.format_json.specs.Numbers.{IsNumber, is_number_byte}
-use Rattle.format_json.specs.Values.{is_blank, after_blanks, null_word, bool_word, WordAhead, NumberHere, StringHere, MemberAhead, Elements, Inside, Bracketed, Layer, Nested}
+use Rattle.format_json_scalars.specs.Numbers.{IsNumber, is_number_byte}
+use Rattle.format_json.specs.Language.{is_blank, after_blanks, null_word, bool_word, WordAhead, MemberAhead, Elements, Inside, Bracketed, Layer, Nested}
+use Rattle.format_json_scalars.specs.StringAnswers.{StringHere}
+use Rattle.format_json_scalars.specs.NumberAnswers.{NumberHere}
 use Rattle.format_json.specs.Founds.{MayFollow}
-use Rattle.format_json.specs.declared.numbers.Number.{Number}
+use Rattle.format_json_scalars.specs.declared.numbers.Number.{Number}
 use Rattle.format_json.specs.declared.value.Value.{Value}
 use Rattle.format_json.specs.declared.value.Value.TheOpen as open_value
 use Rattle.format_json.specs.declared.value.Value.TheOpen.{Value-F, Null}
 use Rattle.format_json.specs.declared.value.Value.TheViews.{out-Value}
 use Rattle.format_json.specs.TokenLaws.{blanks-more}
-use Rattle.format_json.proofs.lemmas.NumberAnswerLemmas.{number-bytes, number-some}
-use Rattle.format_json.proofs.lemmas.RunLemmas.{split-once}
-use Rattle.format_json.proofs.lemmas.StringLemmas.{string-once}
+use Rattle.format_json_scalars.proofs.lemmas.NumberAnswerLemmas.{number-bytes, number-some}
+use Rattle.format_json_scalars.proofs.lemmas.RunLemmas.{split-once}
+use Rattle.format_json_scalars.proofs.lemmas.StringLemmas.{string-once}
 
 -- ---- Blanks
 
@@ -40,12 +42,12 @@ blanks-past (x ∷ b) more e = past-if (is_blank x) x b more (blanks-past b more
 abbrev pub Once : {T : Type 0} → (T → List ℕ → List ℕ → Type 0) → Type 0
 Once {T} inner = (v w : T) (b r s : List ℕ) → inner v b r → inner w b s → r ≡ s
 
--- what stands at the front still does where more follows
+-- bytes that begin with a value still do if more follows
 abbrev pub Stable : {T : Type 0} → Bool → (T → List ℕ → List ℕ → Type 0) → Type 0
 Stable {T} partial inner = (v : T) (b r more : List ℕ) → MayFollow partial more → inner v b r
     → inner v (b ++ more) (r ++ more)
 
--- where this byte stands after blanks, nothing stands at the front
+-- if this byte is the first after blanks, the bytes begin with no value
 abbrev pub NoneAt : {T : Type 0} → ℕ → (T → List ℕ → List ℕ → Type 0) → Type 0
 NoneAt {T} close inner = (v : T) (b r q : List ℕ) → after_blanks b ≡ close ∷ q → ¬ (inner v b r)
 

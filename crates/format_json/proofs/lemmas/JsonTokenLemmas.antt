@@ -11,26 +11,27 @@ use Rattle.winnow_parser.specs.Outcome.{Ahead, Backtracks, Cuts, Needs, Refuses,
 use Rattle.winnow_parser.specs.Determined.{IsDetermined, Shows}
 use Rattle.format_lemmas.specs.Bytes.{Each, Starts, StartsWith, EndsRun, bytes_of}
 use Rattle.format_lemmas.proofs.lemmas.ByteLemmas.{heads, tails, length-bytes, each-after}
-use Rattle.format_json.specs.Numbers.{IsNumber, is_number_byte}
-use Rattle.format_json.specs.Strings.{SpellsChars, StringAhead}
-use Rattle.format_json.specs.StringAnswers.{BeginsChar, IsWrong, IsDamagedAt, IsBegun}
-use Rattle.format_json.specs.Values.{after_blanks, NumberHere}
+use Rattle.format_json_scalars.specs.Numbers.{IsNumber, is_number_byte}
+use Rattle.format_json_scalars.specs.Strings.{SpellsChars, StringAhead}
+use Rattle.format_json_scalars.specs.StringAnswers.{BeginsChar, IsWrong, IsDamagedAt, IsBegun}
+use Rattle.format_json.specs.Language.{after_blanks}
+use Rattle.format_json_scalars.specs.NumberAnswers.{NumberHere}
 use Rattle.format_json.specs.Founds.{MayFollow, HasNone, IsFound}
 use Rattle.format_json.specs.Tokens.{Lexeme, Word, Digits, Quoted, Ending, lexeme_of, LexemeHere, TokenHere, word_from}
 use Rattle.format_json.specs.TokenAnswers.{IsWrongAt, MayBecome, IsTokenFound, OneToken}
-use Rattle.format_json.specs.Steps.{IsReading}
-use Rattle.format_json.specs.declared.numbers.Number.{Number}
+use Rattle.format_json_scalars.specs.Steps.{IsReading}
+use Rattle.format_json_scalars.specs.declared.numbers.Number.{Number}
 use Rattle.format_json.specs.declared.found.Found.TheVariants as found
-use Rattle.format_json.specs.declared.strings.Reading.TheVariants as reading
+use Rattle.format_json_scalars.specs.declared.strings.Reading.TheVariants as reading
 use Rattle.format_json.specs.declared.tokens.Token.{Token}
 use Rattle.format_json.specs.declared.tokens.Token.TheVariants as token
 use Rattle.format_json.specs.TokenLaws.{begun-char}
-use Rattle.format_json.proofs.lemmas.NumberAnswerLemmas.{number-bytes, number-some}
-use Rattle.format_json.proofs.lemmas.RunLemmas.{split-once}
-use Rattle.format_json.proofs.lemmas.SpellingLemmas.{spelling-once, spells-past}
-use Rattle.format_json.proofs.lemmas.StringLemmas.{string-once, starts-split, begun-missed, begun-begun}
+use Rattle.format_json_scalars.proofs.lemmas.NumberAnswerLemmas.{number-bytes, number-some}
+use Rattle.format_json_scalars.proofs.lemmas.RunLemmas.{split-once}
+use Rattle.format_json_scalars.proofs.lemmas.SpellingLemmas.{spelling-once, spells-past}
+use Rattle.format_json_scalars.proofs.lemmas.StringLemmas.{string-once, starts-split, begun-missed, begun-begun}
 use Rattle.format_json.proofs.lemmas.ScalarLemmas.{Settled, number-none}
-use Rattle.format_json.proofs.lemmas.SameLemmas.{some-once}
+use Rattle.format_json_scalars.proofs.lemmas.NumberTextLemmas.{some-once}
 use Rattle.format_json.proofs.lemmas.FoundLemmas.{none-here}
 
 -- ---- The first byte of a token
@@ -297,7 +298,7 @@ token-determined partial a (Fails Refuses) w s g h j = absurd s
 
 -- ---- Words
 
--- where two lists in a row are two others in a row, one of the firsts is a front of the other
+-- if two lists, joined, are two others, joined, one of the first lists is a prefix of the other
 fronts : (b more w r : List ℕ) → b ++ more ≡ w ++ r
     → ((s : List ℕ) × (b ≡ w ++ s)) ⊎ ((s : List ℕ) × (w ≡ b ++ s))
 fronts [] more w r e = inr (w, refl)
@@ -347,8 +348,8 @@ module _ (first : ℕ) (no_quote : ¬ (first ≡ 34)) (no_number : ¬ (is_number
 
   module _ (partial : Bool) (b : List ℕ) (starts : StartsWith first b) where
     module _ (whole : (rest : List ℕ) → ¬ (b ≡ word_from first ++ rest)) where
-      -- where the bytes do not begin with the word, and are no front of it to which more may come,
-      -- no token begins there
+      -- if the bytes do not begin with the word, and are no prefix of it that may become the word,
+      -- they begin with no token
       pub word-damaged : (partial ≡ true → (rest : List ℕ) → ¬ (word_from first ≡ b ++ rest))
           → IsWrongAt partial b b
       word-damaged begun = inr (refl, (word-no_quote b starts, (λ p each. word-no_number b starts each), none))
@@ -365,7 +366,7 @@ module _ (first : ℕ) (no_quote : ¬ (first ≡ 34)) (no_number : ¬ (is_number
               let e = (word-only partial t (b ++ more) r (starts-more first b more starts) h).0 in
               elim (fronts b more (word_from first) r e) [ inl p ↦ whole p.0 p.1 | inr p ↦ cut partial refl more r may e p ]
 
-      -- where the bytes are a front of the word, more may make them a token
+      -- if the bytes are a prefix of the word, more bytes may make them a token
       pub word-begun : (t : Token) (rest : List ℕ) → lexeme_of t ≡ Word (word_from first)
           → word_from first ≡ b ++ rest → MayBecome b
       word-begun t rest is e = inr ((λ u r h. whole r (word-only true u b r starts h).0), inr (t, (rest, is ∙ ap Word e)))

@@ -4,10 +4,12 @@ use Rattle.std.specs.declared.string.String.{String}
 use Rattle.std.specs.declared.alloc.Global.{Global}
 use Rattle.std.specs.declared.vec.Vec.{Vec}
 use Rattle.format_lemmas.specs.Bytes.{StartsWith}
-use Rattle.format_json.specs.Numbers.{is_number_byte}
-use Rattle.format_json.specs.Values.{NumberHere, StringHere, MemberAhead, Bracketed, Layer, Nested, ValueHere, null_word, bool_word}
+use Rattle.format_json_scalars.specs.Numbers.{is_number_byte}
+use Rattle.format_json.specs.Language.{MemberAhead, Bracketed, Layer, Nested, ValueHere, null_word, bool_word}
+use Rattle.format_json_scalars.specs.StringAnswers.{StringHere}
+use Rattle.format_json_scalars.specs.NumberAnswers.{NumberHere}
 use Rattle.format_json.specs.Founds.{IsFound, IsWord}
-use Rattle.format_json.specs.declared.numbers.Number.{Number}
+use Rattle.format_json_scalars.specs.declared.numbers.Number.{Number}
 use Rattle.format_json.specs.declared.found.Found.{Found}
 use Rattle.format_json.specs.declared.found.Found.TheVariants.{Whole, Begun, Damaged}
 use Rattle.format_json.specs.declared.value.Value.{Value}
@@ -16,7 +18,7 @@ use Rattle.format_json.specs.declared.value.Value.TheOpen as open_value
 use Rattle.format_json.specs.declared.value.Value.TheOpen.{Value-F, Null}
 use Rattle.format_json.specs.declared.value.Value.TheViews.{out-Value, the_lemmas}
 use Rattle.format_json.proofs.lemmas.GrammarLemmas.{kind, kind_of, kind-at, null-only, true-only, false-only, number-only, string-only, array-only, object-only}
-use Rattle.format_json.proofs.lemmas.StringLemmas.{starts-with}
+use Rattle.format_json_scalars.proofs.lemmas.StringLemmas.{starts-with}
 use Rattle.format_json.proofs.lemmas.FoundLemmas.{Covers, none-as, missed-as}
 
 -- bytes that begin with a byte are it and others

@@ -6,13 +6,14 @@ use Rattle.std.specs.declared.alloc.Global.{Global}
 use Rattle.std.specs.declared.vec.Vec.{Vec}
 use Rattle.format_lemmas.specs.Bytes.{StartsWith}
 use Rattle.format_lemmas.proofs.lemmas.ByteLemmas.{tails}
-use Rattle.format_json.specs.Values.{after_blanks, StringHere, MemberAhead, Elements, Inside, Bracketed, Nested, ValueHere, ValueAhead}
+use Rattle.format_json.specs.Language.{after_blanks, MemberAhead, Elements, Inside, Bracketed, Nested, ValueHere, ValueAhead}
+use Rattle.format_json_scalars.specs.StringAnswers.{StringHere}
 use Rattle.format_json.specs.Founds.{HasNone, IsFound, IsByte, ByteAhead}
 use Rattle.format_json.specs.declared.found.Found.TheVariants.{Whole, Begun, Damaged}
 use Rattle.format_json.specs.declared.value.Value.{Value}
 use Rattle.format_json.specs.declared.value.Value.TheViews.{out-Value}
 use Rattle.format_json.specs.TokenLaws.{blanks-more}
-use Rattle.format_json.proofs.lemmas.StringLemmas.{starts-split}
+use Rattle.format_json_scalars.proofs.lemmas.StringLemmas.{starts-split}
 use Rattle.format_json.proofs.lemmas.GrammarLemmas.{elements-first, name-once, name-stable, name-quote, layer-kind}
 use Rattle.format_json.proofs.lemmas.FoundLemmas.{Covers, missed-as, none-as, fits-both, after-covers}
 
@@ -41,7 +42,7 @@ module _ (partial : Bool) (depth : ℕ) (b : List ℕ) (at : ℕ) (within : at �
 
 -- ---- Brackets
 
--- where only blanks stand, nothing stands at the front
+-- blanks alone begin with no value
 abbrev pub NoneInBlanks : {T : Type 0} → (T → List ℕ → List ℕ → Type 0) → Type 0
 NoneInBlanks {T} inner = (v : T) (b r : List ℕ) → after_blanks b ≡ [] → ¬ (inner v b r)
 

@@ -4,15 +4,15 @@ use Rattle.std.specs.declared.string.String.{String}
 use Rattle.std.specs.declared.alloc.Global.{Global}
 use Rattle.format_lemmas.specs.Bytes.{StartsWith}
 use Rattle.format_lemmas.proofs.lemmas.ByteLemmas.{heads, tails}
-use Rattle.format_json.specs.Strings.{SpellsChars}
-use Rattle.format_json.specs.StringAnswers.{BeginsChar, IsWrong, IsDamagedAt}
-use Rattle.format_json.specs.Values.{after_blanks, StringHere, MemberAhead, Elements, Inside, Bracketed, Layer, Nested, ValueHere}
+use Rattle.format_json_scalars.specs.Strings.{SpellsChars}
+use Rattle.format_json_scalars.specs.StringAnswers.{BeginsChar, IsWrong, IsDamagedAt, StringHere}
+use Rattle.format_json.specs.Language.{after_blanks, MemberAhead, Elements, Inside, Bracketed, Layer, Nested, ValueHere}
 use Rattle.format_json.specs.Damage.{BeginsNoOther, StringBreaksOff, ByteIsMissing, EachWithComma, ElementBreaksOff, ElementsBreakOff, BracketsBreakOff, IsTooDeep, AfterNameBreaksOff, MemberBreaksOff, LayerBreaksOff, HereBreaksOff, BreaksOff}
 use Rattle.format_json.specs.declared.value.Value.{Value}
 use Rattle.format_json.specs.declared.value.Value.TheOpen as open_value
 use Rattle.format_json.specs.declared.value.Value.TheOpen.{Value-F, Null}
 use Rattle.format_json.specs.declared.value.Value.TheViews.{out-Value}
-use Rattle.format_json.proofs.lemmas.SpellingLemmas.{spelling-once, spells-past}
+use Rattle.format_json_scalars.proofs.lemmas.SpellingLemmas.{spelling-once, spells-past}
 use Rattle.format_json.proofs.lemmas.GrammarLemmas.{Once, name-once, name-quote, kind-at, string-only, array-only, object-only, member-once, nested-once}
 use Rattle.format_json.proofs.lemmas.FoundLemmas.{none-here}
 

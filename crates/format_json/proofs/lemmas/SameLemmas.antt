@@ -1,5 +1,5 @@
 -- The same bytes spell the same value.
-use Rattle.std.proofs.Common.{◌≡◌, ℕ, zero, suc, Bool, true, false, List, [], ◌∷◌, Option, Some, None, ap, sym, ◌∙◌, subst, refl, arith}
+use Rattle.std.proofs.Common.{◌≡◌, ℕ, zero, suc, Bool, true, false, List, [], ◌∷◌, ap, sym, ◌∙◌, subst, refl, arith}
 use Rattle.std.specs.Int.{w64}
 use Rattle.std.specs.Prelude.{encode_utf8_all}
 use Rattle.std.specs.String.{string_bytes}
@@ -7,17 +7,20 @@ use Rattle.std.specs.declared.string.String.{String}
 use Rattle.std.specs.declared.alloc.Global.{Global}
 use Rattle.winnow_count.specs.Reading.{IsSomeExactly, ReadsSigned}
 use Rattle.format_lemmas.proofs.lemmas.ByteLemmas.{heads, tails}
-use Rattle.format_json.specs.Numbers.{is_number_byte}
-use Rattle.format_json.specs.Values.{after_blanks, NumberHere, StringHere, MemberAhead, Elements, Inside, Bracketed, Layer, Nested}
+use Rattle.format_json_scalars.specs.Numbers.{is_number_byte}
+use Rattle.format_json.specs.Language.{after_blanks, MemberAhead, Elements, Inside, Bracketed, Layer, Nested}
+use Rattle.format_json_scalars.specs.StringAnswers.{StringHere}
+use Rattle.format_json_scalars.specs.NumberAnswers.{NumberHere}
 use Rattle.format_json.specs.SameValues.{SameAll, SameMember, SameLayer, SameValue}
-use Rattle.format_json.specs.declared.numbers.Number.{Number}
+use Rattle.format_json_scalars.specs.declared.numbers.Number.{Number}
 use Rattle.format_json.specs.declared.value.Value.{Value}
 use Rattle.format_json.specs.declared.value.Value.TheOpen as open_value
 use Rattle.format_json.specs.declared.value.Value.TheOpen.{Value-F, Null}
 use Rattle.format_json.specs.declared.value.Value.TheViews.{out-Value}
-use Rattle.format_json.proofs.lemmas.NumberAnswerLemmas.{number-bytes}
-use Rattle.format_json.proofs.lemmas.RunLemmas.{split-once}
-use Rattle.format_json.proofs.lemmas.StringLemmas.{string-once}
+use Rattle.format_json_scalars.proofs.lemmas.NumberAnswerLemmas.{number-bytes}
+use Rattle.format_json_scalars.proofs.lemmas.RunLemmas.{split-once}
+use Rattle.format_json_scalars.proofs.lemmas.NumberTextLemmas.{some-once}
+use Rattle.format_json_scalars.proofs.lemmas.StringLemmas.{string-once}
 use Rattle.format_json.proofs.lemmas.GrammarLemmas.{Once, NoneAt, elements-first, name-once, member-once, member-none, kind, same-kind, nested-once, nested-none}
 
 -- the same bytes begin with the same values
@@ -60,13 +63,6 @@ name-same : (v w : String Global) (b r s : List ℕ) → StringHere v b r → St
     → string_bytes v ≡ string_bytes w
 name-same v w b r s (cs, (h, has)) (ds, (g, gas)) =
     has ∙ ap encode_utf8_all (string-once b cs r ds s h g).0 ∙ sym gas
-
--- two values that are given exactly where a fact holds are the same
-pub some-once : {V : Type 0} (R : V → Type 0) (o p : Option V) → IsSomeExactly R o
-    → IsSomeExactly R p → o ≡ p
-some-once R None None f g = refl
-some-once R (Some v) p f g = sym ((g v).1 ((f v).0 refl))
-some-once R None (Some v) f g = (f v).1 ((g v).0 refl)
 
 module _ (partial : Bool) where
   -- the same bytes are the same number

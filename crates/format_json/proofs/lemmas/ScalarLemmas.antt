@@ -4,20 +4,20 @@ use Rattle.std.proofs.lemmas.List.{drop-append-le}
 use Rattle.std.proofs.lemmas.Str.{encode_ascii}
 use Rattle.format_lemmas.specs.Bytes.{Each, Starts, StartsWith, EndsRun}
 use Rattle.format_lemmas.proofs.lemmas.ByteLemmas.{heads, tails, each-after}
-use Rattle.format_json.specs.Numbers.{IsNumber, BeginsNumber, is_number_byte}
-use Rattle.format_json.specs.Meanings.{IsNumberOf}
-use Rattle.format_json.specs.Strings.{StringAhead}
-use Rattle.format_json.specs.Escapes.{IsNoChar}
-use Rattle.format_json.specs.StringAnswers.{BeginsChar}
-use Rattle.format_json.specs.Steps.{StopsAt, IsReading}
-use Rattle.format_json.specs.Values.{NumberHere, StringHere}
+use Rattle.format_json_scalars.specs.Numbers.{IsNumber, BeginsNumber, is_number_byte}
+use Rattle.format_json_scalars.specs.Meanings.{IsNumberOf}
+use Rattle.format_json_scalars.specs.Strings.{StringAhead}
+use Rattle.format_json_scalars.specs.Escapes.{IsNoChar}
+use Rattle.format_json_scalars.specs.StringAnswers.{BeginsChar, StringHere}
+use Rattle.format_json_scalars.specs.Steps.{StopsAt, IsReading}
+use Rattle.format_json_scalars.specs.NumberAnswers.{NumberHere}
 use Rattle.format_json.specs.Founds.{HasNone, IsFound}
-use Rattle.format_json.specs.declared.numbers.Number.{Number}
-use Rattle.format_json.specs.declared.strings.Reading.TheVariants as reading
+use Rattle.format_json_scalars.specs.declared.numbers.Number.{Number}
+use Rattle.format_json_scalars.specs.declared.strings.Reading.TheVariants as reading
 use Rattle.format_json.specs.declared.found.Found.TheVariants.{Whole, Begun, Damaged}
-use Rattle.format_json.proofs.lemmas.NumberAnswerLemmas.{number-bytes}
-use Rattle.format_json.proofs.lemmas.RunLemmas.{split-once}
-use Rattle.format_json.proofs.lemmas.StringLemmas.{stops-none, begun-missed}
+use Rattle.format_json_scalars.proofs.lemmas.NumberAnswerLemmas.{number-bytes}
+use Rattle.format_json_scalars.proofs.lemmas.RunLemmas.{split-once}
+use Rattle.format_json_scalars.proofs.lemmas.StringLemmas.{stops-none, begun-missed}
 
 -- ---- Numbers
 
@@ -39,7 +39,8 @@ number-begun partial bytes count p all each n r (t, ((e, is, ends), of)) =
     none [] h ends = ends.1 p refl
     none (x ∷ r) h ends = ends.0 h.0
 
--- a number that stands at the front begins with each run of bytes of numbers that does
+-- if bytes begin with a run of bytes of numbers and, with more after them, with a number, the run
+-- is a prefix of the number
 front-of : (b t more r : List ℕ) → Each is_number_byte b → ¬ (Starts is_number_byte r)
     → b ++ more ≡ t ++ r → (m : List ℕ) × (t ≡ b ++ m)
 front-of [] t more r h never e = (t, refl)
@@ -62,7 +63,7 @@ number-never partial bytes count all each never more may n r (t, ((e, is, ends),
 abbrev pub Settled : Bool → List ℕ → ℕ → Type 0
 Settled partial bytes count = ((partial ≡ true) × ¬ (count ≡ length bytes)) ⊎ (partial ≡ false)
 
--- nothing is left of the bytes after a front that is all of them
+-- if no byte follows a prefix, it is all of the bytes
 left-none : (bytes : List ℕ) (count : ℕ) → count ≤ length bytes → drop count bytes ≡ []
     → count ≡ length bytes
 left-none bytes count within e =

@@ -11,9 +11,9 @@ use Rattle.winnow.specs.Reading.{Reads, MayFollow, HasRead}
 use Rattle.winnow.specs.Answering.{StopsAt, FailsAt}
 use Rattle.format_lemmas.specs.Bytes.{bytes_of}
 use Rattle.format_lemmas.proofs.lemmas.ByteLemmas.{bytes-units}
-use Rattle.format_json.specs.Values.{after_blanks}
+use Rattle.format_json.specs.Language.{after_blanks}
 use Rattle.format_json.specs.TokenAnswers.{IsWrongAt, OneToken}
-use Rattle.format_json.specs.TokenReading.{AreTokens, BeginsWith, FindsDamage}
+use Rattle.format_json.specs.Reading.{AreTokens, BeginsWith, FindsDamage}
 use Rattle.format_json.specs.declared.tokens.Token.{Token}
 
 -- tokens that are read one after the other stand so

@@ -6,14 +6,14 @@ use Rattle.std.proofs.lemmas.List.{drop-drop}
 use Rattle.winnow_stream.specs.Source.{Source, units}
 use Rattle.winnow_stream.specs.Front.{back}
 use Rattle.format_lemmas.specs.Bytes.{bytes_of}
-use Rattle.format_json.specs.Values.{after_blanks}
+use Rattle.format_json.specs.Language.{after_blanks}
 use Rattle.format_json.specs.Tokens.{TokenAhead}
 use Rattle.format_json.specs.TokenAnswers.{IsWrongAt, MayBecome, IsTokenFound}
 use Rattle.format_json.specs.declared.found.Found.{Found}
 use Rattle.format_json.specs.declared.found.Found.TheVariants.{Whole, Begun, Damaged}
 use Rattle.format_json.specs.declared.tokens.Token.{Token}
 use Rattle.format_json.proofs.lemmas.FoundLemmas.{fits-both}
-use Rattle.format_json.proofs.lemmas.StringStreamLemmas.{text-is, rest-is}
+use Rattle.format_json_scalars.proofs.lemmas.StringStreamLemmas.{text-is, rest-is}
 
 -- what is found, as the same
 pub token-as : (partial : Bool) (t here : List ℕ) (result : Result (Found Token) AllocError)
@@ -34,7 +34,7 @@ damage-after partial bytes rest at n within blanks same (fits, wrong) = (
 )
 
 module _ (partial : Bool) (r : Source ℕ) (t : List ℕ) (same : r ≡ units t) where
-  -- a token that is found stands at the front of the stream
+  -- the input starts with a token that is found
   pub token-answers : (token : Token) (n : ℕ) (new : Source ℕ)
       → IsTokenFound partial t (after_blanks t) (Whole token n) → new ≡ back r n
       → TokenAhead partial token (bytes_of r) (bytes_of new)

@@ -5,16 +5,16 @@ use Rattle.std.specs.declared.alloc.AllocError.{AllocError}
 use Rattle.winnow_stream.specs.Source.{Source, units}
 use Rattle.winnow_stream.specs.Front.{back}
 use Rattle.format_lemmas.specs.Bytes.{bytes_of}
-use Rattle.format_json.specs.Values.{after_blanks, ValueAhead}
+use Rattle.format_json.specs.Language.{after_blanks, ValueAhead}
 use Rattle.format_json.specs.Founds.{HasNone}
 use Rattle.format_json.specs.Damage.{BreaksOff}
 use Rattle.format_json.specs.Begun.{BeginsValue}
 use Rattle.format_json.specs.SameValues.{SameValue}
-use Rattle.format_json.specs.ValueAnswers.{NoValueAhead, IsReading}
+use Rattle.format_json.specs.Answers.{NoValueAhead, IsReading}
 use Rattle.format_json.specs.declared.value.Value.{Value}
-use Rattle.format_json.specs.declared.values.Reading.{Reading}
-use Rattle.format_json.specs.declared.values.Reading.TheVariants as reading
-use Rattle.format_json.proofs.lemmas.StringStreamLemmas.{text-is, rest-is}
+use Rattle.format_json.specs.declared.grammar.Reading.{Reading}
+use Rattle.format_json.specs.declared.grammar.Reading.TheVariants as reading
+use Rattle.format_json_scalars.proofs.lemmas.StringStreamLemmas.{text-is, rest-is}
 use Rattle.format_json.proofs.lemmas.GrammarLemmas.{nested-once}
 use Rattle.format_json.proofs.lemmas.SameLemmas.{nested-same}
 use Rattle.format_json.proofs.lemmas.FoundLemmas.{none-here}
@@ -60,7 +60,7 @@ module _ (depth : ℕ) (partial : Bool) where
         (subst (BreaksOff partial depth t) (sym (rest-is r t same n new fits e)) place)
 
     module _ (v : Value) (n : ℕ) (new : Source ℕ) (is : IsReading depth partial t (reading.Whole v n)) (e : new ≡ back r n) where
-      -- a value that is found stands at the front of the stream
+      -- the input starts with a value that is found
       pub value-answers : ValueAhead partial depth v (bytes_of r) (bytes_of new)
       value-answers =
           subst (λ l. ValueAhead partial depth v l (bytes_of new)) (sym (text-is r t same))

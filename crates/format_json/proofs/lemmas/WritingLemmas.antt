@@ -1,4 +1,5 @@
--- A value stands at the front where it was written, and what is refused stands nowhere.
+-- The text that is written of a value begins with that value, and no text begins with a value that
+-- is refused.
 use Rattle.std.proofs.Common.{◌≡◌, ℕ, zero, suc, ◌+◌, ◌<◌, Bool, true, false, if◌then◌else◌, List, [], ◌∷◌, ◌++◌, length, take, drop, map, get_or, Result, Ok, Err, ap, sym, ◌∙◌, subst, refl, arith, append_assoc, append-nil, inl, inr}
 use Rattle.std.specs.List.{All, flat_map}
 use Rattle.std.specs.Result.{IsErrAnd}
@@ -13,14 +14,16 @@ use Rattle.std.specs.declared.alloc.Global.{Global}
 use Rattle.std.specs.declared.vec.Vec.{Vec}
 use Rattle.winnow_count.specs.Reading.{IsSomeExactly, ReadsSigned}
 use Rattle.format_lemmas.specs.Bytes.{EndsRun}
-use Rattle.format_json.specs.Numbers.{IsNumber, is_number_byte}
-use Rattle.format_json.specs.Meanings.{IsWritten}
-use Rattle.format_json.specs.Values.{is_blank, after_blanks, NumberHere, StringHere, Elements, Bracketed, Layer, Nested, ValueHere, ValueAhead}
-use Rattle.format_json.specs.Quoting.{written_string}
+use Rattle.format_json_scalars.specs.Numbers.{IsNumber, is_number_byte}
+use Rattle.format_json_scalars.specs.Meanings.{IsWritten}
+use Rattle.format_json.specs.Language.{is_blank, after_blanks, Elements, Bracketed, Layer, Nested, ValueHere, ValueAhead}
+use Rattle.format_json_scalars.specs.StringAnswers.{StringHere}
+use Rattle.format_json_scalars.specs.NumberAnswers.{NumberHere}
+use Rattle.format_json_scalars.specs.Quoting.{written_string}
 use Rattle.format_json.specs.Documents.{IsDocument}
 use Rattle.format_json.specs.Writing.{listed, written_member, layer_written, written, IsReadBack}
 use Rattle.format_json.specs.Appending.{ArrayHere, array_text, MemberHere, member_text, ObjectHere, object_text, Stands, Never, IsAppended, IsNumberAppended}
-use Rattle.format_json.specs.declared.numbers.Number.{Number}
+use Rattle.format_json_scalars.specs.declared.numbers.Number.{Number}
 use Rattle.format_json.specs.declared.value.Value.{Value, map-Value}
 use Rattle.format_json.specs.declared.value.Value.TheVariants as value
 use Rattle.format_json.specs.declared.value.Value.TheOpen as open_value
@@ -31,7 +34,7 @@ use Rattle.format_json.specs.declared.writing.Unwritten.{Unwritten}
 use Rattle.format_json.specs.declared.writing.Unwritten.TheVariants.{NoNumber, TooDeep, Refused}
 use Rattle.format_json.proofs.lemmas.GrammarLemmas.{kind_of, kind, layer-kind}
 use Rattle.format_json.proofs.lemmas.LayerLemmas.{out-number, out-string, out-array, out-object}
-use Rattle.format_json.proofs.lemmas.QuotingLemmas.{string-stands}
+use Rattle.format_json_scalars.proofs.lemmas.QuotingLemmas.{string-stands}
 
 -- ---- Elements
 
@@ -215,7 +218,7 @@ string-appended depth y v is old new e =
     layer-appended (λ partial limit. StringHere) (λ w. written_string (string_bytes w)) y v (open_value.String v) (ap out-Value is ∙ out-string v) refl
     (λ partial limit b r h. h) (λ partial limit b r h. h) depth old new (Ok tt) (e, λ partial rest ends. string-stands v rest)
 
--- what stands at the front as a number is the one that its text writes
+-- a number with which bytes begin is the one that its text writes
 number-written : (partial : Bool) (n : Number) (b r : List ℕ) → NumberHere partial n b r
     → IsWritten n
 number-written partial n b r (t, ((e, is, ends), of)) =

@@ -1,4 +1,4 @@
--- Where bytes stand at the front that a parser reads, the parser gives a value for them, or memory
+-- If a source begins with bytes that a parser reads, the parser returns a value for them, or memory
 -- is refused.
 use Rattle.std.proofs.Common.{◌≡◌, ℕ, ◌<◌, ◌≤◌, ◌==◌, nat_le, Bool, true, false, ◌&&◌, List, [], ◌∷◌, ◌++◌, length, take, drop, inl, inr, Option, Some, None, ap, sym, ◌∙◌, subst, refl, arith, length-append}
 use Rattle.std.specs.Prelude.{⊤, IfSome, ℤ}
@@ -20,8 +20,8 @@ use Rattle.winnow_combinator.specs.Gathering.{Gathered}
 use Rattle.format_lemmas.specs.Bytes.{bytes_of}
 use Rattle.format_lemmas.proofs.lemmas.TokenLemmas.{itself}
 use Rattle.format_lemmas.proofs.lemmas.ByteLemmas.{length-bytes}
-use Rattle.format_resp.specs.Replies.{line_end, is_in_line, AreInLine, IsText, line, IsInteger, IsLength}
-use Rattle.format_resp.specs.Grammar.{most_digits, LineEnd, Line, Text, Number, Length, Bytes, HasBytes}
+use Rattle.format_resp.specs.Language.{line_end, is_in_line, AreInLine, IsText, line, IsInteger, IsLength}
+use Rattle.format_resp.specs.Meanings.{most_digits, LineEnd, Line, Text, Number, Length, Bytes, HasBytes}
 use Rattle.format_resp.specs.Ahead.{IsAhead}
 use Rattle.format_resp.proofs.lemmas.AheadLemmas.{ahead-split, ahead-wide, ahead-first, ahead-none, take-seam}
 use Rattle.format_resp.proofs.lemmas.YieldLemmas.{slice-taken}
@@ -35,7 +35,7 @@ IsAccepted P s (Fails f) = f ≡ Refuses
 abbrev pub Accepts : {O : Type 0} → Meaning O ℕ → Source ℕ → (O → Type 0) → Source ℕ → Type 0
 Accepts {O} means r P s = (partial : Bool) (a : Ahead ℕ) (v : Outcome O ℕ) → a.tokens ≡ r → means partial a v → IsAccepted P s v
 
--- the parser accepts each source in which the text stands at the front
+-- the parser accepts each source that begins with the text
 abbrev pub Reads : {O : Type 0} → Meaning O ℕ → List ℕ → (O → Type 0) → Type 0
 Reads means text P = (r s : Source ℕ) → HasPositiveWidths r → IsAhead r text s → Accepts means r P s
 
@@ -178,7 +178,7 @@ held-line [] t e h = tt
 held-line (x ∷ f) t e h =
     let all : AreInLine (x.0 ∷ bytes_of f) = subst AreInLine (sym e) h in (all.0, held-line f (bytes_of f) refl all.1)
 
--- a front that does not reach the end of the input is not lengthened by more input
+-- a prefix that does not reach the end of the input is not lengthened by more input
 no-growth : (partial below : Bool) (m n : ℕ) → n < m → (partial && (nat_le m n && below)) ≡ true → ⊥
 no-growth true below m n l h =
     let e : nat_le m n ≡ false = grind (arith, nat_tests, l) in
@@ -188,7 +188,7 @@ no-growth true below m n l h =
 no-growth false below m n l h = cc
 
 module _ {S : Type 0} (counts_shortage : Bool) (is_slice : S → Source ℕ → ℕ → Type 0) (bytes : S → List ℕ) (have : SlicesHaveBytes is_slice bytes) where
-  -- a text that is the held front, before another byte, is accepted
+  -- a text that is the longest prefix of members, before another byte, is accepted
   accepts-front : (longest : ℕ) (f s : Source ℕ) (x : ℕ × ℕ) (a : Ahead ℕ) → a.tokens ≡ f ++ x ∷ s
       → held_within (Some longest) is_in_line a.tokens ≡ f → HasPositiveWidths a.tokens
       → (partial : Bool) (v : Outcome S ℕ)

@@ -1,4 +1,4 @@
--- Bytes that stand at the front in a source: how they are joined and split.
+-- Bytes with which a source begins: how they are joined and split.
 use Rattle.std.proofs.Common.{◌≡◌, ℕ, ◌<◌, List, [], ◌∷◌, ◌++◌, length, take, drop, ap, sym, ◌∙◌, subst, refl, arith, append_assoc}
 use Rattle.std.proofs.lemmas.List.{map-append}
 use Rattle.winnow_stream.specs.Source.{Source, width, HasPositiveWidths}
@@ -12,7 +12,7 @@ use Rattle.format_resp.specs.Ahead.{IsAhead}
 pub conses : (x y : ℕ) (xs ys : List ℕ) → x ≡ y → xs ≡ ys → x ∷ xs ≡ y ∷ ys
 conses x y xs ys e f = ap (λ z. z ∷ xs) e ∙ ap (λ zs. y ∷ zs) f
 
--- the tokens of a front have positive widths too
+-- the tokens of a prefix have positive widths too
 pub wide-front : (front s : Source ℕ) → HasPositiveWidths (front ++ s) → HasPositiveWidths front
 wide-front [] s h = tt
 wide-front (x ∷ xs) s h = (h.0, wide-front xs s h.1)
@@ -27,7 +27,7 @@ pub drop-seam : (xs ys : Source ℕ) → drop (length xs) (xs ++ ys) ≡ ys
 drop-seam [] ys = refl
 drop-seam (x ∷ xs) ys = drop-seam xs ys
 
--- the front of two sources in a row that is as wide as the first is the first
+-- the prefix of two sources in a row that is as wide as the first is the first
 pub front-seam : (xs ys : Source ℕ) → HasPositiveWidths xs → front (xs ++ ys) (width xs) ≡ xs
 front-seam xs ys h = ap (λ n. take n (xs ++ ys)) (count_to-seam xs ys h) ∙ take-seam xs ys
 
@@ -50,7 +50,7 @@ ahead-join t u r s q one two = (
   ),
 )
 
--- a front with some bytes and more is a front with the one and a front with the other
+-- a prefix with two lists of bytes is a prefix with the one and a prefix with the other
 split : (t u : List ℕ) (f : Source ℕ) → bytes_of f ≡ t ++ u
     → (g : Source ℕ) × ((h : Source ℕ) × ((f ≡ g ++ h) × (bytes_of g ≡ t) × (bytes_of h ≡ u)))
 split [] u f e = ([], (f, (refl, refl, e)))
@@ -66,7 +66,7 @@ ahead-split t u r q h =
     let k = split t u h.0 h.1.1 in
     (k.1.0 ++ q, ((k.0, (h.1.0 ∙ ap (λ x. x ++ q) k.1.1.0 ∙ append_assoc k.0 k.1.0 q, k.1.1.1)), (k.1.0, (refl, k.1.1.2))))
 
--- what follows bytes that stand at the front has positive widths
+-- the rest after bytes with which a source begins has positive widths
 pub ahead-wide : (t : List ℕ) (r s : Source ℕ) → IsAhead r t s → HasPositiveWidths r
     → HasPositiveWidths s
 ahead-wide t r s h wide = positive-after h.0 s (subst HasPositiveWidths h.1.0 wide)

@@ -15,8 +15,8 @@ use Rattle.winnow_token.specs.OneOf.{IsOneOf}
 use Rattle.winnow_combinator.specs.Ending.{IsFail}
 use Rattle.format_lemmas.proofs.lemmas.TokenLemmas.{itself}
 use Rattle.format_lemmas.proofs.lemmas.ByteLemmas.{positive-both}
-use Rattle.format_resp.specs.Grammar.{is_kind, BulkOf, ArrayOf, Body, Layer, Nested, IsParser-Nested}
-use Rattle.format_resp.specs.Replies.{greatest_count}
+use Rattle.format_resp.specs.Meanings.{is_kind, BulkOf, ArrayOf, Body, Layer, Nested, IsParser-Nested}
+use Rattle.format_resp.specs.Language.{greatest_count}
 use Rattle.format_resp.specs.Answers.{HasNoReply, IsBegun, CannotBeReply, IsAnswer, GivesEach}
 use Rattle.format_resp.specs.declared.reply.Reply.{Reply}
 use Rattle.format_resp.proofs.lemmas.ReplyLemmas.{yields-nested, reads-nested}
@@ -37,7 +37,7 @@ still-decided more (Needs n) h e = h
 still-decided more Refuses h e = h
 
 module _ {S : Type 0} (counts_shortage : Bool) (is_slice : S → Source ℕ → ℕ → Type 0) (stay : SlicesStay is_slice) (bytes : S → List ℕ) (have : SlicesHaveBytes is_slice bytes) where
-  -- where the parser fails, but not by a refusal, no reply stands at the front
+  -- if the parser fails, but not by a refusal, the source begins with no reply
   none-stands : (longest depth : ℕ) (partial : Bool) (a : Ahead ℕ) (f : Failed ℕ)
       → HasPositiveWidths a.tokens
       → Nested itself counts_shortage is_slice bytes longest depth partial a (Fails f)
@@ -45,7 +45,7 @@ module _ {S : Type 0} (counts_shortage : Bool) (is_slice : S → Source ℕ → 
   none-stands longest depth partial a f wide h other = λ y s stands.
       other (reads-nested counts_shortage is_slice bytes have longest depth y stands.0 stands.1.1 a.tokens s wide stands.1.0 partial a (Fails f) refl h)
 
-  -- a decided failure is one for each longer input, so no reply can stand at the front
+  -- a definite failure is one on each longer input, so no longer input begins with a reply
   none-can : (longest depth : ℕ) (partial : Bool) (a : Ahead ℕ) (f : Failed ℕ)
       → HasPositiveWidths a.tokens
       → Nested itself counts_shortage is_slice bytes longest depth partial a (Fails f) → IsDecided f
@@ -55,7 +55,7 @@ module _ {S : Type 0} (counts_shortage : Bool) (is_slice : S → Source ℕ → 
       let far = lawful.stable (units more) true a (Fails f) decided (subst (λ q. Nested itself counts_shortage is_slice bytes longest depth q a (Fails f)) p h) in
       none-stands longest depth true (longer (units more) a) (failed_longer (units more) f) (positive-both a.tokens (units more) wide (HasPositiveWidths-units more)) far (still-decided (units more) f decided) reply [] stands
 
-  -- so no reply stands at the front, whatever follows
+  -- the source begins with no reply on any continuation
   none-ever : (longest depth : ℕ) (partial : Bool) (a : Ahead ℕ) (f : Failed ℕ)
       → HasPositiveWidths a.tokens
       → Nested itself counts_shortage is_slice bytes longest depth partial a (Fails f) → IsDecided f
@@ -126,7 +126,7 @@ module _ {S : Type 0} (counts_shortage : Bool) (is_slice : S → Source ℕ → 
   )
   answers longest depth partial a b (Err (Refused e)) wide h = tt
 
-  -- each reply that stands at the front is given
+  -- each reply with which the source begins is returned
   pub gives-each : {E : Type 0} (longest depth : ℕ) (partial : Bool) (a b : Ahead ℕ)
       (result : Result Reply (Failure E Needed)) → HasPositiveWidths a.tokens
       → Nested itself counts_shortage is_slice bytes longest depth partial a (outcome result b)

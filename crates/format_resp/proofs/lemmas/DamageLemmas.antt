@@ -16,8 +16,8 @@ use Rattle.winnow_combinator.specs.Repeat.{Repeats, Taking}
 use Rattle.winnow_combinator.specs.Gathering.{Gathered}
 use Rattle.format_lemmas.specs.Bytes.{bytes_of, StartsWith}
 use Rattle.format_lemmas.proofs.lemmas.TokenLemmas.{itself, byte-missing}
-use Rattle.format_resp.specs.Replies.{line, IsInteger, IsLength, greatest_count, SpellsNone, Spells}
-use Rattle.format_resp.specs.Grammar.{is_kind, most_digits, HasReplies, LineEnd, Line, Text, Length, Bytes, BulkString, Elements, ArrayReply, Body, Layer, Nested}
+use Rattle.format_resp.specs.Language.{line, IsInteger, IsLength, greatest_count, SpellsNone, Spells}
+use Rattle.format_resp.specs.Meanings.{is_kind, most_digits, HasReplies, LineEnd, Line, Text, Length, Bytes, BulkString, Elements, ArrayReply, Body, Layer, Nested}
 use Rattle.format_resp.specs.Ahead.{IsAhead}
 use Rattle.format_resp.specs.Damage.{HasNoKind, cause_at, EndBreaksOff, LineBreaksOff, NumberBreaksOff, IsWrongInteger, IsWrongLength, BytesBreakOff, BulkBreaksOff, ElementsBreakOff, ArrayBreaksOff, BodyBreaksOff, LayerBreaksOff, BeginsNone, StopsAt, BreaksOff}
 use Rattle.format_resp.specs.Answers.{IsSettled}
@@ -281,7 +281,7 @@ module _ {S : Type 0} (counts_shortage : Bool) (is_slice : S → Source ℕ → 
   bytes-stops n partial (Needs i) a wide h = counted-stops n partial (Needs i) a wide h
   bytes-stops n partial Refuses a wide h = tt
 
-  -- a length that is given stands at the front
+  -- the source begins with a length that is returned
   length-stands : (greatest n : ℕ) (partial : Bool) (a b : Ahead ℕ) (x : Option ℕ)
       → HasPositiveWidths a.tokens
       → Length itself counts_shortage is_slice bytes greatest partial a (Gives x b) → x ≡ Some n
@@ -428,7 +428,7 @@ module _ {S : Type 0} (counts_shortage : Bool) (is_slice : S → Source ℕ → 
   stops-either longest depth partial f a (inr h) =
       stops-on (NestedStops longest depth) (EitherStops longest depth) partial a.tokens a.tokens f (λ needs_more cause s k. inr k) h
 
-  -- the parser that gives no reply leaves what stands at the front
+  -- the parser that returns no reply consumes nothing
   deep-stops : (partial : Bool) (f : Failed ℕ) (a : Ahead ℕ) → HasPositiveWidths a.tokens
       → IsFail {O = Reply} partial a (Fails f) → Stops (λ needs_more cause r s. r ≡ s) partial a.tokens f
   deep-stops partial (Backtracks b) a wide h = (NoKind, (λ p e. cc, ap (λ p. p.tokens) h))

@@ -5,8 +5,8 @@ use Rattle.std.proofs.lemmas.Bool.Decides.{nat_tests}
 use Rattle.std.proofs.lemmas.List.{append-nil, map-append, append_cancel_right}
 use Rattle.winnow_stream.specs.Source.{Source}
 use Rattle.format_lemmas.specs.Bytes.{bytes_of, StartsWith}
-use Rattle.format_resp.specs.Replies.{is_in_line, AreInLine, line, no_length, IsInteger, IsLength, greatest_count, SpellAll, SpellsLayer, SpellsNone, Spells}
-use Rattle.format_resp.specs.Grammar.{most_digits}
+use Rattle.format_resp.specs.Language.{is_in_line, AreInLine, line, no_length, IsInteger, IsLength, greatest_count, SpellAll, SpellsLayer, SpellsNone, Spells}
+use Rattle.format_resp.specs.Meanings.{most_digits}
 use Rattle.format_resp.specs.Ahead.{IsAhead}
 use Rattle.format_resp.specs.Damage.{cause_at, EndsText, LineBreaksOff, NumberBreaksOff, IsWrongInteger, IsWrongLength, BulkBreaksOff, ArrayBreaksOff, BodyBreaksOff, LayerBreaksOff, BeginsNone, StopsAt, BreaksOff}
 use Rattle.format_resp.specs.Parts.{line_width, count_of, part_width, EndsInPart, is_number_kind, length_fault, number_fault, line_fault, first_fault, lacks_held, begun_fault, fault, IsFault}
@@ -23,7 +23,7 @@ use Rattle.format_resp.proofs.lemmas.PartLemmas.{length-line-of, line-whole, lin
 abbrev pub HasFault : Cause → List ℕ → List ℕ → Type 0
 HasFault cause bytes rest = (before : List ℕ) × ((bytes ≡ before ++ rest) × IsFault cause before rest)
 
--- the bytes of a source are those that stand at the front, and the rest
+-- the bytes of a source are those with which it begins, and the rest
 ahead-bytes : (r s : Source ℕ) (t : List ℕ) → IsAhead r t s → bytes_of r ≡ t ++ bytes_of s
 ahead-bytes r s t h = ap bytes_of h.1.0 ∙ map-append (λ x. x.0) h.0 s ∙ ap (λ u. u ++ bytes_of s) h.1.1
 

@@ -5,7 +5,7 @@ use Rattle.std.specs.Str.Parse.{digits_value}
 use Rattle.std.proofs.lemmas.Bool.Decides.{eqb_tells, leb_tells}
 use Rattle.std.proofs.lemmas.Fmt.{decimal_is_IsNumeral}
 use Rattle.format_lemmas.proofs.lemmas.ByteLemmas.{heads, tails}
-use Rattle.format_resp.specs.Replies.{IsLength, greatest_count}
+use Rattle.format_resp.specs.Language.{IsLength, greatest_count}
 use Rattle.format_resp.proofs.lemmas.AheadLemmas.{conses}
 
 -- two lists are equal, or not

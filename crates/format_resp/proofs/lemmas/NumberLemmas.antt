@@ -12,8 +12,8 @@ use Rattle.std.proofs.lemmas.Str.Parse.{digit_from_value, digits_value-take-le, 
 use Rattle.std.proofs.lemmas.Fmt.{decimal_is_IsNumeral, decimal-digits_value, decimal_digit, first_decimal, length-decimal-le}
 use Rattle.winnow_count.specs.Reading.{IsSomeExactly, WritesUpward}
 use Rattle.format_lemmas.proofs.lemmas.ByteLemmas.{heads, tails}
-use Rattle.format_resp.specs.Replies.{AreInLine, IsText, no_length, IsInteger, IsLength}
-use Rattle.format_resp.specs.Grammar.{most_digits}
+use Rattle.format_resp.specs.Language.{AreInLine, IsText, no_length, IsInteger, IsLength}
+use Rattle.format_resp.specs.Meanings.{most_digits}
 use Rattle.format_resp.specs.Numbers.{is_plain, HasDigit, AreDigitsOf, IsNegative, IsPositive}
 
 -- a plain text that writes a number is what std writes of it

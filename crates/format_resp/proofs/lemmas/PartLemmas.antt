@@ -11,7 +11,7 @@ use Rattle.std.proofs.lemmas.Option.{none-some, same_Some}
 use Rattle.std.proofs.lemmas.Slice.Eq.{slice_eq-Decides}
 use Rattle.winnow_count.specs.Reading.{IsSomeExactly}
 use Rattle.format_lemmas.specs.Bytes.{Starts}
-use Rattle.format_resp.specs.Replies.{is_in_line, AreInLine, line, line_end, no_length, IsLength}
+use Rattle.format_resp.specs.Language.{is_in_line, AreInLine, line, line_end, no_length, IsLength}
 use Rattle.format_resp.specs.Parts.{text_width, begins_end, line_width, count_of, held_width, whole_width, part_width, EndsIn, EndsInPart, is_short, lacks_held, is_fewer}
 use Rattle.format_resp.proofs.lemmas.AheadLemmas.{conses}
 use Rattle.format_resp.proofs.lemmas.NumberLemmas.{no-minus, length-line}
@@ -35,21 +35,21 @@ not-true : (b : Bool) → ¬ (b ≡ true) → b ≡ false
 not-true true h = absurd (h refl)
 not-true false h = refl
 
--- what follows a front of this length
+-- the bytes after a prefix of this length
 drop-length : (p q : List ℕ) → drop (length p) (p ++ q) ≡ q
 drop-length [] q = refl
 drop-length (x ∷ p) q = drop-length p q
 
--- what follows a front
+-- the bytes after a prefix
 pub drop-front : (n : ℕ) (p q : List ℕ) → n ≡ length p → drop n (p ++ q) ≡ q
 drop-front n p q e = ap (λ m. drop m (p ++ q)) e ∙ drop-length p q
 
--- the front of this length
+-- the prefix of this length
 take-length : (p q : List ℕ) → take (length p) (p ++ q) ≡ p
 take-length [] q = refl
 take-length (x ∷ p) q = ap (λ t. x ∷ t) (take-length p q)
 
--- the front
+-- the prefix
 pub take-front : (n : ℕ) (p q : List ℕ) → n ≡ length p → take n (p ++ q) ≡ p
 take-front n p q e = ap (λ m. take m (p ++ q)) e ∙ take-length p q
 

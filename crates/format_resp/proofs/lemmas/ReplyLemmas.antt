@@ -15,8 +15,8 @@ use Rattle.winnow_combinator.specs.Ending.{IsFail}
 use Rattle.winnow_combinator.specs.Repeat.{Repeats, Taking, InTurn}
 use Rattle.winnow_combinator.specs.Gathering.{Gathered}
 use Rattle.format_lemmas.proofs.lemmas.TokenLemmas.{itself}
-use Rattle.format_resp.specs.Replies.{line, no_length, IsText, IsInteger, IsLength, greatest_count, SpellAll, SpellsLayer, SpellsNone, Spells}
-use Rattle.format_resp.specs.Grammar.{IsSimple, IsError, IsNumber, IsBulk, IsNullBulk, IsArray, IsNullArray, is_kind, HasReplies, IsSame, IsCode, Text, Number, Length, Bytes, BulkOf, BulkString, Elements, ArrayOf, ArrayReply, Body, Layer, Nested}
+use Rattle.format_resp.specs.Language.{line, no_length, IsText, IsInteger, IsLength, greatest_count, SpellAll, SpellsLayer, SpellsNone, Spells}
+use Rattle.format_resp.specs.Meanings.{IsSimple, IsError, IsNumber, IsBulk, IsNullBulk, IsArray, IsNullArray, is_kind, HasReplies, IsSame, IsCode, Text, Number, Length, Bytes, BulkOf, BulkString, Elements, ArrayOf, ArrayReply, Body, Layer, Nested}
 use Rattle.format_resp.specs.Ahead.{IsAhead}
 use Rattle.format_resp.specs.Contents.{Value, simple, error, integer, bulk, array, values_of, layer_contents, contents}
 use Rattle.format_resp.specs.declared.reply.Reply.{Reply, map-Reply}
@@ -75,7 +75,7 @@ none-within [] t text all h = (omega arith, h.1, h.2)
 none-within (y ∷ ys) t text (one, (more, (e, none, all))) h = absurd none
 
 module _ {S : Type 0} (counts_shortage : Bool) (is_slice : S → Source ℕ → ℕ → Type 0) (bytes : S → List ℕ) (have : SlicesHaveBytes is_slice bytes) where
-  -- ---- What is given stands at the front
+  -- ---- The source begins with each reply that is returned
 
   -- what stands after the length of a bulk string
   abbrev AfterBulk : Option ℕ → Reply → List ℕ → Type 0
@@ -102,7 +102,7 @@ module _ {S : Type 0} (counts_shortage : Bool) (is_slice : S → Source ℕ → 
       subst (λ f. SpellsLayer longest spells f (36 ∷ (t ++ u))) (sym h.0)
       (text, (subst (λ m. IsLength longest text (Some m)) (sym h.1) is, ap (λ s. 36 ∷ s) (ap (λ s. s ++ u) e ∙ ap (λ s. line text ++ s) h.2)))
 
-  -- a bulk string stands at the front
+  -- the source begins with a bulk string
   yields-bulk : (longest : ℕ) (spells : Reply → List ℕ → Type 0)
       → Yields (BulkString itself counts_shortage is_slice bytes longest)
       (λ y t. SpellsLayer longest spells (out-Reply y) (36 ∷ t))
@@ -122,7 +122,7 @@ module _ {S : Type 0} (counts_shortage : Bool) (is_slice : S → Source ℕ → 
         let l = turns-stand partial xs c b (ahead-wide k.0 a.tokens c.tokens k.1.0 wide) h.1.1 in
         (k.0 ++ l.0, (ahead-join k.0 l.0 a.tokens c.tokens b.tokens k.1.0 l.1.0, (k.0, (l.0, (refl, k.1.1, l.1.1)))))
 
-    -- the elements of an array stand at the front
+    -- the source begins with the elements of an array
     yields-elements : (n : ℕ)
         → Yields (Elements itself counts_shortage is_slice bytes inner n)
         (λ v t. SpellAll spells v.items t × (length v.items ≡ n))
@@ -155,7 +155,7 @@ module _ {S : Type 0} (counts_shortage : Bool) (is_slice : S → Source ℕ → 
         subst (λ f. SpellsLayer longest spells f (42 ∷ (t ++ u))) (sym h.0)
         (text, (u, (subst (λ m. IsLength greatest_count text (Some m)) (sym h.1) (wider text (Some n) is), h.2, ap (λ s. 42 ∷ (s ++ u)) e)))
 
-    -- an array stands at the front
+    -- the source begins with an array
     yields-array : Yields (ArrayReply itself counts_shortage is_slice bytes most inner)
         (λ y t. SpellsLayer longest spells (out-Reply y) (42 ∷ t))
     yields-array =
@@ -183,7 +183,7 @@ module _ {S : Type 0} (counts_shortage : Bool) (is_slice : S → Source ℕ → 
         let k = yields-bulk longest spells partial a b y wide h in
         (k.0, (k.1.0, subst (λ c. SpellsLayer longest spells (out-Reply y) (c ∷ k.0)) (sym e) k.1.1))
 
-    -- a reply stands at the front
+    -- the source begins with a reply
     yields-layer : Yields (Layer itself counts_shortage is_slice bytes longest most inner)
         (λ y t. SpellsLayer longest spells (out-Reply y) t)
     yields-layer =
@@ -191,20 +191,20 @@ module _ {S : Type 0} (counts_shortage : Bool) (is_slice : S → Source ℕ → 
         (λ x k same. subst (λ c. Yields (Body itself counts_shortage is_slice bytes longest most inner c) (λ y u. SpellsLayer longest spells (out-Reply y) (x ∷ u))) same (yields-body x))
         (λ x y t u q r. subst (λ s. SpellsLayer longest spells (out-Reply y) (s ++ u)) (sym q.1) r)
 
-  -- the reply that the parser gives stands at the front
+  -- the source begins with the reply that the parser returns
   pub yields-nested : (longest depth : ℕ)
       → Yields (Nested itself counts_shortage is_slice bytes longest depth) (Spells longest depth)
   yields-nested longest zero = yields-layer longest 0 SpellsNone IsFail (λ partial a b x wide h. absurd h) wider-none
   yields-nested longest (suc depth) = yields-layer longest greatest_count (Spells longest depth) (Nested itself counts_shortage is_slice bytes longest depth) (yields-nested longest depth) (λ text n h. h)
 
-  -- ---- What stands at the front is given
+  -- ---- Each reply with which the source begins is returned
 
   module _ (longest most : ℕ) (spells : Reply → List ℕ → Type 0) (inner : Meaning Reply ℕ) (begins : (y : Reply) (t : List ℕ) → spells y t → Begins t) (one : (y : Reply) (t : List ℕ) → spells y t → Reads inner t (λ z. spells z t × (contents z ≡ contents y))) (within : (ys : List Reply) (t text : List ℕ) → SpellAll spells ys t → IsLength greatest_count text (Some (length ys)) → IsLength most text (Some (length ys))) where
     -- the bytes spell the second layer, which has the contents of the first
     abbrev Says : Reply-F Reply → Reply-F Reply → List ℕ → Type 0
     Says f g t = SpellsLayer longest spells g t × (value_of g ≡ value_of f)
 
-    -- after some elements that are given the others stand at the front
+    -- after some elements that are returned the source begins with the others
     record Left (ys xs : List Reply) (text : List ℕ) (r s : Source ℕ) : Type 0 where
       others : List Reply
       taken : List ℕ
@@ -217,7 +217,7 @@ module _ {S : Type 0} (counts_shortage : Bool) (is_slice : S → Source ℕ → 
       ahead : IsAhead r more s
       wide : HasPositiveWidths r
 
-    -- elements that are given in turn are those that stand at the front
+    -- elements that are returned in turn are those with which the source begins
     turns-left : (partial : Bool) (ys xs : List Reply) (text : List ℕ) (a b : Ahead ℕ)
         (s : Source ℕ) → HasPositiveWidths a.tokens → IsAhead a.tokens text s
         → SpellAll spells xs text → length ys ≤ length xs → InTurn (Taking inner) partial ys a b
@@ -256,7 +256,7 @@ module _ {S : Type 0} (counts_shortage : Bool) (is_slice : S → Source ℕ → 
           wide = left.wide;
         }
 
-    -- a failure of an element that stands at the front is a refusal
+    -- a failure on an element with which the source begins is a refusal
     element-fails : (partial : Bool) (x : Reply) (t : List ℕ) (b : Ahead ℕ) (s : Source ℕ)
         (f : Failed ℕ) → spells x t → HasPositiveWidths b.tokens → IsAhead b.tokens t s
         → Taking inner partial b (Fails f) → f ≡ Refuses
@@ -269,7 +269,7 @@ module _ {S : Type 0} (counts_shortage : Bool) (is_slice : S → Source ℕ → 
     element-fails partial x t b s (Needs n) h wide stands k = one x t h b.tokens s wide stands partial b (Fails (Needs n)) refl k
     element-fails partial x t b s Refuses h wide stands k = refl
 
-    -- where elements are left, one of them stands at the front
+    -- if elements are left, the source begins with one of them
     more-fails : (partial : Bool) (others : List Reply) (more : List ℕ) (b : Ahead ℕ)
         (s : Source ℕ) (f : Failed ℕ) → 0 < length others → SpellAll spells others more
         → HasPositiveWidths b.tokens → IsAhead b.tokens more s → Taking inner partial b (Fails f)
@@ -285,7 +285,7 @@ module _ {S : Type 0} (counts_shortage : Bool) (is_slice : S → Source ℕ → 
     none-left [] more e h = h
     none-left (x ∷ xs) more e h = absurd (omega (arith, e))
 
-    -- the elements that stand at the front are read, where their number is asked for
+    -- the elements with which the source begins are read, if their number is asked for
     reads-repeated : (xs : List Reply) (text : List ℕ) → SpellAll spells xs text
         → Reads (Repeats (length xs) (Some (length xs)) inner) text (λ ys. SpellAll spells ys text
         × (length ys ≡ length xs) × (map contents ys ≡ map contents xs))
@@ -417,7 +417,7 @@ module _ {S : Type 0} (counts_shortage : Bool) (is_slice : S → Source ℕ → 
     abbrev LayerIsRead : Reply-F Reply → List ℕ → Type 0
     LayerIsRead f t = Reads (Layer itself counts_shortage is_slice bytes longest most inner) t (λ y. Says f (out-Reply y) t)
 
-    -- a reply that stands at the front is read, kind by kind
+    -- a reply with which the source begins is read, kind by kind
     reads-layer : (f : Reply-F Reply) (t : List ℕ) → SpellsLayer longest spells f t
         → LayerIsRead f t
     reads-layer (Simple v) t h =
@@ -448,7 +448,7 @@ module _ {S : Type 0} (counts_shortage : Bool) (is_slice : S → Source ℕ → 
   spells-begins longest zero y t h = layer-begins longest SpellsNone (out-Reply y) t h
   spells-begins longest (suc depth) y t h = layer-begins longest (Spells longest depth) (out-Reply y) t h
 
-  -- the parser reads each reply that stands at the front, and gives one with its contents
+  -- the parser reads each reply with which the source begins, and returns one with its contents
   pub reads-nested : (longest depth : ℕ) (y : Reply) (t : List ℕ) → Spells longest depth y t
       → Reads (Nested itself counts_shortage is_slice bytes longest depth) t
       (λ z. Spells longest depth z t × (contents z ≡ contents y))

@@ -7,7 +7,7 @@ use Rattle.std.specs.declared.vec.Vec.{Vec}
 use Rattle.std.specs.declared.alloc.Global.{Global}
 use Rattle.std.proofs.lemmas.List.{length-map}
 use Rattle.std.proofs.lemmas.List.Folds.{flat_map-map, list_all-map}
-use Rattle.format_resp.specs.Replies.{AreInLine, line, SpellAll, SpellsLayer, SpellsNone, Spells}
+use Rattle.format_resp.specs.Language.{AreInLine, line, SpellAll, SpellsLayer, SpellsNone, Spells}
 use Rattle.format_resp.specs.Writing.{ends_line, layer_writable, is_writable, layer_written, written, EachIsWithin, LayerIsWithin, IsNever, IsWithin}
 use Rattle.format_resp.specs.declared.reply.Reply.{Reply, map-Reply}
 use Rattle.format_resp.specs.declared.reply.Reply.TheOpen.{Reply-F, Simple, Error, Integer, Bulk, NullBulk, Array, NullArray}

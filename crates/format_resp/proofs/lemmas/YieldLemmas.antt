@@ -18,8 +18,8 @@ use Rattle.winnow_token.specs.Take.{Takes}
 use Rattle.format_lemmas.specs.Bytes.{bytes_of}
 use Rattle.format_lemmas.proofs.lemmas.TokenLemmas.{itself, each-held, all-held}
 use Rattle.format_lemmas.proofs.lemmas.ByteLemmas.{bytes-units, length-bytes}
-use Rattle.format_resp.specs.Replies.{line_end, is_in_line, IsText, line, IsInteger, IsLength}
-use Rattle.format_resp.specs.Grammar.{most_digits, LineEnd, Line, Text, Number, Length, Bytes}
+use Rattle.format_resp.specs.Language.{line_end, is_in_line, IsText, line, IsInteger, IsLength}
+use Rattle.format_resp.specs.Meanings.{most_digits, LineEnd, Line, Text, Number, Length, Bytes}
 use Rattle.format_resp.specs.Ahead.{IsAhead}
 use Rattle.format_resp.specs.Damage.{EndsText}
 use Rattle.format_resp.proofs.lemmas.AheadLemmas.{ahead-join, ahead-wide, wide-front, front-seam, back-seam}
@@ -84,7 +84,7 @@ pub yields-maps : {O P : Type 0} (gives : O → P → Type 0) (inner : Meaning O
 yields-maps gives inner Q R one on partial a b y wide h =
     let k = one partial a b h.0 wide h.1.1 in (k.0, (k.1.0, on h.0 y k.0 h.1.0 k.1.1))
 
--- a first token stands at the front as its byte
+-- a source begins with the byte of its first token
 first-ahead : (r s : Source ℕ) (x : ℕ) → first_token r ≡ Some x → s ≡ drop 1 r
     → IsAhead r (x ∷ []) s
 first-ahead [] s x e f = absurd (none-some _ e)
@@ -136,7 +136,7 @@ take-exact zero (x ∷ xs) l = refl
 take-exact (suc n) [] l = absurd (omega (arith, l))
 take-exact (suc n) (x ∷ xs) l = let e = take-exact n xs (omega (arith, l)) in omega (arith, e)
 
--- the held front, cut off at a count, and what follows it are the whole
+-- the longest prefix of members, cut off at a count, and the tokens after it are the whole
 held-whole : (holds : ℕ → Bool) (n : ℕ) (r : Source ℕ)
     → r ≡ take n (held_front holds r) ++ (drop n (held_front holds r) ++ drop (length (held_front holds r)) r)
 held-whole holds n r =
@@ -159,14 +159,14 @@ if-some : (P : ℕ → Type 0) (o : Option ℕ) → ((x : ℕ) → o ≡ Some x 
 if-some P None h = tt
 if-some P (Some x) h = h x refl
 
--- a front that more input may lengthen is all that remains, and below the greatest count
+-- a prefix that more input may lengthen is all that remains, and below the greatest count
 grows : (partial : Bool) (m n greatest : ℕ)
     → (partial && (nat_le m n && nat_lt n greatest)) ≡ true → (m ≤ n) × (n < greatest)
 grows true m n greatest h = (grind (arith, nat_tests, h), grind (arith, nat_tests, h))
 grows false m n greatest h = absurd (cc)
 
 module _ {S : Type 0} (counts_shortage : Bool) (is_slice : S → Source ℕ → ℕ → Type 0) (bytes : S → List ℕ) (have : SlicesHaveBytes is_slice bytes) where
-  -- a slice that was taken has the bytes of the front, and the rest follows the front
+  -- a slice that was consumed has the bytes of the prefix, and the rest follows it
   pub slice-taken : (r f s : Source ℕ) (slice : S) → r ≡ f ++ s → HasPositiveWidths r
       → IsTrue (is_offset r (width f)) → is_slice slice r (width f)
       → (bytes slice ≡ bytes_of f) × (back r (width f) ≡ s)
@@ -176,7 +176,8 @@ module _ {S : Type 0} (counts_shortage : Bool) (is_slice : S → Source ℕ → 
         ap (λ t. back t (width f)) e ∙ back-seam f s narrow,
       )
 
-  -- a text that is taken up to the end of its line stands at the front, and ends there
+  -- the source begins with a text that is consumed up to the end of its line, and the text ends
+  -- there
   pub held-stands : (longest : ℕ) (partial : Bool) (a b : Ahead ℕ) (slice : S)
       → HasPositiveWidths a.tokens
       → TakesWhile is_slice is_in_line 0 (Some longest) partial a (Gives slice b)
@@ -213,21 +214,21 @@ module _ {S : Type 0} (counts_shortage : Bool) (is_slice : S → Source ℕ → 
       let all = all-held is_in_line r (omega (arith, short.0, take-less longest held)) in
       (bytes_of r, ((r, (sym (append-nil r), refl)), (each-held is_in_line r all, omega (arith, short.0, short.1, length-bytes r))))
 
-  -- a text that is taken up to the end of its line stands at the front
+  -- the source begins with a text that is consumed up to the end of its line
   yields-held : (longest : ℕ)
       → Yields (TakesWhile is_slice is_in_line 0 (Some longest)) (λ slice t. IsText longest t
       × (bytes slice ≡ t))
   yields-held longest partial a b slice wide h =
       let k = held-stands longest partial a b slice wide h in (k.0, (k.1.0, (k.1.1, k.1.3)))
 
-  -- a line stands at the front, with the text that is given
+  -- the source begins with a line, with the text that is returned
   pub yields-line : (longest : ℕ)
       → Yields (Line itself counts_shortage is_slice bytes longest)
       (λ slice t. IsText longest (bytes slice) × (t ≡ line (bytes slice)))
   yields-line longest = yields-terminated (TakesWhile is_slice is_in_line 0 (Some longest)) (LineEnd itself) (λ slice t. IsText longest t × (bytes slice ≡ t)) (λ both t. t ≡ line_end) (λ slice t. IsText longest (bytes slice) × (t ≡ line (bytes slice))) (yields-held longest) yields-end
       (λ slice end t u h k. (subst (IsText longest) (sym h.1) h.0, ap (λ s. s ++ u) (sym h.1) ∙ ap (λ s. bytes slice ++ s) k))
 
-  -- the bytes of a text stand at the front in its line
+  -- the source begins with the bytes of a text in its line
   pub yields-text : (longest : ℕ)
       → Yields (Text itself counts_shortage is_slice bytes longest) (λ v t. IsText longest v.items
       × (t ≡ line v.items))
@@ -235,7 +236,7 @@ module _ {S : Type 0} (counts_shortage : Bool) (is_slice : S → Source ℕ → 
       let k = yields-line longest partial a b h.0 wide h.1.1 in
       (k.0, (k.1.0, (subst (IsText longest) (sym h.1.0) k.1.1.0, k.1.1.1 ∙ ap line (sym h.1.0))))
 
-  -- what a line is read as stands at the front in the line
+  -- the source begins with the line of a value that is read of one
   yields-read : {R : Type 0} (reads : List ℕ → R → Type 0)
       → Yields
       (CutsErr
@@ -247,18 +248,18 @@ module _ {S : Type 0} (counts_shortage : Bool) (is_slice : S → Source ℕ → 
       let k = yields-line most_digits partial a b slice wide h.1.1 in
       (k.0, (k.1.0, (bytes slice, ((h.1.0 n).0 refl, k.1.1.1))))
 
-  -- an integer stands at the front in its line
+  -- the source begins with an integer in its line
   pub yields-number : Yields (Number itself counts_shortage is_slice bytes) (λ n t. (text : List ℕ)
       × (IsInteger text n × (t ≡ line text)))
   yields-number = yields-read IsInteger
 
-  -- a length stands at the front in its line
+  -- the source begins with a length in its line
   pub yields-length : (greatest : ℕ)
       → Yields (Length itself counts_shortage is_slice bytes greatest) (λ n t. (text : List ℕ)
       × (IsLength greatest text n × (t ≡ line text)))
   yields-length greatest = yields-read (IsLength greatest)
 
-  -- that many bytes stand at the front
+  -- the source begins with that many bytes
   pub yields-counted : (n : ℕ)
       → Yields (Takes counts_shortage is_slice n) (λ slice t. (length t ≡ n) × (bytes slice ≡ t))
   yields-counted n partial a b slice wide h =
@@ -268,7 +269,7 @@ module _ {S : Type 0} (counts_shortage : Bool) (is_slice : S → Source ℕ → 
       let rest : b.tokens ≡ drop n a.tokens = ap (λ c. c.tokens) h.3 ∙ got.1 in
       (bytes_of f, ((f, (e ∙ ap (λ t. f ++ t) (sym rest), refl)), (length-bytes f ∙ take-exact n a.tokens h.0, got.0)))
 
-  -- that many bytes and the end of a line stand at the front
+  -- the source begins with that many bytes and the end of a line
   pub yields-bytes : (n : ℕ)
       → Yields (Bytes itself counts_shortage is_slice bytes n) (λ v t. (length v.items ≡ n)
       × (t ≡ line v.items))

@@ -428,7 +428,9 @@ where
                 return Ok(Turn::Ended(value));
             }
             let right = climb(parser, alloc, input, found.right, side.depth)?;
-            let value = parser.infixes.apply(alloc, input, value, found.operator, right)?;
+            let value = parser
+                .infixes
+                .apply(alloc, input, value, found.operator, right)?;
             Ok(Turn::Went(value, found.alone))
         }
         Err(Failure::Backtrack(_)) => {

@@ -29,11 +29,7 @@ pub trait InfixOperators<I: StreamIsPartial, E, O> {
     ghost ready: { Self → Type 0 };
 
     /// Reads an operator, with its binding power.
-    fn read_operator(
-        &self,
-        alloc: Global,
-        input: &mut I,
-    ) -> ModalResult<Infix<Self::Operator>, E>
+    fn read_operator(&self, alloc: Global, input: &mut I) -> ModalResult<Infix<Self::Operator>, E>
         requires ready { ready self.now }
         requires valid { I.valid input.old }
         ensures means { reads self.now (I.expects_more input.old)
@@ -107,8 +103,14 @@ pub struct InfixBy<Q, F> {
     pub(crate) fold: F,
 }
 
-impl<I: StreamIsPartial, E, O, T, Q: Parser<I, E, Output = Infix<T>>, F: Fn(O, T, O) -> O>
-    InfixOperators<I, E, O> for InfixBy<Q, F> {
+impl<
+    I: StreamIsPartial,
+    E,
+    O,
+    T,
+    Q: Parser<I, E, Output = Infix<T>>,
+    F: Fn(O, T, O) -> O,
+> InfixOperators<I, E, O> for InfixBy<Q, F> {
     type Operator = T;
 
     ghost reads = { λ o. Q.means o.parser };

@@ -107,8 +107,14 @@ pub struct PrefixBy<Q, F> {
     pub(crate) fold: F,
 }
 
-impl<I: StreamIsPartial, E, O, T, Q: Parser<I, E, Output = Prefix<T>>, F: Fn(T, O) -> O>
-    UnaryOperators<I, E, O> for PrefixBy<Q, F> {
+impl<
+    I: StreamIsPartial,
+    E,
+    O,
+    T,
+    Q: Parser<I, E, Output = Prefix<T>>,
+    F: Fn(T, O) -> O,
+> UnaryOperators<I, E, O> for PrefixBy<Q, F> {
     type Operator = T;
 
     ghost reads = { λ o. Maps HasPrefix (Q.means o.parser) };
@@ -122,13 +128,7 @@ impl<I: StreamIsPartial, E, O, T, Q: Parser<I, E, Output = Prefix<T>>, F: Fn(T, 
         Ok((power, operator))
     }
 
-    fn apply(
-        &self,
-        _alloc: Global,
-        _input: &mut I,
-        operator: T,
-        operand: O,
-    ) -> ModalResult<O, E> {
+    fn apply(&self, _alloc: Global, _input: &mut I, operator: T, operand: O) -> ModalResult<O, E> {
         Ok((self.fold)(operator, operand))
     }
 
@@ -144,8 +144,14 @@ pub struct PostfixBy<Q, F> {
     pub(crate) fold: F,
 }
 
-impl<I: StreamIsPartial, E, O, T, Q: Parser<I, E, Output = Postfix<T>>, F: Fn(O, T) -> O>
-    UnaryOperators<I, E, O> for PostfixBy<Q, F> {
+impl<
+    I: StreamIsPartial,
+    E,
+    O,
+    T,
+    Q: Parser<I, E, Output = Postfix<T>>,
+    F: Fn(O, T) -> O,
+> UnaryOperators<I, E, O> for PostfixBy<Q, F> {
     type Operator = T;
 
     ghost reads = { λ o. Maps HasPostfix (Q.means o.parser) };
@@ -159,13 +165,7 @@ impl<I: StreamIsPartial, E, O, T, Q: Parser<I, E, Output = Postfix<T>>, F: Fn(O,
         Ok((power, operator))
     }
 
-    fn apply(
-        &self,
-        _alloc: Global,
-        _input: &mut I,
-        operator: T,
-        operand: O,
-    ) -> ModalResult<O, E> {
+    fn apply(&self, _alloc: Global, _input: &mut I, operator: T, operand: O) -> ModalResult<O, E> {
         Ok((self.fold)(operand, operator))
     }
 

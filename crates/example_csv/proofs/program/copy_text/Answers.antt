@@ -1,7 +1,7 @@
 use Rattle.std.proofs.Common.{◌≡◌, ℕ, List, None, take, ap, ◌∙◌, subst, arith}
 use Rattle.std.specs.Io.KnownBytes.{Consumes, prepend_known}
 use Rattle.winnow.specs.State.{ReaderState}
-use Rattle.format_csv.specs.declared.records.Row.{Row}
+use Rattle.format_csv.specs.declared.grammar.Row.{Row}
 use Rattle.example_csv.specs.declared.progress.Progress.{Progress}
 use Rattle.example_csv.proofs.lemmas.CopiedLemmas.{copied-begun, copied-pushed, copied-ended, copied-written, copied-stops, copied-all, leaves-more, leaves-none, on-both, if-err}
 use Rattle.example_csv.proofs.lemmas.StartLemmas.{copied-text}

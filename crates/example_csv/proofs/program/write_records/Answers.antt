@@ -1,7 +1,7 @@
 use Rattle.std.proofs.Common.{◌≡◌, ℕ, ◌+◌, ◌-◌, ◌<◌, ◌^◌, List, length, take, drop, ap, sym, ◌∙◌, subst, arith}
 use Rattle.winnow.specs.State.{ReaderState, fed_of}
 use Rattle.winnow.specs.Answering.{FailsAt-by}
-use Rattle.format_csv.specs.declared.records.Row.{Row}
+use Rattle.format_csv.specs.declared.grammar.Row.{Row}
 use Rattle.std.specs.Io.KnownBytes.{Appends}
 use Rattle.std.specs.Prelude.{Some}
 use Rattle.example_csv.specs.Positions.{feeds_of}

@@ -1,6 +1,6 @@
 use Rattle.std.proofs.Common.{[], ap}
 use Rattle.std.specs.Io.KnownBytes.{Appends}
-use Rattle.format_json.specs.EventReading.{EventState, events_ended, KeepsLimits}
+use Rattle.format_json_events.specs.Reading.{EventState, events_ended, KeepsLimits}
 use Rattle.example_json.proofs.lemmas.FollowLemmas.{also-none, fails-piece, prints-ended}
 use Rattle.example_json.proofs.program.print_last.Goals as goal
 

@@ -1,6 +1,6 @@
 use Rattle.std.proofs.Common.{◌+◌, ◌<◌, ◌^◌, length, ap, sym, subst, arith}
 use Rattle.std.specs.Io.KnownBytes.{Appends}
-use Rattle.format_json.specs.EventReading.{EventState, KeepsLimits}
+use Rattle.format_json_events.specs.Reading.{EventState, KeepsLimits}
 use Rattle.example_json.specs.Positions.{LeadsTo}
 use Rattle.example_json.proofs.lemmas.FollowLemmas.{begun-fed, follows-piece, fails-piece}
 use Rattle.example_json.proofs.program.print_piece.Goals as goal

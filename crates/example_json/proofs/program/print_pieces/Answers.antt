@@ -1,7 +1,7 @@
 use Rattle.std.proofs.Common.{true, ◌≡◌, ℕ, List, [], ◌++◌, take, drop, length, refl, ap, sym, ◌∙◌, subst, arith}
 use Rattle.std.specs.Io.KnownBytes.{Consumes}
 use Rattle.std.proofs.Math.Seq.{take-append_seam}
-use Rattle.format_json.specs.EventReading.{EventState, events_ended}
+use Rattle.format_json_events.specs.Reading.{EventState, events_ended}
 use Rattle.example_json.proofs.lemmas.KnownLemmas.{consumes-start, appends-start}
 use Rattle.example_json.proofs.lemmas.FollowLemmas.{printed-start, printed-begun, printed-piece, printed-fails, printed-all, leaves-more, leaves-none, on-three, if-err}
 use Rattle.example_json.proofs.program.print_pieces.Goals as goal

@@ -1,5 +1,5 @@
 use Rattle.std.proofs.Common.{◌≡◌, ◌++◌, None}
-use Rattle.format_json.specs.EventReading.{KeepsLimits}
+use Rattle.format_json_events.specs.Reading.{KeepsLimits}
 use Rattle.example_json.specs.Taking.{PrintsOn}
 use Rattle.example_json.proofs.program.take_events.Given as goal
 

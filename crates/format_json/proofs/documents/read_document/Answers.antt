@@ -1,5 +1,5 @@
 use Rattle.std.proofs.Common.{false, inl, refl}
-use Rattle.format_json.specs.Values.{ValueAhead}
+use Rattle.format_json.specs.Language.{ValueAhead}
 use Rattle.format_json.specs.Damage.{BreaksOff}
 use Rattle.format_json.specs.declared.found.Found.TheVariants.{Whole, Damaged}
 use Rattle.format_json.proofs.lemmas.FoundLemmas.{found-same}

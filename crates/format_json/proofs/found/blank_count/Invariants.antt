@@ -1,5 +1,5 @@
 use Rattle.std.proofs.Common.{◌≡◌, drop}
-use Rattle.format_json.specs.Values.{after_blanks}
+use Rattle.format_json.specs.Language.{after_blanks}
 use Rattle.format_json.proofs.found.blank_count.Given as goal
 
 -- the bytes up to here are blanks

@@ -1,5 +1,5 @@
 use Rattle.format_json.proofs.lemmas.PlaceLemmas.{value-place, value-unbroken}
-use Rattle.format_json.specs.Values.{after_blanks}
+use Rattle.format_json.specs.Language.{after_blanks}
 use Rattle.format_json.proofs.laws.place_law.Goals as goal
 
 pub returns-clause-once : goal.returns-clause-once

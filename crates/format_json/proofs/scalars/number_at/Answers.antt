@@ -1,5 +1,5 @@
 use Rattle.std.proofs.Common.{arith, subst, take, take_all}
-use Rattle.format_json.specs.Numbers.{BeginsNumber, Tells}
+use Rattle.format_json_scalars.specs.Numbers.{BeginsNumber, Tells}
 use Rattle.format_json.proofs.lemmas.ScalarLemmas.{number-begun, number-never, number-none, number-whole}
 use Rattle.format_json.proofs.scalars.number_at.Goals as goal
 

@@ -1,8 +1,9 @@
 use Rattle.std.proofs.Common.{◌<◌, length, refl, arith}
 use Rattle.std.proofs.lemmas.Bool.Decides.{nat_tests}
-use Rattle.format_json.specs.Values.{StringHere, NumberHere}
+use Rattle.format_json_scalars.specs.StringAnswers.{StringHere}
+use Rattle.format_json_scalars.specs.NumberAnswers.{NumberHere}
 use Rattle.format_json.specs.declared.found.Found.TheVariants.{Begun, Damaged}
-use Rattle.format_json.proofs.lemmas.StringLemmas.{starts-with}
+use Rattle.format_json_scalars.proofs.lemmas.StringLemmas.{starts-with}
 use Rattle.format_json.proofs.lemmas.FoundLemmas.{found-same}
 use Rattle.format_json.proofs.lemmas.LayerLemmas.{null-found, true-found, false-found, string-begun, string-damaged, number-begun, number-damaged}
 use Rattle.format_json.proofs.lemmas.BegunLemmas.{nothing-begins}

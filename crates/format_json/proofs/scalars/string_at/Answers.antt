@@ -1,7 +1,7 @@
 use Rattle.std.proofs.Common.{inr, subst}
-use Rattle.format_json.specs.Steps.{IsReading}
+use Rattle.format_json_scalars.specs.Steps.{IsReading}
 use Rattle.format_json.proofs.lemmas.ScalarLemmas.{string-damaged, string-begun, string-ended}
-use Rattle.format_json.proofs.lemmas.StringLemmas.{damaged-at, begun-at, begun-begun, nothing-is-begun}
+use Rattle.format_json_scalars.proofs.lemmas.StringLemmas.{damaged-at, begun-at, begun-begun, nothing-is-begun}
 use Rattle.format_json.proofs.scalars.string_at.Goals as goal
 
 pub returns-in-Damaged-clause-found : goal.returns-in-Damaged-clause-found

@@ -1,5 +1,5 @@
 use Rattle.std.proofs.Common.{refl}
-use Rattle.format_json.specs.Values.{WordAhead}
+use Rattle.format_json.specs.Language.{WordAhead}
 use Rattle.format_json.specs.Founds.{IsWord}
 use Rattle.format_json.specs.declared.found.Found.TheVariants.{Begun, Damaged}
 use Rattle.format_json.proofs.lemmas.FoundLemmas.{found-same, begun-as, damaged-as}

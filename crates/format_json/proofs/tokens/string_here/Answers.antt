@@ -1,6 +1,6 @@
 use Rattle.std.proofs.Common.{subst, inl}
-use Rattle.format_json.specs.Steps.{IsReading}
-use Rattle.format_json.proofs.lemmas.StringLemmas.{damaged-at, begun-at}
+use Rattle.format_json_scalars.specs.Steps.{IsReading}
+use Rattle.format_json_scalars.proofs.lemmas.StringLemmas.{damaged-at, begun-at}
 use Rattle.format_json.proofs.lemmas.JsonTokenLemmas.{string-needs}
 use Rattle.format_json.proofs.tokens.string_here.Goals as goal
 

@@ -3,8 +3,8 @@ use Rattle.std.specs.List.{All, flat_map}
 use Rattle.std.proofs.lemmas.Bool.Decides.{nat_tests}
 use Rattle.std.proofs.lemmas.List.{take_all, take_rest}
 use Rattle.std.proofs.lemmas.List.Elements.{All-more}
-use Rattle.format_json.specs.Values.{Nested, MemberAhead, ValueAhead}
-use Rattle.format_json.specs.Quoting.{written_string}
+use Rattle.format_json.specs.Language.{Nested, MemberAhead, ValueAhead}
+use Rattle.format_json_scalars.specs.Quoting.{written_string}
 use Rattle.format_json.specs.Writing.{written}
 use Rattle.format_json.specs.Appending.{ArrayHere, array_text, ObjectHere, object_text, MemberHere, member_text, Stands, IsAppended}
 use Rattle.format_json.proofs.lemmas.WritingLemmas.{list-appended, list-refused, more-listed, string-appended, number-refused, array-appended, object-appended, member-appended, passed-on, after-first}

@@ -1,6 +1,6 @@
 use Rattle.std.proofs.Common.{◌≡◌, ◌+◌, ◌*◌, ◌-◌, ◌∷◌, ◌++◌, take}
 use Rattle.std.specs.List.{All, flat_map}
-use Rattle.format_json.specs.Values.{ValueAhead}
+use Rattle.format_json.specs.Language.{ValueAhead}
 use Rattle.format_json.specs.Writing.{written}
 use Rattle.format_json.specs.Appending.{MemberHere, member_text, Stands}
 use Rattle.format_json.proofs.writing.+writing.Given as goal

@@ -3,7 +3,7 @@ use Rattle.winnow_parser.specs.Answer.{ahead, failed}
 use Rattle.winnow_parser.specs.Meanings.{IsTerminated, CutsErr}
 use Rattle.winnow_token.specs.Take.{Takes}
 use Rattle.format_lemmas.proofs.lemmas.GatheredLemmas.{gathered-fails}
-use Rattle.format_resp.specs.Grammar.{HasBytes, LineEnd}
+use Rattle.format_resp.specs.Meanings.{HasBytes, LineEnd}
 use Rattle.format_resp.proofs.lines.read_bytes.Goals as goal
 
 pub returns-in-Ok-from_slice-clause-means : goal.returns-in-Ok-from_slice-clause-means

@@ -2,7 +2,7 @@ use Rattle.std.proofs.Common.{◌∙◌}
 use Rattle.winnow_parser.specs.Answer.{ahead, failed}
 use Rattle.winnow_parser.specs.Meanings.{CutsErr}
 use Rattle.format_lemmas.proofs.lemmas.GatheredLemmas.{gathered-fails}
-use Rattle.format_resp.specs.Grammar.{HasBytes, Line}
+use Rattle.format_resp.specs.Meanings.{HasBytes, Line}
 use Rattle.format_resp.proofs.lines.read_text.Goals as goal
 
 pub returns-in-Ok-from_slice-clause-means : goal.returns-in-Ok-from_slice-clause-means

@@ -28,13 +28,13 @@ invariant-climb-loop-value g l =
     let stands = ahead g.I.Rest.location g.I.Stream.remaining in
     let parser = l.parser in
     let side = IsExpression (g.P.Parser.means parser.operand) (g.A.UnaryOperators.reads parser.prefixes)
-        (g.A.UnaryOperators.folds parser.prefixes) (g.B.UnaryOperators.reads parser.postfixes)
-        (g.B.UnaryOperators.folds parser.postfixes) (g.C.InfixOperators.reads parser.infixes)
-        (g.C.InfixOperators.folds parser.infixes) (l.depth - 1) in
+    (g.A.UnaryOperators.folds parser.prefixes) (g.B.UnaryOperators.reads parser.postfixes)
+    (g.B.UnaryOperators.folds parser.postfixes) (g.C.InfixOperators.reads parser.infixes)
+    (g.C.InfixOperators.folds parser.infixes) (l.depth - 1) in
     let turn = IsNext (g.P.Parser.means parser.operand) (g.A.UnaryOperators.reads parser.prefixes)
-        (g.A.UnaryOperators.folds parser.prefixes) (g.B.UnaryOperators.reads parser.postfixes)
-        (g.B.UnaryOperators.folds parser.postfixes) (g.C.InfixOperators.reads parser.infixes)
-        (g.C.InfixOperators.folds parser.infixes) side l.level in
+    (g.A.UnaryOperators.folds parser.prefixes) (g.B.UnaryOperators.reads parser.postfixes)
+    (g.B.UnaryOperators.folds parser.postfixes) (g.C.InfixOperators.reads parser.infixes)
+    (g.C.InfixOperators.folds parser.infixes) side l.level in
     record {
       valid : g.I.Stream.valid l.input;
       kept : g.I.Stream.keeps l.fn.input l.input;

@@ -1,0 +1,125 @@
+//! The parser of a record, and the record of a reader.
+
+ghost use Rattle.std.specs.Prelude.{◌≡◌};
+ghost use Rattle.winnow.specs.Outcome.{Moves};
+ghost use Rattle.winnow.specs.Answer.{ahead};
+ghost use Rattle.winnow.specs.Errors.{AnyError};
+ghost use Rattle.winnow_stream.specs.SliceBytes.{SlicesHaveBytes};
+ghost use Rattle.format_lemmas.specs.Bytes.{bytes_of};
+ghost use Rattle.format_csv.specs.Answers.{IsAnswer, GivesEach};
+ghost use Rattle.format_csv.specs.Meanings.{FieldList, RecordEnd, OneRow, IsParser-OneRow};
+ghost use Rattle.format_csv.specs.Meanings.{IsParser-FieldList, IsParser-RecordEnd};
+
+use crate::{Plain, Quoted};
+use std::alloc::Global;
+use winnow::combinator::{alt, cut_err, eof, not, preceded, separated, terminated};
+use winnow::error::ParserError;
+use winnow::stream::{AsBytes, Stream, StreamIsPartial};
+use winnow::token::one_of;
+use winnow::{ModalResult, Parser};
+
+/// The parser of fields with commas between them: one or more fields of either kind.
+#[derive(Clone, Copy, Debug)]
+pub struct Fields;
+
+impl<I: StreamIsPartial + Stream<Token = u8>, E: ParserError<I>> Parser<I, E> for Fields
+where
+    I::Slice: AsBytes + Drop,
+{
+    type Output = Vec<Vec<u8>>;
+
+    ghost means = { λ _. FieldList I.is_slice I.Slice.bytes E.append_refusable E.or_refusable };
+
+    ghost errors = { λ _. AnyError };
+
+    ghost ready = { λ _. Unit {0} };
+
+    ghost lawful = { λ _.
+        IsParser-FieldList I.is_slice I.Slice.bytes I.slices_stay E.append_refusable
+        E.or_refusable };
+
+    fn parse_next(&self, alloc: Global, input: &mut I) -> ModalResult<Vec<Vec<u8>>, E> {
+        match separated(1.., alt((Quoted, Plain)), one_of(b',')).parse_next(alloc, input) {
+            Ok(fields) => Ok(fields),
+            Err(failure) => Err(failure),
+        }
+    }
+}
+
+/// The parser of the end of a record: LF, CR LF, or the end of the input.
+#[derive(Clone, Copy, Debug)]
+pub struct RowEnd;
+
+impl<I: StreamIsPartial + Stream<Token = u8>, E: ParserError<I>> Parser<I, E> for RowEnd
+where
+    I::Slice: Drop,
+{
+    type Output = ();
+
+    ghost means = { λ _. RecordEnd I.is_slice E.append_refusable E.or_refusable };
+
+    ghost errors = { λ _. AnyError };
+
+    ghost ready = { λ _. Unit {0} };
+
+    ghost lawful = { λ _. IsParser-RecordEnd I.is_slice E.append_refusable E.or_refusable };
+
+    fn parse_next(&self, alloc: Global, input: &mut I) -> ModalResult<(), E> {
+        let newline = Parser::<I, E>::void(one_of(b'\n'));
+        let both = Parser::<I, E>::void((one_of(b'\r'), one_of(b'\n')));
+        let ended = Parser::<I, E>::void(eof());
+        match alt((newline, both, ended)).parse_next(alloc, input) {
+            Ok(()) => Ok(()),
+            Err(failure) => Err(failure),
+        }
+    }
+}
+
+/// The parser of one record; [`read_record`] says in the words of the format what it reads.
+#[derive(Clone, Copy, Debug)]
+pub struct Row;
+
+impl<I: StreamIsPartial + Stream<Token = u8>, E: ParserError<I>> Parser<I, E> for Row
+where
+    I::Slice: AsBytes + Drop,
+{
+    type Output = Vec<Vec<u8>>;
+
+    ghost means = { λ _. OneRow I.is_slice I.Slice.bytes E.append_refusable E.or_refusable };
+
+    ghost errors = { λ _. AnyError };
+
+    ghost ready = { λ _. Unit {0} };
+
+    ghost lawful = { λ _. IsParser-OneRow I.is_slice I.Slice.bytes I.slices_stay E.append_refusable
+        E.or_refusable };
+
+    fn parse_next(&self, alloc: Global, input: &mut I) -> ModalResult<Vec<Vec<u8>>, E> {
+        preceded(not(eof()), terminated(Fields, cut_err(RowEnd))).parse_next(alloc, input)
+    }
+}
+
+/// Reads one record from a stream of bytes, and moves the stream past its end.
+///
+/// It backtracks at the end of the input, and does not move. If the input starts with no record, it
+/// cuts, and leaves the stream at the byte after a field that is neither a comma nor the end of a
+/// line, or at the end of the input if a closing quote is missing.
+pub fn read_record<I: StreamIsPartial + Stream<Token = u8>, E: ParserError<I>>(
+    alloc: Global,
+    input: &mut I,
+) -> ModalResult<Vec<Vec<u8>>, E>
+where
+    I::Slice: AsBytes + Drop,
+    requires valid { I.valid input.old }
+    requires bytes { SlicesHaveBytes I.is_slice I.Slice.bytes }
+    ensures answer { IsAnswer (I.expects_more input.old) (bytes_of (I.remaining input.old))
+        result (bytes_of (I.remaining input.new)) }
+    ensures complete { GivesEach (I.expects_more input.old) (bytes_of (I.remaining input.old))
+        result (bytes_of (I.remaining input.new)) }
+    ensures onward { Moves (ahead I.location I.remaining input.old)
+        (ahead I.location I.remaining input.new) }
+    ensures valid { I.valid input.new }
+    ensures kept { I.keeps input.old input.new }
+{
+    Row.parse_next(alloc, input)
+}

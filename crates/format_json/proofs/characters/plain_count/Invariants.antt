@@ -1,8 +1,0 @@
-use Rattle.std.proofs.Common.{take}
-use Rattle.format_lemmas.specs.Bytes.{Each}
-use Rattle.format_json.specs.Strings.{is_plain}
-use Rattle.format_json.proofs.characters.plain_count.Given as goal
-
--- the bytes up to here are plain
-abbrev pub invariant-loop-index : goal.invariant-loop-index
-invariant-loop-index l = Each is_plain (take l.index l.bytes)

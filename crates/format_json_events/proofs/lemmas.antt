@@ -1,0 +1,14 @@
+pub mod TakingLemmas
+pub mod NextTokenLemmas
+pub mod AheadLemmas
+pub mod EventLemmas
+pub mod SameTurnLemmas
+pub mod ValueTurnLemmas
+pub mod AllowedTokenLemmas
+pub mod LeadingLemmas
+pub mod BarLemmas
+pub mod StopLemmas
+pub mod BrokenTurnLemmas
+pub mod ReaderPlaceLemmas
+pub mod PlacedErrorLemmas
+pub mod EventLawLemmas

@@ -1,0 +1,70 @@
+-- The next token, from what a reader of records answers.
+use Rattle.std.proofs.Common.{◌≡◌, ℕ, Bool, true, false, not, List, length, ap, sym, ◌∙◌, subst, refl, arith, append-nil, length-drop, inl}
+use Rattle.std.specs.Prelude.{Result, Ok, Err}
+use Rattle.winnow_stream.specs.Source.{units}
+use Rattle.winnow.specs.State.{ReaderState}
+use Rattle.winnow.specs.Reading.{HasRead, ReadsOn}
+use Rattle.winnow.specs.Answering.{GivesValue, FailsWell, FailsAt-by, IsDoneAtEnd, StaysWithout}
+use Rattle.winnow_reader.specs.declared.next.Next.{Next}
+use Rattle.winnow_reader.specs.declared.next.Next.TheVariants as next
+use Rattle.winnow_reader.specs.declared.next.ReadError.{ReadError}
+use Rattle.winnow_reader.specs.declared.next.ReadError.TheVariants.{Failed, TakesNothing}
+use Rattle.format_lemmas.specs.Bytes.{bytes_of}
+use Rattle.format_lemmas.proofs.lemmas.ByteLemmas.{bytes-units}
+use Rattle.format_json.specs.Tokens.{TokenAhead}
+use Rattle.format_json.specs.TokenAnswers.{OneToken}
+use Rattle.format_json.specs.Reading.{FindsDamage}
+use Rattle.format_json_events.specs.Reading.{Brings, BringsEnd}
+use Rattle.format_json.specs.declared.tokens.Token.{Token}
+use Rattle.format_json.specs.declared.tokens.Token.TheVariants as token
+use Rattle.format_json.specs.declared.reading.JsonToken.{JsonToken}
+use Rattle.format_json.proofs.lemmas.TokenReadingLemmas.{fails-damaged}
+use Rattle.format_json_events.proofs.lemmas.TakingLemmas.{idles-at-end}
+
+-- nothing follows the end
+pub end-brings : (old new : ReaderState JsonToken) → Brings old token.End new → BringsEnd old new
+end-brings old new b = ((b.ended ∙ not-false old.ended b.stands.0, b.stands.2), inl b)
+  where
+    not-false : (ended : Bool) → not ended ≡ false → ended ≡ true
+    not-false true e = refl
+    not-false false e = absurd (cc)
+
+module _ {E : Type 0} (old new : ReaderState JsonToken) where
+  -- a token that was read stood ahead
+  pub value-brings : (t : Token) (result : Result (Next Token) (ReadError E))
+      → result ≡ Ok (next.Value t) → GivesValue (λ p. OneToken) old result new
+      → ReadsOn (λ p. OneToken) old result new → Brings old t new
+  value-brings t result e value read =
+      let h = subst (λ r. GivesValue (λ p. OneToken) old r new) e value in
+      record {
+        read = λ input tokens was. subst (λ r. ReadsOn (λ p. OneToken) old r new) e read input tokens was;
+        stands = subst (λ l. TokenAhead (not old.ended) t l new.ahead) (bytes-units old.ahead)
+            (subst (TokenAhead (not old.ended) t (bytes_of (units old.ahead))) (bytes-units new.ahead) h.1.2.1);
+        fewer = omega (arith, h.1.0, h.1.1, ap (λ f. length f.ahead) h.1.3, length-drop h.0 old.ahead);
+        ended = ap (λ f. f.ended) h.1.3;
+      }
+
+  -- where more is needed, what was read was read before
+  pub waits-read : (result : Result (Next Token) (ReadError E)) → result ≡ Ok next.NeedsMore
+      → ReadsOn (λ p. OneToken) old result new → (input : List ℕ) (tokens : List Token)
+      → HasRead (λ p. OneToken) old input tokens → HasRead (λ p. OneToken) new input tokens
+  waits-read result e read input tokens was =
+      subst (HasRead (λ p. OneToken) new input) (append-nil tokens) (subst (λ r. ReadsOn (λ p. OneToken) old r new) e read input tokens was)
+
+  -- where the record failed, the token is damaged, and nothing changed
+  pub failed-there : (x : E) (place : ℕ) (cut : Bool) (result : Result (Next Token) (ReadError E))
+      → result ≡ Err (Failed x place cut) → FailsWell (λ p. OneToken) old result
+      → StaysWithout old result new → (new ≡ old) × FindsDamage old place
+  failed-there x place cut result e fails kept = (
+    subst (λ r. StaysWithout old r new) e kept,
+    fails-damaged old place (FailsAt-by (λ (p : JsonToken). OneToken) old cut place (subst (FailsWell (λ p. OneToken) old) e fails)),
+  )
+
+-- no token takes nothing: a reader with nothing left is done
+pub never-idle : {E : Type 0} (f : ReaderState JsonToken) (place : ℕ)
+    (result : Result (Next Token) (ReadError E)) → result ≡ Err (TakesNothing place)
+    → FailsWell (λ p. OneToken) f result → IsDoneAtEnd f result → ⊥
+never-idle f place result e fails done =
+    let idles = subst (FailsWell (λ p. OneToken) f) e fails in
+    let both = idles-at-end f.ended f.ahead place idles.1.0 idles.1.1 in
+    absurd (cc (sym (done.1 both) ∙ e))

@@ -1,0 +1,4 @@
+pub mod Turns
+pub mod Reading
+pub mod Stops
+pub mod ValueEvents

@@ -1,0 +1,12 @@
+pub mod NumberLemmas
+pub mod RunLemmas
+pub mod NumberAnswerLemmas
+pub mod SpellingLemmas
+pub mod EscapeLemmas
+pub mod CutCharLemmas
+pub mod PlainLemmas
+pub mod CharLemmas
+pub mod StringLemmas
+pub mod StringStreamLemmas
+pub mod NumberTextLemmas
+pub mod QuotingLemmas

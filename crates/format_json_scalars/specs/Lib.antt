@@ -1,0 +1,11 @@
+pub mod Numbers
+pub mod Parts
+pub mod Meanings
+pub mod Needing
+pub mod NumberAnswers
+pub mod Strings
+pub mod StringAnswers
+pub mod Escapes
+pub mod Steps
+pub mod CutChars
+pub mod Quoting

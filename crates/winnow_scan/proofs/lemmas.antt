@@ -1,0 +1,3 @@
+pub mod ScannedLemmas
+pub mod WaitLemmas
+pub mod LineLemmas
