@@ -145,8 +145,8 @@ module _ {O A B C T : Type 0} (same : O → O → Type 0) (a : A → A → Type 
         followed-agree Absent (Fits q) h = absurd h
         followed-agree Absent Unfit h = absurd h
         followed-agree Absent Absent h =
-            let fits = λ i. MayFollow level n (power_of i) in
-            let other = λ i. MayFollow level m (power_of i) in
+            let fits = λ (i : Infix C). MayFollow level n (power_of i) in
+            let other = λ (i : Infix C). MayFollow level m (power_of i) in
             agree-then (AreFound (AreAlikeInfix c)) (AreTurns same) (IsFound fits infixes) (IsFound other infixes) (IsJoined postfixes after infixes joins side level x) (IsJoined postfixes after infixes joins side level y)
             (agree-found (AreAlikeInfix c) fits other infixes one.infix_signs fits-on fits-back) joined-agree
 
