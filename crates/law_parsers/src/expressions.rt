@@ -38,11 +38,7 @@ fn read_expression<
     A: UnaryOperators<I, E, P::Output>,
     B: UnaryOperators<I, E, P::Output>,
     C: InfixOperators<I, E, P::Output>,
->(
-    parser: &Expression<P, A, B, C>,
-    alloc: Global,
-    input: &mut I,
-) -> ModalResult<P::Output, E>
+>(parser: &Expression<P, A, B, C>, alloc: Global, input: &mut I) -> ModalResult<P::Output, E>
 where
     P::Output: Drop,
     A::Operator: Drop,

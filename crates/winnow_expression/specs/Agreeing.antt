@@ -34,7 +34,8 @@ pub record HasOneAnswer {O A B C T : Type 0} (same : O → O → Type 0) (a : A 
   pub prefixed : (p q : A) (x y : O) → a p q → same x y
       → AnswersAgree same (before p x) (before q y)
   pub postfix_signs : IsDetermined (AreAlikeUnary b) postfixes
-  pub postfixed : (p q : B) (x y : O) → b p q → same x y → AnswersAgree same (after p x) (after q y)
+  pub postfixed : (p q : B) (x y : O) → b p q → same x y
+      → AnswersAgree same (after p x) (after q y)
   pub infix_signs : IsDetermined (AreAlikeInfix c) infixes
   pub joined : (x y : O) (p q : C) (z w : O) → same x y → c p q → same z w
       → AnswersAgree same (joins x p z) (joins y q w)

@@ -1,8 +1,8 @@
 -- An operator that is looked for: it is there, it is there and does not fit, or there is none.
 use Rattle.std.specs.Prelude.{◌≡◌}
 use Rattle.std.proofs.Common.{ap}
-use Rattle.winnow_parser.specs.Outcome.{Ahead, Backtracks, Cuts, Needs, Refuses, Outcome, Gives, Fails, Meaning}
-use Rattle.winnow_parser.specs.Laws.{longer, IsStable, IsFinal, IsOnward, IsParser}
+use Rattle.winnow_parser.specs.Outcome.{Ahead, Backtracks, Cuts, Needs, Refuses, Gives, Fails, Meaning}
+use Rattle.winnow_parser.specs.Laws.{longer, IsStable, IsOnward, IsParser}
 use Rattle.winnow_parser.specs.Parts.{Moves-still}
 
 -- an operator that fits, one that does not, or none

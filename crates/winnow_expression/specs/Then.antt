@@ -1,7 +1,7 @@
 -- A parser, and then one that its value decides.
 use Rattle.std.specs.Prelude.{◌≡◌, ◌⊎◌}
 use Rattle.std.proofs.Common.{ap, inl, inr}
-use Rattle.winnow_parser.specs.Outcome.{Ahead, Outcome, Gives, Fails, Meaning}
+use Rattle.winnow_parser.specs.Outcome.{Ahead, Gives, Fails, Meaning}
 use Rattle.winnow_parser.specs.Laws.{longer, IsStable, IsFinal, IsOnward, IsParser}
 use Rattle.winnow_parser.specs.Parts.{Moves-still, LeavesAfter-on}
 

@@ -1,10 +1,10 @@
 -- The operators that follow an operand, one after the other.
-use Rattle.std.specs.Prelude.{◌≡◌, ℕ, ℤ, ◌<◌, ◌≤◌, Bool, true, false, List, [], ◌∷◌, Option, Some, None, ◌⊎◌}
+use Rattle.std.specs.Prelude.{◌≡◌, ℤ, ◌<◌, ◌≤◌, Bool, true, List, [], ◌∷◌, Option, ◌⊎◌}
 use Rattle.std.proofs.Common.{refl, ap, subst, inl, inr, arith}
 use Rattle.winnow_stream.specs.Source.{Source, width}
 use Rattle.winnow_stream.proofs.lemmas.FrontLemmas.{width-append}
-use Rattle.winnow_parser.specs.Outcome.{Ahead, Failed, Backtracks, Cuts, Needs, Refuses, Outcome, Gives, Fails, Meaning, Moves}
-use Rattle.winnow_parser.specs.Laws.{longer, outcome_longer, IsSettled, IsStable, IsFinal, LeavesAfter, IsOnward, IsParser}
+use Rattle.winnow_parser.specs.Outcome.{Ahead, Backtracks, Cuts, Needs, Refuses, Outcome, Gives, Fails, Meaning, Moves}
+use Rattle.winnow_parser.specs.Laws.{longer, outcome_longer, IsSettled, IsStable, IsOnward, IsParser}
 use Rattle.winnow_parser.specs.Meanings.{Returns, Maps}
 use Rattle.winnow_parser.specs.Parts.{Moves-still, Moves-on, LeavesAfter-on, IsParser-Returns, IsParser-Maps}
 use Rattle.winnow_expression.specs.Levels.{Admits, MayFollow}

@@ -4,8 +4,22 @@ ghost use Rattle.std.specs.Prelude.{◌≡◌, pos};
 
 use crate::{Expression, NoOperators};
 
-/// Returns the parser of an expression whose operands the inner one reads, of at most this many
-/// layers. It has no operators yet.
+/// Returns the parser of expressions whose operands this parser reads, of at most `depth` layers.
+/// It has no operators until `prefix`, `postfix` and `infix` set them.
+///
+/// ```
+/// let sum = expression(number, 100)
+///     .prefix(minus.map(|sign: char| Prefix(3, sign)), negate)
+///     .infix(plus.map(|sign: char| Infix::Left(1, sign)), add);
+/// ```
+///
+/// It calls the parser of operands, and, if that backtracks, the parser of prefix operators. After
+/// an operand it calls the parsers of postfix and of infix operators, in turn, until both backtrack
+/// or an operator has a power that is not admitted, which then is not consumed.
+///
+/// What a prefix operator applies to, and the right side of an infix operator, is one layer deeper.
+/// If the input goes deeper than `depth`, the parser cuts, so that no input uses up the stack. It
+/// also cuts if an operator and what follows it together consume nothing.
 pub fn expression<P>(
     operand: P,
     depth: usize,

@@ -1,6 +1,6 @@
 //! `Level`, the binding powers of the operators that an expression may have.
 
-ghost use Rattle.std.specs.Prelude.{◌≡◌, ◌↔◌, IsTrue, Some};
+ghost use Rattle.std.specs.Prelude.{◌↔◌, IsTrue, Some};
 ghost use Rattle.winnow_expression.specs.Levels.{Admits, MayFollow};
 
 // The powers of the operators that an expression may have outside of its operands.

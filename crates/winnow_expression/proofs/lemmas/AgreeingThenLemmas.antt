@@ -1,7 +1,6 @@
 -- Parsers whose answers agree: one after the other, and values of which something holds.
-use Rattle.std.specs.Prelude.{Bool}
-use Rattle.std.proofs.Common.{◌≡◌, sym, ◌∙◌, subst, inl, inr}
-use Rattle.winnow_parser.specs.Outcome.{Ahead, Outcome, Gives, Fails, Meaning}
+use Rattle.std.proofs.Common.{sym, ◌∙◌, subst, inl, inr}
+use Rattle.winnow_parser.specs.Outcome.{Gives, Fails, Meaning}
 use Rattle.winnow_parser.specs.Meanings.{Returns}
 use Rattle.winnow_expression.specs.Then.{Yields, Then}
 use Rattle.winnow_expression.specs.Agreeing.{AnswersAgree}

@@ -1,6 +1,6 @@
 -- Turns whose answers agree, and expressions of such turns.
 use Rattle.std.specs.Prelude.{ℤ, ◌⊎◌, ⊤}
-use Rattle.std.proofs.Common.{◌≡◌, ℕ, ◌<◌, ◌≤◌, Bool, List, [], ◌∷◌, Option, inl, inr, refl, ap, sym, ◌∙◌, subst, arith}
+use Rattle.std.proofs.Common.{◌≡◌, ◌<◌, ◌≤◌, Bool, List, [], ◌∷◌, Option, inl, inr, refl, ap, sym, ◌∙◌, subst, arith}
 use Rattle.winnow_stream.specs.Source.{width}
 use Rattle.winnow_parser.specs.Outcome.{Ahead, Failed, Backtracks, Cuts, Needs, Refuses, Outcome, Gives, Fails, Meaning}
 use Rattle.winnow_parser.specs.Determined.{IsGranted, Agree, IsDetermined}

@@ -1,7 +1,7 @@
 -- An expression whose operands and operators have one answer has one answer.
 use Rattle.std.specs.Prelude.{ℤ}
-use Rattle.std.proofs.Common.{◌≡◌, ℕ, zero, suc, Bool, Option, Some, None, inl, inr, refl, ap, sym, ◌∙◌, subst}
-use Rattle.winnow_parser.specs.Outcome.{Ahead, Failed, Backtracks, Cuts, Needs, Refuses, Outcome, Gives, Fails, Meaning}
+use Rattle.std.proofs.Common.{◌≡◌, ℕ, zero, suc, Option, Some, None, inl, inr, refl, ap, sym, ◌∙◌, subst}
+use Rattle.winnow_parser.specs.Outcome.{Backtracks, Cuts, Needs, Refuses, Gives, Fails, Meaning}
 use Rattle.winnow_parser.specs.Meanings.{Maps, CutsErr}
 use Rattle.winnow_parser.specs.Determined.{IsDetermined}
 use Rattle.winnow_parser.proofs.lemmas.DeterminedLemmas.{determined-alt2}
@@ -10,15 +10,14 @@ use Rattle.winnow_expression.specs.Levels.{Admits, MayFollow}
 use Rattle.winnow_expression.specs.Powers.{power_of, right_of, alone_of, operator_of}
 use Rattle.winnow_expression.specs.Then.{Then}
 use Rattle.winnow_expression.specs.Found.{Found, Fits, Unfit, Absent, IsFound}
-use Rattle.winnow_expression.specs.Turns.{WentOn, IsJoined, IsFollowed, IsTurn, Advancing, Climbs}
+use Rattle.winnow_expression.specs.Turns.{WentOn, IsJoined, IsFollowed, IsTurn, Climbs}
 use Rattle.winnow_expression.specs.Expression.{IsPrefixed, IsOperand, IsNext, IsLayer, IsExpression}
 use Rattle.winnow_expression.specs.Agreeing.{AnswersAgree, AreAlikeUnary, AreAlikeInfix, HasOneAnswer}
 use Rattle.winnow_expression.specs.declared.level.Level.{Level}
 use Rattle.winnow_expression.specs.declared.level.Level.TheVariants.{AtLeast, Above}
 use Rattle.winnow_expression.specs.declared.operators.Infix.{Infix}
 use Rattle.winnow_expression.specs.declared.operators.Infix.TheVariants.{Left, Right, Neither}
-use Rattle.winnow_expression.specs.declared.turn.Turn.{Turn}
-use Rattle.winnow_expression.specs.declared.turn.Turn.TheVariants.{Ended, Went}
+use Rattle.winnow_expression.specs.declared.turn.Turn.TheVariants.{Ended}
 use Rattle.winnow_expression.proofs.lemmas.AgreeingThenLemmas.{agree-then, agree-returns}
 use Rattle.winnow_expression.proofs.lemmas.AgreeingTurnLemmas.{AreFound, agree-found, AreTurns, agree-went, agree-advancing, agree-climbs}
 
@@ -146,8 +145,8 @@ module _ {O A B C T : Type 0} (same : O → O → Type 0) (a : A → A → Type 
         followed-agree Absent (Fits q) h = absurd h
         followed-agree Absent Unfit h = absurd h
         followed-agree Absent Absent h =
-            let fits = λ i. MayFollow level n (power_of i) in
-            let other = λ i. MayFollow level m (power_of i) in
+            let fits = λ (i : Infix C). MayFollow level n (power_of i) in
+            let other = λ (i : Infix C). MayFollow level m (power_of i) in
             agree-then (AreFound (AreAlikeInfix c)) (AreTurns same) (IsFound fits infixes) (IsFound other infixes) (IsJoined postfixes after infixes joins side level x) (IsJoined postfixes after infixes joins side level y)
             (agree-found (AreAlikeInfix c) fits other infixes one.infix_signs fits-on fits-back) joined-agree
 

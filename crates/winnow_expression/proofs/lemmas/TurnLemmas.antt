@@ -3,12 +3,10 @@ use Rattle.std.proofs.Common.{◌≡◌, ◌≤◌, refl, ap, subst, inl, inr}
 use Rattle.std.specs.Prelude.{ℤ, Bool, Option}
 use Rattle.winnow_stream.specs.Source.{width}
 use Rattle.winnow_parser.specs.Outcome.{Ahead, Failed, Backtracks, Cuts, Needs, Refuses, Outcome, Gives, Fails, Meaning}
-use Rattle.winnow_parser.specs.Meanings.{Maps}
 use Rattle.winnow_expression.specs.Levels.{Admits, MayFollow}
 use Rattle.winnow_expression.specs.Powers.{power_of, right_of, alone_of, operator_of}
-use Rattle.winnow_expression.specs.Then.{Then}
-use Rattle.winnow_expression.specs.Found.{Found, Fits, Unfit, Absent, IsFound}
-use Rattle.winnow_expression.specs.Turns.{WentOn, IsJoined, IsFollowed, IsTurn, Advancing}
+use Rattle.winnow_expression.specs.Found.{Fits, Unfit, Absent, IsFound}
+use Rattle.winnow_expression.specs.Turns.{IsJoined, IsFollowed, IsTurn, Advancing}
 use Rattle.winnow_expression.specs.declared.level.Level.{Level}
 use Rattle.winnow_expression.specs.declared.operators.Infix.{Infix}
 use Rattle.winnow_expression.specs.declared.operators.Parts.{Parts}

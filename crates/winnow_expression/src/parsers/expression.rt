@@ -1,12 +1,12 @@
 //! `Expression`, the parser of operands with operators before, after and between them.
 
-ghost use Rattle.std.specs.Prelude.{◌≡◌, ℤ, Option, None};
+ghost use Rattle.std.specs.Prelude.{◌≡◌, Option, None};
 ghost use Rattle.winnow_parser.specs.Outcome.{Moves};
 ghost use Rattle.winnow_parser.specs.Answer.{ahead, outcome};
 ghost use Rattle.winnow_parser.specs.Errors.{AnyError};
-ghost use Rattle.winnow_expression.specs.Turns.{IsTurn, IsFollowed, Advancing};
-ghost use Rattle.winnow_expression.specs.Found.{Found, Absent};
-ghost use Rattle.winnow_expression.specs.Expression.{IsOperand, IsNext, IsLayer, IsExpression};
+ghost use Rattle.winnow_expression.specs.Turns.{IsTurn, IsFollowed};
+ghost use Rattle.winnow_expression.specs.Found.{Absent};
+ghost use Rattle.winnow_expression.specs.Expression.{IsOperand, IsNext, IsExpression};
 ghost use Rattle.winnow_expression.specs.Expression.{IsParser-IsExpression};
 ghost use Rattle.winnow_expression.specs.declared.level.Level.TheVariants.{AtLeast};
 
@@ -19,7 +19,7 @@ use winnow_error::ParserError;
 use winnow_parser::{Failure, ModalResult, Parser};
 use winnow_stream::StreamIsPartial;
 
-/// A parser of operands, with prefix, postfix and infix operators;
+/// A parser of operands with operators before, after and between them;
 /// [`expression`](crate::expression) makes it.
 #[derive(Clone, Copy, Drop)]
 pub struct Expression<P, A, B, C> {

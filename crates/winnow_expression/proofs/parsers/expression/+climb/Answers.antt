@@ -1,9 +1,9 @@
-use Rattle.std.proofs.Common.{◌≡◌, ◌<◌, ◌≤◌, ◌-◌, ℤ, [], ◌∷◌, ◌++◌, Option, None, refl, sym, ◌∙◌, subst, inl, inr, arith, rules, w64, FitsSigned, to_z, of_z}
+use Rattle.std.proofs.Common.{◌≡◌, ◌<◌, ◌≤◌, ◌-◌, ℤ, [], ◌∷◌, ◌++◌, Option, None, refl, sym, ◌∙◌, subst, inl, arith, rules, w64, FitsSigned, to_z, of_z}
 use Rattle.std.proofs.lemmas.Bool.{false≢true}
 use Rattle.std.proofs.lemmas.Int.{to_z-of_z}
 use Rattle.std.proofs.lemmas.Result.{err_from_is_err_and}
 use Rattle.winnow_stream.specs.Source.{width}
-use Rattle.winnow_parser.specs.Outcome.{Moves, Backtracks, Cuts, Gives, Fails}
+use Rattle.winnow_parser.specs.Outcome.{Moves, Gives, Fails}
 use Rattle.winnow_parser.specs.Answer.{ahead, failed, outcome}
 use Rattle.winnow_parser.specs.Parts.{Moves-on}
 use Rattle.winnow_parser.proofs.lemmas.TakenLemmas.{same-place}

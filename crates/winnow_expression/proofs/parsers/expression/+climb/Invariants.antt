@@ -1,4 +1,4 @@
-use Rattle.std.specs.Prelude.{◌≡◌, ◌-◌, ℤ, List, Option, None}
+use Rattle.std.specs.Prelude.{◌-◌, ℤ, List, Option, None}
 use Rattle.std.proofs.Common.{◌+◌, ◌*◌}
 use Rattle.winnow_stream.specs.Source.{width}
 use Rattle.winnow_parser.specs.Outcome.{Moves}
