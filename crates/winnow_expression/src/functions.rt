@@ -8,9 +8,12 @@ use crate::{Expression, NoOperators};
 /// It has no operators until `prefix`, `postfix` and `infix` set them.
 ///
 /// ```
-/// let sum = expression(number, 100)
-///     .prefix(minus.map(|sign: char| Prefix(3, sign)), negate)
-///     .infix(plus.map(|sign: char| Infix::Left(1, sign)), add);
+/// let minus = preceded(multispace0(), one_of('-')).map(|sign: char| Prefix(3, sign));
+/// ..
+/// let sum = expression(operand, 100)
+///     .prefix(minus, negate)
+///     .postfix(exclamation, factorial)
+///     .infix(part(Sign), apply);
 /// ```
 ///
 /// It calls the parser of operands, and, if that backtracks, the parser of prefix operators. After
