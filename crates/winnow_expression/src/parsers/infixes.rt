@@ -3,13 +3,14 @@
 ghost use Rattle.winnow_parser.specs.Outcome.{Meaning, Moves};
 ghost use Rattle.winnow_parser.specs.Answer.{ahead, outcome};
 ghost use Rattle.winnow_parser.specs.Laws.{IsParser};
+ghost use Rattle.winnow_parser.specs.Meanings.{Returns};
+ghost use Rattle.winnow_parser.specs.Parts.{IsParser-Returns};
 ghost use Rattle.winnow_combinator.specs.Ending.{IsFail, IsParser-IsFail};
 ghost use Rattle.winnow_expression.specs.Then.{Yields, IsParser-Yields};
 ghost use Rattle.winnow_expression.specs.declared.operators.Infix.{Infix};
 
 use crate::{Infix, NoOperators};
 use std::alloc::Global;
-use std::convert::Infallible;
 use winnow_error::ParserError;
 use winnow_parser::{Failure, ModalResult, Parser};
 use winnow_stream::StreamIsPartial;
@@ -68,15 +69,15 @@ pub trait InfixOperators<I: StreamIsPartial, E, O> {
 }
 
 impl<I: StreamIsPartial, E: ParserError<I>, O: Drop> InfixOperators<I, E, O> for NoOperators {
-    type Operator = Infallible;
+    type Operator = ();
 
     ghost reads = { λ _. IsFail };
 
-    ghost folds = { λ _ _ _ _. IsFail };
+    ghost folds = { λ _ left _ _. Returns left };
 
     ghost ready = { λ _. Unit {0} };
 
-    fn read_operator(&self, alloc: Global, input: &mut I) -> ModalResult<Infix<Infallible>, E> {
+    fn read_operator(&self, alloc: Global, input: &mut I) -> ModalResult<Infix<()>, E> {
         Err(Failure::Backtrack(E::from_input(alloc, input)))
     }
 
@@ -84,16 +85,16 @@ impl<I: StreamIsPartial, E: ParserError<I>, O: Drop> InfixOperators<I, E, O> for
         &self,
         _alloc: Global,
         _input: &mut I,
-        _left: O,
-        operator: Infallible,
+        left: O,
+        _operator: (),
         _right: O,
     ) -> ModalResult<O, E> {
-        match operator {}
+        Ok(left)
     }
 
     ghost reads_lawful = { λ _. IsParser-IsFail };
 
-    ghost folds_lawful = { λ _ _ _ _. IsParser-IsFail };
+    ghost folds_lawful = { λ _ left _ _. IsParser-Returns left };
 }
 
 /// Infix operators: a parser of [`Infix`], and a function that applies one of them.

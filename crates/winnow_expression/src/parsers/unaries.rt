@@ -4,15 +4,14 @@ ghost use Rattle.std.specs.Prelude.{ℤ};
 ghost use Rattle.winnow_parser.specs.Outcome.{Meaning, Moves};
 ghost use Rattle.winnow_parser.specs.Answer.{ahead, outcome};
 ghost use Rattle.winnow_parser.specs.Laws.{IsParser};
-ghost use Rattle.winnow_parser.specs.Meanings.{Maps};
-ghost use Rattle.winnow_parser.specs.Parts.{IsParser-Maps};
+ghost use Rattle.winnow_parser.specs.Meanings.{Returns, Maps};
+ghost use Rattle.winnow_parser.specs.Parts.{IsParser-Returns, IsParser-Maps};
 ghost use Rattle.winnow_combinator.specs.Ending.{IsFail, IsParser-IsFail};
 ghost use Rattle.winnow_expression.specs.Unary.{HasPrefix, HasPostfix};
 ghost use Rattle.winnow_expression.specs.Then.{Yields, IsParser-Yields};
 
 use crate::{Postfix, Prefix};
 use std::alloc::Global;
-use std::convert::Infallible;
 use winnow_error::ParserError;
 use winnow_parser::{Failure, ModalResult, Parser};
 use winnow_stream::StreamIsPartial;
@@ -68,20 +67,20 @@ pub trait UnaryOperators<I: StreamIsPartial, E, O> {
     ghost folds_lawful: { (o : Self) (x : Self.Operator) (y : O) → IsParser (folds o x y) };
 }
 
-/// No operators.
+/// No operators: none is read, so none is applied.
 #[derive(Clone, Copy, Debug, Drop)]
 pub struct NoOperators;
 
-impl<I: StreamIsPartial, E: ParserError<I>, O: Drop> UnaryOperators<I, E, O> for NoOperators {
-    type Operator = Infallible;
+impl<I: StreamIsPartial, E: ParserError<I>, O> UnaryOperators<I, E, O> for NoOperators {
+    type Operator = ();
 
     ghost reads = { λ _. IsFail };
 
-    ghost folds = { λ _ _ _. IsFail };
+    ghost folds = { λ _ _ operand. Returns operand };
 
     ghost ready = { λ _. Unit {0} };
 
-    fn read_operator(&self, alloc: Global, input: &mut I) -> ModalResult<(i64, Infallible), E> {
+    fn read_operator(&self, alloc: Global, input: &mut I) -> ModalResult<(i64, ()), E> {
         Err(Failure::Backtrack(E::from_input(alloc, input)))
     }
 
@@ -89,15 +88,15 @@ impl<I: StreamIsPartial, E: ParserError<I>, O: Drop> UnaryOperators<I, E, O> for
         &self,
         _alloc: Global,
         _input: &mut I,
-        operator: Infallible,
-        _operand: O,
+        _operator: (),
+        operand: O,
     ) -> ModalResult<O, E> {
-        match operator {}
+        Ok(operand)
     }
 
     ghost reads_lawful = { λ _. IsParser-IsFail };
 
-    ghost folds_lawful = { λ _ _ _. IsParser-IsFail };
+    ghost folds_lawful = { λ _ _ operand. IsParser-Returns operand };
 }
 
 /// Prefix operators: a parser of [`Prefix`], and a function that applies one of them.
