@@ -7,8 +7,6 @@ mod ascii;
 #[cfg(test)]
 mod combined;
 #[cfg(test)]
-mod expressions;
-#[cfg(test)]
 mod laws;
 #[cfg(test)]
 mod lines;
