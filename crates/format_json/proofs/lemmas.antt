@@ -39,3 +39,4 @@ pub mod BrokenTurnLemmas
 pub mod ReaderPlaceLemmas
 pub mod PlacedErrorLemmas
 pub mod EventLawLemmas
+pub mod ScanLemmas

@@ -27,3 +27,4 @@ pub mod Turns
 pub mod EventReading
 pub mod Stops
 pub mod ValueEvents
+pub mod Scan

@@ -13,7 +13,8 @@ use crate::turns::Misplaced;
 use crate::{Cause, JsonToken, Number, Token};
 use std::alloc::{AllocError, Global};
 use std::marker::Model;
-use winnow::reader::{ByteReader, Next, ReadError};
+use winnow::reader::{Next, ReadError};
+use winnow::scan::ScanReader;
 
 /// What a text has next.
 #[derive(Debug, Drop)]
@@ -113,7 +114,7 @@ enum Step {
 /// ```
 #[derive(Drop)]
 pub struct EventReader {
-    tokens: ByteReader<JsonToken>,
+    tokens: ScanReader<JsonToken>,
     syntax: Syntax,
     // The error after which no token is read
     stopped: Option<EventError>,
@@ -148,7 +149,7 @@ impl EventReader {
         ensures read { HasGiven result [] [] }
     {
         EventReader {
-            tokens: ByteReader::new(alloc, JsonToken),
+            tokens: ScanReader::new(alloc, JsonToken),
             syntax: Syntax::new(alloc, depth),
             stopped: None,
         }
@@ -271,7 +272,7 @@ impl EventReader {
 }
 
 // Returns where the token ahead begins in the joined input.
-fn token_start(tokens: &ByteReader<JsonToken>) -> usize
+fn token_start(tokens: &ScanReader<JsonToken>) -> usize
     ensures { result ≡ token_place tokens.now }
 {
     let ahead = tokens.ahead();
@@ -279,7 +280,7 @@ fn token_start(tokens: &ByteReader<JsonToken>) -> usize
 }
 
 // Reads the next token, if its bytes are there.
-fn next_token(tokens: &mut ByteReader<JsonToken>, syntax: &Syntax) -> Result<Coming, EventError>
+fn next_token(tokens: &mut ScanReader<JsonToken>, syntax: &Syntax) -> Result<Coming, EventError>
     ensures { IsComing (state_of syntax.now) tokens.old result tokens.new }
 {
     match tokens.read_next() {
@@ -301,7 +302,7 @@ fn next_token(tokens: &mut ByteReader<JsonToken>, syntax: &Syntax) -> Result<Com
 
 // Returns the error of a token that is damaged at the place: it may not come next; or it is cut off
 // by the end of the input; or no bytes make it whole.
-fn damage_at(tokens: &ByteReader<JsonToken>, syntax: &Syntax, place: usize) -> EventError
+fn damage_at(tokens: &ScanReader<JsonToken>, syntax: &Syntax, place: usize) -> EventError
     requires { FindsDamage tokens.now place }
     ensures { IsNoNext (state_of syntax.now) tokens.now result }
 {

@@ -11,7 +11,7 @@
 //! that is one value. Their contracts say that the value is the only one that stands there, and
 //! where a damaged one breaks off, which is one place, as [`place_law`] says.
 //!
-//! [`JsonToken`] is the record of a [`Token`], for a `ByteReader` over bytes that come in pieces;
+//! [`JsonToken`] is the record of a [`Token`], for a `ScanReader` over bytes that come in pieces;
 //! [`tokens_in_pieces_law`] says what such a reader reads. An [`EventReader`] gives the events of a
 //! text that comes in pieces, and keeps no more than a token and a piece. Of a text that is a value
 //! it gives that value's events, and it is done with no damaged text, as [`events_law`] says. Of a
@@ -35,6 +35,7 @@ mod numbers;
 mod parts;
 mod quoting;
 mod scalars;
+mod scan;
 mod strings;
 mod syntax;
 mod token_laws;
@@ -51,6 +52,7 @@ pub use event_reader::{Event, EventError, EventReader};
 pub use laws::{place_law, round_trip_law};
 pub use numbers::{Number, read_number};
 pub use quoting::write_string;
+pub use scan::TokenScan;
 pub use strings::read_string;
 pub use token_laws::tokens_in_pieces_law;
 pub use tokens::{JsonToken, Token};
