@@ -8,6 +8,7 @@ use winnow_reader::{
     ByteReader, Next, ReadError, Record, Utf8Record, bytes_at_law, damage_law,
     determined_reading_law, determined_text_law, waiting_law,
 };
+use winnow_scan::{Line, Scan, ScanReader, scan_law};
 
 // Returns the first record of bytes that are the whole input.
 fn read_first<R: Record + Drop>(
@@ -29,6 +30,26 @@ fn read_first<R: Record + Drop>(
     reader.read_next()
 }
 
+// The same by a reader with a scan.
+fn scan_first<R: Scan + Drop>(
+    alloc: Global,
+    parser: R,
+    bytes: &[u8],
+) -> Result<Next<R::Output>, ReadError<R::Error>>
+    requires { R.ready parser }
+{
+    let mut reader = ScanReader::new(alloc, parser);
+    if reader.has_ended() || bytes.len() > usize::MAX - reader.fed() {
+        return Ok(Next::NeedsMore);
+    }
+    match reader.push(bytes) {
+        Ok(()) => {}
+        Err(refused) => return Err(ReadError::Refused(refused)),
+    }
+    reader.end();
+    reader.read_next()
+}
+
 #[test]
 fn records_are_read(rt: HostRuntime) {
     let number = read_first(rt.alloc(), number_line(), b"12\n7\n");
@@ -39,6 +60,8 @@ fn records_are_read(rt: HostRuntime) {
     assert!(rt; matches!(nothing, Err(ReadError::TakesNothing { place: 0 })));
     let text = read_first(rt.alloc(), Utf8Record::new(text_line()), b"a\xE2\x82\xAC\n");
     assert!(rt; matches!(text, Ok(Next::Value(_))));
+    let line = scan_first(rt.alloc(), Line, b"ab\nc");
+    assert!(rt; matches!(line, Ok(Next::Value(_))));
 }
 
 // The laws do nothing. The calls show that they can be called.
@@ -49,4 +72,5 @@ fn laws_of_readings_are_called(_rt: HostRuntime) {
     bytes_at_law();
     damage_law();
     determined_text_law::<TextLine, u32>();
+    scan_law::<Line>();
 }

@@ -19,6 +19,7 @@ AwaitsMore means bytes = (place : ℕ) → Awaits means (bytes_at place bytes)
 
 -- a scan of these bytes goes on: its state is one of theirs, and the parser awaits more. Or the
 -- parser may be asked, of which nothing is said
-abbrev pub GoesOn : {O S : Type 0} → Meaning O ℕ → (List ℕ → S → Type 0) → List ℕ → Bool → S → Type 0
+abbrev pub GoesOn : {O S : Type 0} → Meaning O ℕ → (List ℕ → S → Type 0) → List ℕ → Bool → S
+    → Type 0
 GoesOn means scanned bytes false state = scanned bytes state × AwaitsMore means bytes
 GoesOn means scanned bytes true state = ⊤

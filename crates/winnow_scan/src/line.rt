@@ -22,8 +22,8 @@ fn before_feed() -> Terminated<TakeTill<u8>, Opt<OneOf<u8>>>
 /// The record of a line: the bytes before a line feed, which ends it and is no part of it, or
 /// before the end of the input.
 ///
-/// The lines of an input are those of `BufRead::split(b'\n')`. A carriage return before the line
-/// feed is a byte of the line.
+/// The lines of an input are those into which a buffered reader of std splits it at line feeds. A
+/// carriage return before the line feed is a byte of the line.
 #[derive(Clone, Copy, Debug)]
 pub struct Line;
 

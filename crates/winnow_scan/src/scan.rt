@@ -26,5 +26,6 @@ pub trait Scan: Record {
     /// value nor a failure there.
     fn scan(&self, state: &mut Self::State, more: &[u8]) -> bool
         ensures { (front : List ℕ) → scanned self.now front state.old
-            → GoesOn (Self.means self.now) (scanned self.now) (front ++ more.now) result state.new };
+            → GoesOn (Self.means self.now) (scanned self.now) (front ++ more.now) result
+            state.new };
 }

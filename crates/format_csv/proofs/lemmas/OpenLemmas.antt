@@ -92,7 +92,8 @@ after_field-done b other t r d e =
     ]
 
 -- the same in a field without quotes
-plain-done : (b : ℕ) (t : RowState) (r : List ℕ) → Done t r → in_plain b ≡ Some t → Done Plain (b ∷ r)
+plain-done : (b : ℕ) (t : RowState) (r : List ℕ) → Done t r → in_plain b ≡ Some t
+    → Done Plain (b ∷ r)
 plain-done b t r d e =
     elim (after_field-done b (cond (is_plain b) (Some Plain) None) t r d e) [
       | inl more ↦ plain-more (b ∷ r) more

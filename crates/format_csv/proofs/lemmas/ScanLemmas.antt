@@ -13,7 +13,7 @@ pub run-none : (bytes : List ℕ) → run None bytes ≡ None
 run-none [] = refl
 run-none (byte ∷ bytes) = run-none bytes
 
--- some bytes and then others
+-- a scan of bytes, and then of others
 pub run-append : (s : Option RowState) (xs ys : List ℕ) → run s (xs ++ ys) ≡ run (run s xs) ys
 run-append s [] ys = refl
 run-append s (x ∷ xs) ys = run-append (step_any s x) xs ys
@@ -34,13 +34,13 @@ plain-step b h =
     ∙ ap (λ x. cond x (Some Return) (cond (is_plain b) (Some Plain) None)) c.2
     ∙ ap (λ x. cond x (Some Plain) None) h
 
--- also the first one
+-- a plain byte begins one
 first-step : (b : ℕ) → is_plain b ≡ true → step Start b ≡ Some Plain
 first-step b h =
     let c = none-holds (34 == b) (44 == b) (13 == b) (10 == b) h in
     ap (λ x. cond x (Some Quoted) (in_plain b)) c.0 ∙ plain-step b h
 
--- so are plain bytes
+-- over plain bytes a scan stays in a field without quotes
 plain-run : (xs : List ℕ) → Each is_plain xs → run (Some Plain) xs ≡ Some Plain
 plain-run [] h = refl
 plain-run (x ∷ xs) h = ap (λ s. run s xs) (plain-step x h.0) ∙ plain-run xs h.1
@@ -51,7 +51,7 @@ twice-case : (b : ℕ) (q : Bool) → (34 == b) ≡ q
 twice-case b true e = refl
 twice-case b false e = ap (λ x. cond x (Some Closed) (Some Quoted)) e
 
--- so do bytes between quotes
+-- over bytes with each quote doubled a scan stays between quotes
 doubled-run : (v : List ℕ) → run (Some Quoted) (doubled v) ≡ Some Quoted
 doubled-run [] = refl
 doubled-run (x ∷ xs) =

@@ -90,21 +90,22 @@ text-begins = (1, ([], (read-begins (34 ∷ []) refl, refl, (λ e. e), nothing-b
 pub text-some : (here tail : List ℕ) → EndsInTail here tail → here ≢ []
 text-some here tail h e = let f = sym e ∙ h.1.1.0.1.1.1.0 in cc f
 
+-- bytes that begin with no quote do so with a byte more, if that is none
+no-quote : (t : List ℕ) (b : ℕ) → ¬ (StartsWith 34 t) → (t ≡ [] → b ≢ 34)
+    → ¬ (StartsWith 34 (t ++ b ∷ []))
+no-quote [] b none other = λ e. other refl e
+no-quote (x ∷ t) b none other = none
+
 module _ (here tail : List ℕ) (b : ℕ) (h : EndsInTail here tail) where
   -- with a byte more, what comes after the characters is longer by it
   tail-longer : drop h.0 (here ++ b ∷ []) ≡ tail ++ b ∷ []
   tail-longer = drop-append-le h.0 here (b ∷ []) h.1.1.0.0 ∙ ap (λ l. l ++ b ∷ []) h.1.1.1
 
-  -- the tail with a byte more is no quote, if the byte alone is none
-  no-quote : (t : List ℕ) → ¬ (StartsWith 34 t) → (t ≡ [] → b ≢ 34) → ¬ (StartsWith 34 (t ++ b ∷ []))
-  no-quote [] none other = λ e. other refl e
-  no-quote (x ∷ t) none other = none
-
   -- a character may still come of it
   text-begun : (tail ≡ [] → b ≢ 34) → MayBeChar (tail ++ b ∷ [])
       → EndsInTail (here ++ b ∷ []) (tail ++ b ∷ [])
   text-begun other may =
-      (h.0, (h.1.0, (read-longer here (b ∷ []) h.1.0 h.0 h.1.1.0, tail-longer, no-quote tail h.1.1.2 other, may)))
+      (h.0, (h.1.0, (read-longer here (b ∷ []) h.1.0 h.0 h.1.1.0, tail-longer, no-quote tail b h.1.1.2 other, may)))
 
   -- it is whole characters
   text-taken : (cs : List ℕ) → SpellsChars cs (tail ++ b ∷ []) → EndsInTail (here ++ b ∷ []) []
@@ -229,13 +230,15 @@ module _ (part : Part) (bytes tail : List ℕ) (b : ℕ) (h : IsIn part (after_b
       let was = subst (λ q. IsIn q (after_blanks bytes) tail) e h in
       subst (λ l. EndsInTail l new) (sym (after-longer bytes (b ∷ []) (text-some (after_blanks bytes) tail was))) (stays was)
 
--- bytes of no number are none
-pub none-of : (bytes : List ℕ) (empty : Bool) → empty ≡ (length bytes == 0) → empty ≡ true → bytes ≡ []
+-- where the number of bytes is 0, there are none
+pub none-of : (bytes : List ℕ) (empty : Bool) → empty ≡ (length bytes == 0) → empty ≡ true
+    → bytes ≡ []
 none-of [] empty e t = refl
 none-of (b ∷ bytes) empty e t = absurd (grind (arith, nat_tests, e, t))
 
--- and none are of no number
-pub some-of : (bytes : List ℕ) (empty : Bool) → empty ≡ (length bytes == 0) → empty ≡ false → bytes ≢ []
+-- where it is another, there are some
+pub some-of : (bytes : List ℕ) (empty : Bool) → empty ≡ (length bytes == 0) → empty ≡ false
+    → bytes ≢ []
 some-of bytes empty e f none =
     let t : true ≡ false = sym (ap (λ l. length l == 0) none) ∙ sym e ∙ f in cc t
 

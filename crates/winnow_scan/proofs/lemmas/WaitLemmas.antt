@@ -46,7 +46,7 @@ module _ {R O : Type 0} (means : R → Meaning O ℕ) (f : ReaderState R) where
   lacks-or-refused (Fails (Needs n)) (inr none) h = inl (lacks-now n h)
   lacks-or-refused (Fails Refuses) (inr none) h = inr refl
 
-  -- the same of the bytes at each place
+  -- while it awaits more of the bytes ahead, at any place, each answer is such
   pub lacks-awaiting : (v : Outcome O ℕ) → AwaitsMore (means f.parser) f.ahead
       → means f.parser true here v → Lacks means f ⊎ (v ≡ Fails Refuses)
   lacks-awaiting v awaits h = lacks-or-refused v (awaits f.place) h

@@ -10,9 +10,11 @@ pub returns-in-Whole : goal.returns-in-Whole
 returns-in-Whole c =
     let bytes = c.args.bytes.now in
     let char = c.in-Whole.field-0 in
-    let answer = Whole char c.in-Whole.width in
-    (encode_utf8 char, escape-taken bytes [] (encode_utf8 char) char c.in-Whole.width
-    (slash-escape bytes answer c.requires c.if-bytes-ne92.false (subst (λ t. IsEscape (92 ∷ t) answer) (take_rest bytes 1) c.in-Whole.ensures)) refl)
+    let answer = Whole char c.in-Whole.width in (
+      encode_utf8 char,
+      escape-taken bytes [] (encode_utf8 char) char c.in-Whole.width
+          (slash-escape bytes answer c.requires c.if-bytes-ne92.false (subst (λ t. IsEscape (92 ∷ t) answer) (take_rest bytes 1) c.in-Whole.ensures)) refl,
+    )
 
 pub returns-in-Begun : goal.returns-in-Begun
 returns-in-Begun c =
