@@ -5,10 +5,10 @@ ghost use Rattle.format_csv.specs.Answers.{IsAnswer, GivesEach};
 ghost use Rattle.format_csv.specs.Tables.{rows_in, AreRecords, IsDamage};
 
 use crate::read_record;
-use std::alloc::{AllocError, Global};
+use std::alloc::Global;
 use winnow::error::EmptyError;
 use winnow::stream::laws::slice_bytes_law;
-use winnow::{Failure, ModalResult};
+use winnow::{Failure, ModalResult, WholeResult};
 
 /// Where a table is damaged.
 #[derive(Clone, Copy, Debug, Drop, PartialEq, Eq)]
@@ -34,10 +34,7 @@ fn next_row(alloc: Global, input: &mut &[u8]) -> ModalResult<Vec<Vec<u8>>, Empty
 ///
 /// Records may have different numbers of fields; [`first_uneven`](crate::first_uneven) finds
 /// the first that does.
-pub fn read_table(
-    alloc: Global,
-    text: &[u8],
-) -> Result<Result<Vec<Vec<Vec<u8>>>, Damage>, AllocError>
+pub fn read_table(alloc: Global, text: &[u8]) -> WholeResult<Vec<Vec<Vec<u8>>>, Damage>
     ensures table { IfOk result (λ answer. IfOk answer (λ table.
         AreRecords text.now (rows_in table.items) [])) }
     ensures damaged { IfOk result (λ answer. IfErr answer (IsDamage text.now)) }

@@ -6,7 +6,8 @@ ghost use Rattle.format_json.specs.Documents.{IsDocument, IsOnlyDocument, IsDama
 use crate::Value;
 use crate::found::{Found, blank_count};
 use crate::grammar::value_at;
-use std::alloc::{AllocError, Global};
+use std::alloc::Global;
+use winnow::WholeResult;
 
 /// Where a text is damaged.
 #[derive(Clone, Copy, Debug, Drop, PartialEq, Eq)]
@@ -21,11 +22,7 @@ pub struct Damage {
 /// Reads a text that is one value, with blanks around it and nothing else. Each value in it stands
 /// within at most `depth` arrays and objects. The inner error says where the text is damaged, and
 /// the outer one that memory was refused.
-pub fn read_document(
-    alloc: Global,
-    depth: usize,
-    text: &[u8],
-) -> Result<Result<Value, Damage>, AllocError>
+pub fn read_document(alloc: Global, depth: usize, text: &[u8]) -> WholeResult<Value, Damage>
     ensures document { IfOk result (λ answer. IfOk answer (IsDocument depth text.now)) }
     ensures only { IfOk result (λ answer. IfOk answer (IsOnlyDocument depth text.now)) }
     ensures damaged { IfOk result (λ answer. IfErr answer (IsDamage depth text.now)) }

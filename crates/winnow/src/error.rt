@@ -10,4 +10,4 @@ pub use winnow_base::error::{
     ParserError, Result, StrContext, StrContextValue, TreeError, TreeErrorBase, TreeErrorContext,
     TreeErrorFrame, combine, combine_trees, join_all, laws, translate_position,
 };
-pub use winnow_parser::{Failure, ModalResult};
+pub use winnow_parser::{Failure, ModalResult, WholeResult};

@@ -28,7 +28,7 @@ pub use winnow_grammar as grammar;
 pub use winnow_parser::{
     AndThen, ByBorrow, ByRule, ByValue, Context, ContextWith, DefaultValue, ErrInto, Failure,
     FlatMap, Map, MapErr, ModalResult, OutputInto, ParseTo, Parser, Rule, Span, Taken, TryMap,
-    Value, ValueTest, Verify, VerifyMap, Void, WithSpan, WithTaken, by_rule,
+    Value, ValueTest, Verify, VerifyMap, Void, WholeResult, WithSpan, WithTaken, by_rule,
 };
 pub use winnow_reader as reader;
 pub use winnow_scan as scan;

@@ -1,4 +1,4 @@
-//! `Failure`, the result of a parser that has no value, and `ModalResult`.
+//! `Failure`, the result of a parser that has no value, `ModalResult` and `WholeResult`.
 
 ghost use Rattle.std.specs.Prelude.{◌≡◌, is_some};
 ghost use Rattle.winnow_parser.specs.declared.failure.Failure.TheVariants.{Refused};
@@ -31,6 +31,10 @@ pub enum Failure<E, N = Needed> {
 
 /// What a parser answers: a value, or why there is none.
 pub type ModalResult<O, E> = Result<O, Failure<E>>;
+
+/// What comes of a whole input: a value, or the inner error, which says what is wrong with the
+/// input. The outer error is refused memory, after which nothing is known of the input.
+pub type WholeResult<O, E> = Result<Result<O, E>, AllocError>;
 
 impl<E> Failure<E> {
     /// Returns whether another parser may be tried.

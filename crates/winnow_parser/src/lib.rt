@@ -29,7 +29,7 @@ pub use determined::{
     determined_function_law, determined_law, determined_pair_law, determined_reading_law,
     determined_slice_law,
 };
-pub use failure::{Failure, ModalResult};
+pub use failure::{Failure, ModalResult, WholeResult};
 pub use functions::literal;
 pub use laws::{parser_law, taken_width_law};
 pub use parser::Parser;

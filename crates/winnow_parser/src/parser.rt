@@ -10,10 +10,10 @@ ghost use Rattle.winnow_parser.specs.Whole.{ReadsWhole, StopsAfter, StopsWith, K
 use crate::whole::read_whole;
 use crate::{
     AndThen, Context, ContextWith, DefaultValue, ErrInto, FlatMap, Map, MapErr, ModalResult,
-    OutputInto, ParseTo, Span, Taken, TryMap, Value, ValueTest, Verify, VerifyMap, Void, WithSpan,
-    WithTaken,
+    OutputInto, ParseTo, Span, Taken, TryMap, Value, ValueTest, Verify, VerifyMap, Void,
+    WholeResult, WithSpan, WithTaken,
 };
-use std::alloc::{AllocError, Global};
+use std::alloc::Global;
 use winnow_count::ParseSlice;
 use winnow_error::ParserError;
 use winnow_error_parse::ParseError;
@@ -232,11 +232,7 @@ pub trait Parser<I: StreamIsPartial, E>: Sized {
     /// Reads a whole input to its end. Nothing follows it, even where its flag says that more may.
     /// Where the parser fails, or gives a value before the end, the error has the input and the
     /// place in it. The outer error is refused memory.
-    final fn parse(
-        &self,
-        alloc: Global,
-        input: I,
-    ) -> Result<Result<Self::Output, ParseError<I, E>>, AllocError>
+    final fn parse(&self, alloc: Global, input: I) -> WholeResult<Self::Output, ParseError<I, E>>
     where
         I: Drop,
         I::PartialState: Drop,

@@ -6,8 +6,8 @@ ghost use Rattle.winnow_parser.specs.Outcome.{Refuses, Fails, Moves};
 ghost use Rattle.winnow_parser.specs.Answer.{ahead};
 ghost use Rattle.winnow_parser.specs.Whole.{ReadsWhole, StopsAfter, StopsWith, KeepsButFlag};
 
-use crate::{Failure, Parser, taken_width_law};
-use std::alloc::{AllocError, Global};
+use crate::{Failure, Parser, WholeResult, taken_width_law};
+use std::alloc::Global;
 use winnow_error::ParserError;
 use winnow_error_parse::ParseError;
 use winnow_stream::{Stream, StreamIsPartial, taken_law};
@@ -17,7 +17,7 @@ pub(crate) fn read_whole<I, E, P>(
     parser: &P,
     alloc: Global,
     input: I,
-) -> Result<Result<P::Output, ParseError<I, E>>, AllocError>
+) -> WholeResult<P::Output, ParseError<I, E>>
 where
     I: StreamIsPartial + Drop,
     I::PartialState: Drop,
@@ -51,7 +51,7 @@ fn read_complete<I, E, P>(
     parser: &P,
     alloc: Global,
     input: I,
-) -> Result<Result<P::Output, ParseError<I, E>>, AllocError>
+) -> WholeResult<P::Output, ParseError<I, E>>
 where
     I: StreamIsPartial + Drop,
     E: ParserError<I>,
