@@ -7,6 +7,8 @@ mod ascii;
 #[cfg(test)]
 mod combined;
 #[cfg(test)]
+mod expressions;
+#[cfg(test)]
 mod laws;
 #[cfg(test)]
 mod lines;

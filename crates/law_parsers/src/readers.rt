@@ -8,6 +8,7 @@ use winnow_reader::{
     ByteReader, Next, ReadError, Record, Utf8Record, bytes_at_law, damage_law,
     determined_reading_law, determined_text_law, waiting_law,
 };
+use winnow_scan::scan_law;
 
 // Returns the first record of bytes that are the whole input.
 fn read_first<R: Record + Drop>(
@@ -48,5 +49,6 @@ fn laws_of_readings_are_called(_rt: HostRuntime) {
     waiting_law::<NumberLine>();
     bytes_at_law();
     damage_law();
+    scan_law::<NumberLine>();
     determined_text_law::<TextLine, u32>();
 }

@@ -80,3 +80,11 @@ pub use Rattle.winnow_spelling.specs.SpelledChoices
 pub use Rattle.winnow_iterator.specs.Iterating
 pub use Rattle.winnow_spans.specs.TokenSpan
 pub use Rattle.winnow_parser.specs.declared.failure.Failure
+pub use Rattle.winnow_expression.specs.Levels
+pub use Rattle.winnow_expression.specs.Powers
+pub use Rattle.winnow_expression.specs.Unary
+pub use Rattle.winnow_expression.specs.Then
+pub use Rattle.winnow_expression.specs.Found
+pub use Rattle.winnow_expression.specs.Turns
+pub use Rattle.winnow_expression.specs.Expression
+pub use Rattle.winnow_expression.specs.Agreeing

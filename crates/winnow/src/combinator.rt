@@ -9,4 +9,8 @@ pub use winnow_combinator::{
     opt, peek, preceded, repeat, repeat_till, separated, separated_foldl1, separated_pair,
     terminated,
 };
+pub use winnow_expression::{
+    Expression, Infix, InfixBy, InfixOperators, Level, NoOperators, Postfix, PostfixBy, Prefix,
+    PrefixBy, UnaryOperators, expression,
+};
 pub use winnow_iterator::{ParserIterator, iterator};

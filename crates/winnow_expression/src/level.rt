@@ -3,12 +3,14 @@
 ghost use Rattle.std.specs.Prelude.{◌↔◌, IsTrue, Some};
 ghost use Rattle.winnow_expression.specs.Levels.{Admits, MayFollow};
 
-// The powers of the operators that an expression may have outside of its operands.
-#[derive(Clone, Copy, Drop)]
-pub(crate) enum Level {
-    // This power and greater ones
+/// The binding powers that the operators of an expression may have, outside of its operands. It is
+/// what the meaning of an [`Expression`](crate::Expression) speaks of: a contract that names
+/// `IsExpression` names it, code need not.
+#[derive(Clone, Copy, Debug, Drop, PartialEq, Eq)]
+pub enum Level {
+    /// This power and greater ones
     AtLeast(i64),
-    // Greater powers alone
+    /// Greater powers alone
     Above(i64),
 }
 

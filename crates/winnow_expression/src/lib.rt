@@ -10,6 +10,7 @@ mod turn;
 
 pub use determined::{determined_expression_law, determined_fold_law};
 pub use functions::expression;
+pub use level::Level;
 pub use operators::{Infix, Postfix, Prefix};
 pub use parsers::expression::Expression;
 pub use parsers::infixes::{InfixBy, InfixOperators};

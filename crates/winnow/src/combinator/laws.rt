@@ -6,3 +6,4 @@ pub use winnow_combinator::{
     determined_end_law, determined_gathered_law, determined_repeat_law, determined_row_law,
     determined_sequence_law, determined_till_law, determined_value_law,
 };
+pub use winnow_expression::{determined_expression_law, determined_fold_law};
