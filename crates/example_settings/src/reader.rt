@@ -1,13 +1,13 @@
 //! `read_settings`, which reads lines and records a `Fault` for each line that is no setting.
 
-ghost use Rattle.std.specs.Prelude.{◌≡◌, false, [], IfOk, OnOk, IsTrue};
+ghost use Rattle.std.specs.Prelude.{◌≡◌, false, [], IfOk, IfErr, OnOk, IsTrue};
 ghost use Rattle.winnow_stream.specs.Location.{IsLocation};
 ghost use Rattle.winnow_recover.specs.Recovering.{recoverable_inner, recorded_errors};
-ghost use Rattle.winnow_recover.specs.Recovering.{records_errors};
+ghost use Rattle.winnow_recover.specs.Recovering.{records_errors, KeepsErrors};
 ghost use Rattle.winnow_parser.specs.Answer.{ahead};
-ghost use Rattle.example_settings.specs.Lines.{AreRead, IsRead, behind_line};
+ghost use Rattle.example_settings.specs.Lines.{AreRead, IsRead, IsSetting, Lacks, behind_line};
 
-use crate::fault::Fault;
+use crate::fault::{Fault, Wanted};
 use crate::setting::{Setting, read_setting};
 use std::alloc::{AllocError, Global};
 use winnow_error::EmptyError;
@@ -67,7 +67,7 @@ where
     ensures records { IsTrue (records_errors input.new) }
 {
     let start = input.checkpoint();
-    let found = match read_setting(alloc, input) {
+    let found = match read_inside(alloc, input) {
         Ok(setting) => Some(setting),
         Err(wanted) => {
             let mut error = ContextError::new(alloc);
@@ -79,8 +79,42 @@ where
         }
     };
     input.reset(&start);
+    skip_line(alloc, input.inner_mut());
+    Ok(found)
+}
+
+// Reads a setting from the stream inside, which has no errors to change.
+fn read_inside<I: StreamIsPartial + Stream<Token = char>>(
+    alloc: Global,
+    input: &mut Recoverable<I, Fault>,
+) -> Result<Setting<I::Slice>, Wanted>
+where
+    I::Slice: Drop,
+    requires valid { I.valid (recoverable_inner input.old) }
+    requires complete { I.expects_more (recoverable_inner input.old) ≡ false }
+    ensures setting { IfOk result (λ setting. IsSetting I.is_slice
+        (ahead I.location I.remaining (recoverable_inner input.old)) setting) }
+    ensures lacks { IfErr result (λ wanted. Lacks
+        (ahead I.location I.remaining (recoverable_inner input.old)) wanted
+        (ahead I.location I.remaining (recoverable_inner input.new))) }
+    ensures valid { I.valid (recoverable_inner input.new) }
+    ensures kept { KeepsErrors I.keeps input.old input.new }
+{
+    read_setting(alloc, input.inner_mut())
+}
+
+// Moves past the line. No error is recorded on the way, since the stream has none.
+fn skip_line<I: StreamIsPartial + Stream<Token = char>>(alloc: Global, input: &mut I)
+where
+    I::Slice: Drop,
+    requires valid { I.valid input.old }
+    requires complete { I.expects_more input.old ≡ false }
+    ensures behind { ahead I.location I.remaining input.new
+        ≡ behind_line (ahead I.location I.remaining input.old) }
+    ensures valid { I.valid input.new }
+    ensures complete { I.expects_more input.new ≡ false }
+{
     let rest: ModalResult<_, EmptyError> = take_till(0.., '\n').parse_next(alloc, input);
     let Ok(_) = rest else { unreachable!() };
     let _ = input.next_token();
-    Ok(found)
 }

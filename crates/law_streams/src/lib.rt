@@ -45,7 +45,7 @@ pub use numbers::{located_number, located_text_number, number, text_number};
 pub use own_literals::Twice;
 pub use pair_reader::{PairOffsets, PairReader};
 pub use printed_texts::{hexadecimal_members, text_members};
-pub use recovery::{Mode, recorded, refuses};
+pub use recovery::{Mode, narrow_past_errors, read_inside, read_past_errors, recorded, refuses};
 pub use spans::spanned;
 pub use token_members::{debug_texts, tokens_keep};
 pub use walks::{look_back, take_back};

@@ -1,5 +1,5 @@
 //! The members of wrappers, spelled out over any stream inside.
-ghost use Rattle.std.specs.Prelude.{◌≡◌, ◌||◌, ℕ, List, false, is_some, not, true};
+ghost use Rattle.std.specs.Prelude.{◌≡◌, ◌||◌, ◌++◌, ℕ, List, false, is_some, not, true};
 ghost use Rattle.std.specs.Borrow.{Bor};
 ghost use Rattle.winnow_recover.specs.Recovering.{recoverable_inner, recorded_errors};
 ghost use Rattle.winnow_recover.specs.Recovering.{records_errors, IsSame, Records};
@@ -73,7 +73,7 @@ pub fn text_law<I: Stream + Display, S, E>()
 {}
 
 /// The members of a `Recoverable`, spelled out. It refuses an error that is incomplete, and each
-/// where it records none.
+/// where it records none. A parser may add errors to those so far, if the stream records any.
 pub fn recovery_law<I, E, R>()
 where
     I: Stream,
@@ -89,8 +89,10 @@ where
     ensures supported { ⟦<Recoverable<I, R> as Recover<E>>⟧.supports_recovery ≡ true }
     ensures unchanged { (s t : Recoverable I R) → ⟦<Recoverable<I, R> as Recover<E>>⟧.unchanged s t
         → IsSame s t }
-    ensures errors_kept { (s t : Recoverable I R) → ⟦<Recoverable<I, R> as Stream>⟧.keeps s t
-        → recorded_errors s ≡ recorded_errors t }
+    ensures errors_grow { (s t : Recoverable I R) → ⟦<Recoverable<I, R> as Stream>⟧.keeps s t
+        → (more : List R) × (recorded_errors t ≡ recorded_errors s ++ more) }
+    ensures none_added { (s t : Recoverable I R) → ⟦<Recoverable<I, R> as Stream>⟧.keeps s t
+        → records_errors s ≡ false → recorded_errors s ≡ recorded_errors t }
     ensures kind_kept { (s t : Recoverable I R) → ⟦<Recoverable<I, R> as Stream>⟧.keeps s t
         → records_errors s ≡ records_errors t }
     ensures kept { (s t : Recoverable I R) → ⟦<Recoverable<I, R> as Stream>⟧.keeps s t

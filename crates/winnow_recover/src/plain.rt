@@ -15,6 +15,8 @@ impl<'i, T: Copy + Debug, E> Recover<E> for &'i [T] {
 
     ghost unchanged_keeps = { λ _ _ _. tt };
 
+    ghost records_keeps = { λ _ _ _ _ _ _ recorded. absurd recorded };
+
     fn record_err(
         &mut self,
         _token_start: &Checkpoint<&'i [T], &'i [T]>,
@@ -33,6 +35,8 @@ impl<'i, E> Recover<E> for &'i str {
     ghost refuses_unsupported = { λ _ _ _. refl };
 
     ghost unchanged_keeps = { λ _ _ _. tt };
+
+    ghost records_keeps = { λ _ _ _ _ _ _ recorded. absurd recorded };
 
     fn record_err(
         &mut self,
@@ -56,6 +60,8 @@ impl<'i, E> Recover<E> for BStr<'i> {
 
     ghost unchanged_keeps = { λ _ _ _. tt };
 
+    ghost records_keeps = { λ _ _ _ _ _ _ recorded. absurd recorded };
+
     fn record_err(
         &mut self,
         _token_start: &Checkpoint<BStr<'i>, BStr<'i>>,
@@ -78,6 +84,8 @@ impl<'i, E> Recover<E> for Bytes<'i> {
 
     ghost unchanged_keeps = { λ _ _ _. tt };
 
+    ghost records_keeps = { λ _ _ _ _ _ _ recorded. absurd recorded };
+
     fn record_err(
         &mut self,
         _token_start: &Checkpoint<Bytes<'i>, Bytes<'i>>,
@@ -99,6 +107,8 @@ impl<'t, T: Debug, E> Recover<E> for TokenSlice<'t, T> {
     ghost refuses_unsupported = { λ _ _ _. refl };
 
     ghost unchanged_keeps = { λ s t same. ap whole_of (sym same) };
+
+    ghost records_keeps = { λ _ _ _ _ _ _ recorded. absurd recorded };
 
     fn record_err(
         &mut self,

@@ -50,4 +50,8 @@ pub trait Recover<E>: Stream {
 
     // To every call of `Stream`, an unchanged stream is the same.
     ghost unchanged_keeps: { (s t : Self) → unchanged s t → Self.keeps s t };
+
+    // A parser may record an error.
+    ghost records_keeps: { (s t : Self) (start at : Self.Checkpoint) (e : E)
+        → refuses s e ≡ false → records s start at e t → Self.keeps s t };
 }

@@ -1,10 +1,17 @@
 //! `Recoverable`: a stream with a list of recorded errors.
 
-ghost use Rattle.std.specs.Prelude.{◌≡◌, false, not, ◌||◌, is_some, [], refl, true, IsTrue};
-ghost use Rattle.std.proofs.Common.{◌∙◌, sym, subst};
+ghost use Rattle.std.specs.Prelude.{◌≡◌, false, not, ◌||◌, is_some, [], refl, true, IsTrue, ℕ};
+ghost use Rattle.std.specs.Prelude.{take, drop};
+ghost use Rattle.std.specs.Borrow.{Lends, sem};
+ghost use Rattle.std.proofs.Common.{sym, subst};
 ghost use Rattle.winnow_stream.specs.Checkpoint.{checkpoint_inner};
+ghost use Rattle.winnow_stream.specs.Source.{width, first_token};
+ghost use Rattle.winnow_stream.specs.Front.{is_offset, back, front, IsSomeFront};
+ghost use Rattle.winnow_stream.specs.Location.{location_behind};
 ghost use Rattle.winnow_recover.specs.Recovering.{recoverable_inner, recorded_errors};
-ghost use Rattle.winnow_recover.specs.Recovering.{records_errors, IsSame, Records};
+ghost use Rattle.winnow_recover.specs.Recovering.{records_errors, IsSame, Records, KeepsErrors};
+ghost use Rattle.winnow_recover.specs.Recovering.{AddsErrors, AddsErrors-none, AddsErrors-both};
+ghost use Rattle.winnow_recover.specs.Recovering.{with_inner, AddsErrors-one, records-taken};
 
 use crate::{RecordError, Recover};
 use std::alloc::Global;
@@ -19,7 +26,7 @@ use winnow_stream::{
 };
 
 /// A stream with a list of the errors from which a parser recovered. No call of `Stream` changes
-/// the list.
+/// the list. A parser may add errors to it, and takes none away.
 ///
 /// Contracts speak of the stream inside, of the errors in their order and of whether the stream
 /// records any, but not of the room that the list takes.
@@ -43,6 +50,8 @@ pub struct Recoverable<I, E> {
 }
 
 impl<I, E> Recoverable<I, E> {
+    ghost use Rattle.winnow_recover.specs.contracts.recoverable.Recoverable.{the_row};
+
     /// Returns the stream with no error yet. It records each error that is not incomplete.
     pub fn new(alloc: Global, input: I) -> Self
         ensures input { recoverable_inner result ≡ input }
@@ -74,6 +83,15 @@ impl<I, E> Recoverable<I, E> {
         ensures { result.now ≡ recoverable_inner self.now }
     {
         &self.input
+    }
+
+    /// Returns the stream inside, to be read. A parser that reads it can record no error here.
+    pub fn inner_mut(&mut self) -> &mut I
+        ensures value { result.now ≡ recoverable_inner self.old }
+        ensures* writes_back { sem 𝓛 (Lends (the_row I.row E.row) I.row self.entry result
+            (with_inner self.old)) }
+    {
+        &mut self.input
     }
 
     /// Returns the stream inside, and the errors in the order in which they were recorded.
@@ -131,8 +149,7 @@ impl<I: Stream, E: Debug> Stream for Recoverable<I, E> {
 
     ghost counts_shortage = { I.counts_shortage };
 
-    ghost keeps = { λ s t. (recorded_errors s ≡ recorded_errors t)
-        × (records_errors s ≡ records_errors t) × I.keeps s.input t.input };
+    ghost keeps = { AddsErrors I.keeps };
 
     ghost slices_stay = { I.slices_stay };
 
@@ -150,10 +167,11 @@ impl<I: Stream, E: Debug> Stream for Recoverable<I, E> {
     ghost same_rest_valid = { λ s t.
         I.same_rest_valid (recoverable_inner s) (recoverable_inner t) };
 
-    ghost keeps_reflexive = { λ s. (refl, refl, I.keeps_reflexive (recoverable_inner s)) };
+    ghost keeps_reflexive = { λ s.
+        AddsErrors-none (refl, refl, I.keeps_reflexive (recoverable_inner s)) };
 
-    ghost keeps_transitive = { λ s t u p q.
-        (p.0 ∙ q.0, p.1 ∙ q.1, I.keeps_transitive s.input t.input u.input p.2 q.2) };
+    ghost keeps_transitive = { λ s t u.
+        AddsErrors-both (I.keeps_transitive s.input t.input u.input) };
 
     fn iter_offsets(&self) -> I::IterOffsets {
         self.input.iter_offsets()
@@ -163,7 +181,17 @@ impl<I: Stream, E: Debug> Stream for Recoverable<I, E> {
         self.input.eof_offset()
     }
 
-    fn next_token(&mut self) -> Option<I::Token> {
+    fn next_token(&mut self) -> Option<I::Token>
+        requires { I.valid (recoverable_inner self.old) }
+        ensures answer { result ≡ first_token (I.remaining (recoverable_inner self.old)) }
+        ensures remains { I.remaining (recoverable_inner self.new)
+            ≡ drop 1 (I.remaining (recoverable_inner self.old)) }
+        ensures location { I.location (recoverable_inner self.new)
+            ≡ location_behind (I.location (recoverable_inner self.old))
+            (width (take 1 (I.remaining (recoverable_inner self.old)))) }
+        ensures valid { I.valid (recoverable_inner self.new) }
+        ensures kept { KeepsErrors I.keeps self.old self.new }
+    {
         self.input.next_token()
     }
 
@@ -179,7 +207,18 @@ impl<I: Stream, E: Debug> Stream for Recoverable<I, E> {
         self.input.is_offset(offset)
     }
 
-    fn next_slice(&mut self, offset: usize) -> I::Slice {
+    fn next_slice(&mut self, offset: usize) -> I::Slice
+        requires valid { I.valid (recoverable_inner self.old) }
+        requires offset { IsTrue (is_offset (I.remaining (recoverable_inner self.old)) offset) }
+        ensures answer { I.is_slice result (I.remaining (recoverable_inner self.old)) offset }
+        ensures from { I.slice_from result (I.remaining (recoverable_inner self.old)) offset }
+        ensures remains { I.remaining (recoverable_inner self.new)
+            ≡ back (I.remaining (recoverable_inner self.old)) offset }
+        ensures location { I.location (recoverable_inner self.new)
+            ≡ location_behind (I.location (recoverable_inner self.old)) offset }
+        ensures valid { I.valid (recoverable_inner self.new) }
+        ensures kept { KeepsErrors I.keeps self.old self.new }
+    {
         self.input.next_slice(offset)
     }
 
@@ -187,7 +226,19 @@ impl<I: Stream, E: Debug> Stream for Recoverable<I, E> {
         self.input.peek_slice(offset)
     }
 
-    fn finish(&mut self) -> I::Slice {
+    fn finish(&mut self) -> I::Slice
+        requires { I.valid (recoverable_inner self.old) }
+        ensures answer { I.is_slice result (I.remaining (recoverable_inner self.old))
+            (width (I.remaining (recoverable_inner self.old))) }
+        ensures from { I.slice_from result (I.remaining (recoverable_inner self.old))
+            (width (I.remaining (recoverable_inner self.old))) }
+        ensures remains { I.remaining (recoverable_inner self.new) ≡ [] }
+        ensures location { I.location (recoverable_inner self.new)
+            ≡ location_behind (I.location (recoverable_inner self.old))
+            (width (I.remaining (recoverable_inner self.old))) }
+        ensures valid { I.valid (recoverable_inner self.new) }
+        ensures kept { KeepsErrors I.keeps self.old self.new }
+    {
         self.input.finish()
     }
 
@@ -199,7 +250,16 @@ impl<I: Stream, E: Debug> Stream for Recoverable<I, E> {
         Checkpoint::new(self.input.checkpoint())
     }
 
-    fn reset(&mut self, checkpoint: &Checkpoint<I::Checkpoint, Self>) {
+    fn reset(&mut self, checkpoint: &Checkpoint<I::Checkpoint, Self>)
+        requires valid { I.valid (recoverable_inner self.old) }
+        requires valid_checkpoint { I.valid_checkpoint (checkpoint_inner checkpoint.now) }
+        ensures remains { I.remaining (recoverable_inner self.new)
+            ≡ I.remained (checkpoint_inner checkpoint.now) }
+        ensures location { I.location (recoverable_inner self.new)
+            ≡ I.Checkpoint.location (checkpoint_inner checkpoint.now) }
+        ensures valid { I.valid (recoverable_inner self.new) }
+        ensures kept { KeepsErrors I.keeps self.old self.new }
+    {
         self.input.reset(checkpoint.inner())
     }
 
@@ -230,11 +290,15 @@ where
 
     ghost refuses_unsupported = { λ s e never. Prim.search rules };
 
-    ghost unchanged_keeps = { λ s t same. (
+    ghost unchanged_keeps = { λ s t same. AddsErrors-none (
       sym same.1,
       sym same.2,
       subst (I.keeps s.input) (sym same.0) (I.keeps_reflexive s.input),
     ) };
+
+    ghost records_keeps = { λ s t start at e taken more. AddsErrors-one _ s t
+        (records-taken (records_errors s) (is_some (E.needs e)) taken)
+        (I.keeps_reflexive s.input) more.2 };
 
     // A refusal comes before a want of memory. The room is made before the error is converted.
     fn record_err(
@@ -287,7 +351,19 @@ impl<I: SliceLen, E> SliceLen for Recoverable<I, E> {
 }
 
 impl<I: UpdateSlice, E: Debug> UpdateSlice for Recoverable<I, E> {
-    fn update_slice(self, inner: I::Slice, at: &Checkpoint<I::Checkpoint, Self>) -> Self {
+    fn update_slice(self, inner: I::Slice, at: &Checkpoint<I::Checkpoint, Self>) -> Self
+        requires valid { I.valid (recoverable_inner self) }
+        requires valid_checkpoint { I.valid_checkpoint (checkpoint_inner at.now) }
+        requires is_prefix { IsSomeFront I.is_slice inner (I.remained (checkpoint_inner at.now)) }
+        ensures remains { (n : ℕ) → IsTrue (is_offset (I.remained (checkpoint_inner at.now)) n)
+            → I.is_slice inner (I.remained (checkpoint_inner at.now)) n
+            → I.remaining (recoverable_inner result)
+            ≡ front (I.remained (checkpoint_inner at.now)) n }
+        ensures location { I.location (recoverable_inner result)
+            ≡ I.Checkpoint.location (checkpoint_inner at.now) }
+        ensures valid { I.valid (recoverable_inner result) }
+        ensures kept { KeepsErrors I.keeps self result }
+    {
         let Recoverable {
             input,
             errors,
@@ -347,7 +423,7 @@ impl<I: StreamIsPartial, E: Debug> StreamIsPartial for Recoverable<I, E> {
 
     ghost no_flag = { λ unsupported s. I.no_flag unsupported (recoverable_inner s) };
 
-    ghost keeps_flag = { λ s t kept. I.keeps_flag s.input t.input kept.2 };
+    ghost keeps_flag = { λ s t kept. I.keeps_flag s.input t.input kept.inside };
 
     fn complete(&mut self) -> I::PartialState {
         self.input.complete()

@@ -17,6 +17,8 @@ impl<I: Recover<E> + Stream<Token = u8>, E> Recover<E> for Bits<I> {
     ghost unchanged_keeps = { λ s t same.
         subst (λ u. I.keeps s.input u.input) (sym same) (I.keeps_reflexive s.input) };
 
+    ghost records_keeps = { λ _ _ _ _ _ _ recorded. absurd recorded };
+
     fn record_err(
         &mut self,
         _token_start: &Checkpoint<BitPlace<I::Checkpoint>, Bits<I>>,
@@ -44,6 +46,8 @@ where
           (I.keeps_reflexive (locating_inner s)),
     ) };
 
+    ghost records_keeps = { λ _ _ _ _ _ _ recorded. absurd recorded };
+
     fn record_err(
         &mut self,
         _token_start: &Checkpoint<Placed<C>, LocatingSlice<I, C>>,
@@ -65,6 +69,8 @@ impl<I: Recover<E>, S: Debug, E> Recover<E> for Stateful<I, S> {
       ap (λ u. u.state) (sym same),
       subst (λ u. I.keeps s.input u.input) (sym same) (I.keeps_reflexive s.input),
     ) };
+
+    ghost records_keeps = { λ _ _ _ _ _ _ recorded. absurd recorded };
 
     fn record_err(
         &mut self,
@@ -88,6 +94,8 @@ impl<I: Recover<E>, E> Recover<E> for Partial<I> {
       subst (λ u. I.keeps (partial_inner s) (partial_inner u)) (sym same)
           (I.keeps_reflexive (partial_inner s)),
     ) };
+
+    ghost records_keeps = { λ _ _ _ _ _ _ recorded. absurd recorded };
 
     fn record_err(
         &mut self,
