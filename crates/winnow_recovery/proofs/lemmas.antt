@@ -1,0 +1,3 @@
+pub mod SkipLemmas
+pub mod FailureLemmas
+pub mod RecordLemmas

@@ -1,0 +1,4 @@
+//! The parsers: a type for each, in a file that is named for its function.
+
+pub(crate) mod resume_after;
+pub(crate) mod retry_after;
