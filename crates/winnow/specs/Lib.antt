@@ -88,3 +88,12 @@ pub use Rattle.winnow_expression.specs.Found
 pub use Rattle.winnow_expression.specs.Turns
 pub use Rattle.winnow_expression.specs.Expression
 pub use Rattle.winnow_expression.specs.Agreeing
+pub use Rattle.winnow_recovery.specs.Chain
+pub use Rattle.winnow_recovery.specs.Skipping
+pub use Rattle.winnow_recovery.specs.Recording
+pub use Rattle.winnow_recovery.specs.Failing
+pub use Rattle.winnow_recovery.specs.ResumeAfter
+pub use Rattle.winnow_recovery.specs.RetryAfter
+pub use Rattle.winnow_exact.specs.Exact
+pub use Rattle.winnow_exact.specs.Languages
+pub use Rattle.winnow_exact.specs.Nested

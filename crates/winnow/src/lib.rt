@@ -24,6 +24,7 @@ pub mod token;
 
 pub use winnow_base::stream;
 pub use winnow_base::stream::{BStr, Bytes, LocatingSlice, Partial, Stateful};
+pub use winnow_exact as exact;
 pub use winnow_grammar as grammar;
 pub use winnow_parser::{
     AndThen, ByBorrow, ByRule, ByValue, Context, ContextWith, DefaultValue, ErrInto, Failure,

@@ -1,0 +1,4 @@
+mod NumberLemmas
+mod ExpressionLemmas
+mod AnswerLemmas
+mod DigitLemmas

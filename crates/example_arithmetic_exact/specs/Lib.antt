@@ -1,0 +1,4 @@
+pub mod Expressions
+pub mod Steps
+pub mod Reading
+pub mod Grammar
