@@ -22,12 +22,12 @@ text-chars [] = refl
 text-chars (c ∷ cs) = ap (λ r. c ∷ r) (text-chars cs)
 
 -- a front that ends before another is no longer
-shorter : (whole front behind other rest more : List ℕ) → whole ≡ front ++ behind
-    → whole ≡ other ++ rest → rest ≡ more ++ behind → length other ≤ length front
-shorter whole front behind other rest more e f g =
-    let same : length (front ++ behind) ≡ length (other ++ rest) = ap length (sym e ∙ f) in
-    let left : length rest ≡ length (more ++ behind) = ap length g in
-    omega (arith, same, left, length-append front behind, length-append other rest, length-append more behind)
+shorter : (whole front suffix other rest more : List ℕ) → whole ≡ front ++ suffix
+    → whole ≡ other ++ rest → rest ≡ more ++ suffix → length other ≤ length front
+shorter whole front suffix other rest more e f g =
+    let same : length (front ++ suffix) ≡ length (other ++ rest) = ap length (sym e ∙ f) in
+    let left : length rest ≡ length (more ++ suffix) = ap length g in
+    omega (arith, same, left, length-append front suffix, length-append other rest, length-append more suffix)
 
 module _ (depth : ℕ) (s : List ℕ) where
   -- what the parser takes is the longest expression
@@ -43,9 +43,9 @@ module _ (depth : ℕ) (s : List ℕ) where
         (
           sym same ∙ g.1.1.0,
           g.1.1.1,
-          (λ other behind y e k.
-              let n = (reads-nested depth).ends a b x wide h y other behind (same ∙ e) k in
-              shorter (chars s) g.1.0 (tokens_of b.tokens) other behind n.0 (sym same ∙ g.1.1.0) e n.1.0),
+          (λ other suffix y e k.
+              let n = (reads-nested depth).ends a b x wide h y other suffix (same ∙ e) k in
+              shorter (chars s) g.1.0 (tokens_of b.tokens) other suffix n.0 (sym same ∙ g.1.1.0) e n.1.0),
         ),
       )
 

@@ -9,7 +9,7 @@ use Rattle.example_arithmetic_exact.specs.Expressions.{Expression, Writes}
 -- expression
 abbrev pub IsLongest : Option ℤ → List ℕ → List ℕ → Type 0
 IsLongest value whole rest = (front : List ℕ) × ((whole ≡ front ++ rest) × Writes Expression value front
-    × ((other behind : List ℕ) (x : Option ℤ) → whole ≡ other ++ behind → Writes Expression x other
+    × ((other suffix : List ℕ) (x : Option ℤ) → whole ≡ other ++ suffix → Writes Expression x other
     → length other ≤ length front))
 
 -- no part of the text, from its start on, is an expression
@@ -21,7 +21,7 @@ HasNone whole = (front rest : List ℕ) (x : Option ℤ) → whole ≡ front ++ 
 abbrev pub IsAnswer : {E : Type 0} → List ℕ → Result ℤ (Failure E Needed) → List ℕ → Type 0
 IsAnswer whole (Ok value) rest = IsLongest (Some value) whole rest
 IsAnswer whole (Err (Backtrack e)) rest = HasNone whole
-    ⊎ ((behind : List ℕ) × IsLongest None whole behind)
+    ⊎ ((suffix : List ℕ) × IsLongest None whole suffix)
 IsAnswer whole (Err (Cut e)) rest = ⊤
 IsAnswer whole (Err (Incomplete n)) rest = ⊥
 IsAnswer whole (Err (Refused e)) rest = ⊤
