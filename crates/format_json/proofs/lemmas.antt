@@ -13,6 +13,7 @@ pub mod PlaceLemmas
 pub mod JsonTokenLemmas
 pub mod TokenStreamLemmas
 pub mod TokenReadingLemmas
+pub mod ScanLemmas
 pub mod WritingLemmas
 pub mod CauseLemmas
 pub mod CauseLawLemmas

@@ -16,6 +16,7 @@ pub mod Documents
 pub mod Tokens
 pub mod TokenAnswers
 pub mod TokenLaws
+pub mod Scan
 pub mod Reading
 pub mod Causes
 pub mod Writing

@@ -30,8 +30,8 @@ pub(crate) enum Next {
     Damaged(usize),
 }
 
-// Returns whether the byte is a blank, which may stand around each token.
-fn is_blank(byte: u8) -> bool
+/// Returns whether the byte is a blank, which may stand around each token.
+pub(crate) fn is_blank(byte: u8) -> bool
     ensures { result ≡ is_blank byte }
 {
     matches!(byte, b' ' | b'\t' | b'\n' | b'\r')

@@ -7,7 +7,7 @@
 //! that is one value. Their contracts say that the value is the only one with which the input
 //! starts, and at which place a malformed one breaks off: there is one, as [`place_law`] says.
 //!
-//! [`JsonToken`] is the record of a [`Token`], for a `ByteReader` over bytes that come in pieces;
+//! [`JsonToken`] is the record of a [`Token`], for a `ScanReader` over bytes that come in pieces;
 //! [`tokens_in_pieces_law`] says what such a reader reads. `format_json_events` has a reader of
 //! events on it, which reports the [`Cause`] of a malformed token.
 //!
@@ -22,6 +22,7 @@ mod grammar;
 mod laws;
 mod reading;
 mod scalars;
+mod scan;
 mod tokens;
 mod value;
 mod writing;
@@ -36,6 +37,7 @@ pub use found::blank_count;
 pub use grammar::read_value;
 pub use laws::{place_law, round_trip_law, tokens_in_pieces_law};
 pub use reading::JsonToken;
+pub use scan::TokenScan;
 pub use tokens::Token;
 pub use value::Value;
 pub use writing::{Unwritten, write_value};

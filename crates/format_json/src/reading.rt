@@ -12,7 +12,7 @@ use winnow::reader::{Record, RecordInput};
 use winnow::stream::{Needed, Stream, StreamIsPartial};
 use winnow::{Failure, ModalResult};
 
-/// The record of a token, for a `ByteReader` over bytes that come in pieces.
+/// The record of a token, for a `ScanReader` over bytes that come in pieces.
 ///
 /// It takes the blanks before the token. It fails at the place that is wrong: where no token
 /// begins, at the start of a word or a number that is none, and where a string is damaged, as in

@@ -1,5 +1,7 @@
 pub mod TakingLemmas
+pub mod BlankLemmas
 pub mod NextTokenLemmas
+pub mod WaitLemmas
 pub mod AheadLemmas
 pub mod EventLemmas
 pub mod SameTurnLemmas

@@ -1,3 +1,4 @@
+pub mod Blanks
 pub mod Turns
 pub mod Reading
 pub mod Stops

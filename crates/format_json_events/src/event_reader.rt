@@ -3,15 +3,16 @@
 ghost use Rattle.std.specs.Prelude.{◌≡◌};
 ghost use Rattle.format_json.specs.Reading.{FindsDamage};
 ghost use Rattle.format_json_events.specs.Turns.{state_of};
-ghost use Rattle.format_json_events.specs.Reading.{IsComing, IsNoNext, token_place, error_at};
+ghost use Rattle.format_json_events.specs.Reading.{IsComing, IsNoNext, error_at};
 
 use crate::syntax::{Syntax, Taken};
+use crate::token_reader::TokenReader;
 use crate::turns::Misplaced;
-use format_json::{Cause, JsonToken, Number, Token, blank_count, cause_of, is_cut};
+use format_json::{Cause, Number, Token, blank_count, cause_of, is_cut};
 use format_json_scalars::byte_or;
 use std::alloc::{AllocError, Global};
 use std::marker::Model;
-use winnow::reader::{ByteReader, Next, ReadError};
+use winnow::reader::{Next, ReadError};
 
 /// What a text has next.
 #[derive(Debug, Drop)]
@@ -43,7 +44,7 @@ pub enum Event {
 pub enum EventError {
     /// No token stands there, whatever follows, and one might come next that begins so
     Damaged {
-        /// The place that is wrong, as of [`JsonToken`]
+        /// The place that is wrong, as of [`JsonToken`](format_json::JsonToken)
         place: usize,
         /// What is wrong there
         cause: Cause,
@@ -111,7 +112,7 @@ enum Step {
 /// ```
 #[derive(Drop)]
 pub struct EventReader {
-    tokens: ByteReader<JsonToken>,
+    tokens: TokenReader,
     syntax: Syntax,
     // The error after which no token is read
     stopped: Option<EventError>,
@@ -149,7 +150,7 @@ impl EventReader {
         ensures read { HasGiven result [] [] }
     {
         EventReader {
-            tokens: ByteReader::new(alloc, JsonToken),
+            tokens: TokenReader::new(alloc),
             syntax: Syntax::new(alloc, depth),
             stopped: None,
         }
@@ -213,7 +214,7 @@ impl EventReader {
         if let Err(refused) = self.syntax.make_room() {
             return Err(EventError::Refused(refused));
         }
-        let start = token_start(&self.tokens);
+        let start = self.tokens.token_start();
         match next_token(&mut self.tokens, &self.syntax) {
             Ok(Coming::Token(token)) => match self.syntax.take(token) {
                 Ok(taken) => Ok(Step::Took(taken)),
@@ -271,16 +272,8 @@ impl EventReader {
     }
 }
 
-// Returns where the token ahead begins in the joined input.
-fn token_start(tokens: &ByteReader<JsonToken>) -> usize
-    ensures { result ≡ token_place tokens.now }
-{
-    let ahead = tokens.ahead();
-    tokens.fed() - (ahead.len() - blank_count(ahead))
-}
-
 // Reads the next token, if its bytes are there.
-fn next_token(tokens: &mut ByteReader<JsonToken>, syntax: &Syntax) -> Result<Coming, EventError>
+fn next_token(tokens: &mut TokenReader, syntax: &Syntax) -> Result<Coming, EventError>
     ensures { IsComing (state_of syntax.now) tokens.old result tokens.new }
 {
     match tokens.read_next() {
@@ -302,14 +295,14 @@ fn next_token(tokens: &mut ByteReader<JsonToken>, syntax: &Syntax) -> Result<Com
 
 // Returns the error of a token that is damaged at the place: it may not come next; or it is cut off
 // by the end of the input; or no bytes make it whole.
-fn damage_at(tokens: &ByteReader<JsonToken>, syntax: &Syntax, place: usize) -> EventError
+fn damage_at(tokens: &TokenReader, syntax: &Syntax, place: usize) -> EventError
     requires { FindsDamage tokens.now place }
     ensures { IsNoNext (state_of syntax.now) tokens.now result }
 {
     let ahead = tokens.ahead();
     let here = &ahead[blank_count(ahead)..];
     if let Some(misplaced) = syntax.bar_from(byte_or(here, 0, 0)) {
-        return error_at(misplaced, token_start(tokens));
+        return error_at(misplaced, tokens.token_start());
     }
     let rest = &ahead[place - tokens.place()..];
     if tokens.has_ended() && is_cut(here, rest) {

@@ -7,12 +7,13 @@
 //! [`stops_law`] says.
 //!
 //! `turns` says what each token does if it comes next, and `syntax` keeps which brackets are open.
-//! The tokens are those of a `ByteReader` of `format_json::JsonToken`.
+//! The tokens are those of a `ScanReader` of `format_json::JsonToken`.
 #![tactic(auto)]
 
 mod event_reader;
 mod laws;
 mod syntax;
+mod token_reader;
 mod turns;
 
 pub use event_reader::{Event, EventError, EventReader};

@@ -7,6 +7,7 @@ pub mod CutCharLemmas
 pub mod PlainLemmas
 pub mod CharLemmas
 pub mod StringLemmas
+pub mod TailLemmas
 pub mod StringStreamLemmas
 pub mod NumberTextLemmas
 pub mod QuotingLemmas

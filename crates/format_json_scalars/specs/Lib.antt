@@ -8,4 +8,5 @@ pub mod StringAnswers
 pub mod Escapes
 pub mod Steps
 pub mod CutChars
+pub mod Tails
 pub mod Quoting

@@ -9,6 +9,7 @@ ghost use Rattle.format_json_scalars.specs.StringAnswers.{BeginsChar};
 ghost use Rattle.format_json_scalars.specs.Escapes.{MayBeChar};
 ghost use Rattle.format_json_scalars.specs.CutChars.{may_follow, is_cut_char, IsLongestText};
 ghost use Rattle.format_json_scalars.specs.Steps.{IsStep};
+ghost use Rattle.format_json_scalars.specs.Tails.{IsCharAt};
 
 use std::alloc::AllocError;
 
@@ -126,4 +127,21 @@ pub(crate) fn append_plain(value: &mut String, bytes: &[u8]) -> Result<Step, All
         return Ok(Step::Begun);
     }
     Ok(Step::Wrong)
+}
+
+// Returns what stands at the front of bytes that begin neither with a quote nor with a backslash.
+pub(crate) fn plain_at(bytes: &[u8]) -> Step
+    requires some { 0 < length bytes.now }
+    requires no_slash { ¬ (StartsWith 92 bytes.now) }
+    ensures { IsCharAt bytes.now result }
+{
+    let count = plain_count(bytes);
+    let text = text_front(&bytes[..count]);
+    if !text.is_empty() {
+        return Step::Taken(text.len());
+    }
+    if count == bytes.len() && is_cut_char(bytes) {
+        return Step::Begun;
+    }
+    Step::Wrong
 }

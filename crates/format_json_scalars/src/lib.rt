@@ -18,9 +18,11 @@ mod numbers;
 mod parts;
 mod quoting;
 mod strings;
+mod tails;
 
 pub use escapes::{byte_or, digit_value};
 pub use numbers::{Number, is_number_byte, is_of_text, number_count, number_of, read_number};
 pub use parts::{begins_number, is_number};
 pub use quoting::{append_string, write_string};
 pub use strings::{Reading, may_be_char, read_bytes, read_string};
+pub use tails::Tail;

@@ -12,8 +12,9 @@ ghost use Rattle.format_json_scalars.specs.StringAnswers.{IsStringAnswer, GivesE
 ghost use Rattle.format_json_scalars.specs.StringAnswers.{BeginsChar};
 ghost use Rattle.format_json_scalars.specs.Escapes.{MayBeChar};
 ghost use Rattle.format_json_scalars.specs.Steps.{IsStep, IsReading};
+ghost use Rattle.format_json_scalars.specs.Tails.{IsCharAt};
 
-use crate::characters::{Step, append_plain, is_cut_text};
+use crate::characters::{Step, append_plain, is_cut_text, plain_at};
 use crate::escapes::{Escape, escape_at};
 use std::alloc::{AllocError, Global};
 use winnow::error::ParserError;
@@ -55,6 +56,21 @@ fn append_next(value: &mut String, bytes: &[u8]) -> Result<Step, AllocError>
         }
         Escape::Begun => Ok(Step::Begun),
         Escape::Wrong => Ok(Step::Wrong),
+    }
+}
+
+/// Returns what stands at the front of the bytes of a string after its opening quote.
+pub(crate) fn char_at(bytes: &[u8]) -> Step
+    requires { 0 < length bytes.now }
+    ensures { IsCharAt bytes.now result }
+{
+    if bytes[0] != b'\\' {
+        return plain_at(bytes);
+    }
+    match escape_at(&bytes[1..]) {
+        Escape::Whole(_, width) => Step::Taken(width),
+        Escape::Begun => Step::Begun,
+        Escape::Wrong => Step::Wrong,
     }
 }
 

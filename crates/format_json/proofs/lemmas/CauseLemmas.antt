@@ -1,5 +1,5 @@
 -- Whether a damaged token is only cut off.
-use Rattle.std.proofs.Common.{◌≡◌, ℕ, ◌-◌, ◌<◌, Bool, true, false, List, [], ◌∷◌, ◌++◌, length, ◌⊎◌, inl, inr, ap, sym, ◌∙◌, subst, refl, arith, append-nil}
+use Rattle.std.proofs.Common.{◌≡◌, ℕ, ◌<◌, Bool, true, false, List, [], ◌∷◌, ◌++◌, length, ◌⊎◌, inl, inr, ap, sym, ◌∙◌, subst, refl, arith, append-nil}
 use Rattle.std.specs.Prelude.{get_or}
 use Rattle.format_lemmas.specs.Bytes.{StartsWith}
 use Rattle.format_lemmas.proofs.lemmas.ByteLemmas.{heads}

@@ -1,5 +1,5 @@
 -- Whether bytes of a string with which no character begins may become one.
-use Rattle.std.proofs.Common.{◌≡◌, ℕ, ◌-◌, ◌<◌, ◌≤◌, Bool, true, false, List, [], ◌∷◌, ◌++◌, length, take, drop, inl, ap, sym, ◌∙◌, subst, refl, arith, append_assoc, append-nil, take_all, take-append-drop, length-take, length-drop}
+use Rattle.std.proofs.Common.{◌≡◌, ℕ, ◌<◌, ◌≤◌, Bool, true, false, List, [], ◌∷◌, ◌++◌, length, take, drop, inl, ap, sym, ◌∙◌, subst, refl, arith, append_assoc, append-nil, take_all, take-append-drop, length-take, length-drop}
 use Rattle.std.proofs.lemmas.Str.{encode_ascii}
 use Rattle.std.specs.Prelude.{IsUtf8}
 use Rattle.format_lemmas.specs.Bytes.{Each, Starts, StartsWith}

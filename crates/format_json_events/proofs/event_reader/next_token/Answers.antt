@@ -1,13 +1,16 @@
 use Rattle.std.proofs.Common.{ap, sym, ◌∙◌, subst}
 use Rattle.std.specs.Prelude.{Ok, Err}
-use Rattle.winnow.specs.Answering.{StaysWithout, WaitsWell}
+use Rattle.winnow.specs.Answering.{StaysWithout}
+use Rattle.winnow.specs.Waiting.{WaitsByScan}
 use Rattle.winnow_reader.specs.declared.next.Next.TheVariants as next
 use Rattle.format_json.specs.TokenAnswers.{OneToken}
 use Rattle.format_json.specs.Reading.{FindsDamage}
+use Rattle.format_json.specs.Scan.{IsScanned}
 use Rattle.format_json_events.specs.Turns.{state_of}
 use Rattle.format_json_events.specs.Reading.{IsNoNext}
 use Rattle.format_json.specs.declared.tokens.Token.TheVariants as token
 use Rattle.format_json_events.proofs.lemmas.NextTokenLemmas.{value-brings, end-brings, waits-read, failed-there, never-idle}
+use Rattle.format_json_events.proofs.lemmas.WaitLemmas.{awaits-scanned}
 use Rattle.format_json_events.proofs.event_reader.next_token.Goals as goal
 
 pub returns-in-Ok-Value-End : goal.returns-in-Ok-Value-End
@@ -23,9 +26,10 @@ returns-in-Ok-Value c =
 
 pub returns-in-Ok-NeedsMore : goal.returns-in-Ok-NeedsMore
 returns-in-Ok-NeedsMore c =
-    let e = c.in-Ok-NeedsMore.is ∙ ap Ok c.in-Ok-NeedsMore.field-0-is in (
+    let e = c.in-Ok-NeedsMore.is ∙ ap Ok c.in-Ok-NeedsMore.field-0-is in
+    let waits = subst (WaitsByScan (λ p. OneToken) (λ p. IsScanned) c.args.tokens.now) e c.read_next.ensures.waits in (
       subst (λ r. StaysWithout c.args.tokens.now r c.read_next.new.self) e c.read_next.ensures.kept,
-      subst (WaitsWell (λ p. OneToken) c.args.tokens.now) e c.read_next.ensures.waits,
+      awaits-scanned c.args.tokens.now waits.0 waits.1,
       waits-read c.args.tokens.now c.read_next.new.self c.read_next.result e c.read_next.ensures.read,
     )
 
