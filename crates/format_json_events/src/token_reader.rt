@@ -53,7 +53,7 @@ impl TokenReader {
     ghost use Rattle.winnow.specs.State.{at_start, pushed, ended_after, unspent, fed_of};
     ghost use Rattle.winnow.specs.State.{bytes_kept};
     ghost use Rattle.winnow.specs.Reading.{HasRead, ReadsAlso, ReadsThrough, ReadsOn};
-    ghost use Rattle.winnow.specs.Answering.{GivesValue, IsDoneAtEnd, FailsWell, StaysWithout};
+    ghost use Rattle.winnow.specs.Answering.{ReadsNext, IsDoneAtEnd};
     ghost use Rattle.winnow.specs.Waiting.{WaitsByScan};
     ghost use Rattle.format_json.specs.TokenAnswers.{OneToken};
     ghost use Rattle.format_json.specs.Scan.{IsScanned};
@@ -85,11 +85,9 @@ impl TokenReader {
     /// Reads the next token.
     pub(crate) fn read_next(&mut self) -> Result<Next<Token>, ReadError<EmptyError>>
         ensures read { ReadsOn (λ _. OneToken) self.old result self.new }
-        ensures value { GivesValue (λ _. OneToken) self.old result self.new }
-        ensures waits { WaitsByScan (λ _. OneToken) (λ _. IsScanned) self.old result }
+        ensures next { ReadsNext (λ _. OneToken) (WaitsByScan (λ _. OneToken) (λ _. IsScanned))
+            self.old result self.new }
         ensures done { IsDoneAtEnd self.old result }
-        ensures failed { FailsWell (λ _. OneToken) self.old result }
-        ensures kept { StaysWithout self.old result self.new }
     {
         let answer = self.reader.read_next();
         if needs_more(&answer) {

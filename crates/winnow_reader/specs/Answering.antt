@@ -1,5 +1,5 @@
 -- What a reader answers, and when.
-use Rattle.std.specs.Prelude.{◌≡◌, ℕ, ◌+◌, ◌-◌, ◌^◌, ◌≤◌, ◌<◌, min, Bool, true, false, not, List, [], ◌++◌, length, Result, Ok, Err, ◌⊎◌, ⊤, ◌↔◌}
+use Rattle.std.specs.Prelude.{◌≡◌, ℕ, ◌+◌, ◌-◌, ◌^◌, ◌≤◌, ◌<◌, min, Bool, true, false, not, List, [], ◌++◌, length, Result, Ok, Err, ◌⊎◌, ◌↔◌}
 use Rattle.std.proofs.Common.{inl, inr}
 use Rattle.winnow_stream.specs.declared.needed.Needed.{Needed}
 use Rattle.winnow_parser.specs.Outcome.{Ahead, Gives, Fails, Backtracks, Cuts, Needs, Refuses, Meaning}
@@ -11,6 +11,7 @@ use Rattle.winnow_reader.specs.Place.{bytes_at}
 use Rattle.winnow_reader.specs.Wanted.{size_of}
 use Rattle.winnow_reader.specs.State.{ReaderState, taken_by, waiting_for}
 use Rattle.winnow_reader.specs.Reading.{MayFollow, HasRead, Lacks}
+use Rattle.winnow_reader.specs.SameValues.{IsThrough}
 
 -- there the parser fails, from a, and this is left
 abbrev pub StopsAt : {O : Type 0} → Meaning O ℕ → Bool → Ahead ℕ → Ahead ℕ → Type 0
@@ -57,44 +58,48 @@ module _ {R O : Type 0} (means : R → Meaning O ℕ) where
   IdlesAt f place = (place ≡ f.place) × ((x : O) × ((more : List ℕ) (partial : Bool) → MayFollow f.ended more partial
       → means f.parser partial (bytes_at place (f.ahead ++ more)) (Gives x (bytes_at place (f.ahead ++ more)))))
 
-module _ {R O E : Type 0} (means : R → Meaning O ℕ) where
-  -- a value is what the parser gives of what is ahead, and it takes n bytes, at least one
-  abbrev pub GivesValue : ReaderState R → Result (Next O) (ReadError E) → ReaderState R → Type 0
-  GivesValue old (Ok (Value x)) new = (n : ℕ) × ((0 < n) × (n ≤ length old.ahead)
+module _ {R O : Type 0} (means : R → Meaning O ℕ) where
+  -- a value is what the parser returns of the bytes ahead, and it takes n of them, at least one
+  abbrev pub TakesValue : ReaderState R → O → ReaderState R → Type 0
+  TakesValue old x new = (n : ℕ) × ((0 < n) × (n ≤ length old.ahead)
       × means old.parser (not old.ended) (bytes_at old.place old.ahead) (Gives x (bytes_at new.place new.ahead))
       × (new ≡ taken_by old n))
-  GivesValue old (Ok NeedsMore) new = ⊤
-  GivesValue old (Ok Done) new = ⊤
-  GivesValue old (Err e) new = ⊤
 
-  -- more is needed only before the end, and where the parser asked for more than came since
-  abbrev pub WaitsWell : ReaderState R → Result (Next O) (ReadError E) → Type 0
-  WaitsWell old (Ok NeedsMore) = (old.ended ≡ false) × ((input : List ℕ) (values : List O)
-      → HasRead means old input values → Lacks means old)
-  WaitsWell old (Ok (Value x)) = ⊤
-  WaitsWell old (Ok Done) = ⊤
-  WaitsWell old (Err e) = ⊤
-
-  -- where as many bytes were ahead as were wanted, and more are needed, as many are wanted as the
-  -- parser needs
-  abbrev pub WantsNeeded : ReaderState R → Result (Next O) (ReadError E) → ReaderState R → Type 0
-  WantsNeeded old (Ok NeedsMore) new = old.wanted ≤ length old.ahead
+  -- if as many bytes were ahead as were wanted, as many are wanted now as the parser needs
+  abbrev pub WantsNeeded : ReaderState R → ReaderState R → Type 0
+  WantsNeeded old new = old.wanted ≤ length old.ahead
       → NeedsLength (means old.parser) old.place old.ahead new.wanted
-  WantsNeeded old (Ok (Value x)) new = ⊤
-  WantsNeeded old (Ok Done) new = ⊤
-  WantsNeeded old (Err e) new = ⊤
 
-  -- a failure is the parser's, with its place, and whether it cuts
-  abbrev pub FailsWell : ReaderState R → Result (Next O) (ReadError E) → Type 0
-  FailsWell old (Ok next) = ⊤
-  FailsWell old (Err (Failed error place cut)) = FailsBy means old cut place
-  FailsWell old (Err (TakesNothing place)) = IdlesAt means old place
-  FailsWell old (Err (Refused refused)) =
+  -- more is needed only before the end, and only if the parser asked for more than came since; only
+  -- how many bytes are wanted changes
+  abbrev pub WaitsByNeed : ReaderState R → ReaderState R → Type 0
+  WaitsByNeed old new = (old.ended ≡ false)
+      × ((input : List ℕ) (values : List O) → HasRead means old input values → Lacks means old)
+      × WantsNeeded old new × (new ≡ waiting_for old new.wanted)
+
+module _ {R O E : Type 0} (means : R → Meaning O ℕ) where
+  -- an error is the parser's: where it fails no matter what follows, and whether it cuts; where it
+  -- returns a value and takes nothing; or that it is refused memory
+  abbrev pub FailsAs : ReaderState R → ReadError E → Type 0
+  FailsAs old (Failed error place cut) = FailsBy means old cut place
+  FailsAs old (TakesNothing place) = IdlesAt means old place
+  FailsAs old (Refused refused) =
       means old.parser (not old.ended) (bytes_at old.place old.ahead) (Fails Refuses)
+
+module _ {R O E : Type 0} (means : R → Meaning O ℕ)
+    (waits : ReaderState R → ReaderState R → Type 0) where
+  -- what a reader returns of its next record, and what it is then: a value is taken; more is
+  -- needed, by a relation of the reader's kind; it is done at the end; or it fails. Nothing changes
+  -- if it is done or fails.
+  abbrev pub ReadsNext : ReaderState R → Result (Next O) (ReadError E) → ReaderState R → Type 0
+  ReadsNext old (Ok (Value x)) new = TakesValue means old x new
+  ReadsNext old (Ok NeedsMore) new = waits old new
+  ReadsNext old (Ok Done) new = IsThrough old × (new ≡ old)
+  ReadsNext old (Err error) new = FailsAs means old error × (new ≡ old)
 
 -- it is done just where the input has ended and nothing remains
 abbrev pub IsDoneAtEnd : {R O E : Type 0} → ReaderState R → Result (Next O) (ReadError E) → Type 0
-IsDoneAtEnd old result = (result ≡ Ok Done) ↔ ((old.ended ≡ true) × (old.ahead ≡ []))
+IsDoneAtEnd old result = (result ≡ Ok Done) ↔ IsThrough old
 
 -- before the end, and before as many bytes are ahead as are wanted, more is needed, and nothing
 -- changes
@@ -102,14 +107,6 @@ abbrev pub StaysTillWanted : {R O E : Type 0} → ReaderState R → Result (Next
     → ReaderState R → Type 0
 StaysTillWanted old result new = old.ended ≡ false → length old.ahead < old.wanted
     → (result ≡ Ok NeedsMore) × (new ≡ old)
-
--- without a value nothing changes, but how many bytes are wanted where more are needed
-abbrev pub StaysWithout : {R O E : Type 0} → ReaderState R → Result (Next O) (ReadError E)
-    → ReaderState R → Type 0
-StaysWithout old (Ok (Value x)) new = ⊤
-StaysWithout old (Ok NeedsMore) new = new ≡ waiting_for old new.wanted
-StaysWithout old (Ok Done) new = new ≡ old
-StaysWithout old (Err e) new = new ≡ old
 
 -- the parser needed some bytes more, and while fewer come, more is needed again
 abbrev pub WaitsForNeeded : {R O E : Type 0} → (R → Meaning O ℕ) → ReaderState R → List ℕ

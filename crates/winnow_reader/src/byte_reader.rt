@@ -58,8 +58,8 @@ impl<R: Record> ByteReader<R> {
     ghost use Rattle.winnow_reader.specs.State.{at_start, pushed, ended_after, unspent, fed_of};
     ghost use Rattle.winnow_reader.specs.Reading.{HasRead, ReadsAlso, ReadsThrough, ReadsOn};
     ghost use Rattle.winnow_reader.specs.Asked.{IsAsked, IsWithin, settled, answer_of};
-    ghost use Rattle.winnow_reader.specs.Answering.{GivesValue, WaitsWell, IsDoneAtEnd, FailsWell};
-    ghost use Rattle.winnow_reader.specs.Answering.{WantsNeeded, StaysTillWanted, StaysWithout};
+    ghost use Rattle.winnow_reader.specs.Answering.{ReadsNext, WaitsByNeed};
+    ghost use Rattle.winnow_reader.specs.Answering.{StaysTillWanted, IsDoneAtEnd};
 
     /// Returns a reader that nothing was pushed to.
     pub fn new(alloc: Global, parser: R) -> Self
@@ -123,13 +123,9 @@ impl<R: Record> ByteReader<R> {
     pub fn read_next(&mut self) -> Result<Next<R::Output>, ReadError<R::Error>>
         requires { R.ready self.old.parser }
         ensures read { ReadsOn R.means self.old result self.new }
-        ensures value { GivesValue R.means self.old result self.new }
-        ensures waits { WaitsWell R.means self.old result }
-        ensures wants { WantsNeeded R.means self.old result self.new }
+        ensures next { ReadsNext R.means (WaitsByNeed R.means) self.old result self.new }
         ensures early { StaysTillWanted self.old result self.new }
         ensures done { IsDoneAtEnd self.old result }
-        ensures failed { FailsWell R.means self.old result }
-        ensures kept { StaysWithout self.old result self.new }
     {
         let asked = self.ask();
         self.settle(asked)

@@ -1,20 +1,18 @@
 //! Laws of readers: the same values for each cut, waiting, places, and damaged text.
 
 ghost use Rattle.std.specs.Prelude.{◌≡◌, ℕ, ◌+◌, ◌≤◌, List, [], ◌++◌, length, take, drop};
-ghost use Rattle.std.specs.Prelude.{true, false, Result, Ok, IsTrue, IsUtf8};
+ghost use Rattle.std.specs.Prelude.{true, false, Result, IsTrue, IsUtf8};
 ghost use Rattle.std.specs.Borrow.{Bor};
 ghost use Rattle.winnow_stream.specs.Source.{units};
 ghost use Rattle.winnow_stream.specs.Front.{is_offset};
 ghost use Rattle.winnow_parser.specs.Determined.{IsDetermined, Shows};
-ghost use Rattle.winnow_reader.specs.State.{ReaderState, pushed};
+ghost use Rattle.winnow_reader.specs.State.{ReaderState, pushed, waiting_for};
 ghost use Rattle.winnow_parser.specs.Outcome.{Ahead, Moves, after};
 ghost use Rattle.winnow_reader.specs.Place.{bytes_at, IsByteSlice};
 ghost use Rattle.winnow_reader.specs.Reading.{HasRead};
 ghost use Rattle.winnow_reader.specs.declared.next.Next.{Next};
-ghost use Rattle.winnow_reader.specs.declared.next.Next.TheVariants.{NeedsMore};
 ghost use Rattle.winnow_reader.specs.declared.next.ReadError.{ReadError};
-ghost use Rattle.winnow_reader.specs.Answering.{WantsNeeded, StaysTillWanted, StaysWithout};
-ghost use Rattle.winnow_reader.specs.Answering.{WaitsForNeeded};
+ghost use Rattle.winnow_reader.specs.Answering.{WantsNeeded, StaysTillWanted, WaitsForNeeded};
 ghost use Rattle.winnow_reader.specs.SameValues.{AreFronts, AreAlike, IsThrough};
 ghost use Rattle.winnow_reader.specs.InUtf8.{InUtf8, text_in, past_text, is_damaged};
 
@@ -40,10 +38,10 @@ pub fn determined_reading_law<R: Record, V>()
 /// called: its contract is the law.
 pub fn waiting_law<R: Record>()
     ensures { (old new later : ReaderState R) (piece : List ℕ)
-        (first next : Result (Next R.Output) (ReadError R.Error)) → old.ended ≡ false
-        → old.wanted ≤ length old.ahead → first ≡ Ok NeedsMore
-        → WantsNeeded R.means old first new → StaysWithout old first new
-        → StaysTillWanted (pushed new piece) next later → WaitsForNeeded R.means old piece next }
+        (next : Result (Next R.Output) (ReadError R.Error)) → old.ended ≡ false
+        → old.wanted ≤ length old.ahead → WantsNeeded R.means old new
+        → new ≡ waiting_for old new.wanted → StaysTillWanted (pushed new piece) next later
+        → WaitsForNeeded R.means old piece next }
 {}
 
 /// The law of bytes at a place: they are known by the place and the bytes; where a parser moves on

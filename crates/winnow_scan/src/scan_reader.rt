@@ -62,9 +62,8 @@ impl<R: Scan> ScanReader<R> {
     ghost use Rattle.std.specs.Prelude.{◌≡◌, ◌+◌, ◌<◌, ◌^◌, [], true, false, length, OnOk, OnErr};
     ghost use Rattle.winnow_reader.specs.State.{at_start, pushed, ended_after, unspent, fed_of};
     ghost use Rattle.winnow_reader.specs.Reading.{HasRead, ReadsAlso, ReadsThrough, ReadsOn};
-    ghost use Rattle.winnow_reader.specs.Answering.{GivesValue, IsDoneAtEnd, FailsWell};
-    ghost use Rattle.winnow_reader.specs.Answering.{StaysTillWanted, StaysWithout};
-    ghost use Rattle.winnow_scan.specs.Waiting.{ScansOn, WaitsByScan, WantsByScan};
+    ghost use Rattle.winnow_reader.specs.Answering.{ReadsNext, StaysTillWanted, IsDoneAtEnd};
+    ghost use Rattle.winnow_scan.specs.Waiting.{ScansOn, WaitsByScan};
 
     /// Returns a reader that nothing was pushed to.
     pub fn new(alloc: Global, parser: R) -> Self
@@ -101,13 +100,10 @@ impl<R: Scan> ScanReader<R> {
     pub fn read_next(&mut self) -> Result<Next<R::Output>, ReadError<R::Error>>
         requires { R.ready self.old.parser }
         ensures read { ReadsOn R.means self.old result self.new }
-        ensures value { GivesValue R.means self.old result self.new }
-        ensures waits { WaitsByScan R.means R.scanned self.old result }
-        ensures wants { WantsByScan R.means R.scanned self.old result self.new }
+        ensures next { ReadsNext R.means (WaitsByScan R.means R.scanned)
+            self.old result self.new }
         ensures early { StaysTillWanted self.old result self.new }
         ensures done { IsDoneAtEnd self.old result }
-        ensures failed { FailsWell R.means self.old result }
-        ensures kept { StaysWithout self.old result self.new }
     {
         if self.goes_on() {
             return Ok(Next::NeedsMore);

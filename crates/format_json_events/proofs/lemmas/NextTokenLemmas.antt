@@ -4,7 +4,8 @@ use Rattle.std.specs.Prelude.{Result, Ok, Err}
 use Rattle.winnow_stream.specs.Source.{units}
 use Rattle.winnow.specs.State.{ReaderState}
 use Rattle.winnow.specs.Reading.{HasRead, ReadsOn}
-use Rattle.winnow.specs.Answering.{GivesValue, FailsWell, FailsAt-by, IsDoneAtEnd, StaysWithout}
+use Rattle.winnow.specs.Answering.{ReadsNext, FailsAt-by, IsDoneAtEnd}
+use Rattle.winnow.specs.Waiting.{WaitsByScan}
 use Rattle.winnow_reader.specs.declared.next.Next.{Next}
 use Rattle.winnow_reader.specs.declared.next.Next.TheVariants as next
 use Rattle.winnow_reader.specs.declared.next.ReadError.{ReadError}
@@ -14,6 +15,7 @@ use Rattle.format_lemmas.proofs.lemmas.ByteLemmas.{bytes-units}
 use Rattle.format_json.specs.Tokens.{TokenAhead}
 use Rattle.format_json.specs.TokenAnswers.{OneToken}
 use Rattle.format_json.specs.Reading.{FindsDamage}
+use Rattle.format_json.specs.Scan.{IsScanned}
 use Rattle.format_json_events.specs.Reading.{Brings, BringsEnd}
 use Rattle.format_json.specs.declared.tokens.Token.{Token}
 use Rattle.format_json.specs.declared.tokens.Token.TheVariants as token
@@ -29,13 +31,19 @@ end-brings old new b = ((b.ended ∙ not-false old.ended b.stands.0, b.stands.2)
     not-false true e = refl
     not-false false e = absurd (cc)
 
+-- what a reader of tokens returns, and what it is then
+abbrev ReadsToken : {E : Type 0} → ReaderState JsonToken → Result (Next Token) (ReadError E)
+    → ReaderState JsonToken → Type 0
+ReadsToken old result new =
+    ReadsNext (λ p. OneToken) (WaitsByScan (λ p. OneToken) (λ p. IsScanned)) old result new
+
 module _ {E : Type 0} (old new : ReaderState JsonToken) where
   -- a token that was read stood ahead
   pub value-brings : (t : Token) (result : Result (Next Token) (ReadError E))
-      → result ≡ Ok (next.Value t) → GivesValue (λ p. OneToken) old result new
+      → result ≡ Ok (next.Value t) → ReadsToken old result new
       → ReadsOn (λ p. OneToken) old result new → Brings old t new
   value-brings t result e value read =
-      let h = subst (λ r. GivesValue (λ p. OneToken) old r new) e value in
+      let h = subst (λ r. ReadsToken old r new) e value in
       record {
         read = λ input tokens was. subst (λ r. ReadsOn (λ p. OneToken) old r new) e read input tokens was;
         stands = subst (λ l. TokenAhead (not old.ended) t l new.ahead) (bytes-units old.ahead)
@@ -53,18 +61,17 @@ module _ {E : Type 0} (old new : ReaderState JsonToken) where
 
   -- where the record failed, the token is damaged, and nothing changed
   pub failed-there : (x : E) (place : ℕ) (cut : Bool) (result : Result (Next Token) (ReadError E))
-      → result ≡ Err (Failed x place cut) → FailsWell (λ p. OneToken) old result
-      → StaysWithout old result new → (new ≡ old) × FindsDamage old place
-  failed-there x place cut result e fails kept = (
-    subst (λ r. StaysWithout old r new) e kept,
-    fails-damaged old place (FailsAt-by (λ (p : JsonToken). OneToken) old cut place (subst (FailsWell (λ p. OneToken) old) e fails)),
-  )
+      → result ≡ Err (Failed x place cut) → ReadsToken old result new
+      → (new ≡ old) × FindsDamage old place
+  failed-there x place cut result e reads =
+      let fails = subst (λ r. ReadsToken old r new) e reads in
+      (fails.1, fails-damaged old place (FailsAt-by (λ (p : JsonToken). OneToken) old cut place fails.0))
 
 -- no token takes nothing: a reader with nothing left is done
-pub never-idle : {E : Type 0} (f : ReaderState JsonToken) (place : ℕ)
+pub never-idle : {E : Type 0} (f new : ReaderState JsonToken) (place : ℕ)
     (result : Result (Next Token) (ReadError E)) → result ≡ Err (TakesNothing place)
-    → FailsWell (λ p. OneToken) f result → IsDoneAtEnd f result → ⊥
-never-idle f place result e fails done =
-    let idles = subst (FailsWell (λ p. OneToken) f) e fails in
+    → ReadsToken f result new → IsDoneAtEnd f result → ⊥
+never-idle f new place result e reads done =
+    let idles = (subst (λ r. ReadsToken f r new) e reads).0 in
     let both = idles-at-end f.ended f.ahead place idles.1.0 idles.1.1 in
     absurd (cc (sym (done.1 both) ∙ e))

@@ -12,7 +12,7 @@ use Rattle.winnow_reader.specs.Place.{bytes_at}
 use Rattle.winnow_reader.specs.Wanted.{size_of}
 use Rattle.winnow_reader.specs.State.{ReaderState, waiting_for}
 use Rattle.winnow_reader.specs.Reading.{MayFollow, Asks, ReadsOn}
-use Rattle.winnow_reader.specs.Answering.{StopsBy, GivesValue, WaitsWell, IsDoneAtEnd, FailsWell, StaysWithout, WantsNeeded, StaysTillWanted}
+use Rattle.winnow_reader.specs.Answering.{StopsBy, ReadsNext, WaitsByNeed, IsDoneAtEnd, StaysTillWanted}
 use Rattle.winnow_reader.specs.Asked.{IsAsked, IsWithin, settled, answer_of}
 use Rattle.winnow_reader.proofs.lemmas.PlaceLemmas.{value-stays, backtrack-stays, cut-stays}
 use Rattle.winnow_reader.proofs.lemmas.ReadingLemmas.{HasRead-value, HasRead-waits, HasRead-still}
@@ -63,30 +63,32 @@ module _ {R O E : Type 0} (means : R → Meaning O ℕ) (f : ReaderState R) wher
   ReadsOn-settled p asked.Idle k input values h = HasRead-still means f input values h
   ReadsOn-settled p (asked.Refused r) k input values h = HasRead-still means f input values h
 
-  -- a value is what the parser gives
-  pub GivesValue-settled : (v : Asked O E) → IsAsked (means f.parser) f v
-      → GivesValue means f (answer_of f.place v) (settled f v)
-  GivesValue-settled (asked.Value x n) (inl k) = absurd k
-  GivesValue-settled (asked.Value x n) (inr k) = (n, (k.1.0, k.1.1, k.1.2, refl))
-  GivesValue-settled (asked.Waits w) k = tt
-  GivesValue-settled asked.Done k = tt
-  GivesValue-settled (asked.Failed e there cut) k = tt
-  GivesValue-settled asked.Idle k = tt
-  GivesValue-settled (asked.Refused r) k = tt
-
-  -- more is needed only where the parser asked for it
-  pub WaitsWell-settled : (v : Asked O E) → IsAsked (means f.parser) f v
-      → WaitsWell means f (answer_of f.place v)
-  WaitsWell-settled (asked.Value x n) k = tt
-  WaitsWell-settled (asked.Waits w) (inl k) =
-      (k.0, λ input values h. let a = h.awaits (omega (arith, k.2)) in (a.0, (a.1.0, (a.1.1.0, omega (arith, k.2, a.1.1.1)))))
-  WaitsWell-settled (asked.Waits w) (inr k) =
-      let m = k.1.1 in
-      (k.1.0, λ input values h. ([], (size_of m.0, (asks-now means f m.0 m.1.0, size_of-positive m.0))))
-  WaitsWell-settled asked.Done k = tt
-  WaitsWell-settled (asked.Failed e there cut) k = tt
-  WaitsWell-settled asked.Idle k = tt
-  WaitsWell-settled (asked.Refused r) k = tt
+  -- what the reader returns then is what its calls promise of the next record
+  pub ReadsNext-settled : IsParser (means f.parser) → (v : Asked O E) → IsAsked (means f.parser) f v
+      → ReadsNext means (WaitsByNeed means) f (answer_of f.place v) (settled f v)
+  ReadsNext-settled p (asked.Value x n) (inl k) = absurd k
+  ReadsNext-settled p (asked.Value x n) (inr k) = (n, (k.1.0, k.1.1, k.1.2, refl))
+  ReadsNext-settled p (asked.Waits w) (inl k) = (
+    k.0,
+    λ input values h. let a = h.awaits (omega (arith, k.2)) in (a.0, (a.1.0, (a.1.1.0, omega (arith, k.2, a.1.1.1)))),
+    λ l. absurd (omega (arith, k.2, l)),
+    refl,
+  )
+  ReadsNext-settled p (asked.Waits w) (inr k) = let m = k.1.1 in (
+    k.1.0,
+    λ input values h. ([], (size_of m.0, (asks-now means f m.0 m.1.0, size_of-positive m.0))),
+    λ l. m,
+    refl,
+  )
+  ReadsNext-settled p asked.Done (inl k) = (k, refl)
+  ReadsNext-settled p asked.Done (inr k) = absurd k.1
+  ReadsNext-settled p (asked.Failed e there cut) (inl k) = absurd k
+  ReadsNext-settled p (asked.Failed e there cut) (inr k) = ((k.1.0, stops-stay means f p cut there k.1.0 k.1.1), refl)
+  ReadsNext-settled p asked.Idle (inl k) = absurd k
+  ReadsNext-settled p asked.Idle (inr k) =
+      ((refl, (k.1.0, value-stays (means f.parser) p f.ended f.place f.ahead k.1.0 f.place f.ahead k.1.1)), refl)
+  ReadsNext-settled p (asked.Refused r) (inl k) = absurd k
+  ReadsNext-settled p (asked.Refused r) (inr k) = (k.1, refl)
 
   -- it is done just at the end
   pub IsDoneAtEnd-settled : (v : Asked O E) → IsAsked (means f.parser) f v
@@ -103,40 +105,6 @@ module _ {R O E : Type 0} (means : R → Meaning O ℕ) (f : ReaderState R) wher
   IsDoneAtEnd-settled asked.Idle (inr k) = (λ e. absurd (cc), λ e. absurd (k.0.0 e.0 e.1))
   IsDoneAtEnd-settled (asked.Refused r) (inl k) = absurd k
   IsDoneAtEnd-settled (asked.Refused r) (inr k) = (λ e. absurd (cc), λ e. absurd (k.0.0 e.0 e.1))
-
-  -- a failure is the parser's
-  pub FailsWell-settled : IsParser (means f.parser) → (v : Asked O E) → IsAsked (means f.parser) f v
-      → FailsWell means f (answer_of f.place v)
-  FailsWell-settled p (asked.Value x n) k = tt
-  FailsWell-settled p (asked.Waits w) k = tt
-  FailsWell-settled p asked.Done k = tt
-  FailsWell-settled p (asked.Failed e there cut) (inl k) = absurd k
-  FailsWell-settled p (asked.Failed e there cut) (inr k) = (k.1.0, stops-stay means f p cut there k.1.0 k.1.1)
-  FailsWell-settled p asked.Idle (inl k) = absurd k
-  FailsWell-settled p asked.Idle (inr k) =
-      (refl, (k.1.0, value-stays (means f.parser) p f.ended f.place f.ahead k.1.0 f.place f.ahead k.1.1))
-  FailsWell-settled p (asked.Refused r) (inl k) = absurd k
-  FailsWell-settled p (asked.Refused r) (inr k) = k.1
-
-  -- without a value the reader stays
-  pub StaysWithout-settled : (v : Asked O E) → StaysWithout f (answer_of f.place v) (settled f v)
-  StaysWithout-settled (asked.Value x n) = tt
-  StaysWithout-settled (asked.Waits w) = refl
-  StaysWithout-settled asked.Done = refl
-  StaysWithout-settled (asked.Failed e there cut) = refl
-  StaysWithout-settled asked.Idle = refl
-  StaysWithout-settled (asked.Refused r) = refl
-
-  -- as many are wanted as the parser needs
-  pub WantsNeeded-settled : (v : Asked O E) → IsAsked (means f.parser) f v
-      → WantsNeeded means f (answer_of f.place v) (settled f v)
-  WantsNeeded-settled (asked.Value x n) k = tt
-  WantsNeeded-settled (asked.Waits w) (inl k) = λ l. absurd (omega (arith, k.2, l))
-  WantsNeeded-settled (asked.Waits w) (inr k) = λ l. k.1.1
-  WantsNeeded-settled asked.Done k = tt
-  WantsNeeded-settled (asked.Failed e there cut) k = tt
-  WantsNeeded-settled asked.Idle k = tt
-  WantsNeeded-settled (asked.Refused r) k = tt
 
   -- before as many bytes are ahead as are wanted, the reader stays
   pub StaysTillWanted-settled : (v : Asked O E) → IsAsked (means f.parser) f v

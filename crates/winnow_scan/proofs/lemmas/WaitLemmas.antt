@@ -12,9 +12,9 @@ use Rattle.winnow_reader.specs.Place.{bytes_at}
 use Rattle.winnow_reader.specs.Wanted.{size_of}
 use Rattle.winnow_reader.specs.State.{ReaderState}
 use Rattle.winnow_reader.specs.Reading.{Lacks}
-use Rattle.winnow_reader.specs.Answering.{GivesValue, WaitsWell, WantsNeeded, StaysWithout}
+use Rattle.winnow_reader.specs.Answering.{ReadsNext, WaitsByNeed}
 use Rattle.winnow_scan.specs.Scanning.{Awaits, AwaitsMore}
-use Rattle.winnow_scan.specs.Waiting.{WaitsByScan, WantsByScan}
+use Rattle.winnow_scan.specs.Waiting.{WaitsByScan}
 
 -- a need is at least one byte
 size_of-positive : (need : Needed) → 0 < size_of need
@@ -53,25 +53,19 @@ module _ {R O : Type 0} (means : R → Meaning O ℕ) (f : ReaderState R) where
 
 module _ {R O E S : Type 0} (means : R → Meaning O ℕ) (scanned : R → List ℕ → S → Type 0) (old new : ReaderState R) where
   -- when the record is asked, it stays the same
-  pub parser-asked : (result : Result (Next O) (ReadError E)) → GivesValue means old result new
-      → StaysWithout old result new → new.parser ≡ old.parser
-  parser-asked (Ok NeedsMore) h e = ap (λ (f : ReaderState R). f.parser) e
-  parser-asked (Ok (Value x)) h e = ap (λ (f : ReaderState R). f.parser) h.1.3
-  parser-asked (Ok Done) h e = ap (λ (f : ReaderState R). f.parser) e
-  parser-asked (Err error) h e = ap (λ (f : ReaderState R). f.parser) e
+  pub parser-asked : (result : Result (Next O) (ReadError E))
+      → ReadsNext means (WaitsByNeed means) old result new → new.parser ≡ old.parser
+  parser-asked (Ok NeedsMore) h = ap (λ (f : ReaderState R). f.parser) h.3
+  parser-asked (Ok (Value x)) h = ap (λ (f : ReaderState R). f.parser) h.1.3
+  parser-asked (Ok Done) h = ap (λ (f : ReaderState R). f.parser) h.1
+  parser-asked (Err error) h = ap (λ (f : ReaderState R). f.parser) h.1
 
-  -- more is needed when it needs more
-  pub WaitsByScan-asked : (result : Result (Next O) (ReadError E)) → WaitsWell means old result
-      → WaitsByScan means scanned old result
-  WaitsByScan-asked (Ok NeedsMore) h = (h.0, λ input values read. inl (h.1 input values read))
-  WaitsByScan-asked (Ok (Value x)) h = tt
-  WaitsByScan-asked (Ok Done) h = tt
-  WaitsByScan-asked (Err e) h = tt
-
-  -- as much is wanted as it needs
-  pub WantsByScan-asked : (result : Result (Next O) (ReadError E))
-      → WantsNeeded means old result new → WantsByScan means scanned old result new
-  WantsByScan-asked (Ok NeedsMore) h = λ l. inl (h l)
-  WantsByScan-asked (Ok (Value x)) h = tt
-  WantsByScan-asked (Ok Done) h = tt
-  WantsByScan-asked (Err e) h = tt
+  -- what it returns when the record is asked is what it returns by its scan
+  pub ReadsNext-asked : (result : Result (Next O) (ReadError E))
+      → ReadsNext means (WaitsByNeed means) old result new
+      → ReadsNext means (WaitsByScan means scanned) old result new
+  ReadsNext-asked (Ok NeedsMore) h =
+      (h.0, λ input values read. inl (h.1 input values read), λ l. inl (h.2 l), h.3)
+  ReadsNext-asked (Ok (Value x)) h = h
+  ReadsNext-asked (Ok Done) h = h
+  ReadsNext-asked (Err e) h = h

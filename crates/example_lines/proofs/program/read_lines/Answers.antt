@@ -13,7 +13,7 @@ returns-in_err-reserve-clause-read c = λ input h.
 pub loop-reader-preserved : goal.loop-reader-preserved
 loop-reader-preserved c = record {
   goes_on =
-      let value = rw c.in-Ok-Value.field-0-is at c.in-Ok-Value.ensures.value in
+      let value = rw c.in-Ok-Value.field-0-is at c.in-Ok-Value.ensures.next in
       ap (λ f. f.ended) value.1.3 ∙ c.loop-reader.invariant.goes_on;
   read = λ input h.
       let reads = rw c.in-Ok-Value.field-0-is at c.in-Ok-Value.ensures.read in
@@ -31,10 +31,9 @@ returns-in-Ok-NeedsMore-clause-read c = λ input h.
 
 pub returns-in-Ok-NeedsMore-clause-all : goal.returns-in-Ok-NeedsMore-clause-all
 returns-in-Ok-NeedsMore-clause-all c = λ input h.
-    let waits = rw c.in-Ok-NeedsMore.field-0-is at c.in-Ok-NeedsMore.ensures.waits in
-    let kept = rw c.in-Ok-NeedsMore.field-0-is at c.in-Ok-NeedsMore.ensures.kept in
+    let waits = rw c.in-Ok-NeedsMore.field-0-is at c.in-Ok-NeedsMore.ensures.next in
     let lacks = waits.1 input c.loop-reader.lines.items (c.loop-reader.invariant.read input h) in
-    subst (λ f. Lacks (λ r. OneLine) f) (sym kept) lacks
+    subst (λ f. Lacks (λ r. OneLine) f) (sym waits.3) lacks
 
 pub returns-in-Err-Refused-clause-read : goal.returns-in-Err-Refused-clause-read
 returns-in-Err-Refused-clause-read c = λ input h.
@@ -43,10 +42,10 @@ returns-in-Err-Refused-clause-read c = λ input h.
 
 pub unreachable-requires-in-Err-Failed : goal.unreachable-requires-in-Err-Failed
 unreachable-requires-in-Err-Failed c =
-    let failed = rw c.in-Err-Failed.field-0-is at c.in-Err-Failed.ensures.failed in
+    let failed = (rw c.in-Err-Failed.field-0-is at c.in-Err-Failed.ensures.next).0 in
     never-fails c.loop-reader.reader c.loop-reader.invariant.goes_on _ (FailsAt-by (λ r. OneLine) c.loop-reader.reader _ _ failed)
 
 pub unreachable-requires-in-Err-TakesNothing : goal.unreachable-requires-in-Err-TakesNothing
 unreachable-requires-in-Err-TakesNothing c =
-    let failed = rw c.in-Err-TakesNothing.field-0-is at c.in-Err-TakesNothing.ensures.failed in
+    let failed = (rw c.in-Err-TakesNothing.field-0-is at c.in-Err-TakesNothing.ensures.next).0 in
     never-idles c.loop-reader.reader c.loop-reader.invariant.goes_on _ failed

@@ -12,7 +12,7 @@ use Rattle.example_resp.proofs.program.next_reply.Goals as goal
 
 pub joined_with-requires-clause-other_counted : goal.joined_with-requires-clause-other_counted
 joined_with-requires-clause-other_counted c =
-    let v = rw c.in-Ok-Value.field-0-is at c.in-Ok-Value.ensures.value in
+    let v = rw c.in-Ok-Value.field-0-is at c.in-Ok-Value.ensures.next in
     let old = c.args.reader.now in
     let at = ap (λ (f : ReaderState PlacedReply). f.place) v.1.3 in
     let end = placed-end old.place v.0 old.ahead c.read_next.new.self c.in-Ok-Value.placed v.1.2.0 v.1.2.1.0 v.1.2.1.1.1 at in
@@ -20,7 +20,7 @@ joined_with-requires-clause-other_counted c =
 
 pub joined_with-requires-clause-fits : goal.joined_with-requires-clause-fits
 joined_with-requires-clause-fits c =
-    let v = rw c.in-Ok-Value.field-0-is at c.in-Ok-Value.ensures.value in
+    let v = rw c.in-Ok-Value.field-0-is at c.in-Ok-Value.ensures.next in
     let old = c.args.reader.now in
     let at = ap (λ (f : ReaderState PlacedReply). f.place) v.1.3 in
     let end = placed-end old.place v.0 old.ahead c.read_next.new.self c.in-Ok-Value.placed v.1.2.0 v.1.2.1.0 v.1.2.1.1.1 at in
@@ -28,7 +28,7 @@ joined_with-requires-clause-fits c =
 
 pub returns-in-Ok-Value-clause-steady : goal.returns-in-Ok-Value-clause-steady
 returns-in-Ok-Value-clause-steady c =
-    let v = rw c.in-Ok-Value.field-0-is at c.in-Ok-Value.ensures.value in
+    let v = rw c.in-Ok-Value.field-0-is at c.in-Ok-Value.ensures.next in
     let old = c.args.reader.now in
     let at = ap (λ (f : ReaderState PlacedReply). f.place) v.1.3 in
     let end = placed-end old.place v.0 old.ahead c.read_next.new.self c.in-Ok-Value.placed v.1.2.0 v.1.2.1.0 v.1.2.1.1.1 at in
@@ -37,7 +37,7 @@ returns-in-Ok-Value-clause-steady c =
 
 pub returns-in-Ok-Value-clause-stands : goal.returns-in-Ok-Value-clause-stands
 returns-in-Ok-Value-clause-stands c = λ input s.
-    let v = rw c.in-Ok-Value.field-0-is at c.in-Ok-Value.ensures.value in
+    let v = rw c.in-Ok-Value.field-0-is at c.in-Ok-Value.ensures.next in
     let old = c.args.reader.now in
     let at = ap (λ (f : ReaderState PlacedReply). f.place) v.1.3 in
     let end = placed-end old.place v.0 old.ahead c.read_next.new.self c.in-Ok-Value.placed v.1.2.0 v.1.2.1.0 v.1.2.1.1.1 at in
@@ -57,14 +57,13 @@ returns-in-Ok-NeedsMore-clause-reads c = λ input values h.
 
 pub returns-in-Ok-NeedsMore-clause-none : goal.returns-in-Ok-NeedsMore-clause-none
 returns-in-Ok-NeedsMore-clause-none c =
-    let kept = rw c.in-Ok-NeedsMore.field-0-is at c.in-Ok-NeedsMore.ensures.kept in
-    let waits = rw c.in-Ok-NeedsMore.field-0-is at c.in-Ok-NeedsMore.ensures.waits in
-    waits-none _ c.args.reader.now c.read_next.new.self kept waits.0 waits.1
+    let waits = rw c.in-Ok-NeedsMore.field-0-is at c.in-Ok-NeedsMore.ensures.next in
+    waits-none _ c.args.reader.now c.read_next.new.self waits.3 waits.0 waits.1
 
 pub returns-in-Err-Failed-clause-failed : goal.returns-in-Err-Failed-clause-failed
 returns-in-Err-Failed-clause-failed c =
-    let by = rw c.in-Err-Failed.field-0-is at c.in-Err-Failed.ensures.failed in
-    let kept = c.in-Err-Failed.ensures.kept in
+    let by = (rw c.in-Err-Failed.field-0-is at c.in-Err-Failed.ensures.next).0 in
+    let kept = c.in-Err-Failed.ensures.next.1 in
     let old = c.args.reader.now in
     let told = c.cause_ahead-cause.result in
     let there = c.in-Err-Failed.failed in
@@ -76,8 +75,8 @@ returns-in-Err-Failed-clause-failed c =
 
 pub returns-in-Err-TakesNothing-clause-failed : goal.returns-in-Err-TakesNothing-clause-failed
 returns-in-Err-TakesNothing-clause-failed c =
-    let failed = rw c.in-Err-TakesNothing.field-0-is at c.in-Err-TakesNothing.ensures.failed in
-    let kept = c.in-Err-TakesNothing.ensures.kept in
+    let failed = (rw c.in-Err-TakesNothing.field-0-is at c.in-Err-TakesNothing.ensures.next).0 in
+    let kept = c.in-Err-TakesNothing.ensures.next.1 in
     stuck-there ghosts.means c.failure_law.ensures
     c.args.reader.now c.read_next.new.self c.args.place.now c.place_ahead-in-Err-TakesNothing.result c.cause_ahead-cause-in-Err-TakesNothing.result c.in-Err-TakesNothing.failed
     kept c.requires (inr failed) c.place_ahead-in-Err-TakesNothing.ensures

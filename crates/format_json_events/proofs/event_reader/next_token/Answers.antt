@@ -1,6 +1,6 @@
 use Rattle.std.proofs.Common.{ap, sym, ◌∙◌, subst}
 use Rattle.std.specs.Prelude.{Ok, Err}
-use Rattle.winnow.specs.Answering.{StaysWithout}
+use Rattle.winnow.specs.Answering.{ReadsNext}
 use Rattle.winnow.specs.Waiting.{WaitsByScan}
 use Rattle.winnow_reader.specs.declared.next.Next.TheVariants as next
 use Rattle.format_json.specs.TokenAnswers.{OneToken}
@@ -17,36 +17,37 @@ pub returns-in-Ok-Value-End : goal.returns-in-Ok-Value-End
 returns-in-Ok-Value-End c =
     let e = c.in-Ok-Value-End.is ∙ ap Ok (c.in-Ok-Value-End.field-0-is ∙ ap next.Value c.in-Ok-Value-End.field-0-0-is) in
     end-brings c.args.tokens.now c.read_next.new.self
-    (value-brings c.args.tokens.now c.read_next.new.self token.End c.read_next.result e c.read_next.ensures.value c.read_next.ensures.read)
+    (value-brings c.args.tokens.now c.read_next.new.self token.End c.read_next.result e c.read_next.ensures.next c.read_next.ensures.read)
 
 pub returns-in-Ok-Value : goal.returns-in-Ok-Value
 returns-in-Ok-Value c =
     let e = c.in-Ok-Value.is ∙ ap Ok c.in-Ok-Value.field-0-is in
-    value-brings c.args.tokens.now c.read_next.new.self c.in-Ok-Value.token c.read_next.result e c.read_next.ensures.value c.read_next.ensures.read
+    value-brings c.args.tokens.now c.read_next.new.self c.in-Ok-Value.token c.read_next.result e c.read_next.ensures.next c.read_next.ensures.read
 
 pub returns-in-Ok-NeedsMore : goal.returns-in-Ok-NeedsMore
 returns-in-Ok-NeedsMore c =
     let e = c.in-Ok-NeedsMore.is ∙ ap Ok c.in-Ok-NeedsMore.field-0-is in
-    let waits = subst (WaitsByScan (λ p. OneToken) (λ p. IsScanned) c.args.tokens.now) e c.read_next.ensures.waits in (
-      subst (λ r. StaysWithout c.args.tokens.now r c.read_next.new.self) e c.read_next.ensures.kept,
-      awaits-scanned c.args.tokens.now waits.0 waits.1,
+    let old = c.args.tokens.now in
+    let waits = subst (λ r. ReadsNext (λ p. OneToken) (WaitsByScan (λ p. OneToken) (λ p. IsScanned)) old r c.read_next.new.self) e c.read_next.ensures.next in (
+      waits.3,
+      awaits-scanned old waits.0 waits.1,
       waits-read c.args.tokens.now c.read_next.new.self c.read_next.result e c.read_next.ensures.read,
     )
 
 pub damage_at-requires : goal.damage_at-requires
 damage_at-requires c =
     let e = c.in-Err-Failed.is ∙ ap Err c.in-Err-Failed.field-0-is in
-    let there = failed-there c.args.tokens.now c.read_next.new.self _ c.in-Err-Failed.place _ c.read_next.result e c.read_next.ensures.failed c.read_next.ensures.kept in
+    let there = failed-there c.args.tokens.now c.read_next.new.self _ c.in-Err-Failed.place _ c.read_next.result e c.read_next.ensures.next in
     subst (λ r. FindsDamage r c.in-Err-Failed.place) (sym there.0) there.1
 
 pub returns-in-Err-Failed : goal.returns-in-Err-Failed
 returns-in-Err-Failed c =
     let e = c.in-Err-Failed.is ∙ ap Err c.in-Err-Failed.field-0-is in
-    let there = failed-there c.args.tokens.now c.read_next.new.self _ c.in-Err-Failed.place _ c.read_next.result e c.read_next.ensures.failed c.read_next.ensures.kept in
+    let there = failed-there c.args.tokens.now c.read_next.new.self _ c.in-Err-Failed.place _ c.read_next.result e c.read_next.ensures.next in
     (there.0, subst (λ r. IsNoNext (state_of c.args.syntax.now) r c.damage_at.result) there.0 c.damage_at.ensures)
 
 -- a reader with nothing left is done, and elsewhere a token takes something
 pub unreachable-requires : goal.unreachable-requires
 unreachable-requires c =
     let e = c.in-Err-TakesNothing.is ∙ ap Err c.in-Err-TakesNothing.field-0-is in
-    never-idle c.args.tokens.now _ c.read_next.result e c.read_next.ensures.failed c.read_next.ensures.done
+    never-idle c.args.tokens.now c.read_next.new.self _ c.read_next.result e c.read_next.ensures.next c.read_next.ensures.done

@@ -1,8 +1,8 @@
 use Rattle.std.proofs.Common.{subst, sym}
 use Rattle.winnow_reader.specs.Reading.{ReadsOn}
-use Rattle.winnow_reader.specs.Answering.{GivesValue, WaitsWell, IsDoneAtEnd, FailsWell, StaysWithout, WantsNeeded, StaysTillWanted}
+use Rattle.winnow_reader.specs.Answering.{ReadsNext, WaitsByNeed, IsDoneAtEnd, StaysTillWanted}
 use Rattle.winnow_reader.specs.Asked.{answer_of}
-use Rattle.winnow_reader.proofs.lemmas.AskedLemmas.{IsWithin-asked, ReadsOn-settled, GivesValue-settled, WaitsWell-settled, IsDoneAtEnd-settled, FailsWell-settled, StaysWithout-settled, WantsNeeded-settled, StaysTillWanted-settled}
+use Rattle.winnow_reader.proofs.lemmas.AskedLemmas.{IsWithin-asked, ReadsOn-settled, ReadsNext-settled, IsDoneAtEnd-settled, StaysTillWanted-settled}
 use Rattle.winnow_reader.proofs.byte_reader.ByteReader.read_next.Goals as goal
 
 pub settle-requires : goal.settle-requires
@@ -17,46 +17,19 @@ returns-clause-read g c =
     (subst (λ s. ReadsOn means old (answer_of old.place asked) s) (sym c.settle.ensures.state)
     (ReadsOn-settled means old (g.met.R.Record.lawful old.parser) asked c.ask-asked.ensures))
 
-pub returns-clause-value : goal.returns-clause-value
-returns-clause-value g c =
+pub returns-clause-next : goal.returns-clause-next
+returns-clause-next g c =
     let means = g.R.Record.means in
     let old = c.args.self.now in
     let asked = c.ask-asked.result in
-    subst (λ r. GivesValue means old r c.settle.new.self) (sym c.settle.ensures.answer)
-    (subst (λ s. GivesValue means old (answer_of old.place asked) s) (sym c.settle.ensures.state) (GivesValue-settled means old asked c.ask-asked.ensures))
-
-pub returns-clause-waits : goal.returns-clause-waits
-returns-clause-waits g c =
-    let means = g.R.Record.means in
-    let old = c.args.self.now in
-    subst (λ r. WaitsWell means old r) (sym c.settle.ensures.answer) (WaitsWell-settled means old c.ask-asked.result c.ask-asked.ensures)
+    subst (λ r. ReadsNext means (WaitsByNeed means) old r c.settle.new.self) (sym c.settle.ensures.answer)
+    (subst (λ s. ReadsNext means (WaitsByNeed means) old (answer_of old.place asked) s) (sym c.settle.ensures.state)
+    (ReadsNext-settled means old (g.met.R.Record.lawful old.parser) asked c.ask-asked.ensures))
 
 pub returns-clause-done : goal.returns-clause-done
 returns-clause-done g c =
     let old = c.args.self.now in
     subst (λ r. IsDoneAtEnd old r) (sym c.settle.ensures.answer) (IsDoneAtEnd-settled g.R.Record.means old c.ask-asked.result c.ask-asked.ensures)
-
-pub returns-clause-failed : goal.returns-clause-failed
-returns-clause-failed g c =
-    let means = g.R.Record.means in
-    let old = c.args.self.now in
-    subst (λ r. FailsWell means old r) (sym c.settle.ensures.answer)
-    (FailsWell-settled means old (g.met.R.Record.lawful old.parser) c.ask-asked.result c.ask-asked.ensures)
-
-pub returns-clause-kept : goal.returns-clause-kept
-returns-clause-kept g c =
-    let old = c.args.self.now in
-    let asked = c.ask-asked.result in
-    subst (λ r. StaysWithout old r c.settle.new.self) (sym c.settle.ensures.answer)
-    (subst (λ s. StaysWithout old (answer_of old.place asked) s) (sym c.settle.ensures.state) (StaysWithout-settled g.R.Record.means old asked))
-
-pub returns-clause-wants : goal.returns-clause-wants
-returns-clause-wants g c =
-    let means = g.R.Record.means in
-    let old = c.args.self.now in
-    let asked = c.ask-asked.result in
-    subst (λ r. WantsNeeded means old r c.settle.new.self) (sym c.settle.ensures.answer)
-    (subst (λ s. WantsNeeded means old (answer_of old.place asked) s) (sym c.settle.ensures.state) (WantsNeeded-settled means old asked c.ask-asked.ensures))
 
 pub returns-clause-early : goal.returns-clause-early
 returns-clause-early g c =
