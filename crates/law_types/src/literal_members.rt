@@ -8,7 +8,7 @@ ghost use Rattle.winnow_match.specs.Search.{hit, bytes_of_needles};
 ghost use Rattle.winnow_stream.specs.Source.{Source};
 
 use std::fmt::Debug;
-use winnow_kinds::BStr;
+use winnow_kinds::{BStr, ByteNeedles};
 use winnow_match::{Compare, FindSlice, Needles};
 use winnow_recover::Recoverable;
 use winnow_stream_bytes::Bytes;
@@ -148,119 +148,69 @@ pub fn byte_search_of_text_law()
         ∷ []) (bytes_of r) }
 {}
 
-/// The same in a `BStr`.
-pub fn bstr_search_law()
-    ensures slice { (needle : _) (r : Source ℕ)
-        → ⟦<BStr<'static> as FindSlice<&'static [u8]>>⟧.found needle r
-        ≡ hit (needle.now ∷ []) (bytes_of r) }
-    ensures one_slice { (needle : _) (r : Source ℕ)
-        → ⟦<BStr<'static> as FindSlice<(&'static [u8],)>>⟧.found needle r
-        ≡ hit (needle.0.now ∷ []) (bytes_of r) }
-    ensures two_slices { (needle : _) (r : Source ℕ)
-        → ⟦<BStr<'static> as FindSlice<(&'static [u8], &'static [u8])>>⟧.found needle r
-        ≡ hit (needle.0.now ∷ needle.1.now ∷ []) (bytes_of r) }
-    ensures three_slices { (needle : _) (r : Source ℕ)
-        → ⟦<BStr<'static> as FindSlice<(&'static [u8], &'static [u8], &'static [u8])>>⟧.found needle
-        r
-        ≡ hit (needle.0.now ∷ needle.1.now ∷ needle.2.now ∷ []) (bytes_of r) }
-    ensures any_slices { (needle : _) (r : Source ℕ)
-        → ⟦<BStr<'static> as FindSlice<Needles<&'static [u8]>>>⟧.found needle r
-        ≡ hit (bytes_of_needles needle) (bytes_of r) }
-    ensures byte { (needle : _) (r : Source ℕ)
-        → ⟦<BStr<'static> as FindSlice<u8>>⟧.found needle r
-        ≡ hit ((needle ∷ []) ∷ []) (bytes_of r) }
-    ensures one_byte { (needle : _) (r : Source ℕ)
-        → ⟦<BStr<'static> as FindSlice<(u8,)>>⟧.found needle r
-        ≡ hit ((needle.0 ∷ []) ∷ []) (bytes_of r) }
-    ensures two_bytes { (needle : _) (r : Source ℕ)
-        → ⟦<BStr<'static> as FindSlice<(u8, u8)>>⟧.found needle r
-        ≡ hit ((needle.0 ∷ []) ∷ (needle.1 ∷ []) ∷ []) (bytes_of r) }
-    ensures three_bytes { (needle : _) (r : Source ℕ)
-        → ⟦<BStr<'static> as FindSlice<(u8, u8, u8)>>⟧.found needle r
-        ≡ hit ((needle.0 ∷ []) ∷ (needle.1 ∷ []) ∷ (needle.2 ∷ []) ∷ []) (bytes_of r) }
-    ensures text { (needle : _) (r : Source ℕ)
-        → ⟦<BStr<'static> as FindSlice<&'static str>>⟧.found needle r
-        ≡ hit (needle.now ∷ []) (bytes_of r) }
-    ensures one_text { (needle : _) (r : Source ℕ)
-        → ⟦<BStr<'static> as FindSlice<(&'static str,)>>⟧.found needle r
-        ≡ hit (needle.0.now ∷ []) (bytes_of r) }
-    ensures two_texts { (needle : _) (r : Source ℕ)
-        → ⟦<BStr<'static> as FindSlice<(&'static str, &'static str)>>⟧.found needle r
-        ≡ hit (needle.0.now ∷ needle.1.now ∷ []) (bytes_of r) }
-    ensures three_texts { (needle : _) (r : Source ℕ)
-        → ⟦<BStr<'static> as FindSlice<(&'static str, &'static str, &'static str)>>⟧.found needle r
-        ≡ hit (needle.0.now ∷ needle.1.now ∷ needle.2.now ∷ []) (bytes_of r) }
-    ensures char { (needle : _) (r : Source ℕ)
-        → ⟦<BStr<'static> as FindSlice<char>>⟧.found needle r
-        ≡ hit (encode_utf8 needle ∷ []) (bytes_of r) }
-    ensures one_char { (needle : _) (r : Source ℕ)
-        → ⟦<BStr<'static> as FindSlice<(char,)>>⟧.found needle r
-        ≡ hit (encode_utf8 needle.0 ∷ []) (bytes_of r) }
-    ensures two_chars { (needle : _) (r : Source ℕ)
-        → ⟦<BStr<'static> as FindSlice<(char, char)>>⟧.found needle r
-        ≡ hit (encode_utf8 needle.0 ∷ encode_utf8 needle.1 ∷ []) (bytes_of r) }
-    ensures three_chars { (needle : _) (r : Source ℕ)
-        → ⟦<BStr<'static> as FindSlice<(char, char, char)>>⟧.found needle r
-        ≡ hit (encode_utf8 needle.0 ∷ encode_utf8 needle.1 ∷ encode_utf8 needle.2
-        ∷ []) (bytes_of r) }
+/// A `BStr` and `Bytes` are searched by the bytes of the needles, whatever their type.
+pub fn byte_kind_search_law<T: ByteNeedles>()
+    ensures bstr { (needle : T) (r : Source ℕ)
+        → ⟦<BStr<'static> as FindSlice<T>>⟧.found needle r
+        ≡ hit (T.needle_bytes needle) (bytes_of r) }
+    ensures bytes { (needle : T) (r : Source ℕ)
+        → ⟦<Bytes<'static> as FindSlice<T>>⟧.found needle r
+        ≡ hit (T.needle_bytes needle) (bytes_of r) }
 {}
 
-/// The same in `Bytes`.
-pub fn bytes_search_law()
-    ensures slice { (needle : _) (r : Source ℕ)
-        → ⟦<Bytes<'static> as FindSlice<&'static [u8]>>⟧.found needle r
-        ≡ hit (needle.now ∷ []) (bytes_of r) }
-    ensures one_slice { (needle : _) (r : Source ℕ)
-        → ⟦<Bytes<'static> as FindSlice<(&'static [u8],)>>⟧.found needle r
-        ≡ hit (needle.0.now ∷ []) (bytes_of r) }
-    ensures two_slices { (needle : _) (r : Source ℕ)
-        → ⟦<Bytes<'static> as FindSlice<(&'static [u8], &'static [u8])>>⟧.found needle r
-        ≡ hit (needle.0.now ∷ needle.1.now ∷ []) (bytes_of r) }
-    ensures three_slices { (needle : _) (r : Source ℕ)
-        → ⟦<Bytes<'static> as FindSlice<(&'static [u8], &'static [u8], &'static [u8])>>⟧.found
-        needle
-        r
-        ≡ hit (needle.0.now ∷ needle.1.now ∷ needle.2.now ∷ []) (bytes_of r) }
-    ensures any_slices { (needle : _) (r : Source ℕ)
-        → ⟦<Bytes<'static> as FindSlice<Needles<&'static [u8]>>>⟧.found needle r
-        ≡ hit (bytes_of_needles needle) (bytes_of r) }
-    ensures byte { (needle : _) (r : Source ℕ)
-        → ⟦<Bytes<'static> as FindSlice<u8>>⟧.found needle r
-        ≡ hit ((needle ∷ []) ∷ []) (bytes_of r) }
-    ensures one_byte { (needle : _) (r : Source ℕ)
-        → ⟦<Bytes<'static> as FindSlice<(u8,)>>⟧.found needle r
-        ≡ hit ((needle.0 ∷ []) ∷ []) (bytes_of r) }
-    ensures two_bytes { (needle : _) (r : Source ℕ)
-        → ⟦<Bytes<'static> as FindSlice<(u8, u8)>>⟧.found needle r
-        ≡ hit ((needle.0 ∷ []) ∷ (needle.1 ∷ []) ∷ []) (bytes_of r) }
-    ensures three_bytes { (needle : _) (r : Source ℕ)
-        → ⟦<Bytes<'static> as FindSlice<(u8, u8, u8)>>⟧.found needle r
-        ≡ hit ((needle.0 ∷ []) ∷ (needle.1 ∷ []) ∷ (needle.2 ∷ []) ∷ []) (bytes_of r) }
-    ensures text { (needle : _) (r : Source ℕ)
-        → ⟦<Bytes<'static> as FindSlice<&'static str>>⟧.found needle r
-        ≡ hit (needle.now ∷ []) (bytes_of r) }
-    ensures one_text { (needle : _) (r : Source ℕ)
-        → ⟦<Bytes<'static> as FindSlice<(&'static str,)>>⟧.found needle r
-        ≡ hit (needle.0.now ∷ []) (bytes_of r) }
-    ensures two_texts { (needle : _) (r : Source ℕ)
-        → ⟦<Bytes<'static> as FindSlice<(&'static str, &'static str)>>⟧.found needle r
-        ≡ hit (needle.0.now ∷ needle.1.now ∷ []) (bytes_of r) }
-    ensures three_texts { (needle : _) (r : Source ℕ)
-        → ⟦<Bytes<'static> as FindSlice<(&'static str, &'static str, &'static str)>>⟧.found needle r
-        ≡ hit (needle.0.now ∷ needle.1.now ∷ needle.2.now ∷ []) (bytes_of r) }
-    ensures char { (needle : _) (r : Source ℕ)
-        → ⟦<Bytes<'static> as FindSlice<char>>⟧.found needle r
-        ≡ hit (encode_utf8 needle ∷ []) (bytes_of r) }
-    ensures one_char { (needle : _) (r : Source ℕ)
-        → ⟦<Bytes<'static> as FindSlice<(char,)>>⟧.found needle r
-        ≡ hit (encode_utf8 needle.0 ∷ []) (bytes_of r) }
-    ensures two_chars { (needle : _) (r : Source ℕ)
-        → ⟦<Bytes<'static> as FindSlice<(char, char)>>⟧.found needle r
-        ≡ hit (encode_utf8 needle.0 ∷ encode_utf8 needle.1 ∷ []) (bytes_of r) }
-    ensures three_chars { (needle : _) (r : Source ℕ)
-        → ⟦<Bytes<'static> as FindSlice<(char, char, char)>>⟧.found needle r
-        ≡ hit (encode_utf8 needle.0 ∷ encode_utf8 needle.1 ∷ encode_utf8 needle.2
-        ∷ []) (bytes_of r) }
+/// The bytes of each type of needles, in the order in which they are listed.
+pub fn needle_bytes_law()
+    ensures slice { (needle : _)
+        → ⟦<&'static [u8] as ByteNeedles>⟧.needle_bytes needle
+        ≡ needle.now ∷ [] }
+    ensures one_slice { (needle : _)
+        → ⟦<(&'static [u8],) as ByteNeedles>⟧.needle_bytes needle
+        ≡ needle.0.now ∷ [] }
+    ensures two_slices { (needle : _)
+        → ⟦<(&'static [u8], &'static [u8]) as ByteNeedles>⟧.needle_bytes needle
+        ≡ needle.0.now ∷ needle.1.now ∷ [] }
+    ensures three_slices { (needle : _)
+        → ⟦<(&'static [u8], &'static [u8], &'static [u8]) as ByteNeedles>⟧.needle_bytes needle
+        ≡ needle.0.now ∷ needle.1.now ∷ needle.2.now ∷ [] }
+    ensures any_slices { (needle : _)
+        → ⟦<Needles<&'static [u8]> as ByteNeedles>⟧.needle_bytes needle
+        ≡ bytes_of_needles needle }
+    ensures byte { (needle : _)
+        → ⟦<u8 as ByteNeedles>⟧.needle_bytes needle
+        ≡ (needle ∷ []) ∷ [] }
+    ensures one_byte { (needle : _)
+        → ⟦<(u8,) as ByteNeedles>⟧.needle_bytes needle
+        ≡ (needle.0 ∷ []) ∷ [] }
+    ensures two_bytes { (needle : _)
+        → ⟦<(u8, u8) as ByteNeedles>⟧.needle_bytes needle
+        ≡ (needle.0 ∷ []) ∷ (needle.1 ∷ []) ∷ [] }
+    ensures three_bytes { (needle : _)
+        → ⟦<(u8, u8, u8) as ByteNeedles>⟧.needle_bytes needle
+        ≡ (needle.0 ∷ []) ∷ (needle.1 ∷ []) ∷ (needle.2 ∷ []) ∷ [] }
+    ensures text { (needle : _)
+        → ⟦<&'static str as ByteNeedles>⟧.needle_bytes needle
+        ≡ needle.now ∷ [] }
+    ensures one_text { (needle : _)
+        → ⟦<(&'static str,) as ByteNeedles>⟧.needle_bytes needle
+        ≡ needle.0.now ∷ [] }
+    ensures two_texts { (needle : _)
+        → ⟦<(&'static str, &'static str) as ByteNeedles>⟧.needle_bytes needle
+        ≡ needle.0.now ∷ needle.1.now ∷ [] }
+    ensures three_texts { (needle : _)
+        → ⟦<(&'static str, &'static str, &'static str) as ByteNeedles>⟧.needle_bytes needle
+        ≡ needle.0.now ∷ needle.1.now ∷ needle.2.now ∷ [] }
+    ensures char { (needle : _)
+        → ⟦<char as ByteNeedles>⟧.needle_bytes needle
+        ≡ encode_utf8 needle ∷ [] }
+    ensures one_char { (needle : _)
+        → ⟦<(char,) as ByteNeedles>⟧.needle_bytes needle
+        ≡ encode_utf8 needle.0 ∷ [] }
+    ensures two_chars { (needle : _)
+        → ⟦<(char, char) as ByteNeedles>⟧.needle_bytes needle
+        ≡ encode_utf8 needle.0 ∷ encode_utf8 needle.1 ∷ [] }
+    ensures three_chars { (needle : _)
+        → ⟦<(char, char, char) as ByteNeedles>⟧.needle_bytes needle
+        ≡ encode_utf8 needle.0 ∷ encode_utf8 needle.1 ∷ encode_utf8 needle.2 ∷ [] }
 {}
 
 /// A needle is searched for in a text, UTF-8 in UTF-8.

@@ -1,14 +1,17 @@
 //! `look_call`, which looks at a call on kept input, with `Seen`, `Settled` and `Standing`.
 
 ghost use Rattle.std.specs.Prelude.{◌≡◌, ◌+◌, ◌<◌, ◌^◌, ◌≤◌, ◌∷◌, ◌++◌, [], false, slice_get};
-ghost use Rattle.std.specs.Prelude.{IsTrue, vec_len, vec_capacity};
-ghost use Rattle.winnow_stream.specs.Source.{width, first_offset};
-ghost use Rattle.winnow_stream.specs.Front.{is_offset};
+ghost use Rattle.std.specs.Prelude.{IsTrue, vec_len, vec_capacity, cond, nat_le, is_some};
+ghost use Rattle.std.specs.Prelude.{true, unwrap_or};
+ghost use Rattle.winnow_stream.specs.Source.{width, first_offset, first_token};
+ghost use Rattle.winnow_stream.specs.Front.{is_offset, front_count};
 ghost use Rattle.winnow_stream.specs.Shortage.{offset_at};
 ghost use Rattle.winnow_script_attempt.specs.Settled.{NoneInSet, AreCounted, IsCallSettled};
 ghost use Rattle.winnow_script_attempt.specs.Settled.{nothing_settled};
 ghost use Rattle.winnow_script_attempt.specs.Looks.{in_set, first_width, GrowsByOne, call_look};
-ghost use Rattle.winnow_script_attempt.specs.Looks.{seen_of, under};
+ghost use Rattle.winnow_script_attempt.specs.Looks.{seen_of, under, placed_since};
+ghost use Rattle.winnow_script_run.specs.Script.{slice_answer, reset_answer};
+ghost use Rattle.winnow_script_run.specs.declared.script.Answer.TheVariants.{Token, Marked};
 ghost use Rattle.winnow_script_run.specs.declared.search_steps.SearchAnswer.TheVariants as
     search_answered;
 
@@ -187,6 +190,142 @@ fn has_offset<S: Stream>(rest: &S, offset: usize) -> bool
     rest.is_offset(offset)
 }
 
+// Appends the first token, if there is one, for a call that leads to the place.
+#[inline(always)]
+fn show_token<S: Kept>(
+    told: &mut Vec<Told<S::Token>>,
+    piece: Option<u64>,
+    rest: S,
+    next: usize,
+) -> Seen
+where
+    S::Token: Drop,
+    requires valid { S.valid rest }
+    requires told_room { vec_len told.old < vec_capacity told.old }
+    ensures seen { result ≡ record {
+      definite = is_some (first_token (S.remaining rest));
+      place = next;
+      marks = false;
+    } }
+    ensures items { told.new.items ≡ told.old.items ++ under piece
+        (search_answered.Call (Token (first_token (S.remaining rest)))) ∷ [] }
+    ensures grows { GrowsByOne told.old told.new }
+{
+    let token = rest.peek_token();
+    let definite = token.is_some();
+    shown(told, piece, Answer::Token(token), definite, next)
+}
+
+// Appends the slice of that width, for a call that moves past it or stays, or that the offset is
+// not valid.
+#[tactic(auto, using(crate::proofs::lemmas::LookLemmas::looks))]
+#[inline(always)]
+fn show_slice<S: Kept>(
+    told: &mut Vec<Told<S::Token>>,
+    piece: Option<u64>,
+    rest: S,
+    place: usize,
+    n: usize,
+    moves: bool,
+) -> Seen
+where
+    S::Token: Drop,
+    requires valid { S.valid rest }
+    requires room { place + width (S.remaining rest) < 2 ^ 64 }
+    requires told_room { vec_len told.old < vec_capacity told.old }
+    ensures seen { result ≡ record {
+      definite = nat_le n (width (S.remaining rest));
+      place = cond moves (cond (is_offset (S.remaining rest) n) (place + n) place) place;
+      marks = false;
+    } }
+    ensures items { told.new.items ≡ told.old.items ++ under piece
+        (search_answered.Call (slice_answer place n (front_count (S.remaining rest) n))) ∷ [] }
+    ensures grows { GrowsByOne told.old told.new }
+{
+    let left = rest.eof_offset();
+    if !has_offset(&rest, n) {
+        shown(told, piece, Answer::BadOffset, n <= left, place)
+    } else if moves {
+        let end = place + n;
+        shown(told, piece, Answer::Slice(place..end), n <= left, end)
+    } else {
+        let end = place + n;
+        shown(told, piece, Answer::Slice(place..end), n <= left, place)
+    }
+}
+
+// Appends the number of a mark, which the call makes at the place.
+#[inline(always)]
+fn show_mark<T: Drop>(
+    told: &mut Vec<Told<T>>,
+    piece: Option<u64>,
+    place: usize,
+    number: usize,
+) -> Seen
+    requires { vec_len told.old < vec_capacity told.old }
+    ensures seen { result ≡ record { definite = true; place = place; marks = true } }
+    ensures items { told.new.items ≡ told.old.items ++ under piece
+        (search_answered.Call (Marked number)) ∷ [] }
+    ensures grows { GrowsByOne told.old told.new }
+{
+    tell(told, piece, SearchAnswer::Call(Answer::Marked(number)));
+    Seen {
+        definite: true,
+        place,
+        marks: true,
+    }
+}
+
+// Appends whether there is a mark to go back to, and goes there.
+#[inline(always)]
+fn show_reset<T: Drop>(
+    told: &mut Vec<Told<T>>,
+    piece: Option<u64>,
+    place: usize,
+    mark: Option<usize>,
+) -> Seen
+    requires { vec_len told.old < vec_capacity told.old }
+    ensures seen { result ≡ record {
+      definite = true;
+      place = unwrap_or mark place;
+      marks = false;
+    } }
+    ensures items { told.new.items ≡ told.old.items ++ under piece
+        (search_answered.Call (reset_answer mark)) ∷ [] }
+    ensures grows { GrowsByOne told.old told.new }
+{
+    match mark {
+        Some(mark) => shown(told, piece, Answer::Done, true, mark),
+        None => shown(told, piece, Answer::NoMark, true, place),
+    }
+}
+
+// Appends the offset of the place from a mark, if there is one and it is not after the place.
+#[inline(always)]
+fn show_since<T: Drop>(
+    told: &mut Vec<Told<T>>,
+    piece: Option<u64>,
+    place: usize,
+    mark: Option<usize>,
+) -> Seen
+    requires { vec_len told.old < vec_capacity told.old }
+    ensures seen { result ≡ record { definite = true; place = place; marks = false } }
+    ensures items { told.new.items ≡ told.old.items ++ under piece
+        (search_answered.Call (placed_since place mark)) ∷ [] }
+    ensures grows { GrowsByOne told.old told.new }
+{
+    match mark {
+        Some(mark) => {
+            if mark <= place {
+                shown(told, piece, Answer::Offset(place - mark), true, place)
+            } else {
+                shown(told, piece, Answer::LaterMark, true, place)
+            }
+        }
+        None => shown(told, piece, Answer::NoMark, true, place),
+    }
+}
+
 /// Looks at a call, resuming after what it has settled, and appends its answer with the number of
 /// the piece.
 // Inlined into the loop over the steps, and each case appends its own answer: each returned value
@@ -221,103 +360,31 @@ where
         piece,
     } = here;
     let left = rest.eof_offset();
+    let end = place + left;
     match call {
-        Step::Next => {
-            let token = rest.peek_token();
-            let definite = token.is_some();
-            let next = place + width_of_first(rest);
-            shown(told, piece, Answer::Token(token), definite, next)
-        }
-        Step::Peek => {
-            let token = rest.peek_token();
-            let definite = token.is_some();
-            shown(told, piece, Answer::Token(token), definite, place)
-        }
-        Step::Take(n) => {
-            if has_offset(&rest, *n) {
-                shown(
-                    told,
-                    piece,
-                    Answer::Slice(place..place + *n),
-                    *n <= left,
-                    place + *n,
-                )
-            } else {
-                shown(told, piece, Answer::BadOffset, *n <= left, place)
-            }
-        }
-        Step::Look(n) => {
-            if has_offset(&rest, *n) {
-                shown(
-                    told,
-                    piece,
-                    Answer::Slice(place..place + *n),
-                    *n <= left,
-                    place,
-                )
-            } else {
-                shown(told, piece, Answer::BadOffset, *n <= left, place)
-            }
-        }
-        Step::Finish => shown(
-            told,
-            piece,
-            Answer::Slice(place..place + left),
-            false,
-            place + left,
-        ),
-        Step::PeekFinish => shown(
-            told,
-            piece,
-            Answer::Slice(place..place + left),
-            false,
-            place,
-        ),
+        Step::Next => show_token(told, piece, rest, place + width_of_first(rest)),
+        Step::Peek => show_token(told, piece, rest, place),
+        Step::Take(n) => show_slice(told, piece, rest, place, *n, true),
+        Step::Look(n) => show_slice(told, piece, rest, place, *n, false),
+        Step::Finish => shown(told, piece, Answer::Slice(place..end), false, end),
+        Step::PeekFinish => shown(told, piece, Answer::Slice(place..end), false, place),
         Step::Eof => shown(told, piece, Answer::Offset(left), false, place),
         Step::At(n) => {
             let found = offset_from(rest, *n, settled.width, settled.tokens);
             let definite = found.is_ok();
             shown(told, piece, Answer::At(found), definite, place)
         }
-        Step::IsOffset(n) => shown(
-            told,
-            piece,
-            Answer::Flag(has_offset(&rest, *n)),
-            *n <= left,
-            place,
-        ),
+        Step::IsOffset(n) => {
+            let is_valid = has_offset(&rest, *n);
+            shown(told, piece, Answer::Flag(is_valid), *n <= left, place)
+        }
         Step::First(set) => {
             let found = first_from(set, rest, settled.width);
             shown(told, piece, Answer::First(found), found.is_some(), place)
         }
-        Step::Each => shown(
-            told,
-            piece,
-            Answer::Items(place..place + left),
-            false,
-            place,
-        ),
-        Step::Mark => {
-            tell(told, piece, SearchAnswer::Call(Answer::Marked(marks.len())));
-            Seen {
-                definite: true,
-                place,
-                marks: true,
-            }
-        }
-        Step::Reset(k) => match mark_at(marks, *k) {
-            Some(mark) => shown(told, piece, Answer::Done, true, mark),
-            None => shown(told, piece, Answer::NoMark, true, place),
-        },
-        Step::Since(k) => match mark_at(marks, *k) {
-            Some(mark) => {
-                if mark <= place {
-                    shown(told, piece, Answer::Offset(place - mark), true, place)
-                } else {
-                    shown(told, piece, Answer::LaterMark, true, place)
-                }
-            }
-            None => shown(told, piece, Answer::NoMark, true, place),
-        },
+        Step::Each => shown(told, piece, Answer::Items(place..end), false, place),
+        Step::Mark => show_mark(told, piece, place, marks.len()),
+        Step::Reset(k) => show_reset(told, piece, place, mark_at(marks, *k)),
+        Step::Since(k) => show_since(told, piece, place, mark_at(marks, *k)),
     }
 }

@@ -26,6 +26,7 @@ mod reading;
 mod report;
 mod runs;
 mod steps;
+mod whole;
 mod words;
 
 pub use contents::{Contents, Lend};

@@ -13,9 +13,9 @@ use crate::fed_lines::FedLine;
 use crate::loans::lend_steps;
 use crate::report::Report;
 use crate::steps::ScriptStep;
+use crate::whole::print_answers;
 use std::alloc::{AllocError, Global};
 use winnow_script_feed::{ByteFeed, TextFeed};
-use winnow_script_print::print_answers;
 use winnow_script_run::SearchStep;
 use winnow_sets::CharSet;
 

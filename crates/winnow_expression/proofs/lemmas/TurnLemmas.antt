@@ -23,11 +23,6 @@ module _ {O B C T : Type 0} (postfixes : Meaning (ℤ × B) T) (after : B → O 
   abbrev pub Turning : Meaning (Turn O) T
   Turning = IsTurn postfixes after infixes joins side level x alone
 
-  -- without an infix operator the expression ends
-  pub joins-absent : (a b c : Ahead T) → a ≡ b → infixes partial a (Fails (Backtracks c))
-      → Joins partial a (Gives (Ended x) b)
-  joins-absent a b c e h = (Absent, (b, ((e, (c, h)), (refl, refl))))
-
   -- at an infix operator that does not fit the expression ends
   pub joins-unfit : (a b c : Ahead T) (i : Infix C) (power : ℤ) → a ≡ b → power ≡ power_of i
       → ¬ (MayFollow level alone power) → infixes partial a (Gives i c)

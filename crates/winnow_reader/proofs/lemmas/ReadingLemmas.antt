@@ -7,7 +7,7 @@ use Rattle.winnow_stream.proofs.lemmas.UnitLemmas.{length-units}
 use Rattle.winnow_parser.specs.Outcome.{Ahead, Gives, Meaning}
 use Rattle.winnow_parser.specs.Laws.{IsParser}
 use Rattle.winnow_reader.specs.Place.{bytes_at}
-use Rattle.winnow_reader.specs.State.{ReaderState, at_start, pushed, ended_after, taken_by, waiting_for}
+use Rattle.winnow_reader.specs.State.{ReaderState, pushed, ended_after, taken_by, waiting_for}
 use Rattle.winnow_reader.specs.Reading.{Reads, MayFollow, AwaitsAsked, HasRead, ReadsAlso, ReadsThrough}
 use Rattle.winnow_reader.proofs.lemmas.PlaceLemmas.{value-stays}
 
@@ -27,10 +27,6 @@ may-follow_end false more partial f = tt
 may-follow_end true more partial f = f
 
 module _ {R O : Type 0} (means : R → Meaning O ℕ) where
-  -- of nothing, nothing was read
-  pub HasRead-start : (parser : R) → HasRead means (at_start parser) [] []
-  HasRead-start parser = record { reads = λ more partial f. refl; awaits = λ l. absurd (omega (arith, l)) }
-
   -- with a piece more, the same was read
   pub HasRead-pushed : (f : ReaderState R) (piece : List ℕ) → f.ended ≡ false
       → ReadsAlso means f piece (pushed f piece)

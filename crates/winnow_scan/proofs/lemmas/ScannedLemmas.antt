@@ -1,6 +1,6 @@
 -- The bytes ahead in two parts: those that a scan has seen, and those that it has not.
-use Rattle.std.proofs.Common.{◌≡◌, ℕ, ◌-◌, ◌≤◌, List, ◌++◌, length, take, drop, ap, sym, ◌∙◌, subst, arith, length-drop}
-use Rattle.std.proofs.lemmas.List.{take-append-drop, take_all, take-append-le}
+use Rattle.std.proofs.Common.{◌≡◌, ℕ, ◌-◌, List, ◌++◌, length, take, drop, ap, sym, ◌∙◌, subst, arith, length-drop}
+use Rattle.std.proofs.lemmas.List.{take-append-drop, take_all}
 use Rattle.winnow_parser.specs.Outcome.{Meaning}
 use Rattle.winnow_reader.specs.State.{ReaderState}
 use Rattle.winnow_scan.specs.Scanning.{AwaitsMore}
@@ -35,8 +35,3 @@ module _ {R O S : Type 0} (means : R → Meaning O ℕ) (scanned : R → List �
   -- a scan goes on for each reader that shows the same
   pub scans-same : (f g : ReaderState R) → f ≡ g → ScansOn means scanned f → ScansOn means scanned g
   scans-same f g e h = subst (λ s. ScansOn means scanned s) e h
-
--- the first part stays when a piece comes
-pub part-pushed : (xs piece : List ℕ) (n : ℕ) → n ≤ length xs
-    → take n xs ≡ take n (xs ++ piece)
-part-pushed xs piece n l = sym (take-append-le n xs piece l)

@@ -1,10 +1,7 @@
-use Rattle.std.proofs.Common.{◌≡◌, ℕ, ◌+◌, Bool, true, false, cond, nat_le, List, [], ◌∷◌, ◌++◌, Option, is_some, is_ok, refl, sym, ap, ◌∙◌}
-use Rattle.winnow_stream.specs.Source.{Source}
-use Rattle.winnow_stream.specs.Front.{is_offset, front_count}
+use Rattle.std.proofs.Common.{◌≡◌, ℕ, ◌+◌, Bool, false, nat_le, List, [], ◌∷◌, ◌++◌, Option, is_some, is_ok, refl, ap, ◌∙◌}
 use Rattle.winnow_stream.specs.Span.{span}
-use Rattle.winnow_stream.proofs.lemmas.FrontLemmas.{front_count-found, front_count-missing}
-use Rattle.winnow_script_run.specs.Script.{PlacedAnswer, slice_answer}
-use Rattle.winnow_script_run.specs.declared.script.Answer.TheVariants.{Token, Slice, BadOffset, Offset, At, Flag, First, Items}
+use Rattle.winnow_script_run.specs.Script.{PlacedAnswer}
+use Rattle.winnow_script_run.specs.declared.script.Answer.TheVariants.{Slice, Offset, At, Flag, First, Items}
 use Rattle.winnow_script_run.specs.declared.search_steps.SearchAnswer.TheVariants as search_answered
 use Rattle.winnow_script_attempt.specs.Looks.{under}
 use Rattle.winnow_script_attempt.specs.declared.calls.Seen.{Seen}
@@ -22,82 +19,50 @@ told-same : {T : Type 0} (new old : List (Told T)) (piece : Option ℕ) (a b : P
     → new ≡ old ++ under piece (search_answered.Call b) ∷ []
 told-same new old piece a b is same = rw (← same) is
 
-module _ {T : Type 0} (r : Source T) (at n : ℕ) (v : Bool) (e : v ≡ is_offset r n) where
-  -- the place and the slice, for a valid offset and for one that is not valid
-  offset-place : v ≡ true → at + n ≡ cond (is_offset r n) (at + n) at
-  offset-place h = rw (sym e ∙ h) refl
-
-  no_offset-place : v ≡ false → at ≡ cond (is_offset r n) (at + n) at
-  no_offset-place h = rw (sym e ∙ h) refl
-
-  offset-slice : v ≡ true → Slice (span at n) ≡ slice_answer {T = T} at n (front_count r n)
-  offset-slice h = rw (front_count-found r n (sym e ∙ h)) refl
-
-  no_offset-slice : v ≡ false → BadOffset ≡ slice_answer {T = T} at n (front_count r n)
-  no_offset-slice h = rw (front_count-missing r n (sym e ∙ h)) refl
-
 pub returns-in-Next-clause-seen : goal.returns-in-Next-clause-seen
-returns-in-Next-clause-seen g c = rw c.in-Next.is (seen-same _ _ _ _ _ c.shown.ensures.seen (c.is_some-definite.ensures ∙ ap is_some c.peek_token-token.ensures) (ap (λ n. c.args.here.place + n) c.width_of_first.ensures))
+returns-in-Next-clause-seen g c = rw c.in-Next.is (seen-same _ _ _ _ _ c.show_token.ensures.seen refl (ap (λ n. c.args.here.place + n) c.width_of_first.ensures))
 
 pub returns-in-Next-clause-items : goal.returns-in-Next-clause-items
-returns-in-Next-clause-items g c = rw c.in-Next.is (told-same _ _ _ _ _ c.shown.ensures.items (ap Token c.peek_token-token.ensures))
+returns-in-Next-clause-items g c = rw c.in-Next.is c.show_token.ensures.items
 
 pub returns-in-Next-clause-grows : goal.returns-in-Next-clause-grows
-returns-in-Next-clause-grows g c = c.shown.ensures.grows
+returns-in-Next-clause-grows g c = c.show_token.ensures.grows
 
 pub returns-in-Peek-clause-seen : goal.returns-in-Peek-clause-seen
-returns-in-Peek-clause-seen g c = rw c.in-Peek.is (seen-same _ _ _ _ _ c.shown-in-Peek.ensures.seen (c.is_some-definite-in-Peek.ensures ∙ ap is_some c.peek_token-token-in-Peek.ensures) refl)
+returns-in-Peek-clause-seen g c = rw c.in-Peek.is c.show_token-in-Peek.ensures.seen
 
 pub returns-in-Peek-clause-items : goal.returns-in-Peek-clause-items
-returns-in-Peek-clause-items g c = rw c.in-Peek.is (told-same _ _ _ _ _ c.shown-in-Peek.ensures.items (ap Token c.peek_token-token-in-Peek.ensures))
+returns-in-Peek-clause-items g c = rw c.in-Peek.is c.show_token-in-Peek.ensures.items
 
 pub returns-in-Peek-clause-grows : goal.returns-in-Peek-clause-grows
-returns-in-Peek-clause-grows g c = c.shown-in-Peek.ensures.grows
+returns-in-Peek-clause-grows g c = c.show_token-in-Peek.ensures.grows
 
-pub returns-then-has_offset-clause-seen : goal.returns-then-has_offset-clause-seen
-returns-then-has_offset-clause-seen g c = rw c.in-Take.is (seen-same _ _ _ _ _ c.shown-then-has_offset.ensures.seen (ap (nat_le c.in-Take.n) c.eof_offset-left.ensures) (offset-place (g.S.Stream.remaining c.args.rest) c.args.here.place c.in-Take.n _ c.has_offset.ensures.value c.if-has_offset.true))
+pub returns-in-Take-clause-seen : goal.returns-in-Take-clause-seen
+returns-in-Take-clause-seen g c = rw c.in-Take.is c.show_slice.ensures.seen
 
-pub returns-then-has_offset-clause-items : goal.returns-then-has_offset-clause-items
-returns-then-has_offset-clause-items g c = rw c.in-Take.is (told-same _ _ _ _ _ c.shown-then-has_offset.ensures.items (offset-slice (g.S.Stream.remaining c.args.rest) c.args.here.place c.in-Take.n _ c.has_offset.ensures.value c.if-has_offset.true))
+pub returns-in-Take-clause-items : goal.returns-in-Take-clause-items
+returns-in-Take-clause-items g c = rw c.in-Take.is c.show_slice.ensures.items
 
-pub returns-then-has_offset-clause-grows : goal.returns-then-has_offset-clause-grows
-returns-then-has_offset-clause-grows g c = c.shown-then-has_offset.ensures.grows
+pub returns-in-Take-clause-grows : goal.returns-in-Take-clause-grows
+returns-in-Take-clause-grows g c = c.show_slice.ensures.grows
 
-pub returns-else-has_offset-clause-seen : goal.returns-else-has_offset-clause-seen
-returns-else-has_offset-clause-seen g c = rw c.in-Take.is (seen-same _ _ _ _ _ c.shown-else-has_offset.ensures.seen (ap (nat_le c.in-Take.n) c.eof_offset-left.ensures) (no_offset-place (g.S.Stream.remaining c.args.rest) c.args.here.place c.in-Take.n _ c.has_offset.ensures.value c.if-has_offset.false))
+pub returns-in-Look-clause-seen : goal.returns-in-Look-clause-seen
+returns-in-Look-clause-seen g c = rw c.in-Look.is c.show_slice-in-Look.ensures.seen
 
-pub returns-else-has_offset-clause-items : goal.returns-else-has_offset-clause-items
-returns-else-has_offset-clause-items g c = rw c.in-Take.is (told-same _ _ _ _ _ c.shown-else-has_offset.ensures.items (no_offset-slice (g.S.Stream.remaining c.args.rest) c.args.here.place c.in-Take.n _ c.has_offset.ensures.value c.if-has_offset.false))
+pub returns-in-Look-clause-items : goal.returns-in-Look-clause-items
+returns-in-Look-clause-items g c = rw c.in-Look.is c.show_slice-in-Look.ensures.items
 
-pub returns-else-has_offset-clause-grows : goal.returns-else-has_offset-clause-grows
-returns-else-has_offset-clause-grows g c = c.shown-else-has_offset.ensures.grows
-
-pub returns-then-has_offset-2-clause-seen : goal.returns-then-has_offset-2-clause-seen
-returns-then-has_offset-2-clause-seen g c = rw c.in-Look.is (seen-same _ _ _ _ _ c.shown-then-has_offset-2.ensures.seen (ap (nat_le c.in-Look.n) c.eof_offset-left.ensures) refl)
-
-pub returns-then-has_offset-2-clause-items : goal.returns-then-has_offset-2-clause-items
-returns-then-has_offset-2-clause-items g c = rw c.in-Look.is (told-same _ _ _ _ _ c.shown-then-has_offset-2.ensures.items (offset-slice (g.S.Stream.remaining c.args.rest) c.args.here.place c.in-Look.n _ c.has_offset-in-Look.ensures.value c.if-has_offset-2.true))
-
-pub returns-then-has_offset-2-clause-grows : goal.returns-then-has_offset-2-clause-grows
-returns-then-has_offset-2-clause-grows g c = c.shown-then-has_offset-2.ensures.grows
-
-pub returns-else-has_offset-2-clause-seen : goal.returns-else-has_offset-2-clause-seen
-returns-else-has_offset-2-clause-seen g c = rw c.in-Look.is (seen-same _ _ _ _ _ c.shown-else-has_offset-2.ensures.seen (ap (nat_le c.in-Look.n) c.eof_offset-left.ensures) refl)
-
-pub returns-else-has_offset-2-clause-items : goal.returns-else-has_offset-2-clause-items
-returns-else-has_offset-2-clause-items g c = rw c.in-Look.is (told-same _ _ _ _ _ c.shown-else-has_offset-2.ensures.items (no_offset-slice (g.S.Stream.remaining c.args.rest) c.args.here.place c.in-Look.n _ c.has_offset-in-Look.ensures.value c.if-has_offset-2.false))
-
-pub returns-else-has_offset-2-clause-grows : goal.returns-else-has_offset-2-clause-grows
-returns-else-has_offset-2-clause-grows g c = c.shown-else-has_offset-2.ensures.grows
+pub returns-in-Look-clause-grows : goal.returns-in-Look-clause-grows
+returns-in-Look-clause-grows g c = c.show_slice-in-Look.ensures.grows
 
 pub returns-in-Finish-clause-seen : goal.returns-in-Finish-clause-seen
-returns-in-Finish-clause-seen g c = rw c.in-Finish.is (seen-same _ _ _ _ _ c.shown-in-Finish.ensures.seen refl (ap (λ n. c.args.here.place + n) c.eof_offset-left.ensures))
+returns-in-Finish-clause-seen g c = rw c.in-Finish.is (seen-same _ _ _ _ _ c.shown.ensures.seen refl (ap (λ n. c.args.here.place + n) c.eof_offset-left.ensures))
 
 pub returns-in-Finish-clause-items : goal.returns-in-Finish-clause-items
-returns-in-Finish-clause-items g c = rw c.in-Finish.is (told-same _ _ _ _ _ c.shown-in-Finish.ensures.items (ap (λ n. Slice (span c.args.here.place n)) c.eof_offset-left.ensures))
+returns-in-Finish-clause-items g c = rw c.in-Finish.is (told-same _ _ _ _ _ c.shown.ensures.items (ap (λ n. Slice (span c.args.here.place n)) c.eof_offset-left.ensures))
 
 pub returns-in-Finish-clause-grows : goal.returns-in-Finish-clause-grows
-returns-in-Finish-clause-grows g c = c.shown-in-Finish.ensures.grows
+returns-in-Finish-clause-grows g c = c.shown.ensures.grows
 
 pub returns-in-PeekFinish-clause-seen : goal.returns-in-PeekFinish-clause-seen
 returns-in-PeekFinish-clause-seen g c = rw c.in-PeekFinish.is (seen-same _ _ _ _ _ c.shown-in-PeekFinish.ensures.seen refl refl)
@@ -130,7 +95,7 @@ pub returns-in-IsOffset-clause-seen : goal.returns-in-IsOffset-clause-seen
 returns-in-IsOffset-clause-seen g c = rw c.in-IsOffset.is (seen-same _ _ _ _ _ c.shown-in-IsOffset.ensures.seen (ap (nat_le c.in-IsOffset.n) c.eof_offset-left.ensures) refl)
 
 pub returns-in-IsOffset-clause-items : goal.returns-in-IsOffset-clause-items
-returns-in-IsOffset-clause-items g c = rw c.in-IsOffset.is (told-same _ _ _ _ _ c.shown-in-IsOffset.ensures.items (ap Flag c.has_offset-in-IsOffset.ensures.value))
+returns-in-IsOffset-clause-items g c = rw c.in-IsOffset.is (told-same _ _ _ _ _ c.shown-in-IsOffset.ensures.items (ap Flag c.has_offset-is_valid.ensures.value))
 
 pub returns-in-IsOffset-clause-grows : goal.returns-in-IsOffset-clause-grows
 returns-in-IsOffset-clause-grows g c = c.shown-in-IsOffset.ensures.grows

@@ -1,4 +1,4 @@
-use Rattle.winnow_script_print.proofs.whole.print_answers.Goals as goal
+use Rattle.winnow_script_text.proofs.whole.print_answers.Goals as goal
 
 pub returns : goal.returns
 returns g c = (

@@ -5,16 +5,16 @@ ghost use Rattle.winnow_script_run.specs.Searching.{AreSearchAnswers};
 ghost use Rattle.winnow_script_print.specs.AnswerLines.{item_words, answer_lines};
 ghost use Rattle.winnow_script_print.specs.HeldNumbers.{HoldsNumber};
 
-use crate::{PushWords, push_answers};
 use std::alloc::{AllocError, Global};
 use winnow_match::{Compare, FindSlice, Needles};
+use winnow_script_print::{PushWords, push_answers};
 use winnow_script_run::{SearchStep, run_search};
 use winnow_sets::{AsChar, CharSet};
 use winnow_stream::Stream;
 
-/// Runs steps on a stream whose tokens stand for characters, and returns the lines of their
-/// answers.
-pub fn print_answers<S: Stream + Compare<L> + FindSlice<Needles<L>> + Drop, L: Copy>(
+// Runs steps on a stream whose tokens stand for characters, and returns the lines of their
+// answers.
+pub(crate) fn print_answers<S: Stream + Compare<L> + FindSlice<Needles<L>> + Drop, L: Copy>(
     alloc: Global,
     mut stream: S,
     steps: &[SearchStep<CharSet<'_>, L>],
