@@ -13,6 +13,8 @@ mod laws;
 #[cfg(test)]
 mod lines;
 #[cfg(test)]
+mod liveness;
+#[cfg(test)]
 mod readers;
 #[cfg(test)]
 mod text_lines;

@@ -97,3 +97,4 @@ pub use Rattle.winnow_recovery.specs.RetryAfter
 pub use Rattle.winnow_exact.specs.Exact
 pub use Rattle.winnow_exact.specs.Languages
 pub use Rattle.winnow_exact.specs.Nested
+pub use Rattle.winnow_live.specs.Live

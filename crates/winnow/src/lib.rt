@@ -26,6 +26,7 @@ pub use winnow_base::stream;
 pub use winnow_base::stream::{BStr, Bytes, LocatingSlice, Partial, Stateful};
 pub use winnow_exact as exact;
 pub use winnow_grammar as grammar;
+pub use winnow_live as live;
 pub use winnow_parser::{
     AndThen, ByBorrow, ByRule, ByValue, Context, ContextWith, DefaultValue, ErrInto, Failure,
     FlatMap, Map, MapErr, ModalResult, OutputInto, ParseTo, Parser, Rule, Span, Taken, TryMap,

@@ -1,0 +1,5 @@
+pub mod ImageLemmas
+pub mod PairLemmas
+pub mod RepeatLemmas
+pub mod ReaderLemmas
+pub mod TokenLemmas
