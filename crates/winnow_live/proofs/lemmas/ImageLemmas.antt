@@ -15,8 +15,10 @@ abbrev Settles : {O T : Type 0} → Meaning O T → Ahead T → Type 0
 Settles {O} {T} inner a = (w : Outcome O T) × (inner true a w × IsSettled w)
 
 module _ {O P T : Type 0} (inner : Meaning O T) (outer : Meaning P T) (live : IsLive inner)
-    (needs : (a : Ahead T) (need : Needed) → outer true a (Fails (Needs need)) → inner true a (Fails (Needs need)))
-    (settles : (a : Ahead T) (v : Outcome P T) → outer true a v → IsSettled v → Settles inner a) where
+    (needs : (a : Ahead T) (need : Needed) → outer true a (Fails (Needs need))
+        → inner true a (Fails (Needs need)))
+    (settles : (a : Ahead T)
+    (v : Outcome P T) → outer true a v → IsSettled v → Settles inner a) where
   -- a parser that needs more where the inner one does, and is settled only where that is
   live-image : IsLive outer
   live-image a need more h l v k s =
@@ -27,7 +29,8 @@ module _ {O T : Type 0} (inner : Meaning O T) (live : IsLive inner) where
   pub IsLive-Maps : {P : Type 0} (gives : O → P → Type 0) → IsLive (Maps gives inner)
   IsLive-Maps {P} gives = live-image inner (Maps gives inner) live (λ a need h. h) settles
     where
-      settles : (a : Ahead T) (v : Outcome P T) → Maps gives inner true a v → IsSettled v → Settles inner a
+      settles : (a : Ahead T) (v : Outcome P T) → Maps gives inner true a v → IsSettled v
+          → Settles inner a
       settles a (Gives y b) h s = (Gives h.0 b, (h.1.1, tt))
       settles a (Fails f) h s = (Fails f, (h, s))
 
@@ -36,7 +39,8 @@ module _ {O T : Type 0} (inner : Meaning O T) (live : IsLive inner) where
       → IsLive (Gathered refusable gives inner)
   IsLive-Gathered {P} refusable gives = live-image inner (Gathered refusable gives inner) live (λ a need h. h) settles
     where
-      settles : (a : Ahead T) (v : Outcome P T) → Gathered refusable gives inner true a v → IsSettled v
+      settles : (a : Ahead T) (v : Outcome P T) → Gathered refusable gives inner true a v
+          → IsSettled v
           → Settles inner a
       settles a (Gives y b) h s = (Gives h.0 b, (h.1.1, tt))
       settles a (Fails (Backtracks b)) h s = (Fails (Backtracks b), (h, tt))
@@ -60,7 +64,8 @@ module _ {O T : Type 0} (inner : Meaning O T) (live : IsLive inner) where
   pub IsLive-IsOpt : IsLive (IsOpt inner)
   IsLive-IsOpt = live-image inner (IsOpt inner) live (λ a need h. h) settles
     where
-      settles : (a : Ahead T) (v : Outcome (Option O) T) → IsOpt inner true a v → IsSettled v → Settles inner a
+      settles : (a : Ahead T) (v : Outcome (Option O) T) → IsOpt inner true a v → IsSettled v
+          → Settles inner a
       settles a (Gives (Some x) b) h s = (Gives x b, (h, tt))
       settles a (Gives None b) h s = (Fails (Backtracks h.1.0), (h.1.1, tt))
       settles a (Fails (Backtracks b)) h s = absurd h
@@ -72,7 +77,8 @@ module _ {O T : Type 0} (inner : Meaning O T) (live : IsLive inner) where
   pub IsLive-Peeks : IsLive (Peeks inner)
   IsLive-Peeks = live-image inner (Peeks inner) live (λ a need h. h) settles
     where
-      settles : (a : Ahead T) (v : Outcome O T) → Peeks inner true a v → IsSettled v → Settles inner a
+      settles : (a : Ahead T) (v : Outcome O T) → Peeks inner true a v → IsSettled v
+          → Settles inner a
       settles a (Gives x b) h s = (Gives x h.1.0, (h.1.1, tt))
       settles a (Fails f) h s = (Fails f, (h, s))
 
@@ -80,7 +86,8 @@ module _ {O T : Type 0} (inner : Meaning O T) (live : IsLive inner) where
   pub IsLive-IsNot : IsLive (IsNot inner)
   IsLive-IsNot = live-image inner (IsNot inner) live (λ a need h. h) settles
     where
-      settles : (a : Ahead T) (v : Outcome (Unit {0}) T) → IsNot inner true a v → IsSettled v → Settles inner a
+      settles : (a : Ahead T) (v : Outcome (Unit {0}) T) → IsNot inner true a v → IsSettled v
+          → Settles inner a
       settles a (Gives u b) h s = (Fails (Backtracks h.1.0), (h.1.1, tt))
       settles a (Fails (Backtracks b)) h s = (Gives h.1.0 h.1.1.0, (h.1.1.1, tt))
       settles a (Fails (Cuts b)) h s = (Fails (Cuts b), (h, tt))
@@ -91,7 +98,8 @@ module _ {O T : Type 0} (inner : Meaning O T) (live : IsLive inner) where
   pub IsLive-CutsErr : IsLive (CutsErr inner)
   IsLive-CutsErr = live-image inner (CutsErr inner) live (λ a need h. h) settles
     where
-      settles : (a : Ahead T) (v : Outcome O T) → CutsErr inner true a v → IsSettled v → Settles inner a
+      settles : (a : Ahead T) (v : Outcome O T) → CutsErr inner true a v → IsSettled v
+          → Settles inner a
       settles a (Gives x b) h s = (Gives x b, (h, tt))
       settles a (Fails (Backtracks b)) h s = absurd h
       settles a (Fails (Cuts b)) (inl h) s = (Fails (Backtracks b), (h, tt))
@@ -103,7 +111,8 @@ module _ {O T : Type 0} (inner : Meaning O T) (live : IsLive inner) where
   pub IsLive-BacktracksErr : IsLive (BacktracksErr inner)
   IsLive-BacktracksErr = live-image inner (BacktracksErr inner) live (λ a need h. h) settles
     where
-      settles : (a : Ahead T) (v : Outcome O T) → BacktracksErr inner true a v → IsSettled v → Settles inner a
+      settles : (a : Ahead T) (v : Outcome O T) → BacktracksErr inner true a v → IsSettled v
+          → Settles inner a
       settles a (Gives x b) h s = (Gives x b, (h, tt))
       settles a (Fails (Backtracks b)) (inl h) s = (Fails (Backtracks b), (h, tt))
       settles a (Fails (Backtracks b)) (inr h) s = (Fails (Cuts b), (h, tt))
@@ -115,7 +124,8 @@ module _ {O T : Type 0} (inner : Meaning O T) (live : IsLive inner) where
   pub IsLive-Verifies : (answers : O → Bool → Type 0) → IsLive (Verifies answers inner)
   IsLive-Verifies answers = live-image inner (Verifies answers inner) live (λ a need h. h) settles
     where
-      settles : (a : Ahead T) (v : Outcome O T) → Verifies answers inner true a v → IsSettled v → Settles inner a
+      settles : (a : Ahead T) (v : Outcome O T) → Verifies answers inner true a v → IsSettled v
+          → Settles inner a
       settles a (Gives x b) h s = (Gives x b, (h.0, tt))
       settles a (Fails (Backtracks b)) (inl h) s = (Fails (Backtracks b), (h, tt))
       settles a (Fails (Backtracks b)) (inr h) s = (Gives h.1.0 h.1.1.0, (h.1.1.1.0, tt))
@@ -124,7 +134,8 @@ module _ {O T : Type 0} (inner : Meaning O T) (live : IsLive inner) where
       settles a (Fails Refuses) h s = absurd s
 
   -- `verify_map`
-  pub IsLive-VerifyMaps : {P : Type 0} (gives : O → Option P → Type 0) → IsLive (VerifyMaps gives inner)
+  pub IsLive-VerifyMaps : {P : Type 0} (gives : O → Option P → Type 0)
+      → IsLive (VerifyMaps gives inner)
   IsLive-VerifyMaps {P} gives = live-image inner (VerifyMaps gives inner) live (λ a need h. h) settles
     where
       settles : (a : Ahead T) (v : Outcome P T) → VerifyMaps gives inner true a v → IsSettled v
@@ -140,7 +151,8 @@ module _ {O T : Type 0} (inner : Meaning O T) (live : IsLive inner) where
   pub IsLive-Taking : IsLive (Taking inner)
   IsLive-Taking = live-image inner (Taking inner) live (λ a need h. h) settles
     where
-      settles : (a : Ahead T) (v : Outcome O T) → Taking inner true a v → IsSettled v → Settles inner a
+      settles : (a : Ahead T) (v : Outcome O T) → Taking inner true a v → IsSettled v
+          → Settles inner a
       settles a (Gives x b) h s = (Gives x b, (h.0, tt))
       settles a (Fails (Backtracks b)) h s = (Fails (Backtracks b), (h, tt))
       settles a (Fails (Cuts b)) (inl h) s = (Fails (Cuts b), (h, tt))

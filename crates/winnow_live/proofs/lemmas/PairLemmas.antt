@@ -11,7 +11,8 @@ use Rattle.winnow_reader.specs.Wanted.{size_of}
 use Rattle.winnow_live.specs.Live.{IsLive, IsQuiet}
 
 module _ {O P T : Type 0} (first : Meaning O T) (second : Meaning P T) (p : IsParser first)
-    (same : O → O → Type 0) (d : IsDetermined same first) (live : IsLive first) (also : IsLive second) where
+    (same : O → O → Type 0) (d : IsDetermined same first) (live : IsLive first)
+    (also : IsLive second) where
   -- where the first parser gives a value, and the second has no settled answer after it, the pair
   -- has none
   pair-quiet : (a b : Ahead T) (x : O) → first true a (Gives x b) → IsQuiet second b
@@ -47,7 +48,8 @@ module _ {O P T : Type 0} (first : Meaning O T) (second : Meaning P T) (p : IsPa
       pair-quiet (longer more a) (longer more b) x (p.stable more true a (Gives x b) tt h) (also b need more k l)
 
 module _ {O T : Type 0} (refusable : Type 0) (first second : Meaning O T) (p : IsParser first)
-    (same : O → O → Type 0) (d : IsDetermined same first) (live : IsLive first) (also : IsLive second) where
+    (same : O → O → Type 0) (d : IsDetermined same first) (live : IsLive first)
+    (also : IsLive second) where
   -- where the first parser backtracks, and the second has no settled answer, neither has `alt`
   second-quiet : (a b : Ahead T) → first true a (Fails (Backtracks b)) → IsQuiet second a
       → IsQuiet (IsAlt2 refusable first second) a

@@ -28,14 +28,15 @@ module _ {O T : Type 0} (same : O → O → Type 0) (means : Meaning O T) (d : I
   none-more a [] l = ap (λ r. record { location = a.location; tokens = r }) (sym (append-nil a.tokens))
   none-more a (x ∷ xs) l = absurd (omega (arith, l))
 
-  -- so it is live if it has no settled answer with fewer tokens than it says
+  -- a deterministic parser is live if it has no settled answer with fewer tokens than it needs
   pub IsLive-of : IsPrompt means → IsLive means
   IsLive-of p a Unknown more h l =
       subst (IsQuiet means) (none-more a more l) (needs-quiet a Unknown h)
   IsLive-of p a (Size n) more h l = λ v k. p a n more v h l k
 
-  -- and if it asks for one token alone
-  pub IsLive-ones : ((a : Ahead T) (need : Needed) → means true a (Fails (Needs need)) → size_of need ≤ 1)
+  -- a deterministic parser is live, too, if it asks for one token alone
+  pub IsLive-ones : ((a : Ahead T) (need : Needed) → means true a (Fails (Needs need))
+      → size_of need ≤ 1)
       → IsLive means
   IsLive-ones one a need more h l =
       let few : length more < 1 = omega (arith, l, one a need h) in
