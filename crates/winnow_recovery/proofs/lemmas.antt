@@ -1,3 +1,4 @@
 pub mod SkipLemmas
 pub mod FailureLemmas
 pub mod RecordLemmas
+pub mod PlainLemmas

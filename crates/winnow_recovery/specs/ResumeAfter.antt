@@ -1,8 +1,12 @@
 -- A parser that gives no value in place of a failure, and goes on after what was skipped.
-use Rattle.std.specs.Prelude.{Bool, Option, Some, None}
+use Rattle.std.specs.Prelude.{◌≡◌, Bool, Option, Some, None}
 use Rattle.winnow_parser.specs.Outcome.{Gives, Fails, Meaning}
 use Rattle.winnow_parser.specs.Laws.{IsStable, IsOnward, IsParser}
 use Rattle.winnow_recovery.specs.Skipping.{Skips, Attempts, Skips-longer, Skips-moves, IsParser-Attempts}
+
+-- the value, as an option
+abbrev pub IsSomeOf : {O : Type 0} → O → Option O → Type 0
+IsSomeOf x y = Some x ≡ y
 
 -- the value of the parser; or none, if a failure is skipped; or a failure
 abbrev pub ResumesAfter : {O T : Type 0} → Bool → Bool → Meaning O T → Meaning (Unit {0}) T

@@ -1,10 +1,14 @@
 //! Laws of what is recorded. A law does nothing when called: its contract is the law.
 
-ghost use Rattle.std.specs.Prelude.{◌≡◌, ◌++◌, ◌∷◌, [], Bool, List};
+ghost use Rattle.std.specs.Prelude.{◌≡◌, ◌++◌, ◌∷◌, [], Bool, List, Option, false};
+ghost use Rattle.winnow_parser.specs.Outcome.{Ahead, Outcome};
+ghost use Rattle.winnow_parser.specs.Meanings.{Maps};
 ghost use Rattle.winnow_parser.specs.Answer.{ahead};
 ghost use Rattle.winnow_recover.specs.Recovering.{recorded_errors, IsSame};
 ghost use Rattle.winnow_recover.specs.declared.recoverable.Recoverable.{Recoverable};
 ghost use Rattle.winnow_recovery.specs.Recording.{RecordsOne};
+ghost use Rattle.winnow_recovery.specs.ResumeAfter.{ResumesAfter, IsSomeOf};
+ghost use Rattle.winnow_recovery.specs.RetryAfter.{RetriesAfter};
 
 use std::fmt::Debug;
 use winnow_error::{FromRecoverableError, ParserError};
@@ -32,4 +36,22 @@ where
         → (more : List F) × ((u : Recoverable I F) × (IsSame one.recorded.ended u
         × (recorded_errors t ≡ (recorded_errors s ++ more)
         ++ F.recovered one.start one.at u one.error ∷ []))) }
+{}
+
+/// The law of streams whose type records no errors: over them the parsers have only the results of
+/// the parser that they were made of.
+pub fn without_recovery_law<I, E, P, R>()
+where
+    I: StreamIsPartial + Recover<E>,
+    E: FromRecoverableError<I, E> + Drop,
+    P: Parser<I, E>,
+    R: Parser<I, E, Output = ()>,
+    ensures retry { I.supports_recovery ≡ false → (p : P) (r : R) (partial : Bool)
+        (a : Ahead I.Token) (v : Outcome P.Output I.Token)
+        → RetriesAfter I.supports_recovery (P.means p) (R.means r) partial a v
+        → P.means p partial a v }
+    ensures resume { I.supports_recovery ≡ false → (p : P) (r : R) (partial : Bool)
+        (a : Ahead I.Token) (v : Outcome (Option P.Output) I.Token)
+        → ResumesAfter false I.supports_recovery (P.means p) (R.means r) partial a v
+        → Maps IsSomeOf (P.means p) partial a v }
 {}

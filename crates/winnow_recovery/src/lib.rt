@@ -7,7 +7,7 @@ mod laws;
 mod parsers;
 mod recovering_parser;
 
-pub use laws::one_record_law;
+pub use laws::{one_record_law, without_recovery_law};
 pub use parsers::resume_after::{ResumeAfter, resume_after};
 pub use parsers::retry_after::{RetryAfter, retry_after};
 pub use recovering_parser::RecoveringParser;
