@@ -10,3 +10,11 @@ pub mod AnswerLemmas
 pub mod WritingLemmas
 pub mod PartLemmas
 pub mod FaultLemmas
+pub mod BreakLemmas
+pub mod SettleLemmas
+pub mod SettledLemmas
+pub mod OpenLemmas
+pub mod ScanLemmas
+pub mod StepLemmas
+pub mod WantedLemmas
+pub mod AwaitLemmas

@@ -8,3 +8,5 @@ pub mod Damage
 pub mod Answers
 pub mod Causes
 pub mod Parts
+pub mod Wanted
+pub mod Scan

@@ -10,20 +10,25 @@
 //! generic in the parser of the replies in an array, and `read_nested` ties the levels together.
 //! `writing` is the writer, `causes` finds what is wrong where a reply breaks off, and `laws` says
 //! that what is written is read back, and that a cause stays. `reading` reads one reply after the
-//! other from bytes that come in pieces.
+//! other from bytes that come in pieces, and `scan` goes over each byte of them once, in the arrays
+//! that `wanted` counts and the numbers that `digits` keeps.
 #![tactic(auto, using(winnow_parser::proofs::lemmas::OnwardLemmas::onward_steps))]
 
 mod causes;
+mod digits;
 mod grammar;
 mod laws;
 mod lines;
 mod numbers;
 mod reading;
 mod reply;
+mod scan;
+mod wanted;
 mod writing;
 
 pub use causes::{Cause, cause_of};
 pub use grammar::{ReplyTo, read_reply};
 pub use laws::{cause_law, spelling_law};
 pub use reply::Reply;
+pub use scan::ReplyScan;
 pub use writing::{Unwritten, write_reply};

@@ -10,7 +10,7 @@ use winnow::reader::{Record, RecordInput};
 use winnow::stream::{AsBytes, AsChar, Stream};
 use winnow::{ModalResult, Parser};
 
-/// A reader asks for one reply after the other, as `ByteReader::new(alloc, limits)`.
+/// A reader asks for one reply after the other, as `ScanReader::new(alloc, limits)`.
 impl Record for ReplyTo {
     type Output = Reply;
 
