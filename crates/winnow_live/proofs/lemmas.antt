@@ -3,3 +3,4 @@ pub mod PairLemmas
 pub mod RepeatLemmas
 pub mod ReaderLemmas
 pub mod TokenLemmas
+pub mod PunctualLemmas

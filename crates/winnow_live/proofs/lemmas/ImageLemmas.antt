@@ -1,6 +1,5 @@
 -- Parsers that need more just where another one does.
-use Rattle.std.proofs.Common.{◌≡◌, Bool, true, false, Option, Some, None, inl, inr}
-use Rattle.std.specs.Prelude.{◌⊎◌}
+use Rattle.std.proofs.Common.{Bool, true, Option, Some, None, inl, inr}
 use Rattle.winnow_stream.specs.declared.needed.Needed.{Needed}
 use Rattle.winnow_parser.specs.Outcome.{Ahead, Backtracks, Cuts, Needs, Refuses, Outcome, Gives, Fails, Meaning}
 use Rattle.winnow_parser.specs.Laws.{longer, IsSettled}
@@ -8,6 +7,7 @@ use Rattle.winnow_parser.specs.Meanings.{Maps, IsOpt, Peeks, IsNot, CutsErr, Bac
 use Rattle.winnow_combinator.specs.Appended.{Appending}
 use Rattle.winnow_combinator.specs.Gathering.{Gathered}
 use Rattle.winnow_combinator.specs.Repeat.{Taking}
+use Rattle.winnow_combinator.specs.Separated.{Countable}
 use Rattle.winnow_live.specs.Live.{IsLive}
 
 -- a settled answer of the inner parser
@@ -53,6 +53,18 @@ module _ {O T : Type 0} (inner : Meaning O T) (live : IsLive inner) where
   IsLive-Appending refusable = live-image inner (Appending refusable inner) live (λ a need h. h) settles
     where
       settles : (a : Ahead T) (v : Outcome O T) → Appending refusable inner true a v → IsSettled v
+          → Settles inner a
+      settles a (Gives y b) h s = (Gives y b, (h, tt))
+      settles a (Fails (Backtracks b)) h s = (Fails (Backtracks b), (h, tt))
+      settles a (Fails (Cuts b)) h s = (Fails (Cuts b), (h, tt))
+      settles a (Fails (Needs n)) h s = absurd s
+      settles a (Fails Refuses) h s = absurd s
+
+  -- a list that is too long to be counted
+  pub IsLive-Countable : IsLive (Countable inner)
+  IsLive-Countable = live-image inner (Countable inner) live (λ a need h. h) settles
+    where
+      settles : (a : Ahead T) (v : Outcome O T) → Countable inner true a v → IsSettled v
           → Settles inner a
       settles a (Gives y b) h s = (Gives y b, (h, tt))
       settles a (Fails (Backtracks b)) h s = (Fails (Backtracks b), (h, tt))

@@ -1,13 +1,9 @@
 -- One parser after another, and the first of two.
-use Rattle.std.proofs.Common.{◌≡◌, true, ◌<◌, length, inl, inr, sym, subst}
-use Rattle.std.specs.Prelude.{◌⊎◌}
-use Rattle.winnow_stream.specs.Source.{Source}
-use Rattle.winnow_stream.specs.declared.needed.Needed.{Needed}
-use Rattle.winnow_parser.specs.Outcome.{Ahead, Backtracks, Cuts, Needs, Refuses, Outcome, Gives, Fails, Meaning}
-use Rattle.winnow_parser.specs.Laws.{longer, IsSettled, IsParser}
+use Rattle.std.proofs.Common.{true, inl, inr, sym, subst}
+use Rattle.winnow_parser.specs.Outcome.{Ahead, Backtracks, Cuts, Needs, Refuses, Gives, Fails, Meaning}
+use Rattle.winnow_parser.specs.Laws.{longer, IsParser}
 use Rattle.winnow_parser.specs.Meanings.{Pair, IsAlt2}
 use Rattle.winnow_parser.specs.Determined.{IsDetermined}
-use Rattle.winnow_reader.specs.Wanted.{size_of}
 use Rattle.winnow_live.specs.Live.{IsLive, IsQuiet}
 
 module _ {O P T : Type 0} (first : Meaning O T) (second : Meaning P T) (p : IsParser first)

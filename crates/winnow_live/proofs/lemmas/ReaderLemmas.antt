@@ -1,13 +1,12 @@
 -- A reader that needs more has neither a value nor a failure ahead.
-use Rattle.std.proofs.Common.{◌≡◌, ℕ, suc, ◌+◌, ◌≤◌, ◌<◌, true, List, [], ◌∷◌, ◌++◌, length, refl, ap, sym, ◌∙◌, subst, arith}
+use Rattle.std.proofs.Common.{◌≡◌, ℕ, suc, ◌≤◌, ◌<◌, true, List, [], ◌∷◌, ◌++◌, length, refl, ap, sym, ◌∙◌, subst, arith}
 use Rattle.std.proofs.lemmas.List.{append-nil, map-append}
-use Rattle.std.specs.declared.num.NonZeroUsize.{NonZeroUsize}
 use Rattle.winnow_stream.specs.Source.{Source, units}
 use Rattle.winnow_stream.specs.declared.needed.Needed.{Needed}
 use Rattle.winnow_stream.specs.declared.needed.Needed.TheVariants.{Unknown, Size}
-use Rattle.winnow_parser.specs.Outcome.{Ahead, Backtracks, Cuts, Needs, Refuses, Outcome, Gives, Fails, Meaning}
-use Rattle.winnow_parser.specs.Laws.{longer, IsSettled}
-use Rattle.winnow_parser.specs.Determined.{IsDetermined, Agree}
+use Rattle.winnow_parser.specs.Outcome.{Ahead, Backtracks, Cuts, Needs, Refuses, Gives, Fails, Meaning}
+use Rattle.winnow_parser.specs.Laws.{longer}
+use Rattle.winnow_parser.specs.Determined.{IsDetermined}
 use Rattle.winnow_token.specs.Prompt.{IsPrompt}
 use Rattle.winnow_reader.specs.Place.{bytes_at}
 use Rattle.winnow_reader.specs.State.{ReaderState}

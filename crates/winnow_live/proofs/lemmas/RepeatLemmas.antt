@@ -1,13 +1,12 @@
 -- A parser that is called again and again.
-use Rattle.std.proofs.Common.{◌≡◌, ℕ, zero, suc, ◌+◌, ◌<◌, ◌≤◌, true, List, [], ◌∷◌, length, Option, Some, None, inl, inr, refl, ap, sym, ◌∙◌, subst, arith}
-use Rattle.std.specs.Prelude.{◌⊎◌, ⊤}
+use Rattle.std.proofs.Common.{◌≡◌, ℕ, suc, ◌+◌, ◌<◌, ◌≤◌, true, List, [], ◌∷◌, length, Option, Some, inl, inr, ap, sym, ◌∙◌, subst, arith}
+use Rattle.std.specs.Prelude.{◌⊎◌}
 use Rattle.winnow_stream.specs.Source.{Source}
-use Rattle.winnow_stream.specs.declared.needed.Needed.{Needed}
-use Rattle.winnow_parser.specs.Outcome.{Ahead, Failed, Backtracks, Cuts, Needs, Refuses, Outcome, Gives, Fails, Meaning}
-use Rattle.winnow_parser.specs.Laws.{longer, IsSettled, IsStable, IsParser}
+use Rattle.winnow_parser.specs.Outcome.{Ahead, Backtracks, Cuts, Needs, Refuses, Outcome, Gives, Fails, Meaning}
+use Rattle.winnow_parser.specs.Laws.{longer, IsSettled, IsParser}
 use Rattle.winnow_parser.specs.Determined.{IsDetermined}
 use Rattle.winnow_combinator.specs.Counts.{IsBelow}
-use Rattle.winnow_combinator.specs.Repeat.{Taking, InTurn, OneMore, Repeats, IsParser-Taking}
+use Rattle.winnow_combinator.specs.Repeat.{Taking, InTurn, Repeats, IsParser-Taking}
 use Rattle.winnow_combinator.proofs.lemmas.AgreeingLemmas.{determined-taking}
 use Rattle.winnow_live.specs.Live.{IsLive, IsQuiet}
 use Rattle.winnow_live.proofs.lemmas.ImageLemmas.{IsLive-Taking}

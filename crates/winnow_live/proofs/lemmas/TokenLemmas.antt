@@ -1,12 +1,9 @@
 -- Parsers of tokens, literals and the end ask for no more than they need.
-use Rattle.std.proofs.Common.{◌≡◌, ℕ, suc, ◌≤◌, true, Bool, Option, ap, arith}
+use Rattle.std.proofs.Common.{◌≡◌, ℕ, Bool, Option, ap, arith}
 use Rattle.std.specs.Prelude.{⊤}
 use Rattle.winnow_stream.specs.Source.{Source}
-use Rattle.winnow_stream.specs.Shortage.{needed}
-use Rattle.winnow_stream.specs.declared.needed.Needed.{Needed}
 use Rattle.winnow_match.specs.declared.compare.CompareResult.{CompareResult}
-use Rattle.winnow_parser.specs.Outcome.{Ahead, Needs, Fails, Meaning}
-use Rattle.winnow_parser.specs.Determined.{IsDetermined, SlicesRespect}
+use Rattle.winnow_parser.specs.Determined.{SlicesRespect}
 use Rattle.winnow_parser.specs.Literal.{IsLiteral}
 use Rattle.winnow_token.specs.OneOf.{IsOneOf}
 use Rattle.winnow_token.specs.Take.{Takes}
