@@ -1,7 +1,6 @@
 -- The first record that has another number of fields.
-use Rattle.std.proofs.Common.{◌≡◌, ◌≢◌, ℕ, suc, ◌+◌, ◌<◌, List, [], ◌∷◌, length, get_or, take, drop, ap, sym, ◌∙◌, subst, arith, drop-cons}
+use Rattle.std.proofs.Common.{◌≡◌, ◌≢◌, ℕ, suc, ◌<◌, List, [], ◌∷◌, length, get_or, take, drop, ap, sym, ◌∙◌, subst, arith, drop-cons}
 use Rattle.std.specs.Prelude.{Some, vec_len}
-use Rattle.std.proofs.lemmas.List.Elements.{All-more}
 use Rattle.format_csv.specs.Widths.{RowVec, first_width, HaveWidth, IsFirstUneven}
 
 -- the number of fields of the record at index 0
@@ -18,10 +17,3 @@ uneven-at rows n width row l e w h other = (
   subst (λ m. HaveWidth m (take n rows)) w h,
   (row, (drop (suc n) rows, (drop-cons rows n row l ∙ ap (λ r. r ∷ drop (suc n) rows) (sym e), λ f. other (f ∙ sym w)))),
 )
-
--- one more record of the same width
-pub even-more : (rows : List RowVec) (n width : ℕ) (row : RowVec) → n < length rows
-    → row ≡ get_or rows n row → HaveWidth width (take n rows) → vec_len row ≡ width
-    → HaveWidth width (take (n + 1) rows)
-even-more rows n width row l e h same =
-    All-more (λ row. vec_len row ≡ width) rows n row l h (subst (λ r. vec_len r ≡ width) e same)

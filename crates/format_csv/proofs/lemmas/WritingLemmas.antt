@@ -1,10 +1,9 @@
 -- What is written spells the record, and is read back.
-use Rattle.std.proofs.Common.{◌≡◌, ℕ, ◌+◌, ◌<◌, ◌≤◌, Bool, true, false, List, [], ◌∷◌, ◌++◌, length, take, get_or, inl, inr, ap, sym, ◌∙◌, refl, arith, append_assoc}
+use Rattle.std.proofs.Common.{◌≡◌, ℕ, ◌+◌, ◌≤◌, Bool, true, false, List, [], ◌∷◌, ◌++◌, length, inl, inr, ap, sym, ◌∙◌, refl, arith, append_assoc}
 use Rattle.std.specs.Prelude.{◌||◌, not, cond}
 use Rattle.std.specs.List.{flat_map, list_any}
 use Rattle.std.specs.declared.vec.Vec.{Vec}
 use Rattle.std.specs.declared.alloc.Global.{Global}
-use Rattle.std.proofs.lemmas.List.{take_more, map_push, flat_map_more}
 use Rattle.format_lemmas.specs.Bytes.{Each}
 use Rattle.format_lemmas.proofs.lemmas.ByteLemmas.{some}
 use Rattle.format_csv.specs.Fields.{is_special, is_plain, doubled, SpellsField}
@@ -60,19 +59,3 @@ read-back (first ∷ fields) l partial rest =
         ),
       ),
     )
-
--- one more field is written
-pub field-more : (old new : List ℕ) (first : List ℕ) (fields : List (Vec ℕ Global)) (n : ℕ)
-    (field : Vec ℕ Global) → n < length fields → field ≡ get_or fields n field
-    → new ≡ ((old ++ written_record (first ∷ values_in (take n fields))) ++ 44 ∷ []) ++ written_field field.items
-    → new ≡ old ++ written_record (first ∷ values_in (take (n + 1) fields))
-field-more old new first fields n field l e is =
-    let before = written_record (first ∷ values_in (take n fields)) in
-    let text = written_field field.items in
-    let taken : take n fields ++ field ∷ [] ≡ take (n + 1) fields =
-    ap (λ f. take n fields ++ f ∷ []) e ∙ sym (take_more fields n field l) in
-    let values : values_in (take n fields) ++ field.items ∷ [] ≡ values_in (take (n + 1) fields) =
-    sym (map_push (λ f. f.items) (take n fields) field) ∙ ap values_in taken in
-    is ∙ append_assoc (old ++ before) (44 ∷ []) text ∙ append_assoc old before (44 ∷ text)
-    ∙ ap (λ t. old ++ t) (flat_map_more (λ next. 44 ∷ written_field next) (written_field first) (values_in (take n fields)) field.items)
-    ∙ ap (λ l. old ++ (written_field first ++ flat_map (λ next. 44 ∷ written_field next) l)) values

@@ -1,15 +1,11 @@
 -- Whether a damaged token is only cut off.
-use Rattle.std.proofs.Common.{◌≡◌, ℕ, ◌<◌, Bool, true, false, List, [], ◌∷◌, ◌++◌, length, ◌⊎◌, inl, inr, ap, sym, ◌∙◌, subst, refl, arith, append-nil}
+use Rattle.std.proofs.Common.{◌≡◌, ℕ, ◌<◌, Bool, true, false, List, [], ◌∷◌, ◌++◌, length, ap, sym, ◌∙◌, subst, refl, arith, append-nil}
 use Rattle.std.specs.Prelude.{get_or}
-use Rattle.format_lemmas.specs.Bytes.{StartsWith}
 use Rattle.format_lemmas.proofs.lemmas.ByteLemmas.{heads}
-use Rattle.format_json_scalars.specs.Numbers.{is_number_byte, BeginsNumber, Tells}
-use Rattle.format_json_scalars.specs.Escapes.{MayBeChar}
+use Rattle.format_json_scalars.specs.Numbers.{is_number_byte, Tells}
 use Rattle.format_json.specs.Tokens.{Word, lexeme_of, LexemeHere, TokenHere, word_from}
 use Rattle.format_json.specs.TokenAnswers.{BeginsWord}
-use Rattle.format_json.specs.Causes.{IsCut}
 use Rattle.format_json.specs.declared.tokens.Token.{Token}
-use Rattle.format_json_scalars.proofs.lemmas.NumberAnswerLemmas.{number-bytes}
 use Rattle.format_json.proofs.lemmas.JsonTokenLemmas.{BeginsAs, token-begins}
 
 -- bytes that begin a word begin the one that their first byte does
@@ -26,12 +22,6 @@ word-first x q more t is =
         let same = heads x c (q ++ more) r e in
         (ap word_from same ∙ from, ap is_number_byte same ∙ digit, λ z. quote (sym same ∙ z))
 
--- where no word begins with the first byte, the bytes begin none
-pub word-none : (b : List ℕ) → 0 < length b → word_from (get_or b 0 0) ≡ [] → ¬ (BeginsWord b)
-word-none [] some none begins = absurd (omega (arith, some))
-word-none (x ∷ q) some none (t, (more, is)) =
-    let z = sym (word-first x q more t is).0 ∙ none in cc z
-
 -- the test says whether the bytes are a prefix of the word
 pub word-tells : (b word : List ℕ) (t : Token) → 0 < length b
     → lexeme_of t ≡ Word (word_from (get_or b 0 0)) → word ≡ word_from (get_or b 0 0)
@@ -42,31 +32,3 @@ word-tells b word t some is same true front back =
 word-tells [] word t some is same false front back = absurd (omega (arith, some))
 word-tells (x ∷ q) word t some is same false front back =
     λ begins. let z = back begins.1.0 (same ∙ (word-first x q begins.1.0 begins.0 begins.1.1).0) in cc z
-
--- bytes that begin with a quote begin neither a word nor a number
-quote-neither : (b : List ℕ) → StartsWith 34 b → ¬ (BeginsWord b ⊎ BeginsNumber b)
-quote-neither [] quote h = quote
-quote-neither (x ∷ q) quote (inl (t, (more, is))) = (word-first x q more t is).2 quote
-quote-neither (x ∷ q) quote (inr (more, is)) =
-    let z = sym (ap is_number_byte quote) ∙ (number-bytes ((x ∷ q) ++ more) is).0 in cc z
-
--- a string is cut off where its last character is
-pub quote-cut : (here rest : List ℕ) → StartsWith 34 here → (answer : Bool)
-    → Tells answer (MayBeChar rest) → Tells answer (IsCut here rest)
-quote-cut here rest quote true may = inl (quote, may)
-quote-cut here rest quote false none = λ cut. by cut
-  where
-    by : IsCut here rest → ⊥
-    by (inl h) = none h.1
-    by (inr h) = quote-neither here quote h
-
--- where no quote stands and no word is begun, a token is cut off where a number is begun
-pub number-cut : (here rest : List ℕ) → ¬ (StartsWith 34 here) → ¬ (BeginsWord here)
-    → (answer : Bool) → Tells answer (BeginsNumber here) → Tells answer (IsCut here rest)
-number-cut here rest quote word true begins = inr (inr begins)
-number-cut here rest quote word false none = λ cut. by cut
-  where
-    by : IsCut here rest → ⊥
-    by (inl h) = quote h.0
-    by (inr (inl h)) = word h
-    by (inr (inr h)) = none h

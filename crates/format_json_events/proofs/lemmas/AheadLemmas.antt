@@ -67,11 +67,6 @@ module _ (f : ReaderState JsonToken) (place : ℕ) (damage : FindsDamage f place
   damage-after =
       omega (arith, damage.1.0, ap length damage-front.1, length-append damage-front.0 damage.0)
 
-  -- the place is not after the bytes ahead
-  pub damage-inside : place - f.place ≤ length f.ahead
-  damage-inside =
-      omega (arith, damage.1.0, ap length damage-front.1, length-append damage-front.0 damage.0)
-
   -- the rest is what stands there
   damage-rest : ahead_from f place ≡ damage.0
   damage-rest =

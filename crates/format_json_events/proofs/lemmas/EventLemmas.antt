@@ -1,11 +1,11 @@
 -- What a step of the reader of events makes of what it has given.
-use Rattle.std.proofs.Common.{◌≡◌, ℕ, ◌<◌, List, [], ◌∷◌, ◌++◌, length, Option, Some, None, ◌⊎◌, inl, inr, ap, sym, ◌∙◌, subst, refl, append_assoc, append-nil}
+use Rattle.std.proofs.Common.{◌≡◌, ℕ, List, [], ◌∷◌, ◌++◌, Option, Some, None, ◌⊎◌, inl, inr, ap, sym, ◌∙◌, subst, refl, append_assoc, append-nil}
 use Rattle.std.specs.Prelude.{Result, Ok, Err}
 use Rattle.winnow.specs.State.{ReaderState}
 use Rattle.winnow.specs.Reading.{HasRead}
 use Rattle.format_json.specs.TokenAnswers.{OneToken}
 use Rattle.format_json_events.specs.Turns.{TextState, at_begin, turn_at, turn_events, after_turn, answer_of}
-use Rattle.format_json_events.specs.Reading.{IsAllowed, Takes, EventState, HasGiven, GivesOn, KeepsLimits, Brings, BringsEnd, IsComing, taken_events, step_events, IsStep, Passed}
+use Rattle.format_json_events.specs.Reading.{IsAllowed, Takes, EventState, GivesOn, KeepsLimits, Brings, BringsEnd, IsComing, taken_events}
 use Rattle.format_json.specs.declared.tokens.Token.{Token}
 use Rattle.format_json.specs.declared.tokens.Token.TheVariants as token
 use Rattle.format_json.specs.declared.reading.JsonToken.{JsonToken}
@@ -13,7 +13,6 @@ use Rattle.format_json_events.specs.declared.event_reader.Event.{Event}
 use Rattle.format_json_events.specs.declared.event_reader.EventError.{EventError}
 use Rattle.format_json_events.specs.declared.event_reader.Coming.{Coming}
 use Rattle.format_json_events.specs.declared.event_reader.Coming.TheVariants as coming
-use Rattle.format_json_events.specs.declared.event_reader.Step.{Step}
 use Rattle.format_json_events.specs.declared.event_reader.Step.TheVariants as step
 use Rattle.format_json_events.specs.declared.syntax.Taken.{Taken}
 use Rattle.format_json_events.specs.declared.syntax.Taken.TheVariants as taken
@@ -227,11 +226,6 @@ pub taken-depth : (old middle new : TextState) (t : Token) → middle ≡ old
 taken-depth old middle new t same after =
     ap (λ s. s.depth) after ∙ depth-same middle (turn_at middle t) ∙ ap (λ s. s.depth) same
 
--- nothing has changed
-pub gives-none : (old new : EventState) → new ≡ old → GivesOn old [] new
-gives-none old new e input before g =
-    subst (λ r. HasGiven r input (before ++ [])) (sym e) (subst (HasGiven old input) (sym (append-nil before)) g)
-
 -- ---- Several steps
 
 -- the one reader became the other by tokens that have no event
@@ -240,65 +234,3 @@ pub record IsOnWay (old new : EventState) : Type 0 where
   pub keeps : KeepsLimits old new
   pub still : (e : EventError) → old.stopped ≡ Some e → new ≡ old
   pub going : old.stopped ≡ None → new.stopped ≡ None
-
--- no step was made
-pub way-starts : (r : EventState) → IsOnWay r r
-way-starts r = record {
-  gives = gives-none r r refl;
-  keeps = (refl, refl);
-  still = λ e stopped. refl;
-  going = λ none. none;
-}
-
--- what is given after no event is given after all before it
-gives-after : (old middle new : EventState) (events : List Event) → GivesOn old [] middle
-    → GivesOn middle events new → GivesOn old events new
-gives-after old middle new events first second input before g =
-    subst (λ l. HasGiven new input (l ++ events)) (append-nil before) (second input (before ++ []) (first input before g))
-
-module _ (old middle new : EventState) (way : IsOnWay old middle) (r : Result Step EventError) (read : GivesOn middle (step_events r) new) (keeps : KeepsLimits middle new) (stopped : (e : EventError) → middle.stopped ≡ Some e → (r ≡ Err e) × (new ≡ middle)) (answer : middle.stopped ≡ None → IsStep middle r new) where
-  -- what the next step gives
-  pub way-read : GivesOn old (step_events r) new
-  way-read = gives-after old middle new (step_events r) way.gives read
-
-  -- no step moves the limits
-  pub way-keeps : KeepsLimits old new
-  way-keeps = (keeps.0 ∙ way.keeps.0, keeps.1 ∙ way.keeps.1)
-
-  -- a reader that had stopped gives its error, and stays
-  pub way-stopped : (e : EventError) → old.stopped ≡ Some e → (r ≡ Err e) × (new ≡ old)
-  way-stopped e is =
-      let same = way.still e is in
-      let there = stopped e (ap (λ s. s.stopped) same ∙ is) in
-      (there.0, there.1 ∙ same)
-
-  -- what the next step answers
-  pub way-answer : old.stopped ≡ None → IsStep middle r new
-  way-answer none = answer (way.going none)
-
-  -- and from which reader on
-  pub way-passed : old.stopped ≡ None → Passed old middle
-  way-passed none = (way.gives, way.going none, way.keeps)
-
-  module _ (passes : r ≡ Ok (step.Took taken.Passes)) where
-    -- no reader that stopped takes a step
-    way-open : (o : Option EventError) → middle.stopped ≡ o → middle.stopped ≡ None
-    way-open None e = e
-    way-open (Some x) e = absurd (let z = sym passes ∙ (stopped x e).0 in cc z)
-
-    -- the step took a token without an event
-    way-took : (new.stopped ≡ None) × (length new.tokens.ahead < length middle.tokens.ahead)
-    way-took = subst (λ q. IsStep middle q new) passes (answer (way-open middle.stopped refl))
-
-    -- so less is ahead
-    pub way-fewer : length new.tokens.ahead < length middle.tokens.ahead
-    way-fewer = way-took.1
-
-    -- and the reader is on its way
-    pub way-goes : IsOnWay old new
-    way-goes = record {
-      gives = subst (λ q. GivesOn old (step_events q) new) passes way-read;
-      keeps = way-keeps;
-      still = λ e is. absurd (let z = sym passes ∙ (way-stopped e is).0 in cc z);
-      going = λ none. way-took.0;
-    }

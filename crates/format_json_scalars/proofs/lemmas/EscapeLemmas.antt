@@ -182,18 +182,6 @@ code-begun (a ∷ b ∷ c ∷ []) short fills =
     let on = code-completes a b c 48 fills.0 fills.1 in (48 ∷ on.0, (on.1.0, (λ e. cc e, on.1.1)))
 code-begun (a ∷ b ∷ c ∷ d ∷ rest) short fills = absurd (omega (arith, short))
 
--- a whole code stands for its character
-pub code-whole : (rest : List ℕ) (n : ℕ) → 4 ≤ length rest
-    → AreHex (get_or rest 0 48) (get_or rest 1 48) (get_or rest 2 48) (get_or rest 3 48)
-    → n ≡ hex_number (get_or rest 0 48) (get_or rest 1 48) (get_or rest 2 48) (get_or rest 3 48)
-    → IsScalar n → IsEscape (92 ∷ 117 ∷ rest) (Whole n 6)
-code-whole [] n long hex is scalar = absurd (omega (arith, long))
-code-whole (a ∷ []) n long hex is scalar = absurd (omega (arith, long))
-code-whole (a ∷ b ∷ []) n long hex is scalar = absurd (omega (arith, long))
-code-whole (a ∷ b ∷ c ∷ []) n long hex is scalar = absurd (omega (arith, long))
-code-whole (a ∷ b ∷ c ∷ d ∷ rest) n long hex is scalar =
-    (omega arith, omega arith, inr (inr (inl (scalar, (a, (b, (c, (d, (refl, hex, is)))))))))
-
 -- what a pair is, the code that begins it is
 pub code-pair : (rest : List ℕ) (high : ℕ) (answer : Escape) → 4 ≤ length rest
     → AreHex (get_or rest 0 48) (get_or rest 1 48) (get_or rest 2 48) (get_or rest 3 48)
@@ -255,15 +243,3 @@ letter-wrong (letter ∷ rest) long none other = λ more. λ begins.
     let split = begins.1.1.1.0 in
     letter-no letter (rest ++ more) begins.1.0 begins.1.1.0 begins.0 none other split
     (spelling-escape begins.0 begins.1.0 begins.1.1.0 (letter ∷ (rest ++ more)) begins.1.1.1.1 (sym split))
-
--- a letter that stands for a character is its escape
-pub letter-whole : (rest : List ℕ) (n : ℕ) → 1 ≤ length rest → escaped (get_or rest 0 0) ≡ Some n
-    → IsEscape (92 ∷ rest) (Whole n 2)
-letter-whole [] n long stands = absurd (omega (arith, long))
-letter-whole (letter ∷ rest) n long stands = (omega arith, omega arith, inr (inl (letter, (refl, stands))))
-
--- what a code after `u` is, the letter that begins it is
-pub letter-code : (rest : List ℕ) (answer : Escape) → 1 ≤ length rest → get_or rest 0 0 ≡ 117
-    → IsEscape (92 ∷ 117 ∷ drop 1 rest) answer → IsEscape (92 ∷ rest) answer
-letter-code [] answer long is code = absurd (omega (arith, long))
-letter-code (letter ∷ rest) answer long is code = subst (λ l. IsEscape (92 ∷ l ∷ rest) answer) (sym is) code

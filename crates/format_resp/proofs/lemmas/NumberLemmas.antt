@@ -151,18 +151,6 @@ pub negative_some : (text ds : List ℕ) (m : ℕ) (r : Option ℤ) → text ≡
     → IsSomeExactly (IsNegative m) r → IsSomeExactly (IsInteger text) r
 negative_some text ds m r is some h = λ v. (λ e. is-negative text ds m v is some ((h v).0 e), λ i. (h v).1 (to-negative text ds m v is some i))
 
--- where the text is no number and begins with no minus, it is no integer
-no-positive : (text : List ℕ) (c : ℕ) (ds : List ℕ) (v : ℤ) → text ≡ c ∷ ds → c ≢ 45
-    → IsSomeExactly (λ n. (n < 2 ^ 64) × (text ≡ decimal n)) None → IsInteger text v → ⊥
-no-positive text c ds (pos n) is other none h = none-some _ ((none n).1 (omega (arith, h.0), h.1))
-no-positive text c ds (negsuc n) is other none h = other (heads c 45 ds (decimal (suc n)) (sym is ∙ h.1))
-
--- so none is read from it
-pub positive_none : (text : List ℕ) (c : ℕ) (ds : List ℕ) → text ≡ c ∷ ds → c ≢ 45
-    → IsSomeExactly (λ n. (n < 2 ^ 64) × (text ≡ decimal n)) None
-    → IsSomeExactly (IsInteger text) None
-positive_none text c ds is other none = λ v. (λ e. absurd (none-some _ e), λ h. absurd (no-positive text c ds v is other none h))
-
 -- the number that such a text writes is the integer
 is-positive : (text : List ℕ) (m : ℕ) (v : ℤ)
     → IsSomeExactly (λ n. (n < 2 ^ 64) × (text ≡ decimal n)) (Some m) → IsPositive m v

@@ -10,7 +10,7 @@ use Rattle.winnow_stream.specs.SliceBytes.{SlicesHaveBytes}
 use Rattle.winnow_stream.proofs.lemmas.HeldLemmas.{append-held_front, HoldsAll-held_front, next-held_front}
 use Rattle.winnow_count.specs.Reading.{IsSomeExactly}
 use Rattle.winnow_parser.specs.Outcome.{Ahead, Gives, Meaning}
-use Rattle.winnow_parser.specs.Meanings.{Maps, Pair, IsTerminated, CutsErr, VerifyMaps}
+use Rattle.winnow_parser.specs.Meanings.{Pair, IsTerminated, CutsErr, VerifyMaps}
 use Rattle.winnow_parser.specs.FlatMap.{FlatMaps}
 use Rattle.winnow_token.specs.OneOf.{IsOneOf}
 use Rattle.winnow_token.specs.TakeWhile.{TakesWhile, held_within, may_grow, is_offset-within}
@@ -76,13 +76,6 @@ yields-continued makes means first Q R whole one two on partial a c y wide h =
     let k = one partial a b x wide h.1.1.1.0 in
     let l = two x v h.1.1.1.1 partial b c y (ahead-wide k.0 a.tokens b.tokens k.1.0 wide) h.1.1.1.2 in
     (k.0 ++ l.0, (ahead-join k.0 l.0 a.tokens b.tokens c.tokens k.1.0 l.1.0, on x y k.0 l.0 k.1.1 l.1.1))
-
--- what `Maps` gives stands where the inner value does
-pub yields-maps : {O P : Type 0} (gives : O → P → Type 0) (inner : Meaning O ℕ) (Q : O → List ℕ
-    → Type 0) (R : P → List ℕ → Type 0) → Yields inner Q
-    → ((x : O) (y : P) (t : List ℕ) → gives x y → Q x t → R y t) → Yields (Maps gives inner) R
-yields-maps gives inner Q R one on partial a b y wide h =
-    let k = one partial a b h.0 wide h.1.1 in (k.0, (k.1.0, on h.0 y k.0 h.1.0 k.1.1))
 
 -- a source begins with the byte of its first token
 first-ahead : (r s : Source ℕ) (x : ℕ) → first_token r ≡ Some x → s ≡ drop 1 r

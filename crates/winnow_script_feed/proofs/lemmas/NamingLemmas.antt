@@ -169,20 +169,6 @@ module _ (ends marks : List ℕ) (told : ℕ) (seen : ℕ) (q : List Entry) (h :
     within = let l = slice_get_within marks seen p e in omega (arith, l);
   }
 
-  -- one more mark, that is not named
-  pub Queues-skip : seen < length marks → get_or ends seen 0 ≤ told
-      → Queues ends marks told (seen + 1) q
-  Queues-skip l past = record {
-    entries = h.entries;
-    named = λ k x m n. elim (cases_eq k seen) [
-      | inl same ↦ absurd (omega (arith, n.1, ap (λ j. get_or ends j 0) same, past))
-      | inr other ↦ h.named k x (omega (arith, m, other)) n
-    ];
-    order = h.order;
-    few = omega (arith, h.few);
-    within = omega (arith, l);
-  }
-
   -- the first of the queue leaves, since no step names it any more
   pub Queues-pop : (x : Entry) (r : List Entry) → x.0.1 ≤ told → IsPermutation q (x ∷ r)
       → KeepsHeap by_place q r → Queues ends marks told seen r
