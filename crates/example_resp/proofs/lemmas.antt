@@ -1,3 +1,4 @@
+pub mod PlacingLemmas
 pub mod PositionLemmas
 pub mod PrintingLemmas
 pub mod SessionLemmas

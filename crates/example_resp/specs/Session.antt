@@ -6,6 +6,7 @@ use Rattle.winnow.specs.Outcome.{Meaning}
 use Rattle.winnow.specs.State.{ReaderState, fed_of}
 use Rattle.winnow.specs.Reading.{HasRead, Lacks}
 use Rattle.winnow.specs.Answering.{FailsAt, IdlesAt}
+use Rattle.winnow.specs.Scanning.{AwaitsMore}
 use Rattle.winnow_stream.specs.Source.{units}
 use Rattle.format_resp.specs.Answers.{IsSettled}
 use Rattle.format_resp.specs.Causes.{IsDamaged}
@@ -85,10 +86,11 @@ module _ (means : PlacedReply → Meaning Placed ℕ) where
       (replies_of more ≡ replies))
 
   -- the other reader has given all that there is: after the end of the input nothing is left, and
-  -- before it the parser asked for more than came since, no matter what was read
+  -- before it, no matter what was read, the parser asked for more than came since, or of what is
+  -- ahead it needs more or has neither a value nor a failure
   abbrev pub HasNoneLeft : ReaderState PlacedReply → ReaderState PlacedReply → Type 0
   HasNoneLeft old new = (new.ended ≡ true → new.ahead ≡ []) × (new.ended ≡ false → (input : List ℕ) (values : List Placed)
-      → HasRead means old input values → Lacks means new)
+      → HasRead means old input values → Lacks means new ⊎ AwaitsMore (means new.parser) new.ahead)
 
   -- no matter what follows, the parser fails there, for this cause
   abbrev pub FailsFor : ReaderState PlacedReply → ℕ → Cause → Type 0

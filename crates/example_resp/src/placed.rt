@@ -1,14 +1,17 @@
 //! The record that is read.
 
 ghost use Rattle.winnow.specs.Place.{IsByteSlice, SlicesStay-bytes};
+ghost use Rattle.winnow.specs.Scanning.{GoesOn};
 ghost use Rattle.format_resp.specs.Meanings.{IsParser-Nested};
+ghost use Rattle.format_resp.specs.Scan.{IsScanned};
 ghost use Rattle.example_resp.specs.Placing.{Placing, IsParser-Placing};
 
 use crate::positions::Position;
-use format_resp::{Reply, ReplyTo};
+use format_resp::{Reply, ReplyScan, ReplyTo};
 use std::alloc::Global;
 use winnow::error::EmptyError;
 use winnow::reader::{Record, RecordInput};
+use winnow::scan::Scan;
 use winnow::stream::{AsBytes, AsChar, Stream};
 use winnow::{ModalResult, Parser};
 
@@ -54,5 +57,20 @@ impl Record for PlacedReply {
             }),
             Err(failure) => Err(failure),
         }
+    }
+}
+
+/// The scan is that of the reply.
+impl Scan for PlacedReply {
+    type State = ReplyScan;
+
+    ghost scanned = { λ r bytes state. IsScanned r.limits.longest r.limits.depth bytes state };
+
+    fn start(&self) -> ReplyScan {
+        self.limits.start()
+    }
+
+    fn scan(&self, state: &mut ReplyScan, more: &[u8]) -> bool {
+        self.limits.scan(state, more)
     }
 }

@@ -24,7 +24,8 @@ use example_base::Trouble;
 use format_resp::{Cause, Reply, ReplyTo, cause_of};
 use std::alloc::{AllocError, Global};
 use std::io::{self, ErrorKind, Read, Write};
-use winnow::reader::{ByteReader, Next, ReadError, Record};
+use winnow::reader::{Next, ReadError, Record};
+use winnow::scan::ScanReader;
 
 // A read of a pipe gives at most as much.
 const PIECE: usize = 64 * 1024;
@@ -46,7 +47,7 @@ pub fn print_replies<R: Read, W: Write>(
         whole before (W.contents output.new) result) }
 {
     let mut piece = new_piece(alloc)?;
-    let mut reader = ByteReader::new(alloc, PlacedReply { limits });
+    let mut reader = ScanReader::new(alloc, PlacedReply { limits });
     let mut place = Position::start();
     // No input has so many pieces that the turns are used up.
     for _turn in 0..u64::MAX {
@@ -88,7 +89,7 @@ fn read_piece<R: Read>(input: &mut R, piece: &mut Vec<u8>) -> io::Result<usize>
 // Reads on at the end of the input, and prints the replies that are there.
 fn print_last<W: Write>(
     alloc: Global,
-    reader: &mut ByteReader<PlacedReply>,
+    reader: &mut ScanReader<PlacedReply>,
     place: &mut Position,
     output: &mut W,
 ) -> Result<(), Failure>
@@ -122,7 +123,7 @@ fn ended_as(taken: Result<(), Failure>, place: Position) -> Result<(), Failure>
 fn print_piece<W: Write>(
     alloc: Global,
     piece: &[u8],
-    reader: &mut ByteReader<PlacedReply>,
+    reader: &mut ScanReader<PlacedReply>,
     place: &mut Position,
     output: &mut W,
 ) -> Result<(), Failure>
@@ -148,7 +149,7 @@ fn print_piece<W: Write>(
 // Prints the replies that are there.
 fn print_ready<W: Write>(
     alloc: Global,
-    reader: &mut ByteReader<PlacedReply>,
+    reader: &mut ScanReader<PlacedReply>,
     place: &mut Position,
     output: &mut W,
 ) -> Result<(), Failure>
@@ -174,7 +175,7 @@ fn print_ready<W: Write>(
 
 // Takes the replies that are there, and appends the lines that show them to the text.
 fn take_replies(
-    reader: &mut ByteReader<PlacedReply>,
+    reader: &mut ScanReader<PlacedReply>,
     place: &mut Position,
     text: &mut Vec<u8>,
 ) -> Result<(), Failure>
@@ -210,7 +211,7 @@ fn append_lines(reply: Reply, text: &mut Vec<u8>) -> Result<(), Failure>
 
 // Takes the next reply, if its bytes are there, and moves the place on by them.
 fn next_reply(
-    reader: &mut ByteReader<PlacedReply>,
+    reader: &mut ScanReader<PlacedReply>,
     place: &mut Position,
 ) -> Result<Option<Reply>, Failure>
     requires { IsSteady reader.old place.old }
@@ -255,7 +256,7 @@ fn next_reply(
 }
 
 // Returns the place that this many bytes of the joined input lead to, from that of the reader on.
-fn place_ahead(reader: &ByteReader<PlacedReply>, place: Position, bytes: usize) -> Position
+fn place_ahead(reader: &ScanReader<PlacedReply>, place: Position, bytes: usize) -> Position
     requires { IsSteady reader.now place }
     ensures { result
         ≡ position_after place (take (bytes - reader.now.place) reader.now.ahead) }
@@ -267,7 +268,7 @@ fn place_ahead(reader: &ByteReader<PlacedReply>, place: Position, bytes: usize) 
 
 // Returns the cause for which a reply breaks off after this many bytes of the joined input, if one
 // does that begins at the place of the reader.
-fn cause_ahead(reader: &ByteReader<PlacedReply>, bytes: usize) -> Cause
+fn cause_ahead(reader: &ScanReader<PlacedReply>, bytes: usize) -> Cause
     ensures { let width = bytes - reader.now.place in
         IsCauseOf result (take width reader.now.ahead) (drop width reader.now.ahead) }
 {

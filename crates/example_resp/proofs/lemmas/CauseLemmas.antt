@@ -1,15 +1,13 @@
 -- The cause for which a reply breaks off in what a reader has ahead.
-use Rattle.std.proofs.Common.{◌≡◌, ℕ, ◌+◌, ◌-◌, ◌≤◌, Bool, true, false, List, [], ◌∷◌, ◌++◌, length, min, take, drop, refl, ap, sym, ◌∙◌, subst, inl, inr, arith}
+use Rattle.std.proofs.Common.{◌≡◌, ℕ, ◌+◌, ◌-◌, Bool, true, false, List, [], ◌++◌, length, min, take, drop, refl, ap, sym, ◌∙◌, subst, inl, inr, arith}
 use Rattle.std.specs.Prelude.{◌⊎◌, not}
 use Rattle.std.specs.Borrow.{Bor}
 use Rattle.std.proofs.lemmas.List.{append-nil, length-drop, take-append-drop, take_all, take_min, drop_min}
 use Rattle.std.proofs.lemmas.Option.{same_Some}
-use Rattle.winnow_stream.specs.Source.{Source, units}
+use Rattle.winnow_stream.specs.Source.{units}
 use Rattle.winnow_stream.specs.Units.{HasPositiveWidths-units}
 use Rattle.winnow_stream.specs.SliceBytes.{SlicesHaveBytes}
 use Rattle.winnow_parser.specs.Outcome.{Ahead, Fails, Backtracks, Cuts, Meaning, Moves}
-use Rattle.winnow_parser.specs.Laws.{IsParser}
-use Rattle.format_lemmas.specs.Bytes.{bytes_of}
 use Rattle.format_lemmas.proofs.lemmas.ByteLemmas.{bytes-units}
 use Rattle.format_lemmas.proofs.lemmas.TokenLemmas.{itself}
 use Rattle.winnow_reader.specs.Place.{bytes_at, IsByteSlice, SlicesStay-bytes}
@@ -18,7 +16,6 @@ use Rattle.winnow_reader.specs.Reading.{MayFollow}
 use Rattle.winnow_reader.specs.Answering.{StopsAt, FailsAt}
 use Rattle.winnow_reader.proofs.lemmas.PlaceLemmas.{moved-bytes}
 use Rattle.format_resp.specs.Meanings.{Nested, IsParser-Nested}
-use Rattle.format_resp.specs.Answers.{IsSettled}
 use Rattle.format_resp.specs.Causes.{IsDamaged, IsCauseOf}
 use Rattle.format_resp.specs.declared.causes.Cause.{Cause}
 use Rattle.format_resp.specs.declared.reply.Reply.{Reply}

@@ -14,6 +14,8 @@ use Rattle.example_resp.specs.declared.failure.Failure.TheVariants.{NoReply, End
 use Rattle.winnow_reader.specs.Place.{bytes_at, IsByteSlice}
 use Rattle.winnow_reader.specs.State.{ReaderState, taken_by, waiting_for, pushed, ended_after}
 use Rattle.winnow_reader.specs.Reading.{MayFollow, HasRead, Lacks, ReadsAlso, ReadsThrough}
+use Rattle.winnow.specs.Scanning.{AwaitsMore}
+use Rattle.winnow.specs.Waiting.{ScansOn}
 use Rattle.winnow_reader.specs.Answering.{StopsAt, FailsAt, IdlesAt}
 use Rattle.winnow_reader.proofs.lemmas.PlaceLemmas.{moved-bytes}
 use Rattle.format_resp.specs.declared.causes.Cause.{Cause}
@@ -23,7 +25,7 @@ use Rattle.example_resp.specs.declared.placed.PlacedReply.{PlacedReply}
 use Rattle.example_resp.specs.declared.positions.Position.{Position}
 use Rattle.example_resp.specs.Positions.{start, position_after, joined_with, IsPosition}
 use Rattle.example_resp.specs.Placing.{IsPlaced}
-use Rattle.example_resp.specs.Session.{IsCauseAt, FailsFor, StandsOn, ended_as, Follows, Continues, EndsAs, IsSteady, HasSameInput, StandsAt, OnAnswer, ReadsReplies, HasNoneLeft, FailsThere, replies_of, shown_all}
+use Rattle.example_resp.specs.Session.{FailsFor, StandsOn, ended_as, Follows, Continues, EndsAs, IsSteady, HasSameInput, StandsAt, OnAnswer, ReadsReplies, HasNoneLeft, FailsThere, replies_of, shown_all}
 use Rattle.example_resp.specs.Printing.{shown}
 use Rattle.example_resp.proofs.lemmas.PositionLemmas.{position_after-append, position_after-byte, joined-after, after-counted, start-counted}
 
@@ -168,14 +170,19 @@ no-both true e f = absurd (cc)
 no-both false e f = absurd (cc)
 
 -- a reader that waits has none left
-pub waits-none : (means : PlacedReply → Meaning Placed ℕ) (old new : ReaderState PlacedReply)
+pub waits-none : {S : Type 0} (means : PlacedReply → Meaning Placed ℕ)
+    (scanned : PlacedReply → List ℕ → S → Type 0) (old new : ReaderState PlacedReply)
     → new ≡ waiting_for old new.wanted → old.ended ≡ false
-    → ((input : List ℕ) (values : List Placed) → HasRead means old input values → Lacks means old)
+    → ((input : List ℕ) (values : List Placed) → HasRead means old input values
+    → Lacks means old ⊎ ScansOn means scanned old)
     → HasNoneLeft means old new
-waits-none means old new kept goes lacks =
+waits-none means scanned old new kept goes lacks =
     let open_still : new.ended ≡ false = ap (λ (f : ReaderState PlacedReply). f.ended) kept ∙ goes in (
       (λ e. absurd (no-both new.ended e open_still)),
-      (λ _ input values h. subst (λ f. Lacks means f) (sym kept) (lacks input values h)),
+      (λ _ input values h. elim (lacks input values h) [
+        | inl k ↦ inl (subst (λ f. Lacks means f) (sym kept) k)
+        | inr k ↦ inr (subst (λ (f : ReaderState PlacedReply). AwaitsMore (means f.parser) f.ahead) (sym kept) k.1.1)
+      ]),
     )
 
 -- what holds, holds unless a call failed

@@ -1,4 +1,4 @@
-use Rattle.std.proofs.Common.{◌≡◌, ◌-◌, length, min, ap, arith}
+use Rattle.std.proofs.Common.{◌≡◌, ◌-◌, length, min, arith}
 use Rattle.example_resp.proofs.lemmas.CauseLemmas.{cause-within}
 use Rattle.example_resp.proofs.program.cause_ahead.Goals as goal
 

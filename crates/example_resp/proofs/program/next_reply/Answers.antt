@@ -3,6 +3,7 @@ use Rattle.winnow_reader.specs.State.{ReaderState}
 use Rattle.winnow_reader.specs.Answering.{FailsAt-by}
 use Rattle.example_resp.specs.declared.placed.PlacedReply.{PlacedReply}
 use Rattle.format_resp.specs.Causes.{IsCauseOf}
+use Rattle.format_resp.specs.Scan.{IsScanned}
 use Rattle.example_resp.specs.Positions.{joined_with}
 use Rattle.example_resp.specs.Session.{StandsAt}
 use Rattle.example_resp.specs.contracts.placed.PlacedReplyRecord.TheImpl.{ghosts}
@@ -58,7 +59,7 @@ returns-in-Ok-NeedsMore-clause-reads c = λ input values h.
 pub returns-in-Ok-NeedsMore-clause-none : goal.returns-in-Ok-NeedsMore-clause-none
 returns-in-Ok-NeedsMore-clause-none c =
     let waits = rw c.in-Ok-NeedsMore.field-0-is at c.in-Ok-NeedsMore.ensures.next in
-    waits-none _ c.args.reader.now c.read_next.new.self waits.3 waits.0 waits.1
+    waits-none _ (λ (r : PlacedReply). IsScanned r.limits.longest r.limits.depth) c.args.reader.now c.read_next.new.self waits.3 waits.0 waits.1
 
 pub returns-in-Err-Failed-clause-failed : goal.returns-in-Err-Failed-clause-failed
 returns-in-Err-Failed-clause-failed c =
