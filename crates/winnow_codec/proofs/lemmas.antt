@@ -1,0 +1,9 @@
+pub mod Fixed
+pub mod Lists
+pub mod Parts
+pub mod Reading
+pub mod RoundTrips
+pub mod Tags
+pub mod Wholes
+pub mod Words
+pub mod Writing

@@ -1,0 +1,14 @@
+pub mod Byte
+pub mod Bytes
+pub mod Cases
+pub mod Formats
+pub mod Known
+pub mod Lists
+pub mod Numbers
+pub mod Orders
+pub mod Parts
+pub mod Rows
+pub mod Signed
+pub mod RoundTrips
+pub mod Writing
+pub mod Whole

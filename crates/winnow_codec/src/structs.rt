@@ -1,0 +1,66 @@
+ghost use Rattle.std.specs.Prelude.{◌≡◌};
+ghost use Rattle.winnow_codec.specs.Parts.{SpellsParts, HaveSameParts, IsFormat-Parts};
+ghost use Rattle.winnow_codec.specs.Writing.{Writes};
+
+use crate::{Format, Unwritten};
+use std::alloc::Global;
+use winnow_error::ParserError;
+use winnow_parser::ModalResult;
+use winnow_stream::StreamIsPartial;
+
+/// A struct whose fields a format spells, one after the other.
+pub trait Fields: Sized {
+    /// The format of the fields.
+    type Format: Format + Drop;
+
+    // The fields, as one value.
+    ghost fields: { Self → Self.Format.Value };
+
+    /// Returns the struct that has these fields.
+    fn from_fields(values: <Self::Format as Format>::Value) -> Self
+        ensures { fields result ≡ values };
+
+    /// Appends the bytes that spell the fields.
+    fn write_fields(&self, format: &Self::Format, bytes: &mut Vec<u8>) -> Result<(), Unwritten>
+        ensures { Writes (Self.Format.spells format.now) (fields self.now) bytes.old.items result
+            bytes.new.items };
+}
+
+/// The format of a struct that is spelled as its fields are; [`struct_of`] makes it.
+#[derive(Drop)]
+pub struct Struct<S: Fields> {
+    fields: S::Format,
+}
+
+/// Returns the format of a struct by that of its fields.
+pub fn struct_of<S: Fields>(fields: S::Format) -> Struct<S>
+    ensures { result ≡ record { fields = fields } }
+{
+    Struct { fields }
+}
+
+impl<S: Fields> Format for Struct<S> {
+    type Value = S;
+
+    ghost spells = { λ f. SpellsParts S.fields (S.Format.spells f.fields) };
+
+    ghost same = { HaveSameParts S.fields S.Format.same };
+
+    ghost lawful = { λ f. IsFormat-Parts S.fields S.Format.same (S.Format.spells f.fields)
+        (S.Format.lawful f.fields) };
+
+    fn read<I: StreamIsPartial<Token = u8>, E: ParserError<I>>(
+        &self,
+        alloc: Global,
+        input: &mut I,
+    ) -> ModalResult<S, E> {
+        match self.fields.read(alloc, input) {
+            Ok(values) => Ok(S::from_fields(values)),
+            Err(failure) => Err(failure),
+        }
+    }
+
+    fn write(&self, value: &S, bytes: &mut Vec<u8>) -> Result<(), Unwritten> {
+        value.write_fields(&self.fields, bytes)
+    }
+}
