@@ -76,8 +76,9 @@ impl<I: Text> Layer<I, EmptyError> for Calculator {
 }
 
 /// Reads an expression, with at most a hundred pairs of parentheses around any part of it, and
-/// returns its value. It backtracks if a number is too great, or a divisor is 0.
+/// returns its value. It backtracks if a number is too great, a divisor is 0, or an exponent is
+/// negative.
 pub fn calculate(alloc: Global, input: &mut &str) -> ModalResult<i64, EmptyError> {
-    let value = nested(Calculator, 100).verify_map(|value: Option<i64>| value);
-    value.parse_next(alloc, input)
+    let checked = nested(Calculator, 100).verify_map(|value: Option<i64>| value);
+    checked.parse_next(alloc, input)
 }

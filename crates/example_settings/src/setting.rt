@@ -55,8 +55,8 @@ fn told<T: Drop>(
 ) -> Result<Setting<T>, Wanted>
     ensures { result ≡ told parts }
 {
-    let (key, signed) = parts.ok_or(Wanted::Key)?;
-    let (_, value) = signed.ok_or(Wanted::Equals)?;
+    let (key, after_key) = parts.ok_or(Wanted::Key)?;
+    let (_, value) = after_key.ok_or(Wanted::Equals)?;
     let value = value.ok_or(Wanted::Value)?;
     Ok(Setting { key: key.0, value })
 }

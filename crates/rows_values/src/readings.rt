@@ -40,7 +40,8 @@ fn signed(alloc: Global, name: &str, slice: &Word) -> Result<String, Fault> {
     }
 }
 
-/// Returns what a slice reads as: the name of the type, and the slice.
+/// Returns the debug text of what a slice reads as. The first word names the type to read, the
+/// second is the slice.
 pub fn parse_slice(alloc: Global, words: &Words) -> Result<String, Fault> {
     let (name, slice) = (words.plain(0)?, words.word(1)?);
     match name {
