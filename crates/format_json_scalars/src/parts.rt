@@ -54,9 +54,9 @@ fn letter_part(byte: u8) -> Part
     Part::Wrong
 }
 
-// Returns the part that a byte begins after the integer part of a number: the point of a fraction,
-// or the letter of an exponent. A digit comes here only after a leading 0, and is `Wrong`, since JSON
-// has no leading zeros.
+// Returns the part that a byte begins after the integer part of a number: the point of a
+// fraction, or the letter of an exponent. A digit comes here only after a leading 0, and is
+// `Wrong`, since JSON has no leading zeros.
 fn tail_part(byte: u8) -> Part
     ensures { result ≡ tail_part byte }
 {
