@@ -43,12 +43,10 @@ where
     ensures valid { I.valid input.new }
     ensures kept { I.keeps input.old input.new }
 {
-    match bracketed(empty()).parse_next(alloc, input) {
-        Ok(()) => Ok(Tree {
-            branches: Vec::new(alloc),
-        }),
-        Err(failure) => Err(failure),
-    }
+    bracketed(empty()).parse_next(alloc, input)?;
+    Ok(Tree {
+        branches: Vec::new(alloc),
+    })
 }
 
 // Reads a tree whose branches the inner parser reads.
