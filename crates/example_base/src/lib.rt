@@ -3,7 +3,9 @@
 #![tactic(auto)]
 
 mod arguments;
+mod driving;
 mod trouble;
 
 pub use arguments::{Program, words_of};
+pub use driving::{Driven, drive, new_buffer, read_piece};
 pub use trouble::{Reason, Trouble};

@@ -1,7 +1,7 @@
 -- What was read and written of an input, and what a failure says of it.
-use Rattle.std.specs.Prelude.{◌≡◌, ◌≢◌, ℕ, ◌+◌, ◌<◌, ◌^◌, Bool, false, List, [], ◌∷◌, ◌++◌, length, Option, None, Some, vec_len, ◌⊎◌, ⊤}
+use Rattle.std.specs.Prelude.{◌≡◌, ◌≢◌, ℕ, ◌+◌, ◌<◌, ◌^◌, Bool, false, List, [], ◌∷◌, ◌++◌, length, Option, None, Some, vec_len, Result, Ok, Err, ◌⊎◌, ⊤}
 use Rattle.std.specs.List.{flat_map, sum_by}
-use Rattle.std.specs.Io.KnownBytes.{Appends, Consumes}
+use Rattle.std.specs.Io.KnownBytes.{Appends}
 use Rattle.winnow.specs.State.{ReaderState, fed_of}
 use Rattle.winnow.specs.Reading.{MayFollow, HasRead}
 use Rattle.format_csv.specs.Language.{RecordAhead}
@@ -121,14 +121,13 @@ module _ {R : Type 0} where
       × ((follow : List ℕ) → MayFollow f.ended follow false
       → IsFailureOf (input ++ follow) (rows ++ more) failure))
 
--- of an input that had the one bytes left and has the other, some were read, and the records of
--- these were written after what was held
-pub record HasCopied {R : Type 0} (f : ReaderState R) (progress : Progress) (had has held now : Option (List ℕ)) : Type 0 where
-  pub fed : List ℕ
+-- of these bytes, to which more may come, some records were read, and their lines were written
+-- after what was held
+pub record Copies {R : Type 0} (input : List ℕ) (held now : Option (List ℕ)) (f : ReaderState R) (progress : Progress) : Type 0 where
   pub rows : List RowVec
-  pub counts : HasCounted f progress fed rows
-  pub took : Consumes had has fed
+  pub counts : HasCounted f progress input rows
   pub wrote : Appends held now (lines_of rows)
+  pub goes_on : f.ended ≡ false
 
 -- the whole input are these records, all with the same number of fields, and they were written
 abbrev pub CopiesAll : List ℕ → Option (List ℕ) → Option (List ℕ) → Type 0
@@ -139,6 +138,12 @@ CopiesAll input held now = (rows : List RowVec) × (AreRecords input (rows_in ro
 abbrev pub CopiesUntil : List ℕ → Failure → Option (List ℕ) → Option (List ℕ) → Type 0
 CopiesUntil input failure held now = IsOfInput failure → (rows : List RowVec)
     × (Appends held now (lines_of rows) × IsFailureOf input rows failure)
+
+-- the text is copied whole, or until there
+abbrev pub TellsText : List ℕ → Option (List ℕ) → Option (List ℕ) → Result (Unit {0}) Failure
+    → Type 0
+TellsText input held now (Ok done) = CopiesAll input held now
+TellsText input held now (Err failure) = CopiesUntil input failure held now
 
 -- the input has a text, which is copied whole
 abbrev pub CopiesInput : Bool → List ℕ → Option (List ℕ) → Option (List ℕ) → Type 0

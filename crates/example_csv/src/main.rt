@@ -19,6 +19,7 @@
 //! failure are written, and standard error says what is wrong, and where.
 #![tactic(auto)]
 
+mod copying;
 mod failure;
 mod lines;
 mod positions;

@@ -1,12 +1,10 @@
 //! Copying the records of an input as lines.
 
-ghost use Rattle.std.specs.Prelude.{◌≡◌, ◌+◌, ◌-◌, ◌≤◌, ◌<◌, ◌^◌, false, true, [], length};
-ghost use Rattle.std.specs.Prelude.{ℕ, List, Option, vec_len, take, drop, IfOk, OnOk, IfErr};
+ghost use Rattle.std.specs.Prelude.{◌≡◌, ◌+◌, ◌-◌, ◌≤◌, ◌<◌, ◌^◌, true, [], length};
+ghost use Rattle.std.specs.Prelude.{ℕ, List, Option, take, drop, IfOk, OnOk, IfErr};
 ghost use Rattle.std.specs.Prelude.{IfSome};
 ghost use Rattle.std.specs.Io.KnownBytes.{Appends, Consumes, IsAtEnd, prepend_known};
-ghost use Rattle.winnow.specs.State.{pushed, fed_of};
-ghost use Rattle.winnow.specs.Reading.{ReadsAlso};
-ghost use Rattle.format_csv.specs.Reading.{RowInPieces};
+ghost use Rattle.winnow.specs.State.{fed_of};
 ghost use Rattle.format_csv.specs.Writing.{values_in};
 ghost use Rattle.example_csv.specs.Lines.{line_of};
 ghost use Rattle.example_csv.specs.Copying.{IsOfInput, IsDamageAfter, IsBegun, WritesOn, StopsWith};
@@ -14,19 +12,17 @@ ghost use Rattle.example_csv.specs.Copying.{CopiesAll, CopiesUntil, CopiesInput,
 ghost use Rattle.example_base.specs.declared.trouble.Trouble.TheVariants.{TooLong};
 ghost use Rattle.example_csv.specs.declared.failure.Failure.TheVariants.{Stopped};
 
+use crate::copying::Copying;
 use crate::failure::{Failure, Fault};
 use crate::lines::line_of;
 use crate::positions::position_after;
 use crate::progress::Progress;
-use example_base::Trouble;
+use example_base::{Driven, Trouble, drive, new_buffer, read_piece};
 use format_csv::{Row, rows_in_pieces_law, text_start};
 use std::alloc::Global;
-use std::io::{ErrorKind, Read, Write};
+use std::io::{Read, Write};
 use winnow::reader::{Next, ReadError};
 use winnow::scan::ScanReader;
-
-/// How many bytes are asked for in one read.
-const PIECE: usize = 65_536;
 
 /// Reads the records of an input to its end, and writes each as a line. A byte order mark of UTF-8
 /// before the first record is skipped, if it is to be; any other mark is a failure.
@@ -44,9 +40,9 @@ pub fn copy_records<R: Read, W: Write>(
     ensures failed { IfErr result (λ failure. IfSome (R.remaining input.old) (λ bytes.
         StopsInput skips_mark bytes failure (W.contents output.old) (W.contents output.new))) }
 {
-    let mut buffer = match buffer(alloc) {
+    let mut buffer = match new_buffer(alloc) {
         Ok(buffer) => buffer,
-        Err(failure) => return Err(failure),
+        Err(trouble) => return Err(Failure::Stopped(trouble)),
     };
     let mut start = Vec::new(alloc);
     for _ in 0..u64::MAX {
@@ -74,7 +70,7 @@ fn read_on<R: Read>(input: &mut R, buffer: &mut [u8], start: &mut Vec<u8>) -> Re
 {
     let count = match read_piece(input, buffer) {
         Ok(count) => count,
-        Err(failure) => return Err(failure),
+        Err(trouble) => return Err(Failure::Stopped(trouble)),
     };
     match start.extend_from_slice(&buffer[..count]) {
         Ok(()) => Ok(count == 0),
@@ -100,106 +96,18 @@ fn copy_text<R: Read, W: Write>(
         IfSome (prepend_known text.now (R.remaining input.old)) (λ bytes.
         CopiesUntil bytes failure (W.contents output.old) (W.contents output.new))) }
 {
-    rows_in_pieces_law();
-    let mut reader = ScanReader::new(alloc, Row);
-    let mut progress = Progress {
-        feeds: 0,
-        width: None,
-    };
-    if let Err(failure) = push(&mut reader, text) {
+    let mut copying = Copying::new(alloc);
+    if let Err(failure) = copying.piece(alloc, text, output) {
         return Err(failure);
     }
-    if let Err(failure) = write_ahead(alloc, &mut reader, &mut progress, output) {
-        return Err(failure);
-    }
-    for _ in 0..u64::MAX {
-        let count = match read_unless(ended, input, buffer) {
-            Ok(count) => count,
-            Err(failure) => return Err(failure),
-        };
-        if count == 0 {
-            reader.end();
-            return write_ahead(alloc, &mut reader, &mut progress, output);
-        }
-        if let Err(failure) = push(&mut reader, &buffer[..count]) {
-            return Err(failure);
-        }
-        if let Err(failure) = write_ahead(alloc, &mut reader, &mut progress, output) {
-            return Err(failure);
-        }
-    }
-    Err(Failure::Stopped(Trouble::TooLong))
-}
-
-// Returns room for a piece.
-fn buffer(alloc: Global) -> Result<Vec<u8>, Failure>
-    ensures room { IfOk result (λ buffer. 0 < vec_len buffer) }
-    ensures failed { IfErr result (λ failure. ¬ (IsOfInput failure)) }
-{
-    Ok(vec![in alloc; 0; PIECE]?)
-}
-
-// Reads once, unless the input has ended.
-fn read_unless<R: Read>(ended: bool, input: &mut R, buffer: &mut [u8]) -> Result<usize, Failure>
-    requires room { 0 < length buffer.old }
-    requires end { ended ≡ true → IsAtEnd (R.remaining input.old) }
-    ensures room { length buffer.new ≡ length buffer.old }
-    ensures within { IfOk result (λ count. count ≤ length buffer.new) }
-    ensures taken { IfOk result (λ count.
-        Consumes (R.remaining input.old) (R.remaining input.new) (take count buffer.new)) }
-    ensures end { IfOk result (λ count. count ≡ 0 → IsAtEnd (R.remaining input.new)) }
-    ensures last { IfOk result (λ count. ended ≡ true → count ≡ 0) }
-    ensures failed { IfErr result (λ failure. ¬ (IsOfInput failure)) }
-{
     if ended {
-        return Ok(0);
+        return copying.end(alloc, output);
     }
-    read_piece(input, buffer)
-}
-
-// Reads once, and again where the read was interrupted. At the end of the input it gives 0.
-fn read_piece<R: Read>(input: &mut R, buffer: &mut [u8]) -> Result<usize, Failure>
-    requires { 0 < length buffer.old }
-    ensures within { IfOk result (λ count. count ≤ length buffer.new) }
-    ensures taken { IfOk result (λ count.
-        Consumes (R.remaining input.old) (R.remaining input.new) (take count buffer.new)) }
-    ensures end { IfOk result (λ count. count ≡ 0 → IsAtEnd (R.remaining input.new)) }
-    ensures failed { IfErr result (λ failure. ¬ (IsOfInput failure)) }
-{
-    for _ in 0..u64::MAX {
-        match input.read(buffer) {
-            Ok(count) => return Ok(count),
-            Err(error) => {
-                if error.kind() != ErrorKind::Interrupted {
-                    return Err(Failure::Stopped(Trouble::reading(error)));
-                }
-            }
-        }
-    }
-    Err(Failure::Stopped(Trouble::TooLong))
-}
-
-// Pushes a piece. An input of more bytes than can be counted is refused.
-fn push(reader: &mut ScanReader<Row>, piece: &[u8]) -> Result<(), Failure>
-    requires { reader.old.ended ≡ false }
-    ensures ok { OnOk result (reader.new ≡ pushed reader.old piece.now) }
-    ensures read { OnOk result (ReadsAlso (λ r. RowInPieces) reader.old piece.now reader.new) }
-    ensures counted { OnOk result (fed_of reader.new + 1 < 2 ^ 64) }
-    ensures failed { IfErr result (λ failure. ¬ (IsOfInput failure)) }
-    ensures long { IfErr result (λ failure. failure ≡ Stopped TooLong
-        → 2 ^ 64 ≤ fed_of reader.old + length piece.now + 1) }
-{
-    if piece.len() >= usize::MAX - reader.fed() {
-        return Err(Failure::Stopped(Trouble::TooLong));
-    }
-    match reader.push(piece) {
-        Ok(()) => Ok(()),
-        Err(refused) => Err(Failure::from(refused)),
-    }
+    drive(alloc, input, buffer, &mut copying, output)
 }
 
 // Writes the records that are ahead, also those before one that fails, and flushes the output.
-fn write_ahead<W: Write>(
+pub(crate) fn write_ahead<W: Write>(
     alloc: Global,
     reader: &mut ScanReader<Row>,
     progress: &mut Progress,

@@ -1,6 +1,6 @@
 -- What the program has read of its input, and what it writes.
-use Rattle.std.specs.Prelude.{◌≡◌, ℕ, ◌+◌, ◌<◌, ◌^◌, true, List, [], ◌++◌, length, Option, None}
-use Rattle.std.specs.Io.KnownBytes.{Appends, Consumes}
+use Rattle.std.specs.Prelude.{◌≡◌, ℕ, ◌+◌, ◌<◌, ◌^◌, true, false, List, [], ◌++◌, length, Option, None, Result, Ok, Err}
+use Rattle.std.specs.Io.KnownBytes.{Appends}
 use Rattle.format_json_events.specs.Reading.{EventState, HasGiven, KeepsLimits}
 use Rattle.format_json_events.specs.declared.event_reader.Event.{Event}
 use Rattle.example_json.specs.Positions.{LeadsTo}
@@ -56,14 +56,14 @@ abbrev pub FailsOn : EventState → Progress → List ℕ → EventState → Fai
 FailsOn old p piece limits failure wrote = IsOfText failure → (input : List ℕ) (before : List Event)
     → Follows old p input before → Breaks limits (input ++ piece) before p.level failure wrote
 
--- of an input that had the one bytes left and has the other, some were read, and the lines of their
--- events were written after what was held
-pub record HasPrinted (r : EventState) (progress : Progress) (had has held now : Option (List ℕ)) : Type 0 where
-  pub input : List ℕ
+-- of these bytes, to which more may come, a reader with this limit on depth has given events, and
+-- their lines were written after what was held
+pub record Prints (depth : ℕ) (input : List ℕ) (held now : Option (List ℕ)) (r : EventState) (progress : Progress) : Type 0 where
   pub events : List Event
   pub follows : Follows r progress input events
-  pub took : Consumes had has input
   pub wrote : Appends held now (lines_of events)
+  pub limit : r.text.depth ≡ depth
+  pub goes_on : r.tokens.ended ≡ false
 
 -- ---- The whole input
 
@@ -96,3 +96,9 @@ pub record PrintsFront (depth : ℕ) (input : List ℕ) (failure : Failure) (hel
 abbrev pub PrintsUntil : ℕ → List ℕ → Failure → Option (List ℕ) → Option (List ℕ) → Type 0
 PrintsUntil depth input failure held now =
     IsOfText failure → PrintsFront depth input failure held now
+
+-- the input is printed whole, or until the failure
+abbrev pub TellsInput : ℕ → List ℕ → Option (List ℕ) → Option (List ℕ) → Result (Unit {0}) Failure
+    → Type 0
+TellsInput depth input held now (Ok done) = PrintsAll depth input held now
+TellsInput depth input held now (Err failure) = PrintsUntil depth input failure held now

@@ -1,15 +1,14 @@
 //! Printing the events of an input.
 
-ghost use Rattle.std.specs.Prelude.{◌≡◌, ℕ, ◌++◌, ◌+◌, ◌≤◌, ◌<◌, ◌^◌, List, [], true, false, None};
-ghost use Rattle.std.specs.Prelude.{length, take, vec_len, IfOk, OnOk, IfErr, IfSome};
-ghost use Rattle.std.specs.Io.KnownBytes.{Appends, Consumes, IsAtEnd};
+ghost use Rattle.std.specs.Prelude.{◌≡◌, ℕ, ◌++◌, ◌+◌, ◌<◌, ◌^◌, List, [], false, Option, None};
+ghost use Rattle.std.specs.Prelude.{length, IfOk, OnOk, IfErr, IfSome};
+ghost use Rattle.std.specs.Io.KnownBytes.{Appends};
 ghost use Rattle.format_json_events.specs.Reading.{events_ended, KeepsLimits, IsWhole};
 ghost use Rattle.example_json.specs.Positions.{IsWithin};
-ghost use Rattle.example_json.specs.Failures.{IsOfText};
 ghost use Rattle.example_json.specs.Faults.{Places};
 ghost use Rattle.example_json.specs.Taking.{IsTaken, PrintsOn, IsDone, Answers};
 ghost use Rattle.example_json.specs.Printing.{IsBegun, BreaksOn, FollowsOn, FailsOn};
-ghost use Rattle.example_json.specs.Printing.{PrintsAll, PrintsUntil};
+ghost use Rattle.example_json.specs.Printing.{Prints, PrintsAll, PrintsUntil, TellsInput};
 ghost use Rattle.example_json.specs.Whole.{PrintsValue, IsOfNoValue};
 ghost use Rattle.example_base.specs.declared.trouble.Trouble.TheVariants.{TooLong};
 ghost use Rattle.example_json.specs.declared.failure.Failure.TheVariants.{Stopped};
@@ -17,14 +16,11 @@ ghost use Rattle.example_json.specs.declared.failure.Failure.TheVariants.{Stoppe
 use crate::failure::Failure;
 use crate::positions::{Line, Position};
 use crate::printing::append_line;
-use example_base::Trouble;
+use example_base::{Driven, Trouble, drive, new_buffer};
 use format_json_events::{EventError, EventReader, events_law};
 use std::alloc::Global;
-use std::io::{ErrorKind, Read, Write};
+use std::io::{Read, Write};
 use winnow::reader::Next;
-
-// A read of a pipe gives at most as much.
-const PIECE: usize = 64 * 1024;
 
 /// What is kept of the input beside the reader.
 #[derive(Clone, Copy, Debug, Drop)]
@@ -73,65 +69,63 @@ fn print_pieces<R: Read, W: Write>(
     ensures failed { IfErr result (λ failure. IfSome (R.remaining input.old) (λ bytes.
         PrintsUntil depth bytes failure (W.contents output.old) (W.contents output.new))) }
 {
-    let mut buffer = match buffer(alloc) {
+    let mut buffer = match new_buffer(alloc) {
         Ok(buffer) => buffer,
-        Err(failure) => return Err(failure),
+        Err(trouble) => return Err(Failure::Stopped(trouble)),
     };
-    let mut reader = EventReader::new(alloc, depth);
-    let mut progress = Progress {
-        line: Line::first(),
-        level: 0,
-    };
-    // No input has enough pieces to use up the turns.
-    for _ in 0..u64::MAX {
-        let count = match read_piece(input, &mut buffer) {
-            Ok(count) => count,
-            Err(failure) => return Err(failure),
-        };
-        if count == 0 {
-            return print_last(alloc, &mut reader, &mut progress, output);
-        }
-        if let Err(failure) = print_piece(
-            alloc,
-            &buffer[..count],
-            &mut reader,
-            &mut progress,
-            output,
-        ) {
-            return Err(failure);
-        }
-    }
-    Err(Failure::Stopped(Trouble::TooLong))
+    let mut printing = Printing::new(alloc, depth);
+    drive(alloc, input, &mut buffer, &mut printing, output)
 }
 
-// Returns room for a piece.
-fn buffer(alloc: Global) -> Result<Vec<u8>, Failure>
-    ensures room { IfOk result (λ buffer. 0 < vec_len buffer) }
-    ensures failed { IfErr result (λ failure. ¬ (IsOfText failure)) }
-{
-    Ok(vec![in alloc; 0; PIECE]?)
+/// A reader of events, with what is kept beside it.
+#[derive(Drop)]
+pub struct Printing {
+    reader: EventReader,
+    progress: Progress,
 }
 
-// Reads once, and again where the read was interrupted. At the end of the input it gives 0.
-fn read_piece<R: Read>(input: &mut R, buffer: &mut [u8]) -> Result<usize, Failure>
-    requires { 0 < length buffer.old }
-    ensures within { IfOk result (λ count. count ≤ length buffer.new) }
-    ensures taken { IfOk result (λ count.
-        Consumes (R.remaining input.old) (R.remaining input.new) (take count buffer.new)) }
-    ensures end { IfOk result (λ count. count ≡ 0 → IsAtEnd (R.remaining input.new)) }
-    ensures failed { IfErr result (λ failure. ¬ (IsOfText failure)) }
-{
-    for _ in 0..u64::MAX {
-        match input.read(buffer) {
-            Ok(count) => return Ok(count),
-            Err(error) => {
-                if error.kind() != ErrorKind::Interrupted {
-                    return Err(Failure::Stopped(Trouble::reading(error)));
-                }
-            }
+impl Printing {
+    // Returns a printer that was passed nothing.
+    fn new(alloc: Global, depth: usize) -> Self
+        ensures begun { IsBegun result.reader result.progress }
+        ensures limit { result.reader.text.depth ≡ depth }
+        ensures goes_on { result.reader.tokens.ended ≡ false }
+        ensures prints { (held : Option (List ℕ))
+            → Prints result.reader.text.depth [] held held result.reader result.progress }
+    {
+        Printing {
+            reader: EventReader::new(alloc, depth),
+            progress: Progress {
+                line: Line::first(),
+                level: 0,
+            },
         }
     }
-    Err(Failure::Stopped(Trouble::TooLong))
+}
+
+/// It writes the events that are there with each piece.
+impl<W: Write> Driven<W> for Printing {
+    type Failure = Failure;
+
+    ghost ready = { λ s. IsBegun s.reader s.progress × (s.reader.tokens.ended ≡ false) };
+
+    ghost follows = { λ start input held now s.
+        Prints start.reader.text.depth input held now s.reader s.progress };
+
+    ghost tells = { λ start input held now result.
+        TellsInput start.reader.text.depth input held now result };
+
+    fn piece(&mut self, alloc: Global, piece: &[u8], output: &mut W) -> Result<(), Failure> {
+        print_piece(alloc, piece, &mut self.reader, &mut self.progress, output)
+    }
+
+    fn end(&mut self, alloc: Global, output: &mut W) -> Result<(), Failure> {
+        print_last(alloc, &mut self.reader, &mut self.progress, output)
+    }
+
+    fn trouble(trouble: Trouble) -> Failure {
+        Failure::Stopped(trouble)
+    }
 }
 
 // Writes the events that are there with a piece more. An input of more bytes than can be counted is

@@ -120,17 +120,15 @@ module _ (means : PlacedReply → Meaning Placed ℕ) where
     pub follows : Follows input (replies ++ more) f place
     pub written : Appends old new (shown_all more)
 
-  -- a front of this input was read, and the rest is what the source still gives; the lines of the
-  -- replies were written after what the output had before
-  pub record HasPrinted (whole before : List ℕ) (source output : Option (List ℕ))
+  -- of these bytes, to which more may come, a reader with that parser has read replies, and their
+  -- lines were written after what the output had before
+  pub record HasPrinted (parser : PlacedReply) (input before : List ℕ) (output : Option (List ℕ))
       (f : ReaderState PlacedReply) (place : Position) : Type 0 where
-    pub input : List ℕ
-    pub rest : List ℕ
-    pub splits : whole ≡ input ++ rest
-    pub left : source ≡ Some rest
     pub replies : List Reply
     pub follows : Follows input replies f place
     pub written : output ≡ Some (before ++ shown_all replies)
+    pub same : f.parser ≡ parser
+    pub goes_on : f.ended ≡ false
 
   -- how a reader stands when the program ends, with this rest of its input unread: at the end with
   -- nothing left; where no reply stands, no matter what follows; or at the end, before the reply
@@ -156,3 +154,16 @@ module _ (means : PlacedReply → Meaning Placed ℕ) where
     pub follows : Follows input replies reader place
     pub written : new ≡ Some (before ++ shown_all replies)
     pub ends : EndsAs reader place rest result
+
+  -- it has printed so, if it is known what the output had
+  abbrev pub Prints : PlacedReply → List ℕ → Option (List ℕ) → Option (List ℕ)
+      → ReaderState PlacedReply → Position → Type 0
+  Prints parser input had now f place =
+      (before : List ℕ) → had ≡ Some before → HasPrinted parser input before now f place
+
+  -- it tells so, if it is known what the output had, unless memory was refused, or reading or
+  -- writing failed
+  abbrev pub TellsInput : PlacedReply → List ℕ → Option (List ℕ) → Option (List ℕ)
+      → Result (Unit {0}) Failure → Type 0
+  TellsInput parser input had now result =
+      (before : List ℕ) → had ≡ Some before → OnAnswer result (Tells parser input before now result)

@@ -1,9 +1,9 @@
 //! Printing the replies of an input.
 
 ghost use Rattle.std.specs.Prelude.{◌≡◌, ℕ, ◌++◌, ◌+◌, ◌-◌, ◌<◌, ◌≤◌, List, [], false, Some};
-ghost use Rattle.std.specs.Prelude.{take, drop, length, vec_len};
+ghost use Rattle.std.specs.Prelude.{Option, take, drop, length};
 ghost use Rattle.std.specs.Prelude.{IfOk, IfErr, OnOk, OnErr, OnSome, IfNone};
-ghost use Rattle.std.specs.Io.KnownBytes.{Appends, ReadConsumes};
+ghost use Rattle.std.specs.Io.KnownBytes.{Appends};
 ghost use Rattle.winnow.specs.State.{ReaderState};
 ghost use Rattle.winnow.specs.Answering.{FailsAt};
 ghost use Rattle.format_resp.specs.Causes.{IsCauseOf};
@@ -13,6 +13,7 @@ ghost use Rattle.example_resp.specs.Printing.{shown};
 ghost use Rattle.example_resp.specs.Session.{IsSteady, HasSameInput, StandsOn, next_replies};
 ghost use Rattle.example_resp.specs.Session.{ReadsReplies, HasNoneLeft, FailsThere, shown_all};
 ghost use Rattle.example_resp.specs.Session.{OnAnswer, ended_as, Follows, Continues, EndsAs, Tells};
+ghost use Rattle.example_resp.specs.Session.{Prints, TellsInput};
 ghost use Rattle.example_base.specs.declared.trouble.Trouble.TheVariants.{OutOfMemory};
 ghost use Rattle.example_resp.specs.declared.failure.Failure.TheVariants.{Stopped};
 
@@ -20,15 +21,12 @@ use crate::failure::Failure;
 use crate::placed::{Placed, PlacedReply};
 use crate::positions::Position;
 use crate::printing::append_reply;
-use example_base::Trouble;
+use example_base::{Driven, Trouble, drive, new_buffer};
 use format_resp::{Cause, Reply, ReplyTo, cause_of};
-use std::alloc::{AllocError, Global};
-use std::io::{self, ErrorKind, Read, Write};
+use std::alloc::Global;
+use std::io::{Read, Write};
 use winnow::reader::{Next, ReadError, Record};
 use winnow::scan::ScanReader;
-
-// A read of a pipe gives at most as much.
-const PIECE: usize = 64 * 1024;
 
 /// Reads replies within these limits to the end of the input, and prints each as soon as its bytes
 /// are there.
@@ -46,44 +44,60 @@ pub fn print_replies<R: Read, W: Write>(
         → OnAnswer result (Tells ⟦<PlacedReply as Record>⟧.means (record { limits = limits })
         whole before (W.contents output.new) result) }
 {
-    let mut piece = new_piece(alloc)?;
-    let mut reader = ScanReader::new(alloc, PlacedReply { limits });
-    let mut place = Position::start();
-    // No input has so many pieces that the turns are used up.
-    for _turn in 0..u64::MAX {
-        match read_piece(input, &mut piece) {
-            Ok(0) => return print_last(alloc, &mut reader, &mut place, output),
-            Ok(count) => {
-                match print_piece(alloc, &piece[..count], &mut reader, &mut place, output) {
-                    Ok(()) => {}
-                    Err(failure) => return Err(failure),
-                }
-            }
-            Err(error) => {
-                if !matches!(error.kind(), ErrorKind::Interrupted) {
-                    return Err(Failure::Stopped(Trouble::reading(error)));
-                }
-            }
+    let mut buffer = match new_buffer(alloc) {
+        Ok(buffer) => buffer,
+        Err(trouble) => return Err(Failure::Stopped(trouble)),
+    };
+    let mut printing = Printing::new(alloc, limits);
+    drive(alloc, input, &mut buffer, &mut printing, output)
+}
+
+/// A reader of replies, and where it stands in the input.
+#[derive(Drop)]
+pub struct Printing {
+    reader: ScanReader<PlacedReply>,
+    place: Position,
+}
+
+impl Printing {
+    // Returns a printer that was passed nothing.
+    fn new(alloc: Global, limits: ReplyTo) -> Self
+        ensures steady { IsSteady result.reader result.place }
+        ensures goes_on { result.reader.ended ≡ false }
+        ensures parser { result.reader.parser ≡ record { limits = limits } }
+        ensures prints { (had : Option (List ℕ)) → Prints ⟦<PlacedReply as Record>⟧.means
+            result.reader.parser [] had had result.reader result.place }
+    {
+        Printing {
+            reader: ScanReader::new(alloc, PlacedReply { limits }),
+            place: Position::start(),
         }
     }
-    Err(Failure::Stopped(Trouble::TooLong))
 }
 
-// Returns the memory that pieces are read into. Nothing needs to be known of its bytes.
-fn new_piece(alloc: Global) -> Result<Vec<u8>, AllocError>
-    ensures { IfOk result (λ piece. 0 < vec_len piece) }
-{
-    vec![in alloc; 0; PIECE]
-}
+/// It prints the replies that are there with each piece.
+impl<W: Write> Driven<W> for Printing {
+    type Failure = Failure;
 
-// Reads into the memory what one read gives.
-fn read_piece<R: Read>(input: &mut R, piece: &mut Vec<u8>) -> io::Result<usize>
-    ensures room { vec_len piece.new ≡ vec_len piece.old }
-    ensures bound { IfOk result (λ count. count ≤ vec_len piece.new) }
-    ensures bytes { ReadConsumes (R.remaining input.old) (R.remaining input.new) result
-        piece.new.items }
-{
-    input.read(piece.as_mut_slice())
+    ghost ready = { λ s. IsSteady s.reader s.place × (s.reader.ended ≡ false) };
+
+    ghost follows = { λ start input had now s. Prints ⟦<PlacedReply as Record>⟧.means
+        start.reader.parser input had now s.reader s.place };
+
+    ghost tells = { λ start input had now result. TellsInput ⟦<PlacedReply as Record>⟧.means
+        start.reader.parser input had now result };
+
+    fn piece(&mut self, alloc: Global, piece: &[u8], output: &mut W) -> Result<(), Failure> {
+        print_piece(alloc, piece, &mut self.reader, &mut self.place, output)
+    }
+
+    fn end(&mut self, alloc: Global, output: &mut W) -> Result<(), Failure> {
+        print_last(alloc, &mut self.reader, &mut self.place, output)
+    }
+
+    fn trouble(trouble: Trouble) -> Failure {
+        Failure::Stopped(trouble)
+    }
 }
 
 // Reads on at the end of the input, and prints the replies that are there.

@@ -1,7 +1,7 @@
--- What was copied of an input, as its pieces counts.
-use Rattle.std.proofs.Common.{◌≡◌, ℕ, ◌+◌, ◌<◌, ◌^◌, true, false, List, [], ◌++◌, refl, ap, sym, ◌∙◌, subst}
-use Rattle.std.specs.Prelude.{Option, None, Some, IfSome, Result, Ok, Err, OnOk, IfErr}
-use Rattle.std.specs.Io.KnownBytes.{Appends, Consumes, IsAtEnd}
+-- What was copied of a text, as its pieces counts.
+use Rattle.std.proofs.Common.{◌≡◌, ℕ, ◌+◌, ◌<◌, ◌^◌, Bool, true, false, List, [], ◌++◌, refl, ap, sym, ◌∙◌, subst, append_assoc}
+use Rattle.std.specs.Prelude.{Option, Result, Ok, Err, OnOk, IfErr}
+use Rattle.std.specs.Io.KnownBytes.{Appends}
 use Rattle.std.proofs.lemmas.List.{append-nil}
 use Rattle.std.proofs.lemmas.Grind.{flat_map-append}
 use Rattle.winnow.specs.State.{ReaderState, pushed, ended_after, fed_of}
@@ -13,121 +13,111 @@ use Rattle.format_csv.specs.Tables.{rows_in, AreRecords}
 use Rattle.format_csv.specs.Reading.{RowInPieces}
 use Rattle.format_csv.specs.declared.grammar.Row.{Row}
 use Rattle.example_csv.specs.Lines.{line_of}
-use Rattle.example_csv.specs.Copying.{lines_of, HasCounted, HasCopied, IsFailureOf, IsBegun, WritesOn, StopsWith, CopiesAll, CopiesUntil}
+use Rattle.example_csv.specs.Copying.{lines_of, HasCounted, Copies, IsFailureOf, IsBegun, WritesOn, StopsWith, CopiesAll, CopiesUntil, TellsText}
 use Rattle.example_csv.specs.declared.progress.Progress.{Progress}
 use Rattle.example_csv.specs.declared.failure.Failure.{Failure}
-use Rattle.example_csv.proofs.lemmas.KnownLemmas.{consumes-more, appends-more}
+use Rattle.example_csv.proofs.lemmas.KnownLemmas.{appends-more}
 use Rattle.example_csv.proofs.lemmas.CopyLemmas.{Begins, counted-pushed, counted-ended}
 
 -- the lines of records, and of more after them
 lines-append : (rows more : List RowVec) → lines_of (rows ++ more) ≡ lines_of rows ++ lines_of more
 lines-append rows more = flat_map-append (λ (r : RowVec). line_of (values_of r)) rows more
 
+-- nothing follows the end
+none-after : (ended : Bool) → MayFollow ended [] false
+none-after false = tt
+none-after true = (refl, refl)
+
 module _ {R : Type 0} where
-  -- what was copied was begun
-  pub copied-begun : (f : ReaderState R) (p : Progress) (had has held now : Option (List ℕ))
-      → HasCopied f p had has held now → IsBegun f p
-  copied-begun f p had has held now h = (h.fed, (h.rows, h.counts))
+  -- what was begun is begun with a piece
+  pub begun-pushed : (f g : ReaderState R) (p : Progress) (piece : List ℕ) → IsBegun f p
+      → g ≡ pushed f piece → ReadsAlso (λ r. RowInPieces) f piece g → fed_of g + 1 < 2 ^ 64
+      → IsBegun g p
+  begun-pushed f g p piece begun e reads fits =
+      (begun.0 ++ piece, (begun.1.0, counted-pushed f g p begun.0 piece begun.1.0 begun.1.1 e reads fits))
 
-  -- a piece is read
-  pub copied-pushed : (f g : ReaderState R) (p : Progress) (had has left held now : Option (List ℕ))
-      (piece : List ℕ)
-      → HasCopied f p had has held now → Consumes has left piece → g ≡ pushed f piece
-      → ReadsAlso (λ r. RowInPieces) f piece g → fed_of g + 1 < 2 ^ 64 → HasCopied g p had left held now
-  copied-pushed f g p had has left held now piece h took e reads fits = record {
-    fed = h.fed ++ piece;
-    rows = h.rows;
-    counts = counted-pushed f g p h.fed piece h.rows h.counts e reads fits;
-    took = consumes-more had has left h.fed piece h.took took;
-    wrote = h.wrote;
-  }
+  -- and at the end
+  pub begun-ended : (f g : ReaderState R) (p : Progress) → IsBegun f p → g ≡ ended_after f
+      → ReadsThrough (λ r. RowInPieces) f g → IsBegun g p
+  begun-ended f g p begun e reads =
+      (begun.0, (begun.1.0, counted-ended f g p begun.0 begun.1.0 begun.1.1 e reads))
 
-  -- the end is read
-  pub copied-ended : (f g : ReaderState R) (p : Progress) (had has left held now : Option (List ℕ))
-      → HasCopied f p had has held now → Consumes has left [] → g ≡ ended_after f
-      → ReadsThrough (λ r. RowInPieces) f g → HasCopied g p had left held now
-  copied-ended f g p had has left held now h took e reads = record {
-    fed = h.fed;
-    rows = h.rows;
-    counts = counted-ended f g p h.fed h.rows h.counts e reads;
-    took = subst (λ xs. Consumes had left xs) (append-nil h.fed) (consumes-more had has left h.fed [] h.took took);
-    wrote = h.wrote;
-  }
+  -- and once records are written
+  pub begun-written : (f g : ReaderState R) (p q : Progress) (held now : Option (List ℕ))
+      → IsBegun f p → WritesOn f p held g q now → IsBegun g q
+  begun-written f g p q held now begun writes =
+      let w = writes begun.0 begun.1.0 begun.1.1 in (begun.0, (begun.1.0 ++ w.0, w.1.0))
 
-  -- the records that are ahead are written
-  pub copied-written : (f g : ReaderState R) (p q : Progress)
-      (had has held now new : Option (List ℕ))
-      → HasCopied f p had has held now → WritesOn f p now g q new → HasCopied g q had has held new
-  copied-written f g p q had has held now new h writes =
-      let w = writes h.fed h.rows h.counts in record {
-        fed = h.fed;
-        rows = h.rows ++ w.0;
-        counts = w.1.0;
-        took = h.took;
-        wrote = subst (λ bs. Appends held new bs) (sym (lines-append h.rows w.0)) (appends-more held now new (lines_of h.rows) (lines_of w.0) h.wrote w.1.1);
-      }
+  module _ (input : List ℕ) (held now new : Option (List ℕ)) (f g k : ReaderState R)
+      (p q : Progress) (piece : List ℕ) (copies : Copies input held now f p)
+      (e : g ≡ pushed f piece) (reads : ReadsAlso (λ r. RowInPieces) f piece g)
+      (fits : fed_of g + 1 < 2 ^ 64) where
+    counts : HasCounted g p (input ++ piece) copies.rows
+    counts = counted-pushed f g p input piece copies.rows copies.counts e reads fits
 
-  -- what may follow what was read is what is left
-  abbrev pub LeavesRest : ReaderState R → Option (List ℕ) → Type 0
-  LeavesRest f has = (ys : List ℕ) → has ≡ Some ys → MayFollow f.ended ys false
+    -- the records that are there with a piece are copied
+    pub copies-piece : WritesOn g p now k q new → k.ended ≡ g.ended
+        → Copies (input ++ piece) held new k q
+    copies-piece writes ended =
+        let w = writes (input ++ piece) copies.rows counts in record {
+          rows = copies.rows ++ w.0;
+          counts = w.1.0;
+          wrote = subst (λ bs. Appends held new bs) (sym (lines-append copies.rows w.0)) (appends-more held now new (lines_of copies.rows) (lines_of w.0) copies.wrote w.1.1);
+          goes_on = ended ∙ ap (λ (g : ReaderState R). g.ended) e ∙ copies.goes_on;
+        }
 
-  -- before the end anything is left
-  pub leaves-more : (f : ReaderState R) (has : Option (List ℕ)) → f.ended ≡ false → LeavesRest f has
-  leaves-more f has e ys is = subst (λ b. MayFollow b ys false) (sym e) tt
+    -- if these end with a failure, the copy does, whatever follows
+    pub stops-piece : (failure : Failure) (rest : List ℕ) → StopsWith g p now failure new
+        → CopiesUntil (input ++ (piece ++ rest)) failure held new
+    stops-piece failure rest stops told =
+        let s = stops told (input ++ piece) copies.rows counts in
+        let goes : g.ended ≡ false = ap (λ (g : ReaderState R). g.ended) e ∙ copies.goes_on in (
+          copies.rows ++ s.0,
+          (
+            subst (λ bs. Appends held new bs) (sym (lines-append copies.rows s.0)) (appends-more held now new (lines_of copies.rows) (lines_of s.0) copies.wrote s.1.0),
+            subst (λ b. IsFailureOf b (copies.rows ++ s.0) failure) (append_assoc input piece rest) (s.1.1 rest (subst (λ b. MayFollow b rest false) (sym goes) tt)),
+          ),
+        )
 
-  -- at the end nothing is
-  pub leaves-none : (f : ReaderState R) (has : Option (List ℕ)) → f.ended ≡ true → IsAtEnd has
-      → LeavesRest f has
-  leaves-none f has e end ys is =
-      subst (λ b. MayFollow b ys false) (sym e) (subst (λ o. IsAtEnd o) is end, refl)
+module _ (begins : Begins) (input : List ℕ) (held now new : Option (List ℕ))
+    (f g k : ReaderState Row) (p q : Progress) (copies : Copies input held now f p) (e : g ≡ ended_after f)
+    (reads : ReadsThrough (λ r. RowInPieces) f g) where
+  counted : HasCounted g p input copies.rows
+  counted = counted-ended f g p input copies.rows copies.counts e reads
 
-  -- the step of `copied-stops`
-  stops-step : (f : ReaderState R) (p : Progress) (had has held now new : Option (List ℕ))
-      (failure : Failure) (fed : List ℕ) (rows : List RowVec)
-      → HasCounted f p fed rows → Consumes had has fed → Appends held now (lines_of rows) → LeavesRest f has
-      → StopsWith f p now failure new → IfSome had (λ bytes. CopiesUntil bytes failure held new)
-  stops-step f p None has held now new failure fed rows counts took wrote rest stops = tt
-  stops-step f p (Some xs) None held now new failure fed rows counts took wrote rest stops = absurd took
-  stops-step f p (Some xs) (Some ys) held now new failure fed rows counts took wrote rest stops = λ told.
-      let s = stops told fed rows counts in (
-        rows ++ s.0,
+  -- at the end all is copied
+  copies-end : WritesOn g p now k q new → k.ahead ≡ [] → CopiesAll input held new
+  copies-end writes none =
+      let w = writes input copies.rows counted in
+      let rows = copies.rows ++ w.0 in
+      let all = begins k input rows w.1.0.read [] (none-follows k.ended) in (
+        rows,
         (
-          subst (λ bs. Appends held new bs) (sym (lines-append rows s.0)) (appends-more held now new (lines_of rows) (lines_of s.0) wrote s.1.0),
-          subst (λ b. IsFailureOf b (rows ++ s.0) failure) (sym took) (s.1.1 ys (rest ys refl)),
+          subst (λ b. AreRecords b (rows_in rows) []) (append-nil input) (subst (λ a. AreRecords (input ++ []) (rows_in rows) (a ++ [])) none all),
+          w.1.0.even,
+          subst (λ bs. Appends held new bs) (sym (lines-append copies.rows w.0)) (appends-more held now new (lines_of copies.rows) (lines_of w.0) copies.wrote w.1.1),
         ),
       )
 
-  -- where the records that are ahead end with a failure, the copy does
-  pub copied-stops : (f : ReaderState R) (p : Progress) (had has held now new : Option (List ℕ))
-      (failure : Failure) → HasCopied f p had has held now → LeavesRest f has
-      → StopsWith f p now failure new → IfSome had (λ bytes. CopiesUntil bytes failure held new)
-  copied-stops f p had has held now new failure h rest stops =
-      stops-step f p had has held now new failure h.fed h.rows h.counts h.took h.wrote rest stops
+  -- or until the failure
+  stops-end : (failure : Failure) → StopsWith g p now failure new
+      → CopiesUntil input failure held new
+  stops-end failure stops told =
+      let s = stops told input copies.rows counted in (
+        copies.rows ++ s.0,
+        (
+          subst (λ bs. Appends held new bs) (sym (lines-append copies.rows s.0)) (appends-more held now new (lines_of copies.rows) (lines_of s.0) copies.wrote s.1.0),
+          subst (λ b. IsFailureOf b (copies.rows ++ s.0) failure) (append-nil input) (s.1.1 [] (none-after g.ended)),
+        ),
+      )
 
--- the step of `copied-all`
-all-step : Begins → (f : ReaderState Row) (p : Progress) (had has held now : Option (List ℕ))
-    (fed : List ℕ) (rows : List RowVec)
-    → HasCounted f p fed rows → Consumes had has fed → Appends held now (lines_of rows)
-    → f.ahead ≡ [] → IsAtEnd has → IfSome had (λ bytes. CopiesAll bytes held now)
-all-step begins f p None has held now fed rows counts took wrote none end = tt
-all-step begins f p (Some xs) None held now fed rows counts took wrote none end = absurd took
-all-step begins f p (Some xs) (Some ys) held now fed rows counts took wrote none end =
-    let all = begins f fed rows counts.read [] (none-follows f.ended) in
-    let whole : fed ++ [] ≡ xs = ap (λ l. fed ++ l) (sym end) ∙ sym took in (
-      rows,
-      (
-        subst (λ b. AreRecords b (rows_in rows) []) whole (subst (λ a. AreRecords (fed ++ []) (rows_in rows) (a ++ [])) none all),
-        counts.even,
-        wrote,
-      ),
-    )
-
--- at the end all was copied
-pub copied-all : Begins → (f : ReaderState Row) (p : Progress) (had has held now : Option (List ℕ))
-    → HasCopied f p had has held now → f.ahead ≡ [] → IsAtEnd has
-    → IfSome had (λ bytes. CopiesAll bytes held now)
-copied-all begins f p had has held now h none end =
-    all-step begins f p had has held now h.fed h.rows h.counts h.took h.wrote none end
+  -- what the end returns is told of the text
+  pub tells-end : (result : Result (Unit {0}) Failure)
+      → OnOk result (WritesOn g p now k q new) → OnOk result (g.ended ≡ true → k.ahead ≡ [])
+      → IfErr result (λ failure. StopsWith g p now failure new) → TellsText input held new result
+  tells-end (Ok done) writes through stops =
+      copies-end writes (through (ap (λ (g : ReaderState Row). g.ended) e))
+  tells-end (Err failure) writes through stops = stops-end failure stops
 
 -- what is said of an answer's value follows from what is said of it
 pub on-ok : {T E P Q : Type 0} (r : Result T E) → (P → Q) → OnOk r P → OnOk r Q

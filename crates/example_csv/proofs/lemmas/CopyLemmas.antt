@@ -1,12 +1,12 @@
 -- What was read and written, as one record more comes.
 use Rattle.std.proofs.Common.{◌≡◌, ℕ, ◌+◌, ◌≤◌, ◌<◌, ◌^◌, List, [], ◌∷◌, ◌++◌, length, refl, ap, sym, ◌∙◌, subst, arith, append_assoc, length-drop, length-append}
-use Rattle.std.specs.Prelude.{Option, None, Some, vec_len}
+use Rattle.std.specs.Prelude.{Option, Some, vec_len}
 use Rattle.std.proofs.lemmas.List.{append-nil}
 use Rattle.std.proofs.lemmas.List.Elements.{All-push}
 use Rattle.std.proofs.lemmas.List.Sums.{sum_by_push}
 use Rattle.std.proofs.lemmas.Grind.{flat_map-append}
 use Rattle.std.specs.Io.KnownBytes.{Keeps, Appends}
-use Rattle.winnow.specs.State.{ReaderState, at_start, pushed, ended_after, taken_by, fed_of}
+use Rattle.winnow.specs.State.{ReaderState, pushed, ended_after, taken_by, fed_of}
 use Rattle.winnow.specs.Reading.{HasRead, ReadsAlso, ReadsThrough}
 use Rattle.format_csv.proofs.lemmas.ReaderLemmas.{none-follows}
 use Rattle.format_csv.specs.Answers.{values_of}
@@ -48,18 +48,6 @@ lines-push rows row =
     flat_map-append (λ (r : RowVec). line_of (values_of r)) rows (row ∷ []) ∙ ap (λ l. lines_of rows ++ l) (append-nil (line_of (values_of row)))
 
 module _ {R : Type 0} where
-  -- of nothing, nothing was read
-  pub counted-start : (parser : R) (p : Progress) → p.feeds ≡ 0 → p.width ≡ None
-      → HasRead (λ r. RowInPieces) (at_start parser) [] [] → HasCounted (at_start parser) p [] []
-  counted-start parser p feeds width read = record {
-    read = read;
-    fed = refl;
-    fits = omega arith;
-    feeds = feeds;
-    width = width;
-    even = λ k d l. absurd (omega (arith, l));
-  }
-
   -- with a piece more the same was read
   pub counted-pushed : (f g : ReaderState R) (p : Progress) (input piece : List ℕ)
       (rows : List RowVec)

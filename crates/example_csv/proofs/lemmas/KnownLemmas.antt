@@ -4,26 +4,6 @@ use Rattle.std.specs.Prelude.{Option, None, Some}
 use Rattle.std.proofs.lemmas.List.{append-nil}
 use Rattle.std.specs.Io.KnownBytes.{Keeps, Appends, Consumes}
 
--- what is known is known
-pub keeps-start : (a : Option (List ℕ)) → Keeps a a
-keeps-start None = tt
-keeps-start (Some xs) = refl
-
--- what is kept twice is kept
-pub keeps-more : (a b c : Option (List ℕ)) → Keeps a b → Keeps b c → Keeps a c
-keeps-more None b c h k = tt
-keeps-more (Some xs) None c h k = absurd h
-keeps-more (Some xs) (Some ys) None h k = absurd k
-keeps-more (Some xs) (Some ys) (Some zs) h k = k ∙ h
-
--- what is taken of what was kept is taken
-pub keeps-consumes : (a b c : Option (List ℕ)) (bs : List ℕ) → Keeps a b → Consumes b c bs
-    → Consumes a c bs
-keeps-consumes None b c bs h k = tt
-keeps-consumes (Some xs) None c bs h k = absurd h
-keeps-consumes (Some xs) (Some ys) None bs h k = absurd k
-keeps-consumes (Some xs) (Some ys) (Some zs) bs h k = sym h ∙ k
-
 -- at first nothing is taken
 pub consumes-start : (a : Option (List ℕ)) → Consumes a a []
 consumes-start None = tt

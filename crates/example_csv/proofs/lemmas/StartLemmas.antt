@@ -1,19 +1,15 @@
 -- The text of an input, of which the start is read before the rest has come.
-use Rattle.std.proofs.Common.{◌≡◌, ℕ, ◌+◌, ◌<◌, ◌^◌, Bool, true, false, List, [], ◌++◌, inl, inr, refl, sym, subst}
-use Rattle.std.specs.Prelude.{Option, None, Some, IfSome}
+use Rattle.std.proofs.Common.{◌≡◌, ℕ, ◌+◌, Bool, true, false, List, [], ◌++◌, inl, inr, refl, ap, sym, ◌∙◌, subst}
+use Rattle.std.proofs.lemmas.List.{append-nil}
+use Rattle.std.specs.Prelude.{Option, None, Some, IfSome, Result, Ok, Err, OnOk, IfErr}
 use Rattle.std.specs.Io.KnownBytes.{Consumes, IsAtEnd, prepend_known}
-use Rattle.winnow.specs.State.{ReaderState, at_start, pushed, fed_of}
-use Rattle.winnow.specs.Reading.{MayFollow, HasRead, ReadsAlso}
-use Rattle.format_csv.specs.Reading.{RowInPieces}
+use Rattle.winnow.specs.Reading.{MayFollow}
 use Rattle.format_csv.specs.Marks.{HasText, IsRefused, BeginsText, RefusesText}
 use Rattle.format_csv.specs.declared.marks.Mark.{Mark}
-use Rattle.example_csv.specs.Copying.{HasCounted, HasCopied, CopiesUntil, StopsInput}
-use Rattle.example_csv.specs.declared.progress.Progress.{Progress}
+use Rattle.example_csv.specs.Copying.{CopiesAll, CopiesUntil, TellsText, StopsInput}
 use Rattle.example_csv.specs.declared.failure.Failure.{Failure}
 use Rattle.example_csv.specs.declared.failure.Failure.TheVariants.{Marked}
-use Rattle.example_csv.proofs.lemmas.KnownLemmas.{consumes-start, appends-start}
-use Rattle.example_csv.proofs.lemmas.CopyLemmas.{counted-start}
-use Rattle.example_csv.proofs.lemmas.CopiedLemmas.{copied-pushed}
+use Rattle.example_csv.proofs.lemmas.KnownLemmas.{appends-start}
 
 -- any bytes may follow a start, unless the input has ended
 may-follow : (ended : Bool) (ys : List ℕ) → (ended ≡ true → ys ≡ []) → MayFollow ended ys false
@@ -25,12 +21,6 @@ if-some : {P Q : List ℕ → Type 0} (known : Option (List ℕ)) → ((bytes : 
     → IfSome known P → IfSome known Q
 if-some None f h = tt
 if-some (Some bytes) f h = f bytes h
-
--- bytes before known ones are taken from both
-consumes-prepended : (bs : List ℕ) (known : Option (List ℕ))
-    → Consumes (prepend_known bs known) known bs
-consumes-prepended bs None = tt
-consumes-prepended bs (Some xs) = refl
 
 -- the bytes so far were consumed of an input, of which nothing remains if it has ended
 pub record HasStart (ended : Bool) (had has : Option (List ℕ)) (start : List ℕ) : Type 0 where
@@ -93,25 +83,31 @@ module _ (skips ended : Bool) where
   mark-stops had has held start mark s refuses =
       mark-step had has held start mark s.took s.end refuses
 
--- at first nothing is copied
-copied-start : {R : Type 0} (parser : R) (f : ReaderState R) (p : Progress)
-    (had held : Option (List ℕ))
-    → f ≡ at_start parser → p.feeds ≡ 0 → p.width ≡ None
-    → HasRead (λ r. RowInPieces) f [] [] → HasCopied f p had had held held
-copied-start parser f p had held e feeds width read = record {
-  fed = [];
-  rows = [];
-  counts = subst (λ g. HasCounted g p [] []) (sym e) (counted-start parser p feeds width (subst (λ g. HasRead (λ r. RowInPieces) g [] []) e read));
-  took = consumes-start had;
-  wrote = appends-start held;
-}
+-- what holds whatever the rest is holds of a rest that is known
+pub all-known : {P : List ℕ → Type 0} (rest : Option (List ℕ)) → ((more : List ℕ) → P more)
+    → IfSome rest P
+all-known None h = tt
+all-known (Some more) h = h more
 
--- once the start of a text is pushed, nothing of it is copied yet
-pub copied-text : {R : Type 0} (parser : R) (f g : ReaderState R) (text : List ℕ)
-    (has held : Option (List ℕ)) → f ≡ at_start parser → HasRead (λ r. RowInPieces) f [] []
-    → g ≡ pushed f text → ReadsAlso (λ r. RowInPieces) f text g → fed_of g + 1 < 2 ^ 64
-    → HasCopied g (record { feeds = 0; width = None }) (prepend_known text has) has held held
-copied-text parser f g text has held e read pushes reads fits =
-    let p : Progress = record { feeds = 0; width = None } in
-    let had = prepend_known text has in
-    copied-pushed f g p had had has held held text (copied-start parser f p had held e refl refl read) (consumes-prepended text has) pushes reads fits
+-- what holds of a text holds of it with the rest, if nothing remains
+pub end-known : (P : List ℕ → Type 0) (text : List ℕ) (rest : Option (List ℕ)) → IsAtEnd rest
+    → P text → IfSome rest (λ more. P (text ++ more))
+end-known P text None end h = tt
+end-known P text (Some more) end h =
+    subst P (sym (append-nil text) ∙ ap (λ l. text ++ l) (sym end)) h
+
+-- what is told of the text and the rest, if the rest is known
+module _ (text : List ℕ) (held now : Option (List ℕ)) where
+  pub copied-known : (rest : Option (List ℕ)) (result : Result (Unit {0}) Failure)
+      → IfSome rest (λ more. TellsText (text ++ more) held now result)
+      → OnOk result (IfSome (prepend_known text rest) (λ bytes. CopiesAll bytes held now))
+  copied-known rest (Err failure) told = tt
+  copied-known None (Ok done) told = tt
+  copied-known (Some more) (Ok done) told = told
+
+  pub stopped-known : (rest : Option (List ℕ)) (result : Result (Unit {0}) Failure)
+      → IfSome rest (λ more. TellsText (text ++ more) held now result)
+      → IfErr result (λ failure. IfSome (prepend_known text rest) (λ bytes. CopiesUntil bytes failure held now))
+  stopped-known rest (Ok done) told = tt
+  stopped-known None (Err failure) told = tt
+  stopped-known (Some more) (Err failure) told = told

@@ -1,23 +1,22 @@
 -- What was read and printed, as a piece comes.
-use Rattle.std.proofs.Common.{◌≡◌, ℕ, ◌+◌, ◌<◌, ◌^◌, Bool, true, false, List, [], ◌++◌, length, refl, ap, sym, ◌∙◌, subst, arith, append-nil, length-append}
+use Rattle.std.proofs.Common.{◌≡◌, ℕ, ◌+◌, ◌<◌, ◌^◌, Bool, true, false, List, [], ◌++◌, length, refl, ap, sym, ◌∙◌, subst, arith, append-nil, append_assoc, length-append}
 use Rattle.std.specs.Prelude.{Option, None, Some, IfSome, Result, Ok, Err, OnOk, IfErr}
-use Rattle.std.specs.Io.KnownBytes.{Appends, Consumes, IsAtEnd}
+use Rattle.std.specs.Io.KnownBytes.{Appends}
 use Rattle.winnow.specs.State.{fed_of}
-use Rattle.format_json_events.specs.Reading.{EventState, HasGiven, GivesOn, GivesAlso, KeepsLimits}
+use Rattle.format_json_events.specs.Reading.{EventState, events_ended, HasGiven, GivesOn, GivesAlso, KeepsLimits}
 use Rattle.format_json_events.specs.declared.event_reader.Event.{Event}
 use Rattle.example_json.specs.Positions.{LeadsTo}
 use Rattle.example_json.specs.Lines.{level_by, lines_at, lines_of}
-use Rattle.example_json.specs.Failures.{IsOfText}
 use Rattle.example_json.specs.Faults.{IsFailureOf}
 use Rattle.example_json.specs.Taking.{PrintsOn, IsDone}
-use Rattle.example_json.specs.Printing.{IsBegun, Breaks, BreaksOn, FollowsOn, FailsOn, HasPrinted, PrintsAll, PrintsUntil}
+use Rattle.example_json.specs.Printing.{IsBegun, BreaksOn, FollowsOn, FailsOn, Prints, PrintsAll, PrintsUntil, TellsInput}
 use Rattle.example_json.specs.declared.failure.Failure.{Failure}
 use Rattle.example_json.specs.declared.failure.Failure.TheVariants.{Damaged, Unexpected, TooDeep, EndsEarly, Stopped}
 use Rattle.example_json.specs.declared.program.Progress.{Progress}
 use Rattle.example_json.proofs.lemmas.PositionLemmas.{placed-longer}
 use Rattle.example_json.proofs.lemmas.LineLemmas.{level-append, lines-append}
 use Rattle.format_json_events.proofs.lemmas.ReaderPlaceLemmas.{given-fed}
-use Rattle.example_json.proofs.lemmas.KnownLemmas.{consumes-more, appends-more}
+use Rattle.example_json.proofs.lemmas.KnownLemmas.{appends-start, appends-more}
 
 -- the line of what was begun counts the bytes that the reader has
 pub begun-fed : (r : EventState) (p : Progress) → IsBegun r p → fed_of r.tokens ≡ p.line.bytes
@@ -76,21 +75,22 @@ prints-ended old middle new level there wrote gives prints input before h =
 -- ---- The whole input
 
 -- at first nothing is printed
-pub printed-start : (r : EventState) (p : Progress) (had held : Option (List ℕ))
+pub prints-start : (depth : ℕ) (r : EventState) (p : Progress) (held : Option (List ℕ))
     → HasGiven r [] [] → r.stopped ≡ None → LeadsTo [] p.line → p.level ≡ 0
-    → Consumes had had [] → Appends held held [] → HasPrinted r p had had held held
-printed-start r p had held given going leads level took wrote = record {
-  input = [];
+    → r.text.depth ≡ depth → r.tokens.ended ≡ false → Prints depth [] held held r p
+prints-start depth r p held given going leads level limit goes_on = record {
   events = [];
   follows = record { given = given; going = going; leads = leads; level = level; fits = omega arith };
-  took = took;
-  wrote = wrote;
+  wrote = appends-start held;
+  limit = limit;
+  goes_on = goes_on;
 }
 
--- what was printed was begun
-pub printed-begun : (r : EventState) (p : Progress) (had has held now : Option (List ℕ))
-    → HasPrinted r p had has held now → IsBegun r p
-printed-begun r p had has held now h = (h.input, (h.events, h.follows))
+-- what was begun is begun with a piece
+pub begun-piece : (r s : EventState) (p q : Progress) (piece : List ℕ) (wrote : List ℕ → Type 0)
+    → IsBegun r p → FollowsOn r p piece s q wrote → IsBegun s q
+begun-piece r s p q piece wrote begun on =
+    let more = on begun.0 begun.1.0 begun.1.1 in (begun.0 ++ piece, (begun.1.0 ++ more.0, more.1.0))
 
 -- the lines of more events were written
 wrote-more : (held now new : Option (List ℕ)) (events more : List Event) (level : ℕ)
@@ -102,18 +102,17 @@ wrote-more held now new events more level wrote e added =
     (appends-more held now new (lines_of events) (lines_at level more) wrote added)
 
 -- a piece more is read and printed
-pub printed-piece : (r s : EventState) (p q : Progress)
-    (had has left held now new : Option (List ℕ))
-    (piece : List ℕ)
-    → HasPrinted r p had has held now → Consumes has left piece
-    → FollowsOn r p piece s q (Appends now new) → HasPrinted s q had left held new
-printed-piece r s p q had has left held now new piece h took on =
-    let more = on h.input h.events h.follows in record {
-      input = h.input ++ piece;
+pub prints-piece : (depth : ℕ) (input : List ℕ) (r s : EventState) (p q : Progress)
+    (held now new : Option (List ℕ)) (piece : List ℕ) → Prints depth input held now r p
+    → FollowsOn r p piece s q (Appends now new) → KeepsLimits r s
+    → Prints depth (input ++ piece) held new s q
+prints-piece depth input r s p q held now new piece h on keeps =
+    let more = on input h.events h.follows in record {
       events = h.events ++ more.0;
       follows = more.1.0;
-      took = consumes-more had has left h.input piece h.took took;
       wrote = wrote-more held now new h.events more.0 p.level h.wrote h.follows.level more.1.1;
+      limit = keeps.0 ∙ h.limit;
+      goes_on = keeps.1 ∙ h.goes_on;
     }
 
 -- a failure of a front of the input is one of the input
@@ -134,93 +133,80 @@ pub no-both : (b : Bool) → b ≡ true → b ≡ false → ⊥
 no-both true e f = absurd (cc)
 no-both false e f = absurd (cc)
 
--- where the input has ended, nothing is left of it
-abbrev pub LeavesRest : Bool → Option (List ℕ) → Type 0
-LeavesRest ended has = (xs : List ℕ) → has ≡ Some xs → ended ≡ true → xs ≡ []
-
--- before the end anything may be left
-pub leaves-more : (ended : Bool) (has : Option (List ℕ)) → ended ≡ false → LeavesRest ended has
-leaves-more ended has goes xs is e = absurd (no-both ended e goes)
-
--- at the end nothing is
-pub leaves-none : (ended : Bool) (has : Option (List ℕ)) → IsAtEnd has → LeavesRest ended has
-leaves-none ended has end xs is e = subst (λ o. IsAtEnd o) is end
-
--- the step of `printed-fails`
-fails-step : (depth : ℕ) (had has held now new : Option (List ℕ)) (level : ℕ) (limits : EventState)
-    (failure : Failure) (front : List ℕ) (events : List Event)
-    → Consumes had has front → LeavesRest limits.tokens.ended has → limits.text.depth ≡ depth
-    → Appends held now (lines_of events) → level ≡ level_by 0 events
-    → (IsOfText failure → Breaks limits front events level failure (Appends now new))
-    → IfSome had (λ bytes. PrintsUntil depth bytes failure held new)
-fails-step depth None has held now new level limits failure front events took leaves deep wrote e breaks = tt
-fails-step depth (Some xs) None held now new level limits failure front events took leaves deep wrote e breaks = absurd took
-fails-step depth (Some xs) (Some ys) held now new level limits failure front events took leaves deep wrote e breaks = λ is.
-    let b = breaks is in record {
+-- where a piece makes the program fail, the failure is one of the input, whatever is left of it: at
+-- the end nothing is
+pub prints-fails : (depth : ℕ) (input rest : List ℕ) (r : EventState) (p : Progress)
+    (held now new : Option (List ℕ)) (piece : List ℕ) (limits : EventState) (failure : Failure)
+    → Prints depth input held now r p → limits.text.depth ≡ r.text.depth
+    → (limits.tokens.ended ≡ true → rest ≡ [])
+    → FailsOn r p piece limits failure (Appends now new)
+    → PrintsUntil depth ((input ++ piece) ++ rest) failure held new
+prints-fails depth input rest r p held now new piece limits failure h deep leaves fails is =
+    let b = fails is input h.events h.follows in record {
       reader = b.reader;
-      events = events ++ b.more;
-      limit = b.keeps.0 ∙ deep;
-      front = front;
-      rest = ys;
-      splits = took;
-      ends = λ end. leaves ys refl (sym b.keeps.1 ∙ end);
+      events = h.events ++ b.more;
+      limit = b.keeps.0 ∙ deep ∙ h.limit;
+      front = input ++ piece;
+      rest = rest;
+      splits = refl;
+      ends = λ end. leaves (sym b.keeps.1 ∙ end);
       given = b.given;
       going = b.going;
-      wrote = wrote-more held now new events b.more level wrote e b.written;
-      told = subst (λ all. IsFailureOf all b.reader failure) (sym took) (failure-longer front ys b.reader failure b.told);
+      wrote = wrote-more held now new h.events b.more p.level h.wrote h.follows.level b.written;
+      told = failure-longer (input ++ piece) rest b.reader failure b.told;
     }
 
--- where a piece makes the program fail, the failure is one of the input
-pub printed-fails : (depth : ℕ) (r : EventState) (p : Progress)
-    (had has left held now new : Option (List ℕ))
-    (piece : List ℕ) (limits : EventState) (failure : Failure)
-    → HasPrinted r p had has held now → Consumes has left piece
-    → LeavesRest limits.tokens.ended left → limits.text.depth ≡ depth
-    → FailsOn r p piece limits failure (Appends now new)
-    → IfSome had (λ bytes. PrintsUntil depth bytes failure held new)
-printed-fails depth r p had has left held now new piece limits failure h took leaves deep fails =
-    fails-step depth had left held now new p.level limits failure (h.input ++ piece) h.events
-    (consumes-more had has left h.input piece h.took took) leaves deep h.wrote h.follows.level
-    (λ is. fails is h.input h.events h.follows)
+-- a piece fails so while more may follow
+pub fails-more : (depth : ℕ) (input rest : List ℕ) (r : EventState) (p : Progress)
+    (held now new : Option (List ℕ)) (piece : List ℕ) (failure : Failure)
+    → Prints depth input held now r p → FailsOn r p piece r failure (Appends now new)
+    → PrintsUntil depth (input ++ (piece ++ rest)) failure held new
+fails-more depth input rest r p held now new piece failure h fails =
+    subst (λ all. PrintsUntil depth all failure held new) (append_assoc input piece rest)
+    (prints-fails depth input rest r p held now new piece r failure h refl (λ e. absurd (no-both r.tokens.ended e h.goes_on)) fails)
 
--- the step of `printed-all`
-all-step : (depth : ℕ) (had has held now : Option (List ℕ)) (r : EventState) (input : List ℕ)
-    (events : List Event)
-    → Consumes had has input → IsAtEnd has → HasGiven r input events → r.text.depth ≡ depth
-    → IsDone r → Appends held now (lines_of events)
-    → IfSome had (λ bytes. PrintsAll depth bytes held now)
-all-step depth None has held now r input events took end given deep done wrote = tt
-all-step depth (Some xs) None held now r input events took end given deep done wrote = absurd took
-all-step depth (Some xs) (Some ys) held now r input events took end given deep done wrote =
-    let same : xs ≡ input = took ∙ ap (λ l. input ++ l) end ∙ append-nil input in
-    record {
-      reader = r;
-      events = events;
-      limit = deep;
-      given = subst (λ bytes. HasGiven r bytes events) (sym same) given;
-      done = done;
-      wrote = wrote;
+-- what the end returns is told of the input
+pub tells-end : (depth : ℕ) (input : List ℕ) (r s : EventState) (p q : Progress)
+    (held now new : Option (List ℕ)) (result : Result (Unit {0}) Failure)
+    → Prints depth input held now r p → OnOk result (s.text.depth ≡ r.text.depth)
+    → OnOk result (IsDone s) → OnOk result (PrintsOn r p.level s q.level (Appends now new))
+    → IfErr result (λ failure. FailsOn r p [] (events_ended r) failure (Appends now new))
+    → TellsInput depth input held new result
+tells-end depth input r s p q held now new (Ok done) h limit is prints fails =
+    let more = prints input h.events h.follows.given in record {
+      reader = s;
+      events = h.events ++ more.0;
+      limit = limit ∙ h.limit;
+      given = more.1.0;
+      done = is;
+      wrote = wrote-more held now new h.events more.0 p.level h.wrote h.follows.level more.1.2;
     }
-
--- at the end of a whole text all is printed
-pub printed-all : (depth : ℕ) (r s : EventState) (p q : Progress)
-    (had has left held now new : Option (List ℕ))
-    → HasPrinted r p had has held now → Consumes has left [] → IsAtEnd left
-    → PrintsOn r p.level s q.level (Appends now new) → s.text.depth ≡ depth → IsDone s
-    → IfSome had (λ bytes. PrintsAll depth bytes held new)
-printed-all depth r s p q had has left held now new h took end prints deep done =
-    let more = prints h.input h.events h.follows.given in
-    all-step depth had left held new s h.input (h.events ++ more.0)
-    (subst (λ xs. Consumes had left xs) (append-nil h.input) (consumes-more had has left h.input [] h.took took))
-    end more.1.0 deep done (wrote-more held now new h.events more.0 p.level h.wrote h.follows.level more.1.2)
+tells-end depth input r s p q held now new (Err failure) h limit is prints fails =
+    subst (λ all. PrintsUntil depth all failure held new) (append-nil (input ++ []) ∙ append-nil input)
+    (prints-fails depth input [] r p held now new [] (events_ended r) failure h refl (λ e. refl) fails)
 
 -- ---- Answers
 
--- what is said of an answer's value follows from three such facts
-pub on-three : {T E P Q R S : Type 0} (r : Result T E) → (P → Q → R → S)
-    → OnOk r P → OnOk r Q → OnOk r R → OnOk r S
-on-three (Ok x) f h k l = f h k l
-on-three (Err e) f h k l = tt
+-- what is told of the input, if that is known
+module _ (depth : ℕ) (held now : Option (List ℕ)) where
+  pub printed-known : (input : Option (List ℕ)) (result : Result (Unit {0}) Failure)
+      → IfSome input (λ bytes. TellsInput depth bytes held now result)
+      → OnOk result (IfSome input (λ bytes. PrintsAll depth bytes held now))
+  printed-known input (Err failure) told = tt
+  printed-known None (Ok done) told = tt
+  printed-known (Some bytes) (Ok done) told = told
+
+  pub stopped-known : (input : Option (List ℕ)) (result : Result (Unit {0}) Failure)
+      → IfSome input (λ bytes. TellsInput depth bytes held now result)
+      → IfErr result (λ failure. IfSome input (λ bytes. PrintsUntil depth bytes failure held now))
+  stopped-known input (Ok done) told = tt
+  stopped-known None (Err failure) told = tt
+  stopped-known (Some bytes) (Err failure) told = told
+
+-- what is said of an answer's value follows from two such facts
+pub on-both : {T E P Q R : Type 0} (r : Result T E) → (P → Q → R) → OnOk r P → OnOk r Q → OnOk r R
+on-both (Ok x) f h k = f h k
+on-both (Err e) f h k = tt
 
 -- what is said of an answer's value follows from what is said of it
 pub on-ok : {T E P Q : Type 0} (r : Result T E) → (P → Q) → OnOk r P → OnOk r Q

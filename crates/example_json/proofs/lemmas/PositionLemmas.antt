@@ -3,10 +3,10 @@ use Rattle.std.proofs.Common.{◌≡◌, ℕ, ◌+◌, ◌≤◌, Bool, true, fa
 use Rattle.std.specs.Prelude.{◌==◌}
 use Rattle.std.specs.List.{fold}
 use Rattle.std.proofs.lemmas.List.{take-append-drop, take-append-le, length-drop}
-use Rattle.std.proofs.lemmas.List.Sums.{fold-append, sum_by-cons, sum_by-append, count_by-le-length}
+use Rattle.std.proofs.lemmas.List.Sums.{fold-append, sum_by-cons, sum_by-append}
 use Rattle.example_json.specs.declared.positions.Line.{Line}
 use Rattle.example_json.specs.declared.positions.Position.{Position}
-use Rattle.example_json.specs.Positions.{line_feeds, after_feed, LeadsTo, IsWithin, IsPositionAfter, IsPlaced}
+use Rattle.example_json.specs.Positions.{line_feeds, after_feed, LeadsTo, IsPositionAfter, IsPlaced}
 
 -- the weight of a byte in a count of line feeds
 abbrev feed : ℕ → ℕ
@@ -53,13 +53,6 @@ front-line input l n h begun within =
       omega (arith, h.feeds, ap line_feeds whole, feeds-append xs ys, none.0),
       omega (arith, h.begins, all, none.1, length-drop n input),
     )
-
--- no more lines end in bytes than there are bytes, and the last one begins among them
-pub leads-within : (input : List ℕ) (l : Line) → LeadsTo input l → IsWithin l
-leads-within input l h = record {
-  lines = omega (arith, h.counted, h.feeds, count_by-le-length (λ byte. byte == 10) input);
-  begins = omega (arith, h.counted, h.begins);
-}
 
 -- a place within the bytes before which a piece ends has its position with the whole piece too
 pub placed-longer : (input piece : List ℕ) (place : ℕ) (p : Position) → IsPlaced input place p

@@ -347,10 +347,3 @@ module _ (means : PlacedReply → Meaning Placed ℕ) where
   ends-as (Err (NoReply p cause)) old f place e none failed = (refl, e, refl)
   ends-as (Err (EndsInside p)) old f place e none failed = absurd failed
   ends-as (Err (Stopped trouble)) old f place e none failed = tt
-
-  -- a reader that failed before the end of the input ends so, with any rest of the input
-  pub fails-as : (e : Failure) (f : ReaderState PlacedReply) (place : Position) (rest : List ℕ)
-      → FailsThere means f place e → EndsAs means f place rest (Err e)
-  fails-as (NoReply p cause) f place rest h = h
-  fails-as (EndsInside p) f place rest h = absurd h
-  fails-as (Stopped trouble) f place rest h = tt

@@ -1,5 +1,5 @@
 use Rattle.std.specs.Io.KnownBytes.{Keeps}
-use Rattle.example_csv.proofs.program.read_piece.Given as goal
+use Rattle.example_base.proofs.driving.read_piece.Given as goal
 
 -- nothing is taken so far
 abbrev pub invariant-loop : goal.invariant-loop
