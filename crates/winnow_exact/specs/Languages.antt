@@ -28,4 +28,4 @@ abbrev pub Links : {O T : Type 0} → Spelling O T → (T → Bool) → ℕ → 
 Links L sign zero t = t ≡ []
 Links {O} {T} L sign (suc n) t =
     (q : List T) × ((u : List T) × ((y : T × O) × ((t ≡ q ++ u) × Link L sign y q
-        × Links L sign n u)))
+    × Links L sign n u)))

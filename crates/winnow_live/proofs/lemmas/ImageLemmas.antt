@@ -16,7 +16,7 @@ Settles {O} {T} inner a = (w : Outcome O T) × (inner true a w × IsSettled w)
 
 module _ {O P T : Type 0} (inner : Meaning O T) (outer : Meaning P T) (live : IsLive inner)
     (needs : (a : Ahead T) (need : Needed) → outer true a (Fails (Needs need))
-        → inner true a (Fails (Needs need)))
+    → inner true a (Fails (Needs need)))
     (settles : (a : Ahead T)
     (v : Outcome P T) → outer true a v → IsSettled v → Settles inner a) where
   -- a parser that needs more where the inner one does, and is settled only where that is
