@@ -1,7 +1,7 @@
 //! Printing the events of an input.
 
 ghost use Rattle.std.specs.Prelude.{◌≡◌, ℕ, ◌++◌, ◌+◌, ◌<◌, ◌^◌, List, [], false, Option, None};
-ghost use Rattle.std.specs.Prelude.{length, IfOk, OnOk, IfErr, IfSome};
+ghost use Rattle.std.specs.Prelude.{length, IfOk, OnOk, IfErr, IfSome, true};
 ghost use Rattle.std.specs.Io.KnownBytes.{Appends};
 ghost use Rattle.format_json_events.specs.Reading.{events_ended, KeepsLimits, IsWhole};
 ghost use Rattle.example_json.specs.Positions.{IsWithin};

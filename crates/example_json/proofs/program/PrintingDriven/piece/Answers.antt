@@ -1,4 +1,5 @@
 use Rattle.std.proofs.Common.{◌∙◌}
+use Rattle.std.specs.Io.KnownBytes.{Appends}
 use Rattle.example_json.proofs.lemmas.FollowLemmas.{begun-piece, prints-piece, fails-more, on-both, if-err}
 use Rattle.example_json.proofs.program.PrintingDriven.piece.Goals as goal
 
@@ -6,7 +7,7 @@ pub returns-clause-ready : goal.returns-clause-ready
 returns-clause-ready g c =
     let old = c.args.self.now in
     on-both c.print_piece.result
-    (λ keeps follows. (begun-piece old.reader c.print_piece.new.reader old.progress c.print_piece.new.progress c.args.piece.now _ c.requires.0 follows, keeps.1 ∙ c.requires.1))
+    (λ keeps follows. (begun-piece old.reader c.print_piece.new.reader old.progress c.print_piece.new.progress c.args.piece.now (Appends (g.W.Write.contents c.args.output.now) (g.W.Write.contents c.print_piece.new.output)) c.requires.0 follows, keeps.1 ∙ c.requires.1))
     c.print_piece.ensures.keeps c.print_piece.ensures.printed
 
 pub returns-clause-follows : goal.returns-clause-follows
