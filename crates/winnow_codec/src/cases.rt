@@ -1,3 +1,5 @@
+//! A choice of formats by a tag: `by_tag`.
+
 ghost use Rattle.std.specs.Prelude.{◌≡◌, List, ℕ};
 ghost use Rattle.winnow_parser.specs.Answer.{ahead, outcome};
 ghost use Rattle.winnow_codec.specs.Formats.{Reads};

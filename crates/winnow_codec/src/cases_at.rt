@@ -1,3 +1,5 @@
+//! Cases of a tag of one byte that stands in their type: `At`, `LastAt`.
+
 ghost use Rattle.winnow_codec.specs.Cases.{SpellsLast, only_tag, AreCases-Last};
 ghost use Rattle.winnow_codec.specs.Cases.{SpellsCase, AreSameCase, case_tag, AreCases-Case};
 

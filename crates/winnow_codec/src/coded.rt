@@ -1,3 +1,5 @@
+//! Values by a code: `Coded`, `by_code_of`.
+
 ghost use Rattle.std.specs.Prelude.{◌≡◌, MatchOption};
 ghost use Rattle.winnow_codec.specs.Parts.{SpellsParts, HaveSameParts, IsFormat-Parts};
 

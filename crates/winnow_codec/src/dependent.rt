@@ -1,3 +1,5 @@
+//! A format that the value before it chooses: `Choose`, `choose_next`.
+
 ghost use Rattle.std.specs.Prelude.{◌≡◌};
 ghost use Rattle.winnow_codec.specs.Rows.{SpellsBoth, AreBothSame, IsFormat-Then};
 

@@ -1,4 +1,18 @@
 //! Formats of bytes that are read and written by one description.
+//!
+//! A [`Format`] says which bytes spell which value. From that alone come what its reader and its
+//! writer promise, and that what is written is read back and what is read is written back, byte
+//! for byte ([`round_trip_law`]). Formats are composed of formats, with no proof:
+//!
+//! ```
+//! pub type ExtensionFields = (Be<u16>, BytesAfter<Be<Count<u16>>>);
+//! ..
+//! let extension = struct_of((be_u16(), bytes_after(count_of(be_u16()))));
+//! within(count_of(be_u16()), list_to_end(extension))
+//! ```
+//!
+//! A struct has an `impl` of [`Fields`], an enum one of [`Coded`] or [`Variants`]. [`reading`]
+//! makes a parser, and a record of a reader, of each format.
 #![tactic(auto)]
 
 mod by_ref;
@@ -24,6 +38,7 @@ mod read_of;
 mod records;
 mod rest_bytes;
 mod rows;
+mod rows_to_eight;
 mod rows_to_six;
 mod rows_to_ten;
 mod some_bytes;
@@ -59,8 +74,9 @@ pub use preceded::{After, known_then};
 pub use read_of::{ReadOf, reading};
 pub use rest_bytes::{RestBytes, rest};
 pub use rows::{write_three, write_two};
+pub use rows_to_eight::{write_eight, write_seven};
 pub use rows_to_six::{write_five, write_four, write_six};
-pub use rows_to_ten::{write_eight, write_nine, write_seven, write_ten};
+pub use rows_to_ten::{write_nine, write_ten};
 pub use structs::{Fields, Struct, struct_of};
 pub use unread::Unread;
 pub use unwritten::Unwritten;

@@ -1,3 +1,5 @@
+//! Lists after the number of their values: `list_after`.
+
 ghost use Rattle.std.specs.Prelude.{◌≡◌, length};
 ghost use Rattle.winnow_parser.specs.Answer.{ahead, outcome};
 ghost use Rattle.winnow_codec.specs.Formats.{Reads};

@@ -1,3 +1,5 @@
+//! A byte: `byte`.
+
 ghost use Rattle.winnow_codec.specs.Byte.{SpellsByte, IsFormat-Byte};
 ghost use Rattle.winnow_codec.specs.Formats.{IsEqual};
 

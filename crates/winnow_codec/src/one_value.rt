@@ -1,3 +1,5 @@
+//! One value alone: `exactly`.
+
 ghost use Rattle.std.specs.Prelude.{◌≡◌};
 ghost use Rattle.winnow_codec.specs.Known.{SpellsExactly, IsNothing, IsFormat-Exactly};
 

@@ -1,3 +1,5 @@
+//! One byte alone, which stands in its type: `Only`.
+
 ghost use Rattle.winnow_codec.specs.Known.{SpellsExactly, IsNothing, IsFormat-Exactly};
 ghost use Rattle.winnow_codec.specs.Byte.{SpellsByte, IsFormat-Byte};
 ghost use Rattle.winnow_codec.specs.Formats.{IsEqual};

@@ -1,3 +1,5 @@
+//! A value after what is known: `known_then`.
+
 ghost use Rattle.std.specs.Prelude.{◌≡◌};
 ghost use Rattle.winnow_codec.specs.Known.{SpellsAfter, IsFormat-After};
 

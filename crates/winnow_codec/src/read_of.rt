@@ -1,3 +1,5 @@
+//! The parser of a format: `reading`.
+
 ghost use Rattle.std.specs.Prelude.{◌≡◌};
 ghost use Rattle.winnow_parser.specs.Errors.{AnyError};
 ghost use Rattle.winnow_codec.specs.Formats.{Reads, IsParser-Reads};

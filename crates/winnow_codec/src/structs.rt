@@ -1,3 +1,5 @@
+//! A struct by its fields: `Fields`, `struct_of`.
+
 ghost use Rattle.std.specs.Prelude.{◌≡◌};
 ghost use Rattle.winnow_codec.specs.Parts.{SpellsParts, HaveSameParts, IsFormat-Parts};
 ghost use Rattle.winnow_codec.specs.Writing.{Writes};

@@ -2,7 +2,7 @@ use Rattle.std.proofs.Common.{◌≡◌, Err, length, take, ap, sym, ◌∙◌, 
 use Rattle.winnow_codec.specs.Rows.{nested7, SpellsRow6, SpellsRow7}
 use Rattle.winnow_codec.specs.Writing.{Writes}
 use Rattle.winnow_codec.proofs.lemmas.Writing.{both-unwritten}
-use Rattle.winnow_codec.proofs.rows_to_ten.write_seven.Goals as goal
+use Rattle.winnow_codec.proofs.rows_to_eight.write_seven.Goals as goal
 
 pub returns-in-Err : goal.returns-in-Err
 returns-in-Err g c =
