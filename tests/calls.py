@@ -17,10 +17,10 @@ import sys
 TOP = os.path.dirname(os.path.dirname(os.path.realpath(__file__)))
 
 # The types whose values may say that memory was refused.
-REFUSING = ("AllocError", "RecordError", "ReadError", "ModalResult", "Unwritten", "EventError")
+REFUSING = ("AllocError", "RecordError", "ReadError", "ModalResult", "WholeResult", "Unwritten", "EventError")
 
-# The sources that make an `AllocError`: of more separators than a `usize` counts, and of the want of memory that `hex` tells of.
-MADE = {"winnow_combinator/src/parsers/separated.rt", "winnow_script_text/src/literals.rt"}
+# The sources that make an `AllocError`: of more separators than a `usize` counts, and of the want of memory that `hex` and a record of an error tell of.
+MADE = {"winnow_combinator/src/parsers/separated.rt", "winnow_recovery/src/following.rt", "winnow_script_text/src/literals.rt"}
 
 # How an impl says that a method is never refused memory of its own.
 NEVER = {
@@ -46,6 +46,9 @@ NEVER = {
     "ask_as": r"^pub fn ask_as<",
     "ask_bytes": r"^pub fn ask_bytes<",
     "ask_text": r"^pub fn ask_text<",
+    # Operators are refused what their parsers are.
+    "read_operator": r"\b(Unary|Infix)Operators<",
+    "apply": r"\b(Unary|Infix)Operators<",
     # It is refused what its record of text, or its part of a grammar, is.
     "read": r"\b(Text)?Record for (Utf8Record|PlainRecord|PlainTextRecord)<",
 }
