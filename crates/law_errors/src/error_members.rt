@@ -203,7 +203,7 @@ pub fn error_text_law<I: Display, E: Debug>()
         → ⟦<ContextError<StrContext> as Display>⟧.output e ≡ Some (explanation_text e) }
 {}
 
-/// No option of a hole changes what an error prints.
+/// No format option changes what an error prints.
 pub fn bare_text_law<I: Display, E: Debug>()
     ensures mode { (e : Mode E) (spec : _)
         → ⟦<ErrMode<E> as Display>⟧.styled_output e spec ≡ mode_text E.debug_output e }

@@ -7,7 +7,7 @@ ghost use Rattle.winnow_count.specs.declared.range.Range.{Range};
 use std::fmt::{Debug, Display};
 use winnow_count::Range;
 
-/// The members for the printed text of a range, spelled out. No option of a hole changes it.
+/// The members for the printed text of a range, spelled out. No format option changes it.
 pub fn text_members()
     ensures shown { (range : Range)
         → ⟦<Range as Display>⟧.output range ≡ Some (range_text range) }

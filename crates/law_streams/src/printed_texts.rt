@@ -17,7 +17,7 @@ use std::fmt::{Debug, Display};
 use winnow_kinds::BStr;
 use winnow_stream_bytes::{Bytes, LowerBytes, UpperBytes};
 
-/// The members for the printed texts of a text, spelled out. Of the options of a hole only the
+/// The members for the printed texts of a text, spelled out. Of the format options only the
 /// precision counts, which is the number of characters that are shown.
 pub fn text_members<'i>()
     ensures shown { (s : BStr)

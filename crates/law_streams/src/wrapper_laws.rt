@@ -49,8 +49,8 @@ pub fn nest_law<I: Stream>()
         × (s.input.input.input.input.state ≡ t.input.input.input.input.state) }
 {}
 
-/// The members for texts, spelled out: each wrapper prints as the stream inside, under any options
-/// of a hole.
+/// The members for texts, spelled out: each wrapper prints as the stream inside, under any format
+/// options.
 pub fn text_law<I: Stream + Display, S, E>()
     ensures located { (s : LocatingSlice I I.Checkpoint I.Rest I.Checkpoint.Rest)
         → ⟦<LocatingSlice<I> as Display>⟧.output s ≡ I.output (locating_inner s) }

@@ -154,7 +154,7 @@ impl RangeBounds<usize> for Range {
 }
 
 /// Prints the least count. Then it prints nothing if the greatest count is the same, `..=` and the
-/// greatest if it is another, or `..` if there is none. No option of a hole changes the text.
+/// greatest if it is another, or `..` if there is none. No format option changes the text.
 impl fmt::Display for Range {
     ghost output = { λ range. Some (range_text range) };
 

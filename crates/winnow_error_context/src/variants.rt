@@ -1,10 +1,11 @@
-//! Variants of enums as debug text.
+//! Printing an enum's variant as a derived `Debug` prints it (`write_variant`).
 
 ghost use Rattle.std.specs.Fmt.{DisplaysOnOk, debug_variant};
 
 use std::fmt;
 
-/// Prints a variant that holds a value as a derived `Debug` does.
+/// Prints the variant `name`, which holds `value`, as a derived `Debug` prints it: `name(value)`, and
+/// over several lines under `{:#?}`.
 pub fn write_variant<T: fmt::Debug, W: fmt::Write>(
     f: &mut fmt::Formatter<W>,
     name: &str,

@@ -1,4 +1,4 @@
--- The text of bytes that are text by convention, under the options of a hole.
+-- The text of bytes that are text by convention, under format options.
 use Rattle.std.specs.Prelude.{ℕ, List, take, Option, Some, None, encode_utf8_all}
 use Rattle.std.specs.Str.Lossy.{utf8_lossy}
 use Rattle.bstr.specs.Utf8.{lossy_chars}

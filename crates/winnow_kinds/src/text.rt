@@ -322,7 +322,7 @@ impl<T: ByteNeedles> FindSlice<T> for BStr<'_> {
 }
 
 /// Prints the text, with U+FFFD for each maximal damaged part. A precision is the greatest number
-/// of characters that are printed. No other option of a hole changes the text.
+/// of characters that are printed. No other format option changes the text.
 impl fmt::Display for BStr<'_> {
     ghost output = { λ s. Some (utf8_lossy (bstr_contents s)) };
 
@@ -334,7 +334,7 @@ impl fmt::Display for BStr<'_> {
 }
 
 /// Prints the escaped bytes in double quotes, each as the character of its number. `{:#?}` leaves
-/// the quotes out, and no other option of a hole changes the text. The contract promises this of
+/// the quotes out, and no other format option changes the text. The contract promises this of
 /// ASCII bytes alone.
 impl fmt::Debug for BStr<'_> {
     ghost debug_output = { λ s. debug_text (bstr_contents s) };

@@ -463,7 +463,7 @@ impl<I: FindSlice<T>, E: Debug, T> FindSlice<T> for Recoverable<I, E> {
     }
 }
 
-/// It prints as the stream inside, also under the options of a hole.
+/// It prints as the stream inside, also under format options.
 impl<I: fmt::Display, E> fmt::Display for Recoverable<I, E> {
     ghost output = { λ s. I.output (recoverable_inner s) };
 

@@ -322,7 +322,7 @@ impl<T: ByteNeedles> FindSlice<T> for Bytes<'_> {
     }
 }
 
-/// Prints two hexadecimal digits for each byte, in capitals. No option of a hole changes the text.
+/// Prints two hexadecimal digits for each byte, in capitals. No format option changes the text.
 impl fmt::Display for Bytes<'_> {
     ghost output = { λ s. Some (hex_text true (bytes_contents s)) };
 
@@ -333,7 +333,7 @@ impl fmt::Display for Bytes<'_> {
     }
 }
 
-/// Prints two hexadecimal digits for each byte, in capitals. No option of a hole changes the text.
+/// Prints two hexadecimal digits for each byte, in capitals. No format option changes the text.
 impl fmt::Debug for Bytes<'_> {
     ghost debug_output = { λ s. Some (hex_text true (bytes_contents s)) };
 

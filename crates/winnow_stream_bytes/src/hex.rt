@@ -31,7 +31,7 @@ fn write_byte<W: fmt::Write>(byte: u8, upper: bool, f: &mut fmt::Formatter<W>) -
     }
 }
 
-/// Bytes that print as two hexadecimal digits each, in capitals, under all options of a hole.
+/// Bytes that print as two hexadecimal digits each, in capitals, under all format options.
 #[derive(Clone, Copy, Debug)]
 pub struct UpperBytes<'i> {
     bytes: &'i [u8],
@@ -55,7 +55,7 @@ impl fmt::Display for UpperBytes<'_> {
     }
 }
 
-/// Bytes that print as two hexadecimal digits each, in small letters, under all options of a hole.
+/// Bytes that print as two hexadecimal digits each, in small letters, under all format options.
 #[derive(Clone, Copy, Debug)]
 pub struct LowerBytes<'i> {
     bytes: &'i [u8],

@@ -437,7 +437,7 @@ impl<I: FindSlice<T> + Stream<Checkpoint = C>, C: Rest + Copy + Debug, T> FindSl
     }
 }
 
-/// It prints as the stream inside, also under the options of a hole.
+/// It prints as the stream inside, also under format options.
 impl<I: Display + Rest, C: Rest> Display for LocatingSlice<I, C> {
     ghost output = { λ s. I.output (locating_inner s) };
 

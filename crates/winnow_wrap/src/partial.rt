@@ -301,7 +301,7 @@ impl<I: FindSlice<T>, T> FindSlice<T> for Partial<I> {
     }
 }
 
-/// It prints as the stream inside, also under the options of a hole.
+/// It prints as the stream inside, also under format options.
 impl<I: Display> Display for Partial<I> {
     ghost output = { λ s. I.output (partial_inner s) };
 

@@ -275,7 +275,7 @@ impl<I: FindSlice<T>, S: Debug, T> FindSlice<T> for Stateful<I, S> {
     }
 }
 
-/// It prints as the stream inside, also under the options of a hole.
+/// It prints as the stream inside, also under format options.
 impl<I: Display, S> Display for Stateful<I, S> {
     ghost output = { λ s. I.output s.input };
 
