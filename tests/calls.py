@@ -20,7 +20,7 @@ TOP = os.path.dirname(os.path.dirname(os.path.realpath(__file__)))
 REFUSING = ("AllocError", "RecordError", "ReadError", "ModalResult", "WholeResult", "Unwritten", "EventError")
 
 # The sources that make an `AllocError`: of more separators than a `usize` counts, and of the want of memory that `hex` and a record of an error tell of.
-MADE = {"winnow_combinator/src/parsers/separated.rt", "winnow_recovery/src/following.rt", "winnow_script_text/src/literals.rt"}
+MADE = {"winnow_combinator/src/parsers/separated.rt", "winnow_resume/src/following.rt", "winnow_script_text/src/literals.rt"}
 
 # How an impl says that a method is never refused memory of its own.
 NEVER = {

@@ -15,7 +15,7 @@ use winnow_count::ParseSlice;
 use winnow_match::Compare;
 use winnow_parser::{ModalResult, Parser};
 use winnow_recover::{Recover, Recoverable};
-use winnow_recovery::resume_after;
+use winnow_resume::resume_after;
 use winnow_stream::{Location, Stream, StreamIsPartial};
 use winnow_token::{one_of, take_till};
 use winnow_wrap::LocatingSlice;

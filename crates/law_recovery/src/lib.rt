@@ -9,7 +9,7 @@ use std::fmt::Debug;
 use winnow_error::{EmptyError, FromRecoverableError, ParserError};
 use winnow_parser::{ModalResult, Parser, Void};
 use winnow_recover::{Recover, Recoverable};
-use winnow_recovery::{
+use winnow_resume::{
     RecoveringParser, ResumeAfter, one_record_law, resume_after, retry_after, without_recovery_law,
 };
 use winnow_stream::StreamIsPartial;

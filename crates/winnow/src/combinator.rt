@@ -14,4 +14,4 @@ pub use winnow_expression::{
     PrefixBy, UnaryOperators, expression,
 };
 pub use winnow_iterator::{ParserIterator, iterator};
-pub use winnow_recovery::{RecoveringParser, ResumeAfter, RetryAfter, resume_after, retry_after};
+pub use winnow_resume::{RecoveringParser, ResumeAfter, RetryAfter, resume_after, retry_after};

@@ -4,28 +4,24 @@
 
 mod again;
 mod appended;
-mod bracketing;
 mod choice;
 mod choice_to_seven;
 mod choice_to_ten;
 mod counts;
-mod determined;
-mod determined_parts;
-mod determined_tuples;
 mod functions;
 mod gathering;
+mod laws;
 mod parsers;
 
-pub use bracketing::{alternative_errors_law, alternatives_law};
-pub use determined::{determined_end_law, determined_repeat_law, determined_till_law};
-pub use determined_parts::{
-    determined_choosing_law, determined_gathered_law, determined_sequence_law, determined_value_law,
-};
-pub use determined_tuples::{determined_choice_law, determined_row_law};
 pub use functions::{
     alt, cond, delimited, empty, eof, fail, not, opt, peek, preceded, repeat, separated, terminated,
 };
 pub use gathering::{Accumulated, Begin, Folded, Gather};
+pub use laws::{
+    alternative_errors_law, alternatives_law, determined_choice_law, determined_choosing_law,
+    determined_end_law, determined_gathered_law, determined_repeat_law, determined_row_law,
+    determined_sequence_law, determined_till_law, determined_value_law,
+};
 pub use parsers::alt::Alt;
 pub use parsers::backtrack_err::{BacktrackErr, backtrack_err};
 pub use parsers::cond::Cond;

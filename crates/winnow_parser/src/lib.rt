@@ -11,7 +11,6 @@ mod alone;
 mod by_ref;
 mod context_with;
 mod converting;
-mod determined;
 mod failure;
 mod functions;
 mod laws;
@@ -19,19 +18,19 @@ mod parser;
 mod parsers;
 mod reading;
 mod sequences;
+mod sequences_to_ten;
 mod value_test;
 mod whole;
 
 pub use alone::AndThen;
 pub use context_with::ContextWith;
 pub use converting::{DefaultValue, ErrInto, MapErr, OutputInto};
-pub use determined::{
-    determined_function_law, determined_law, determined_pair_law, determined_reading_law,
-    determined_slice_law,
-};
 pub use failure::{Failure, ModalResult, WholeResult};
 pub use functions::literal;
-pub use laws::{parser_law, taken_width_law};
+pub use laws::{
+    determined_function_law, determined_law, determined_pair_law, determined_reading_law,
+    determined_slice_law, parser_law, taken_width_law,
+};
 pub use parser::Parser;
 pub use parsers::by_rule::{ByRule, Rule, by_rule};
 pub use parsers::context::Context;

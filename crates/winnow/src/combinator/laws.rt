@@ -7,4 +7,4 @@ pub use winnow_combinator::{
     determined_sequence_law, determined_till_law, determined_value_law,
 };
 pub use winnow_expression::{determined_expression_law, determined_fold_law};
-pub use winnow_recovery::{one_record_law, without_recovery_law};
+pub use winnow_resume::{one_record_law, without_recovery_law};

@@ -32,9 +32,3 @@ module _ {O T : Type 0} (least : ℕ) (inner : Meaning O T) (partial : Bool) (a 
       → inner partial a v → Ascending least greatest inner partial a v
   Ascending-asks None v h means = means
   Ascending-asks (Some greatest) v h means = inl (h, means)
-
-  -- where no number is allowed, `Ascending` cuts
-  pub Ascending-cuts : (greatest : Option ℕ) → ¬ (Ascends least greatest)
-      → Ascending least greatest inner partial a (Fails (Cuts a))
-  Ascending-cuts None none = absurd (none tt)
-  Ascending-cuts (Some greatest) none = inr (omega (arith, none), refl)

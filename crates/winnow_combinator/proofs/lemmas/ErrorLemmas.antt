@@ -10,12 +10,6 @@ use Rattle.winnow_combinator.specs.Misuse.{GatheredErrors}
 use Rattle.winnow_combinator.specs.Repeat.{Taking, InTurn, RepeatErrors}
 
 module _ {O E S T : Type 0} (means : Meaning O T) (errors : Errors E S T) (partial : Bool) (a b : Ahead T) (s : S) where
-  -- an error of the parser after some values is one of the repetition
-  pub RepeatErrors-after : (xs : List O) (failure : Failure E Needed)
-      → InTurn (Taking means) partial xs a b → errors partial b s failure
-      → GatheredErrors (RepeatErrors means errors) partial a s failure
-  RepeatErrors-after xs failure turns e = inl (xs, (b, (turns, e)))
-
   -- a later error, after a first value, is one of the pair
   after-first : (later : Errors E S T) (x : O) (failure : Failure E Needed)
       → means partial a (Gives x b) → GatheredErrors later partial b s failure

@@ -32,13 +32,6 @@ module _ {O S A T : Type 0} (refusable : Type 0) (makes : List O → A → Type 
   IfNeeded-first (suc n) first b (Fails Refuses) means (inl r) = inl r
   IfNeeded-first (suc n) first b (Fails Refuses) means (inr h) = inr (inr (first, (b, (means, h))))
 
-  -- where no value is needed, a backtrack of the first gives the empty list
-  pub IfNeeded-none : (least : ℕ) (c : Ahead T) → least ≤ 0
-      → inner partial a (Fails (Backtracks c))
-      → IfNeeded least (Chained least greatest separator inner) partial a (Gives [] a)
-  IfNeeded-none zero c h means = (None, (refl, (refl, (c, inl means))))
-  IfNeeded-none (suc n) c h means = absurd (omega (arith, h))
-
   -- a failure of the first value is one of the whole list
   pub IfNeeded-fails : (least : ℕ) (f : Failed T) → FailsWith least 0 f → inner partial a (Fails f)
       → IfNeeded least (Chained least greatest separator inner) partial a (Fails f)
@@ -56,13 +49,6 @@ module _ {O S A T : Type 0} (refusable : Type 0) (makes : List O → A → Type 
   IsSeparated-asks None v below h = h
   IsSeparated-asks (Some zero) v below h = absurd (omega (arith, below))
   IsSeparated-asks (Some (suc n)) v below h = h
-
-  -- where no value is allowed, `IsSeparated` gives the empty list
-  pub IsSeparated-none : (greatest : Option ℕ) → ¬ (IsBelow greatest 0)
-      → IsSeparated least greatest separator inner partial a (Gives [] a)
-  IsSeparated-none None none = absurd (none tt)
-  IsSeparated-none (Some zero) none = (refl, refl)
-  IsSeparated-none (Some (suc n)) none = absurd (none (omega arith))
 
 module _ {O S T : Type 0} (step : O → S × O → O → Type 0) (separator : Meaning S T) (inner : Meaning O T) (partial : Bool) (a : Ahead T) where
   -- a first value and then the folded pairs are the whole
