@@ -1,10 +1,19 @@
-//! Constructors whose name is that of their type but for the case: a module may not have both.
+//! The functions that make parsers: of text with escapes, of the longest prefix of a class of ASCII
+//! characters (`alpha0`, `digit1` and their like), and of line ends.
 
-ghost use Rattle.std.specs.Prelude.{◌≡◌};
+ghost use Rattle.std.specs.Prelude.{◌≡◌, codes};
+ghost use Rattle.winnow_ascii.specs.Classes.{TakesAll};
+ghost use Rattle.winnow_ascii.specs.declared.class.Class.TheVariants.{Alpha, Digit, Alphanumeric};
+ghost use Rattle.winnow_ascii.specs.declared.class.Class.TheVariants.{HexDigit, OctDigit, Space};
+ghost use Rattle.winnow_ascii.specs.declared.class.Class.TheVariants.{Multispace};
 
-use crate::Escaped;
+use crate::{Class, Escaped};
 use std::marker::PhantomData;
-use winnow_token::{Literal, literal};
+use winnow_error::ParserError;
+use winnow_parser::{Parser, Value};
+use winnow_sets::AsChar;
+use winnow_stream::StreamIsPartial;
+use winnow_token::{Literal, OneOf, TakeWhile, literal, one_of, take_while};
 
 /// Returns the parser of text with escapes, which gathers what the text stands for in an `A`.
 ///
@@ -35,4 +44,131 @@ pub fn escaped<P, Q, A>(
         escapable,
         gathers: PhantomData,
     }
+}
+
+/// Returns the parser of the letters ahead, if any: `A` to `Z` and `a` to `z`.
+pub fn alpha0() -> TakeWhile<Class>
+    ensures { TakesAll Alpha 0 result }
+{
+    take_while(0.., Class::Alpha)
+}
+
+/// Returns the parser of the letters ahead, one at least: `A` to `Z` and `a` to `z`.
+pub fn alpha1() -> TakeWhile<Class>
+    ensures { TakesAll Alpha 1 result }
+{
+    take_while(1.., Class::Alpha)
+}
+
+/// Returns the parser of the digits ahead, if any: `0` to `9`.
+pub fn digit0() -> TakeWhile<Class>
+    ensures { TakesAll Digit 0 result }
+{
+    take_while(0.., Class::Digit)
+}
+
+/// Returns the parser of the digits ahead, one at least: `0` to `9`.
+pub fn digit1() -> TakeWhile<Class>
+    ensures { TakesAll Digit 1 result }
+{
+    take_while(1.., Class::Digit)
+}
+
+/// Returns the parser of the letters and digits ahead, if any.
+pub fn alphanumeric0() -> TakeWhile<Class>
+    ensures { TakesAll Alphanumeric 0 result }
+{
+    take_while(0.., Class::Alphanumeric)
+}
+
+/// Returns the parser of the letters and digits ahead, one at least.
+pub fn alphanumeric1() -> TakeWhile<Class>
+    ensures { TakesAll Alphanumeric 1 result }
+{
+    take_while(1.., Class::Alphanumeric)
+}
+
+/// Returns the parser of the hexadecimal digits ahead, if any: `0` to `9`, `A` to `F` and `a` to
+/// `f`.
+pub fn hex_digit0() -> TakeWhile<Class>
+    ensures { TakesAll HexDigit 0 result }
+{
+    take_while(0.., Class::HexDigit)
+}
+
+/// Returns the parser of the hexadecimal digits ahead, one at least: `0` to `9`, `A` to `F` and `a`
+/// to `f`.
+pub fn hex_digit1() -> TakeWhile<Class>
+    ensures { TakesAll HexDigit 1 result }
+{
+    take_while(1.., Class::HexDigit)
+}
+
+/// Returns the parser of the octal digits ahead, if any: `0` to `7`.
+pub fn oct_digit0() -> TakeWhile<Class>
+    ensures { TakesAll OctDigit 0 result }
+{
+    take_while(0.., Class::OctDigit)
+}
+
+/// Returns the parser of the octal digits ahead, one at least: `0` to `7`.
+pub fn oct_digit1() -> TakeWhile<Class>
+    ensures { TakesAll OctDigit 1 result }
+{
+    take_while(1.., Class::OctDigit)
+}
+
+/// Returns the parser of the spaces and tabs ahead, if any.
+pub fn space0() -> TakeWhile<Class>
+    ensures { TakesAll Space 0 result }
+{
+    take_while(0.., Class::Space)
+}
+
+/// Returns the parser of the spaces and tabs ahead, one at least.
+pub fn space1() -> TakeWhile<Class>
+    ensures { TakesAll Space 1 result }
+{
+    take_while(1.., Class::Space)
+}
+
+/// Returns the parser of the spaces, tabs, carriage returns and newlines ahead, if any.
+pub fn multispace0() -> TakeWhile<Class>
+    ensures { TakesAll Multispace 0 result }
+{
+    take_while(0.., Class::Multispace)
+}
+
+/// Returns the parser of the spaces, tabs, carriage returns and newlines ahead, one at least.
+pub fn multispace1() -> TakeWhile<Class>
+    ensures { TakesAll Multispace 1 result }
+{
+    take_while(1.., Class::Multispace)
+}
+
+/// Returns the parser of a newline, which gives `'\n'`.
+pub fn newline<I: StreamIsPartial, E: ParserError<I>>() -> Value<OneOf<char>, char, I, E>
+where
+    I::Token: AsChar + Copy,
+    ensures set { result.inner.set ≡ 10 }
+    ensures value { result.value ≡ 10 }
+{
+    one_of('\n').value('\n')
+}
+
+/// Returns the parser of a tab, which gives `'\t'`.
+pub fn tab<I: StreamIsPartial, E: ParserError<I>>() -> Value<OneOf<char>, char, I, E>
+where
+    I::Token: AsChar + Copy,
+    ensures set { result.inner.set ≡ 9 }
+    ensures value { result.value ≡ 9 }
+{
+    one_of('\t').value('\t')
+}
+
+/// Returns the parser of a carriage return and a newline after it.
+pub fn crlf() -> Literal<&'static str>
+    ensures { result.text.now ≡ codes "\r\n" }
+{
+    literal("\r\n")
 }

@@ -11,10 +11,10 @@ use Rattle.winnow_parser.specs.Laws.{IsParser}
 use Rattle.winnow_parser.specs.Meanings.{Maps}
 use Rattle.winnow_parser.specs.Parts.{IsParser-Maps}
 use Rattle.winnow_token.specs.Take.{Takes, IsParser-Takes}
-use Rattle.winnow_binary.specs.declared.word.Endianness.{Endianness}
-use Rattle.winnow_binary.specs.declared.word.Endianness.TheVariants.{Big, Little, Native}
-use Rattle.winnow_binary.specs.declared.word.Width.{Width}
-use Rattle.winnow_binary.specs.declared.word.Width.TheVariants.{One, Two, Four, Eight}
+use Rattle.winnow_binary.specs.declared.endianness.Endianness.{Endianness}
+use Rattle.winnow_binary.specs.declared.endianness.Endianness.TheVariants.{Big, Little, Native}
+use Rattle.winnow_binary.specs.declared.endianness.Width.{Width}
+use Rattle.winnow_binary.specs.declared.endianness.Width.TheVariants.{One, Two, Four, Eight}
 
 -- the number that bytes write, the most significant first
 abbrev pub most_first : List ℕ → ℕ

@@ -2,8 +2,8 @@
 
 ghost use Rattle.std.specs.Prelude.{◌≡◌, from_bits};
 ghost use Rattle.std.specs.Float.{binary32, binary64};
-ghost use Rattle.winnow_binary.specs.declared.word.Endianness.TheVariants.{Big, Little};
-ghost use Rattle.winnow_binary.specs.declared.word.Width.TheVariants.{Four, Eight};
+ghost use Rattle.winnow_binary.specs.declared.endianness.Endianness.TheVariants.{Big, Little};
+ghost use Rattle.winnow_binary.specs.declared.endianness.Width.TheVariants.{Four, Eight};
 
 use crate::{Endianness, FixedNumber, Numeral, Width};
 use std::num::{f32_from_bits_with_nan, f64_from_bits_with_nan};

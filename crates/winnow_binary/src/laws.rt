@@ -5,7 +5,7 @@ ghost use Rattle.winnow_parser.specs.Answer.{ahead};
 ghost use Rattle.winnow_parser.specs.Determined.{IsDetermined, Shows, Respects, SlicesRespect};
 ghost use Rattle.winnow_token.specs.Prompt.{IsPrompt};
 ghost use Rattle.winnow_combinator.specs.DeterminedLists.{AreSameEach};
-ghost use Rattle.winnow_binary.specs.declared.word.Endianness.{Endianness};
+ghost use Rattle.winnow_binary.specs.declared.endianness.Endianness.{Endianness};
 ghost use Rattle.winnow_binary.specs.Lengths.{LengthTakes, CountedFront, LengthRepeats};
 ghost use Rattle.winnow_binary.specs.Numerals.{most_first, least_first, FixedNumeral};
 ghost use Rattle.winnow_binary.specs.LengthAndThen.{IsLengthAndThen};

@@ -2,21 +2,22 @@
 //! before.
 #![tactic(auto, using(winnow_parser::proofs::lemmas::OnwardLemmas::onward_steps))]
 
-mod bytes;
+mod endianness;
+mod fixed_number;
 mod floats;
 mod laws;
 mod length;
-mod number;
+mod next_number;
 mod numbers;
 mod parsers;
-mod sixteen;
-mod three;
-mod word;
+mod sixteen_bytes;
+mod three_bytes;
 
+pub use endianness::{Endianness, Width};
+pub use fixed_number::FixedNumber;
 pub use floats::{be_f32, be_f64, f32, f64, le_f32, le_f64};
 pub use laws::{determined_length_law, determined_slice_read_law, fixed_number_law};
 pub use length::Length;
-pub use number::FixedNumber;
 pub use numbers::{
     Numeral, be_i8, be_i16, be_i32, be_i64, be_u8, be_u16, be_u32, be_u64, i8, i16, i32, i64,
     le_i8, le_i16, le_i32, le_i64, le_u8, le_u16, le_u32, le_u64, u8, u16, u32, u64,
@@ -24,8 +25,9 @@ pub use numbers::{
 pub use parsers::length_and_then::{LengthAndThen, length_and_then};
 pub use parsers::length_repeat::{LengthRepeat, length_repeat};
 pub use parsers::length_take::{LengthTake, length_take};
-pub use sixteen::{
+pub use sixteen_bytes::{
     SixteenByteNumber, SixteenByteNumeral, be_i128, be_u128, i128, le_i128, le_u128, u128,
 };
-pub use three::{ThreeByteNumber, ThreeByteNumeral, be_i24, be_u24, i24, le_i24, le_u24, u24};
-pub use word::{Endianness, Width};
+pub use three_bytes::{
+    ThreeByteNumber, ThreeByteNumeral, be_i24, be_u24, i24, le_i24, le_u24, u24,
+};

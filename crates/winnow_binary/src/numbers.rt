@@ -2,10 +2,10 @@
 
 ghost use Rattle.std.specs.Prelude.{◌≡◌};
 ghost use Rattle.winnow_parser.specs.Errors.{OwnErrors};
-ghost use Rattle.winnow_binary.specs.declared.word.Endianness.TheVariants.{Big, Little};
+ghost use Rattle.winnow_binary.specs.declared.endianness.Endianness.TheVariants.{Big, Little};
 ghost use Rattle.winnow_binary.specs.Numerals.{bytes_in, FixedNumeral, IsParser-FixedNumeral};
 
-use crate::bytes::next_number;
+use crate::next_number::next_number;
 use crate::{Endianness, FixedNumber};
 use std::alloc::Global;
 use std::marker::PhantomData;

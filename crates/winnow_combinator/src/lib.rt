@@ -9,14 +9,14 @@ mod choice_to_seven;
 mod choice_to_ten;
 mod counts;
 mod functions;
-mod gathering;
+mod gather;
 mod laws;
 mod parsers;
 
 pub use functions::{
     alt, cond, delimited, empty, eof, fail, not, opt, peek, preceded, repeat, separated, terminated,
 };
-pub use gathering::{Accumulated, Begin, Folded, Gather};
+pub use gather::{Accumulated, Begin, Folded, Gather};
 pub use laws::{
     alternative_errors_law, alternatives_law, determined_choice_law, determined_choosing_law,
     determined_end_law, determined_gathered_law, determined_repeat_law, determined_row_law,

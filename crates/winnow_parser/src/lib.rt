@@ -7,24 +7,17 @@
 //! errors the failures carry.
 #![tactic(auto, using(crate::proofs::lemmas::OnwardLemmas::onward_steps))]
 
-mod alone;
 mod by_ref;
-mod context_with;
-mod converting;
 mod failure;
 mod functions;
 mod laws;
 mod parser;
 mod parsers;
-mod reading;
 mod sequences;
 mod sequences_to_ten;
 mod value_test;
 mod whole;
 
-pub use alone::AndThen;
-pub use context_with::ContextWith;
-pub use converting::{DefaultValue, ErrInto, MapErr, OutputInto};
 pub use failure::{Failure, ModalResult, WholeResult};
 pub use functions::literal;
 pub use laws::{
@@ -32,11 +25,18 @@ pub use laws::{
     determined_slice_law, parser_law, taken_width_law,
 };
 pub use parser::Parser;
+pub use parsers::and_then::AndThen;
 pub use parsers::by_rule::{ByRule, Rule, by_rule};
 pub use parsers::context::Context;
+pub use parsers::context_with::ContextWith;
+pub use parsers::default_value::DefaultValue;
+pub use parsers::err_into::ErrInto;
 pub use parsers::flat_map::FlatMap;
 pub use parsers::literal::Literal;
 pub use parsers::map::Map;
+pub use parsers::map_err::MapErr;
+pub use parsers::output_into::OutputInto;
+pub use parsers::parse_to::ParseTo;
 pub use parsers::span::Span;
 pub use parsers::take::Taken;
 pub use parsers::try_map::TryMap;
@@ -46,5 +46,4 @@ pub use parsers::verify_map::VerifyMap;
 pub use parsers::void::Void;
 pub use parsers::with_span::WithSpan;
 pub use parsers::with_taken::WithTaken;
-pub use reading::ParseTo;
 pub use value_test::{ByBorrow, ByValue, ValueTest};

@@ -19,8 +19,8 @@ use Rattle.winnow_token.specs.Take.{Takes}
 use Rattle.winnow_token.specs.Prompt.{IsPrompt}
 use Rattle.winnow_token.proofs.lemmas.PromptLemmas.{prompt-take}
 use Rattle.winnow_token.proofs.lemmas.ToldLemmas.{determined-take}
-use Rattle.winnow_binary.specs.declared.word.Endianness.{Endianness}
-use Rattle.winnow_binary.specs.declared.word.Endianness.TheVariants.{Big, Little, Native}
+use Rattle.winnow_binary.specs.declared.endianness.Endianness.{Endianness}
+use Rattle.winnow_binary.specs.declared.endianness.Endianness.TheVariants.{Big, Little, Native}
 use Rattle.winnow_binary.specs.Numerals.{most_first, least_first, number_in, joined, after_tokens, AreFrontBytes, FixedNumeral}
 
 -- ---- Bytes

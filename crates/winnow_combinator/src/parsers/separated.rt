@@ -20,7 +20,7 @@ ghost use Rattle.winnow_combinator.specs.Separated.{IsParser-Countable};
 
 use crate::again::{Again, go_on, one_more};
 use crate::counts::Counts;
-use crate::gathering::begin_with;
+use crate::gather::begin_with;
 use crate::{Begin, Preceded};
 use std::alloc::{AllocError, Global};
 use winnow_count::Range;
