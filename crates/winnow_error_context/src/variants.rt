@@ -4,8 +4,8 @@ ghost use Rattle.std.specs.Fmt.{DisplaysOnOk, debug_variant};
 
 use std::fmt;
 
-/// Prints the variant `name`, which holds `value`, as a derived `Debug` prints it: `name(value)`, and
-/// over several lines under `{:#?}`.
+/// Prints the variant `name`, which holds `value`, as a derived `Debug` prints it: `name(value)`,
+/// and over several lines under `{:#?}`.
 pub fn write_variant<T: fmt::Debug, W: fmt::Write>(
     f: &mut fmt::Formatter<W>,
     name: &str,
