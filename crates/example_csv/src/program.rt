@@ -18,7 +18,7 @@ use crate::lines::line_of;
 use crate::positions::position_after;
 use crate::progress::Progress;
 use example_base::{Driven, Trouble, drive, new_buffer, read_piece};
-use format_csv::{Row, rows_in_pieces_law, text_start};
+use format_csv::{Row, rows_in_pieces_law, skip_mark};
 use std::alloc::Global;
 use std::io::{Read, Write};
 use winnow::reader::{Next, ReadError};
@@ -50,7 +50,7 @@ pub fn copy_records<R: Read, W: Write>(
             Ok(ended) => ended,
             Err(failure) => return Err(failure),
         };
-        match text_start(&start, skips_mark, ended) {
+        match skip_mark(&start, skips_mark, ended) {
             None => {}
             Some(Ok(text)) => return copy_text(alloc, text, ended, input, &mut buffer, output),
             Some(Err(mark)) => return Err(Failure::Marked(mark)),

@@ -13,7 +13,7 @@
 //! A [`Row`] is a record of a reader, too: a `winnow::reader::ByteReader` of it reads records from
 //! bytes that come in pieces. [`rows_in_pieces_law`] says in the words of the format what it reads.
 //!
-//! A record is read as it stands. [`text_start`] finds a byte order mark before the first one, and
+//! A record is read as it stands. [`skip_mark`] finds a byte order mark before the first one, and
 //! skips it or refuses it, before a reader is pushed anything.
 #![tactic(auto, using(winnow_parser::proofs::lemmas::OnwardLemmas::onward_steps))]
 
@@ -32,7 +32,7 @@ pub use fields::{Plain, Quoted};
 pub use gathering::Chunks;
 pub use grammar::{Fields, Row, RowEnd, read_record};
 pub use laws::rows_in_pieces_law;
-pub use marks::{Mark, byte_order_mark, text_start};
+pub use marks::{Mark, byte_order_mark, skip_mark};
 pub use scan::RowState;
 pub use tables::{Damage, read_table};
 pub use widths::first_uneven;

@@ -88,7 +88,7 @@ fn text_of(bytes: &[u8], skips_mark: bool) -> Result<&[u8], Mark>
 /// `None` is returned. At the end such bytes are text.
 ///
 /// The text is what a `ByteReader` of a [`Row`](crate::Row) is pushed.
-pub fn text_start(bytes: &[u8], skips_mark: bool, ended: bool) -> Option<Result<&[u8], Mark>>
+pub fn skip_mark(bytes: &[u8], skips_mark: bool, ended: bool) -> Option<Result<&[u8], Mark>>
     ensures text { IfSome result (λ start. IfOk start (λ text.
         BeginsText skips_mark ended bytes.now text.now)) }
     ensures refused { IfSome result (λ start. IfErr start

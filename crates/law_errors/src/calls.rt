@@ -2,9 +2,9 @@
 ghost use Rattle.std.specs.Prelude.{◌≡◌, IfOk, codes, string_bytes};
 
 use crate::error_members::{
-    bare_text_law, context_error_law, debug_text_law, empty_error_law, err_mode_cause_law,
-    err_mode_context_law, err_mode_convert_law, err_mode_joined_law, err_mode_law, error_text_law,
-    input_error_law,
+    bare_text_members, context_error_members, debug_text_members, empty_error_members,
+    err_mode_cause_members, err_mode_context_members, err_mode_convert_members,
+    err_mode_joined_members, err_mode_members, error_text_members, input_error_members,
 };
 use crate::error_walks::{convert_to, cut_and_back, fail_thrice, kinds, tell_last};
 use crate::own_errors::Labelled;
@@ -32,17 +32,17 @@ where
     mode_law::<E>();
     or_law::<I, E>();
     bracket_law::<I, E>();
-    input_error_law::<I, C>();
-    empty_error_law::<I, C>();
-    context_error_law::<I, C>();
-    err_mode_law::<I, E>();
-    err_mode_joined_law::<I, E, E>();
-    err_mode_context_law::<I, C, E>();
-    err_mode_cause_law::<I, String, E>();
-    err_mode_convert_law::<E, E>();
-    error_text_law::<I, E>();
-    bare_text_law::<I, E>();
-    debug_text_law::<I, C>();
+    input_error_members::<I, C>();
+    empty_error_members::<I, C>();
+    context_error_members::<I, C>();
+    err_mode_members::<I, E>();
+    err_mode_joined_members::<I, E, E>();
+    err_mode_context_members::<I, C, E>();
+    err_mode_cause_members::<I, String, E>();
+    err_mode_convert_members::<E, E>();
+    error_text_members::<I, E>();
+    bare_text_members::<I, E>();
+    debug_text_members::<I, C>();
 }
 
 /// Calls the laws of errors.

@@ -36,7 +36,7 @@ use winnow_stream::{Needed, Stream};
 
 /// An `InputError` holds the input where it was made, and nothing is added to it later. Of two
 /// alternatives the second counts.
-pub fn input_error_law<I: Stream + Copy, C: Drop>()
+pub fn input_error_members<I: Stream + Copy, C: Drop>()
     ensures made { (input : I) (e : InputError I)
         → ⟦<InputError<I> as ParserError<I>>⟧.from_input_gives input e → e.input ≡ input }
     ensures misused { (input : I) (e : InputError I)
@@ -67,7 +67,7 @@ pub fn input_error_law<I: Stream + Copy, C: Drop>()
 
 /// A `ContextError` is made empty or of its cause. Only contexts are added to it, and it is equal
 /// to one with equal contexts and the same cause. Of two alternatives the second counts.
-pub fn context_error_law<I: Stream, C: Drop + PartialEq>()
+pub fn context_error_members<I: Stream, C: Drop + PartialEq>()
     ensures made { (input : I) (e : Explanation C)
         → ⟦<ContextError<C> as ParserError<I>>⟧.from_input_gives input e → e ≡ unexplained }
     ensures misused { (input : I) (e : Explanation C)
@@ -105,7 +105,7 @@ pub fn context_error_law<I: Stream, C: Drop + PartialEq>()
 {}
 
 /// The errors that hold nothing take no memory, and let another alternative be tried.
-pub fn empty_error_law<I: Stream, C: Drop>()
+pub fn empty_error_members<I: Stream, C: Drop>()
     ensures backtracks { (e : EmptyError) → ⟦<EmptyError as ParserError<I>>⟧.backtracks e ≡ true }
     ensures inner { (e : EmptyError) → ⟦<EmptyError as ParserError<I>>⟧.inner e ≡ Ok e }
     ensures needs { (e : EmptyError) → ⟦<EmptyError as ParserError<I>>⟧.needs e ≡ None }
@@ -124,7 +124,7 @@ pub fn empty_error_law<I: Stream, C: Drop>()
 
 /// An `ErrMode` is its inner error in a mode, and is refused memory only where the inner error may
 /// be.
-pub fn err_mode_law<I: Stream, E: ParserError<I>>()
+pub fn err_mode_members<I: Stream, E: ParserError<I>>()
     ensures made { (input : I) (e : Mode E)
         → ⟦<ErrMode<E> as ParserError<I>>⟧.from_input_gives input e
         → IsBacktrackOf (E.from_input_gives input) e }
@@ -150,7 +150,7 @@ pub fn err_mode_law<I: Stream, E: ParserError<I>>()
 {}
 
 /// The same for alternatives that are joined without memory, and for recovery.
-pub fn err_mode_joined_law<I: Stream, E: AssociativeOr<I> + FromRecoverableError<I, E2>, E2>()
+pub fn err_mode_joined_members<I: Stream, E: AssociativeOr<I> + FromRecoverableError<I, E2>, E2>()
     ensures joined { (a b : Mode E) → ⟦<ErrMode<E> as AssociativeOr<I>>⟧.joined a b
         ≡ mode_joined E.joined a b }
     ensures recovered { (start place : I.Checkpoint) (input : I) (e : Mode E2)
@@ -159,7 +159,7 @@ pub fn err_mode_joined_law<I: Stream, E: AssociativeOr<I> + FromRecoverableError
 {}
 
 /// The members of `ErrMode` for contexts are those of its error.
-pub fn err_mode_context_law<I: Stream, C: Drop, E: AddContext<I, C>>()
+pub fn err_mode_context_members<I: Stream, C: Drop, E: AddContext<I, C>>()
     ensures told { (e r : Mode E) (input : I) (start : I.Checkpoint) (c : C)
         → ⟦<ErrMode<E> as AddContext<I, C>>⟧.add_context_gives e input start c r
         → ModeMaps (λ a. E.add_context_gives a input start c) e r }
@@ -168,14 +168,14 @@ pub fn err_mode_context_law<I: Stream, C: Drop, E: AddContext<I, C>>()
 {}
 
 /// The members of `ErrMode` for errors of other libraries are those of its error.
-pub fn err_mode_cause_law<I, X, E: FromExternalError<I, X>>()
+pub fn err_mode_cause_members<I, X, E: FromExternalError<I, X>>()
     ensures { (input : I) (x : X) (e : Mode E)
         → ⟦<ErrMode<E> as FromExternalError<I, X>>⟧.from_external_gives input x e
         → IsBacktrackOf (E.from_external_gives input x) e }
 {}
 
 /// The members of `ErrMode` for conversions are those of its error.
-pub fn err_mode_convert_law<E: ErrorConvert<E2>, E2>()
+pub fn err_mode_convert_members<E: ErrorConvert<E2>, E2>()
     ensures converted { (e : Mode E) (r : Mode E2)
         → ⟦<ErrMode<E> as ErrorConvert<ErrMode<E2>>>⟧.convert_gives e r
         → ModeMaps E.convert_gives e r }
@@ -184,7 +184,7 @@ pub fn err_mode_convert_law<E: ErrorConvert<E2>, E2>()
 {}
 
 /// The text of each error.
-pub fn error_text_law<I: Display, E: Debug>()
+pub fn error_text_members<I: Display, E: Debug>()
     ensures mode { (e : Mode E) → ⟦<ErrMode<E> as Display>⟧.output e ≡ mode_text E.debug_output e }
     ensures input { (e : InputError I)
         → ⟦<InputError<I> as Display>⟧.output e
@@ -204,7 +204,7 @@ pub fn error_text_law<I: Display, E: Debug>()
 {}
 
 /// No format option changes what an error prints.
-pub fn bare_text_law<I: Display, E: Debug>()
+pub fn bare_text_members<I: Display, E: Debug>()
     ensures mode { (e : Mode E) (spec : _)
         → ⟦<ErrMode<E> as Display>⟧.styled_output e spec ≡ mode_text E.debug_output e }
     ensures input { (e : InputError I) (spec : _)
@@ -221,7 +221,7 @@ pub fn bare_text_law<I: Display, E: Debug>()
 {}
 
 /// The debug text of each error, so that a mode of it has a text.
-pub fn debug_text_law<I: Debug, C: Debug>()
+pub fn debug_text_members<I: Debug, C: Debug>()
     ensures input { (e : InputError I) → ⟦<InputError<I> as Debug>⟧.debug_output e
         ≡ (Some (codes "InputError { input: ") ++? I.debug_output e.input ++? Some (codes " }")) }
     ensures empty { (e : EmptyError) → ⟦<EmptyError as Debug>⟧.debug_output e

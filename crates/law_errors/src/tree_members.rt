@@ -19,7 +19,7 @@ use winnow_views::Bits;
 
 /// A tree is made at the input, with the text of a cause if there is one, and it lets another
 /// alternative be tried.
-pub fn made_tree_law<I: Stream + Copy, C: Drop>()
+pub fn made_tree_members<I: Stream + Copy, C: Drop>()
     ensures made { (input : I) (e : TreeError I C)
         → ⟦<TreeError<I, C> as ParserError<I>>⟧.from_input_gives input e → IsBase input None e }
     ensures misused { (input : I) (e : TreeError I C)
@@ -41,7 +41,7 @@ pub fn made_tree_law<I: Stream + Copy, C: Drop>()
 
 /// A tree grows by a frame at the input as it stood at the start of a parser. Two trees are joined
 /// to one with the entries of both.
-pub fn grown_tree_law<I: Stream + Copy, C: Drop>()
+pub fn grown_tree_members<I: Stream + Copy, C: Drop>()
     ensures appended { (e r : TreeError I C) (input : I) (start : I.Checkpoint)
         → ⟦<TreeError<I, C> as ParserError<I>>⟧.append_gives e input start r
         → PushedAt I.remaining I.location I.valid I.keeps input (I.remained start)
@@ -57,7 +57,7 @@ pub fn grown_tree_law<I: Stream + Copy, C: Drop>()
 
 /// An error at bytes becomes one at all of their bits. An error at bits becomes one at their bytes,
 /// wherever in the first byte the bits began.
-pub fn converted_law<I: Drop, C: Drop>()
+pub fn converted_members<I: Drop, C: Drop>()
     ensures to_bits { (e : InputError I) (r : InputError (Bits I))
         → ⟦<InputError<I> as ErrorConvert<InputError<Bits<I>>>>⟧.convert_gives e r
         → (bits_inner r.input ≡ e.input) × (bits_place r.input ≡ 0) }

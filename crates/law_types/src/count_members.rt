@@ -27,7 +27,7 @@ use winnow_count::{Accumulate, Range, Readable};
 
 /// A range of counts is made from a number, which is its only count, or from any range of numbers.
 /// A half-open range ends one below its end, but not below 0.
-pub fn counts_law()
+pub fn counts_members()
     ensures one { (n : ℕ) (r : counted.Range) → ⟦<Range as From<usize>>⟧.from_gives n r
         → (least_count r ≡ n) × (greatest_count r ≡ Some n) }
     ensures half_open { (from : _) (r : counted.Range)
@@ -53,13 +53,13 @@ pub fn counts_law()
 
 /// An accumulator that keeps nothing, or only counts, asks for no memory, so it is never refused
 /// any.
-pub fn memoryless_law<T: Drop>()
+pub fn memoryless_members<T: Drop>()
     ensures nothing { ⟦<() as Accumulate<T>>⟧.refusable → ⊥ }
     ensures count { ⟦<usize as Accumulate<T>>⟧.refusable → ⊥ }
 {}
 
 /// A count is that of the items, and a list has the items, or those of all slices, in their order.
-pub fn held_items_law<T: Copy + Drop + 'static>()
+pub fn held_items_members<T: Copy + Drop + 'static>()
     ensures count { (count : ℕ) (items : List T)
         → ⟦<usize as Accumulate<T>>⟧.holds count items → count ≡ length items }
     ensures list { (vector : _) (items : List T)
@@ -73,7 +73,7 @@ pub fn held_items_law<T: Copy + Drop + 'static>()
 {}
 
 /// A text has the UTF-8 of the characters, or the bytes of the texts, in their order.
-pub fn held_texts_law()
+pub fn held_texts_members()
     ensures characters { (text : _) (characters : List ℕ)
         → ⟦<String as Accumulate<char>>⟧.holds text characters
         → string_bytes text ≡ encode_utf8_all characters }
@@ -89,7 +89,7 @@ pub fn held_texts_law()
 {}
 
 /// The same of a text that is borrowed as long as it can be.
-pub fn held_cows_law()
+pub fn held_cows_members()
     ensures characters { (text : _) (characters : List ℕ)
         → ⟦<CowStr<'static, Global> as Accumulate<char>>⟧.holds text characters
         → cow_str_bytes text ≡ encode_utf8_all characters }
@@ -105,7 +105,7 @@ pub fn held_cows_law()
 {}
 
 /// A set has the keys, and a map has the last value of each key.
-pub fn held_keys_law<K: Ord + Hash + Drop, V: Drop>()
+pub fn held_keys_members<K: Ord + Hash + Drop, V: Drop>()
     ensures ordered_set { (keys : _) (items : List K)
         → ⟦<BTreeSet<K> as Accumulate<K>>⟧.holds keys items
         → HasKeys (eq_by_cmp K.cmp) (ordered_set.contains K.cmp keys) items }
@@ -122,7 +122,7 @@ pub fn held_keys_law<K: Ord + Hash + Drop, V: Drop>()
 
 /// A number is read exactly where it is one of its width, and a flag and a character where they are
 /// written.
-pub fn unsigned_reading_law()
+pub fn unsigned_reading_members()
     ensures u8 { (text : List ℕ) (n : ℕ)
         → (⟦<u8 as Readable>⟧.reads text n → ReadsUnsigned 8 text n)
         × (ReadsUnsigned 8 text n → ⟦<u8 as Readable>⟧.reads text n) }
@@ -150,7 +150,7 @@ pub fn unsigned_reading_law()
 {}
 
 /// A signed number is read exactly if it is one of its width.
-pub fn signed_reading_law()
+pub fn signed_reading_members()
     ensures i8 { (text : List ℕ) (n : _)
         → (⟦<i8 as Readable>⟧.reads text n → ReadsSigned w8 text n)
         × (ReadsSigned w8 text n → ⟦<i8 as Readable>⟧.reads text n) }

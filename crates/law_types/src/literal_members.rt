@@ -15,7 +15,7 @@ use winnow_stream_bytes::Bytes;
 use winnow_wrap::{LocatingSlice, Partial, Stateful};
 
 /// A literal is compared with bytes by its own bytes, and a character by its UTF-8.
-pub fn byte_comparison_law<const LEN: usize>()
+pub fn byte_comparison_members<const LEN: usize>()
     ensures slice { (literal : Bor (List ℕ)) (r : Source ℕ)
         → ⟦<&'static [u8] as Compare<&'static [u8]>>⟧.compared literal r
         ≡ comparison literal.now (bytes_of r) }
@@ -37,7 +37,7 @@ pub fn byte_comparison_law<const LEN: usize>()
 {}
 
 /// The same in a `BStr` and in `Bytes`.
-pub fn byte_kind_comparison_law<const LEN: usize>()
+pub fn byte_kind_comparison_members<const LEN: usize>()
     ensures bstr_slice { (literal : Bor (List ℕ)) (r : Source ℕ)
         → ⟦<BStr<'static> as Compare<&'static [u8]>>⟧.compared literal r
         ≡ comparison literal.now (bytes_of r) }
@@ -77,7 +77,7 @@ pub fn byte_kind_comparison_law<const LEN: usize>()
 {}
 
 /// A literal is compared with a text, UTF-8 with UTF-8.
-pub fn text_comparison_law()
+pub fn text_comparison_members()
     ensures text { (literal : Bor (List ℕ)) (r : Source ℕ)
         → ⟦<&'static str as Compare<&'static str>>⟧.compared literal r
         ≡ comparison literal.now (utf8_of r) }
@@ -88,7 +88,7 @@ pub fn text_comparison_law()
 
 /// A needle is searched for in bytes by its own bytes, and a character by its UTF-8. Of several
 /// needles at one place the first listed counts.
-pub fn byte_search_law()
+pub fn byte_search_members()
     ensures slice { (needle : _) (r : Source ℕ)
         → ⟦<&'static [u8] as FindSlice<&'static [u8]>>⟧.found needle r
         ≡ hit (needle.now ∷ []) (bytes_of r) }
@@ -120,7 +120,7 @@ pub fn byte_search_law()
 {}
 
 /// Bytes are searched for a text by the bytes of the text.
-pub fn byte_search_of_text_law()
+pub fn byte_search_of_text_members()
     ensures text { (needle : _) (r : Source ℕ)
         → ⟦<&'static [u8] as FindSlice<&'static str>>⟧.found needle r
         ≡ hit (needle.now ∷ []) (bytes_of r) }
@@ -149,7 +149,7 @@ pub fn byte_search_of_text_law()
 {}
 
 /// A `BStr` and `Bytes` are searched by the bytes of the needles, whatever their type.
-pub fn byte_kind_search_law<T: ByteNeedles>()
+pub fn byte_kind_search_members<T: ByteNeedles>()
     ensures bstr { (needle : T) (r : Source ℕ)
         → ⟦<BStr<'static> as FindSlice<T>>⟧.found needle r
         ≡ hit (T.needle_bytes needle) (bytes_of r) }
@@ -159,7 +159,7 @@ pub fn byte_kind_search_law<T: ByteNeedles>()
 {}
 
 /// The bytes of each type of needles, in the order in which they are listed.
-pub fn needle_bytes_law()
+pub fn needle_bytes_members()
     ensures slice { (needle : _)
         → ⟦<&'static [u8] as ByteNeedles>⟧.needle_bytes needle
         ≡ needle.now ∷ [] }
@@ -214,7 +214,7 @@ pub fn needle_bytes_law()
 {}
 
 /// A needle is searched for in a text, UTF-8 in UTF-8.
-pub fn text_search_law()
+pub fn text_search_members()
     ensures text { (needle : _) (r : Source ℕ)
         → ⟦<&'static str as FindSlice<&'static str>>⟧.found needle r
         ≡ hit (needle.now ∷ []) (utf8_of r) }
@@ -246,7 +246,7 @@ pub fn text_search_law()
 {}
 
 /// A wrapper is compared with each literal as the stream inside.
-pub fn wrapper_comparison_law<I: Compare<T>, T, S: Debug>()
+pub fn wrapper_comparison_members<I: Compare<T>, T, S: Debug>()
     ensures located { (literal : T) (r : Source I.Token)
         → ⟦<LocatingSlice<I> as Compare<T>>⟧.compared literal r ≡ I.compared literal r }
     ensures partial { (literal : T) (r : Source I.Token)
@@ -258,7 +258,7 @@ pub fn wrapper_comparison_law<I: Compare<T>, T, S: Debug>()
 {}
 
 /// A wrapper is searched for each needle as the stream inside.
-pub fn wrapper_search_law<I: FindSlice<T>, T, S: Debug>()
+pub fn wrapper_search_members<I: FindSlice<T>, T, S: Debug>()
     ensures located { (needle : T) (r : Source I.Token)
         → ⟦<LocatingSlice<I> as FindSlice<T>>⟧.found needle r ≡ I.found needle r }
     ensures partial { (needle : T) (r : Source I.Token)

@@ -23,7 +23,7 @@ use winnow_views::TokenSlice;
 use winnow_wrap::{LocatingSlice, Partial, Stateful};
 
 /// A location that a stream keeps is both where the last token ends and where the next one starts.
-pub fn kept_location_law<I: Stream>()
+pub fn kept_location_members<I: Stream>()
     ensures end { (s : LocatingSlice I I.Checkpoint I.Rest I.Checkpoint.Rest)
         → ⟦<LocatingSlice<I> as Location>⟧.token_end s ≡ location_of s }
     ensures start { (s : LocatingSlice I I.Checkpoint I.Rest I.Checkpoint.Rest)
@@ -31,7 +31,7 @@ pub fn kept_location_law<I: Stream>()
 {}
 
 /// Around a stream with a location, another wrapper has the same location.
-pub fn wrapper_location_law<I: Location, S, E>()
+pub fn wrapper_location_members<I: Location, S, E>()
     ensures partial_end { (s : Partial I)
         → ⟦<Partial<I> as Location>⟧.token_end s ≡ I.token_end (partial_inner s) }
     ensures partial_start { (s : Partial I)
@@ -48,7 +48,7 @@ pub fn wrapper_location_law<I: Location, S, E>()
 
 /// A slice of tokens has the end of its last token and the start of its next one, and one of the
 /// two for both where the other is missing.
-pub fn token_location_law<'t, T: Location + 't>()
+pub fn token_location_members<'t, T: Location + 't>()
     ensures end { (s : TokenSlice T) (last : T) → last_of s ≡ Some last
         → ⟦<TokenSlice<'t, T> as Location>⟧.token_end s ≡ T.token_end last }
     ensures end_before_all { (s : TokenSlice T) (next : T) → last_of s ≡ None
@@ -66,7 +66,7 @@ pub fn token_location_law<'t, T: Location + 't>()
 {}
 
 /// The bytes and the text of a plain stream are the rest of it.
-pub fn plain_bytes_law()
+pub fn plain_bytes_members()
     ensures slice { (s : Bor (List ℕ)) → ⟦<&'static [u8] as AsBytes>⟧.bytes s ≡ s.now }
     ensures slice_text { (s : Bor (List ℕ)) → ⟦<&'static [u8] as AsBStr>⟧.text_bytes s ≡ s.now }
     ensures text { (s : Bor (List ℕ)) → ⟦<&'static str as AsBStr>⟧.text_bytes s ≡ s.now }
@@ -75,7 +75,7 @@ pub fn plain_bytes_law()
 {}
 
 /// Those of a wrapper are those of the stream inside.
-pub fn wrapper_bytes_law<I: Stream + AsBytes, S, E>()
+pub fn wrapper_bytes_members<I: Stream + AsBytes, S, E>()
     ensures located { (s : LocatingSlice I I.Checkpoint I.Rest I.Checkpoint.Rest)
         → ⟦<LocatingSlice<I> as AsBytes>⟧.bytes s ≡ I.bytes (locating_inner s) }
     ensures partial { (s : Partial I)
@@ -87,7 +87,7 @@ pub fn wrapper_bytes_law<I: Stream + AsBytes, S, E>()
 {}
 
 /// The text of a wrapper is that of the stream inside.
-pub fn wrapper_text_law<I: Stream + AsBStr, S, E>()
+pub fn wrapper_text_members<I: Stream + AsBStr, S, E>()
     ensures located { (s : LocatingSlice I I.Checkpoint I.Rest I.Checkpoint.Rest)
         → ⟦<LocatingSlice<I> as AsBStr>⟧.text_bytes s ≡ I.text_bytes (locating_inner s) }
     ensures partial { (s : Partial I)

@@ -12,7 +12,7 @@ use winnow_sets::{AsChar, CharSet, FixedSet};
 
 /// A byte is the character with its number and has width 1. A character is itself, and as wide as
 /// its UTF-8.
-pub fn character_law()
+pub fn character_members()
     ensures byte { (b : ℕ) → ⟦<u8 as AsChar>⟧.code b ≡ b }
     ensures byte_width { (b : ℕ) → ⟦<u8 as AsChar>⟧.width b ≡ 1 }
     ensures lent_byte { (b : Bor ℕ) → ⟦<&'static u8 as AsChar>⟧.code b ≡ b.now }
@@ -25,7 +25,7 @@ pub fn character_law()
 
 /// A byte holds the tokens of each kind with its number, and a character holds the tokens that
 /// stand for it.
-pub fn single_set_law<T: AsChar>()
+pub fn single_set_members<T: AsChar>()
     ensures byte { (set token : ℕ) → ⟦<u8 as FixedSet<u8>>⟧.holds set token ≡ (set == token) }
     ensures lent_byte { (set : ℕ) (token : Bor ℕ)
         → ⟦<u8 as FixedSet<&'static u8>>⟧.holds set token ≡ (set == token.now) }
@@ -38,7 +38,7 @@ pub fn single_set_law<T: AsChar>()
 
 /// A list holds the tokens that it lists, a set of characters those that its ranges hold, `()` none
 /// and `..` all.
-pub fn listed_set_law<T: AsChar + Drop, const LEN: usize>()
+pub fn listed_set_members<T: AsChar + Drop, const LEN: usize>()
     ensures none { (set : _) (token : T) → ⟦<() as FixedSet<T>>⟧.holds set token ≡ false }
     ensures all { (set : _) (token : T) → ⟦<RangeFull as FixedSet<T>>⟧.holds set token ≡ true }
     ensures bytes { (set : Bor (List ℕ)) (token : T)
@@ -61,7 +61,7 @@ pub fn listed_set_law<T: AsChar + Drop, const LEN: usize>()
 {}
 
 /// A range holds the characters from its start up to its end, and the end too where it is closed.
-pub fn range_set_law<T: AsChar, B: AsChar + Copy>()
+pub fn range_set_members<T: AsChar, B: AsChar + Copy>()
     ensures half_open { (set : _) (token : T)
         → ⟦<Range<B> as FixedSet<T>>⟧.holds set token
         ≡ is_between (B.code set.start) (B.code set.end) (T.code token) }
@@ -81,7 +81,7 @@ pub fn range_set_law<T: AsChar, B: AsChar + Copy>()
 {}
 
 /// A union holds the tokens that one of its sets holds.
-pub fn union_set_law<T: Copy, A: FixedSet<T>>()
+pub fn union_set_members<T: Copy, A: FixedSet<T>>()
     ensures one { (s : _) (t : T) → ⟦<(A,) as FixedSet<T>>⟧.holds s t
         ≡ A.holds s.0 t }
     ensures two { (s : _) (t : T) → ⟦<(A, A) as FixedSet<T>>⟧.holds s t

@@ -24,7 +24,7 @@ use winnow_views::TokenSlice;
 use winnow_wrap::{LocatingSlice, Partial, Stateful};
 
 /// A plain value is as wide as it is long: a text and a character in UTF-8, and a byte has width 1.
-pub fn plain_width_law<T, const LEN: usize>()
+pub fn plain_width_members<T, const LEN: usize>()
     ensures slice { (s : Bor (List T)) → ⟦<&'static [T] as SliceLen>⟧.width_of s ≡ length s.now }
     ensures array { (s : List T) → ⟦<[T; LEN] as SliceLen>⟧.width_of s ≡ LEN }
     ensures lent_array { (s : Bor (List T))
@@ -42,7 +42,7 @@ pub fn plain_width_law<T, const LEN: usize>()
 
 /// A slice of bits is as wide as the number of bits between its two places. A wrapper is as wide as
 /// the stream inside.
-pub fn wrapper_width_law<I: Stream + SliceLen, S, E>()
+pub fn wrapper_width_members<I: Stream + SliceLen, S, E>()
     ensures bits { (s : I × ℕ × ℕ)
         → ⟦<(I, usize, usize) as SliceLen>⟧.width_of s ≡ 8 * I.width_of s.0 + s.2 - s.1 }
     ensures located { (s : LocatingSlice I I.Checkpoint I.Rest I.Checkpoint.Rest)
@@ -56,7 +56,7 @@ pub fn wrapper_width_law<I: Stream + SliceLen, S, E>()
 {}
 
 /// A text of bytes is made from its bytes, and gives them back.
-pub fn conversion_law()
+pub fn conversion_members()
     ensures bytes { (b : Bor (List ℕ)) (s : Bytes)
         → ⟦<Bytes<'static> as From<&'static [u8]>>⟧.from_gives b s → bytes_contents s ≡ b.now }
     ensures bytes_of_text { (b : Bor (List ℕ)) (s : Bytes)

@@ -1,5 +1,5 @@
 //! Errors at bits and at their bytes, converted to one another.
-use crate::formats::debugged;
+use crate::printed::debugged;
 use rows::{Fault, Words};
 use std::alloc::Global;
 use winnow_error::ErrMode::Cut;

@@ -1,8 +1,8 @@
 //! Errors with the contexts that words list in the order in which they are added, after a cause if
 //! there is one: `cause("bad") Label("number") Expected(CharLiteral('x'))`.
-use crate::formats::{debugged, shown};
 use crate::made::{made, texts};
 use crate::parts::Parts;
+use crate::printed::{debugged, shown};
 use rows::{Fault, Words};
 use std::alloc::{AllocError, Global};
 use winnow_error::{EmptyError, FromExternalError};

@@ -1,6 +1,6 @@
 //! Questions about each type of error, made by nested words.
-use crate::formats::{is_debug, printed};
 use crate::made::{TextStream, answer, made, texts};
+use crate::printed::{is_debug, printed};
 use rows::{Fault, Words};
 use std::alloc::Global;
 use std::fmt::Display;

@@ -1,5 +1,5 @@
 //! An error at an input, alone and in a mode: what becomes of the input.
-use crate::formats::debugged;
+use crate::printed::debugged;
 use rows::{Fault, Words};
 use std::alloc::Global;
 use winnow_error::ErrMode::{Backtrack, Cut, Incomplete};

@@ -1,7 +1,7 @@
 //! An error of any type, made by the nested calls that words write, as in
 //! `or(from_input("ab"), append(from_input("b"), "b", "ab"))`.
-use crate::formats::debugged;
 use crate::parts::{Part, Parts, name};
+use crate::printed::debugged;
 use rows::{Fault, Word, Words};
 use std::alloc::Global;
 use std::fmt::Debug;

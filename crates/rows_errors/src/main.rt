@@ -7,12 +7,12 @@
 mod bits;
 mod contexts;
 mod errors;
-mod formats;
 mod inputs;
 mod made;
 mod modes;
 mod parse_errors;
 mod parts;
+mod printed;
 mod texts;
 mod trees;
 

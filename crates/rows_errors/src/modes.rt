@@ -1,5 +1,5 @@
 //! Modes of a number, written as they print: `Incomplete(Size(3))`, `Backtrack(1)`, `Cut(2)`.
-use crate::formats::shown;
+use crate::printed::shown;
 use rows::{Fault, Words};
 use std::alloc::Global;
 use winnow_error::ErrMode;

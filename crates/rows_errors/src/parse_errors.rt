@@ -1,6 +1,6 @@
 //! The errors of parses that failed at an offset, of bytes with an error that tells nothing and of
 //! text with an error at the input, and lines and columns.
-use crate::formats::{debugged, printed, quoted};
+use crate::printed::{debugged, printed, quoted};
 use rows::{Fault, Word, Words};
 use std::alloc::Global;
 use std::fmt::{Debug, Display};

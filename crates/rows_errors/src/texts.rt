@@ -1,5 +1,5 @@
 //! What `BStr` and `Bytes` print under each format.
-use crate::formats::shown;
+use crate::printed::shown;
 use rows::{Fault, Words};
 use std::alloc::Global;
 use winnow_kinds::BStr;

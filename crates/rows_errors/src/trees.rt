@@ -1,7 +1,7 @@
 //! Texts of trees of errors and of their parts, at texts, at texts that the tree owns, and at the
 //! lengths of these.
-use crate::formats::quoted;
 use crate::made::{TextStream, made, texts};
+use crate::printed::quoted;
 use rows::{Fault, Words};
 use std::alloc::{AllocError, Global};
 use winnow_error::ErrMode::Backtrack;

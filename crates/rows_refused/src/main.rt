@@ -13,8 +13,8 @@ mod accumulators;
 mod alternatives;
 mod cases;
 mod errors;
-mod feeding;
-mod feeds;
+mod feed;
+mod feeding_pieces;
 mod items;
 mod kinds;
 mod parsers;
@@ -38,8 +38,8 @@ fn main(rt: HostRuntime) -> io::Result<()> {
     if let (Some(kind), Some(length), Some(pieces)) = (words.nth(1), words.next(), words.next()) {
         let (length, pieces) = (length.parse().unwrap_or(0), pieces.parse().unwrap_or(0));
         let drained = match kind.as_str() {
-            "text" => feeds::drain_text(alloc, length, pieces),
-            _ => feeds::drain(alloc, length, pieces),
+            "text" => feeding_pieces::drain_text(alloc, length, pieces),
+            _ => feeding_pieces::drain(alloc, length, pieces),
         };
         return println!(rt; "drain: {}", outcome(drained, Err(AllocError)));
     }

@@ -1,7 +1,7 @@
 //! Feeds that wait for the suffix of a literal, which is copied while memory may be refused.
 
 use crate::cases::tell;
-use crate::feeding::Feed;
+use crate::feed::Feed;
 use std::alloc::{AllocError, Global};
 use winnow_script_feed::{ByteFeed, TextFeed};
 use winnow_script_run::SearchStep;

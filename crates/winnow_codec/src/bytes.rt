@@ -6,7 +6,7 @@ ghost use Rattle.winnow_codec.specs.Formats.{Takes};
 ghost use Rattle.winnow_codec.specs.Bytes.{TakesBytes, SpellsBytesAfter, HaveSameBytes};
 ghost use Rattle.winnow_codec.specs.Bytes.{IsFormat-BytesAfter, SpellsAtMost, IsFormat-AtMost};
 
-use crate::tokens::one;
+use crate::next_tokens::one;
 use crate::{Exact, Format, Unwritten};
 use std::alloc::{AllocError, Global};
 use winnow_error::ParserError;

@@ -7,7 +7,7 @@ ghost use Rattle.winnow_codec.specs.Numbers.{bytes_in, big_endian, little_endian
 ghost use Rattle.winnow_codec.specs.Orders.{IsOrder-big, IsOrder-little};
 
 use crate::Width;
-use crate::tokens::{four, one, three, two};
+use crate::next_tokens::{four, one, three, two};
 use std::alloc::AllocError;
 use winnow_stream::Stream;
 

@@ -10,7 +10,7 @@ ghost use Rattle.winnow_script_text.specs.ScriptLines.{PrintsAs, PrintsScript};
 
 use crate::ScriptFault;
 use crate::fed_lines::{FedLine, read_fed_lines};
-use crate::inputs::{Kind, read_input, read_kind};
+use crate::inputs::{Kind, read_kind, read_script_input};
 use crate::lines::Lines;
 use crate::runs::ScriptInput;
 use crate::steps::{ScriptStep, read_steps};
@@ -56,7 +56,7 @@ fn execute_whole<L: ScriptInput>(alloc: Global, lines: &mut Lines) -> Result<Str
     ensures err { IfErr result (IsWithin (reach lines.old)) }
 {
     let steps: Vec<ScriptStep<'_, L>> = read_steps(alloc, lines)?;
-    let input: L = read_input(alloc, lines)?;
+    let input: L = read_script_input(alloc, lines)?;
     Ok(input.run_whole(alloc, &steps)?)
 }
 

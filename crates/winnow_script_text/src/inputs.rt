@@ -54,7 +54,7 @@ fn kind_on_pieces(word: &str) -> Option<Kind>
 }
 
 /// Reads the input from the last line.
-pub fn read_input<L: Contents>(alloc: Global, lines: &mut Lines) -> Result<L, ScriptFault>
+pub fn read_script_input<L: Contents>(alloc: Global, lines: &mut Lines) -> Result<L, ScriptFault>
     ensures input { IfOk result (λ input.
         AreLines (DenotesNamed L.bytes (codes "input")) lines.old.rest.now (input ∷ []) []) }
     ensures fault { IfErr result (IsLineWhere

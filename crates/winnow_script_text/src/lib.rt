@@ -6,7 +6,7 @@
 //! [`ScriptFault`] of the first faulty line.
 //!
 //! [`read_kind`] reads the first line, [`read_steps`] the lines of steps after it, and
-//! [`read_input`] or [`read_fed_lines`] the remaining lines. A script owns what is read, and
+//! [`read_script_input`] or [`read_fed_lines`] the remaining lines. A script owns what is read, and
 //! [`lend_steps`] lends it for a run.
 //!
 //! For the program, [`read_script`] reads a reader to its end, and a [`Failure`] has a text and an
@@ -34,7 +34,7 @@ pub use execution::execute;
 pub use failure::Failure;
 pub use fault::ScriptFault;
 pub use fed_lines::{FedLine, read_fed_lines};
-pub use inputs::{Kind, read_input, read_kind};
+pub use inputs::{Kind, read_kind, read_script_input};
 pub use lines::Lines;
 pub use literals::literal;
 pub use loans::lend_steps;

@@ -1,7 +1,7 @@
 //! Feeds of bytes and of text, whose buffers grow while memory may be refused.
 
 use crate::cases::tell;
-use crate::feeding::Feed;
+use crate::feed::Feed;
 use std::alloc::{AllocError, Global};
 use std::ops::Range;
 use std::str;

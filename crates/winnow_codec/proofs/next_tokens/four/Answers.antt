@@ -1,6 +1,6 @@
 use Rattle.winnow_codec.proofs.lemmas.Reading.{takes-both}
-use Rattle.winnow_codec.proofs.tokens.three.Goals as goal
+use Rattle.winnow_codec.proofs.next_tokens.four.Goals as goal
 
 pub returns-clause-taken : goal.returns-clause-taken
 returns-clause-taken g c =
-    takes-both c.two-first.ensures.taken c.one-third.ensures.taken
+    takes-both c.two-first.ensures.taken c.two-third.ensures.taken

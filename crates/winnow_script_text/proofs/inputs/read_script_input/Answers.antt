@@ -1,6 +1,6 @@
 use Rattle.std.proofs.Common.{◌∙◌, refl, sym}
 use Rattle.winnow_script_text.proofs.lemmas.LineLemmas.{empty_of_length}
-use Rattle.winnow_script_text.proofs.inputs.read_input.Goals as goal
+use Rattle.winnow_script_text.proofs.inputs.read_script_input.Goals as goal
 
 pub returns-clause-input : goal.returns-clause-input
 returns-clause-input g c =

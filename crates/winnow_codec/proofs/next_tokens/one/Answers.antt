@@ -1,6 +1,6 @@
 use Rattle.winnow_codec.proofs.lemmas.Reading.{takes-one}
 use Rattle.winnow_parser.specs.Answer.{ahead}
-use Rattle.winnow_codec.proofs.tokens.one.Goals as goal
+use Rattle.winnow_codec.proofs.next_tokens.one.Goals as goal
 
 pub returns-clause-taken : goal.returns-clause-taken
 returns-clause-taken g c =
