@@ -3,7 +3,7 @@
 use crate::accumulators::gather;
 use crate::items::Cow;
 use crate::{
-    alternatives, errors, feeds, kinds, parsers, recovery, scripts, trees, waiting, words,
+    alternatives, errors, feeding_pieces, kinds, parsers, recovery, scripts, trees, waiting, words,
 };
 use std::alloc::{AllocError, Global};
 use std::collections::{BTreeMap, BTreeSet, HashMap, HashSet, VecDeque};
@@ -97,10 +97,10 @@ fn trees_and_feeds(alloc: Global) -> [Case; 13] {
         ("tree map_input", trees::map_input(alloc)),
         ("tree convert", trees::convert(alloc)),
         ("tree combine", trees::combine(alloc)),
-        ("ByteFeed", feeds::feed_bytes(alloc)),
-        ("TextFeed", feeds::feed_text(alloc)),
-        ("run_pieces", feeds::all_bytes(alloc)),
-        ("run_pieces_text", feeds::all_text(alloc)),
+        ("ByteFeed", feeding_pieces::feed_bytes(alloc)),
+        ("TextFeed", feeding_pieces::feed_text(alloc)),
+        ("run_pieces", feeding_pieces::all_bytes(alloc)),
+        ("run_pieces_text", feeding_pieces::all_text(alloc)),
         ("waits_for of bytes", waiting::wait_for_bytes(alloc)),
         ("waits_for of text", waiting::wait_for_text(alloc)),
     ]
