@@ -5,9 +5,9 @@ use Rattle.winnow_codec.specs.Byte.{SpellsByte}
 use Rattle.winnow_codec.specs.Bytes.{SpellsBytesAfter}
 use Rattle.winnow_codec.specs.Cases.{SpellsTagged, SpellsCase, SpellsLast, case_tag, only_tag}
 use Rattle.winnow_codec.specs.Known.{SpellsAfter, SpellsExactly}
-use Rattle.winnow_codec.specs.Numbers.{SpellsNumber, big_endian, unsigned}
-use Rattle.winnow_codec.specs.Parts.{SpellsParts}
-use Rattle.winnow_codec.specs.Rows.{SpellsPair, SpellsRow3}
+use Rattle.winnow_codec.specs.FormatNumbers.{SpellsNumber, big_endian, unsigned}
+use Rattle.winnow_codec.specs.FormatParts.{SpellsParts}
+use Rattle.winnow_codec.specs.FormatRows.{SpellsPair, SpellsRow3}
 use Rattle.example_socks.specs.Commands.{command_code}
 use Rattle.example_socks.specs.Targets.{target_case}
 use Rattle.example_socks.specs.declared.request.Request.{Request}

@@ -4,10 +4,10 @@ use Rattle.std.specs.Prelude.{Vec, ◌≡◌, ℕ}
 use Rattle.winnow_codec.specs.Formats.{Spelling}
 use Rattle.winnow_codec.specs.Byte.{SpellsByte}
 use Rattle.winnow_codec.specs.Bytes.{SpellsAtMost, SpellsBytesAfter}
-use Rattle.winnow_codec.specs.Numbers.{SpellsNumber, big_endian, unsigned}
-use Rattle.winnow_codec.specs.Parts.{SpellsParts}
-use Rattle.winnow_codec.specs.Rows.{SpellsPair, SpellsRow3}
-use Rattle.winnow_codec.specs.Whole.{SpellsWithin, SpellsToEnd}
+use Rattle.winnow_codec.specs.FormatNumbers.{SpellsNumber, big_endian, unsigned}
+use Rattle.winnow_codec.specs.FormatParts.{SpellsParts}
+use Rattle.winnow_codec.specs.FormatRows.{SpellsPair, SpellsRow3}
+use Rattle.winnow_codec.specs.WholeFormats.{SpellsWithin, SpellsToEnd}
 use Rattle.example_tls.specs.Codes.{content_code}
 use Rattle.example_tls.specs.declared.extension_list.Extension.{Extension}
 use Rattle.example_tls.specs.declared.records.TlsRecord.{TlsRecord}

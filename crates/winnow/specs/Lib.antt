@@ -98,3 +98,17 @@ pub use Rattle.winnow_exact.specs.Exact
 pub use Rattle.winnow_exact.specs.Languages
 pub use Rattle.winnow_exact.specs.Nested
 pub use Rattle.winnow_live.specs.Live
+pub use Rattle.winnow_codec.specs.Byte
+pub use Rattle.winnow_codec.specs.Bytes
+pub use Rattle.winnow_codec.specs.Cases
+pub use Rattle.winnow_codec.specs.FormatNumbers
+pub use Rattle.winnow_codec.specs.FormatParts
+pub use Rattle.winnow_codec.specs.FormatRows
+pub use Rattle.winnow_codec.specs.Formats
+pub use Rattle.winnow_codec.specs.Known
+pub use Rattle.winnow_codec.specs.Lists
+pub use Rattle.winnow_codec.specs.Orders
+pub use Rattle.winnow_codec.specs.RoundTrips
+pub use Rattle.winnow_codec.specs.Signed
+pub use Rattle.winnow_codec.specs.WholeFormats
+pub use Rattle.winnow_codec.specs.Writing

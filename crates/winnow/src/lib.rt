@@ -5,8 +5,9 @@
 //! the top, the names that most grammars need in [`prelude`], parsers of tokens in [`token`], of
 //! ASCII text in [`ascii`], of numbers and counted parts in [`binary`], parsers that are made of
 //! parsers in [`combinator`], grammars of one's own in [`grammar`] and, with what spells their
-//! values, in [`spelling`], ranges of lexed tokens in [`spans`], errors in [`error`], and
-//! [`stream`] as `winnow_base` has it.
+//! values, in [`spelling`], ranges of lexed tokens in [`spans`], formats that are read and written by
+//! one description in [`codec`], readers over pieces in [`reader`] and [`scan`], errors in
+//! [`error`], and [`stream`] as `winnow_base` has it.
 //!
 //! Laws stand in modules of their own: [`laws`], [`token::laws`], and so on. Everything here comes
 //! from a crate of its own, with its proofs. `specs/` passes on the definitions that contracts of
@@ -24,6 +25,7 @@ pub mod token;
 
 pub use winnow_base::stream;
 pub use winnow_base::stream::{BStr, Bytes, LocatingSlice, Partial, Stateful};
+pub use winnow_codec as codec;
 pub use winnow_exact as exact;
 pub use winnow_grammar as grammar;
 pub use winnow_live as live;

@@ -5,8 +5,8 @@ use Rattle.std.proofs.Common.{ap, sym, ◌∙◌, subst}
 use Rattle.std.proofs.Math.Seq.{take-append_seam}
 use Rattle.winnow_parser.specs.Outcome.{Backtracks, Cuts, Needs, Refuses, Gives, Fails, Meaning}
 use Rattle.winnow_codec.specs.Formats.{Spelling, Takes, IsFormat, IsEqual, IsFormat-Exact}
-use Rattle.winnow_codec.specs.Parts.{SpellsParts, IsFormat-Parts}
-use Rattle.winnow_codec.specs.Rows.{SpellsBoth, AreBothSame, IsFormat-Both}
+use Rattle.winnow_codec.specs.FormatParts.{SpellsParts, IsFormat-Parts}
+use Rattle.winnow_codec.specs.FormatRows.{SpellsBoth, AreBothSame, IsFormat-Both}
 
 -- this number of bytes spells itself
 abbrev pub SpellsBytes : ℕ → Spelling (List ℕ)

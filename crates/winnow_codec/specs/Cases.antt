@@ -2,8 +2,8 @@
 use Rattle.std.specs.Prelude.{◌≡◌, ℕ, List, ◌++◌}
 use Rattle.std.proofs.Common.{sym, subst}
 use Rattle.winnow_codec.specs.Formats.{Spelling, IsFormat}
-use Rattle.winnow_codec.specs.Rows.{SpellsBoth, AreBothSame, IsFormat-Both}
-use Rattle.winnow_codec.specs.Parts.{SpellsParts, IsFormat-Parts}
+use Rattle.winnow_codec.specs.FormatRows.{SpellsBoth, AreBothSame, IsFormat-Both}
+use Rattle.winnow_codec.specs.FormatParts.{SpellsParts, IsFormat-Parts}
 use Rattle.winnow_codec.specs.declared.choice.Choice.{Choice}
 use Rattle.winnow_codec.specs.declared.choice.Choice.TheVariants.{First, Other}
 

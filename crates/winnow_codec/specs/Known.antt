@@ -2,8 +2,8 @@
 use Rattle.std.specs.Prelude.{◌≡◌, [], ⊤}
 use Rattle.std.proofs.Common.{sym, ◌∙◌}
 use Rattle.winnow_codec.specs.Formats.{Spelling, IsFormat}
-use Rattle.winnow_codec.specs.Parts.{SpellsParts, IsFormat-Parts}
-use Rattle.winnow_codec.specs.Rows.{SpellsPair, AreBothSame, IsFormat-Pair}
+use Rattle.winnow_codec.specs.FormatParts.{SpellsParts, IsFormat-Parts}
+use Rattle.winnow_codec.specs.FormatRows.{SpellsPair, AreBothSame, IsFormat-Pair}
 
 -- nothing is spelled as this value is
 abbrev pub SpellsExactly : {V : Type 0} → Spelling V → V → Spelling (Unit {0})

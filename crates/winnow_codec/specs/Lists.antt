@@ -4,8 +4,8 @@ use Rattle.std.specs.Prelude.{Vec, ◌≡◌, ℕ, List, [], ◌∷◌, ◌++◌
 use Rattle.std.proofs.Common.{ap, sym, ◌∙◌, subst, append_assoc, arith}
 use Rattle.std.proofs.lemmas.List.{append_cancel_left}
 use Rattle.winnow_codec.specs.Formats.{Spelling, IsFormat, IsEqual, IsFormat-Exact}
-use Rattle.winnow_codec.specs.Parts.{SpellsParts, HaveSameParts, IsFormat-Parts}
-use Rattle.winnow_codec.specs.Rows.{SpellsBoth, AreBothSame, IsFormat-Both}
+use Rattle.winnow_codec.specs.FormatParts.{SpellsParts, HaveSameParts, IsFormat-Parts}
+use Rattle.winnow_codec.specs.FormatRows.{SpellsBoth, AreBothSame, IsFormat-Both}
 
 -- the spellings of the values, one after the other
 abbrev pub SpellsEach : {V : Type 0} → Spelling V → List V → List ℕ → Type 0

@@ -3,7 +3,7 @@ use Rattle.std.specs.Prelude.{◌≡◌, ℕ, ◌^◌, length, [], ◌∷◌, �
 use Rattle.std.proofs.Common.{ap, sym, ◌∙◌, refl, arith}
 use Rattle.std.specs.Int.{w16, w32, w64, from_be_bytes, from_le_bytes}
 use Rattle.std.proofs.lemmas.Nat.{from_be_bytes-to_be_bytes_2, from_be_bytes-to_be_bytes_4, from_be_bytes-to_be_bytes_8, from_le_bytes-to_le_bytes_2, from_le_bytes-to_le_bytes_4, from_le_bytes-to_le_bytes_8}
-use Rattle.winnow_codec.specs.Numbers.{bytes_in, big_endian, little_endian, IsOneToOne, IsOrder}
+use Rattle.winnow_codec.specs.FormatNumbers.{bytes_in, big_endian, little_endian, IsOneToOne, IsOrder}
 use Rattle.winnow_codec.specs.declared.widths.Width.{Width}
 use Rattle.winnow_codec.specs.declared.widths.Width.TheVariants.{One, Two, Three, Four, Eight}
 

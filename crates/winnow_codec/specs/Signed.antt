@@ -3,7 +3,7 @@ use Rattle.std.specs.Prelude.{◌^◌}
 use Rattle.std.specs.Int.{w8, w16, w32, w64, cast_signed, cast_unsigned}
 use Rattle.std.proofs.Common.{ap, sym, ◌∙◌}
 use Rattle.std.proofs.lemmas.Int.{of_z-to_z}
-use Rattle.winnow_codec.specs.Numbers.{IsOneToOne}
+use Rattle.winnow_codec.specs.FormatNumbers.{IsOneToOne}
 
 -- no two numbers of one, two, four or eight bytes are the two's complement of one value
 pub signed-one8 : IsOneToOne (256 ^ 1) (cast_signed w8)

@@ -1,7 +1,7 @@
 //! Values by a code: `Coded`, `by_code_of`.
 
 ghost use Rattle.std.specs.Prelude.{◌≡◌, MatchOption};
-ghost use Rattle.winnow_codec.specs.Parts.{SpellsParts, HaveSameParts, IsFormat-Parts};
+ghost use Rattle.winnow_codec.specs.FormatParts.{SpellsParts, HaveSameParts, IsFormat-Parts};
 
 use crate::{Exact, Format, Unwritten};
 use std::alloc::Global;

@@ -1,7 +1,7 @@
 //! A part within a length: `within`.
 
 ghost use Rattle.std.specs.Prelude.{◌≡◌};
-ghost use Rattle.winnow_codec.specs.Whole.{SpellsWithin, IsFormat-Within};
+ghost use Rattle.winnow_codec.specs.WholeFormats.{SpellsWithin, IsFormat-Within};
 
 use crate::bytes::read_bytes;
 use crate::{Exact, Format, Unread, Unwritten, Whole};

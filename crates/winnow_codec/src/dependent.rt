@@ -1,7 +1,7 @@
 //! A format that the value before it chooses: `Choose`, `choose_next`.
 
 ghost use Rattle.std.specs.Prelude.{◌≡◌};
-ghost use Rattle.winnow_codec.specs.Rows.{SpellsBoth, AreBothSame, IsFormat-Then};
+ghost use Rattle.winnow_codec.specs.FormatRows.{SpellsBoth, AreBothSame, IsFormat-Then};
 
 use crate::{Exact, Format, Unwritten};
 use std::alloc::Global;

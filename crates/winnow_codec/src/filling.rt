@@ -2,7 +2,8 @@
 
 ghost use Rattle.std.specs.Prelude.{◌≡◌};
 ghost use Rattle.winnow_codec.specs.Lists.{HaveSameItems};
-ghost use Rattle.winnow_codec.specs.Whole.{ReadsFirst, SpellsToEnd, IsWhole-Format, IsWhole-ToEnd};
+ghost use Rattle.winnow_codec.specs.WholeFormats.{ReadsFirst, SpellsToEnd};
+ghost use Rattle.winnow_codec.specs.WholeFormats.{IsWhole-Format, IsWhole-ToEnd};
 
 use crate::lists::write_items;
 use crate::some_bytes::SomeBytes;

@@ -1,7 +1,7 @@
 //! The format of a number of a fixed number of bytes.
 
 ghost use Rattle.winnow_codec.specs.Formats.{IsEqual};
-ghost use Rattle.winnow_codec.specs.Numbers.{bytes_in, SpellsNumber, IsFormat-Number};
+ghost use Rattle.winnow_codec.specs.FormatNumbers.{bytes_in, SpellsNumber, IsFormat-Number};
 
 use crate::{
     BigEndian, ByteOrder, Count, Exact, FixedWidth, Format, LittleEndian, U24, Unsigned, Unwritten,

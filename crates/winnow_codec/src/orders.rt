@@ -3,7 +3,7 @@
 ghost use Rattle.std.specs.Prelude.{◌≡◌, ◌≤◌, ◌<◌, ◌^◌, ◌++◌, ℕ, List, length, MatchResult};
 ghost use Rattle.winnow_parser.specs.Answer.{ahead};
 ghost use Rattle.winnow_codec.specs.Formats.{Takes};
-ghost use Rattle.winnow_codec.specs.Numbers.{bytes_in, big_endian, little_endian, IsOrder};
+ghost use Rattle.winnow_codec.specs.FormatNumbers.{bytes_in, big_endian, little_endian, IsOrder};
 ghost use Rattle.winnow_codec.specs.Orders.{IsOrder-big, IsOrder-little};
 
 use crate::Width;

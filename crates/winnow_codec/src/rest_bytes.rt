@@ -1,6 +1,6 @@
 //! All bytes of a part: `rest`.
 
-ghost use Rattle.winnow_codec.specs.Whole.{SpellsRest, AreSameRest, IsWhole-Rest};
+ghost use Rattle.winnow_codec.specs.WholeFormats.{SpellsRest, AreSameRest, IsWhole-Rest};
 
 use crate::{Unread, Unwritten, Whole};
 use std::alloc::Global;

@@ -1,7 +1,7 @@
 //! Tuples of two and three formats, whose values are spelled one after the other.
 
-ghost use Rattle.winnow_codec.specs.Rows.{SpellsPair, AreBothSame, IsFormat-Pair, SpellsRow3};
-ghost use Rattle.winnow_codec.specs.Rows.{AreSame3, IsFormat-Row3};
+ghost use Rattle.winnow_codec.specs.FormatRows.{SpellsPair, AreBothSame, IsFormat-Pair, SpellsRow3};
+ghost use Rattle.winnow_codec.specs.FormatRows.{AreSame3, IsFormat-Row3};
 ghost use Rattle.winnow_codec.specs.Writing.{Writes};
 
 use crate::{Format, Unwritten};

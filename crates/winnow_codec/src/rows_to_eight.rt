@@ -1,7 +1,7 @@
 //! Tuples of seven and eight formats.
 
-ghost use Rattle.winnow_codec.specs.Rows.{SpellsRow7, AreSame7, IsFormat-Row7};
-ghost use Rattle.winnow_codec.specs.Rows.{SpellsRow8, AreSame8, IsFormat-Row8};
+ghost use Rattle.winnow_codec.specs.FormatRows.{SpellsRow7, AreSame7, IsFormat-Row7};
+ghost use Rattle.winnow_codec.specs.FormatRows.{SpellsRow8, AreSame8, IsFormat-Row8};
 ghost use Rattle.winnow_codec.specs.Writing.{Writes};
 
 use crate::{Format, Unwritten, write_six};

@@ -1,8 +1,8 @@
 //! Tuples of four to six formats.
 
-ghost use Rattle.winnow_codec.specs.Rows.{SpellsRow4, AreSame4, IsFormat-Row4, SpellsRow5};
-ghost use Rattle.winnow_codec.specs.Rows.{AreSame5, IsFormat-Row5, SpellsRow6, AreSame6};
-ghost use Rattle.winnow_codec.specs.Rows.{IsFormat-Row6};
+ghost use Rattle.winnow_codec.specs.FormatRows.{SpellsRow4, AreSame4, IsFormat-Row4, SpellsRow5};
+ghost use Rattle.winnow_codec.specs.FormatRows.{AreSame5, IsFormat-Row5, SpellsRow6, AreSame6};
+ghost use Rattle.winnow_codec.specs.FormatRows.{IsFormat-Row6};
 ghost use Rattle.winnow_codec.specs.Writing.{Writes};
 
 use crate::{Format, Unwritten, write_three};

@@ -1,7 +1,7 @@
 //! Tuples of nine and ten formats.
 
-ghost use Rattle.winnow_codec.specs.Rows.{SpellsRow9, AreSame9, IsFormat-Row9};
-ghost use Rattle.winnow_codec.specs.Rows.{SpellsRow10, AreSame10, IsFormat-Row10};
+ghost use Rattle.winnow_codec.specs.FormatRows.{SpellsRow9, AreSame9, IsFormat-Row9};
+ghost use Rattle.winnow_codec.specs.FormatRows.{SpellsRow10, AreSame10, IsFormat-Row10};
 ghost use Rattle.winnow_codec.specs.Writing.{Writes};
 
 use crate::{Format, Unwritten, write_eight};

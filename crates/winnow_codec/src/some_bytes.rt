@@ -1,6 +1,6 @@
 //! A value that at least one byte spells.
 
-ghost use Rattle.winnow_codec.specs.Whole.{SpellsSome, IsFormat-Some};
+ghost use Rattle.winnow_codec.specs.WholeFormats.{SpellsSome, IsFormat-Some};
 
 use crate::{Format, Unwritten};
 use std::alloc::Global;

@@ -1,7 +1,7 @@
 //! A struct by its fields: `Fields`, `struct_of`.
 
 ghost use Rattle.std.specs.Prelude.{◌≡◌};
-ghost use Rattle.winnow_codec.specs.Parts.{SpellsParts, HaveSameParts, IsFormat-Parts};
+ghost use Rattle.winnow_codec.specs.FormatParts.{SpellsParts, HaveSameParts, IsFormat-Parts};
 ghost use Rattle.winnow_codec.specs.Writing.{Writes};
 
 use crate::{Format, Unwritten};

@@ -1,7 +1,7 @@
 //! An enum of one's own over the cases of a tag: `Variants`, `enum_of`.
 
 ghost use Rattle.std.specs.Prelude.{◌≡◌};
-ghost use Rattle.winnow_codec.specs.Parts.{SpellsParts, HaveSameParts, IsFormat-Parts};
+ghost use Rattle.winnow_codec.specs.FormatParts.{SpellsParts, HaveSameParts, IsFormat-Parts};
 ghost use Rattle.winnow_codec.specs.Writing.{Writes};
 
 use crate::{Format, Unwritten};

@@ -2,7 +2,7 @@
 
 ghost use Rattle.std.specs.Prelude.{List, ℕ};
 ghost use Rattle.winnow_codec.specs.Writing.{Writes};
-ghost use Rattle.winnow_codec.specs.Whole.{IsWhole, ReadsWhole};
+ghost use Rattle.winnow_codec.specs.WholeFormats.{IsWhole, ReadsWhole};
 
 use crate::{Unread, Unwritten};
 use std::alloc::Global;

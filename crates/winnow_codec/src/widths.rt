@@ -5,7 +5,7 @@ ghost use Rattle.std.specs.Int.{w8, w16, w32, w64, cast_signed};
 ghost use Rattle.winnow_codec.specs.declared.widths.Width.{Width};
 ghost use Rattle.winnow_codec.specs.declared.widths.Width.TheVariants.{One, Two};
 ghost use Rattle.winnow_codec.specs.declared.widths.Width.TheVariants.{Three, Four, Eight};
-ghost use Rattle.winnow_codec.specs.Numbers.{bytes_in, unsigned, IsOneToOne};
+ghost use Rattle.winnow_codec.specs.FormatNumbers.{bytes_in, unsigned, IsOneToOne};
 ghost use Rattle.winnow_codec.specs.Signed.{signed-one8, signed-one16, signed-one32, signed-one64};
 
 use std::marker::PhantomData;

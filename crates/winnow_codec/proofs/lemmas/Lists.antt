@@ -8,7 +8,7 @@ use Rattle.winnow_stream.specs.Location.{location_behind}
 use Rattle.winnow_parser.specs.Outcome.{Ahead, Failed, Backtracks, Cuts, Needs, Refuses, Gives, Fails}
 use Rattle.winnow_codec.specs.Formats.{bytes_of, Spelling, Takes, SpellsNone, Reads, IsFormat}
 use Rattle.winnow_codec.specs.Lists.{SpellsEach, SpellsItems, SpellsItemsAfter}
-use Rattle.winnow_codec.specs.Rows.{SpellsBoth}
+use Rattle.winnow_codec.specs.FormatRows.{SpellsBoth}
 use Rattle.winnow_codec.specs.Writing.{Writes}
 use Rattle.winnow_codec.specs.declared.unwritten.Unwritten.{Unwritten}
 use Rattle.winnow_codec.specs.declared.unwritten.Unwritten.TheVariants.{Unspelled, Refused}

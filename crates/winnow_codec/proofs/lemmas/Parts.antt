@@ -4,9 +4,9 @@ use Rattle.std.specs.Prelude.{Vec}
 use Rattle.std.specs.declared.alloc.Global.{Global}
 use Rattle.winnow_parser.specs.Outcome.{Ahead, Failed, Backtracks, Cuts, Needs, Refuses, Gives, Fails}
 use Rattle.winnow_codec.specs.Formats.{bytes_of, Spelling, Reads, IsFormat}
-use Rattle.winnow_codec.specs.Rows.{SpellsBoth}
+use Rattle.winnow_codec.specs.FormatRows.{SpellsBoth}
 use Rattle.winnow_codec.specs.Bytes.{SpellsBytes, SpellsBytesAfter, TakesBytes, same-front}
-use Rattle.winnow_codec.specs.Whole.{SpellsFilling, SpellsWithin}
+use Rattle.winnow_codec.specs.WholeFormats.{SpellsFilling, SpellsWithin}
 use Rattle.winnow_codec.proofs.lemmas.Reading.{takes-both, takes-front, moves-both, both-unfinished, parts-unread}
 use Rattle.std.proofs.lemmas.List.{append_cancel_left}
 use Rattle.winnow_codec.proofs.lemmas.Fixed.{short-needs, short-backtracks}

@@ -6,8 +6,8 @@ use Rattle.winnow_stream.specs.Location.{location_behind}
 use Rattle.winnow_stream.proofs.lemmas.FrontLemmas.{width-append}
 use Rattle.winnow_parser.specs.Outcome.{Ahead, Failed, Backtracks, Cuts, Needs, Refuses, Gives, Fails, Moves}
 use Rattle.winnow_codec.specs.Formats.{bytes_of, Spelling, Takes, SpellsNone, Reads, IsFormat}
-use Rattle.winnow_codec.specs.Rows.{SpellsBoth, ChoosesBySame}
-use Rattle.winnow_codec.specs.Parts.{SpellsParts}
+use Rattle.winnow_codec.specs.FormatRows.{SpellsBoth, ChoosesBySame}
+use Rattle.winnow_codec.specs.FormatParts.{SpellsParts}
 
 -- ---- Bytes that are taken
 

@@ -2,7 +2,7 @@
 use Rattle.std.proofs.Common.{◌≡◌, ℕ, Bool, List, ◌++◌, Result, Ok, Err, sym, subst, refl}
 use Rattle.winnow_parser.specs.Outcome.{Ahead, Failed, Gives, Fails}
 use Rattle.winnow_codec.specs.Formats.{Spelling, Reads, IsFormat}
-use Rattle.winnow_codec.specs.Rows.{SpellsBoth}
+use Rattle.winnow_codec.specs.FormatRows.{SpellsBoth}
 use Rattle.winnow_codec.specs.Byte.{SpellsByte}
 use Rattle.winnow_codec.specs.Cases.{AreCases, SpellsTagged, SpellsLast, only_tag, with_tag}
 use Rattle.winnow_codec.specs.Writing.{Writes}

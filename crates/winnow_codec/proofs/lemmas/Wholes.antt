@@ -9,7 +9,7 @@ use Rattle.std.specs.Prelude.{Vec, Err}
 use Rattle.std.specs.declared.alloc.Global.{Global}
 use Rattle.std.proofs.lemmas.List.{append_cancel_left}
 use Rattle.winnow_codec.specs.Lists.{SpellsEach}
-use Rattle.winnow_codec.specs.Whole.{SpellsSome, SpellsToEnd, ReadsFirst, ReadsWhole, some-more}
+use Rattle.winnow_codec.specs.WholeFormats.{SpellsSome, SpellsToEnd, ReadsFirst, ReadsWhole, some-more}
 use Rattle.winnow_codec.specs.declared.unread.Unread.{Unread}
 use Rattle.winnow_codec.specs.declared.unread.Unread.TheVariants.{Malformed, Refused}
 use Rattle.winnow_codec.proofs.lemmas.Reading.{takes-front}

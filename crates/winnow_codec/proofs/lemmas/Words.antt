@@ -4,7 +4,7 @@ use Rattle.std.specs.Int.{w16, w32, w64, from_be_bytes, from_le_bytes}
 use Rattle.std.proofs.lemmas.Nat.{be_bytes_2, be_bytes_4, be_bytes_8, le_bytes_2, le_bytes_4, le_bytes_8}
 use Rattle.winnow_parser.specs.Outcome.{Ahead}
 use Rattle.winnow_codec.specs.Formats.{Takes}
-use Rattle.winnow_codec.specs.Numbers.{bytes_in, big_endian, little_endian}
+use Rattle.winnow_codec.specs.FormatNumbers.{bytes_in, big_endian, little_endian}
 use Rattle.winnow_codec.specs.declared.widths.Width.{Width}
 
 -- the bytes of a number of this width were taken

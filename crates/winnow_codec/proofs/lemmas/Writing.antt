@@ -2,8 +2,8 @@
 use Rattle.std.proofs.Common.{ℕ, List, length, take, Ok, Err, ap, ◌∙◌}
 use Rattle.std.proofs.Math.Seq.{take-append_seam}
 use Rattle.winnow_codec.specs.Formats.{Spelling}
-use Rattle.winnow_codec.specs.Parts.{SpellsParts}
-use Rattle.winnow_codec.specs.Rows.{SpellsPair}
+use Rattle.winnow_codec.specs.FormatParts.{SpellsParts}
+use Rattle.winnow_codec.specs.FormatRows.{SpellsPair}
 use Rattle.winnow_codec.specs.Writing.{Writes}
 use Rattle.winnow_codec.specs.declared.unwritten.Unwritten.{Unwritten}
 use Rattle.winnow_codec.specs.declared.unwritten.Unwritten.TheVariants.{Unspelled, Refused}

@@ -1,5 +1,5 @@
 use Rattle.std.proofs.Common.{◌≡◌, Err, length, take, ap, sym, ◌∙◌, subst}
-use Rattle.winnow_codec.specs.Rows.{nested3, SpellsPair, SpellsRow3}
+use Rattle.winnow_codec.specs.FormatRows.{nested3, SpellsPair, SpellsRow3}
 use Rattle.winnow_codec.specs.Writing.{Writes}
 use Rattle.winnow_codec.proofs.lemmas.Writing.{both-unwritten}
 use Rattle.winnow_codec.proofs.rows.write_three.Goals as goal

@@ -1,5 +1,5 @@
 use Rattle.std.proofs.Common.{◌≡◌, Err, length, take, ap, sym, ◌∙◌, subst}
-use Rattle.winnow_codec.specs.Rows.{nested8, SpellsRow7, SpellsRow8}
+use Rattle.winnow_codec.specs.FormatRows.{nested8, SpellsRow7, SpellsRow8}
 use Rattle.winnow_codec.specs.Writing.{Writes}
 use Rattle.winnow_codec.proofs.lemmas.Writing.{both-unwritten}
 use Rattle.winnow_codec.proofs.rows_to_eight.write_eight.Goals as goal

@@ -1,5 +1,5 @@
 use Rattle.std.proofs.Common.{◌≡◌, Err, length, take, ap, sym, ◌∙◌, subst}
-use Rattle.winnow_codec.specs.Rows.{nested9, SpellsRow8, SpellsRow9}
+use Rattle.winnow_codec.specs.FormatRows.{nested9, SpellsRow8, SpellsRow9}
 use Rattle.winnow_codec.specs.Writing.{Writes}
 use Rattle.winnow_codec.proofs.lemmas.Writing.{both-unwritten}
 use Rattle.winnow_codec.proofs.rows_to_ten.write_nine.Goals as goal

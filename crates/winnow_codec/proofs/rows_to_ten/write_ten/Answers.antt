@@ -1,5 +1,5 @@
 use Rattle.std.proofs.Common.{◌≡◌, Err, length, take, ap, sym, ◌∙◌, subst}
-use Rattle.winnow_codec.specs.Rows.{nested10, SpellsRow9, SpellsRow10}
+use Rattle.winnow_codec.specs.FormatRows.{nested10, SpellsRow9, SpellsRow10}
 use Rattle.winnow_codec.specs.Writing.{Writes}
 use Rattle.winnow_codec.proofs.lemmas.Writing.{both-unwritten}
 use Rattle.winnow_codec.proofs.rows_to_ten.write_ten.Goals as goal

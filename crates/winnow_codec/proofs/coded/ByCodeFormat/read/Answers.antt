@@ -1,5 +1,5 @@
 use Rattle.std.proofs.Common.{sym}
-use Rattle.winnow_codec.specs.Parts.{SpellsParts}
+use Rattle.winnow_codec.specs.FormatParts.{SpellsParts}
 use Rattle.winnow_codec.proofs.lemmas.Reading.{none-other}
 use Rattle.winnow_codec.proofs.coded.ByCodeFormat.read.Goals as goal
 

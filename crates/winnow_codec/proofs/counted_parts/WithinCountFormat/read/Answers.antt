@@ -1,5 +1,5 @@
 use Rattle.std.proofs.Common.{Err, sym, subst}
-use Rattle.winnow_codec.specs.Whole.{ReadsWhole}
+use Rattle.winnow_codec.specs.WholeFormats.{ReadsWhole}
 use Rattle.winnow_parser.specs.Answer.{ahead, failed}
 use Rattle.winnow_codec.proofs.lemmas.Parts.{within-given, within-malformed, within-unfinished}
 use Rattle.winnow_codec.proofs.counted_parts.WithinCountFormat.read.Goals as goal

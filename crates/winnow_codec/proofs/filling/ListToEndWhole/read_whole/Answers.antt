@@ -1,7 +1,7 @@
 use Rattle.std.proofs.Common.{◌++◌, length, ap, sym, ◌∙◌, subst, append_assoc}
 use Rattle.std.specs.Prelude.{◌==◌}
 use Rattle.winnow_codec.specs.Lists.{SpellsEach}
-use Rattle.winnow_codec.specs.Whole.{SpellsSome}
+use Rattle.winnow_codec.specs.WholeFormats.{SpellsSome}
 use Rattle.winnow_codec.proofs.lemmas.Lists.{each-more}
 use Rattle.winnow_codec.proofs.lemmas.Wholes.{end-unread}
 use Rattle.winnow_codec.proofs.filling.ListToEndWhole.read_whole.Goals as goal

@@ -1,6 +1,6 @@
 use Rattle.std.proofs.Common.{◌≡◌, ℕ, List, ◌++◌, length}
 use Rattle.winnow_codec.specs.Lists.{SpellsEach}
-use Rattle.winnow_codec.specs.Whole.{SpellsSome}
+use Rattle.winnow_codec.specs.WholeFormats.{SpellsSome}
 use Rattle.winnow_codec.proofs.filling.ListToEndWhole.read_whole.Given as goal
 
 abbrev pub invariant-loop-rest : goal.invariant-loop-rest

@@ -1,6 +1,6 @@
 use Rattle.std.proofs.Common.{ap, sym, ◌∙◌, subst, length, ◌<◌}
 use Rattle.winnow_parser.specs.Answer.{ahead}
-use Rattle.winnow_codec.specs.Numbers.{bytes_in, SpellsNumber}
+use Rattle.winnow_codec.specs.FormatNumbers.{bytes_in, SpellsNumber}
 use Rattle.winnow_codec.proofs.lemmas.Fixed.{offset-short, short-needs, short-backtracks}
 use Rattle.winnow_codec.proofs.numbers.NumberFormat.read.Goals as goal
 

@@ -1,5 +1,5 @@
 use Rattle.std.proofs.Common.{◌∙◌}
-use Rattle.winnow_codec.specs.Numbers.{big_endian}
+use Rattle.winnow_codec.specs.FormatNumbers.{big_endian}
 use Rattle.winnow_codec.specs.declared.widths.Width.TheVariants.{One, Two, Three, Four, Eight}
 use Rattle.winnow_codec.proofs.lemmas.Reading.{takes-both}
 use Rattle.winnow_codec.proofs.lemmas.Words.{takes-number, big-1, big-2, big-3, big-4, big-8}

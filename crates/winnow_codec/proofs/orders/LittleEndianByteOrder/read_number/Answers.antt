@@ -1,5 +1,5 @@
 use Rattle.std.proofs.Common.{◌∙◌}
-use Rattle.winnow_codec.specs.Numbers.{little_endian}
+use Rattle.winnow_codec.specs.FormatNumbers.{little_endian}
 use Rattle.winnow_codec.specs.declared.widths.Width.TheVariants.{One, Two, Three, Four, Eight}
 use Rattle.winnow_codec.proofs.lemmas.Reading.{takes-both}
 use Rattle.winnow_codec.proofs.lemmas.Words.{takes-number, little-1, little-2, little-3, little-4, little-8}

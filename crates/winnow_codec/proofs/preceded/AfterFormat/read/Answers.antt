@@ -1,5 +1,5 @@
 use Rattle.winnow_parser.specs.Answer.{ahead, failed}
-use Rattle.winnow_codec.specs.Rows.{SpellsPair}
+use Rattle.winnow_codec.specs.FormatRows.{SpellsPair}
 use Rattle.winnow_codec.proofs.lemmas.Reading.{parts-unread}
 use Rattle.winnow_codec.proofs.preceded.AfterFormat.read.Goals as goal
 

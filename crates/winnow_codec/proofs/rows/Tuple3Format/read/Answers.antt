@@ -1,5 +1,5 @@
 use Rattle.winnow_parser.specs.Answer.{ahead, failed}
-use Rattle.winnow_codec.specs.Rows.{SpellsPair, nested3}
+use Rattle.winnow_codec.specs.FormatRows.{SpellsPair, nested3}
 use Rattle.winnow_codec.proofs.lemmas.Reading.{both-given, both-unfinished, both-unbegun, parts-unread}
 use Rattle.winnow_codec.proofs.rows.Tuple3Format.read.Goals as goal
 

@@ -1,5 +1,5 @@
 use Rattle.winnow_parser.specs.Answer.{ahead, failed}
-use Rattle.winnow_codec.specs.Rows.{SpellsRow6, SpellsPair, nested7}
+use Rattle.winnow_codec.specs.FormatRows.{SpellsRow6, SpellsPair, nested7}
 use Rattle.winnow_codec.proofs.lemmas.Reading.{both-given, both-unfinished, both-unbegun, parts-unread}
 use Rattle.winnow_codec.proofs.rows_to_eight.Tuple7Format.read.Goals as goal
 

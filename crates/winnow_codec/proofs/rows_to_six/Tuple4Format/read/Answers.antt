@@ -1,5 +1,5 @@
 use Rattle.winnow_parser.specs.Answer.{ahead, failed}
-use Rattle.winnow_codec.specs.Rows.{SpellsRow3, SpellsPair, nested4}
+use Rattle.winnow_codec.specs.FormatRows.{SpellsRow3, SpellsPair, nested4}
 use Rattle.winnow_codec.proofs.lemmas.Reading.{both-given, both-unfinished, both-unbegun, parts-unread}
 use Rattle.winnow_codec.proofs.rows_to_six.Tuple4Format.read.Goals as goal
 

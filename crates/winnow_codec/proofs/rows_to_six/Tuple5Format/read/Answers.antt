@@ -1,5 +1,5 @@
 use Rattle.winnow_parser.specs.Answer.{ahead, failed}
-use Rattle.winnow_codec.specs.Rows.{SpellsRow4, SpellsPair, nested5}
+use Rattle.winnow_codec.specs.FormatRows.{SpellsRow4, SpellsPair, nested5}
 use Rattle.winnow_codec.proofs.lemmas.Reading.{both-given, both-unfinished, both-unbegun, parts-unread}
 use Rattle.winnow_codec.proofs.rows_to_six.Tuple5Format.read.Goals as goal
 

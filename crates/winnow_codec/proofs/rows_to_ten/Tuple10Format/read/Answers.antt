@@ -1,5 +1,5 @@
 use Rattle.winnow_parser.specs.Answer.{ahead, failed}
-use Rattle.winnow_codec.specs.Rows.{SpellsRow9, SpellsPair, nested10}
+use Rattle.winnow_codec.specs.FormatRows.{SpellsRow9, SpellsPair, nested10}
 use Rattle.winnow_codec.proofs.lemmas.Reading.{both-given, both-unfinished, both-unbegun, parts-unread}
 use Rattle.winnow_codec.proofs.rows_to_ten.Tuple10Format.read.Goals as goal
 

@@ -1,5 +1,5 @@
 use Rattle.winnow_parser.specs.Answer.{ahead, failed}
-use Rattle.winnow_codec.specs.Rows.{SpellsRow8, SpellsPair, nested9}
+use Rattle.winnow_codec.specs.FormatRows.{SpellsRow8, SpellsPair, nested9}
 use Rattle.winnow_codec.proofs.lemmas.Reading.{both-given, both-unfinished, both-unbegun, parts-unread}
 use Rattle.winnow_codec.proofs.rows_to_ten.Tuple9Format.read.Goals as goal
 

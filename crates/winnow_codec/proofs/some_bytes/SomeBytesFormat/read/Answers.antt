@@ -1,6 +1,6 @@
 use Rattle.std.proofs.Common.{arith}
 use Rattle.winnow_parser.specs.Answer.{ahead, failed}
-use Rattle.winnow_codec.specs.Whole.{SpellsSome}
+use Rattle.winnow_codec.specs.WholeFormats.{SpellsSome}
 use Rattle.winnow_codec.proofs.lemmas.Reading.{fewer-unread}
 use Rattle.winnow_codec.proofs.lemmas.Wholes.{some-given, none-given}
 use Rattle.winnow_codec.proofs.some_bytes.SomeBytesFormat.read.Goals as goal
