@@ -17,10 +17,14 @@ import sys
 TOP = os.path.dirname(os.path.dirname(os.path.realpath(__file__)))
 
 # The types whose values may say that memory was refused.
-REFUSING = ("AllocError", "RecordError", "ReadError", "ModalResult", "WholeResult", "Unwritten", "EventError")
+REFUSING = ("AllocError", "RecordError", "ReadError", "ModalResult", "WholeResult", "Unread", "Unwritten", "EventError")
 
 # The sources that make an `AllocError`: of more separators than a `usize` counts, and of the want of memory that `hex` and a record of an error tell of.
 MADE = {"winnow_combinator/src/parsers/separated.rt", "winnow_resume/src/following.rt", "winnow_script_text/src/literals.rt"}
+
+# The formats that are made of formats, and the functions that write several.
+OF_PARTS = r"\bFormat\s+for (\(|&|(After|AtMost|ByCode|EnumOf|OneValue|Struct|Tagged|Then|WithinCount)<)"
+ROWS = ["two", "three", "four", "five", "six", "seven", "eight", "nine", "ten", "first", "second", "third", "last_of_two", "last_of_three", "last_of_four"]
 
 # How an impl says that a method is never refused memory of its own.
 NEVER = {
@@ -49,8 +53,13 @@ NEVER = {
     # Operators are refused what their parsers are.
     "read_operator": r"\b(Unary|Infix)Operators<",
     "apply": r"\b(Unary|Infix)Operators<",
-    # It is refused what its record of text, or its part of a grammar, is.
-    "read": r"\b(Text)?Record for (Utf8Record|PlainRecord|PlainTextRecord)<",
+    # It is refused what its record of text, its part of a grammar, or its format is; a format of parts, what they are.
+    "read": rf"\b(Text)?Record for (Utf8Record|PlainRecord|PlainTextRecord|ReadOf)<|{OF_PARTS}",
+    "write": OF_PARTS,
+    # Cases, and rows of formats, are refused what they are of.
+    "read_after": r"\bCases<",
+    "write_after": r"\bCases<",
+    **{f"write_{name}": rf"^pub fn write_{name}<" for name in ROWS},
 }
 
 # How rows begin that are of the program of scripts, and of a reader of text.
