@@ -1,6 +1,9 @@
 pub mod PlaceLemmas
+pub mod SinceLemmas
 pub mod ReadingLemmas
 pub mod AskedLemmas
+pub mod NextLemmas
+pub mod LiteralLemmas
 pub mod AnswerLemmas
 pub mod WaitLemmas
 pub mod AlikeLemmas

@@ -2,6 +2,8 @@ pub mod Place
 pub mod Wanted
 pub mod State
 pub mod Reading
+pub mod Since
+pub mod Skips
 pub mod InTurn
 pub mod Answering
 pub mod Copied

@@ -192,8 +192,9 @@ impl<R: Record> ByteReader<R> {
 }
 
 impl<R> ByteReader<R> {
-    ghost use Rattle.std.specs.Prelude.{◌≡◌, ◌+◌, ◌≤◌};
+    ghost use Rattle.std.specs.Prelude.{◌≡◌, ◌+◌, ◌≤◌, length};
     ghost use Rattle.winnow_reader.specs.State.{bytes_kept, fed_of};
+    ghost use Rattle.winnow_reader.specs.Skips.{skipped};
 
     /// Returns how many bytes are kept: those ahead, and those that records took since the last
     /// piece.
@@ -231,6 +232,15 @@ impl<R> ByteReader<R> {
         ensures { result ≡ fed_of self.now }
     {
         self.base + self.kept.len()
+    }
+
+    // Drops the next n bytes, and wants nothing.
+    pub(crate) fn drop_ahead(&mut self, n: usize)
+        requires { n ≤ length self.old.ahead }
+        ensures { self.new ≡ skipped self.old n }
+    {
+        self.taken += n;
+        self.wanted = 0;
     }
 
     /// Returns the bytes that no record took yet.

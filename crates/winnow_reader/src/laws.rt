@@ -1,18 +1,24 @@
-//! Laws of readers: the same values for each cut, waiting, places, and damaged text.
+//! Laws of readers: the same values for each cut, waiting, places, damaged text, and skips.
 
-ghost use Rattle.std.specs.Prelude.{◌≡◌, ℕ, ◌+◌, ◌≤◌, List, [], ◌++◌, length, take, drop};
-ghost use Rattle.std.specs.Prelude.{true, false, Result, IsTrue, IsUtf8};
+ghost use Rattle.std.specs.Prelude.{◌≡◌, ℕ, ◌+◌, ◌≤◌, ◌↔◌, List, [], ◌++◌, length, take, drop};
+ghost use Rattle.std.specs.Prelude.{true, false, Result, Option, Some, option_map, IsTrue, IsUtf8};
 ghost use Rattle.std.specs.Borrow.{Bor};
 ghost use Rattle.winnow_stream.specs.Source.{units};
 ghost use Rattle.winnow_stream.specs.Front.{is_offset};
 ghost use Rattle.winnow_parser.specs.Determined.{IsDetermined, Shows};
-ghost use Rattle.winnow_reader.specs.State.{ReaderState, pushed, waiting_for};
+ghost use Rattle.winnow_reader.specs.State.{ReaderState, pushed, ended_after, waiting_for};
 ghost use Rattle.winnow_parser.specs.Outcome.{Ahead, Moves, after};
 ghost use Rattle.winnow_reader.specs.Place.{bytes_at, IsByteSlice};
 ghost use Rattle.winnow_reader.specs.Reading.{HasRead};
 ghost use Rattle.winnow_reader.specs.declared.next.Next.{Next};
 ghost use Rattle.winnow_reader.specs.declared.next.ReadError.{ReadError};
 ghost use Rattle.winnow_reader.specs.Answering.{WantsNeeded, StaysTillWanted, WaitsForNeeded};
+ghost use Rattle.winnow_reader.specs.Answering.{ReadsNext, WaitsByNeed};
+ghost use Rattle.winnow_reader.specs.Since.{HasReadSince, ReadsAlsoSince, ReadsThroughSince};
+ghost use Rattle.winnow_reader.specs.Since.{ReadsOnSince};
+ghost use Rattle.memchr.specs.Find.{FindsNeedle};
+ghost use Rattle.winnow_reader.specs.declared.skipping.Skipped.TheVariants.{NeedsMore};
+ghost use Rattle.winnow_reader.specs.Skips.{skipped, SkipsTo};
 ghost use Rattle.winnow_reader.specs.SameValues.{AreFronts, AreAlike, IsThrough};
 ghost use Rattle.winnow_reader.specs.InUtf8.{InUtf8, text_in, past_text, is_damaged};
 
@@ -75,4 +81,38 @@ pub fn damage_law()
 pub fn determined_text_law<R: TextRecord, V>()
     ensures { (view : R.Output → V) (r : R) → IsDetermined (Shows view) (R.means r)
         → IsDetermined (Shows view) (InUtf8 (R.means r)) }
+{}
+
+/// The law of readers that skip. What was read of the input is what was read since place 0; after
+/// bytes were skipped, nothing was read since there; and what was read since a place stays read
+/// when a piece comes, at the end, and when the next record is read, and a value is read after it.
+/// So no value that came before or after is lost or changed by what was skipped. It does nothing
+/// when called: its contract is the law.
+pub fn skip_law<R: Record>()
+    ensures whole { (f : ReaderState R) (input : List ℕ) (values : List R.Output)
+        → HasRead R.means f input values ↔ HasReadSince R.means 0 f input values }
+    ensures skipped { (f : ReaderState R) (n : ℕ)
+        → HasReadSince R.means (f.place + n) (skipped f n) (drop n f.ahead) [] }
+    ensures pushed { (place : ℕ) (f : ReaderState R) (piece : List ℕ) → f.ended ≡ false
+        → ReadsAlsoSince R.means place f piece (pushed f piece) }
+    ensures ended { (place : ℕ) (f : ReaderState R)
+        → ReadsThroughSince R.means place f (ended_after f) }
+    ensures next { (place : ℕ) (old new : ReaderState R)
+        (result : Result (Next R.Output) (ReadError R.Error))
+        → ReadsNext R.means (WaitsByNeed R.means) old result new
+        → StaysTillWanted old result new → ReadsOnSince R.means place old result new }
+{}
+
+/// The law of skipping to a literal over pieces. The first occurrence stays the first if more bytes
+/// follow; and if a reader needs more, the first occurrence in the bytes that it kept and those
+/// that follow is the first one in all of them. So each literal ends a skip where the joined input
+/// has it first, for each cut. It does nothing when called: its contract is the law.
+pub fn skip_to_law()
+    ensures stays { (ahead literal more : List ℕ) (first : ℕ)
+        → FindsNeedle ahead literal 0 (Some first)
+        → FindsNeedle (ahead ++ more) literal 0 (Some first) }
+    ensures later { (ahead literal more : List ℕ) (n : ℕ) (found : Option ℕ)
+        → SkipsTo literal false ahead (NeedsMore n)
+        → FindsNeedle (drop n ahead ++ more) literal 0 found
+        → FindsNeedle (ahead ++ more) literal 0 (option_map (λ first. n + first) found) }
 {}

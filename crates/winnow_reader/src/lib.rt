@@ -14,6 +14,12 @@
 //! [`TextReader`] reads it from bytes that are UTF-8, cut anywhere: a character that breaks off is
 //! waited for, and bytes that are no UTF-8 are a failure at their place.
 //!
+//! # Damage
+//!
+//! After a failure all bytes are still ahead, and the record fails there again. `skip` drops some of
+//! them, and `skip_to` all up to the end of a literal, as a line feed, over as many pieces as there
+//! are before it: then the reader reads on, and both return how many bytes were dropped.
+//!
 //! # Work
 //!
 //! A record is asked of all that is ahead, from its beginning, and asked again only when as many
@@ -38,14 +44,17 @@ mod byte_reader;
 mod laws;
 mod next;
 mod record;
+mod skipping;
 mod text_record;
 mod utf8_record;
 
 pub use byte_reader::ByteReader;
 pub use laws::{
-    bytes_at_law, damage_law, determined_reading_law, determined_text_law, waiting_law,
+    bytes_at_law, damage_law, determined_reading_law, determined_text_law, skip_law, skip_to_law,
+    waiting_law,
 };
 pub use next::{Next, ReadError};
 pub use record::{Record, RecordInput};
+pub use skipping::Skipped;
 pub use text_record::{TextRecord, TextRecordInput};
 pub use utf8_record::{TextError, TextReader, Utf8Record};

@@ -24,7 +24,8 @@ size_of-positive (Size n) = n.ok
 
 module _ {R O : Type 0} (means : R → Meaning O ℕ) (f : ReaderState R) where
   -- a need that the parser answered for all that is ahead was asked for
-  asks-now : (need : Needed) → means f.parser true (bytes_at f.place f.ahead) (Fails (Needs need))
+  pub asks-now : (need : Needed)
+      → means f.parser true (bytes_at f.place f.ahead) (Fails (Needs need))
       → Asks (means f.parser) f.place f.ahead [] (size_of need)
   asks-now need h = record { front = f.ahead; need = need; whole = sym (append-nil f.ahead); needs = h; size = refl }
 
