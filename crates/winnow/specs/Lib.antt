@@ -52,6 +52,8 @@ pub use Rattle.winnow_reader.specs.Place
 pub use Rattle.winnow_reader.specs.Wanted
 pub use Rattle.winnow_reader.specs.State
 pub use Rattle.winnow_reader.specs.Reading
+pub use Rattle.winnow_reader.specs.Since
+pub use Rattle.winnow_reader.specs.Skips
 pub use Rattle.winnow_reader.specs.InTurn
 pub use Rattle.winnow_reader.specs.Answering
 pub use Rattle.winnow_reader.specs.Copied
