@@ -1,0 +1,5 @@
+pub mod Within
+pub mod WithinLaws
+pub mod Bound
+pub mod Limit
+pub mod Why
