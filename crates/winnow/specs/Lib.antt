@@ -114,3 +114,8 @@ pub use Rattle.winnow_codec.specs.RoundTrips
 pub use Rattle.winnow_codec.specs.Signed
 pub use Rattle.winnow_codec.specs.WholeFormats
 pub use Rattle.winnow_codec.specs.Writing
+pub use Rattle.winnow_limit.specs.Bound
+pub use Rattle.winnow_limit.specs.Limit
+pub use Rattle.winnow_limit.specs.Why
+pub use Rattle.winnow_limit.specs.Within
+pub use Rattle.winnow_limit.specs.WithinLaws

@@ -6,8 +6,8 @@
 //! ASCII text in [`ascii`], of numbers and counted parts in [`binary`], parsers that are made of
 //! parsers in [`combinator`], grammars of one's own in [`grammar`] and, with what spells their
 //! values, in [`spelling`], ranges of lexed tokens in [`spans`], formats that are read and written by
-//! one description in [`codec`], readers over pieces in [`reader`] and [`scan`], errors in
-//! [`error`], and [`stream`] as `winnow_base` has it.
+//! one description in [`codec`], readers over pieces in [`reader`] and [`scan`], with a limit in
+//! [`limit`], errors in [`error`], and [`stream`] as `winnow_base` has it.
 //!
 //! Laws stand in modules of their own: [`laws`], [`token::laws`], and so on. Everything here comes
 //! from a crate of its own, with its proofs. `specs/` passes on the definitions that contracts of
@@ -28,6 +28,7 @@ pub use winnow_base::stream::{BStr, Bytes, LocatingSlice, Partial, Stateful};
 pub use winnow_codec as codec;
 pub use winnow_exact as exact;
 pub use winnow_grammar as grammar;
+pub use winnow_limit as limit;
 pub use winnow_live as live;
 pub use winnow_parser::{
     AndThen, ByBorrow, ByRule, ByValue, Context, ContextWith, DefaultValue, ErrInto, Failure,
