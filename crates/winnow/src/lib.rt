@@ -5,8 +5,8 @@
 //! the top, the names that most grammars need in [`prelude`], parsers of tokens in [`token`], of
 //! ASCII text in [`ascii`], of numbers and counted parts in [`binary`], parsers that are made of
 //! parsers in [`combinator`], grammars of one's own in [`grammar`] and, with what spells their
-//! values, in [`spelling`], ranges of lexed tokens in [`spans`], formats that are read and written by
-//! one description in [`codec`], readers over pieces in [`reader`] and [`scan`], with a limit in
+//! values, in [`spelling`], ranges of lexed tokens in [`spans`], formats that are read and written
+//! by one description in [`codec`], readers over pieces in [`reader`] and [`scan`], with a limit in
 //! [`limit`], errors in [`error`], and [`stream`] as `winnow_base` has it.
 //!
 //! Laws stand in modules of their own: [`laws`], [`token::laws`], and so on. Everything here comes
