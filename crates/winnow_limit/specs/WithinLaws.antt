@@ -126,7 +126,8 @@ module _ {O : Type 0} (greatest : ℕ) (inner : Meaning O ℕ) (p : IsParser inn
       p.final (first_ahead greatest a) h.1.0 (subst (λ q. inner q (first_ahead greatest a) (Fails (Needs h.1.0))) told h.1.1.0)
 
   -- what moves on over the first tokens moves on over all
-  moves-left : (a c : Ahead ℕ) → Moves (first_ahead greatest a) c → Moves a (left_ahead greatest a c)
+  moves-left : (a c : Ahead ℕ) → Moves (first_ahead greatest a) c
+      → Moves a (left_ahead greatest a c)
   moves-left a c m = record {
     taken = m.taken;
     whole = sym (take-append-drop greatest a.tokens) ∙ ap (λ l. l ++ drop greatest a.tokens) m.whole

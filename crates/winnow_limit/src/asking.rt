@@ -77,7 +77,8 @@ pub(crate) fn ask_first<R: Record>(
     ensures answer { Within greatest (R.means inner.now) partial (bytes_at place bytes.now)
         (outcome result.0 (past (bytes_at place bytes.now) result.1)) }
     ensures within { result.1 ≤ length bytes.now }
-    ensures why { TellsWhy greatest (R.means inner.now) partial (bytes_at place bytes.now) result.0 }
+    ensures why { TellsWhy greatest (R.means inner.now) partial (bytes_at place bytes.now)
+        result.0 }
 {
     let over = is_over(greatest, bytes.len());
     let first = first_of(bytes, greatest);

@@ -16,9 +16,9 @@
 //!
 //! # Damage
 //!
-//! After a failure all bytes are still ahead, and the record fails there again. `skip` drops some of
-//! them, and `skip_to` all up to the end of a literal, as a line feed, over as many pieces as there
-//! are before it: then the reader reads on, and both return how many bytes were dropped.
+//! After a failure all bytes are still ahead, and the record fails there again. `skip` drops some
+//! of them, and `skip_to` all up to the end of a literal, as a line feed, over as many pieces as
+//! there are before it: then the reader reads on, and both return how many bytes were dropped.
 //!
 //! # Work
 //!
