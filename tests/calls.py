@@ -53,8 +53,8 @@ NEVER = {
     # Operators are refused what their parsers are.
     "read_operator": r"\b(Unary|Infix)Operators<",
     "apply": r"\b(Unary|Infix)Operators<",
-    # It is refused what its record of text, its part of a grammar, or its format is; a format of parts, what they are.
-    "read": rf"\b(Text)?Record for (Utf8Record|PlainRecord|PlainTextRecord|ReadOf)<|{OF_PARTS}",
+    # It is refused what its record of text, the record that it limits, its part of a grammar, or its format is; a format of parts, what they are.
+    "read": rf"\b(Text)?Record for (Utf8Record|PlainRecord|PlainTextRecord|ReadOf|Limited)<|{OF_PARTS}",
     "write": OF_PARTS,
     # Cases, and rows of formats, are refused what they are of.
     "read_after": r"\bCases<",
