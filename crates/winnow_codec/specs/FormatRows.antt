@@ -3,7 +3,7 @@ use Rattle.std.specs.Prelude.{◌≡◌, ℕ, List, ◌++◌}
 use Rattle.std.proofs.Common.{ap, sym, ◌∙◌, subst, append_assoc}
 use Rattle.std.proofs.lemmas.List.{append_cancel_left}
 use Rattle.winnow_codec.specs.Formats.{Spelling, IsFormat}
-use Rattle.winnow_codec.specs.Parts.{SpellsParts, HaveSameParts, IsFormat-Parts}
+use Rattle.winnow_codec.specs.FormatParts.{SpellsParts, HaveSameParts, IsFormat-Parts}
 
 -- the spelling of the first value, and then that of the second, whose format the first may choose
 abbrev pub SpellsBoth : {V W : Type 0} → Spelling V → (V → Spelling W) → Spelling (V × W)

@@ -4,8 +4,8 @@ use Rattle.std.specs.Prelude.{Vec, ◌≡◌, ◌≢◌, ℕ, List, [], ◌∷�
 use Rattle.std.proofs.Common.{ap, sym, ◌∙◌, subst, refl}
 use Rattle.std.proofs.lemmas.List.{append_cancel_left}
 use Rattle.winnow_codec.specs.Formats.{Spelling, IsFormat, IsEqual, IsFormat-Exact}
-use Rattle.winnow_codec.specs.Rows.{SpellsBoth, IsFormat-Both}
-use Rattle.winnow_codec.specs.Parts.{SpellsParts}
+use Rattle.winnow_codec.specs.FormatRows.{SpellsBoth, IsFormat-Both}
+use Rattle.winnow_codec.specs.FormatParts.{SpellsParts}
 use Rattle.winnow_codec.specs.Lists.{SpellsEach, AreSameEach, HaveSameItems, each-canonical}
 use Rattle.winnow_codec.specs.Bytes.{same-front}
 use Rattle.winnow_codec.specs.declared.unread.Unread.{Unread}
