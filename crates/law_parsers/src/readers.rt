@@ -4,9 +4,11 @@
 use crate::lines::{Nothing, NumberLine, number_line, word_line};
 use crate::text_lines::{TextLine, text_line};
 use std::alloc::Global;
+use std::test::Fail;
+use winnow_limit::{Limited, LimitedError, determined_limit_law, limit_law, limited, with_limit};
 use winnow_reader::{
-    ByteReader, Next, ReadError, Record, Utf8Record, bytes_at_law, damage_law,
-    determined_reading_law, determined_text_law, waiting_law,
+    ByteReader, Next, ReadError, Record, Skipped, Utf8Record, bytes_at_law, damage_law,
+    determined_reading_law, determined_text_law, skip_law, skip_to_law, waiting_law,
 };
 use winnow_scan::scan_law;
 
@@ -30,12 +32,49 @@ fn read_first<R: Record + Drop>(
     reader.read_next()
 }
 
+// Goes past the rest of a line, and returns how many bytes it had, once its end has come.
+fn skip_line<R: Record>(reader: &mut ByteReader<R>) -> Option<usize> {
+    match reader.skip_to(b"\n") {
+        Skipped::Found(bytes) => Some(bytes),
+        Skipped::NeedsMore(_) | Skipped::Done(_) => None,
+    }
+}
+
+// A reader of numbers on lines of at most three bytes.
+fn short_numbers(alloc: Global) -> ByteReader<Limited<NumberLine>> {
+    with_limit(alloc, number_line(), 3)
+}
+
+#[test]
+fn long_records_are_passed_over(rt: HostRuntime) -> Result<(), Fail> {
+    let mut reader = short_numbers(rt.alloc());
+    if !reader.has_ended() && 8 <= usize::MAX - reader.fed() {
+        reader.push(b"123\n12\nx")?;
+    }
+    let long = reader.read_next();
+    assert!(rt;
+        matches!(
+            long,
+            Err(ReadError::Failed {
+                error: LimitedError::TooLong,
+                ..
+            })
+        )
+    );
+    assert_eq!(rt; skip_line(&mut reader), Some(4));
+    assert!(rt; matches!(reader.read_next(), Ok(Next::Value(12))));
+    assert_eq!(rt; reader.skip(2), 1);
+    Ok(())
+}
+
 #[test]
 fn records_are_read(rt: HostRuntime) {
     let number = read_first(rt.alloc(), number_line(), b"12\n7\n");
     assert!(rt; matches!(number, Ok(Next::Value(12))));
     let word = read_first(rt.alloc(), word_line(), b"ab\nc");
     assert!(rt; matches!(word, Ok(Next::Value(_))));
+    let short = read_first(rt.alloc(), limited(number_line(), 3), b"12\n7\n");
+    assert!(rt; matches!(short, Ok(Next::Value(12))));
     let nothing = read_first(rt.alloc(), Nothing, b"ab");
     assert!(rt; matches!(nothing, Err(ReadError::TakesNothing { place: 0 })));
     let text = read_first(rt.alloc(), Utf8Record::new(text_line()), b"a\xE2\x82\xAC\n");
@@ -51,4 +90,8 @@ fn laws_of_readings_are_called(_rt: HostRuntime) {
     damage_law();
     scan_law::<NumberLine>();
     determined_text_law::<TextLine, u32>();
+    skip_law::<NumberLine>();
+    skip_to_law();
+    limit_law::<NumberLine>();
+    determined_limit_law::<NumberLine, u32>();
 }
