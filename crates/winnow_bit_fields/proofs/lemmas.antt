@@ -1,0 +1,4 @@
+pub mod FieldLemmas
+pub mod JoinedLemmas
+pub mod ByteLemmas
+pub mod DeterminedLemmas
