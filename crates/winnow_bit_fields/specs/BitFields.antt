@@ -8,8 +8,8 @@ use Rattle.winnow_binary.specs.declared.endianness.Endianness.{Endianness}
 use Rattle.winnow_binary.specs.Numerals.{FixedNumeral, IsParser-FixedNumeral}
 use Rattle.winnow_bit_fields.specs.Fields.{fields_in, FillBytes}
 
--- the fields of the number that the next bytes write, as many bytes as the fields fill; if they fill
--- no whole bytes, the parser cuts at once
+-- the fields of the number that the next bytes write, as many bytes as the fields fill; if they
+-- fill no whole bytes, the parser cuts at once
 abbrev pub IsBitFields : Bool → Endianness → List ℕ → Meaning (List ℕ) ℕ
 IsBitFields counts_shortage order widths partial a v = (FillBytes widths
     × FixedNumeral counts_shortage (sum widths / 8) (fields_in order widths) order partial a v)

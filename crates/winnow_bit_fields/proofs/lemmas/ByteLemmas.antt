@@ -142,7 +142,7 @@ most_first-below [] h = omega arith
 most_first-below (x ∷ xs) h =
     omega (arith, most_first-below xs (tail-bytes x xs h), pow-suc 256 (length xs), byte-times (256 ^ length xs) x (head-byte x xs h))
 
--- likewise, if the least significant comes first
+-- bytes write a number below the power of 256 of their count, if the least significant comes first
 least_first-below : (xs : List ℕ) → AreBytes xs → least_first xs < 256 ^ length xs
 least_first-below [] h = omega arith
 least_first-below (x ∷ xs) h =
@@ -165,7 +165,7 @@ most_first-tells (x ∷ xs) (y ∷ ys) l h k e =
     let rest : most_first xs ≡ most_first ys = omega (arith, whole, scaled) in
     ap (λ v. v ∷ xs) first ∙ ap (λ l. y ∷ l) (most_first-tells xs ys lengths (tail-bytes x xs h) (tail-bytes y ys k) rest)
 
--- likewise, if the least significant comes first
+-- as many bytes that write one number are the same, if the least significant comes first
 least_first-tells : (xs ys : List ℕ) → length xs ≡ length ys → AreBytes xs → AreBytes ys
     → least_first xs ≡ least_first ys → xs ≡ ys
 least_first-tells [] [] l h k e = refl

@@ -19,7 +19,7 @@ length-down : (ws : List ℕ) (n : ℕ) → length (fields_down ws n) ≡ length
 length-down [] n = refl
 length-down (w ∷ ws) n = ap suc (length-down ws n)
 
--- likewise, the first one lowest
+-- there are as many fields as widths, the first one lowest
 length-up : (low : ℕ) (ws : List ℕ) (n : ℕ) → length (fields_up low ws n) ≡ length ws
 length-up low [] n = refl
 length-up low (w ∷ ws) n = ap suc (length-up (low + w) ws n)
@@ -35,7 +35,7 @@ below-down [] n k h = absurd (omega arith)
 below-down (w ∷ ws) n zero h = bits-below n (sum ws) w
 below-down (w ∷ ws) n (suc k) h = below-down ws n k (omega arith)
 
--- likewise, the first one lowest
+-- each field is below the power of its width, the first one lowest
 below-up : (low : ℕ) (ws : List ℕ) (n k : ℕ) → k < length ws
     → get_or (fields_up low ws n) k 0 < 2 ^ get_or ws k 0
 below-up low [] n k h = absurd (omega arith)
@@ -50,7 +50,7 @@ joined-down (w ∷ ws) n =
     ∙ sym (mod-pow-add n w (sum ws))
     ∙ ap (λ k. n % 2 ^ k) (sym (sum-cons w ws))
 
--- likewise to the bits from bit `low` up, the first one lowest
+-- the fields of a number are joined to its bits from bit `low` up, the first one lowest
 joined-up : (low : ℕ) (ws : List ℕ) (n : ℕ)
     → joined_up ws (fields_up low ws n) ≡ n / 2 ^ low % 2 ^ sum ws
 joined-up low [] n = omega arith

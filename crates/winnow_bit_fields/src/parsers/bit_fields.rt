@@ -26,8 +26,8 @@ pub struct BitFields<const N: usize> {
 /// DEFLATE.
 ///
 /// The widths are at least 1, and their sum is a multiple of 8 and at most 64; otherwise the parser
-/// cuts at once. If fewer bytes remain, it needs the missing ones if more may follow, and backtracks
-/// if nothing may. More than 64 bits are read by one parser after another.
+/// cuts at once. If fewer bytes remain, it needs the missing ones if more may follow, and
+/// backtracks if nothing may. More than 64 bits are read by one parser after another.
 ///
 /// The first four bytes of a header of IPv4: the version, the header's length in units of four
 /// bytes, two fields of the service, and the length of the whole.
