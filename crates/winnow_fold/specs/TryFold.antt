@@ -29,8 +29,8 @@ RefusesNext {O} {A} {C} {T} step inner partial whole b cause =
     (x : O) × ((c : Ahead T) × (Taking inner partial b (Gives x c) × step whole x (Err cause)))
 
 -- the result that a step makes of the values of the parser, as many as it gives and at most
--- `greatest`, if there are at least `least`. If the step refuses one, the parser backtracks to where
--- that value began. Memory may be refused while the error of a missing value is appended to
+-- `greatest`, if there are at least `least`. If the step refuses one, the parser backtracks to
+-- where that value began. Memory may be refused while the error of a missing value is appended to
 abbrev pub TriesFold : {O A C T : Type 0} → ℕ → Option ℕ → Type 0 → (A → Type 0)
     → (A → O → Result A C → Type 0) → Meaning O T → Meaning A T
 TriesFold {O} least greatest refusable starts step inner partial a (Gives y b) =

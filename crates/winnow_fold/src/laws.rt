@@ -1,5 +1,5 @@
-//! The laws that folds of deterministic parsers are deterministic: with a function that may refuse a
-//! value (`determined_try_fold_law`), and from the right (`determined_foldr1_law`).
+//! The laws that folds of deterministic parsers are deterministic: with a function that may refuse
+//! a value (`determined_try_fold_law`), and from the right (`determined_foldr1_law`).
 
 ghost use Rattle.std.specs.Prelude.{ℕ, Option};
 ghost use Rattle.winnow_parser.specs.Determined.{IsDetermined, Shows, AreSameIfAny};
@@ -16,9 +16,9 @@ use winnow_error::ParserError;
 use winnow_parser::Parser;
 use winnow_stream::StreamIsPartial;
 
-/// The laws of folds whose function may refuse a value: if all starts are the same, and the function
-/// makes the same of results so far and values that are the same, the fold of a deterministic parser
-/// is deterministic. It does nothing when called: its contract is the law.
+/// The laws of folds whose function may refuse a value: if all starts are the same, and the
+/// function makes the same of results so far and values that are the same, the fold of a
+/// deterministic parser is deterministic. It does nothing when called: its contract is the law.
 pub fn determined_try_fold_law<
     I: StreamIsPartial,
     E: ParserError<I>,
@@ -45,9 +45,9 @@ pub fn determined_try_fold_law<
         E.append_refusable (N.post init) (G.post op) (A.means a.parser))) }
 {}
 
-/// The law of folds from the right: if the function makes the same of values and separators that are
-/// the same, the fold of deterministic parsers is deterministic. It does nothing when called: its
-/// contract is the law.
+/// The law of folds from the right: if the function makes the same of values and separators that
+/// are the same, the fold of deterministic parsers is deterministic. It does nothing when called:
+/// its contract is the law.
 pub fn determined_foldr1_law<
     I: StreamIsPartial,
     E: ParserError<I>,

@@ -33,8 +33,8 @@ pub struct BitFields<const N: usize> {
 /// bytes, two fields of the service, and the length of the whole.
 ///
 /// ```
-/// let [version, length, service, congestion, total] =
-///     bit_fields(Endianness::Big, [4, 4, 6, 2, 16]).parse_next(alloc, input)?;
+/// let fields = be_bit_fields([4, 4, 6, 2, 16]).verify_map(|fields: [u64; 5]| {
+///     let [version, words, service, congestion, total] = fields;
 /// ```
 pub fn bit_fields<const N: usize>(order: Endianness, widths: [u32; N]) -> BitFields<N>
     ensures { result ≡ record { order = order; widths = widths.entry } }

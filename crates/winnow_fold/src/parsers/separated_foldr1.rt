@@ -31,8 +31,8 @@ pub struct SeparatedFoldr1<P, S, F> {
 /// value together consume nothing, since it would never end.
 ///
 /// ```
-/// let number = dec_uint::<_, u32, _>();
-/// let power = separated_foldr1(number, '^', |base: u32, _, power| base.saturating_pow(power));
+/// let digit = one_of('0'..='9').map(value);
+/// let power = separated_foldr1(digit, '^', |base: u32, _: char, power: u32| base.pow(power));
 /// ```
 pub fn separated_foldr1<P, S, F>(parser: P, separator: S, op: F) -> SeparatedFoldr1<P, S, F>
     ensures { result ≡ record { inner = parser; separator = separator; op = op } }

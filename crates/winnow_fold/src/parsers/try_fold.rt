@@ -40,8 +40,9 @@ pub struct TryFold<P, N, F> {
 /// if the greatest count is below the least.
 ///
 /// ```
-/// let part = take_while(1..=3, '0'..='9').parse_to::<u8, _>();
-/// let sum = try_fold(1.., part, || 0u8, |sum, part| sum.checked_add(part).ok_or("too much"));
+/// let widths = try_fold(0.., "abc", || 0u8, |all: u8, item: &str| {
+///     all.checked_add(item.len() as u8).ok_or("too wide")
+/// });
 /// ```
 pub fn try_fold<P, N, F, C: Into<Range>>(counts: C, parser: P, init: N, op: F) -> TryFold<P, N, F>
     ensures counts { C.converts counts result.counts }

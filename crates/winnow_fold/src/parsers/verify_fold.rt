@@ -33,15 +33,18 @@ pub struct VerifyFold<P, N, F> {
 /// the start that `init` returns. With fewer values than the least count, the parser backtracks,
 /// and `append` records that in the inner one's error.
 ///
-/// If `op` returns `None`, the parser backtracks to the place where that value began, with the error
-/// of [`from_input`](winnow_error::ParserError::from_input). No later value is read.
+/// If `op` returns `None`, the parser backtracks to the place where that value began, with the
+/// error of [`from_input`](winnow_error::ParserError::from_input). No later value is read.
 ///
 /// It cuts if the inner parser returns a value and consumes nothing, since it would never end, and
 /// if the greatest count is below the least.
 ///
 /// ```
-/// let digit = one_of('0'..='9').map(|digit: char| digit as u8 - b'0');
-/// let small = verify_fold(1.., digit, || 0u8, |sum, digit| sum.checked_add(digit));
+/// fn add(sum: u8, digit: char) -> Option<u8> {
+///     let sum = sum + (digit as u8 - b'0');
+///     if sum < 10 { Some(sum) } else { None }
+/// ..
+/// let sum = verify_fold(*least.., one_of('0'..='9'), || 0, add);
 /// ```
 pub fn verify_fold<P, N, F, C: Into<Range>>(
     counts: C,
