@@ -179,7 +179,8 @@ module _ {O A C T : Type 0} (same : A → A → Type 0) (alike : O → O → Typ
       runs-meet same alike least greatest step respects inner (determined-taking alike inner d) partial x.0 y.0 0 x.1.0 y.1.0 a v w s t (start x.1.0 y.1.0 x.1.1.0 y.1.1.0) x.1.1.1 y.1.1.1
 
   -- the same where some number of values must be allowed
-  pub determined-try_fold : IsDetermined same (Ascending least greatest (TriesFold least greatest refusable starts step inner))
+  pub determined-try_fold : IsDetermined same
+      (Ascending least greatest (TriesFold least greatest refusable starts step inner))
   determined-try_fold = determined-ascending same (TriesFold least greatest refusable starts step inner) determined-tries_fold least greatest
 
 -- a step that may make nothing gives the same as one that may refuse

@@ -6,5 +6,6 @@ abbrev pub invariant-loop-i : goal.invariant-loop-i
 invariant-loop-i g l = record {
   count : length l.fields ≡ g.row.N;
   low : l.low ≡ sum (take l.i l.widths);
-  filled : take l.i l.fields ++ fields_up l.low (drop l.i l.widths) l.number ≡ fields_up 0 l.widths l.number;
+  filled : take l.i l.fields ++ fields_up l.low (drop l.i l.widths) l.number
+      ≡ fields_up 0 l.widths l.number;
 }
