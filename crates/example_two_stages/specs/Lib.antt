@@ -1,4 +1,0 @@
-pub mod Formulas
-pub mod Grammar
-pub mod Signs
-pub mod Trees

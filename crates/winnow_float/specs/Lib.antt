@@ -1,5 +1,0 @@
-pub mod Marks
-pub mod IfNext
-pub mod Word
-pub mod FloatText
-pub mod Float

@@ -1,3 +1,0 @@
-//! The parser, in a file that is named for its function.
-
-pub(crate) mod float;
