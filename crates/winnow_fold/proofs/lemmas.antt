@@ -1,0 +1,3 @@
+pub mod AgreeingFoldLemmas
+pub mod RightLemmas
+pub mod AgreeingRightLemmas
