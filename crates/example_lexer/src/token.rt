@@ -2,6 +2,7 @@
 
 use std::fmt;
 use std::ops::Range;
+use winnow_stream::Location;
 
 /// The kind of a token.
 #[derive(Clone, Copy, Debug, PartialEq, Eq)]
@@ -31,4 +32,19 @@ pub struct Token {
     pub kind: Kind,
     /// From its first byte up to the one after its last
     pub span: Range<usize>,
+}
+
+/// A token stands in the input of the lexer, also in a stream of tokens.
+impl Location for Token {
+    ghost token_end = { λ token. token.span.end };
+
+    ghost token_start = { λ token. token.span.start };
+
+    fn previous_token_end(&self) -> usize {
+        self.span.end
+    }
+
+    fn current_token_start(&self) -> usize {
+        self.span.start
+    }
 }

@@ -1,5 +1,6 @@
 //! The record of a line.
 
+ghost use Rattle.winnow.specs.Errors.{AnyError};
 ghost use Rattle.winnow.specs.Answer.{outcome};
 ghost use Rattle.winnow_base.specs.Flag.{flag};
 ghost use Rattle.winnow.specs.Place.{stands};
@@ -33,6 +34,8 @@ impl Record for Line {
     type Error = EmptyError;
 
     ghost means = { λ _. OneLine };
+
+    ghost errors = { λ _. AnyError };
 
     ghost ready = { λ _. Unit {0} };
 

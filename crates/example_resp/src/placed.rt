@@ -1,5 +1,6 @@
 //! The record that is read.
 
+ghost use Rattle.winnow.specs.Errors.{AnyError};
 ghost use Rattle.winnow.specs.Place.{IsByteSlice, SlicesStay-bytes};
 ghost use Rattle.winnow.specs.Scanning.{GoesOn};
 ghost use Rattle.format_resp.specs.Meanings.{IsParser-Nested};
@@ -36,6 +37,8 @@ impl Record for PlacedReply {
 
     ghost means = { λ r.
         Placing (⟦<ReplyTo as Parser<RecordInput<'static>, EmptyError>>⟧.means r.limits) };
+
+    ghost errors = { λ _. AnyError };
 
     ghost ready = { λ _. Unit {0} };
 

@@ -1,5 +1,6 @@
 //! `Row` as a record of a reader.
 
+ghost use Rattle.winnow.specs.Errors.{AnyError};
 ghost use Rattle.winnow.specs.Place.{IsByteSlice, SlicesStay-bytes};
 ghost use Rattle.format_csv.specs.Meanings.{IsParser-OneRow};
 ghost use Rattle.format_csv.specs.Reading.{RowInPieces};
@@ -17,6 +18,8 @@ impl Record for Row {
     type Error = EmptyError;
 
     ghost means = { λ _. RowInPieces };
+
+    ghost errors = { λ _. AnyError };
 
     ghost ready = { λ _. Unit {0} };
 

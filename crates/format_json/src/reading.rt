@@ -1,5 +1,6 @@
 //! `JsonToken`: the record of a token, for a reader.
 
+ghost use Rattle.winnow.specs.Errors.{AnyError};
 ghost use Rattle.format_json.specs.TokenAnswers.{OneToken};
 ghost use Rattle.format_json.specs.TokenLaws.{IsParser-OneToken};
 
@@ -27,6 +28,8 @@ impl Record for JsonToken {
     type Error = EmptyError;
 
     ghost means = { λ _. OneToken };
+
+    ghost errors = { λ _. AnyError };
 
     ghost ready = { λ _. Unit {0} };
 

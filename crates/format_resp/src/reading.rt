@@ -1,5 +1,6 @@
 //! Replies from bytes that come in pieces.
 
+ghost use Rattle.winnow.specs.Errors.{AnyError};
 ghost use Rattle.winnow.specs.Place.{IsByteSlice, SlicesStay-bytes};
 ghost use Rattle.format_resp.specs.Meanings.{IsParser-Nested};
 
@@ -17,6 +18,8 @@ impl Record for ReplyTo {
     type Error = EmptyError;
 
     ghost means = { λ r. ⟦<ReplyTo as Parser<RecordInput<'static>, EmptyError>>⟧.means r };
+
+    ghost errors = { λ _. AnyError };
 
     ghost ready = { λ _. Unit {0} };
 

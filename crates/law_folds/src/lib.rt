@@ -3,10 +3,8 @@
 #![tactic(auto)]
 
 use std::alloc::Global;
+use winnow_combinator::{determined_foldr1_law, determined_try_fold_law, repeat, separated_foldr1};
 use winnow_error::{EmptyError, FromExternalError, ParserError};
-use winnow_fold::{
-    determined_foldr1_law, determined_try_fold_law, separated_foldr1, try_fold, verify_fold,
-};
 use winnow_parser::{ModalResult, Parser};
 use winnow_sets::AsChar;
 use winnow_stream::StreamIsPartial;
@@ -46,12 +44,7 @@ where
     requires { I.valid input.old }
 {
     let digit = one_of('0'..='9');
-    let count = verify_fold(
-        1..,
-        digit,
-        || 0,
-        |count: u8, _: I::Token| count.checked_add(1),
-    );
+    let count = repeat(1.., digit).verify_fold(|| 0, |count: u8, _: I::Token| count.checked_add(1));
     count.parse_next(alloc, input)
 }
 
@@ -65,9 +58,7 @@ where
     requires { I.valid input.old }
 {
     let digit = one_of('0'..='9');
-    let count = try_fold(
-        1..,
-        digit,
+    let count = repeat(1.., digit).try_fold(
         || 0,
         |count: u8, _: I::Token| { count.checked_add(1).ok_or("more than 255 digits") },
     );

@@ -9,8 +9,9 @@ use std::alloc::Global;
 use winnow_combinator::{alt, backtrack_err, cut_err};
 use winnow_error::{AddContext, EmptyError, ParserError};
 use winnow_parser::{Failure, ModalResult, Parser};
+use winnow_permutation::permutation;
 use winnow_stream::StreamIsPartial;
-use winnow_token::any;
+use winnow_token::{any, one_of};
 use winnow_wrap::Partial;
 
 /// Reads a token, or fails with an error that has the label.
@@ -53,6 +54,28 @@ pub fn token_tried_twice<I: StreamIsPartial, E: ParserError<I>>(
         (ahead I.location I.remaining input.old) input.new) }
 {
     alt((backtrack_err(any()), backtrack_err(any()))).parse_next(alloc, input)
+}
+
+/// Reads the first of these words that the text begins with.
+pub fn one_word<'a>(
+    alloc: Global,
+    input: &mut &'a str,
+    words: &[&'static str],
+) -> ModalResult<&'a str, EmptyError> {
+    alt(words).parse_next(alloc, input)
+}
+
+/// Reads a sign that begins a piece of text.
+pub fn one_sign<'a>(alloc: Global, input: &mut Partial<&'a str>) -> ModalResult<char, EmptyError> {
+    alt(['+', '-', '~']).parse_next(alloc, input)
+}
+
+/// Reads a sign and a digit of a text, in either order.
+pub fn sign_and_digit<'a>(
+    alloc: Global,
+    input: &mut &'a str,
+) -> ModalResult<(char, char), EmptyError> {
+    permutation((one_of(('+', '-')), one_of('0'..='9'))).parse_next(alloc, input)
 }
 
 /// Reads two tokens, or fails with the error of the one that fails.

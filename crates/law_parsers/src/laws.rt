@@ -4,10 +4,12 @@
 use crate::value_tests::value_test_law;
 use winnow_ascii::{Fragment, ascii_law, determined_escaped_law, determined_number_law};
 use winnow_binary::{Numeral, determined_length_law, determined_slice_read_law, fixed_number_law};
+use winnow_bit_fields::{bit_fields_law, determined_bit_fields_law};
 use winnow_combinator::{
     Accumulated, Gather, alternative_errors_law, alternatives_law, determined_choice_law,
-    determined_choosing_law, determined_end_law, determined_gathered_law, determined_repeat_law,
-    determined_row_law, determined_sequence_law, determined_till_law, determined_value_law,
+    determined_choosing_law, determined_end_law, determined_gathered_law, determined_list_law,
+    determined_repeat_law, determined_row_law, determined_sequence_law, determined_till_law,
+    determined_value_law,
 };
 use winnow_count::Accumulate;
 use winnow_error::{AddContext, AssociativeOr, EmptyError, ParserError};
@@ -15,6 +17,7 @@ use winnow_parser::{
     ByValue, Parser, ValueTest, determined_function_law, determined_law, determined_pair_law,
     determined_reading_law, determined_slice_law, parser_law, taken_width_law,
 };
+use winnow_permutation::determined_permutation_law;
 use winnow_stream::{Stream, StreamIsPartial};
 use winnow_token::{Any, Take, any, count_law, determined_token_law, hits_stay_law, prompt_law};
 use winnow_wrap::Partial;
@@ -47,6 +50,10 @@ fn call_laws<
     determined_function_law::<I, E, P, P::Output, F, T, By, usize, usize>();
     determined_repeat_law::<I, E, P, P, G, usize, usize, usize>();
     determined_choice_law::<I, E, P, P, P, P, P, P, P, P, P, P, usize>();
+    determined_list_law::<I, E, P, usize>();
+    determined_permutation_law::<I, E, P, P, P, usize, usize, usize>();
+    determined_bit_fields_law();
+    bit_fields_law();
     determined_end_law::<I, u8, usize>();
 }
 

@@ -1,5 +1,6 @@
 //! Records: a decimal number or a word on a line of its own, and one that takes nothing.
 
+ghost use Rattle.winnow_parser.specs.Errors.{AnyError};
 ghost use Rattle.winnow_parser.specs.Meanings.{Returns};
 ghost use Rattle.winnow_parser.specs.Parts.{IsParser-Returns, IsParser-IsTerminated};
 ghost use Rattle.winnow_token.specs.OneOf.{IsParser-IsOneOf};
@@ -7,6 +8,7 @@ ghost use Rattle.winnow_token.specs.TakeWhile.{IsParser-TakesWhile};
 ghost use Rattle.winnow_ascii.specs.Numbers.{IsParser-IsDecUint, IsParser-ReadAs};
 ghost use Rattle.winnow_reader.specs.Place.{IsByteSlice, SlicesStay-bytes};
 ghost use Rattle.winnow_reader.specs.Copied.{Copied, IsParser-Copied};
+ghost use Rattle.winnow_reader.specs.Telling.{OfParser};
 
 use std::alloc::Global;
 use winnow_ascii::{Class, DecUint, alpha1, dec_uint};
@@ -38,6 +40,9 @@ impl Record for NumberLine {
     type Error = EmptyError;
 
     ghost means = { λ r. ⟦<Line as Parser<RecordInput<'static>, EmptyError>>⟧.means r.parser };
+
+    ghost errors = { λ r.
+        OfParser (⟦<Line as Parser<RecordInput<'static>, EmptyError>>⟧.errors r.parser) };
 
     ghost ready = { λ r. ⟦<Line as Parser<RecordInput<'static>, EmptyError>>⟧.ready r.parser };
 
@@ -75,6 +80,8 @@ impl Record for WordLine {
     ghost means = { λ r. Copied (λ s. s.now) (λ v. v.items)
         (⟦<Word as Parser<RecordInput<'static>, EmptyError>>⟧.means r.parser) };
 
+    ghost errors = { λ _. AnyError };
+
     ghost ready = { λ r. ⟦<Word as Parser<RecordInput<'static>, EmptyError>>⟧.ready r.parser };
 
     ghost lawful = { λ _. IsParser-Copied _ _ _ (IsParser-IsTerminated _ _
@@ -105,6 +112,8 @@ impl Record for Nothing {
     type Error = EmptyError;
 
     ghost means = { λ _. Returns tt };
+
+    ghost errors = { λ _. AnyError };
 
     ghost ready = { λ _. Unit {0} };
 

@@ -1,6 +1,7 @@
 //! Records of text: a word of any characters on a line of its own.
 
 ghost use Rattle.std.specs.String.{string_bytes};
+ghost use Rattle.winnow_parser.specs.Errors.{AnyError};
 ghost use Rattle.winnow_parser.specs.Parts.{IsParser-IsTerminated};
 ghost use Rattle.winnow_token.specs.OneOf.{IsParser-IsOneOf};
 ghost use Rattle.winnow_token.specs.TakeWhile.{IsParser-TakesWhile};
@@ -35,6 +36,8 @@ impl TextRecord for TextLine {
 
     ghost means = { λ r. Copied (λ s. s.now) (λ v. string_bytes v)
         (⟦<Word as Parser<TextRecordInput<'static>, EmptyError>>⟧.means r.parser) };
+
+    ghost errors = { λ _. AnyError };
 
     ghost ready = { λ r. ⟦<Word as Parser<TextRecordInput<'static>, EmptyError>>⟧.ready r.parser };
 

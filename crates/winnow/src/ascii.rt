@@ -8,3 +8,4 @@ pub use winnow_ascii::{
     digit1, escaped, hex_digit0, hex_digit1, hex_uint, line_ending, multispace0, multispace1,
     newline, oct_digit0, oct_digit1, space0, space1, tab, take_escaped, till_line_ending,
 };
+pub use winnow_float::{Float, float};

@@ -1,4 +1,4 @@
-//! Parsers of binary formats, and the bits of a stream of bytes.
+//! Parsers of binary formats: numbers of bytes and of bits, and the bits of a stream of bytes.
 
 pub mod laws;
 
@@ -11,3 +11,4 @@ pub use winnow_binary::{
     le_i64, le_i128, le_u8, le_u16, le_u24, le_u32, le_u64, le_u128, length_and_then,
     length_repeat, length_take, u8, u16, u24, u32, u64, u128,
 };
+pub use winnow_bit_fields::{BitFields, be_bit_fields, bit_fields, le_bit_fields};

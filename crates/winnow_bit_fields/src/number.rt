@@ -4,7 +4,7 @@ ghost use Rattle.std.specs.Prelude.{◌≡◌, ◌≤◌, ◌<◌, ◌+◌, ◌^
 ghost use Rattle.winnow_match.specs.Bytes.{bytes_of};
 ghost use Rattle.winnow_parser.specs.Answer.{ahead};
 ghost use Rattle.winnow_binary.specs.Numerals.{number_in, after_tokens};
-ghost use Rattle.winnow_bit_fields.specs.Bytes.{with_byte};
+ghost use Rattle.winnow_bit_fields.specs.FieldBytes.{with_byte};
 
 use winnow_binary::Endianness;
 use winnow_stream::Stream;

@@ -13,3 +13,7 @@ pub mod AgreeingTillLemmas
 pub mod AgreeingEndLemmas
 pub mod PartLemmas
 pub mod AltLemmas
+pub mod AgreeingFoldLemmas
+pub mod RightLemmas
+pub mod AgreeingRightLemmas
+pub mod AltOfLemmas

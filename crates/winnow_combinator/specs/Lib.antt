@@ -2,8 +2,10 @@ pub mod Appended
 pub mod Bracketing
 pub mod AltErrors
 pub mod Alt
+pub mod AltOf
 pub mod Cond
 pub mod Counts
+pub mod DeterminedFolds
 pub mod DeterminedLists
 pub mod Ending
 pub mod Gathering
@@ -11,5 +13,8 @@ pub mod Misuse
 pub mod OneAnswer
 pub mod Repeat
 pub mod Separated
+pub mod SeparatedFoldr1
 pub mod RepeatTill
+pub mod TryFold
+pub mod VerifyFold
 pub mod Words

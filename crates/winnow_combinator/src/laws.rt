@@ -1,7 +1,7 @@
 //! The laws that parsers made by combinators are deterministic (`determined_repeat_law` and its
 //! kind), and of an `alt` in an `alt` (`alternatives_law`).
 
-ghost use Rattle.std.specs.Prelude.{ℕ, Bool, Option, ⊤, ◌≡◌};
+ghost use Rattle.std.specs.Prelude.{ℕ, Bool, List, All, Option, ⊤, ◌≡◌};
 ghost use Rattle.winnow_parser.specs.Determined.{IsDetermined, Shows, Respects, AreSameIfAny};
 ghost use Rattle.winnow_parser.specs.Determined.{AreBothSame, SlicesRespect};
 ghost use Rattle.winnow_parser.specs.Meanings.{Returns, Maps, IsAlways, IsForgotten, Pair};
@@ -11,12 +11,16 @@ ghost use Rattle.winnow_combinator.specs.Appended.{Appending, AppendingIf, needs
 ghost use Rattle.winnow_combinator.specs.Appended.{appends_to_first, AppendedErrors};
 ghost use Rattle.winnow_combinator.specs.Cond.{IsCond};
 ghost use Rattle.winnow_combinator.specs.Counts.{Ascending};
+ghost use Rattle.winnow_combinator.specs.DeterminedFolds.{AreSameIfTaken, TriesRespect};
 ghost use Rattle.winnow_combinator.specs.DeterminedLists.{AreSameEach, StepsRespect, IsOneStart};
 ghost use Rattle.winnow_combinator.specs.Ending.{IsEof, IsFail};
 ghost use Rattle.winnow_combinator.specs.Gathering.{Gathered, Folds};
 ghost use Rattle.winnow_combinator.specs.Repeat.{Repeats};
 ghost use Rattle.winnow_combinator.specs.Separated.{IsSeparated, IsSeparatedFoldl1, Countable};
+ghost use Rattle.winnow_combinator.specs.SeparatedFoldr1.{IsSeparatedFoldr1};
 ghost use Rattle.winnow_combinator.specs.RepeatTill.{RepeatsTill, MakesOfFirst};
+ghost use Rattle.winnow_combinator.specs.TryFold.{TriesFold};
+ghost use Rattle.winnow_combinator.specs.VerifyFold.{VerifiesFold};
 ghost use Rattle.winnow_parser.specs.Context.{InContext};
 ghost use Rattle.winnow_parser.specs.FlatMap.{FlatMaps};
 ghost use Rattle.winnow_combinator.specs.OneAnswer.{OneAnswer};
@@ -25,6 +29,7 @@ ghost use Rattle.winnow_parser.specs.DeterminedRows.{AreSame7, AreSame8, AreSame
 ghost use Rattle.winnow_parser.specs.Rows.{Row3, Row4, Row5, Row6, Row7, Row8, Row9, Row10};
 ghost use Rattle.winnow_combinator.specs.Alt.{IsAlt3, IsAlt4, IsAlt5, IsAlt6, IsAlt7, IsAlt8};
 ghost use Rattle.winnow_combinator.specs.Alt.{IsAlt9, IsAlt10};
+ghost use Rattle.winnow_combinator.specs.AltOf.{IsAltOfAll};
 ghost use Rattle.winnow_parser.specs.declared.failure.Failure.TheVariants.{Backtrack};
 ghost use Rattle.winnow_parser.specs.Answer.{ahead};
 ghost use Rattle.winnow_parser.specs.Outcome.{Ahead};
@@ -426,4 +431,62 @@ pub fn alternative_errors_law<
         partial at s (Backtrack e)
         → JoinsThree (ahead I.location I.remaining) E.joined (A.means a) (A.errors a)
         (B.means b) (B.errors b) (C.errors c) partial at s e }
+{}
+
+/// The law of an `alt` over an array or a slice: if each of its parsers is deterministic, it is. It
+/// does nothing when called: its contract is the law.
+pub fn determined_list_law<I: StreamIsPartial, E: ParserError<I>, A: Parser<I, E>, V>()
+    ensures { (view : A.Output → V) (list : List A)
+        → All (λ p. IsDetermined (Shows view) (A.means p)) list
+        → IsDetermined (Shows view)
+        (IsAltOfAll E.append_refusable E.or_refusable A.means list) }
+{}
+
+/// The laws of folds whose function may refuse a value: if all starts are the same, and the
+/// function makes the same of results so far and values that are the same, the fold of a
+/// deterministic parser is deterministic. It does nothing when called: its contract is the law.
+pub fn determined_try_fold_law<
+    I: StreamIsPartial,
+    E: ParserError<I>,
+    A: Parser<I, E>,
+    O,
+    Z,
+    N: Fn() -> O,
+    F: Fn(O, A::Output) -> Option<O>,
+    G: Fn(O, A::Output) -> Result<O, Z>,
+    V,
+    X,
+>()
+    ensures verify_fold { (v : A.Output → V) (x : O → X) (init : N) (op : F)
+        (a : OneAnswer A.means v) (least : ℕ) (greatest : Option ℕ)
+        → IsOneStart (Shows x) (N.post init)
+        → TriesRespect (Shows x) (Shows v) (AreSameIfAny (Shows x)) (F.post op)
+        → IsDetermined (Shows x) (Ascending least greatest (VerifiesFold least greatest
+        E.append_refusable (N.post init) (F.post op) (A.means a.parser))) }
+    ensures try_fold { (v : A.Output → V) (x : O → X) (init : N) (op : G)
+        (a : OneAnswer A.means v) (least : ℕ) (greatest : Option ℕ)
+        → IsOneStart (Shows x) (N.post init)
+        → TriesRespect (Shows x) (Shows v) (AreSameIfTaken (Shows x)) (G.post op)
+        → IsDetermined (Shows x) (Ascending least greatest (TriesFold least greatest
+        E.append_refusable (N.post init) (G.post op) (A.means a.parser))) }
+{}
+
+/// The law of folds from the right: if the function makes the same of values and separators that
+/// are the same, the fold of deterministic parsers is deterministic. It does nothing when called:
+/// its contract is the law.
+pub fn determined_foldr1_law<
+    I: StreamIsPartial,
+    E: ParserError<I>,
+    A: Parser<I, E>,
+    S: Parser<I, E>,
+    F: Fn(A::Output, S::Output, A::Output) -> A::Output,
+    V,
+    W,
+>()
+    ensures { (v : A.Output → V) (w : S.Output → W) (op : F)
+        (a : OneAnswer A.means v) (s : OneAnswer S.means w)
+        → StepsRespect (Shows v) (AreBothSame (Shows w) (Shows v))
+        (λ left pair new. F.post op left pair.0 pair.1 new)
+        → IsDetermined (Shows v)
+        (IsSeparatedFoldr1 (F.post op) (S.means s.parser) (A.means a.parser)) }
 {}

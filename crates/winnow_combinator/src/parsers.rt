@@ -1,6 +1,7 @@
 //! The parsers: a type for each, in a file that is named for its function.
 
 pub(crate) mod alt;
+pub(crate) mod alt_of_many;
 pub(crate) mod alt_to_seven;
 pub(crate) mod alt_to_ten;
 pub(crate) mod backtrack_err;
@@ -18,5 +19,8 @@ pub(crate) mod repeat;
 pub(crate) mod repeat_till;
 pub(crate) mod separated;
 pub(crate) mod separated_foldl1;
+pub(crate) mod separated_foldr1;
 pub(crate) mod separated_pair;
 pub(crate) mod terminated;
+pub(crate) mod try_fold;
+pub(crate) mod verify_fold;

@@ -1,6 +1,7 @@
 //! Records of a grammar of one's own: `ReadsRecord` and `ReadsTextRecord`, for readers over pieces.
 
 ghost use Rattle.std.specs.Prelude.{◌≡◌};
+ghost use Rattle.winnow_parser.specs.Errors.{AnyError};
 ghost use Rattle.winnow_parser.specs.Answer.{outcome};
 ghost use Rattle.winnow_wrap.specs.Flag.{flag};
 ghost use Rattle.winnow_reader.specs.Place.{stands};
@@ -86,6 +87,8 @@ impl<R: ReadsRecord> Record for PlainRecord<R> {
 
     ghost means = { λ _. AnyAnswer };
 
+    ghost errors = { λ _. AnyError };
+
     ghost ready = { λ _. Unit {0} };
 
     ghost lawful = { λ _. IsParser-AnyAnswer };
@@ -105,6 +108,8 @@ impl<R: ReadsTextRecord> TextRecord for PlainTextRecord<R> {
     type Error = R::Error;
 
     ghost means = { λ _. AnyAnswer };
+
+    ghost errors = { λ _. AnyError };
 
     ghost ready = { λ _. Unit {0} };
 

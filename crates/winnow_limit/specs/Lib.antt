@@ -3,3 +3,4 @@ pub mod WithinLaws
 pub mod Bound
 pub mod Limit
 pub mod Why
+pub mod LimitTelling

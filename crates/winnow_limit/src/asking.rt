@@ -1,6 +1,7 @@
 //! One call of a record on the first bytes ahead.
 
 ghost use Rattle.std.specs.Prelude.{◌≡◌, ◌+◌, ◌≤◌, ◌<◌, ◌^◌, ◌||◌, min, nat_lt, take, length};
+ghost use Rattle.std.specs.Prelude.{IfErr};
 ghost use Rattle.winnow_stream.specs.Shortage.{needed};
 ghost use Rattle.winnow_parser.specs.Answer.{outcome};
 ghost use Rattle.winnow_wrap.specs.Flag.{flag};
@@ -9,6 +10,7 @@ ghost use Rattle.winnow_reader.specs.Wanted.{size_of};
 ghost use Rattle.winnow_reader.specs.InUtf8.{past};
 ghost use Rattle.winnow_limit.specs.Within.{Within};
 ghost use Rattle.winnow_limit.specs.Why.{TellsWhy};
+ghost use Rattle.winnow_limit.specs.LimitTelling.{FirstTold};
 
 use crate::LimitedError;
 use std::alloc::Global;
@@ -79,6 +81,7 @@ pub(crate) fn ask_first<R: Record>(
     ensures within { result.1 ≤ length bytes.now }
     ensures why { TellsWhy greatest (R.means inner.now) partial (bytes_at place bytes.now)
         result.0 }
+    ensures error { IfErr result.0 (FirstTold greatest (R.errors inner.now) place bytes.now) }
 {
     let over = is_over(greatest, bytes.len());
     let first = first_of(bytes, greatest);

@@ -1,10 +1,12 @@
 //! `Limited`: a record of at most a number of bytes.
 
+ghost use Rattle.std.specs.Prelude.{IfErr};
 ghost use Rattle.winnow_parser.specs.Answer.{outcome};
 ghost use Rattle.winnow_wrap.specs.Flag.{flag};
 ghost use Rattle.winnow_reader.specs.Place.{stands};
 ghost use Rattle.winnow_limit.specs.Within.{Within};
 ghost use Rattle.winnow_limit.specs.Why.{TellsWhy};
+ghost use Rattle.winnow_limit.specs.LimitTelling.{LimitErrors};
 ghost use Rattle.winnow_limit.specs.WithinLaws.{IsParser-Within};
 
 use crate::asking::ask_first;
@@ -41,6 +43,8 @@ impl<R: Record> Record for Limited<R> {
 
     ghost means = { λ r. Within r.greatest (R.means r.inner) };
 
+    ghost errors = { λ r. LimitErrors r.greatest (R.errors r.inner) };
+
     ghost ready = { λ r. R.ready r.inner };
 
     ghost lawful = { λ r. IsParser-Within r.greatest (R.means r.inner) (R.lawful r.inner) };
@@ -55,6 +59,8 @@ impl<R: Record> Record for Limited<R> {
             (stands input.old) (outcome result (stands input.new)) }
         ensures why { TellsWhy self.now.greatest (R.means self.now.inner) (flag input.old)
             (stands input.old) result }
+        ensures error { IfErr result (LimitErrors self.now.greatest (R.errors self.now.inner)
+            (flag input.old) (stands input.old) (stands input.new)) }
     {
         let bytes = input.peek_finish();
         let place = input.current_token_start();

@@ -2,6 +2,7 @@ pub mod PlaceLemmas
 pub mod SinceLemmas
 pub mod ReadingLemmas
 pub mod AskedLemmas
+pub mod TellingLemmas
 pub mod NextLemmas
 pub mod LiteralLemmas
 pub mod AnswerLemmas

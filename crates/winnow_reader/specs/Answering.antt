@@ -1,5 +1,5 @@
 -- What a reader answers, and when.
-use Rattle.std.specs.Prelude.{◌≡◌, ℕ, ◌+◌, ◌-◌, ◌^◌, ◌≤◌, ◌<◌, min, Bool, true, false, not, List, [], ◌++◌, length, Result, Ok, Err, ◌⊎◌, ◌↔◌}
+use Rattle.std.specs.Prelude.{◌≡◌, ℕ, ◌+◌, ◌-◌, ◌^◌, ◌≤◌, ◌<◌, min, Bool, true, false, not, List, ◌++◌, length, Result, Ok, Err, ◌⊎◌, ◌↔◌}
 use Rattle.std.proofs.Common.{inl, inr}
 use Rattle.winnow_stream.specs.declared.needed.Needed.{Needed}
 use Rattle.winnow_parser.specs.Outcome.{Ahead, Gives, Fails, Backtracks, Cuts, Needs, Refuses, Meaning}

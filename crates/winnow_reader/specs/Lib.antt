@@ -9,7 +9,9 @@ pub mod Answering
 pub mod Copied
 pub mod SameValues
 pub mod Asked
+pub mod Telling
 pub mod TextPlace
 pub mod InUtf8
 pub mod TextFrontLaws
+pub mod TextTelling
 pub mod Utf8Laws

@@ -5,6 +5,7 @@ ghost use Rattle.winnow_wrap.specs.Flag.{flag};
 ghost use Rattle.winnow_reader.specs.Place.{bytes_at, stands};
 ghost use Rattle.winnow_reader.specs.Wanted.{size_of};
 ghost use Rattle.winnow_reader.specs.Asked.{IsAnswer};
+ghost use Rattle.winnow_reader.specs.Telling.{AsksError};
 
 use crate::{Record, RecordInput};
 use std::alloc::{AllocError, Global};
@@ -62,7 +63,8 @@ pub(crate) fn ask_record<R: Record>(
 ) -> Asked<R::Output, R::Error>
     requires ready { R.ready parser.now }
     requires fits { place + length ahead.now < 2 ^ 64 }
-    ensures { IsAnswer (R.means parser.now) place ahead.now ended result }
+    ensures answer { IsAnswer (R.means parser.now) place ahead.now ended result }
+    ensures error { AsksError (R.errors parser.now) place ahead.now ended result }
 {
     let mut input = stream_over(ahead, place, ended);
     match parser.read(alloc, &mut input) {

@@ -60,6 +60,7 @@ impl<R: Record> ByteReader<R> {
     ghost use Rattle.winnow_reader.specs.Asked.{IsAsked, IsWithin, settled, answer_of};
     ghost use Rattle.winnow_reader.specs.Answering.{ReadsNext, WaitsByNeed};
     ghost use Rattle.winnow_reader.specs.Answering.{StaysTillWanted, IsDoneAtEnd};
+    ghost use Rattle.winnow_reader.specs.Telling.{AsksError, TellsError};
 
     /// Returns a reader that nothing was pushed to.
     pub fn new(alloc: Global, parser: R) -> Self
@@ -126,6 +127,7 @@ impl<R: Record> ByteReader<R> {
         ensures next { ReadsNext R.means (WaitsByNeed R.means) self.old result self.new }
         ensures early { StaysTillWanted self.old result self.new }
         ensures done { IsDoneAtEnd self.old result }
+        ensures error { TellsError R.errors self.old result }
     {
         let asked = self.ask();
         self.settle(asked)
@@ -134,7 +136,9 @@ impl<R: Record> ByteReader<R> {
     // Asks the record, unless what is ahead is known to be too short, or nothing remains.
     fn ask(&self) -> Asked<R::Output, R::Error>
         requires { R.ready self.now.parser }
-        ensures { IsAsked (R.means self.now.parser) self.now result }
+        ensures answer { IsAsked (R.means self.now.parser) self.now result }
+        ensures error { AsksError (R.errors self.now.parser) self.now.place self.now.ahead
+            self.now.ended result }
     {
         let ahead = &self.kept[self.taken..];
         if self.ended && ahead.is_empty() {

@@ -1,7 +1,8 @@
 //! `Record`: a parser of bytes in pieces, generic in the lifetime of the bytes.
 
-ghost use Rattle.std.specs.Prelude.{ℕ};
-ghost use Rattle.winnow_parser.specs.Outcome.{Meaning};
+ghost use Rattle.std.specs.Prelude.{ℕ, IfErr};
+ghost use Rattle.winnow_parser.specs.Outcome.{Ahead, Meaning};
+ghost use Rattle.winnow_parser.specs.Errors.{Errors};
 ghost use Rattle.winnow_parser.specs.Answer.{outcome};
 ghost use Rattle.winnow_parser.specs.Laws.{IsParser};
 ghost use Rattle.winnow_wrap.specs.Flag.{flag};
@@ -31,19 +32,25 @@ pub trait Record {
     // What it may answer of what stands at the front.
     ghost means: { Self → Meaning Self.Output ℕ };
 
+    // The errors that its failures may carry: of what stands at the front, whether more may follow,
+    // and what is left.
+    ghost errors: { Self → Errors Self.Error (Ahead ℕ) ℕ };
+
     // The records that may be asked.
     ghost ready: { Self → Type 0 };
 
     /// Reads a value from the front, as a parser does. The stream knows its place in the joined
-    /// input. Nothing is said of which error a failure carries.
+    /// input.
     fn read<'b>(
         &self,
         alloc: Global,
         input: &mut RecordInput<'b>,
     ) -> ModalResult<Self::Output, Self::Error>
         requires { ready self.now }
-        ensures { means self.now (flag input.old) (stands input.old)
-            (outcome result (stands input.new)) };
+        ensures means { means self.now (flag input.old) (stands input.old)
+            (outcome result (stands input.new)) }
+        ensures error { IfErr result (errors self.now (flag input.old) (stands input.old)
+            (stands input.new)) };
 
     // It keeps the laws of a parser.
     ghost lawful: { (r : Self) → IsParser (means r) };

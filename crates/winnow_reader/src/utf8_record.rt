@@ -2,6 +2,7 @@
 
 ghost use Rattle.std.specs.Prelude.{◌≡◌};
 ghost use Rattle.winnow_reader.specs.InUtf8.{InUtf8};
+ghost use Rattle.winnow_reader.specs.TextTelling.{Utf8Errors};
 ghost use Rattle.winnow_reader.specs.Utf8Laws.{IsParser-InUtf8};
 
 use crate::asking_text::ask_fronts;
@@ -52,6 +53,8 @@ impl<R: TextRecord> Record for Utf8Record<R> {
     type Error = TextError<R::Error>;
 
     ghost means = { λ r. InUtf8 (R.means r.parser) };
+
+    ghost errors = { λ r. Utf8Errors (R.errors r.parser) };
 
     ghost ready = { λ r. R.ready r.parser };
 

@@ -1,6 +1,7 @@
 //! `Line`: a record that ends with a line feed.
 
 ghost use Rattle.std.specs.Prelude.{◌≡◌};
+ghost use Rattle.winnow_parser.specs.Errors.{AnyError};
 ghost use Rattle.winnow_scan.specs.Line.{IsLine, OneLine, IsParser-OneLine, HasNoFeed};
 
 use crate::Scan;
@@ -33,6 +34,8 @@ impl Record for Line {
     type Error = EmptyError;
 
     ghost means = { λ _. OneLine };
+
+    ghost errors = { λ _. AnyError };
 
     ghost ready = { λ _. Unit {0} };
 

@@ -63,6 +63,7 @@ impl<R: Scan> ScanReader<R> {
     ghost use Rattle.winnow_reader.specs.State.{at_start, pushed, ended_after, unspent, fed_of};
     ghost use Rattle.winnow_reader.specs.Reading.{HasRead, ReadsAlso, ReadsThrough, ReadsOn};
     ghost use Rattle.winnow_reader.specs.Answering.{ReadsNext, StaysTillWanted, IsDoneAtEnd};
+    ghost use Rattle.winnow_reader.specs.Telling.{TellsError};
     ghost use Rattle.winnow_scan.specs.Waiting.{ScansOn, WaitsByScan};
 
     /// Returns a reader that nothing was pushed to.
@@ -104,6 +105,7 @@ impl<R: Scan> ScanReader<R> {
             self.old result self.new }
         ensures early { StaysTillWanted self.old result self.new }
         ensures done { IsDoneAtEnd self.old result }
+        ensures error { TellsError R.errors self.old result }
     {
         if self.goes_on() {
             return Ok(Next::NeedsMore);

@@ -6,15 +6,17 @@ mod functions;
 mod laws;
 mod parsers;
 
-pub use functions::{any, rest, take};
+pub use functions::{
+    any, none_of, one_of, rest, rest_len, take, take_till, take_until, take_while,
+};
 pub use laws::{count_law, determined_token_law, hits_stay_law, prompt_law};
 pub use parsers::any::Any;
-pub use parsers::none_of::{NoneOf, none_of};
-pub use parsers::one_of::{OneOf, one_of};
+pub use parsers::none_of::NoneOf;
+pub use parsers::one_of::OneOf;
 pub use parsers::rest::Rest;
-pub use parsers::rest_len::{RestLen, rest_len};
+pub use parsers::rest_len::RestLen;
 pub use parsers::take::Take;
-pub use parsers::take_till::{TakeTill, take_till};
-pub use parsers::take_until::{TakeUntil, take_until};
-pub use parsers::take_while::{TakeWhile, take_while};
+pub use parsers::take_till::TakeTill;
+pub use parsers::take_until::TakeUntil;
+pub use parsers::take_while::TakeWhile;
 pub use winnow_parser::{Literal, literal};

@@ -2,3 +2,4 @@
 //! law.
 
 pub use winnow_binary::{determined_length_law, determined_slice_read_law, fixed_number_law};
+pub use winnow_bit_fields::{bit_fields_law, determined_bit_fields_law};

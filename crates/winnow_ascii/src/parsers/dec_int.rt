@@ -55,14 +55,7 @@ where
 /// A parser of a number in decimal digits, with a sign or without; [`dec_int`] makes it.
 #[derive_where(Clone, Copy)]
 pub struct DecInt<R> {
-    value: PhantomData<R>,
-}
-
-/// Returns the parser of the number that decimal digits write: `0` alone, or all digits ahead if
-/// the first is not 0, after `+`, `-` or no sign. Where the type does not have the number, the
-/// parser backtracks.
-pub fn dec_int<R>() -> DecInt<R> {
-    DecInt { value: PhantomData }
+    pub(crate) value: PhantomData<R>,
 }
 
 impl<I: StreamIsPartial, E: ParserError<I>, R> Parser<I, E> for DecInt<R>

@@ -99,13 +99,7 @@ where
 /// A parser of a number in decimal digits; [`dec_uint`] makes it.
 #[derive_where(Clone, Copy)]
 pub struct DecUint<R> {
-    value: PhantomData<R>,
-}
-
-/// Returns the parser of the number that decimal digits write: `0` alone, or all digits ahead if
-/// the first is not 0. Where the type does not have the number, the parser backtracks.
-pub fn dec_uint<R>() -> DecUint<R> {
-    DecUint { value: PhantomData }
+    pub(crate) value: PhantomData<R>,
 }
 
 impl<I: StreamIsPartial, E: ParserError<I>, R> Parser<I, E> for DecUint<R>

@@ -1,6 +1,6 @@
 //! Parsers of text with escapes: `escaped` gathers its fragments, `take_escaped` returns its slice.
 
-ghost use Rattle.std.specs.Prelude.{◌≡◌, ◌<◌, ◌^◌, [], IfErr};
+ghost use Rattle.std.specs.Prelude.{◌<◌, ◌^◌, [], IfErr};
 ghost use Rattle.winnow_stream.specs.Source.{width};
 ghost use Rattle.winnow_parser.specs.Outcome.{Moves};
 ghost use Rattle.winnow_parser.specs.Answer.{ahead, outcome};
@@ -16,10 +16,8 @@ use std::alloc::Global;
 use std::marker::PhantomData;
 use winnow_count::Accumulate;
 use winnow_error::ParserError;
-use winnow_match::Compare;
-use winnow_parser::{Failure, ModalResult, Parser, Taken};
+use winnow_parser::{Failure, ModalResult, Parser};
 use winnow_stream::{Needed, StreamIsPartial};
-use winnow_token::Literal;
 
 /// A parser of text with escapes, and what gathers its fragments; [`escaped`] makes it.
 #[derive(Drop)]
@@ -29,24 +27,6 @@ pub struct Escaped<P, C, Q, A> {
     pub(crate) control: C,
     pub(crate) escapable: Q,
     pub(crate) gathers: PhantomData<A>,
-}
-
-/// Returns the parser of the slice of text with escapes, as [`escaped`] reads it.
-pub fn take_escaped<I: StreamIsPartial, E: ParserError<I>, P: Parser<I, E>, Q: Parser<I, E>>(
-    normal: P,
-    control_char: char,
-    escapable: Q,
-) -> Taken<Escaped<P, Literal<char>, Q, ()>, I, E>
-where
-    P::Output: Drop,
-    Q::Output: Drop,
-    I: Compare<char>,
-    I::Slice: Drop,
-    ensures normal { result.inner.normal ≡ normal }
-    ensures control { result.inner.control.text ≡ control_char }
-    ensures escapable { result.inner.escapable ≡ escapable }
-{
-    escaped(normal, control_char, escapable).take()
 }
 
 // Reads an escape after the control character. Returns `None`, and resets the stream, where the

@@ -160,13 +160,7 @@ fn read_bytes<R: HexUint>(bytes: &[u8]) -> Option<R>
 /// A parser of a number in hexadecimal digits; [`hex_uint`] makes it.
 #[derive_where(Clone, Copy)]
 pub struct HexUintOf<R> {
-    value: PhantomData<R>,
-}
-
-/// Returns the parser of the number that all hexadecimal digits ahead write. Where there are more
-/// digits than a value of the type has, the parser backtracks, even where the first of them are 0.
-pub fn hex_uint<R>() -> HexUintOf<R> {
-    HexUintOf { value: PhantomData }
+    pub(crate) value: PhantomData<R>,
 }
 
 impl<I: StreamIsPartial, E: ParserError<I>, R: HexUint> Parser<I, E> for HexUintOf<R>

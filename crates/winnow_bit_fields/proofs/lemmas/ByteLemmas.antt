@@ -15,7 +15,7 @@ use Rattle.winnow_binary.specs.declared.endianness.Endianness.{Endianness}
 use Rattle.winnow_binary.specs.declared.endianness.Endianness.TheVariants.{Big, Little, Native}
 use Rattle.winnow_binary.specs.Numerals.{most_first, least_first, number_in, after_tokens}
 use Rattle.winnow_bit_fields.specs.Fields.{AreBytes}
-use Rattle.winnow_bit_fields.specs.Bytes.{with_byte}
+use Rattle.winnow_bit_fields.specs.FieldBytes.{with_byte}
 
 -- ---- A byte more
 

@@ -1,4 +1,3 @@
-ghost use Rattle.std.specs.Prelude.{◌≡◌};
 ghost use Rattle.winnow_parser.specs.Meanings.{BacktracksErr};
 ghost use Rattle.winnow_parser.specs.Errors.{BacktrackErrors};
 ghost use Rattle.winnow_parser.specs.Parts.{IsParser-BacktracksErr};
@@ -10,14 +9,7 @@ use winnow_stream::StreamIsPartial;
 /// A parser that backtracks where the inner one cuts; [`backtrack_err`] makes it.
 #[derive(Clone, Copy, Drop)]
 pub struct BacktrackErr<P> {
-    inner: P,
-}
-
-/// Returns the parser that backtracks where the inner one cuts.
-pub fn backtrack_err<P>(inner: P) -> BacktrackErr<P>
-    ensures { result ≡ record { inner = inner } }
-{
-    BacktrackErr { inner }
+    pub(crate) inner: P,
 }
 
 impl<I: StreamIsPartial, E, P: Parser<I, E>> Parser<I, E> for BacktrackErr<P> {

@@ -1,6 +1,5 @@
 //! `cut_err`, which turns `Backtrack` into `Cut`, and `backtrack_err`, which turns it back.
 
-ghost use Rattle.std.specs.Prelude.{◌≡◌};
 ghost use Rattle.winnow_parser.specs.Meanings.{CutsErr};
 ghost use Rattle.winnow_parser.specs.Errors.{CutErrors};
 ghost use Rattle.winnow_parser.specs.Parts.{IsParser-CutsErr};
@@ -12,15 +11,7 @@ use winnow_stream::StreamIsPartial;
 /// A parser that cuts where the inner one backtracks; [`cut_err`] makes it.
 #[derive(Clone, Copy, Drop)]
 pub struct CutErr<P> {
-    inner: P,
-}
-
-/// Returns the parser that cuts where the inner one backtracks. Where the inner one needs more
-/// input, so does this one.
-pub fn cut_err<P>(inner: P) -> CutErr<P>
-    ensures { result ≡ record { inner = inner } }
-{
-    CutErr { inner }
+    pub(crate) inner: P,
 }
 
 impl<I: StreamIsPartial, E, P: Parser<I, E>> Parser<I, E> for CutErr<P> {

@@ -1,6 +1,6 @@
 //! `repeat_till`, which repeats a parser until another one succeeds.
 
-ghost use Rattle.std.specs.Prelude.{◌≡◌, ◌+◌, ◌<◌, ◌^◌, List, length, IfErr};
+ghost use Rattle.std.specs.Prelude.{◌+◌, ◌<◌, ◌^◌, List, length, IfErr};
 ghost use Rattle.std.specs.List.{FoldsTo};
 ghost use Rattle.winnow_stream.specs.Source.{width};
 ghost use Rattle.winnow_parser.specs.Outcome.{Moves};
@@ -16,7 +16,7 @@ ghost use Rattle.winnow_combinator.specs.RepeatTill.{MakesOfFirst, RepeatTillErr
 use crate::again::{Advancing, Again};
 use crate::appended::Appended;
 use crate::counts::Counts;
-use crate::{Accumulated, Begin, Gather};
+use crate::{Begin, Gather};
 use std::alloc::Global;
 use winnow_count::Range;
 use winnow_error::ParserError;
@@ -27,35 +27,10 @@ use winnow_stream::StreamIsPartial;
 /// values; [`repeat_till`] makes it.
 #[derive(Clone, Copy, Drop)]
 pub struct RepeatTill<P, Q, G> {
-    counts: Range,
-    inner: P,
-    terminator: Q,
-    gather: G,
-}
-
-/// Returns the parser that asks the inner one until the terminator gives a value, gathers the
-/// values before that in an `A`, and gives both. Once there are the least count of values, the
-/// terminator is asked before each further value. At the greatest count the terminator alone is
-/// asked, and where it backtracks then, so does this parser. Where the inner one backtracks, so
-/// does this parser, and `append` records that in the error.
-///
-/// It cuts where the inner parser gives a value and takes nothing, since it would never end, and
-/// where the greatest count is below the least.
-pub fn repeat_till<P, Q, A, C: Into<Range>>(
-    counts: C,
-    inner: P,
-    terminator: Q,
-) -> RepeatTill<P, Q, Accumulated<A>>
-    ensures counts { C.converts counts result.counts }
-    ensures inner { result.inner ≡ inner }
-    ensures terminator { result.terminator ≡ terminator }
-{
-    RepeatTill {
-        counts: counts.into(),
-        inner,
-        terminator,
-        gather: Accumulated::new(),
-    }
+    pub(crate) counts: Range,
+    pub(crate) inner: P,
+    pub(crate) terminator: Q,
+    pub(crate) gather: G,
 }
 
 // Asks the terminator, after `count` values. Returns `None` where these are too few to ask it.

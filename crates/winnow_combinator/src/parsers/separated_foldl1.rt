@@ -1,6 +1,6 @@
 //! `separated_foldl1`, which folds values and separators from the left.
 
-ghost use Rattle.std.specs.Prelude.{◌≡◌, ⊤};
+ghost use Rattle.std.specs.Prelude.{⊤};
 ghost use Rattle.winnow_parser.specs.Meanings.{Pair};
 ghost use Rattle.winnow_combinator.specs.Misuse.{GatheredErrors};
 ghost use Rattle.winnow_combinator.specs.Separated.{IsSeparatedFoldl1, SeparatedFoldl1Errors};
@@ -19,24 +19,9 @@ use winnow_stream::StreamIsPartial;
 /// makes it.
 #[derive(Clone, Copy, Drop)]
 pub struct SeparatedFoldl1<P, S, F> {
-    inner: P,
-    separator: S,
-    op: F,
-}
-
-/// Returns the parser that asks the inner one and the separator in turn, until one backtracks. It
-/// folds the values from the left by a function of the result so far, the separator and the next
-/// value. It does not take a separator that no value follows, and backtracks without a first value.
-///
-/// It cuts where a separator and a value together take nothing, since it would never end.
-pub fn separated_foldl1<P, S, F>(parser: P, separator: S, op: F) -> SeparatedFoldl1<P, S, F>
-    ensures { result ≡ record { inner = parser; separator = separator; op = op } }
-{
-    SeparatedFoldl1 {
-        inner: parser,
-        separator,
-        op,
-    }
+    pub(crate) inner: P,
+    pub(crate) separator: S,
+    pub(crate) op: F,
 }
 
 // The function, which takes a separator and the value after it.

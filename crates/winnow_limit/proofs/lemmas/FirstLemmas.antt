@@ -1,5 +1,5 @@
 -- What a record answered of the first bytes at a place.
-use Rattle.std.specs.Prelude.{Bool, true, false, ◌||◌, nat_lt, Some}
+use Rattle.std.specs.Prelude.{Bool, true, false, ◌||◌, nat_lt, Some, Result, Ok, Err, IfErr}
 use Rattle.std.proofs.Common.{◌≡◌, ℕ, ◌+◌, ◌-◌, ◌≤◌, ◌<◌, List, ◌++◌, length, take, drop, ap, sym, ◌∙◌, subst, arith, length-take, take-append-drop}
 use Rattle.std.proofs.lemmas.Bool.Decides.{nat_tests}
 use Rattle.std.proofs.lemmas.List.{take-map, drop-map, map-append, drop-append-le}
@@ -8,9 +8,14 @@ use Rattle.winnow_stream.specs.Location.{location_behind}
 use Rattle.winnow_stream.specs.Units.{width-units}
 use Rattle.winnow_stream.proofs.lemmas.UnitLemmas.{width-take_units, length-units}
 use Rattle.winnow_parser.specs.Outcome.{Ahead, Outcome, Meaning, Moves}
+use Rattle.winnow_stream.specs.declared.needed.Needed.{Needed}
+use Rattle.winnow_parser.specs.declared.failure.Failure.{Failure}
+use Rattle.winnow_parser.specs.Errors.{Errors}
 use Rattle.winnow_reader.specs.Place.{bytes_at}
 use Rattle.winnow_reader.specs.InUtf8.{past}
 use Rattle.winnow_reader.proofs.lemmas.PlaceLemmas.{moved-bytes}
+use Rattle.winnow_limit.specs.declared.limit.LimitedError.{LimitedError}
+use Rattle.winnow_limit.specs.LimitTelling.{FirstTold, LimitErrors}
 use Rattle.winnow_limit.specs.Within.{first_ahead, left_ahead, AnswersFirst}
 
 module _ (greatest place : ℕ) (bs : List ℕ) where
@@ -99,3 +104,12 @@ pub told-of : {V : Type 0} (tells : Bool → Ahead ℕ → V → Type 0) (v : V)
 told-of tells v told flag place location bs now flag_is place_is bs_is h =
     let at = ap (λ p. bytes_at p bs) place_is ∙ ap (bytes_at location) bs_is in
     subst (λ a. tells flag a v) at (subst (λ q. tells q (bytes_at place bs) v) flag_is h)
+
+-- what is told of the same bytes at the same place is told of the stream
+pub told-here : {O E : Type 0} (greatest : ℕ) (errors : Errors E (Ahead ℕ) ℕ) (place : ℕ)
+    (bytes : List ℕ) (a left : Ahead ℕ) (partial : Bool)
+    (answer : Result O (Failure (LimitedError E) Needed)) → a ≡ bytes_at place bytes
+    → IfErr answer (FirstTold greatest errors place bytes)
+    → IfErr answer (LimitErrors greatest errors partial a left)
+told-here greatest errors place bytes a left partial (Ok x) same h = h
+told-here greatest errors place bytes a left partial (Err f) same h = (place, (bytes, (same, h)))

@@ -1,4 +1,4 @@
-ghost use Rattle.std.specs.Prelude.{◌≡◌, not};
+ghost use Rattle.std.specs.Prelude.{not};
 ghost use Rattle.winnow_parser.specs.Errors.{OwnErrors};
 ghost use Rattle.winnow_token.specs.OneOf.{IsOneOf, IsParser-IsOneOf};
 
@@ -11,14 +11,7 @@ use winnow_stream::{Needed, StreamIsPartial};
 /// A parser of one token that a set does not hold; [`none_of`] makes it.
 #[derive(Clone, Copy, Debug, Drop)]
 pub struct NoneOf<C> {
-    set: C,
-}
-
-/// Returns the parser of one token that the set does not hold.
-pub fn none_of<C>(set: C) -> NoneOf<C>
-    ensures { result ≡ record { set = set } }
-{
-    NoneOf { set }
+    pub(crate) set: C,
 }
 
 impl<I: StreamIsPartial, E: ParserError<I>, C: FixedSet<I::Token>> Parser<I, E> for NoneOf<C>

@@ -1,6 +1,5 @@
 //! Parsers of one token: `any`, `one_of` and `none_of`.
 
-ghost use Rattle.std.specs.Prelude.{◌≡◌};
 ghost use Rattle.winnow_parser.specs.Errors.{OwnErrors};
 ghost use Rattle.winnow_token.specs.OneOf.{IsOneOf, IsParser-IsOneOf};
 
@@ -13,14 +12,7 @@ use winnow_stream::{Needed, StreamIsPartial};
 /// A parser of one token that a set holds; [`one_of`] makes it.
 #[derive(Clone, Copy, Debug, Drop)]
 pub struct OneOf<C> {
-    set: C,
-}
-
-/// Returns the parser of one token that the set holds.
-pub fn one_of<C>(set: C) -> OneOf<C>
-    ensures { result ≡ record { set = set } }
-{
-    OneOf { set }
+    pub(crate) set: C,
 }
 
 impl<I: StreamIsPartial, E: ParserError<I>, C: FixedSet<I::Token>> Parser<I, E> for OneOf<C>

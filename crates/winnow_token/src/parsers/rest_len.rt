@@ -9,12 +9,6 @@ use winnow_stream::{Needed, StreamIsPartial};
 #[derive(Clone, Copy, Debug)]
 pub struct RestLen;
 
-/// Returns the parser of the width of all that remains. It takes nothing, and needs more where more
-/// may follow.
-pub fn rest_len() -> RestLen {
-    RestLen
-}
-
 impl<I: StreamIsPartial, E> Parser<I, E> for RestLen {
     type Output = usize;
 

@@ -1,4 +1,4 @@
-ghost use Rattle.std.specs.Prelude.{◌≡◌, not};
+ghost use Rattle.std.specs.Prelude.{not};
 ghost use Rattle.winnow_count.specs.CountRange.{least_count, greatest_count};
 ghost use Rattle.winnow_parser.specs.Errors.{OwnErrors};
 ghost use Rattle.winnow_token.specs.TakeWhile.{TakesWhile, IsParser-TakesWhile};
@@ -14,21 +14,8 @@ use winnow_stream::StreamIsPartial;
 /// A parser of the tokens that a set does not hold; [`take_till`] makes it.
 #[derive(Clone, Copy, Debug, Drop)]
 pub struct TakeTill<C> {
-    counts: Range,
-    set: C,
-}
-
-/// Returns the parser of the tokens up to the first that the set holds, as many as the counts
-/// allow: a number or a range of numbers. Where the least count is above the greatest, the parser
-/// cuts.
-pub fn take_till<N: Into<Range>, C>(counts: N, set: C) -> TakeTill<C>
-    ensures counts { N.converts counts result.counts }
-    ensures set { result.set ≡ set }
-{
-    TakeTill {
-        counts: counts.into(),
-        set,
-    }
+    pub(crate) counts: Range,
+    pub(crate) set: C,
 }
 
 impl<I: StreamIsPartial, E: ParserError<I>, C: FixedSet<I::Token>> Parser<I, E> for TakeTill<C> {

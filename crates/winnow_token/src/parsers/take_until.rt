@@ -16,24 +16,8 @@ use winnow_stream::{Needed, StreamIsPartial};
 /// A parser of the tokens before a literal; [`take_until`] makes it.
 #[derive(Clone, Copy, Debug, Drop)]
 pub struct TakeUntil<T> {
-    counts: Range,
-    literal: T,
-}
-
-/// Returns the parser of the tokens before the first place at which the literal stands, as many as
-/// the counts allow: a number or a range of numbers. The literal itself is not taken. Where the
-/// least count is above the greatest, the parser cuts.
-///
-/// Where more may follow, a hit must stay when more follows.
-/// [`hits_stay_law`](crate::hits_stay_law) proves that for one literal.
-pub fn take_until<N: Into<Range>, T>(counts: N, literal: T) -> TakeUntil<T>
-    ensures counts { N.converts counts result.counts }
-    ensures literal { result.literal ≡ literal }
-{
-    TakeUntil {
-        counts: counts.into(),
-        literal,
-    }
+    pub(crate) counts: Range,
+    pub(crate) literal: T,
 }
 
 impl<I: FindSlice<T> + StreamIsPartial, E: ParserError<I>, T: Copy> Parser<I, E> for TakeUntil<T> {

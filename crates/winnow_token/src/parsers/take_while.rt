@@ -22,21 +22,8 @@ use winnow_stream::{Needed, Stream, StreamIsPartial};
 /// A parser of the tokens that a set holds; [`take_while`] makes it.
 #[derive(Clone, Copy, Debug, Drop)]
 pub struct TakeWhile<C> {
-    counts: Range,
-    set: C,
-}
-
-/// Returns the parser of the tokens up to the first that the set does not hold, as many as the
-/// counts allow: a number or a range of numbers. Where the least count is above the greatest, the
-/// parser cuts.
-pub fn take_while<N: Into<Range>, C>(counts: N, set: C) -> TakeWhile<C>
-    ensures counts { N.converts counts result.counts }
-    ensures set { result.set ≡ set }
-{
-    TakeWhile {
-        counts: counts.into(),
-        set,
-    }
+    pub(crate) counts: Range,
+    pub(crate) set: C,
 }
 
 impl<I: StreamIsPartial, E: ParserError<I>, C: FixedSet<I::Token>> Parser<I, E> for TakeWhile<C> {

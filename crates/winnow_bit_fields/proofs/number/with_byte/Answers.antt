@@ -1,6 +1,6 @@
 use Rattle.std.proofs.Common.{◌^◌, ◌+◌, ◌*◌, ◌%◌, inl, inr, arith, ap, ◌∙◌, sym}
 use Rattle.winnow_binary.specs.declared.endianness.Endianness.TheVariants.{Big, Little}
-use Rattle.winnow_bit_fields.specs.Bytes.{with_byte}
+use Rattle.winnow_bit_fields.specs.FieldBytes.{with_byte}
 use Rattle.winnow_bit_fields.proofs.lemmas.ByteLemmas.{with_byte-below, with_byte-fits, shifted-byte}
 use Rattle.winnow_bit_fields.proofs.number.with_byte.Goals as goal
 

@@ -25,8 +25,8 @@ next_slice-requires-in-Ok-Damaged-clause-offset c =
     let is = token-as c.is_partial.result t (after_blanks t) c.token_at.result c.in-Ok-Damaged.field-0 (Damaged c.in-Ok-Damaged.width) c.token_at.ensures c.in-Ok-Damaged.is c.in-Ok-Damaged.field-0-is in
     offset-fits (units now) t same c.in-Ok-Damaged.width is.0
 
-pub returns-in-Ok-Begun : goal.returns-in-Ok-Begun
-returns-in-Ok-Begun c =
+pub returns-in-Ok-Begun-clause-means : goal.returns-in-Ok-Begun-clause-means
+returns-in-Ok-Begun-clause-means c =
     let now = c.args.input.now.input.input.now in
     let t = c.peek_finish-bytes.result.now in
     let same = ap units (sym (units-same t now (c.peek_finish-bytes.ensures.answer ∙ sym (front-units now)))) in
@@ -34,8 +34,8 @@ returns-in-Ok-Begun c =
     let needs = begun-answers c.is_partial.result (units now) t same is in
     (sym c.is_partial.ensures ∙ needs.0, c.new.ensures, needs.1)
 
-pub returns-in-Ok-Whole : goal.returns-in-Ok-Whole
-returns-in-Ok-Whole c =
+pub returns-in-Ok-Whole-clause-means : goal.returns-in-Ok-Whole-clause-means
+returns-in-Ok-Whole-clause-means c =
     let now = c.args.input.now.input.input.now in
     let new = units c.next_slice.new.self.input.input.now in
     let t = c.peek_finish-bytes.result.now in
@@ -47,8 +47,8 @@ returns-in-Ok-Whole c =
       token-answers _ (units now) t same c.in-Ok-Whole.token n new is c.next_slice.ensures.remains,
     )
 
-pub returns-in-Ok-Damaged : goal.returns-in-Ok-Damaged
-returns-in-Ok-Damaged c =
+pub returns-in-Ok-Damaged-clause-means : goal.returns-in-Ok-Damaged-clause-means
+returns-in-Ok-Damaged-clause-means c =
     let now = c.args.input.now.input.input.now in
     let new = units c.next_slice-in-Ok-Damaged.new.self.input.input.now in
     let t = c.peek_finish-bytes.result.now in

@@ -1,13 +1,13 @@
-use Rattle.std.proofs.Common.{◌≤◌, length, subst, sym, ◌∙◌}
+use Rattle.std.proofs.Common.{◌≤◌, length, subst, sym, ap, ◌∙◌}
 use Rattle.winnow_stream.proofs.lemmas.UnitLemmas.{is_offset-from_le, front-units, units-same}
 use Rattle.winnow_parser.specs.Answer.{outcome}
 use Rattle.winnow_wrap.specs.Flag.{partial_inner, flag}
 use Rattle.winnow_wrap.specs.Located.{locating_inner, location_of}
-use Rattle.winnow_reader.specs.Place.{stands}
+use Rattle.winnow_reader.specs.Place.{bytes_at, stands}
 use Rattle.winnow_reader.proofs.lemmas.Utf8Lemmas.{past-told}
 use Rattle.winnow_limit.specs.Within.{Within}
 use Rattle.winnow_limit.specs.Why.{TellsWhy}
-use Rattle.winnow_limit.proofs.lemmas.FirstLemmas.{asked-of, told-of}
+use Rattle.winnow_limit.proofs.lemmas.FirstLemmas.{asked-of, told-of, told-here}
 use Rattle.winnow_limit.proofs.limit.LimitedRecord.read.Goals as goal
 
 pub next_slice-requires-clause-offset : goal.next_slice-requires-clause-offset
@@ -41,3 +41,13 @@ returns-clause-why g c =
     let whole = units-same bytes now (c.peek_finish-bytes.ensures.answer ∙ sym (front-units now)) in
     told-of (TellsWhy greatest inner) c.ask_first-answer.result.0 c.is_partial-partial.result (flag c.args.input.now) c.current_token_start-place.result (location_of old) bytes now
     c.is_partial-partial.ensures c.current_token_start-place.ensures whole c.ask_first-answer.ensures.why
+
+pub returns-clause-error : goal.returns-clause-error
+returns-clause-error g c =
+    let errors = g.R.Record.errors c.args.self.now.inner in
+    let old = partial_inner c.args.input.now in
+    let now = (locating_inner old).now in
+    let bytes = c.peek_finish-bytes.result.now in
+    let whole = units-same bytes now (c.peek_finish-bytes.ensures.answer ∙ sym (front-units now)) in
+    let here = ap (λ l. bytes_at (location_of old) l) (sym whole) ∙ ap (λ p. bytes_at p bytes) (sym c.current_token_start-place.ensures) in
+    told-here c.args.self.now.greatest errors c.current_token_start-place.result bytes (stands c.args.input.now) (stands c.next_slice.new.self) (flag c.args.input.now) c.ask_first-answer.result.0 here c.ask_first-answer.ensures.error

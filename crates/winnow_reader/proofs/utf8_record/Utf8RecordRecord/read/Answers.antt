@@ -1,10 +1,11 @@
-use Rattle.std.proofs.Common.{◌≤◌, length, subst, sym, ◌∙◌}
+use Rattle.std.proofs.Common.{◌≤◌, length, subst, sym, ap, ◌∙◌}
 use Rattle.winnow_stream.proofs.lemmas.UnitLemmas.{is_offset-from_le, front-units, units-same}
 use Rattle.winnow_parser.specs.Answer.{outcome}
 use Rattle.winnow_wrap.specs.Flag.{partial_inner, flag}
 use Rattle.winnow_wrap.specs.Located.{locating_inner, location_of}
-use Rattle.winnow_reader.specs.Place.{stands}
+use Rattle.winnow_reader.specs.Place.{bytes_at, stands}
 use Rattle.winnow_reader.proofs.lemmas.Utf8Lemmas.{past-told, asked-of}
+use Rattle.winnow_reader.proofs.lemmas.TellingLemmas.{told-here}
 use Rattle.winnow_reader.proofs.utf8_record.Utf8RecordRecord.read.Goals as goal
 
 pub next_slice-requires-clause-offset : goal.next_slice-requires-clause-offset
@@ -14,8 +15,8 @@ next_slice-requires-clause-offset g c =
     let whole = units-same bytes now (c.peek_finish-bytes.ensures.answer ∙ sym (front-units now)) in
     is_offset-from_le now c.ask_fronts-answer.result.1 (subst (λ l. c.ask_fronts-answer.result.1 ≤ length l) whole c.ask_fronts-answer.ensures.within)
 
-pub returns : goal.returns
-returns g c =
+pub returns-clause-means : goal.returns-clause-means
+returns-clause-means g c =
     let means = g.R.TextRecord.means c.args.self.now.parser in
     let old = partial_inner c.args.input.now in
     let new = partial_inner c.next_slice.new.self in
@@ -27,3 +28,13 @@ returns g c =
     let there = past-told (location_of old) now taken (location_of new) (locating_inner new).now within c.next_slice.ensures.remains c.next_slice.ensures.location in
     asked-of means (outcome c.ask_fronts-answer.result.0) c.is_partial-partial.result (flag c.args.input.now) c.current_token_start-place.result (location_of old) bytes now taken (stands c.next_slice.new.self)
     c.is_partial-partial.ensures c.current_token_start-place.ensures whole there c.ask_fronts-answer.ensures.answer
+
+pub returns-clause-error : goal.returns-clause-error
+returns-clause-error g c =
+    let errors = g.R.TextRecord.errors c.args.self.now.parser in
+    let old = partial_inner c.args.input.now in
+    let now = (locating_inner old).now in
+    let bytes = c.peek_finish-bytes.result.now in
+    let whole = units-same bytes now (c.peek_finish-bytes.ensures.answer ∙ sym (front-units now)) in
+    let here = ap (λ l. bytes_at (location_of old) l) (sym whole) ∙ ap (λ p. bytes_at p bytes) (sym c.current_token_start-place.ensures) in
+    told-here errors c.current_token_start-place.result bytes (stands c.args.input.now) (stands c.next_slice.new.self) (flag c.args.input.now) c.ask_fronts-answer.result.0 here c.ask_fronts-answer.ensures.error

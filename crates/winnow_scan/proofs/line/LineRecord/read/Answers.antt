@@ -6,8 +6,8 @@ use Rattle.winnow_reader.specs.Place.{stands}
 use Rattle.winnow_scan.proofs.lemmas.LineLemmas.{line-of}
 use Rattle.winnow_scan.proofs.line.LineRecord.read.Goals as goal
 
-pub returns-in-Ok-from_slice : goal.returns-in-Ok-from_slice
-returns-in-Ok-from_slice c =
+pub returns-in-Ok-from_slice-clause-means : goal.returns-in-Ok-from_slice-clause-means
+returns-in-Ok-from_slice-clause-means c =
     let parts = c.before_feed.ensures in
     let old = c.args.input.now in
     let new = c.parse_next.new.input in
@@ -15,8 +15,8 @@ returns-in-Ok-from_slice c =
     (rw (parts.0, parts.1.0, parts.1.1) at c.in-Ok.ensures.means) in
     (c.in-Ok.text, (line, c.in-Ok-from_slice.ensures.items))
 
-pub returns-in-Err-from_slice : goal.returns-in-Err-from_slice
-returns-in-Err-from_slice c =
+pub returns-in-Err-from_slice-clause-means : goal.returns-in-Err-from_slice-clause-means
+returns-in-Err-from_slice-clause-means c =
     let parts = c.before_feed.ensures in
     let old = c.args.input.now in
     let new = c.parse_next.new.input in
@@ -24,8 +24,8 @@ returns-in-Err-from_slice c =
     (rw (parts.0, parts.1.0, parts.1.1) at c.in-Ok.ensures.means) in
     inr (tt, (c.in-Ok.text, (stands new, line)))
 
-pub returns-in-Err : goal.returns-in-Err
-returns-in-Err c =
+pub returns-in-Err-clause-means : goal.returns-in-Err-clause-means
+returns-in-Err-clause-means c =
     let parts = c.before_feed.ensures in
     let old = c.args.input.now in
     let new = c.parse_next.new.input in

@@ -2,6 +2,7 @@ use Rattle.std.proofs.Common.{◌≡◌, [], refl, ◌∙◌, sym, subst, inr, a
 use Rattle.winnow_reader.specs.State.{ReaderState, waiting_for}
 use Rattle.winnow_reader.specs.Reading.{HasRead}
 use Rattle.winnow_reader.specs.Answering.{ReadsNext}
+use Rattle.winnow_reader.specs.Telling.{TellsError}
 use Rattle.winnow_scan.specs.Waiting.{WaitsByScan}
 use Rattle.winnow_scan.proofs.lemmas.WaitLemmas.{parser-asked, ReadsNext-asked}
 use Rattle.winnow_scan.proofs.scan_reader.ScanReader.read_next.Goals as goal
@@ -34,3 +35,8 @@ returns-clause-next g c =
     let back = c.self.view_is ∙ c.goes_on.ensures.same in
     subst (λ f. ReadsNext means (WaitsByScan means g.R.Scan.scanned) f result new) back
     (ReadsNext-asked means g.R.Scan.scanned r.reader new result c.read_next-answer.ensures.next)
+
+pub returns-clause-error : goal.returns-clause-error
+returns-clause-error g c =
+    let back = c.self.view_is ∙ c.goes_on.ensures.same in
+    subst (λ f. TellsError g.R.Record.errors f c.read_next-answer.result) back c.read_next-answer.ensures.error

@@ -1,0 +1,4 @@
+pub mod Formulas
+pub mod Grammar
+pub mod Signs
+pub mod Trees

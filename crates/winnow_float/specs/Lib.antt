@@ -1,0 +1,5 @@
+pub mod Marks
+pub mod IfNext
+pub mod Word
+pub mod FloatText
+pub mod Float

@@ -1,3 +1,0 @@
-pub mod AgreeingFoldLemmas
-pub mod RightLemmas
-pub mod AgreeingRightLemmas

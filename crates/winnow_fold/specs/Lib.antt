@@ -1,4 +1,0 @@
-pub mod DeterminedFolds
-pub mod SeparatedFoldr1
-pub mod TryFold
-pub mod VerifyFold

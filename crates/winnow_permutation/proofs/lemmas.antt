@@ -1,0 +1,3 @@
+pub mod ContinuedLemmas
+pub mod TurnLemmas
+pub mod DeterminedLemmas

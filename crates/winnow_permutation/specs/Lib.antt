@@ -1,0 +1,4 @@
+pub mod Tried
+pub mod AnyOrder
+pub mod Permutation
+pub mod PermutationErrors

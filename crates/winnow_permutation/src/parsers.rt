@@ -1,0 +1,3 @@
+//! The parser, in a file that is named for its function.
+
+pub(crate) mod permutation;
