@@ -4,7 +4,7 @@ use Rattle.std.specs.Io.KnownBytes.{Appends}
 use Rattle.format_json.specs.Documents.{IsDocument, IsDamage}
 use Rattle.format_json_events.specs.ValueEvents.{events_of}
 use Rattle.format_json.specs.declared.value.Value.{Value}
-use Rattle.format_json.specs.declared.documents.Damage.{Damage}
+use Rattle.format_json.specs.declared.reading.Damage.{Damage}
 use Rattle.example_json.specs.Lines.{lines_of}
 use Rattle.example_json.specs.Failures.{IsOfText}
 use Rattle.example_json.specs.declared.failure.Failure.{Failure}

@@ -5,7 +5,7 @@ use Rattle.std.specs.declared.alloc.Global.{Global}
 use Rattle.format_csv.specs.Language.{RecordAhead}
 use Rattle.format_csv.specs.Answers.{values_of}
 use Rattle.format_csv.specs.Damage.{BreaksOff, IsUnclosed}
-use Rattle.format_csv.specs.declared.tables.Damage.{Damage}
+use Rattle.format_csv.specs.declared.reading.Damage.{Damage}
 
 -- the values of the fields of each record
 abbrev pub rows_in : List (Vec (Vec ℕ Global) Global) → List (List (List ℕ))

@@ -1,12 +1,6 @@
-//! The parser of a record, and the record of a reader.
+//! The parser of a record, and those of its fields and of its end.
 
-ghost use Rattle.std.specs.Prelude.{◌≡◌};
-ghost use Rattle.winnow.specs.Outcome.{Moves};
-ghost use Rattle.winnow.specs.Answer.{ahead};
 ghost use Rattle.winnow.specs.Errors.{AnyError};
-ghost use Rattle.winnow_stream.specs.SliceBytes.{SlicesHaveBytes};
-ghost use Rattle.format_lemmas.specs.Bytes.{bytes_of};
-ghost use Rattle.format_csv.specs.Answers.{IsAnswer, GivesEach};
 ghost use Rattle.format_csv.specs.Meanings.{FieldList, RecordEnd, OneRow, IsParser-OneRow};
 ghost use Rattle.format_csv.specs.Meanings.{IsParser-FieldList, IsParser-RecordEnd};
 
@@ -75,7 +69,8 @@ where
     }
 }
 
-/// The parser of one record; [`read_record`] says in the words of the format what it reads.
+/// The parser of one record; [`read_record`](crate::read_record) says what it reads, in the words of
+/// the format.
 #[derive(Clone, Copy, Debug)]
 pub struct Row;
 
@@ -97,29 +92,4 @@ where
     fn parse_next(&self, alloc: Global, input: &mut I) -> ModalResult<Vec<Vec<u8>>, E> {
         preceded(not(eof()), terminated(Fields, cut_err(RowEnd))).parse_next(alloc, input)
     }
-}
-
-/// Reads one record from a stream of bytes, and moves the stream past its end.
-///
-/// It backtracks at the end of the input, and does not move. If the input starts with no record, it
-/// cuts, and leaves the stream at the byte after a field that is neither a comma nor the end of a
-/// line, or at the end of the input if a closing quote is missing.
-pub fn read_record<I: StreamIsPartial + Stream<Token = u8>, E: ParserError<I>>(
-    alloc: Global,
-    input: &mut I,
-) -> ModalResult<Vec<Vec<u8>>, E>
-where
-    I::Slice: AsBytes + Drop,
-    requires valid { I.valid input.old }
-    requires bytes { SlicesHaveBytes I.is_slice I.Slice.bytes }
-    ensures answer { IsAnswer (I.expects_more input.old) (bytes_of (I.remaining input.old))
-        result (bytes_of (I.remaining input.new)) }
-    ensures complete { GivesEach (I.expects_more input.old) (bytes_of (I.remaining input.old))
-        result (bytes_of (I.remaining input.new)) }
-    ensures onward { Moves (ahead I.location I.remaining input.old)
-        (ahead I.location I.remaining input.new) }
-    ensures valid { I.valid input.new }
-    ensures kept { I.keeps input.old input.new }
-{
-    Row.parse_next(alloc, input)
 }

@@ -24,16 +24,15 @@ mod laws;
 mod marks;
 mod reading;
 mod scan;
-mod tables;
 mod widths;
 mod writing;
 
 pub use fields::{Plain, Quoted};
 pub use gathering::Chunks;
-pub use grammar::{Fields, Row, RowEnd, read_record};
+pub use grammar::{Fields, Row, RowEnd};
 pub use laws::rows_in_pieces_law;
 pub use marks::{Mark, byte_order_mark, skip_mark};
+pub use reading::{Damage, read_record, read_table};
 pub use scan::RowState;
-pub use tables::{Damage, read_table};
 pub use widths::first_uneven;
 pub use writing::write_record;

@@ -10,8 +10,8 @@ use Rattle.format_json.specs.Damage.{BreaksOff}
 use Rattle.format_json.specs.Begun.{BeginsValue}
 use Rattle.format_json.specs.declared.value.Value.{Value}
 use Rattle.format_json.specs.declared.found.Found.TheVariants as found
-use Rattle.format_json.specs.declared.grammar.Reading.{Reading}
-use Rattle.format_json.specs.declared.grammar.Reading.TheVariants as reading
+use Rattle.format_json.specs.declared.reading.Reading.{Reading}
+use Rattle.format_json.specs.declared.reading.Reading.TheVariants as reading
 
 -- the bytes begin with no value within the limit
 abbrev pub NoValueAhead : ℕ → Bool → List ℕ → Type 0

@@ -4,7 +4,7 @@ use Rattle.format_json.specs.Language.{after_blanks, ValueAhead}
 use Rattle.format_json.specs.Damage.{BreaksOff}
 use Rattle.format_json.specs.SameValues.{SameValue}
 use Rattle.format_json.specs.declared.value.Value.{Value}
-use Rattle.format_json.specs.declared.documents.Damage.{Damage}
+use Rattle.format_json.specs.declared.reading.Damage.{Damage}
 
 -- the text is this value, with blanks around it
 abbrev pub IsDocument : ℕ → List ℕ → Value → Type 0

@@ -11,7 +11,7 @@ ghost use Rattle.format_json.specs.Documents.{IsDocument, IsOnlyDocument, IsDama
 ghost use Rattle.format_json.specs.SameValues.{SameValue};
 ghost use Rattle.format_json.specs.Writing.{written, IsWhy};
 ghost use Rattle.format_json.specs.declared.value.Value.{Value};
-ghost use Rattle.format_json.specs.declared.documents.Damage.{Damage};
+ghost use Rattle.format_json.specs.declared.reading.Damage.{Damage};
 ghost use Rattle.format_json.specs.declared.writing.Unwritten.{Unwritten};
 ghost use Rattle.format_json.specs.declared.writing.Unwritten.TheVariants.{NoNumber, TooDeep};
 ghost use Rattle.format_json.specs.Tokens.{lexeme_of};

@@ -16,7 +16,6 @@
 #![tactic(auto, using(winnow_parser::proofs::lemmas::OnwardLemmas::onward_steps))]
 
 mod causes;
-mod documents;
 mod found;
 mod grammar;
 mod laws;
@@ -30,13 +29,11 @@ mod writing;
 pub use causes::Cause;
 #[doc(hidden)]
 pub use causes::{cause_of, is_cut};
-pub use documents::{Damage, read_document};
 pub use format_json_scalars::{Number, read_number, read_string, write_string};
 #[doc(hidden)]
 pub use found::blank_count;
-pub use grammar::read_value;
 pub use laws::{place_law, round_trip_law, tokens_in_pieces_law};
-pub use reading::JsonToken;
+pub use reading::{Damage, JsonToken, read_document, read_value};
 pub use scan::TokenScan;
 pub use tokens::Token;
 pub use value::Value;

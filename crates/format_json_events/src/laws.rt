@@ -8,7 +8,7 @@ ghost use Rattle.format_json_events.specs.Reading.{IsWhole, IsNext};
 ghost use Rattle.format_json_events.specs.Stops.{StopsAt, TellsStop, IsAtOffset};
 ghost use Rattle.format_json.specs.TokenAnswers.{OneToken};
 ghost use Rattle.format_json_events.specs.ValueEvents.{ReadsValue, AreFirstOf, AreAllOf, IsRefusal};
-ghost use Rattle.format_json.specs.declared.documents.Damage.{Damage};
+ghost use Rattle.format_json.specs.declared.reading.Damage.{Damage};
 ghost use Rattle.format_json_events.specs.declared.event_reader.Event.{Event};
 ghost use Rattle.format_json_events.specs.declared.event_reader.EventError.{EventError};
 ghost use Rattle.format_json.specs.declared.value.Value.{Value};

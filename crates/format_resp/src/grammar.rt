@@ -4,11 +4,9 @@ ghost use Rattle.std.specs.Prelude.{◌≡◌, ◌≢◌, ◌-◌, ◌<◌, true
 ghost use Rattle.winnow.specs.Outcome.{Moves};
 ghost use Rattle.winnow.specs.Answer.{ahead, outcome};
 ghost use Rattle.winnow.specs.Errors.{AnyError};
-ghost use Rattle.winnow_stream.specs.SliceBytes.{SlicesHaveBytes};
 ghost use Rattle.winnow_combinator.specs.Ending.{IsFail, IsParser-IsFail};
 ghost use Rattle.format_resp.specs.Meanings.{BulkString, ArrayReply, Scalar, Layer, Nested};
 ghost use Rattle.format_resp.specs.Meanings.{is_kind, IsParser-Nested};
-ghost use Rattle.format_resp.specs.Answers.{IsAnswer, GivesEach};
 
 use crate::Reply;
 use crate::lines::{read_bytes, read_integer, read_length, read_text};
@@ -258,32 +256,4 @@ where
         longest,
     };
     read_layer(alloc, input, longest, usize::MAX, by_rule(rule, inner))
-}
-
-/// Reads a reply within these limits from a stream of bytes.
-///
-/// It backtracks if the first byte is that of no kind, and consumes nothing then. It cuts at
-/// anything else that is no reply: at the end of a text that no line end follows, at the start of a
-/// line whose integer or length is none, or whose length passes a limit, and where an array has
-/// fewer replies than it says. The length of an array that stands in `depth` arrays may only be 0.
-/// Nothing is allocated for a length that is only announced.
-pub fn read_reply<I: StreamIsPartial + Stream<Token = u8>, E: ParserError<I>>(
-    alloc: Global,
-    input: &mut I,
-    limits: ReplyTo,
-) -> ModalResult<Reply, E>
-where
-    I::Slice: AsBytes + Drop,
-    requires valid { I.valid input.old }
-    requires bytes { SlicesHaveBytes I.is_slice I.Slice.bytes }
-    ensures answer { IsAnswer limits.longest limits.depth (I.expects_more input.old)
-        (I.remaining input.old) result (I.remaining input.new) }
-    ensures complete { GivesEach limits.longest limits.depth (I.remaining input.old) result
-        (I.remaining input.new) }
-    ensures onward { Moves (ahead I.location I.remaining input.old)
-        (ahead I.location I.remaining input.new) }
-    ensures valid { I.valid input.new }
-    ensures kept { I.keeps input.old input.new }
-{
-    limits.parse_next(alloc, input)
 }

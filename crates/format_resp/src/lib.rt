@@ -27,8 +27,9 @@ mod wanted;
 mod writing;
 
 pub use causes::{Cause, cause_of};
-pub use grammar::{ReplyTo, read_reply};
+pub use grammar::ReplyTo;
 pub use laws::{cause_law, spelling_law};
+pub use reading::read_reply;
 pub use reply::Reply;
 pub use scan::ReplyScan;
 pub use writing::{Unwritten, write_reply};

@@ -10,7 +10,7 @@ use Rattle.format_json.specs.Documents.{IsDocument, IsDamage}
 use Rattle.format_json_events.specs.Reading.{EventState, HasGiven, GivesOn, IsWhole, IsNext}
 use Rattle.format_json_events.specs.ValueEvents.{events_of, SameEvent, ReadsValue, AreAllOf, IsRefusal}
 use Rattle.format_json.specs.declared.value.Value.{Value}
-use Rattle.format_json.specs.declared.documents.Damage.{Damage}
+use Rattle.format_json.specs.declared.reading.Damage.{Damage}
 use Rattle.format_json_events.specs.declared.event_reader.Event.{Event}
 use Rattle.format_json_events.specs.declared.event_reader.Event.TheVariants as event
 use Rattle.format_json_events.specs.declared.event_reader.EventError.{EventError}

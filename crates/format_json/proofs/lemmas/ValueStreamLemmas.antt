@@ -12,8 +12,8 @@ use Rattle.format_json.specs.Begun.{BeginsValue}
 use Rattle.format_json.specs.SameValues.{SameValue}
 use Rattle.format_json.specs.Answers.{NoValueAhead, IsReading}
 use Rattle.format_json.specs.declared.value.Value.{Value}
-use Rattle.format_json.specs.declared.grammar.Reading.{Reading}
-use Rattle.format_json.specs.declared.grammar.Reading.TheVariants as reading
+use Rattle.format_json.specs.declared.reading.Reading.{Reading}
+use Rattle.format_json.specs.declared.reading.Reading.TheVariants as reading
 use Rattle.format_json_scalars.proofs.lemmas.StringStreamLemmas.{text-is, rest-is}
 use Rattle.format_json.proofs.lemmas.GrammarLemmas.{nested-once}
 use Rattle.format_json.proofs.lemmas.SameLemmas.{nested-same}

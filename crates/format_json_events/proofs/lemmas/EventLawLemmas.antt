@@ -15,7 +15,7 @@ use Rattle.format_json_events.specs.ValueEvents.{events_of, ReadsValue, AreFirst
 use Rattle.format_json.specs.declared.tokens.Token.{Token}
 use Rattle.format_json.specs.declared.tokens.Token.TheVariants as token
 use Rattle.format_json.specs.declared.reading.JsonToken.{JsonToken}
-use Rattle.format_json.specs.declared.documents.Damage.{Damage}
+use Rattle.format_json.specs.declared.reading.Damage.{Damage}
 use Rattle.format_json_events.specs.declared.event_reader.Event.{Event}
 use Rattle.format_json_events.specs.declared.event_reader.EventError.{EventError}
 use Rattle.format_json_events.specs.declared.event_reader.EventError.TheVariants as error

@@ -2,10 +2,10 @@ use Rattle.std.proofs.Common.{◌≡◌, [], refl, sym, subst}
 use Rattle.winnow_stream.specs.Source.{units}
 use Rattle.format_json.specs.Language.{after_blanks}
 use Rattle.format_json.specs.Answers.{IsReading}
-use Rattle.format_json.specs.declared.grammar.Reading.TheVariants.{Nothing, Whole, Begun, Damaged}
+use Rattle.format_json.specs.declared.reading.Reading.TheVariants.{Nothing, Whole, Begun, Damaged}
 use Rattle.format_json_scalars.proofs.lemmas.StringStreamLemmas.{source-is, moved-to, offset-fits, text-is}
 use Rattle.format_json.proofs.lemmas.ValueStreamLemmas.{value-as, value-missed, value-none, value-place, value-open, blank-missed, damaged-missed, value-answers, value-once}
-use Rattle.format_json.proofs.grammar.read_value.Goals as goal
+use Rattle.format_json.proofs.reading.read_value.Goals as goal
 
 pub returns-in-Ok-Nothing-clause-answer : goal.returns-in-Ok-Nothing-clause-answer
 returns-in-Ok-Nothing-clause-answer g c =

@@ -5,7 +5,7 @@ use Rattle.format_json.specs.declared.found.Found.TheVariants.{Whole, Damaged}
 use Rattle.format_json.proofs.lemmas.FoundLemmas.{found-same}
 use Rattle.format_json.proofs.lemmas.DocumentLemmas.{no-document, blanks-fit, only-document, more-follows, follows-place}
 use Rattle.format_json.proofs.lemmas.DamageLemmas.{placed-same}
-use Rattle.format_json.proofs.documents.read_document.Goals as goal
+use Rattle.format_json.proofs.reading.read_document.Goals as goal
 
 pub returns-else-offset-text-clause-damaged : goal.returns-else-offset-text-clause-damaged
 returns-else-offset-text-clause-damaged c =

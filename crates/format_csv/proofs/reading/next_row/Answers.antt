@@ -1,4 +1,4 @@
-use Rattle.format_csv.proofs.tables.next_row.Goals as goal
+use Rattle.format_csv.proofs.reading.next_row.Goals as goal
 use Rattle.format_lemmas.proofs.lemmas.ByteLemmas.{bytes-units}
 
 pub returns-clause-answer : goal.returns-clause-answer

@@ -1,6 +1,6 @@
 use Rattle.winnow_parser.specs.Answer.{ahead}
 use Rattle.format_resp.proofs.lemmas.AnswerLemmas.{answers, gives-each}
-use Rattle.format_resp.proofs.grammar.read_reply.Goals as goal
+use Rattle.format_resp.proofs.reading.read_reply.Goals as goal
 
 pub returns-clause-answer : goal.returns-clause-answer
 returns-clause-answer g c =

@@ -1,6 +1,6 @@
 use Rattle.winnow_parser.specs.Answer.{ahead}
 use Rattle.format_csv.proofs.lemmas.AnswerLemmas.{answers, gives-each}
-use Rattle.format_csv.proofs.grammar.read_record.Goals as goal
+use Rattle.format_csv.proofs.reading.read_record.Goals as goal
 
 pub returns-clause-answer : goal.returns-clause-answer
 returns-clause-answer g c =

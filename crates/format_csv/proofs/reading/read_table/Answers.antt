@@ -3,7 +3,7 @@ use Rattle.std.proofs.lemmas.List.{length-map}
 use Rattle.format_csv.specs.Answers.{values_of}
 use Rattle.format_csv.specs.Tables.{rows_in, AreRecords}
 use Rattle.format_csv.proofs.lemmas.TableLemmas.{records-more, records-within, cut-damaged, damaged-within, rows-push}
-use Rattle.format_csv.proofs.tables.read_table.Goals as goal
+use Rattle.format_csv.proofs.reading.read_table.Goals as goal
 
 pub loop-row-preserved : goal.loop-row-preserved
 loop-row-preserved c =

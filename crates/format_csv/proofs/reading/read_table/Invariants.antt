@@ -1,6 +1,6 @@
 use Rattle.std.proofs.Common.{length}
 use Rattle.format_csv.specs.Tables.{rows_in, AreRecords}
-use Rattle.format_csv.proofs.tables.read_table.Given as goal
+use Rattle.format_csv.proofs.reading.read_table.Given as goal
 
 -- the rows so far stand before what remains
 abbrev pub invariant-loop-row : goal.invariant-loop-row
