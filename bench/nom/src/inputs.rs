@@ -35,3 +35,16 @@ pub fn names(length: usize) -> Vec<u8> {
     }
     text
 }
+
+/// Numbers with a fraction, and every fourth with an exponent, a space or a newline after each.
+pub fn floats(length: usize) -> Vec<u8> {
+    let mut random = Random(3);
+    let mut text = Vec::with_capacity(length + 32);
+    while text.len() < length {
+        let sign = if random.below(3) == 0 { "-" } else { "" };
+        let exponent = if random.below(4) == 0 { format!("e{}", random.below(40)) } else { String::new() };
+        text.extend(format!("{sign}{}.{}{exponent}", random.below(1000), random.below(1_000_000)).as_bytes());
+        text.push(if random.below(7) == 0 { b'\n' } else { b' ' });
+    }
+    text
+}

@@ -16,7 +16,7 @@ macro_rules! workloads {
 pub mod whole {
     workloads! {
         winnow_bench_parse_tokens { any = 0 one_of = 1 literal = 2 take = 3 take_while = 4 take_till = 5 take_until = 6 }
-        winnow_bench_parse_parts { alt = 0 repeat_count = 1 repeat_vec = 2 separated = 3 }
+        winnow_bench_parse_parts { alt = 0 repeat_count = 1 repeat_vec = 2 separated = 3 alt_of_array = 4 verify_fold = 5 float = 6 }
     }
 }
 
@@ -31,7 +31,7 @@ pub mod partial {
 pub mod by_hand {
     workloads! {
         winnow_bench_by_hand_tokens { any = 0 one_of = 1 literal = 2 take = 3 take_while = 4 take_till = 5 take_until = 6 }
-        winnow_bench_by_hand_parts { alt = 0 repeat_count = 1 repeat_vec = 2 separated = 3 }
+        winnow_bench_by_hand_parts { alt = 0 repeat_count = 1 repeat_vec = 2 separated = 3 alt_of_array = 4 verify_fold = 5 float = 6 }
     }
 }
 

@@ -3,7 +3,7 @@
 use nom::branch;
 use nom::bytes::complete as bytes;
 use nom::character::complete as character;
-use nom::multi::{many0, many0_count, separated_list0};
+use nom::multi::{fold_many0, many0, many0_count, separated_list0};
 use nom::number::complete as number;
 use nom::sequence::terminated;
 use nom::{IResult, Parser};
@@ -28,6 +28,18 @@ impl Value for char {
 impl Value for usize {
     fn value(&self) -> u64 {
         *self as u64
+    }
+}
+
+impl Value for u64 {
+    fn value(&self) -> u64 {
+        *self
+    }
+}
+
+impl Value for f64 {
+    fn value(&self) -> u64 {
+        self.to_bits()
     }
 }
 
@@ -133,6 +145,15 @@ pub mod parts {
 
     pub fn repeat_vec(input: &[u8]) -> u64 {
         read_once(input, many0(terminated(word, space)))
+    }
+
+    pub fn verify_fold(input: &[u8]) -> u64 {
+        let word = |input| terminated(word, space)(input);
+        read_once(input, fold_many0(word, || 0u64, |sum: u64, word: &[u8]| word.value().wrapping_sub(sum)))
+    }
+
+    pub fn float(input: &[u8]) -> u64 {
+        sum_values(input, terminated(number::double, number::u8))
     }
 
     pub fn separated(input: &[u8]) -> u64 {

@@ -3,7 +3,7 @@
 
 ghost use Rattle.std.specs.Prelude.{◌≡◌, IfErr};
 ghost use Rattle.winnow_parser.specs.Answer.{ahead, outcome};
-ghost use Rattle.winnow_parser.specs.Errors.{FlatMapErrors};
+ghost use Rattle.winnow_parser.specs.Errors.{FlatMapErrors, PairErrors};
 ghost use Rattle.winnow_parser.specs.FlatMap.{FlatMaps};
 ghost use Rattle.winnow_parser.specs.Meanings.{Maps};
 ghost use Rattle.winnow_parser.specs.Rows.{Row3};
@@ -50,7 +50,8 @@ pub struct Both<A, B> {
     pub second: B,
 }
 
-/// Reads two values with a sign between them, which is left out.
+/// Reads two values with a sign between them, which is left out. Its errors are those of the parser
+/// that failed.
 pub fn read_both<
     I: StreamIsPartial,
     E,
@@ -75,6 +76,9 @@ where
     ensures means { Maps HasBoth (Row3 (A.means first) (S.means sign) (B.means second))
         (I.expects_more input.old) (ahead I.location I.remaining input.old)
         (outcome result (ahead I.location I.remaining input.new)) }
+    ensures error { IfErr result (PairErrors (A.means first) (A.errors first)
+        (PairErrors (S.means sign) (S.errors sign) (B.errors second)) (I.expects_more input.old)
+        (ahead I.location I.remaining input.old) input.new) }
 {
     let parser = seq!(Both { first: first, _: sign, second: second });
     parser.parse_next(alloc, input)
