@@ -69,7 +69,7 @@ where
     }
 }
 
-/// The parser of one record; [`read_record`](crate::read_record) says what it reads, in the words of
+/// The parser of one record; [`read_record`](crate::read_record) says what it reads in the words of
 /// the format.
 #[derive(Clone, Copy, Debug)]
 pub struct Row;
