@@ -73,6 +73,7 @@ pub use Rattle.winnow_reader.specs.Answering
 pub use Rattle.winnow_reader.specs.Copied
 pub use Rattle.winnow_reader.specs.SameValues
 pub use Rattle.winnow_reader.specs.Telling
+pub use Rattle.winnow_reader.specs.First
 pub use Rattle.winnow_reader.specs.TextPlace
 pub use Rattle.winnow_reader.specs.TextTelling
 pub use Rattle.winnow_reader.specs.InUtf8
