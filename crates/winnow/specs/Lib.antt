@@ -137,6 +137,7 @@ pub use Rattle.winnow_codec.specs.Writing
 pub use Rattle.winnow_limit.specs.Bound
 pub use Rattle.winnow_limit.specs.Limit
 pub use Rattle.winnow_limit.specs.LimitTelling
+pub use Rattle.winnow_limit.specs.Scanned
 pub use Rattle.winnow_limit.specs.Why
 pub use Rattle.winnow_limit.specs.Within
 pub use Rattle.winnow_limit.specs.WithinLaws
