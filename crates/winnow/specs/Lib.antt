@@ -73,6 +73,7 @@ pub use Rattle.winnow_reader.specs.Answering
 pub use Rattle.winnow_reader.specs.Copied
 pub use Rattle.winnow_reader.specs.SameValues
 pub use Rattle.winnow_reader.specs.Telling
+pub use Rattle.winnow_reader.specs.First
 pub use Rattle.winnow_reader.specs.TextPlace
 pub use Rattle.winnow_reader.specs.TextTelling
 pub use Rattle.winnow_reader.specs.InUtf8
@@ -136,6 +137,7 @@ pub use Rattle.winnow_codec.specs.Writing
 pub use Rattle.winnow_limit.specs.Bound
 pub use Rattle.winnow_limit.specs.Limit
 pub use Rattle.winnow_limit.specs.LimitTelling
+pub use Rattle.winnow_limit.specs.Scanned
 pub use Rattle.winnow_limit.specs.Why
 pub use Rattle.winnow_limit.specs.Within
 pub use Rattle.winnow_limit.specs.WithinLaws

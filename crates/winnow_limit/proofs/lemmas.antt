@@ -1,3 +1,4 @@
 pub mod FirstLemmas
 pub mod DeterminedLemmas
 pub mod BoundLemmas
+pub mod ScanLemmas

@@ -4,3 +4,4 @@ pub mod Bound
 pub mod Limit
 pub mod Why
 pub mod LimitTelling
+pub mod Scanned

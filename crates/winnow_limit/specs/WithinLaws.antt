@@ -9,7 +9,8 @@ use Rattle.winnow_stream.specs.Source.{Source}
 use Rattle.winnow_parser.specs.Outcome.{Ahead, Backtracks, Cuts, Needs, Refuses, Outcome, Gives, Fails, Meaning, Moves}
 use Rattle.winnow_parser.specs.Laws.{longer, outcome_longer, IsSettled, IsStable, IsFinal, IsOnward, IsParser}
 use Rattle.winnow_parser.specs.Parts.{Moves-still}
-use Rattle.winnow_limit.specs.Within.{first_ahead, left_ahead, goes_on, AnswersFirst, IsTooLong, Within}
+use Rattle.winnow_reader.specs.First.{first_ahead, left_ahead, goes_on}
+use Rattle.winnow_limit.specs.Within.{AnswersFirst, IsTooLong, Within}
 
 -- ---- The first tokens, once more has come
 

@@ -7,6 +7,7 @@ ghost use Rattle.winnow_limit.specs.Limit.{limit_of};
 use crate::Limited;
 use std::alloc::Global;
 use winnow_reader::{ByteReader, Record};
+use winnow_scan::{Scan, ScanReader};
 
 /// Returns this record with a limit: it has at most `greatest` bytes, with those that end it.
 pub fn limited<R>(inner: R, greatest: usize) -> Limited<R>
@@ -46,4 +47,18 @@ pub fn with_limit<R: Record>(alloc: Global, inner: R, greatest: usize) -> ByteRe
     ensures { result ≡ at_start (limit_of inner greatest) }
 {
     ByteReader::new(alloc, limited(inner, greatest))
+}
+
+/// Returns a reader of records of at most `greatest` bytes each, to which nothing was pushed, that
+/// goes over each byte once, by the scan of the record.
+///
+/// Lines of at most 8 bytes, with their line feeds:
+///
+/// ```
+/// let mut reader = scan_with_limit(alloc, Line, 8);
+/// ```
+pub fn scan_with_limit<R: Scan>(alloc: Global, inner: R, greatest: usize) -> ScanReader<Limited<R>>
+    ensures { result ≡ at_start (limit_of inner greatest) }
+{
+    ScanReader::new(alloc, limited(inner, greatest))
 }

@@ -1,4 +1,4 @@
-//! Laws of records with a limit: one answer, and how much a reader keeps.
+//! Laws of records with a limit: one answer, and how much each reader keeps.
 
 ghost use Rattle.std.specs.Prelude.{ℕ, List, Result};
 ghost use Rattle.winnow_parser.specs.Determined.{IsDetermined, Shows};
@@ -12,8 +12,11 @@ ghost use Rattle.winnow_limit.specs.Within.{Within};
 ghost use Rattle.winnow_reader.specs.Skips.{skipped};
 ghost use Rattle.winnow_limit.specs.Limit.{limit_of};
 ghost use Rattle.winnow_limit.specs.Bound.{IsBounded, WaitsWithin};
+ghost use Rattle.winnow_scan.specs.Waiting.{WaitsByScan};
+ghost use Rattle.winnow_limit.specs.Scanned.{ScansWithin};
 
 use winnow_reader::Record;
+use winnow_scan::Scan;
 
 /// The law of a deterministic record with a limit: it is deterministic too, so by
 /// `determined_reading_law` each cut of an input has the same values, and the same records are too
@@ -36,5 +39,20 @@ pub fn limit_law<R: Record>()
         → IsBounded old
         → ReadsNext (λ r. Within r.greatest (R.means r.inner))
         (WaitsByNeed (λ r. Within r.greatest (R.means r.inner))) old result new
+        → StaysTillWanted old result new → IsBounded new × WaitsWithin old result new }
+{}
+
+/// The law of what a reader with a scan keeps of a record with a limit, by the words of
+/// [`limit_law`], whose clauses `start` and `kept` speak of it too. A call of `read_next` wants at
+/// most a byte more than a record may have, and if it needs more, at most as many bytes are ahead
+/// as a record may have, also while the scan goes on. It does nothing when called: its contract is
+/// the law.
+pub fn scan_limit_law<R: Scan>()
+    ensures { (old new : ReaderState (Limited R))
+        (result : Result (Next R.Output) (ReadError (LimitedError R.Error)))
+        → IsBounded old
+        → ReadsNext (λ r. Within r.greatest (R.means r.inner))
+        (WaitsByScan (λ r. Within r.greatest (R.means r.inner))
+        (λ r bytes state. ScansWithin r.greatest (R.scanned r.inner) bytes state)) old result new
         → StaysTillWanted old result new → IsBounded new × WaitsWithin old result new }
 {}

@@ -6,13 +6,18 @@
 //! with a cut at its start, and the error says [`LimitedError::TooLong`]. So whether a record is
 //! too long depends on the input alone, and not on the pieces, and a reader keeps at most that
 //! number of bytes and a piece. After that failure `skip_to` goes past the rest of the record.
+//!
+//! A record with a scan has one with a limit too, so a [`ScanReader`](winnow_scan::ScanReader) of
+//! it, as [`scan_with_limit`] makes it, goes over each byte once, and keeps as little.
 #![tactic(auto)]
 
 mod asking;
 mod functions;
 mod laws;
 mod limit;
+mod scanning;
 
-pub use functions::{limited, with_limit};
-pub use laws::{determined_limit_law, limit_law};
+pub use functions::{limited, scan_with_limit, with_limit};
+pub use laws::{determined_limit_law, limit_law, scan_limit_law};
 pub use limit::{Limited, LimitedError};
+pub use scanning::LimitedState;

@@ -11,3 +11,4 @@ pub mod AlikeLemmas
 pub mod Utf8Lemmas
 pub mod MendLemmas
 pub mod DeterminedLemmas
+pub mod FrontToldLemmas

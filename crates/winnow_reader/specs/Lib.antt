@@ -10,6 +10,7 @@ pub mod Copied
 pub mod SameValues
 pub mod Asked
 pub mod Telling
+pub mod First
 pub mod TextPlace
 pub mod InUtf8
 pub mod TextFrontLaws

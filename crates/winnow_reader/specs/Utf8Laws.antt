@@ -34,7 +34,7 @@ module _ (a : Ahead ℕ) (more : Source ℕ) where
   bytes-longer = map-append (λ x. x.0) a.tokens more
 
   -- the characters that more bytes add to the text
-  abbrev came : Source ℕ
+  abbrev pub came : Source ℕ
   came = text_source (added (bytes_in a.tokens) (bytes_in more))
 
   -- the text ahead is longer by them
@@ -52,7 +52,7 @@ module _ (a : Ahead ℕ) (more : Source ℕ) where
       omega (arith, width-text_source (text_in bs) (IsUtf8-text_in bs), length-take (utf8_valid_len bs) bs, length-map a.tokens (λ x. x.0))
 
   -- what is taken of the text is the same
-  left_at-longer : (c : Ahead ℕ)
+  pub left_at-longer : (c : Ahead ℕ)
       → left_at (longer more a) (longer came c) ≡ longer more (left_at a c)
   left_at-longer c =
       let n = width (text_ahead a).tokens - width c.tokens in
@@ -73,7 +73,7 @@ module _ (a : Ahead ℕ) (more : Source ℕ) where
         (ap text_in bytes-longer ∙ text_in-damaged (bytes_in a.tokens) (bytes_in more) damage)
 
     -- the place of the damage stays when more follows
-    past-damaged : past (longer more a) (utf8_valid_len (bytes_in (a.tokens ++ more)))
+    pub past-damaged : past (longer more a) (utf8_valid_len (bytes_in (a.tokens ++ more)))
         ≡ longer more (past a (utf8_valid_len (bytes_in a.tokens)))
     past-damaged =
         let bs = bytes_in a.tokens in
@@ -95,14 +95,15 @@ is_damaged-longer false rest more d = grind (arith, nat_tests, damage-some rest 
 
 module _ {O : Type 0} (inner : Meaning O ℕ) (p : IsParser inner) where
   -- a settled answer of the text is one of the longer text
-  answers-longer : (more : Source ℕ) (partial : Bool) (a : Ahead ℕ) (v : Outcome O ℕ) → IsSettled v
+  pub answers-longer : (more : Source ℕ) (partial : Bool) (a : Ahead ℕ) (v : Outcome O ℕ)
+      → IsSettled v
       → AnswersText inner true a v → AnswersText inner partial (longer more a) (outcome_longer (came a more) v)
   answers-longer more partial a v s h =
       let told = goes_on partial (past_text (bytes_in (a.tokens ++ more))) in
       subst (λ b. inner told b (outcome_longer (came a more) v)) (sym (text_ahead-longer a more)) (p.stable (came a more) told (text_ahead a) v s h)
 
   -- damage is met by longer bytes too
-  meets-longer : (more : Source ℕ) (partial : Bool) (a : Ahead ℕ) → MeetsDamage inner true a
+  pub meets-longer : (more : Source ℕ) (partial : Bool) (a : Ahead ℕ) → MeetsDamage inner true a
       → MeetsDamage inner partial (longer more a)
   meets-longer more partial a h =
       let rest = past_text (bytes_in a.tokens) in

@@ -1,7 +1,7 @@
 //! One call of a record of text on bytes that are UTF-8.
 
 ghost use Rattle.std.specs.Prelude.{◌≡◌, ◌+◌, ◌-◌, ◌≤◌, ◌<◌, ◌^◌, ◌==◌, ◌||◌, not, length};
-ghost use Rattle.std.specs.Prelude.{ℕ, IfSome, IfErr};
+ghost use Rattle.std.specs.Prelude.{ℕ, MatchOption, IfErr};
 ghost use Rattle.winnow_parser.specs.Outcome.{Ahead};
 ghost use Rattle.winnow_parser.specs.Laws.{IsSettled};
 ghost use Rattle.std.specs.Str.Lossy.{utf8_valid_len};
@@ -12,7 +12,7 @@ ghost use Rattle.winnow_reader.specs.Place.{bytes_at};
 ghost use Rattle.winnow_reader.specs.TextPlace.{text_at, stands_text};
 ghost use Rattle.winnow_reader.specs.Wanted.{size_of};
 ghost use Rattle.winnow_reader.specs.InUtf8.{InUtf8, text_in, past_text, is_damaged, past};
-ghost use Rattle.winnow_reader.specs.TextTelling.{TextTold, FrontTold};
+ghost use Rattle.winnow_reader.specs.TextTelling.{TellsDamage, TextTold, FrontTold};
 
 use crate::asking::size_of;
 use crate::{TextError, TextRecord, TextRecordInput};
@@ -77,7 +77,10 @@ fn ask_text<R: TextRecord>(
     ensures answer { InUtf8 (R.means parser.now) partial (bytes_at place bytes.now)
         (outcome result.0 (past (bytes_at place bytes.now) result.1)) }
     ensures within { result.1 ≤ length bytes.now }
-    ensures error { IfErr result.0 (TextTold (R.errors parser.now) place bytes.now) }
+    ensures damage { IfErr result.0 (TellsDamage (R.means parser.now) partial
+        (bytes_at place bytes.now) (past (bytes_at place bytes.now) result.1)) }
+    ensures error { IfErr result.0 (TextTold (R.errors parser.now) partial
+        (bytes_at place bytes.now) (past (bytes_at place bytes.now) result.1)) }
 {
     let (text, damaged) = text_front(bytes, partial);
     let following = bytes.len() - text.len();
@@ -100,7 +103,7 @@ fn ask_text<R: TextRecord>(
 
 // Returns an answer that asks neither for more input nor for more memory.
 fn settled<O, E>(answer: ModalResult<O, E>) -> Option<ModalResult<O, E>>
-    ensures { IfSome result
+    ensures { MatchOption result ((a : Ahead ℕ) → ¬ (IsSettled (outcome answer a)))
         (λ given. (given ≡ answer) × ((a : Ahead ℕ) → IsSettled (outcome answer a))) }
 {
     match answer {
@@ -129,7 +132,10 @@ pub(crate) fn ask_fronts<R: TextRecord>(
     ensures answer { InUtf8 (R.means parser.now) partial (bytes_at place bytes.now)
         (outcome result.0 (past (bytes_at place bytes.now) result.1)) }
     ensures within { result.1 ≤ length bytes.now }
-    ensures error { IfErr result.0 (FrontTold (R.errors parser.now) place bytes.now) }
+    ensures damage { IfErr result.0 (TellsDamage (R.means parser.now) partial
+        (bytes_at place bytes.now) (past (bytes_at place bytes.now) result.1)) }
+    ensures error { IfErr result.0 (FrontTold (R.means parser.now) (R.errors parser.now) partial
+        (bytes_at place bytes.now) (past (bytes_at place bytes.now) result.1)) }
 {
     let mut len = FIRST;
     for _ in 0..usize::BITS {

@@ -1,7 +1,8 @@
 //! Laws of readers: the same values for each cut, waiting, places, damaged text, and skips.
 
 ghost use Rattle.std.specs.Prelude.{◌≡◌, ℕ, ◌+◌, ◌≤◌, ◌↔◌, List, [], ◌++◌, length, take, drop};
-ghost use Rattle.std.specs.Prelude.{true, false, Result, Option, Some, option_map, IsTrue, IsUtf8};
+ghost use Rattle.std.specs.Prelude.{Bool, true, false, Result, Option, Some, option_map};
+ghost use Rattle.std.specs.Prelude.{IsTrue, IsUtf8};
 ghost use Rattle.std.specs.Borrow.{Bor};
 ghost use Rattle.winnow_stream.specs.Source.{units};
 ghost use Rattle.winnow_stream.specs.Front.{is_offset};
@@ -20,7 +21,11 @@ ghost use Rattle.memchr.specs.Find.{FindsNeedle};
 ghost use Rattle.winnow_reader.specs.declared.skipping.Skipped.TheVariants.{NeedsMore};
 ghost use Rattle.winnow_reader.specs.Skips.{skipped, SkipsTo};
 ghost use Rattle.winnow_reader.specs.SameValues.{AreFronts, AreAlike, IsThrough};
-ghost use Rattle.winnow_reader.specs.InUtf8.{InUtf8, text_in, past_text, is_damaged};
+ghost use Rattle.winnow_reader.specs.InUtf8.{InUtf8, text_in, past_text, is_damaged, MeetsDamage};
+ghost use Rattle.winnow_stream.specs.declared.needed.Needed.{Needed};
+ghost use Rattle.winnow_parser.specs.declared.failure.Failure.{Failure};
+ghost use Rattle.winnow_reader.specs.declared.utf8_record.TextError.{TextError};
+ghost use Rattle.winnow_reader.specs.TextTelling.{TellsDamage, IsDamageIfTold};
 
 use crate::{Record, TextRecord};
 
@@ -81,6 +86,19 @@ pub fn damage_law()
 pub fn determined_text_law<R: TextRecord, V>()
     ensures { (view : R.Output → V) (r : R) → IsDetermined (Shows view) (R.means r)
         → IsDetermined (Shows view) (InUtf8 (R.means r)) }
+{}
+
+/// The law of damage that is told: over bytes where a record of text with one answer to each
+/// question meets damage, no failure carries an error but [`TextError::Damaged`]. The contract of
+/// `read` of a `Utf8Record` says the other way, that it is told nowhere else. It does nothing when
+/// called: its contract is the law.
+///
+/// [`TextError::Damaged`]: crate::TextError::Damaged
+pub fn told_damage_law<R: TextRecord, V>()
+    ensures { (view : R.Output → V) (r : R) (partial : Bool) (a left : Ahead ℕ)
+        (failure : Failure (TextError R.Error) Needed) → IsDetermined (Shows view) (R.means r)
+        → MeetsDamage (R.means r) partial a → TellsDamage (R.means r) partial a left failure
+        → IsDamageIfTold failure }
 {}
 
 /// The law of readers that skip. What was read of the input is what was read since place 0; after

@@ -51,7 +51,7 @@ mod utf8_record;
 pub use byte_reader::ByteReader;
 pub use laws::{
     bytes_at_law, damage_law, determined_reading_law, determined_text_law, skip_law, skip_to_law,
-    waiting_law,
+    told_damage_law, waiting_law,
 };
 pub use next::{Next, ReadError};
 pub use record::{Record, RecordInput};

@@ -25,7 +25,9 @@ pub enum TextError<E> {
 /// The record is asked of the longest front of the bytes that is UTF-8. A character that breaks off
 /// there is waited for. Where the bytes go on with a sequence that is none, or the input ends
 /// within a character, the record is told that more may follow; if it then needs more, the failure
-/// is [`TextError::Damaged`], a cut at the first byte that is no character.
+/// is [`TextError::Damaged`], a cut at the first byte that is no character. It is told nowhere
+/// else: each other failure is the record's own. An error of the record is one for the first 256
+/// bytes, 512, 1024 and so on, or for all: the fewest to which it has an answer.
 #[derive(Drop)]
 pub struct Utf8Record<R> {
     parser: R,
@@ -54,7 +56,7 @@ impl<R: TextRecord> Record for Utf8Record<R> {
 
     ghost means = { λ r. InUtf8 (R.means r.parser) };
 
-    ghost errors = { λ r. Utf8Errors (R.errors r.parser) };
+    ghost errors = { λ r. Utf8Errors (R.means r.parser) (R.errors r.parser) };
 
     ghost ready = { λ r. R.ready r.parser };
 

@@ -1,3 +1,4 @@
 pub mod ScannedLemmas
 pub mod WaitLemmas
 pub mod LineLemmas
+pub mod SinceLemmas

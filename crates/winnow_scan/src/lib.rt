@@ -13,7 +13,8 @@
 //! nor a failure there: that is its law, and the contract of `read_next` passes it on. No contract
 //! counts calls.
 //!
-//! [`Line`] is such a record, with the plainest scan.
+//! [`Line`] is such a record, with the plainest scan. After a failure `skip` and `skip_to` go past
+//! damage, as those of a `ByteReader` do.
 #![tactic(auto)]
 
 mod laws;
@@ -21,7 +22,7 @@ mod line;
 mod scan;
 mod scan_reader;
 
-pub use laws::scan_law;
+pub use laws::{scan_law, scan_skip_law};
 pub use line::Line;
 pub use scan::Scan;
 pub use scan_reader::ScanReader;

@@ -3,7 +3,7 @@
 use crate::Scan;
 use std::alloc::{AllocError, Global};
 use std::marker::Model;
-use winnow_reader::{ByteReader, Next, ReadError};
+use winnow_reader::{ByteReader, Next, ReadError, Skipped};
 
 /// A reader of records from bytes that come in pieces, as [`ByteReader`]. Once its record needed
 /// more, it goes over each byte once, by the scan of the record, before it asks the record again.
@@ -59,11 +59,14 @@ impl<R: Scan> Model for ScanReader<R> {
 }
 
 impl<R: Scan> ScanReader<R> {
-    ghost use Rattle.std.specs.Prelude.{◌≡◌, ◌+◌, ◌<◌, ◌^◌, [], true, false, length, OnOk, OnErr};
+    ghost use Rattle.std.specs.Prelude.{◌≡◌, ◌+◌, ◌<◌, ◌^◌, [], true, false, length, min};
+    ghost use Rattle.std.specs.Prelude.{OnOk, OnErr};
     ghost use Rattle.winnow_reader.specs.State.{at_start, pushed, ended_after, unspent, fed_of};
     ghost use Rattle.winnow_reader.specs.Reading.{HasRead, ReadsAlso, ReadsThrough, ReadsOn};
     ghost use Rattle.winnow_reader.specs.Answering.{ReadsNext, StaysTillWanted, IsDoneAtEnd};
     ghost use Rattle.winnow_reader.specs.Telling.{TellsError};
+    ghost use Rattle.winnow_reader.specs.Since.{HasReadSince};
+    ghost use Rattle.winnow_reader.specs.Skips.{skipped, bytes_skipped, SkipsTo};
     ghost use Rattle.winnow_scan.specs.Waiting.{ScansOn, WaitsByScan};
 
     /// Returns a reader that nothing was pushed to.
@@ -145,6 +148,53 @@ impl<R: Scan> ScanReader<R> {
         }
         self.scanned = ahead.len();
         false
+    }
+
+    /// Drops the next bytes, this many or all that are ahead if these are fewer, and returns how
+    /// many. The next record begins after them, and so does its scan.
+    pub fn skip(&mut self, count: usize) -> usize
+        ensures count { result ≡ min count (length self.old.ahead) }
+        ensures state { self.new ≡ skipped self.old result }
+        ensures read { HasReadSince R.means self.new.place self.new self.new.ahead [] }
+    {
+        let parser = self.reader.parser();
+        self.state = parser.start();
+        self.scanned = 0;
+        self.stage = Stage::Fresh;
+        self.reader.skip(count)
+    }
+
+    /// Drops the bytes up to the end of the first occurrence of a literal, and returns how many, as
+    /// `skip_to` of a [`ByteReader`] does. The next record begins after the literal, and so does
+    /// its scan.
+    ///
+    /// A log whose lines may be too long goes on after them:
+    ///
+    /// ```
+    /// if skipping && !matches!(reader.skip_to(b"\n"), Skipped::Found(_)) {
+    ///     return Ok(true);
+    /// }
+    /// skipping = false;
+    /// match reader.read_next() {
+    ///     Ok(Next::Value(line)) => log.lines.push(line.len())?,
+    ///     Ok(Next::NeedsMore | Next::Done) => return Ok(false),
+    ///     Err(ReadError::Refused(refused)) => return Err(refused),
+    ///     Err(_) => {
+    ///         log.long.push(reader.place())?;
+    ///         skipping = true;
+    ///     }
+    /// }
+    /// ```
+    pub fn skip_to(&mut self, literal: &[u8]) -> Skipped
+        ensures bytes { SkipsTo literal.now self.old.ended self.old.ahead result }
+        ensures state { self.new ≡ skipped self.old (bytes_skipped result) }
+        ensures read { HasReadSince R.means self.new.place self.new self.new.ahead [] }
+    {
+        let parser = self.reader.parser();
+        self.state = parser.start();
+        self.scanned = 0;
+        self.stage = Stage::Fresh;
+        self.reader.skip_to(literal)
     }
 
     /// Notes that nothing more follows.

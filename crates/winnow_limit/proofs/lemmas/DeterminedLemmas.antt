@@ -6,7 +6,8 @@ use Rattle.winnow_stream.specs.Shortage.{needed}
 use Rattle.winnow_parser.specs.Outcome.{Ahead, Failed, Backtracks, Cuts, Needs, Refuses, Gives, Fails, Meaning}
 use Rattle.winnow_parser.specs.Determined.{IsGrantedFailure, IsDetermined}
 use Rattle.winnow_reader.specs.Wanted.{size_of}
-use Rattle.winnow_limit.specs.Within.{first_ahead, left_ahead, goes_on, AnswersFirst, Within}
+use Rattle.winnow_reader.specs.First.{first_ahead, left_ahead, goes_on}
+use Rattle.winnow_limit.specs.Within.{AnswersFirst, Within}
 
 -- more is more
 over-true : (g n : ℕ) → g < n → nat_lt g n ≡ true

@@ -16,7 +16,8 @@ use Rattle.winnow_reader.specs.InUtf8.{past}
 use Rattle.winnow_reader.proofs.lemmas.PlaceLemmas.{moved-bytes}
 use Rattle.winnow_limit.specs.declared.limit.LimitedError.{LimitedError}
 use Rattle.winnow_limit.specs.LimitTelling.{FirstTold, LimitErrors}
-use Rattle.winnow_limit.specs.Within.{first_ahead, left_ahead, AnswersFirst}
+use Rattle.winnow_reader.specs.First.{first_ahead, left_ahead}
+use Rattle.winnow_limit.specs.Within.{AnswersFirst}
 
 module _ (greatest place : ℕ) (bs : List ℕ) where
   -- the first bytes at a place

@@ -1,5 +1,5 @@
 -- What is read of the next record is read after what was read since a place.
-use Rattle.std.specs.Prelude.{true, not, Result, Ok, Err}
+use Rattle.std.specs.Prelude.{not, Result, Ok, Err}
 use Rattle.std.proofs.Common.{◌≡◌, ℕ, List, [], ◌∷◌, ◌++◌, length, sym, subst, inl, inr, arith}
 use Rattle.std.proofs.lemmas.Bool.{cases_lt}
 use Rattle.winnow_parser.specs.Outcome.{Gives, Meaning}

@@ -1,23 +1,26 @@
 -- What a reader tells of an error is what its record told.
-use Rattle.std.specs.Prelude.{◌≡◌, ℕ, Bool, List, length, take, Result, Ok, Err, IfErr}
+use Rattle.std.specs.Prelude.{ℕ, Bool, List, Result, Ok, Err, IfErr}
 use Rattle.std.specs.Borrow.{Bor}
-use Rattle.std.proofs.Common.{refl, subst, sym}
-use Rattle.std.proofs.Math.Seq.{take-length}
+use Rattle.std.proofs.Common.{refl}
 use Rattle.winnow_stream.specs.declared.needed.Needed.{Needed}
 use Rattle.winnow_stream.specs.declared.stream.Rest.{Ghosts}
 use Rattle.winnow_wrap.specs.declared.located.LocatingSlice.{LocatingSlice}
 use Rattle.winnow_wrap.specs.declared.partial.Partial.{Partial}
 use Rattle.winnow_parser.specs.declared.failure.Failure.{Failure}
-use Rattle.winnow_parser.specs.Outcome.{Ahead}
+use Rattle.winnow_parser.specs.declared.failure.Failure.TheVariants.{Incomplete, Backtrack, Cut, Refused}
+use Rattle.winnow_parser.specs.Outcome.{Ahead, Backtracks, Cuts, Needs, Fails, Meaning}
+use Rattle.winnow_parser.specs.Determined.{IsDetermined}
 use Rattle.winnow_parser.specs.Errors.{Errors}
 use Rattle.winnow_reader.specs.declared.asking.Asked.{Asked}
 use Rattle.winnow_reader.specs.declared.asking.Asked.TheVariants as asked
 use Rattle.winnow_reader.specs.State.{ReaderState}
 use Rattle.winnow_reader.specs.Asked.{answer_of}
-use Rattle.winnow_reader.specs.Place.{bytes_at, stands}
+use Rattle.winnow_reader.specs.Place.{stands}
 use Rattle.winnow_reader.specs.declared.utf8_record.TextError.{TextError}
 use Rattle.winnow_reader.specs.Telling.{OfParser, AsksError, TellsError}
-use Rattle.winnow_reader.specs.TextTelling.{TextTold, FrontTold, Utf8Errors}
+use Rattle.winnow_reader.specs.declared.utf8_record.TextError.TheVariants.{Text, Damaged}
+use Rattle.winnow_reader.specs.InUtf8.{bytes_in, past_text, goes_on, text_ahead, MeetsDamage}
+use Rattle.winnow_reader.specs.TextTelling.{TellsDamage, IsDamageIfTold}
 
 -- the error that is handed out is the one that the record gave
 pub TellsError-settled : {R O E : Type 0} (errors : R → Errors E (Ahead ℕ) ℕ) (old : ReaderState R)
@@ -30,28 +33,6 @@ TellsError-settled errors old (asked.Failed e there cut) h = h
 TellsError-settled errors old asked.Idle h = tt
 TellsError-settled errors old (asked.Refused r) h = tt
 
-module _ {O E : Type 0} (errors : Errors E (Ahead ℕ) ℕ) (place : ℕ) (bytes : List ℕ) where
-  -- what a front of the bytes tells is told of a front
-  pub told-front : (n : ℕ) (answer : Result O (Failure (TextError E) Needed))
-      → IfErr answer (TextTold errors place (take n bytes))
-      → IfErr answer (FrontTold errors place bytes)
-  told-front n (Ok x) h = h
-  told-front n (Err f) h = (n, h)
-
-  -- all the bytes are a front
-  pub told-whole : (answer : Result O (Failure (TextError E) Needed))
-      → IfErr answer (TextTold errors place bytes) → IfErr answer (FrontTold errors place bytes)
-  told-whole (Ok x) h = h
-  told-whole (Err f) h = (length bytes, subst (λ l. TextTold errors place l f) (sym (take-length bytes)) h)
-
-  -- what is told of the same bytes at the same place
-  pub told-here : (a left : Ahead ℕ) (partial : Bool)
-      (answer : Result O (Failure (TextError E) Needed)) → a ≡ bytes_at place bytes
-      → IfErr answer (FrontTold errors place bytes)
-      → IfErr answer (Utf8Errors errors partial a left)
-  told-here a left partial (Ok x) same h = h
-  told-here a left partial (Err f) same h = (place, (bytes, (same, h)))
-
 -- an error that a parser tells of its stream is one of the record that calls it
 pub OfParser-told : {O E C : Type 0} {i : Ghosts (Bor (List ℕ))} {c : Ghosts C}
     (errors : Errors E (Partial (LocatingSlice (Bor (List ℕ)) C i c)) ℕ) (partial : Bool)
@@ -60,3 +41,18 @@ pub OfParser-told : {O E C : Type 0} {i : Ghosts (Bor (List ℕ))} {c : Ghosts C
     → IfErr answer (errors partial a s) → IfErr answer (OfParser errors partial a (stands s))
 OfParser-told errors partial a s (Ok x) h = h
 OfParser-told errors partial a s (Err f) h = (s, (refl, h))
+
+module _ {O E : Type 0} (inner : Meaning O ℕ) (same : O → O → Type 0) (d : IsDetermined same inner) (partial : Bool) (a left : Ahead ℕ) (meets : MeetsDamage inner partial a) where
+  -- where a record of text with one answer meets damage, each error is told as damage
+  pub IsDamageIfTold-meets : (failure : Failure (TextError E) Needed)
+      → TellsDamage inner partial a left failure → IsDamageIfTold failure
+  IsDamageIfTold-meets (Cut Damaged) h = tt
+  IsDamageIfTold-meets (Cut (Text e)) h =
+      let both = d (goes_on partial (past_text (bytes_in a.tokens))) (text_ahead a) (Fails (Cuts h.0)) (Fails (Needs meets.1.0)) tt tt h.1.0 meets.1.1 in
+      absurd (cc both)
+  IsDamageIfTold-meets (Backtrack Damaged) h = h
+  IsDamageIfTold-meets (Backtrack (Text e)) h =
+      let both = d (goes_on partial (past_text (bytes_in a.tokens))) (text_ahead a) (Fails (Backtracks h.0)) (Fails (Needs meets.1.0)) tt tt h.1.0 meets.1.1 in
+      absurd (cc both)
+  IsDamageIfTold-meets (Incomplete n) h = tt
+  IsDamageIfTold-meets (Refused r) h = tt

@@ -54,15 +54,23 @@ module _ (place : ℕ) (bs : List ℕ) where
   told-is partial =
       ap (λ n. partial || not (n == 0)) (sym (length-drop (utf8_valid_len bs) bs)) ∙ ap (λ l. goes_on partial (past_text l)) (sym (bytes_in-units bs))
 
+  -- what is said of the stream over the text is said of the text ahead
+  pub told-of-text : (says : Bool → Ahead ℕ → Type 0) (partial flag : Bool) (n : ℕ) (b : Ahead ℕ)
+      (text : List ℕ) → n ≡ utf8_valid_len bs → text ≡ text_in bs
+      → flag ≡ (partial || not (length bs - n == 0)) → b ≡ text_at place text → says flag b
+      → says (goes_on partial (past_text (bytes_in (units bs)))) (text_ahead (bytes_at place bs))
+  told-of-text says partial flag n b text len is told stands h =
+      let flag_is = told ∙ ap (λ k. partial || not (length bs - k == 0)) len ∙ told-is partial in
+      let place_is = stands ∙ ap (text_at place) is ∙ text_at-ahead in
+      subst (λ q. says q (text_ahead (bytes_at place bs))) flag_is (subst (λ a. says flag a) place_is h)
+
   -- what was answered of the stream over the text is an answer of the text ahead
   pub answers-of : {O : Type 0} (inner : Meaning O ℕ) (partial flag : Bool) (n : ℕ) (b : Ahead ℕ)
       (text : List ℕ) (v : Outcome O ℕ) → n ≡ utf8_valid_len bs → text ≡ text_in bs
       → flag ≡ (partial || not (length bs - n == 0)) → b ≡ text_at place text → inner flag b v
       → AnswersText inner partial (bytes_at place bs) v
-  answers-of inner partial flag n b text v len is told stands h =
-      let flag_is = told ∙ ap (λ k. partial || not (length bs - k == 0)) len ∙ told-is partial in
-      let place_is = stands ∙ ap (text_at place) is ∙ text_at-ahead in
-      subst (λ q. inner q (text_ahead (bytes_at place bs)) v) flag_is (subst (λ a. inner flag a v) place_is h)
+  answers-of inner partial flag n b text v =
+      told-of-text (λ more a. inner more a v) partial flag n b text
 
   -- the place after the bytes of the text that are taken
   pub left-of : (c : Ahead ℕ) (n m taken : ℕ) → taken ≡ n - m → n ≡ utf8_valid_len bs

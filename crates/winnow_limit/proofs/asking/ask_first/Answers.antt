@@ -9,7 +9,7 @@ use Rattle.winnow_wrap.specs.Located.{locating_inner, location_of}
 use Rattle.winnow_parser.specs.declared.failure.Failure.TheVariants.{Backtrack, Cut}
 use Rattle.winnow_reader.specs.Place.{stands, bytes_at}
 use Rattle.winnow_reader.specs.Wanted.{size_of}
-use Rattle.winnow_limit.specs.Within.{first_ahead, goes_on}
+use Rattle.winnow_reader.specs.First.{first_ahead, goes_on}
 use Rattle.winnow_limit.proofs.lemmas.FirstLemmas.{answers-of, left-of, still-of, over-of, within-of}
 use Rattle.winnow_limit.proofs.asking.ask_first.Goals as goal
 

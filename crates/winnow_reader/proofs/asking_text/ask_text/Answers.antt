@@ -4,9 +4,9 @@ use Rattle.winnow_parser.specs.Outcome.{Gives, Fails, Backtracks, Cuts, Needs, R
 use Rattle.winnow_parser.specs.Answer.{failed}
 use Rattle.winnow_wrap.specs.Flag.{flag}
 use Rattle.winnow_parser.specs.declared.failure.Failure.TheVariants.{Backtrack, Cut}
-use Rattle.winnow_reader.specs.TextPlace.{text_at, stands_text}
+use Rattle.winnow_reader.specs.TextPlace.{stands_text}
 use Rattle.winnow_reader.specs.Wanted.{size_of}
-use Rattle.winnow_reader.proofs.lemmas.Utf8Lemmas.{answers-of, left-of, damage-place, damage-of, following-of}
+use Rattle.winnow_reader.proofs.lemmas.Utf8Lemmas.{answers-of, told-of-text, left-of, damage-place, damage-of, following-of}
 use Rattle.winnow_reader.proofs.asking_text.ask_text.Goals as goal
 
 pub returns-in-Ok-clause-answer : goal.returns-in-Ok-clause-answer
@@ -80,20 +80,62 @@ returns-in-Err-Refused-clause-answer g c =
     let answer = answers-of c.args.place c.args.bytes.now means c.args.partial _ n _ front.result.0.now (Fails Refuses) front.ensures.len front.ensures.text told c.stream_over_text-input.ensures.stands given in
     answer
 
+pub returns-in-Err-Incomplete-clause-damage : goal.returns-in-Err-Incomplete-clause-damage
+returns-in-Err-Incomplete-clause-damage g c =
+    let means = g.R.TextRecord.means c.args.parser.now in
+    let front = c.text_front-damaged in
+    let there = stands_text c.read-answer.new.input in
+    let n = length front.result.0.now in
+    let told = c.stream_over_text-input.ensures.flag ∙ c.goes_on.ensures in
+    let given = subst (λ failure. means (flag c.stream_over_text-input.result) (stands_text c.stream_over_text-input.result) (Fails (failed failure there))) c.in-Err-Incomplete.field-0-is c.in-Err-Incomplete.ensures.means in
+    let answer = answers-of c.args.place c.args.bytes.now means c.args.partial _ n _ front.result.0.now (Fails (Needs c.in-Err-Incomplete.field-0-0)) front.ensures.len front.ensures.text told c.stream_over_text-input.ensures.stands given in
+    let damage = damage-of c.args.place c.args.bytes.now c.args.partial front.result.1 front.ensures.damaged ∙ c.if-damaged.true in
+    ((damage, (c.in-Err-Incomplete.field-0-0, answer)), damage-place c.args.place c.args.bytes.now n front.ensures.len)
+
+pub returns-in-Err-Backtrack-clause-damage : goal.returns-in-Err-Backtrack-clause-damage
+returns-in-Err-Backtrack-clause-damage g c =
+    let means = g.R.TextRecord.means c.args.parser.now in
+    let front = c.text_front-damaged in
+    let there = stands_text c.read-answer.new.input in
+    let n = length front.result.0.now in
+    let told = c.stream_over_text-input.ensures.flag ∙ c.goes_on.ensures in
+    let left = left-of c.args.place c.args.bytes.now there n c.eof_offset.result c.saturating_sub-taken.result c.saturating_sub-taken.ensures front.ensures.len c.eof_offset.ensures in
+    let given = subst (λ failure. means (flag c.stream_over_text-input.result) (stands_text c.stream_over_text-input.result) (Fails (failed failure there))) c.in-Err-Backtrack.field-0-is c.in-Err-Backtrack.ensures.means in
+    let answer = answers-of c.args.place c.args.bytes.now means c.args.partial _ n _ front.result.0.now (Fails (Backtracks there)) front.ensures.len front.ensures.text told c.stream_over_text-input.ensures.stands given in
+    (there, (answer, left))
+
 pub returns-in-Err-Backtrack-clause-error : goal.returns-in-Err-Backtrack-clause-error
 returns-in-Err-Backtrack-clause-error g c =
     let errors = g.R.TextRecord.errors c.args.parser.now in
+    let front = c.text_front-damaged in
     let input = c.stream_over_text-input.result in
     let there = stands_text c.read-answer.new.input in
-    let told = subst (λ failure. errors (flag input) (stands_text input) there failure) c.in-Err-Backtrack.field-0-is c.in-Err-Backtrack.ensures.error in
-    let text = c.stream_over_text-input.ensures.stands ∙ ap (text_at c.args.place) c.text_front-damaged.ensures.text in
-    (flag input, (there, subst (λ a. errors (flag input) a there (Backtrack c.in-Err-Backtrack.error)) text told))
+    let n = length front.result.0.now in
+    let told = c.stream_over_text-input.ensures.flag ∙ c.goes_on.ensures in
+    let left = left-of c.args.place c.args.bytes.now there n c.eof_offset.result c.saturating_sub-taken.result c.saturating_sub-taken.ensures front.ensures.len c.eof_offset.ensures in
+    let given = subst (λ failure. errors (flag input) (stands_text input) there failure) c.in-Err-Backtrack.field-0-is c.in-Err-Backtrack.ensures.error in
+    (there, (told-of-text c.args.place c.args.bytes.now (λ more a. errors more a there (Backtrack c.in-Err-Backtrack.error)) c.args.partial _ n _ front.result.0.now front.ensures.len front.ensures.text told c.stream_over_text-input.ensures.stands given, left))
+
+pub returns-in-Err-Cut-clause-damage : goal.returns-in-Err-Cut-clause-damage
+returns-in-Err-Cut-clause-damage g c =
+    let means = g.R.TextRecord.means c.args.parser.now in
+    let front = c.text_front-damaged in
+    let there = stands_text c.read-answer.new.input in
+    let n = length front.result.0.now in
+    let told = c.stream_over_text-input.ensures.flag ∙ c.goes_on.ensures in
+    let left = left-of c.args.place c.args.bytes.now there n c.eof_offset.result c.saturating_sub-taken.result c.saturating_sub-taken.ensures front.ensures.len c.eof_offset.ensures in
+    let given = subst (λ failure. means (flag c.stream_over_text-input.result) (stands_text c.stream_over_text-input.result) (Fails (failed failure there))) c.in-Err-Cut.field-0-is c.in-Err-Cut.ensures.means in
+    let answer = answers-of c.args.place c.args.bytes.now means c.args.partial _ n _ front.result.0.now (Fails (Cuts there)) front.ensures.len front.ensures.text told c.stream_over_text-input.ensures.stands given in
+    (there, (answer, left))
 
 pub returns-in-Err-Cut-clause-error : goal.returns-in-Err-Cut-clause-error
 returns-in-Err-Cut-clause-error g c =
     let errors = g.R.TextRecord.errors c.args.parser.now in
+    let front = c.text_front-damaged in
     let input = c.stream_over_text-input.result in
     let there = stands_text c.read-answer.new.input in
-    let told = subst (λ failure. errors (flag input) (stands_text input) there failure) c.in-Err-Cut.field-0-is c.in-Err-Cut.ensures.error in
-    let text = c.stream_over_text-input.ensures.stands ∙ ap (text_at c.args.place) c.text_front-damaged.ensures.text in
-    (flag input, (there, subst (λ a. errors (flag input) a there (Cut c.in-Err-Cut.error)) text told))
+    let n = length front.result.0.now in
+    let told = c.stream_over_text-input.ensures.flag ∙ c.goes_on.ensures in
+    let left = left-of c.args.place c.args.bytes.now there n c.eof_offset.result c.saturating_sub-taken.result c.saturating_sub-taken.ensures front.ensures.len c.eof_offset.ensures in
+    let given = subst (λ failure. errors (flag input) (stands_text input) there failure) c.in-Err-Cut.field-0-is c.in-Err-Cut.ensures.error in
+    (there, (told-of-text c.args.place c.args.bytes.now (λ more a. errors more a there (Cut c.in-Err-Cut.error)) c.args.partial _ n _ front.result.0.now front.ensures.len front.ensures.text told c.stream_over_text-input.ensures.stands given, left))
