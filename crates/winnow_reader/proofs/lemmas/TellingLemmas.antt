@@ -1,11 +1,6 @@
 -- What a reader tells of an error is what its record told.
 use Rattle.std.specs.Prelude.{ℕ, Bool, List, Result, Ok, Err, IfErr}
-use Rattle.std.specs.Borrow.{Bor}
-use Rattle.std.proofs.Common.{refl}
 use Rattle.winnow_stream.specs.declared.needed.Needed.{Needed}
-use Rattle.winnow_stream.specs.declared.stream.Rest.{Ghosts}
-use Rattle.winnow_wrap.specs.declared.located.LocatingSlice.{LocatingSlice}
-use Rattle.winnow_wrap.specs.declared.partial.Partial.{Partial}
 use Rattle.winnow_parser.specs.declared.failure.Failure.{Failure}
 use Rattle.winnow_parser.specs.declared.failure.Failure.TheVariants.{Incomplete, Backtrack, Cut, Refused}
 use Rattle.winnow_parser.specs.Outcome.{Ahead, Backtracks, Cuts, Needs, Fails, Meaning}
@@ -15,9 +10,8 @@ use Rattle.winnow_reader.specs.declared.asking.Asked.{Asked}
 use Rattle.winnow_reader.specs.declared.asking.Asked.TheVariants as asked
 use Rattle.winnow_reader.specs.State.{ReaderState}
 use Rattle.winnow_reader.specs.Asked.{answer_of}
-use Rattle.winnow_reader.specs.Place.{stands}
 use Rattle.winnow_reader.specs.declared.utf8_record.TextError.{TextError}
-use Rattle.winnow_reader.specs.Telling.{OfParser, AsksError, TellsError}
+use Rattle.winnow_reader.specs.Telling.{AsksError, TellsError}
 use Rattle.winnow_reader.specs.declared.utf8_record.TextError.TheVariants.{Text, Damaged}
 use Rattle.winnow_reader.specs.InUtf8.{bytes_in, past_text, goes_on, text_ahead, MeetsDamage}
 use Rattle.winnow_reader.specs.TextTelling.{TellsDamage, IsDamageIfTold}
@@ -32,15 +26,6 @@ TellsError-settled errors old asked.Done h = tt
 TellsError-settled errors old (asked.Failed e there cut) h = h
 TellsError-settled errors old asked.Idle h = tt
 TellsError-settled errors old (asked.Refused r) h = tt
-
--- an error that a parser tells of its stream is one of the record that calls it
-pub OfParser-told : {O E C : Type 0} {i : Ghosts (Bor (List ℕ))} {c : Ghosts C}
-    (errors : Errors E (Partial (LocatingSlice (Bor (List ℕ)) C i c)) ℕ) (partial : Bool)
-    (a : Ahead ℕ) (s : Partial (LocatingSlice (Bor (List ℕ)) C i c))
-    (answer : Result O (Failure E Needed))
-    → IfErr answer (errors partial a s) → IfErr answer (OfParser errors partial a (stands s))
-OfParser-told errors partial a s (Ok x) h = h
-OfParser-told errors partial a s (Err f) h = (s, (refl, h))
 
 module _ {O E : Type 0} (inner : Meaning O ℕ) (same : O → O → Type 0) (d : IsDetermined same inner) (partial : Bool) (a left : Ahead ℕ) (meets : MeetsDamage inner partial a) where
   -- where a record of text with one answer meets damage, each error is told as damage
