@@ -5,12 +5,15 @@ use crate::lines::{Nothing, NumberLine, number_line, word_line};
 use crate::text_lines::{TextLine, text_line};
 use std::alloc::Global;
 use std::test::Fail;
-use winnow_limit::{Limited, LimitedError, determined_limit_law, limit_law, limited, with_limit};
+use winnow_limit::{
+    Limited, LimitedError, determined_limit_law, limit_law, limited, scan_limit_law, with_limit,
+};
 use winnow_reader::{
     ByteReader, Next, ReadError, Record, Skipped, Utf8Record, bytes_at_law, damage_law,
-    determined_reading_law, determined_text_law, skip_law, skip_to_law, waiting_law,
+    determined_reading_law, determined_text_law, skip_law, skip_to_law, told_damage_law,
+    waiting_law,
 };
-use winnow_scan::scan_law;
+use winnow_scan::{Line, Scan, ScanReader, scan_law, scan_skip_law};
 
 // Returns the first record of bytes that are the whole input.
 fn read_first<R: Record + Drop>(
@@ -21,6 +24,26 @@ fn read_first<R: Record + Drop>(
     requires { R.ready parser }
 {
     let mut reader = ByteReader::new(alloc, parser);
+    if reader.has_ended() || bytes.len() > usize::MAX - reader.fed() {
+        return Ok(Next::NeedsMore);
+    }
+    match reader.push(bytes) {
+        Ok(()) => {}
+        Err(refused) => return Err(ReadError::Refused(refused)),
+    }
+    reader.end();
+    reader.read_next()
+}
+
+// Returns the first record of bytes that are the whole input, by a reader with a scan.
+fn scan_first<R: Scan + Drop>(
+    alloc: Global,
+    parser: R,
+    bytes: &[u8],
+) -> Result<Next<R::Output>, ReadError<R::Error>>
+    requires { R.ready parser }
+{
+    let mut reader = ScanReader::new(alloc, parser);
     if reader.has_ended() || bytes.len() > usize::MAX - reader.fed() {
         return Ok(Next::NeedsMore);
     }
@@ -75,6 +98,8 @@ fn records_are_read(rt: HostRuntime) {
     assert!(rt; matches!(word, Ok(Next::Value(_))));
     let short = read_first(rt.alloc(), limited(number_line(), 3), b"12\n7\n");
     assert!(rt; matches!(short, Ok(Next::Value(12))));
+    let line = scan_first(rt.alloc(), limited(Line, 3), b"12\n7\n");
+    assert!(rt; matches!(line, Ok(Next::Value(_))));
     let nothing = read_first(rt.alloc(), Nothing, b"ab");
     assert!(rt; matches!(nothing, Err(ReadError::TakesNothing { place: 0 })));
     let text = read_first(rt.alloc(), Utf8Record::new(text_line()), b"a\xE2\x82\xAC\n");
@@ -90,8 +115,11 @@ fn laws_of_readings_are_called(_rt: HostRuntime) {
     damage_law();
     scan_law::<NumberLine>();
     determined_text_law::<TextLine, u32>();
+    told_damage_law::<TextLine, u32>();
     skip_law::<NumberLine>();
     skip_to_law();
     limit_law::<NumberLine>();
+    scan_skip_law::<Line>();
+    scan_limit_law::<Line>();
     determined_limit_law::<NumberLine, u32>();
 }
