@@ -1,8 +1,7 @@
 //! The first four bytes of a message of DNS: its number and its flags.
 
 use std::alloc::Global;
-use winnow_binary::be_u16;
-use winnow_bit_fields::be_bit_fields;
+use winnow_binary::{be_bit_fields, be_u16};
 use winnow_error::{EmptyError, ParserError};
 use winnow_grammar::{Octets, Reads, ask, part};
 use winnow_parser::{ModalResult, Parser};

@@ -1,7 +1,7 @@
 //! The first four bytes of a header of IPv4.
 
 use std::alloc::Global;
-use winnow_bit_fields::be_bit_fields;
+use winnow_binary::be_bit_fields;
 use winnow_error::{EmptyError, ParserError};
 use winnow_grammar::{Octets, Reads, ask, part};
 use winnow_parser::{ModalResult, Parser};

@@ -1,7 +1,7 @@
 //! The thirteenth and fourteenth byte of a header of TCP: where its data begin, and its flags.
 
 use std::alloc::Global;
-use winnow_bit_fields::be_bit_fields;
+use winnow_binary::be_bit_fields;
 use winnow_error::{EmptyError, ParserError};
 use winnow_grammar::{Octets, Reads, ask, part};
 use winnow_parser::{ModalResult, Parser};

@@ -1,7 +1,7 @@
 //! The two bytes before compressed data in the format of zlib, whose lowest bits come first.
 
 use std::alloc::Global;
-use winnow_bit_fields::le_bit_fields;
+use winnow_binary::le_bit_fields;
 use winnow_error::{EmptyError, ParserError};
 use winnow_grammar::{Octets, Reads, ask, part};
 use winnow_parser::{ModalResult, Parser};

@@ -3,8 +3,10 @@
 
 use crate::value_tests::value_test_law;
 use winnow_ascii::{Fragment, ascii_law, determined_escaped_law, determined_number_law};
-use winnow_binary::{Numeral, determined_length_law, determined_slice_read_law, fixed_number_law};
-use winnow_bit_fields::{bit_fields_law, determined_bit_fields_law};
+use winnow_binary::{
+    Numeral, bit_fields_law, determined_bit_fields_law, determined_length_law,
+    determined_slice_read_law, fixed_number_law,
+};
 use winnow_combinator::{
     Accumulated, Gather, alternative_errors_law, alternatives_law, determined_choice_law,
     determined_choosing_law, determined_end_law, determined_gathered_law, determined_list_law,

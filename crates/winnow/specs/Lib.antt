@@ -83,9 +83,9 @@ pub use Rattle.winnow_scan.specs.Line
 pub use Rattle.winnow_binary.specs.Lengths
 pub use Rattle.winnow_binary.specs.Numerals
 pub use Rattle.winnow_binary.specs.LengthAndThen
-pub use Rattle.winnow_bit_fields.specs.BitFields
-pub use Rattle.winnow_bit_fields.specs.Fields
-pub use Rattle.winnow_bit_fields.specs.FieldBytes
+pub use Rattle.winnow_binary.specs.BitFields
+pub use Rattle.winnow_binary.specs.Fields
+pub use Rattle.winnow_binary.specs.FieldBytes
 pub use Rattle.winnow_grammar.specs.AnyAnswer
 pub use Rattle.winnow_spelling.specs.Spelling
 pub use Rattle.winnow_spelling.specs.Spellings

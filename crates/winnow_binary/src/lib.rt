@@ -1,7 +1,10 @@
-//! Parsers of binary formats: numbers of a fixed number of bytes, and parts that a count comes
-//! before.
+//! Parsers of binary formats: numbers of a fixed number of bytes, numbers of a few bits each that
+//! fill whole bytes together, and parts that a count comes before.
 #![tactic(auto, using(winnow_parser::proofs::lemmas::OnwardLemmas::onward_steps))]
 
+mod bit_laws;
+mod bit_number;
+mod bit_widths;
 mod endianness;
 mod fixed_number;
 mod floats;
@@ -13,6 +16,7 @@ mod parsers;
 mod sixteen_bytes;
 mod three_bytes;
 
+pub use bit_laws::{bit_fields_law, determined_bit_fields_law};
 pub use endianness::{Endianness, Width};
 pub use fixed_number::FixedNumber;
 pub use floats::{be_f32, be_f64, f32, f64, le_f32, le_f64};
@@ -22,6 +26,7 @@ pub use numbers::{
     Numeral, be_i8, be_i16, be_i32, be_i64, be_u8, be_u16, be_u32, be_u64, i8, i16, i32, i64,
     le_i8, le_i16, le_i32, le_i64, le_u8, le_u16, le_u32, le_u64, u8, u16, u32, u64,
 };
+pub use parsers::bit_fields::{BitFields, be_bit_fields, bit_fields, le_bit_fields};
 pub use parsers::length_and_then::{LengthAndThen, length_and_then};
 pub use parsers::length_repeat::{LengthRepeat, length_repeat};
 pub use parsers::length_take::{LengthTake, length_take};

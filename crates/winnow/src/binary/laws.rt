@@ -1,5 +1,7 @@
 //! The laws of parsers of binary formats: a law does nothing when called, and its contract is the
 //! law.
 
-pub use winnow_binary::{determined_length_law, determined_slice_read_law, fixed_number_law};
-pub use winnow_bit_fields::{bit_fields_law, determined_bit_fields_law};
+pub use winnow_binary::{
+    bit_fields_law, determined_bit_fields_law, determined_length_law, determined_slice_read_law,
+    fixed_number_law,
+};

@@ -1,0 +1,11 @@
+use Rattle.std.proofs.Common.{◌≡◌, length, ◌++◌, take, drop, sum}
+use Rattle.winnow_binary.specs.Fields.{fields_down}
+use Rattle.winnow_binary.proofs.bit_widths.fields_down.Given as goal
+
+abbrev pub invariant-loop-i : goal.invariant-loop-i
+invariant-loop-i g l = record {
+  count : length l.fields ≡ g.row.N;
+  low : l.low ≡ sum (drop l.i l.widths);
+  filled : take l.i l.fields ++ fields_down (drop l.i l.widths) l.number
+      ≡ fields_down l.widths l.number;
+}

@@ -1,8 +1,0 @@
-use Rattle.winnow_bit_fields.proofs.lemmas.DeterminedLemmas.{determined-bit_fields, prompt-bit_fields}
-use Rattle.winnow_bit_fields.proofs.laws.determined_bit_fields_law.Goals as goal
-
-pub returns-clause-determined : goal.returns-clause-determined
-returns-clause-determined c = determined-bit_fields
-
-pub returns-clause-prompt : goal.returns-clause-prompt
-returns-clause-prompt c = prompt-bit_fields

@@ -1,4 +1,0 @@
-pub mod FieldLemmas
-pub mod JoinedLemmas
-pub mod ByteLemmas
-pub mod DeterminedLemmas

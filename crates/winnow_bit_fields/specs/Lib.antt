@@ -1,3 +1,0 @@
-pub mod Fields
-pub mod FieldBytes
-pub mod BitFields
