@@ -28,12 +28,13 @@ pub use winnow_base::stream::{BStr, Bytes, LocatingSlice, Partial, Stateful};
 pub use winnow_codec as codec;
 pub use winnow_exact as exact;
 pub use winnow_grammar as grammar;
+pub use winnow_grammar::{ByRule, Rule, by_rule};
 pub use winnow_limit as limit;
 pub use winnow_live as live;
 pub use winnow_parser::{
-    AndThen, ByBorrow, ByRule, ByValue, Context, ContextWith, DefaultValue, ErrInto, Failure,
-    FlatMap, Map, MapErr, ModalResult, OutputInto, ParseTo, Parser, Rule, Span, Taken, TryMap,
-    Value, ValueTest, Verify, VerifyMap, Void, WholeResult, WithSpan, WithTaken, by_rule,
+    AndThen, ByBorrow, ByValue, Context, ContextWith, DefaultValue, ErrInto, Failure, FlatMap, Map,
+    MapErr, ModalResult, OutputInto, ParseTo, Parser, Span, Taken, TryMap, Value, ValueTest,
+    Verify, VerifyMap, Void, WholeResult, WithSpan, WithTaken,
 };
 pub use winnow_reader as reader;
 pub use winnow_scan as scan;

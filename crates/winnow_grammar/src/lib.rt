@@ -42,6 +42,7 @@ mod texts;
 pub use asking::ask;
 pub use errors::{Plain, PlainError, PlainFromExternal};
 pub use functions::{nested, part};
+pub use parsers::by_rule::{ByRule, Rule, by_rule};
 pub use parsers::from_fn::{FromFn, from_fn};
 pub use parsers::map_in::{MapIn, TryMapIn, map_in, try_map_in};
 pub use parsers::nested::{Layer, Nested};

@@ -26,7 +26,6 @@ pub use laws::{
 };
 pub use parser::Parser;
 pub use parsers::and_then::AndThen;
-pub use parsers::by_rule::{ByRule, Rule, by_rule};
 pub use parsers::context::Context;
 pub use parsers::context_with::ContextWith;
 pub use parsers::default_value::DefaultValue;

@@ -1,7 +1,6 @@
 //! The parsers: a type for each, in a file that is named for its function.
 
 pub(crate) mod and_then;
-pub(crate) mod by_rule;
 pub(crate) mod context;
 pub(crate) mod context_with;
 pub(crate) mod default_value;

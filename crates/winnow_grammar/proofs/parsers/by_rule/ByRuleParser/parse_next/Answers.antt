@@ -1,6 +1,6 @@
 use Rattle.winnow_parser.specs.Answer.{ahead}
 use Rattle.winnow_parser.proofs.lemmas.ErrorLemmas.{ContractErrors-called}
-use Rattle.winnow_parser.proofs.parsers.by_rule.ByRuleParser.parse_next.Goals as goal
+use Rattle.winnow_grammar.proofs.parsers.by_rule.ByRuleParser.parse_next.Goals as goal
 
 pub returns-clause-error : goal.returns-clause-error
 returns-clause-error g c =

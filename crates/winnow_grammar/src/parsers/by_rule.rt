@@ -7,8 +7,8 @@ ghost use Rattle.winnow_parser.specs.Errors.{ContractErrors};
 ghost use Rattle.winnow_parser.specs.Laws.{IsParser};
 ghost use Rattle.winnow_parser.specs.Following.{Follows};
 
-use crate::{ModalResult, Parser};
 use std::alloc::Global;
+use winnow_parser::{ModalResult, Parser};
 use winnow_stream::StreamIsPartial;
 
 /// A rule of a grammar: a value that says what a function reads, so that [`by_rule`] makes a parser
