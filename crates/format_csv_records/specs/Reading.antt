@@ -47,18 +47,13 @@ TakesRecord old fields new = (n : ℕ) × ((0 < n) × (n ≤ length old.ahead)
     × BeginsJust old.ended old.ahead fields new.ahead × (new ≡ taken_by old n))
 
 -- what a call returns, what the record holds then, and what the reader is: a record is taken; or
--- nothing changes: the record ahead is unfinished; the input is at its end; the record ahead is
--- damaged there; or memory was refused
-abbrev pub FillsNext : ReaderState Row → Result (Next (Unit {0})) RecordError → List (List ℕ)
-    → ReaderState Row → Type 0
-FillsNext old (Ok (Value x)) fields new = TakesRecord old fields new
-FillsNext old (Ok NeedsMore) fields new = IsUnfinished old.ended old.ahead × (new ≡ old)
-FillsNext old (Ok Done) fields new = IsThrough old × (new ≡ old)
-FillsNext old (Err (Damaged place)) fields new = FindsDamage old place × (new ≡ old)
-FillsNext old (Err (Refused e)) fields new = new ≡ old
-
--- the same, where the record is empty unless one is taken
+-- nothing changes, and the record is empty: the one ahead is unfinished; the input is at its end;
+-- the one ahead is damaged there; or memory was refused
 abbrev pub ReadsNext : ReaderState Row → Result (Next (Unit {0})) RecordError → List (List ℕ)
     → ReaderState Row → Type 0
-ReadsNext old result fields new = FillsNext old result fields new
-    × (row_read result fields ≡ [] → fields ≡ [])
+ReadsNext old (Ok (Value x)) fields new = TakesRecord old fields new
+ReadsNext old (Ok NeedsMore) fields new =
+    IsUnfinished old.ended old.ahead × (fields ≡ []) × (new ≡ old)
+ReadsNext old (Ok Done) fields new = IsThrough old × (fields ≡ []) × (new ≡ old)
+ReadsNext old (Err (Damaged place)) fields new = FindsDamage old place × (fields ≡ []) × (new ≡ old)
+ReadsNext old (Err (Refused e)) fields new = (fields ≡ []) × (new ≡ old)

@@ -78,7 +78,7 @@ impl RecordReader {
     ghost use Rattle.csv.specs.Records.{fields_of};
     ghost use Rattle.format_csv_records.specs.Filling.{IsUnfinished, Fills};
     ghost use Rattle.format_csv_records.specs.Reading.{HasRead, ReadsAlso, ReadsThrough};
-    ghost use Rattle.format_csv_records.specs.Reading.{ReadsOn, ReadsNext, FillsNext};
+    ghost use Rattle.format_csv_records.specs.Reading.{ReadsOn, ReadsNext};
 
     /// Returns a reader that nothing was pushed to.
     pub fn new(alloc: Global) -> Self
@@ -125,17 +125,14 @@ impl RecordReader {
         ensures read { ReadsOn self.old result (fields_of record.new) self.new }
         ensures next { ReadsNext self.old result (fields_of record.new) self.new }
     {
-        let answer = self.fill_next(record);
-        if !matches!(answer, Ok(Next::Value(()))) {
-            record.clear();
-        }
-        answer
+        self.read_next(record)
     }
 
-    // Reads it, and leaves in the record whatever came of it.
-    fn fill_next(&mut self, record: &mut ByteRecord) -> Result<Next<()>, RecordError>
-        ensures { FillsNext self.old result (fields_of record.new) self.new }
+    // Reads it, and says what that makes of the reader alone.
+    fn read_next(&mut self, record: &mut ByteRecord) -> Result<Next<()>, RecordError>
+        ensures { ReadsNext self.old result (fields_of record.new) self.new }
     {
+        record.clear();
         if self.is_through() {
             return Ok(Next::Done);
         }
@@ -147,11 +144,19 @@ impl RecordReader {
                 self.take(length);
                 Ok(Next::Value(()))
             }
-            Ok(Found::NeedsMore) => Ok(Next::NeedsMore),
-            Ok(Found::Damaged(offset)) => Err(RecordError::Damaged {
-                place: self.reader.place() + offset,
-            }),
-            Err(refused) => Err(RecordError::Refused(refused)),
+            Ok(Found::NeedsMore) => {
+                record.clear();
+                Ok(Next::NeedsMore)
+            }
+            Ok(Found::Damaged(offset)) => {
+                record.clear();
+                let place = self.reader.place() + offset;
+                Err(RecordError::Damaged { place })
+            }
+            Err(refused) => {
+                record.clear();
+                Err(RecordError::Refused(refused))
+            }
         }
     }
 

@@ -1,7 +1,7 @@
 -- The bytes before the first that passes a test.
 use Rattle.std.specs.Prelude.{◌==◌, Bool, not, ◌||◌, zero, suc, ◌-◌, drop, take, Option, Some, None, slice_index}
 use Rattle.std.proofs.Common.{◌≡◌, ◌≢◌, ℕ, ◌+◌, ◌≤◌, ◌<◌, true, false, List, [], ◌∷◌, ◌++◌, length, refl, ap, sym, ◌∙◌, subst, inl, inr, arith, length-drop, drop_of_length-le}
-use Rattle.std.proofs.lemmas.List.{take_all}
+use Rattle.std.proofs.lemmas.List.{take_all, drop_more}
 use Rattle.std.proofs.lemmas.Bool.Decides.{nat_tests, eqb_tells}
 use Rattle.memchr.specs.Find.{Nowhere, NoneBefore, Passes, IsFirstByte, is_byte}
 use Rattle.format_lemmas.specs.Bytes.{Each, StartsWith, Starts}
@@ -18,7 +18,7 @@ module _ (test other : ℕ → Bool) (turned : (b : ℕ) → ¬ (test b ≡ true
   -- before the first that passes it, each passes the other one
   first-each : (xs : List ℕ) (n : ℕ) → n < length xs → Nowhere (Passes test xs) 0 n
       → Each other (take n xs)
-  first-each [] n l h = tt
+  first-each [] n l h = absurd (omega (arith, l))
   first-each (x ∷ xs) zero l h = tt
   first-each (x ∷ xs) (suc n) l h =
       (turned x (h 0 (omega arith) (omega arith)), first-each xs n (omega arith) (λ k i m p. h (suc k) (omega arith) (omega arith) p))
@@ -26,9 +26,7 @@ module _ (test other : ℕ → Bool) (turned : (b : ℕ) → ¬ (test b ≡ true
 -- the bytes from an index on begin with the one at the index
 pub from-index : (xs : List ℕ) (n : ℕ) → n < length xs
     → drop n xs ≡ slice_index xs n ∷ drop (n + 1) xs
-from-index [] n l = absurd (omega (arith, l))
-from-index (x ∷ xs) zero l = refl
-from-index (x ∷ xs) (suc n) l = from-index xs n (omega (arith, l))
+from-index xs n l = drop_more xs n 0 l
 
 -- a byte that is no quote is another one
 turn-quote : (b : ℕ) → ¬ (is_byte 34 b ≡ true) → is_other b ≡ true

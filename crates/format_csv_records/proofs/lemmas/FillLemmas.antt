@@ -96,8 +96,8 @@ unfinished bytes r s v fields field o gone =
 -- with a closing quote after a field that is not closed, the bytes are a record
 closed-record : (bytes r : List ℕ) (fields : List (List ℕ)) → IsUnclosedField r
     → Gone bytes r fields → (values : List (List ℕ)) × SpellsRecord values (bytes ++ 34 ∷ [])
-closed-record bytes r fields open gone =
-    let one = open-spelled r open in
+closed-record bytes r fields torn gone =
+    let one = open-spelled r torn in
     let last = r ++ 34 ∷ [] in (
       fields ++ one.0 ∷ [],
       subst (λ t. SpellsRecord (fields ++ one.0 ∷ []) t) (sym (ap (λ t. t ++ 34 ∷ []) gone.whole ∙ append_assoc gone.front r (34 ∷ [])))
@@ -107,12 +107,12 @@ closed-record bytes r fields open gone =
 -- a record that has not ended in a field
 pub unclosed : (bytes r : List ℕ) (fields : List (List ℕ)) → IsUnclosedField r
     → Gone bytes r fields → IsUnfinished false bytes
-unclosed bytes r fields open gone = (
+unclosed bytes r fields torn gone = (
   refl,
-  fields-begun bytes (34 ∷ [], closed-record bytes r fields open gone),
+  fields-begun bytes (34 ∷ [], closed-record bytes r fields torn gone),
   λ values rest h.
       let left = ahead-left bytes r rest fields values gone h in
-      open-none true r rest left.0 open left.1,
+      open-none true r rest left.0 torn left.1,
 )
 
 -- ---- Damage
@@ -131,12 +131,12 @@ broken ended bytes r s v fields field some cannot gone = λ more may.
 -- nothing follows a field that is not closed
 unclosed-end : (bytes r rest : List ℕ) (fields : List (List ℕ)) → IsUnclosedField r → rest ≡ []
     → Gone bytes r fields → HasNoRecord (bytes ++ []) × IsDamagedAt (bytes ++ []) (rest ++ [])
-unclosed-end bytes r rest fields open none gone = (
+unclosed-end bytes r rest fields torn none gone = (
   λ values after h.
       let left = gone.only false [] after values h.1 in
-      open-none false (r ++ []) after left.0 (subst IsUnclosedField (sym (append-nil r)) open) left.1.1,
+      open-none false (r ++ []) after left.0 (subst IsUnclosedField (sym (append-nil r)) torn) left.1.1,
   inr (
-    subst (λ b. (values : List (List ℕ)) × SpellsRecord values (b ++ 34 ∷ [])) (sym (append-nil bytes)) (closed-record bytes r fields open gone),
+    subst (λ b. (values : List (List ℕ)) × SpellsRecord values (b ++ 34 ∷ [])) (sym (append-nil bytes)) (closed-record bytes r fields torn gone),
     ap (λ t. t ++ []) none,
   ),
 )
@@ -144,6 +144,6 @@ unclosed-end bytes r rest fields open none gone = (
 -- a record whose closing quote is missing at the end
 pub damaged-end : (bytes r rest : List ℕ) (fields : List (List ℕ)) → IsUnclosedField r → rest ≡ []
     → Gone bytes r fields → IsDamagedBefore true bytes rest
-damaged-end bytes r rest fields open none gone = λ more may.
+damaged-end bytes r rest fields torn none gone = λ more may.
     subst (λ t. HasNoRecord (bytes ++ t) × IsDamagedAt (bytes ++ t) (rest ++ t)) (sym may.0)
-    (unclosed-end bytes r rest fields open none gone)
+    (unclosed-end bytes r rest fields torn none gone)

@@ -19,7 +19,7 @@ use Rattle.format_csv.proofs.lemmas.ScanLemmas.{record-run}
 use Rattle.format_csv.proofs.lemmas.OpenLemmas.{begun}
 use Rattle.format_csv_records.specs.Filling.{Fills, BeginsJust, IsUnfinished}
 use Rattle.format_csv_records.specs.declared.filling.Found.TheVariants.{Record, Damaged as broken}
-use Rattle.format_csv_records.specs.Reading.{HasRead, ReadsAlso, ReadsThrough, row_read, ReadsOn, TakesRecord, FillsNext}
+use Rattle.format_csv_records.specs.Reading.{HasRead, ReadsAlso, ReadsThrough, row_read, ReadsOn, TakesRecord, ReadsNext}
 use Rattle.format_csv_records.specs.declared.record_reader.RecordError.{RecordError}
 use Rattle.format_csv_records.specs.declared.record_reader.RecordError.TheVariants.{Damaged, Refused}
 
@@ -69,14 +69,14 @@ read-same old new e input rows h =
 
 -- whatever a call returns, its reader has read on
 pub reads-on : (old new : ReaderState Row) (result : Result (Next (Unit {0})) RecordError)
-    (fields : List (List ℕ)) → FillsNext old result fields new → ReadsOn old result fields new
+    (fields : List (List ℕ)) → ReadsNext old result fields new → ReadsOn old result fields new
 reads-on old new (Ok (Value x)) fields (n, (some, l, begins, e)) = λ input rows h.
     subst (λ g. HasRead g input (rows ++ fields ∷ [])) (sym e)
     (read-record old fields n l (subst (λ (g : ReaderState Row). BeginsJust old.ended old.ahead fields g.ahead) e begins) input rows h)
-reads-on old new (Ok NeedsMore) fields (u, e) = λ input rows h. read-same old new e input rows h
-reads-on old new (Ok Done) fields (u, e) = λ input rows h. read-same old new e input rows h
-reads-on old new (Err (Damaged place)) fields (u, e) = λ input rows h. read-same old new e input rows h
-reads-on old new (Err (Refused r)) fields e = λ input rows h. read-same old new e input rows h
+reads-on old new (Ok NeedsMore) fields (u, none, e) = λ input rows h. read-same old new e input rows h
+reads-on old new (Ok Done) fields (u, none, e) = λ input rows h. read-same old new e input rows h
+reads-on old new (Err (Damaged place)) fields (u, none, e) = λ input rows h. read-same old new e input rows h
+reads-on old new (Err (Refused r)) fields (none, e) = λ input rows h. read-same old new e input rows h
 
 -- the record that is filled is taken
 pub takes-record : (old new : ReaderState Row) (fields : List (List ℕ)) (n : ℕ)

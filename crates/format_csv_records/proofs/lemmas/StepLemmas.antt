@@ -1,7 +1,8 @@
 -- A step of a fill: a field, and what follows it.
-use Rattle.std.specs.Prelude.{Bool, true, false, drop, Some, None}
-use Rattle.std.proofs.Common.{◌≡◌, ◌≢◌, ℕ, ◌+◌, ◌≤◌, List, [], ◌∷◌, ◌++◌, length, refl, ap, sym, ◌∙◌, subst, arith, length-drop, drop_of_length-le}
+use Rattle.std.specs.Prelude.{Bool, true, false, not, drop, Some, None}
+use Rattle.std.proofs.Common.{◌≡◌, ◌≢◌, ℕ, ◌+◌, ◌≤◌, List, [], ◌∷◌, ◌++◌, length, refl, inl, inr, ap, sym, ◌∙◌, subst, arith, length-drop, drop_of_length-le}
 use Rattle.std.proofs.lemmas.List.{drop-drop}
+use Rattle.format_csv.specs.Language.{EndsRecord}
 use Rattle.format_csv_records.specs.Field.{BeginsField, IsUnclosedField, FillsField}
 use Rattle.format_csv_records.specs.Filling.{Follows, Fills, BeginsJust, IsDamagedBefore}
 use Rattle.format_csv_records.specs.declared.filling.Follow.TheVariants.{Comma, End, Open, Broken}
@@ -33,14 +34,24 @@ module _ (bytes r s : List ℕ) (fields new : List (List ℕ)) (at n : ℕ) (er 
       → at + n + 1 ≤ length bytes
   after-comma ended l h = omega (arith, ap length h, ap length es, length-drop (at + n) bytes, within l)
 
+  -- some bytes stand before the end of a record
+  some-bytes : (ended : Bool) (rest : List ℕ) → (ended ≡ true → bytes ≢ []) → EndsRecord (not ended) s rest
+      → bytes ≢ []
+  some-bytes true rest some h none = some refl none
+  some-bytes false rest some (inl e) none =
+      absurd (omega (arith, ap length e, ap length es, length-drop (at + n) bytes, ap length none))
+  some-bytes false rest some (inr (inl e)) none =
+      absurd (omega (arith, ap length e, ap length es, length-drop (at + n) bytes, ap length none))
+  some-bytes false rest some (inr (inr e)) none = let x : true ≡ false = e.2 in cc
+
   -- the end of the record
-  pub ends : (ended : Bool) (m : ℕ) → bytes ≢ [] → at ≤ length bytes → Follows ended s (End m)
-      → Fills ended bytes (Record (at + n + m)) new
+  pub ends : (ended : Bool) (m : ℕ) → (ended ≡ true → bytes ≢ []) → at ≤ length bytes
+      → Follows ended s (End m) → Fills ended bytes (Record (at + n + m)) new
   ends ended m some l h = (
     omega (arith, h.0, ap length es, length-drop (at + n) bytes, within l),
     subst (λ ws. BeginsJust ended bytes ws (drop (at + n + m) bytes)) (sym fills.1.1)
         (subst (λ t. BeginsJust ended bytes (fields ++ fills.0 ∷ []) t) (ap (drop m) es ∙ drop-drop m (at + n) bytes)
-        (filled ended bytes (drop at bytes) s (drop m s) fills.0 fields some (subst (λ t. BeginsField fills.0 (drop at bytes) t) (sym es) field) h.1 gone)),
+        (filled ended bytes (drop at bytes) s (drop m s) fills.0 fields (some-bytes ended (drop m s) some h.1) (subst (λ t. BeginsField fills.0 (drop at bytes) t) (sym es) field) h.1 gone)),
   )
 
   -- too little to tell
