@@ -59,6 +59,7 @@ enum Stage {
 impl Model for RecordReader {
     ghost use Rattle.std.specs.Prelude.{◌≡◌, ◌≤◌, take, length, Some};
     ghost use Rattle.winnow.specs.State.{ReaderState};
+    ghost use Rattle.format_csv.specs.declared.grammar.Row.{Row};
     ghost use Rattle.format_csv.specs.Scan.{run};
     ghost use Rattle.format_csv.specs.declared.scan.RowState.TheVariants.{Start};
 
@@ -150,7 +151,7 @@ impl RecordReader {
             }
             Ok(Found::Damaged(offset)) => {
                 record.clear();
-                let place = self.reader.place() + offset;
+                let place = self.place_of(offset);
                 Err(RecordError::Damaged { place })
             }
             Err(refused) => {
@@ -181,6 +182,14 @@ impl RecordReader {
             self.stage = Stage::Scans;
         }
         answer
+    }
+
+    // Returns the place of an offset of the bytes ahead.
+    fn place_of(&self, offset: usize) -> usize
+        requires { offset ≤ len self.now.ahead }
+        ensures { result ≡ self.now.place + offset }
+    {
+        self.reader.fed() - (self.reader.ahead().len() - offset)
     }
 
     // Moves past a record of this length.

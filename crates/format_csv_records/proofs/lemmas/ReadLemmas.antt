@@ -1,10 +1,11 @@
 -- What a reader of records has read.
-use Rattle.std.specs.Prelude.{Bool, true, false, drop, Some, None, Result, Ok, Err}
-use Rattle.std.proofs.Common.{◌≡◌, ℕ, ◌+◌, ◌-◌, ◌≤◌, ◌<◌, List, [], ◌∷◌, ◌++◌, length, refl, ap, sym, ◌∙◌, subst, arith, append_assoc, length-append, length-drop}
-use Rattle.std.proofs.lemmas.List.{append-nil}
+use Rattle.std.specs.Prelude.{Bool, true, false, not, min, take, drop, Some, None, Result, Ok, Err}
+use Rattle.std.proofs.Common.{◌≡◌, ℕ, ◌+◌, ◌-◌, ◌≤◌, ◌<◌, List, [], ◌∷◌, ◌++◌, length, refl, ap, sym, ◌∙◌, subst, arith, append_assoc, length-append, length-drop, take-append-drop}
+use Rattle.std.proofs.lemmas.List.{append-nil, take_all}
 use Rattle.std.proofs.lemmas.Option.{none-some}
 use Rattle.winnow.specs.Reading.{MayFollow}
 use Rattle.winnow.specs.State.{ReaderState, at_start, pushed, ended_after, taken_by, fed_of}
+use Rattle.winnow_reader.specs.Skips.{skipped}
 use Rattle.winnow_reader.specs.declared.next.Next.{Next}
 use Rattle.winnow_reader.specs.declared.next.Next.TheVariants.{Value, NeedsMore, Done}
 use Rattle.format_csv.specs.Tables.{AreRecords}
@@ -19,6 +20,7 @@ use Rattle.format_csv.proofs.lemmas.ScanLemmas.{record-run}
 use Rattle.format_csv.proofs.lemmas.OpenLemmas.{begun}
 use Rattle.format_csv_records.specs.Filling.{Fills, BeginsJust, IsUnfinished}
 use Rattle.format_csv_records.specs.declared.filling.Found.TheVariants.{Record, Damaged as broken}
+use Rattle.format_csv_records.proofs.lemmas.ByteLemmas.{slice-from}
 use Rattle.format_csv_records.specs.Reading.{HasRead, ReadsAlso, ReadsThrough, row_read, ReadsOn, TakesRecord, ReadsNext}
 use Rattle.format_csv_records.specs.declared.record_reader.RecordError.{RecordError}
 use Rattle.format_csv_records.specs.declared.record_reader.RecordError.TheVariants.{Damaged, Refused}
@@ -30,12 +32,12 @@ read-none p f e = subst (λ g. HasRead g [] []) (sym e) (record { reads = λ mor
 -- a piece more
 pub read-piece : (old new : ReaderState Row) (piece : List ℕ) → old.ended ≡ false
     → new ≡ pushed old piece → ReadsAlso old piece new
-read-piece old new piece open e = λ input rows h.
+read-piece old new piece going e = λ input rows h.
     subst (λ g. HasRead g (input ++ piece) rows) (sym e) (record {
       reads = λ more may.
           subst (λ xs. AreRecords xs rows ((old.ahead ++ piece) ++ more)) (sym (append_assoc input piece more))
           (subst (λ ys. AreRecords (input ++ (piece ++ more)) rows ys) (sym (append_assoc old.ahead piece more))
-          (h.reads (piece ++ more) (subst (λ b. MayFollow b (piece ++ more) false) (sym open) tt)));
+          (h.reads (piece ++ more) (subst (λ b. MayFollow b (piece ++ more) false) (sym going) tt)));
       fed = omega (arith, h.fed, length-append old.ahead piece, length-append input piece);
     })
 
@@ -95,12 +97,47 @@ takes-record old new fields n (l, begins) e =
     )
 
 -- damage that is found is in the joined input
-pub finds-damage : (f : ReaderState Row) (fields : List (List ℕ)) (n : ℕ)
-    → Fills f.ended f.ahead (broken n) fields → FindsDamage f (f.place + n)
-finds-damage f fields n (l, damage) = (drop n f.ahead, (omega (arith, l, length-drop n f.ahead), damage))
+pub finds-damage : (f : ReaderState Row) (fields : List (List ℕ)) (n place : ℕ)
+    → Fills f.ended f.ahead (broken n) fields → place ≡ f.place + n → FindsDamage f place
+finds-damage f fields n place (l, damage) e =
+    (drop n f.ahead, (omega (arith, e, l, length-drop n f.ahead), damage))
 
 -- where a scan goes on, the record is unfinished
 pub scan-unfinished : (bytes : List ℕ) (t : RowState) → run (Some Start) bytes ≡ Some t
     → IsUnfinished false bytes
 scan-unfinished bytes t h =
     (refl, begun bytes t h, λ values rest stands. none-some t (sym (record-run bytes values rest stands) ∙ h))
+
+-- ---- The scan
+
+-- the bytes that a scan has seen, and those that it has not
+both-parts : (xs ahead : List ℕ) (n : ℕ) → ahead ≡ xs
+    → take n xs ++ take (length ahead - n) (drop n ahead) ≡ xs
+both-parts xs ahead n e =
+    ap (λ ys. take n xs ++ ys) (slice-from ahead n ∙ ap (drop n) e) ∙ take-append-drop n xs
+
+module _ (xs ahead : List ℕ) (n : ℕ) (t : RowState) (e : ahead ≡ xs) (h : run (Some Start) (take n xs ++ take (length ahead - n) (drop n ahead)) ≡ Some t) where
+  -- a scan that went over both went over all
+  pub seen : run (Some Start) xs ≡ Some t
+  seen = ap (run (Some Start)) (sym (both-parts xs ahead n e)) ∙ h
+
+  -- all of them are those that it has seen
+  pub seen-all : run (Some Start) (take (length ahead) xs) ≡ Some t
+  seen-all = ap (run (Some Start)) (take_all (length ahead) xs (omega (arith, ap length e))) ∙ seen
+
+-- so the record ahead of the reader is unfinished
+pub scans-on : (f g : ReaderState Row) (t : RowState) → g ≡ f → f.ended ≡ false
+    → run (Some Start) g.ahead ≡ Some t → IsUnfinished f.ended f.ahead
+scans-on f g t e going h =
+    subst (λ b. IsUnfinished b f.ahead) (sym going)
+    (scan-unfinished f.ahead t (subst (λ (r : ReaderState Row). run (Some Start) r.ahead ≡ Some t) e h))
+
+-- what is not false is true
+pub not-true : (b : Bool) → not b ≡ true → b ≡ false
+not-true true e = absurd (cc e)
+not-true false e = refl
+
+-- bytes that are skipped are taken, if there are so many
+pub skip-takes : (f : ReaderState Row) (n k : ℕ) → n ≤ length f.ahead → k ≡ min n (length f.ahead)
+    → skipped f k ≡ taken_by f n
+skip-takes f n k l e = ap (λ m. taken_by f m) (omega (arith, l, e))
