@@ -30,7 +30,8 @@ pub enum RecordError {
 /// input, the bytes ahead of it, and whether the input has ended.
 ///
 /// ```
-/// let mut reader = RecordReader::new(rt.alloc());
+/// let mut reader = RecordReader::new(alloc);
+/// let mut record = ByteRecord::new(alloc);
 /// ..
 /// reader.end();
 /// ```
