@@ -68,11 +68,7 @@ fn what_follows(rest: &[u8], ended: bool) -> Follow
     ensures { Follows ended rest.now result }
 {
     if rest.is_empty() {
-        return if ended {
-            Follow::End(0)
-        } else {
-            Follow::Open
-        };
+        return if ended { Follow::End(0) } else { Follow::Open };
     }
     match rest[0] {
         b',' => Follow::Comma,
@@ -88,11 +84,7 @@ fn after_return(rest: &[u8], ended: bool) -> Follow
     ensures { Follows ended rest.now result }
 {
     if rest.len() == 1 {
-        return if ended {
-            Follow::Broken
-        } else {
-            Follow::Open
-        };
+        return if ended { Follow::Broken } else { Follow::Open };
     }
     if rest[1] == b'\n' {
         Follow::End(2)
