@@ -1,5 +1,5 @@
 -- What a reader of records has read of bytes that come in pieces, and what each call makes of it.
-use Rattle.std.specs.Prelude.{◌≡◌, ℕ, ◌+◌, ◌≤◌, ◌<◌, false, List, [], ◌∷◌, ◌++◌, length, Result, Ok, Err}
+use Rattle.std.specs.Prelude.{◌≡◌, ℕ, ◌≤◌, ◌<◌, false, List, [], ◌∷◌, ◌++◌, length, Result, Ok, Err}
 use Rattle.winnow.specs.Reading.{MayFollow}
 use Rattle.winnow.specs.State.{ReaderState, taken_by, fed_of}
 use Rattle.winnow.specs.SameValues.{IsThrough}

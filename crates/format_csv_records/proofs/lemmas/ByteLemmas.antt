@@ -1,10 +1,10 @@
 -- The bytes before the first that passes a test.
-use Rattle.std.specs.Prelude.{◌==◌, Bool, not, ◌||◌, zero, suc, ◌-◌, drop, take, Option, Some, None, slice_index}
-use Rattle.std.proofs.Common.{◌≡◌, ◌≢◌, ℕ, ◌+◌, ◌≤◌, ◌<◌, true, false, List, [], ◌∷◌, ◌++◌, length, refl, ap, sym, ◌∙◌, subst, inl, inr, arith, length-drop, drop_of_length-le}
+use Rattle.std.specs.Prelude.{Bool, not, zero, suc, ◌-◌, drop, take, Some, None, slice_index}
+use Rattle.std.proofs.Common.{◌≡◌, ℕ, ◌+◌, ◌<◌, true, false, List, [], ◌∷◌, length, refl, ap, sym, ◌∙◌, subst, inl, inr, arith, length-drop, drop_of_length-le}
 use Rattle.std.proofs.lemmas.List.{take_all, drop_more}
 use Rattle.std.proofs.lemmas.Bool.Decides.{nat_tests, eqb_tells}
-use Rattle.memchr.specs.Find.{Nowhere, NoneBefore, Passes, IsFirstByte, is_byte}
-use Rattle.format_lemmas.specs.Bytes.{Each, StartsWith, Starts}
+use Rattle.memchr.specs.Find.{Nowhere, Passes, IsFirstByte, is_byte}
+use Rattle.format_lemmas.specs.Bytes.{Each, Starts}
 use Rattle.format_csv.specs.Fields.{is_special, is_plain}
 use Rattle.format_csv.specs.Meanings.{is_other}
 

@@ -1,7 +1,7 @@
 -- A field that is read is the first one that a record spells there, and the last one or not.
-use Rattle.std.specs.Prelude.{◌⊎◌, true, false, Bool}
-use Rattle.std.proofs.Common.{◌≡◌, ◌≢◌, ℕ, List, [], ◌∷◌, ◌++◌, length, inl, inr, ap, sym, ◌∙◌, subst, refl, append_assoc}
-use Rattle.format_lemmas.specs.Bytes.{Each, StartsWith, Starts}
+use Rattle.std.specs.Prelude.{Bool}
+use Rattle.std.proofs.Common.{◌≡◌, ◌≢◌, ℕ, List, [], ◌∷◌, ◌++◌, inl, inr, ap, sym, ◌∙◌, subst, refl, append_assoc}
+use Rattle.format_lemmas.specs.Bytes.{StartsWith, Starts}
 use Rattle.format_lemmas.proofs.lemmas.ByteLemmas.{tails, begins}
 use Rattle.format_csv.specs.Fields.{is_plain, doubled, SpellsField}
 use Rattle.format_csv.specs.Language.{SpellsMore, SpellsRecord, EndsRecord}

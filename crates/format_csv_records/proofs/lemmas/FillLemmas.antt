@@ -6,12 +6,11 @@ use Rattle.winnow.specs.Reading.{MayFollow}
 use Rattle.format_lemmas.specs.Bytes.{StartsWith}
 use Rattle.format_lemmas.proofs.lemmas.ByteLemmas.{heads, tails}
 use Rattle.format_csv.specs.Language.{SpellsRecord, EndsRecord, RecordAhead}
-use Rattle.format_csv.specs.Answers.{IsBegun}
 use Rattle.format_csv.specs.Tables.{HasNoRecord, IsDamagedAt}
 use Rattle.format_csv.proofs.lemmas.RecordLemmas.{ends-once, ends-no-comma, open-spelled}
 use Rattle.format_csv.proofs.lemmas.AnswerLemmas.{fields-begun, end-begun}
 use Rattle.format_csv_records.specs.Field.{BeginsField, IsUnclosedField}
-use Rattle.format_csv_records.specs.Filling.{CannotFollow, IsRecordOf, BeginsJust, IsUnfinished, IsDamagedBefore}
+use Rattle.format_csv_records.specs.Filling.{CannotFollow, BeginsJust, IsUnfinished, IsDamagedBefore}
 use Rattle.format_csv_records.proofs.lemmas.FieldLemmas.{Spelled, field-more, last-field, open-none}
 use Rattle.format_csv_records.proofs.lemmas.GoneLemmas.{Gone, gone-field}
 

@@ -2,7 +2,6 @@
 use Rattle.std.specs.Prelude.{Bool}
 use Rattle.std.proofs.Common.{◌≡◌, ℕ, List, [], ◌∷◌, ◌++◌, ap, sym, ◌∙◌, subst, refl, append_assoc}
 use Rattle.std.proofs.lemmas.List.{append-nil}
-use Rattle.format_csv.specs.Fields.{SpellsField}
 use Rattle.format_csv.specs.Language.{SpellsMore, SpellsRecord}
 use Rattle.format_csv.proofs.lemmas.FieldLemmas.{field-spelled}
 use Rattle.format_csv_records.specs.Field.{BeginsField}

@@ -1,6 +1,6 @@
 -- The value of a field between quotes, by chunks.
-use Rattle.std.specs.Prelude.{◌==◌, Bool, drop, take, Option, Some, None, slice_index}
-use Rattle.std.proofs.Common.{◌≡◌, ℕ, ◌+◌, ◌≤◌, ◌<◌, true, false, List, [], ◌∷◌, ◌++◌, length, refl, ap, sym, ◌∙◌, subst, inl, arith, append_assoc, take-append-drop, drop_of_length-le, length-drop}
+use Rattle.std.specs.Prelude.{◌==◌, drop, take, Some, None, slice_index}
+use Rattle.std.proofs.Common.{◌≡◌, ℕ, ◌+◌, ◌≤◌, ◌<◌, true, false, List, [], ◌∷◌, ◌++◌, length, ap, sym, ◌∙◌, subst, inl, arith, append_assoc, take-append-drop, drop_of_length-le, length-drop}
 use Rattle.std.proofs.lemmas.List.{drop-drop}
 use Rattle.std.proofs.lemmas.Bool.Decides.{nat_tests}
 use Rattle.std.proofs.lemmas.List.Concat.{flat_map-append}

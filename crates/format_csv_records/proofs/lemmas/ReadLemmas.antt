@@ -1,10 +1,10 @@
 -- What a reader of records has read.
-use Rattle.std.specs.Prelude.{Bool, true, false, not, min, take, drop, Some, None, Result, Ok, Err}
-use Rattle.std.proofs.Common.{◌≡◌, ℕ, ◌+◌, ◌-◌, ◌≤◌, ◌<◌, List, [], ◌∷◌, ◌++◌, length, refl, ap, sym, ◌∙◌, subst, arith, append_assoc, length-append, length-drop, take-append-drop}
+use Rattle.std.specs.Prelude.{Bool, true, false, not, min, take, drop, Some, Result, Ok, Err}
+use Rattle.std.proofs.Common.{◌≡◌, ℕ, ◌+◌, ◌-◌, ◌≤◌, List, [], ◌∷◌, ◌++◌, length, refl, ap, sym, ◌∙◌, subst, arith, append_assoc, length-append, length-drop, take-append-drop}
 use Rattle.std.proofs.lemmas.List.{append-nil, take_all}
 use Rattle.std.proofs.lemmas.Option.{none-some}
 use Rattle.winnow.specs.Reading.{MayFollow}
-use Rattle.winnow.specs.State.{ReaderState, at_start, pushed, ended_after, taken_by, fed_of}
+use Rattle.winnow.specs.State.{ReaderState, at_start, pushed, ended_after, taken_by}
 use Rattle.winnow_reader.specs.Skips.{skipped}
 use Rattle.winnow_reader.specs.declared.next.Next.{Next}
 use Rattle.winnow_reader.specs.declared.next.Next.TheVariants.{Value, NeedsMore, Done}
@@ -21,7 +21,7 @@ use Rattle.format_csv.proofs.lemmas.OpenLemmas.{begun}
 use Rattle.format_csv_records.specs.Filling.{Fills, BeginsJust, IsUnfinished}
 use Rattle.format_csv_records.specs.declared.filling.Found.TheVariants.{Record, Damaged as broken}
 use Rattle.format_csv_records.proofs.lemmas.ByteLemmas.{slice-from}
-use Rattle.format_csv_records.specs.Reading.{HasRead, ReadsAlso, ReadsThrough, row_read, ReadsOn, TakesRecord, ReadsNext}
+use Rattle.format_csv_records.specs.Reading.{HasRead, ReadsAlso, ReadsThrough, ReadsOn, TakesRecord, ReadsNext}
 use Rattle.format_csv_records.specs.declared.record_reader.RecordError.{RecordError}
 use Rattle.format_csv_records.specs.declared.record_reader.RecordError.TheVariants.{Damaged, Refused}
 
