@@ -69,6 +69,8 @@ fn formats(folder: &Path) -> Vec<Format> {
             ways: vec![
                 ("ours", ours::csv),
                 ("ours, in pieces of 64 KB", ours::csv_in_pieces),
+                ("ours, a record filled again", ours::csv_filled),
+                ("ours, a record filled again, in pieces of 64 KB", ours::csv_filled_in_pieces),
                 ("nom", csv::read_owned),
                 ("nom, fields borrowed", csv::read_borrowed),
             ],

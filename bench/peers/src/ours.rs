@@ -4,6 +4,7 @@ use crate::digest::Depth;
 
 unsafe extern "C" {
     fn winnow_bench_read_csv(input: *const u8, length: usize, piece: usize, depth: u64) -> u64;
+    fn winnow_bench_fill_csv(input: *const u8, length: usize, piece: usize, depth: u64) -> u64;
     fn winnow_bench_read_resp(input: *const u8, length: usize, piece: usize, depth: u64) -> u64;
     fn winnow_bench_read_json(input: *const u8, length: usize, depth: u64) -> u64;
     fn winnow_bench_read_json_events(input: *const u8, length: usize, piece: usize, depth: u64) -> u64;
@@ -17,6 +18,14 @@ pub fn csv(input: &[u8], depth: Depth) -> u64 {
 
 pub fn csv_in_pieces(input: &[u8], depth: Depth) -> u64 {
     unsafe { winnow_bench_read_csv(input.as_ptr(), input.len(), PIECE, depth as u64) }
+}
+
+pub fn csv_filled(input: &[u8], depth: Depth) -> u64 {
+    unsafe { winnow_bench_fill_csv(input.as_ptr(), input.len(), 0, depth as u64) }
+}
+
+pub fn csv_filled_in_pieces(input: &[u8], depth: Depth) -> u64 {
+    unsafe { winnow_bench_fill_csv(input.as_ptr(), input.len(), PIECE, depth as u64) }
 }
 
 pub fn resp(input: &[u8], depth: Depth) -> u64 {

@@ -26,13 +26,13 @@ use Rattle.format_csv.proofs.lemmas.RecordLemmas.{MayEnd, AreBegun, ends-once, e
 -- ---- What more input can make a record of
 
 -- fields that some more bytes complete
-fields-begun : (r : List ℕ) → AreBegun r → IsBegun r
+pub fields-begun : (r : List ℕ) → AreBegun r → IsBegun r
 fields-begun r (more, (values, spells)) =
     let whole : (r ++ more) ++ 10 ∷ [] ≡ r ++ (more ++ 10 ∷ []) = append_assoc r more (10 ∷ []) in
     (more ++ 10 ∷ [], (values, (λ none. some (r ++ more) [] 10 (whole ∙ none), (r ++ more, (10 ∷ [], (sym whole, spells, inr (inl refl)))))))
 
 -- fields after which a record may still end
-end-begun : (values : List (List ℕ)) (r text s : List ℕ) → r ≡ text ++ s → SpellsRecord values text
+pub end-begun : (values : List (List ℕ)) (r text s : List ℕ) → r ≡ text ++ s → SpellsRecord values text
     → MayEnd s → IsBegun r
 end-begun values r text s e spells (inl f) =
     let whole : r ++ [] ≡ text = append-nil r ∙ e ∙ ap (λ t. text ++ t) f ∙ append-nil text in

@@ -89,7 +89,7 @@ field-once partial v w text rest s (inr h) stops (inl k) =
 field-once partial v w text rest s (inr h) stops (inr k) = absurd (k.3 (begins 34 (text ++ rest) (doubled w ++ 34 ∷ rest) (quoted-before text w rest h)))
 
 -- an open field is not spelled there
-open-not : (partial : Bool) (w text rest : List ℕ) → SpellsField w text → StopsAt partial rest
+pub open-not : (partial : Bool) (w text rest : List ℕ) → SpellsField w text → StopsAt partial rest
     → IsOpen (text ++ rest) → ⊥
 open-not partial w text rest (inl h) stops (t, (c, (e, o))) = plain-before text w rest (doubled t ++ c) h.0 h.1 stops.0 e
 open-not partial w text rest (inr h) stops (t, (c, (e, o))) = not-closed t w c rest o stops.0 (tails 34 34 _ _ (sym e ∙ quoted-before text w rest h))

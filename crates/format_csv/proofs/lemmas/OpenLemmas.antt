@@ -166,7 +166,7 @@ last-some front last (inr (inl e)) n = some front [] 10 (sym (ap (λ x. front ++
 last-some front last (inr (inr e)) n = let x : true ≡ false = e.2 in cc
 
 -- where a scan goes on, a record is begun
-begun : (bytes : List ℕ) (t : RowState) → run (Some Start) bytes ≡ Some t → IsBegun bytes
+pub begun : (bytes : List ℕ) (t : RowState) → run (Some Start) bytes ≡ Some t → IsBegun bytes
 begun bytes t h =
     let d = run-done bytes Start t h in
     let v = d.1.0 in

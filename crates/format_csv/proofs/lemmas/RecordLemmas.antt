@@ -38,14 +38,14 @@ ends-stop partial more after (inr (inl e)) = subst (StopsAt partial) (sym e) (λ
 ends-stop partial more after (inr (inr (e, f, q))) = subst (StopsAt partial) (sym e) (λ n. n, λ n. n, λ p n. let x = sym q ∙ p in cc)
 
 -- a record does not end at a comma
-ends-no-comma : (partial : Bool) (more after : List ℕ) → EndsRecord partial more after
+pub ends-no-comma : (partial : Bool) (more after : List ℕ) → EndsRecord partial more after
     → ¬ (StartsWith 44 more)
 ends-no-comma partial more after (inl e) = subst (λ r. ¬ (StartsWith 44 r)) (sym e) (λ n. omega (arith, n))
 ends-no-comma partial more after (inr (inl e)) = subst (λ r. ¬ (StartsWith 44 r)) (sym e) (λ n. omega (arith, n))
 ends-no-comma partial more after (inr (inr e)) = subst (λ r. ¬ (StartsWith 44 r)) (sym e.0) (λ n. n)
 
 -- a field may end before the other fields and the end of a record
-more-stop : (partial : Bool) (ws : List (List ℕ)) (text more after : List ℕ) → SpellsMore ws text
+pub more-stop : (partial : Bool) (ws : List (List ℕ)) (text more after : List ℕ) → SpellsMore ws text
     → EndsRecord partial more after → StopsAt partial (text ++ more)
 more-stop partial [] text more after e ends = subst (λ t. StopsAt partial (t ++ more)) (sym e) (ends-stop partial more after ends)
 more-stop partial (w ∷ ws) text more after (t, (m, (e, first, spells))) ends =
@@ -153,7 +153,7 @@ module _ {S : Type 0} (is_slice : S → Source ℕ → ℕ → Type 0) (appends 
 -- ---- Open fields
 
 -- a field that is not closed is spelled once a quote is added
-open-spelled : (r : List ℕ) → IsOpen r → (value : List ℕ) × SpellsField value (r ++ 34 ∷ [])
+pub open-spelled : (r : List ℕ) → IsOpen r → (value : List ℕ) × SpellsField value (r ++ 34 ∷ [])
 open-spelled r (t, (c, (e, others))) =
     let same : doubled t ++ c ≡ doubled (t ++ c) = ap (λ d. doubled t ++ d) (sym (doubled-others c others)) ∙ sym (flat_map-append twice t c) in
     (t ++ c, inr (ap (λ x. x ++ 34 ∷ []) e ∙ ap (λ x. 34 ∷ (x ++ 34 ∷ [])) same))
