@@ -15,7 +15,8 @@ use Rattle.format_csv_records.specs.declared.record_reader.RecordError.TheVarian
 -- of this joined input a reader has read these records: no matter what follows, they are the first
 -- ones, and what is ahead of the reader comes after them
 pub record HasRead (f : ReaderState Row) (input : List ℕ) (rows : List (List (List ℕ))) : Type 0 where
-  pub reads : (more : List ℕ) → MayFollow f.ended more false → AreRecords (input ++ more) rows (f.ahead ++ more)
+  pub reads : (more : List ℕ) → MayFollow f.ended more false
+      → AreRecords (input ++ more) rows (f.ahead ++ more)
   pub fed : fed_of f ≡ length input
 
 -- no matter what was read, with a piece more the reader has read the same

@@ -32,7 +32,8 @@ fields-begun r (more, (values, spells)) =
     (more ++ 10 ∷ [], (values, (λ none. some (r ++ more) [] 10 (whole ∙ none), (r ++ more, (10 ∷ [], (sym whole, spells, inr (inl refl)))))))
 
 -- fields after which a record may still end
-pub end-begun : (values : List (List ℕ)) (r text s : List ℕ) → r ≡ text ++ s → SpellsRecord values text
+pub end-begun : (values : List (List ℕ)) (r text s : List ℕ) → r ≡ text ++ s
+    → SpellsRecord values text
     → MayEnd s → IsBegun r
 end-begun values r text s e spells (inl f) =
     let whole : r ++ [] ≡ text = append-nil r ∙ e ∙ ap (λ t. text ++ t) f ∙ append-nil text in

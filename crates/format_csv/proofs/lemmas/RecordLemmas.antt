@@ -45,7 +45,8 @@ ends-no-comma partial more after (inr (inl e)) = subst (λ r. ¬ (StartsWith 44 
 ends-no-comma partial more after (inr (inr e)) = subst (λ r. ¬ (StartsWith 44 r)) (sym e.0) (λ n. n)
 
 -- a field may end before the other fields and the end of a record
-pub more-stop : (partial : Bool) (ws : List (List ℕ)) (text more after : List ℕ) → SpellsMore ws text
+pub more-stop : (partial : Bool) (ws : List (List ℕ)) (text more after : List ℕ)
+    → SpellsMore ws text
     → EndsRecord partial more after → StopsAt partial (text ++ more)
 more-stop partial [] text more after e ends = subst (λ t. StopsAt partial (t ++ more)) (sym e) (ends-stop partial more after ends)
 more-stop partial (w ∷ ws) text more after (t, (m, (e, first, spells))) ends =

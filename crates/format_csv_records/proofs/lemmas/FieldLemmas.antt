@@ -21,7 +21,7 @@ not-starts : (n : ℕ) (s more : List ℕ) → s ≢ [] → ¬ (StartsWith n s) 
 not-starts n [] more some h = absurd (some refl)
 not-starts n (b ∷ s) more some h = h
 
--- likewise of a test
+-- bytes with which no plain byte starts start with none when more follows
 not-plain : (s more : List ℕ) → s ≢ [] → ¬ (Starts is_plain s) → ¬ (Starts is_plain (s ++ more))
 not-plain [] more some h = absurd (some refl)
 not-plain (b ∷ s) more some h = h

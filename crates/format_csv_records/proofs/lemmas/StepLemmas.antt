@@ -35,7 +35,8 @@ module _ (bytes r s : List ℕ) (fields new : List (List ℕ)) (at n : ℕ) (er 
   after-comma ended l h = omega (arith, ap length h, ap length es, length-drop (at + n) bytes, within l)
 
   -- some bytes stand before the end of a record
-  some-bytes : (ended : Bool) (rest : List ℕ) → (ended ≡ true → bytes ≢ []) → EndsRecord (not ended) s rest
+  some-bytes : (ended : Bool) (rest : List ℕ) → (ended ≡ true → bytes ≢ [])
+      → EndsRecord (not ended) s rest
       → bytes ≢ []
   some-bytes true rest some h none = some refl none
   some-bytes false rest some (inl e) none =
