@@ -125,9 +125,13 @@ pub use Rattle.winnow_codec.specs.Cases
 pub use Rattle.winnow_codec.specs.FormatNumbers
 pub use Rattle.winnow_codec.specs.FormatParts
 pub use Rattle.winnow_codec.specs.FormatRows
+pub use Rattle.winnow_codec.specs.FormatTexts
 pub use Rattle.winnow_codec.specs.Formats
+pub use Rattle.winnow_codec.specs.Frames
 pub use Rattle.winnow_codec.specs.Known
 pub use Rattle.winnow_codec.specs.Lists
+pub use Rattle.winnow_codec.specs.Literals
+pub use Rattle.winnow_codec.specs.Nibbles
 pub use Rattle.winnow_codec.specs.Orders
 pub use Rattle.winnow_codec.specs.RoundTrips
 pub use Rattle.winnow_codec.specs.Signed

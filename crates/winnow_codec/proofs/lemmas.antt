@@ -1,5 +1,8 @@
 pub mod Fixed
+pub mod Insides
 pub mod Lists
+pub mod Literals
+pub mod Marks
 pub mod Parts
 pub mod Reading
 pub mod RoundTrips

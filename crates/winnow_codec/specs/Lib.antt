@@ -4,9 +4,13 @@ pub mod Cases
 pub mod FormatNumbers
 pub mod FormatParts
 pub mod FormatRows
+pub mod FormatTexts
 pub mod Formats
+pub mod Frames
 pub mod Known
 pub mod Lists
+pub mod Literals
+pub mod Nibbles
 pub mod Orders
 pub mod RoundTrips
 pub mod Signed
