@@ -122,6 +122,8 @@ pub use Rattle.winnow_live.specs.Live
 pub use Rattle.winnow_codec.specs.Byte
 pub use Rattle.winnow_codec.specs.Bytes
 pub use Rattle.winnow_codec.specs.Cases
+pub use Rattle.winnow_codec.specs.Checked
+pub use Rattle.winnow_codec.specs.Decimals
 pub use Rattle.winnow_codec.specs.FormatNumbers
 pub use Rattle.winnow_codec.specs.FormatParts
 pub use Rattle.winnow_codec.specs.FormatRows

@@ -1,3 +1,4 @@
+pub mod Checks
 pub mod Fixed
 pub mod Insides
 pub mod Lists

@@ -1,6 +1,8 @@
 pub mod Byte
 pub mod Bytes
 pub mod Cases
+pub mod Checked
+pub mod Decimals
 pub mod FormatNumbers
 pub mod FormatParts
 pub mod FormatRows
