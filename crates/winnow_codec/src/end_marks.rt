@@ -26,7 +26,8 @@ pub struct EndMark {
 /// assert_eq!(rt; read_all(alloc, &name, b"etc\0")?.as_slice(), b"etc".as_slice());
 /// ```
 pub fn till<W>(mark: &'static [u8], part: W) -> Inside<EndMark, W>
-    ensures { result ≡ record { frame = record { mark = mark }; part = part } }
+    ensures mark { result.frame.mark.now ≡ mark.now }
+    ensures part { result.part ≡ part }
 {
     Inside {
         frame: EndMark { mark },

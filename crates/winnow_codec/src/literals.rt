@@ -26,7 +26,7 @@ pub struct LiteralBytes {
 /// assert_eq!(rt; read_all(alloc, &header, b"GIF89a\x01\x02")?, 0x0201);
 /// ```
 pub fn literal(bytes: &'static [u8]) -> LiteralBytes
-    ensures { result ≡ record { bytes = bytes } }
+    ensures { result.bytes.now ≡ bytes.now }
 {
     LiteralBytes { bytes }
 }
