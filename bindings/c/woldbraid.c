@@ -1,0 +1,106 @@
+/* The calls that woldbraid.h declares: a test of each argument, and one call of what the proved library exports.
+ *
+ * The proved library requires what these tests see to: that a handle has a reader, or none where one is made; that a pointer has as many
+ * bytes as its length says; and that a length is at most PTRDIFF_MAX.
+ */
+#include "woldbraid.h"
+
+#include <stdlib.h>
+
+/* A reader as the proved library has it: a pointer that it alone reads and writes. */
+struct wb_json_reader {
+    unsigned char *at;
+};
+
+extern uint32_t woldbraid_json_new(wb_json_reader *handle, size_t depth, size_t kept);
+extern uint32_t woldbraid_json_next(wb_json_reader *handle, wb_json_event *event);
+extern uint32_t woldbraid_push(wb_json_reader *handle, const uint8_t *piece, size_t length);
+extern void woldbraid_end(wb_json_reader *handle);
+extern void woldbraid_free(wb_json_reader *handle);
+
+wb_json_reader *wb_json_new(const wb_json_limits *limits)
+{
+    size_t depth = limits == NULL ? WB_JSON_DEPTH : limits->depth;
+    size_t kept = limits == NULL ? WB_JSON_KEPT : limits->kept;
+    wb_json_reader *reader = malloc(sizeof *reader);
+    if (reader == NULL)
+        return NULL;
+    reader->at = NULL;
+    if (woldbraid_json_new(reader, depth, kept) != WB_OK) {
+        free(reader);
+        return NULL;
+    }
+    return reader;
+}
+
+wb_status wb_json_push(wb_json_reader *reader, const void *piece, size_t length)
+{
+    static const uint8_t nothing[1] = {0};
+    if (reader == NULL || length > PTRDIFF_MAX || (piece == NULL && length != 0))
+        return WB_MISUSED;
+    return woldbraid_push(reader, piece == NULL ? nothing : piece, length);
+}
+
+wb_status wb_json_end(wb_json_reader *reader)
+{
+    if (reader == NULL)
+        return WB_MISUSED;
+    woldbraid_end(reader);
+    return WB_OK;
+}
+
+wb_status wb_json_next(wb_json_reader *reader, wb_json_event *event)
+{
+    static const wb_json_event none;
+    if (reader == NULL || event == NULL)
+        return WB_MISUSED;
+    /* The proved library takes a struct whose fields all have a value. */
+    *event = none;
+    return woldbraid_json_next(reader, event);
+}
+
+void wb_json_free(wb_json_reader *reader)
+{
+    if (reader == NULL)
+        return;
+    woldbraid_free(reader);
+    free(reader);
+}
+
+const char *wb_status_text(wb_status status)
+{
+    switch (status) {
+    case WB_OK: return "done as asked";
+    case WB_DONE: return "the input is read to its end";
+    case WB_NEEDS_MORE: return "more bytes are needed, or the end of the input";
+    case WB_FULL: return "more bytes wait to be read than may be kept";
+    case WB_ENDED: return "the input has ended before";
+    case WB_TOO_LONG: return "the input is too long";
+    case WB_REFUSED: return "memory was refused";
+    case WB_DAMAGED: return "the input is damaged";
+    case WB_UNEXPECTED: return "what stands there may not";
+    case WB_TOO_DEEP: return "too many arrays and objects are open";
+    case WB_ENDS_EARLY: return "the input ends early";
+    case WB_MISUSED: return "an argument is missing, or a length is too large";
+    default: return "no status";
+    }
+}
+
+const char *wb_json_cause_text(uint32_t cause)
+{
+    switch (cause) {
+    case WB_JSON_WIDE_TEXT: return "a byte of UTF-16 or UTF-32, and JSON is in UTF-8";
+    case WB_JSON_BYTE_ORDER_MARK: return "a byte order mark, or another character that is not ASCII, outside a string";
+    case WB_JSON_COMMENT: return "a comment, which JSON does not have";
+    case WB_JSON_SINGLE_QUOTE: return "a single quote, and strings are in double quotes";
+    case WB_JSON_OTHER_WORD: return "a word other than true, false and null";
+    case WB_JSON_NO_TOKEN: return "no token of JSON begins here";
+    case WB_JSON_LEADING_ZERO: return "a number with a zero before its first digit";
+    case WB_JSON_BAD_NUMBER: return "a number that JSON does not write so";
+    case WB_JSON_BAD_ESCAPE: return "no escape of JSON";
+    case WB_JSON_LONE_SURROGATE: return "a surrogate without the other one of its pair";
+    case WB_JSON_CONTROL_CHARACTER: return "a control character, which is an escape in a string";
+    case WB_JSON_BAD_UTF8: return "bytes that are no UTF-8";
+    default: return "no cause";
+    }
+}

@@ -1,0 +1,4 @@
+pub mod Codes
+pub mod Events
+pub mod Calls
+pub mod KeptCalls
