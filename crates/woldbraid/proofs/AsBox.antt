@@ -25,6 +25,7 @@ abbrev pub FromHandle : Slot 0
 FromHandle = plain (λ _. Handle.the_row)
 
 -- the reader, where there is one
-pub reader_in : (value : Option Kept.the_row.Denot) → HasReader value → (kept : Kept.the_row.Denot) × (value ≡ Some kept)
+pub reader_in : (value : Option Kept.the_row.Denot) → HasReader value
+    → (kept : Kept.the_row.Denot) × (value ≡ Some kept)
 reader_in None has = absurd has
 reader_in (Some kept) has = (kept, refl)

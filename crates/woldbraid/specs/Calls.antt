@@ -6,7 +6,6 @@ use Rattle.woldbraid_readers.specs.KeptCalls.{PushesKept, EndsKept, ReadsEvent}
 use Rattle.woldbraid_readers.specs.declared.status.Status.{Status}
 use Rattle.woldbraid_readers.specs.declared.status.Status.TheVariants as status
 use Rattle.woldbraid_readers.specs.declared.json_event.JsonEvent.{JsonEvent}
-use Rattle.woldbraid_readers.specs.declared.json_reader.JsonReader.{JsonReader}
 use Rattle.woldbraid_readers.specs.declared.kept.Kept.{Kept}
 use Rattle.woldbraid_readers.specs.declared.kept.Kept.TheVariants as kept
 

@@ -4,7 +4,6 @@ use Rattle.format_json_events.specs.Reading.{events_ended, GivesOn}
 use Rattle.woldbraid_readers.specs.Calls.{Pushes, KeepsRest, GivesEvent}
 use Rattle.woldbraid_readers.specs.declared.status.Status.{Status}
 use Rattle.woldbraid_readers.specs.declared.json_event.JsonEvent.{JsonEvent}
-use Rattle.woldbraid_readers.specs.declared.json_reader.JsonReader.{JsonReader}
 use Rattle.woldbraid_readers.specs.declared.kept.Kept.{Kept}
 use Rattle.woldbraid_readers.specs.declared.kept.Kept.TheVariants as kept
 

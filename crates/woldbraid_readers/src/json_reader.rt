@@ -43,6 +43,7 @@ impl JsonReader {
     }
 
     /// Appends a piece to what waits to be read.
+    #[tactic(auto, using(crate::proofs::lemmas::PushLemmas::unspent_has))]
     pub fn push(&mut self, piece: &[u8]) -> Status
         ensures { Pushes self.old piece.now result self.new }
     {
@@ -62,6 +63,7 @@ impl JsonReader {
     }
 
     // Appends a piece, once the bytes that tokens took are dropped.
+    #[tactic(auto, using(crate::proofs::lemmas::PushLemmas::unspent_has))]
     fn push_to_ahead(&mut self, piece: &[u8]) -> Status
         requires goes_on { self.old.reader.tokens.ended ≡ false }
         requires fits { fed_of self.old.reader.tokens + length piece.now < 2 ^ 64 }
