@@ -110,11 +110,7 @@ impl JsonReader {
     }
 
     // Writes an answer of the reader into an event, and keeps the text that it lends.
-    fn tell(
-        &mut self,
-        answer: Result<Next<Event>, EventError>,
-        event: &mut JsonEvent,
-    ) -> Status
+    fn tell(&mut self, answer: Result<Next<Event>, EventError>, event: &mut JsonEvent) -> Status
         ensures reader { self.new.reader ≡ self.old.reader }
         ensures kept { self.new.kept ≡ self.old.kept }
         ensures tells { TellsAnswer answer result event.new self.new.lent }
@@ -163,7 +159,9 @@ impl JsonReader {
 fn place_error(error: EventError, event: &mut JsonEvent) -> Status
     ensures status { result ≡ error_status error }
     ensures event { event.new ≡ record event.old {
-        place = error_place error; cause = error_cause error } }
+      place = error_place error;
+      cause = error_cause error;
+    } }
 {
     event.place = 0;
     event.cause = 0;

@@ -74,7 +74,7 @@ module _ (E : Bx) (dx : Dict) where
     walk : Triple 𝓤 (𝓣.C (raw_sym.name args)) Opens
         → (z : (walk_of 𝓛 ended stayed held).Ghost)
         → ent 𝓤 ((walk_of 𝓛 ended stayed held).pre z)
-            (WpFn 𝓤 H 𝓣.C 𝓣.Λ fn' (z.0.4.0 ++ []) ((walk_of 𝓛 ended stayed held).post z))
+        (WpFn 𝓤 H 𝓣.C 𝓣.Λ fn' (z.0.4.0 ++ []) ((walk_of 𝓛 ended stayed held).post z))
     walk kn z =
         let κs = z.0.0 in let qs = z.0.1 in let v = z.0.3.0 in let a = v.alloc in let Post = (walk_of 𝓛 ended stayed held).post z in
         let ts : Item 𝓤 = ‵ (flft κs.0 qs.0) ⊛ ‵ (flft κs.1.0 qs.1.0) ⊛ ‵ ftrue in
