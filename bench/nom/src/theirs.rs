@@ -39,7 +39,7 @@ impl Value for u64 {
 
 impl Value for f64 {
     fn value(&self) -> u64 {
-        self.to_bits()
+        if self.is_nan() { 1 } else { self.to_bits() }
     }
 }
 
